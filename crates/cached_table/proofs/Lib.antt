@@ -2,6 +2,7 @@ pub mod EditLaws
 pub mod EnteringLaws
 pub mod HighestLaws
 pub mod HomeReadLaws
+pub mod LeftLaws
 pub mod LookLaws
 pub mod MetLaws
 pub mod OpeningLaws

@@ -10,24 +10,24 @@ use Rattle.fsd_formats.specs.NamePage.{read_page}
 use Rattle.fsd_table.specs.Pages.{page_at}
 use Rattle.fsd_table.specs.Table.{BreaksTable}
 use Rattle.sector_disk.specs.declared.machine.Machine.{Ghosts as MachineGhosts}
-use Rattle.sector_disk.specs.Calls.{OnlyReads}
 use Rattle.page_cache.specs.declared.source.PageSource.{Ghosts as SourceGhosts}
-use Rattle.page_cache.specs.Cache.{AreNewest, CacheValue, bytes_of, is_one_of, newest}
+use Rattle.page_cache.specs.Cache.{CacheValue, is_one_of, newest}
 use Rattle.name_page.specs.Looks.{Agrees, Shows}
-use Rattle.name_page.specs.Pages.{Step, rested, IsBarred, IsOuter, home_of, is_one_of as among, is_spare}
+use Rattle.name_page.specs.Pages.{Step, IsBarred, IsOuter, home_of, is_one_of as among, is_spare}
 use Rattle.name_page.proofs.LookLaws.{agrees_at, agrees_now}
 use Rattle.name_btree.specs.declared.fault.TreeFault.{TreeFault}
 use Rattle.name_btree.specs.declared.fault.TreeFault.TheVariants.{Pages, Broken}
 use Rattle.name_btree.specs.Fault.{BarsTable, HasCause, IsOnWay, ShowsCause}
 use Rattle.name_btree.specs.declared.lookup.FoundEntry.{FoundEntry}
 use Rattle.name_btree.specs.Lookup.{IsLedTo, StandsIn}
-use Rattle.table_pages.specs.Bringing.{IsTrusted, OnlyPins, given_by, home_in}
+use Rattle.table_pages.specs.Bringing.{given_by, home_in}
 use Rattle.table_pages.specs.Kept.{IsReady}
 use Rattle.table_pages.specs.ImageLaws.{image_at, image_count}
-use Rattle.table_pages.specs.Reads.{Fills, HadRefused, LosesFor, device_of}
-use Rattle.table_pages.specs.Table.{BarsPlace, IsAtRest, IsClean, IsOver, ReadsOnly, Trusted, begun, step_of}
+use Rattle.table_pages.specs.Reads.{HadRefused}
+use Rattle.table_pages.specs.Table.{BarsPlace, IsOver, Leaves, ReadsOnly, Trusted, begun, step_of}
 use Rattle.table_pages.specs.declared.table.Table.{Table}
 use Rattle.table_pages.proofs.KeptLaws.{reached_there}
+use Rattle.cached_table.proofs.LeftLaws.{clean_left, fills_left, images_left, loses_left, reads_left, ready_left, trusted_left}
 use Rattle.cached_table.proofs.ResidentLaws.{in_memory}
 use Rattle.cached_table.specs.Looking.{FaultIn, FaultsOver, Had, HaveOthers, HavePages, LeadsTo, LooksOnly, ShowsFault, ShowsPlace, images_by}
 use Rattle.cached_table.proofs.StayLaws.{StaysStep, agrees_then, kept_then, leads_then}
@@ -47,54 +47,24 @@ fault_there s (Pages refusal) cause = cause.1
 fault_there s (Broken page) cause = cause
 
 module _ {D E : Type 0} {M : MachineGhosts D} {S : SourceGhosts E} where
-  module _ (refusal : Option Refusal) (m : MutBor D) (cache : MutBor CacheValue) (source : E) (free : MutBor (List Bool)) (home_a : ℕ) (a b c : Table D E M S)
+  module _ {refusal : Option Refusal} {m : MutBor D} {cache : MutBor CacheValue} {source : E} {free : MutBor (List Bool)} {home_a : ℕ} {a b : Table D E M S} {m' : D} {cache' : CacheValue} {free' : List Bool}
       (over : IsOver m cache source free a) (begins : step_of a ≡ begun (given_by M S source m.now) cache.now free.now home_a)
-      (looks : StaysStep (step_of a) (step_of b)) (outside : ReadsOnly refusal a b)
-      (rests : step_of c ≡ rested (step_of b)) (outside_still : ReadsOnly None b c) (machine : c.m.now ≡ b.m.now) (pins : OnlyPins b.cache.now c.cache.now) where
-    source_b : b.source.now ≡ source
-    source_b = outside.source ∙ over.from
-
-    source_c : c.source.now ≡ source
-    source_c = outside_still.source ∙ source_b
-
-    first_b : b.made_over.value ≡ m.now
-    first_b = outside.made_over ∙ over.made_over
-
-    first_c : c.made_over.value ≡ m.now
-    first_c = outside_still.made_over ∙ first_b
-
-    had_b : b.made_with.value ≡ cache.now
-    had_b = outside.made_with ∙ over.made_with
-
-    had_c : c.made_with.value ≡ cache.now
-    had_c = outside_still.made_with ∙ had_b
-
+      (looks : StaysStep (step_of a) (step_of b)) (outside : ReadsOnly refusal a b) (left : Leaves b m' cache' free') where
     free_b : b.free.now ≡ free.now
     free_b = looks.spares ∙ ap (λ (f : MutBor (List Bool)). f.now) over.spared
 
-    free_c : c.free.now ≡ free.now
-    free_c = ap (λ (s : Step). s.spares) rests ∙ free_b
+    free_left : free' ≡ free.now
+    free_left = left.flags ∙ free_b
 
     dirty_b : b.cache.now.dirty ≡ cache.now.dirty
     dirty_b = looks.changed ∙ ap (λ (x : MutBor CacheValue). x.now.dirty) over.cached
-
-    trusted_c : IsTrusted M S source m.now cache.now c.m.now → Trusted c
-    trusted_c t = subst (λ (e : E). IsTrusted M S e c.made_over.value c.made_with.value c.m.now) (sym source_c)
-        (subst (λ (f : D). IsTrusted M S source f c.made_with.value c.m.now) (sym first_c) (subst (λ (h : CacheValue). IsTrusted M S source m.now h c.m.now) (sym had_c) t))
-
-    trusted_b : IsTrusted M S source m.now cache.now c.m.now → Trusted b
-    trusted_b t = subst (λ (e : E). IsTrusted M S e b.made_over.value b.made_with.value b.m.now) (sym source_b)
-        (subst (λ (f : D). IsTrusted M S source f b.made_with.value b.m.now) (sym first_b)
-        (subst (λ (h : CacheValue). IsTrusted M S source m.now h b.m.now) (sym had_b) (subst (IsTrusted M S source m.now cache.now) machine t)))
 
     -- the images at first, and in the end
     images_first : (step_of a).images ≡ images_by M S source m.now cache.now (length free.now)
     images_first = ap (λ (s : Step). s.images) begins
 
-    images_last : (step_of b).images ≡ images_by M S source c.m.now c.cache.now (length free.now)
-    images_last = sym (ap (λ (s : Step). s.images) rests)
-        ∙ ap (λ (e : E). images_by M S e c.m.now c.cache.now (length c.free.now)) source_c
-        ∙ ap (λ (f : List Bool). images_by M S source c.m.now c.cache.now (length f)) free_c
+    images_last : images_by M S source m' cache' (length free.now) ≡ (step_of b).images
+    images_last = ap (λ (f : List Bool). images_by M S source m' cache' (length f)) (sym free_left) ∙ images_left over outside left
 
     within : (page : ℕ) → page < length (step_of b).images → page < length free.now
     within page lt = omega (arith, lt, image_count (newest b.cache.now (given_by M S b.source.now b.m.now)) (length b.free.now), ap (λ (f : List Bool). length f) free_b)
@@ -105,20 +75,20 @@ module _ {D E : Type 0} {M : MachineGhosts D} {S : SourceGhosts E} where
     pages_within (Ok (Some f)) there = within f.page there.reached.0
 
     -- pages with what is in the cache in the end have what was in it then
-    have_before : (pages : List (List ℕ)) → HavePages c.cache.now (length free.now) pages → HavePages b.cache.now (length free.now) pages
-    have_before pages have = record { size = have.size; same = λ page bytes lt is. have.same page bytes lt (pins.bytes page ∙ is) }
+    have_before : (pages : List (List ℕ)) → HavePages cache' (length free.now) pages → HavePages b.cache.now (length free.now) pages
+    have_before pages have = record { size = have.size; same = λ page bytes lt is. have.same page bytes lt (left.pins.bytes page ∙ is) }
 
-    agrees : (pages : List (List ℕ)) → HavePages c.cache.now (length free.now) pages → Agrees pages (step_of b)
+    agrees : (pages : List (List ℕ)) → HavePages cache' (length free.now) pages → Agrees pages (step_of b)
     agrees pages have = agrees_then m cache source free a b over looks pages (have_before pages have)
 
-    leads : (f : FoundEntry) → StandsIn (step_of b) f → IsLedTo (step_of b) f → (pages : List (List ℕ)) → HavePages c.cache.now (length free.now) pages → LeadsTo pages f
+    leads : (f : FoundEntry) → StandsIn (step_of b) f → IsLedTo (step_of b) f → (pages : List (List ℕ)) → HavePages cache' (length free.now) pages → LeadsTo pages f
     leads f there way pages have = leads_then m cache source free a b over looks f there way pages (have_before pages have)
 
-    pub leads_left : (cache' : CacheValue) → cache' ≡ c.cache.now → (r : Result (Option FoundEntry) TreeFault) → IfOk r (λ found. IfSome found (StandsIn (step_of b))) → IfOk r (λ found. IfSome found (IsLedTo (step_of b)))
+    pub leads_left : (r : Result (Option FoundEntry) TreeFault) → IfOk r (λ found. IfSome found (StandsIn (step_of b))) → IfOk r (λ found. IfSome found (IsLedTo (step_of b)))
         → IfOk r (λ found. IfSome found (λ f. (pages : List (List ℕ)) → HavePages cache' (length free.now) pages → LeadsTo pages f))
-    leads_left cache' left (Err fault) there way = tt
-    leads_left cache' left (Ok None) there way = tt
-    leads_left cache' left (Ok (Some f)) there way = λ pages have. leads f there way pages (subst (λ (x : CacheValue). HavePages x (length free.now) pages) left have)
+    leads_left (Err fault) there way = tt
+    leads_left (Ok None) there way = tt
+    leads_left (Ok (Some f)) there way = leads f there way
 
     -- ---- what shows that a page breaks
 
@@ -133,14 +103,14 @@ module _ {D E : Type 0} {M : MachineGhosts D} {S : SourceGhosts E} where
     was_reached page = among b.reached.items page || among b.cache.now.dirty page
 
     -- pages with what is in the cache in the end have what was reached, whatever another page has
-    agrees_beside : (page : ℕ) (bytes : List ℕ) → was_reached page ≡ false → (pages : List (List ℕ)) → HaveOthers c.cache.now (length free.now) page bytes pages → Agrees pages (step_of b)
+    agrees_beside : (page : ℕ) (bytes : List ℕ) → was_reached page ≡ false → (pages : List (List ℕ)) → HaveOthers cache' (length free.now) page bytes pages → Agrees pages (step_of b)
     agrees_beside page bytes out pages have = record {
       count = have.size ∙ sym count_b;
       reached = λ q is used.
           let there = in_memory b.cache.now q (reached_there M S b.source.now b.made_over.value b.made_with.value b.m.now b.cache.now b.free.now b.reached.items b.spares.items b.promised b.kept q is.1) in
           let lt : q < length free.now = within q is.0 in
           let lt_b : q < length b.free.now = omega (arith, lt, ap (λ (f : List Bool). length f) free_b) in
-          have.same q there.0 lt (other q is.1) (pins.bytes q ∙ there.1)
+          have.same q there.0 lt (other q is.1) (left.pins.bytes q ∙ there.1)
           ∙ sym (image_at (newest b.cache.now (given_by M S b.source.now b.m.now)) (length b.free.now) q there.0 lt_b (ap (λ (o : Option (List ℕ)). option_or o (given_by M S b.source.now b.m.now q)) there.1));
     }
       where
@@ -153,14 +123,14 @@ module _ {D E : Type 0} {M : MachineGhosts D} {S : SourceGhosts E} where
 
     -- it was reached, and is refused by the grammar
     reached_refused : (page : ℕ) → page < length free.now → is_spare (step_of b).spares page ≡ false → was_reached page ≡ true → page_at (step_of b).images page ≡ None → Shows (step_of b) (λ pages. IsOnWay pages page)
-        → (pages : List (List ℕ)) → HavePages c.cache.now (length free.now) pages → BreaksTable pages page
+        → (pages : List (List ℕ)) → HavePages cache' (length free.now) pages → BreaksTable pages page
     reached_refused page lt used is none way pages have =
         let agree = agrees pages have in
         refused_breaks pages page (way pages agree) (agrees_at (step_of b) pages page (omega (arith, lt, count_b), is) used agree ∙ none)
 
     -- so are bytes that it had
     had_refused : (page : ℕ) (bytes : List ℕ) → was_reached page ≡ false → read_page page (length free.now) bytes ≡ None → Shows (step_of b) (λ pages. IsOnWay pages page)
-        → (pages : List (List ℕ)) → HaveOthers c.cache.now (length free.now) page bytes pages → BreaksTable pages page
+        → (pages : List (List ℕ)) → HaveOthers cache' (length free.now) page bytes pages → BreaksTable pages page
     unfolding page_at
     had_refused page bytes out none way pages have =
         refused_breaks pages page (way pages (agrees_beside page bytes out pages have))
@@ -177,13 +147,13 @@ module _ {D E : Type 0} {M : MachineGhosts D} {S : SourceGhosts E} where
     )
 
     abbrev How : ℕ → Type 0
-    How page = ((is_spare free.now page ≡ true) × ((pages : List (List ℕ)) → HavePages c.cache.now (length free.now) pages → IsOnWay pages page))
-        ⊎ (((pages : List (List ℕ)) → HavePages c.cache.now (length free.now) pages → BreaksTable pages page)
-        ⊎ ((bytes : List ℕ) × (page < length free.now) × Had M S source (M.now m.now) cache.now page bytes × ((pages : List (List ℕ)) → HaveOthers c.cache.now (length free.now) page bytes pages → BreaksTable pages page)))
+    How page = ((is_spare free.now page ≡ true) × ((pages : List (List ℕ)) → HavePages cache' (length free.now) pages → IsOnWay pages page))
+        ⊎ (((pages : List (List ℕ)) → HavePages cache' (length free.now) pages → BreaksTable pages page)
+        ⊎ ((bytes : List ℕ) × (page < length free.now) × Had M S source (M.now m.now) cache.now page bytes × ((pages : List (List ℕ)) → HaveOthers cache' (length free.now) page bytes pages → BreaksTable pages page)))
 
     barred_how : (page : ℕ) → page < length free.now → IsBarred (step_of b) page → Shows (step_of b) (λ pages. IsOnWay pages page)
         → (slice_index_or b.free.now page false ≡ true) ⊎ ((is_one_of b.cache.now.dirty page ≡ true) ⊎ HadRefused M S a.source.now (M.now a.m.now) a.cache.now (length b.free.now) page)
-        → (place : ℕ) → place ≡ home_in home_a page → ShowsPlace M S source (M.now m.now) cache.now c.cache.now free.now home_a place
+        → (place : ℕ) → place ≡ home_in home_a page → ShowsPlace M S source (M.now m.now) cache.now cache' free.now home_a place
     barred_how page lt bars way why place home = record { page = page; home = home; how = by (is_spare (step_of b).spares page) refl }
       where
         spared : is_spare (step_of b).spares page ≡ true → is_spare free.now page ≡ true
@@ -211,16 +181,16 @@ module _ {D E : Type 0} {M : MachineGhosts D} {S : SourceGhosts E} where
     same_page : (page other place : ℕ) → page < length b.free.now → other < length b.free.now → place ≡ home_in b.home_a page → place ≡ home_of (step_of b) other → other ≡ page
     same_page page other place lt lt' is is' = same_home (length b.free.now) b.home_a page other b.kept.small lt lt' (sym is ∙ is')
 
-    refused_place : M.honest c.m.now → (refused : Refusal) → (step_of b).refusal ≡ Some refused → (place : ℕ) → refused ≡ Unsound place
+    refused_place : M.honest m' → (refused : Refusal) → (step_of b).refusal ≡ Some refused → (place : ℕ) → refused ≡ Unsound place
         → IsOuter refused ⊎ ((page : ℕ) × (refused ≡ Unsound (home_of (step_of b) page)) × IsBarred (step_of b) page × Shows (step_of b) (λ pages. IsOnWay pages page))
-        → ShowsPlace M S source (M.now m.now) cache.now c.cache.now free.now home_a place
+        → ShowsPlace M S source (M.now m.now) cache.now cache' free.now home_a place
     refused_place honest refused told place is (inl outer) = absurd (cc (subst IsOuter is outer))
-    refused_place honest refused told place is (inr x) = by (outside.barred (subst M.honest machine honest) place (told ∙ ap (λ (r : Refusal). Some r) is))
+    refused_place honest refused told place is (inr x) = by (outside.barred (subst M.honest left.machine honest) place (told ∙ ap (λ (r : Refusal). Some r) is))
       where
         place_is : place ≡ home_of (step_of b) x.0
         place_is = cc (is, x.1)
 
-        by : (a.refusal ≡ Some (Unsound place)) ⊎ BarsPlace a b place → ShowsPlace M S source (M.now m.now) cache.now c.cache.now free.now home_a place
+        by : (a.refusal ≡ Some (Unsound place)) ⊎ BarsPlace a b place → ShowsPlace M S source (M.now m.now) cache.now cache' free.now home_a place
         by (inl was) = absurd (cc (was, ap (λ (s : Step). s.refusal) begins))
         by (inr bars) =
             let lt : x.0 < length b.free.now = omega (arith, way_within (step_of b).images (omega (arith, bars.within, count_b, ap (λ (f : List Bool). length f) free_b)) x.0 (x.3 (step_of b).images (agrees_now (step_of b))), count_b, ap (λ (f : List Bool). length f) free_b) in
@@ -229,63 +199,32 @@ module _ {D E : Type 0} {M : MachineGhosts D} {S : SourceGhosts E} where
             (subst (λ (page : ℕ). (slice_index_or b.free.now page false ≡ true) ⊎ ((is_one_of b.cache.now.dirty page ≡ true) ⊎ HadRefused M S a.source.now (M.now a.m.now) a.cache.now (length b.free.now) page)) (sym same) bars.why)
             place (place_is ∙ ap (λ (h : ℕ). home_in h x.0) home_b)
 
-    pub shows_fault : (f : TreeFault) → HasCause (step_of b) (BreaksTable (step_of b).images) (BarsTable (step_of b)) f → ShowsCause (step_of b) BreaksTable IsOnWay f → ShowsFault M S source m.now c.m.now cache.now c.cache.now free.now home_a f
+    pub shows_fault : (f : TreeFault) → HasCause (step_of b) (BreaksTable (step_of b).images) (BarsTable (step_of b)) f → ShowsCause (step_of b) BreaksTable IsOnWay f → ShowsFault M S source m.now m' cache.now cache' free.now home_a f
     shows_fault (Broken page) cause shown = λ honest place is. record { page = page; home = home_named home_a page place is; how = inr (inl (λ pages have. shown pages (agrees pages have))) }
     shows_fault (Pages refused) cause shown = λ honest place is. refused_place honest refused cause.0 place is shown
 
-    pub shown_left : (m' : D) (cache' : CacheValue) → m' ≡ c.m.now → cache' ≡ c.cache.now → {T : Type 0} → (r : Result T TreeFault) → IfErr r (HasCause (step_of b) (BreaksTable (step_of b).images) (BarsTable (step_of b)))
+    pub shown_left : {T : Type 0} → (r : Result T TreeFault) → IfErr r (HasCause (step_of b) (BreaksTable (step_of b).images) (BarsTable (step_of b)))
         → IfErr r (ShowsCause (step_of b) BreaksTable IsOnWay) → IfErr r (ShowsFault M S source m.now m' cache.now cache' free.now home_a)
-    shown_left m' cache' left left_cache (Ok x) cause shown = tt
-    shown_left m' cache' left left_cache (Err f) cause shown =
-        subst (λ (n : D). ShowsFault M S source m.now n cache.now cache' free.now home_a f) (sym left)
-        (subst (λ (x : CacheValue). ShowsFault M S source m.now c.m.now cache.now x free.now home_a f) (sym left_cache) (shows_fault f cause shown))
+    shown_left (Ok x) cause shown = tt
+    shown_left (Err f) cause shown = shows_fault f cause shown
 
-    fault_last : (f : TreeFault) → HasCause (step_of b) (BreaksTable (step_of b).images) (BarsTable (step_of b)) f → FaultIn (images_by M S source c.m.now c.cache.now (length free.now)) free.now home_a f
-    fault_last f cause =
-        let home : (step_of b).home_a ≡ home_a = looks.home_a ∙ ap (λ (s : Step). s.home_a) begins in
-        subst (λ (images : List (List ℕ)). FaultIn images free.now home_a f) images_last
-        (subst (λ (flags : List Bool). FaultIn (step_of b).images flags home_a f) free_b
-        (subst (λ (h : ℕ). FaultIn (step_of b).images (step_of b).spares h f) home (fault_there (step_of b) f cause)))
-
-    -- a page that is dirty has its bytes
-    same_dirty : (page : ℕ) → page < length free.now → is_one_of cache.now.dirty page ≡ true → bytes_of c.cache.now page ≡ bytes_of cache.now page
-    same_dirty page lt waits = pins.bytes page ∙ kept_then m cache source free a b over looks page lt waits
-
-    fills_b : Fills M S source m.now c.m.now cache.now b.cache.now
-    fills_b = subst (λ (n : D). Fills M S source m.now n cache.now b.cache.now) (sym machine)
-        (subst (λ (e : E). Fills M S e m.now b.m.now cache.now b.cache.now) over.from
-        (subst (λ (x : MutBor D). Fills M S a.source.now x.now b.m.now cache.now b.cache.now) over.machine
-        (subst (λ (x : MutBor CacheValue). Fills M S a.source.now a.m.now b.m.now x.now b.cache.now) over.cached outside.fills)))
-
-    fills_c : Fills M S source m.now c.m.now cache.now c.cache.now
-    fills_c = record {
-      frames = pins.frames ∙ fills_b.frames;
-      dirty = λ page was. ap (λ (d : List ℕ). is_one_of d page) pins.dirty ∙ fills_b.dirty page was;
-      stood = λ h page bytes out is. fills_b.stood h page bytes (ap (λ (d : List ℕ). is_one_of d page) (sym pins.dirty) ∙ out) (sym (pins.bytes page) ∙ is);
+    pub faults_left : {T : Type 0} → (r : Result T TreeFault) → IfErr r (HasCause (step_of b) (BreaksTable (step_of b).images) (BarsTable (step_of b)))
+        → IfErr r (FaultsOver M S source m' cache' free.now home_a)
+    faults_left (Ok x) cause = tt
+    faults_left (Err f) cause = record {
+      cause = subst (λ (images : List (List ℕ)). FaultIn images free.now home_a f) (sym images_last)
+          (subst (λ (flags : List Bool). FaultIn (step_of b).images flags home_a f) free_b
+          (subst (λ (h : ℕ). FaultIn (step_of b).images (step_of b).spares h f) home_b (fault_there (step_of b) f cause)));
     }
 
-    looks_only : IsAtRest c → (Trusted c → IsClean c) → (Trusted b → (step_of b).images ≡ (step_of a).images) → LooksOnly M S source refusal m.now c.m.now cache.now c.cache.now free.now
-    looks_only ready clean stays = record {
-      reads = subst (OnlyReads M (device_of refusal) m.now) (sym machine) (subst (λ (x : MutBor D). OnlyReads M (device_of refusal) x.now b.m.now) over.machine outside.reads);
-      loses = subst (LosesFor M S source refusal) (sym machine) (subst (λ (e : E). LosesFor M S e refusal b.m.now) source_b outside.loses);
-      fills = fills_c;
-      ready = subst (λ (f : List Bool). IsReady M S c.m.now c.cache.now source f) free_c (subst (λ (e : E). IsReady M S c.m.now c.cache.now e c.free.now) source_c ready);
-      dirty = pins.dirty ∙ dirty_b;
-      kept = same_dirty;
-      clean = λ t. subst (λ (e : E). AreNewest (given_by M S e c.m.now) c.cache.now) source_c (clean (trusted_c t));
-      stays = λ t. sym images_last ∙ stays (trusted_b t) ∙ images_first;
+    pub looks_left : (Trusted b → (step_of b).images ≡ (step_of a).images) → LooksOnly M S source refusal m.now m' cache.now cache' free.now
+    looks_left stays = record {
+      reads = reads_left over outside left;
+      loses = loses_left over outside left;
+      fills = fills_left over outside left;
+      ready = subst (λ (f : List Bool). IsReady M S m' cache' source f) free_left (ready_left over outside left);
+      dirty = left.pins.dirty ∙ dirty_b;
+      kept = λ page lt waits. left.pins.bytes page ∙ kept_then m cache source free a b over looks page lt waits;
+      clean = clean_left over outside left;
+      stays = λ t. images_last ∙ stays (trusted_left over outside left t) ∙ images_first;
     }
-
-    -- the same of what is left once the table has gone
-    module _ (m' : D) (cache' : CacheValue) (left : m' ≡ c.m.now) (left_cache : cache' ≡ c.cache.now) where
-      pub looks_left : IsAtRest c → (Trusted c → IsClean c) → (Trusted b → (step_of b).images ≡ (step_of a).images) → LooksOnly M S source refusal m.now m' cache.now cache' free.now
-      looks_left ready clean stays = subst (λ (n : D). LooksOnly M S source refusal m.now n cache.now cache' free.now) (sym left)
-          (subst (λ (x : CacheValue). LooksOnly M S source refusal m.now c.m.now cache.now x free.now) (sym left_cache) (looks_only ready clean stays))
-
-      pub faults_left : {T : Type 0} → (r : Result T TreeFault) → IfErr r (HasCause (step_of b) (BreaksTable (step_of b).images) (BarsTable (step_of b)))
-          → IfErr r (FaultsOver M S source m' cache' free.now home_a)
-      faults_left (Ok x) cause = tt
-      faults_left (Err fault) cause = record {
-        cause = subst (λ (n : D). FaultIn (images_by M S source n cache' (length free.now)) free.now home_a fault) (sym left)
-            (subst (λ (x : CacheValue). FaultIn (images_by M S source c.m.now x (length free.now)) free.now home_a fault) (sym left_cache) (fault_last fault cause));
-      }

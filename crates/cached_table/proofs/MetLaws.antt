@@ -1,5 +1,5 @@
 -- Why the entry of a version tells a page as unsound: a look-up's fault, or a version that goes and was met.
-use Rattle.std.proofs.Common.{◌≡◌, inl, inr, ℕ, Bool, List, Option, None, Result, Ok, Err, sym, subst}
+use Rattle.std.proofs.Common.{◌≡◌, inl, inr, ℕ, Bool, List, Option, None, Result, Ok, Err, subst}
 use Rattle.std.specs.Prelude.{◌⊎◌, ⊤, IfErr, OnErr}
 use Rattle.std.specs.Borrow.{MutBor}
 use Rattle.volume_layout.specs.Layout.{home_a}
@@ -13,12 +13,12 @@ use Rattle.page_cache.specs.declared.source.PageSource.{Ghosts as SourceGhosts}
 use Rattle.page_cache.specs.Cache.{CacheValue}
 use Rattle.name_page.specs.declared.pages.Pages.{Ghosts as PagesGhosts}
 use Rattle.name_page.specs.Looks.{OnlyWalks}
-use Rattle.name_page.specs.Pages.{Step, rested}
+use Rattle.name_page.specs.Pages.{Step}
 use Rattle.name_btree.specs.declared.fault.TreeFault.{TreeFault}
 use Rattle.name_btree.specs.Fault.{BarsTable, HasCause, IsOnWay, ShowsCause}
 use Rattle.name_btree.specs.Lookup.{IsLedTo, StandsIn}
-use Rattle.table_pages.specs.Bringing.{OnlyPins, given_by, home_in}
-use Rattle.table_pages.specs.Table.{IsOver, ReadsOnly, begun, step_of}
+use Rattle.table_pages.specs.Bringing.{given_by, home_in}
+use Rattle.table_pages.specs.Table.{IsOver, Leaves, ReadsOnly, begun, step_of}
 use Rattle.table_pages.specs.declared.table.Table.{Table}
 use Rattle.version_table.specs.Met.{found_of}
 use Rattle.version_table.specs.declared.oldest.Leaving.{Leaving}
@@ -59,21 +59,18 @@ shown_steps P refusal map w name home_a old new (Err why) walks shown = (walks_s
     by other shown = tt
 
 module _ {D E : Type 0} {M : MachineGhosts D} {S : SourceGhosts E} where
-  module _ (refusal : Option Refusal) (m : MutBor D) (cache : MutBor CacheValue) (source : E) (free : MutBor (List Bool)) (home_a : ℕ) (a b c : Table D E M S)
+  module _ {refusal : Option Refusal} {m : MutBor D} {cache : MutBor CacheValue} {source : E} {free : MutBor (List Bool)} {home_a : ℕ} {a b : Table D E M S} {m' : D} {cache' : CacheValue} {free' : List Bool}
       (over : IsOver m cache source free a) (begins : step_of a ≡ begun (given_by M S source m.now) cache.now free.now home_a)
-      (outside : ReadsOnly refusal a b) (rests : step_of c ≡ rested (step_of b)) (outside_still : ReadsOnly None b c) (machine : c.m.now ≡ b.m.now) (pins : OnlyPins b.cache.now c.cache.now)
-      (map : Area) (w : Waits) where
-    shown_by : StaysStep (step_of a) (step_of b) → (r : Refusal) → ShownBy step_of ReadsOnly map w home_a a b r → ShowsUnsound M S source map w m.now c.m.now cache.now c.cache.now free.now home_a r
-    shown_by stays (Why.Unsound s) (inl x) = λ h. inl (shows_fault refusal m cache source free home_a a b c over begins stays outside rests outside_still machine pins x.0 x.2 x.3 h s x.1)
+      (outside : ReadsOnly refusal a b) (left : Leaves b m' cache' free') (map : Area) (w : Waits) where
+    shown_by : StaysStep (step_of a) (step_of b) → (r : Refusal) → ShownBy step_of ReadsOnly map w home_a a b r → ShowsUnsound M S source map w m.now m' cache.now cache' free.now home_a r
+    shown_by stays (Why.Unsound s) (inl x) = λ h. inl (shows_fault over begins stays outside left x.0 x.2 x.3 h s x.1)
     shown_by stays (Why.Unsound s) (inr x) = λ h.
         let met = x.1 in
-        let there = met_shown m cache source free a met.at over met.stays met.before (met.after.reads.trust.honest (subst M.honest machine h)) (found_of x.0) met.stands met.way in
+        let there = met_shown m cache source free a met.at over met.stays met.before (met.after.reads.trust.honest (subst M.honest left.machine h)) (found_of x.0) met.stands met.way in
         inr (found_of x.0, there.1, there.0, x.2, x.3)
     shown_by stays other shown = tt
 
-    pub unsound_left : (m' : D) (cache' : CacheValue) → m' ≡ c.m.now → cache' ≡ c.cache.now → {T : Type 0} → (r : Result T Refusal) → OnErr r (StaysStep (step_of a) (step_of b)) → IfErr r (ShownBy step_of ReadsOnly map w home_a a b)
+    pub unsound_left : {T : Type 0} → (r : Result T Refusal) → OnErr r (StaysStep (step_of a) (step_of b)) → IfErr r (ShownBy step_of ReadsOnly map w home_a a b)
         → IfErr r (ShowsUnsound M S source map w m.now m' cache.now cache' free.now home_a)
-    unsound_left m' cache' left left_cache (Ok x) stays shown = tt
-    unsound_left m' cache' left left_cache (Err why) stays shown =
-        subst (λ (n : D). ShowsUnsound M S source map w m.now n cache.now cache' free.now home_a why) (sym left)
-        (subst (λ (x : CacheValue). ShowsUnsound M S source map w m.now c.m.now cache.now x free.now home_a why) (sym left_cache) (shown_by stays why shown))
+    unsound_left (Ok x) stays shown = tt
+    unsound_left (Err why) stays shown = shown_by stays why shown

@@ -18,8 +18,9 @@ use Rattle.page_cache.proofs.KeepLaws.{bytes_resident}
 use Rattle.name_page.specs.Pages.{NeedsNoMemory, is_spare}
 use Rattle.page_cache.specs.Accepted.{content_in}
 use Rattle.table_pages.specs.Bringing.{given_by}
-use Rattle.table_pages.specs.Table.{HasPage, IsOver, step_of}
+use Rattle.table_pages.specs.Table.{HasPage, IsOver, Leaves, step_of}
 use Rattle.table_pages.specs.declared.table.Table.{Table}
+use Rattle.table_pages.proofs.PinLaws.{only_there}
 use Rattle.table_pages.proofs.StepLaws.{page_in, within_free}
 use Rattle.cached_table.specs.Looking.{HasAllUsed, HasIn, HasPathIn}
 
@@ -85,7 +86,7 @@ module _ {D E : Type 0} {M : MachineGhosts D} {S : SourceGhosts E} where
   abbrev Seen : Table D E M S → ℕ → Type 0
   Seen t page = HasPage t page × IsSome (page_at (step_of t).images page)
 
-  module _ (m : MutBor D) (cache : MutBor CacheValue) (source : E) (free : MutBor (List Bool)) (a : Table D E M S) (over : IsOver m cache source free a) (name : List ℕ) where
+  module _ {m : MutBor D} {cache : MutBor CacheValue} {source : E} {free : MutBor (List Bool)} {a : Table D E M S} (over : IsOver m cache source free a) (name : List ℕ) where
     seen_first : HasPathIn (length free.now) name cache.now → AllByRecursion (Seen a) (search_of (page_at (step_of a).images) name)
     seen_first has =
         let count = length a.free.now in
@@ -99,25 +100,26 @@ module _ {D E : Type 0} {M : MachineGhosts D} {S : SourceGhosts E} where
     path_first has = all_weaker (Seen a) (HasPage a) (search_of (page_at (step_of a).images) name) (λ page is. is.0) (seen_first has)
 
     -- it is still there once a look-up that needed no memory has ended
-    pub path_left : (b c : Table D E M S) (refusal : Option Refusal) → (AllByRecursion (HasPage a) (search_of (page_at (step_of a).images) name) → NeedsNoMemory step_of HasPage refusal a b) → NeedsNoMemory step_of HasPage None b c
-        → (cache' : CacheValue) → cache' ≡ c.cache.now → HasPathIn (length free.now) name cache.now → HasPathIn (length free.now) name cache'
-    path_left b c refusal looked rested cache' left has =
+    pub path_left : {refusal : Option Refusal} {b : Table D E M S} {m' : D} {cache' : CacheValue} {free' : List Bool} → Leaves b m' cache' free' → (AllByRecursion (HasPage a) (search_of (page_at (step_of a).images) name) → NeedsNoMemory step_of HasPage refusal a b)
+        → HasPathIn (length free.now) name cache.now → HasPathIn (length free.now) name cache'
+    path_left {b = b} {cache' = cache'} left looked has =
         let met = looked (path_first has) in
-        let images : (step_of c).images ≡ (step_of a).images = rested.images ∙ met.images in
         let path : List (List ℕ) → List ℕ = λ (pages : List (List ℕ)). search_of (page_at pages) name in
-        let later : (page : ℕ) → Seen a page → Seen c page = λ page is. (rested.stays page (met.stays page is.0), subst (λ (pages : List (List ℕ)). IsSome (page_at pages page)) (sym images) is.1) in
-        let there = subst (λ (pages : List (List ℕ)). AllByRecursion (Seen c) (path pages)) (sym images) (all_weaker (Seen a) (Seen c) (path (step_of a).images) later (seen_first has)) in
-        let count = length c.free.now in
-        let last : HasPathIn count name c.cache.now = record {
-          all = path_more (Seen c) (HasIn c.cache.now count) (page_at (step_of c).images) (content_in c.cache.now count)
-              (λ page is. let same = in_images c page is.0 in ((is.0.0, subst (λ (o : Option Content). IsSome o) same is.1), sym same)) name there;
+        let later : (page : ℕ) → Seen a page → Seen b page = λ page is. (met.stays page is.0, subst (λ (pages : List (List ℕ)). IsSome (page_at pages page)) (sym met.images) is.1) in
+        let there = subst (λ (pages : List (List ℕ)). AllByRecursion (Seen b) (path pages)) (sym met.images) (all_weaker (Seen a) (Seen b) (path (step_of a).images) later (seen_first has)) in
+        let count = length b.free.now in
+        let last : HasPathIn count name cache' = record {
+          all = path_more (Seen b) (HasIn cache' count) (page_at (step_of b).images) (content_in cache' count)
+              (λ page is.
+              let same : page_at (step_of b).images page ≡ content_in cache' count page = in_images b page is.0 ∙ ap (option_and_then (read_page page count)) (sym (left.pins.bytes page)) in
+              ((is.0.0, subst (λ (o : Option Content). IsSome o) same is.1), sym same)) name there;
         } in
-        let same : c.free.now ≡ free.now = rested.spares ∙ met.spares ∙ ap (λ (f : MutBor (List Bool)). f.now) over.spared in
-        subst (HasPathIn (length free.now) name) (sym left) (subst (λ (f : List Bool). HasPathIn (length f) name c.cache.now) same last)
+        let same : b.free.now ≡ free.now = met.spares ∙ ap (λ (f : MutBor (List Bool)). f.now) over.spared in
+        subst (λ (f : List Bool). HasPathIn (length f) name cache') same last
 
   -- ---- where all pages in use are in the cache
 
-  module _ (m : MutBor D) (cache : MutBor CacheValue) (source : E) (free : MutBor (List Bool)) (a : Table D E M S) (over : IsOver m cache source free a) where
+  module _ {m : MutBor D} {cache : MutBor CacheValue} {source : E} {free : MutBor (List Bool)} {a : Table D E M S} (over : IsOver m cache source free a) where
     used_here : HasAllUsed free.now cache.now → HasAllUsed a.free.now a.cache.now
     used_here all = subst (λ (f : MutBor (List Bool)). HasAllUsed f.now a.cache.now) (sym over.spared) (subst (λ (x : MutBor CacheValue). HasAllUsed free.now x.now) (sym over.cached) all)
 
@@ -126,8 +128,8 @@ module _ {D E : Type 0} {M : MachineGhosts D} {S : SourceGhosts E} where
     used_first all page lt used = let within = within_free a page lt in (within, (used_here all).each page within used)
 
     -- they still are once a look-up has ended
-    pub used_left : (b c : Table D E M S) (refusal : Option Refusal) → NeedsNoMemory step_of HasPage refusal a b → NeedsNoMemory step_of HasPage None b c
-        → (cache' : CacheValue) → cache' ≡ c.cache.now → HasAllUsed free.now cache.now → HasAllUsed free.now cache'
-    used_left b c refusal looked rested cache' left all =
-        let last : HasAllUsed a.free.now c.cache.now = record { each = λ page lt used. (rested.stays page (looked.stays page (lt, (used_here all).each page lt used))).1 } in
-        subst (HasAllUsed free.now) (sym left) (subst (λ (f : MutBor (List Bool)). HasAllUsed f.now c.cache.now) over.spared last)
+    pub used_left : {refusal : Option Refusal} {b : Table D E M S} {m' : D} {cache' : CacheValue} {free' : List Bool} → Leaves b m' cache' free' → NeedsNoMemory step_of HasPage refusal a b
+        → HasAllUsed free.now cache.now → HasAllUsed free.now cache'
+    used_left {b = b} {cache' = cache'} left looked all =
+        let last : HasAllUsed a.free.now cache' = record { each = λ page lt used. only_there b.cache.now cache' left.pins page (looked.stays page (lt, (used_here all).each page lt used)).1 } in
+        subst (λ (f : MutBor (List Bool)). HasAllUsed f.now cache') over.spared last

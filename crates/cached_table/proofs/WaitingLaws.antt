@@ -20,9 +20,9 @@ use Rattle.name_btree.specs.Fault.{BarsTable, HasCause}
 use Rattle.name_page.specs.declared.pages.Pages.{Ghosts}
 use Rattle.name_page.specs.Looks.{ChangesPages, IsAccepted, IsAsChanged, OnlyWalks}
 use Rattle.name_page.specs.Pages.{Step}
-use Rattle.table_pages.specs.Bringing.{OnlyPins, given_by}
+use Rattle.table_pages.specs.Bringing.{given_by}
 use Rattle.table_pages.specs.ImageLaws.{image_at, image_count}
-use Rattle.table_pages.specs.Table.{IsOver, step_of}
+use Rattle.table_pages.specs.Table.{IsOver, Leaves, step_of}
 use Rattle.table_pages.specs.declared.table.Table.{Table}
 use Rattle.cached_table.specs.Editing.{ChangesNone}
 use Rattle.cached_table.proofs.HighestLaws.{fails_trusted, none_walked}
@@ -46,8 +46,8 @@ accepted_image images page bytes small there accepted = by (read_page page (leng
 -- ---- an edit of a table over a cache
 
 module _ {D E : Type 0} {M : MachineGhosts D} {S : SourceGhosts E} where
-  module _ (m : MutBor D) (cache : MutBor CacheValue) (source : E) (free : MutBor (List Bool)) (a b c : Table D E M S)
-      (over : IsOver m cache source free a) (count : length (step_of b).images ≡ length (step_of a).images) (pins : OnlyPins b.cache.now c.cache.now) where
+  module _ {m : MutBor D} {cache : MutBor CacheValue} {source : E} {free : MutBor (List Bool)} {a b : Table D E M S} {m' : D} {cache' : CacheValue} {free' : List Bool}
+      (over : IsOver m cache source free a) (count : length (step_of b).images ≡ length (step_of a).images) (left : Leaves b m' cache' free') where
     as_many : length b.free.now ≡ length free.now
     as_many =
         let last = image_count (newest b.cache.now (given_by M S b.source.now b.m.now)) (length b.free.now) in
@@ -68,14 +68,14 @@ module _ {D E : Type 0} {M : MachineGhosts D} {S : SourceGhosts E} where
     small = omega (arith, a.kept.small, ap (λ (f : MutBor (List Bool)). length f.now) over.spared)
 
     module _ (page : ℕ) where
-      if_some : (P : List ℕ → Type 0) → ((bytes : List ℕ) → bytes_of b.cache.now page ≡ Some bytes → P bytes) → IfSome (bytes_of c.cache.now page) P
-      if_some P of = subst (λ (o : Option (List ℕ)). IfSome o P) (sym (pins.bytes page)) (by (bytes_of b.cache.now page) refl)
+      if_some : (P : List ℕ → Type 0) → ((bytes : List ℕ) → bytes_of b.cache.now page ≡ Some bytes → P bytes) → IfSome (bytes_of cache' page) P
+      if_some P of = subst (λ (o : Option (List ℕ)). IfSome o P) (sym (left.pins.bytes page)) (by (bytes_of b.cache.now page) refl)
         where
           by : (o : Option (List ℕ)) → bytes_of b.cache.now page ≡ o → IfSome o P
           by None none = tt
           by (Some bytes) there = of bytes there
 
-      as_before : AreWaiting (length free.now) cache.now → IsAsChanged (step_of a) (step_of b) page → IsWaiting (length free.now) c.cache.now page
+      as_before : AreWaiting (length free.now) cache.now → IsAsChanged (step_of a) (step_of b) page → IsWaiting (length free.now) cache' page
       as_before were is =
           let was : is_one_of cache.now.dirty page ≡ true = subst (λ (x : MutBor CacheValue). is_one_of x.now.dirty page ≡ true) over.cached is.was in
           let waited = were page was in
@@ -89,7 +89,7 @@ module _ {D E : Type 0} {M : MachineGhosts D} {S : SourceGhosts E} where
                 subst (IsImageOf page) same image);
           }
 
-      now_read : IsAccepted (step_of b) page → IsWaiting (length free.now) c.cache.now page
+      now_read : IsAccepted (step_of b) page → IsWaiting (length free.now) cache' page
       now_read is =
           let last = image_count (newest b.cache.now (given_by M S b.source.now b.m.now)) (length b.free.now) in
           let lt : page < length free.now = omega (arith, is.there, last, as_many) in
@@ -99,12 +99,12 @@ module _ {D E : Type 0} {M : MachineGhosts D} {S : SourceGhosts E} where
           }
 
     -- what waits then
-    pub waits_left : (cache' : CacheValue) → cache' ≡ c.cache.now → ChangesPages (step_of a) (step_of b) → AreWaiting (length free.now) cache.now → AreWaiting (length free.now) cache'
-    waits_left cache' left pages were = subst (AreWaiting (length free.now)) (sym left) (λ page is.
-        elim (pages.each page (ap (λ (d : List ℕ). is_one_of d page) (sym pins.dirty) ∙ is)) [
+    pub waits_left : ChangesPages (step_of a) (step_of b) → AreWaiting (length free.now) cache.now → AreWaiting (length free.now) cache'
+    waits_left pages were = λ page is.
+        elim (pages.each page (ap (λ (d : List ℕ). is_one_of d page) (sym left.pins.dirty) ∙ is)) [
           | inl old ↦ as_before page were old
           | inr read ↦ now_read page read
-        ])
+        ]
 
 -- ---- where it fails
 

@@ -14,38 +14,38 @@ ghost use Rattle.table_pages.specs.Kept.{IsReady};
 ghost use Rattle.cached_table.specs.Looking.{HasEnoughIn};
 ghost use Rattle.cached_table.specs.Editing.{ChangesNone, ChangesOne, FaultsEdit, FaultsKeep, KeepFails, DirtiesAtMost, DirtiesOne, EditsOnly, EditsTable, SetsKeep, SetsKeepIn, StaysIn};
 
-use crate::looking::let_go;
+use crate::CachedTable;
 use fsd_bytes::{FileName, Key};
 use name_btree::TreeFault;
 use name_page::Pages;
-use page_cache::{Cache, PageSource};
+use page_cache::PageSource;
 use sector_disk::Machine;
-use table_pages::{FreePages, Table};
+use table_pages::Table;
 use version_table::{VersionFault, newest, set_keep, take_out};
 
-/// Takes the version with a key out of the table. `home_a` is the first sector of the homes A. Where it fails the table stays.
-pub fn take_out_in<M: Machine, S: PageSource>(
-    m: &mut M,
-    cache: &mut Cache,
-    source: &S,
-    home_a: u32,
-    free: &mut FreePages,
-    key: &Key,
-) -> Result<(), TreeFault>
-    requires ready { IsReady M.Machine S.PageSource m.old cache.old source.now free.old }
-    requires room { length cache.old.dirty ≤ 56 }
-    ensures edits { EditsOnly M.Machine S.PageSource source.now (outer_told result) m.old m.new cache.old cache.new free.old free.new }
-    ensures kept { OnErr result (StaysIn M.Machine S.PageSource source.now m.old m.new cache.old cache.new free.old free.new) }
-    ensures waiting { AreWaiting (length free.old) cache.old → AreWaiting (length free.old) cache.new }
-    ensures changes { DirtiesAtMost 8 cache.old cache.new }
-    ensures fault { IfErr result (FaultsEdit M.Machine S.PageSource source.now m.old m.new cache.old cache.new free.new home_a) }
-    ensures made { OnOk result (EditsTable M.Machine S.PageSource source.now m.old m.new cache.old cache.new free.old free.new (entries_without (key.now ∷ []))) }
-{
-    let mut table = Table::new(m, cache, source, home_a, free);
-    let done = take_out(&mut table, key);
-    table.rest();
-    let_go(table);
-    done
+impl CachedTable {
+    /// Takes the version with a key out of the table. `home_a` is the first sector of the homes A. Where it fails the table stays.
+    pub fn take_out<M: Machine, S: PageSource>(
+        &mut self,
+        m: &mut M,
+        source: &S,
+        home_a: u32,
+        key: &Key,
+    ) -> Result<(), TreeFault>
+        requires ready { IsReady M.Machine S.PageSource m.old self.old.cache source.now self.old.free_pages }
+        requires room { length self.old.cache.dirty ≤ 56 }
+        ensures edits { EditsOnly M.Machine S.PageSource source.now (outer_told result) m.old m.new self.old.cache self.new.cache self.old.free_pages self.new.free_pages }
+        ensures kept { OnErr result (StaysIn M.Machine S.PageSource source.now m.old m.new self.old.cache self.new.cache self.old.free_pages self.new.free_pages) }
+        ensures waiting { AreWaiting (length self.old.free_pages) self.old.cache → AreWaiting (length self.old.free_pages) self.new.cache }
+        ensures changes { DirtiesAtMost 8 self.old.cache self.new.cache }
+        ensures fault { IfErr result (FaultsEdit M.Machine S.PageSource source.now m.old m.new self.old.cache self.new.cache self.new.free_pages home_a) }
+        ensures made { OnOk result (EditsTable M.Machine S.PageSource source.now m.old m.new self.old.cache self.new.cache self.old.free_pages self.new.free_pages (entries_without (key.now ∷ []))) }
+    {
+        let mut table = Table::new(m, &mut self.cache, source, home_a, &mut self.free_pages);
+        let done = take_out(&mut table, key);
+        table.rest();
+        done
+    }
 }
 
 // Gives the highest version of a name another keep of at most 999, and answers its key.
@@ -70,32 +70,32 @@ fn keep_at<T: Pages>(t: &mut T, name: &FileName, keep: u32) -> Result<Key, Versi
     }
 }
 
-/// Gives the highest version of a name another keep of at most 999 in the table, and answers its key. `home_a` is the first
-/// sector of the homes A.
-pub fn set_keep_in<M: Machine, S: PageSource>(
-    m: &mut M,
-    cache: &mut Cache,
-    source: &S,
-    home_a: u32,
-    free: &mut FreePages,
-    name: &FileName,
-    keep: u32,
-) -> Result<Key, VersionFault>
-    requires ready { IsReady M.Machine S.PageSource m.old cache.old source.now free.old }
-    requires room { length cache.old.dirty ≤ 56 }
-    requires keep { keep ≤ 999 }
-    ensures edits { EditsOnly M.Machine S.PageSource source.now (outer_met result) m.old m.new cache.old cache.new free.old free.new }
-    ensures kept { OnErr result (StaysIn M.Machine S.PageSource source.now m.old m.new cache.old cache.new free.old free.new) }
-    ensures waiting { AreWaiting (length free.old) cache.old → AreWaiting (length free.old) cache.new }
-    ensures name { IfOk result (λ key. key.name ≡ name.now) }
-    ensures one { IfOk result (λ key. DirtiesOne (length free.old) cache.old cache.new) }
-    ensures memory { HasEnoughIn free.old name.now cache.old → outer_met result ≡ Some Memory → ⊥ }
-    ensures fault { IfErr result (FaultsKeep M.Machine S.PageSource source.now m.old m.new cache.old cache.new free.old free.new home_a name.now) }
-    ensures set { IfOk result (SetsKeepIn M.Machine S.PageSource source.now m.old m.new cache.old cache.new free.old free.new name.now keep) }
-{
-    let mut table = Table::new(m, cache, source, home_a, free);
-    let done = keep_at(&mut table, name, keep);
-    table.rest();
-    let_go(table);
-    done
+impl CachedTable {
+    /// Gives the highest version of a name another keep of at most 999 in the table, and answers its key. `home_a` is the first
+    /// sector of the homes A.
+    pub fn set_keep<M: Machine, S: PageSource>(
+        &mut self,
+        m: &mut M,
+        source: &S,
+        home_a: u32,
+        name: &FileName,
+        keep: u32,
+    ) -> Result<Key, VersionFault>
+        requires ready { IsReady M.Machine S.PageSource m.old self.old.cache source.now self.old.free_pages }
+        requires room { length self.old.cache.dirty ≤ 56 }
+        requires keep { keep ≤ 999 }
+        ensures edits { EditsOnly M.Machine S.PageSource source.now (outer_met result) m.old m.new self.old.cache self.new.cache self.old.free_pages self.new.free_pages }
+        ensures kept { OnErr result (StaysIn M.Machine S.PageSource source.now m.old m.new self.old.cache self.new.cache self.old.free_pages self.new.free_pages) }
+        ensures waiting { AreWaiting (length self.old.free_pages) self.old.cache → AreWaiting (length self.old.free_pages) self.new.cache }
+        ensures name { IfOk result (λ key. key.name ≡ name.now) }
+        ensures one { IfOk result (λ key. DirtiesOne (length self.old.free_pages) self.old.cache self.new.cache) }
+        ensures memory { HasEnoughIn self.old.free_pages name.now self.old.cache → outer_met result ≡ Some Memory → ⊥ }
+        ensures fault { IfErr result (FaultsKeep M.Machine S.PageSource source.now m.old m.new self.old.cache self.new.cache self.old.free_pages self.new.free_pages home_a name.now) }
+        ensures set { IfOk result (SetsKeepIn M.Machine S.PageSource source.now m.old m.new self.old.cache self.new.cache self.old.free_pages self.new.free_pages name.now keep) }
+    {
+        let mut table = Table::new(m, &mut self.cache, source, home_a, &mut self.free_pages);
+        let done = keep_at(&mut table, name, keep);
+        table.rest();
+        done
+    }
 }

@@ -14,18 +14,19 @@ ghost use Rattle.cached_table.specs.Editing.{DirtiesAtMost, EditsOnly, EditsTabl
 ghost use Rattle.cached_table.specs.Entering.{AreInTurn, AreTaken, EntersNone, EntersNoneIn, OfTableIn, ShowsRefusal, ShowsUnsound, TellsUntaken, enter_refusal, plan_refusal, share};
 ghost use Rattle.cached_table.specs.Looking.{LooksOnly};
 
-use crate::looking::{let_go, table_refusal};
+use crate::CachedTable;
+use crate::looking::table_refusal;
 use alloc_map::Map;
 use fsd_bytes::{FileName, Refusal};
 use fsd_formats::Entry;
 use name_btree::TreeFault;
 use name_page::Pages;
-use page_cache::{Cache, PageSource};
+use page_cache::PageSource;
 use run_table::Runs;
 use sector_disk::Machine;
 use sector_set::overlap;
 use shadow_frees::Shadow;
-use table_pages::{FreePages, Table};
+use table_pages::Table;
 use version_table::{Leaving, Plan, VersionFault, enter, plan_version};
 
 // The refusal that a fault of the entry is. It comes behind look-ups: pages that differ since, or that break the table beside
@@ -131,43 +132,43 @@ fn enter_at<T: Pages>(
     }
 }
 
-/// Enters the next version of a name, of the bytes and in the runs of a draft, into the table, and answers its plan. What goes is
-/// tested against the map and the shadow first. `home_a` is the first sector of the homes A. Where it fails the table stays.
-pub fn enter_in<M: Machine, S: PageSource>(
-    m: &mut M,
-    cache: &mut Cache,
-    source: &S,
-    home_a: u32,
-    free: &mut FreePages,
-    map: &Map,
-    shadow: &Shadow,
-    name: &FileName,
-    given: Option<u32>,
-    draft: &Entry,
-) -> Result<Plan, Refusal>
-    requires ready { IsReady M.Machine S.PageSource m.old cache.old source.now free.old }
-    requires room { length cache.old.dirty ≤ 56 }
-    requires given { IfSome given (λ keep. keep ≤ 999) }
-    requires draft { IsTrue (is_entry draft.now) }
-    requires runs { AllByRecursion FitsRun draft.now.runs }
-    requires epoch { draft.now.serial.epoch < 2 ^ 32 }
-    requires count { draft.now.serial.count < 2 ^ 32 }
-    ensures edits { EditsOnly M.Machine S.PageSource source.now (outer_in result) m.old m.new cache.old cache.new free.old free.new }
-    ensures kept { OnErr result (StaysIn M.Machine S.PageSource source.now m.old m.new cache.old cache.new free.old free.new) }
-    ensures waiting { AreWaiting (length free.old) cache.old → AreWaiting (length free.old) cache.new }
-    ensures changes { DirtiesAtMost 36 cache.old cache.new }
-    ensures name { IfOk result (λ plan. plan.key.name ≡ name.now) }
-    ensures planned { IfOk result (λ plan. OfTableIn M.Machine S.PageSource source.now m.old m.new cache.old free.old (λ table. IsPlan name.now given table plan)) }
-    ensures taken { IfOk result (λ plan. AreInTurn map.now shadow.now [] plan.gone.items) }
-    ensures full { OnOk result (8 ≤ count_by (λ spare. spare) free.old) }
-    ensures made { IfOk result (λ plan. EditsTable M.Machine S.PageSource source.now m.old m.new cache.old cache.new free.old free.new (with_planned plan (planned_entry plan draft.now.serial draft.now.length draft.now.runs))) }
-    ensures fault { IfErr result (EntersNoneIn M.Machine S.PageSource source.now map.now shadow.now name.now m.old m.new cache.old cache.new free.old free.new) }
-    ensures looks { OnErr result (LooksOnly M.Machine S.PageSource source.now (outer_in result) m.old m.new cache.old cache.new free.old) }
-    ensures shown { IfErr result (ShowsUnsound M.Machine S.PageSource source.now map.now shadow.now m.old m.new cache.old cache.new free.old home_a) }
-{
-    let mut table = Table::new(m, cache, source, home_a, free);
-    let done = enter_at(&mut table, home_a, map, shadow, name, given, draft);
-    table.rest();
-    let_go(table);
-    done
+impl CachedTable {
+    /// Enters the next version of a name, of the bytes and in the runs of a draft, into the table, and answers its plan. What goes is
+    /// tested against the map and the shadow first. `home_a` is the first sector of the homes A. Where it fails the table stays.
+    pub fn enter<M: Machine, S: PageSource>(
+        &mut self,
+        m: &mut M,
+        source: &S,
+        home_a: u32,
+        map: &Map,
+        shadow: &Shadow,
+        name: &FileName,
+        given: Option<u32>,
+        draft: &Entry,
+    ) -> Result<Plan, Refusal>
+        requires ready { IsReady M.Machine S.PageSource m.old self.old.cache source.now self.old.free_pages }
+        requires room { length self.old.cache.dirty ≤ 56 }
+        requires given { IfSome given (λ keep. keep ≤ 999) }
+        requires draft { IsTrue (is_entry draft.now) }
+        requires runs { AllByRecursion FitsRun draft.now.runs }
+        requires epoch { draft.now.serial.epoch < 2 ^ 32 }
+        requires count { draft.now.serial.count < 2 ^ 32 }
+        ensures edits { EditsOnly M.Machine S.PageSource source.now (outer_in result) m.old m.new self.old.cache self.new.cache self.old.free_pages self.new.free_pages }
+        ensures kept { OnErr result (StaysIn M.Machine S.PageSource source.now m.old m.new self.old.cache self.new.cache self.old.free_pages self.new.free_pages) }
+        ensures waiting { AreWaiting (length self.old.free_pages) self.old.cache → AreWaiting (length self.old.free_pages) self.new.cache }
+        ensures changes { DirtiesAtMost 36 self.old.cache self.new.cache }
+        ensures name { IfOk result (λ plan. plan.key.name ≡ name.now) }
+        ensures planned { IfOk result (λ plan. OfTableIn M.Machine S.PageSource source.now m.old m.new self.old.cache self.old.free_pages (λ table. IsPlan name.now given table plan)) }
+        ensures taken { IfOk result (λ plan. AreInTurn map.now shadow.now [] plan.gone.items) }
+        ensures full { OnOk result (8 ≤ count_by (λ spare. spare) self.old.free_pages) }
+        ensures made { IfOk result (λ plan. EditsTable M.Machine S.PageSource source.now m.old m.new self.old.cache self.new.cache self.old.free_pages self.new.free_pages (with_planned plan (planned_entry plan draft.now.serial draft.now.length draft.now.runs))) }
+        ensures fault { IfErr result (EntersNoneIn M.Machine S.PageSource source.now map.now shadow.now name.now m.old m.new self.old.cache self.new.cache self.old.free_pages self.new.free_pages) }
+        ensures looks { OnErr result (LooksOnly M.Machine S.PageSource source.now (outer_in result) m.old m.new self.old.cache self.new.cache self.old.free_pages) }
+        ensures shown { IfErr result (ShowsUnsound M.Machine S.PageSource source.now map.now shadow.now m.old m.new self.old.cache self.new.cache self.old.free_pages home_a) }
+    {
+        let mut table = Table::new(m, &mut self.cache, source, home_a, &mut self.free_pages);
+        let done = enter_at(&mut table, home_a, map, shadow, name, given, draft);
+        table.rest();
+        done
+    }
 }

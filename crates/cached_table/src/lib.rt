@@ -7,9 +7,9 @@ mod homes;
 mod looking;
 mod opening;
 mod surveying;
+mod table;
 
-pub use changing::{set_keep_in, take_out_in};
-pub use entering::enter_in;
 pub use homes::read_homes;
-pub use looking::{find_in, highest_in, next_in, told};
+pub use looking::told;
 pub use opening::{Opened, open_table};
+pub use table::CachedTable;

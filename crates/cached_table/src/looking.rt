@@ -11,103 +11,93 @@ ghost use Rattle.name_btree.specs.Fault.{outer_told};
 ghost use Rattle.name_btree.specs.Lookup.{entry_of};
 ghost use Rattle.cached_table.specs.Looking.{FaultsOver, HasAllUsed, HasEnoughIn, HasPathIn, HavePages, LeadsTo, LooksOnly, ShowsFault, images_by, refusal_in, told};
 
+use crate::CachedTable;
 use fsd_bytes::{FileName, Key, Refusal};
 use name_btree::{FoundEntry, TreeFault, find, highest, next_after};
 use name_page::Pages;
-use page_cache::{Cache, PageSource};
+use page_cache::PageSource;
 use sector_disk::Machine;
-use table_pages::{FreePages, Table};
+use table_pages::Table;
 
-/// Lets a table go.
-pub(crate) fn let_go<M: Machine, S: PageSource>(table: Table<'_, M, S>)
-    ensures machine { table.exit.0.now ≡ table.entry.m.now }
-    ensures cache { table.exit.1.0.now ≡ table.entry.cache.now }
-    ensures free { table.exit.1.1.1.1.0.now ≡ table.entry.free.now }
-{}
+impl CachedTable {
+    /// The entry with this key, with the page of its leaf. `home_a` is the first sector of the homes A.
+    pub fn find<M: Machine, S: PageSource>(
+        &mut self,
+        m: &mut M,
+        source: &S,
+        home_a: u32,
+        key: &Key,
+    ) -> Result<Option<FoundEntry>, TreeFault>
+        requires { IsReady M.Machine S.PageSource m.old self.old.cache source.now self.old.free_pages }
+        ensures looks { LooksOnly M.Machine S.PageSource source.now (outer_told result) m.old m.new self.old.cache self.new.cache self.old.free_pages }
+        ensures free { self.new.free_pages ≡ self.old.free_pages }
+        ensures page { IfOk result (λ found. IfSome found (λ f. f.page < length self.old.free_pages)) }
+        ensures entry { IfOk result (λ found. IfSome found (λ f. is_entry f.entry ≡ true)) }
+        ensures key { IfOk result (λ found. IfSome found (λ f. f.entry.key ≡ key.now)) }
+        ensures way { IfOk result (λ found. IfSome found (λ f. (pages : List (List ℕ)) → HavePages self.new.cache (length self.old.free_pages) pages → LeadsTo pages f)) }
+        ensures found { IfOk result (λ found. IsTrusted M.Machine S.PageSource source.now m.old self.old.cache m.new → (height : ℕ) →
+            let pages = images_by M.Machine S.PageSource source.now m.old self.old.cache (length self.old.free_pages) in IsTree pages height → entry_of found ≡ entry_with key.now (table_of pages height)) }
+        ensures fault { IfErr result (FaultsOver M.Machine S.PageSource source.now m.new self.new.cache self.old.free_pages home_a) }
+        ensures shown { IfErr result (ShowsFault M.Machine S.PageSource source.now m.old m.new self.old.cache self.new.cache self.old.free_pages home_a) }
+    {
+        let mut table = Table::new(m, &mut self.cache, source, home_a, &mut self.free_pages);
+        let found = find(&mut table, key);
+        table.rest();
+        found
+    }
 
-/// The entry with this key, with the page of its leaf. `home_a` is the first sector of the homes A.
-pub fn find_in<M: Machine, S: PageSource>(
-    m: &mut M,
-    cache: &mut Cache,
-    source: &S,
-    home_a: u32,
-    free: &mut FreePages,
-    key: &Key,
-) -> Result<Option<FoundEntry>, TreeFault>
-    requires { IsReady M.Machine S.PageSource m.old cache.old source.now free.old }
-    ensures looks { LooksOnly M.Machine S.PageSource source.now (outer_told result) m.old m.new cache.old cache.new free.old }
-    ensures free { free.new ≡ free.old }
-    ensures page { IfOk result (λ found. IfSome found (λ f. f.page < length free.old)) }
-    ensures entry { IfOk result (λ found. IfSome found (λ f. is_entry f.entry ≡ true)) }
-    ensures key { IfOk result (λ found. IfSome found (λ f. f.entry.key ≡ key.now)) }
-    ensures way { IfOk result (λ found. IfSome found (λ f. (pages : List (List ℕ)) → HavePages cache.new (length free.old) pages → LeadsTo pages f)) }
-    ensures found { IfOk result (λ found. IsTrusted M.Machine S.PageSource source.now m.old cache.old m.new → (height : ℕ) →
-        let pages = images_by M.Machine S.PageSource source.now m.old cache.old (length free.old) in IsTree pages height → entry_of found ≡ entry_with key.now (table_of pages height)) }
-    ensures fault { IfErr result (FaultsOver M.Machine S.PageSource source.now m.new cache.new free.old home_a) }
-    ensures shown { IfErr result (ShowsFault M.Machine S.PageSource source.now m.old m.new cache.old cache.new free.old home_a) }
-{
-    let mut table = Table::new(m, cache, source, home_a, free);
-    let found = find(&mut table, key);
-    table.rest();
-    let_go(table);
-    found
-}
+    /// The entry with the least later key, with the page of its leaf. `home_a` is the first sector of the homes A.
+    pub fn next_after<M: Machine, S: PageSource>(
+        &mut self,
+        m: &mut M,
+        source: &S,
+        home_a: u32,
+        after: Option<&Key>,
+    ) -> Result<Option<FoundEntry>, TreeFault>
+        requires { IsReady M.Machine S.PageSource m.old self.old.cache source.now self.old.free_pages }
+        ensures looks { LooksOnly M.Machine S.PageSource source.now (outer_told result) m.old m.new self.old.cache self.new.cache self.old.free_pages }
+        ensures free { self.new.free_pages ≡ self.old.free_pages }
+        ensures page { IfOk result (λ found. IfSome found (λ f. f.page < length self.old.free_pages)) }
+        ensures later { IfOk result (λ found. IfSome found (λ f. is_after (option_copied after.entry) f.entry.key ≡ true)) }
+        ensures way { IfOk result (λ found. IfSome found (λ f. (pages : List (List ℕ)) → HavePages self.new.cache (length self.old.free_pages) pages → LeadsTo pages f)) }
+        ensures found { IfOk result (λ found. IsTrusted M.Machine S.PageSource source.now m.old self.old.cache m.new → (height : ℕ) →
+            let pages = images_by M.Machine S.PageSource source.now m.old self.old.cache (length self.old.free_pages) in IsTree pages height → entry_of found ≡ entry_after (option_copied after.entry) (table_of pages height)) }
+        ensures fault { IfErr result (FaultsOver M.Machine S.PageSource source.now m.new self.new.cache self.old.free_pages home_a) }
+        ensures shown { IfErr result (ShowsFault M.Machine S.PageSource source.now m.old m.new self.old.cache self.new.cache self.old.free_pages home_a) }
+    {
+        let mut table = Table::new(m, &mut self.cache, source, home_a, &mut self.free_pages);
+        let found = next_after(&mut table, after);
+        table.rest();
+        found
+    }
 
-/// The entry with the least later key, with the page of its leaf. `home_a` is the first sector of the homes A.
-pub fn next_in<M: Machine, S: PageSource>(
-    m: &mut M,
-    cache: &mut Cache,
-    source: &S,
-    home_a: u32,
-    free: &mut FreePages,
-    after: Option<&Key>,
-) -> Result<Option<FoundEntry>, TreeFault>
-    requires { IsReady M.Machine S.PageSource m.old cache.old source.now free.old }
-    ensures looks { LooksOnly M.Machine S.PageSource source.now (outer_told result) m.old m.new cache.old cache.new free.old }
-    ensures free { free.new ≡ free.old }
-    ensures page { IfOk result (λ found. IfSome found (λ f. f.page < length free.old)) }
-    ensures later { IfOk result (λ found. IfSome found (λ f. is_after (option_copied after.entry) f.entry.key ≡ true)) }
-    ensures way { IfOk result (λ found. IfSome found (λ f. (pages : List (List ℕ)) → HavePages cache.new (length free.old) pages → LeadsTo pages f)) }
-    ensures found { IfOk result (λ found. IsTrusted M.Machine S.PageSource source.now m.old cache.old m.new → (height : ℕ) →
-        let pages = images_by M.Machine S.PageSource source.now m.old cache.old (length free.old) in IsTree pages height → entry_of found ≡ entry_after (option_copied after.entry) (table_of pages height)) }
-    ensures fault { IfErr result (FaultsOver M.Machine S.PageSource source.now m.new cache.new free.old home_a) }
-    ensures shown { IfErr result (ShowsFault M.Machine S.PageSource source.now m.old m.new cache.old cache.new free.old home_a) }
-{
-    let mut table = Table::new(m, cache, source, home_a, free);
-    let found = next_after(&mut table, after);
-    table.rest();
-    let_go(table);
-    found
-}
-
-/// The entry with the highest version of a name, with the page of its leaf. `home_a` is the first sector of the homes A.
-pub fn highest_in<M: Machine, S: PageSource>(
-    m: &mut M,
-    cache: &mut Cache,
-    source: &S,
-    home_a: u32,
-    free: &mut FreePages,
-    name: &FileName,
-) -> Result<Option<FoundEntry>, TreeFault>
-    requires { IsReady M.Machine S.PageSource m.old cache.old source.now free.old }
-    ensures looks { LooksOnly M.Machine S.PageSource source.now (outer_told result) m.old m.new cache.old cache.new free.old }
-    ensures free { free.new ≡ free.old }
-    ensures memory { HasEnoughIn free.old name.now cache.old → outer_told result ≡ Some Memory → ⊥ }
-    ensures stays { HasPathIn (length free.old) name.now cache.old → HasPathIn (length free.old) name.now cache.new }
-    ensures all_stay { HasAllUsed free.old cache.old → HasAllUsed free.old cache.new }
-    ensures page { IfOk result (λ found. IfSome found (λ f. f.page < length free.old)) }
-    ensures name { IfOk result (λ found. IfSome found (λ f. f.entry.key.name ≡ name.now)) }
-    ensures way { IfOk result (λ found. IfSome found (λ f. (pages : List (List ℕ)) → HavePages cache.new (length free.old) pages → LeadsTo pages f)) }
-    ensures found { IfOk result (λ found. IsTrusted M.Machine S.PageSource source.now m.old cache.old m.new → (height : ℕ) →
-        let pages = images_by M.Machine S.PageSource source.now m.old cache.old (length free.old) in IsTree pages height → entry_of found ≡ highest_of name.now (table_of pages height)) }
-    ensures fault { IfErr result (FaultsOver M.Machine S.PageSource source.now m.new cache.new free.old home_a) }
-    ensures shown { IfErr result (ShowsFault M.Machine S.PageSource source.now m.old m.new cache.old cache.new free.old home_a) }
-{
-    let mut table = Table::new(m, cache, source, home_a, free);
-    let found = highest(&mut table, name);
-    table.rest();
-    let_go(table);
-    found
+    /// The entry with the highest version of a name, with the page of its leaf. `home_a` is the first sector of the homes A.
+    pub fn highest<M: Machine, S: PageSource>(
+        &mut self,
+        m: &mut M,
+        source: &S,
+        home_a: u32,
+        name: &FileName,
+    ) -> Result<Option<FoundEntry>, TreeFault>
+        requires { IsReady M.Machine S.PageSource m.old self.old.cache source.now self.old.free_pages }
+        ensures looks { LooksOnly M.Machine S.PageSource source.now (outer_told result) m.old m.new self.old.cache self.new.cache self.old.free_pages }
+        ensures free { self.new.free_pages ≡ self.old.free_pages }
+        ensures memory { HasEnoughIn self.old.free_pages name.now self.old.cache → outer_told result ≡ Some Memory → ⊥ }
+        ensures stays { HasPathIn (length self.old.free_pages) name.now self.old.cache → HasPathIn (length self.old.free_pages) name.now self.new.cache }
+        ensures all_stay { HasAllUsed self.old.free_pages self.old.cache → HasAllUsed self.old.free_pages self.new.cache }
+        ensures page { IfOk result (λ found. IfSome found (λ f. f.page < length self.old.free_pages)) }
+        ensures name { IfOk result (λ found. IfSome found (λ f. f.entry.key.name ≡ name.now)) }
+        ensures way { IfOk result (λ found. IfSome found (λ f. (pages : List (List ℕ)) → HavePages self.new.cache (length self.old.free_pages) pages → LeadsTo pages f)) }
+        ensures found { IfOk result (λ found. IsTrusted M.Machine S.PageSource source.now m.old self.old.cache m.new → (height : ℕ) →
+            let pages = images_by M.Machine S.PageSource source.now m.old self.old.cache (length self.old.free_pages) in IsTree pages height → entry_of found ≡ highest_of name.now (table_of pages height)) }
+        ensures fault { IfErr result (FaultsOver M.Machine S.PageSource source.now m.new self.new.cache self.old.free_pages home_a) }
+        ensures shown { IfErr result (ShowsFault M.Machine S.PageSource source.now m.old m.new self.old.cache self.new.cache self.old.free_pages home_a) }
+    {
+        let mut table = Table::new(m, &mut self.cache, source, home_a, &mut self.free_pages);
+        let found = highest(&mut table, name);
+        table.rest();
+        found
+    }
 }
 
 /// What was found, or the refusal that a fault is.

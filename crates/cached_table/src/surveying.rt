@@ -11,7 +11,7 @@ ghost use Rattle.table_survey.specs.Survey.{IsSurveyed};
 ghost use Rattle.cached_table.specs.Looking.{images_by};
 ghost use Rattle.cached_table.specs.Surveying.{SurveyFails, SurveysOnly, mount_fault_for, mount_fault_in, IsOfData};
 
-use crate::looking::{let_go, table_refusal};
+use crate::looking::table_refusal;
 use alloc_map::Map;
 use fsd_bytes::Refusal;
 use fsd_sound::MountFault;
@@ -54,7 +54,6 @@ pub(crate) fn survey_in<M: Machine, S: PageSource>(
     let mut table = Table::new(m, cache, source, home_a, free);
     let counts = survey(&mut table, l, map, marks);
     table.rest();
-    let_go(table);
     counts
 }
 

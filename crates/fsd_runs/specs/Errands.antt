@@ -148,9 +148,15 @@ abbrev pub replies_with : (Reply → ℕ) → List Answered → ℕ
 replies_with f done = sum_by (λ p. f p.reply) done
 
 abbrev pub generated_line : List Answered → Line
-generated_line done =
-    Says.Generated (length done) (replies_with is_made done) (replies_with is_deleted done) (replies_with is_kept done) (replies_with is_read done)
-    (sum_by (λ p. bytes_moved p.command p.reply) done) (replies_with is_refused done)
+generated_line done = Says.Generated (record {
+  count = length done;
+  made = replies_with is_made done;
+  deleted = replies_with is_deleted done;
+  kept = replies_with is_kept done;
+  read = replies_with is_read done;
+  bytes = sum_by (λ p. bytes_moved p.command p.reply) done;
+  refused = replies_with is_refused done;
+})
 
 -- nothing is said of a reply
 abbrev pub generated : (seed count : ℕ) → Errand

@@ -4,10 +4,10 @@ ghost use Rattle.std.specs.Prelude.{◌≡◌, ◌<◌, ◌≤◌};
 
 use crate::machines::{calm, formatted};
 use crate::waiting::force_page;
-use group_commit::{ForceFault, Forced};
+use group_commit::Forced;
 use log_thirds::Log;
 use mount_recover::{Settled, recover};
-use sector_disk::{Attach, Event, Machine, MemoryMachine, Sector};
+use sector_disk::{Attach, Event, LoadFault, Machine, MemoryMachine, Sector};
 use std::alloc::Global;
 use std::test::Fail;
 
@@ -33,7 +33,7 @@ fn come_round(
     alloc: Global,
     page: u32,
     events: &[Event],
-) -> Result<(MemoryMachine, Option<Result<Forced, ForceFault>>), Fail>
+) -> Result<(MemoryMachine, Option<Result<Forced, LoadFault>>), Fail>
     requires { page < 16 }
 {
     let m = calm(alloc, formatted(alloc, FORMAT)?);
@@ -103,7 +103,7 @@ fn the_first_third_is_entered_again(rt: HostRuntime) -> Result<(), Fail> {
 fn a_page_of_the_first_third_goes_home_first(rt: HostRuntime) -> Result<(), Fail> {
     let alloc = rt.alloc();
     let (m, forced) = come_round(alloc, 6, &[stop_in(8, 2, 0)])?;
-    assert_eq!(rt; forced, Some(Err(ForceFault::Device(8))));
+    assert_eq!(rt; forced, Some(Err(LoadFault::Device(8))));
     assert_eq!(rt;
         (record_at(&m, 621), record_at(&m, 641)),
         (Some(1), Some(1))

@@ -1,7 +1,8 @@
 //! Runs on which a pair of sectors wears, in a volume whose log begins at 16, whose homes begin at 784 and 852, and whose data
 //! begins at 921.
 use crate::machines::{NEVER, formatted, hurt, hurt_late, run, weak};
-use sector_disk::{Event, Sector};
+use sector_disk::{Event, MemoryMachine, Sector};
+use std::alloc::{AllocError, Global};
 use std::test::Fail;
 
 const FORMAT: &str = "cfs format v 2048 256 64";
@@ -9,6 +10,26 @@ const FORMAT: &str = "cfs format v 2048 256 64";
 const CALM: [Event; 2] = [NEVER, NEVER];
 
 const LISTED: &str = "a!1 1 2 2\nlisted 1\n";
+
+// What happens on a line's run, the line, its input, and the status and the text with which it ends.
+type Row<'a> = (Event, &'a str, &'a [u8], u8, &'a str);
+
+// The first of these lines, run one after another, that ends otherwise or wears what may not wear.
+fn first_wrong_row(
+    alloc: Global,
+    m: MemoryMachine,
+    rows: &[Row],
+) -> Result<Option<usize>, AllocError> {
+    let mut m = m;
+    for (i, (event, line, input, status, said)) in rows.iter().enumerate() {
+        let (next, ended) = run(alloc, m, &[*event], line, input)?;
+        if ended != *status || next.said() != said.as_bytes() || !next.honest() {
+            return Ok(Some(i));
+        }
+        m = next;
+    }
+    Ok(None)
+}
 
 #[test]
 fn a_worn_pair_loses_nothing(rt: HostRuntime) -> Result<(), Fail> {
@@ -70,13 +91,8 @@ fn an_old_copy_serves_no_record(rt: HostRuntime) -> Result<(), Fail> {
         ),
         (NEVER, "cfs list v *", b"".as_slice(), 0, LISTED),
     ];
-    let mut m = weak(alloc, image.as_slice(), [19; 3])?;
-    for (event, line, input, status, said) in rows {
-        let (next, ended) = run(alloc, m, &[event], line, input)?;
-        assert_eq!(rt; next.said(), said.as_bytes(), "{line}");
-        assert!(rt; ended == status && next.honest(), "{line}");
-        m = next;
-    }
+    let m = weak(alloc, image.as_slice(), [19; 3])?;
+    assert_eq!(rt; first_wrong_row(alloc, m, &rows)?, None);
     Ok(())
 }
 
@@ -102,13 +118,8 @@ fn a_record_is_completed_before_its_pages_go_home(rt: HostRuntime) -> Result<(),
         (hurt(19), "cfs get v a!1", b"".as_slice(), 0, "x"),
         (hurt(784), "cfs get v a!1", b"".as_slice(), 0, "x"),
     ];
-    let mut m = weak(alloc, image.as_slice(), [19, 19, 784])?;
-    for (event, line, input, status, said) in rows {
-        let (next, ended) = run(alloc, m, &[event], line, input)?;
-        assert_eq!(rt; next.said(), said.as_bytes(), "{status} {said}");
-        assert!(rt; ended == status && next.honest(), "{status} {said}");
-        m = next;
-    }
+    let m = weak(alloc, image.as_slice(), [19, 19, 784])?;
+    assert_eq!(rt; first_wrong_row(alloc, m, &rows)?, None);
     Ok(())
 }
 
@@ -117,15 +128,15 @@ fn a_record_is_completed_before_its_pages_go_home(rt: HostRuntime) -> Result<(),
 fn bytes_of_a_version_stand_once(rt: HostRuntime) -> Result<(), Fail> {
     let alloc = rt.alloc();
     let image = formatted(alloc, FORMAT)?;
+    let bytes = [7; 1200];
+    let damaged = "damaged g!1 923\n";
+    let rows = [
+        (NEVER, "cfs put v g", bytes.as_slice(), 0, "made g!1 4\n"),
+        (hurt(923), "cfs get v g!1", b"".as_slice(), 8, damaged),
+        (NEVER, "cfs get v g!1", b"".as_slice(), 8, damaged),
+    ];
     let m = weak(alloc, image.as_slice(), [923; 3])?;
-    let (mut m, _) = run(alloc, m, &[], "cfs put v g", &[7; 1200])?;
-    assert_eq!(rt; m.said(), b"made g!1 4\n".as_slice());
-    for event in [hurt(923), NEVER] {
-        let (next, status) = run(alloc, m, &[event], "cfs get v g!1", b"")?;
-        assert_eq!(rt; next.said(), b"damaged g!1 923\n".as_slice());
-        assert!(rt; status == 8 && next.honest());
-        m = next;
-    }
+    assert_eq!(rt; first_wrong_row(alloc, m, &rows)?, None);
     Ok(())
 }
 

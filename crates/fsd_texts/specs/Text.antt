@@ -102,9 +102,9 @@ text (Bytes key len) = line (codes "bytes" ∷ key_text key ∷ number len ∷ [
 text Forced = codes "forced" ++ newline
 text (Stat free waiting pages versions) = line (codes "stat" ∷ codes "free" ∷ number free ∷ codes "waiting" ∷ number waiting ∷ codes "pages" ∷ number pages ∷ codes "versions" ∷ number versions ∷ [])
 text (Damaged key s) = line (codes "damaged" ∷ key_text key ∷ number s ∷ [])
-text (Generated count made deleted kept read bytes refused) =
-    line (codes "generated" ∷ number count ∷ codes "made" ∷ number made ∷ codes "deleted" ∷ number deleted ∷ codes "kept" ∷ number kept
-    ∷ codes "read" ∷ number read ∷ codes "bytes" ∷ number bytes ∷ codes "refused" ∷ number refused ∷ [])
+text (Generated c) =
+    line (codes "generated" ∷ number c.count ∷ codes "made" ∷ number c.made ∷ codes "deleted" ∷ number c.deleted ∷ codes "kept" ∷ number c.kept
+    ∷ codes "read" ∷ number c.read ∷ codes "bytes" ∷ number c.bytes ∷ codes "refused" ∷ number c.refused ∷ [])
 text (Refused why) = refused_line (refusal_words why)
 text (Ended fault) = fault_text fault
 

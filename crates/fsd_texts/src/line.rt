@@ -1,5 +1,6 @@
 //! The lines that are said.
 use crate::bad_line::BadLine;
+use crate::counts::Counts;
 use crate::fault::Fault;
 use fsd_bytes::{Key, Refusal};
 use volume_layout::LayoutFault;
@@ -52,15 +53,7 @@ pub enum Line {
         sector: u32,
     },
     /// So many commands were made up, and what came of them.
-    Generated {
-        count: u32,
-        made: u32,
-        deleted: u32,
-        kept: u32,
-        read: u32,
-        bytes: u64,
-        refused: u32,
-    },
+    Generated(Counts),
     Refused(Refusal),
     Ended(Fault),
 }

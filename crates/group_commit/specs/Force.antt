@@ -1,11 +1,9 @@
 -- What a force makes of the pages, the log and the disk.
-use Rattle.std.specs.Prelude.{◌≡◌, ◌⊎◌, ℕ, ◌+◌, ◌≤◌, ◌<◌, List, [], ◌∷◌, length, Option, Some, None}
+use Rattle.std.specs.Prelude.{◌≡◌, ◌⊎◌, ℕ, ◌+◌, ◌≤◌, ◌<◌, List, [], ◌∷◌, length}
 use Rattle.volume_layout.specs.declared.layout.Layout.{Layout}
 use Rattle.volume_layout.specs.Layout.{home_a, home_b, map_start, InLog}
 use Rattle.sector_disk.specs.declared.sector.WeakRun.{WeakRun}
 use Rattle.sector_disk.specs.Image.{open_damage, sector_at}
-use Rattle.sector_disk.specs.declared.machine.LoadFault.{LoadFault}
-use Rattle.sector_disk.specs.declared.machine.LoadFault.TheVariants as load
 use Rattle.sector_disk.specs.Machine.{Moment}
 use Rattle.fsd_formats.specs.Record.{record_len}
 use Rattle.fsd_log.specs.Scan.{Placed}
@@ -14,8 +12,6 @@ use Rattle.fsd_sound.specs.Mounted.{StandsOver as Over}
 use Rattle.fsd_sound.specs.Sound.{ShowsPages}
 use Rattle.log_thirds.specs.LogValue.{LogValue}
 use Rattle.log_thirds.specs.Append.{stamp_now, log_with}
-use Rattle.group_commit.specs.declared.force.ForceFault.{ForceFault}
-use Rattle.group_commit.specs.declared.force.ForceFault.TheVariants.{Device, Lost}
 use Rattle.group_commit.specs.Resident.{ResidentValue, stamped}
 use Rattle.group_commit.specs.Room.{log_before, sectors_before}
 
@@ -66,13 +62,3 @@ pub record Commits (l : Layout) (runs : List WeakRun) (disk now : List (List ℕ
 pub record Committed (log : LogValue) (s : ResidentValue) (windows : List WeakRun) (i : Image) : Type 0 where
   pub records : List Placed
   pub stands : StandsOver log records s.pages s windows i
-
--- the place of the call of the disk that failed
-abbrev pub force_failed_at : ForceFault → Option ℕ
-force_failed_at (Device place) = Some place
-force_failed_at (Lost a b) = None
-
--- the same as a fault of what is read
-abbrev pub as_load : ForceFault → LoadFault
-as_load (Device place) = load.Device place
-as_load (Lost a b) = load.Lost a b

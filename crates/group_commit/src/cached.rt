@@ -15,12 +15,12 @@ ghost use Rattle.page_cache.specs.Cache.{IsCache, IsResident, bytes_of, cleaned}
 ghost use Rattle.group_commit.specs.Resident.{IsImageOf, stamped};
 ghost use Rattle.group_commit.specs.Room.{log_before, sectors_before};
 ghost use Rattle.group_commit.specs.Entering.{RecordCause, LosesLogged};
-ghost use Rattle.group_commit.specs.Force.{sectors_written, stamped_by, log_forced, StandsOver, Committed, KeepsOutside, as_load, force_failed_at};
+ghost use Rattle.group_commit.specs.Force.{sectors_written, stamped_by, log_forced, StandsOver, Committed, KeepsOutside};
 ghost use Rattle.group_commit.specs.Logged.{StandsLogged};
 ghost use Rattle.group_commit.specs.Newest.{KnowsImages};
 ghost use Rattle.group_commit.specs.Cached.{AgreesWith, AreWaiting, CacheLeaves, FramesLeave, HasImages, ascending_of, stamped_for, stamped_frames, with_waiting};
 
-use crate::force::{ForceFault, Forced, Group, force_fault};
+use crate::force::{Forced, Group};
 use crate::frames::{lay_frames, stamp_frames};
 use crate::record::write_record;
 use crate::room::RecordRoom;
@@ -93,16 +93,16 @@ fn force_waiting<M: Machine>(
     cache: &mut Cache,
     waiting: &[u32],
     room: &mut RecordRoom,
-) -> Result<Forced, ForceFault>
+) -> Result<Forced, LoadFault>
     requires valid { IsCache cache.old }
     requires are { waiting.now ≡ ascending_of cache.old.dirty }
     requires few { length waiting.now ≤ 96 }
     requires waiting { AreWaiting log.old.layout.pages cache.old }
     requires numbered { log.old.head.number < 2 ^ 32 - 1 }
     requires sectors { log.old.layout.sectors ≤ (M.report m.old).sectors }
-    ensures disk { WritesDisk M.Machine (device_in force_failed_at result) (CacheLeaves log.old cache.old) m.old m.new }
+    ensures disk { WritesDisk M.Machine (device_in load_failed_at result) (CacheLeaves log.old cache.old) m.old m.new }
     ensures rest { M.honest m.new → KeepsOutside log.old.layout (M.now m.old) (M.now m.new) }
-    ensures cause { IfErr result (λ fault. RecordCause log.old (length cache.old.dirty) (as_load fault)) }
+    ensures cause { IfErr result (RecordCause log.old (length cache.old.dirty)) }
     ensures pages { IfOk result (λ forced. forced.pages ≡ length cache.old.dirty) }
     ensures counted { OnOk result (M.tells m.new → (M.ledger m.new).written ≡ (M.ledger m.old).written + sectors_written log.old cache.old.dirty) }
     ensures counted_err { OnErr result (M.tells m.new → WroteMost (sectors_before log.old (length cache.old.dirty)) (M.ledger m.old) (M.ledger m.new)) }
@@ -112,11 +112,11 @@ fn force_waiting<M: Machine>(
     ensures log { OnOk result (log.new ≡ log_forced log.old (ascending_of cache.old.dirty)) }
     ensures log_err { OnErr result ((log.new ≡ log.old) ⊎ ((log.new ≡ log_before log.old (length cache.old.dirty)) × (M.tells m.new → (M.ledger m.new).written ≡ (M.ledger m.old).written + sectors_before log.old (length cache.old.dirty)))) }
     ensures layout { log.new.layout ≡ log.old.layout }
-    ensures lost { IfErr result (λ fault. M.honest m.new → LosesLogged log.old (M.now m.new).image (as_load fault)) }
+    ensures lost { IfErr result (λ fault. M.honest m.new → LosesLogged log.old (M.now m.new).image fault) }
     ensures never_lost { IfErr result (λ fault. (pages : List (List ℕ)) (windows : List WeakRun) (records : List Placed) (disk : List (List ℕ)) →
         AgreesWith log.old.layout cache.old pages → M.honest m.new → EndIn (M.now m.old).windows windows →
         StandsOver log.old records disk (with_waiting cache.old pages) windows (M.now m.old).image →
-        KnowsImages log.old (M.now m.old).image → IsDevice (as_load fault)) }
+        KnowsImages log.old (M.now m.old).image → IsDevice fault) }
     ensures done { OnOk result ((pages : List (List ℕ)) (windows : List WeakRun) (records : List Placed) (disk : List (List ℕ)) →
         AgreesWith log.old.layout cache.old pages → M.honest m.new → EndIn (M.now m.old).windows windows →
         StandsOver log.old records disk (with_waiting cache.old pages) windows (M.now m.old).image →
@@ -139,7 +139,7 @@ fn force_waiting<M: Machine>(
                 pages: count as u32,
             })
         }
-        Err(fault) => Err(force_fault(fault)),
+        Err(fault) => Err(fault),
     }
 }
 
@@ -153,17 +153,17 @@ impl Group {
         log: &mut Log,
         cache: &mut Cache,
         room: &mut RecordRoom,
-    ) -> Result<Forced, ForceFault>
+    ) -> Result<Forced, LoadFault>
         requires waiting { AreWaiting log.old.layout.pages cache.old }
         requires numbered { log.old.head.number < 2 ^ 32 - 1 }
         requires sectors { log.old.layout.sectors ≤ (M.report m.old).sectors }
 
         // At each moment the disk shows the pages as they were or as they are now, whichever pages the cache has a part of.
-        ensures disk { WritesDisk M.Machine (device_in force_failed_at result) (CacheLeaves log.old cache.old) m.old m.new }
+        ensures disk { WritesDisk M.Machine (device_in load_failed_at result) (CacheLeaves log.old cache.old) m.old m.new }
 
         // Whatever the disk shows, the roots, the map and the data stay but for wear.
         ensures rest { M.honest m.new → KeepsOutside log.old.layout (M.now m.old) (M.now m.new) }
-        ensures cause { IfErr result (λ fault. RecordCause log.old (length cache.old.dirty) (as_load fault)) }
+        ensures cause { IfErr result (RecordCause log.old (length cache.old.dirty)) }
 
         ensures pages { IfOk result (λ forced. forced.pages ≡ length cache.old.dirty) }
         ensures counted { OnOk result (M.tells m.new → (M.ledger m.new).written ≡ (M.ledger m.old).written + sectors_written log.old cache.old.dirty) }
@@ -180,11 +180,11 @@ impl Group {
         ensures layout { log.new.layout ≡ log.old.layout }
 
         // A page is lost only where both sectors of its last image in the log read damaged, and over a disk that shows pages none is.
-        ensures lost { IfErr result (λ fault. M.honest m.new → LosesLogged log.old (M.now m.new).image (as_load fault)) }
+        ensures lost { IfErr result (λ fault. M.honest m.new → LosesLogged log.old (M.now m.new).image fault) }
         ensures never_lost { IfErr result (λ fault. (pages : List (List ℕ)) (windows : List WeakRun) (records : List Placed) (disk : List (List ℕ)) →
             AgreesWith log.old.layout cache.old pages → M.honest m.new → EndIn (M.now m.old).windows windows →
             StandsOver log.old records disk (with_waiting cache.old pages) windows (M.now m.old).image →
-            KnowsImages log.old (M.now m.old).image → IsDevice (as_load fault)) }
+            KnowsImages log.old (M.now m.old).image → IsDevice fault) }
 
         // At the end it shows them as they are now.
         ensures done { OnOk result ((pages : List (List ℕ)) (windows : List WeakRun) (records : List Placed) (disk : List (List ℕ)) →

@@ -35,14 +35,11 @@ fn home_page<M: Machine>(m: &mut M, log: &Log, page: u32) -> Result<(), LoadFaul
         IsHoming log.now records disk windows old n (M.now m.old) → IsDevice fault) }
 {
     let mut image = [0; 512];
-    match log.image_of(m, page, &mut image) {
-        Ok(true) => match write_home(m, log.layout(), page, &image) {
-            Ok(()) => Ok(()),
-            Err(failed) => Err(LoadFault::Device(failed.place)),
-        },
-        Ok(false) => Ok(()),
-        Err(fault) => Err(fault),
+    if !log.image_of(m, page, &mut image)? {
+        return Ok(());
     }
+    write_home(m, log.layout(), page, &image)?;
+    Ok(())
 }
 
 // Writes each page home whose last image lies in the log's first third, in ascending order.
@@ -92,10 +89,8 @@ pub(crate) fn enter_third<M: Machine>(m: &mut M, log: &mut Log, third: u32) -> R
 {
     let _layout = log.layout();
     home_third(m, log, third)?;
-    match log.move_anchor(m) {
-        Ok(()) => Ok(()),
-        Err(failed) => Err(LoadFault::Device(failed.place)),
-    }
+    log.move_anchor(m)?;
+    Ok(())
 }
 
 /// Makes room for a record of so many pages: where it would enter the log's first third, the pages of that third are written

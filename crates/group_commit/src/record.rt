@@ -60,8 +60,6 @@ pub(crate) fn write_record<M: Machine>(
     let layout = log.layout();
     let _pages = layout.pages();
     make_room(m, log, dirty.len() as u32)?;
-    match log.append(m, dirty, &room[..512 * dirty.len()]) {
-        Ok(()) => Ok(()),
-        Err(failed) => Err(LoadFault::Device(failed.place)),
-    }
+    log.append(m, dirty, &room[..512 * dirty.len()])?;
+    Ok(())
 }

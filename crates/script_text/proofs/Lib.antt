@@ -6,5 +6,4 @@ pub mod MoreLaws
 pub mod ReaderLaws
 pub mod StepLaws
 pub mod TakeLaws
-pub mod TextLaws
 pub mod WholeLaws

@@ -1,5 +1,4 @@
 pub mod Front
 pub mod Making
 pub mod Reading
-pub mod Saying
 pub mod Taking

@@ -3,12 +3,11 @@ ghost use Rattle.std.specs.Prelude.{◌≡◌, ◌≤◌, ◌++◌, ◌∷◌, [
 ghost use Rattle.arrayvec.specs.ArrayVec.{array_vec_len};
 ghost use Rattle.fsd_bytes.specs.Keys.{key_text};
 ghost use Rattle.fsd_texts.specs.declared.line.Line.TheVariants as Says;
-ghost use Rattle.script_text.specs.Saying.{IsGenerated};
 ghost use Rattle.fsd_texts.specs.Text.{bad_line_text, cause_text, fault_text, layout_words, line, newline, refusal_words, refused_line, text};
 
 use crate::laying::{LineText, keyed, numbered, paired, put, put_counted, words};
 use fsd_bytes::{Key, Refusal};
-use fsd_texts::{Bytes, Cause, Fault, Line};
+use fsd_texts::{Bytes, Cause, Counts, Fault, Line};
 use std::alloc::AllocError;
 use volume_layout::LayoutFault;
 
@@ -48,7 +47,7 @@ pub fn lay_line(line: &Line) -> LineText
             versions,
         } => stat_text(*free, *waiting, *pages, *versions),
         Line::Damaged { key, sector } => key_line("damaged ", key, *sector),
-        Line::Generated { .. } => generated_text(line),
+        Line::Generated(counts) => generated_text(counts),
         Line::Refused(why) => refused_text(*why),
         Line::Ended(fault) => ended_text(*fault),
     }
@@ -108,47 +107,33 @@ fn stat_text(free: u32, waiting: u32, pages: u32, versions: u32) -> LineText
 }
 
 // The line of a generator.
-fn generated_text(line: &Line) -> LineText
-    requires { IsGenerated line.now }
-    ensures { result.items ≡ text line.now }
+fn generated_text(counts: &Counts) -> LineText
+    ensures { result.items ≡ text (Says.Generated counts.now) }
 {
-    match line {
-        Line::Generated {
-            count,
-            made,
-            deleted,
-            kept,
-            read,
-            bytes,
-            refused,
-        } => {
-            let mut text = changed_text(*count, *made, *deleted, *kept);
-            put_others(&mut text, *read, *bytes, *refused);
-            text
-        }
-        _ => unreachable!(),
-    }
-}
-
-fn changed_text(count: u32, made: u32, deleted: u32, kept: u32) -> LineText
-    ensures changed { result.items ≡ codes "generated " ++ decimal count ++ codes " made " ++ decimal made ++ codes " deleted " ++ decimal deleted ++ codes " kept " ++ decimal kept }
-    ensures short { array_vec_len result ≤ 111 }
-{
-    let mut text = words("generated ");
-    put_counted(&mut text, "", u64::from(count));
-    put_counted(&mut text, " made ", u64::from(made));
-    put_counted(&mut text, " deleted ", u64::from(deleted));
-    put_counted(&mut text, " kept ", u64::from(kept));
+    let mut text = changed_text(counts);
+    put_others(&mut text, counts);
     text
 }
 
-fn put_others(text: &mut LineText, read: u32, bytes: u64, refused: u32)
-    requires { array_vec_len text.old ≤ 111 }
-    ensures { text.new.items ≡ text.old.items ++ (codes " read " ++ decimal read ++ codes " bytes " ++ decimal bytes ++ codes " refused " ++ decimal refused ++ newline) }
+fn changed_text(c: &Counts) -> LineText
+    ensures changed { result.items ≡ codes "generated " ++ decimal c.now.count ++ codes " made " ++ decimal c.now.made ++ codes " deleted " ++ decimal c.now.deleted ++ codes " kept " ++ decimal c.now.kept }
+    ensures short { array_vec_len result ≤ 111 }
 {
-    put_counted(text, " read ", u64::from(read));
-    put_counted(text, " bytes ", bytes);
-    put_counted(text, " refused ", u64::from(refused));
+    let mut text = words("generated ");
+    put_counted(&mut text, "", u64::from(c.count));
+    put_counted(&mut text, " made ", u64::from(c.made));
+    put_counted(&mut text, " deleted ", u64::from(c.deleted));
+    put_counted(&mut text, " kept ", u64::from(c.kept));
+    text
+}
+
+fn put_others(text: &mut LineText, c: &Counts)
+    requires { array_vec_len text.old ≤ 111 }
+    ensures { text.new.items ≡ text.old.items ++ (codes " read " ++ decimal c.now.read ++ codes " bytes " ++ decimal c.now.bytes ++ codes " refused " ++ decimal c.now.refused ++ newline) }
+{
+    put_counted(text, " read ", u64::from(c.read));
+    put_counted(text, " bytes ", c.bytes);
+    put_counted(text, " refused ", u64::from(c.refused));
     put(text, b"\n");
 }
 

@@ -9,7 +9,7 @@ use Rattle.page_cache.specs.Cache.{CacheValue, AreNewest, IsResident, is_one_of,
 use Rattle.name_page.specs.Pages.{Step}
 use Rattle.sector_disk.specs.Calls.{OnlyReads}
 use Rattle.table_pages.specs.Reads.{device_of, LosesFor, Fills, HadRefused}
-use Rattle.table_pages.specs.Bringing.{IsTrusted, given_by, home_in}
+use Rattle.table_pages.specs.Bringing.{IsTrusted, OnlyPins, given_by, home_in}
 use Rattle.table_pages.specs.Kept.{IsReady, images_of, kept_written}
 use Rattle.table_pages.specs.declared.table.Table.{Table}
 
@@ -34,12 +34,15 @@ module _ {D E : Type 0} {M : MachineGhosts D} {S : SourceGhosts E} where
     most_changed = 96;
   }
 
-  -- the machine and the cache that it reaches its pages by, as they are
+  -- the machine and the cache that it reaches its pages by, and its free pages, as they are
   abbrev pub machine_of : Table D E M S → D
   machine_of t = t.m.now
 
   abbrev pub cache_of : Table D E M S → CacheValue
   cache_of t = t.cache.now
+
+  abbrev pub free_of : Table D E M S → List Bool
+  free_of t = t.free.now
 
   -- the table with the bytes of one of its pages written
   abbrev pub written : Table D E M S → ℕ → List ℕ → Table D E M S
@@ -86,10 +89,11 @@ module _ {D E : Type 0} {M : MachineGhosts D} {S : SourceGhosts E} where
     pub made_over : t.made_over.value ≡ m.now
     pub made_with : t.made_with.value ≡ cache.now
 
-  -- no page is pinned any more, and another table can be made over the same
-  abbrev pub IsAtRest : Table D E M S → Type 0
-  IsAtRest t = IsReady M S t.m.now t.cache.now t.source.now t.free.now
-
-  -- what is not dirty is what the source has
-  abbrev pub IsClean : Table D E M S → Type 0
-  IsClean t = AreNewest (given_by M S t.source.now t.m.now) t.cache.now
+  -- This is left once the table rests: no page is pinned any more, and another table can be made over the same. Where the outside is
+  -- trusted, what is not dirty is what the source has.
+  pub record Leaves (t : Table D E M S) (m : D) (cache : CacheValue) (free : List Bool) : Type 0 where
+    pub machine : m ≡ t.m.now
+    pub pins : OnlyPins t.cache.now cache
+    pub flags : free ≡ t.free.now
+    pub ready : IsReady M S m cache t.source.now free
+    pub clean : Trusted t → AreNewest (given_by M S t.source.now m) cache

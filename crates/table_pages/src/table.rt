@@ -14,7 +14,6 @@ use std::snapshot::Snapshot;
 
 /// The pages of a name table over a cache of at least 192 frames. A page that is changed waits in the cache until a force
 /// has written it: at most 96 do, and what is left of them is the leave to change.
-#[derive(Drop)]
 pub struct Table<'a, M: Machine, S: PageSource> {
     m: &'a mut M,
     cache: &'a mut Cache,
@@ -68,12 +67,33 @@ impl<'a, M: Machine, S: PageSource> Table<'a, M, S> {
     }
 }
 
+impl<'a, M: Machine, S: PageSource> Drop for Table<'a, M, S> {
+    fn drop(self)
+        ensures machine { self.exit.0.now ≡ self.entry.m.now }
+        ensures cache { self.exit.1.0.now ≡ self.entry.cache.now }
+        ensures free { self.exit.1.1.1.1.0.now ≡ self.entry.free.now }
+    {
+        let Table {
+            m: _,
+            cache: _,
+            source: _,
+            home_a: _,
+            free: _,
+            reached: _,
+            spares: _,
+            promised: _,
+            refusal: _,
+            made_over: _,
+            made_with: _,
+        } = self;
+    }
+}
+
 impl<'a, M: Machine, S: PageSource> Pages for Table<'a, M, S> {
     ghost use Rattle.std.specs.Prelude.{refl, None};
     ghost use Rattle.std.proofs.Common.{ap, ◌∙◌, subst, sym};
     ghost use Rattle.name_page.specs.Pages.{NeedsNoMemory, Step, rested};
-    ghost use Rattle.table_pages.specs.Bringing.{OnlyPins};
-    ghost use Rattle.table_pages.specs.Table.{cache_of, machine_of, step_of, written, HasPage, ReadsOnly, Trusted, IsAtRest, IsClean};
+    ghost use Rattle.table_pages.specs.Table.{cache_of, free_of, machine_of, step_of, written, HasPage, Leaves, ReadsOnly, Trusted};
     ghost use Rattle.table_pages.specs.TableLaws.{step_written, reads_written, reads_still, reads_then, trusted_earlier, few_images, as_many};
 
     ghost step = { step_of };
@@ -166,10 +186,7 @@ impl<'a, M: Machine, S: PageSource> Pages for Table<'a, M, S> {
         ensures outside { ReadsOnly None self.old self.new }
         ensures memory { NeedsNoMemory step_of HasPage None self.old self.new }
         ensures step { step_of self.new ≡ rested (step_of self.old) }
-        ensures machine { machine_of self.new ≡ machine_of self.old }
-        ensures cache { OnlyPins (cache_of self.old) (cache_of self.new) }
-        ensures ready { IsAtRest self.new }
-        ensures clean { Trusted self.new → IsClean self.new }
+        ensures left { Leaves self.old (machine_of self.new) (cache_of self.new) (free_of self.new) }
     {
         self.promised = 0;
         self.refusal = None;

@@ -21,13 +21,6 @@ use table_pages::{FreePages, Table};
 use twin_home::write_home;
 use volume_layout::Layout;
 
-// Lets a table go.
-fn let_go<M: Machine, S: PageSource>(table: Table<'_, M, S>)
-    ensures machine { table.exit.0.now ≡ table.entry.m.now }
-    ensures cache { table.exit.1.0.now ≡ table.entry.cache.now }
-    ensures free { table.exit.1.1.1.1.0.now ≡ table.entry.free.now }
-{}
-
 // Makes a call over a table.
 fn call_in<M: Machine, S: PageSource>(
     m: &mut M,
@@ -45,7 +38,6 @@ fn call_in<M: Machine, S: PageSource>(
     let mut table = Table::new(m, cache, source, home_a, free);
     let answer = carry_out(&mut table, call);
     table.rest();
-    let_go(table);
     answer
 }
 
@@ -66,7 +58,6 @@ fn walk_in<M: Machine, S: PageSource>(
     let mut table = Table::new(m, cache, source, home_a, free);
     let walked = walk(&mut table, marks);
     table.rest();
-    let_go(table);
     walked
 }
 
@@ -86,7 +77,6 @@ fn image_in<M: Machine, S: PageSource>(
     let mut table = Table::new(m, cache, source, home_a, free);
     let image = image_of(&mut table, page);
     table.rest();
-    let_go(table);
     image
 }
 
@@ -105,7 +95,6 @@ fn spare_in<M: Machine, S: PageSource>(
     let mut table = Table::new(m, cache, source, home_a, free);
     let spared = table.spare(count);
     table.rest();
-    let_go(table);
     spared
 }
 

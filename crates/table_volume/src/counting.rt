@@ -19,7 +19,7 @@ impl Volume {
             sectors: self.layout.sectors(),
             free: self.map.free_count(),
             waiting: self.shadow.waiting().all,
-            pages_free: self.free_pages.count(),
+            pages_free: self.table.free_pages.count(),
             versions: self.versions,
         }
     }

@@ -18,7 +18,6 @@ ghost use Rattle.fsd_files.specs.Disk.{Touches};
 
 use crate::Volume;
 use crate::keeping::edit_refusal;
-use cached_table::take_out_in;
 use fsd_bytes::{Key, Refusal};
 use fsd_formats::Entry;
 use group_commit::Newest;
@@ -67,24 +66,17 @@ impl Volume {
         ensures done { M.honest m.new → (k : Known) → Stands state Holds self.old k (M.now m.old) → entry_of entry.now.key (volume_of k).entries ≡ Some entry.now →
             EndsEdit (λ met. delete_outcome met (volume_of k) entry.now.key) (λ x. Deleted entry.now.key) (Change.Delete entry.now.key) k self.new (M.now m.new) result }
     {
-        let _whole = self.cache.dirty_list();
+        let _whole = self.table.cache.dirty_list();
         let home_a = self.layout.home_a(0);
         let source = Newest::over(&self.log, &self.layout);
-        let done = take_out_in(
-            m,
-            &mut self.cache,
-            &source,
-            home_a,
-            &mut self.free_pages,
-            &entry.key,
-        );
-        let _edited = self.cache.dirty_list();
+        let done = self.table.take_out(m, &source, home_a, &entry.key);
+        let _edited = self.table.cache.dirty_list();
         match done {
             Ok(()) => {
                 give_up(
                     &mut self.shadow,
                     &mut self.versions,
-                    &self.cache,
+                    &self.table.cache,
                     &entry.runs,
                 );
                 Ok(())

@@ -18,27 +18,27 @@ ghost use Rattle.fsd_files.specs.Replies.{Forced as IsForced};
 use crate::Volume;
 use crate::freeing::free_committed;
 use fsd_bytes::Refusal;
-use group_commit::{ForceFault, Group};
-use sector_disk::Machine;
+use group_commit::Group;
+use sector_disk::{LoadFault, Machine};
 use volume_contract::Forced;
 
 // What is said of a force's fault.
-fn force_refusal(fault: ForceFault) -> Refusal
+fn force_refusal(fault: LoadFault) -> Refusal
     ensures { result ≡ force_refusal fault }
 {
     match fault {
-        ForceFault::Device(place) => Refusal::Device(place),
-        ForceFault::Lost { a, b } => Refusal::Lost { a, b },
+        LoadFault::Device(place) => Refusal::Device(place),
+        LoadFault::Lost { a, b } => Refusal::Lost { a, b },
     }
 }
 
 // Where a volume is down by it.
-fn place_of(fault: ForceFault) -> u32
+fn place_of(fault: LoadFault) -> u32
     ensures { result ≡ place_of fault }
 {
     match fault {
-        ForceFault::Device(place) => place,
-        ForceFault::Lost { a, b: _ } => a,
+        LoadFault::Device(place) => place,
+        LoadFault::Lost { a, b: _ } => a,
     }
 }
 
@@ -69,11 +69,11 @@ impl Volume {
         ensures behind { OnOk result (M.honest m.new → IsBehind (state self.old) (state self.new) (resident self.old) (resident self.new) (M.now m.new)) }
     {
         self.is_up()?;
-        if self.cache.dirty_list().len() == 0 {
+        if self.table.cache.dirty_list().len() == 0 {
             return Ok(Forced { pages: 0 });
         }
         let _shape = self.log.layout();
-        match Group::force_cached(m, &mut self.log, &mut self.cache, &mut self.room) {
+        match Group::force_cached(m, &mut self.log, &mut self.table.cache, &mut self.room) {
             Ok(forced) => {
                 let _fits = self.log.layout();
                 free_committed(&mut self.map, &mut self.shadow);

@@ -14,7 +14,6 @@ ghost use Rattle.volume_state.specs.State.{HasEnoughFor, Holds, resident, state}
 ghost use Rattle.fsd_files.specs.Disk.{Touches};
 
 use crate::Volume;
-use cached_table::set_keep_in;
 use fsd_bytes::{FileName, Key, Refusal};
 use fsd_formats::MOST_KEEP;
 use group_commit::Newest;
@@ -80,19 +79,11 @@ impl Volume {
         ensures done { M.honest m.new → (k : Known) → Stands state Holds self.old k (M.now m.old) →
             EndsEdit (λ met. keep_outcome met (volume_of k) name.now keep) (kept_key keep) (Change.SetKeep name.now keep) k self.new (M.now m.new) result }
     {
-        let _whole = self.cache.dirty_list();
+        let _whole = self.table.cache.dirty_list();
         let home_a = self.layout.home_a(0);
         let source = Newest::over(&self.log, &self.layout);
-        let done = set_keep_in(
-            m,
-            &mut self.cache,
-            &source,
-            home_a,
-            &mut self.free_pages,
-            name,
-            keep,
-        );
-        let _edited = self.cache.dirty_list();
+        let done = self.table.set_keep(m, &source, home_a, name, keep);
+        let _edited = self.table.cache.dirty_list();
         kept_told(done)
     }
 

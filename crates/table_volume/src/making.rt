@@ -14,7 +14,6 @@ ghost use Rattle.volume_state.specs.State.{Holds, resident, state};
 
 use crate::Volume;
 use crate::freeing::free_gone_if;
-use cached_table::enter_in;
 use fsd_bytes::{FileName, Key, Refusal};
 use fsd_formats::Entry;
 use group_commit::Newest;
@@ -53,22 +52,20 @@ impl Volume {
         ensures done { M.honest m.new → (bytes : List ℕ) (k : Known) → Stands state Holds self.old k (M.now m.old) → draft.length ≡ length bytes → HasVersion (open_damage (M.now m.old).windows) (M.now m.old).image bytes draft →
             EndsEnter name.now keep bytes draft k self.new (M.now m.new) result }
     {
-        let _whole = self.cache.dirty_list();
+        let _whole = self.table.cache.dirty_list();
         let home_a = self.layout.home_a(0);
         let source = Newest::over(&self.log, &self.layout);
-        let done = enter_in(
+        let done = self.table.enter(
             m,
-            &mut self.cache,
             &source,
             home_a,
-            &mut self.free_pages,
             &self.map,
             &self.shadow,
             name,
             keep,
             &draft,
         );
-        let waits = !self.cache.dirty_list().is_empty();
+        let waits = !self.table.cache.dirty_list().is_empty();
         let plan = done?;
         self.map.take(&draft.runs);
         free_gone_if(waits, &mut self.shadow, plan.gone.as_slice());

@@ -20,7 +20,7 @@ ghost use Rattle.cached_table.specs.Opening.{IsNoTable, IsOpenFault, IsOpened, I
 ghost use Rattle.volume_state.specs.State.{Holds, state};
 
 use crate::Volume;
-use cached_table::{Opened, open_table, read_homes};
+use cached_table::{CachedTable, Opened, open_table, read_homes};
 use fsd_bytes::Serial;
 use fsd_sound::MountFault;
 use group_commit::RecordRoom;
@@ -133,9 +133,8 @@ fn assemble(alloc: Global, settled: Settled, opened: Opened) -> Result<Volume, M
         map,
         shadow,
         log,
-        cache,
+        table: CachedTable { cache, free_pages },
         room,
-        free_pages,
         serial,
         versions,
         down: None,

@@ -16,7 +16,7 @@ ghost use Rattle.volume_state.specs.State.{HasEnoughFor, Holds, resident, state}
 ghost use Rattle.volume_state.specs.Taken.{are_taken, met_entry};
 
 use crate::Volume;
-use cached_table::{highest_in, next_in, told};
+use cached_table::told;
 use fsd_bytes::{FileName, Key, Refusal};
 use fsd_formats::Entry;
 use group_commit::Newest;
@@ -44,17 +44,10 @@ impl Volume {
         ensures causes { Causes M.Machine (resident self.old) (state self.old) (state self.new) m.old m.new result }
         ensures met { IfOk result (λ found. IfSome found (λ f. Causes M.Machine (resident self.old) (state self.old) (state self.new) m.old m.new (met_entry self.new f.page f.entry))) }
     {
-        let _whole = self.cache.dirty_list();
+        let _whole = self.table.cache.dirty_list();
         let home_a = self.layout.home_a(0);
         let source = Newest::over(&self.log, &self.layout);
-        let found = next_in(
-            m,
-            &mut self.cache,
-            &source,
-            home_a,
-            &mut self.free_pages,
-            after,
-        );
+        let found = self.table.next_after(m, &source, home_a, after);
         told(found, home_a)
     }
 
@@ -79,17 +72,10 @@ impl Volume {
         ensures causes { Causes M.Machine (resident self.old) (state self.old) (state self.new) m.old m.new result }
         ensures met { IfOk result (λ found. IfSome found (λ f. Causes M.Machine (resident self.old) (state self.old) (state self.new) m.old m.new (met_entry self.new f.page f.entry))) }
     {
-        let _whole = self.cache.dirty_list();
+        let _whole = self.table.cache.dirty_list();
         let home_a = self.layout.home_a(0);
         let source = Newest::over(&self.log, &self.layout);
-        let found = highest_in(
-            m,
-            &mut self.cache,
-            &source,
-            home_a,
-            &mut self.free_pages,
-            name,
-        );
+        let found = self.table.highest(m, &source, home_a, name);
         told(found, home_a)
     }
 

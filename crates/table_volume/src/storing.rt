@@ -59,7 +59,7 @@ impl Volume {
     fn many_wait(&self) -> bool
         ensures { result ≡ forces_first (state self.now) }
     {
-        self.cache.dirty_list().len() > MOST_WAITING
+        self.table.cache.dirty_list().len() > MOST_WAITING
     }
 
     /// A force, where many pages wait for one.

@@ -2,13 +2,12 @@
 ghost use Rattle.std.specs.Prelude.{◌≡◌};
 
 use alloc_map::Map;
+use cached_table::CachedTable;
 use fsd_bytes::Serial;
 use group_commit::RecordRoom;
 use log_thirds::Log;
-use page_cache::Cache;
 use shadow_frees::Shadow;
 use std::marker::Model;
-use table_pages::FreePages;
 use volume_layout::Layout;
 
 /// A mounted volume. The pages of its name table are read through a cache, and those that are changed wait there for a force.
@@ -19,10 +18,9 @@ pub struct Volume {
     pub(crate) map: Map,
     pub(crate) shadow: Shadow,
     pub(crate) log: Log,
-    pub(crate) cache: Cache,
+    pub(crate) table: CachedTable,
     // The images of the next record.
     pub(crate) room: RecordRoom,
-    pub(crate) free_pages: FreePages,
     pub(crate) serial: Serial,
     pub(crate) versions: u32,
     // Where a force has failed.
@@ -34,7 +32,7 @@ impl Model for Volume {
 
     ghost Value = { VolumeValue };
 
-    ghost view = { λ v. record { layout = v.layout; map = v.map; shadow = v.shadow; log = v.log; cache = v.cache; free_pages = v.free_pages; serial = v.serial; versions = v.versions; down = v.down } };
+    ghost view = { λ v. record { layout = v.layout; map = v.map; shadow = v.shadow; log = v.log; cache = v.table.cache; free_pages = v.table.free_pages; serial = v.serial; versions = v.versions; down = v.down } };
 
-    ghost invariant = { λ v. IsWhole (record { layout = v.layout; map = v.map; shadow = v.shadow; log = v.log; cache = v.cache; free_pages = v.free_pages; serial = v.serial; versions = v.versions; down = v.down }) };
+    ghost invariant = { λ v. IsWhole (record { layout = v.layout; map = v.map; shadow = v.shadow; log = v.log; cache = v.table.cache; free_pages = v.table.free_pages; serial = v.serial; versions = v.versions; down = v.down }) };
 }

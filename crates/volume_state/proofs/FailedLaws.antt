@@ -4,15 +4,14 @@ use Rattle.std.specs.Prelude.{None, Result, Ok, Err, IsErrAnd, slice_index_or}
 use Rattle.volume_layout.specs.declared.layout.Layout.{Layout}
 use Rattle.fsd_bytes.specs.declared.refusal.Refusal.{Refusal}
 use Rattle.fsd_formats.specs.Record.{record_len}
+use Rattle.sector_disk.specs.declared.machine.LoadFault.{LoadFault}
+use Rattle.sector_disk.specs.declared.machine.LoadFault.TheVariants as fault
 use Rattle.sector_disk.specs.Machine.{Ledger, Moment}
 use Rattle.sector_disk.specs.Written.{WroteMost}
 use Rattle.sector_disk.proofs.Damage.{lost_as}
 use Rattle.log_thirds.specs.Images.{AreOfLogged, AreOfSlot}
 use Rattle.group_commit.specs.Entering.{LosesLogged}
-use Rattle.group_commit.specs.Force.{as_load}
 use Rattle.group_commit.specs.Room.{pages_in_first, sectors_before}
-use Rattle.group_commit.specs.declared.force.ForceFault.{ForceFault}
-use Rattle.group_commit.specs.declared.force.ForceFault.TheVariants as fault
 use Rattle.volume_contract.specs.Causes.{AreCopies, HasCause}
 use Rattle.volume_contract.specs.State.{Counted, State, enters_again, force_len, homed}
 use Rattle.volume_state.specs.Forcing.{force_refusal}
@@ -72,12 +71,12 @@ none_counted (Err told) why is n ledger = (omega arith, omega arith)
 lost_copies : (v : VolumeValue) → IsWhole v → (new : State) (a b : ℕ) → AreOfLogged v.log a b → AreCopies (state v) new a b
 lost_copies v whole new a b of = record { page = of.page; within = subst (λ (l : Layout). of.page < l.pages) whole.log of.within; copies = inl (inl (subst (λ (l : Layout). AreOfSlot l (slice_index_or v.log.slots of.page None) a b) whole.log of.logged)) }
 
-caused : (v : VolumeValue) → IsWhole v → (new : State) (before now : Moment) (f : ForceFault) → LosesLogged v.log now.image (as_load f) → HasCause (state v) new (resident v) before now (force_refusal f)
+caused : (v : VolumeValue) → IsWhole v → (new : State) (before now : Moment) (f : LoadFault) → LosesLogged v.log now.image f → HasCause (state v) new (resident v) before now (force_refusal f)
 caused v whole new before now (fault.Device place) lost = tt
 caused v whole new before now (fault.Lost a b) lost = lost_as (AreOfLogged v.log) a b (AreCopies (state v) new) now.image (lost_copies v whole new a b) lost
 
 -- the copies are those of the log as the force began
-pub failed_cause : (v w : VolumeValue) → v ≡ w → IsWhole v → (new : State) (before now : Moment) (f : ForceFault) (why : Refusal) → why ≡ force_refusal f → LosesLogged v.log now.image (as_load f)
+pub failed_cause : (v w : VolumeValue) → v ≡ w → IsWhole v → (new : State) (before now : Moment) (f : LoadFault) (why : Refusal) → why ≡ force_refusal f → LosesLogged v.log now.image f
     → HasCause (state w) new (resident w) before now why
 failed_cause v w is whole new before now f why told lost =
     subst (λ (x : VolumeValue). HasCause (state x) new (resident x) before now why) is

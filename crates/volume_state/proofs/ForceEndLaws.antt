@@ -13,6 +13,8 @@ use Rattle.shadow_frees.specs.Readers.{unheld}
 use Rattle.shadow_frees.specs.Waits.{Waits}
 use Rattle.fsd_bytes.specs.declared.key.Serial.{Serial}
 use Rattle.fsd_bytes.specs.declared.refusal.Refusal.{Refusal}
+use Rattle.sector_disk.specs.declared.machine.LoadFault.{LoadFault}
+use Rattle.sector_disk.specs.declared.machine.LoadFault.TheVariants as fault
 use Rattle.sector_disk.specs.Damage.{IsDevice as IsDiskFault}
 use Rattle.sector_disk.specs.Image.{Windows}
 use Rattle.sector_disk.specs.Machine.{Moment}
@@ -30,10 +32,8 @@ use Rattle.log_thirds.specs.Append.{IsIndexed, stamp_now}
 use Rattle.log_thirds.specs.LogValue.{FitsLayout, LogValue}
 use Rattle.page_cache.specs.Cache.{CacheValue, Held, IsCache, bytes_of, cleaned, held, is_one_of}
 use Rattle.group_commit.specs.Cached.{ascending_of, held_stamped, stamped_for}
-use Rattle.group_commit.specs.Force.{Committed, KeepsData, as_load, log_forced}
+use Rattle.group_commit.specs.Force.{Committed, KeepsData, log_forced}
 use Rattle.group_commit.specs.Newest.{KnowsImages}
-use Rattle.group_commit.specs.declared.force.ForceFault.{ForceFault}
-use Rattle.group_commit.specs.declared.force.ForceFault.TheVariants as fault
 use Rattle.group_commit.proofs.CachedLaws.{idle_cache, idle_done}
 use Rattle.group_commit.proofs.CleanLaws.{agrees_then}
 use Rattle.group_commit.proofs.FrameLaws.{held_then}
@@ -271,7 +271,7 @@ ends_idle v k at whole valid none stands =
 pub not_down : (v : VolumeValue) (k : Known) (at : Moment) (why : Refusal) → down_fault v.down ≡ Err why → Stands state Holds v k at → ⊥
 not_down v k at why down stands = absurd (let up : down_fault v.down ≡ Ok tt = ap down_fault stands.fits.up in cc (up, down))
 
-pub ends_failed : (T : Type 0) (outcome : Met → Outcome) (reply : Reply) (k : Known) (w : VolumeValue) (at : Moment) (f : ForceFault) (place : ℕ) (why : Refusal) → place ≡ place_of f → why ≡ force_refusal f → w.down ≡ Some place → IsDiskFault (as_load f)
+pub ends_failed : (T : Type 0) (outcome : Met → Outcome) (reply : Reply) (k : Known) (w : VolumeValue) (at : Moment) (f : LoadFault) (place : ℕ) (why : Refusal) → place ≡ place_of f → why ≡ force_refusal f → w.down ≡ Some place → IsDiskFault f
     → EndsForce state Holds {T = T} outcome reply k w at (Err why)
 ends_failed T outcome reply k w at (fault.Lost a b) place why here told down device = absurd device
 ends_failed T outcome reply k w at (fault.Device s) place why here told down device =

@@ -4,6 +4,8 @@ use Rattle.std.proofs.lemmas.Bool.{eqb-true, lt-ltb}
 use Rattle.std.specs.Prelude.{filter}
 use Rattle.fsd_bytes.specs.declared.refusal.Refusal.{Refusal}
 use Rattle.fsd_bytes.specs.declared.refusal.Refusal.TheVariants as Why
+use Rattle.sector_disk.specs.declared.machine.LoadFault.{LoadFault}
+use Rattle.sector_disk.specs.declared.machine.LoadFault.TheVariants as fault
 use Rattle.run_table.specs.Space.{contains, runs_of, where_free}
 use Rattle.sector_set.specs.Area.{Area, area}
 use Rattle.sector_set.proofs.FreeLaws.{where_same}
@@ -16,8 +18,6 @@ use Rattle.page_cache.specs.Cache.{CacheValue, IsCache, cleaned}
 use Rattle.group_commit.specs.Cached.{ascending_of, stamped_for}
 use Rattle.group_commit.specs.Force.{log_forced}
 use Rattle.group_commit.specs.Room.{goes_before, log_before}
-use Rattle.group_commit.specs.declared.force.ForceFault.{ForceFault}
-use Rattle.group_commit.specs.declared.force.ForceFault.TheVariants as fault
 use Rattle.group_commit.proofs.CachedLaws.{forced_some}
 use Rattle.group_commit.proofs.OrderLaws.{length_ascending}
 use Rattle.volume_contract.specs.State.{State, IsDownAt, IsForced}
@@ -31,14 +31,14 @@ use Rattle.volume_state.proofs.LogLaws.{Tells, failed_log, forced_logs}
 
 -- ---- refusals
 
-down_by : (old new : State) (f : ForceFault) → IsDownAt (place_of f) old new → IsDownBy (force_refusal f) old new
+down_by : (old new : State) (f : LoadFault) → IsDownAt (place_of f) old new → IsDownBy (force_refusal f) old new
 down_by old new (fault.Device place) down = down
 down_by old new (fault.Lost a b) down = down
 
 some_wait : (n : ℕ) → 1 ≤ n → nat_lt 0 n ≡ true
 some_wait n some = lt-ltb 0 n (omega (arith, some))
 
-pub keeps_down : (old new : State) (f : ForceFault) → old.down ≡ None → 1 ≤ length old.dirty → IsDownAt (place_of f) old new → Keeps (force_steps old) (force_refusal f) old new
+pub keeps_down : (old new : State) (f : LoadFault) → old.down ≡ None → 1 ≤ length old.dirty → IsDownAt (place_of f) old new → Keeps (force_steps old) (force_refusal f) old new
 keeps_down old new f up some down =
     inr (ap (option_map Why.Down) up, subst (λ (b : Bool). Keeps (Force b ∷ []) (force_refusal f) old new) (sym (some_wait (length old.dirty) some)) (inl (down_by old new f down)))
 
@@ -160,7 +160,7 @@ module _ (v : VolumeValue) (whole : IsWhole v) where
       }
 
 -- the same of the volume as its caller had it
-pub kept_down : (v : VolumeValue) (whole : IsWhole v) (log : LogValue) (cache : CacheValue) (place : ℕ) (refusal : Refusal) (f : ForceFault) → place ≡ place_of f → refusal ≡ force_refusal f → cache ≡ stamped_for v.log v.cache
+pub kept_down : (v : VolumeValue) (whole : IsWhole v) (log : LogValue) (cache : CacheValue) (place : ℕ) (refusal : Refusal) (f : LoadFault) → place ≡ place_of f → refusal ≡ force_refusal f → cache ≡ stamped_for v.log v.cache
     → (P : Type 0) → (log ≡ v.log) ⊎ ((log ≡ log_before v.log (length v.cache.dirty)) × P)
     → v.down ≡ None → 1 ≤ length v.cache.dirty → Keeps (force_steps (state v)) refusal (state v) (state (record v { log = log; cache = cache; down = Some place }))
 kept_down v whole log cache place refusal f at why cache_is P log_is up some =

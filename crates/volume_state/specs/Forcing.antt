@@ -2,15 +2,15 @@
 use Rattle.std.specs.Prelude.{ℕ}
 use Rattle.fsd_bytes.specs.declared.refusal.Refusal.{Refusal}
 use Rattle.fsd_bytes.specs.declared.refusal.Refusal.TheVariants as Why
-use Rattle.group_commit.specs.declared.force.ForceFault.{ForceFault}
-use Rattle.group_commit.specs.declared.force.ForceFault.TheVariants.{Device, Lost}
+use Rattle.sector_disk.specs.declared.machine.LoadFault.{LoadFault}
+use Rattle.sector_disk.specs.declared.machine.LoadFault.TheVariants.{Device, Lost}
 
 -- the refusal that the fault is
-abbrev pub force_refusal : ForceFault → Refusal
+abbrev pub force_refusal : LoadFault → Refusal
 force_refusal (Device place) = Why.Device place
 force_refusal (Lost a b) = Why.Lost a b
 
 -- the place where the volume is down then
-abbrev pub place_of : ForceFault → ℕ
+abbrev pub place_of : LoadFault → ℕ
 place_of (Device place) = place
 place_of (Lost a b) = a

@@ -18,6 +18,7 @@ use Rattle.fsd_files.specs.Volume.{Volume}
 use Rattle.fsd_sound.specs.Mounted.{Mounted}
 use Rattle.fsd_sound.proofs.MountedLaws.{mounted_sound}
 use Rattle.fsd_texts.specs.declared.command.Command.{Command}
+use Rattle.fsd_texts.specs.declared.counts.Counts.{Counts}
 use Rattle.fsd_texts.specs.declared.fault.Fault.{Fault}
 use Rattle.fsd_texts.specs.declared.fault.Fault.TheVariants as Ends
 use Rattle.fsd_texts.specs.declared.line.Line.TheVariants as Says
@@ -32,7 +33,7 @@ use Rattle.volume_turns.specs.Generate.{CountedGroup, CountedRun, CountedStep, R
 use Rattle.volume_turns.specs.Group.{is_worn_end}
 use Rattle.volume_turns.specs.Once.{ClosesAndSays, unit_of}
 use Rattle.volume_turns.specs.Steps.{Does, IsAnswered, Stays}
-use Rattle.volume_turns.specs.Tally.{Counting, all_counted, counted, counting_line, nothing}
+use Rattle.volume_turns.specs.Tally.{all_counted, counted, nothing}
 use Rattle.volume_turns.specs.Turns.{Follows, InRun, Told, Unheard, device_end, Runs, RunsFrom, SaysAll, Steps}
 use Rattle.volume_turns.proofs.GroupLaws.{group_all, group_all_mets, group_stop, group_worn}
 use Rattle.volume_turns.proofs.RunLaws.{from_both, from_both_mets, reply_is, runs_nil, runs_nil_mets, step_fault, step_ok, step_ok_met, step_unsaid}
@@ -41,7 +42,7 @@ use Rattle.volume_turns.proofs.TurnLaws.{in_before, said_nothing}
 -- ---- counts
 
 -- a field that grows by something with each
-field_is : (f : Counting → ℕ) (g : Answered → ℕ) → ((t : Counting) (p : Answered) → f (counted t p) ≡ f t + g p) → (t : Counting) (done : List Answered) → f (all_counted t done) ≡ f t + sum_by g done
+field_is : (f : Counts → ℕ) (g : Answered → ℕ) → ((t : Counts) (p : Answered) → f (counted t p) ≡ f t + g p) → (t : Counts) (done : List Answered) → f (all_counted t done) ≡ f t + sum_by g done
 field_is f g grows t [] = omega arith
 field_is f g grows t (p ∷ done) =
     let rest = field_is f g grows (counted t p) done in
@@ -50,14 +51,14 @@ field_is f g grows t (p ∷ done) =
     omega (arith, rest, one, sum)
 
 -- from none on
-sum_is : (f : Counting → ℕ) (g : Answered → ℕ) → ((t : Counting) (p : Answered) → f (counted t p) ≡ f t + g p) → f nothing ≡ 0 → (done : List Answered) → f (all_counted nothing done) ≡ sum_by g done
+sum_is : (f : Counts → ℕ) (g : Answered → ℕ) → ((t : Counts) (p : Answered) → f (counted t p) ≡ f t + g p) → f nothing ≡ 0 → (done : List Answered) → f (all_counted nothing done) ≡ sum_by g done
 sum_is f g grows none done = let all = field_is f g grows nothing done in omega (arith, all, none)
 
-count_is : (t : Counting) (done : List Answered) → (all_counted t done).count ≡ t.count + length done
+count_is : (t : Counts) (done : List Answered) → (all_counted t done).count ≡ t.count + length done
 count_is t [] = omega arith
 count_is t (p ∷ done) = let rest = count_is (counted t p) done in omega (arith, rest)
 
-pub line_is : (done : List Answered) → counting_line (all_counted nothing done) ≡ generated_line done
+pub line_is : (done : List Answered) → Says.Generated (all_counted nothing done) ≡ generated_line done
 line_is done =
     let t = all_counted nothing done in
     let made = sum_is (λ x. x.made) (λ p. is_made p.reply) (λ t p. refl) refl done in
@@ -67,13 +68,7 @@ line_is done =
     let bytes = sum_is (λ x. x.bytes) (λ p. bytes_moved p.command p.reply) (λ t p. refl) refl done in
     let refused = sum_is (λ x. x.refused) (λ p. is_refused p.reply) (λ t p. refl) refl done in
     let count : t.count ≡ length done = let all = count_is nothing done in omega (arith, all) in
-    ap (λ (n : ℕ). Says.Generated n t.made t.deleted t.kept t.read t.bytes t.refused) count
-    ∙ ap (λ (n : ℕ). Says.Generated (length done) n t.deleted t.kept t.read t.bytes t.refused) made
-    ∙ ap (λ (n : ℕ). Says.Generated (length done) (sum_by (λ p. is_made p.reply) done) n t.kept t.read t.bytes t.refused) deleted
-    ∙ ap (λ (n : ℕ). Says.Generated (length done) (sum_by (λ p. is_made p.reply) done) (sum_by (λ p. is_deleted p.reply) done) n t.read t.bytes t.refused) kept
-    ∙ ap (λ (n : ℕ). Says.Generated (length done) (sum_by (λ p. is_made p.reply) done) (sum_by (λ p. is_deleted p.reply) done) (sum_by (λ p. is_kept p.reply) done) n t.bytes t.refused) read
-    ∙ ap (λ (n : ℕ). Says.Generated (length done) (sum_by (λ p. is_made p.reply) done) (sum_by (λ p. is_deleted p.reply) done) (sum_by (λ p. is_kept p.reply) done) (sum_by (λ p. is_read p.reply) done) n t.refused) bytes
-    ∙ ap (λ (n : ℕ). Says.Generated (length done) (sum_by (λ p. is_made p.reply) done) (sum_by (λ p. is_deleted p.reply) done) (sum_by (λ p. is_kept p.reply) done) (sum_by (λ p. is_read p.reply) done) (sum_by (λ p. bytes_moved p.command p.reply) done) n) refused
+    λ i. Says.Generated (record { count = count i; made = made i; deleted = deleted i; kept = kept i; read = read i; bytes = bytes i; refused = refused i })
 
 -- so many commands are made up
 pub made_length : (count i x : ℕ) → length (made_from count i x) ≡ count
@@ -109,7 +104,7 @@ module _ {S D : Type 0} (state : S → State) (has : S → Mounted → List Plac
     met_is : (step_ok state has M wears short counts_now silent never command v w a m m k from stood_from aged stood fault disk layout honest still after reply is stands run says).met ≡ is.met
     met_is = step_ok_met state has M wears short counts_now silent never command v w a m m k from stood_from aged stood fault disk layout honest still after reply is stands run says
 
-    pub counted_step : (t u : Counting) → u ≡ counted t (answered_so command reply) → CountedStep state has M k from command a m w t u
+    pub counted_step : (t u : Counts) → u ≡ counted t (answered_so command reply) → CountedStep state has M k from command a m w t u
     counted_step t u counts = record {
       step = step_ok state has M wears short counts_now silent never command v w a m m k from stood_from aged stood fault disk layout honest still after reply is stands run says;
       counts = counts ∙ ap (λ (r : Reply). counted t (answered_so command r)) (sym (reply_is state has M wears short counts_now silent never command v w a m m k from stood_from aged stood fault disk layout honest still after reply is stands))
@@ -129,13 +124,13 @@ module _ {S D : Type 0} (state : S → State) (has : S → Mounted → List Plac
 
 module _ {S D : Type 0} (state : S → State) (has : S → Mounted → List Placed → Type 0) (M : Ghosts D) where
   pub counted_nil : (v : S) (a : D) → ((s : S) (k : Known) (old new : Moment) → AreShort old.windows → Ages old new → Stands state has s k old → Stands state has s k new)
-      → (M.honest a → (left : Moment) → M.left_since a (M.moment a) left → left ≡ M.now a) → (M.honest a → (from : Moment) → Ages from (M.now a) → AreShort from.windows) → (t : Counting) → RunsCounted state has M [] v a v a t (Ok t)
+      → (M.honest a → (left : Moment) → M.left_since a (M.moment a) left → left ≡ M.now a) → (M.honest a → (from : Moment) → Ages from (M.now a) → AreShort from.windows) → (t : Counts) → RunsCounted state has M [] v a v a t (Ok t)
   counted_nil v a wears only short t honest k from stood aged = record {
     ran = runs_nil state has M silent v a wears only short honest k from stood aged;
     counts = ap (λ (mets : List Met). all_counted t (answered mets (volume_of k) [])) (sym (runs_nil_mets state has M silent v a wears only short honest k from stood aged));
   }
 
-  pub counted_then : (command : Command) (commands : List Command) (v w z : S) (a m b : D) (t u : Counting) (result : Result Counting End) → Follows M m b → (M.honest m → M.moment a ≤ M.moment m)
+  pub counted_then : (command : Command) (commands : List Command) (v w z : S) (a m b : D) (t u : Counts) (result : Result Counts End) → Follows M m b → (M.honest m → M.moment a ≤ M.moment m)
       → StepsCounted state has M command v a w m t (Ok u) → RunsCounted state has M commands w m z b u result → RunsCounted state has M (command ∷ commands) v a z b t result
   counted_then command commands v w z a m b t u result follows later steps runs honest k from stood aged =
       let one : CountedStep state has M k from command a m w t u = steps (follows.honest honest) k from stood aged in
@@ -148,15 +143,15 @@ module _ {S D : Type 0} (state : S → State) (has : S → Mounted → List Plac
             (on result one rest rest.counts);
       }
     where
-      on : (r : Result Counting End) (one : CountedStep state has M k from command a m w t u) (rest : CountedRun state has M one.step.after one.step.mid commands m b z u result)
+      on : (r : Result Counts End) (one : CountedStep state has M k from command a m w t u) (rest : CountedRun state has M one.step.after one.step.mid commands m b z u result)
           → IfOk r (λ x. x ≡ all_counted u (answered rest.ran.mets (volume_of one.step.after) commands))
           → IfOk r (λ x. x ≡ all_counted t (answered (one.step.met ∷ rest.ran.mets) (volume_of k) (command ∷ commands)))
       on (Ok x) one rest is = is ∙ ap (λ (y : Volume). all_counted u (answered rest.ran.mets y commands)) one.step.is
-          ∙ ap (λ (y : Counting). all_counted y (answered rest.ran.mets (answer one.step.met (volume_of k) command).1 commands)) one.counts
+          ∙ ap (λ (y : Counts). all_counted y (answered rest.ran.mets (answer one.step.met (volume_of k) command).1 commands)) one.counts
       on (Err end) one rest is = tt
 
   -- one that ends them
-  pub counted_stop : (commands : List Command) (v z : S) (a b : D) (t : Counting) (end : End) → Runs state has M silent commands v a z b (Err end) → RunsCounted state has M commands v a z b t (Err end)
+  pub counted_stop : (commands : List Command) (v z : S) (a b : D) (t : Counts) (end : End) → Runs state has M silent commands v a z b (Err end) → RunsCounted state has M commands v a z b t (Err end)
   counted_stop commands v z a b t end runs honest k from stood aged = record { ran = runs honest k from stood aged; counts = tt }
 
   -- memory was refused for the next of them
@@ -175,13 +170,13 @@ module _ {S D : Type 0} (state : S → State) (has : S → Mounted → List Plac
 -- ---- with the force behind them
 
 module _ {S D : Type 0} (state : S → State) (has : S → Mounted → List Placed → Type 0) (M : Ghosts D) (k : Known) (commands : List Command) (a m b : D) (w : S) (since : Since M m b) (later : M.moment a ≤ M.moment m) where
-  abbrev Closing : Result (Option Counting) End → Type 0
+  abbrev Closing : Result (Option Counts) End → Type 0
   Closing result = (x : Known) → Stands state has w x (M.now m) → ClosesAndSays M x forced_turn.said m b (unit_of result)
 
-  some_same : (t u : Counting) → Some t ≡ Some u → t ≡ u
+  some_same : (t u : Counts) → Some t ≡ Some u → t ≡ u
   some_same t u is = cc is
 
-  pub counted_all : (tally : Counting) → CountedRun state has M k (M.now a) commands a m w nothing (Ok tally) → (result : Result (Option Counting) End) → IfOk result (λ x. x ≡ Some tally) → Closing result → CountedGroup M k commands a b result
+  pub counted_all : (tally : Counts) → CountedRun state has M k (M.now a) commands a m w nothing (Ok tally) → (result : Result (Option Counts) End) → IfOk result (λ x. x ≡ Some tally) → Closing result → CountedGroup M k commands a b result
   counted_all tally run (Ok None) same closes = absurd (cc same)
   counted_all tally run (Ok (Some t)) same closes = record {
     group = group_all state has M silent k (M.now a) commands a m b w since later run.ran (Ok true) refl closes;
@@ -189,7 +184,7 @@ module _ {S D : Type 0} (state : S → State) (has : S → Mounted → List Plac
   }
   counted_all tally run (Err end) same closes = record { group = group_all state has M silent k (M.now a) commands a m b w since later run.ran (Err end) tt closes; counts = tt }
 
-  pub counted_worn : (end : End) → is_worn_end end ≡ true → RunsFrom state has M silent k (M.now a) commands a m w (Err end) → (result : Result (Option Counting) End) → IfOk result (λ x. x ≡ None) → Closing result → CountedGroup M k commands a b result
+  pub counted_worn : (end : End) → is_worn_end end ≡ true → RunsFrom state has M silent k (M.now a) commands a m w (Err end) → (result : Result (Option Counts) End) → IfOk result (λ x. x ≡ None) → Closing result → CountedGroup M k commands a b result
   counted_worn end worn ran (Ok (Some t)) same closes = absurd (cc same)
   counted_worn end worn ran (Ok None) same closes = record { group = group_worn state has M silent k (M.now a) commands a m b w since later end worn ran (Ok false) refl closes; counts = tt }
   counted_worn end worn ran (Err other) same closes = record { group = group_worn state has M silent k (M.now a) commands a m b w since later end worn ran (Err other) tt closes; counts = tt }

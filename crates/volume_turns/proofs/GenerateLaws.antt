@@ -12,6 +12,7 @@ use Rattle.fsd_files.specs.Disk.{Image, in_runs}
 use Rattle.fsd_files.specs.Volume.{Volume}
 use Rattle.fsd_sound.specs.Sound.{EndIn}
 use Rattle.fsd_texts.specs.declared.command.Command.{Command}
+use Rattle.fsd_texts.specs.declared.counts.Counts.{Counts}
 use Rattle.fsd_texts.specs.declared.fault.Fault.{Fault}
 use Rattle.fsd_texts.specs.declared.fault.Fault.TheVariants as Ends
 use Rattle.fsd_texts.specs.declared.line.Line.{Line}
@@ -27,7 +28,7 @@ use Rattle.volume_turns.specs.Generate.{silent}
 use Rattle.volume_turns.specs.Group.{CutsOff, EndsGroup, IsGroup, WornIf, is_through, turns_behind}
 use Rattle.volume_turns.specs.Line.{EndsLast, EndsWith, is_unsaid}
 use Rattle.volume_turns.specs.Once.{IsDone}
-use Rattle.volume_turns.specs.Tally.{Counting, all_counted, counting_line, nothing}
+use Rattle.volume_turns.specs.Tally.{all_counted, nothing}
 use Rattle.volume_turns.specs.Turns.{EndsAtOnce, InRun, Said, Told}
 use Rattle.volume_turns.specs.Whole.{RunsOut}
 use Rattle.volume_turns.proofs.CountLaws.{line_is}
@@ -183,13 +184,13 @@ module _ {D : Type 0} (M : Ghosts D) (seed count : ℕ) (input rest : List ℕ) 
   abbrev Group : Result Bool End → Type 0
   Group result = IsGroup M silent k (M.now a) commands a p result
 
-  pub made_said : (tally : Counting) → (g : Group (Ok true)) → tally ≡ all_counted nothing (answered g.mets v commands) → (line : Line) → line ≡ counting_line tally → (M.report a).output_faults ≤ (M.report p).output_faults
+  pub made_said : (tally : Counts) → (g : Group (Ok true)) → tally ≡ all_counted nothing (answered g.mets v commands) → (line : Line) → line ≡ Says.Generated tally → (M.report a).output_faults ≤ (M.report p).output_faults
       → LeavesDisk M false (is_unsaid status) (Utters (text line)) p b → EndsLast line 0 (M.now p) (M.now b) status → Over
   made_said tally g counts line is counted says ended = by g.cut g.goes g.moments g.ends
     where
       by : (cut : Bool) → MayGo g.mets cut → Leaves g.mets (is_through cut g.mets commands) → EndsGroup silent k cut g.mets commands (M.now a) (M.now p) (Ok true) → Over
       by true goes leaves e = cc e.0
-      by false goes leaves e = all_said g.mets goes leaves e.1 e.2 line (is ∙ ap counting_line counts ∙ line_is (answered g.mets v commands)) counted says ended
+      by false goes leaves e = all_said g.mets goes leaves e.1 e.2 line (is ∙ ap (λ (t : Counts). Says.Generated t) counts ∙ line_is (answered g.mets v commands)) counted says ended
 
   pub made_worn : Group (Ok false) → (M.report a).output_faults ≤ (M.report p).output_faults
       → LeavesDisk M false (is_unsaid status) (Utters (fault_text Ends.WornOut)) p b → EndsLast (Says.Ended Ends.WornOut) 9 (M.now p) (M.now b) status → Over

@@ -9,8 +9,10 @@ use Rattle.fsd_log.specs.Scan.{Head}
 use Rattle.sector_disk.specs.Machine.{Moment}
 use Rattle.fsd_runs.specs.Errands.{forced_turn}
 use Rattle.fsd_runs.specs.Runs.{last_count}
+use Rattle.fsd_texts.specs.declared.counts.Counts.{Counts}
 use Rattle.fsd_texts.specs.declared.fault.Fault.TheVariants as Ends
 use Rattle.fsd_texts.specs.declared.line.Line.{Line}
+use Rattle.fsd_texts.specs.declared.line.Line.TheVariants as Says
 use Rattle.fsd_texts.specs.Text.{text}
 use Rattle.volume_contract.specs.Order.{Step, Test, Asks, Draw, Disk, Force, LookUp, Fetch, Data, IsDownBy, Keeps, Passes, Refuses, delete_steps, force_steps, keep_steps, put_steps, with_drawn}
 use Rattle.volume_contract.specs.State.{HasCounted, IsDownAt, IsForced, IsNew, State, enters_again, forces_first, forces_for_place, is_worn, moved_on, numbered}
@@ -20,7 +22,6 @@ use Rattle.volume_turns.specs.Causes.{SaysMade}
 use Rattle.volume_turns.specs.Group.{is_worn_end}
 use Rattle.volume_turns.specs.Line.{EndsLast}
 use Rattle.volume_turns.specs.Numbers.{GoesUp, MayWear}
-use Rattle.volume_turns.specs.Tally.{Counting, counting_line}
 use Rattle.volume_turns.specs.Turns.{SaysAll}
 
 -- ---- a call that has ended
@@ -205,16 +206,16 @@ said_forced H K a m b back same (Err end) all = tt
 
 -- ---- what is counted is passed on
 
-pub counts_on : (count : ℕ) (tally : Counting) → tally.count ≡ count → (r : Result (Option Counting) End) → IfOk r (λ x. x ≡ Some tally) → IfOk r (λ o. IfSome o (λ t. t.count ≡ count))
-counts_on count tally all (Ok o) same = subst (λ (x : Option Counting). IfSome x (λ t. t.count ≡ count)) (sym same) all
+pub counts_on : (count : ℕ) (tally : Counts) → tally.count ≡ count → (r : Result (Option Counts) End) → IfOk r (λ x. x ≡ Some tally) → IfOk r (λ o. IfSome o (λ t. t.count ≡ count))
+counts_on count tally all (Ok o) same = subst (λ (x : Option Counts). IfSome x (λ t. t.count ≡ count)) (sym same) all
 counts_on count tally all (Err end) same = tt
 
-pub counts_none : (count : ℕ) (r : Result (Option Counting) End) → IfOk r (λ x. x ≡ None) → IfOk r (λ o. IfSome o (λ t. t.count ≡ count))
-counts_none count (Ok o) same = subst (λ (x : Option Counting). IfSome x (λ t. t.count ≡ count)) (sym same) tt
+pub counts_none : (count : ℕ) (r : Result (Option Counts) End) → IfOk r (λ x. x ≡ None) → IfOk r (λ o. IfSome o (λ t. t.count ≡ count))
+counts_none count (Ok o) same = subst (λ (x : Option Counts). IfSome x (λ t. t.count ≡ count)) (sym same) tt
 counts_none count (Err end) same = tt
 
 -- the lines that are said last of what was made up
-pub made_all : (count : ℕ) (tally : Counting) → tally.count ≡ count → (line : Line) → line ≡ counting_line tally → (a m b : Moment) (status : ℕ) → m.said ≡ a.said ++ forced_turn.said → EndsLast line 0 m b status → status ≡ 0 → SaysMade count a.said b
+pub made_all : (count : ℕ) (tally : Counts) → tally.count ≡ count → (line : Line) → line ≡ Says.Generated tally → (a m b : Moment) (status : ℕ) → m.said ≡ a.said ++ forced_turn.said → EndsLast line 0 m b status → status ≡ 0 → SaysMade count a.said b
 made_all count tally all line is a m b status forced (inl six) zero = absurd (omega (arith, six, zero))
 made_all count tally all line is a m b status forced (inr (gives, says)) zero = record {
   tally = tally;

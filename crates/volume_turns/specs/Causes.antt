@@ -11,8 +11,10 @@ use Rattle.fsd_sound.specs.Mounting.{IsVolume}
 use Rattle.fsd_sound.specs.Writes.{MountKeeps}
 use Rattle.fsd_sound.specs.declared.fault.MountFault.{MountFault}
 use Rattle.fsd_sound.specs.declared.fault.MountFault.TheVariants.{WornOut}
+use Rattle.fsd_texts.specs.declared.counts.Counts.{Counts}
 use Rattle.fsd_texts.specs.declared.fault.Fault.{Fault}
 use Rattle.fsd_texts.specs.declared.fault.Fault.TheVariants as Ends
+use Rattle.fsd_texts.specs.declared.line.Line.TheVariants as Says
 use Rattle.fsd_texts.specs.Script.{max_input}
 use Rattle.fsd_texts.specs.Text.{fault_text, text}
 use Rattle.fsd_runs.specs.Commands.{reply_text}
@@ -22,7 +24,6 @@ use Rattle.volume_contract.specs.Mount.{IsRefused, KeepsAll, UnsoundFor}
 use Rattle.volume_contract.specs.State.{Ages}
 use Rattle.volume_turns.specs.Once.{fault_of}
 use Rattle.volume_turns.specs.Steps.{IsOfImage, IsToldOn, device_told}
-use Rattle.volume_turns.specs.Tally.{Counting, counting_line}
 use Rattle.volume_turns.specs.Turns.{SaysReplies}
 
 -- ---- it was mounted
@@ -137,6 +138,6 @@ pub record SaysOfInput (input : List ℕ) (old new : Report) (now : Moment) : Ty
 
 -- Commands that are made up: it is said that all is forced, and last what came of so many.
 pub record SaysMade (count : ℕ) (before : List ℕ) (new : Moment) : Type 0 where
-  pub tally : Counting
+  pub tally : Counts
   pub all : tally.count ≡ count
-  pub said : new.said ≡ (before ++ forced_turn.said) ++ text (counting_line tally)
+  pub said : new.said ≡ (before ++ forced_turn.said) ++ text (Says.Generated tally)

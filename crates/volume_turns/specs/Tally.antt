@@ -1,25 +1,14 @@
 -- What came of commands, counted as they are done.
-use Rattle.std.specs.Prelude.{ℕ, ◌+◌, ◌≤◌, List, [], ◌∷◌}
-use Rattle.fsd_texts.specs.declared.line.Line.{Line}
-use Rattle.fsd_texts.specs.declared.line.Line.TheVariants as Says
+use Rattle.std.specs.Prelude.{◌+◌, ◌≤◌, List, [], ◌∷◌}
+use Rattle.fsd_texts.specs.declared.counts.Counts.{Counts}
 use Rattle.fsd_runs.specs.Errands.{Answered, bytes_moved, is_deleted, is_kept, is_made, is_read, is_refused}
 
--- how many commands were done, how many were answered in each way, and the bytes of the versions that were made or read
-pub record Counting : Type 0 where
-  pub count : ℕ
-  pub made : ℕ
-  pub deleted : ℕ
-  pub kept : ℕ
-  pub read : ℕ
-  pub bytes : ℕ
-  pub refused : ℕ
-
 -- nothing was done yet
-abbrev pub nothing : Counting
+abbrev pub nothing : Counts
 nothing = record { count = 0; made = 0; deleted = 0; kept = 0; read = 0; bytes = 0; refused = 0 }
 
 -- with one more
-abbrev pub counted : Counting → Answered → Counting
+abbrev pub counted : Counts → Answered → Counts
 counted t p = record {
   count = t.count + 1;
   made = t.made + is_made p.reply;
@@ -31,18 +20,14 @@ counted t p = record {
 }
 
 -- with all of these more
-abbrev pub all_counted : Counting → List Answered → Counting
+abbrev pub all_counted : Counts → List Answered → Counts
 all_counted t [] = t
 all_counted t (p ∷ done) = all_counted (counted t p) done
 
 -- no more than were done
-pub record IsCounting (t : Counting) : Type 0 where
+pub record IsTally (t : Counts) : Type 0 where
   pub made : t.made ≤ t.count
   pub deleted : t.deleted ≤ t.count
   pub kept : t.kept ≤ t.count
   pub read : t.read ≤ t.count
   pub refused : t.refused ≤ t.count
-
--- the line that tells it
-abbrev pub counting_line : Counting → Line
-counting_line t = Says.Generated t.count t.made t.deleted t.kept t.read t.bytes t.refused

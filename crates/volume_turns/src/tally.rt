@@ -1,34 +1,30 @@
 //! What came of commands, counted as they are done.
 ghost use Rattle.std.specs.Prelude.{◌≡◌, ◌<◌, ◌≤◌, ◌^◌, ◌-◌, IfErr, IfOk};
 ghost use Rattle.fsd_texts.specs.declared.fault.Fault.TheVariants as Ends;
+ghost use Rattle.fsd_texts.specs.declared.line.Line.TheVariants as Says;
 ghost use Rattle.fsd_runs.specs.Errands.{answered_so, bytes_moved, is_deleted, is_kept, is_made, is_read, is_refused};
 ghost use Rattle.volume_turns.specs.Steps.{reply_of};
-ghost use Rattle.volume_turns.specs.Tally.{counted, counting_line, nothing};
+ghost use Rattle.volume_turns.specs.Tally.{counted, nothing};
 
 use crate::answer::Answer;
-use fsd_texts::{Command, Fault, Line};
+use fsd_texts::{Command, Counts, Fault, Line};
 use std::marker::Model;
 
-/// Counts of commands by their answers, and of the bytes that were made or read.
+/// Counts in which no way of answering has more than were done.
 #[derive(Drop)]
 pub(crate) struct Tally {
-    count: u32,
-    made: u32,
-    deleted: u32,
-    kept: u32,
-    read: u32,
-    bytes: u64,
-    refused: u32,
+    counts: Counts,
 }
 
 impl Model for Tally {
-    ghost use Rattle.volume_turns.specs.Tally.{Counting, IsCounting};
+    ghost use Rattle.fsd_texts.specs.declared.counts.Counts.{Counts};
+    ghost use Rattle.volume_turns.specs.Tally.{IsTally};
 
-    ghost Value = { Counting };
+    ghost Value = { Counts };
 
-    ghost view = { λ t. record { count = t.count; made = t.made; deleted = t.deleted; kept = t.kept; read = t.read; bytes = t.bytes; refused = t.refused } };
+    ghost view = { λ t. t.counts };
 
-    ghost invariant = { λ t. IsCounting (record { count = t.count; made = t.made; deleted = t.deleted; kept = t.kept; read = t.read; bytes = t.bytes; refused = t.refused }) };
+    ghost invariant = { λ t. IsTally t.counts };
 }
 
 impl Tally {
@@ -36,7 +32,7 @@ impl Tally {
     pub(crate) fn new() -> Tally
         ensures { result ≡ nothing }
     {
-        Tally {
+        let counts = Counts {
             count: 0,
             made: 0,
             deleted: 0,
@@ -44,7 +40,8 @@ impl Tally {
             read: 0,
             bytes: 0,
             refused: 0,
-        }
+        };
+        Tally { counts }
     }
 
     /// Counts one more. Where the bytes are 2^64 or more there is no memory for their sum.
@@ -53,33 +50,27 @@ impl Tally {
         ensures ok { IfOk result (λ t. t ≡ counted self.now (answered_so c.now (reply_of answer.now))) }
         ensures err { IfErr result (λ fault. fault ≡ Ends.Memory) }
     {
-        let Some(bytes) = self.bytes.checked_add(bytes_moved(c, answer)) else {
+        let so_far = self.counts;
+        let Some(bytes) = so_far.bytes.checked_add(bytes_moved(c, answer)) else {
             return Err(Fault::Memory);
         };
-        Ok(Tally {
-            count: self.count + 1,
-            made: self.made + is_made(answer),
-            deleted: self.deleted + is_deleted(answer),
-            kept: self.kept + is_kept(answer),
-            read: self.read + is_read(answer),
+        let counts = Counts {
+            count: so_far.count + 1,
+            made: so_far.made + is_made(answer),
+            deleted: so_far.deleted + is_deleted(answer),
+            kept: so_far.kept + is_kept(answer),
+            read: so_far.read + is_read(answer),
             bytes,
-            refused: self.refused + is_refused(answer),
-        })
+            refused: so_far.refused + is_refused(answer),
+        };
+        Ok(Tally { counts })
     }
 
     /// The line that tells it.
     pub(crate) fn line(&self) -> Line
-        ensures { result ≡ counting_line self.now }
+        ensures { result ≡ Says.Generated self.now }
     {
-        Line::Generated {
-            count: self.count,
-            made: self.made,
-            deleted: self.deleted,
-            kept: self.kept,
-            read: self.read,
-            bytes: self.bytes,
-            refused: self.refused,
-        }
+        Line::Generated(self.counts)
     }
 }
 

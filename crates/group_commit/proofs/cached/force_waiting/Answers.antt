@@ -6,7 +6,7 @@ use Rattle.page_cache.specs.Cache.{CacheValue, bytes_of, cleaned}
 use Rattle.sector_disk.proofs.CallLaws.{writes_none}
 use Rattle.sector_disk.specs.Written.{WroteMost}
 use Rattle.group_commit.specs.Cached.{CacheLeaves, ascending_of}
-use Rattle.group_commit.specs.Entering.{RecordCause, LosesLogged}
+use Rattle.group_commit.specs.Entering.{RecordCause}
 use Rattle.group_commit.specs.Force.{log_forced}
 use Rattle.group_commit.specs.Room.{log_before, sectors_before}
 use Rattle.group_commit.proofs.CachedLaws.{all_accepted, all_stamped, all_there, forced_some, idle_cache, idle_done, idle_leaves, idle_written, is_dirty, is_waiting, none_dirty, so_many, written_some}
@@ -93,7 +93,7 @@ returns-in-Ok-clause-logged g c h page bytes is has =
 pub returns-in-Err-clause-cause : goal.returns-in-Err-clause-cause
 returns-in-Err-clause-cause g c =
     let many : length c.args.waiting.now ≡ length c.args.cache.now.dirty = so_many c.args.cache.now c.requires.valid c.args.waiting.now c.requires.are in
-    subst (RecordCause c.args.log.now (length c.args.cache.now.dirty)) (sym c.force_fault.ensures) (subst (λ (n : ℕ). RecordCause c.args.log.now n c.in-Err.fault) many c.in-Err.ensures.cause)
+    subst (λ (n : ℕ). RecordCause c.args.log.now n c.in-Err.fault) many c.in-Err.ensures.cause
 
 pub returns-in-Err-clause-counted_err : goal.returns-in-Err-clause-counted_err
 returns-in-Err-clause-counted_err g c tells =
@@ -111,9 +111,6 @@ returns-in-Err-clause-log_err g c =
     let log = c.args.log.now in
     let many : length c.args.waiting.now ≡ length c.args.cache.now.dirty = so_many c.args.cache.now c.requires.valid c.args.waiting.now c.requires.are in
     subst (λ (n : ℕ). (c.write_frames.new.log ≡ log) ⊎ ((c.write_frames.new.log ≡ log_before log n) × (M.tells c.write_frames.new.m → (M.ledger c.write_frames.new.m).written ≡ (M.ledger c.args.m.now).written + sectors_before log n))) many c.in-Err.ensures.past_err
-
-pub returns-in-Err-clause-lost : goal.returns-in-Err-clause-lost
-returns-in-Err-clause-lost g c h = subst (LosesLogged c.args.log.now (g.M.Machine.now c.write_frames.new.m).image) (sym c.force_fault.ensures) (c.in-Err.ensures.lost h)
 
 pub returns-then-count-eq0-clause-rest : goal.returns-then-count-eq0-clause-rest
 returns-then-count-eq0-clause-rest g c h = outside_none c.args.log.now.layout (g.M.Machine.now c.args.m.now)

@@ -4,6 +4,7 @@ use Rattle.volume_layout.specs.declared.layout.Layout.{Layout}
 use Rattle.fsd_formats.specs.Record.{Stamp, are_pages, record_len, AreStamped}
 use Rattle.fsd_log.specs.Judged.{slice_of}
 use Rattle.fsd_log.specs.Laid.{laid_bytes, slices}
+use Rattle.sector_disk.specs.declared.machine.LoadFault.TheVariants.{Device}
 use Rattle.sector_disk.specs.Damage.{IsDevice}
 use Rattle.group_commit.proofs.CountLaws.{handed_up, wrote_on, wrote_same}
 use Rattle.fsd_log.specs.Scan.{Placed, place_of, spot_for}
@@ -20,7 +21,7 @@ use Rattle.log_thirds.proofs.RunLaws.{narrow_runs}
 use Rattle.sector_disk.specs.Image.{open_damage}
 use Rattle.sector_disk.proofs.Wear.{worn_refl, slice_in_front}
 use Rattle.sector_disk.proofs.ResultLaws.{err_as}
-use Rattle.group_commit.specs.Entering.{HasRoomNow, MayHome, ShowsStill}
+use Rattle.group_commit.specs.Entering.{HasRoomNow, LosesLogged, MayHome, ShowsStill}
 use Rattle.group_commit.specs.Force.{StandsOver, Committed, KeepsOutside}
 use Rattle.group_commit.specs.Cached.{HasImages, RecordLeaves}
 use Rattle.group_commit.specs.Logged.{StandsLogged}
@@ -165,35 +166,39 @@ returns-in_err-make_room-clause-never_lost g c =
     (may_home log c.layout-layout.result.now windows old c.layout-layout.ensures.value c.pages-pages.ensures.planned c.layout-layout.ensures.shape (g.met.M.Machine.short c.args.m.now (c.make_room.ensures.disk.trust.honest h)) ends)
     (owns log (record { pages = pages; dirty = c.args.dirty.now }) records disk windows old over known))
 
-pub returns-in-Err-clause-lost : goal.returns-in-Err-clause-lost
-returns-in-Err-clause-lost g c h = tt
+pub returns-in_err-append-clause-lost : goal.returns-in_err-append-clause-lost
+returns-in_err-append-clause-lost g c =
+    let M = g.M.Machine in
+    handed_up (λ fault. M.honest c.append.new.m → LosesLogged c.args.log.now (M.now c.append.new.m).image fault) c.from_residual-in_err-append.result (Device c.in_err-append.field-0.0.place) c.from_residual-in_err-append.ensures.1 (λ h. tt)
 
 pub returns-in_err-make_room-clause-counted_err : goal.returns-in_err-make_room-clause-counted_err
 returns-in_err-make_room-clause-counted_err g c =
     let M = g.M.Machine in
     err_as (M.tells c.make_room.new.m → WroteMost (sectors_before c.args.log.now (length c.args.dirty.now)) (M.ledger c.args.m.now) (M.ledger c.make_room.new.m)) c.from_residual.result (λ t. c.in_err-make_room.ensures.counted_err t)
 
-pub returns-in-Err-clause-counted_err : goal.returns-in-Err-clause-counted_err
-returns-in-Err-clause-counted_err g c t =
+pub returns-in_err-append-clause-counted_err : goal.returns-in_err-append-clause-counted_err
+returns-in_err-append-clause-counted_err g c =
     let M = g.M.Machine in
     let before = sectors_before c.args.log.now (length c.args.dirty.now) in
-    wrote_on (M.ledger c.args.m.now) (M.ledger c.make_room.new.m) (M.ledger c.append.new.m) before 0 before
-    (c.in_ok-make_room.ensures.counted (c.in-Err.ensures.writes.trust.tells t)) (wrote_same (M.ledger c.make_room.new.m) (M.ledger c.append.new.m) 0 (c.in-Err.ensures.counted_err t)) (omega arith)
+    err_as (M.tells c.append.new.m → WroteMost before (M.ledger c.args.m.now) (M.ledger c.append.new.m)) c.from_residual-in_err-append.result
+    (λ t. wrote_on (M.ledger c.args.m.now) (M.ledger c.make_room.new.m) (M.ledger c.append.new.m) before 0 before
+    (c.in_ok-make_room.ensures.counted (c.in_err-append.ensures.writes.trust.tells t)) (wrote_same (M.ledger c.make_room.new.m) (M.ledger c.append.new.m) 0 (c.in_err-append.ensures.counted_err t)) (omega arith))
 
-pub returns-in-Err-clause-disk : goal.returns-in-Err-clause-disk
-returns-in-Err-clause-disk g c =
-    let c1 = (goal.at.returns-in-Err-clause-disk g c).After-append in
-    writes_then c.in_ok-make_room.ensures.disk c.in-Err.ensures.writes (λ h left shows. making_room g c1 left h shows) (λ h left part. shown g c1 left h part)
+pub returns-in_err-append-clause-disk : goal.returns-in_err-append-clause-disk
+returns-in_err-append-clause-disk g c =
+    let c1 = (goal.at.returns-in_err-append-clause-disk g c).After-append in
+    writes_told (told_up load_failed_at c.from_residual-in_err-append.result (Device c.in_err-append.field-0.0.place) c.from_residual-in_err-append.ensures.1)
+    (writes_then c.in_ok-make_room.ensures.disk c.in_err-append.ensures.writes (λ h left shows. making_room g c1 left h shows) (λ h left part. shown g c1 left h part))
 
-pub returns-in-Ok-clause-disk : goal.returns-in-Ok-clause-disk
-returns-in-Ok-clause-disk g c =
-    let c1 = (goal.at.returns-in-Ok-clause-disk g c).After-append in
-    writes_then c.in_ok-make_room.ensures.disk c.in-Ok.ensures.writes (λ h left shows. making_room g c1 left h shows) (λ h left part. shown g c1 left h part)
+pub returns-clause-disk : goal.returns-clause-disk
+returns-clause-disk g c =
+    let c1 = (goal.at.returns-clause-disk g c).After-append in
+    writes_then c.in_ok-make_room.ensures.disk c.in_ok-append.ensures.writes (λ h left shows. making_room g c1 left h shows) (λ h left part. shown g c1 left h part)
 
-pub returns-in-Ok-clause-done : goal.returns-in-Ok-clause-done
-returns-in-Ok-clause-done g c pages windows records disk has h ends over known =
+pub returns-clause-done : goal.returns-clause-done
+returns-clause-done g c pages windows records disk has h ends over known =
     let M = g.M.Machine in
-    let c1 = (goal.at.returns-in-Ok-clause-done g c).After-append in
+    let c1 = (goal.at.returns-clause-done g c).After-append in
     let mid = M.now c.make_room.new.m in
     let image = (M.now c.append.new.m).image in
     let log = c.args.log.now in
@@ -201,15 +206,15 @@ returns-in-Ok-clause-done g c pages windows records disk has h ends over known =
     let after = c.make_room.new.log in
     let room = made g c1 pages windows records disk h ends over known in
     let is = may g c1 pages has windows records disk h ends over known in
-    let past : c.append.new.self ≡ log_with after dirty = c.in-Ok.ensures.past in
-    let done = committed after (s g c1 pages) (images g c1) room.records disk windows mid is (M.now c.append.new.m) (c.in-Ok.ensures.stands h) in
+    let past : c.append.new.self ≡ log_with after dirty = c.in_ok-append.ensures.past in
+    let done = committed after (s g c1 pages) (images g c1) room.records disk windows mid is (M.now c.append.new.m) (c.in_ok-append.ensures.stands h) in
     subst (λ (x : LogValue). Committed x (record { pages = stamped (stamp_now log) dirty pages; dirty = [] }) windows image) (sym past)
     (subst (λ (t : Stamp). Committed (log_with after dirty) (record { pages = stamped t dirty pages; dirty = [] }) windows image) c.make_room.ensures.stamp (record { records = done.records; stands = done.stands }))
 
-pub returns-in-Ok-clause-knows : goal.returns-in-Ok-clause-knows
-returns-in-Ok-clause-knows g c pages windows records disk has h ends over kept =
+pub returns-clause-knows : goal.returns-clause-knows
+returns-clause-knows g c pages windows records disk has h ends over kept =
     let M = g.M.Machine in
-    let c1 = (goal.at.returns-in-Ok-clause-knows g c).After-append in
+    let c1 = (goal.at.returns-clause-knows g c).After-append in
     let mid = M.now c.make_room.new.m in
     let new = M.now c.append.new.m in
     let after = c.make_room.new.log in
@@ -217,23 +222,23 @@ returns-in-Ok-clause-knows g c pages windows records disk has h ends over kept =
     let is = may g c1 pages has windows records disk h ends over kept in
     let short = g.met.M.Machine.short c.make_room.new.m (c.append.ensures.writes.trust.honest h) in
     let before = log_in_window after (s g c1 pages) room.records disk windows mid is.few c.append.ensures.shape.epoch c.append.ensures.shape.third is.apart is.ends is.over in
-    let then = c.in-Ok.ensures.worn_done room.records h (λ p d x y far. narrow_runs mid.windows.present mid.windows.next short.present short.next p d x y far) before in
-    knows_log c.append.new.self _ new (then new.image (worn_refl (open_damage new.windows) new.image)) (c.in-Ok.ensures.indexed room.records room.over.indexed)
+    let then = c.in_ok-append.ensures.worn_done room.records h (λ p d x y far. narrow_runs mid.windows.present mid.windows.next short.present short.next p d x y far) before in
+    knows_log c.append.new.self _ new (then new.image (worn_refl (open_damage new.windows) new.image)) (c.in_ok-append.ensures.indexed room.records room.over.indexed)
 
-pub returns-in-Ok-clause-logged : goal.returns-in-Ok-clause-logged
-returns-in-Ok-clause-logged g c h k lt =
+pub returns-clause-logged : goal.returns-clause-logged
+returns-clause-logged g c h k lt =
     let M = g.M.Machine in
-    let c1 = (goal.at.returns-in-Ok-clause-logged g c).After-append in
+    let c1 = (goal.at.returns-clause-logged g c).After-append in
     let dirty = c.args.dirty.now in
     let after = c.make_room.new.log in
     let new = M.now c.append.new.m in
     let page : ℕ = get_or c.args.dirty.now k 0 in
-    subst (λ (x : LogValue). StandsLogged x new page (slice_of c.args.room.now k)) (sym c.in-Ok.ensures.past)
+    subst (λ (x : LogValue). StandsLogged x new page (slice_of c.args.room.now k)) (sym c.in_ok-append.ensures.past)
     (subst (StandsLogged (log_with after dirty) new page) (slice_in_front c.args.room.now (length dirty) k lt)
-    (stands_logged after dirty (images g c1) (M.now c.make_room.new.m) new (may_append g c1 h) k lt c.append.ensures.shape.table (c.in-Ok.ensures.stands h)))
+    (stands_logged after dirty (images g c1) (M.now c.make_room.new.m) new (may_append g c1 h) k lt c.append.ensures.shape.table (c.in_ok-append.ensures.stands h)))
 
-pub returns-in-Ok-clause-rest : goal.returns-in-Ok-clause-rest
-returns-in-Ok-clause-rest g c h = rest_made g (goal.at.returns-in-Ok-clause-rest g c).After-append h
+pub returns-clause-rest : goal.returns-clause-rest
+returns-clause-rest g c h = rest_made g (goal.at.returns-clause-rest g c).After-append h
 
-pub returns-in-Err-clause-rest : goal.returns-in-Err-clause-rest
-returns-in-Err-clause-rest g c h = rest_made g (goal.at.returns-in-Err-clause-rest g c).After-append h
+pub returns-in_err-append-clause-rest : goal.returns-in_err-append-clause-rest
+returns-in_err-append-clause-rest g c h = rest_made g (goal.at.returns-in_err-append-clause-rest g c).After-append h

@@ -1,11 +1,11 @@
 use Rattle.std.proofs.Common.{◌≡◌, false, refl, Option, Ok, Err, ◌∙◌, ap, subst, arith}
 use Rattle.std.specs.Prelude.{IfSome, Result}
+use Rattle.fsd_texts.specs.declared.counts.Counts.{Counts}
 use Rattle.fsd_texts.specs.declared.fault.Fault.{Fault}
 use Rattle.volume_turns.specs.declared.turns.End.TheVariants.{Fault as Stopped}
 use Rattle.fsd_texts.specs.Generator.{made_up}
 use Rattle.volume_turns.specs.declared.turns.End.{End}
 use Rattle.volume_turns.specs.Generate.{CountedGroup}
-use Rattle.volume_turns.specs.Tally.{Counting}
 use Rattle.volume_turns.specs.Turns.{IsEndOfVolume, Told}
 use Rattle.volume_turns.specs.Turns.{IsEndOn, KeepsEnd}
 use Rattle.volume_turns.proofs.GenerateLaws.{made_broken, made_said, made_unsaid, made_worn}
@@ -31,7 +31,7 @@ returns-in-Ok-Some-clause-runs g c h input rest k stands =
     let p = c.make_group.new.m in
     let says = c.last_line.ensures.says in
     let back = says.trust.honest h in
-    let group = subst (λ (o : Option Counting). CountedGroup M k (made_up c.args.seed c.args.count) a p (Ok o)) c.in-Ok-Some.field-0-is (c.in-Ok-Some.ensures.group back k stands) in
+    let group = subst (λ (o : Option Counts). CountedGroup M k (made_up c.args.seed c.args.count) a p (Ok o)) c.in-Ok-Some.field-0-is (c.in-Ok-Some.ensures.group back k stands) in
     made_said M c.args.seed c.args.count input rest k a p c.last_line.new.m h (says.since h) (g.met.M.Machine.short p back) stands.ends c.last_line.result c.in-Ok-Some.tally group.group group.counts c.line.result c.line.ensures c.in-Ok-Some.ensures.told.later says
     (c.last_line.ensures.ends h)
 
@@ -49,7 +49,7 @@ returns-in-Ok-None-clause-runs g c h input rest k stands =
     let p = c.make_group.new.m in
     let says = c.last_line-in-Ok-None.ensures.says in
     let back = says.trust.honest h in
-    let group = subst (λ (o : Option Counting). CountedGroup M k (made_up c.args.seed c.args.count) a p (Ok o)) c.in-Ok-None.field-0-is (c.in-Ok-None.ensures.group back k stands) in
+    let group = subst (λ (o : Option Counts). CountedGroup M k (made_up c.args.seed c.args.count) a p (Ok o)) c.in-Ok-None.field-0-is (c.in-Ok-None.ensures.group back k stands) in
     made_worn M c.args.seed c.args.count input rest k a p c.last_line-in-Ok-None.new.m h (says.since h) (g.met.M.Machine.short p back) stands.ends c.last_line-in-Ok-None.result group.group c.in-Ok-None.ensures.told.later says (c.last_line-in-Ok-None.ensures.ends h)
 
 pub returns-in-Err-Fault-clause-since : goal.returns-in-Err-Fault-clause-since
@@ -67,7 +67,7 @@ returns-in-Err-Fault-clause-runs g c h input rest k stands =
     let says = c.end_with.ensures.says in
     let back = says.trust.honest h in
     let group = subst (λ (e : End). CountedGroup M k (made_up c.args.seed c.args.count) a p (Err e)) c.in-Err-Fault.field-0-is (c.in-Err-Fault.ensures.group back k stands) in
-    let told = subst (λ (e : End). Told {T = Option Counting} (M.report a) (M.report p) (Err e)) c.in-Err-Fault.field-0-is c.in-Err-Fault.ensures.told in
+    let told = subst (λ (e : End). Told {T = Option Counts} (M.report a) (M.report p) (Err e)) c.in-Err-Fault.field-0-is c.in-Err-Fault.ensures.told in
     made_broken M c.args.seed c.args.count input rest k a p c.end_with.new.m h (says.since h) (g.met.M.Machine.short p back) stands.ends c.end_with.result c.in-Err-Fault.why group.group told says (c.end_with.ensures.ends h)
 
 pub returns-in-Err-Output-clause-runs : goal.returns-in-Err-Output-clause-runs
@@ -76,7 +76,7 @@ returns-in-Err-Output-clause-runs g c h input rest k stands =
     let a = c.args.m.now in
     let b = c.make_group.new.m in
     let group = subst (λ (e : End). CountedGroup M k (made_up c.args.seed c.args.count) a b (Err e)) c.in-Err-Output.field-0-is (c.in-Err-Output.ensures.group h k stands) in
-    let told = subst (λ (e : End). Told {T = Option Counting} (M.report a) (M.report b) (Err e)) c.in-Err-Output.field-0-is c.in-Err-Output.ensures.told in
+    let told = subst (λ (e : End). Told {T = Option Counts} (M.report a) (M.report b) (Err e)) c.in-Err-Output.field-0-is c.in-Err-Output.ensures.told in
     made_unsaid M c.args.seed c.args.count input rest k a b h (g.met.M.Machine.short b h) stands.ends group.group told
 
 -- ---- the status
@@ -106,14 +106,14 @@ returns-in-Err-Fault-clause-counts g c =
     let report = g.M.Machine.report in
     let a = report c.args.m.now in
     let p = report c.make_group.new.m in
-    fault_counts a p (report c.end_with.new.m) c.end_with.result c.end_with.ensures.says.spares c.in-Err-Fault.why (subst (λ (e : End). Told {T = Option Counting} a p (Err e)) c.in-Err-Fault.field-0-is c.in-Err-Fault.ensures.told) c.end_with.ensures.status
+    fault_counts a p (report c.end_with.new.m) c.end_with.result c.end_with.ensures.says.spares c.in-Err-Fault.why (subst (λ (e : End). Told {T = Option Counts} a p (Err e)) c.in-Err-Fault.field-0-is c.in-Err-Fault.ensures.told) c.end_with.ensures.status
 
 pub returns-in-Err-Output-clause-counts : goal.returns-in-Err-Output-clause-counts
 returns-in-Err-Output-clause-counts g c =
     let report = g.M.Machine.report in
     let a = report c.args.m.now in
     let b = report c.make_group.new.m in
-    unsaid_counts a b (subst (λ (e : End). Told {T = Option Counting} a b (Err e)) c.in-Err-Output.field-0-is c.in-Err-Output.ensures.told)
+    unsaid_counts a b (subst (λ (e : End). Told {T = Option Counts} a b (Err e)) c.in-Err-Output.field-0-is c.in-Err-Output.ensures.told)
 
 -- ---- a fault of the image
 
@@ -158,7 +158,7 @@ returns-in-Err-Fault-clause-last g c of h =
     let p = report c.make_group.new.m in
     let b = report c.end_with.new.m in
     let x = c.in-Err-Fault in
-    let told = subst (λ (e : End). Told {T = Option Counting} a p (Err e)) x.field-0-is x.ensures.told in
+    let told = subst (λ (e : End). Told {T = Option Counts} a p (Err e)) x.field-0-is x.ensures.told in
     ends_fault b.fault_place (now c.make_group.new.m) (now c.end_with.new.m) c.end_with.result x.why (told_place x.why a p b told.disk c.end_with.ensures.says.spares.place) (c.end_with.ensures.ends h) of
 
 pub returns-in-Err-Output-clause-last : goal.returns-in-Err-Output-clause-last
@@ -166,7 +166,7 @@ returns-in-Err-Output-clause-last g c of h = absurd (cc of)
 
 -- ---- the numbers of a mount
 
-abbrev came_to : Option Counting → Result (Option Counting) End
+abbrev came_to : Option Counts → Result (Option Counts) End
 came_to o = Ok o
 
 pub returns-in-Ok-Some-clause-spent : goal.returns-in-Ok-Some-clause-spent
@@ -190,7 +190,7 @@ returns-in-Ok-Some-clause-all g c zero h =
     let now = g.M.Machine.now in
     let x = c.in-Ok-Some in
     let line = c.last_line in
-    let counts = subst (λ (o : Option Counting). IfSome o (λ t. t.count ≡ c.args.count)) x.field-0-is x.ensures.counts in
+    let counts = subst (λ (o : Option Counts). IfSome o (λ t. t.count ≡ c.args.count)) x.field-0-is x.ensures.counts in
     made_all c.args.count x.tally counts c.line.result c.line.ensures (now c.args.m.now) (now c.make_group.new.m) (now line.new.m) line.result (x.ensures.says (line.ensures.says.trust.honest h)) (line.ensures.ends h) zero
 
 pub returns-in-Ok-None-clause-all : goal.returns-in-Ok-None-clause-all

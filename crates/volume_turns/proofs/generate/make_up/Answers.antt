@@ -5,9 +5,10 @@ use Rattle.sector_disk.specs.Image.{AreShort, Windows}
 use Rattle.sector_disk.proofs.Holding.{trusts_on}
 use Rattle.sector_disk.proofs.CallLaws.{only_writes_then}
 use Rattle.fsd_texts.specs.declared.command.Command.{Command as Word}
+use Rattle.fsd_texts.specs.declared.counts.Counts.{Counts}
 use Rattle.script_text.specs.Making.{Making, made_left}
 use Rattle.volume_turns.specs.Generate.{Draws, RunsCounted}
-use Rattle.volume_turns.specs.Tally.{Counting, nothing}
+use Rattle.volume_turns.specs.Tally.{nothing}
 use Rattle.volume_turns.specs.Turns.{Follows, IsEndOn}
 use Rattle.volume_turns.proofs.CountLaws.{counted_nil, counted_stop, counted_then, made_length, none_left, told_all, told_end, told_more, told_none}
 use Rattle.fsd_texts.specs.declared.fault.Fault.TheVariants as Ends
@@ -28,13 +29,13 @@ loop-init g c =
       trust = record { tells = λ h. h; honest = λ h. h };
       since = λ h t left le was. was;
       later = λ h. omega arith;
-      counts = ap (λ (t : Counting). t.count) c.new-tally.ensures;
+      counts = ap (λ (t : Counts). t.count) c.new-tally.ensures;
       numbers = λ h. goes_none 0 (V.state c.args.v.now) (V.state c.args.v.now) refl;
       quiet = λ h. refl;
       left = let all = made_length c.args.count 1 c.args.seed in let same = ap (λ (x : Making). length (made_left x)) c.new-maker.ensures in omega (arith, all, same);
       rest = λ z b r follows runs.
           subst (λ (x : Making). RunsCounted V.state V.holds M (made_left x) c.args.v.now c.args.m.now z b nothing r) c.new-maker.ensures
-          (subst (λ (t : Counting). RunsCounted V.state V.holds M (made_left c.new-maker.result) c.args.v.now c.args.m.now z b t r) c.new-tally.ensures runs);
+          (subst (λ (t : Counts). RunsCounted V.state V.holds M (made_left c.new-maker.result) c.args.v.now c.args.m.now z b t r) c.new-tally.ensures runs);
     }
 
 pub draw-requires-clause-room : goal.draw-requires-clause-room
@@ -88,7 +89,7 @@ returns-in-Ok-None-clause-runs g c =
     let V = g.V.Files in
     let M = g.M.Machine in
     let m = c.loop.m in
-    let ends = subst (λ (o : Option Counting). Draws V.state V.holds M c.loop.maker c.draw.new.maker c.loop.v m c.draw.new.v c.draw.new.m c.loop.tally (Ok o)) c.in-Ok-None.field-0-is c.in-Ok-None.ensures.draws in
+    let ends = subst (λ (o : Option Counts). Draws V.state V.holds M c.loop.maker c.draw.new.maker c.loop.v m c.draw.new.v c.draw.new.m c.loop.tally (Ok o)) c.in-Ok-None.field-0-is c.in-Ok-None.ensures.draws in
     let nil = counted_nil V.state V.holds M c.loop.v m g.met.V.Files.wears (λ h left was. g.met.M.Machine.only_now m left h was) (λ h from aged. subst (λ (w : Windows). AreShort w) aged.windows (g.met.M.Machine.short m h)) c.loop.tally in
     c.loop.invariant.rest c.draw.new.v c.draw.new.m (Ok c.loop.tally) (record { honest = c.draw.ensures.trust.honest; since = c.draw.ensures.since; later = c.draw.ensures.later })
     (subst (λ (b : g.row.M.Denot). RunsCounted V.state V.holds M (made_left c.loop.maker) c.loop.v m c.draw.new.v b c.loop.tally (Ok c.loop.tally)) (sym ends.2)
@@ -139,7 +140,7 @@ loop-preserved g c =
     let on : Follows M c.args.m.now c.loop.m = record { honest = was.trust.honest; since = was.since; later = was.later } in
     let step : Follows M c.loop.m c.draw.new.m = record { honest = c.draw.ensures.trust.honest; since = c.draw.ensures.since; later = c.draw.ensures.later } in
     let both = follows_then M c.args.m.now c.loop.m c.draw.new.m on step in
-    let draws = subst (λ (o : Option Counting). Draws V.state V.holds M c.loop.maker c.draw.new.maker c.loop.v c.loop.m c.draw.new.v c.draw.new.m c.loop.tally (Ok o)) c.in-Ok-Some.field-0-is c.in-Ok-Some.ensures.draws in
+    let draws = subst (λ (o : Option Counts). Draws V.state V.holds M c.loop.maker c.draw.new.maker c.loop.v c.loop.m c.draw.new.v c.draw.new.m c.loop.tally (Ok o)) c.in-Ok-Some.field-0-is c.in-Ok-Some.ensures.draws in
     record {
       layout = c.draw.ensures.layout ∙ was.layout;
       up = c.in-Ok-Some.ensures.up;
@@ -149,7 +150,7 @@ loop-preserved g c =
       since = both.since;
       later = both.later;
       quiet = λ h. c.draw.ensures.quiet h ∙ was.quiet (c.draw.ensures.trust.honest h);
-      counts = subst (λ (o : Option Counting). IfSome o (λ t. t.count ≡ c.loop.tally.count + 1)) c.in-Ok-Some.field-0-is c.in-Ok-Some.ensures.counts ∙ ap (λ (n : ℕ). n + 1) was.counts;
+      counts = subst (λ (o : Option Counts). IfSome o (λ t. t.count ≡ c.loop.tally.count + 1)) c.in-Ok-Some.field-0-is c.in-Ok-Some.ensures.counts ∙ ap (λ (n : ℕ). n + 1) was.counts;
       numbers = λ h. goes_then c.loop.counter (c.loop.counter + 1) (V.state c.args.v.now) (V.state c.loop.v) (V.state c.draw.new.v) refl (was.numbers (c.draw.ensures.trust.honest h)) (c.draw.ensures.grows h);
       left = let all = was.left in let same = ap (λ (cs : List Word). length cs) draws.1 in omega (arith, all, same);
       rest = λ z b r follows runs. was.rest z b r (follows_then M c.loop.m c.draw.new.m b step follows)
@@ -222,7 +223,7 @@ pub returns-in-Ok-None-clause-counts : goal.returns-in-Ok-None-clause-counts
 returns-in-Ok-None-clause-counts g c =
     let V = g.V.Files in
     let M = g.M.Machine in
-    let ends = subst (λ (o : Option Counting). Draws V.state V.holds M c.loop.maker c.draw.new.maker c.loop.v c.loop.m c.draw.new.v c.draw.new.m c.loop.tally (Ok o)) c.in-Ok-None.field-0-is c.in-Ok-None.ensures.draws in
+    let ends = subst (λ (o : Option Counts). Draws V.state V.holds M c.loop.maker c.draw.new.maker c.loop.v c.loop.m c.draw.new.v c.draw.new.m c.loop.tally (Ok o)) c.in-Ok-None.field-0-is c.in-Ok-None.ensures.draws in
     let none = ap (λ (cs : List Word). length cs) ends.0 in
     let left = c.loop.invariant.left in
     let counts = c.loop.invariant.counts in

@@ -2,12 +2,13 @@ use Rattle.std.proofs.Common.{◌≡◌, ◌+◌, None, Ok, ◌≤◌, length}
 use Rattle.std.specs.Prelude.{Result}
 use Rattle.sector_disk.specs.Calls.{Since}
 use Rattle.sector_disk.specs.Machine.{OnlyWrites, Trusts}
+use Rattle.fsd_texts.specs.declared.counts.Counts.{Counts}
 use Rattle.fsd_texts.specs.Generator.{made_up}
 use Rattle.script_text.specs.Making.{made_left}
 use Rattle.volume_turns.specs.declared.turns.End.{End}
 use Rattle.volume_turns.specs.Generate.{RunsCounted}
 use Rattle.volume_turns.specs.Numbers.{GoesUp}
-use Rattle.volume_turns.specs.Tally.{Counting, nothing}
+use Rattle.volume_turns.specs.Tally.{nothing}
 use Rattle.volume_turns.specs.Turns.{Follows, Told}
 use Rattle.volume_turns.proofs.generate.make_up.Given as goal
 
@@ -25,7 +26,7 @@ invariant-loop g l = record {
   counts : l.tally.count ≡ l.counter;
   numbers : g.M.Machine.honest l.m → GoesUp l.counter (g.V.Files.state l.fn.v) (g.V.Files.state l.v);
   left : length (made_left l.maker) + l.counter ≡ l.count;
-  rest : (z : g.row.V.Denot) (b : g.row.M.Denot) (r : Result Counting End) → Follows g.M.Machine l.m b →
+  rest : (z : g.row.V.Denot) (b : g.row.M.Denot) (r : Result Counts End) → Follows g.M.Machine l.m b →
       RunsCounted g.V.Files.state g.V.Files.holds g.M.Machine (made_left l.maker) l.v l.m z b l.tally r →
       RunsCounted g.V.Files.state g.V.Files.holds g.M.Machine (made_up l.seed l.count) l.fn.v l.fn.m z b nothing r;
 }

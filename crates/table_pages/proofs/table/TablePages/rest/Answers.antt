@@ -41,17 +41,16 @@ invariant_of-self g c =
     let reached = subst (λ (l : List ℕ). IsKept M S t.made_over.value t.made_with.value t.m.now last t.source.now t.free.now l [] 0) (sym c.release.ensures.none) (unspared g (goal.at.invariant_of-self g c).After-release-2 (unreached g (goal.at.invariant_of-self g c).After-release)) in
     record { kept = subst (λ (l : List ℕ). IsKept M S t.made_over.value t.made_with.value t.m.now last t.source.now t.free.now c.release.new.list.items l 0) (sym c.release-2.ensures.none) reached }
 
-pub returns-clause-ready : goal.returns-clause-ready
-returns-clause-ready g c =
-    let kept = unspared g (goal.at.returns-clause-ready g c).After-release-2 (unreached g (goal.at.returns-clause-ready g c).After-release) in
-    record { pages = kept.pages; small = kept.small; sectors = kept.sectors; frames = kept.frames; unpinned = kept.pins }
-
-pub returns-clause-clean : goal.returns-clause-clean
-returns-clause-clean g c = λ trusted.
-    (unspared g (goal.at.returns-clause-clean g c).After-release-2 (unreached g (goal.at.returns-clause-clean g c).After-release)).clean trusted
-
-pub returns-clause-cache : goal.returns-clause-cache
-returns-clause-cache g c = only_then c.args.self.now.cache.now c.release.new.cache c.release-2.new.cache c.release.ensures.only c.release-2.ensures.only
+pub returns-clause-left : goal.returns-clause-left
+returns-clause-left g c =
+    let kept = unspared g (goal.at.returns-clause-left g c).After-release-2 (unreached g (goal.at.returns-clause-left g c).After-release) in
+    record {
+      machine = refl;
+      pins = only_then c.args.self.now.cache.now c.release.new.cache c.release-2.new.cache c.release.ensures.only c.release-2.ensures.only;
+      flags = refl;
+      ready = record { pages = kept.pages; small = kept.small; sectors = kept.sectors; frames = kept.frames; unpinned = kept.pins };
+      clean = kept.clean;
+    }
 
 pub returns-clause-outside : goal.returns-clause-outside
 returns-clause-outside g c =

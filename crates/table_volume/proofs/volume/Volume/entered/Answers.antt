@@ -20,8 +20,8 @@ use Rattle.volume_state.proofs.RunFitLaws.{place_fits}
 use Rattle.volume_changes.proofs.WholeLaws.{whole_edited}
 use Rattle.table_volume.proofs.volume.Volume.entered.Goals as goal
 
-pub enter_in-done-requires-clause-runs : goal.enter_in-done-requires-clause-runs
-enter_in-done-requires-clause-runs g c =
+pub enter-done-requires-clause-runs : goal.enter-done-requires-clause-runs
+enter-done-requires-clause-runs g c =
     place_fits _ _ c.self.invariant.map (search rules) c.args.draft c.requires.good (subst (λ (x : VolumeValue). AreIn x.map c.args.draft.runs) (sym c.self.view_is) c.requires.place.free)
 
 pub take-requires : goal.take-requires
@@ -34,14 +34,14 @@ free_gone_if-requires-clause-idle g c = idle_gone _ _ _ _ c.as_slice.ensures.val
 
 pub invariant_of-self : goal.invariant_of-self
 invariant_of-self g c =
-    let done = c.enter_in-done in
-    whole_edited g.M.Machine _ c.over-source.result c.args.m.now done.new.m _ c.args.self.now c.self.view_is c.self.invariant _ done.new.cache done.new.free c.in_err-plan.ensures.edits done.ensures.waiting c.requires.up c.requires.numbered
+    let done = c.enter-done in
+    whole_edited g.M.Machine _ c.over-source.result c.args.m.now done.new.m _ c.args.self.now c.self.view_is c.self.invariant _ done.new.self.cache done.new.self.free_pages c.in_err-plan.ensures.edits done.ensures.waiting c.requires.up c.requires.numbered
 
 pub returns-in_err-plan-clause-order : goal.returns-in_err-plan-clause-order
 returns-in_err-plan-clause-order g c =
     let p = err_from_is_err_and c.from_residual.result c.from_residual.ensures.1 in
-    let done = c.enter_in-done in
-    rw (p.1, p.2) (enter_comes _ c.args.self.now c.self.view_is g.M.Machine c.args.m.now done.new.m c.over-source.result c.args.name.now done.new.cache done.new.free c.in_err-plan.field-0.0 c.in_err-plan.ensures.fault.cause)
+    let done = c.enter-done in
+    rw (p.1, p.2) (enter_comes _ c.args.self.now c.self.view_is g.M.Machine c.args.m.now done.new.m c.over-source.result c.args.name.now done.new.self.cache done.new.self.free_pages c.in_err-plan.field-0.0 c.in_err-plan.ensures.fault.cause)
 
 pub returns-in_err-plan-clause-disk : goal.returns-in_err-plan-clause-disk
 returns-in_err-plan-clause-disk g c =
@@ -50,51 +50,51 @@ returns-in_err-plan-clause-disk g c =
 pub returns-in_err-plan-clause-enters : goal.returns-in_err-plan-clause-enters
 returns-in_err-plan-clause-enters g c =
     let p = err_from_is_err_and c.from_residual.result c.from_residual.ensures.1 in
-    let done = c.enter_in-done in
-    rw p.1 (stayed _ c.args.self.now c.self.view_is done.new.cache done.new.free c.in_err-plan.ensures.kept.dirty c.in_err-plan.ensures.kept.same_flags)
+    let done = c.enter-done in
+    rw p.1 (stayed _ c.args.self.now c.self.view_is done.new.self.cache done.new.self.free_pages c.in_err-plan.ensures.kept.dirty c.in_err-plan.ensures.kept.same_flags)
 
 pub returns-in_err-plan-clause-causes : goal.returns-in_err-plan-clause-causes
 returns-in_err-plan-clause-causes g c =
-    let done = c.enter_in-done in
+    let done = c.enter-done in
     let w = c.args.self.now in
     handed_cause g.M.Machine (resident w) (state w) _ c.args.m.now done.new.m c.in_err-plan.field-0.0 c.from_residual.result c.from_residual.ensures.1
-    (enter_cause g.M.Machine c.args.m.now done.new.m _ w c.self.view_is c.self.invariant done.new.cache done.new.free c.over-source.result c.over-source.ensures c.home_a-home_a.result c.home_a-home_a.ensures.place c.in_err-plan.field-0.0
+    (enter_cause g.M.Machine c.args.m.now done.new.m _ w c.self.view_is c.self.invariant done.new.self.cache done.new.self.free_pages c.over-source.result c.over-source.ensures c.home_a-home_a.result c.home_a-home_a.ensures.place c.in_err-plan.field-0.0
     c.in_err-plan.ensures.edits c.in_err-plan.ensures.looks c.in_err-plan.ensures.shown)
 
 pub returns-in_err-plan-clause-done : goal.returns-in_err-plan-clause-done
 returns-in_err-plan-clause-done g c = λ honest bytes k stands long written.
-    let done = c.enter_in-done in
-    ends_refused g.M.Machine g.met.M.Machine.short c.args.m.now done.new.m _ c.args.self.now c.self.view_is c.self.invariant c.dirty_list-whole.ensures.valid done.new.cache done.new.free c.over-source.result c.over-source.ensures
+    let done = c.enter-done in
+    ends_refused g.M.Machine g.met.M.Machine.short c.args.m.now done.new.m _ c.args.self.now c.self.view_is c.self.invariant c.dirty_list-whole.ensures.valid done.new.self.cache done.new.self.free_pages c.over-source.result c.over-source.ensures
     c.dirty_list.ensures.valid c.args.name.now c.args.keep c.args.draft c.from_residual.result c.in_err-plan.field-0.0 c.from_residual.ensures.1 c.in_err-plan.ensures.edits c.in_err-plan.ensures.kept c.in_err-plan.ensures.fault.cause honest k stands bytes
 
 -- ---- it is entered
 
 pub invariant_of-self-2 : goal.invariant_of-self-2
 invariant_of-self-2 g c =
-    let done = c.enter_in-done in
+    let done = c.enter-done in
     let plan = c.in_ok-plan in
     let frees = c.free_gone_if.ensures in
-    let left = whole_edited g.M.Machine _ c.over-source.result c.args.m.now done.new.m _ c.args.self.now c.self.view_is c.self.invariant None done.new.cache done.new.free plan.ensures.edits done.ensures.waiting c.requires.up c.requires.numbered in
-    whole_entered _ c.self.invariant done.new.cache done.new.free left c.args.draft.runs plan.plan.gone.items plan.ensures.taken _ (none_waits c.is_empty-waits.result done.new.cache.dirty (c.is_empty-waits.ensures ∙ ap (λ (d : List ℕ). length d == 0) c.dirty_list.ensures.value))
+    let left = whole_edited g.M.Machine _ c.over-source.result c.args.m.now done.new.m _ c.args.self.now c.self.view_is c.self.invariant None done.new.self.cache done.new.self.free_pages plan.ensures.edits done.ensures.waiting c.requires.up c.requires.numbered in
+    whole_entered _ c.self.invariant done.new.self.cache done.new.self.free_pages left c.args.draft.runs plan.plan.gone.items plan.ensures.taken _ (none_waits c.is_empty-waits.result done.new.self.cache.dirty (c.is_empty-waits.ensures ∙ ap (λ (d : List ℕ). length d == 0) c.dirty_list.ensures.value))
     c.take.new.self c.free_gone_if.new.shadow c.versions_with_one-self-inside.result c.take.ensures (frees.removed ∙ ap (with_if (not c.is_empty-waits.result) _) c.as_slice.ensures.value) frees.kept frees.unfinished frees.held
 
 pub returns-clause-order : goal.returns-clause-order
 returns-clause-order g c = through_entered _ c.args.self.now c.self.view_is c.in_ok-plan.ensures.full
 
 pub returns-clause-enters : goal.returns-clause-enters
-returns-clause-enters g c = enters_told _ c.args.self.now c.self.view_is c.take.new.self c.free_gone_if.new.shadow c.enter_in-done.new.cache c.enter_in-done.new.free c.versions_with_one-self-inside.result c.free_gone_if.ensures.held
+returns-clause-enters g c = enters_told _ c.args.self.now c.self.view_is c.take.new.self c.free_gone_if.new.shadow c.enter-done.new.self.cache c.enter-done.new.self.free_pages c.versions_with_one-self-inside.result c.free_gone_if.ensures.held
 
 pub returns-clause-done : goal.returns-clause-done
 returns-clause-done g c = λ honest bytes k stands long written.
-    let done = c.enter_in-done in
+    let done = c.enter-done in
     let plan = c.in_ok-plan in
     let frees = c.free_gone_if.ensures in
     let none = c.is_empty-waits.ensures ∙ ap (λ (d : List ℕ). length d == 0) c.dirty_list.ensures.value in
     let removed = frees.removed ∙ ap (with_if (not c.is_empty-waits.result) _) c.as_slice.ensures.value in
-    let left = whole_edited g.M.Machine _ c.over-source.result c.args.m.now done.new.m _ c.args.self.now c.self.view_is c.self.invariant None done.new.cache done.new.free plan.ensures.edits done.ensures.waiting c.requires.up c.requires.numbered in
-    let whole = whole_entered _ c.self.invariant done.new.cache done.new.free left c.args.draft.runs plan.plan.gone.items plan.ensures.taken _ (none_waits c.is_empty-waits.result done.new.cache.dirty none) c.take.new.self c.free_gone_if.new.shadow c.versions_with_one-self-inside.result c.take.ensures removed frees.kept frees.unfinished frees.held in
+    let left = whole_edited g.M.Machine _ c.over-source.result c.args.m.now done.new.m _ c.args.self.now c.self.view_is c.self.invariant None done.new.self.cache done.new.self.free_pages plan.ensures.edits done.ensures.waiting c.requires.up c.requires.numbered in
+    let whole = whole_entered _ c.self.invariant done.new.self.cache done.new.self.free_pages left c.args.draft.runs plan.plan.gone.items plan.ensures.taken _ (none_waits c.is_empty-waits.result done.new.self.cache.dirty none) c.take.new.self c.free_gone_if.new.shadow c.versions_with_one-self-inside.result c.take.ensures removed frees.kept frees.unfinished frees.held in
     let were = waiting_were _ c.args.self.now c.self.view_is c.self.invariant c.requires.up in
-    ends_entered g.M.Machine g.met.M.Machine.short c.args.m.now done.new.m _ c.args.self.now c.self.view_is c.self.invariant c.dirty_list-whole.ensures.valid done.new.cache done.new.free c.over-source.result c.over-source.ensures
+    ends_entered g.M.Machine g.met.M.Machine.short c.args.m.now done.new.m _ c.args.self.now c.self.view_is c.self.invariant c.dirty_list-whole.ensures.valid done.new.self.cache done.new.self.free_pages c.over-source.result c.over-source.ensures
     c.args.name.now c.args.keep c.args.draft plan.plan (search rules) (search rules) (subst (λ (x : VolumeValue). length x.cache.dirty ≤ 56) (sym c.self.view_is) c.requires.few) plan.ensures.edits done.ensures.changes (done.ensures.waiting were)
     plan.ensures.planned plan.ensures.full plan.ensures.made (subst (λ (x : VolumeValue). IsPlace x.map (sectors_for c.args.draft.length) c.args.draft.runs) (sym c.self.view_is) c.requires.place) honest k stands bytes long
     (version_worn (g.M.Machine.now c.args.m.now) (g.M.Machine.now done.new.m) bytes c.args.draft (plan.ensures.edits.reads.worn honest) written)

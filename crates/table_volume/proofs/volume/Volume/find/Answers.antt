@@ -8,12 +8,12 @@ use Rattle.volume_state.proofs.TakenLaws.{taken_is_told}
 use Rattle.table_volume.proofs.volume.Volume.find.Goals as goal
 
 pub returns-clause-stands : goal.returns-clause-stands
-returns-clause-stands g c = stands_found g.M.Machine g.met.M.Machine.short c.args.m.now c.find_in-found.new.m _ c.args.self.now c.self.view_is c.self.invariant c.dirty_list-whole.ensures.valid c.find_in-found.new.cache c.over-source.result c.over-source.ensures c.find_in-found.new.free _ c.find_in-found.ensures.looks c.find_in-found.ensures.free
+returns-clause-stands g c = stands_found g.M.Machine g.met.M.Machine.short c.args.m.now c.find-found.new.m _ c.args.self.now c.self.view_is c.self.invariant c.dirty_list-whole.ensures.valid c.find-found.new.self.cache c.over-source.result c.over-source.ensures c.find-found.new.self.free_pages _ c.find-found.ensures.looks c.find-found.ensures.free
 
 pub returns-clause-found : goal.returns-clause-found
 returns-clause-found g c =
-    finds_found g.M.Machine g.met.M.Machine.short c.args.m.now c.find_in-found.new.m _ c.args.self.now c.self.view_is c.self.invariant c.dirty_list-whole.ensures.valid c.find_in-found.new.cache c.over-source.result c.over-source.ensures c.args.key.now
-    c.home_a-home_a.result c.find_in-found.result c.told.result c.told.ensures c.find_in-found.ensures.looks c.find_in-found.ensures.fault c.find_in-found.ensures.found
+    finds_found g.M.Machine g.met.M.Machine.short c.args.m.now c.find-found.new.m _ c.args.self.now c.self.view_is c.self.invariant c.dirty_list-whole.ensures.valid c.find-found.new.self.cache c.over-source.result c.over-source.ensures c.args.key.now
+    c.home_a-home_a.result c.find-found.result c.told.result c.told.ensures c.find-found.ensures.looks c.find-found.ensures.fault c.find-found.ensures.found
 
 pub returns-clause-taken : goal.returns-clause-taken
 returns-clause-taken g c = λ h k stands e has. taken_there _ c.args.self.now c.self.view_is c.self.invariant k (g.M.Machine.now c.args.m.now) stands e has
@@ -26,17 +26,17 @@ returns-clause-causes g c =
     let M = g.M.Machine in
     let w = c.args.self.now in
     let log = c.over-source.ensures in
-    let looks = c.find_in-found.ensures.looks in
-    causes_by M (resident w) (state w) _ c.args.m.now c.find_in-found.new.m c.told.result
-    (λ a b is h. lost_found M c.args.m.now c.find_in-found.new.m _ w c.self.view_is c.self.invariant c.find_in-found.new.cache c.over-source.result log c.home_a-home_a.result a b
-    _ c.find_in-found.result c.told.result c.told.ensures looks is h)
-    (unsound_by M c.args.m.now c.find_in-found.new.m _ w c.self.view_is c.self.invariant c.find_in-found.new.cache c.over-source.result log _ c.home_a-home_a.result c.home_a-home_a.ensures.place
-    c.find_in-found.result c.told.result c.told.ensures looks c.find_in-found.ensures.shown)
+    let looks = c.find-found.ensures.looks in
+    causes_by M (resident w) (state w) _ c.args.m.now c.find-found.new.m c.told.result
+    (λ a b is h. lost_found M c.args.m.now c.find-found.new.m _ w c.self.view_is c.self.invariant c.find-found.new.self.cache c.over-source.result log c.home_a-home_a.result a b
+    _ c.find-found.result c.told.result c.told.ensures looks is h)
+    (unsound_by M c.args.m.now c.find-found.new.m _ w c.self.view_is c.self.invariant c.find-found.new.self.cache c.over-source.result log _ c.home_a-home_a.result c.home_a-home_a.ensures.place
+    c.find-found.result c.told.result c.told.ensures looks c.find-found.ensures.shown)
 
 pub returns-clause-met : goal.returns-clause-met
 returns-clause-met g c =
     let M = g.M.Machine in
     let w = c.args.self.now in
-    met_left M c.args.m.now c.find_in-found.new.m _ w c.self.view_is c.self.invariant c.find_in-found.new.cache _ _ c.find_in-found.new.free refl c.told.result
-    (λ h. shows_by M c.args.m.now c.find_in-found.new.m _ w c.self.view_is c.self.invariant c.find_in-found.new.cache c.over-source.result c.over-source.ensures _ c.home_a-home_a.result
-    c.find_in-found.result c.told.result c.told.ensures c.find_in-found.ensures.looks h c.find_in-found.ensures.way)
+    met_left M c.args.m.now c.find-found.new.m _ w c.self.view_is c.self.invariant c.find-found.new.self.cache _ _ c.find-found.new.self.free_pages refl c.told.result
+    (λ h. shows_by M c.args.m.now c.find-found.new.m _ w c.self.view_is c.self.invariant c.find-found.new.self.cache c.over-source.result c.over-source.ensures _ c.home_a-home_a.result
+    c.find-found.result c.told.result c.told.ensures c.find-found.ensures.looks h c.find-found.ensures.way)

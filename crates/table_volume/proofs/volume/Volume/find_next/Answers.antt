@@ -12,13 +12,13 @@ use Rattle.volume_state.proofs.TakenLaws.{taken_is_told}
 use Rattle.table_volume.proofs.volume.Volume.find_next.Goals as goal
 
 pub returns-clause-stands : goal.returns-clause-stands
-returns-clause-stands g c = stands_found g.M.Machine g.met.M.Machine.short c.args.m.now c.next_in-found.new.m _ c.args.self.now c.self.view_is c.self.invariant c.dirty_list-whole.ensures.valid c.next_in-found.new.cache c.over-source.result c.over-source.ensures c.next_in-found.new.free _ c.next_in-found.ensures.looks c.next_in-found.ensures.free
+returns-clause-stands g c = stands_found g.M.Machine g.met.M.Machine.short c.args.m.now c.next_after-found.new.m _ c.args.self.now c.self.view_is c.self.invariant c.dirty_list-whole.ensures.valid c.next_after-found.new.self.cache c.over-source.result c.over-source.ensures c.next_after-found.new.self.free_pages _ c.next_after-found.ensures.looks c.next_after-found.ensures.free
 
 pub returns-clause-found : goal.returns-clause-found
 returns-clause-found g c =
-    finds_looked g.M.Machine g.met.M.Machine.short c.args.m.now c.next_in-found.new.m _ c.args.self.now c.self.view_is c.self.invariant c.dirty_list-whole.ensures.valid c.next_in-found.new.cache c.over-source.result c.over-source.ensures
+    finds_looked g.M.Machine g.met.M.Machine.short c.args.m.now c.next_after-found.new.m _ c.args.self.now c.self.view_is c.self.invariant c.dirty_list-whole.ensures.valid c.next_after-found.new.self.cache c.over-source.result c.over-source.ensures
     (entry_after (option_copied c.args.after)) (λ k. entry_behind (option_copied c.args.after) k.mounted.volume.entries) (λ k stands. found_behind _ k _ c.self.invariant stands (option_copied c.args.after))
-    c.home_a-home_a.result c.next_in-found.result c.told.result c.told.ensures c.next_in-found.ensures.looks c.next_in-found.ensures.fault c.next_in-found.ensures.found
+    c.home_a-home_a.result c.next_after-found.result c.told.result c.told.ensures c.next_after-found.ensures.looks c.next_after-found.ensures.fault c.next_after-found.ensures.found
 
 pub returns-clause-taken : goal.returns-clause-taken
 returns-clause-taken g c = λ honest k stands e has. taken_there _ c.args.self.now c.self.view_is c.self.invariant k (g.M.Machine.now c.args.m.now) stands e has
@@ -31,17 +31,17 @@ returns-clause-causes g c =
     let M = g.M.Machine in
     let w = c.args.self.now in
     let log = c.over-source.ensures in
-    let looks = c.next_in-found.ensures.looks in
-    causes_by M (resident w) (state w) _ c.args.m.now c.next_in-found.new.m c.told.result
-    (λ a b is h. lost_found M c.args.m.now c.next_in-found.new.m _ w c.self.view_is c.self.invariant c.next_in-found.new.cache c.over-source.result log c.home_a-home_a.result a b
-    _ c.next_in-found.result c.told.result c.told.ensures looks is h)
-    (unsound_by M c.args.m.now c.next_in-found.new.m _ w c.self.view_is c.self.invariant c.next_in-found.new.cache c.over-source.result log _ c.home_a-home_a.result c.home_a-home_a.ensures.place
-    c.next_in-found.result c.told.result c.told.ensures looks c.next_in-found.ensures.shown)
+    let looks = c.next_after-found.ensures.looks in
+    causes_by M (resident w) (state w) _ c.args.m.now c.next_after-found.new.m c.told.result
+    (λ a b is h. lost_found M c.args.m.now c.next_after-found.new.m _ w c.self.view_is c.self.invariant c.next_after-found.new.self.cache c.over-source.result log c.home_a-home_a.result a b
+    _ c.next_after-found.result c.told.result c.told.ensures looks is h)
+    (unsound_by M c.args.m.now c.next_after-found.new.m _ w c.self.view_is c.self.invariant c.next_after-found.new.self.cache c.over-source.result log _ c.home_a-home_a.result c.home_a-home_a.ensures.place
+    c.next_after-found.result c.told.result c.told.ensures looks c.next_after-found.ensures.shown)
 
 pub returns-clause-met : goal.returns-clause-met
 returns-clause-met g c =
     let M = g.M.Machine in
     let w = c.args.self.now in
-    met_left M c.args.m.now c.next_in-found.new.m _ w c.self.view_is c.self.invariant c.next_in-found.new.cache _ _ c.next_in-found.new.free refl c.told.result
-    (λ h. shows_by M c.args.m.now c.next_in-found.new.m _ w c.self.view_is c.self.invariant c.next_in-found.new.cache c.over-source.result c.over-source.ensures _ c.home_a-home_a.result
-    c.next_in-found.result c.told.result c.told.ensures c.next_in-found.ensures.looks h c.next_in-found.ensures.way)
+    met_left M c.args.m.now c.next_after-found.new.m _ w c.self.view_is c.self.invariant c.next_after-found.new.self.cache _ _ c.next_after-found.new.self.free_pages refl c.told.result
+    (λ h. shows_by M c.args.m.now c.next_after-found.new.m _ w c.self.view_is c.self.invariant c.next_after-found.new.self.cache c.over-source.result c.over-source.ensures _ c.home_a-home_a.result
+    c.next_after-found.result c.told.result c.told.ensures c.next_after-found.ensures.looks h c.next_after-found.ensures.way)

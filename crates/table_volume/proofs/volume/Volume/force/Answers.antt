@@ -31,33 +31,33 @@ use Rattle.table_volume.proofs.volume.Volume.force.Goals as goal
 
 pub invariant_of-self : goal.invariant_of-self
 invariant_of-self g c =
-    let v : VolumeValue = record { layout = c.self.inside.layout; map = c.self.inside.map; shadow = c.self.inside.shadow; log = c.self.inside.log; cache = c.self.inside.cache; free_pages = c.self.inside.free_pages; serial = c.self.inside.serial; versions = c.self.inside.versions; down = c.self.inside.down } in
+    let v : VolumeValue = record { layout = c.self.inside.layout; map = c.self.inside.map; shadow = c.self.inside.shadow; log = c.self.inside.log; cache = c.self.inside.table.cache; free_pages = c.self.inside.table.free_pages; serial = c.self.inside.serial; versions = c.self.inside.versions; down = c.self.inside.down } in
     whole_forced v c.self.invariant c.free_committed.new.map c.free_committed.new.shadow c.force_cached.new.log c.force_cached.new.cache
     c.free_committed.ensures.map c.free_committed.ensures.removed c.free_committed.ensures.kept c.free_committed.ensures.unfinished c.free_committed.ensures.held c.in-Ok.ensures.log c.in-Ok.ensures.cache
 
 pub invariant_of-self-in-Err : goal.invariant_of-self-in-Err
 invariant_of-self-in-Err g c =
-    let v : VolumeValue = record { layout = c.self.inside.layout; map = c.self.inside.map; shadow = c.self.inside.shadow; log = c.self.inside.log; cache = c.self.inside.cache; free_pages = c.self.inside.free_pages; serial = c.self.inside.serial; versions = c.self.inside.versions; down = c.self.inside.down } in
-    whole_down v c.self.invariant c.force_cached.new.log c.force_cached.new.cache c.place_of.result (length c.self.inside.cache.dirty) _ c.in-Err.ensures.log_err c.in-Err.ensures.cache_err
+    let v : VolumeValue = record { layout = c.self.inside.layout; map = c.self.inside.map; shadow = c.self.inside.shadow; log = c.self.inside.log; cache = c.self.inside.table.cache; free_pages = c.self.inside.table.free_pages; serial = c.self.inside.serial; versions = c.self.inside.versions; down = c.self.inside.down } in
+    whole_down v c.self.invariant c.force_cached.new.log c.force_cached.new.cache c.place_of.result (length c.self.inside.table.cache.dirty) _ c.in-Err.ensures.log_err c.in-Err.ensures.cache_err
 
 pub returns-then-len-eq0-clause-kept : goal.returns-then-len-eq0-clause-kept
 returns-then-len-eq0-clause-kept g c =
-    let v : VolumeValue = record { layout = c.self.inside.layout; map = c.self.inside.map; shadow = c.self.inside.shadow; log = c.self.inside.log; cache = c.self.inside.cache; free_pages = c.self.inside.free_pages; serial = c.self.inside.serial; versions = c.self.inside.versions; down = c.self.inside.down } in
-    let none : length c.self.inside.cache.dirty ≡ 0 = search rules in
-    subst (λ (x : VolumeValue). HasForced (state x) (state x)) c.self.view_is (idle_forced v c.self.invariant (nil_from_length c.self.inside.cache.dirty none))
+    let v : VolumeValue = record { layout = c.self.inside.layout; map = c.self.inside.map; shadow = c.self.inside.shadow; log = c.self.inside.log; cache = c.self.inside.table.cache; free_pages = c.self.inside.table.free_pages; serial = c.self.inside.serial; versions = c.self.inside.versions; down = c.self.inside.down } in
+    let none : length c.self.inside.table.cache.dirty ≡ 0 = search rules in
+    subst (λ (x : VolumeValue). HasForced (state x) (state x)) c.self.view_is (idle_forced v c.self.invariant (nil_from_length c.self.inside.table.cache.dirty none))
 
 pub returns-in-Ok-clause-kept : goal.returns-in-Ok-clause-kept
 returns-in-Ok-clause-kept g c =
-    let v : VolumeValue = record { layout = c.self.inside.layout; map = c.self.inside.map; shadow = c.self.inside.shadow; log = c.self.inside.log; cache = c.self.inside.cache; free_pages = c.self.inside.free_pages; serial = c.self.inside.serial; versions = c.self.inside.versions; down = c.self.inside.down } in
-    let some : 1 ≤ length c.self.inside.cache.dirty = search rules in
+    let v : VolumeValue = record { layout = c.self.inside.layout; map = c.self.inside.map; shadow = c.self.inside.shadow; log = c.self.inside.log; cache = c.self.inside.table.cache; free_pages = c.self.inside.table.free_pages; serial = c.self.inside.serial; versions = c.self.inside.versions; down = c.self.inside.down } in
+    let some : 1 ≤ length c.self.inside.table.cache.dirty = search rules in
     subst (λ (x : VolumeValue). HasForced (state x) (state (value_then v c.self.invariant c.free_committed.new.map c.free_committed.new.shadow c.force_cached.new.log c.force_cached.new.cache c.free_committed.ensures.map c.free_committed.ensures.removed c.free_committed.ensures.kept c.free_committed.ensures.unfinished c.free_committed.ensures.held c.in-Ok.ensures.log c.in-Ok.ensures.cache))) c.self.view_is
     (is_forced v c.self.invariant c.free_committed.new.map c.free_committed.new.shadow c.force_cached.new.log c.force_cached.new.cache
     c.free_committed.ensures.map c.free_committed.ensures.removed c.free_committed.ensures.kept c.free_committed.ensures.unfinished c.free_committed.ensures.held c.in-Ok.ensures.log c.in-Ok.ensures.cache c.dirty_list.ensures.valid some)
 
 pub returns-in-Err-clause-kept : goal.returns-in-Err-clause-kept
 returns-in-Err-clause-kept g c =
-    let v : VolumeValue = record { layout = c.self.inside.layout; map = c.self.inside.map; shadow = c.self.inside.shadow; log = c.self.inside.log; cache = c.self.inside.cache; free_pages = c.self.inside.free_pages; serial = c.self.inside.serial; versions = c.self.inside.versions; down = c.self.inside.down } in
-    let some : 1 ≤ length c.self.inside.cache.dirty = search rules in
+    let v : VolumeValue = record { layout = c.self.inside.layout; map = c.self.inside.map; shadow = c.self.inside.shadow; log = c.self.inside.log; cache = c.self.inside.table.cache; free_pages = c.self.inside.table.free_pages; serial = c.self.inside.serial; versions = c.self.inside.versions; down = c.self.inside.down } in
+    let some : 1 ≤ length c.self.inside.table.cache.dirty = search rules in
     let up : c.self.inside.down ≡ None = search rules in
     subst (λ (x : VolumeValue). Keeps (force_steps (state x)) c.force_refusal.result (state x) (state (record v { log = c.force_cached.new.log; cache = c.force_cached.new.cache; down = Some c.place_of.result }))) c.self.view_is
     (kept_down v c.self.invariant c.force_cached.new.log c.force_cached.new.cache c.place_of.result c.force_refusal.result c.in-Err.fault c.place_of.ensures c.force_refusal.ensures c.in-Err.ensures.cache_err _ c.in-Err.ensures.log_err up some)
@@ -76,13 +76,13 @@ returns-then-len-eq0-clause-disk g c =
 
 pub returns-in-Ok-clause-disk : goal.returns-in-Ok-clause-disk
 returns-in-Ok-clause-disk g c =
-    let v : VolumeValue = record { layout = c.self.inside.layout; map = c.self.inside.map; shadow = c.self.inside.shadow; log = c.self.inside.log; cache = c.self.inside.cache; free_pages = c.self.inside.free_pages; serial = c.self.inside.serial; versions = c.self.inside.versions; down = c.self.inside.down } in
+    let v : VolumeValue = record { layout = c.self.inside.layout; map = c.self.inside.map; shadow = c.self.inside.shadow; log = c.self.inside.log; cache = c.self.inside.table.cache; free_pages = c.self.inside.table.free_pages; serial = c.self.inside.serial; versions = c.self.inside.versions; down = c.self.inside.down } in
     subst (λ (x : VolumeValue). WritesDisk g.M.Machine None (Leaves state Holds x (force_writes x.layout)) c.args.m.now c.force_cached.new.m) c.self.view_is
     (writes_more c.in-Ok.ensures.disk (λ h left leaves. leaves_forced v (g.M.Machine.now c.args.m.now) left c.self.invariant c.dirty_list.ensures.valid leaves))
 
 pub returns-in-Err-clause-disk : goal.returns-in-Err-clause-disk
 returns-in-Err-clause-disk g c =
-    let v : VolumeValue = record { layout = c.self.inside.layout; map = c.self.inside.map; shadow = c.self.inside.shadow; log = c.self.inside.log; cache = c.self.inside.cache; free_pages = c.self.inside.free_pages; serial = c.self.inside.serial; versions = c.self.inside.versions; down = c.self.inside.down } in
+    let v : VolumeValue = record { layout = c.self.inside.layout; map = c.self.inside.map; shadow = c.self.inside.shadow; log = c.self.inside.log; cache = c.self.inside.table.cache; free_pages = c.self.inside.table.free_pages; serial = c.self.inside.serial; versions = c.self.inside.versions; down = c.self.inside.down } in
     subst (λ (x : VolumeValue). WritesDisk g.M.Machine (device_of c.force_refusal.result) (Leaves state Holds x (force_writes x.layout)) c.args.m.now c.force_cached.new.m) c.self.view_is
     (writes_told (ap device_of c.force_refusal.ensures ∙ tells_place c.in-Err.fault)
     (writes_more c.in-Err.ensures.disk (λ h left leaves. leaves_forced v (g.M.Machine.now c.args.m.now) left c.self.invariant c.dirty_list.ensures.valid leaves)))
@@ -90,8 +90,8 @@ returns-in-Err-clause-disk g c =
 pub returns-in-Ok-clause-counted : goal.returns-in-Ok-clause-counted
 returns-in-Ok-clause-counted g c tells =
     let M = g.M.Machine in
-    let v : VolumeValue = record { layout = c.self.inside.layout; map = c.self.inside.map; shadow = c.self.inside.shadow; log = c.self.inside.log; cache = c.self.inside.cache; free_pages = c.self.inside.free_pages; serial = c.self.inside.serial; versions = c.self.inside.versions; down = c.self.inside.down } in
-    let some : 1 ≤ length c.self.inside.cache.dirty = search rules in
+    let v : VolumeValue = record { layout = c.self.inside.layout; map = c.self.inside.map; shadow = c.self.inside.shadow; log = c.self.inside.log; cache = c.self.inside.table.cache; free_pages = c.self.inside.table.free_pages; serial = c.self.inside.serial; versions = c.self.inside.versions; down = c.self.inside.down } in
+    let some : 1 ≤ length c.self.inside.table.cache.dirty = search rules in
     c.in-Ok.ensures.counted tells ∙ ap (λ n. (M.ledger c.args.m.now).written + n) (forced_count v c.args.self.now c.self.view_is c.self.invariant some)
 
 pub returns-in_err-is_up-clause-done : goal.returns-in_err-is_up-clause-done
@@ -101,16 +101,16 @@ returns-in_err-is_up-clause-done g c honest k stands =
 
 pub returns-then-len-eq0-clause-done : goal.returns-then-len-eq0-clause-done
 returns-then-len-eq0-clause-done g c honest k stands =
-    let v : VolumeValue = record { layout = c.self.inside.layout; map = c.self.inside.map; shadow = c.self.inside.shadow; log = c.self.inside.log; cache = c.self.inside.cache; free_pages = c.self.inside.free_pages; serial = c.self.inside.serial; versions = c.self.inside.versions; down = c.self.inside.down } in
+    let v : VolumeValue = record { layout = c.self.inside.layout; map = c.self.inside.map; shadow = c.self.inside.shadow; log = c.self.inside.log; cache = c.self.inside.table.cache; free_pages = c.self.inside.table.free_pages; serial = c.self.inside.serial; versions = c.self.inside.versions; down = c.self.inside.down } in
     let at = g.M.Machine.now c.args.m.now in
-    let none : length c.self.inside.cache.dirty ≡ 0 = search rules in
+    let none : length c.self.inside.table.cache.dirty ≡ 0 = search rules in
     let here : Stands state Holds v k (g.M.Machine.now c.args.m.now) = subst (λ (x : VolumeValue). Stands state Holds x k at) (sym c.self.view_is) stands in
     subst (λ (x : VolumeValue). Answered state Holds (λ met. force_outcome (volume_of k)) IsForced [] k x at) c.self.view_is
-    (ends_idle v k at c.self.invariant c.dirty_list.ensures.valid (nil_from_length c.self.inside.cache.dirty none) here)
+    (ends_idle v k at c.self.invariant c.dirty_list.ensures.valid (nil_from_length c.self.inside.table.cache.dirty none) here)
 
 pub returns-in-Ok-clause-done : goal.returns-in-Ok-clause-done
 returns-in-Ok-clause-done g c honest k stands =
-    let v : VolumeValue = record { layout = c.self.inside.layout; map = c.self.inside.map; shadow = c.self.inside.shadow; log = c.self.inside.log; cache = c.self.inside.cache; free_pages = c.self.inside.free_pages; serial = c.self.inside.serial; versions = c.self.inside.versions; down = c.self.inside.down } in
+    let v : VolumeValue = record { layout = c.self.inside.layout; map = c.self.inside.map; shadow = c.self.inside.shadow; log = c.self.inside.log; cache = c.self.inside.table.cache; free_pages = c.self.inside.table.free_pages; serial = c.self.inside.serial; versions = c.self.inside.versions; down = c.self.inside.down } in
     let old = g.M.Machine.now c.args.m.now in
     let new = g.M.Machine.now c.force_cached.new.m in
     let valid = c.dirty_list.ensures.valid in
@@ -127,7 +127,7 @@ returns-in-Ok-clause-done g c honest k stands =
 
 pub returns-in-Err-clause-done : goal.returns-in-Err-clause-done
 returns-in-Err-clause-done g c honest k stands =
-    let v : VolumeValue = record { layout = c.self.inside.layout; map = c.self.inside.map; shadow = c.self.inside.shadow; log = c.self.inside.log; cache = c.self.inside.cache; free_pages = c.self.inside.free_pages; serial = c.self.inside.serial; versions = c.self.inside.versions; down = c.self.inside.down } in
+    let v : VolumeValue = record { layout = c.self.inside.layout; map = c.self.inside.map; shadow = c.self.inside.shadow; log = c.self.inside.log; cache = c.self.inside.table.cache; free_pages = c.self.inside.table.free_pages; serial = c.self.inside.serial; versions = c.self.inside.versions; down = c.self.inside.down } in
     let old = g.M.Machine.now c.args.m.now in
     let new = g.M.Machine.now c.force_cached.new.m in
     let valid = c.dirty_list.ensures.valid in
@@ -142,21 +142,21 @@ returns-in_err-is_up-clause-counted g c tells = none_counted c.from_residual.res
 pub returns-in-Err-clause-counted : goal.returns-in-Err-clause-counted
 returns-in-Err-clause-counted g c tells =
     let M = g.M.Machine in
-    let v : VolumeValue = record { layout = c.self.inside.layout; map = c.self.inside.map; shadow = c.self.inside.shadow; log = c.self.inside.log; cache = c.self.inside.cache; free_pages = c.self.inside.free_pages; serial = c.self.inside.serial; versions = c.self.inside.versions; down = c.self.inside.down } in
-    let some : 1 ≤ length c.self.inside.cache.dirty = search rules in
+    let v : VolumeValue = record { layout = c.self.inside.layout; map = c.self.inside.map; shadow = c.self.inside.shadow; log = c.self.inside.log; cache = c.self.inside.table.cache; free_pages = c.self.inside.table.free_pages; serial = c.self.inside.serial; versions = c.self.inside.versions; down = c.self.inside.down } in
+    let some : 1 ≤ length c.self.inside.table.cache.dirty = search rules in
     failed_counted v c.args.self.now c.self.view_is c.self.invariant some (M.ledger c.args.m.now) (M.ledger c.force_cached.new.m) (c.in-Err.ensures.counted_err tells)
 
 pub returns-in-Err-clause-causes : goal.returns-in-Err-clause-causes
 returns-in-Err-clause-causes g c h =
     let M = g.M.Machine in
-    let v : VolumeValue = record { layout = c.self.inside.layout; map = c.self.inside.map; shadow = c.self.inside.shadow; log = c.self.inside.log; cache = c.self.inside.cache; free_pages = c.self.inside.free_pages; serial = c.self.inside.serial; versions = c.self.inside.versions; down = c.self.inside.down } in
+    let v : VolumeValue = record { layout = c.self.inside.layout; map = c.self.inside.map; shadow = c.self.inside.shadow; log = c.self.inside.log; cache = c.self.inside.table.cache; free_pages = c.self.inside.table.free_pages; serial = c.self.inside.serial; versions = c.self.inside.versions; down = c.self.inside.down } in
     failed_cause v c.args.self.now c.self.view_is c.self.invariant (state (record v { log = c.force_cached.new.log; cache = c.force_cached.new.cache; down = Some c.place_of.result })) (M.now c.args.m.now) (M.now c.force_cached.new.m)
     c.in-Err.fault c.force_refusal.result c.force_refusal.ensures (c.in-Err.ensures.lost h)
 
 pub returns-in-Err-clause-lost : goal.returns-in-Err-clause-lost
 returns-in-Err-clause-lost g c h =
     let M = g.M.Machine in
-    let v : VolumeValue = record { layout = c.self.inside.layout; map = c.self.inside.map; shadow = c.self.inside.shadow; log = c.self.inside.log; cache = c.self.inside.cache; free_pages = c.self.inside.free_pages; serial = c.self.inside.serial; versions = c.self.inside.versions; down = c.self.inside.down } in
+    let v : VolumeValue = record { layout = c.self.inside.layout; map = c.self.inside.map; shadow = c.self.inside.shadow; log = c.self.inside.log; cache = c.self.inside.table.cache; free_pages = c.self.inside.table.free_pages; serial = c.self.inside.serial; versions = c.self.inside.versions; down = c.self.inside.down } in
     failed_cause v c.args.self.now c.self.view_is c.self.invariant (state c.args.self.now) (M.now c.args.m.now) (M.now c.force_cached.new.m) c.in-Err.fault c.force_refusal.result c.force_refusal.ensures (c.in-Err.ensures.lost h)
 
 -- ---- its pages stay in memory
@@ -166,7 +166,7 @@ returns-then-len-eq0-clause-resident g c = record { there = λ page is. is; acce
 
 pub returns-in-Ok-clause-resident : goal.returns-in-Ok-clause-resident
 returns-in-Ok-clause-resident g c =
-    let v : VolumeValue = record { layout = c.self.inside.layout; map = c.self.inside.map; shadow = c.self.inside.shadow; log = c.self.inside.log; cache = c.self.inside.cache; free_pages = c.self.inside.free_pages; serial = c.self.inside.serial; versions = c.self.inside.versions; down = c.self.inside.down } in
+    let v : VolumeValue = record { layout = c.self.inside.layout; map = c.self.inside.map; shadow = c.self.inside.shadow; log = c.self.inside.log; cache = c.self.inside.table.cache; free_pages = c.self.inside.table.free_pages; serial = c.self.inside.serial; versions = c.self.inside.versions; down = c.self.inside.down } in
     forced_content v c.args.self.now c.self.view_is c.layout-shape.ensures.shape c.force_cached.new.cache c.in-Ok.ensures.cache
 
 pub returns-in_err-is_up-clause-counted_err : goal.returns-in_err-is_up-clause-counted_err
@@ -175,7 +175,7 @@ returns-in_err-is_up-clause-counted_err g c = err_as _ c.from_residual.result (�
 pub returns-in-Err-clause-counted_err : goal.returns-in-Err-clause-counted_err
 returns-in-Err-clause-counted_err g c tells never =
     let M = g.M.Machine in
-    let v : VolumeValue = record { layout = c.self.inside.layout; map = c.self.inside.map; shadow = c.self.inside.shadow; log = c.self.inside.log; cache = c.self.inside.cache; free_pages = c.self.inside.free_pages; serial = c.self.inside.serial; versions = c.self.inside.versions; down = c.self.inside.down } in
+    let v : VolumeValue = record { layout = c.self.inside.layout; map = c.self.inside.map; shadow = c.self.inside.shadow; log = c.self.inside.log; cache = c.self.inside.table.cache; free_pages = c.self.inside.table.free_pages; serial = c.self.inside.serial; versions = c.self.inside.versions; down = c.self.inside.down } in
     failed_none v c.args.self.now c.self.view_is c.self.invariant (M.ledger c.args.m.now) (M.ledger c.force_cached.new.m) (c.in-Err.ensures.counted_err tells) never
 
 pub returns-then-len-eq0-clause-behind : goal.returns-then-len-eq0-clause-behind
@@ -183,7 +183,7 @@ returns-then-len-eq0-clause-behind g c honest = behind_itself (state c.args.self
 
 pub returns-in-Ok-clause-behind : goal.returns-in-Ok-clause-behind
 returns-in-Ok-clause-behind g c honest =
-    let v : VolumeValue = record { layout = c.self.inside.layout; map = c.self.inside.map; shadow = c.self.inside.shadow; log = c.self.inside.log; cache = c.self.inside.cache; free_pages = c.self.inside.free_pages; serial = c.self.inside.serial; versions = c.self.inside.versions; down = c.self.inside.down } in
+    let v : VolumeValue = record { layout = c.self.inside.layout; map = c.self.inside.map; shadow = c.self.inside.shadow; log = c.self.inside.log; cache = c.self.inside.table.cache; free_pages = c.self.inside.table.free_pages; serial = c.self.inside.serial; versions = c.self.inside.versions; down = c.self.inside.down } in
     let w = record v { map = c.free_committed.new.map; shadow = c.free_committed.new.shadow; log = c.force_cached.new.log; cache = c.force_cached.new.cache } in
     let now = g.M.Machine.now c.force_cached.new.m in
     subst (λ (x : VolumeValue). IsBehind (state x) (state w) (resident x) (resident w) now) c.self.view_is
@@ -201,13 +201,13 @@ returns-then-len-eq0-clause-rest g c h = touches_none (force_writes c.args.self.
 
 pub returns-in-Ok-clause-rest : goal.returns-in-Ok-clause-rest
 returns-in-Ok-clause-rest g c h =
-    let v : VolumeValue = record { layout = c.self.inside.layout; map = c.self.inside.map; shadow = c.self.inside.shadow; log = c.self.inside.log; cache = c.self.inside.cache; free_pages = c.self.inside.free_pages; serial = c.self.inside.serial; versions = c.self.inside.versions; down = c.self.inside.down } in
+    let v : VolumeValue = record { layout = c.self.inside.layout; map = c.self.inside.map; shadow = c.self.inside.shadow; log = c.self.inside.log; cache = c.self.inside.table.cache; free_pages = c.self.inside.table.free_pages; serial = c.self.inside.serial; versions = c.self.inside.versions; down = c.self.inside.down } in
     let old = g.M.Machine.now c.args.m.now in let new = g.M.Machine.now c.force_cached.new.m in
     subst (λ (x : VolumeValue). Touches (force_writes x.layout) old new) c.self.view_is (force_touches v old new c.self.invariant (c.in-Ok.ensures.rest h))
 
 pub returns-in-Err-clause-rest : goal.returns-in-Err-clause-rest
 returns-in-Err-clause-rest g c h =
-    let v : VolumeValue = record { layout = c.self.inside.layout; map = c.self.inside.map; shadow = c.self.inside.shadow; log = c.self.inside.log; cache = c.self.inside.cache; free_pages = c.self.inside.free_pages; serial = c.self.inside.serial; versions = c.self.inside.versions; down = c.self.inside.down } in
+    let v : VolumeValue = record { layout = c.self.inside.layout; map = c.self.inside.map; shadow = c.self.inside.shadow; log = c.self.inside.log; cache = c.self.inside.table.cache; free_pages = c.self.inside.table.free_pages; serial = c.self.inside.serial; versions = c.self.inside.versions; down = c.self.inside.down } in
     let old = g.M.Machine.now c.args.m.now in let new = g.M.Machine.now c.force_cached.new.m in
     subst (λ (x : VolumeValue). Touches (force_writes x.layout) old new) c.self.view_is (force_touches v old new c.self.invariant (c.in-Err.ensures.rest h))
 
@@ -216,7 +216,7 @@ returns-then-len-eq0-clause-pages_kept g c = λ page x is. is
 
 pub returns-in-Ok-clause-pages_kept : goal.returns-in-Ok-clause-pages_kept
 returns-in-Ok-clause-pages_kept g c =
-    let v : VolumeValue = record { layout = c.self.inside.layout; map = c.self.inside.map; shadow = c.self.inside.shadow; log = c.self.inside.log; cache = c.self.inside.cache; free_pages = c.self.inside.free_pages; serial = c.self.inside.serial; versions = c.self.inside.versions; down = c.self.inside.down } in
+    let v : VolumeValue = record { layout = c.self.inside.layout; map = c.self.inside.map; shadow = c.self.inside.shadow; log = c.self.inside.log; cache = c.self.inside.table.cache; free_pages = c.self.inside.table.free_pages; serial = c.self.inside.serial; versions = c.self.inside.versions; down = c.self.inside.down } in
     let w = record v { map = c.free_committed.new.map; shadow = c.free_committed.new.shadow; log = c.force_cached.new.log; cache = c.force_cached.new.cache } in
     subst (λ (x : VolumeValue). KeepsPages (state x) (state w) (resident x) (resident w)) c.self.view_is
     (λ page x is. (forced_content v v refl c.layout-shape.ensures.shape c.force_cached.new.cache c.in-Ok.ensures.cache).accepted v.layout.pages page x is)
@@ -225,14 +225,14 @@ returns-in-Ok-clause-pages_kept g c =
 
 pub returns-then-len-eq0-clause-logged : goal.returns-then-len-eq0-clause-logged
 returns-then-len-eq0-clause-logged g c honest =
-    let v : VolumeValue = record { layout = c.self.inside.layout; map = c.self.inside.map; shadow = c.self.inside.shadow; log = c.self.inside.log; cache = c.self.inside.cache; free_pages = c.self.inside.free_pages; serial = c.self.inside.serial; versions = c.self.inside.versions; down = c.self.inside.down } in
-    let none : length c.self.inside.cache.dirty ≡ 0 = search rules in
+    let v : VolumeValue = record { layout = c.self.inside.layout; map = c.self.inside.map; shadow = c.self.inside.shadow; log = c.self.inside.log; cache = c.self.inside.table.cache; free_pages = c.self.inside.table.free_pages; serial = c.self.inside.serial; versions = c.self.inside.versions; down = c.self.inside.down } in
+    let none : length c.self.inside.table.cache.dirty ≡ 0 = search rules in
     subst (λ (x : VolumeValue). AllLogged (state x) (state x) (resident x) (g.M.Machine.now c.args.m.now)) c.self.view_is
-    (λ page waits. absurd (cc (ap (λ (dirty : List ℕ). contains dirty page) (sym (nil_from_length c.self.inside.cache.dirty none)) ∙ waits)))
+    (λ page waits. absurd (cc (ap (λ (dirty : List ℕ). contains dirty page) (sym (nil_from_length c.self.inside.table.cache.dirty none)) ∙ waits)))
 
 pub returns-in-Ok-clause-logged : goal.returns-in-Ok-clause-logged
 returns-in-Ok-clause-logged g c honest =
-    let v : VolumeValue = record { layout = c.self.inside.layout; map = c.self.inside.map; shadow = c.self.inside.shadow; log = c.self.inside.log; cache = c.self.inside.cache; free_pages = c.self.inside.free_pages; serial = c.self.inside.serial; versions = c.self.inside.versions; down = c.self.inside.down } in
+    let v : VolumeValue = record { layout = c.self.inside.layout; map = c.self.inside.map; shadow = c.self.inside.shadow; log = c.self.inside.log; cache = c.self.inside.table.cache; free_pages = c.self.inside.table.free_pages; serial = c.self.inside.serial; versions = c.self.inside.versions; down = c.self.inside.down } in
     let w = record v { map = c.free_committed.new.map; shadow = c.free_committed.new.shadow; log = c.force_cached.new.log; cache = c.force_cached.new.cache } in
     let now = g.M.Machine.now c.force_cached.new.m in
     subst (λ (x : VolumeValue). AllLogged (state x) (state w) (resident w) now) c.self.view_is

@@ -16,40 +16,40 @@ use Rattle.table_volume.proofs.volume.Volume.keep_found.Goals as goal
 
 pub invariant_of-self : goal.invariant_of-self
 invariant_of-self g c =
-    let edits = c.set_keep_in-done.ensures.edits in
-    whole_edited g.M.Machine _ c.over-source.result c.args.m.now c.set_keep_in-done.new.m _ c.args.self.now c.self.view_is c.self.invariant (outer_met c.set_keep_in-done.result) c.set_keep_in-done.new.cache c.set_keep_in-done.new.free
-    edits c.set_keep_in-done.ensures.waiting c.requires.up c.requires.numbered
+    let edits = c.set_keep-done.ensures.edits in
+    whole_edited g.M.Machine _ c.over-source.result c.args.m.now c.set_keep-done.new.m _ c.args.self.now c.self.view_is c.self.invariant (outer_met c.set_keep-done.result) c.set_keep-done.new.self.cache c.set_keep-done.new.self.free_pages
+    edits c.set_keep-done.ensures.waiting c.requires.up c.requires.numbered
 
 pub returns-clause-order : goal.returns-clause-order
-returns-clause-order g c = subst (λ (r : Result Key Refusal). Follows edit_steps r) (sym c.kept_told.ensures) (keep_follows c.set_keep_in-done.result)
+returns-clause-order g c = subst (λ (r : Result Key Refusal). Follows edit_steps r) (sym c.kept_told.ensures) (keep_follows c.set_keep-done.result)
 
 pub returns-clause-disk : goal.returns-clause-disk
-returns-clause-disk g c = reads_told (ap (device_in device_of) c.kept_told.ensures ∙ keep_place c.set_keep_in-done.result) c.set_keep_in-done.ensures.edits.reads
+returns-clause-disk g c = reads_told (ap (device_in device_of) c.kept_told.ensures ∙ keep_place c.set_keep-done.result) c.set_keep-done.ensures.edits.reads
 
 pub returns-clause-edited : goal.returns-clause-edited
 returns-clause-edited g c =
-    keep_edits _ c.args.self.now c.self.view_is c.set_keep_in-done.new.cache c.set_keep_in-done.new.free g.M.Machine c.args.m.now c.set_keep_in-done.new.m c.over-source.result c.set_keep_in-done.result c.kept_told.result c.kept_told.ensures
-    c.set_keep_in-done.ensures.kept
+    keep_edits _ c.args.self.now c.self.view_is c.set_keep-done.new.self.cache c.set_keep-done.new.self.free_pages g.M.Machine c.args.m.now c.set_keep-done.new.m c.over-source.result c.set_keep-done.result c.kept_told.result c.kept_told.ensures
+    c.set_keep-done.ensures.kept
 
 pub returns-clause-causes : goal.returns-clause-causes
 returns-clause-causes g c =
-    keep_causes _ c.args.self.now c.self.view_is c.set_keep_in-done.new.cache c.set_keep_in-done.new.free g.M.Machine c.args.m.now c.set_keep_in-done.new.m c.over-source.result c.self.invariant c.over-source.ensures c.set_keep_in-done.result c.kept_told.result
-    c.kept_told.ensures c.set_keep_in-done.ensures.edits
+    keep_causes _ c.args.self.now c.self.view_is c.set_keep-done.new.self.cache c.set_keep-done.new.self.free_pages g.M.Machine c.args.m.now c.set_keep-done.new.m c.over-source.result c.self.invariant c.over-source.ensures c.set_keep-done.result c.kept_told.result
+    c.kept_told.ensures c.set_keep-done.ensures.edits
 
 pub returns-clause-done : goal.returns-clause-done
 returns-clause-done g c = λ honest k stands.
-    let edits = c.set_keep_in-done.ensures.edits in
+    let edits = c.set_keep-done.ensures.edits in
     let whole_left =
-    whole_edited g.M.Machine _ c.over-source.result c.args.m.now c.set_keep_in-done.new.m _ c.args.self.now c.self.view_is c.self.invariant (outer_met c.set_keep_in-done.result) c.set_keep_in-done.new.cache c.set_keep_in-done.new.free
-    edits c.set_keep_in-done.ensures.waiting c.requires.up c.requires.numbered in
-    keep_ended g.M.Machine g.met.M.Machine.short c.args.m.now c.set_keep_in-done.new.m _ c.args.self.now c.self.view_is c.self.invariant c.dirty_list-whole.ensures.valid c.set_keep_in-done.new.cache c.dirty_list-edited.ensures.valid c.set_keep_in-done.new.free
-    honest k stands c.args.name.now c.args.keep c.requires.keep c.requires.few c.home_a-home_a.result c.over-source.result c.over-source.ensures c.set_keep_in-done.result c.kept_told.result c.kept_told.ensures
-    edits c.set_keep_in-done.ensures.kept c.set_keep_in-done.ensures.one c.set_keep_in-done.ensures.set c.set_keep_in-done.ensures.fault whole_left
+    whole_edited g.M.Machine _ c.over-source.result c.args.m.now c.set_keep-done.new.m _ c.args.self.now c.self.view_is c.self.invariant (outer_met c.set_keep-done.result) c.set_keep-done.new.self.cache c.set_keep-done.new.self.free_pages
+    edits c.set_keep-done.ensures.waiting c.requires.up c.requires.numbered in
+    keep_ended g.M.Machine g.met.M.Machine.short c.args.m.now c.set_keep-done.new.m _ c.args.self.now c.self.view_is c.self.invariant c.dirty_list-whole.ensures.valid c.set_keep-done.new.self.cache c.dirty_list-edited.ensures.valid c.set_keep-done.new.self.free_pages
+    honest k stands c.args.name.now c.args.keep c.requires.keep c.requires.few c.home_a-home_a.result c.over-source.result c.over-source.ensures c.set_keep-done.result c.kept_told.result c.kept_told.ensures
+    edits c.set_keep-done.ensures.kept c.set_keep-done.ensures.one c.set_keep-done.ensures.set c.set_keep-done.ensures.fault whole_left
 
 pub returns-clause-memory : goal.returns-clause-memory
 returns-clause-memory g c = λ has wants.
-    c.set_keep_in-done.ensures.memory (enough_in _ c.args.self.now c.self.view_is c.self.invariant c.args.name.now has) (keep_memory c.set_keep_in-done.result (sym c.kept_told.ensures ∙ wants))
+    c.set_keep-done.ensures.memory (enough_in _ c.args.self.now c.self.view_is c.self.invariant c.args.name.now has) (keep_memory c.set_keep-done.result (sym c.kept_told.ensures ∙ wants))
 
 pub returns-clause-name : goal.returns-clause-name
 returns-clause-name g c =
-    subst (λ (r : Result Key Refusal). IfOk r (λ key. key.name ≡ c.args.name.now)) (sym c.kept_told.ensures) (keep_name c.args.name.now c.set_keep_in-done.result c.set_keep_in-done.ensures.name)
+    subst (λ (r : Result Key Refusal). IfOk r (λ key. key.name ≡ c.args.name.now)) (sym c.kept_told.ensures) (keep_name c.args.name.now c.set_keep-done.result c.set_keep-done.ensures.name)

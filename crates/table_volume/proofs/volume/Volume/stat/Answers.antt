@@ -11,4 +11,4 @@ pub returns-clause-free : goal.returns-clause-free
 returns-clause-free c = c.free_count.ensures ∙ sym (total_of_runs c.self.inside.map.sectors) ∙ ap (λ (v : VolumeValue). total (runs_of v.map.sectors)) c.self.view_is
 
 pub returns-clause-pages_free : goal.returns-clause-pages_free
-returns-clause-pages_free c = c.count.ensures ∙ sym (count_of_flags c.self.inside.free_pages) ∙ ap (λ (v : VolumeValue). length (spare_pages v)) c.self.view_is
+returns-clause-pages_free c = c.count.ensures ∙ sym (count_of_flags c.self.inside.table.free_pages) ∙ ap (λ (v : VolumeValue). length (spare_pages v)) c.self.view_is

@@ -1,0 +1,33 @@
+use Rattle.std.proofs.Common.{inl, inr, refl, rules}
+use Rattle.cached_table.proofs.LeftLaws.{left_as}
+use Rattle.cached_table.proofs.LookLaws.{faults_left, leads_left, looks_left, pages_within, shown_left}
+use Rattle.cached_table.proofs.PathLaws.{path_first, path_left, used_first, used_left}
+use Rattle.cached_table.proofs.StayLaws.{looks_stay}
+use Rattle.cached_table.proofs.table.CachedTable.highest.Goals as goal
+
+pub returns-clause-looks : goal.returns-clause-looks
+returns-clause-looks g c = looks_left c.new-table.ensures.over c.new-table.ensures.step (looks_stay _ _ c.highest-found.ensures.calls.looks) c.highest-found.ensures.calls.outside (left_as c.rest.ensures.left (search rules) (search rules) refl) c.highest-found.ensures.calls.stays
+
+pub returns-clause-page : goal.returns-clause-page
+returns-clause-page g c = pages_within c.new-table.ensures.over c.new-table.ensures.step (looks_stay _ _ c.highest-found.ensures.calls.looks) c.highest-found.ensures.calls.outside c.rest.ensures.left c.highest-found.result c.highest-found.ensures.there
+
+pub returns-clause-fault : goal.returns-clause-fault
+returns-clause-fault g c = faults_left c.new-table.ensures.over c.new-table.ensures.step (looks_stay _ _ c.highest-found.ensures.calls.looks) c.highest-found.ensures.calls.outside (left_as c.rest.ensures.left (search rules) (search rules) refl) c.highest-found.result c.highest-found.ensures.fault
+
+pub returns-clause-way : goal.returns-clause-way
+returns-clause-way g c = leads_left c.new-table.ensures.over c.new-table.ensures.step (looks_stay _ _ c.highest-found.ensures.calls.looks) c.highest-found.ensures.calls.outside (left_as c.rest.ensures.left refl (search rules) refl) c.highest-found.result c.highest-found.ensures.there c.highest-found.ensures.way
+
+pub returns-clause-shown : goal.returns-clause-shown
+returns-clause-shown g c = shown_left c.new-table.ensures.over c.new-table.ensures.step (looks_stay _ _ c.highest-found.ensures.calls.looks) c.highest-found.ensures.calls.outside (left_as c.rest.ensures.left (search rules) (search rules) refl) c.highest-found.result c.highest-found.ensures.fault c.highest-found.ensures.shown
+
+pub returns-clause-memory : goal.returns-clause-memory
+returns-clause-memory g c = λ has. elim has [
+  | inl path ↦ (c.highest-found.ensures.memory (path_first c.new-table.ensures.over c.args.name.now path)).enough
+  | inr all ↦ (c.highest-found.ensures.calls.memory (record { each = used_first c.new-table.ensures.over all })).enough
+]
+
+pub returns-clause-stays : goal.returns-clause-stays
+returns-clause-stays g c = λ path. path_left c.new-table.ensures.over c.args.name.now (left_as c.rest.ensures.left refl (search rules) refl) c.highest-found.ensures.memory path
+
+pub returns-clause-all_stay : goal.returns-clause-all_stay
+returns-clause-all_stay g c = λ all. used_left c.new-table.ensures.over (left_as c.rest.ensures.left refl (search rules) refl) (c.highest-found.ensures.calls.memory (record { each = used_first c.new-table.ensures.over all })) all

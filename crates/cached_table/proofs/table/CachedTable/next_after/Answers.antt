@@ -1,0 +1,20 @@
+use Rattle.std.proofs.Common.{refl, rules}
+use Rattle.cached_table.proofs.LeftLaws.{left_as}
+use Rattle.cached_table.proofs.LookLaws.{faults_left, leads_left, looks_left, pages_within, shown_left}
+use Rattle.cached_table.proofs.StayLaws.{looks_stay}
+use Rattle.cached_table.proofs.table.CachedTable.next_after.Goals as goal
+
+pub returns-clause-looks : goal.returns-clause-looks
+returns-clause-looks g c = looks_left c.new-table.ensures.over c.new-table.ensures.step (looks_stay _ _ c.next_after-found.ensures.calls.looks) c.next_after-found.ensures.calls.outside (left_as c.rest.ensures.left (search rules) (search rules) refl) c.next_after-found.ensures.calls.stays
+
+pub returns-clause-page : goal.returns-clause-page
+returns-clause-page g c = pages_within c.new-table.ensures.over c.new-table.ensures.step (looks_stay _ _ c.next_after-found.ensures.calls.looks) c.next_after-found.ensures.calls.outside c.rest.ensures.left c.next_after-found.result c.next_after-found.ensures.there
+
+pub returns-clause-fault : goal.returns-clause-fault
+returns-clause-fault g c = faults_left c.new-table.ensures.over c.new-table.ensures.step (looks_stay _ _ c.next_after-found.ensures.calls.looks) c.next_after-found.ensures.calls.outside (left_as c.rest.ensures.left (search rules) (search rules) refl) c.next_after-found.result c.next_after-found.ensures.fault
+
+pub returns-clause-way : goal.returns-clause-way
+returns-clause-way g c = leads_left c.new-table.ensures.over c.new-table.ensures.step (looks_stay _ _ c.next_after-found.ensures.calls.looks) c.next_after-found.ensures.calls.outside (left_as c.rest.ensures.left refl (search rules) refl) c.next_after-found.result c.next_after-found.ensures.there c.next_after-found.ensures.way
+
+pub returns-clause-shown : goal.returns-clause-shown
+returns-clause-shown g c = shown_left c.new-table.ensures.over c.new-table.ensures.step (looks_stay _ _ c.next_after-found.ensures.calls.looks) c.next_after-found.ensures.calls.outside (left_as c.rest.ensures.left (search rules) (search rules) refl) c.next_after-found.result c.next_after-found.ensures.fault c.next_after-found.ensures.shown
