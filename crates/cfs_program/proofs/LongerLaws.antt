@@ -11,6 +11,7 @@ use Rattle.fsd_texts.specs.Script.{max_input, script_in}
 use Rattle.fsd_runs.specs.declared.request.Request.TheVariants.{Generate, Put, Script}
 use Rattle.fsd_runs.specs.Commands.{reply_text}
 use Rattle.fsd_runs.specs.Leaves.{LeavesRun}
+use Rattle.fsd_runs.proofs.SafeLaws.{never_refused}
 use Rattle.fsd_texts.specs.declared.command.Command.TheVariants as Word
 use Rattle.volume_turns.specs.Answering.{SaysOne}
 use Rattle.volume_turns.specs.Causes.{FailsInput, SaysFault, SaysMade, SaysOfInput, is_of_fault}
@@ -59,6 +60,8 @@ ran_put M name keep path a b result status counts asks asked fails told whole fe
   image = λ zero h. tt;
   untouched = λ h. tt;
   leaves = λ h l windows changes f sound. leaves h l windows changes f sound;
+  accepted = λ h l windows changes f sound. never_refused (Put name keep) (M.ledger a).input (M.ledger b).input l windows changes f (M.left_since b) (λ P. LeavesOnly M.moment M.left_since a b P) (M.report a) (M.report b) (M.now a) (M.now b) result
+      (leaves h l windows changes f sound);
 }
 
 -- no script is refused with 1
@@ -104,6 +107,8 @@ ran_script M path a b result status counts asks asked fails told bad whole spell
   image = λ zero h. tt;
   untouched = λ h. tt;
   leaves = λ h l windows changes f sound. leaves h l windows changes f sound;
+  accepted = λ h l windows changes f sound. never_refused Script (M.ledger a).input (M.ledger b).input l windows changes f (M.left_since b) (λ P. LeavesOnly M.moment M.left_since a b P) (M.report a) (M.report b) (M.now a) (M.now b) result
+      (leaves h l windows changes f sound);
 }
 
 made_not_five : (seed count result : ℕ) → IsMadeStatus result → result ≡ 5 → ⊥
@@ -148,4 +153,6 @@ ran_made M seed count path a b result status counts asks asked trust image answe
   image = λ zero h. tt;
   untouched = λ h. tt;
   leaves = λ h l windows changes f sound. leaves h (M.ledger b).input l windows changes f sound;
+  accepted = λ h l windows changes f sound. never_refused (Generate seed count) [] (M.ledger b).input l windows changes f (M.left_since b) (λ P. LeavesOnly M.moment M.left_since a b P) (M.report a) (M.report b) (M.now a) (M.now b) result
+      (leaves h (M.ledger b).input l windows changes f sound);
 }

@@ -24,6 +24,7 @@ use Rattle.fsd_runs.specs.declared.request.Request.{Request}
 use Rattle.fsd_runs.specs.declared.request.Request.TheVariants.{Outside, BadField, Format, Put, One, Script, Generate}
 use Rattle.fsd_runs.specs.Errands.{IfMounts}
 use Rattle.fsd_runs.specs.Leaves.{LeavesRun}
+use Rattle.fsd_runs.proofs.SafeLaws.{never_refused}
 use Rattle.volume_contract.specs.State.{Ages}
 use Rattle.volume_turns.specs.Answering.{SaysNoReply, SaysOne}
 use Rattle.volume_turns.specs.Causes.{SaysFault, is_of_fault}
@@ -87,6 +88,7 @@ module _ {D : Type 0} (M : Ghosts D) (path : List ℕ) (a b : D) (line : Line) (
     says = λ h. inl (subst (λ (x : Line). SaysLine x 2 (M.now a) (M.now b) result) is (line_says line 2 (M.now a) (M.now b) result (says.exit h) (ends h)));
     mounted = λ any h. tt;
     refused = λ three h. absurd (not_as 3 2 result (λ e. omega (arith, e)) (λ e. omega (arith, e)) status three);
+    accepted = λ h l windows changes f sound three. not_as 3 2 result (λ e. omega (arith, e)) (λ e. omega (arith, e)) status three;
     spent = λ nine h. absurd (not_as 9 2 result (λ e. omega (arith, e)) (λ e. omega (arith, e)) status nine);
     last = λ of h. tt;
     all = λ none h. tt;
@@ -118,6 +120,7 @@ module _ {D : Type 0} (M : Ghosts D) (path : List ℕ) (a b : D) (line : Line) (
     says = λ h. inl (subst (λ (x : Line). SaysLine x 2 (M.now a) (M.now b) result) is (line_says line 2 (M.now a) (M.now b) result (says.exit h) (ends h)));
     mounted = λ any h. tt;
     refused = λ three h. absurd (not_as 3 2 result (λ e. omega (arith, e)) (λ e. omega (arith, e)) status three);
+    accepted = λ h l windows changes f sound three. not_as 3 2 result (λ e. omega (arith, e)) (λ e. omega (arith, e)) status three;
     spent = λ nine h. absurd (not_as 9 2 result (λ e. omega (arith, e)) (λ e. omega (arith, e)) status nine);
     last = λ of h. tt;
     all = λ none h. tt;
@@ -259,6 +262,7 @@ module _ {D : Type 0} (M : Ghosts D) (request : Request) (path : List ℕ) (a b 
     says = λ h. inr (line_says (Lines.Ended Ends.Memory) 7 (M.now a) (M.now b) result (says.exit h) (ends h), untouched_by (Lines.Ended Ends.Memory) (M.now a) (M.now b) (says.exit h));
     mounted = λ any h. absurd (not_mounted 7 result status refl any);
     refused = λ three h. absurd (not_as 3 7 result (λ e. omega (arith, e)) (λ e. omega (arith, e)) status three);
+    accepted = λ h l windows changes f sound three. not_as 3 7 result (λ e. omega (arith, e)) (λ e. omega (arith, e)) status three;
     spent = λ nine h. absurd (not_as 9 7 result (λ e. omega (arith, e)) (λ e. omega (arith, e)) status nine);
     last = λ of h. if_mounts request _ (ends_fault (M.report b).fault_place (M.now a) (M.now b) result Ends.Memory tt (ends h) of);
     all = λ zero h. absurd (not_zero zero);
@@ -330,6 +334,7 @@ ran_format M n t p path a b result status counts asks asked trust says made unto
   says = λ h. inl (says h);
   mounted = λ any h. tt;
   refused = λ three h. absurd (format_not 3 (plan n t p) result status (λ e. omega (arith, e)) (λ e. omega (arith, e)) (λ e. omega (arith, e)) (λ e. omega (arith, e)) three);
+  accepted = λ h l windows changes f sound three. format_not 3 (plan n t p) result status (λ e. omega (arith, e)) (λ e. omega (arith, e)) (λ e. omega (arith, e)) (λ e. omega (arith, e)) three;
   spent = λ nine h. absurd (format_not 9 (plan n t p) result status (λ e. omega (arith, e)) (λ e. omega (arith, e)) (λ e. omega (arith, e)) (λ e. omega (arith, e)) nine);
   last = λ of h. tt;
   all = λ zero h. tt;
@@ -378,4 +383,6 @@ ran_command M c path a b result status counts asks asked trust image one rest la
   image = λ zero h. tt;
   untouched = λ h. tt;
   leaves = λ h l windows changes f sound. leaves h (M.ledger b).input l windows changes f sound;
+  accepted = λ h l windows changes f sound. never_refused (One c) [] (M.ledger b).input l windows changes f (M.left_since b) (λ P. LeavesOnly M.moment M.left_since a b P) (M.report a) (M.report b) (M.now a) (M.now b) result
+      (leaves h (M.ledger b).input l windows changes f sound);
 }

@@ -186,6 +186,10 @@ LeavesSound request input rest Past Only before after old new result =
     (l : Layout) (windows : List WeakRun) (h : List Change) (f : ℕ) → IsSoundDisk l windows h f old →
     IfMounts request (LeavesRun request (input_for request input) rest l windows h f Past Only before after old new result)
 
+-- 3 is no answer over a sound disk: nothing of it is refused as lost, as unsound or as no volume
+abbrev pub AcceptsSound : (old : Moment) → (result : ℕ) → Type 0
+AcceptsSound old result = (l : Layout) (windows : List WeakRun) (h : List Change) (f : ℕ) → IsSoundDisk l windows h f old → result ≡ 3 → ⊥
+
 -- ---- the whole
 
 -- What the program does for a request, over any machine and over an honest one.
@@ -217,3 +221,4 @@ pub record Ran {D : Type 0} (M : Ghosts D) (request : Request) (path : List ℕ)
   pub image : result ≡ 0 → M.honest b → HoldsAfter request (M.now b)
   pub untouched : M.honest b → SparesImage request (M.now a) (M.now b)
   pub leaves : M.honest b → LeavesSound request (M.ledger a).input (M.ledger b).input (M.left_since b) (λ P. LeavesOnly M.moment M.left_since a b P) (M.report a) (M.report b) (M.now a) (M.now b) result
+  pub accepted : M.honest b → AcceptsSound (M.now a) result
