@@ -50,7 +50,7 @@ impl Volume {
     }
 
     /// Reads bytes of a version from a place on, as many as there are and the buffer has room for, and answers how many.
-    /// Where a sector of the range is damaged `buf` may have changed.
+    /// Where it is refused `buf` may have changed.
     pub fn read<M: Machine>(
         &mut self,
         m: &mut M,

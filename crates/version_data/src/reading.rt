@@ -9,7 +9,7 @@ use run_table::Runs;
 use sector_disk::{Machine, read_sector};
 
 /// Reads `n` bytes of a version, from byte `from` of it on, into the front of `buf`. The first sector of `runs` is the
-/// leader's. Where a sector is damaged, the bytes of those before it stand in `buf`.
+/// leader's. Where it fails `buf` may have changed.
 pub fn read_range<M: Machine>(
     m: &mut M,
     runs: &Runs,
