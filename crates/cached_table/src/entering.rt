@@ -1,5 +1,5 @@
 //! Versions that are entered into a table over a cache.
-ghost use Rattle.std.specs.Prelude.{◌≡◌, ◌↔◌, ◌+◌, ◌<◌, ◌≤◌, ◌^◌, [], ℕ, IfErr, IfOk, IfSome, IsNone, IsSome, IsTrue, OnErr, OnOk, length, count_by};
+ghost use Rattle.std.specs.Prelude.{◌≡◌, ◌↔◌, ◌+◌, ◌<◌, ◌≤◌, ◌^◌, [], IfErr, IfOk, IfSome, IsNone, IsSome, IsTrue, OnErr, OnOk, length, count_by};
 ghost use Rattle.std.specs.List.{AllByRecursion};
 ghost use Rattle.fsd_formats.specs.NamePage.{is_entry};
 ghost use Rattle.name_page.specs.declared.pages.TheConstants.{MOST_CHANGED, MOST_REACHED};

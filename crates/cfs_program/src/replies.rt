@@ -1,8 +1,7 @@
 //! How replies are said.
 ghost use Rattle.std.specs.Prelude.{◌≡◌, ◌++◌, IfOk, length};
 ghost use Rattle.std.specs.List.{flat_map};
-ghost use Rattle.fsd_formats.specs.NamePage.{sectors_for};
-ghost use Rattle.fsd_runs.specs.Commands.{reply_alone, reply_text, version_line};
+ghost use Rattle.fsd_runs.specs.Commands.{reply_text, version_line};
 ghost use Rattle.fsd_texts.specs.declared.line.Line.TheVariants as Lines;
 ghost use Rattle.fsd_texts.specs.Text.{newline, text};
 ghost use Rattle.volume_turns.specs.Steps.{reply_of};

@@ -17,7 +17,7 @@ use Rattle.fsd_runs.specs.declared.request.Request.{Request}
 use Rattle.fsd_runs.specs.declared.request.Request.TheVariants as Asks
 use Rattle.fsd_runs.specs.Errands.{Answered, Cut, Errand, IfMounts, MayCut, Turn, alone, blank, errand_of, fault_status, nothing_but, reply_status, script_ending}
 use Rattle.fsd_runs.specs.Leaves.{IsBroken, IsOutside, IsUnsaid, LeavesMounted, LeavesRun, LeavesUnmounted}
-use Rattle.fsd_runs.specs.Runs.{Run, answered, errand_in, run_status}
+use Rattle.fsd_runs.specs.Runs.{answered, errand_in, run_status}
 
 abbrev NotThree : ℕ → Type 0
 NotThree status = status ≡ 3 → ⊥

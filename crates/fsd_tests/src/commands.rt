@@ -181,23 +181,14 @@ fn puts_are_refused(rt: HostRuntime) -> Result<(), Fail> {
 // 64 versions of a sector each, of which every odd one goes: what is free lies in parts.
 fn in_parts(alloc: Global) -> Result<Vec<u8>, AllocError> {
     let mut script = Vec::new(alloc);
-    for tens in b'0'..b'7' {
-        for ones in b'0'..=b'9' {
-            if tens < b'6' || ones < b'4' {
-                script.extend_from_slice(b"put q")?;
-                script.extend_from_slice(&[tens, ones])?;
-                script.extend_from_slice(b" 0\n\n")?;
-            }
-        }
+    for number in 0..64u32 {
+        let put = format!(in alloc; "put q{number:02} 0\n\n")?;
+        script.extend_from_slice(put.as_bytes())?;
     }
-    for tens in b'0'..b'7' {
-        for ones in b"13579" {
-            if tens < b'6' || *ones < b'4' {
-                script.extend_from_slice(b"delete q")?;
-                script.extend_from_slice(&[tens, *ones])?;
-                script.extend_from_slice(b"!1\n")?;
-            }
-        }
+    for half in 0..32u32 {
+        let odd = 2 * half + 1;
+        let delete = format!(in alloc; "delete q{odd:02}!1\n")?;
+        script.extend_from_slice(delete.as_bytes())?;
     }
     Ok(script)
 }

@@ -4,20 +4,14 @@ use sector_disk::MemoryMachine;
 use std::alloc::{AllocError, Global};
 use std::test::Fail;
 
-const DIGITS: [u8; 10] = *b"0123456789";
-
 const DELETE: &str = "cfs delete w nnnnnnnnnnnnnnnnnnnnnnnnnnnnnnnnnnnnnn07!1";
 
 // A hundred puts of empty versions with names of 40 bytes, which end with 00 and so on.
 fn puts(alloc: Global) -> Result<Vec<u8>, AllocError> {
     let mut script = Vec::new(alloc);
-    for tens in DIGITS {
-        for ones in DIGITS {
-            script.extend_from_slice(b"put ")?;
-            script.extend_from_slice(&[b'n'; 38])?;
-            script.extend_from_slice(&[tens, ones])?;
-            script.extend_from_slice(b" 0\n\n")?;
-        }
+    for number in 0..100u32 {
+        let put = format!(in alloc; "put nnnnnnnnnnnnnnnnnnnnnnnnnnnnnnnnnnnnnn{number:02} 0\n\n")?;
+        script.extend_from_slice(put.as_bytes())?;
     }
     Ok(script)
 }

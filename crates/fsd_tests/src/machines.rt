@@ -23,6 +23,11 @@ pub(crate) fn hurt_late(sector: u32) -> Event {
     }
 }
 
+/// The machine stops in the nth write that begins at this sector, with so many of its sectors standing.
+pub(crate) fn stop_in(first: u32, nth: u32, stand: u32) -> Event {
+    Event::StopIn { first, nth, stand }
+}
+
 /// A machine over this image, on which nothing wears.
 pub(crate) fn calm(alloc: Global, image: Vec<Sector>) -> MemoryMachine {
     let runs = Vec::new(alloc);

@@ -116,23 +116,12 @@ fn a_stop_leaves_a_prefix(rt: HostRuntime) -> Result<(), Fail> {
     Ok(())
 }
 
-// The records stand at 16..23, 23..30 and 30..37.
+// A root at 4, anchors at 8 and 12, the records at 16..23, 23..30 and 30..37, homes of the root page at 616 and 636.
 #[test]
-fn a_stop_leaves_a_prefix_as_the_log_wears(rt: HostRuntime) -> Result<(), Fail> {
+fn a_stop_leaves_a_prefix_as_a_pair_wears(rt: HostRuntime) -> Result<(), Fail> {
     let alloc = rt.alloc();
     let image = formatted(alloc, FORMAT)?;
-    for pair in [16, 19, 21, 26] {
-        assert_eq!(rt; wrong_at(alloc, image.as_slice(), pair)?, None, "{pair}");
-    }
-    Ok(())
-}
-
-// A root at 4, anchors at 8 and 12, homes of the root page at 616 and 636.
-#[test]
-fn a_stop_leaves_a_prefix_as_copies_wear(rt: HostRuntime) -> Result<(), Fail> {
-    let alloc = rt.alloc();
-    let image = formatted(alloc, FORMAT)?;
-    for pair in [4, 8, 12, 616] {
+    for pair in [4, 8, 12, 16, 19, 21, 26, 616] {
         assert_eq!(rt; wrong_at(alloc, image.as_slice(), pair)?, None, "{pair}");
     }
     Ok(())

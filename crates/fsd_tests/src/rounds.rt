@@ -2,7 +2,7 @@
 //! each takes 28 records of one page, and whose 16 pages have their homes from 616 and from 636 on.
 ghost use Rattle.std.specs.Prelude.{◌≡◌, ◌<◌, ◌≤◌};
 
-use crate::machines::{calm, formatted};
+use crate::machines::{calm, formatted, stop_in};
 use crate::waiting::force_page;
 use group_commit::Forced;
 use log_thirds::Log;
@@ -61,10 +61,6 @@ fn record_at(m: &MemoryMachine, sector: usize) -> Option<u8> {
         Some(Sector::Whole(bytes)) => Some(bytes[23]),
         _ => None,
     }
-}
-
-fn stop_in(first: u32, nth: u32, stand: u32) -> Event {
-    Event::StopIn { first, nth, stand }
 }
 
 // The 85th record is written at 16 again. Up to its page's end the old page stands.

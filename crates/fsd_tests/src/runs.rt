@@ -1,6 +1,6 @@
 //! Runs on which nothing wears, each on what the one before has left.
-use crate::machines::{calm, formatted, run};
-use sector_disk::{Event, MemoryMachine, Sector};
+use crate::machines::{calm, first_wrong, formatted, run, stop_in};
+use sector_disk::{MemoryMachine, Sector};
 use std::test::Fail;
 
 #[test]
@@ -98,7 +98,7 @@ fn puts_and_gets(rt: HostRuntime) -> Result<(), Fail> {
     let sector = [7; 512];
     let too_long = vec![in alloc; 5u8; 4_193_793]?;
     let longest = vec![in alloc; 5u8; 4_193_792]?;
-    let cases = [
+    let rows = [
         ("cfs get v a!1", b"".as_slice(), 3, "fault not-a-volume\n"),
         (
             "cfs format v 2048 256 64",
@@ -138,13 +138,8 @@ fn puts_and_gets(rt: HostRuntime) -> Result<(), Fail> {
             "refused no-space 8192 1127\n",
         ),
     ];
-    let mut m = calm(alloc, Vec::new(alloc));
-    for (line, input, status, said) in cases {
-        let (next, ended) = run(alloc, m, &[], line, input)?;
-        assert_eq!(rt; ended, status, "{line}");
-        assert_eq!(rt; next.said(), said.as_bytes(), "{line}");
-        m = next;
-    }
+    let (_, wrong) = first_wrong(alloc, calm(alloc, Vec::new(alloc)), &rows)?;
+    assert_eq!(rt; wrong, None);
     Ok(())
 }
 
@@ -170,13 +165,8 @@ fn one_record_commits_a_put(rt: HostRuntime) -> Result<(), Fail> {
     assert_eq!(rt; m.image().get(23).copied(), Some(Sector::Damaged));
 
     for (stand, said) in [(4, b"refused no-such\n".as_slice()), (5, b"x".as_slice())] {
-        let stop = Event::StopIn {
-            first: 16,
-            nth: 1,
-            stand,
-        };
         let m = calm(alloc, image.to_vec(alloc)?);
-        let (m, _) = run(alloc, m, &[stop], "cfs put w a", b"x")?;
+        let (m, _) = run(alloc, m, &[stop_in(16, 1, stand)], "cfs put w a", b"x")?;
         assert!(rt; m.said().is_empty());
         let (m, _) = run(alloc, m, &[], "cfs get w a!1", b"")?;
         assert_eq!(rt; m.said(), said, "{stand}");

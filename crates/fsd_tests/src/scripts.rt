@@ -1,4 +1,5 @@
 //! Scripts that are read from a machine in memory.
+use crate::machines::calm;
 use fsd_bytes::Key;
 use fsd_texts::{BadLine, Bytes, Cause, Command, Line};
 use script_text::{Maker, Reader, ScriptFault, say_line};
@@ -6,16 +7,19 @@ use sector_disk::{Event, MemoryMachine};
 use std::alloc::{AllocError, Global};
 use std::test::Fail;
 
+// A machine without an image that gives this input, in a run with these events.
+fn giving(alloc: Global, events: &[Event], input: &[u8]) -> Result<MemoryMachine, AllocError> {
+    let m = calm(alloc, Vec::new(alloc));
+    Ok(m.again(events.to_vec(alloc)?, input.to_vec(alloc)?))
+}
+
 // How many commands an input gives, by takes of at most so many bytes, and how it ends, twice.
 fn read(
     alloc: Global,
     input: &[u8],
     most: usize,
 ) -> Result<(u32, Option<ScriptFault>, bool), AllocError> {
-    let mut events = Vec::new(alloc);
-    events.push(Event::Pieces { most })?;
-    let input = Vec::from_slice(alloc, input)?;
-    let mut m = MemoryMachine::with_runs(alloc, Vec::new(alloc), Vec::new(alloc), events, input);
+    let mut m = giving(alloc, &[Event::Pieces { most }], input)?;
     let mut reader = Reader::new(alloc);
     for count in 0..20 {
         match reader.next_command(alloc, &mut m) {
@@ -114,11 +118,11 @@ fn puts(command: &Option<Command>, text: &[u8], count: usize, start: &[u8]) -> b
 #[test]
 fn goes_on_after_a_failure(rt: HostRuntime) -> Result<(), Fail> {
     let alloc = rt.alloc();
-    let mut events = Vec::new(alloc);
-    events.push(Event::Pieces { most: 2 })?;
-    events.push(Event::FailCall { call: 2, stand: 0 })?;
-    let input = Vec::from_slice(alloc, b"get a!1\n")?;
-    let mut m = MemoryMachine::with_runs(alloc, Vec::new(alloc), Vec::new(alloc), events, input);
+    let events = [
+        Event::Pieces { most: 2 },
+        Event::FailCall { call: 2, stand: 0 },
+    ];
+    let mut m = giving(alloc, &events, b"get a!1\n")?;
     let mut reader = Reader::new(alloc);
     let failed = reader.next_command(alloc, &mut m).err();
     assert_eq!(rt; failed, Some(ScriptFault::Input));

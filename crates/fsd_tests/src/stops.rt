@@ -1,14 +1,10 @@
 //! Runs that are stopped, or in which a call of the outside fails, and what the next run says.
-use crate::machines::{calm, formatted, run};
+use crate::machines::{calm, formatted, run, stop_in};
 use sector_disk::Event;
 use std::alloc::{AllocError, Global};
 use std::test::Fail;
 
 const FORMAT: &str = "cfs format v 2048 256 64";
-
-fn stop(first: u32, nth: u32, stand: u32) -> Event {
-    Event::StopIn { first, nth, stand }
-}
 
 // One run with an event on a fresh volume, and what it and a list say then.
 #[derive(Drop)]
@@ -38,7 +34,7 @@ fn the_next_run_lists_what_stands(rt: HostRuntime) -> Result<(), Fail> {
     let rows = [
         // The record stands at 16..23: a header, a blank, the header's copy, the page and the end, and the copies of both.
         Stopped {
-            event: stop(16, 1, 4),
+            event: stop_in(16, 1, 4),
             line: "cfs put v a",
             input: b"x",
             said: "",
@@ -46,7 +42,7 @@ fn the_next_run_lists_what_stands(rt: HostRuntime) -> Result<(), Fail> {
             listed: "listed 0\n",
         },
         Stopped {
-            event: stop(16, 1, 5),
+            event: stop_in(16, 1, 5),
             line: "cfs put v a",
             input: b"x",
             said: "",
@@ -67,7 +63,7 @@ fn the_next_run_lists_what_stands(rt: HostRuntime) -> Result<(), Fail> {
         },
         // The sectors of what was deleted are not free before the force.
         Stopped {
-            event: stop(23, 1, 0),
+            event: stop_in(23, 1, 0),
             line: "cfs script v",
             input: script,
             said: "made d!1 2\nforced\ndeleted d!1\nmade e!1 2\n",
@@ -95,7 +91,7 @@ fn what_was_deleted_is_read_behind_a_stop(rt: HostRuntime) -> Result<(), Fail> {
     let alloc = rt.alloc();
     let script = b"put d 1\nx\nforce\ndelete d!1\nput e 1\ny\n";
     let m = calm(alloc, formatted(alloc, FORMAT)?);
-    let (m, _) = run(alloc, m, &[stop(23, 1, 0)], "cfs script v", script)?;
+    let (m, _) = run(alloc, m, &[stop_in(23, 1, 0)], "cfs script v", script)?;
     let (m, status) = run(alloc, m, &[], "cfs get v d!1", b"")?;
     assert_eq!(rt; status, 0);
     assert_eq!(rt; m.said(), b"x".as_slice());
@@ -106,19 +102,9 @@ fn what_was_deleted_is_read_behind_a_stop(rt: HostRuntime) -> Result<(), Fail> {
 fn keeps(alloc: Global) -> Result<Vec<u8>, AllocError> {
     let mut script = Vec::new(alloc);
     script.extend_from_slice(b"put x 0\n\nforce\n")?;
-    for tens in b'0'..=b'8' {
-        for ones in b'0'..=b'9' {
-            let first = tens == b'0' && ones == b'0';
-            let last = tens == b'8' && ones > b'4';
-            if !first && !last {
-                script.extend_from_slice(b"keep x ")?;
-                if tens != b'0' {
-                    script.push(tens)?;
-                }
-                script.push(ones)?;
-                script.extend_from_slice(b"\nforce\n")?;
-            }
-        }
+    for keep in 1..85u32 {
+        let lines = format!(in alloc; "keep x {keep}\nforce\n")?;
+        script.extend_from_slice(lines.as_bytes())?;
     }
     Ok(script)
 }
@@ -130,11 +116,11 @@ fn the_log_comes_round(rt: HostRuntime) -> Result<(), Fail> {
     let script = keeps(alloc)?;
     let image = formatted(alloc, "cfs format w 721 200 16")?;
     let rows = [
-        (stop(8, 2, 0), "x!1 0 1 83\nlisted 1\n"),
-        (stop(12, 2, 0), "x!1 0 1 83\nlisted 1\n"),
-        (stop(16, 2, 0), "x!1 0 1 83\nlisted 1\n"),
-        (stop(16, 2, 4), "x!1 0 1 83\nlisted 1\n"),
-        (stop(16, 2, 5), "x!1 0 1 84\nlisted 1\n"),
+        (stop_in(8, 2, 0), "x!1 0 1 83\nlisted 1\n"),
+        (stop_in(12, 2, 0), "x!1 0 1 83\nlisted 1\n"),
+        (stop_in(16, 2, 0), "x!1 0 1 83\nlisted 1\n"),
+        (stop_in(16, 2, 4), "x!1 0 1 83\nlisted 1\n"),
+        (stop_in(16, 2, 5), "x!1 0 1 84\nlisted 1\n"),
     ];
     for (event, listed) in rows {
         let m = calm(alloc, image.to_vec(alloc)?);

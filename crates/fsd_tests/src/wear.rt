@@ -1,7 +1,7 @@
 //! Runs on which a pair of sectors wears, in a volume whose log begins at 16, whose homes begin at 784 and 852, and whose data
 //! begins at 921.
-use crate::machines::{NEVER, formatted, hurt, hurt_late, run, weak};
-use sector_disk::{Event, MemoryMachine, Sector};
+use crate::machines::{NEVER, formatted, hurt, hurt_late, run, stop_in, weak};
+use sector_disk::{Event, Sector};
 use std::alloc::{AllocError, Global};
 use std::test::Fail;
 
@@ -14,13 +14,15 @@ const LISTED: &str = "a!1 1 2 2\nlisted 1\n";
 // What happens on a line's run, the line, its input, and the status and the text with which it ends.
 type Row<'a> = (Event, &'a str, &'a [u8], u8, &'a str);
 
-// The first of these lines, run one after another, that ends otherwise or wears what may not wear.
+// The first of these lines, run one after another on a fresh volume where these pairs may wear, that ends otherwise or
+// wears what may not wear.
 fn first_wrong_row(
     alloc: Global,
-    m: MemoryMachine,
+    pairs: [u32; 3],
     rows: &[Row],
 ) -> Result<Option<usize>, AllocError> {
-    let mut m = m;
+    let image = formatted(alloc, FORMAT)?;
+    let mut m = weak(alloc, image.as_slice(), pairs)?;
     for (i, (event, line, input, status, said)) in rows.iter().enumerate() {
         let (next, ended) = run(alloc, m, &[*event], line, input)?;
         if ended != *status || next.said() != said.as_bytes() || !next.honest() {
@@ -72,13 +74,7 @@ fn a_worn_pair_loses_nothing(rt: HostRuntime) -> Result<(), Fail> {
 // Behind the end of the record that is cut off, the page is that of the record before.
 #[test]
 fn an_old_copy_serves_no_record(rt: HostRuntime) -> Result<(), Fail> {
-    let alloc = rt.alloc();
-    let image = formatted(alloc, FORMAT)?;
-    let stop = Event::StopIn {
-        first: 16,
-        nth: 1,
-        stand: 5,
-    };
+    let stop = stop_in(16, 1, 5);
     let rows = [
         (NEVER, "cfs put v a", b"x".as_slice(), 0, "made a!1 2\n"),
         (stop, "cfs put v b", b"y".as_slice(), 6, ""),
@@ -91,8 +87,7 @@ fn an_old_copy_serves_no_record(rt: HostRuntime) -> Result<(), Fail> {
         ),
         (NEVER, "cfs list v *", b"".as_slice(), 0, LISTED),
     ];
-    let m = weak(alloc, image.as_slice(), [19; 3])?;
-    assert_eq!(rt; first_wrong_row(alloc, m, &rows)?, None);
+    assert_eq!(rt; first_wrong_row(rt.alloc(), [19; 3], &rows)?, None);
     Ok(())
 }
 
@@ -100,34 +95,21 @@ fn an_old_copy_serves_no_record(rt: HostRuntime) -> Result<(), Fail> {
 // from the second home.
 #[test]
 fn a_record_is_completed_before_its_pages_go_home(rt: HostRuntime) -> Result<(), Fail> {
-    let alloc = rt.alloc();
-    let image = formatted(alloc, FORMAT)?;
-    let cut = Event::StopIn {
-        first: 16,
-        nth: 1,
-        stand: 5,
-    };
-    let between = Event::StopIn {
-        first: 852,
-        nth: 1,
-        stand: 0,
-    };
+    let cut = stop_in(16, 1, 5);
+    let between = stop_in(852, 1, 0);
     let rows = [
         (cut, "cfs put v a", b"x".as_slice(), 6, ""),
         (between, "cfs get v a!1", b"".as_slice(), 6, ""),
         (hurt(19), "cfs get v a!1", b"".as_slice(), 0, "x"),
         (hurt(784), "cfs get v a!1", b"".as_slice(), 0, "x"),
     ];
-    let m = weak(alloc, image.as_slice(), [19, 19, 784])?;
-    assert_eq!(rt; first_wrong_row(alloc, m, &rows)?, None);
+    assert_eq!(rt; first_wrong_row(rt.alloc(), [19, 19, 784], &rows)?, None);
     Ok(())
 }
 
 // The leader stands at 921, and three sectors of bytes behind it.
 #[test]
 fn bytes_of_a_version_stand_once(rt: HostRuntime) -> Result<(), Fail> {
-    let alloc = rt.alloc();
-    let image = formatted(alloc, FORMAT)?;
     let bytes = [7; 1200];
     let damaged = "damaged g!1 923\n";
     let rows = [
@@ -135,8 +117,7 @@ fn bytes_of_a_version_stand_once(rt: HostRuntime) -> Result<(), Fail> {
         (hurt(923), "cfs get v g!1", b"".as_slice(), 8, damaged),
         (NEVER, "cfs get v g!1", b"".as_slice(), 8, damaged),
     ];
-    let m = weak(alloc, image.as_slice(), [923; 3])?;
-    assert_eq!(rt; first_wrong_row(alloc, m, &rows)?, None);
+    assert_eq!(rt; first_wrong_row(rt.alloc(), [923; 3], &rows)?, None);
     Ok(())
 }
 

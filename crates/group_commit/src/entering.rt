@@ -1,14 +1,13 @@
 //! Entering the log's first third again: its pages are written home, and then the anchor moves on.
-ghost use Rattle.std.specs.Prelude.{◌≡◌, ◌≢◌, true, false, ◌<◌, ◌≤◌, ◌+◌, ◌*◌, ◌^◌, ℕ, List, length, Some, None, slice_index_or, IfErr, OnOk, OnErr};
+ghost use Rattle.std.specs.Prelude.{◌≡◌, ◌≢◌, true, false, ◌<◌, ◌≤◌, ◌+◌, ◌*◌, ◌^◌, ℕ, List, None, slice_index_or, IfErr, OnOk, OnErr};
 ghost use Rattle.sector_disk.specs.Damage.{IsDevice};
 ghost use Rattle.sector_disk.specs.declared.sector.WeakRun.{WeakRun};
 ghost use Rattle.sector_disk.specs.Calls.{WritesDisk, device_in, load_failed_at};
 ghost use Rattle.sector_disk.specs.Machine.{Moment, wrote};
 ghost use Rattle.sector_disk.specs.Written.{WroteMost};
-ghost use Rattle.fsd_log.specs.Images.{last_image};
 ghost use Rattle.fsd_log.specs.Scan.{Placed, HasRoom};
 ghost use Rattle.log_thirds.specs.Append.{LastLiesIn};
-ghost use Rattle.log_thirds.specs.Moving.{moved, records_moved, EndsInLastThird};
+ghost use Rattle.log_thirds.specs.Moving.{moved, EndsInLastThird};
 ghost use Rattle.log_thirds.specs.Append.{stamp_now};
 ghost use Rattle.group_commit.specs.Room.{goes_before, log_before, pages_in_first, sectors_before};
 ghost use Rattle.group_commit.specs.Force.{KeepsOutside};

@@ -1,5 +1,5 @@
 //! Which anchor the disk gives.
-ghost use Rattle.std.specs.Prelude.{◌≡◌, ◌<◌, ◌≤◌, ◌+◌, List, Some, None, IfSome, IfOk, OnOk, OnErr};
+ghost use Rattle.std.specs.Prelude.{◌≡◌, ◌<◌, ◌≤◌, ◌+◌, List, IfSome, IfOk, OnOk, OnErr};
 ghost use Rattle.sector_disk.specs.Calls.{OnlyReads, WritesDisk, device_in, failed_at};
 ghost use Rattle.sector_disk.specs.declared.sector.Sector.{Sector};
 ghost use Rattle.sector_disk.specs.Image.{stand, IsWorn, open_damage};

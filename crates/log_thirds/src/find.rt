@@ -1,7 +1,7 @@
 //! Looking for the next record.
-ghost use Rattle.std.specs.Prelude.{◌≡◌, ◌≤◌, ◌<◌, ◌+◌, ◌-◌, ◌*◌, min, ℕ, List, length, IfOk, IfSome, IfNone, OnOk, option_map};
+ghost use Rattle.std.specs.Prelude.{◌≡◌, ◌≤◌, ◌<◌, ◌+◌, ◌-◌, ◌*◌, List, length, IfOk, IfSome, IfNone, option_map};
 ghost use Rattle.sector_disk.specs.Calls.{OnlyReads, device_in};
-ghost use Rattle.fsd_log.specs.Scan.{Head, IsIn, IsEnd, place_of, tape, room_at, last_number, record_here, entered, next};
+ghost use Rattle.fsd_log.specs.Scan.{IsEnd, place_of, tape, room_at, last_number, record_here, entered, next};
 ghost use Rattle.log_thirds.specs.Copies.{AreCopies, entry_in};
 ghost use Rattle.log_thirds.specs.Disk.{reads};
 ghost use Rattle.log_thirds.specs.Seen.{SeesOn};

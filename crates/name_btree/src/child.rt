@@ -1,5 +1,5 @@
 //! Pages that are reached.
-ghost use Rattle.std.specs.Prelude.{◌≡◌, ◌+◌, ◌<◌, ◌≤◌, ℕ, IfOk, IfErr, OnOk, Some, length, false, true};
+ghost use Rattle.std.specs.Prelude.{◌≡◌, ◌+◌, ◌<◌, ◌≤◌, IfOk, IfErr, OnOk, Some, length, false, true};
 ghost use Rattle.fsd_table.specs.Pages.{page_at, content_fits};
 ghost use Rattle.name_page.specs.Node.{content_of};
 ghost use Rattle.name_btree.specs.Still.{HasRefusal};

@@ -1,11 +1,9 @@
 //! Pages that are to be written, and such that are to be spare, once nothing can fail any more.
-ghost use Rattle.std.specs.Prelude.{◌≡◌, ◌+◌, ◌-◌, ◌<◌, ◌≤◌, ℕ, List, [], ◌∷◌, ◌++◌, IfOk, IfErr, OnOk, Some, None, length, true, false};
-ghost use Rattle.std.specs.List.{AllByRecursion, list_all};
-ghost use Rattle.fsd_bytes.specs.Keys.{is_key};
+ghost use Rattle.std.specs.Prelude.{◌≡◌, ◌+◌, ◌-◌, ◌<◌, ◌≤◌, List, [], ◌∷◌, ◌++◌, IfOk, IfErr, OnOk, Some, None, length, true, false};
+ghost use Rattle.std.specs.List.{AllByRecursion};
 ghost use Rattle.run_table.specs.Space.{all_differ};
 ghost use Rattle.fsd_formats.specs.NamePage.{Leaf, Interior, is_page, FitsEntry, FitsSeparator};
 ghost use Rattle.fsd_table.specs.Pages.{page_at, content_fits};
-ghost use Rattle.name_btree.specs.declared.draft.Sheet.{Sheet};
 ghost use Rattle.name_btree.specs.Draft.{IsDraft, with_freed, drafted, committed, freed, last_sheet, AreSheets, MayGo, IsDrafted};
 ghost use Rattle.name_btree.specs.Fault.{outer_told, FailsBy, IsMisfit};
 ghost use Rattle.name_btree.specs.Grown.{Takes};

@@ -9,7 +9,7 @@ ghost use Rattle.name_btree.specs.Trim.{MayHave, IsLeft, sheets_below};
 ghost use Rattle.name_page.specs.Edits.{without};
 ghost use Rattle.name_page.specs.declared.pages.TheConstants.{MOST_CHANGED, MOST_REACHED};
 ghost use Rattle.name_page.specs.Looks.{ChangesPages, OnlyReaches, OnlyEdits, OnlyWalks, Shows};
-ghost use Rattle.name_page.specs.Pages.{reaches, changes, is_spare, IsReached};
+ghost use Rattle.name_page.specs.Pages.{reaches, changes, is_spare};
 
 use crate::draft::Draft;
 use crate::fault::TreeFault;

@@ -24,8 +24,8 @@ use fsd_bytes::Key;
 use fsd_formats::{Entry, Separator};
 use fsd_table::Child;
 use name_page::{
-    Entries, EntryList, JoinedList, Node, Pages, SeparatorList, Ways, WideList, joined,
-    joined_ways, leaf_cut, listed, listed_ways, used, ways_replaced, ways_without,
+    EntryList, JoinedList, Node, Pages, SeparatorList, Ways, WideList, joined, joined_ways,
+    leaf_cut, listed, listed_ways, used, ways_replaced, ways_without,
 };
 
 /// What is left of a page: it has all of it, or it is too little for a page.

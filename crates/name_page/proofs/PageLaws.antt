@@ -20,9 +20,9 @@ use Rattle.name_page.specs.Reading.{head_of}
 use Rattle.name_page.proofs.FirstLaws.{none_both, good_from}
 use Rattle.name_page.proofs.PieceLaws.{u8_again, u16_again, u32_again}
 use Rattle.name_page.proofs.ZeroLaws.{zeros_accepted}
-use Rattle.name_page.proofs.LeafLaws.{between, AreEntries, entries_accepted, entries_unfaulted}
+use Rattle.name_page.proofs.LeafLaws.{between, entries_accepted}
 use Rattle.name_page.proofs.LeafLaws as leaf
-use Rattle.name_page.proofs.SeparatorLaws.{AreSeparators, is_separator, separators_accepted, separators_unfaulted, count_separators, length_separators}
+use Rattle.name_page.proofs.SeparatorLaws.{AreSeparators, separators_accepted, count_separators, length_separators}
 use Rattle.name_page.proofs.SeparatorLaws as interior
 
 pub count_entries : (n : ℕ) (bytes : List ℕ) → length (entries_from n bytes) ≡ n

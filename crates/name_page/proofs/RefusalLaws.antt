@@ -20,7 +20,7 @@ use Rattle.name_page.proofs.ZeroLaws.{zeros_unfaulted}
 use Rattle.name_page.proofs.LengthLaws.{count_below}
 use Rattle.name_page.proofs.LeafLaws.{between, AreEntries, entries_unfaulted}
 use Rattle.name_page.proofs.LeafLaws as leaf
-use Rattle.name_page.proofs.SeparatorLaws.{AreSeparators, is_separator, separators_unfaulted, count_separators, length_separators}
+use Rattle.name_page.proofs.SeparatorLaws.{AreSeparators, is_separator, separators_unfaulted, length_separators}
 use Rattle.name_page.proofs.SeparatorLaws as interior
 use Rattle.name_page.proofs.PageLaws.{content_at}
 

@@ -1,7 +1,6 @@
 //! Where a page is refused.
-ghost use Rattle.std.specs.Prelude.{◌≡◌, ◌≤◌, ◌<◌, ◌+◌, ◌-◌, ◌*◌, ◌^◌, ◌↔◌, ◌&&◌, ◌||◌, ◌==◌, not, nat_le, if◌then◌else◌, IsTrue, IsOk, IfOk, IfErr, OnOk, MatchResult, length, Some, None, option_map, slice_range};
-ghost use Rattle.std.specs.Option.{option_copied};
-ghost use Rattle.fsd_bytes.specs.Bytes.{u8_at, u16_at, u32_at};
+ghost use Rattle.std.specs.Prelude.{◌≡◌, ◌≤◌, ◌<◌, ◌+◌, ◌-◌, ◌*◌, ◌^◌, ◌↔◌, ◌&&◌, ◌||◌, ◌==◌, not, nat_le, if◌then◌else◌, IfOk, IfErr, MatchResult, length, Some, None, option_map, slice_range};
+ghost use Rattle.fsd_bytes.specs.Bytes.{u8_at, u16_at};
 ghost use Rattle.fsd_bytes.specs.Names.{is_between, is_name, max_name_len};
 ghost use Rattle.run_table.specs.RunTable.{max_runs};
 ghost use Rattle.name_page.specs.Fault.{unless, zeros_fault, lengths_fault, runs_fault, key_at, name_fault_at, numbers_fault, entry_fault, entry_end, entries_fault, separator_key_at, separator_fault, separators_fault, count_fits, used_fits, contents_fault, head_fault, head_at, kind_at, fault_of};

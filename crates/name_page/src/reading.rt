@@ -1,5 +1,5 @@
 //! Reading what a page has.
-ghost use Rattle.std.specs.Prelude.{◌≡◌, ◌≤◌, ◌<◌, ◌+◌, ◌*◌, IsTrue, Some, IsSome, length, drop, slice_get, true};
+ghost use Rattle.std.specs.Prelude.{◌≡◌, ◌≤◌, ◌<◌, ◌+◌, ◌*◌, Some, IsSome, length, drop, slice_get, true};
 ghost use Rattle.fsd_bytes.specs.Bytes.{u8_at};
 ghost use Rattle.fsd_bytes.specs.Keys.{key_cmp};
 ghost use Rattle.fsd_bytes.specs.Names.{is_name};

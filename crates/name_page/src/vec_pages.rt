@@ -1,5 +1,5 @@
 //! Pages of a name table that all stand in memory.
-ghost use Rattle.std.specs.Prelude.{◌≡◌, ◌<◌, ◌≤◌, ◌^◌, Some, false, is_some, length, count_by};
+ghost use Rattle.std.specs.Prelude.{◌≡◌, ◌<◌, ◌≤◌, ◌^◌, Some, is_some, length, count_by};
 ghost use Rattle.fsd_table.specs.Pages.{page_at};
 ghost use Rattle.name_page.specs.Accepted.{AreAccepted};
 ghost use Rattle.name_page.specs.Pages.{first_step, renewed};

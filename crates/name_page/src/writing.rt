@@ -1,5 +1,5 @@
 //! Writing pages.
-ghost use Rattle.std.specs.Prelude.{◌≡◌, ◌≤◌, ◌<◌, ◌+◌, ◌*◌, ◌^◌, ◌++◌, ℕ, true, IsTrue, Some, length, replicate, All, slice_index};
+ghost use Rattle.std.specs.Prelude.{◌≡◌, ◌≤◌, ◌<◌, ◌+◌, ◌*◌, ◌^◌, ◌++◌, ℕ, true, IsTrue, Some, length, replicate};
 ghost use Rattle.std.specs.List.{AllByRecursion, flat_map, list_all};
 ghost use Rattle.fsd_bytes.specs.Bytes.{u32, with_bytes};
 ghost use Rattle.fsd_bytes.specs.Keys.{is_key};

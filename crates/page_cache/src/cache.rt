@@ -49,7 +49,7 @@ impl Model for Cache {
 }
 
 impl Cache {
-    ghost use Rattle.std.specs.Prelude.{◌<◌, ◌≤◌, ◌≢◌, ◌⊎◌, ◌+◌, ◌-◌, ◌^◌, ℕ, List, Option, Ok, Some, None, true, IsTrue, slice_get, IfSome, IfOk, IfErr, OnOk, OnErr, length, option_map, is_some};
+    ghost use Rattle.std.specs.Prelude.{◌<◌, ◌≤◌, ◌≢◌, ◌⊎◌, ◌+◌, ◌-◌, ◌^◌, ℕ, List, Option, Ok, Some, None, IsTrue, slice_get, IfSome, IfOk, IfErr, OnOk, OnErr, length, option_map, is_some};
     ghost use Rattle.std.specs.Borrow.{sem};
     ghost use Rattle.sector_disk.specs.Calls.{OnlyReads, device_in};
     ghost use Rattle.page_cache.specs.Cache.{held, bytes_of, pins_of, busy, frame_for, is_one_of, IsResident, IsCache, KeepsNewest, no_pages, used, entered, with_pins, with_dirty, cleaned};

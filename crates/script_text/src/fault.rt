@@ -1,6 +1,5 @@
 //! Why no command is given.
 ghost use Rattle.std.specs.Prelude.{◌≡◌};
-ghost use Rattle.script_text.specs.declared.fault.ScriptFault.TheVariants as Script;
 ghost use Rattle.script_text.specs.declared.fault.BodyFault.TheVariants as Body;
 
 use fsd_texts::{BadLine, Cause};

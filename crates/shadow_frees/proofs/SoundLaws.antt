@@ -15,7 +15,7 @@ use Rattle.shadow_frees.specs.Waits.{AreApart, AreSound, waits, waiting_sectors}
 use Rattle.shadow_frees.specs.Readers.{Slots, Agrees, has_sector, is_held, unheld, with_held, IsVersion, IsSlot}
 use Rattle.sector_set.proofs.MeetLaws.{none_any, all_any}
 use Rattle.shadow_frees.proofs.HeldLaws.{agrees_back, own_of, has_where}
-use Rattle.shadow_frees.proofs.WaitLaws.{none_apart, freed_apart, begun_apart, ended_apart, given_apart, both, few, fewer, still_in}
+use Rattle.shadow_frees.proofs.WaitLaws.{none_apart, freed_apart, begun_apart, ended_apart, given_apart, both, fewer, still_in}
 
 -- ---- at first
 

@@ -1,5 +1,5 @@
 //! The versions that open readers hold, each in a slot.
-ghost use Rattle.std.specs.Prelude.{◌≡◌, ◌<◌, ◌↔◌, not, All, IsTrue, length, get_or, None, Some};
+ghost use Rattle.std.specs.Prelude.{◌≡◌, ◌<◌, ◌↔◌, not, All, IsTrue, length, get_or, None};
 ghost use Rattle.std.specs.List.{list_any};
 ghost use Rattle.sector_set.specs.Area.{IsOwn};
 ghost use Rattle.sector_set.specs.Meet.{meets};

@@ -1,8 +1,7 @@
 //! The sectors that wait.
 ghost use Rattle.std.specs.Prelude.{◌≡◌, ◌+◌, ◌<◌, ◌≤◌, ◌||◌, ◌↔◌, not, false, [], ◌∷◌, length, replicate, set, get_or, None, Some, All, IsTrue, IsNone, IsSome, IfOk, IfSome, OnSome};
 ghost use Rattle.std.specs.List.{list_any};
-ghost use Rattle.run_table.specs.Space.{contains};
-ghost use Rattle.sector_set.specs.Area.{area, without, together, AreIn, AreOut};
+ghost use Rattle.sector_set.specs.Area.{area, without, together, AreIn};
 ghost use Rattle.shadow_frees.specs.Readers.{is_empty, Agrees, AreUnheld, unheld, with_held, given_back};
 ghost use Rattle.shadow_frees.specs.Waits.{AreIdle, AreSound, run_between, left_after, left_kept, waiting_sectors, waits};
 

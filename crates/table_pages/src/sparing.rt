@@ -1,10 +1,9 @@
 //! Free pages that are kept in the cache, so that they can be taken.
-ghost use Rattle.std.specs.Prelude.{◌≡◌, ◌⊎◌, ℕ, ◌+◌, ◌-◌, ◌^◌, ◌<◌, ◌≤◌, ◌↔◌, ◌++◌, ◌∷◌, [], Bool, Err, true, false, IfSome, IfNone, IfErr, OnOk, OnErr, IsSome, length, count_by, nat_eq, slice_index_or, slice_set};
-ghost use Rattle.fsd_bytes.specs.declared.refusal.Refusal.{Refusal};
+ghost use Rattle.std.specs.Prelude.{◌≡◌, ◌⊎◌, ℕ, ◌+◌, ◌-◌, ◌^◌, ◌<◌, ◌≤◌, ◌↔◌, ◌++◌, ◌∷◌, [], Err, true, false, IfSome, IfNone, IfErr, OnOk, length, count_by, nat_eq, slice_index_or, slice_set};
 ghost use Rattle.fsd_bytes.specs.declared.refusal.Refusal.TheVariants.{NameTableFull};
 ghost use Rattle.name_page.specs.Pages.{IsOuter, outer_in};
-ghost use Rattle.page_cache.specs.Cache.{IsResident, pins_of, is_one_of, with_pins, with_dirty};
-ghost use Rattle.table_pages.specs.Bringing.{HasRoom, FetchesOnly};
+ghost use Rattle.page_cache.specs.Cache.{pins_of, is_one_of, with_pins, with_dirty};
+ghost use Rattle.table_pages.specs.Bringing.{HasRoom};
 ghost use Rattle.table_pages.specs.Sparing.{AreSpare, SparesOnly};
 
 use crate::bringing::{bring, keep};

@@ -1,5 +1,5 @@
 //! `Table`.
-ghost use Rattle.std.specs.Prelude.{◌≡◌, ◌<◌, ◌≤◌, ◌^◌, ℕ, [], Some, true, length};
+ghost use Rattle.std.specs.Prelude.{◌≡◌, ◌<◌, ◌≤◌, ◌^◌, []};
 ghost use Rattle.table_pages.specs.Kept.{IsKept};
 
 use crate::bringing::{bring_used, keep, release};
@@ -90,9 +90,8 @@ impl<'a, M: Machine, S: PageSource> Drop for Table<'a, M, S> {
 }
 
 impl<'a, M: Machine, S: PageSource> Pages for Table<'a, M, S> {
-    ghost use Rattle.std.specs.Prelude.{refl, None};
-    ghost use Rattle.std.proofs.Common.{ap, ◌∙◌, subst, sym};
-    ghost use Rattle.name_page.specs.Pages.{NeedsNoMemory, Step, rested};
+    ghost use Rattle.std.specs.Prelude.{None};
+    ghost use Rattle.name_page.specs.Pages.{NeedsNoMemory, rested};
     ghost use Rattle.table_pages.specs.Table.{cache_of, free_of, machine_of, step_of, written, HasPage, Leaves, ReadsOnly, Trusted};
     ghost use Rattle.table_pages.specs.TableLaws.{step_written, reads_written, reads_still, reads_then, trusted_earlier, few_images, as_many};
 

@@ -1,5 +1,5 @@
 //! The survey of a whole table.
-ghost use Rattle.std.specs.Prelude.{◌≡◌, ◌≤◌, ◌<◌, ℕ, IfOk, IfErr, [], length, true, count_by};
+ghost use Rattle.std.specs.Prelude.{◌≡◌, ◌≤◌, ◌<◌, ℕ, IfOk, IfErr, [], length, count_by};
 ghost use Rattle.fsd_table.specs.Breaks.{Breaks};
 ghost use Rattle.name_page.specs.Looks.{OnlyWalks};
 ghost use Rattle.name_page.specs.declared.pages.TheConstants.{MOST_REACHED};

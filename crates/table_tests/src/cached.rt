@@ -4,24 +4,16 @@ ghost use Rattle.name_btree.specs.Calls.{IsFormed};
 
 use crate::calls::{Answer, carry_out, image_of};
 use crate::desk::{Desk, PAGES};
+use crate::maps::in_memory;
 use crate::plain::{entry, name, next};
 use arrayvec::ArrayVec;
 use fsd_bytes::{Key, Refusal};
 use name_btree::{Call, TreeFault, walk};
-use name_page::{Pages, VecPages, write_leaf};
+use name_page::{Pages, VecPages};
 use sector_disk::Event;
 use std::alloc::{AllocError, Global};
 use std::process::Abort;
 use std::test::Fail;
-
-// The same table with all pages in memory.
-fn in_memory(alloc: Global, home_a: u32) -> Result<VecPages, AllocError> {
-    let mut images = vec![in alloc; [0; 512]; PAGES as usize]?;
-    write_leaf(0, &[], &mut images[0]);
-    let mut spare = vec![in alloc; true; PAGES as usize]?;
-    spare[0] = false;
-    Ok(VecPages::new(images, spare, home_a))
-}
 
 // One of three versions of one of two thousand names.
 fn some_key(seed: &mut u64) -> Key {
@@ -156,7 +148,7 @@ fn same_pages(rt: &impl Abort, desk: &mut Desk, pages: &mut VecPages) -> Result<
 fn calls_answer_as_over_pages_in_memory(rt: HostRuntime) -> Result<(), Fail> {
     let alloc = rt.alloc();
     let mut desk = Desk::new(alloc)?;
-    let mut pages = in_memory(alloc, desk.home_a())?;
+    let mut pages = in_memory(alloc, PAGES, desk.home_a())?;
     let mut seed = 1;
     let full = run(&rt, &mut desk, &mut pages, &mut seed, 3000, 14)?;
     assert!(rt; full > 10);
@@ -175,7 +167,7 @@ fn calls_answer_as_over_pages_in_memory(rt: HostRuntime) -> Result<(), Fail> {
 // Both tables, grown by so many calls.
 fn grown(rt: &impl Abort, alloc: Global, calls: u32) -> Result<(Desk, VecPages), Fail> {
     let mut desk = Desk::new(alloc)?;
-    let mut pages = in_memory(alloc, desk.home_a())?;
+    let mut pages = in_memory(alloc, PAGES, desk.home_a())?;
     let mut seed = 7;
     run(rt, &mut desk, &mut pages, &mut seed, calls, 14)?;
     Ok((desk, pages))

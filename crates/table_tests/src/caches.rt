@@ -3,6 +3,7 @@ ghost use Rattle.std.specs.Prelude.{◌<◌, IfOk, OnSome};
 ghost use Rattle.page_cache.specs.Cache.{IsResident};
 ghost use Rattle.table_tests.specs.Caches.{HasFirst, HasMarks};
 
+use crate::desk::damaged;
 use page_cache::{Cache, Frame, PageSource};
 use sector_disk::{LoadFault, Machine, MemoryMachine};
 use std::alloc::Global;
@@ -13,7 +14,7 @@ use std::test::Fail;
 struct Numbered;
 
 impl PageSource for Numbered {
-    ghost use Rattle.std.specs.Prelude.{◌≡◌, ◌%◌, ℕ, List, Some, replicate, ⊤, refl};
+    ghost use Rattle.std.specs.Prelude.{◌≡◌, ◌%◌, Some, replicate, ⊤, refl};
 
     ghost pages = { λ _. 4096 };
 
@@ -79,13 +80,7 @@ fn fetched(cache: &mut Cache, m: &mut MemoryMachine, page: u32) -> Option<Frame>
 #[test]
 fn the_least_recently_used_page_that_may_go_goes(rt: HostRuntime) -> Result<(), Fail> {
     let alloc = rt.alloc();
-    let mut m = MemoryMachine::new(
-        alloc,
-        Vec::new(alloc),
-        vec![in alloc; 0u32; 1]?,
-        Vec::new(alloc),
-        Vec::new(alloc),
-    )?;
+    let mut m = damaged(alloc, 0)?;
     let mut cache = filled(alloc, &mut m)?;
     mark(&mut cache);
     assert_eq!(rt; cache.dirty_list().as_slice(), [0, 1].as_slice());

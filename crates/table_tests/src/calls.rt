@@ -20,8 +20,8 @@ fn with_page(found: Option<FoundEntry>) -> Option<(Entry, u32)> {
     found.map(|f| (f.entry, f.page))
 }
 
-// Puts an entry in, unless one has its key, and takes those with the keys out. It answers the entry that has the key.
-fn put<T: Pages>(t: &mut T, entry: &Entry, gone: &ArrayVec<Key, 2>) -> Answer
+/// Puts an entry in, unless one has its key, and takes those with the keys out. It answers the entry that has the key.
+pub(crate) fn put<T: Pages>(t: &mut T, entry: &Entry, gone: &ArrayVec<Key, 2>) -> Answer
     requires more { MOST_REACHED ≤ reaches (T.step t.old) }
     requires changes { MOST_CHANGED ≤ changes (T.step t.old) }
     requires entry { is_entry entry.now ≡ true }
@@ -37,8 +37,8 @@ fn put<T: Pages>(t: &mut T, entry: &Entry, gone: &ArrayVec<Key, 2>) -> Answer
     Ok(None)
 }
 
-// Puts an entry in place of the one with its key, if that is as long. It answers the one that was there.
-fn replace<T: Pages>(t: &mut T, entry: &Entry) -> Answer
+/// Puts an entry in place of the one with its key, if that is as long. It answers the one that was there.
+pub(crate) fn replace<T: Pages>(t: &mut T, entry: &Entry) -> Answer
     requires more { MOST_REACHED ≤ reaches (T.step t.old) }
     requires changes { MOST_CHANGED ≤ changes (T.step t.old) }
     requires entry { is_entry entry.now ≡ true }

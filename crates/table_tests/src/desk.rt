@@ -1,9 +1,8 @@
 //! `Desk`.
-ghost use Rattle.std.specs.Prelude.{◌≡◌, ◌<◌, ◌≤◌, ℕ, [], IfOk, OnOk, length};
+ghost use Rattle.std.specs.Prelude.{◌≡◌, ◌<◌, ◌≤◌, ℕ, [], OnOk, length};
 ghost use Rattle.name_btree.specs.Calls.{IsFormed};
 ghost use Rattle.name_btree.specs.Walk.{AreMarksOf};
 ghost use Rattle.page_cache.specs.Cache.{pins_of};
-ghost use Rattle.table_pages.specs.Kept.{IsReady};
 
 use crate::calls::{Answer, carry_out, image_of};
 use fsd_bytes::Refusal;
@@ -13,90 +12,13 @@ use log_record::anchor_bytes;
 use log_thirds::Log;
 use name_btree::{Call, TreeFault, walk};
 use name_page::{Pages, write_free, write_leaf};
-use page_cache::{Cache, PageSource};
+use page_cache::Cache;
 use sector_disk::{Attach, Event, Failed, Machine, MemoryMachine, Sector};
 use std::alloc::{AllocError, Global};
 use std::test::Fail;
 use table_pages::{FreePages, Table};
 use twin_home::write_home;
 use volume_layout::Layout;
-
-// Makes a call over a table.
-fn call_in<M: Machine, S: PageSource>(
-    m: &mut M,
-    cache: &mut Cache,
-    source: &S,
-    home_a: u32,
-    free: &mut FreePages,
-    call: &Call,
-) -> Answer
-    requires ready { IsReady M.Machine S.PageSource m.old cache.old source.now free.old }
-    requires room { length cache.old.dirty ≤ 56 }
-    requires formed { IsFormed call.now }
-    ensures { IsReady M.Machine S.PageSource m.new cache.new source.now free.new }
-{
-    let mut table = Table::new(m, cache, source, home_a, free);
-    let answer = carry_out(&mut table, call);
-    table.rest();
-    answer
-}
-
-// Walks a table.
-fn walk_in<M: Machine, S: PageSource>(
-    m: &mut M,
-    cache: &mut Cache,
-    source: &S,
-    home_a: u32,
-    free: &mut FreePages,
-    marks: &mut [bool],
-) -> Result<u32, TreeFault>
-    requires ready { IsReady M.Machine S.PageSource m.old cache.old source.now free.old }
-    requires whole { length marks.old ≡ length free.old }
-    requires clear { AreMarksOf [] marks.old }
-    ensures { IsReady M.Machine S.PageSource m.new cache.new source.now free.new }
-{
-    let mut table = Table::new(m, cache, source, home_a, free);
-    let walked = walk(&mut table, marks);
-    table.rest();
-    walked
-}
-
-// The bytes of a page of a table.
-fn image_in<M: Machine, S: PageSource>(
-    m: &mut M,
-    cache: &mut Cache,
-    source: &S,
-    home_a: u32,
-    free: &mut FreePages,
-    page: u32,
-) -> Result<[u8; 512], Refusal>
-    requires ready { IsReady M.Machine S.PageSource m.old cache.old source.now free.old }
-    requires within { page < length free.old }
-    ensures { IsReady M.Machine S.PageSource m.new cache.new source.now free.new }
-{
-    let mut table = Table::new(m, cache, source, home_a, free);
-    let image = image_of(&mut table, page);
-    table.rest();
-    image
-}
-
-// What a table answers where so many spare pages are asked for.
-fn spare_in<M: Machine, S: PageSource>(
-    m: &mut M,
-    cache: &mut Cache,
-    source: &S,
-    home_a: u32,
-    free: &mut FreePages,
-    count: u32,
-) -> Result<(), Refusal>
-    requires ready { IsReady M.Machine S.PageSource m.old cache.old source.now free.old }
-    ensures { IsReady M.Machine S.PageSource m.new cache.new source.now free.new }
-{
-    let mut table = Table::new(m, cache, source, home_a, free);
-    let spared = table.spare(count);
-    table.rest();
-    spared
-}
 
 // Writes the pages that wait home.
 fn write_waiting<M: Machine>(m: &mut M, layout: &Layout, cache: &Cache) -> Result<(), Failed>
@@ -198,14 +120,10 @@ impl Desk {
         make_room(&mut self.m, &self.layout, &mut self.cache)?;
         let home_a = self.home_a();
         let source = Newest::over(&self.log, &self.layout);
-        Ok(call_in(
-            &mut self.m,
-            &mut self.cache,
-            &source,
-            home_a,
-            &mut self.free,
-            call,
-        ))
+        let mut table = Table::new(&mut self.m, &mut self.cache, &source, home_a, &mut self.free);
+        let answer = carry_out(&mut table, call);
+        table.rest();
+        Ok(answer)
     }
 
     /// Marks the pages that page 0 leads to, and counts their entries.
@@ -215,14 +133,10 @@ impl Desk {
     {
         let home_a = self.home_a();
         let source = Newest::over(&self.log, &self.layout);
-        walk_in(
-            &mut self.m,
-            &mut self.cache,
-            &source,
-            home_a,
-            &mut self.free,
-            marks,
-        )
+        let mut table = Table::new(&mut self.m, &mut self.cache, &source, home_a, &mut self.free);
+        let walked = walk(&mut table, marks);
+        table.rest();
+        walked
     }
 
     /// The bytes of a page.
@@ -231,28 +145,20 @@ impl Desk {
     {
         let home_a = self.home_a();
         let source = Newest::over(&self.log, &self.layout);
-        image_in(
-            &mut self.m,
-            &mut self.cache,
-            &source,
-            home_a,
-            &mut self.free,
-            page,
-        )
+        let mut table = Table::new(&mut self.m, &mut self.cache, &source, home_a, &mut self.free);
+        let image = image_of(&mut table, page);
+        table.rest();
+        image
     }
 
     /// What is answered where so many spare pages are asked for.
     pub(crate) fn spare(&mut self, count: u32) -> Result<(), Refusal> {
         let home_a = self.home_a();
         let source = Newest::over(&self.log, &self.layout);
-        spare_in(
-            &mut self.m,
-            &mut self.cache,
-            &source,
-            home_a,
-            &mut self.free,
-            count,
-        )
+        let mut table = Table::new(&mut self.m, &mut self.cache, &source, home_a, &mut self.free);
+        let spared = table.spare(count);
+        table.rest();
+        spared
     }
 
     /// The sector of page 0.
@@ -291,8 +197,8 @@ fn all_but_first(alloc: Global) -> Result<FreePages, AllocError> {
     Ok(free)
 }
 
-// The machine attaches its image.
-fn attached(m: &mut MemoryMachine, layout: &Layout) -> Result<(), Fail>
+/// The machine attaches its image.
+pub(crate) fn attached(m: &mut MemoryMachine, layout: &Layout) -> Result<(), Fail>
     ensures { OnOk result (layout.now.sectors ≤ (⟦<MemoryMachine as Machine>⟧.report m.new).sectors) }
 {
     let sectors = m.attach("t", Attach::Old)?;

@@ -1,11 +1,12 @@
 //! The log on a machine in memory: what a scan finds, and what moves on.
-ghost use Rattle.std.specs.Prelude.{◌≡◌, ◌≤◌};
+ghost use Rattle.std.specs.Prelude.{◌≡◌, ◌≤◌, IfOk};
 
-use crate::desk::damaged;
+use crate::desk::{attached, damaged};
 use fsd_formats::Anchor;
 use log_record::{anchor_bytes, lay};
 use log_thirds::{LastRecord, Log, LogFault, Place};
-use sector_disk::{Attach, Failed, Machine};
+use sector_disk::{Attach, Failed, Machine, MemoryMachine};
+use std::alloc::Global;
 use std::test::Fail;
 use volume_layout::Layout;
 
@@ -34,12 +35,28 @@ fn an_empty_log_is_found_and_a_new_epoch_begins(rt: HostRuntime) -> Result<(), F
     Ok(())
 }
 
-// Page 0 as the record (2, 1) has it.
-fn page_image() -> [u8; 512] {
+// A machine with its image attached, whose only whole sector is its first anchor, of epoch 2.
+fn begun(alloc: Global, layout: &Layout) -> Result<MemoryMachine, Fail>
+    ensures { IfOk result (λ m. layout.now.sectors ≤ (⟦<MemoryMachine as Machine>⟧.report m).sectors) }
+{
+    let mut m = damaged(alloc, layout.sectors() as usize)?;
+    attached(&mut m, layout)?;
+    let sector = anchor_bytes(&Anchor {
+        epoch: 2,
+        third: 0,
+        first: 1,
+    });
+    m.write(8, &sector)?;
+    Ok(m)
+}
+
+/// This page as the record of this number has it, in epoch 2.
+pub(crate) fn image_in(page: u32, number: u32) -> [u8; 512] {
     let mut b = [0; 512];
     fsd_bytes::put_bytes(&mut b, 0, b"CNPG");
+    fsd_bytes::put_u32(&mut b, 12, page);
     fsd_bytes::put_u32(&mut b, 16, 2);
-    fsd_bytes::put_u32(&mut b, 20, 1);
+    fsd_bytes::put_u32(&mut b, 20, number);
     b
 }
 
@@ -47,17 +64,10 @@ fn page_image() -> [u8; 512] {
 fn a_record_is_found_with_its_page(rt: HostRuntime) -> Result<(), Fail> {
     let alloc = rt.alloc();
     let layout = Layout::plan(2048, 256, 64)?;
-    let mut m = damaged(alloc, 2048)?;
-    let count = m.attach("volume", Attach::Old)?;
-    assert!(rt; layout.sectors() <= count);
-    let sector = anchor_bytes(&Anchor {
-        epoch: 2,
-        third: 0,
-        first: 1,
-    });
-    m.write(8, &sector)?;
+    assert!(rt; layout.sectors() == 2048);
+    let mut m = begun(alloc, &layout)?;
     let mut out = [0; 3584];
-    lay(2, 1, &[0], &page_image(), &mut out);
+    lay(2, 1, &[0], &image_in(0, 1), &mut out);
     m.write(16, &out)?;
     let log = Log::scan(alloc, &mut m, &layout)?;
     assert_eq!(rt; (log.epoch(), log.next_number()), (2, 2));
@@ -67,7 +77,7 @@ fn a_record_is_found_with_its_page(rt: HostRuntime) -> Result<(), Fail> {
     assert!(rt; 1 < layout.pages());
     let mut buf = [0; 512];
     assert!(rt; log.image_of(&mut m, 0, &mut buf)?);
-    assert_eq!(rt; buf, page_image());
+    assert_eq!(rt; buf, image_in(0, 1));
     assert!(rt; !log.image_of(&mut m, 1, &mut buf)?);
     let last = LastRecord {
         copies_at: 21,
@@ -77,20 +87,10 @@ fn a_record_is_found_with_its_page(rt: HostRuntime) -> Result<(), Fail> {
     m.write(21, &[0; 1024])?;
     log.complete_last(&mut m)?;
     m.read(21, &mut buf)?;
-    assert_eq!(rt; buf, page_image());
+    assert_eq!(rt; buf, image_in(0, 1));
     m.read(22, &mut buf)?;
     assert_eq!(rt; buf[..], out[3072..3584]);
     Ok(())
-}
-
-// This page as the record of this number has it, in epoch 2.
-fn image_in(page: u32, number: u32) -> [u8; 512] {
-    let mut b = [0; 512];
-    fsd_bytes::put_bytes(&mut b, 0, b"CNPG");
-    fsd_bytes::put_u32(&mut b, 12, page);
-    fsd_bytes::put_u32(&mut b, 16, 2);
-    fsd_bytes::put_u32(&mut b, 20, number);
-    b
 }
 
 // A record in each third: of page 5, of page 6, and of page 7.
@@ -124,15 +124,8 @@ fn move_on<M: Machine>(m: &mut M, log: &mut Log) -> bool
 fn the_anchor_moves_on_by_a_third(rt: HostRuntime) -> Result<(), Fail> {
     let alloc = rt.alloc();
     let layout = Layout::plan(721, 200, 16)?;
-    let mut m = damaged(alloc, 721)?;
-    let count = m.attach("volume", Attach::Old)?;
-    assert!(rt; layout.sectors() <= count && 721 <= count);
-    let sector = anchor_bytes(&Anchor {
-        epoch: 2,
-        third: 0,
-        first: 1,
-    });
-    m.write(8, &sector)?;
+    assert!(rt; layout.sectors() == 721);
+    let mut m = begun(alloc, &layout)?;
     lay_records(&mut m)?;
     let mut log = Log::scan(alloc, &mut m, &layout)?;
     assert_eq!(rt; log.next_number(), 4);

@@ -1,14 +1,14 @@
 //! Look-ups in small tables, and tables that are broken.
-ghost use Rattle.std.specs.Prelude.{◌≡◌, ◌≤◌, IfOk, IsTrue, true};
+ghost use Rattle.std.specs.Prelude.{◌≡◌, ◌≤◌, IfOk, IsTrue};
 ghost use Rattle.fsd_bytes.specs.Keys.{is_key};
-ghost use Rattle.fsd_formats.specs.NamePage.{is_entry, FitsEntry};
 ghost use Rattle.name_page.specs.declared.pages.TheConstants.{MOST_CHANGED, MOST_REACHED};
 ghost use Rattle.name_page.specs.Pages.{reaches};
 
+use crate::calls::replace;
 use crate::plain::entry;
 use fsd_bytes::{FileName, Key, Refusal};
-use name_btree::{TreeFault, find, highest, next_after, replace_same_size};
-use name_page::{Entry, Pages, Separator, VecPages, entry_len, write_interior, write_leaf};
+use name_btree::{TreeFault, find, highest, next_after};
+use name_page::{Pages, Separator, VecPages, entry_len, write_interior, write_leaf};
 use std::alloc::{AllocError, Global};
 use std::test::Fail;
 
@@ -108,23 +108,6 @@ fn entries_come_in_order(rt: HostRuntime) -> Result<(), Fail> {
     Ok(())
 }
 
-// Puts an entry in place of the one with its key, if there is one as long.
-fn replace(t: &mut VecPages, entry: &Entry) -> Result<bool, TreeFault>
-    requires entry { is_entry entry.now ≡ true }
-    requires fits { FitsEntry entry.now }
-{
-    t.rest();
-    let Some(old) = find(t, &entry.key)? else {
-        return Ok(false);
-    };
-    t.renew();
-    if entry_len(&old.entry) != entry_len(entry) {
-        return Ok(false);
-    }
-    replace_same_size(t, entry)?;
-    Ok(true)
-}
-
 #[test]
 fn entries_are_replaced(rt: HostRuntime) -> Result<(), Fail> {
     let mut t = table(rt.alloc(), 1, 2)?;
@@ -132,7 +115,8 @@ fn entries_are_replaced(rt: HostRuntime) -> Result<(), Fail> {
         let Some(entry) = entry(&key(last, version), 7, 0) else {
             return Ok(());
         };
-        assert_eq!(rt; replace(&mut t, &entry)?, stands);
+        t.renew();
+        assert_eq!(rt; replace(&mut t, &entry)?.is_some(), stands);
         t.rest();
         let found = find(&mut t, &entry.key)?;
         assert_eq!(rt;

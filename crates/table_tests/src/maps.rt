@@ -1,11 +1,12 @@
 //! The tree beside std's ordered map, over random calls.
-ghost use Rattle.std.specs.Prelude.{◌≡◌, ◌≤◌, true};
+ghost use Rattle.std.specs.Prelude.{◌≡◌, ◌<◌, ◌≤◌, true};
 ghost use Rattle.fsd_formats.specs.NamePage.{is_entry, FitsEntry};
 
+use crate::calls;
 use crate::plain::{Versions, count_in, entry, highest_in, name, next, next_in, oldest_in};
 use arrayvec::ArrayVec;
 use fsd_bytes::{Key, Refusal, u16_at};
-use name_btree::{TreeFault, find, highest, insert, next_after, remove, replace_same_size, walk};
+use name_btree::{TreeFault, find, highest, next_after, remove, walk};
 use name_page::{Entry, Pages, VecPages, entry_len, write_leaf};
 use std::alloc::{AllocError, Global};
 use std::collections::BTreeMap;
@@ -44,13 +45,16 @@ fn count(times: &mut u32) {
     *times = times.wrapping_add(1);
 }
 
-// A table with no entry: page 0 is an empty leaf, and the others are spare.
-fn table(alloc: Global) -> Result<VecPages, AllocError> {
-    let mut images = vec![in alloc; [0; 512]; PAGES as usize]?;
+/// A table of so many pages with no entry: page 0 is an empty leaf, and the others are spare.
+pub(crate) fn in_memory(alloc: Global, pages: u32, home_a: u32) -> Result<VecPages, AllocError>
+    requires some { 0 < pages }
+    requires few { pages ≤ 4096 }
+{
+    let mut images = vec![in alloc; [0; 512]; pages as usize]?;
     write_leaf(0, &[], &mut images[0]);
-    let mut spare = vec![in alloc; true; PAGES as usize]?;
+    let mut spare = vec![in alloc; true; pages as usize]?;
     spare[0] = false;
-    Ok(VecPages::new(images, spare, 100))
+    Ok(VecPages::new(images, spare, home_a))
 }
 
 /// How many pages are spare: a table never has 4097, and the refusal tells.
@@ -159,13 +163,10 @@ fn put(
 {
     let before = images(t, alloc)?;
     let free = spare_pages(t);
-    t.rest();
-    if find(t, &entry.key)?.is_some() {
-        return Err(Fail::new("an entry has the key"));
-    }
     t.renew();
-    match insert(t, &entry, gone) {
-        Ok(()) => {
+    match calls::put(t, &entry, gone) {
+        Ok(Some(_)) => return Err(Fail::new("an entry has the key")),
+        Ok(None) => {
             assert!(rt; free >= 8);
             for key in gone.as_slice() {
                 map.remove(key);
@@ -252,18 +253,16 @@ fn replace(
     requires entry { is_entry entry ≡ true }
     requires fits { FitsEntry entry }
 {
-    t.rest();
-    let Some(old) = find(t, &entry.key)? else {
-        assert!(rt; !map.contains_key(&entry.key));
-        return Ok(());
+    let is_as_long = match map.get(&entry.key) {
+        Some(old) => entry_len(old) == entry_len(&entry),
+        None => false,
     };
     t.renew();
-    if entry_len(&old.entry) != entry_len(&entry) {
-        return Ok(());
+    assert_eq!(rt; calls::replace(t, &entry)?.is_some(), is_as_long);
+    if is_as_long {
+        map.insert(entry.key.copied(), entry)?;
+        count(&mut seen.replaced);
     }
-    replace_same_size(t, &entry)?;
-    map.insert(entry.key.copied(), entry)?;
-    count(&mut seen.replaced);
     Ok(())
 }
 
@@ -363,7 +362,7 @@ fn look_on(
 #[test]
 fn holds_what_the_map_holds(rt: HostRuntime) -> Result<(), Fail> {
     let alloc = rt.alloc();
-    let mut t = table(alloc)?;
+    let mut t = in_memory(alloc, PAGES, 100)?;
     let mut map = BTreeMap::new(alloc);
     let mut seen = Seen::default();
     let mut seed = 1;
@@ -383,7 +382,7 @@ fn holds_what_the_map_holds(rt: HostRuntime) -> Result<(), Fail> {
 #[test]
 fn the_eighth_entry_parts_page_0(rt: HostRuntime) -> Result<(), Fail> {
     let alloc = rt.alloc();
-    let mut t = table(alloc)?;
+    let mut t = in_memory(alloc, PAGES, 100)?;
     let mut map = BTreeMap::new(alloc);
     let mut seen = Seen::default();
     for (i, pages, first) in [

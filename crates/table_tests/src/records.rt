@@ -1,16 +1,8 @@
 //! Records of the log and the anchor, as their fields lie.
+use crate::logs::image_in;
 use fsd_bytes::{u16_at, u32_at};
 use fsd_formats::Anchor;
 use log_record::{Judged, anchor_bytes, judge, lay, read_anchor};
-
-// Page 0 as the record (2, 1) has it.
-fn image() -> [u8; 512] {
-    let mut b = [0; 512];
-    fsd_bytes::put_bytes(&mut b, 0, b"CNPG");
-    fsd_bytes::put_u32(&mut b, 16, 2);
-    fsd_bytes::put_u32(&mut b, 20, 1);
-    b
-}
 
 // Room for seven sectors.
 fn room() -> [u8; 3584] {
@@ -19,9 +11,8 @@ fn room() -> [u8; 3584] {
 
 // The record (2, 1) of page 0.
 fn laid() -> [u8; 3584] {
-    let image = image();
     let mut out = room();
-    lay(2, 1, &[0], &image, &mut out);
+    lay(2, 1, &[0], &image_in(0, 1), &mut out);
     out
 }
 

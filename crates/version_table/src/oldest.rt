@@ -7,7 +7,7 @@ ghost use Rattle.name_page.specs.Lookups.{same_name};
 ghost use Rattle.name_page.specs.declared.pages.TheConstants.{MOST_REACHED};
 ghost use Rattle.name_page.specs.Looks.{OnlyWalks};
 ghost use Rattle.version_table.specs.Table.{OfTable};
-ghost use Rattle.version_table.specs.Met.{IsMet, entries_left, found_of, leaving_of};
+ghost use Rattle.version_table.specs.Met.{IsMet, entries_left, leaving_of};
 ghost use Rattle.version_table.specs.Versions.{IsFirst, oldest_beyond, versions_of};
 
 use arrayvec::ArrayVec;

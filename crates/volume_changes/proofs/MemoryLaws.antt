@@ -13,7 +13,7 @@ use Rattle.page_cache.proofs.KeepLaws.{bytes_resident, resident_bytes}
 use Rattle.run_table.specs.Space.{contains}
 use Rattle.sector_set.proofs.FreeLaws.{contains_where}
 use Rattle.volume_layout.specs.declared.layout.Layout.{Layout}
-use Rattle.log_thirds.specs.LogValue.{FitsLayout, LogValue}
+use Rattle.log_thirds.specs.LogValue.{FitsLayout}
 use Rattle.log_thirds.specs.Append.{stamp_now}
 use Rattle.group_commit.specs.Cached.{held_stamped, stamped_for, stamped_frames}
 use Rattle.group_commit.proofs.FrameLaws.{held_then, there_then}

@@ -11,6 +11,18 @@ use volume_layout::Layout;
 /// An event that never comes.
 pub const NEVER: Event = Event::FailCall { call: 0, stand: 0 };
 
+/// A machine in memory without an image, on which nothing wears.
+pub(crate) fn blank(alloc: Global) -> MemoryMachine {
+    let runs = Vec::new(alloc);
+    MemoryMachine::with_runs(
+        alloc,
+        Vec::new(alloc),
+        runs,
+        Vec::new(alloc),
+        Vec::new(alloc),
+    )
+}
+
 /// A machine in memory with an empty volume, on which nothing wears.
 pub(crate) fn formatted(
     alloc: Global,
@@ -19,10 +31,7 @@ pub(crate) fn formatted(
     pages: u32,
 ) -> Result<MemoryMachine, Fail> {
     let layout = Layout::plan(sectors, third, pages)?;
-    let runs = Vec::new(alloc);
-    let events = Vec::new(alloc);
-    let image = Vec::new(alloc);
-    let mut m = MemoryMachine::with_runs(alloc, image, runs, events, Vec::new(alloc));
+    let mut m = blank(alloc);
     let made = m.attach("w", Attach::New(sectors))?;
     if layout.sectors() > made {
         return Err(Fail::new("the image has fewer sectors"));

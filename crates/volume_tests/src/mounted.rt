@@ -3,6 +3,7 @@ ghost use Rattle.std.specs.Prelude.{◌≡◌, ◌≤◌, IfOk};
 ghost use Rattle.sector_disk.specs.Memory.{memory_report};
 ghost use Rattle.volume_state.specs.State.{state};
 
+use crate::machines::blank;
 use fsd_bytes::{FileName, Key, Refusal};
 use fsd_formats::Entry;
 use sector_disk::{Attach, Event, Machine, MemoryMachine};
@@ -157,16 +158,4 @@ pub(crate) fn mounts<W: Work>(
     let (left, ended) = volume.ended(work.closes());
     *m = left;
     Ok(well? && ended)
-}
-
-// A machine without an image.
-fn blank(alloc: Global) -> MemoryMachine {
-    let runs = Vec::new(alloc);
-    MemoryMachine::with_runs(
-        alloc,
-        Vec::new(alloc),
-        runs,
-        Vec::new(alloc),
-        Vec::new(alloc),
-    )
 }

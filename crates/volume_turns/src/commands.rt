@@ -12,7 +12,7 @@ ghost use Rattle.volume_turns.specs.Steps.{Does, IsOfCall, Stays, device_by, rep
 
 use crate::answer::{Answer, ended_by, read_ended_by};
 use crate::listing::list;
-use fsd_bytes::{FileName, Key, Refusal};
+use fsd_bytes::{FileName, Key};
 use fsd_texts::{Command, Fault};
 use sector_disk::Machine;
 use std::alloc::Global;

@@ -1,4 +1,4 @@
-use Rattle.std.proofs.Common.{◌≡◌, ◌∙◌, sym, ap, ℕ, List, length}
+use Rattle.std.proofs.Common.{◌≡◌, ◌∙◌, sym, ap, length}
 use Rattle.fsd_formats.specs.NamePage.{entry_bytes}
 use Rattle.name_page.specs.Pages.{Step}
 use Rattle.table_tests.proofs.AbsentLaws.{still_as_long}
