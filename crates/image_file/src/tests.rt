@@ -8,6 +8,8 @@ const IMAGE: &str = "image_file_test";
 
 const SHARED: &str = "image_file_test_shared";
 
+const RENEWED: &str = "image_file_test_renewed";
+
 #[test]
 fn a_slot_ends_with_its_sector_and_check(rt: HostRuntime) {
     let mut letter = [0; 512];
@@ -102,5 +104,20 @@ fn one_machine_at_a_time_has_an_image(rt: HostRuntime) -> Result<(), Fail> {
     assert_eq!(rt; second.read(1, &mut buf), Ok(Seen::Whole));
     assert_eq!(rt; buf, [5; 512]);
     fs::remove_file(&rt, SHARED)?;
+    Ok(())
+}
+
+#[test]
+fn a_new_image_has_nothing_of_the_old_one(rt: HostRuntime) -> Result<(), Fail> {
+    let mut m = FileMachine::new(&rt);
+    for sectors in [9, 4, 9] {
+        let made = m.attach(RENEWED, Attach::New(sectors))?;
+        assert!(rt; made > 1);
+        let mut buf = [0; 512];
+        assert_eq!(rt; m.read(1, &mut buf), Ok(Seen::Damaged));
+        m.write(1, &[5; 512])?;
+        assert_eq!(rt; m.read(1, &mut buf), Ok(Seen::Whole));
+    }
+    fs::remove_file(&rt, RENEWED)?;
     Ok(())
 }
