@@ -38,6 +38,7 @@ pub fn write_sectors<M: Machine>(m: &mut M, place: u32, bytes: &[u8]) -> Result<
     requires in_range { place + length bytes.now / 512 ≤ (M.report m.old).sectors }
 
     ensures writes { WritesDisk M.Machine (device_in failed_at result) (Tears place bytes.now) m.old m.new }
+    ensures place { IfErr result (λ failed. failed.place ≡ place) }
     ensures counted { OnOk result (M.tells m.new → M.ledger m.new ≡ wrote (M.ledger m.old) (length bytes.now / 512)) }
     ensures counted_err { OnErr result (M.tells m.new → M.ledger m.new ≡ M.ledger m.old) }
     ensures written { OnOk result (M.honest m.new → Writes place bytes.now (M.now m.old) (M.now m.new)) }

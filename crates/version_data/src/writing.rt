@@ -1,13 +1,13 @@
 //! A version's leader and its data, written in the order of its runs.
-ghost use Rattle.std.specs.Prelude.{◌≡◌, ◌+◌, ◌*◌, ◌/◌, ◌%◌, ◌≤◌, ◌<◌, ◌^◌, ℕ, All, IsTrue, length, IfErr, OnErr, OnOk};
+ghost use Rattle.std.specs.Prelude.{◌≡◌, ◌+◌, ◌*◌, ◌≤◌, ◌<◌, ◌^◌, ℕ, All, IsTrue, length, IfErr, OnErr, OnOk};
 ghost use Rattle.run_table.specs.RunTable.{sectors_of};
 ghost use Rattle.run_table.specs.Space.{all_differ, contains};
 ghost use Rattle.fsd_formats.specs.NamePage.{is_entry, sectors_for};
 ghost use Rattle.fsd_files.specs.Answers.{HasVersion};
 ghost use Rattle.fsd_files.specs.Kept.{slice_of as slice_of_version};
 ghost use Rattle.sector_disk.specs.Calls.{WritesDisk, device_in, failed_at};
-ghost use Rattle.sector_disk.specs.Image.{in_run, lay, open_damage, slice_of, stand};
-ghost use Rattle.sector_disk.specs.Machine.{Holds, Tears, wrote};
+ghost use Rattle.sector_disk.specs.Image.{in_run, lay, open_damage, slice_of};
+ghost use Rattle.sector_disk.specs.Machine.{Holds, wrote};
 ghost use Rattle.sector_disk.specs.Written.{WroteMost};
 ghost use Rattle.sector_disk.specs.declared.sector.Sector.TheVariants.{Whole};
 ghost use Rattle.version_data.specs.Writing.{WritesIn, part_of};
@@ -15,7 +15,7 @@ ghost use Rattle.version_data.specs.Writing.{WritesIn, part_of};
 use fsd_formats::{Entry, Leader};
 use leader_page::leader_bytes;
 use run_table::Run;
-use sector_disk::{Failed, Machine, SECTOR_BYTES};
+use sector_disk::{Failed, Machine, SECTOR_BYTES, write_sectors};
 
 /// The most sectors that one write lays side by side.
 const MOST_IN_ROW: u32 = 64;
@@ -69,25 +69,10 @@ fn write_run<M: Machine>(
     while done < run.length {
         let count = (run.length - done).min(MOST_IN_ROW);
         lay_row(leader, bytes, before + done, count, &mut row);
-        write_row(m, run.start + done, &row[..512 * count as usize])?;
+        write_sectors(m, run.start + done, &row[..512 * count as usize])?;
         done += count;
     }
     Ok(())
-}
-
-// Writes sectors that follow each other, by one write.
-fn write_row<M: Machine>(m: &mut M, place: u32, row: &[u8]) -> Result<(), Failed>
-    requires whole { length row.now % 512 ≡ 0 }
-    requires some { 0 < length row.now }
-    requires in_range { place + length row.now / 512 ≤ (M.report m.old).sectors }
-
-    ensures writes { WritesDisk M.Machine (device_in failed_at result) (Tears place row.now) m.old m.new }
-    ensures place { IfErr result (λ failed. failed.place ≡ place) }
-    ensures counted { OnOk result (M.tells m.new → M.ledger m.new ≡ wrote (M.ledger m.old) (length row.now / 512)) }
-    ensures counted_err { OnErr result (M.tells m.new → M.ledger m.new ≡ M.ledger m.old) }
-    ensures done { OnOk result (M.honest m.new → Holds (M.now m.old) (stand (M.now m.old).image place row.now (length row.now / 512)) (M.now m.new)) }
-{
-    m.write(place, row)
 }
 
 // Lays sectors of a version side by side.
