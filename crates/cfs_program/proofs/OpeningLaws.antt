@@ -88,7 +88,7 @@ module _ (l : Layout) (windows : List WeakRun) (h : List Change) (f : ℕ) (old 
     pub since_on : (n : ℕ) (turns : List Turn) (left : Moment) → LeftSince l windows h n turns at left → LeftSince l windows h n turns old left
     since_on n turns left x = record {
       run = x.run;
-      present = x.present;
+      settled = x.settled;
       whole = x.whole;
       part = x.part;
       said = x.said ∙ ap (λ (s : List ℕ). s ++ (said_in (take x.whole turns) ++ x.part)) found.said;

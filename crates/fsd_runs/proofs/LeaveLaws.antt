@@ -5,6 +5,7 @@ use Rattle.std.specs.List.{last_or}
 use Rattle.std.proofs.lemmas.List.{length-take, take-append-le}
 use Rattle.volume_layout.specs.declared.layout.Layout.{Layout}
 use Rattle.sector_disk.specs.declared.sector.WeakRun.{WeakRun}
+use Rattle.sector_disk.specs.Image.{Windows}
 use Rattle.sector_disk.specs.Machine.{Moment, Report}
 use Rattle.fsd_files.specs.Files.{Change}
 use Rattle.fsd_sound.specs.Sound.{IsPrefixOf}
@@ -42,7 +43,7 @@ left_stays l windows h f n turns old left prefix ends (inr s) =
       changes = take n h ++ changes_in (take (suc s.whole) turns);
       count = n + s.forced;
       keeps = record { forced = omega (arith, forced); same = take-append-le f (take n h) (changes_in (take (suc s.whole) turns)) few ∙ take_of_take f n h forced };
-      present = last_is windows None s.run ∙ sym s.present;
+      present = last_is windows None s.run ∙ sym (ap (λ (w : Windows). w.present) s.settled);
       sound = s.sound;
     }
 

@@ -57,12 +57,12 @@ pub record LeftBefore (l : Layout) (windows : List WeakRun) (h : List Change) (f
   pub fault : SaysFault part
   pub sound : IsSound l windows h f left.image
 
--- Since then: the run that was named is the present one. Some turns are said whole, and a part of what comes next. The image is
--- sound for the n changes that were found, all of them forced, and those of the turns said and of the one under way, of which those
--- are forced at least that are forced by what is said whole.
+-- Since then: the run that was named is the present one, and no next one is named. Some turns are said whole, and a part of what
+-- comes next. The image is sound for the n changes that were found, all of them forced, and those of the turns said and of the one
+-- under way, of which those are forced at least that are forced by what is said whole.
 pub record LeftSince (l : Layout) (windows : List WeakRun) (h : List Change) (n : ℕ) (turns : List Turn) (old left : Moment) : Type 0 where
   pub run : WeakRun
-  pub present : left.windows.present ≡ Some run
+  pub settled : left.windows ≡ record { present = Some run; next = None }
   pub whole : ℕ
   pub part : List ℕ
   pub said : left.said ≡ old.said ++ (said_in (take whole turns) ++ part)

@@ -142,7 +142,7 @@ module _ (sectors : ℕ) (l : Layout) (windows : List WeakRun) (h : List Change)
     pub since_settled : (left : Moment) → Wears mid left → SoundSince l windows h count old left
     since_settled left wears = record {
       run = run;
-      present = ap (λ (w : Windows). w.present) (wears.windows ∙ done.after.settled);
+      settled = wears.windows ∙ done.after.settled;
       said = wears.said ∙ said;
       sound = sound_still l later (apart_narrow later apart_later) (take count h) count mid.image left.image (worn_later left.image wears.image)
           (sound_since sectors l windows h f old begun run pages done.after.chosen mid.image done.after.shows same);

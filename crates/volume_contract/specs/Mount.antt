@@ -133,10 +133,10 @@ pub record SoundBefore (l : Layout) (windows : List WeakRun) (h : List Change) (
   pub sound : IsSound l windows h f left.image
   pub writes : WritesAsMount l (weak_of windows) old left
 
--- Since then: the run that was named is the present one, and the disk is sound for the first n changes alone.
+-- Since then: the run that was named is the present one, no next one is named, and the disk is sound for the first n changes alone.
 pub record SoundSince (l : Layout) (windows : List WeakRun) (h : List Change) (n : ℕ) (old left : Moment) : Type 0 where
   pub run : WeakRun
-  pub present : left.windows.present ≡ Some run
+  pub settled : left.windows ≡ record { present = Some run; next = None }
   pub said : left.said ≡ old.said
   pub sound : IsSound l (windows ++ run ∷ []) (take n h) n left.image
   pub writes : WritesAsMount l (λ s. weak_of windows s || in_run run s) old left

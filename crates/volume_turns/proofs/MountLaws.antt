@@ -5,7 +5,6 @@ use Rattle.std.specs.List.{list_any}
 use Rattle.std.proofs.lemmas.List.{append-nil, length-take}
 use Rattle.volume_layout.specs.declared.layout.Layout.{Layout}
 use Rattle.sector_disk.specs.declared.sector.WeakRun.{WeakRun}
-use Rattle.sector_disk.specs.Image.{Windows}
 use Rattle.sector_disk.specs.Machine.{Moment}
 use Rattle.fsd_formats.specs.declared.anchor.Anchor.{Anchor}
 use Rattle.fsd_files.specs.Disk.{Image, in_runs}
@@ -52,7 +51,7 @@ module _ (l : Layout) (windows : List WeakRun) (h : List Change) (f n : ℕ) (pr
   pub since_left : (turns : List Turn) (left : Moment) → SoundSince l windows h n old left → LeftSince l windows h n turns old left
   since_left turns left x = record {
     run = x.run;
-    present = x.present;
+    settled = x.settled;
     whole = 0;
     part = [];
     said = x.said ∙ sym (append-nil old.said);
@@ -66,7 +65,7 @@ module _ (l : Layout) (windows : List WeakRun) (h : List Change) (f n : ℕ) (pr
   pub run_left : (turns : List Turn) (left : Moment) → InRun k turns mid left → LeftSince l windows h n turns old left
   run_left turns left r = record {
     run = s.run;
-    present = ap (λ (w : Windows). w.present) (r.windows ∙ s.settled);
+    settled = r.windows ∙ s.settled;
     whole = r.whole;
     part = r.part;
     said = r.said ∙ ap (λ (x : List ℕ). x ++ (said_in (take r.whole turns) ++ r.part)) quiet;
