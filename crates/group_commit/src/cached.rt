@@ -8,7 +8,7 @@ ghost use Rattle.fsd_log.specs.Judged.{slice_of};
 ghost use Rattle.fsd_log.specs.Scan.{Placed};
 ghost use Rattle.fsd_sound.specs.Sound.{EndIn};
 ghost use Rattle.run_table.specs.Space.{contains};
-ghost use Rattle.fsd_formats.specs.Record.{AreStamped, are_pages, record_len};
+ghost use Rattle.fsd_formats.specs.Record.{max_pages, AreStamped, are_pages, record_len};
 ghost use Rattle.fsd_log.specs.Laid.{slices};
 ghost use Rattle.log_thirds.specs.Append.{stamp_now, log_with};
 ghost use Rattle.page_cache.specs.Cache.{IsCache, IsResident, bytes_of, cleaned};
@@ -96,7 +96,7 @@ fn force_waiting<M: Machine>(
 ) -> Result<Forced, LoadFault>
     requires valid { IsCache cache.old }
     requires are { waiting.now ≡ ascending_of cache.old.dirty }
-    requires few { length waiting.now ≤ 96 }
+    requires few { length waiting.now ≤ max_pages }
     requires waiting { AreWaiting log.old.layout.pages cache.old }
     requires numbered { log.old.head.number < 2 ^ 32 - 1 }
     requires sectors { log.old.layout.sectors ≤ (M.report m.old).sectors }

@@ -5,6 +5,7 @@ ghost use Rattle.sector_disk.specs.declared.sector.WeakRun.{WeakRun};
 ghost use Rattle.sector_disk.specs.Calls.{WritesDisk, device_in, load_failed_at};
 ghost use Rattle.sector_disk.specs.Machine.{Moment, wrote};
 ghost use Rattle.sector_disk.specs.Written.{WroteMost};
+ghost use Rattle.fsd_formats.specs.Record.{max_pages};
 ghost use Rattle.fsd_log.specs.Scan.{Placed, HasRoom};
 ghost use Rattle.log_thirds.specs.Append.{LastLiesIn};
 ghost use Rattle.log_thirds.specs.Moving.{moved, EndsInLastThird};
@@ -95,7 +96,7 @@ pub(crate) fn enter_third<M: Machine>(m: &mut M, log: &mut Log, third: u32) -> R
 /// Makes room for a record of so many pages: where it would enter the log's first third, the pages of that third are written
 /// home, and the anchor moves on; else nothing is done.
 pub fn make_room<M: Machine>(m: &mut M, log: &mut Log, count: u32) -> Result<(), LoadFault>
-    requires few { count ≤ 96 }
+    requires few { count ≤ max_pages }
     requires sectors { log.old.layout.sectors ≤ (M.report m.old).sectors }
     ensures disk { WritesDisk M.Machine (device_in load_failed_at result) (ShowsStill log.old) m.old m.new }
     ensures rest { M.honest m.new → KeepsOutside log.old.layout (M.now m.old) (M.now m.new) }

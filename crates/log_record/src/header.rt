@@ -2,14 +2,17 @@
 ghost use Rattle.std.specs.Prelude.{◌≡◌, ◌≤◌, nat_lt, option_map, length, drop};
 ghost use Rattle.std.specs.List.{list_all};
 ghost use Rattle.fsd_bytes.specs.Names.{is_between};
-ghost use Rattle.fsd_formats.specs.Record.{header_bytes, end_bytes, read_header, are_pages, ascending, numbers_from};
+ghost use Rattle.fsd_formats.specs.Record.{max_pages, header_bytes, end_bytes, read_header, are_pages, ascending, numbers_from};
 
 use arrayvec::ArrayVec;
 use fsd_bytes::{put_bytes, put_u16, put_u32, u16_at, u32_at};
 
+/// As many pages as a record may have.
+pub const MOST_PAGES: usize = 96;
+
 // The header of a record.
 pub(crate) fn header_bytes(epoch: u32, number: u32, pages: &[u32]) -> [u8; 512]
-    requires { length pages.now ≤ 96 }
+    requires { length pages.now ≤ max_pages }
     ensures { result ≡ header_bytes (record { epoch = epoch; number = number }) pages.now }
 {
     let mut b = [0u8; 512];
@@ -51,9 +54,9 @@ fn is_ascending(pages: &[u32]) -> bool
 
 // Whether a record may have so many pages.
 fn is_count(n: usize) -> bool
-    ensures { result ≡ is_between 1 96 n }
+    ensures { result ≡ is_between 1 max_pages n }
 {
-    n >= 1 && n <= 96
+    n >= 1 && n <= MOST_PAGES
 }
 
 // Whether each page is one of p.
@@ -71,8 +74,8 @@ fn are_pages(p: u32, pages: &[u32]) -> bool
 }
 
 // The first page numbers of a header.
-fn numbers(b: &[u8; 512], n: u16) -> ArrayVec<u32, 96>
-    requires { n ≤ 96 }
+fn numbers(b: &[u8; 512], n: u16) -> ArrayVec<u32, MOST_PAGES>
+    requires { n ≤ max_pages }
     ensures { result.items ≡ numbers_from n (drop 32 b.now) }
 {
     let mut pages = ArrayVec::new();
@@ -88,11 +91,11 @@ pub(crate) fn read_header(
     epoch: u32,
     number: u32,
     b: &[u8; 512],
-) -> Option<ArrayVec<u32, 96>>
+) -> Option<ArrayVec<u32, MOST_PAGES>>
     ensures { option_map (λ v. v.items) result ≡ read_header p (record { epoch = epoch; number = number }) b.now }
 {
     let n = u16_at(b, 12);
-    if n > 96 {
+    if usize::from(n) > MOST_PAGES {
         return None;
     }
     let pages = numbers(b, n);

@@ -1,32 +1,32 @@
 //! Which record stands in some sectors.
 ghost use Rattle.std.specs.Prelude.{◌≡◌, ◌≤◌, ◌+◌, ◌*◌, true, false, IfSome, if◌then◌else◌, option_map, length};
-ghost use Rattle.fsd_formats.specs.Record.{is_end, bears};
+ghost use Rattle.fsd_formats.specs.Record.{max_pages, is_end, bears};
 ghost use Rattle.fsd_log.specs.Judged.{judged, judged_by, judged_with, page_copies, passes};
 ghost use Rattle.fsd_log.specs.Reach.{len_by, reach};
 ghost use Rattle.log_record.specs.Found.{read_of, serving_in, found_in, IsCounted};
 
-use crate::header::{end_bytes, read_header};
+use crate::header::{MOST_PAGES, end_bytes, read_header};
 use arrayvec::ArrayVec;
 use fsd_bytes::u32_at;
 
 /// The header, a blank sector and the header's copy begin a record.
 pub const HEADERS: u32 = 3;
 
-/// As many sectors as a record may have: one of 96 pages.
-pub const RECORD_SECTORS: u32 = 197;
+/// As many sectors as a record may have: one of [`MOST_PAGES`].
+pub const RECORD_SECTORS: u32 = 2 * MOST_PAGES as u32 + 5;
 
 /// Their bytes.
-pub const RECORD_BYTES: usize = 100_864;
+pub const RECORD_BYTES: usize = 512 * RECORD_SECTORS as usize;
 
 /// A record: its `n` pages as its header names them, and for the header, the end and each page whether the copy serves
 /// in place of the first.
 #[derive(Drop)]
 pub struct Found {
     pub n: u32,
-    pub pages: ArrayVec<u32, 96>,
+    pub pages: ArrayVec<u32, MOST_PAGES>,
     pub header_copy: bool,
     pub end_copy: bool,
-    pub page_copy: ArrayVec<bool, 96>,
+    pub page_copy: ArrayVec<bool, MOST_PAGES>,
 }
 
 /// Whether the record is there.
@@ -94,9 +94,9 @@ fn page_copies(
     epoch: u32,
     number: u32,
     pages: &[u32],
-) -> Option<ArrayVec<bool, 96>>
+) -> Option<ArrayVec<bool, MOST_PAGES>>
     requires bytes { length bytes.now ≡ 512 * length whole.now }
-    requires few { length pages.now ≤ 96 }
+    requires few { length pages.now ≤ max_pages }
     ensures { option_map (λ v. v.items) result
         ≡ page_copies (record { epoch = epoch; number = number }) (read_of whole.now bytes.now) 3 (4 + length pages.now) pages.now }
 {
@@ -121,10 +121,10 @@ fn judge_with(
     epoch: u32,
     number: u32,
     header_copy: bool,
-    pages: ArrayVec<u32, 96>,
+    pages: ArrayVec<u32, MOST_PAGES>,
 ) -> Option<Found>
     requires bytes { length bytes.now ≡ 512 * length whole.now }
-    requires few { length pages.items ≤ 96 }
+    requires few { length pages.items ≤ max_pages }
     ensures judged { option_map serving_in result
         ≡ judged_with (record { epoch = epoch; number = number }) (length whole.now) (read_of whole.now bytes.now) header_copy pages.items }
     ensures count { IfSome result (λ f. f.n ≡ length f.pages.items) }

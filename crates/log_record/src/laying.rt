@@ -1,5 +1,6 @@
 //! Laying a record (docs/FORMAT.md).
 ghost use Rattle.std.specs.Prelude.{◌≡◌, ◌+◌, ◌*◌, ◌≤◌, ◌++◌, length, take, drop};
+ghost use Rattle.fsd_formats.specs.Record.{max_pages};
 ghost use Rattle.fsd_log.specs.Laid.{laid_bytes};
 
 use crate::header::{end_bytes, header_bytes};
@@ -15,7 +16,7 @@ fn write_at(out: &mut [u8], place: usize, bytes: &[u8])
 /// Lays a record in the front of `out`, in `2 * pages.len() + 5` sectors of 512 bytes. `images` has 512 bytes for each
 /// page. It judges good where the pages ascend strictly and each image bears its page, the epoch and the number.
 pub fn lay(epoch: u32, number: u32, pages: &[u32], images: &[u8], out: &mut [u8])
-    requires few { length pages.now ≤ 96 }
+    requires few { length pages.now ≤ max_pages }
     requires images { length images.now ≡ 512 * length pages.now }
     requires room { 512 * (2 * length pages.now + 5) ≤ length out.old }
     ensures laid { take (512 * (2 * length pages.now + 5)) out.new ≡ laid_bytes (record { epoch = epoch; number = number }) pages.now images.now }

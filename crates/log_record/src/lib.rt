@@ -9,6 +9,7 @@ mod laying;
 
 pub use anchor::{anchor_bytes, read_anchor};
 pub use fsd_formats::Anchor;
+pub use header::MOST_PAGES;
 pub use judging::{Found, HEADERS, Judged, RECORD_BYTES, RECORD_SECTORS, judge, reach};
 pub use laws::{
     laid_records_are_good, records_are_good_where_copies_serve, records_read_plainly, records_stay,

@@ -1,6 +1,7 @@
 //! Looking for the next record.
 ghost use Rattle.std.specs.Prelude.{◌≡◌, ◌≤◌, ◌<◌, ◌+◌, ◌-◌, ◌*◌, List, length, IfOk, IfSome, IfNone, option_map};
 ghost use Rattle.sector_disk.specs.Calls.{OnlyReads, device_in};
+ghost use Rattle.fsd_formats.specs.Record.{max_pages};
 ghost use Rattle.fsd_log.specs.Scan.{IsEnd, place_of, tape, room_at, last_number, record_here, entered, next};
 ghost use Rattle.log_thirds.specs.Copies.{AreCopies, entry_in};
 ghost use Rattle.log_thirds.specs.Disk.{reads};
@@ -115,7 +116,7 @@ fn find<M: Machine>(
     ensures reads { OnlyReads M.Machine (device_in read_failed_at result) m.old m.new }
     ensures fits { IfOk result (λ o. IfSome o (λ found. at + (2 * found.n + 5) ≤ end)) }
     ensures counted { IfOk result (λ o. IfSome o (λ found. found.n ≡ length found.pages.items)) }
-    ensures few { IfOk result (λ o. IfSome o (λ found. found.n ≤ 96)) }
+    ensures few { IfOk result (λ o. IfSome o (λ found. found.n ≤ max_pages)) }
     ensures numbered { IfOk result (λ o. IfSome o (λ _. number < last_number)) }
     ensures copied { IfOk result (λ o. IfSome o (λ found. AreCopies (record { epoch = anchor.now.epoch; number = number }) (length found.pages.items) scratch.new.copies.items)) }
     ensures kept { IfOk result (λ o. IfNone o (scratch.new.copies ≡ scratch.old.copies)) }

@@ -68,7 +68,8 @@ impl Log {
     ghost use Rattle.sector_disk.specs.Image.{stand, IsWorn, open_damage};
     ghost use Rattle.log_thirds.specs.Seen.{ScansOn, LogOn};
     ghost use Rattle.sector_disk.specs.Machine.{LeavesOnly, Holds, wrote};
-    ghost use Rattle.fsd_formats.specs.Record.{are_pages, AreStamped};
+    ghost use Rattle.fsd_formats.specs.Record.{max_pages, are_pages, AreStamped};
+    ghost use Rattle.log_record.specs.declared.judging.TheConstants.{RECORD_BYTES};
     ghost use Rattle.fsd_log.specs.Laid.{laid_bytes, slices};
     ghost use Rattle.fsd_log.specs.Scan.{Placed, HasRoom, spot_for, place_of};
     ghost use Rattle.log_thirds.specs.LogValue.{FitsLayout};
@@ -126,7 +127,7 @@ impl Log {
         requires first { 1 ≤ anchor.now.first }
         requires epoch { 1 ≤ anchor.now.epoch }
         requires sectors { layout.now.sectors ≤ (M.report m.old).sectors }
-        requires long { length buffer.items ≡ 100864 }
+        requires long { length buffer.items ≡ RECORD_BYTES }
         requires slots { slots.items ≡ replicate layout.now.pages None }
         requires copies { scratch.copies.items ≡ [] }
         ensures reads { OnlyReads M.Machine (device_in read_failed_at result) m.old m.new }
@@ -226,7 +227,7 @@ impl Log {
 
     /// Where a record of `n` pages goes.
     pub fn room(&self, n: u32) -> Place
-        requires { n ≤ 96 }
+        requires { n ≤ max_pages }
         ensures { GoesAt self.now n result }
     {
         let third = self.layout.third();
@@ -241,7 +242,7 @@ impl Log {
 
     // Where a record of n pages goes on the tape.
     fn spot(&self, n: u32) -> (u32, u32)
-        requires few { n ≤ 96 }
+        requires few { n ≤ max_pages }
         requires room { HasRoom self.now.layout n self.now.head }
         ensures at { result.0 ≡ (spot_for self.now.layout n self.now.head).at }
         ensures end { result.1 ≡ (spot_for self.now.layout n self.now.head).end }

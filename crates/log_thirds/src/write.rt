@@ -3,7 +3,9 @@ ghost use Rattle.std.specs.Prelude.{◌≡◌, ◌≤◌, ◌+◌, ◌*◌, leng
 ghost use Rattle.sector_disk.specs.Calls.{WritesDisk, device_in, failed_at};
 ghost use Rattle.sector_disk.specs.Image.{stand};
 ghost use Rattle.sector_disk.specs.Machine.{Holds, wrote};
+ghost use Rattle.fsd_formats.specs.Record.{max_pages};
 ghost use Rattle.fsd_log.specs.Laid.{laid_bytes};
+ghost use Rattle.log_record.specs.declared.judging.TheConstants.{RECORD_BYTES};
 ghost use Rattle.log_thirds.specs.Append.{StandsInPart};
 
 use log_record::lay;
@@ -19,9 +21,9 @@ pub(crate) fn write_record<M: Machine>(
     images: &[u8],
     buffer: &mut [u8],
 ) -> Result<(), Failed>
-    requires few { length pages.now ≤ 96 }
+    requires few { length pages.now ≤ max_pages }
     requires long { length images.now ≡ 512 * length pages.now }
-    requires room { length buffer.old ≡ 100864 }
+    requires room { length buffer.old ≡ RECORD_BYTES }
     requires in_range { place + (2 * length pages.now + 5) ≤ (M.report m.old).sectors }
     ensures writes { WritesDisk M.Machine (device_in failed_at result)
         (StandsInPart place (laid_bytes (record { epoch = epoch; number = number }) pages.now images.now) (2 * length pages.now + 5)) m.old m.new }

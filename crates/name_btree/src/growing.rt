@@ -1,7 +1,7 @@
 //! What is put into a page, which is parted where it is too much for one.
 ghost use Rattle.std.specs.Prelude.{◌≡◌, ◌+◌, ◌<◌, ◌≤◌, None, length, true, false};
 ghost use Rattle.std.specs.List.{AllByRecursion, flat_map};
-ghost use Rattle.fsd_formats.specs.NamePage.{FitsEntry, FitsSeparator, entry_bytes, is_entry};
+ghost use Rattle.fsd_formats.specs.NamePage.{FitsEntry, FitsSeparator, entry_bytes, is_entry, room};
 ghost use Rattle.name_btree.specs.Draft.{drafted, AreSheets, TakesSheets};
 ghost use Rattle.name_btree.specs.Grown.{Takes, Over, most_parted, front_came, FitsTwoLeaves, FitsTwoInteriors, IsGrown, AreLeavesOf, AreInteriorsOf};
 ghost use Rattle.name_page.specs.Edits.{with_entry};
@@ -11,7 +11,8 @@ ghost use Rattle.name_page.specs.Pages.{changes, is_spare, with_images, IsReache
 use crate::draft::{Draft, take_page};
 use fsd_formats::{Entry, Separator};
 use name_page::{
-    Entries, EntryList, Pages, SeparatorList, entries_with, leaf_cut, middle, text_with, used,
+    Entries, EntryList, PAGE_ROOM, Pages, SeparatorList, entries_with, leaf_cut, middle, text_with,
+    used,
 };
 
 /// What became of a page: it has all, or there are two with a separator between them.
@@ -61,7 +62,7 @@ fn grow_leaf<T: Pages>(t: &mut T, draft: &mut Draft, page: u32, entries: &EntryL
     ensures reached { (T.step t.new).reached ≡ (T.step t.old).reached }
 {
     let entries = entries.as_slice();
-    if used(entries) <= 488 {
+    if used(entries) <= PAGE_ROOM {
         draft.put_leaf(t, page, entries);
         return Grown::Whole;
     }
@@ -123,7 +124,7 @@ pub(crate) fn grow_leaf_with<T: Pages>(
     requires reached { IsReached (T.step t.old) page }
     requires used { is_spare (T.step t.old).spares page ≡ false }
     requires few { length entries.now ≤ 18 }
-    requires most { length (flat_map entry_bytes entries.now) ≤ 488 }
+    requires most { length (flat_map entry_bytes entries.now) ≤ room }
     requires entries { FitsTwoLeaves page (with_entry entry.now entries.now) }
     requires entry { is_entry entry.now ≡ true }
     requires fits { FitsEntry entry.now }
@@ -137,7 +138,7 @@ pub(crate) fn grow_leaf_with<T: Pages>(
     ensures reached { (T.step t.new).reached ≡ (T.step t.old).reached }
 {
     let text = text_with(entries, entry);
-    if text.bytes.len() <= 488 {
+    if text.bytes.len() <= PAGE_ROOM {
         draft.put_text(t, page, &text);
         return Grown::Whole;
     }

@@ -2,7 +2,7 @@
 ghost use Rattle.std.specs.Prelude.{◌≡◌, ◌≢◌, ◌+◌, ◌-◌, ◌==◌, ◌<◌, ◌≤◌, ℕ, List, ◌∷◌, ◌++◌, OnOk, IfOk, IfErr, IfSome, Some, None, length, true, false, if◌then◌else◌};
 ghost use Rattle.std.specs.List.{AllByRecursion};
 ghost use Rattle.fsd_bytes.specs.Keys.{is_key};
-ghost use Rattle.fsd_formats.specs.NamePage.{is_page, FitsEntry, FitsSeparator};
+ghost use Rattle.fsd_formats.specs.NamePage.{is_page, room, FitsEntry, FitsSeparator};
 ghost use Rattle.fsd_formats.specs.NamePage as grammar;
 ghost use Rattle.fsd_table.specs.Pages.{page_at, children, entry_keys, separator_keys};
 ghost use Rattle.name_btree.specs.declared.trimming.Trimmed.TheVariants.{Whole};
@@ -13,6 +13,7 @@ ghost use Rattle.name_btree.specs.Trim.{IsFreeOrNone, child_of, AreEntries, AreW
 ghost use Rattle.name_page.specs.declared.node.Node.TheVariants.{Free};
 ghost use Rattle.name_page.specs.Node.{content_of};
 ghost use Rattle.name_page.specs.declared.pages.TheConstants.{MOST_CHANGED};
+ghost use Rattle.name_page.specs.declared.writing.TheConstants.{LEAST_USED};
 ghost use Rattle.name_page.specs.Looks.{OnlyReaches, Shows};
 ghost use Rattle.name_page.specs.Pages.{reaches, with_images, IsReached};
 ghost use Rattle.name_page.specs.Parting.{used_by};
@@ -24,8 +25,8 @@ use fsd_bytes::Key;
 use fsd_formats::{Entry, Separator};
 use fsd_table::Child;
 use name_page::{
-    EntryList, JoinedList, Node, Pages, SeparatorList, Ways, WideList, joined, joined_ways,
-    leaf_cut, listed, listed_ways, used, ways_replaced, ways_without,
+    EntryList, JoinedList, LEAST_USED, Node, PAGE_ROOM, Pages, SeparatorList, Ways, WideList,
+    joined, joined_ways, leaf_cut, listed, listed_ways, used, ways_replaced, ways_without,
 };
 
 /// What is left of a page: it has all of it, or it is too little for a page.
@@ -62,13 +63,13 @@ pub(crate) fn trim_leaf<T: Pages>(
     requires draft { IsDraft (T.step t.now) draft.old }
     requires page { MayHave (T.step t.now) page }
     requires entries { AreEntries entries.items }
-    requires most { used_by entries.items ≤ 488 }
+    requires most { used_by entries.items ≤ room }
     ensures draft { IsDraft (T.step t.now) draft.new }
     ensures freed { draft.new.freed.items ≡ draft.old.freed.items }
     ensures put { IsLeafPut (T.step t.now) draft.old.sheets.items draft.new.sheets.items page entries.items result }
     ensures root { IsRootLeft page result }
 {
-    if page != 0 && used(entries.as_slice()) < 190 {
+    if page != 0 && used(entries.as_slice()) < LEAST_USED {
         return Trimmed::Leaf(entries);
     }
     draft.put_leaf(t, page, entries.as_slice());
@@ -197,13 +198,13 @@ fn put_leaves<T: Pages>(
     requires pair { IsPair above.now ways.now.0 ways.now.1 pair }
     requires few { length list.now ≤ 38 }
     requires entries { AreEntries list.now }
-    requires least { 190 ≤ used_by list.now }
-    requires most { used_by list.now ≤ 678 }
+    requires least { LEAST_USED ≤ used_by list.now }
+    requires most { used_by list.now ≤ room + LEAST_USED }
     requires within { pair_fits above.now ways.now.0 ways.now.1 pair (entry_keys list.now) ≡ true }
     ensures draft { IsDraft (T.step t.now) draft.new }
     ensures put { AreLeavesMended (T.step t.now) draft.old draft.new above.now.page ways.now.0 ways.now.1 pair list.now result }
 {
-    if used(list) <= 488 {
+    if used(list) <= PAGE_ROOM {
         draft.put_leaf(t, pair.left, list);
         return join_pair(t, draft, above, ways, pair);
     }

@@ -8,8 +8,9 @@ ghost use Rattle.name_page.specs.Lookups.{is_after};
 ghost use Rattle.fsd_formats.specs.NamePage.{room, read_page};
 ghost use Rattle.name_page.specs.Reading.{head_of};
 
+use crate::writing::{LEAST_USED, PAGE_ROOM};
 use fsd_bytes::{FileName, Key, u8_at, u16_at, u32_at};
-use fsd_formats::{Page, PageKind};
+use fsd_formats::{MOST_KEEP, MOST_LENGTH, Page, PageKind};
 use thiserror::Error;
 
 /// The place of the first field that the grammar refuses.
@@ -191,9 +192,9 @@ fn check_numbers(b: &[u8; 512], place: usize, limit: usize, last: bool) -> Resul
         (λ end. (numbers_fault place limit last b.now ≡ None) × (end ≡ place + 19 + 6 * u8_at (place + 18) b.now) × (end ≤ limit))
         (λ fault. numbers_fault place limit last b.now ≡ Some fault.place) }
 {
-    check(place + 4, u16_at(b, place + 4) <= 999)?;
+    check(place + 4, u32::from(u16_at(b, place + 4)) <= MOST_KEEP)?;
     let length = u32_at(b, place + 14);
-    check(place + 14, length <= 4_193_792)?;
+    check(place + 14, length <= MOST_LENGTH)?;
     check_runs(b, place + 18, limit, last, 1 + length.div_ceil(512))
 }
 
@@ -306,8 +307,8 @@ fn used_fits(page: u32, kind: u8, count: u16, used: u16) -> bool
     match kind {
         0 => used == 0,
         1 => {
-            let least = if page == 0 { 0 } else { 190 };
-            (least <= used && used <= 488) && (count != 0 || used == 0)
+            let least = if page == 0 { 0 } else { LEAST_USED as u16 };
+            (least <= used && used <= PAGE_ROOM as u16) && (count != 0 || used == 0)
         }
         _ => u32::from(used) == 4 + 49 * u32::from(count),
     }
@@ -349,6 +350,6 @@ fn check_page(b: &[u8; 512], page: u32, p: u32) -> Result<Page, PageFault>
     let head = check_head(b, page)?;
     check_contents(b, head, p)?;
     let used = usize::from(head.used);
-    check_zeros(b, 488 - used, 24 + used)?;
+    check_zeros(b, PAGE_ROOM - used, 24 + used)?;
     Ok(head)
 }

@@ -35,5 +35,6 @@ pub use ways::{
     ways_without,
 };
 pub use writing::{
-    entry_len, stamp_page, write_entries, write_free, write_interior, write_leaf, write_ways,
+    LEAST_USED, PAGE_ROOM, entry_len, stamp_page, write_entries, write_free, write_interior,
+    write_leaf, write_ways,
 };

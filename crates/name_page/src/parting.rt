@@ -1,12 +1,13 @@
 //! What is too much for one page, in two.
-ghost use Rattle.std.specs.Prelude.{◌≡◌, ◌<◌, ◌≤◌, ◌&&◌, ℕ, Some, true, length, take, drop, nat_lt, slice_get};
+ghost use Rattle.std.specs.Prelude.{◌≡◌, ◌<◌, ◌≤◌, ◌+◌, ◌&&◌, ℕ, Some, true, length, take, drop, nat_lt, slice_get};
 ghost use Rattle.std.specs.List.{flat_map, list_all};
 ghost use Rattle.fsd_bytes.specs.Keys.{is_key};
 ghost use Rattle.fsd_formats.specs.NamePage.{is_entry, are_ascending, entry_bytes, room};
 ghost use Rattle.fsd_table.specs.Pages.{entry_keys, separator_keys};
 ghost use Rattle.name_page.specs.Parting.{AreLeaves, AreInteriors};
+ghost use Rattle.name_page.specs.declared.writing.TheConstants.{LEAST_USED};
 
-use crate::writing::entry_len;
+use crate::writing::{LEAST_USED, entry_len};
 use fsd_formats::{Entry, Separator};
 
 /// Where entries that are too many for one leaf are parted in two: behind the fewest that a leaf may have.
@@ -14,14 +15,14 @@ pub fn leaf_cut(entries: &[Entry]) -> usize
     requires entries { list_all is_entry entries.now ≡ true }
     requires order { are_ascending (entry_keys entries.now) ≡ true }
     requires many { room < length (flat_map entry_bytes entries.now) }
-    requires few { length (flat_map entry_bytes entries.now) ≤ 678 }
+    requires few { length (flat_map entry_bytes entries.now) ≤ room + LEAST_USED }
     ensures front { 0 < result }
     ensures behind { result < length entries.now }
     ensures leaves { AreLeaves (take result entries.now) (drop result entries.now) }
 {
     let mut used = 0;
     for (i, entry) in entries.iter().enumerate() {
-        if used >= 190 {
+        if used >= LEAST_USED {
             return i;
         }
         used += entry_len(entry);

@@ -13,6 +13,12 @@ use fsd_bytes::{put_bytes, put_u8, put_u16, put_u32, u32_at};
 use fsd_formats::{Entry, Separator};
 use run_table::Runs;
 
+/// As many bytes as a page has behind its head.
+pub const PAGE_ROOM: usize = 488;
+
+/// As few bytes as the entries of a leaf other than the root take.
+pub const LEAST_USED: usize = 190;
+
 /// How many bytes the entry takes in a leaf: 27 to 108.
 pub fn entry_len(e: &Entry) -> usize
     ensures value { result ≡ length (entry_bytes e.now) }
@@ -60,7 +66,7 @@ pub fn stamp_page(out: &mut [u8; 512], epoch: u32, number: u32)
 
 // The head of a page, and zeros.
 pub(crate) fn put_head(out: &mut [u8; 512], kind: u8, count: u16, used: u16, page: u32)
-    ensures { out.new ≡ head kind count used page (stamp_at 16 out.old) ++ replicate 488 0 }
+    ensures { out.new ≡ head kind count used page (stamp_at 16 out.old) ++ replicate room 0 }
 {
     let (epoch, number) = (u32_at(out, 16), u32_at(out, 20));
     let mut b = [0; 512];
@@ -75,9 +81,9 @@ pub(crate) fn put_head(out: &mut [u8; 512], kind: u8, count: u16, used: u16, pag
 }
 
 // The bytes of entries, one after another.
-fn contents_of(entries: &[Entry]) -> ArrayVec<u8, 488>
+fn contents_of(entries: &[Entry]) -> ArrayVec<u8, PAGE_ROOM>
     requires entries { IsTrue (list_all is_entry entries.now) }
-    requires room { length (flat_map entry_bytes entries.now) ≤ 488 }
+    requires room { length (flat_map entry_bytes entries.now) ≤ room }
     ensures { result.items ≡ flat_map entry_bytes entries.now }
 {
     let mut contents = ArrayVec::new();
@@ -90,7 +96,7 @@ fn contents_of(entries: &[Entry]) -> ArrayVec<u8, 488>
 }
 
 // The bytes of a first child and of separators.
-fn ways_of(first: u32, separators: &[Separator]) -> ArrayVec<u8, 488>
+fn ways_of(first: u32, separators: &[Separator]) -> ArrayVec<u8, PAGE_ROOM>
     requires keys { IsTrue (list_all (λ s. is_key s.key) separators.now) }
     requires room { length separators.now ≤ 9 }
     ensures { result.items ≡ u32 first ++ flat_map separator_bytes separators.now }

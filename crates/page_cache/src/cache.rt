@@ -19,6 +19,9 @@ pub type Frame = usize;
 // The most frames that a cache has.
 const MOST_FRAMES: usize = 1024;
 
+/// As many pages as may be dirty: those of one record.
+pub const MOST_DIRTY: usize = 96;
+
 // The frame of a page, and how often the page is pinned.
 #[derive(Clone, Copy)]
 pub struct Slot {
@@ -31,7 +34,7 @@ pub struct Slot {
 pub struct Cache {
     pool: FramePool,
     order: LruCache<u32, Slot>,
-    dirty: ArrayVec<u32, 96>,
+    dirty: ArrayVec<u32, MOST_DIRTY>,
     // For each frame the number of pages of a table in which the grammar accepts its page, or 0 where that is not known.
     accepted: [u32; MOST_FRAMES],
 }
@@ -56,6 +59,7 @@ impl Cache {
     ghost use Rattle.page_cache.specs.Accepted.{content_in};
     ghost use Rattle.page_cache.specs.Fetch.{fetch_failed_at, LostCause, IsNotLost};
     ghost use Rattle.page_cache.specs.Lends.{LendsBytes, LendsFrames};
+    ghost use Rattle.page_cache.specs.declared.cache.TheConstants.{MOST_DIRTY};
 
     /// A cache of so many frames, with no page in memory.
     pub fn new(alloc: Global, frames: usize) -> Result<Cache, AllocError>
@@ -254,7 +258,7 @@ impl Cache {
     /// The page differs from what the source has.
     pub fn dirty(&mut self, page: u32)
         requires resident { IsResident self.old page }
-        requires room { IsTrue (is_one_of self.old.dirty page) ⊎ (length self.old.dirty < 96) }
+        requires room { IsTrue (is_one_of self.old.dirty page) ⊎ (length self.old.dirty < MOST_DIRTY) }
         ensures list { self.new ≡ with_dirty page self.old }
         ensures busy { busy self.new ≤ busy self.old + 1 }
     {
@@ -264,7 +268,7 @@ impl Cache {
     }
 
     /// The pages that are dirty, in the order in which they became so.
-    pub fn dirty_list(&self) -> &ArrayVec<u32, 96>
+    pub fn dirty_list(&self) -> &ArrayVec<u32, MOST_DIRTY>
         ensures value { result.now.items ≡ self.now.dirty }
         ensures valid { IsCache self.now }
     {

@@ -6,6 +6,6 @@ mod fault;
 mod order;
 mod source;
 
-pub use cache::{Cache, Frame};
+pub use cache::{Cache, Frame, MOST_DIRTY};
 pub use fault::CacheFault;
 pub use source::PageSource;

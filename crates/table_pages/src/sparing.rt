@@ -3,6 +3,7 @@ ghost use Rattle.std.specs.Prelude.{◌≡◌, ◌⊎◌, ℕ, ◌+◌, ◌-◌,
 ghost use Rattle.fsd_bytes.specs.declared.refusal.Refusal.TheVariants.{NameTableFull};
 ghost use Rattle.name_page.specs.Pages.{IsOuter, outer_in};
 ghost use Rattle.page_cache.specs.Cache.{pins_of, is_one_of, with_pins, with_dirty};
+ghost use Rattle.page_cache.specs.declared.cache.TheConstants.{MOST_DIRTY};
 ghost use Rattle.table_pages.specs.Bringing.{HasRoom};
 ghost use Rattle.table_pages.specs.Sparing.{AreSpare, SparesOnly};
 
@@ -124,7 +125,7 @@ pub fn take_spare(
     requires some { 0 < length spares.old.items }
     requires pinned { (q : ℕ) → count_by (nat_eq q) spares.old.items ≤ pins_of cache.old q }
     requires spares { AreSpare free.old spares.old.items }
-    requires room { length cache.old.dirty < 96 }
+    requires room { length cache.old.dirty < MOST_DIRTY }
     ensures first { spares.old.items ≡ result ∷ spares.new.items }
     ensures cache { cache.new ≡ with_dirty result (with_pins result (pins_of cache.old result - 1) cache.old) }
     ensures free { free.new ≡ slice_set free.old result false }

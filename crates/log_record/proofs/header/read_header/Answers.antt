@@ -4,8 +4,8 @@ use Rattle.fsd_formats.specs.Record.{Stamp, header_bytes}
 use Rattle.log_record.proofs.header.read_header.Goals as goal
 use Rattle.log_record.proofs.Loops.{many_none, unspelled_none}
 
-pub returns-then-n-gt96 : goal.returns-then-n-gt96
-returns-then-n-gt96 c = sym (many_none c.args.p (record { epoch = c.args.epoch; number = c.args.number }) c.args.b.now (omega (arith, c.u16_at-n.ensures)))
+pub returns-then-from-gt-MOST_PAGES : goal.returns-then-from-gt-MOST_PAGES
+returns-then-from-gt-MOST_PAGES c = sym (many_none c.args.p (record { epoch = c.args.epoch; number = c.args.number }) c.args.b.now (omega (arith, c.u16_at-n.ensures)))
 
 pub returns-else-eq : goal.returns-else-eq
 returns-else-eq c =

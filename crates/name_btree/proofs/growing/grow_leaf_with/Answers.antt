@@ -11,8 +11,8 @@ use Rattle.name_page.proofs.LeafLaws.{is_between_from}
 use Rattle.name_btree.proofs.OverLaws.{drafted_over, grown_whole}
 use Rattle.name_btree.proofs.growing.grow_leaf_with.Goals as goal
 
-pub returns-then-len-le488-clause-grown : goal.returns-then-len-le488-clause-grown
-returns-then-len-le488-clause-grown g c = λ pages same.
+pub returns-then-len-le-PAGE_ROOM-clause-grown : goal.returns-then-len-le-PAGE_ROOM-clause-grown
+returns-then-len-le-PAGE_ROOM-clause-grown g c = λ pages same.
     let step = g.T.Pages.step c.args.t.now in
     let page = c.args.page in
     let old = c.args.draft.now.sheets.items in

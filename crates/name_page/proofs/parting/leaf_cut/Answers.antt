@@ -4,9 +4,9 @@ use Rattle.fsd_formats.specs.NamePage.{entry_bytes}
 use Rattle.name_page.proofs.CutPageLaws.{leaves_at}
 use Rattle.name_page.proofs.parting.leaf_cut.Goals as goal
 
-pub returns-then-used-ge190-clause-leaves : goal.returns-then-used-ge190-clause-leaves
-returns-then-used-ge190-clause-leaves c =
+pub returns-then-used-ge-LEAST_USED-clause-leaves : goal.returns-then-used-ge-LEAST_USED-clause-leaves
+returns-then-used-ge-LEAST_USED-clause-leaves c =
     let entries = c.args.entries.now in
-    let least : 190 ≤ length (flat_map entry_bytes (take c.loop-i.i entries)) = omega (arith, c.loop-i.invariant.0, c.if-used-ge190.true) in
+    let least : 190 ≤ length (flat_map entry_bytes (take c.loop-i.i entries)) = omega (arith, c.loop-i.invariant.0, c.if-used-ge-LEAST_USED.true) in
     let most : length (flat_map entry_bytes (take c.loop-i.i entries)) ≤ 297 = omega (arith, c.loop-i.invariant.0, c.loop-i.invariant.1) in
     leaves_at entries c.loop-i.i c.requires.entries c.requires.order c.requires.many c.requires.few least most
