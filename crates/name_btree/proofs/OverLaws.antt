@@ -87,7 +87,6 @@ module _ (images : List (List ℕ)) (a b : Step) (came : List ℕ) (same : lengt
     most_changed = t.most_changed;
     promised = t.promised;
     changes = t.changes;
-    free = t.free;
     taken = record { spare = t.taken.spare; apart = t.taken.apart; spares = t.taken.spares };
     changed = t.changed;
     reached = λ q h. (h.0, (t.reached q (subst (λ (n : ℕ). q < n) same h.0, h.1)).1);

@@ -1,7 +1,7 @@
 -- Which pages are spare, once an entry was put in.
 use Rattle.std.proofs.Common.{◌≡◌, ℕ, ◌+◌, ◌-◌, ◌<◌, ◌≤◌, Bool, true, false, not, ◌&&◌, ◌||◌, List, [], ◌∷◌, ◌++◌, length, get_or, refl, sym, ap, subst, ◌∙◌, arith, length-set, get_or-set_other}
 use Rattle.std.proofs.Math.Bool.{or_assoc, or_comm}
-use Rattle.std.specs.Prelude.{◌==◌, slice_set, count_by}
+use Rattle.std.specs.Prelude.{◌==◌, slice_set}
 use Rattle.std.proofs.lemmas.List.{get_or-set_same}
 use Rattle.std.proofs.lemmas.Bool.{eqb-true, eq-eqb}
 use Rattle.run_table.specs.Space.{contains}
@@ -13,16 +13,16 @@ use Rattle.fsd_table.specs.Tree.{pages_of, table_of, IsTree}
 use Rattle.fsd_forest.specs.Forest.{count_of}
 use Rattle.fsd_forest.proofs.CountLaws.{count_append, count_nothing, there_counts, counts_there, out_counts, differ_counts}
 use Rattle.fsd_forest.proofs.LowLaws.{all_within}
-use Rattle.name_page.specs.Pages.{Step, free_count, is_spare, with_spare}
+use Rattle.name_page.specs.Pages.{Step, is_spare, with_spare}
 use Rattle.name_page.specs.Edits.{with_entry}
 use Rattle.name_btree.specs.declared.draft.Draft.{Draft}
 use Rattle.name_btree.specs.declared.draft.Sheet.{Sheet}
-use Rattle.name_btree.specs.Draft.{drafted, committed, freed}
-use Rattle.name_btree.specs.Grown.{AreUsed, Inserts}
+use Rattle.name_btree.specs.Draft.{drafted, committed, freed, IsTaken}
+use Rattle.name_btree.specs.Grown.{AreUsed, Inserts, TakesAtMost}
 use Rattle.name_btree.specs.Map.{IsTable, HasTable, without_all, LeavesTree}
 use Rattle.name_btree.proofs.BranchLaws.{taken_apart}
+use Rattle.name_btree.proofs.CommitLaws.{freed_spare}
 use Rattle.name_btree.proofs.DraftLaws.{committed_spares, drafted_length}
-use Rattle.name_btree.proofs.TakeLaws.{one_more}
 
 -- ---- pages that are made spare
 
@@ -42,15 +42,29 @@ freed_at (p ∷ pages) step q low =
     ∙ sym (or_assoc (contains pages q) (p == q) (is_spare step.spares q))
     ∙ ap (λ (b : Bool). b || is_spare step.spares q) (or_comm (contains pages q) (p == q))
 
-freed_more : (pages : List ℕ) (step : Step) → free_count step ≤ free_count (freed pages step)
-freed_more [] step = omega arith
-freed_more (p ∷ pages) step = at_most (free_count step) (free_count (with_spare p step)) (free_count (freed pages (with_spare p step))) (one_more step.spares p) (freed_more pages (with_spare p step))
-  where
-    at_most : (x y z : ℕ) → x ≤ y → y ≤ z → x ≤ z
-    at_most x y z a b = omega arith
+-- ---- pages that were taken
 
-pub commit_free : (pages : List ℕ) (sheets : List Sheet) (step : Step) → free_count step ≤ free_count (freed pages (committed sheets step))
-commit_free pages sheets step = subst (λ (n : ℕ). n ≤ free_count (freed pages (committed sheets step))) (ap (count_by (λ spare. spare)) (committed_spares sheets step)) (freed_more pages (committed sheets step))
+pub none_taken : (most : ℕ) (old new : List Bool) → new ≡ old → TakesAtMost most old new
+none_taken most old new same = record {
+  pages = [];
+  few = omega arith;
+  each = λ page was gone. let still : is_spare new page ≡ is_spare old page = ap (λ (spares : List Bool). is_spare spares page) same in cc;
+}
+
+pub came_taken : (most : ℕ) (old cleared last new : Step) (came pages : List ℕ) (sheets : List Sheet) → cleared.spares ≡ old.spares → length came ≤ most → IsTaken cleared last came → new ≡ freed pages (committed sheets last)
+    → TakesAtMost most old.spares new.spares
+came_taken most old cleared last new came pages sheets same few taken step = record {
+  pages = came;
+  few = few;
+  each = λ page was gone. by page was gone (contains came page) refl;
+}
+  where
+    by : (page : ℕ) → is_spare old.spares page ≡ true → is_spare new.spares page ≡ false → (b : Bool) → contains came page ≡ b → contains came page ≡ true
+    by page was gone true is = is
+    by page was gone false is =
+        let last_spare : is_spare last.spares page ≡ true = taken.spares page ∙ (λ j. is_spare (same j) page && not (is j)) ∙ ap (λ (b : Bool). b && true) was in
+        let still : is_spare new.spares page ≡ true = ap (λ (s : Step). is_spare s.spares page) step ∙ freed_spare pages (committed sheets last) page (ap (λ (spares : List Bool). is_spare spares page) (committed_spares sheets last) ∙ last_spare) in
+        cc
 
 -- ---- pages that are counted
 

@@ -1,9 +1,8 @@
 -- Pages that are taken one after another.
-use Rattle.std.proofs.Common.{◌≡◌, ◌⊎◌, inl, inr, ℕ, zero, suc, ◌+◌, ◌<◌, ◌≤◌, Bool, true, false, cond, not, ◌&&◌, ◌||◌, List, [], ◌∷◌, ◌++◌, length, get_or, refl, sym, ap, subst, ◌∙◌, arith, length-append, get_or-set_other}
-use Rattle.std.specs.Prelude.{◌==◌, IsSome, slice_set, count_by}
+use Rattle.std.proofs.Common.{◌≡◌, ◌⊎◌, inl, inr, ℕ, ◌+◌, ◌<◌, ◌≤◌, Bool, true, false, cond, not, ◌&&◌, ◌||◌, List, [], ◌∷◌, ◌++◌, length, get_or, refl, sym, ap, subst, ◌∙◌, arith, length-append, get_or-set_other}
+use Rattle.std.specs.Prelude.{◌==◌, IsSome, slice_set}
 use Rattle.std.specs.List.{AllByRecursion}
 use Rattle.std.proofs.lemmas.List.Folds.{list_any-append}
-use Rattle.std.proofs.lemmas.List.Sums.{sum_by-cons}
 use Rattle.std.proofs.lemmas.Bool.{false_from_ne_true, eqb-true, eq-eqb, or_cases}
 use Rattle.fsd_forest.specs.Forest.{Disjoint}
 use Rattle.fsd_forest.proofs.KeepLaws.{in_left, in_right}
@@ -12,8 +11,7 @@ use Rattle.run_table.specs.Space.{contains}
 use Rattle.run_table.proofs.SectorLaws.{each_in}
 use Rattle.fsd_formats.specs.NamePage.{read_page}
 use Rattle.fsd_table.proofs.BoundLaws.{all_append, all_weaker}
-use Rattle.fsd_forest.proofs.CountLaws.{one_where}
-use Rattle.name_page.specs.Pages.{Step, is_one_of, is_spare, changes, free_count, with_one, with_taken, IsReached}
+use Rattle.name_page.specs.Pages.{Step, is_one_of, is_spare, changes, with_one, with_taken, IsReached}
 use Rattle.name_btree.specs.declared.draft.Sheet.{Sheet}
 use Rattle.name_btree.specs.Draft.{IsSheet, AreSheets, MayGo, IsTaken}
 use Rattle.name_btree.specs.Grown.{Takes}
@@ -57,23 +55,6 @@ still_used : (b x : Bool) → b ≡ false → (b && not x) ≡ false
 still_used true x e = absurd cc
 still_used false x e = refl
 
-count_cons : (b : Bool) (spares : List Bool) → count_by (λ spare. spare) (b ∷ spares) ≡ one_where b + count_by (λ spare. spare) spares
-count_cons b spares = sum_by-cons (λ (t : Bool). cond t 1 0) b spares
-
-at_most_one : (b : Bool) → one_where b ≤ 1
-at_most_one true = omega arith
-at_most_one false = omega arith
-
-pub one_less : (spares : List Bool) (page : ℕ) → count_by (λ spare. spare) spares ≤ count_by (λ spare. spare) (slice_set spares page false) + 1
-one_less [] page = omega arith
-one_less (b ∷ spares) zero = omega (arith, count_cons b spares, count_cons false spares, at_most_one b)
-one_less (b ∷ spares) (suc page) = omega (arith, one_less spares page, count_cons b spares, count_cons b (slice_set spares page false))
-
-pub one_more : (spares : List Bool) (page : ℕ) → count_by (λ spare. spare) spares ≤ count_by (λ spare. spare) (slice_set spares page true)
-one_more [] page = omega arith
-one_more (b ∷ spares) zero = omega (arith, count_cons b spares, count_cons true spares, at_most_one b)
-one_more (b ∷ spares) (suc page) = omega (arith, one_more spares page, count_cons b spares, count_cons b (slice_set spares page true))
-
 -- ---- pages that are changed
 
 -- one that is among them now was before, or is this one
@@ -102,7 +83,6 @@ takes_one step page spare promised reached = record {
   most_changed = refl;
   promised = omega arith;
   changes = taken_changes step page;
-  free = one_less step.spares page;
   taken = taken_once step page spare;
   changed = λ q is. one_changed step.changed page q is;
   reached = λ q h. taken_kept step page q h;
@@ -127,7 +107,6 @@ takes_none old new images spares most still kept = record {
   most_changed = still.most_changed;
   promised = omega (arith, still.promised);
   changes = same_changes old new still;
-  free = omega (arith, ap (count_by (λ spare. spare)) spares);
   taken = record { spare = tt; apart = refl; spares = λ q. same_spares old.spares new.spares q spares };
   changed = λ q is. inl (ap (λ (pages : List ℕ). is_one_of pages q) (sym still.changed) ∙ is);
   reached = kept;
@@ -158,7 +137,6 @@ takes_then a b c xs ys s t = record {
   most_changed = t.most_changed ∙ s.most_changed;
   promised = omega (arith, s.promised, t.promised, length-append xs ys);
   changes = more (changes a) (changes b) (changes c) (length xs) (length ys) (length (xs ++ ys)) s.changes t.changes (length-append xs ys);
-  free = more (free_count a) (free_count b) (free_count c) (length xs) (length ys) (length (xs ++ ys)) s.free t.free (length-append xs ys);
   taken = taken_then a b c xs ys s.taken t.taken;
   changed = λ q is. elim (t.changed q is) [
     | inl then ↦ elim (s.changed q then) [

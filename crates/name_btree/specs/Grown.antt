@@ -1,5 +1,5 @@
 -- What becomes of a page that is given more than it had, and of those above it.
-use Rattle.std.specs.Prelude.{◌≡◌, ◌⊎◌, ℕ, ◌+◌, ◌≤◌, ◌<◌, ◌==◌, ◌&&◌, nat_lt, true, false, List, [], ◌∷◌, ◌++◌, length, take, drop, Option, Some, None, if◌then◌else◌, ⊤}
+use Rattle.std.specs.Prelude.{◌≡◌, ◌⊎◌, ℕ, ◌+◌, ◌≤◌, ◌<◌, ◌==◌, ◌&&◌, nat_lt, Bool, true, false, List, [], ◌∷◌, ◌++◌, length, take, drop, Option, Some, None, if◌then◌else◌, ⊤}
 use Rattle.std.specs.List.{flat_map, list_all, AllByRecursion}
 use Rattle.run_table.specs.Space.{contains, all_differ}
 use Rattle.fsd_bytes.specs.Keys.{is_key}
@@ -13,13 +13,19 @@ use Rattle.fsd_forest.specs.Forest.{Stay, Becomes, TreeBecomes}
 use Rattle.fsd_forest.specs.Parts.{left_part, right_part}
 use Rattle.name_page.specs.Edits.{with_entry}
 use Rattle.name_page.specs.Lookups.{entry_with, is_after}
-use Rattle.name_page.specs.Pages.{Step, changes, free_count, is_one_of, is_spare, IsReached}
+use Rattle.name_page.specs.Pages.{Step, changes, is_one_of, is_spare, IsReached}
 use Rattle.name_btree.specs.declared.draft.Sheet.{Sheet}
 use Rattle.name_btree.specs.declared.growing.Grown.{Grown}
 use Rattle.name_btree.specs.declared.growing.Grown.TheVariants.{Whole, Parted}
 use Rattle.name_btree.specs.Draft.{drafted, AreSheets, IsTaken}
 
 -- ---- pages that are taken
+
+-- each page that was spare and isn't now is one of so many at most
+pub record TakesAtMost (most : ℕ) (old new : List Bool) : Type 0 where
+  pub pages : List ℕ
+  pub few : length pages ≤ most
+  pub each : (page : ℕ) → is_spare old page ≡ true → is_spare new page ≡ false → contains pages page ≡ true
 
 -- a step that took some pages, and lost nothing else
 pub record Takes (old new : Step) (came : List ℕ) : Type 0 where
@@ -28,7 +34,6 @@ pub record Takes (old new : Step) (came : List ℕ) : Type 0 where
   pub most_changed : new.most_changed ≡ old.most_changed
   pub promised : old.promised ≤ new.promised + length came
   pub changes : changes old ≤ changes new + length came
-  pub free : free_count old ≤ free_count new + length came
   pub taken : IsTaken old new came
   pub changed : (q : ℕ) → is_one_of new.changed q ≡ true → (is_one_of old.changed q ≡ true) ⊎ (contains came q ≡ true)
   pub reached : (q : ℕ) → IsReached old q → IsReached new q

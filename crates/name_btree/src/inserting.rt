@@ -8,7 +8,7 @@ ghost use Rattle.fsd_table.specs.Pages.{page_at, keys_fit, entry_keys};
 ghost use Rattle.fsd_table.specs.Tree.{IsTree, table_of};
 ghost use Rattle.name_btree.specs.Draft.{drafted, AreSheets, IsDraft, TakesSheets};
 ghost use Rattle.name_btree.specs.Fault.{outer_told, FailsBy, FailsSpare, IsNoTree, IsAmong};
-ghost use Rattle.name_btree.specs.Grown.{Over, most_parted, most_taken, IsGrown, IsAboveGrown, IsSound, IsDivided, Grows, Inserts, BreaksGrowth, BreaksNew};
+ghost use Rattle.name_btree.specs.Grown.{Over, most_parted, most_taken, IsGrown, IsAboveGrown, IsSound, IsDivided, Grows, Inserts, BreaksGrowth, BreaksNew, TakesAtMost};
 ghost use Rattle.name_btree.specs.Map.{IsTable, HasTable, LeavesTree, without_all};
 ghost use Rattle.name_page.specs.Edits.{with_entry};
 ghost use Rattle.name_page.specs.Lookups.{entry_with};
@@ -29,8 +29,8 @@ use fsd_formats::Entry;
 use fsd_table::Child;
 use name_page::{Cut, Entries, Node, Pages, Ways, ways_before, ways_with};
 
-/// Puts an entry in, whose key no entry has, and takes those with two keys at most out. It takes 7 pages at most. Where it
-/// answers Broken it has walked all pages up to that one, and the step has ended.
+/// Puts an entry in, whose key no entry has, and takes those with two keys at most out. Of the pages that are spare it takes 7 at
+/// most, whatever it makes spare. Where it answers Broken it has walked all pages up to that one, and the step has ended.
 pub fn insert<T: Pages>(t: &mut T, entry: &Entry, gone: &ArrayVec<Key, 2>) -> Result<(), TreeFault>
     requires more { MOST_REACHED ≤ reaches (T.step t.old) }
     requires changes { MOST_CHANGED ≤ changes (T.step t.old) }
@@ -42,7 +42,7 @@ pub fn insert<T: Pages>(t: &mut T, entry: &Entry, gone: &ArrayVec<Key, 2>) -> Re
     ensures kept { OnErr result (OnlyWalks T.Pages (outer_told result) t.old t.new) }
     ensures reaches { reaches (T.step t.old) ≤ reaches (T.step t.new) + 30 }
     ensures changes { changes (T.step t.old) ≤ changes (T.step t.new) + 36 }
-    ensures taken { free_count (T.step t.old) ≤ free_count (T.step t.new) + 7 }
+    ensures taken { TakesAtMost 7 (T.step t.old).spares (T.step t.new).spares }
     ensures among { 0 < length (T.step t.old).images → IfErr result (IsAmong (length (T.step t.old).images)) }
     ensures inserted { OnOk result (T.trusted t.new → (height : ℕ) → IsTable (T.step t.old) height → HasTable (T.step t.new) (with_entry entry.now (without_all gone.now.items (table_of (T.step t.old).images height)))) }
     ensures full { let free = free_count (T.step t.old) in (result ≡ Err (TreeFault.Pages (NameTableFull free))) ↔ (free < 8) }

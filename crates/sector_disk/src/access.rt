@@ -1,5 +1,5 @@
 //! One read of a sector and one write of whole sectors, which say what any call keeps.
-ghost use Rattle.std.specs.Prelude.{◌≡◌, ◌<◌, ◌≤◌, ◌+◌, ◌/◌, ◌%◌, length, Ok, IfOk, OnOk, OnErr};
+ghost use Rattle.std.specs.Prelude.{◌≡◌, ◌<◌, ◌≤◌, ◌+◌, ◌/◌, ◌%◌, length, Ok, IfErr, IfOk, OnOk, OnErr};
 ghost use Rattle.sector_disk.specs.Image.{sector_at, stand};
 ghost use Rattle.sector_disk.specs.Machine.{Holds, Shows, Tears, Writes, wrote};
 ghost use Rattle.sector_disk.specs.Calls.{OnlyReads, WritesDisk, as_sector, device_in, failed_at};

@@ -120,7 +120,13 @@ impl Desk {
         make_room(&mut self.m, &self.layout, &mut self.cache)?;
         let home_a = self.home_a();
         let source = Newest::over(&self.log, &self.layout);
-        let mut table = Table::new(&mut self.m, &mut self.cache, &source, home_a, &mut self.free);
+        let mut table = Table::new(
+            &mut self.m,
+            &mut self.cache,
+            &source,
+            home_a,
+            &mut self.free,
+        );
         let answer = carry_out(&mut table, call);
         table.rest();
         Ok(answer)
@@ -133,7 +139,13 @@ impl Desk {
     {
         let home_a = self.home_a();
         let source = Newest::over(&self.log, &self.layout);
-        let mut table = Table::new(&mut self.m, &mut self.cache, &source, home_a, &mut self.free);
+        let mut table = Table::new(
+            &mut self.m,
+            &mut self.cache,
+            &source,
+            home_a,
+            &mut self.free,
+        );
         let walked = walk(&mut table, marks);
         table.rest();
         walked
@@ -145,7 +157,13 @@ impl Desk {
     {
         let home_a = self.home_a();
         let source = Newest::over(&self.log, &self.layout);
-        let mut table = Table::new(&mut self.m, &mut self.cache, &source, home_a, &mut self.free);
+        let mut table = Table::new(
+            &mut self.m,
+            &mut self.cache,
+            &source,
+            home_a,
+            &mut self.free,
+        );
         let image = image_of(&mut table, page);
         table.rest();
         image
@@ -155,7 +173,13 @@ impl Desk {
     pub(crate) fn spare(&mut self, count: u32) -> Result<(), Refusal> {
         let home_a = self.home_a();
         let source = Newest::over(&self.log, &self.layout);
-        let mut table = Table::new(&mut self.m, &mut self.cache, &source, home_a, &mut self.free);
+        let mut table = Table::new(
+            &mut self.m,
+            &mut self.cache,
+            &source,
+            home_a,
+            &mut self.free,
+        );
         let spared = table.spare(count);
         table.rest();
         spared

@@ -5,6 +5,7 @@ ghost use Rattle.fsd_files.specs.Answers.{entries_with_keep, entry_of};
 ghost use Rattle.fsd_files.specs.Volume.{entries_without};
 ghost use Rattle.fsd_formats.specs.NamePage.{is_entry, FitsEntry};
 ghost use Rattle.name_btree.specs.Fault.{outer_told, FailsSpare, FailsTable, IsAmong};
+ghost use Rattle.name_btree.specs.Grown.{TakesAtMost};
 ghost use Rattle.name_btree.specs.Path.{HasWayTo};
 ghost use Rattle.name_btree.specs.Replace.{WritesOne};
 ghost use Rattle.name_page.specs.declared.pages.TheConstants.{MOST_CHANGED, MOST_REACHED};
@@ -63,7 +64,7 @@ pub fn enter<T: Pages>(
     ensures pages { ChangesPages (T.step t.old) (T.step t.new) }
     ensures kept { OnErr result (OnlyWalks T.Pages (outer_told result) t.old t.new) }
     ensures changes { changes (T.step t.old) ≤ changes (T.step t.new) + 36 }
-    ensures taken { free_count (T.step t.old) ≤ free_count (T.step t.new) + 7 }
+    ensures taken { TakesAtMost 7 (T.step t.old).spares (T.step t.new).spares }
     ensures among { 0 < length (T.step t.old).images → IfErr result (IsAmong (length (T.step t.old).images)) }
     ensures entered { OnOk result (MakesTable T.Pages t.old t.new (with_planned plan.now (planned_entry plan.now serial bytes runs))) }
     ensures full { let free = free_count (T.step t.old) in (result ≡ Err (TreeFault.Pages (NameTableFull free))) ↔ (free < 8) }

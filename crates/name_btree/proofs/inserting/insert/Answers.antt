@@ -1,5 +1,4 @@
-use Rattle.std.proofs.Common.{◌≡◌, ◌∙◌, ◌-◌, inl, ℕ, Bool, List, None, length, ap, subst, arith}
-use Rattle.std.specs.Prelude.{count_by}
+use Rattle.std.proofs.Common.{◌≡◌, ◌∙◌, ◌-◌, inl, ℕ, List, None, length, ap, subst, arith}
 use Rattle.fsd_bytes.specs.declared.key.Key.{Key}
 use Rattle.name_page.specs.Pages.{Step, with_images, reaches, changes, free_count}
 use Rattle.fsd_bytes.specs.declared.refusal.Refusal.TheVariants.{NameTableFull}
@@ -19,7 +18,7 @@ use Rattle.name_btree.proofs.CommitLaws.{commit_reaches, commit_changes, commit_
 use Rattle.name_btree.proofs.MapLaws.{promised_walks}
 use Rattle.name_btree.proofs.DraftLaws.{drafted_length}
 use Rattle.name_btree.proofs.SheetLaws.{sheets_pages}
-use Rattle.name_btree.proofs.SpareLaws.{commit_free, inserted_table}
+use Rattle.name_btree.proofs.SpareLaws.{came_taken, inserted_table, none_taken}
 use Rattle.name_btree.proofs.inserting.insert.Given as given
 use Rattle.name_btree.proofs.WithinLaws.{among_since}
 use Rattle.name_btree.proofs.inserting.insert.Goals as goal
@@ -60,10 +59,12 @@ returns-clause-taken g c =
     let last = g.T.Pages.step c.insert_in.new.t in
     let d = c.insert_in.new.draft in
     let inserted = c.in_default-insert_in.ensures.inserted last.images (agrees_now last) in
-    let written = ap free_count c.commit.ensures.step in
-    let promised = ap free_count c.in_default.ensures.step in
-    let same = ap (count_by (λ spare. spare)) c.remove_all.ensures.calls.looks.spares in
-    omega (arith, written, commit_free d.freed.items d.sheets.items last, promised, same, inserted.takes.free, inserted.few)
+    let same = c.remove_all.ensures.calls.looks.spares ∙ ap (λ (s : Step). s.spares) c.in_default.ensures.step in
+    came_taken 7 (g.T.Pages.step c.args.t.now) (with_images last.images (g.T.Pages.step c.remove_all.new.t)) last (g.T.Pages.step c.commit.new.t) inserted.came d.freed.items d.sheets.items same inserted.few inserted.takes.taken c.commit.ensures.step
+
+pub returns-in-Err-clause-taken : goal.returns-in-Err-clause-taken
+returns-in-Err-clause-taken g c =
+    none_taken 7 (g.T.Pages.step c.args.t.now).spares (g.T.Pages.step c.spare.new.self).spares (ap (λ (s : Step). s.spares) c.in-Err.ensures.refused)
 
 pub returns-clause-inserted : goal.returns-clause-inserted
 returns-clause-inserted g c = λ trusted.
@@ -194,7 +195,7 @@ returns-in-Err-insert_in-clause-changes g c =
 pub returns-in-Err-insert_in-clause-taken : goal.returns-in-Err-insert_in-clause-taken
 returns-in-Err-insert_in-clause-taken g c =
     let w = walked_inserting g (goal.at.returns-in-Err-insert_in-clause-taken g c).After-fault_of-in-Err-insert_in in
-    omega (arith, ap (count_by (λ spare. spare)) w.spares)
+    none_taken 7 (g.T.Pages.step c.args.t.now).spares (g.T.Pages.step c.fault_of-in-Err-insert_in.new.t).spares w.spares
 
 pub returns-in-Err-insert_in-clause-fault : goal.returns-in-Err-insert_in-clause-fault
 returns-in-Err-insert_in-clause-fault g c = inl (fails_inserting g (goal.at.returns-in-Err-insert_in-clause-fault g c).After-fault_of-in-Err-insert_in)
@@ -265,8 +266,5 @@ returns-in-Err-remove_all-clause-changes g c =
 
 pub returns-in-Err-remove_all-clause-taken : goal.returns-in-Err-remove_all-clause-taken
 returns-in-Err-remove_all-clause-taken g c =
-    let old = g.T.Pages.step c.args.t.now in
-    let new = g.T.Pages.step c.fault_of.new.t in
-    let walks = walked_removing g (goal.at.returns-in-Err-remove_all-clause-taken g c).After-fault_of in
-    let same : free_count new ≡ free_count old = ap (λ (spares : List Bool). count_by (λ spare. spare) spares) walks.spares in
-    omega (arith, same)
+    let w = walked_removing g (goal.at.returns-in-Err-remove_all-clause-taken g c).After-fault_of in
+    none_taken 7 (g.T.Pages.step c.args.t.now).spares (g.T.Pages.step c.fault_of.new.t).spares w.spares
