@@ -5,5 +5,5 @@ mod laws;
 
 pub use laws::{
     entries_are_taken, pages_are_known, pages_are_read, resident_pages_are_shown,
-    tables_are_looked_up, untaken_entries_break, volumes_wear,
+    tables_are_looked_up, taken_entries_are_told, untaken_entries_break, volumes_wear,
 };
