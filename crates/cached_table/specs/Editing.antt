@@ -26,8 +26,8 @@ abbrev pub as_step : List (List ℕ) → List Bool → Step
 as_step images flags = first_step images flags 0 0 0
 
 module _ {D E : Type 0} (M : MachineGhosts D) (S : SourceGhosts E) (source : E) where
-  -- Pages were read into the cache until the outside refused one so, if it did, and some were changed there: a page that was dirty
-  -- is. A table can be made over it again.
+  -- Pages were read into the cache until the outside refused one so, if it did, and some were changed there: a page
+  -- that was dirty is. A table can be made over it again.
   pub record EditsOnly (refusal : Option Refusal) (m m' : D) (old new : CacheValue) (free flags : List Bool) : Type 0 where
     pub reads : OnlyReads M (device_of refusal) m m'
     pub loses : LosesFor M S source refusal m'
@@ -88,7 +88,8 @@ pub record SetsKeepIn {D E : Type 0} (M : MachineGhosts D) (S : SourceGhosts E) 
       let before = as_step (images_by M S source m old (length free)) free in
       IsTable before height → SetsKeep before (as_step (images_by M S source m' new (length flags)) flags) name keep key height
 
--- Where the outside is trusted, the pages gave a refusal with its cause; or they are no tree that has a version of the name.
+-- Where the outside is trusted, the pages gave a refusal with its cause;
+-- or they are no tree that has a version of the name.
 abbrev pub KeepFails : (trusted : Type 0) → (old new : Step) → (name : List ℕ) → VersionFault → Type 0
 KeepFails trusted old new name (Table fault) = trusted → HasCause new (BreaksTable new.images) (BarsTable new) fault
 KeepFails trusted old new name NoSuch = trusted → (height : ℕ) → IsTree old.images height → highest_entry name (table_of old.images height) ≡ None

@@ -69,21 +69,22 @@ plan_refusal home_a VersionsUsedUp = Why.VersionsUsedUp
 abbrev pub LosesUntaken : Area → Waits → List Entry → Type 0
 LosesUntaken map w table = (keys : List Key) × (gone : List Leaving) × (entries_left gone ≡ entries_at keys table) × (AreInTurn map w [] gone → ⊥)
 
--- The refusal that a fault of the entry is. It comes behind look-ups: pages that differ since, or that break the table beside those
--- that were looked up, have no number left for a version.
+-- The refusal that a fault of the entry is. It comes behind look-ups: pages that differ since, or that break the table
+-- beside those that were looked up, have no number left for a version.
 abbrev pub enter_refusal : TreeFault → Refusal
 enter_refusal (Pages (Why.Unsound s)) = Why.VersionsUsedUp
 enter_refusal (Pages refusal) = refusal
 enter_refusal (Broken page) = Why.VersionsUsedUp
 
--- why these versions may not go: the leaf of one is told whose sectors aren't taken; where two share one, no number is left
+-- why these versions may not go: the leaf of one is told whose sectors aren't taken;
+-- where two share one, no number is left
 abbrev pub TellsUntaken : (home_a : ℕ) → Area → Waits → List Leaving → Refusal → Type 0
 TellsUntaken home_a map w gone (Why.Unsound s) = (g : Leaving) × Contains gone g × (s ≡ home_in home_a g.page) × (AreTaken map w g.entry.runs → ⊥)
 TellsUntaken home_a map w gone Why.VersionsUsedUp = ⊤
 TellsUntaken home_a map w gone other = ⊥
 
--- A refusal came from outside; or a page breaks the table, or is spare and reached, or versions go that are not taken; or the numbers of
--- the name are used up; or fewer pages are spare than are asked for, where they aren't.
+-- A refusal came from outside; or a page breaks the table, or is spare and reached, or versions go that are not taken;
+-- or the numbers of the name are used up; or fewer pages are spare than are asked for, where they aren't.
 abbrev pub RefusesFor : (Barred Untaken UsedUp Usable : Type 0) → (free : ℕ) → Refusal → Type 0
 RefusesFor Barred Untaken UsedUp Usable free (Why.Device s) = ⊤
 RefusesFor Barred Untaken UsedUp Usable free (Why.Lost a b) = ⊤
@@ -98,8 +99,8 @@ abbrev pub EntersNone : {D : Type 0} (P : Ghosts D) → Area → Waits → (name
 EntersNone P map w name free old new = RefusesFor (P.trusted new → (page : ℕ) × BarsTable (P.step new) page) (OfTable P old new (LosesUntaken map w))
     (OfTable P old new (λ table. max_u32 < (next_key name table).version)) (OfTable P old new (λ table. (next_key name table).version ≤ max_u32)) free
 
--- What was reached shows why a place is told as unsound: a page of a look-up breaks the table, or is on the way and barred; or a version
--- that goes was met, and its sectors aren't taken.
+-- What was reached shows why a place is told as unsound: a page of a look-up breaks the table, or is on the way and
+-- barred; or a version that goes was met, and its sectors aren't taken.
 abbrev pub ShowsRefusal : {D : Type 0} (P : Ghosts D) → Area → Waits → (name : List ℕ) → (home_a : ℕ) → (old new : D) → Refusal → Type 0
 ShowsRefusal P map w name home_a old new (Why.Unsound s) =
     ((f : TreeFault) × (refusal_in home_a f ≡ Why.Unsound s) × HasCause (P.step new) (BreaksTable (P.step new).images) (BarsTable (P.step new)) f × ShowsCause (P.step new) BreaksTable IsOnWay f)
@@ -107,8 +108,8 @@ ShowsRefusal P map w name home_a old new (Why.Unsound s) =
 ShowsRefusal P map w name home_a old new other = ⊤
 
 module _ {D E : Type 0} (M : MachineGhosts D) (S : SourceGhosts E) (source : E) where
-  -- The leaf of a version was met: each page that was in the cache then had been there, or stood in one of its copies; whatever the other
-  -- pages have, a path leads to the leaf, which has the version.
+  -- The leaf of a version was met: each page that was in the cache then had been there, or stood in one of its copies;
+  -- whatever the other pages have, a path leads to the leaf, which has the version.
   pub record ShowsMet (from : Moment) (old : CacheValue) (count : ℕ) (f : FoundEntry) : Type 0 where
     pub cache : CacheValue
     pub had : (page : ℕ) (bytes : List ℕ) → page < count → bytes_of cache page ≡ Some bytes → Had M S source from old page bytes

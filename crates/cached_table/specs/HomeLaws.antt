@@ -1,4 +1,5 @@
--- What is known of the homes lasts while the disk wears. The laws stand here since the `impl` of a source rests on them.
+-- What is known of the homes lasts while the disk wears.
+-- The laws stand here since the `impl` of a source rests on them.
 use Rattle.std.proofs.Common.{◌≡◌, inl, inr, ℕ, ◌<◌, ◌≤◌, Bool, cond, None, sym, ap, subst, ◌∙◌}
 use Rattle.std.proofs.lemmas.Bool.{cases_lt, lt-ltb, le-ltb}
 use Rattle.volume_layout.specs.declared.layout.Layout.{Layout}

@@ -69,8 +69,8 @@ module _ {D E : Type 0} (M : MachineGhosts D) (S : SourceGhosts E) (source : E) 
   abbrev pub images_by : D → CacheValue → (count : ℕ) → List (List ℕ)
   images_by m c count = images_of (newest c (given_by M S source m)) count
 
-  -- Pages were read into the cache, and nothing else, until the outside refused one so, if it did: those that are dirty stay as they
-  -- were, and where the outside is trusted all do. A table can be made over it again.
+  -- Pages were read into the cache, and nothing else, until the outside refused one so, if it did: those that are dirty
+  -- stay as they were, and where the outside is trusted all do. A table can be made over it again.
   pub record LooksOnly (refusal : Option Refusal) (m m' : D) (old new : CacheValue) (free : List Bool) : Type 0 where
     pub reads : OnlyReads M (device_of refusal) m m'
     pub loses : LosesFor M S source refusal m'
@@ -85,8 +85,8 @@ module _ {D E : Type 0} (M : MachineGhosts D) (S : SourceGhosts E) (source : E) 
   abbrev pub Had : Moment → CacheValue → ℕ → List ℕ → Type 0
   Had from old page bytes = (bytes_of old page ≡ Some bytes) ⊎ Stood M S source from page bytes
 
-  -- Whatever the other pages have: the page whose home A is there is free, and what the cache has now shows that a path reaches it; or
-  -- that shows that it breaks the table; or it does so with bytes that it had.
+  -- Whatever the other pages have: the page whose home A is there is free, and what the cache has now shows that a path
+  -- reaches it; or that shows that it breaks the table; or it does so with bytes that it had.
   pub record ShowsPlace (from : Moment) (old new : CacheValue) (free : List Bool) (home_a place : ℕ) : Type 0 where
     pub page : ℕ
     pub home : place ≡ home_in home_a page

@@ -60,8 +60,8 @@ IsOpenFault fault = ⊥
 
 -- ---- where the pages are known
 
--- These pages are a table that nothing breaks: its versions are counted, only their sectors are taken, and only pages that it doesn't
--- reach are free. Each page in memory is one of them.
+-- These pages are a table that nothing breaks: its versions are counted, only their sectors are taken, and only pages
+-- that it doesn't reach are free. Each page in memory is one of them.
 pub record IsTableOf (l : Layout) (pages : List (List ℕ)) (o : Opened) : Type 0 where
   pub telling : Telling
   pub told : told_in pages ≡ Some telling

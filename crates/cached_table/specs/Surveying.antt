@@ -24,14 +24,15 @@ use Rattle.sector_set.specs.Area.{Area, area}
 abbrev pub IsOfData : Layout → Area → Type 0
 IsOfData l m = m ≡ area (data_start l) l.sectors (contains m.sectors)
 
--- where it is trusted, the page of so many that the fault names breaks the table, or is barred from it; or the outside has refused one
+-- where it is trusted, the page of so many that the fault names breaks the table, or is barred from it;
+-- or the outside has refused one
 abbrev pub SurveyFaultIn : (trusted : Type 0) → Layout → (images : List (List ℕ)) → List Bool → (home_a : ℕ) → TreeFault → Type 0
 SurveyFaultIn trusted l images free home_a (Pages refusal) = IsOuter refusal ⊎ ((page : ℕ) × (refusal ≡ Why.Unsound (home_in home_a page)) × (trusted → BarsPages images free page))
 SurveyFaultIn trusted l images free home_a (Broken page) = (page < length free) × (trusted → Breaks l images page)
 
 module _ {D E : Type 0} (M : MachineGhosts D) (S : SourceGhosts E) (source : E) where
-  -- Pages were read into the cache, and nothing else, until the outside refused one so, if it did; none is pinned. Where the outside
-  -- is trusted all stay as they were.
+  -- Pages were read into the cache, and nothing else, until the outside refused one so, if it did; none is pinned.
+  -- Where the outside is trusted all stay as they were.
   pub record SurveysOnly (refusal : Option Refusal) (m m' : D) (old new : CacheValue) (count : ℕ) : Type 0 where
     pub reads : OnlyReads M (device_of refusal) m m'
     pub loses : LosesFor M S source refusal m'
@@ -47,7 +48,8 @@ module _ {D E : Type 0} (M : MachineGhosts D) (S : SourceGhosts E) (source : E) 
 
 -- ---- what is told
 
--- the fault of a mount that a refusal of a page is: the disk's, a loss, or a page that breaks the table; else a want of memory
+-- the fault of a mount that a refusal of a page is: the disk's, a loss, or a page that breaks the table;
+-- else a want of memory
 abbrev pub mount_fault_for : Refusal → MountFault
 mount_fault_for (Why.Device s) = Device s
 mount_fault_for (Why.Lost a b) = Lost a b

@@ -24,7 +24,8 @@ use table_pages::Table;
 use version_table::{VersionFault, newest, set_keep, take_out};
 
 impl CachedTable {
-    /// Takes the version with a key out of the table. `home_a` is the first sector of the homes A. Where it fails the table stays.
+    /// Takes the version with a key out of the table. `home_a` is the first sector of the homes A.
+    /// Where it fails the table stays.
     pub fn take_out<M: Machine, S: PageSource>(
         &mut self,
         m: &mut M,
@@ -71,8 +72,8 @@ fn keep_at<T: Pages>(t: &mut T, name: &FileName, keep: u32) -> Result<Key, Versi
 }
 
 impl CachedTable {
-    /// Gives the highest version of a name another keep of at most 999 in the table, and answers its key. `home_a` is the first
-    /// sector of the homes A.
+    /// Gives the highest version of a name another keep of at most 999 in the table, and answers its key. `home_a` is
+    /// the first sector of the homes A.
     pub fn set_keep<M: Machine, S: PageSource>(
         &mut self,
         m: &mut M,

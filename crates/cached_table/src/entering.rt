@@ -29,8 +29,8 @@ use shadow_frees::Shadow;
 use table_pages::Table;
 use version_table::{Leaving, Plan, VersionFault, enter, plan_version};
 
-// The refusal that a fault of the entry is. It comes behind look-ups: pages that differ since, or that break the table beside
-// those that were looked up, have no number left for a version.
+// The refusal that a fault of the entry is. It comes behind look-ups: pages that differ since, or that break the table
+// beside those that were looked up, have no number left for a version.
 fn enter_refusal(fault: TreeFault) -> Refusal
     ensures { result ≡ enter_refusal fault }
 {
@@ -70,8 +70,8 @@ fn share(gone: &[Leaving], runs: &Runs) -> bool
     false
 }
 
-// Why these versions may not go: the leaf of the first whose sectors aren't taken is unsound. Where they are an earlier one's no leaf
-// shows it alone.
+// Why these versions may not go: the leaf of the first whose sectors aren't taken is unsound.
+// Where they are an earlier one's no leaf shows it alone.
 fn untaken(map: &Map, shadow: &Shadow, gone: &[Leaving], home_a: u32) -> Option<Refusal>
     ensures none { IsNone result → AreInTurn map.now shadow.now [] gone.now }
     ensures some { IsSome result → AreInTurn map.now shadow.now [] gone.now → ⊥ }
@@ -133,8 +133,9 @@ fn enter_at<T: Pages>(
 }
 
 impl CachedTable {
-    /// Enters the next version of a name, of the bytes and in the runs of a draft, into the table, and answers its plan. What goes is
-    /// tested against the map and the shadow first. `home_a` is the first sector of the homes A. Where it fails the table stays.
+    /// Enters the next version of a name, of the bytes and in the runs of a draft, into the table, and answers its
+    /// plan. What goes is tested against the map and the shadow first. `home_a` is the first sector of the homes A.
+    /// Where it fails the table stays.
     pub fn enter<M: Machine, S: PageSource>(
         &mut self,
         m: &mut M,

@@ -71,7 +71,8 @@ impl CachedTable {
         found
     }
 
-    /// The entry with the highest version of a name, with the page of its leaf. `home_a` is the first sector of the homes A.
+    /// The entry with the highest version of a name, with the page of its leaf.
+    /// `home_a` is the first sector of the homes A.
     pub fn highest<M: Machine, S: PageSource>(
         &mut self,
         m: &mut M,

@@ -23,8 +23,8 @@ use table_pages::{FreePages, Table};
 use table_survey::{TableCounts, survey};
 use volume_layout::Layout;
 
-/// Surveys the table of these pages: those that it reaches are marked, and the sectors of its entries taken out of the map.
-/// `home_a` is the first sector of the homes A.
+/// Surveys the table of these pages: those that it reaches are marked, and the sectors of its entries taken out of the
+/// map. `home_a` is the first sector of the homes A.
 pub(crate) fn survey_in<M: Machine, S: PageSource>(
     m: &mut M,
     cache: &mut Cache,

@@ -72,8 +72,8 @@ IsFaultOfPlan (Err why) status = status ≡ 6
 abbrev pub IsFormatStatus : Result Layout LayoutFault → ℕ → Type 0
 IsFormatStatus planned status = (status ≡ format_status planned) ⊎ IsFaultOfPlan planned status
 
--- Where the status tells a fault of the disk or of the output, this is counted; none of the input is, and none at all where it tells
--- no call of the outside.
+-- Where the status tells a fault of the disk or of the output, this is counted; none of the input is, and none at all
+-- where it tells no call of the outside.
 pub record CountsFaults (old new : Report) (status : ℕ) : Type 0 where
   pub disk : status ≡ 4 → Rose old.disk_faults new.disk_faults
   pub input : new.input_faults ≡ old.input_faults

@@ -32,8 +32,8 @@ pub record IsSoundDisk (l : Layout) (windows : List WeakRun) (h : List Change) (
   pub ends : EndIn now.windows windows
   pub sound : IsSound l windows h f now.image
 
--- A run that takes the input: where its status tells a fault of the disk or of the output, this is counted, and where it tells no
--- call of the outside none is; a fault that was found in the volume may end one whose input has failed.
+-- A run that takes the input: where its status tells a fault of the disk or of the output, this is counted, and where
+-- it tells no call of the outside none is; a fault that was found in the volume may end one whose input has failed.
 pub record CountsReading (old new : Report) (status : ℕ) : Type 0 where
   pub disk : status ≡ 4 → Rose old.disk_faults new.disk_faults
   pub output : status ≡ 6 → Rose old.output_faults new.output_faults
@@ -48,8 +48,8 @@ pub record AsFound (P : ℕ → Moment → Type 0) (old : Moment) : Type 0 where
   pub size : sectors ≡ min (length at.image) (2 ^ 32 - 1)
   pub holds : P sectors at
 
--- What a run tells of the image that its attach found, by its status, whether it is a script, and how many commands it makes up, if it
--- does.
+-- What a run tells of the image that its attach found, by its status, whether it is a script,
+-- and how many commands it makes up, if it does.
 pub record TellsFound (script : Bool) (made : Option ℕ) (old new : Moment) (status : ℕ) : Type 0 where
   pub mounted : IsTrue (is_of_mounted status) → AsFound HasVolume old
   pub refused : status ≡ 3 → AsFound (λ sectors at. SaysCause script sectors at new) old

@@ -98,7 +98,8 @@ abbrev pub IsSpelled : Request → List ℕ → Type 0
 IsSpelled Script input = (script_in input).1 ≡ Done
 IsSpelled request input = ⊤
 
--- of a script a line is bad; for each of the commands before it a reply is said, then that all is forced, and last that line
+-- of a script a line is bad; for each of the commands before it a reply is said, then that all is forced,
+-- and last that line
 abbrev pub HasBadLine : Request → (Past : Moment → Type 0) → (input before : List ℕ) → Moment → Type 0
 HasBadLine Script Past input before new = SaysBadLine Past input before new
 HasBadLine request Past input before new = ⊤
@@ -144,8 +145,9 @@ abbrev pub made_for : Request → Option ℕ
 made_for (Generate seed count) = Some count
 made_for request = None
 
--- where it was answered to its end, a script says for each of its commands a reply that this may have, over the image of one of these
--- moments, and that all is forced, and a run that makes its commands up that all is forced and what came of so many
+-- where it was answered to its end, a script says for each of its commands a reply that this may have, over the image
+-- of one of these moments, and that all is forced, and a run that makes its commands up that
+-- all is forced and what came of so many
 abbrev pub SaysToEnd : Request → (Past : Moment → Type 0) → (input before : List ℕ) → Moment → Type 0
 SaysToEnd Script Past input before new = SaysForced reply_text Past (script_in input).0 before new.said
 SaysToEnd (Generate seed count) Past input before new = SaysMade count before new

@@ -11,8 +11,8 @@ use volume_format::format;
 use volume_layout::Layout;
 use volume_turns::last_line;
 
-/// Makes an empty volume of these numbers of sectors, of sectors a third, and of name pages, says so or why not, and gives the
-/// status.
+/// Makes an empty volume of these numbers of sectors, of sectors a third, and of name pages, says so or why not,
+/// and gives the status.
 pub fn run_format<M: Machine>(m: &mut M, path: &str, sectors: u32, third: u32, pages: u32) -> u8
     ensures status { IsFormatStatus (plan sectors third pages) result }
     ensures counts { CountsFaults (M.report m.old) (M.report m.new) result }

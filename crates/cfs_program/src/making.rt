@@ -17,8 +17,8 @@ use std::alloc::Global;
 use volume_contract::Files;
 use volume_turns::{last_line, run_generate};
 
-/// Makes up so many commands from a seed and does them over the volume of an image; at the end all is forced, and what came of
-/// them is said. It gives the status.
+/// Makes up so many commands from a seed and does them over the volume of an image; at the end all is forced, and what
+/// came of them is said. It gives the status.
 pub fn run_made_up<M: Machine, V: Files<M> + Drop>(
     alloc: Global,
     m: &mut M,

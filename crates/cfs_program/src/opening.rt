@@ -19,8 +19,8 @@ use std::alloc::Global;
 use volume_contract::Files;
 use volume_turns::{last_line, run_one};
 
-/// Does one command over the volume of an image: its change is forced before its reply is said. A fault is said in its place. It
-/// gives the status.
+/// Does one command over the volume of an image: its change is forced before its reply is said.
+/// A fault is said in its place. It gives the status.
 pub fn run_command<M: Machine, V: Files<M> + Drop>(
     alloc: Global,
     m: &mut M,

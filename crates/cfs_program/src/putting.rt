@@ -21,8 +21,8 @@ use std::alloc::Global;
 use volume_contract::Files;
 use volume_turns::{last_line, run_put};
 
-/// Makes a version of the input over the volume of an image: the version is forced before it is said. A fault is said in its place.
-/// It gives the status.
+/// Makes a version of the input over the volume of an image: the version is forced before it is said. A fault is said
+/// in its place. It gives the status.
 pub fn run_input<M: Machine, V: Files<M> + Drop>(
     alloc: Global,
     m: &mut M,

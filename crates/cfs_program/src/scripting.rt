@@ -21,8 +21,8 @@ use std::alloc::Global;
 use volume_contract::Files;
 use volume_turns::{last_line, run_script};
 
-/// Does the commands of the input over the volume of an image, and says the reply of each; at the end all is forced. A fault is
-/// said where it comes. It gives the status.
+/// Does the commands of the input over the volume of an image, and says the reply of each; at the end all is forced. A
+/// fault is said where it comes. It gives the status.
 pub fn run_commands<M: Machine, V: Files<M> + Drop>(alloc: Global, m: &mut M, path: &str) -> u8
     ensures status { IsScriptStatus result }
     ensures counts { CountsReading (M.report m.old) (M.report m.new) result }

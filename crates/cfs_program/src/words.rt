@@ -10,8 +10,8 @@ use sector_disk::Machine;
 use std::alloc::Global;
 use volume_contract::Files;
 
-/// Does what the words ask for, of the image that they name, says the reply, and gives the exit status. The first word is the
-/// program's name.
+/// Does what the words ask for, of the image that they name, says the reply, and gives the exit status.
+/// The first word is the program's name.
 pub fn run_words<M: Machine, V: Files<M> + Drop>(alloc: Global, words: &[String], m: &mut M) -> u8
     ensures { Ran M.Machine (request_of (map string_bytes words.now)) (path_of (map string_bytes words.now)) m.old m.new result }
 {

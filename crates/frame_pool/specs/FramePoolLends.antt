@@ -12,6 +12,7 @@ LendsFrame p i r = Lends the_row (Array u8 512) p r (λ w. slice_set p.now i w)
 abbrev pub LendsFrames : MutBor (List (List ℕ)) → MutBor (List (List ℕ)) → Fml
 LendsFrames p r = Lends the_row (Array (Array u8 512) 0) p r (λ ws. refill (length p.now) p.now ws)
 
--- the frames at the two indices are the last values written through the two references, and every other frame is as it was
+-- the frames at the two indices are the last values written through the two references,
+-- and every other frame is as it was
 abbrev pub LendsTwo : MutBor (List (List ℕ)) → ℕ → ℕ → MutBor (List ℕ) × MutBor (List ℕ) → Fml
 LendsTwo p i j r = LendsBoth the_row (Array u8 512) (Array u8 512) p r (λ v w. slice_set (slice_set p.now i v) j w)

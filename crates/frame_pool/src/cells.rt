@@ -1,4 +1,5 @@
-//! The raw block: a row of places, each empty or holding a value. What owns it takes no space, and goes beside the pointer.
+//! The raw block: a row of places, each empty or holding a value.
+//! What owns it takes no space, and goes beside the pointer.
 ghost use Rattle.std.specs.Prelude.{◌≡◌, ℕ, ◌<◌, List, Option, Some, None, map, length, replicate, get_or, slice_set, IfOk, ⊤};
 ghost use Rattle.std.specs.Borrow.{sem};
 ghost use Rattle.std.specs.Vec.Ownership.{FitsInBlock};

@@ -1,5 +1,5 @@
--- What a volume answers, and what the volume is then. What its words and the volume determine is a function; what they do not is
--- `Met`. Faults of the disk, want of memory and a mount that is worn out stand outside.
+-- What a volume answers, and what the volume is then. What its words and the volume determine is a function; what they
+-- do not is `Met`. Faults of the disk, want of memory and a mount that is worn out stand outside.
 use Rattle.std.specs.Prelude.{ℕ, suc, Bool, List, [], ◌∷◌, ◌++◌, length, map, filter, Option, Some, None, IfSome, nat_lt, if◌then◌else◌, slice_get}
 use Rattle.std.specs.List.{flat_map, last_or, AllByRecursion}
 use Rattle.std.specs.FinMap.{find}
@@ -30,8 +30,8 @@ Outcome = Reply × Volume
 abbrev pub refused : Volume → Refusal → Outcome
 refused v why = (Refused why, v)
 
--- What a command meets that neither its words nor the volume determine: whether the volume forces by itself on the way, how many
--- pages the table has once a change is made, and the first damaged sector, if one of those that it reads is.
+-- What a command meets that neither its words nor the volume determine: whether the volume forces by itself on the way,
+-- how many pages the table has once a change is made, and the first damaged sector, if one of those that it reads is.
 pub record Met : Type 0 where
   pub forces : Bool
   pub reached : ℕ
@@ -205,8 +205,8 @@ get_reply met v key = got key met.damaged (find key_cmp key v.files)
 
 -- ---- which sectors read as damaged
 
--- i is the image at a call's entry and j at its exit. Either all of these sectors are whole in i, or one is damaged in j, and
--- those before it are whole in i.
+-- i is the image at a call's entry and j at its exit. Either all of these sectors are whole in i, or one is damaged in
+-- j, and those before it are whole in i.
 abbrev pub Finds : Image → Image → List ℕ → Option ℕ → Type 0
 Finds i j sectors None = AllByRecursion (IsWhole i) sectors
 Finds i j sectors (Some s) = FirstDamaged i j sectors s

@@ -68,8 +68,8 @@ forced v = record v { removed = []; unforced = 0 }
 abbrev pub forced_for_place : ℕ → Volume → Volume
 forced_for_place need v = if is_none (place_for v need) && not (length v.removed == 0) then forced v else v
 
--- A volume may force by itself before a change, but only once two changes wait for one. Which changes those are it says for
--- itself: here it is what it chose.
+-- A volume may force by itself before a change, but only once two changes wait for one. Which changes those are it says
+-- for itself: here it is what it chose.
 abbrev pub forced_if : Bool → Volume → Volume
 forced_if chosen v = if chosen && nat_le 2 v.unforced then forced v else v
 

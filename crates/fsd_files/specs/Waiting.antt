@@ -13,8 +13,8 @@ use Rattle.fsd_files.specs.Volume.{Volume, plans_of, is_in, in_version, is_free}
 abbrev pub are_same_or_apart : List Run → List Run → Bool
 are_same_or_apart held runs = same_runs held runs || not (list_any (λ s. contains (sectors_of held) s) (sectors_of runs))
 
--- Versions and drafts are apart. What went, and what readers hold, lies in the data area, and no draft has a sector of it. What
--- went is in no version. A reader holds a version's very runs, or nothing of it.
+-- Versions and drafts are apart. What went, and what readers hold, lies in the data area, and no draft has a sector of
+-- it. What went is in no version. A reader holds a version's very runs, or nothing of it.
 pub record IsSpaced (v : Volume) : Type 0 where
   pub apart : Apart v.layout (plans_of v.entries ++ v.drafts)
   pub area : (s : ℕ) → IsTrue (contains v.removed s || is_in v.held s) → IsTrue (is_data v.layout s)
@@ -26,7 +26,8 @@ pub record IsSpaced (v : Volume) : Type 0 where
 abbrev pub is_kept_alone : Volume → ℕ → Bool
 is_kept_alone v s = is_in v.held s && not (in_version v s) && not (contains v.removed s)
 
--- what the forced changes have let go: the next creation may take it, an unfinished one has taken it, or a reader alone keeps it
+-- what the forced changes have let go: the next creation may take it, an unfinished one has taken it,
+-- or a reader alone keeps it
 abbrev pub is_let_go : Volume → ℕ → Bool
 is_let_go v s = is_free v s || is_in v.drafts s || is_kept_alone v s
 

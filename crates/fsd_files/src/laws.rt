@@ -40,7 +40,8 @@ pub fn entries_list_the_files()
         Lists (keep_outcome met v name keep).1.files (keep_outcome met v name keep).1.entries }
 {}
 
-/// A change keeps versions, drafts and what waits apart, and lets nothing go that the volume had. A force keeps them so too.
+/// A change keeps versions, drafts and what waits apart, and lets nothing go that the volume had.
+/// A force keeps them so too.
 pub fn changes_let_nothing_go()
     ensures puts { (chosen : Bool) (v : Volume) (name bytes : List ℕ) (given : Option ℕ) (need : ℕ) (runs : List Run) (serial : Serial) (r : ℕ) →
         IsSpaced v → Lists v.files v.entries → T (is_sorted key_cmp v.files) → place_for v need ≡ Some runs →

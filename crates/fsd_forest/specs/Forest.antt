@@ -1,4 +1,5 @@
--- What becomes of subtrees that stand side by side, as pages are changed: others stand in their place, with edited entries.
+-- What becomes of subtrees that stand side by side, as pages are changed:
+-- others stand in their place, with edited entries.
 use Rattle.std.specs.Prelude.{◌≡◌, ◌+◌, ℕ, true, false, List, ◌++◌, Some, map, count_by, ◌==◌, ⊤}
 use Rattle.std.specs.List.{flat_map, AllByRecursion}
 use Rattle.run_table.specs.Space.{contains}

@@ -25,7 +25,8 @@ PageStepsUp =
     → IsSubtree (suc level) pages c → StandsAt key (children_of c.low c.high (page_at pages c.page)) left old right → children_of c.low c.high (page_at after c.page) ≡ left ++ (new ++ right) → IsAbove after c
     → Keep pages after (forest_pages level pages (left ++ right)) → Becomes edit pages after came went level old new → Becomes edit pages after came went (suc level) (c ∷ []) (c ∷ [])
 
--- where the pages above, those below some of the children and fresh ones are all that changes, what stands on both sides stays
+-- where the pages above, those below some of the children and fresh ones are all that changes,
+-- what stands on both sides stays
 abbrev pub SidesStay : Type 0
 SidesStay =
     (pages after : List (List ℕ)) (fresh : List ℕ) (level : ℕ) (cs left old right : List Child) → inner pages cs ≡ left ++ (old ++ right) → all_differ (forest_pages (suc level) pages cs ++ fresh) ≡ true

@@ -4,7 +4,8 @@ ghost use Rattle.fsd_forest.specs.Parts.{LeavesPart, LeavesJoin, InteriorsPart, 
 ghost use Rattle.fsd_forest.specs.Steps.{StepsUp, PageStepsUp, SidesStay, PageSidesStay};
 ghost use Rattle.fsd_forest.specs.Ways.{ChildrenBeside, ChildrenBetween, ChildrenParted, ChildrenEnd, ChildrenBegin, ChildrenAround, ChildAt, KeyInside};
 
-/// A page is parted in two at a key, and two pages side by side are joined to one: the same entries, and the same children.
+/// A page is parted in two at a key, and two pages side by side are joined to one:
+/// the same entries, and the same children.
 pub fn pages_part_and_join()
     ensures leaves_part { LeavesPart }
     ensures leaves_join { LeavesJoin }
@@ -13,7 +14,8 @@ pub fn pages_part_and_join()
     ensures children { ChildrenPart }
 {}
 
-/// What becomes of subtrees that stand side by side: of leaves, with what stands on both sides, one level up, of one change behind another, and of pages that stay as they were.
+/// What becomes of subtrees that stand side by side: of leaves, with what stands on both sides, one level up, of one
+/// change behind another, and of pages that stay as they were.
 pub fn forests_follow()
     ensures leaves_become { LeavesBecome }
     ensures widens { Widens }
@@ -22,7 +24,8 @@ pub fn forests_follow()
     ensures remains { Remains }
 {}
 
-/// What becomes of a whole table: its height stays, grows where page 0 is parted and shrinks where page 0 has one child, and it is never too high for its pages.
+/// What becomes of a whole table: its height stays, grows where page 0 is parted and shrinks where page 0 has one
+/// child, and it is never too high for its pages.
 pub fn trees_follow()
     ensures trees_become { TreesBecome }
     ensures trees_grow { TreesGrow }
@@ -30,7 +33,8 @@ pub fn trees_follow()
     ensures trees_are_low { TreesAreLow }
 {}
 
-/// The children of an interior page around a key: those that end up to it, the child that it is inside, and those that begin behind it.
+/// The children of an interior page around a key: those that end up to it, the child that it is inside,
+/// and those that begin behind it.
 pub fn ways_lead()
     ensures beside { ChildrenBeside }
     ensures between { ChildrenBetween }

@@ -1,7 +1,7 @@
 -- The records of the log, as they are found on a disk.
 --
--- The log is read as a tape: the anchor's first third, then the two others in order. A place on the tape is counted from the
--- start of the first third.
+-- The log is read as a tape: the anchor's first third, then the two others in order. A place on the tape is counted
+-- from the start of the first third.
 use Rattle.std.specs.Prelude.{◌≡◌, ◌⊎◌, ◌<◌, ◌≤◌, nat_le, ℕ, zero, suc, ◌+◌, ◌-◌, ◌*◌, ◌^◌, min, ◌&&◌, List, [], ◌∷◌, length, Option, Some, None, nat_lt, if◌then◌else◌, option_map, unwrap_or, Bool, ◌||◌, ◌==◌, option_and_then}
 use Rattle.std.specs.Option.{option_or}
 use Rattle.fsd_formats.specs.declared.anchor.Anchor.{Anchor}

@@ -189,8 +189,8 @@ IfMounts Script P = P
 IfMounts (Generate seed count) P = P
 IfMounts request P = Unit {0}
 
--- Some faults end a group behind some of its commands: what was done is forced, and then the fault is said. A script's input may
--- fail, and this mount may be worn out. So many commands, and the fault.
+-- Some faults end a group behind some of its commands: what was done is forced, and then the fault is said. A script's
+-- input may fail, and this mount may be worn out. So many commands, and the fault.
 abbrev pub Cut : Type 0
 Cut = Option (ℕ × Fault)
 

@@ -41,15 +41,16 @@ MayEnd other = ⊥
 abbrev pub SaysFault : List ℕ → Type 0
 SaysFault part = (why : Fault) × (heard : ℕ) × MayEnd why × (part ≡ take heard (fault_text why))
 
--- what may follow some whole turns: the beginning of the next one's text, or of a fault that ends the run there; nothing behind
--- the last turn
+-- what may follow some whole turns: the beginning of the next one's text, or of a fault that ends the run there;
+-- nothing behind the last turn
 abbrev pub SaysNext : Option Turn → List ℕ → Type 0
 SaysNext None part = part ≡ []
 SaysNext (Some turn) part = BeginsOnly turn.said part ⊎ SaysFault part
 
 -- ---- what a stop leaves
 
--- Before the mount settles: the present window is as it was, the image is sound as it was, and nothing but a fault is said.
+-- Before the mount settles: the present window is as it was, the image is sound as it was,
+-- and nothing but a fault is said.
 pub record LeftBefore (l : Layout) (windows : List WeakRun) (h : List Change) (f : ℕ) (old left : Moment) : Type 0 where
   pub present : left.windows.present ≡ old.windows.present
   pub part : List ℕ
@@ -57,9 +58,9 @@ pub record LeftBefore (l : Layout) (windows : List WeakRun) (h : List Change) (f
   pub fault : SaysFault part
   pub sound : IsSound l windows h f left.image
 
--- Since then: the run that was named is the present one, and no next one is named. Some turns are said whole, and a part of what
--- comes next. The image is sound for the n changes that were found, all of them forced, and those of the turns said and of the one
--- under way, of which those are forced at least that are forced by what is said whole.
+-- Since then: the run that was named is the present one, and no next one is named. Some turns are said whole, and a
+-- part of what comes next. The image is sound for the n changes that were found, all of them forced, and those of the
+-- turns said and of the one under way, of which those are forced at least that are forced by what is said whole.
 pub record LeftSince (l : Layout) (windows : List WeakRun) (h : List Change) (n : ℕ) (turns : List Turn) (old left : Moment) : Type 0 where
   pub run : WeakRun
   pub settled : left.windows ≡ record { present = Some run; next = None }
@@ -76,8 +77,8 @@ Left l windows h f n turns old left = LeftBefore l windows h f old left ⊎ Left
 
 -- ---- how a run ends
 
--- The whole text of the run is said, its status is given, and all its changes are forced: the disk's own table is that of the
--- volume behind them, in the places and with the serials that it gave.
+-- The whole text of the run is said, its status is given, and all its changes are forced: the disk's own table is that
+-- of the volume behind them, in the places and with the serials that it gave.
 pub record IsReplied (l : Layout) (windows : List WeakRun) (h : List Change) (n : ℕ) (turns : List Turn) (status : ℕ) (behind : Volume) (old new : Moment) (result : ℕ) : Type 0 where
   pub ends : result ≡ status
   pub said : new.said ≡ old.said ++ said_in turns
@@ -92,7 +93,8 @@ pub record SaysThen (turns : List Turn) (bytes : List ℕ) (old new : Moment) : 
   pub more : IsSome (slice_get turns whole)
   pub said : new.said ≡ old.said ++ (said_in (take whole turns) ++ bytes)
 
--- a fault that comes from outside: it is counted, and the disk's place told; or memory was refused. Of a put it may be the input's.
+-- a fault that comes from outside: it is counted, and the disk's place told; or memory was refused.
+-- Of a put it may be the input's.
 abbrev pub IsOutside : Request → (before after : Report) → Fault → Type 0
 IsOutside request before after (Ends.Device s) = DeviceFault before after s
 IsOutside request before after Ends.Memory = ⊤
@@ -111,8 +113,8 @@ pub record IsUnsaid (before after : Report) (result : ℕ) : Type 0 where
   pub ends : result ≡ 6
   pub rose : Rose before.output_faults after.output_faults
 
--- A script that is cut off by its input behind so many commands has a fault of the input counted, and these are all that stand
--- whole in what was taken; rest is what was left to take.
+-- A script that is cut off by its input behind so many commands has a fault of the input counted, and these are all
+-- that stand whole in what was taken; rest is what was left to take.
 pub record IsCutShort (k : ℕ) (input rest : List ℕ) (before after : Report) : Type 0 where
   pub rose : Rose before.input_faults after.input_faults
   pub taken : List ℕ
@@ -155,8 +157,8 @@ pub record IsSpent (old new : Moment) (result : ℕ) : Type 0 where
   pub ends : result ≡ fault_status Ends.WornOut
   pub said : new.said ≡ old.said ++ fault_text Ends.WornOut
 
--- The mount did not settle: nothing is changed, and a fault is said, but where the output failed. It is one from outside, or the
--- image's epochs are used up.
+-- The mount did not settle: nothing is changed, and a fault is said, but where the output failed. It is one from
+-- outside, or the image's epochs are used up.
 pub record LeavesUnmounted (request : Request) (l : Layout) (windows : List WeakRun) (h : List Change) (f : ℕ) (Only : (Moment → Type 0) → Type 0) (before after : Report) (old new : Moment) (result : ℕ) : Type 0 where
   pub moments : Only (LeftBefore l windows h f old)
   pub exit : LeftBefore l windows h f old new
@@ -172,10 +174,10 @@ pub record RaisesEpoch (windows : List WeakRun) (old from : Image) : Type 0 wher
   pub worn : IsWorn (weak_of windows) old left
   pub next : AreNext (anchor_of left) (anchor_of from)
 
--- The mount settled at some time: it found the first n changes, every forced one among them, and the run went on from the image as
--- it settled, in the window of this run. Each moment is what is said above; from that time on each is of the second kind, and the
--- images of the run are of these. Either all commands were begun, all is said and all changes are forced; or a fault from outside
--- has ended the run at once; or the output failed.
+-- The mount settled at some time: it found the first n changes, every forced one among them, and the run went on from
+-- the image as it settled, in the window of this run. Each moment is what is said above; from that time on each is of
+-- the second kind, and the images of the run are of these. Either all commands were begun, all is said and all changes
+-- are forced; or a fault from outside has ended the run at once; or the output failed.
 pub record LeavesMounted (request : Request) (input rest : List ℕ) (l : Layout) (windows : List WeakRun) (h : List Change) (f : ℕ) (Past : ℕ → Moment → Type 0) (Only : (Moment → Type 0) → Type 0) (before after : Report) (old new : Moment) (result : ℕ) : Type 0 where
   pub count : ℕ
   pub prefix : IsPrefixOf h f count
@@ -194,7 +196,8 @@ pub record LeavesMounted (request : Request) (input rest : List ℕ) (l : Layout
   pub exit : LeftSince l windows h count (run_turns run) old new
   pub ends : (IsThrough run × IsReplied l windows h count (run_turns run) (run_status run) (run_end run) old new result) ⊎ (IsUnsaid before after result ⊎ IsBroken request before after (run_turns run) old new result)
 
--- A run over a sound image. The input is as it was, and rest what is left of it. Past is what a stop from a time on may have left.
+-- A run over a sound image. The input is as it was, and rest what is left of it.
+-- Past is what a stop from a time on may have left.
 abbrev pub LeavesRun : Request → (input rest : List ℕ) → Layout → List WeakRun → List Change → ℕ → (Past : ℕ → Moment → Type 0) → (Only : (Moment → Type 0) → Type 0) → (before after : Report) → (old new : Moment) → (result : ℕ) → Type 0
 LeavesRun request input rest l windows h f Past Only before after old new result =
     LeavesUnmounted request l windows h f Only before after old new result ⊎ LeavesMounted request input rest l windows h f Past Only before after old new result

@@ -21,8 +21,8 @@ use Rattle.fsd_runs.specs.Errands.{Answered, Cut, Errand, MayCut, Turn, answered
 
 -- ---- the volume that a run begins with
 
--- A mount of the image gives this volume: its files are those after the changes h, its table is the one that the image tells, its
--- epoch that of the image's anchor, and nothing waits.
+-- A mount of the image gives this volume: its files are those after the changes h, its table is the one that the image
+-- tells, its epoch that of the image's anchor, and nothing waits.
 pub record Starts (l : Layout) (windows : List WeakRun) (h : List Change) (v : Volume) (i : Image) : Type 0 where
   pub layout : v.layout ≡ l
   pub files : v.files ≡ after h
@@ -101,9 +101,9 @@ pub record Stood (Passed : Moment → Type 0) (said : List ℕ) (i : Image) : Ty
   pub image : moment.image ≡ i
   pub so_far : moment.said ≡ said
 
--- One command, from the image i on to the image j of its exit, before its reply is said: all versions are kept as it begins; where
--- no change is unforced the disk's own table is the volume's; the mount isn't worn out, where that would refuse it; and it meets
--- what it may.
+-- One command, from the image i on to the image j of its exit, before its reply is said: all versions are kept as it
+-- begins; where no change is unforced the disk's own table is the volume's; the mount isn't worn out, where that would
+-- refuse it; and it meets what it may.
 pub record IsStep (hurt : Sectors) (Passed : Moment → Type 0) (said : List ℕ) (i j : Image) (v : Volume) (command : Command) (met : Met) : Type 0 where
   pub kept : Kept i v.files v.entries hurt
   pub tells : v.unforced ≡ 0 → told v.layout i ≡ Some (telling_of v)
@@ -111,8 +111,8 @@ pub record IsStep (hurt : Sectors) (Passed : Moment → Type 0) (said : List ℕ
   pub exit : Stood Passed said j
   pub may : MayMeet i j v command met
 
--- The commands are begun one after another, one for each of what they meet, and each is answered over images of the run. Last is
--- what has to be so behind them.
+-- The commands are begun one after another, one for each of what they meet, and each is answered over images of the
+-- run. Last is what has to be so behind them.
 abbrev pub Goes : Sectors → (Moment → Type 0) → (Volume → Image → Type 0) → Errand → (said : List ℕ) → Image → Volume → List Met → List Command → Type 0
 Goes hurt Passed Last e said i v [] commands = Last v i
 Goes hurt Passed Last e said i v (met ∷ mets) [] = ⊥
@@ -139,8 +139,8 @@ IsCutAt cut v i = ⊤
 abbrev pub errand_in : Request → (input : List ℕ) → Cut → Errand
 errand_in request input cut = cut_off cut (errand_of request input)
 
--- What the words ask for is done over this volume, from the image i on: where it is cut off, if it is, and what the commands that
--- were begun meet. Passed is the moments of the run, and base what was said before it.
+-- What the words ask for is done over this volume, from the image i on: where it is cut off, if it is, and what the
+-- commands that were begun meet. Passed is the moments of the run, and base what was said before it.
 pub record Run (request : Request) (input : List ℕ) (windows : List WeakRun) (Passed : Moment → Type 0) (base : List ℕ) (v : Volume) (i : Image) : Type 0 where
   pub cut : Cut
   pub may : MayCut request cut

@@ -1,5 +1,5 @@
--- What the words of the command line ask for. Which words the command set has, and which argument each word is, are `clap`'s own
--- definitions of a simple command; then each field is read.
+-- What the words of the command line ask for. Which words the command set has, and which argument each word is, are
+-- `clap`'s own definitions of a simple command; then each field is read.
 use Rattle.std.specs.Prelude.{ℕ, ◌-◌, ◌^◌, true, false, List, [], ◌∷◌, Option, Some, None, unwrap_or, Result, Ok, Err, ok_or, codes, if◌then◌else◌}
 use Rattle.clap.specs.Simple.{App, Shape, new_rule, new_shape, subcommand_of}
 use Rattle.clap.specs.Takes.{takes}

@@ -1,4 +1,5 @@
-//! Definitions: the words of the command line, the runs that they ask for, and what a stop at any moment of a run leaves.
+//! Definitions: the words of the command line, the runs that they ask for,
+//! and what a stop at any moment of a run leaves.
 #![tactic(auto)]
 
 mod laws;

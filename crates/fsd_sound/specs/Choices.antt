@@ -7,8 +7,8 @@ use Rattle.fsd_files.specs.Disk.{Image, in_runs}
 use Rattle.fsd_files.specs.Files.{Change}
 use Rattle.fsd_sound.specs.Sound.{Tells, ShowsPages}
 
--- However its weak run wears, the image shows one of some page lists, and each of them tells a prefix of the changes, with the
--- data of this image.
+-- However its weak run wears, the image shows one of some page lists, and each of them tells a prefix of the changes,
+-- with the data of this image.
 pub record TellsChoices (l : Layout) (windows : List WeakRun) (h : List Change) (f : ℕ) (i : Image) : Type 0 where
   pub choices : List (List (List ℕ))
   pub shows : ShowsPages l windows choices i

@@ -56,8 +56,8 @@ pub record StandsTwice (weak : Sectors) (i : Image) (bytes : List ℕ) (place co
   pub second : Has weak i bytes copy
   pub apart : place + 2 ≤ copy
 
--- The log of a mounted volume: each anchor that stands is its own, by it the log is these records and the head behind them,
--- and they stand as they were laid.
+-- The log of a mounted volume: each anchor that stands is its own, by it the log is these records and the head behind
+-- them, and they stand as they were laid.
 pub record HasOwnLog (l : Layout) (a : Anchor) (records : List Placed) (head : Head) (weak : Sectors) (i : Image) : Type 0 where
   pub own : EachAnchor i (λ b. b ≡ a)
   pub log : IsLog l a.epoch a.first (tape l a.third (bytes_at i)) records head

@@ -25,8 +25,8 @@ pub record AreLastOf (sectors : ℕ) (i : Image) (a b : ℕ) : Type 0 where
   pub within : page < layout.pages
   pub lies : last_places layout anchor.third page (records_by layout i anchor) ≡ Some (a, b)
 
--- The sectors are a page's own and its copy in a record in the log, by a root of the image; where nothing wears, in the last
--- record of its log that has it.
+-- The sectors are a page's own and its copy in a record in the log, by a root of the image; where nothing wears, in the
+-- last record of its log that has it.
 pub record AreLoggedOn (sectors : ℕ) (old : Moment) (a b : ℕ) : Type 0 where
   pub layout : Layout
   pub root : HasRoot sectors old.image layout

@@ -26,8 +26,8 @@ pub record AgreeOutside (dirty : List ℕ) (a b : List (List ℕ)) : Type 0 wher
   pub size : length a ≡ length b
   pub each : (page : ℕ) → IsFalse (contains dirty page) → image_at a page ≡ image_at b page
 
--- What a volume has in memory: the newest images of its table's pages, those that wait for a force, and where its log ends. Of
--- each draft the slices that were written, one place for each data sector; of each held version its bytes.
+-- What a volume has in memory: the newest images of its table's pages, those that wait for a force, and where its log
+-- ends. Of each draft the slices that were written, one place for each data sector; of each held version its bytes.
 pub record Mounted : Type 0 where
   pub volume : Volume
   pub pages : List (List ℕ)
@@ -52,15 +52,15 @@ forces_by_itself m = nat_lt most_waiting (length m.dirty)
 abbrev pub telling_of : Volume → Telling
 telling_of v = record { entries = v.entries; reached = v.reached }
 
--- The disk shows these pages, the log is the volume's own, and the pages in memory are those of the disk but for the ones
--- that wait.
+-- The disk shows these pages, the log is the volume's own,
+-- and the pages in memory are those of the disk but for the ones that wait.
 pub record StandsOver (l : Layout) (anchor : Anchor) (head : Head) (records : List Placed) (disk pages : List (List ℕ)) (dirty : List ℕ) (windows : List WeakRun) (i : Image) : Type 0 where
   pub shows : ShowsPages l windows (disk ∷ []) i
   pub own : HasOwnLog l anchor records head (weak_of windows) i
   pub clean : AgreeOutside dirty disk pages
 
--- The table on the disk is that of the forced changes. Nothing of it is let go, and a leader of the volume lies in it only as a
--- leader.
+-- The table on the disk is that of the forced changes.
+-- Nothing of it is let go, and a leader of the volume lies in it only as a leader.
 pub record HasForced (v : Volume) (windows : List WeakRun) (h : List Change) (f : ℕ) (i : Image) (disk : List (List ℕ)) : Type 0 where
   pub telling : Telling
   pub told : told_in disk ≡ Some telling

@@ -18,8 +18,8 @@ ghost use Rattle.fsd_sound.specs.Sound.{EndIn, weak_of, IsSound, IsStill, ShowsP
 ghost use Rattle.fsd_sound.specs.Choices.{TellsChoices};
 ghost use Rattle.fsd_sound.specs.Windows.{IsApart};
 
-/// A formatted disk is sound, with no changes, in a window whose weak run has at most three sectors, also as its own window
-/// has worn it.
+/// A formatted disk is sound, with no changes, in a window whose weak run has at most three sectors,
+/// also as its own window has worn it.
 pub fn formatted_disks_are_sound()
     ensures written { (l : Layout) (windows : List WeakRun) (i : Image) → IfSome (last_or None windows) (λ r. r.count ≤ 3) →
         IsFormatted l i → IsSound l windows [] 0 i }
@@ -43,7 +43,8 @@ pub fn sound_disks_wear()
         IsWorn (weak_of windows) i j → ShowsPages l windows choices i → ShowsPages l windows choices j }
 {}
 
-/// What the machine's open windows wear, the last window wears: so a sound disk stays sound through the machine's calls.
+/// What the machine's open windows wear, the last window wears:
+/// so a sound disk stays sound through the machine's calls.
 pub fn open_windows_wear_soundly()
     ensures { (l : Layout) (windows : List WeakRun) (now : Windows) (h : List Change) (f : ℕ) (i j : Image) →
         IfSome (last_or None windows) (λ r. r.count ≤ 3) → EndIn now windows →
@@ -96,7 +97,8 @@ pub fn free_sectors_may_be_written()
         IsMounted m windows h f i → IsMounted m windows h f j }
 {}
 
-/// So does what is written to any sector that the forced changes have let go, where what drafts and readers have stands then.
+/// So does what is written to any sector that the forced changes have let go,
+/// where what drafts and readers have stands then.
 pub fn drafts_may_be_written()
     ensures { (m : Mounted) (slices : List (List (Option (List ℕ)))) (windows : List WeakRun) (h : List Change) (f : ℕ) (i j : Image) → length j ≡ length i → SameStays m.volume i j →
         HasOpen (in_runs windows) j (record m { slices = slices }) → IsMounted m windows h f i → IsMounted (record m { slices = slices }) windows h f j }
@@ -114,8 +116,8 @@ pub fn changes_wait_for_a_force()
         ChangesTo (h ++ c ∷ []) windows i m n → IsMounted n windows (h ++ c ∷ []) f i }
 {}
 
-/// While the disk shows what was forced before or what is in memory now, it is sound; and once it shows that, all changes
-/// are forced. The anchor of the log may have moved on.
+/// While the disk shows what was forced before or what is in memory now, it is sound; and once it shows that, all
+/// changes are forced. The anchor of the log may have moved on.
 pub fn forces_commit_all_changes()
     ensures during { (m : Mounted) (windows : List WeakRun) (h : List Change) (f : ℕ) (i j : Image) (now : List (List ℕ)) → (is : IsMounted m windows h f i) → SameData m.volume.layout (in_runs windows) i j →
         told_in now ≡ Some (telling_of m.volume) → ShowsPages m.volume.layout windows (is.disk ∷ now ∷ []) j → IsSound m.volume.layout windows h f j }
@@ -124,13 +126,14 @@ pub fn forces_commit_all_changes()
         StandsOver m.volume.layout anchor head records now now [] windows j → IsMounted (with_forced m now anchor head) windows h (length h) j }
 {}
 
-/// A volume is mounted where the pages that the disk shows tell its files, and its log has no record that it doesn't know.
+/// A volume is mounted where the pages that the disk shows tell its files,
+/// and its log has no record that it doesn't know.
 pub fn fresh_mounts_hold()
     ensures { (m : Mounted) (windows : List WeakRun) (h : List Change) (i : Image) → IsFresh h windows i m → IsMounted m windows h (length h) i }
 {}
 
-/// Where nothing wears, a disk is sound exactly where it shows one list of pages that tells the files after a prefix of the
-/// changes with every forced one.
+/// Where nothing wears, a disk is sound exactly where it shows one list of pages that tells the files after a prefix of
+/// the changes with every forced one.
 pub fn still_disks_tell_a_prefix()
     ensures sound { (l : Layout) (windows : List WeakRun) (h : List Change) (f : ℕ) (i : Image) → IsStill windows → IsSound l windows h f i → TellsPrefix l windows h f i }
     ensures prefix { (l : Layout) (windows : List WeakRun) (h : List Change) (f : ℕ) (i : Image) → TellsPrefix l windows h f i → IsSound l windows h f i }

@@ -23,32 +23,32 @@ pub fn own_logs_wear()
         HasOwnLog l a rs h weak i → HasOwnLog l a rs h weak j }
 {}
 
-/// Once the last record's copies stand, each page that the newer anchor's log has is in the log of each anchor, however a
-/// narrow run wears.
+/// Once the last record's copies stand, each page that the newer anchor's log has is in the log of each anchor,
+/// however a narrow run wears.
 pub fn completed_pages_are_logged()
     ensures { (l : Layout) (windows : List WeakRun) (choices : List (List (List ℕ))) (i : Image) (t : Anchor) (front : List Placed) (r : Placed) (page : ℕ) → l.pages ≤ 2 ^ 32 → IsApart (weak_of windows) →
         ShowsPages l windows choices i → anchor_of i ≡ Some t → records_by l i t ≡ front ++ r ∷ [] → HasCopies l t (weak_of windows) i r →
         (last_image page (records_by l i t) ≡ None → ⊥) → IsLogged l (weak_of windows) page i }
 {}
 
-/// While the last record's copies are laid again, sector by sector, the image shows the same pages, by the same records,
-/// however a narrow run wears.
+/// While the last record's copies are laid again, sector by sector, the image shows the same pages, by the same
+/// records, however a narrow run wears.
 pub fn copies_may_be_laid()
     ensures { (l : Layout) (windows : List WeakRun) (choices : List (List (List ℕ))) (i : Image) (t : Anchor) (front : List Placed) (r : Placed) (k : ℕ) → l.pages ≤ 2 ^ 32 → IsApart (weak_of windows) →
         16 + 3 * l.third ≤ length i → ShowsPages l windows choices i → anchor_of i ≡ Some t → records_by l i t ≡ front ++ r ∷ [] → k ≤ length r.entry.pages →
         Follows l windows choices t i (with_sector i (place_of l t.third r.at + (4 + length r.entry.pages + k)) (get_or (copies_of t r) k [])) }
 {}
 
-/// A mount up to `healing`: while the last record is completed over an image that was seen, a stop at any moment leaves an
-/// image that shows one of the page lists.
+/// A mount up to `healing`: while the last record is completed over an image that was seen, a stop at any moment leaves
+/// an image that shows one of the page lists.
 pub fn completing_may_be_stopped()
     ensures { (l : Layout) (windows : List WeakRun) (choices : List (List (List ℕ))) (i : Image) (t : Anchor) (copies : Copies) (stood : ℕ) (now left : Moment) → l.pages ≤ 2 ^ 32 → IsApart (weak_of windows) → 16 + 3 * l.third ≤ length i →
         EndIn now.windows windows → IsWorn (open_damage now.windows) i now.image → ShowsPages l windows choices i → anchor_of i ≡ Some t → AreLastCopies l t.epoch t.third (records_by l i t) copies →
         stood ≤ copies_count copies → Holds now (stand now.image copies.place copies.bytes stood) left → ShowsPages l windows choices left.image }
 {}
 
-/// Where a log's records were laid whole, each of their images stands in two sectors; however a narrow run wears, what stands
-/// whole in one of them is the image, and they are not both damaged.
+/// Where a log's records were laid whole, each of their images stands in two sectors; however a narrow run wears, what
+/// stands whole in one of them is the image, and they are not both damaged.
 pub fn laid_images_are_given()
     ensures twice { (l : Layout) (a : Anchor) (weak : Sectors) (i : Image) (r : Placed) (k : ℕ) → a.third ≤ 2 → AllLaid l a weak i (records_by l i a) → Contains (records_by l i a) r → k < length r.entry.pages →
         StandsTwice weak i (get_or r.entry.images k []) (place_of l a.third r.at + 3 + k) (place_of l a.third r.at + (4 + length r.entry.pages) + k) }

@@ -8,7 +8,8 @@ const FORMAT: &str = "cfs format v 721 200 16";
 
 const LIST: &str = "cfs list v *";
 
-// Where this call of a put fails: its status, and whether the version is there. None where it says something else than it should.
+// Where this call of a put fails: its status, and whether the version is there.
+// None where it says something else than it should.
 fn put_with_fault(
     alloc: Global,
     image: &[Sector],
@@ -29,8 +30,8 @@ fn put_with_fault(
     Ok(if right { Some((status, there)) } else { None })
 }
 
-// How many puts can't say their reply alone, where each call fails in turn. None where one says or leaves something else than it
-// should: the calls before that one are of the disk and of the input, and leave nothing.
+// How many puts can't say their reply alone, where each call fails in turn. None where one says or leaves something
+// else than it should: the calls before that one are of the disk and of the input, and leave nothing.
 fn unsaid_puts(alloc: Global, image: &[Sector]) -> Result<Option<u32>, AllocError> {
     let mut unsaid = 0u32;
     for call in 1..200 {
@@ -68,7 +69,8 @@ const LISTED: [&str; 4] = [
     "a!1 0 1 2\nb!1 0 1 2\nc!1 0 1 2\nlisted 3\n",
 ];
 
-// The puts byte by byte, in a run in which this call fails, and what is listed then: where the input failed, behind how many puts.
+// The puts byte by byte, in a run in which this call fails, and what is listed then:
+// where the input failed, behind how many puts.
 fn puts_before_fault(
     alloc: Global,
     image: &[Sector],

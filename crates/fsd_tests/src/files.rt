@@ -1,4 +1,5 @@
-//! Runs on a real file, which say what they say to the output of the tests. What a file holds is read by a machine in memory.
+//! Runs on a real file, which say what they say to the output of the tests.
+//! What a file holds is read by a machine in memory.
 use crate::machines::{calm, run, words_of};
 use cfs_program::run_words;
 use image_file::{FileMachine, SLOT_BYTES, read_slot};

@@ -97,8 +97,8 @@ fn pages_come_from_the_log_or_from_home(rt: HostRuntime) -> Result<(), Fail> {
     let bare_sectors = bare.attach("v", Attach::Old)?;
     assert!(rt; layout.sectors() <= sectors && layout.pages() == 64);
     assert!(rt; layout.sectors() <= bare_sectors);
-    // The record begins at 16: its page is at 19, and the copy at 21. Behind 16 sectors and 3 thirds of 256 the first homes
-    // begin at 784, and the second ones, behind 64 of them and 4 more, at 852.
+    // The record begins at 16: its page is at 19, and the copy at 21. Behind 16 sectors and 3 thirds of 256 the first
+    // homes begin at 784, and the second ones, behind 64 of them and 4 more, at 852.
     let want = [
         Ok(stamped_page()),
         Err(LoadFault::Lost { a: 19, b: 21 }),

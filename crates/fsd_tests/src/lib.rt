@@ -1,4 +1,5 @@
-//! Tests that cross crates: runs over a machine in memory whose sectors wear and over real files, and the mounts and forces below them.
+//! Tests that cross crates: runs over a machine in memory whose sectors wear and over real files,
+//! and the mounts and forces below them.
 #![tactic(auto)]
 
 #[cfg(test)]

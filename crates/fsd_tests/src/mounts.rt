@@ -104,7 +104,8 @@ fn logged_page() -> [u8; 512] {
     page
 }
 
-// Page 0 is in one record at the start of the log, whose page copy and end copy are old, and its home at 784 is damaged.
+// Page 0 is in one record at the start of the log, whose page copy and end copy are old,
+// and its home at 784 is damaged.
 fn logged(alloc: Global) -> Result<Vec<Sector>, AllocError> {
     let mut record = [0; 3584];
     lay(2, 1, &[0], &logged_page(), &mut record);

@@ -1,5 +1,5 @@
-//! A script of three forces that is stopped behind each sector that it writes, and a list that is stopped too and made again: it
-//! tells of a prefix of the changes, with each one that was forced.
+//! A script of three forces that is stopped behind each sector that it writes, and a list that is stopped too and made
+//! again: it tells of a prefix of the changes, with each one that was forced.
 use crate::machines::{NEVER, formatted, hurt, hurt_late, run, weak};
 use sector_disk::{Event, MemoryMachine, Sector};
 use std::alloc::{AllocError, Global};
@@ -78,8 +78,8 @@ fn goes_well(alloc: Global, m: MemoryMachine, events: [&[Event]; 3]) -> Result<b
     Ok(m.honest() && first && same && end == 0 && may_stand(said.as_slice(), m.said()))
 }
 
-// After how many sectors the script and the list stop, where it goes wrong. Where nothing wears the script writes 28 sectors, and a
-// list 10 at most.
+// After how many sectors the script and the list stop, where it goes wrong. Where nothing wears the script writes 28
+// sectors, and a list 10 at most.
 fn wrong_stops(
     alloc: Global,
     image: &[Sector],

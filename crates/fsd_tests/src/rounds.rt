@@ -1,5 +1,5 @@
-//! A log that comes round: a force that enters its first third again, on a volume of 721 sectors whose thirds have 200, so that
-//! each takes 28 records of one page, and whose 16 pages have their homes from 616 and from 636 on.
+//! A log that comes round: a force that enters its first third again, on a volume of 721 sectors whose thirds have 200,
+//! so that each takes 28 records of one page, and whose 16 pages have their homes from 616 and from 636 on.
 ghost use Rattle.std.specs.Prelude.{◌≡◌, ◌<◌, ◌≤◌};
 
 use crate::machines::{calm, formatted, stop_in};

@@ -32,7 +32,8 @@ fn the_next_run_lists_what_stands(rt: HostRuntime) -> Result<(), Fail> {
     let script = b"put d 1\nx\nforce\ndelete d!1\nput e 1\ny\n".as_slice();
     let cut = b"put a 1\nx\nput b 1\ny\nput c 1\nz\n".as_slice();
     let rows = [
-        // The record stands at 16..23: a header, a blank, the header's copy, the page and the end, and the copies of both.
+        // The record stands at 16..23: a header, a blank, the header's copy, the page and the end,
+        // and the copies of both.
         Stopped {
             event: stop_in(16, 1, 4),
             line: "cfs put v a",
@@ -109,7 +110,8 @@ fn keeps(alloc: Global) -> Result<Vec<u8>, AllocError> {
     Ok(script)
 }
 
-// A third of 200 sectors has 28 records of one page. The 85th enters the first third again: the anchor goes to 8 and 12 before it.
+// A third of 200 sectors has 28 records of one page.
+// The 85th enters the first third again: the anchor goes to 8 and 12 before it.
 #[test]
 fn the_log_comes_round(rt: HostRuntime) -> Result<(), Fail> {
     let alloc = rt.alloc();

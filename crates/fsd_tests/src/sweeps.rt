@@ -1,5 +1,5 @@
-//! A put and two gets of what it made, with a stop at every write of the first two runs, and with damage at every moment that
-//! the windows allow. As `rt test` builds them they take seconds, and minutes as `rt try` does.
+//! A put and two gets of what it made, with a stop at every write of the first two runs, and with damage at every
+//! moment that the windows allow. As `rt test` builds them they take seconds, and minutes as `rt try` does.
 use crate::machines::{NEVER, formatted, hurt, run, weak};
 use sector_disk::{Event, MemoryMachine, Sector, When};
 use std::alloc::{AllocError, Global};
@@ -9,8 +9,8 @@ const FORMAT: &str = "cfs format w 721 200 16";
 
 const GET: &str = "cfs get w a!1";
 
-// The last run says the byte that was put, or names its sector, which is damaged. Only of a version of which no run has told
-// it may know nothing.
+// The last run says the byte that was put, or names its sector, which is damaged.
+// Only of a version of which no run has told it may know nothing.
 fn says_version(m: &MemoryMachine, status: u8, told: bool) -> bool {
     match status {
         0 => m.said() == b"x".as_slice(),
@@ -45,7 +45,8 @@ fn stopping(events: [Event; 4], after: u64) -> [Event; 5] {
     [a, b, c, d, Event::Stop { after }]
 }
 
-// After how many sectors the put and the first get stop, where it goes wrong. The put writes 13 sectors at most, and the get 8.
+// After how many sectors the put and the first get stop, where it goes wrong.
+// The put writes 13 sectors at most, and the get 8.
 fn wrong_stops(
     alloc: Global,
     image: &[Sector],

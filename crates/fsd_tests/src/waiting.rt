@@ -33,7 +33,8 @@ fn waiting<M: Machine>(alloc: Global, m: &mut M, log: &Log, page: u32) -> Option
     Some(cache)
 }
 
-/// Forces this page alone, free; nothing is answered where it can't be read, memory is short or the log has no number more.
+/// Forces this page alone, free; nothing is answered where it can't be read,
+/// memory is short or the log has no number more.
 pub(crate) fn force_page<M: Machine>(
     alloc: Global,
     m: &mut M,

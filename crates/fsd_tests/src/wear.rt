@@ -1,5 +1,5 @@
-//! Runs on which a pair of sectors wears, in a volume whose log begins at 16, whose homes begin at 784 and 852, and whose data
-//! begins at 921.
+//! Runs on which a pair of sectors wears, in a volume whose log begins at 16, whose homes begin at 784 and 852,
+//! and whose data begins at 921.
 use crate::machines::{NEVER, formatted, hurt, hurt_late, run, stop_in, weak};
 use sector_disk::{Event, Sector};
 use std::alloc::{AllocError, Global};
@@ -91,8 +91,8 @@ fn an_old_copy_serves_no_record(rt: HostRuntime) -> Result<(), Fail> {
     Ok(())
 }
 
-// The first get completes the record and stops between the two homes. What the second one says from there, the third one says
-// from the second home.
+// The first get completes the record and stops between the two homes. What the second one says from there, the third
+// one says from the second home.
 #[test]
 fn a_record_is_completed_before_its_pages_go_home(rt: HostRuntime) -> Result<(), Fail> {
     let cut = stop_in(16, 1, 5);

@@ -1,8 +1,8 @@
 //! Lines that are no commands.
 use thiserror::Error;
 
-/// Why no command stands there: the first cause, in the order of the variants; of fields, that of the first bad one from
-/// the left.
+/// Why no command stands there: the first cause, in the order of the variants;
+/// of fields, that of the first bad one from the left.
 #[derive(Clone, Copy, Debug, PartialEq, Eq, Error)]
 pub enum Cause {
     /// More than 128 bytes without a newline.

@@ -35,8 +35,8 @@ pub record OwnsLog (log : LogValue) (records : List Placed) (disk : List (List �
   pub own : HasOwnLog log.layout log.anchor records log.head (weak_of windows) i
   pub indexed : IsIndexed log records
 
--- Of the pages in front of this number those whose last image lies in the first third stand at home, and nothing else was
--- written; the moment is worn from that image.
+-- Of the pages in front of this number those whose last image lies in the first third stand at home, and nothing else
+-- was written; the moment is worn from that image.
 pub record IsHoming (log : LogValue) (records : List Placed) (disk : List (List ℕ)) (windows : List WeakRun) (old : Moment) (n : ℕ) (now : Moment) : Type 0 where
   pub image : Image
   pub holds : Holds old image now
@@ -57,7 +57,8 @@ pub record IsEntered (log : LogValue) (records : List Placed) (disk : List (List
   pub over : OwnsLog (moved log) (records_moved log.layout records) disk windows new.image
   pub outside : KeepsOutside log.layout old new
 
--- Whatever pages the old moment shows over this log, the left one shows them too, and only log, anchors and homes change.
+-- Whatever pages the old moment shows over this log, the left one shows them too, and only log,
+-- anchors and homes change.
 abbrev pub ShowsStill : LogValue → Moment → Moment → Type 0
 ShowsStill log old left = (records : List Placed) (disk : List (List ℕ)) (windows : List WeakRun) → MayHome log windows old → OwnsLog log records disk windows old.image → Shows log.layout windows disk old left
 

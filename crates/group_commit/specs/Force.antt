@@ -29,7 +29,8 @@ abbrev pub log_forced : LogValue → List ℕ → LogValue
 log_forced log [] = log
 log_forced log (page ∷ more) = log_with (log_before log (length (page ∷ more))) (page ∷ more)
 
--- The disk shows these pages, the log is its own, and the pages in memory are those of the disk but for the ones that wait.
+-- The disk shows these pages, the log is its own, and the pages in memory are those of
+-- the disk but for the ones that wait.
 abbrev pub StandsOver : LogValue → (records : List Placed) → (disk : List (List ℕ)) → ResidentValue → List WeakRun → Image → Type 0
 StandsOver log records disk s windows i = Over log.layout log.anchor log.head records disk s.pages s.dirty windows i
 

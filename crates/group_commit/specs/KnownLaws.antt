@@ -1,4 +1,5 @@
--- What a log knows of its pages lasts while the disk wears. The laws stand here since the `impl` of a source rests on them.
+-- What a log knows of its pages lasts while the disk wears.
+-- The laws stand here since the `impl` of a source rests on them.
 use Rattle.std.proofs.Common.{◌≡◌, ℕ, ◌+◌, ◌<◌, Bool, true, false, cond, nat_lt, List, [], ◌∷◌, get_or, Option, Some, None, refl, sym, ap, subst, ◌∙◌, arith}
 use Rattle.std.specs.Prelude.{IfSome, option_and_then}
 use Rattle.std.proofs.lemmas.Bool.{ltb-true}

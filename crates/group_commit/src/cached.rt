@@ -144,10 +144,10 @@ fn force_waiting<M: Machine>(
 }
 
 impl Group {
-    /// Writes one record of all dirty pages of the cache, ascending, each stamped with the log's epoch and the record's number;
-    /// where none is dirty, nothing. Where the record would enter the log's first third, the pages of that third are written home
-    /// first, and the anchor moves on. It takes no memory. Where it fails the pages stay dirty, and only a mount says whether the
-    /// record stands.
+    /// Writes one record of all dirty pages of the cache, ascending, each stamped with the log's epoch and the record's
+    /// number; where none is dirty, nothing. Where the record would enter the log's first third, the pages of that
+    /// third are written home first, and the anchor moves on. It takes no memory. Where it fails the pages stay dirty,
+    /// and only a mount says whether the record stands.
     pub fn force_cached<M: Machine>(
         m: &mut M,
         log: &mut Log,
@@ -158,7 +158,8 @@ impl Group {
         requires numbered { log.old.head.number < 2 ^ 32 - 1 }
         requires sectors { log.old.layout.sectors ≤ (M.report m.old).sectors }
 
-        // At each moment the disk shows the pages as they were or as they are now, whichever pages the cache has a part of.
+        // At each moment the disk shows the pages as they were or as they are now,
+        // whichever pages the cache has a part of.
         ensures disk { WritesDisk M.Machine (device_in load_failed_at result) (CacheLeaves log.old cache.old) m.old m.new }
 
         // Whatever the disk shows, the roots, the map and the data stay but for wear.
@@ -175,11 +176,13 @@ impl Group {
         ensures cache_err { OnErr result (cache.new ≡ stamped_for log.old cache.old) }
         ensures log { OnOk result (log.new ≡ log_forced log.old (ascending_of cache.old.dirty)) }
 
-        // Behind a fault the log is the old one; or, where the write of the record itself failed, the one that it goes behind.
+        // Behind a fault the log is the old one; or, where the write of the record itself failed,
+        // the one that it goes behind.
         ensures log_err { OnErr result ((log.new ≡ log.old) ⊎ ((log.new ≡ log_before log.old (length cache.old.dirty)) × (M.tells m.new → (M.ledger m.new).written ≡ (M.ledger m.old).written + sectors_before log.old (length cache.old.dirty)))) }
         ensures layout { log.new.layout ≡ log.old.layout }
 
-        // A page is lost only where both sectors of its last image in the log read damaged, and over a disk that shows pages none is.
+        // A page is lost only where both sectors of its last image in the log read damaged,
+        // and over a disk that shows pages none is.
         ensures lost { IfErr result (λ fault. M.honest m.new → LosesLogged log.old (M.now m.new).image fault) }
         ensures never_lost { IfErr result (λ fault. (pages : List (List ℕ)) (windows : List WeakRun) (records : List Placed) (disk : List (List ℕ)) →
             AgreesWith log.old.layout cache.old pages → M.honest m.new → EndIn (M.now m.old).windows windows →

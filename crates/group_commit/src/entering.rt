@@ -93,8 +93,8 @@ pub(crate) fn enter_third<M: Machine>(m: &mut M, log: &mut Log, third: u32) -> R
     Ok(())
 }
 
-/// Makes room for a record of so many pages: where it would enter the log's first third, the pages of that third are written
-/// home, and the anchor moves on; else nothing is done.
+/// Makes room for a record of so many pages: where it would enter the log's first third, the pages of that third are
+/// written home, and the anchor moves on; else nothing is done.
 pub fn make_room<M: Machine>(m: &mut M, log: &mut Log, count: u32) -> Result<(), LoadFault>
     requires few { count ≤ max_pages }
     requires sectors { log.old.layout.sectors ≤ (M.report m.old).sectors }

@@ -16,9 +16,9 @@ ghost use Rattle.group_commit.specs.Force.{Committed, StandsOver, stamped_by};
 ghost use Rattle.group_commit.specs.Newest.{newest_by, KnowsImages, KnowsPages};
 ghost use Rattle.group_commit.specs.Resident.{ResidentValue};
 
-/// On the disk below the pages in memory each page has a newest image, which is the one that the disk shows; of a page that
-/// does not wait it is the one in memory. A log knows that disk's images exactly where it is indexed by the disk's records, and
-/// then it knows the pages too, in a window of the machine.
+/// On the disk below the pages in memory each page has a newest image, which is the one that the disk shows; of a page
+/// that does not wait it is the one in memory. A log knows that disk's images exactly where it is indexed by the disk's
+/// records, and then it knows the pages too, in a window of the machine.
 pub fn pages_are_newest()
     ensures knows { (log : LogValue) (records : List Placed) (disk : List (List ℕ)) (s : ResidentValue) (windows : List WeakRun) (i : Image) →
         StandsOver log records disk s windows i → KnowsImages log i ↔ IsIndexed log records }
@@ -30,8 +30,8 @@ pub fn pages_are_newest()
         StandsOver log records disk s windows i → page < log.layout.pages → IsFalse (contains s.dirty page) → newest_by log i page ≡ Some (image_at s.pages page) }
 {}
 
-/// Behind a force of a cache the stamped pages agree with its stamped frames, and each frame of a clean page has the newest image
-/// by the log that is then. In what order the pages wait makes no difference to what stands below them.
+/// Behind a force of a cache the stamped pages agree with its stamped frames, and each frame of a clean page has the
+/// newest image by the log that is then. In what order the pages wait makes no difference to what stands below them.
 pub fn clean_frames_are_newest()
     ensures order { (log : LogValue) (records : List Placed) (disk : List (List ℕ)) (pages : List (List ℕ)) (dirty : List ℕ) (windows : List WeakRun) (i : Image) →
         StandsOver log records disk (record { pages = pages; dirty = dirty }) windows i → StandsOver log records disk (record { pages = pages; dirty = ascending_of dirty }) windows i }

@@ -16,8 +16,8 @@ const SLOTS_AT_ONCE: usize = 8;
 
 /// The machine over a file of slots, standard input and standard output.
 ///
-/// Contracts see what it reports and no more. It answers for no content: `healing` and `settle` do nothing, as no run of
-/// sectors is weak by anything that it does.
+/// Contracts see what it reports and no more. It answers for no content: `healing` and `settle` do nothing, as no run
+/// of sectors is weak by anything that it does.
 #[derive(Drop)]
 pub struct FileMachine<R: Files<File = File> + Input + Print + Drop> {
     rt: R,

@@ -3,16 +3,16 @@
 //! **The file.** A file of slots of 520 bytes: the slot of sector s begins at byte 520 * s and holds the sector's 512
 //! bytes, then s, then a check of the bytes, both as big-endian u32. Anything else in its place reads as a damaged
 //! sector: a slot of zeros, as a new file has them, one whose bytes or check have changed, and one that belongs to
-//! another sector. An image has as many sectors as its file has whole slots, and what follows the last one is not looked
-//! at.
+//! another sector. An image has as many sectors as its file has whole slots,
+//! and what follows the last one is not looked at.
 //!
-//! **One run at a time.** An attach locks its file for this opening alone, without waiting, before it reads or changes a
-//! byte; where another opening has it locked, the attach fails. The lock lasts until the machine attaches again or is
+//! **One run at a time.** An attach locks its file for this opening alone, without waiting, before it reads or changes
+//! a byte; where another opening has it locked, the attach fails. The lock lasts until the machine attaches again or is
 //! dropped. A file system that has no such lock can keep no image.
 //!
 //! **Never standard input, output or error.** An attach first sees that these three are open. One that was closed is on
-//! the null device from then on, opened so that a read of it or a write to it still fails. That the image's file is none
-//! of them is proved of the number that it was opened under.
+//! the null device from then on, opened so that a read of it or a write to it still fails. That the image's file is
+//! none of them is proved of the number that it was opened under.
 //!
 //! **What is trusted.** `FileMachine` meets the contract of `Machine` and tells nothing of content: no contract can say
 //! what a file, a disk or a terminal gives or takes. That slots are spelled and read as they should be is proved; these

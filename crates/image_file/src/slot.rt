@@ -38,8 +38,8 @@ pub fn slot_of(s: u32, b: &[u8; 512]) -> [u8; 520]
     slot
 }
 
-/// The bytes of sector `s`, where `x` is its slot. Of any other 520 bytes, those of another sector's slot too, there are
-/// none: the sector is damaged.
+/// The bytes of sector `s`, where `x` is its slot. Of any other 520 bytes, those of another sector's slot too, there
+/// are none: the sector is damaged.
 pub fn read_slot(s: u32, x: &[u8; 520]) -> Option<[u8; 512]>
     ensures found { IfSome result (λ b. x.now ≡ slot_of s b) }
     ensures only { (b : List ℕ) → length b ≡ sector_len → x.now ≡ slot_of s b → result ≡ Some b }

@@ -193,9 +193,9 @@ fn len_by(
     if len <= room { len } else { 0 }
 }
 
-/// How far sectors are to be read, from the first on, to judge them: the headers, and the record that they name where it has
-/// room, the longer one of two. What lies beyond has no part in it. `whole` and `bytes` have the headers, or all that there is
-/// room for.
+/// How far sectors are to be read, from the first on, to judge them: the headers, and the record that they name where
+/// it has room, the longer one of two. What lies beyond has no part in it.
+/// `whole` and `bytes` have the headers, or all that there is room for.
 pub fn reach(whole: &[bool], bytes: &[u8], p: u32, epoch: u32, number: u32, room: u32) -> u32
     requires { length bytes.now ≡ 512 * length whole.now }
     ensures reach { result ≡ reach p (record { epoch = epoch; number = number }) room (read_of whole.now bytes.now) }

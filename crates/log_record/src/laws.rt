@@ -8,7 +8,8 @@ ghost use Rattle.fsd_log.specs.Borne.{Foreign, FitsStamp, ReadsLess};
 ghost use Rattle.fsd_log.specs.Laid.{AreLaid, IsTorn, laid_bytes, new_record};
 ghost use Rattle.fsd_log.specs.Plain.{plain_record};
 
-/// A record is judged good exactly where, by its header or the header's copy, of each other sector and its copy one serves.
+/// A record is judged good exactly where, by its header or the header's copy,
+/// of each other sector and its copy one serves.
 pub fn records_are_good_where_copies_serve()
     ensures good { (p : ℕ) (stamp : Stamp) (room : ℕ) (at : Reader) (found : Serving) → judged p stamp room at ≡ Some found → IsGood p stamp room at found.pages }
     ensures not_there { (p : ℕ) (stamp : Stamp) (room : ℕ) (at : Reader) (pages : List ℕ) → judged p stamp room at ≡ None → IsGood p stamp room at pages → ⊥ }
@@ -35,7 +36,8 @@ pub fn torn_records_are_whole_or_absent()
         ((k : ℕ) → Foreign stamp (old k)) → record_in p stamp room new ≡ None }
 {}
 
-/// Where other sectors only come to bear nothing of a record, it stays as it was: there, if its own sectors stay, or not there.
+/// Where other sectors only come to bear nothing of a record, it stays as it was:
+/// there, if its own sectors stay, or not there.
 pub fn records_stay()
     ensures there { (p : ℕ) (stamp : Stamp) (room : ℕ) (old new : Reader) (r : Logged) → FitsStamp stamp → ReadsLess stamp old new →
         record_in p stamp room old ≡ Some r → ((k : ℕ) → k < record_len (length r.pages) → new k ≡ old k) → record_in p stamp room new ≡ Some r }

@@ -90,7 +90,8 @@ IsLogWorn log records at = AllWorn (open_damage at.windows) (λ image. IsLog log
 abbrev pub IsApartNow : Moment → Type 0
 IsApartNow at = (s d : ℕ) → IsTrue (open_damage at.windows s) → IsTrue (open_damage at.windows (s + d)) → 2 ≤ d → ⊥
 
--- Some first sectors of the record stand, worn. Up to its end the scan is the old one, and from then on the old one or the one with the record.
+-- Some first sectors of the record stand, worn. Up to its end the scan is the old one,
+-- and from then on the old one or the one with the record.
 pub record AppendsWorn (log : LogValue) (records : List Placed) (pages images : List ℕ) (old left : Moment) : Type 0 where
   pub part : StandsInPart (place_of log.layout log.anchor.third (spot_for log.layout (length pages) log.head).at) (laid_bytes (stamp_now log) pages images) (record_len (length pages)) old left
   pub absent : part.stood ≤ 3 + length pages → scan_of log left ≡ record { records = records; head = log.head }

@@ -47,8 +47,8 @@ records_moved l records = map (back l.third) (later l records)
 abbrev pub EndsInLastThird : LogValue → Type 0
 EndsInLastThird log = 2 * log.layout.third < log.head.at
 
--- The anchor stands at none of its places, at the first, or at both; however the image wears, the log by the old anchor is what
--- it was, and by the new one what lies behind the first third.
+-- The anchor stands at none of its places, at the first, or at both; however the image wears, the log by the old anchor
+-- is what it was, and by the new one what lies behind the first third.
 pub record MovesWorn (log : LogValue) (records : List Placed) (old left : Moment) : Type 0 where
   pub part : AnchorsIn (moved_anchor log) old left
   pub before : IsLogWorn log records left

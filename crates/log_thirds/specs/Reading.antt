@@ -51,7 +51,8 @@ ReadWorn old place o = (o ≡ reads old.image place) ⊎ (IsTrue (open_damage ol
 abbrev pub Sees : (old new : Moment) → ℕ → Option (List ℕ) → Type 0
 Sees old new place o = ReadWorn old place o × (o ≡ None → sector_at new.image place ≡ Damaged)
 
--- So many sectors are read from a place on: those that were read before stay as they were read, and each other one is seen.
+-- So many sectors are read from a place on: those that were read before stay as they were read,
+-- and each other one is seen.
 pub record ReadsOn (honest : Type 0) (old new : Moment) (place count : ℕ) (whole whole1 : List Bool) (bytes bytes1 : List ℕ) : Type 0 where
   pub many : length whole1 ≡ count
   pub long : length bytes1 ≡ 512 * count

@@ -11,8 +11,8 @@ use Rattle.log_thirds.specs.Disk.{reads}
 use Rattle.log_thirds.specs.LogValue.{LogValue}
 use Rattle.log_thirds.specs.Append.{IsIndexed, KnowsLast}
 
--- The image that was seen is one that the image seen before may be worn to, and that may be worn to the new one; in front of
--- a place on the tape it is the one seen before.
+-- The image that was seen is one that the image seen before may be worn to, and that may be worn to the new one; in
+-- front of a place on the tape it is the one seen before.
 pub record SeesOn (l : Shape) (third at : ℕ) (may : ℕ → Bool) (before new : List Sector) (P : List Sector → Type 0) : Type 0 where
   pub image : List Sector
   pub from : IsWorn may before image
@@ -21,8 +21,8 @@ pub record SeesOn (l : Shape) (third at : ℕ) (may : ℕ → Bool) (before new 
   pub front : (s : ℕ) → s < 16 → sector_at image s ≡ sector_at before s
   pub is : P image
 
--- The log is the scan of this image: it ends there, and the log knows where each page's last image lies, and the copies of
--- the last record.
+-- The log is the scan of this image: it ends there, and the log knows where each page's last image lies,
+-- and the copies of the last record.
 pub record IsScanOf (log : LogValue) (i : List Sector) : Type 0 where
   pub head : (scan log.layout log.anchor.epoch (tape log.layout log.anchor.third (reads i)) log.anchor.first).head ≡ log.head
   pub indexed : IsIndexed log (scan log.layout log.anchor.epoch (tape log.layout log.anchor.third (reads i)) log.anchor.first).records

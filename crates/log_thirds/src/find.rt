@@ -53,7 +53,8 @@ impl Step {
     }
 }
 
-/// What a scan reads into, made once: sectors, and of the record that was found last the copies of its images and its end.
+/// What a scan reads into, made once: sectors, and of the record that was found last
+/// the copies of its images and its end.
 #[derive(Drop)]
 pub(crate) struct Scratch {
     pub reading: Reading,

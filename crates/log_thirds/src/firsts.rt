@@ -2,8 +2,8 @@
 ghost use Rattle.std.specs.Prelude.{◌≡◌, ◌<◌, ◌+◌, ◌*◌, ◌^◌};
 ghost use Rattle.log_thirds.specs.Firsts.{firsts_of, firsts_with};
 
-/// The numbers of the first records in the second third of the tape and in the last one; where there is none yet, that of
-/// the next record.
+/// The numbers of the first records in the second third of the tape and in the last one;
+/// where there is none yet, that of the next record.
 #[derive(Clone, Copy, Debug, PartialEq, Eq)]
 pub(crate) struct Firsts {
     pub second: u32,

@@ -52,8 +52,8 @@ fn choose(
         .or(copy)
 }
 
-/// Reads the page's image at its slot, and where it doesn't stand there, at the copy. Where it stands at neither, it gives
-/// one of the two that is whole; none where both are damaged.
+/// Reads the page's image at its slot, and where it doesn't stand there, at the copy. Where it stands at neither, it
+/// gives one of the two that is whole; none where both are damaged.
 pub(crate) fn read_slot<M: Machine>(
     m: &mut M,
     slot: Slot,

@@ -13,7 +13,8 @@ ghost use Rattle.fsd_log.specs.Borne.{Foreign};
 ghost use Rattle.fsd_log.specs.Scan.{Head, Placed, IsLog, start, tape};
 ghost use Rattle.log_thirds.specs.Moves.{IsNextThird, MovesOn};
 
-/// By an anchor that names the third behind the first one, the log is what lay behind the first third, and goes on where it did.
+/// By an anchor that names the third behind the first one, the log is what lay behind the first third,
+/// and goes on where it did.
 pub fn logs_move_on()
     ensures { (l : Shape) (epoch first third next : ℕ) (disk : Reader) (records : List Placed) (h : Head) → epoch < 2 ^ 32 → 0 < l.third → IsNextThird third next →
         IsLog l epoch first (tape l third disk) records h → h.number < 2 ^ 32 → l.third < h.at → MovesOn l epoch first (tape l next disk) records h }
@@ -31,7 +32,8 @@ pub fn short_runs()
     ensures narrow { (at : Moment) → IfSome at.windows.present (λ run. run.count ≤ 2) → IfSome at.windows.next (λ run. run.count ≤ 2) → IsApartNow at }
 {}
 
-/// Where a page has a slot, its last image stands in the sector that the slot names, or else in the copy; where it has none, no record of the log has the page.
+/// Where a page has a slot, its last image stands in the sector that the slot names, or else in the copy; where it has
+/// none, no record of the log has the page.
 pub fn last_images_stand_in_slots()
     ensures some { (log : LogValue) (records : List Placed) (at : Moment) (page : ℕ) (slot : Slot) → log.anchor.third ≤ 2 → IsIndexed log records → page < length log.slots →
         IsLogIn log records at → slice_index_or log.slots page None ≡ Some slot → GivesSlot page log.anchor.epoch (reads at.image) slot (last_image page records) }

@@ -33,9 +33,9 @@ pub struct LastRecord {
     pub pages: u32,
 }
 
-/// The log of a volume, as far as its end is known: where the next record goes, and which number it bears. It knows where
-/// each page's last image lies, keeps the last record's images and end as the scan read them, and holds room for one record,
-/// so that only `scan` takes memory.
+/// The log of a volume, as far as its end is known: where the next record goes, and which number it bears. It knows
+/// where each page's last image lies, keeps the last record's images and end as the scan read them, and holds room for
+/// one record, so that only `scan` takes memory.
 #[derive(Drop)]
 pub struct Log {
     layout: Layout,
@@ -172,9 +172,9 @@ impl Log {
         }
     }
 
-    /// Finds the end of the log that the newer copy of the anchor begins. A number of 2^32 - 1 is never looked for, since
-    /// no record bears it. Reads the headers of each record and then its own sectors alone, each once. Needs room for three records,
-    /// and for a table of the pages; it is made before the first record is looked for.
+    /// Finds the end of the log that the newer copy of the anchor begins. A number of 2^32 - 1 is never looked for,
+    /// since no record bears it. Reads the headers of each record and then its own sectors alone, each once. Needs room
+    /// for three records, and for a table of the pages; it is made before the first record is looked for.
     pub fn scan<M: Machine>(alloc: Global, m: &mut M, layout: &Layout) -> Result<Log, LogFault>
         requires sectors { layout.now.sectors ≤ (M.report m.old).sectors }
         ensures reads { OnlyReads M.Machine (device_in log_failed_at result) m.old m.new }
@@ -269,10 +269,10 @@ impl Log {
         least_in(self.slots.as_slice(), first, start, third)
     }
 
-    /// Reads a page's last image, and answers false where the log has none. Its sector is taken where that bears the page and
-    /// the stamp of its record, else the copy where that does. It is lost exactly where both read damaged. Where the disk no
-    /// longer is what the log was found on, one of them may be whole and bear something else: then that is what it gives.
-    /// Where nothing wears and a scan still gives the log's records, none is lost.
+    /// Reads a page's last image, and answers false where the log has none. Its sector is taken where that bears the
+    /// page and the stamp of its record, else the copy where that does. It is lost exactly where both read damaged.
+    /// Where the disk no longer is what the log was found on, one of them may be whole and bear something else: then
+    /// that is what it gives. Where nothing wears and a scan still gives the log's records, none is lost.
     pub fn image_of<M: Machine>(
         &self,
         m: &mut M,
@@ -329,8 +329,8 @@ impl Log {
         })
     }
 
-    /// Writes the last record that the scan found again, from its page copies to its end copy, by one write; nothing where
-    /// it found none. Where it fails, some first ones of these sectors may stand.
+    /// Writes the last record that the scan found again, from its page copies to its end copy, by one write; nothing
+    /// where it found none. Where it fails, some first ones of these sectors may stand.
     pub fn complete_last<M: Machine>(&self, m: &mut M) -> Result<(), Failed>
         requires sectors { self.now.layout.sectors ≤ (M.report m.old).sectors }
         ensures writes { WritesDisk M.Machine (device_in failed_at result) (StandsInPart self.now.copies.place self.now.copies.bytes (copies_count self.now.copies)) m.old m.new }
@@ -353,9 +353,9 @@ impl Log {
         place_of(&self.layout, self.anchor.third, at)
     }
 
-    /// Writes a record behind the last one, by one write: in the same third where it fits, else at the start of the next.
-    /// The images bear the log's epoch and next number. Where it fails, some first sectors of the record may stand, and
-    /// only a new scan says whether the record does.
+    /// Writes a record behind the last one, by one write: in the same third where it fits, else at the start of the
+    /// next. The images bear the log's epoch and next number. Where it fails, some first sectors of the record may
+    /// stand, and only a new scan says whether the record does.
     pub fn append<M: Machine>(
         &mut self,
         m: &mut M,
@@ -404,8 +404,8 @@ impl Log {
         Ok(())
     }
 
-    /// Writes the anchor of the next epoch, whose log is empty, to its first place and then to its second. Where it fails
-    /// the log is as it was, and either anchor may stand.
+    /// Writes the anchor of the next epoch, whose log is empty, to its first place and then to its second. Where it
+    /// fails the log is as it was, and either anchor may stand.
     pub fn new_epoch<M: Machine>(&mut self, m: &mut M) -> Result<(), Failed>
         requires epoch { self.old.anchor.epoch < 2 ^ 32 - 1 }
         requires sectors { self.old.layout.sectors ≤ (M.report m.old).sectors }
@@ -434,9 +434,9 @@ impl Log {
         Ok(())
     }
 
-    /// Writes the anchor that names the third behind the first one, to its first place and then to its second; the log is
-    /// then what lies behind the first third, which may be written over. The log's last record lies in its last third. Where
-    /// it fails the log is as it was, and either anchor may stand.
+    /// Writes the anchor that names the third behind the first one, to its first place and then to its second; the log
+    /// is then what lies behind the first third, which may be written over. The log's last record lies in its last
+    /// third. Where it fails the log is as it was, and either anchor may stand.
     pub fn move_anchor<M: Machine>(&mut self, m: &mut M) -> Result<(), Failed>
         requires ends { EndsInLastThird self.old }
         requires sectors { self.old.layout.sectors ≤ (M.report m.old).sectors }

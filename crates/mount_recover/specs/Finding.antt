@@ -30,7 +30,8 @@ NotFoundFor sectors i Memory = ⊤
 NotFoundFor sectors i (Lost a b) = ⊥
 NotFoundFor sectors i (Unsound s) = ⊥
 
--- An image was seen, which the old one may be worn to and that may be worn to the new one: it has this root, and this log.
+-- An image was seen, which the old one may be worn to and that may be worn to the new one:
+-- it has this root, and this log.
 pub record IsFound (sectors : ℕ) (l : Layout) (log : LogValue) (old new : Moment) : Type 0 where
   pub seen : Image
   pub from : IsWorn (open_damage old.windows) old.image seen

@@ -111,8 +111,8 @@ pub record IsCompleted (l : Layout) (windows : List WeakRun) (choices : List (Li
   pub shown : shown l clean ≡ Some pages
   pub chosen : Contains choices pages
 
--- So it is, and the last record of the log that was seen has its copies, however the run wears from then on; nothing behind the
--- log was written.
+-- So it is, and the last record of the log that was seen has its copies, however the run wears from then on;
+-- nothing behind the log was written.
 pub record Completed (l : Layout) (windows : List WeakRun) (choices : List (List (List ℕ))) (log : LogValue) (old : Moment) (seen : IsSeen l windows choices log old) (new : Moment) : Type 0 where
   pub is : IsCompleted l windows choices log new
   pub last : HasLastCopies l log.anchor (weak_of windows) (records_by l seen.image log.anchor) new.image
@@ -143,7 +143,8 @@ pub record IsMended (l : Layout) (windows : List WeakRun) (choices : List (List 
   pub body : (s : ℕ) → 8 ≤ s → s < 16 + 3 * l.third → sector_at image s ≡ sector_at first.image s
   pub rest : SameElsewhere l first.image image
 
--- A moment from `healing` on: it is worn from an image that shows the pages, and has the log as it was, and what lies where a mount does not write.
+-- A moment from `healing` on: it is worn from an image that shows the pages, and has the log as it was,
+-- and what lies where a mount does not write.
 pub record Stays (l : Layout) (windows : List WeakRun) (choices : List (List (List ℕ))) (first left : Moment) : Type 0 where
   pub image : Image
   pub holds : Holds first image left

@@ -46,8 +46,8 @@ pub record IsRefusedFor (sectors : ℕ) (fault : MountFault) (old : Moment) : Ty
 abbrev pub HasAnchors : Anchor → Moment → Type 0
 HasAnchors a now = Has (open_damage now.windows) now.image (anchor_bytes a) 8 × Has (open_damage now.windows) now.image (anchor_bytes a) 12
 
--- The sectors that a mount of so many pages writes at most: the copies of 96 images and of their end, two homes of each page,
--- the roots and the anchors.
+-- The sectors that a mount of so many pages writes at most: the copies of 96 images and of their end, two homes of each
+-- page, the roots and the anchors.
 abbrev pub writes_most : ℕ → ℕ
 writes_most pages = 97 + 2 * pages + 2 + 2
 

@@ -57,8 +57,8 @@ pub record IsAfter (l : Layout) (windows : List WeakRun) (choices : List (List (
   pub chosen : Contains choices pages
   pub shows : ShowsPages l (windows ++ run ∷ []) (pages ∷ []) left.image
 
--- A moment of a mount: the last record has its copies before anything is written behind the log, and nothing is written but where
--- a mount writes.
+-- A moment of a mount: the last record has its copies before anything is written behind the log,
+-- and nothing is written but where a mount writes.
 pub record Replays (l : Layout) (windows : List WeakRun) (choices : List (List (List ℕ))) (old left : Moment) : Type 0 where
   pub stage : IsBefore l windows choices old left ⊎ IsAfter l windows choices left
   pub order : KeepsBehindLog l (weak_of windows) old.image left.image ⊎ IsCompletedFrom l (weak_of windows) old.image left.image

@@ -17,7 +17,8 @@ use Rattle.log_thirds.specs.Slots.{slot_of}
 use Rattle.fsd_sound.specs.declared.fault.MountFault.{MountFault}
 use Rattle.fsd_sound.specs.declared.fault.MountFault.TheVariants.{Lost}
 
--- The log knows where each page's last image of these records lies, which is in the log's thirds, and the image gives it there.
+-- The log knows where each page's last image of these records lies, which is in the log's thirds,
+-- and the image gives it there.
 pub record GivesPages (log : LogValue) (records : List Placed) (i : Image) : Type 0 where
   pub indexed : IsIndexed log records
   pub inside : (page : ℕ) → IfSome (slot_of log.layout log.anchor.third page records) (λ slot. (slot.place < 16 + 3 * log.layout.third) × (slot.copy < 16 + 3 * log.layout.third))

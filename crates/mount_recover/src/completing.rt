@@ -27,8 +27,8 @@ pub(crate) fn complete<M: Machine>(m: &mut M, log: &Log) -> Result<(), Failed>
 
     ensures rest { (l : Plan) (j : Image) → M.honest m.new → plan l.sectors l.third l.pages ≡ Ok l → log.now.layout ≡ l → KnowsLog l log.now j → StaysElsewhere l (M.now m.old) (M.now m.new) }
 
-    // Over an image that was seen, and shows the pages of a volume, they are shown at each moment. At the end each record of
-    // the log is whole.
+    // Over an image that was seen, and shows the pages of a volume, they are shown at each moment.
+    // At the end each record of the log is whole.
     ensures any_moment { (l : Plan) (windows : List Run) (choices : List (List (List ℕ))) → M.honest m.new → plan l.sectors l.third l.pages ≡ Ok l → log.now.layout ≡ l →
         IsSeen l windows choices log.now (M.now m.old) → LeavesOnly M.moment M.left_since m.old m.new (Replays l windows choices (M.now m.old)) }
     ensures done { OnOk result ((l : Plan) (windows : List Run) (choices : List (List (List ℕ))) → M.honest m.new → plan l.sectors l.third l.pages ≡ Ok l → log.now.layout ≡ l →

@@ -14,8 +14,8 @@ ghost use Rattle.mount_recover.specs.Replay.{IsReplayed, TurnsLast};
 use log_thirds::Log;
 use sector_disk::{Failed, Machine};
 
-/// Writes the anchors of the next epoch, and settles. It is called once the next window's run is named and all that stands
-/// twice is whole. Where the disk fails the image shows the same pages.
+/// Writes the anchors of the next epoch, and settles. It is called once the next window's run is named and all that
+/// stands twice is whole. Where the disk fails the image shows the same pages.
 pub(crate) fn begin_epoch<M: Machine>(m: &mut M, log: &mut Log) -> Result<(), Failed>
     requires epoch { log.old.anchor.epoch < 2 ^ 32 - 1 }
     requires sectors { log.old.layout.sectors ≤ (M.report m.old).sectors }

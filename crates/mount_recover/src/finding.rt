@@ -50,7 +50,8 @@ pub(crate) fn find_volume<M: Machine>(
     // The layout is that of a root of the image, also where sectors wear.
     ensures root { IfOk result (λ found. M.honest m.new → HasRoot sectors (M.now m.old).image found.layout) }
 
-    // Also where sectors wear, each answer but a fault of the disk and want of memory says what the image was, as it was seen.
+    // Also where sectors wear, each answer but a fault of the disk and want of memory says what the image was,
+    // as it was seen.
     ensures seen { IfOk result (λ found. M.honest m.new → IsFound sectors found.layout found.log (M.now m.old) (M.now m.new)) }
     ensures refused { IfErr result (λ fault. M.honest m.new → IsNotFound sectors fault (M.now m.old)) }
 {

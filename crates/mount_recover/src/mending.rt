@@ -1,4 +1,5 @@
-//! A mount from `healing` on: the pages that the log has are written home, and of all else that stands twice what is damaged is
+//! A mount from `healing` on: the pages that the log has are written home,
+//! and of all else that stands twice what is damaged is
 // written from its twin.
 ghost use Rattle.std.specs.Prelude.{◌≡◌, ◌+◌, ◌*◌, ◌<◌, ◌≤◌, ℕ, List, Ok, Some, None, IfErr, OnOk};
 ghost use Rattle.volume_layout.specs.Layout.{plan, home_a, home_b};
@@ -87,7 +88,8 @@ fn heal_home<M: Machine>(m: &mut M, l: &Layout, page: u32) -> Result<(), MountFa
     }
 }
 
-// Writes a page home from the log, or where the log does not have it, the one of its homes that is damaged from the other.
+// Writes a page home from the log, or where the log does not have it,
+// the one of its homes that is damaged from the other.
 fn mend_page<M: Machine>(m: &mut M, l: &Layout, log: &Log, page: u32) -> Result<(), MountFault>
     requires layout { log.now.layout ≡ l.now }
     requires planned { plan l.now.sectors l.now.third l.now.pages ≡ Ok l.now }

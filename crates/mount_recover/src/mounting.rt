@@ -35,9 +35,9 @@ pub struct Settled {
     pub log: Log,
 }
 
-/// Finds the volume of an image with so many sectors, brings every page that its log has home, and begins its next epoch
-/// (Hagmann 1987). What stands twice and is damaged is written from its twin. Needs room for the log and its table of the
-/// pages. The volume shows the same pages also where the disk fails, so it can be called again.
+/// Finds the volume of an image with so many sectors, brings every page that its log has home, and begins its next
+/// epoch (Hagmann 1987). What stands twice and is damaged is written from its twin. Needs room for the log and its
+/// table of the pages. The volume shows the same pages also where the disk fails, so it can be called again.
 pub fn recover<M: Machine>(alloc: Global, m: &mut M, sectors: u32) -> Result<Settled, MountFault>
     requires { sectors ≡ (M.report m.old).sectors }
 
@@ -76,15 +76,15 @@ pub fn recover<M: Machine>(alloc: Global, m: &mut M, sectors: u32) -> Result<Set
 
     ensures epoch { IfOk result (λ settled. settled.log.anchor.epoch < 2 ^ 32) }
 
-    // Where nothing wears, each page stands at home then as the image showed it, and none is lost that it shows, whatever the
-    // image shows.
+    // Where nothing wears, each page stands at home then as the image showed it, and none is lost that it shows,
+    // whatever the image shows.
     ensures shown { IfOk result (λ settled. (a : Named) → M.honest m.new → IsCalm (M.now m.old).windows → IsCalm (M.now m.new).windows → anchor_of (M.now m.old).image ≡ Some a →
         StandAsShown settled.layout a (M.now m.old).image (M.now m.new).image) }
     ensures all_shown { IfErr result (λ fault. M.honest m.new → IsCalm (M.now m.old).windows → IsCalm (M.now m.new).windows → LosesShown sectors (M.now m.old).image fault) }
 
-    // An image that shows the pages of a volume shows them at each moment, also at the exit, and the last record has its
-    // copies before anything is written behind the log. At Ok the log is empty and the pages stand at home; else it is
-    // refused for nothing but the disk, memory and the last epoch.
+    // An image that shows the pages of a volume shows them at each moment, also at the exit, and the last record has
+    // its copies before anything is written behind the log. At Ok the log is empty and the pages stand at home; else it
+    // is refused for nothing but the disk, memory and the last epoch.
     ensures any_moment { (l : Plan) (windows : List Run) (choices : List (List (List ℕ))) → M.honest m.new → ShowsVolume sectors l windows choices (M.now m.old) →
         LeavesOnly M.moment M.left_since m.old m.new (Replays l windows choices (M.now m.old)) }
     ensures turns { (l : Plan) (windows : List Run) (choices : List (List (List ℕ))) → M.honest m.new → ShowsVolume sectors l windows choices (M.now m.old) →

@@ -15,7 +15,8 @@ use Rattle.name_btree.specs.declared.descent.Way.{Way}
 use Rattle.name_btree.specs.declared.descent.Neighbour.{Neighbour}
 use Rattle.name_btree.specs.declared.descent.Found.{Found}
 
--- behind the last of the separators that stand before the place, with the nearest child on each side, below so many pages
+-- behind the last of the separators that stand before the place, with the nearest child on each side,
+-- below so many pages
 abbrev pub way_to : (Key → Bool) → (above : ℕ) → Option Neighbour → Option Neighbour → ℕ → Option Key → Option Key → List Separator → Way
 way_to before above previous next first low high [] = record { child = record { page = first; low = low; high = high }; previous = previous; next = next }
 way_to before above previous next first low high (s ∷ separators) =

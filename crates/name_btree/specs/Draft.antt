@@ -91,7 +91,8 @@ pub record IsDrafted (step : Step) (old new : List Sheet) (page : ℕ) (x : Cont
   pub own : HasSheet new page
   pub stay : (q : ℕ) → HasSheet old q → HasSheet new q
 
--- each page that is changed now was changed before and is as it was, or is to be written; what was to be written still is
+-- each page that is changed now was changed before and is as it was, or is to be written;
+-- what was to be written still is
 pub record TakesSheets (old new : Step) (sheets after : List Sheet) : Type 0 where
   pub each : (page : ℕ) → is_one_of new.changed page ≡ true → IsAsChanged old new page ⊎ HasSheet after page
   pub stay : (page : ℕ) → HasSheet sheets page → HasSheet after page

@@ -59,8 +59,8 @@ FailsBy s Breaks (Pages refusal) =
     (s.refusal ≡ Some refusal) × (IsOuter refusal ⊎ ((page : ℕ) × (refusal ≡ Unsound (home_of s page)) × IsBarred s page × ((images : List (List ℕ)) → Agrees images s → page_at images page ≡ None → Breaks images page)))
 FailsBy s Breaks (Broken page) = (images : List (List ℕ)) → Agrees images s → Breaks images page
 
--- Whatever the other pages have, what was reached shows that the page breaks something; where a page may not be reached, that it is
--- on the way.
+-- Whatever the other pages have, what was reached shows that the page breaks something; where a page may not be
+-- reached, that it is on the way.
 abbrev pub ShowsCause : Step → (Breaks IsThere : List (List ℕ) → ℕ → Type 0) → TreeFault → Type 0
 ShowsCause s Breaks IsThere (Pages refusal) = IsOuter refusal ⊎ ((page : ℕ) × (refusal ≡ Unsound (home_of s page)) × IsBarred s page × Shows s (λ pages. IsThere pages page))
 ShowsCause s Breaks IsThere (Broken page) = Shows s (λ pages. Breaks pages page)

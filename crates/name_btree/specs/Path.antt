@@ -62,8 +62,8 @@ module _ {D : Type 0} (P : Ghosts D) where
   Leads zero t e c = ⊥
   Leads (suc levels) t e c = IsSafe t e.key c × LeadsOn (Leads levels t e) e c (page_at (P.step t).images c.page)
 
-  -- The way to an entry that was found leads to it again, and so does that to one below the child left of the way, where the
-  -- way from that child leads to it later.
+  -- The way to an entry that was found leads to it again, and so does that to one below the child left of the way,
+  -- where the way from that child leads to it later.
   pub record LeadsBack (above : ℕ) (start : Child) (t : D) (found : Found) : Type 0 where
     pub here : (e : Entry) → Contains found.entries e → Leads (max_height - above) t e start
     pub beside : IfSome found.previous (λ n. (later : D) → TakesNone None t later → (e : Entry) → Leads (max_height - n.above) later e n.child → Leads (max_height - above) later e start)

@@ -41,7 +41,8 @@ pub record WritesOne {D : Type 0} (P : Ghosts D) (old new : D) : Type 0 where
   pub changed : (P.step new).changed ≡ with_one (P.step old).changed page
   pub images : P.trusted new → (P.step new).images ≡ slice_set (P.step old).images page bytes
 
--- the leaf at a key: where its entries are edited at the key and keep their keys, and no other page changes, what stands below the start is so edited
+-- the leaf at a key: where its entries are edited at the key and keep their keys, and no other page changes, what
+-- stands below the start is so edited
 abbrev pub IsLeafAt : Cut → List (List ℕ) → (start : Child) → Found → Type 0
 IsLeafAt cut pages start found =
     (key : Key) (level : ℕ) → cut ≡ UpTo key → IsAround key pages level start

@@ -78,9 +78,9 @@ fn carry_out<T: RenewedPages>(t: &mut T, call: &Call) -> Result<Option<Entry>, T
     }
 }
 
-/// Makes calls one after another, up to the first that fails, each in a step of its own that begins with the whole leave to
-/// change. Of a table the answers are the map's, and only the disk, want of memory and too few spare pages fail. A call that
-/// fails leaves the table.
+/// Makes calls one after another, up to the first that fails, each in a step of its own that begins with the whole
+/// leave to change. Of a table the answers are the map's, and only the disk, want of memory and too few spare pages
+/// fail. A call that fails leaves the table.
 pub fn run<T: RenewedPages>(
     t: &mut T,
     calls: &[Call],

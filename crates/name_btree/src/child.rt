@@ -54,8 +54,8 @@ pub(crate) fn node_at<T: Pages>(t: &mut T, page: u32) -> Result<Node, TreeFault>
     }
 }
 
-/// Reaches a child, whose keys are to stand between its bounds, and reads it into a place of the caller, which takes fewer
-/// copies than an answer.
+/// Reaches a child, whose keys are to stand between its bounds, and reads it into a place of the caller,
+/// which takes fewer copies than an answer.
 pub(crate) fn read_child<T: Pages>(
     t: &mut T,
     child: &Child,

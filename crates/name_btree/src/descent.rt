@@ -144,7 +144,8 @@ pub(crate) fn leaf_below<T: Pages>(
     ensures at { IfOk result (λ found. Shows (T.step t.new) (λ pages. IsLeafAt cut.now pages start found)) }
     ensures place { IfOk result (λ found. Shows (T.step t.new) (λ pages. IsPlace (is_before cut.now) pages start found)) }
     ensures beside { IfOk result (λ found. Shows (T.step t.new) (λ pages. HasNeighbours pages above start found)) }
-    // Where all that it meets is in memory it takes none, and the next way to an entry that it has found leads to the same leaf.
+    // Where all that it meets is in memory it takes none,
+    // and the next way to an entry that it has found leads to the same leaf.
     ensures memory { HasMet T.Pages above (is_before cut.now) start t.old → TakesNone T.Pages (outer_told result) t.old t.new }
     ensures left { HasMet T.Pages above (is_before cut.now) start t.old → IfOk result (λ found. HasNone (is_before cut.now) found.entries → HasAll T.Pages t.old (met_beside (page_at (T.step t.old).images) found.previous)) }
     ensures back { HasMet T.Pages above (is_before cut.now) start t.old → IfOk result (λ found. LeadsBack T.Pages above start t.new found) }

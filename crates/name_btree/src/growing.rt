@@ -145,7 +145,8 @@ pub(crate) fn grow_leaf_with<T: Pages>(
     grow_leaf_listed(t, draft, page, entries, entry)
 }
 
-/// The page is to lead to a first child, and behind each separator to another, or two are where they are too many for one.
+/// The page is to lead to a first child, and behind each separator to another,
+/// or two are where they are too many for one.
 pub(crate) fn grow_ways<T: Pages>(
     t: &mut T,
     draft: &mut Draft,

@@ -29,8 +29,9 @@ use fsd_formats::Entry;
 use fsd_table::Child;
 use name_page::{Cut, Entries, Node, Pages, Ways, ways_before, ways_with};
 
-/// Puts an entry in, whose key no entry has, and takes those with two keys at most out. Of the pages that are spare it takes 7 at
-/// most, whatever it makes spare. Where it answers Broken it has walked all pages up to that one, and the step has ended.
+/// Puts an entry in, whose key no entry has, and takes those with two keys at most out. Of the pages that are spare it
+/// takes 7 at most, whatever it makes spare. Where it answers Broken it has walked all pages up to that one,
+/// and the step has ended.
 pub fn insert<T: Pages>(t: &mut T, entry: &Entry, gone: &ArrayVec<Key, 2>) -> Result<(), TreeFault>
     requires more { MOST_REACHED ≤ reaches (T.step t.old) }
     requires changes { MOST_CHANGED ≤ changes (T.step t.old) }

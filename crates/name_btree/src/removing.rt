@@ -21,8 +21,8 @@ use fsd_bytes::Key;
 use fsd_table::Child;
 use name_page::{Cut, Node, Pages, entries_without, ways_before};
 
-/// Takes the entry with a key out. Where no entry has the key, the table stays. It takes no page. Where it answers Broken it
-/// has walked all pages up to that one, and the step has ended.
+/// Takes the entry with a key out. Where no entry has the key, the table stays. It takes no page. Where it answers
+/// Broken it has walked all pages up to that one, and the step has ended.
 pub fn remove<T: Pages>(t: &mut T, key: &Key) -> Result<(), TreeFault>
     requires more { MOST_REACHED ≤ reaches (T.step t.old) }
     requires changes { MOST_CHANGED ≤ changes (T.step t.old) }

@@ -5,8 +5,8 @@ ghost use Rattle.name_page.specs.Pages.{IsOuter, outer_in, renewed, with_images,
 use fsd_bytes::Refusal;
 use name_page::{Pages, VecPages};
 
-/// Pages whose leave to change is renewed between calls: where they stand in memory at any time, where they wait in a cache
-/// once they are written.
+/// Pages whose leave to change is renewed between calls:
+/// where they stand in memory at any time, where they wait in a cache once they are written.
 pub trait RenewedPages: Pages {
     /// Begins a step with the whole leave to change.
     fn begin(&mut self) -> Result<(), Refusal>

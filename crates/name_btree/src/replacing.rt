@@ -32,8 +32,8 @@ fn has_as_long(entries: &Entries, entry: &Entry) -> bool
     }
 }
 
-/// Puts an entry in place of the one with its key, which takes as many bytes. Where it answers Broken it has walked all pages
-/// up to that one, and the step has ended.
+/// Puts an entry in place of the one with its key, which takes as many bytes. Where it answers Broken it has walked all
+/// pages up to that one, and the step has ended.
 pub fn replace_same_size<T: Pages>(t: &mut T, entry: &Entry) -> Result<(), TreeFault>
     requires more { MOST_REACHED ≤ reaches (T.step t.old) }
     requires changes { MOST_CHANGED ≤ changes (T.step t.old) }

@@ -9,8 +9,8 @@ use crate::walking::walk;
 use fsd_bytes::Refusal;
 use name_page::Pages;
 
-// Walks over the pages of what is no tree, up to one that breaks the table or is spare. The step ends. Where no walk meets
-// one, the pages were other ones before, and page 0 is named.
+// Walks over the pages of what is no tree, up to one that breaks the table or is spare. The step ends. Where no walk
+// meets one, the pages were other ones before, and page 0 is named.
 fn search<T: Pages>(t: &mut T) -> TreeFault
     requires more { 0 < (T.step t.old).most_reached }
     ensures calls { OnlyWalks T.Pages (outer_of result) t.old t.new }
@@ -44,8 +44,8 @@ fn is_inner(fault: TreeFault) -> bool
     )
 }
 
-/// Why a call fails. Where it has met what no tree has, or a page that is spare, a page that breaks the table or is spare is
-/// searched for and named.
+/// Why a call fails. Where it has met what no tree has, or a page that is spare, a page that breaks the table or is
+/// spare is searched for and named.
 pub(crate) fn fault_of<T: Pages>(t: &mut T, fault: TreeFault) -> TreeFault
     requires more { 0 < (T.step t.old).most_reached }
     ensures calls { (first : T) → OnlyWalks T.Pages (outer_of fault) first t.old → OnlyWalks T.Pages (outer_of result) first t.new }

@@ -270,7 +270,8 @@ fn leaves_joined(i: u32, few: &[Entry], others: &[Entry]) -> JoinedList
     }
 }
 
-/// What is left of a page one of whose children, child `i`, is a leaf of too few entries: it joins its neighbour, or shares with it.
+/// What is left of a page one of whose children, child `i`, is a leaf of too few entries:
+/// it joins its neighbour, or shares with it.
 pub(crate) fn mend_leaf<T: Pages>(
     t: &mut T,
     draft: &mut Draft,
@@ -385,7 +386,8 @@ fn ways_cut(i: u32, list: &[Separator]) -> usize
     if i == 0 { 4 } else { list.len() - 5 }
 }
 
-/// What is left of a page one of whose children, child `i`, has too few ways: it joins its neighbour, or takes one of it.
+/// What is left of a page one of whose children, child `i`, has too few ways:
+/// it joins its neighbour, or takes one of it.
 pub(crate) fn mend_ways<T: Pages>(
     t: &mut T,
     draft: &mut Draft,

@@ -131,8 +131,8 @@ fn walk_children<T: Pages>(
     Ok(count)
 }
 
-/// Marks the pages that page 0 leads to, and counts the entries. It ends over any pages at all, and rests before each that it
-/// reaches. After a fault some pages may be marked.
+/// Marks the pages that page 0 leads to, and counts the entries. It ends over any pages at all, and rests before each
+/// that it reaches. After a fault some pages may be marked.
 pub fn walk<T: Pages>(t: &mut T, reached: &mut [bool]) -> Result<u32, TreeFault>
     requires more { 0 < (T.step t.old).most_reached }
     requires whole { length reached.old ≡ length (T.step t.old).images }

@@ -1,4 +1,5 @@
--- Where a page is refused: the fields are taken from the front, and the fault is at the first that the grammar refuses, given those before it.
+-- Where a page is refused: the fields are taken from the front, and the fault is at the first that the grammar refuses,
+-- given those before it.
 use Rattle.std.specs.Prelude.{ℕ, zero, suc, ◌+◌, ◌-◌, ◌*◌, Bool, true, not, ◌&&◌, ◌||◌, List, [], ◌∷◌, take, Option, Some, None, if◌then◌else◌, nat_le, nat_lt, ◌==◌, codes, slice_range}
 use Rattle.fsd_bytes.specs.Bytes.{u8_at, u16_at, u32_at, same_bytes}
 use Rattle.fsd_bytes.specs.declared.key.Key.{Key}

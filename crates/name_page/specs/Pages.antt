@@ -10,8 +10,8 @@ is_spare spare page = slice_index_or spare page false
 
 -- ---- a step
 
--- The bytes of each page, which pages are spare, the first sector of their homes A; what this step has reached, promised
--- and refused; and what was changed since leave to change was given last.
+-- The bytes of each page, which pages are spare, the first sector of their homes A; what this step has reached,
+-- promised and refused; and what was changed since leave to change was given last.
 pub record Step : Type 0 where
   pub images : List (List ℕ)
   pub spares : List Bool

@@ -14,8 +14,8 @@ pub const MOST_REACHED: usize = 80;
 /// How many pages a call of the table may change.
 pub const MOST_CHANGED: usize = 40;
 
-/// Pages of a name table. Work over them goes in steps: a step first reaches the pages that it needs, and the spare ones
-/// that it may take, which may be refused; after that the other calls cannot fail.
+/// Pages of a name table. Work over them goes in steps: a step first reaches the pages that it needs, and the spare
+/// ones that it may take, which may be refused; after that the other calls cannot fail.
 ///
 /// A step begins with the whole leave to reach pages. The leave to change them goes over all steps, and a page that is
 /// changed again takes no more of it. Whoever gives the pages renews it, by a call of its own.
@@ -35,8 +35,8 @@ pub trait Pages {
     /// A page is in memory, so that it can be reached where no memory is left.
     ghost in_memory: { Self → ℕ → Type 0 };
 
-    /// What has happened outside between an old state and a new one, of which the last call was refused so by the outside,
-    /// or none was.
+    /// What has happened outside between an old state and a new one,
+    /// of which the last call was refused so by the outside, or none was.
     ghost outside: { Option Refusal → Self → Self → Type 0 };
 
     /// The number of pages of the table.

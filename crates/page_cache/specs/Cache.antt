@@ -11,8 +11,8 @@ pub record Held : Type 0 where
   pub bytes : List ℕ
   pub pins : ℕ
 
--- The number of frames; the pages in memory, the most recently used first; and the pages that are dirty, in the order in
--- which they became so.
+-- The number of frames; the pages in memory, the most recently used first;
+-- and the pages that are dirty, in the order in which they became so.
 pub record CacheValue : Type 0 where
   pub frames : ℕ
   pub resident : List (ℕ × Held)

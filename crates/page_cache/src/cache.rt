@@ -35,7 +35,8 @@ pub struct Cache {
     pool: FramePool,
     order: LruCache<u32, Slot>,
     dirty: ArrayVec<u32, MOST_DIRTY>,
-    // For each frame the number of pages of a table in which the grammar accepts its page, or 0 where that is not known.
+    // For each frame the number of pages of a table in which the grammar accepts its page,
+    // or 0 where that is not known.
     accepted: [u32; MOST_FRAMES],
 }
 
@@ -203,8 +204,8 @@ impl Cache {
         self.pool.get(slot.frame)
     }
 
-    /// Whether the grammar accepts a page in memory, in a table of so many pages. A page that was accepted is read again only
-    /// when its bytes came anew or were lent to be changed, or for another number of pages.
+    /// Whether the grammar accepts a page in memory, in a table of so many pages. A page that was accepted is read
+    /// again only when its bytes came anew or were lent to be changed, or for another number of pages.
     pub fn is_accepted(&mut self, page: u32, pages: u32) -> bool
         requires { IsResident self.old page }
         ensures accepted { result ≡ is_some (content_in self.old pages page) }
@@ -242,8 +243,8 @@ impl Cache {
         self.pool.frames_mut()
     }
 
-    /// The bytes of two pages in memory at once, to be changed. A caller that needs to know what the cache is afterwards
-    /// takes `two_of` of `frames_mut`.
+    /// The bytes of two pages in memory at once, to be changed. A caller that needs to know what the cache is
+    /// afterwards takes `two_of` of `frames_mut`.
     pub fn two_mut(&mut self, p: u32, q: u32) -> (&mut [u8; 512], &mut [u8; 512])
         requires first { IsResident self.old p }
         requires second { IsResident self.old q }

@@ -12,7 +12,8 @@ pub fn runs_are_spelled()
         read_runs (flat_map run_bytes runs) ≡ Some runs }
 {}
 
-/// Sectors are chosen from the free ones, as many as are needed, and none exactly where the eight longest runs are too short.
+/// Sectors are chosen from the free ones, as many as are needed,
+/// and none exactly where the eight longest runs are too short.
 pub fn choice_of_sectors()
     ensures count { (runs : List Run) (need : ℕ) → IfSome (pick runs need) (λ out. total out ≡ need) }
     ensures free { (runs : List Run) (need : ℕ) → IfSome (pick runs need)

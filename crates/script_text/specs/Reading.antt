@@ -10,8 +10,8 @@ use Rattle.script_text.specs.declared.fault.BodyFault.TheVariants as Stops
 use Rattle.script_text.specs.declared.fault.ScriptFault.{ScriptFault}
 use Rattle.script_text.specs.declared.fault.ScriptFault.TheVariants.{Bad, Input, TooLong, Memory}
 
--- The bytes taken of the input and not yet given as commands, how many were taken in all, how many commands were given, and
--- how the script has ended, if that is known.
+-- The bytes taken of the input and not yet given as commands, how many were taken in all, how many commands were given,
+-- and how the script has ended, if that is known.
 pub record Reading : Type 0 where
   pub waiting : List ℕ
   pub taken : ℕ
@@ -48,8 +48,8 @@ answer_of Ends.Done = Ok None
 answer_of (Ends.Bad bad) = Err (Bad bad)
 answer_of Ends.TooLong = Err TooLong
 
--- An answer, of the script that was to come and of the one that is to come now: its first command, or that it has ended and
--- how, or that the input or memory failed.
+-- An answer, of the script that was to come and of the one that is to come now: its first command, or that it has ended
+-- and how, or that the input or memory failed.
 abbrev pub Answers : Result (Option Command) ScriptFault → Script → Script → Type 0
 Answers (Ok (Some command)) before now = before ≡ (command ∷ now.0, now.1)
 Answers (Ok None) before now = (before ≡ ([], Ends.Done)) × (now ≡ before)
@@ -112,7 +112,8 @@ pub record GoesOn (old new : Reading) : Type 0 where
 abbrev pub end_after : End → (count taken : ℕ) → Option End
 end_after end count taken = if count == 0 then Some end else (if nat_lt max_input taken then Some Ends.TooLong else None)
 
--- what a reader keeps: each command took a byte at least, and only where the script is too long a byte more than the most is taken
+-- what a reader keeps: each command took a byte at least,
+-- and only where the script is too long a byte more than the most is taken
 pub record IsReading (bytes : List ℕ) (start taken given : ℕ) (end : Option End) : Type 0 where
   pub start_within : start ≤ length bytes
   pub each_took : given + (length bytes - start) ≤ taken

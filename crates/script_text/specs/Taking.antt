@@ -35,9 +35,9 @@ pub record Grows (old new : Reading) (before now : Ledger) : Type 0 where
   pub waiting : new.waiting ≡ old.waiting ++ take count before.input
   pub ahead : new.end ≡ None → (rest : List ℕ) → script_left old (take count before.input ++ rest) ≡ script_left new rest
 
--- So many bytes are taken off the input's front, none where a command waits whole, and stand behind those that waited. Of all
--- these, a command that is given takes so many first ones away, and any other answer none. Unless the script has ended, the
--- answer is the same whatever else would follow the bytes that are taken.
+-- So many bytes are taken off the input's front, none where a command waits whole, and stand behind those that waited.
+-- Of all these, a command that is given takes so many first ones away, and any other answer none. Unless the script has
+-- ended, the answer is the same whatever else would follow the bytes that are taken.
 pub record Moves (result : Result (Option Command) ScriptFault) (old new : Reading) (before now : Ledger) : Type 0 where
   pub count : ℕ
   pub some : count ≤ length before.input

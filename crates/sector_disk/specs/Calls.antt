@@ -32,7 +32,8 @@ abbrev pub Counts : Bool → ℕ → ℕ → Type 0
 Counts true before now = Rose before now
 Counts false before now = now ≡ before
 
--- Calls of the input and the output, of which the last to take has failed or the last to say, or neither: what the disk tells stays.
+-- Calls of the input and the output, of which the last to take has failed or the last to say, or neither:
+-- what the disk tells stays.
 pub record SparesDisk (takes says : Bool) (old new : Report) : Type 0 where
   pub sectors : new.sectors ≡ old.sectors
   pub place : new.fault_place ≡ old.fault_place
@@ -80,7 +81,8 @@ pub record HealsDisk {D : Type 0} (M : Ghosts D) (fault : Option ℕ) (old new :
   pub later : M.honest new → M.moment old ≤ M.moment new
   pub since : M.honest new → Since M old new
 
--- A call that takes or says, by whether it tells a fault of the input or of the output, and of which a stop leaves this.
+-- A call that takes or says, by whether it tells a fault of the input or of the output,
+-- and of which a stop leaves this.
 pub record LeavesDisk {D : Type 0} (M : Ghosts D) (takes says : Bool) (R : Moment → Moment → Type 0) (old new : D) : Type 0 where
   pub spares : SparesDisk takes says (M.report old) (M.report new)
   pub trust : Trusts (M.tells old) (M.tells new) (M.honest old) (M.honest new)

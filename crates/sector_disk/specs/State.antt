@@ -31,9 +31,9 @@ moved_on line = record { runs = line.runs; named = min (line.named + 1) (2 ^ 64 
 abbrev pub from_first : List WeakRun → Line
 from_first runs = record { runs = runs; named = 0 }
 
--- All of a machine but its counts of faults: what is there, what was asked, what is to happen, how many calls were noted,
--- how many writes have begun at each sector, how many sectors writes have put, whether it has stopped, whether the hurts
--- lay in the windows and the runs before the last call were short, and how often a growth was refused.
+-- All of a machine but its counts of faults: what is there, what was asked, what is to happen, how many calls were
+-- noted, how many writes have begun at each sector, how many sectors writes have put, whether it has stopped, whether
+-- the hurts lay in the windows and the runs before the last call were short, and how often a growth was refused.
 pub record State : Type 0 where
   pub now : Moment
   pub ledger : Ledger

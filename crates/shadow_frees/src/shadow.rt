@@ -165,8 +165,8 @@ impl Shadow {
         self.unfinished.remove(runs);
     }
 
-    /// After a force: the start and the end of some removed sectors, which wait no more. Called until None. Those that a
-    /// reader holds are kept for it.
+    /// After a force: the start and the end of some removed sectors, which wait no more. Called until None. Those that
+    /// a reader holds are kept for it.
     pub fn committed(&mut self) -> Option<(u32, u32)>
         ensures none { IsNone result ↔ ((unheld self.old.held self.old.removed).sectors ≡ []) }
         ensures some { IfSome result (λ p. p.0 < p.1) }

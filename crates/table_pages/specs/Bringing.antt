@@ -53,8 +53,8 @@ module _ {D E : Type 0} (M : MachineGhosts D) (S : SourceGhosts E) (source : E) 
   abbrev pub given_by : D → ℕ → Option (List ℕ)
   given_by m page = S.newest source (M.now m).image page
 
-  -- The machine is honest; on the disk of another, from which it has gone on, what the source knows was so, and what was not
-  -- dirty in a cache there was what the source has.
+  -- The machine is honest; on the disk of another, from which it has gone on, what the source knows was so, and what
+  -- was not dirty in a cache there was what the source has.
   pub record IsTrusted (first : D) (cache : CacheValue) (m : D) : Type 0 where
     pub honest : M.honest m
     pub knows : S.knows source (M.now first)

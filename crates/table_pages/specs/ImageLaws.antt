@@ -1,5 +1,5 @@
--- The images of a table: the bytes of its pages, in the cache or by the source. The laws stand here since a table's `impl`
--- rests on them.
+-- The images of a table: the bytes of its pages, in the cache or by the source.
+-- The laws stand here since a table's `impl` rests on them.
 use Rattle.std.proofs.Common.{◌≡◌, ℕ, ◌<◌, false, List, [], length, get_or, Option, Some, None, option_map, refl, sym, ap, ◌∙◌, subst, arith, eqb-true, length-set}
 use Rattle.std.specs.Prelude.{nat_eq, slice_get, slice_set}
 use Rattle.std.specs.List.{range_with_len}

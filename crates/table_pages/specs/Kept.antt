@@ -15,8 +15,8 @@ use Rattle.table_pages.specs.Sparing.{AreSpare}
 unfoldable pub images_of : (ℕ → Option (List ℕ)) → (count : ℕ) → List (List ℕ)
 images_of image count = map (λ page. unwrap_or (image page) []) (range_with_len 0 count)
 
--- A table can be made over these: the source has as many pages as can be free; the disk is large enough for it, and the cache
--- for a step; no page is pinned.
+-- A table can be made over these: the source has as many pages as can be free; the disk is large enough for it, and the
+-- cache for a step; no page is pinned.
 pub record IsReady {D E : Type 0} (M : MachineGhosts D) (S : SourceGhosts E) (m : D) (cache : CacheValue) (source : E) (free : List Bool) : Type 0 where
   pub pages : S.pages source ≡ length free
   pub small : length free ≤ 4096
@@ -24,9 +24,9 @@ pub record IsReady {D E : Type 0} (M : MachineGhosts D) (S : SourceGhosts E) (m 
   pub frames : 192 ≤ cache.frames
   pub unpinned : (page : ℕ) → pins_of cache page ≡ 0
 
--- The source has as many pages as can be free; the disk is large enough for it. The pages that were reached and the free
--- ones that are kept are pinned, and no others; those that are dirty are in the cache. The disk was only worn since the
--- table was made; where the outside is trusted, what is not dirty is what the source has.
+-- The source has as many pages as can be free; the disk is large enough for it. The pages that were reached and the
+-- free ones that are kept are pinned, and no others; those that are dirty are in the cache. The disk was only worn
+-- since the table was made; where the outside is trusted, what is not dirty is what the source has.
 pub record IsKept {D E : Type 0} (M : MachineGhosts D) (S : SourceGhosts E) (first : D) (had : CacheValue) (m : D) (cache : CacheValue) (source : E) (free : List Bool) (reached spares : List ℕ) (promised : ℕ) : Type 0 where
   pub pages : S.pages source ≡ length free
   pub small : length free ≤ 4096

@@ -34,7 +34,8 @@ module _ {D E : Type 0} (M : MachineGhosts D) (S : SourceGhosts E) (source : E) 
     pub worn : IsWorn (open_damage from.windows) from.image image
     pub stands : S.stands source page image bytes
 
-  -- No page becomes clean. One that is not dirty has the bytes that it had in the cache, or such as stood in one of its copies.
+  -- No page becomes clean. One that is not dirty has the bytes that it had in the cache,
+  -- or such as stood in one of its copies.
   pub record Fills (m m' : D) (old new : CacheValue) : Type 0 where
     pub frames : new.frames ≡ old.frames
     pub dirty : (page : ℕ) → is_one_of old.dirty page ≡ true → is_one_of new.dirty page ≡ true

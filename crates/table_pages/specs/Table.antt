@@ -19,8 +19,8 @@ begun source cache free home_a =
     record { images = images_of (newest cache source) (length free); spares = free; home_a = home_a; reached = []; changed = cache.dirty; promised = 0; refusal = None; most_reached = 80; most_changed = 96 }
 
 module _ {D E : Type 0} {M : MachineGhosts D} {S : SourceGhosts E} where
-  -- A page is what the cache has of it, else what the source would give; it was changed where it is dirty, and at most 96
-  -- pages are.
+  -- A page is what the cache has of it, else what the source would give;
+  -- it was changed where it is dirty, and at most 96 pages are.
   abbrev pub step_of : Table D E M S → Step
   step_of t = record {
     images = images_of (newest t.cache.now (given_by M S t.source.now t.m.now)) (length t.free.now);
@@ -48,15 +48,16 @@ module _ {D E : Type 0} {M : MachineGhosts D} {S : SourceGhosts E} where
   abbrev pub written : Table D E M S → ℕ → List ℕ → Table D E M S
   written t page bytes = record t { cache = record t.cache { now = with_written page bytes t.cache.now }; kept = kept_written M S t.made_over.value t.made_with.value t.m.now t.cache.now t.source.now t.free.now t.reached.items t.spares.items t.promised t.kept page bytes }
 
-  -- The page whose home A is there is free, or is dirty; or the grammar refuses what it had in the cache, or in one of its copies.
+  -- The page whose home A is there is free, or is dirty;
+  -- or the grammar refuses what it had in the cache, or in one of its copies.
   pub record BarsPlace (old new : Table D E M S) (place : ℕ) : Type 0 where
     pub page : ℕ
     pub within : page < length new.free.now
     pub home : place ≡ home_in new.home_a page
     pub why : (slice_index_or new.free.now page false ≡ true) ⊎ ((is_one_of new.cache.now.dirty page ≡ true) ⊎ HadRefused M S old.source.now (M.now old.m.now) old.cache.now (length new.free.now) page)
 
-  -- Over the same machine, cache, source and free pages, where pages were read from the disk, and nothing else, until the
-  -- outside refused one so, if it did.
+  -- Over the same machine, cache, source and free pages, where pages were read from the disk, and nothing else, until
+  -- the outside refused one so, if it did.
   pub record ReadsOnly (refusal : Option Refusal) (old new : Table D E M S) : Type 0 where
     pub reads : OnlyReads M (device_of refusal) old.m.now new.m.now
     pub loses : LosesFor M S new.source.now refusal new.m.now
@@ -89,8 +90,8 @@ module _ {D E : Type 0} {M : MachineGhosts D} {S : SourceGhosts E} where
     pub made_over : t.made_over.value ≡ m.now
     pub made_with : t.made_with.value ≡ cache.now
 
-  -- This is left once the table rests: no page is pinned any more, and another table can be made over the same. Where the outside is
-  -- trusted, what is not dirty is what the source has.
+  -- This is left once the table rests: no page is pinned any more, and another table can be made over the same. Where
+  -- the outside is trusted, what is not dirty is what the source has.
   pub record Leaves (t : Table D E M S) (m : D) (cache : CacheValue) (free : List Bool) : Type 0 where
     pub machine : m ≡ t.m.now
     pub pins : OnlyPins t.cache.now cache

@@ -12,8 +12,9 @@ use page_cache::{Cache, PageSource};
 use sector_disk::Machine;
 use std::snapshot::Snapshot;
 
-/// The pages of a name table over a cache of at least 192 frames. A page that is changed waits in the cache until a force
-/// has written it: at most [`MOST_DIRTY`](page_cache::MOST_DIRTY) do, and what is left of them is the leave to change.
+/// The pages of a name table over a cache of at least 192 frames. A page that is changed waits in the cache until a
+/// force has written it: at most [`MOST_DIRTY`](page_cache::MOST_DIRTY) do,
+/// and what is left of them is the leave to change.
 pub struct Table<'a, M: Machine, S: PageSource> {
     m: &'a mut M,
     cache: &'a mut Cache,

@@ -19,8 +19,8 @@ use Rattle.table_survey.specs.declared.surveying.TableCounts.{TableCounts}
 abbrev pub visited : List (List ℕ) → List ℕ
 visited pages = map (λ v. v.page) (visits pages)
 
--- What the pages tell: those that are reached are marked and none of them is spare, the versions' sectors lie apart in the
--- data area, and all others there are free.
+-- What the pages tell: those that are reached are marked and none of them is spare, the versions' sectors lie apart in
+-- the data area, and all others there are free.
 pub record IsSurveyed (l : Layout) (step : Step) (free : Area) (marks : List Bool) (s : TableCounts) : Type 0 where
   pub telling : Telling
   pub told : told_in step.images ≡ Some telling

@@ -26,8 +26,8 @@ fn claim(map: &mut Map, found: &FoundEntry) -> Result<(), TreeFault>
     Ok(())
 }
 
-// Takes the sectors of all entries out of the map, in the order of their keys. It ends over any pages at all, since each
-// entry has a sector.
+// Takes the sectors of all entries out of the map, in the order of their keys.
+// It ends over any pages at all, since each entry has a sector.
 pub(crate) fn claim_all<T: Pages>(t: &mut T, map: &mut Map) -> Result<(), TreeFault>
     requires more { MOST_REACHED ≤ (T.step t.old).most_reached }
     requires own { IsOwn map.old }

@@ -26,8 +26,8 @@ pub struct TableCounts {
     pub versions: u32,
 }
 
-/// Walks the whole table, marks the pages that it reaches, and takes the sectors of its entries out of the map. It ends over
-/// any pages at all. After a fault some pages may be marked, and the sectors of some entries taken.
+/// Walks the whole table, marks the pages that it reaches, and takes the sectors of its entries out of the map. It ends
+/// over any pages at all. After a fault some pages may be marked, and the sectors of some entries taken.
 pub fn survey<T: Pages>(
     t: &mut T,
     l: &Layout,

@@ -85,8 +85,9 @@ fn replace(t: &mut VecPages, entry: &Entry) -> Result<(), TreeFault>
     }
 }
 
-// A child that is page 0 again; two leaves in each other's place, of which a walk meets page 2 first; a leaf out of order behind a
-// spare page, which refuses the walk; a child past the table's end, so that page 0 is refused; and an interior page beside a leaf.
+// A child that is page 0 again; two leaves in each other's place, of which a walk meets page 2 first; a leaf out of
+// order behind a spare page, which refuses the walk; a child past the table's end, so that page 0 is refused;
+// and an interior page beside a leaf.
 #[test]
 fn broken_tables_are_not_changed(rt: HostRuntime) -> Result<(), Fail> {
     for (left, right, last, version, fault) in [

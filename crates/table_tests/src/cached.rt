@@ -173,7 +173,8 @@ fn grown(rt: &impl Abort, alloc: Global, calls: u32) -> Result<(Desk, VecPages),
     Ok((desk, pages))
 }
 
-// The sector at which a walk fails whose machine fails this call, and the pages that it had marked. The next walk is as it should be.
+// The sector at which a walk fails whose machine fails this call, and the pages that it had marked.
+// The next walk is as it should be.
 fn failed_walk(
     rt: &impl Abort,
     alloc: Global,
@@ -190,7 +191,8 @@ fn failed_walk(
     Ok((desk, place, marks))
 }
 
-// The page whose read fails is the one that the walk has marked last. The attach is the first call, and page 0 is read next.
+// The page whose read fails is the one that the walk has marked last.
+// The attach is the first call, and page 0 is read next.
 #[test]
 fn a_walk_tells_the_read_that_failed(rt: HostRuntime) -> Result<(), Fail> {
     let alloc = rt.alloc();

@@ -52,8 +52,8 @@ fn make_room<M: Machine>(m: &mut M, layout: &Layout, cache: &mut Cache) -> Resul
 /// The pages of the table.
 pub(crate) const PAGES: u32 = 440;
 
-/// A table whose pages stand at home on a machine in memory, with a log that has none of them, over a cache of 192 frames.
-/// What was changed is written home once more than 56 pages wait.
+/// A table whose pages stand at home on a machine in memory, with a log that has none of them, over a cache of 192
+/// frames. What was changed is written home once more than 56 pages wait.
 #[derive(Drop)]
 pub(crate) struct Desk {
     m: MemoryMachine,

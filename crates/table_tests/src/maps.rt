@@ -15,8 +15,8 @@ use std::test::Fail;
 
 const PAGES: u32 = 64;
 
-// What came on the way: the most pages in use and interior ones, how often the tree had more pages, how often it had fewer after a
-// removal or two leaves shared, and how often a table was full.
+// What came on the way: the most pages in use and interior ones, how often the tree had more pages, how often it had
+// fewer after a removal or two leaves shared, and how often a table was full.
 #[derive(Clone, Copy, Debug, Default)]
 struct Seen {
     pages: u32,

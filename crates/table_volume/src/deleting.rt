@@ -26,8 +26,8 @@ use run_table::Runs;
 use sector_disk::Machine;
 use shadow_frees::Shadow;
 
-/// The sectors of a version that was taken out wait for the next force, and one version less is counted. Where no page waits for
-/// a force nothing was taken out.
+/// The sectors of a version that was taken out wait for the next force, and one version less is counted. Where no page
+/// waits for a force nothing was taken out.
 fn give_up(shadow: &mut Shadow, versions: &mut u32, cache: &Cache, runs: &Runs)
     requires idle { AreIdle shadow.old runs.now }
     requires agree { All (Agrees runs.now) shadow.old.held }

@@ -28,8 +28,9 @@ fn versions_with_one(versions: u32, gone: usize) -> u32
 }
 
 impl Volume {
-    /// Enters a version, whose bytes and leader lie in free sectors by its draft, as the next of its name, and answers its key.
-    /// Its sectors are taken then, and those of the versions that go wait for the next force. Where it fails the table stays.
+    /// Enters a version, whose bytes and leader lie in free sectors by its draft, as the next of its name, and answers
+    /// its key. Its sectors are taken then, and those of the versions that go wait for the next force.
+    /// Where it fails the table stays.
     pub(crate) fn entered<M: Machine>(
         &mut self,
         m: &mut M,

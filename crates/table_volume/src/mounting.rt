@@ -30,8 +30,8 @@ use shadow_frees::Shadow;
 use std::alloc::Global;
 
 impl Volume {
-    /// Mounts the volume of an image with so many sectors: what its log has goes home, its next epoch begins with an empty log, and its
-    /// name table is surveyed. Where the mount fails or is stopped, the disk can be mounted again.
+    /// Mounts the volume of an image with so many sectors: what its log has goes home, its next epoch begins with an
+    /// empty log, and its name table is surveyed. Where the mount fails or is stopped, the disk can be mounted again.
     pub fn mount<M: Machine>(alloc: Global, m: &mut M, sectors: u32) -> Result<Volume, MountFault>
         requires { sectors ≡ (M.report m.old).sectors }
 
@@ -49,14 +49,17 @@ impl Volume {
         ensures lost { IfErr result (λ fault. M.honest m.new → LostIn (AreCopiesOn sectors (M.now m.old)) (M.now m.new).image fault) }
         ensures unsound { IfErr result (λ fault. M.honest m.new → UnsoundFor sectors (M.now m.old) (M.now m.new) fault) }
 
-        // Of any image: both anchors are then the volume's, and each home of each page stands, but for what the open window may wear.
+        // Of any image: both anchors are then the volume's, and each home of each page stands,
+        // but for what the open window may wear.
         ensures anchors { IfOk result (λ volume. M.honest m.new → HealsAnchors (state volume) (M.now m.new)) }
         ensures homes { IfOk result (λ volume. M.honest m.new → HealsHomes (state volume) (M.now m.new)) }
 
-        // Where nothing wears, an image is mounted as it shows its table, and refused for it exactly where a page breaks.
+        // Where nothing wears, an image is mounted as it shows its table,
+        // and refused for it exactly where a page breaks.
         ensures calm { M.honest m.new → IsCalm (M.now m.old).windows → IsCalm (M.now m.new).windows → MountsCalm state Holds sectors (M.now m.old).image result }
 
-        // A sound disk stays sound at each moment, and its files after a prefix of the changes, with every forced one, are mounted.
+        // A sound disk stays sound at each moment, and its files after a prefix of the changes,
+        // with every forced one, are mounted.
         ensures sound { M.honest m.new → (l : Plan) (windows : List Run) (h : List Change) (f : ℕ) → IsSoundAt sectors l windows h f (M.now m.old) →
             MountsSound state Holds l windows h f (LeavesOnly M.moment M.left_since m.old m.new) (M.now m.old) (M.now m.new) result }
     {

@@ -49,8 +49,8 @@ impl Volume {
         }
     }
 
-    /// Reads bytes of a version from a place on, as many as there are and the buffer has room for, and answers how many.
-    /// Where it is refused `buf` may have changed.
+    /// Reads bytes of a version from a place on, as many as there are and the buffer has room for, and answers how
+    /// many. Where it is refused `buf` may have changed.
     pub fn read<M: Machine>(
         &mut self,
         m: &mut M,

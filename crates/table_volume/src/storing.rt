@@ -89,8 +89,8 @@ impl Volume {
         }
     }
 
-    /// Writes a new version into free sectors, with the next serial, and forces where a force comes before a put's look-up. Its
-    /// sectors stay free.
+    /// Writes a new version into free sectors, with the next serial, and forces where a force comes before a put's
+    /// look-up. Its sectors stay free.
     pub(crate) fn prepared<M: Machine>(
         &mut self,
         m: &mut M,

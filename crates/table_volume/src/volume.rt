@@ -10,8 +10,9 @@ use shadow_frees::Shadow;
 use std::marker::Model;
 use volume_layout::Layout;
 
-/// A mounted volume. The pages of its name table are read through a cache, and those that are changed wait there for a force.
-/// No more of its table is in memory than the cache has: an entry that is met is tested against the map and the shadow.
+/// A mounted volume. The pages of its name table are read through a cache, and those that are changed wait there for a
+/// force. No more of its table is in memory than the cache has:
+/// an entry that is met is tested against the map and the shadow.
 #[derive(Drop)]
 pub struct Volume {
     pub(crate) layout: Layout,

@@ -65,8 +65,8 @@ fn heal_copies<M: Machine>(m: &mut M, a: u32, b: u32) -> Result<u32, LoadFault>
     }
 }
 
-/// Writes the one of a page's two homes that alone is damaged from the other, and answers how many it wrote. The page is lost
-/// where both are damaged.
+/// Writes the one of a page's two homes that alone is damaged from the other, and answers how many it wrote. The page
+/// is lost where both are damaged.
 pub fn heal_page<M: Machine>(m: &mut M, l: &Layout, page: u32) -> Result<u32, LoadFault>
     requires page { page < l.now.pages }
     requires room { l.now.sectors ≤ (M.report m.old).sectors }
@@ -81,8 +81,8 @@ pub fn heal_page<M: Machine>(m: &mut M, l: &Layout, page: u32) -> Result<u32, Lo
     heal_copies(m, l.home_a(page), l.home_b(page))
 }
 
-/// Writes the one of the two anchors that alone is damaged from the other, and answers how many it wrote. The anchor is lost
-/// where both are damaged.
+/// Writes the one of the two anchors that alone is damaged from the other, and answers how many it wrote.
+/// The anchor is lost where both are damaged.
 pub fn heal_anchor<M: Machine>(m: &mut M) -> Result<u32, LoadFault>
     requires room { 12 < (M.report m.old).sectors }
 
@@ -149,8 +149,8 @@ fn set_roots<M: Machine>(
     Ok(one + two)
 }
 
-/// Writes each copy of the root that is damaged or differs from the layout's, with its bytes, and no other sector. It answers
-/// how many it wrote. The root is lost where both copies are damaged.
+/// Writes each copy of the root that is damaged or differs from the layout's, with its bytes, and no other sector. It
+/// answers how many it wrote. The root is lost where both copies are damaged.
 pub fn heal_root<M: Machine>(m: &mut M, l: &Layout) -> Result<u32, LoadFault>
     requires room { 4 < (M.report m.old).sectors }
 

@@ -10,8 +10,8 @@ ghost use Rattle.twin_home.specs.Home.{ShowsHome, with_homes, HomesIn};
 use sector_disk::{Failed, Machine, Seen, read_into, write_sectors};
 use volume_layout::Layout;
 
-/// Reads a page from its first home, and where that is damaged from the second. `Damaged` says that both are; `buf` then
-/// stays as it was.
+/// Reads a page from its first home, and where that is damaged from the second.
+/// `Damaged` says that both are; `buf` then stays as it was.
 pub fn read_home<M: Machine>(
     m: &mut M,
     l: &Layout,

@@ -19,8 +19,8 @@ abbrev pub refusal_of : DataFault → Refusal
 refusal_of (Device place) = Why.Device place
 refusal_of (Damaged s) = Why.Damaged s
 
--- The range's sectors were whole as the call began. The bytes of a version that they keep stand in front of the buffer, and behind
--- them it is as it was.
+-- The range's sectors were whole as the call began. The bytes of a version that they keep stand in front of the buffer,
+-- and behind them it is as it was.
 pub record GivesRange (i : Image) (runs : List Run) (from n : ℕ) (old new : List ℕ) : Type 0 where
   pub whole : AllByRecursion (IsWhole i) (range_sectors runs from n)
   pub bytes : (bytes : List ℕ) (hurt : Sectors) → KeptIn i hurt bytes runs → from + n ≤ length bytes → new ≡ take n (drop from bytes) ++ drop n old

@@ -20,8 +20,8 @@ use sector_disk::{Failed, Machine, SECTOR_BYTES, write_sectors};
 /// The most sectors that one write lays side by side.
 const MOST_IN_ROW: u32 = 64;
 
-/// Writes a version's leader and then its bytes, the last sector filled up with zeros, in the order of the entry's runs. It takes
-/// no memory: up to 64 sectors that follow each other on the disk are one write.
+/// Writes a version's leader and then its bytes, the last sector filled up with zeros, in the order of the entry's
+/// runs. It takes no memory: up to 64 sectors that follow each other on the disk are one write.
 pub fn write_version<M: Machine>(m: &mut M, entry: &Entry, bytes: &[u8]) -> Result<(), Failed>
     requires entry { IsTrue (is_entry entry.now) }
     requires len { entry.now.length ≡ length bytes.now }

@@ -46,8 +46,8 @@ fn planned_entry(plan: &Plan, serial: Serial, length: u32, runs: Runs) -> Entry
     }
 }
 
-/// Enters the planned version, of so many bytes in these runs, in a step of its own: it comes, and what is to go goes. It takes
-/// 7 pages at most, and asks for 8.
+/// Enters the planned version, of so many bytes in these runs, in a step of its own: it comes, and what is to go goes.
+/// It takes 7 pages at most, and asks for 8.
 pub fn enter<T: Pages>(
     t: &mut T,
     plan: &Plan,

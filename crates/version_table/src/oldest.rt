@@ -107,8 +107,8 @@ fn meet_oldest<T: Pages>(t: &mut T, name: &FileName, most: u32) -> Result<Oldest
     Ok(oldest)
 }
 
-/// The versions of a name that go once there is one more, the oldest first: those beyond the keep, two at most. Where the
-/// keep is 0 none goes.
+/// The versions of a name that go once there is one more, the oldest first: those beyond the keep, two at most.
+/// Where the keep is 0 none goes.
 pub(crate) fn meet_leaving<T: Pages>(
     t: &mut T,
     name: &FileName,

@@ -20,8 +20,8 @@ use name_btree::{FoundEntry, highest};
 use name_page::Pages;
 use version_keep::{keep_of, next_version};
 
-/// What making a version is to do: its key, its keep, and the versions that go, the oldest first. Whoever frees what goes can
-/// test it first: it is told as it was met, with its leaf.
+/// What making a version is to do: its key, its keep, and the versions that go, the oldest first. Whoever frees what
+/// goes can test it first: it is told as it was met, with its leaf.
 #[derive(Drop)]
 pub struct Plan {
     pub key: Key,

@@ -20,8 +20,8 @@ pub record IsAfter (c : Change) (hurt : Sectors) (i : Image) (old new : Volume) 
   pub held : new.held ≡ old.held
   pub drafts : new.drafts ≡ old.drafts
 
--- A tree of this height stands in the pages now, and all others are free. Those that differ are dirty, as are those that were, and
--- at most 40 more.
+-- A tree of this height stands in the pages now, and all others are free. Those that differ are dirty, as are those
+-- that were, and at most 40 more.
 pub record MakesPages (old new : CacheValue) (flags : List Bool) (pages now : List (List ℕ)) (height : ℕ) : Type 0 where
   pub tree : IsTree now height
   pub free : (page : ℕ) → page < length now → slice_index_or flags page false ≡ not (contains (pages_of now height) page)

@@ -71,7 +71,8 @@ pub record Waited (runs : List Run) (old new : Waits) : Type 0 where
   pub unfinished : new.unfinished ≡ old.unfinished
   pub held : new.held ≡ old.held
 
--- so they do, and one version less is counted; where no page waits for a force, or none is counted, nothing was taken out
+-- so they do, and one version less is counted; where no page waits for a force, or none is counted,
+-- nothing was taken out
 abbrev pub GivesUp : (dirty : List ℕ) → List Run → Waits → ℕ → Waits → ℕ → Type 0
 GivesUp dirty runs old count new left = (((dirty ≡ []) ⊎ (count ≡ 0)) × (new ≡ old) × (left ≡ count)) ⊎ ((1 ≤ length dirty) × Waited runs old new × (left + 1 ≡ count))
 

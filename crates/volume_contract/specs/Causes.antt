@@ -25,8 +25,8 @@ use Rattle.volume_contract.specs.State.{State}
 
 -- ---- what is lost
 
--- the sectors are the two copies of the page: its own and the copy in the last record that has it, which lies in the log, or its homes
--- where none has
+-- the sectors are the two copies of the page: its own and the copy in the last record that has it, which lies in the
+-- log, or its homes where none has
 abbrev pub AreCopiesOf : State → (page a b : ℕ) → Type 0
 AreCopiesOf s page a b =
     let slot = slice_index_or s.slots page None in
@@ -75,8 +75,8 @@ HasUntaken s e = IsTrue (list_any (λ t. is_in (s.free ∷ []) t || contains s.w
 abbrev pub IsTaken : State → Entry → Type 0
 IsTaken s e = HasUntaken s e → ⊥
 
--- The page of the table at this home breaks the table that the pages are; or it is reached, and stands in the list of free name
--- pages or has an entry with a sector that no entry may have.
+-- The page of the table at this home breaks the table that the pages are; or it is reached, and stands in the list of
+-- free name pages or has an entry with a sector that no entry may have.
 pub record BreaksMounted (s : State) (pages : List (List ℕ)) (place : ℕ) : Type 0 where
   pub visit : Visit
   pub reached : Contains (visits pages) visit

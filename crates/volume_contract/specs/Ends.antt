@@ -96,8 +96,8 @@ module _ {S : Type 0} (state : S → State) (has : S → Mounted → List Placed
   EndsForce outcome reply k new now (Err (Why.Device s)) = (state new).down ≡ Some s
   EndsForce outcome reply k new now (Err other) = ⊥
 
--- All changes are forced: the disk is sound for them, and however it wears its own table is the volume's, with its places and
--- serials.
+-- All changes are forced: the disk is sound for them, and however it wears its own table is the volume's,
+-- with its places and serials.
 pub record Closes (k : Known) (i : Image) : Type 0 where
   pub sound : IsSound k.mounted.volume.layout k.windows k.changes (length k.changes) i
   pub tells : AllWorn (weak_of k.windows) (λ j. told k.mounted.volume.layout j ≡ Some (telling_of k.mounted.volume)) i

@@ -8,8 +8,8 @@ use Rattle.fsd_sound.specs.Laid.{StandsTwice}
 use Rattle.log_thirds.specs.Images.{AreOfSlot}
 use Rattle.volume_contract.specs.State.{State, content_of}
 
--- The page is in memory, and its bytes stand in both of its copies in the last record that has it, but for what the open window may
--- wear.
+-- The page is in memory, and its bytes stand in both of its copies in the last record that has it,
+-- but for what the open window may wear.
 pub record StandsForced (s : State) (resident : ℕ → Option (List ℕ)) (now : Moment) (page : ℕ) : Type 0 where
   pub bytes : List ℕ
   pub there : resident page ≡ Some bytes

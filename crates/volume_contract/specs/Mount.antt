@@ -79,8 +79,8 @@ BreaksAt l pages s = (page : ℕ) × (s ≡ home_a l page) × Breaks l pages pag
 abbrev pub ReadAlike : Layout → (weak : ℕ → Bool) → Image → List (List ℕ) → Type 0
 ReadAlike l weak seen pages = (i : Image) → IsWorn weak seen i → each_of (home_of l i) (all_pages l) ≡ Some pages
 
--- The table was read at home, from an image that may be worn to this one. Where each page reads alike there however the open window
--- wears it, one of these pages breaks the table, and this is its first home.
+-- The table was read at home, from an image that may be worn to this one. Where each page reads alike there however the
+-- open window wears it, one of these pages breaks the table, and this is its first home.
 pub record IsUnsoundAt (sectors : ℕ) (old new : Moment) (s : ℕ) : Type 0 where
   pub layout : Layout
   pub root : HasRoot sectors old.image layout
@@ -101,7 +101,8 @@ pub record ShowsVolume (sectors : ℕ) (i : Image) (l : Layout) (pages : List (L
   pub shows : shown l i ≡ Some pages
 
 module _ {S : Type 0} (state : S → State) (has : S → Mounted → List Placed → Type 0) where
-  -- The volume has the pages that the image shows in memory, and no records: they are a table, and none of them breaks it.
+  -- The volume has the pages that the image shows in memory, and no records:
+  -- they are a table, and none of them breaks it.
   pub record MountsShown (sectors : ℕ) (i : Image) (volume : S) : Type 0 where
     pub mounted : Mounted
     pub shows : ShowsVolume sectors i (state volume).layout mounted.pages
@@ -133,7 +134,8 @@ pub record SoundBefore (l : Layout) (windows : List WeakRun) (h : List Change) (
   pub sound : IsSound l windows h f left.image
   pub writes : WritesAsMount l (weak_of windows) old left
 
--- Since then: the run that was named is the present one, no next one is named, and the disk is sound for the first n changes alone.
+-- Since then: the run that was named is the present one, no next one is named,
+-- and the disk is sound for the first n changes alone.
 pub record SoundSince (l : Layout) (windows : List WeakRun) (h : List Change) (n : ℕ) (old left : Moment) : Type 0 where
   pub run : WeakRun
   pub settled : left.windows ≡ record { present = Some run; next = None }

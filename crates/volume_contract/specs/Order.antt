@@ -10,8 +10,9 @@ use Rattle.fsd_files.specs.Answers.{size_fault, keep_given, least_pages}
 use Rattle.fsd_files.specs.Disk.{Sectors}
 use Rattle.volume_contract.specs.State.{State, IsForced, IsDownAt, forces_first, forces_for_place, in_place, is_worn, place_in}
 
--- A step of a call on its way to its answer: a test of what is in memory, or one of the table; a serial that is drawn; writes of the
--- disk that begin in such sectors; a force, where one comes; a look-up; pages that are made resident; the data of a version.
+-- A step of a call on its way to its answer: a test of what is in memory, or one of the table; a serial that is drawn;
+-- writes of the disk that begin in such sectors; a force, where one comes; a look-up; pages that are made resident;
+-- the data of a version.
 pub data Step : Type 0 where
   Test : Option Refusal → Step
   Asks : Refusal → Step
@@ -96,8 +97,8 @@ IsDownBy (Why.Device s) old new = IsDownAt s old new
 IsDownBy (Why.Lost a b) old new = IsDownAt a old new
 IsDownBy why old new = ⊥
 
--- The volume came to these steps so, and one of them refused: it is as it was at that step, which a serial drawn and a force that
--- ended before it have changed; or it is down, where a force has failed.
+-- The volume came to these steps so, and one of them refused: it is as it was at that step, which a serial drawn and a
+-- force that ended before it have changed; or it is down, where a force has failed.
 abbrev pub Keeps : List Step → Refusal → (at new : State) → Type 0
 Keeps [] r at new = ⊥
 Keeps (Draw ∷ steps) r at new = Keeps steps r (with_drawn at) new

@@ -1,4 +1,5 @@
--- A volume as its caller knows it: what it tells over any machine, and what it is where the machine kept to its promise.
+-- A volume as its caller knows it: what it tells over any machine,
+-- and what it is where the machine kept to its promise.
 use Rattle.std.specs.Prelude.{◌≡◌, ◌⊎◌, ℕ, suc, ◌+◌, ◌-◌, ◌*◌, ◌<◌, ◌≤◌, Bool, false, not, ◌&&◌, ◌||◌, List, [], length, Option, Some, None, IsSome, Result, Ok, Err, IsTrue, is_none, nat_le, nat_lt, ◌==◌, if◌then◌else◌, count_by, filter, map, replicate, slice_index_or, option_and_then, IsFalse}
 use Rattle.std.specs.List.{list_any, AllByRecursion}
 use Rattle.fsd_bytes.specs.declared.key.Serial.{Serial}
@@ -34,9 +35,10 @@ use Rattle.fsd_runs.specs.Runs.{last_count}
 
 -- ---- over any machine
 
--- The layout, the serial that the next creation draws, the log's anchor and end, the slot of each page's last image in it, the pages
--- that wait for a force, the free runs now and once a force has ended, the sectors that wait, whether some of them wait for a force,
--- the runs of the versions that readers hold, the free name pages, the number of versions, and the place of the force that failed.
+-- The layout, the serial that the next creation draws, the log's anchor and end, the slot of each page's last image in
+-- it, the pages that wait for a force, the free runs now and once a force has ended, the sectors that wait, whether
+-- some of them wait for a force, the runs of the versions that readers hold, the free name pages, the number of
+-- versions, and the place of the force that failed.
 pub record State : Type 0 where
   pub layout : Layout
   pub serial : Serial
@@ -121,8 +123,8 @@ numbered s = if length s.dirty == 0 then s.head.number else suc s.head.number
 abbrev pub enters_again : State → Bool
 enters_again s = nat_lt s.head.end (s.head.at + record_len (length s.dirty)) && nat_le (3 * s.layout.third) s.head.end
 
--- Its log lacks that third: the anchor names the following one, whose first record has this number, and the log has no page's last
--- image in the one that it leaves.
+-- Its log lacks that third: the anchor names the following one, whose first record has this number, and the log has no
+-- page's last image in the one that it leaves.
 abbrev pub moved_on : State → (first : ℕ) → State
 moved_on s first = record s {
   anchor = record { epoch = s.anchor.epoch; third = next_third s.anchor.third; first = first };
@@ -144,7 +146,8 @@ record_slot s page =
     let place = place_of s.layout s.anchor.third (record_spot s).at + 3 + count_by (λ q. nat_lt q page) s.dirty in
     record { place = place; copy = place + length s.dirty + 1; number = s.head.number }
 
--- A record of the pages that wait stands behind the log, which ends behind it then, and of each of these pages has the slot in it.
+-- A record of the pages that wait stands behind the log, which ends behind it then,
+-- and of each of these pages has the slot in it.
 pub record LogsRecord (s new : State) : Type 0 where
   pub anchor : new.anchor ≡ s.anchor
   pub head : new.head ≡ record { number = suc s.head.number; at = (record_spot s).at + record_len (length s.dirty); end = (record_spot s).end }
@@ -162,7 +165,8 @@ pub record IsForced (old new : State) : Type 0 where
   pub idle : old.dirty ≡ [] → new ≡ old
   pub logs : 1 ≤ length old.dirty → LogsRecord (with_room old new.anchor.first) new
 
--- A force has failed: it is down with that place, its log is as it was, or may have room for the next record, and all else is as it was.
+-- A force has failed: it is down with that place, its log is as it was, or may have room for the next record,
+-- and all else is as it was.
 pub record IsDownAt (place : ℕ) (old new : State) : Type 0 where
   pub is : (new ≡ record old { down = Some place }) ⊎ (new ≡ record (with_room old new.anchor.first) { down = Some place })
 
@@ -177,7 +181,8 @@ pub record HasLogged (forces : Bool) (old new : State) : Type 0 where
   pub more : IsTrue forces → 1 ≤ length old.dirty → LogsRecord (with_room old new.anchor.first) new
   pub same : (IsTrue forces → old.dirty ≡ []) → KeepsLog old new
 
--- What a call that has answered Ok has drawn, numbered and logged: a serial, where it makes a version; a record, where a force came.
+-- What a call that has answered Ok has drawn, numbered and logged: a serial, where it makes a version;
+-- a record, where a force came.
 pub record HasCounted (draws forces : Bool) (old new : State) : Type 0 where
   pub count : new.serial.count ≡ (if draws then suc old.serial.count else old.serial.count)
   pub number : new.head.number ≡ (if forces then numbered old else old.head.number)
@@ -236,14 +241,15 @@ pub record Fits (s : State) (m : Mounted) : Type 0 where
   pub versions : length m.volume.files ≡ s.versions
   pub up : s.down ≡ None
 
--- What it tells of pages is of these, and of the log's records: each page's slot in the last record that has it, and the free name
--- pages, which no path reaches.
+-- What it tells of pages is of these, and of the log's records: each page's slot in the last record that has it, and
+-- the free name pages, which no path reaches.
 pub record ListsPages (s : State) (pages : List (List ℕ)) (records : List Placed) : Type 0 where
   pub table : length s.slots ≡ s.layout.pages
   pub slots : AreSlots s.layout s.anchor.third records s.slots
   pub free_pages : (page : ℕ) → page < s.layout.pages → contains s.free_pages page ≡ not (list_any (λ visit. visit.page == page) (visits pages))
 
--- The volume is mounted on the disk of this moment, and what it has in memory is of it and of the records that the disk's log has.
+-- The volume is mounted on the disk of this moment, and what it has in memory is of it and of
+-- the records that the disk's log has.
 pub record Stands {S : Type 0} (state : S → State) (has : S → Mounted → List Placed → Type 0) (s : S) (k : Known) (now : Moment) : Type 0 where
   pub fits : Fits (state s) k.mounted
   pub holds : has s k.mounted (records_by k.mounted.volume.layout now.image k.mounted.anchor)

@@ -79,14 +79,17 @@ pub trait Files<M: Machine>: Sized {
         ensures lost { IfErr result (λ fault. M.honest m.new → LostIn (AreCopiesOn sectors (M.now m.old)) (M.now m.new).image fault) }
         ensures unsound { IfErr result (λ fault. M.honest m.new → UnsoundFor sectors (M.now m.old) (M.now m.new) fault) }
 
-        // Of any image: both anchors are then the volume's, and each home of each page stands, but for what the open window may wear.
+        // Of any image: both anchors are then the volume's, and each home of each page stands,
+        // but for what the open window may wear.
         ensures anchors { IfOk result (λ volume. M.honest m.new → HealsAnchors (state volume) (M.now m.new)) }
         ensures homes { IfOk result (λ volume. M.honest m.new → HealsHomes (state volume) (M.now m.new)) }
 
-        // Where nothing wears, an image is mounted as it shows its table, and refused for it exactly where a page breaks.
+        // Where nothing wears, an image is mounted as it shows its table,
+        // and refused for it exactly where a page breaks.
         ensures calm { M.honest m.new → IsCalm (M.now m.old).windows → IsCalm (M.now m.new).windows → MountsCalm state holds sectors (M.now m.old).image result }
 
-        // A sound disk stays sound at each moment, and its files after a prefix of the changes, with every forced one, are mounted.
+        // A sound disk stays sound at each moment, and its files after a prefix of the changes,
+        // with every forced one, are mounted.
         ensures sound { M.honest m.new → (l : Plan) (windows : List Run) (h : List Change) (f : ℕ) → IsSoundAt sectors l windows h f (M.now m.old) →
             MountsSound state holds l windows h f (LeavesOnly M.moment M.left_since m.old m.new) (M.now m.old) (M.now m.new) result };
 
@@ -128,8 +131,8 @@ pub trait Files<M: Machine>: Sized {
         ensures done { M.honest m.new → (k : Known) → Stands state holds self.old k (M.now m.old) →
             Ends state holds (λ met. delete_outcome met (volume_of k) key.now) (λ x. Deleted key.now) (Change.Delete key.now) k self.new (M.now m.new) result };
 
-    /// Sets the keep of a name's highest version, and answers its key. It takes no memory where the pages are there that the search for it
-    /// meets, or all that are in use.
+    /// Sets the keep of a name's highest version, and answers its key. It takes no memory where the pages are there
+    /// that the search for it meets, or all that are in use.
     fn set_keep(&mut self, m: &mut M, name: &FileName, keep: u32) -> Result<Key, Refusal>
         requires { (state self.old).layout.sectors ≤ (M.report m.old).sectors }
         ensures order { Follows (keep_steps (state self.old) keep) result }

@@ -24,8 +24,8 @@ const FIRST_ANCHOR: Anchor = Anchor {
     first: 1,
 };
 
-/// Makes an empty volume, in a window of its own (docs/FORMAT.md has its sectors). Until the call answers Ok the image holds none:
-/// the roots are written last. It takes no memory.
+/// Makes an empty volume, in a window of its own (docs/FORMAT.md has its sectors). Until the call answers Ok the image
+/// holds none: the roots are written last. It takes no memory.
 pub fn format<M: Machine>(m: &mut M, l: &Layout) -> Result<(), Failed>
     requires { l.now.sectors ≤ (M.report m.old).sectors }
 

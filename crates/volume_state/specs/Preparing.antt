@@ -40,7 +40,8 @@ EndsForced k new now (Err why) = ⊥
 
 -- ---- up to the look-up
 
--- a place is found, the serial is drawn, the version is written there, and a force comes where many pages wait and none came before
+-- a place is found, the serial is drawn, the version is written there,
+-- and a force comes where many pages wait and none came before
 abbrev pub prepare_steps : State → ℕ → List Step
 prepare_steps s need = Force (forces_for_place s need) ∷ place s need ∷ Draw ∷ Disk (in_place (place_in s need)) ∷ Force (forces_first s && not (forces_for_place s need)) ∷ []
 

@@ -60,8 +60,8 @@ module _ (v : VolumeValue) where
 
 -- ---- over an honest machine
 
--- What it has in memory is of this volume, whose log has these records: pages, free and waiting sectors, free name pages, and where
--- each page's last image lies. No creation is open.
+-- What it has in memory is of this volume, whose log has these records: pages, free and waiting sectors, free name
+-- pages, and where each page's last image lies. No creation is open.
 pub record Holds (v : VolumeValue) (m : Mounted) (records : List Placed) : Type 0 where
   pub planned : plan v.layout.sectors v.layout.third v.layout.pages ≡ Ok v.layout
   pub pages : (page : ℕ) (bytes : List ℕ) → resident v page ≡ Some bytes → image_at m.pages page ≡ bytes

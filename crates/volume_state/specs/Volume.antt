@@ -12,8 +12,8 @@ use Rattle.page_cache.specs.Cache.{CacheValue, pins_of}
 use Rattle.cached_table.specs.Surveying.{IsOfData}
 use Rattle.cached_table.specs.Opening.{frames}
 
--- The layout, the free sectors, those that wait, the log, the pages in memory, a flag for each page whether it is free, the serial
--- that the next creation draws, the number of versions, and the place of the force that failed.
+-- The layout, the free sectors, those that wait, the log, the pages in memory, a flag for each page whether it is free,
+-- the serial that the next creation draws, the number of versions, and the place of the force that failed.
 pub record VolumeValue : Type 0 where
   pub layout : Layout
   pub map : Area
@@ -31,9 +31,10 @@ pub record IsUnread (w : Waits) : Type 0 where
   pub unfinished : w.unfinished.sectors ≡ []
   pub held : w.held ≡ replicate 8 None
 
--- The layout is one that is planned. The map and the shadow are of the data area, and no free sector waits; the log is the layout's, in
--- the epoch of the serials; each name page is free or not, and none is pinned. Where it is not down, each dirty page is an image of
--- itself, and the next record can be numbered; where none is dirty no sector waits for a force.
+-- The layout is one that is planned. The map and the shadow are of the data area, and no free sector waits; the log is
+-- the layout's, in the epoch of the serials; each name page is free or not, and none is pinned. Where it is not down,
+-- each dirty page is an image of itself, and the next record can be numbered;
+-- where none is dirty no sector waits for a force.
 pub record IsWhole (v : VolumeValue) : Type 0 where
   pub planned : plan v.layout.sectors v.layout.third v.layout.pages ≡ Ok v.layout
   pub map : IsOfData v.layout v.map

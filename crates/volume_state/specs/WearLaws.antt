@@ -1,4 +1,5 @@
--- A volume that stands over a disk stands over it as it is worn. The law stands here since the `impl` of a volume's files rests on it.
+-- A volume that stands over a disk stands over it as it is worn.
+-- The law stands here since the `impl` of a volume's files rests on it.
 use Rattle.std.proofs.Common.{◌≡◌, ◌^◌, ◌<◌, ◌≤◌, sym, ap, subst, ◌∙◌, arith}
 use Rattle.volume_layout.specs.declared.layout.Layout.{Layout}
 use Rattle.volume_layout.proofs.RootLaws.{planned_bounds}

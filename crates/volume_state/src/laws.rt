@@ -32,8 +32,8 @@ pub fn resident_pages_are_shown()
     ensures { (v : VolumeValue) (mounted : Mounted) (records : List Placed) (page : ℕ) (bytes : List ℕ) → Holds v mounted records → resident v page ≡ Some bytes → image_at mounted.pages page ≡ bytes }
 {}
 
-/// Over its disk each page is read as it is in the volume's table, from memory, from the log or from home; and its two copies are
-/// never both damaged.
+/// Over its disk each page is read as it is in the volume's table, from memory, from the log or from home; and its two
+/// copies are never both damaged.
 pub fn pages_are_read()
     ensures newest { (v : VolumeValue) (k : Known) (now : Moment) (page : ℕ) → IsWhole v → IsCache v.cache → Stands state Holds v k now → page < v.layout.pages →
         newest v.cache (newest_by v.log now.image) page ≡ Some (image_at k.mounted.pages page) }
@@ -43,7 +43,8 @@ pub fn pages_are_read()
         sector_at now.image a ≡ Damaged → sector_at now.image b ≡ Damaged → ⊥ }
 {}
 
-/// Over its disk it knows its pages, however the disk wears; and it stands there with each page that is brought into its cache.
+/// Over its disk it knows its pages, however the disk wears;
+/// and it stands there with each page that is brought into its cache.
 pub fn pages_are_known()
     ensures knows { (v : VolumeValue) (k : Known) (now : Moment) → IsWhole v → AreShort now.windows → Stands state Holds v k now → KnowsPages v.log now }
     ensures filled { (v : VolumeValue) (k : Known) (now : Moment) (c : CacheValue) → IsWhole v → Stands state Holds v k now →
@@ -61,14 +62,15 @@ pub fn taken_entries_are_told()
     ensures { (v : VolumeValue) (e : Entry) → IsWhole v → IsTrue (are_taken v e.runs) → IsTaken (state v) e }
 {}
 
-/// An entry of a leaf that is reached, and whose sectors aren't all taken, breaks the table, or has a sector that no entry may have.
+/// An entry of a leaf that is reached, and whose sectors aren't all taken, breaks the table,
+/// or has a sector that no entry may have.
 pub fn untaken_entries_break()
     ensures { (v : VolumeValue) (pages : List (List ℕ)) (visit : Visit) (e : Entry) → IsWhole v → Contains (visits pages) visit → Contains (entries_of visit.content) e → IsFalse (are_taken v e.runs) →
         Breaks v.layout pages visit.page ⊎ HasUntaken (state v) e }
 {}
 
-/// Its pages are a tree, in which look-ups find what the volume's definitions answer; no page breaks it, and none that a path reaches
-/// is free.
+/// Its pages are a tree, in which look-ups find what the volume's definitions answer;
+/// no page breaks it, and none that a path reaches is free.
 pub fn tables_are_looked_up()
     ensures entry { (v : VolumeValue) (k : Known) (now : Moment) (key : Key) → IsWhole v → Stands state Holds v k now →
         (height : ℕ) × IsTree k.mounted.pages height × (entry_with key (table_of k.mounted.pages height) ≡ entry_of key k.mounted.volume.entries) }

@@ -1,4 +1,5 @@
-//! Definitions: what a volume that reads its name table through a cache has and tells, and laws of one that stands over a disk.
+//! Definitions: what a volume that reads its name table through a cache has and tells,
+//! and laws of one that stands over a disk.
 #![tactic(auto)]
 
 mod laws;

@@ -1,5 +1,5 @@
-//! Calls of a volume that are made up, beside a plain list of its versions. Its mounts end by a close, by a stop between two calls,
-//! or by a stop within a force, and before the next one a pair of sectors may be damaged.
+//! Calls of a volume that are made up, beside a plain list of its versions. Its mounts end by a close, by a stop
+//! between two calls, or by a stop within a force, and before the next one a pair of sectors may be damaged.
 use crate::draws::Draws;
 use crate::lists::{Lists, Version};
 use crate::machines::{MOUNTS, NEVER, damage, wearing};
@@ -258,7 +258,8 @@ impl Beside {
         }
     }
 
-    // Whether the versions of a volume that is mounted are those of a list since the last force, which is the list then.
+    // Whether the versions of a volume that is mounted are those of a list since the last force,
+    // which is the list then.
     fn falls_back(&mut self, volume: &mut Mounted) -> Result<bool, Fail> {
         let found = listed(self.alloc, volume)?;
         Ok(self.lists.fall_back(found.as_slice())?)
@@ -306,8 +307,8 @@ impl Work for Beside {
     }
 }
 
-// The first mount that does not go well, or before which a sector was damaged that may not be, or the number of all where they make
-// too few calls.
+// The first mount that does not go well, or before which a sector was damaged that may not be, or the number of all
+// where they make too few calls.
 fn first_wrong(
     alloc: Global,
     m: &mut MemoryMachine,

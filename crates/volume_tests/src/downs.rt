@@ -63,7 +63,8 @@ impl Work for Nothing {
     }
 }
 
-// Whether a volume whose first record, at 16, fails behind its second sector goes down, and the next mount finds no record.
+// Whether a volume whose first record, at 16, fails behind its second sector goes down,
+// and the next mount finds no record.
 fn goes_down(alloc: Global, key: Key) -> Result<[bool; 2], Fail> {
     let event = Event::FailIn {
         first: 16,

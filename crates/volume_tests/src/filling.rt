@@ -84,7 +84,8 @@ impl Work for Fill {
     }
 }
 
-// Whether so many versions are made where so many sectors are free, and are there in order, then and with the next mount.
+// Whether so many versions are made where so many sectors are free, and are there in order,
+// then and with the next mount.
 fn fills(alloc: Global, m: &mut MemoryMachine, count: u32, free: u32) -> Result<[bool; 2], Fail> {
     let mut made = Fill {
         alloc,
@@ -114,8 +115,8 @@ fn eight_entries_part_page_0(rt: HostRuntime) -> Result<(), Fail> {
     Ok(())
 }
 
-// Why a walk through so many versions ends early whose first read of the disk fails: of the calls that are counted, the attach is
-// the first one.
+// Why a walk through so many versions ends early whose first read of the disk fails:
+// of the calls that are counted, the attach is the first one.
 fn fault_of_walk(alloc: Global, m: MemoryMachine, count: u32) -> Result<Option<Refusal>, Fail> {
     let event = Event::FailCall { call: 2, stand: 0 };
     let mounted = Mounted::on(alloc, m, &[])?;

@@ -99,7 +99,8 @@ impl List {
         highest
     }
 
-    /// Makes a version: its number is one more than the highest, and of the name's oldest ones beyond the keep two go at most.
+    /// Makes a version: its number is one more than the highest,
+    /// and of the name's oldest ones beyond the keep two go at most.
     pub(crate) fn put(
         &mut self,
         name: u32,

@@ -48,7 +48,8 @@ fn pair_of(mount: u32) -> u32 {
     mount.wrapping_mul(37) % 1136
 }
 
-/// A machine with an empty volume that has so many sectors of data, behind 1137 others. A pair of these wears in each mount.
+/// A machine with an empty volume that has so many sectors of data, behind 1137 others.
+/// A pair of these wears in each mount.
 pub(crate) fn wearing(alloc: Global, size: u32) -> Result<MemoryMachine, Fail>
     requires { size ≤ 1000 }
 {

@@ -144,8 +144,8 @@ pub trait Work {
     fn closes(&self) -> bool;
 }
 
-/// Whether something goes well in a mount of what the machine has, with these events to come. The attach is the first call
-/// that they count. The machine then has what the mount leaves.
+/// Whether something goes well in a mount of what the machine has, with these events to come. The attach is the first
+/// call that they count. The machine then has what the mount leaves.
 pub(crate) fn mounts<W: Work>(
     alloc: Global,
     m: &mut MemoryMachine,

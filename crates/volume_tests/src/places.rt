@@ -51,8 +51,8 @@ fn sectors(volume: &Mounted) -> (u32, u32) {
     (stat.free, stat.waiting)
 }
 
-// Whether a version of nine sectors is refused: they are free behind the force that the put makes by itself, but no eight runs
-// have them.
+// Whether a version of nine sectors is refused: they are free behind the force that the put makes by itself,
+// but no eight runs have them.
 fn is_fragmented(volume: &mut Mounted, name: &FileName) -> bool {
     let refusal = Refusal::TooFragmented { need: 9, best: 8 };
     volume.put(name, None, &[5; 4096]) == Err(refusal) && sectors(volume) == (32, 0)

@@ -1,4 +1,5 @@
--- What one command by itself says and writes, whatever the image: one reply, or the line of the fault that has ended it.
+-- What one command by itself says and writes, whatever the image:
+-- one reply, or the line of the fault that has ended it.
 use Rattle.std.specs.Prelude.{◌≡◌, ◌⊎◌, ⊤, ℕ, ◌<◌, ◌≤◌, List, [], ◌++◌, length, Option, Some, None, Result, Ok, Err, IfErr, IfOk, IsTrue}
 use Rattle.fsd_bytes.specs.declared.refusal.Refusal.{Refusal}
 use Rattle.fsd_bytes.specs.declared.refusal.Refusal.TheVariants as Why
@@ -120,7 +121,8 @@ pub record SaysReply (command : Command) (old new : Moment) (status : ℕ) : Typ
   pub gives : status ≡ reply_status reply
   pub said : new.said ≡ old.said ++ reply_alone reply
 
--- A command is done alone over a volume of this state; all is said of one of which no page waits, as it is behind a mount.
+-- A command is done alone over a volume of this state;
+-- all is said of one of which no page waits, as it is behind a mount.
 pub record AnswersAlone (command : Command) (s : State) (old new : Moment) (result : Result ℕ End) : Type 0 where
   pub windows : new.windows ≡ old.windows
   pub quiet : KeepsSaid old new result
@@ -153,7 +155,8 @@ pub record EndsOne (command : Command) (s : State) (old new : Moment) (status : 
 
 -- ---- from the mount on
 
--- What is written behind the mount: nothing by a command that only reads; by another that is no put, only where a force writes.
+-- What is written behind the mount: nothing by a command that only reads;
+-- by another that is no put, only where a force writes.
 abbrev pub WritesBehind : Command → (sectors : ℕ) → (old mounted new : Moment) → Type 0
 WritesBehind (Word.Put name bytes keep) sectors old mounted new = ⊤
 WritesBehind (Word.List pattern) sectors old mounted new = Ages mounted new

@@ -42,8 +42,9 @@ is_of_mounted status = list_any (λ s. s == status) (0 ∷ 1 ∷ 2 ∷ 5 ∷ 8 �
 
 -- ---- it was refused
 
--- The mount was refused for this fault: the image was so, as it was seen, and what is lost or unsound was so as the mount ended. What
--- is refused before anything is written stays as it was, and a mount writes only where it may. Its line is all that is said.
+-- The mount was refused for this fault: the image was so, as it was seen, and what is lost or unsound was so as the
+-- mount ended. What is refused before anything is written stays as it was, and a mount writes only where it may.
+-- Its line is all that is said.
 pub record IsMountRefused (sectors : ℕ) (why : Fault) (old new : Moment) : Type 0 where
   pub fault : MountFault
   pub is : why ≡ fault_of fault
@@ -80,15 +81,16 @@ pub record SaysCause (script : Bool) (sectors : ℕ) (old new : Moment) : Type 0
   pub says : SaysOfImage script old.said why new
   pub cause : IsMountRefused sectors why old new ⊎ IsCallRefused sectors why old new
 
--- The mount was refused for an epoch that was seen to be the last one; where so many commands are made up that they may use up the
--- numbers of a mount, it may have been mounted.
+-- The mount was refused for an epoch that was seen to be the last one; where so many commands are made up that they may
+-- use up the numbers of a mount, it may have been mounted.
 abbrev pub HasSpent : (made : Option ℕ) → (sectors : ℕ) → Moment → Type 0
 HasSpent (Some count) sectors old = (HasVolume sectors old × (last_count ≤ count)) ⊎ IsRefused sectors WornOut old
 HasSpent None sectors old = IsRefused sectors WornOut old
 
 -- ---- all of these
 
--- What a run tells of the image that it found, by its status, whether it is a script, and how many commands it makes up, if it does.
+-- What a run tells of the image that it found, by its status, whether it is a script,
+-- and how many commands it makes up, if it does.
 pub record TellsImage (script : Bool) (made : Option ℕ) (sectors : ℕ) (old new : Moment) (status : ℕ) : Type 0 where
   pub mounted : IsTrue (is_of_mounted status) → HasVolume sectors old
   pub refused : status ≡ 3 → SaysCause script sectors old new

@@ -36,7 +36,8 @@ pub record SaysEach (says : Reply → List ℕ) (Past : Moment → Type 0) (comm
   pub each : AreReplies Past commands replies
   pub said : after ≡ before ++ flat_map says replies
 
--- so it is between two states of a machine, over the images that a stop might have left since a moment that is no later than the first
+-- so it is between two states of a machine, over the images that a stop might have left since a
+-- moment that is no later than the first
 abbrev pub SaysBetween : {D : Type 0} → (M : Ghosts D) → (says : Reply → List ℕ) → List Command → (a b : D) → Type 0
 SaysBetween M says commands a b = M.honest b → (t : ℕ) → t ≤ M.moment a → SaysEach says (M.left_since b t) commands (M.now a).said (M.now b).said
 
@@ -46,7 +47,8 @@ pub record SaysForced (says : Reply → List ℕ) (Past : Moment → Type 0) (co
   pub whole : SaysEach says Past commands before front
   pub said : after ≡ front ++ forced_turn.said
 
--- A line of the script is outside the grammar. So it is of the commands before it, and behind that it is said that it is bad.
+-- A line of the script is outside the grammar. So it is of the commands before it,
+-- and behind that it is said that it is bad.
 pub record SaysBadLine (Past : Moment → Type 0) (input before : List ℕ) (new : Moment) : Type 0 where
   pub bad : BadLine
   pub ends : (script_in input).1 ≡ Bad bad

@@ -29,8 +29,8 @@ CutsOff false mets commands = ⊤
 abbrev pub is_through : (cut : Bool) → List Met → List Command → Bool
 is_through cut mets commands = cut || length mets == length commands
 
--- what follows the commands that were begun: the force, and what stands behind it, such as the line of a fault that cut the group
--- off; or nothing, where it was broken off
+-- what follows the commands that were begun: the force, and what stands behind it, such as the line of a fault that cut
+-- the group off; or nothing, where it was broken off
 abbrev pub turns_behind : (through : Bool) → (more : List Turn) → List Turn
 turns_behind true more = forced_turn ∷ more
 turns_behind false more = blank ∷ []

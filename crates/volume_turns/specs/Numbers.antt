@@ -1,4 +1,5 @@
--- How far commands bring the numbers of a mount: a version that is made draws a serial, and a record that is logged has a number.
+-- How far commands bring the numbers of a mount: a version that is made draws a serial,
+-- and a record that is logged has a number.
 use Rattle.std.specs.Prelude.{◌⊎◌, ℕ, ◌+◌, ◌<◌, ◌≤◌}
 use Rattle.fsd_runs.specs.Runs.{last_count}
 use Rattle.volume_contract.specs.State.{State}

@@ -91,7 +91,8 @@ module _ {S : Type 0} (state : S → State) (has : S → Mounted → List Placed
 
 -- ---- with the force behind them
 
--- Commands that stand whole in what was taken are done as a group, and then the input has failed; rest is what was left of it.
+-- Commands that stand whole in what was taken are done as a group, and then the input has failed;
+-- rest is what was left of it.
 pub record FailedGroup {D : Type 0} (M : Ghosts D) (e : Errand) (k : Known) (input rest : List ℕ) (a b : D) (result : Result Bool End) : Type 0 where
   pub done : List Command
   pub front : take (length done) (script_in input).0 ≡ done

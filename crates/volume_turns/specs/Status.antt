@@ -18,8 +18,8 @@ IsStatusOfFault status = (why : Fault) × IsOfVolume why × (status ≡ fault_st
 abbrev pub IsStatusBroken : ℕ → Type 0
 IsStatusBroken status = IsStatusOfFault status ⊎ (status ≡ 6)
 
--- the status of a reply to this command: a change is made or refused; so a version is read, or a sector of it is damaged; of what is
--- told, and of a force, nothing is refused
+-- the status of a reply to this command: a change is made or refused; so a version is read, or a sector of it is
+-- damaged; of what is told, and of a force, nothing is refused
 abbrev pub IsStatusFrom : Command → ℕ → Type 0
 IsStatusFrom (Put name bytes keep) status = status ≤ 1
 IsStatusFrom (Delete key) status = status ≤ 1
@@ -56,8 +56,8 @@ pub record CountsInput (old new : Report) : Type 0 where
   pub disk : new.disk_faults ≡ old.disk_faults
   pub output : new.output_faults ≡ old.output_faults
 
--- the statuses of a run that was answered to its end, or to a line that is bad, or for which memory was refused, or of a mount that is
--- worn out
+-- the statuses of a run that was answered to its end, or to a line that is bad, or for which memory was refused,
+-- or of a mount that is worn out
 abbrev pub is_quiet : ℕ → Bool
 is_quiet status = list_any (λ s. s == status) (0 ∷ 1 ∷ 2 ∷ 7 ∷ 8 ∷ 9 ∷ [])
 
@@ -65,8 +65,8 @@ is_quiet status = list_any (λ s. s == status) (0 ∷ 1 ∷ 2 ∷ 7 ∷ 8 ∷ 9 
 abbrev pub is_unfailed : ℕ → Bool
 is_unfailed status = not (status == 4 || status == 6)
 
--- A run that takes no input: where its status tells a fault of the disk or of the output, this is counted, and where it tells no call
--- of the outside none is.
+-- A run that takes no input: where its status tells a fault of the disk or of the output, this is counted, and where it
+-- tells no call of the outside none is.
 pub record CountsRun (old new : Report) (status : ℕ) : Type 0 where
   pub sectors : new.sectors ≡ old.sectors
   pub disk : status ≡ 4 → Rose old.disk_faults new.disk_faults
@@ -74,7 +74,8 @@ pub record CountsRun (old new : Report) (status : ℕ) : Type 0 where
   pub output : status ≡ 6 → Rose old.output_faults new.output_faults
   pub quiet : IsTrue (is_unfailed status) → CountsNone old new
 
--- One that takes the input: so it is of the disk and the output. A fault found in the volume may end one whose input has failed.
+-- One that takes the input: so it is of the disk and the output.
+-- A fault found in the volume may end one whose input has failed.
 pub record CountsTaking (old new : Report) (status : ℕ) : Type 0 where
   pub sectors : new.sectors ≡ old.sectors
   pub disk : status ≡ 4 → Rose old.disk_faults new.disk_faults

@@ -72,8 +72,8 @@ IsOfImage fault = ⊥
 abbrev pub AreOfPage : Layout → (a b : ℕ) → Type 0
 AreOfPage l a b = LieInRecord l a b ⊎ AreHomes l a b
 
--- It is so by this layout, in this image: the two copies of a page that are told as lost are both damaged, and it is the home of a page
--- of the table that is told as unsound.
+-- It is so by this layout, in this image: the two copies of a page that are told as lost are both damaged, and it is
+-- the home of a page of the table that is told as unsound.
 abbrev pub IsToldOn : Layout → Image → Fault → Type 0
 IsToldOn l i (Ends.Lost a b) = AreLost (AreOfPage l) i a b
 IsToldOn l i (Ends.Unsound s) = (page : ℕ) × (page < l.pages) × (s ≡ home_a l page)
@@ -105,7 +105,8 @@ Stays state has s old left = (k : Known) → Stands state has s k old → StaysS
 
 -- ---- how a command ends
 
--- It is answered as the definitions do, over the images from its entry to its exit, and isn't one that a worn-out mount refuses.
+-- It is answered as the definitions do, over the images from its entry to its exit,
+-- and isn't one that a worn-out mount refuses.
 pub record IsAnswered (command : Command) (s : State) (k after : Known) (i j : Image) (reply : Reply) : Type 0 where
   pub met : Met
   pub is : answer met (volume_of k) command ≡ (reply, volume_of after)

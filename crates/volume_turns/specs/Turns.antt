@@ -24,8 +24,8 @@ use Rattle.sector_disk.specs.Calls.{DiskFaults, Since}
 use Rattle.volume_turns.specs.Steps.{IsOfCall, IsToldOn, device_told}
 use Rattle.volume_contract.specs.State.{State, Ages, Known, volume_of, forced_of, Stands}
 
--- A moment of a run of these turns over a volume that stands so: some are said whole, and a part of what comes next. The disk is
--- sound for the changes of the turns said and of the one under way.
+-- A moment of a run of these turns over a volume that stands so: some are said whole, and a part of what comes next.
+-- The disk is sound for the changes of the turns said and of the one under way.
 pub record InRun (k : Known) (turns : List Turn) (old left : Moment) : Type 0 where
   pub windows : left.windows ≡ old.windows
   pub whole : ℕ
@@ -87,8 +87,8 @@ abbrev pub WantsNone : End → Type 0
 WantsNone (Stopped fault) = IsWant fault → ⊥
 WantsNone Output = ⊤
 
--- What was said is whole turns, and not all that were begun, or no more were. The disk is sound for the changes of these and of the
--- one behind them, where one was begun.
+-- What was said is whole turns, and not all that were begun, or no more were. The disk is sound for the changes of
+-- these and of the one behind them, where one was begun.
 pub record Said (k : Known) (turns : List Turn) (old now : Moment) : Type 0 where
   pub windows : now.windows ≡ old.windows
   pub whole : ℕ

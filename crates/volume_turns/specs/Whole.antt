@@ -17,7 +17,8 @@ use Rattle.volume_turns.specs.Turns.{InRun}
 
 -- ---- between two turns
 
--- Some of the turns are said whole, and more are to come. The disk is sound for their changes and those of the next one.
+-- Some of the turns are said whole, and more are to come.
+-- The disk is sound for their changes and those of the next one.
 pub record Halted (k : Known) (turns : List Turn) (old now : Moment) : Type 0 where
   pub windows : now.windows ≡ old.windows
   pub whole : ℕ
@@ -36,8 +37,8 @@ pub record SaysOut (e : Errand) (k : Known) (mets : List Met) (old new : Moment)
   pub gives : status ≡ (e.ends (answered mets (volume_of k) e.commands)).status
   pub done : IsDone k (turns_of e mets (volume_of k)) (behind mets (volume_of k) e.commands) old new
 
--- The commands of an errand, from the mounted volume to the end: all is said, or the output failed, or a fault has ended it, which
--- was counted since before.
+-- The commands of an errand, from the mounted volume to the end: all is said, or the output failed, or a fault has
+-- ended it, which was counted since before.
 pub record Finishes {D : Type 0} (M : Ghosts D) (request : Request) (e : Errand) (Last : Volume → Image → Type 0) (before : Report) (k : Known) (a b : D) (status : ℕ) : Type 0 where
   pub mets : List Met
   pub goes : (t : ℕ) → t ≤ M.moment a → Goes (in_runs k.windows) (M.left_since b t) Last e (M.now a).said (M.now a).image (volume_of k) mets e.commands

@@ -188,7 +188,8 @@ fn force_behind<M: Machine, V: Files<M>>(
     }
 }
 
-// Makes up commands and does them; then all is forced, and that is said. Nothing is counted where the mount is worn out.
+// Makes up commands and does them; then all is forced, and that is said.
+// Nothing is counted where the mount is worn out.
 fn make_group<M: Machine, V: Files<M> + Drop>(
     alloc: Global,
     v: V,
@@ -254,8 +255,8 @@ fn generate_on<M: Machine, V: Files<M> + Drop>(
     }
 }
 
-/// Mounts a volume, makes up so many commands from a seed and does them, forces all, and says no more than that and what came of
-/// them; or says the fault that has ended it. It gives the status.
+/// Mounts a volume, makes up so many commands from a seed and does them, forces all, and says no more than that and
+/// what came of them; or says the fault that has ended it. It gives the status.
 pub fn run_generate<M: Machine, V: Files<M> + Drop>(
     alloc: Global,
     m: &mut M,

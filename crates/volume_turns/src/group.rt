@@ -19,8 +19,8 @@ use sector_disk::Machine;
 use std::alloc::Global;
 use volume_contract::Files;
 
-/// Does commands one after another and says the reply of each; then all is forced, and that is said. It tells whether all were
-/// done, or the mount is worn out.
+/// Does commands one after another and says the reply of each; then all is forced, and that is said. It tells whether
+/// all were done, or the mount is worn out.
 pub fn group_run<M: Machine, V: Files<M> + Drop, T: Says>(
     alloc: Global,
     v: V,

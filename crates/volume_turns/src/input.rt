@@ -51,7 +51,8 @@ fn refuse_input<M: Machine, V: Files<M>>(v: V, m: &mut M) -> u8
     }
 }
 
-// Takes the input, and makes a version of it over a volume that was just mounted, to the last line. It gives the status.
+// Takes the input, and makes a version of it over a volume that was just mounted, to the last line.
+// It gives the status.
 fn put_on<M: Machine, V: Files<M> + Drop, T: Says>(
     alloc: Global,
     v: V,
@@ -87,8 +88,8 @@ fn put_on<M: Machine, V: Files<M> + Drop, T: Says>(
     }
 }
 
-/// Mounts a volume, takes the input to its end, makes a version of it, forces all and says its reply; or says that the input is too
-/// long, where it has more than 2^24 bytes, or the fault that has ended it. It gives the status.
+/// Mounts a volume, takes the input to its end, makes a version of it, forces all and says its reply; or says that the
+/// input is too long, where it has more than 2^24 bytes, or the fault that has ended it. It gives the status.
 pub fn run_put<M: Machine, V: Files<M> + Drop, T: Says>(
     alloc: Global,
     m: &mut M,

@@ -1,6 +1,6 @@
-//! Programs over the contract of a volume that know nothing else of it: commands one after another, each with its reply said, a
-//! group of them with its force, and from the mount to the last line one command, a put of the input, a script, and commands that
-//! are made up.
+//! Programs over the contract of a volume that know nothing else of it: commands one after another, each with its reply
+//! said, a group of them with its force, and from the mount to the last line one command, a put of the input, a script,
+//! and commands that are made up.
 #![tactic(auto)]
 
 mod answer;

@@ -229,8 +229,8 @@ fn script_on<M: Machine, V: Files<M> + Drop, T: Says>(alloc: Global, v: V, m: &m
     }
 }
 
-/// Mounts a volume, reads the commands of the input and does them one after another, each with its reply said, and forces all; or
-/// says the fault that has ended it. It gives the status.
+/// Mounts a volume, reads the commands of the input and does them one after another, each with its reply said, and
+/// forces all; or says the fault that has ended it. It gives the status.
 pub fn run_script<M: Machine, V: Files<M> + Drop, T: Says>(
     alloc: Global,
     m: &mut M,

@@ -52,7 +52,8 @@ pub(crate) fn one_on<M: Machine, V: Files<M> + Drop, T: Says>(
     }
 }
 
-/// Mounts a volume, does one command, forces all and says its reply; or says the fault that has ended it. It gives the status.
+/// Mounts a volume, does one command, forces all and says its reply; or says the fault that has ended it.
+/// It gives the status.
 pub fn run_one<M: Machine, V: Files<M> + Drop, T: Says>(
     alloc: Global,
     m: &mut M,
