@@ -13,16 +13,17 @@ use Rattle.fsd_table.proofs.BreakLaws.{visited_top}
 use Rattle.name_page.specs.Cut.{is_before}
 use Rattle.name_page.specs.declared.cut.Cut.TheVariants.{UpTo}
 use Rattle.name_page.specs.Looks.{Looks, Shows}
-use Rattle.name_page.specs.Pages.{Step}
+use Rattle.name_page.specs.Pages.{Step, is_spare, IsReached}
 use Rattle.name_page.proofs.CutLaws.{cuts_monotone}
 use Rattle.name_page.proofs.LookLaws.{agrees_before, agrees_now}
 use Rattle.name_btree.specs.declared.descent.Neighbour.{Neighbour}
 use Rattle.name_btree.specs.declared.descent.Way.{Way}
 use Rattle.name_btree.specs.declared.fault.TreeFault.{TreeFault}
-use Rattle.name_btree.specs.Descent.{way_to}
+use Rattle.name_btree.specs.Descent.{way_to, LeadsDown}
 use Rattle.name_btree.specs.Fault.{HasCause, IsMisfit, IsOnWay, BarsPage, BarsTable, ShowsCause, ShowsMisfit}
-use Rattle.name_btree.specs.Lookup.{HoldsAt}
+use Rattle.name_btree.specs.Lookup.{HasLeafBy, HoldsAt}
 use Rattle.name_btree.proofs.DescentLaws.{IsOnWay as Stands, way_begins, way_down, way_ends}
+use Rattle.name_btree.proofs.DownLaws.{leads_on}
 use Rattle.name_btree.proofs.FindLaws.{entry_found}
 use Rattle.name_btree.proofs.VisitedLaws.{IsVisitedWay, visited_down, misfit_below, shown_below, shown_top, top_breaks, deep_below}
 use Rattle.name_btree.proofs.WayLaws.{way_at}
@@ -36,6 +37,7 @@ pub record IsWayTo (key : Key) (s : Step) (above : ℕ) (c : Child) : Type 0 whe
   pub next : Option Neighbour
   pub on : Shows s (λ pages. Stands (is_before (UpTo key)) pages top above (way c previous next))
   pub visited : Shows s (λ pages. IsVisitedWay pages 0 top above (way c previous next))
+  pub down : Shows s (λ pages. LeadsDown (is_before (UpTo key)) pages above c)
 
 pub alone_begins : (key : Key) (s : Step) (c : Child) → c ≡ top → IsWayTo key s 0 c
 alone_begins key s c is = subst (IsWayTo key s 0) (sym is) (record {
@@ -43,6 +45,7 @@ alone_begins key s c is = subst (IsWayTo key s 0) (sym is) (record {
   next = None;
   on = λ pages agrees. way_begins (is_before (UpTo key)) pages top;
   visited = λ pages agrees v. (v, (tt, tt));
+  down = λ pages agrees. refl;
 })
 
 some_child : (c d : Child) → Some c ≡ Some d → c ≡ d
@@ -55,6 +58,9 @@ module _ (key : Key) (old s : Step) (above : ℕ) (c : Child) (looks : Looks old
 
   visited : Shows s (λ pages. IsVisitedWay pages 0 top above (way c is.previous is.next))
   visited pages agrees = is.visited pages (agrees_before old s pages looks agrees)
+
+  down : Shows s (λ pages. LeadsDown (is_before (UpTo key)) pages above c)
+  down pages agrees = is.down pages (agrees_before old s pages looks agrees)
 
   pub alone_down : (first : ℕ) (xs : List Separator) → Shows s (λ pages. page_at pages c.page ≡ Some (Interior first xs)) → above < max_height
       → (d : Child) (i : ℕ) → i ≤ length xs → AllByRecursion (λ x. is_before (UpTo key) x.key ≡ true) (take i xs) → AllByRecursion (λ x. is_before (UpTo key) x.key ≡ false) (drop i xs)
@@ -70,6 +76,7 @@ module _ (key : Key) (old s : Step) (above : ℕ) (c : Child) (looks : Looks old
             (way_down (is_before (UpTo key)) (cuts_monotone (UpTo key)) pages top above (above + 1) (way c is.previous is.next) first xs (at pages agrees) (on pages agrees));
         visited = λ pages agrees. subst (IsVisitedWay pages 0 top (above + 1)) all
             (visited_down (is_before (UpTo key)) pages 0 top above (way c is.previous is.next) first xs (at pages agrees) low (visited pages agrees));
+        down = λ pages agrees. subst (LeadsDown (is_before (UpTo key)) pages (above + 1)) same (leads_on (is_before (UpTo key)) pages above (above + 1) c is.previous is.next first xs (at pages agrees) (down pages agrees));
       }
 
   -- ---- the leaf
@@ -81,6 +88,9 @@ module _ (key : Key) (old s : Step) (above : ℕ) (c : Child) (looks : Looks old
 
   pub alone_led : Shows s (λ pages. IsOnWay pages c.page)
   alone_led pages agrees = (visit_of pages (above + 1) c, (visited pages agrees (visited_top pages)).0, refl)
+
+  pub alone_leaf : (entries : List Entry) → IsReached s c.page → is_spare s.spares c.page ≡ false → page_at s.images c.page ≡ Some (Leaf entries) → HasLeafBy s (is_before (UpTo key)) c.page entries
+  alone_leaf entries reached used has = (c, refl, record { is_read = record { reached = reached; used = used; has = has }; above = above; way = down })
 
   -- ---- faults
 

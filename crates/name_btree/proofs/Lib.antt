@@ -10,6 +10,7 @@ mod ChangeLaws
 mod ComeLaws
 pub mod CommitLaws
 pub mod DescentLaws
+mod DownLaws
 mod DraftLaws
 pub mod FindLaws
 mod GrowLaws

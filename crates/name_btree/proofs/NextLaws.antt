@@ -82,7 +82,7 @@ begins pages c found e place first level low sub =
     let head = head_of found.entries e first in
     (head.0 ++ at.right, at.parts ∙ ap (λ (xs : List Entry). xs ++ (found.entries ++ at.right)) (nothing_left at.left at.lesser) ∙ ap (λ (xs : List Entry). xs ++ at.right) head.1)
 
-last_is : (xs : List Entry) (n : ℕ) (e : Entry) → n ≡ length xs → 0 < n → slice_get xs (n - 1) ≡ Some e → xs ≡ take (n - 1) xs ++ e ∷ []
+pub last_is : (xs : List Entry) (n : ℕ) (e : Entry) → n ≡ length xs → 0 < n → slice_get xs (n - 1) ≡ Some e → xs ≡ take (n - 1) xs ++ e ∷ []
 last_is xs n e is some last = sym (take_all n xs (omega arith)) ∙ take_back xs n e some last
 
 pub ends : (pages : List (List ℕ)) (c : Child) (found : Found) (n : ℕ) (e : Entry) → IsPlace (is_before End) pages c found → n ≡ length found.entries → 0 < n → slice_get found.entries (n - 1) ≡ Some e → EndsWith pages c e
@@ -148,7 +148,7 @@ in_next cut pages whole some previous c e at begin h =
     past_left cut pages whole some previous (Some c) at ∙ found_later test some at.right h ∙ ap (find test) is ∙ ap (λ (b : Bool). cond (not b) (Some e) (find test (first.0 ++ next.3.0))) over
 
 -- the next entry in the table, by what the leaf has
-cut_tests : (before : Option Key) (cut : Cut) → cut ≡ after_cut before → (xs : List Entry) → find (λ x. not (is_before cut x.key)) xs ≡ entry_after before xs
+pub cut_tests : (before : Option Key) (cut : Cut) → cut ≡ after_cut before → (xs : List Entry) → find (λ x. not (is_before cut x.key)) xs ≡ entry_after before xs
 cut_tests before cut same xs =
     sym (same_tests (λ x. is_after before x.key) (λ x. not (is_before cut x.key)) (λ x. after_is before x.key ∙ ap (λ (d : Cut). not (is_before d x.key)) (sym same)) xs)
 

@@ -1,14 +1,14 @@
 -- The way to the leaf at a place between keys, and what stands left and right of it.
-use Rattle.std.specs.Prelude.{◌≡◌, ℕ, ◌+◌, ◌<◌, IfSome, Bool, false, List, [], ◌∷◌, ◌++◌, Option, Some, None, if◌then◌else◌}
-use Rattle.std.specs.List.{AllByRecursion}
+use Rattle.std.specs.Prelude.{◌≡◌, ℕ, zero, suc, ◌+◌, ◌<◌, IfSome, Bool, false, List, [], ◌∷◌, ◌++◌, Option, Some, None, if◌then◌else◌}
+use Rattle.std.specs.List.{AllByRecursion, Contains}
 use Rattle.fsd_bytes.specs.declared.key.Key.{Key}
-use Rattle.name_page.specs.Cut.{IsLesser}
+use Rattle.name_page.specs.Cut.{IsLesser, AtLow, AtHigh}
 use Rattle.fsd_formats.specs.declared.entry.Entry.{Entry}
 use Rattle.fsd_formats.specs.declared.page.Separator.{Separator}
 use Rattle.fsd_formats.specs.NamePage.{Interior}
 use Rattle.fsd_table.specs.declared.child.Child.{Child}
-use Rattle.fsd_table.specs.Pages.{page_at}
-use Rattle.fsd_table.specs.Table.{max_height, IsVisited}
+use Rattle.fsd_table.specs.Pages.{page_at, children_of}
+use Rattle.fsd_table.specs.Table.{max_height, top, IsVisited}
 use Rattle.fsd_table.specs.Tree.{entries_below, IsSubtree}
 use Rattle.fsd_forest.specs.Ways.{end_of}
 use Rattle.name_btree.specs.declared.descent.Way.{Way}
@@ -72,3 +72,16 @@ IsNeighbour pages n = (0 < n.above) × IsVisited pages (n.above + 1) n.child
 -- where a path reaches the start, others reach the children beside the way
 abbrev pub HasNeighbours : List (List ℕ) → (above : ℕ) → Child → Found → Type 0
 HasNeighbours pages above start found = IsVisited pages (above + 1) start → IfSome found.previous (IsNeighbour pages) × IfSome found.next (IsNeighbour pages)
+
+-- ---- the way to a place, over any pages
+
+-- it goes from a page to that child of it between whose keys the place stands
+pub record GoesTo (before : Key → Bool) (pages : List (List ℕ)) (page c : Child) : Type 0 where
+  pub child : Contains (children_of page.low page.high (page_at pages page.page)) c
+  pub low : AtLow before c.low
+  pub high : AtHigh before c.high
+
+-- from page 0 it leads to the child, so many pages down
+abbrev pub LeadsDown : (before : Key → Bool) → List (List ℕ) → (above : ℕ) → Child → Type 0
+LeadsDown before pages zero c = c ≡ top
+LeadsDown before pages (suc above) c = (page : Child) × LeadsDown before pages above page × GoesTo before pages page c

@@ -11,7 +11,7 @@ ghost use Rattle.name_page.specs.Cut.{is_before};
 ghost use Rattle.name_page.specs.declared.cut.Cut.TheVariants.{UpTo};
 ghost use Rattle.name_btree.specs.Descent.{way_to, IsPlace, HasNeighbours};
 ghost use Rattle.name_btree.specs.Fault.{outer_told, HasCause, BreaksBelow, BarsBelow, BarsTable, IsOnWay, ShowsCause, is_inner};
-ghost use Rattle.name_btree.specs.Lookup.{BeginsBehind, HoldsAt, IsBelow};
+ghost use Rattle.name_btree.specs.Lookup.{BeginsBehind, HasLeafBy, HoldsAt, IsBelow, IsLedFrom};
 ghost use Rattle.name_btree.specs.Replace.{IsLeafAt};
 ghost use Rattle.name_btree.specs.Path.{TakesNone, HasAll, HasMet, HasNone, Leads, LeadsBack, met_beside};
 ghost use Rattle.name_page.specs.Looks.{OnlyReaches, Shows};
@@ -144,6 +144,7 @@ pub(crate) fn leaf_below<T: Pages>(
     ensures at { IfOk result (λ found. Shows (T.step t.new) (λ pages. IsLeafAt cut.now pages start found)) }
     ensures place { IfOk result (λ found. Shows (T.step t.new) (λ pages. IsPlace (is_before cut.now) pages start found)) }
     ensures beside { IfOk result (λ found. Shows (T.step t.new) (λ pages. HasNeighbours pages above start found)) }
+    ensures from { IfOk result (λ found. (leaf : Child) × IsLedFrom (T.step t.new) (is_before cut.now) above start found leaf) }
     // Where all that it meets is in memory it takes none,
     // and the next way to an entry that it has found leads to the same leaf.
     ensures memory { HasMet T.Pages above (is_before cut.now) start t.old → TakesNone T.Pages (outer_told result) t.old t.new }
@@ -192,6 +193,7 @@ pub(crate) fn leaf_at<T: Pages>(t: &mut T, key: &Key) -> Result<FoundLeaf, TreeF
     ensures leaf { IfOk result (λ leaf. page_at (T.step t.new).images leaf.page ≡ Some (Leaf leaf.entries)) }
     ensures way { IfOk result (λ leaf. Shows (T.step t.new) (λ pages. IsOnWay pages leaf.page)) }
     ensures holds { IfOk result (λ leaf. Shows (T.step t.new) (λ pages. HoldsAt key.now pages leaf.entries)) }
+    ensures at { IfOk result (λ leaf. HasLeafBy (T.step t.new) (is_before (UpTo key.now)) leaf.page leaf.entries) }
     ensures fault { IfErr result (HasCause (T.step t.new) (BreaksTable (T.step t.new).images) (BarsTable (T.step t.new))) }
     ensures shown { IfErr result (ShowsCause (T.step t.new) BreaksTable IsOnWay) }
 {

@@ -1,5 +1,5 @@
 //! Looking up entries.
-ghost use Rattle.std.specs.Prelude.{◌≡◌, ◌+◌, ◌-◌, ◌<◌, ◌≤◌, ℕ, IfOk, IfErr, IfSome, Some, None, length, find, true, not, if◌then◌else◌};
+ghost use Rattle.std.specs.Prelude.{◌≡◌, ◌+◌, ◌-◌, ◌<◌, ◌≤◌, ℕ, IfOk, IfErr, IfSome, IfNone, Some, None, length, find, true, not, if◌then◌else◌};
 ghost use Rattle.std.specs.Option.{option_copied};
 ghost use Rattle.fsd_formats.specs.NamePage.{is_entry, FitsEntry};
 ghost use Rattle.fsd_table.specs.Pages.{not_below, page_at};
@@ -10,7 +10,7 @@ ghost use Rattle.name_btree.specs.Descent.{BeginsWith, EndsWith};
 ghost use Rattle.name_btree.specs.Fault.{outer_told, HasCause, BreaksBeside, BarsBeside, BarsTable, IsAmong, IsBeside, IsOnWay, ShowsCause};
 ghost use Rattle.name_btree.specs.Path.{TakesNone, HasAll, HasPath, HasWayTo, Leads, met_beside};
 ghost use Rattle.name_page.specs.Lookups.{entry_with, entry_after, highest_of, last_that, same_name, is_after};
-ghost use Rattle.name_btree.specs.Lookup.{entry_of, StandsIn, IsLedTo, IsLedBeside};
+ghost use Rattle.name_btree.specs.Lookup.{entry_of, StandsIn, IsLastBeside, IsLedTo, IsLedBeside, ShowsAbsent, ShowsNoneAfter, ShowsNoVersion};
 ghost use Rattle.name_page.specs.declared.pages.TheConstants.{MOST_REACHED};
 ghost use Rattle.name_page.specs.Looks.{OnlyReaches, Shows};
 ghost use Rattle.name_page.specs.Pages.{reaches};
@@ -52,7 +52,7 @@ pub(crate) fn entry_in(entries: &Entries, key: &Key) -> Option<Entry>
     None
 }
 
-/// The entry with this key.
+/// The entry with this key. None is told where the leaf at the key has no such entry.
 pub fn find<T: Pages>(t: &mut T, key: &Key) -> Result<Option<FoundEntry>, TreeFault>
     requires { MOST_REACHED ≤ reaches (T.step t.old) }
     ensures calls { OnlyReaches T.Pages (outer_told result) t.old t.new }
@@ -63,6 +63,7 @@ pub fn find<T: Pages>(t: &mut T, key: &Key) -> Result<Option<FoundEntry>, TreeFa
     ensures entry { IfOk result (λ found. IfSome found (λ f. is_entry f.entry ≡ true)) }
     ensures fits { IfOk result (λ found. IfSome found (λ f. FitsEntry f.entry)) }
     ensures key { IfOk result (λ found. IfSome found (λ f. f.entry.key ≡ key.now)) }
+    ensures absent { IfOk result (λ found. IfNone found (ShowsAbsent (T.step t.new) key.now)) }
     ensures found { IfOk result (λ found. T.trusted t.new → (height : ℕ) → IsTree (T.step t.old).images height → entry_of found ≡ entry_with key.now (table_of (T.step t.old).images height)) }
     ensures fault { IfErr result (HasCause (T.step t.new) (BreaksTable (T.step t.new).images) (BarsTable (T.step t.new))) }
     ensures shown { IfErr result (ShowsCause (T.step t.new) BreaksTable IsOnWay) }
@@ -150,6 +151,7 @@ fn last_below<T: Pages>(t: &mut T, previous: Neighbour) -> Result<FoundEntry, Tr
     ensures memory { HasAll T.Pages t.old (met_beside (page_at (T.step t.old).images) (Some previous)) → TakesNone T.Pages (outer_told result) t.old t.new }
     ensures back { HasAll T.Pages t.old (met_beside (page_at (T.step t.old).images) (Some previous)) → IfOk result (λ last. Leads T.Pages (max_height - previous.above) t.new last.entry previous.child) }
     ensures last { IfOk result (λ last. Shows (T.step t.new) (λ pages. EndsWith pages previous.child last.entry)) }
+    ensures beside { IfOk result (λ last. IsLastBeside (T.step t.new) previous last.entry) }
     ensures fault { IfErr result (HasCause (T.step t.new) (BreaksBeside (T.step t.new).images previous) (BarsBeside (T.step t.new) previous)) }
     ensures shown { IfErr result (ShowsCause (T.step t.new) (λ pages. BreaksBeside pages previous) (λ pages. IsBeside pages previous)) }
 {
@@ -175,6 +177,7 @@ fn cut_after(after: Option<&Key>) -> Cut
 }
 
 /// The entry with the least later key. Any key is later than none.
+/// None is told where the leaf at the key has no later entry, and no leaf stands behind it.
 pub fn next_after<T: Pages>(t: &mut T, after: Option<&Key>) -> Result<Option<FoundEntry>, TreeFault>
     requires { MOST_REACHED ≤ reaches (T.step t.old) }
     ensures calls { OnlyReaches T.Pages (outer_told result) t.old t.new }
@@ -184,6 +187,7 @@ pub fn next_after<T: Pages>(t: &mut T, after: Option<&Key>) -> Result<Option<Fou
     ensures way { IfOk result (λ found. IfSome found (IsLedTo (T.step t.new))) }
     ensures entry { IfOk result (λ found. IfSome found (λ f. is_entry f.entry ≡ true)) }
     ensures fits { IfOk result (λ found. IfSome found (λ f. FitsEntry f.entry)) }
+    ensures absent { IfOk result (λ found. IfNone found (ShowsNoneAfter (T.step t.new) (option_copied after.entry))) }
     ensures later { IfOk result (λ found. IfSome found (λ f. is_after (option_copied after.entry) f.entry.key ≡ true)) }
     ensures found { IfOk result (λ found. T.trusted t.new → (height : ℕ) → IsTree (T.step t.old).images height
         → entry_of found ≡ entry_after (option_copied after.entry) (table_of (T.step t.old).images height)) }
@@ -202,7 +206,8 @@ pub fn next_after<T: Pages>(t: &mut T, after: Option<&Key>) -> Result<Option<Fou
     }
 }
 
-/// The entry with the highest version of a name.
+/// The entry with the highest version of a name. None is told where the last entry up to the name, in the leaf at the
+/// name or the one before it, has another name, or there is none.
 pub fn highest<T: Pages>(t: &mut T, name: &FileName) -> Result<Option<FoundEntry>, TreeFault>
     requires { MOST_REACHED ≤ reaches (T.step t.old) }
     ensures calls { OnlyReaches T.Pages (outer_told result) t.old t.new }
@@ -214,6 +219,7 @@ pub fn highest<T: Pages>(t: &mut T, name: &FileName) -> Result<Option<FoundEntry
     ensures fits { IfOk result (λ found. IfSome found (λ f. FitsEntry f.entry)) }
     ensures memory { HasPath T.Pages name.now t.old → TakesNone T.Pages (outer_told result) t.old t.new }
     ensures back { HasPath T.Pages name.now t.old → IfOk result (λ found. IfSome found (λ f. HasWayTo T.Pages f.entry t.new)) }
+    ensures absent { IfOk result (λ found. IfNone found (ShowsNoVersion (T.step t.new) name.now)) }
     ensures name { IfOk result (λ found. IfSome found (λ f. f.entry.key.name ≡ name.now)) }
     ensures found { IfOk result (λ found. T.trusted t.new → (height : ℕ) → IsTree (T.step t.old).images height → entry_of found ≡ highest_of name.now (table_of (T.step t.old).images height)) }
     ensures fault { IfErr result (HasCause (T.step t.new) (BreaksTable (T.step t.new).images) (BarsTable (T.step t.new))) }

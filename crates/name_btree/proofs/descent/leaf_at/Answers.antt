@@ -12,7 +12,7 @@ use Rattle.name_page.specs.Looks.{Shows}
 use Rattle.name_page.specs.Node.{content_of}
 use Rattle.name_page.specs.Pages.{is_spare}
 use Rattle.name_page.proofs.LookLaws.{reaches_still, reaches_then, agrees_at, agrees_now}
-use Rattle.name_btree.proofs.AloneLaws.{alone_begins, alone_down, alone_holds, alone_led, alone_fault, alone_shown, alone_deep}
+use Rattle.name_btree.proofs.AloneLaws.{alone_begins, alone_down, alone_holds, alone_leaf, alone_led, alone_fault, alone_shown, alone_deep}
 use Rattle.name_btree.proofs.descent.leaf_at.Goals as goal
 
 pub loop-init : goal.loop-init
@@ -77,6 +77,14 @@ returns-in-Leaf-clause-holds g c =
     let at : Shows s (λ pages. page_at pages page ≡ Some (Leaf c.in-Leaf.entries)) =
     λ pages is. agrees_at s pages page c.in_ok-read_child.ensures.reached used is ∙ c.in_ok-read_child.ensures.node ∙ ap (λ (n : Node). Some (content_of n)) c.in-Leaf.is in
     alone_holds c.args.key.now (g.T.Pages.step c.loop.t) s c.loop.counter c.loop.child calls.looks c.loop.invariant.way c.in-Leaf.entries at
+
+pub returns-in-Leaf-clause-at : goal.returns-in-Leaf-clause-at
+returns-in-Leaf-clause-at g c =
+    let s = g.T.Pages.step c.read_child.new.t in
+    let page : ℕ = c.loop.child.page in
+    let e = c.in_ok-read_child.ensures in
+    let used : is_spare s.spares page ≡ false = ap (λ (x : List Bool). is_spare x page) e.calls.looks.spares ∙ e.used in
+    alone_leaf c.args.key.now (g.T.Pages.step c.loop.t) s c.loop.counter c.loop.child e.calls.looks c.loop.invariant.way c.in-Leaf.entries e.reached used (e.node ∙ ap (λ (n : Node). Some (content_of n)) c.in-Leaf.is)
 
 pub returns-clause-fault : goal.returns-clause-fault
 returns-clause-fault g c =

@@ -12,6 +12,7 @@ use Rattle.name_page.specs.Looks.{Agrees, Shows}
 use Rattle.name_page.specs.Pages.{is_spare}
 use Rattle.name_page.proofs.CutLaws.{cuts_monotone}
 use Rattle.name_btree.proofs.DescentLaws.{IsOnWay, way_begins, way_down, way_ends}
+use Rattle.name_btree.proofs.DownLaws.{down_begins, down_goes, IsDownWay}
 use Rattle.name_btree.proofs.LookupLaws.{Narrows, way_narrows, leaf_least}
 use Rattle.name_btree.proofs.PathLaws.{IsPath, path_begins, path_down, path_ends}
 use Rattle.name_btree.proofs.VisitedLaws.{IsVisitedWay, visited_down, misfit_below, shown_below, deep_below, deep_shown}
@@ -38,6 +39,7 @@ loop-above-init g c =
       path = λ pages is. path_begins c.args.cut.now pages c.args.start;
       way = λ pages is. subst (λ (n : ℕ). IsOnWay before pages c.args.start n way) none (way_begins before pages c.args.start);
       visited = λ pages is v. (v, (tt, tt));
+      down = down_begins (g.T.Pages.step c.args.t.now) before c.args.above c.args.start;
       memory = λ has. met_begins g.T.Pages before c.args.t.now c.args.above c.args.start has;
       back = λ has. back_begins g.T.Pages c.args.above c.args.start c.args.t.now;
       again = λ e same h. h;
@@ -106,6 +108,22 @@ returns-in-Leaf-clause-beside g c = λ pages is v.
     let before = agrees_before (g.T.Pages.step c.loop-above.t) (g.T.Pages.step c.child_node.new.t) pages c.in_ok-child_node.ensures.calls.looks is in
     (c.loop-above.invariant.visited pages before v).1
 
+pub returns-in-Leaf-clause-from : goal.returns-in-Leaf-clause-from
+returns-in-Leaf-clause-from g c =
+    let s = g.T.Pages.step c.child_node.new.t in
+    let is = c.loop-above.invariant in
+    let old : (pages : List (List ℕ)) → Agrees pages s → Agrees pages (g.T.Pages.step c.loop-above.t) = λ pages agrees. agrees_before (g.T.Pages.step c.loop-above.t) s pages c.in_ok-child_node.ensures.calls.looks agrees in (
+      c.loop-above.way.child,
+      record {
+        page = refl;
+        below = c.loop-above.above;
+        way = λ pages agrees. is.down.way pages (old pages agrees);
+        path = λ pages agrees v. (is.visited pages (old pages agrees) v).0;
+        low = is.down.low;
+        high = is.down.high;
+      },
+    )
+
 pub loop-above-preserved : goal.loop-above-preserved
 loop-above-preserved g c =
     let s = g.T.Pages.step c.child_node.new.t in
@@ -142,6 +160,7 @@ loop-above-preserved g c =
           (way_down before (cuts_monotone c.args.cut.now) pages start gone (above + 1) w ways.0 ways.1 (at pages seen) (c.loop-above.invariant.way pages (old pages seen))));
       visited = λ pages seen. subst (λ (x : Way). IsVisitedWay pages c.args.above start (above + 1) x) is
           (visited_down before pages c.args.above start above w ways.0 ways.1 (at pages seen) c.loop-above-test.true (c.loop-above.invariant.visited pages (old pages seen)));
+      down = subst (IsDownWay s before c.args.above start (above + 1)) is (down_goes (g.T.Pages.step c.loop-above.t) s before c.args.above start above w ways.0 ways.1 c.in_ok-child_node.ensures.calls.looks at c.loop-above.invariant.down);
       memory = λ has. subst (λ (x : Way). IsMet P before first (above + 1) x mid) is (met_down P before first above w c.loop-above.t low (c.loop-above.invariant.memory has) mid (takes has) ways.0 ways.1 here);
       back = λ has. subst (λ (x : Way). IsBack P c.args.above start (above + 1) x mid) is
           (back_down P c.args.above start above w c.loop-above.t mid low (takes has) (c.loop-above.invariant.back has) before ways.0 ways.1

@@ -5,6 +5,7 @@ use Rattle.name_page.specs.declared.cut.Cut.TheVariants.{UpTo}
 use Rattle.name_btree.specs.Path.{HasMet, Leads}
 use Rattle.name_btree.proofs.LeadLaws.{IsBack, IsMet}
 use Rattle.name_btree.proofs.DescentLaws.{IsOnWay}
+use Rattle.name_btree.proofs.DownLaws.{IsDownWay}
 use Rattle.name_btree.proofs.LookupLaws.{Narrows}
 use Rattle.name_btree.proofs.PathLaws.{IsPath}
 use Rattle.name_btree.proofs.VisitedLaws.{IsVisitedWay}
@@ -24,6 +25,7 @@ invariant-loop-above g l = record {
   path : Shows (g.T.Pages.step l.t) (λ pages. IsPath l.cut pages l.fn.start l.way.child);
   way : Shows (g.T.Pages.step l.t) (λ pages. IsOnWay (is_before l.cut) pages l.fn.start (l.above - l.fn.above) l.way);
   visited : Shows (g.T.Pages.step l.t) (λ pages. IsVisitedWay pages l.fn.above l.fn.start l.above l.way);
+  down : IsDownWay (g.T.Pages.step l.t) (is_before l.cut) l.fn.above l.fn.start l.above l.way;
   memory : HasMet g.T.Pages l.fn.above (is_before l.cut) l.fn.start l.fn.t → IsMet g.T.Pages (is_before l.cut) l.fn.t l.above l.way l.t;
   back : HasMet g.T.Pages l.fn.above (is_before l.cut) l.fn.start l.fn.t → IsBack g.T.Pages l.fn.above l.fn.start l.above l.way l.t;
   again : (e : Entry) → l.cut ≡ UpTo e.key → Leads g.T.Pages (max_height - l.fn.above) l.fn.t e l.fn.start → Leads g.T.Pages (max_height - l.above) l.fn.t e l.way.child;

@@ -46,6 +46,12 @@ returns-in-None-clause-found g c = λ trusted.
     let holds : P (g.T.Pages.step c.args.t.now).images = shows_trusted g.T.Pages P c.args.t.now c.leaf_at.new.t c.in_ok-found.ensures.calls c.in_ok-found.ensures.holds trusted in
     λ height t. sym c.in-None.is ∙ c.entry_in.ensures.with ∙ holds height t
 
+-- the leaf at the key was reached, and no entry of it has the key
+pub returns-in-None-clause-absent : goal.returns-in-None-clause-absent
+returns-in-None-clause-absent g c =
+    let at = c.in_ok-found.ensures.at in
+    record { leaf = at.0; entries = c.in_ok-found.found.entries; at = at.2; none = sym c.entry_in.ensures.with ∙ c.in-None.is }
+
 pub returns-in_err-found-clause-fault : goal.returns-in_err-found-clause-fault
 returns-in_err-found-clause-fault g c =
     let p = err_from_is_err_and c.from_residual.result c.from_residual.ensures.1 in

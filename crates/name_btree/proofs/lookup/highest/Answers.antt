@@ -1,10 +1,12 @@
-use Rattle.std.proofs.Common.{◌≡◌, ◌∙◌, ◌-◌, length, sym, ap, subst, List, ℕ, Option, Some}
+use Rattle.std.proofs.Common.{◌≡◌, ◌∙◌, ◌⊎◌, ◌-◌, inl, inr, length, refl, sym, ap, subst, false, List, ℕ, Option, Some, None}
 use Rattle.std.specs.Prelude.{IfSome}
+use Rattle.std.specs.Option.{MatchOption}
 use Rattle.std.proofs.lemmas.Option.{IfSome_then}
 use Rattle.fsd_formats.specs.declared.entry.Entry.{Entry}
 use Rattle.fsd_formats.specs.NamePage.{FitsEntry}
 use Rattle.name_btree.specs.declared.lookup.FoundEntry.{FoundEntry}
-use Rattle.name_btree.specs.Lookup.{IsLedBeside, IsLedTo, StandsIn}
+use Rattle.name_btree.specs.Lookup.{BeginsBeside, HasOtherLeft, IsLastBeside, IsLeafBy, IsLedBeside, IsLedTo, ShowsNoVersion, StandsIn}
+use Rattle.name_btree.proofs.DownLaws.{leaf_by, leaf_later, other_left, unless_named}
 use Rattle.name_btree.proofs.LookupLaws.{last_contains, stands_in, good_entry, led_to, led_previous, if_named, named_entry, one_name}
 use Rattle.fsd_table.specs.declared.child.Child.{Child}
 use Rattle.name_page.specs.declared.cut.Cut.TheVariants.{Named}
@@ -129,6 +131,63 @@ pub returns-in_ok-last_below-in-Some-previous-clause-name : goal.returns-in_ok-l
 returns-in_ok-last_below-in-Some-previous-clause-name g c =
     let f = c.in_ok-last_below-in-Some-previous.field-0 in
     if_named (λ x. x.entry.key.name ≡ c.args.name.now) f (same_name f.entry.key.name c.args.name.now) c.named-in-Some-previous.result c.named-in-Some-previous.ensures (one_name f.entry.key.name c.args.name.now)
+
+-- ---- where nothing is found
+
+pub returns-in-Some-clause-absent : goal.returns-in-Some-clause-absent
+returns-in-Some-clause-absent g c =
+    let s = g.T.Pages.step c.leaf_below.new.t in
+    let name = c.args.name.now in
+    let found = c.in_ok-found.found in
+    let e = c.in_ok-found.ensures in
+    let leaf : Child = e.from.0 in
+    let f : FoundEntry = record { entry = c.in-Some.entry; page = found.page } in
+    let at = leaf_by (g.T.Pages.step c.args.t.now) s (is_before (Named c.copied.result)) 0 c.top.result found e.reached e.used e.calls.looks.spares e.leaf leaf e.from.1 refl c.top.ensures in
+    let last = ap (λ (n : List ℕ). last_that (λ x. is_before (Named n) x.key) found.entries) (sym c.copied.ensures) ∙ sym c.last_before.ensures.last ∙ c.in-Some.is in
+    unless_named (ShowsNoVersion s name) f (same_name f.entry.key.name name) c.named.result c.named.ensures (λ other. record {
+      leaf = leaf;
+      entries = found.entries;
+      at = subst (λ (n : List ℕ). IsLeafBy s (is_before (Named n)) leaf found.entries) c.copied.ensures at;
+      other = subst (λ (o : Option Entry). MatchOption o ((leaf.low ≡ None) ⊎ HasOtherLeft s name leaf) (λ x. same_name x.key.name name ≡ false)) (sym last) other;
+    })
+
+pub returns-in_ok-last_below-in-Some-previous-clause-absent : goal.returns-in_ok-last_below-in-Some-previous-clause-absent
+returns-in_ok-last_below-in-Some-previous-clause-absent g c =
+    let mid = g.T.Pages.step c.leaf_below.new.t in
+    let s = g.T.Pages.step c.last_below.new.t in
+    let name = c.args.name.now in
+    let found = c.in_ok-found.found in
+    let e = c.in_ok-found.ensures in
+    let second = c.in_ok-last_below-in-Some-previous.ensures in
+    let leaf : Child = e.from.0 in
+    let f = c.in_ok-last_below-in-Some-previous.field-0 in
+    let at = leaf_by (g.T.Pages.step c.args.t.now) mid (is_before (Named c.copied.result)) 0 c.top.result found e.reached e.used e.calls.looks.spares e.leaf leaf e.from.1 refl c.top.ensures in
+    let last = ap (λ (n : List ℕ). last_that (λ x. is_before (Named n) x.key) found.entries) (sym c.copied.ensures) ∙ sym c.last_before.ensures.last ∙ c.in_default.is in
+    let beside = subst (λ (n : Neighbour). IsLastBeside s n f.entry) c.in-Some-previous.previous-is second.beside in
+    unless_named (ShowsNoVersion s name) f (same_name f.entry.key.name name) c.named-in-Some-previous.result c.named-in-Some-previous.ensures (λ other. record {
+      leaf = leaf;
+      entries = found.entries;
+      at = subst (λ (n : List ℕ). IsLeafBy s (is_before (Named n)) leaf found.entries) c.copied.ensures (leaf_later mid s (is_before (Named c.copied.result)) leaf found.entries second.calls.looks at);
+      other = subst (λ (o : Option Entry). MatchOption o ((leaf.low ≡ None) ⊎ HasOtherLeft s name leaf) (λ x. same_name x.key.name name ≡ false)) (sym last)
+          (inr (other_left mid s name c.top.result leaf found c.in-Some-previous.previous f.entry c.top.ensures second.calls.looks e.beside c.in-Some-previous.is e.from.1.low beside other));
+    })
+
+pub returns-in-None-clause-absent : goal.returns-in-None-clause-absent
+returns-in-None-clause-absent g c =
+    let s = g.T.Pages.step c.leaf_below.new.t in
+    let name = c.args.name.now in
+    let found = c.in_ok-found.found in
+    let e = c.in_ok-found.ensures in
+    let leaf : Child = e.from.0 in
+    let at = leaf_by (g.T.Pages.step c.args.t.now) s (is_before (Named c.copied.result)) 0 c.top.result found e.reached e.used e.calls.looks.spares e.leaf leaf e.from.1 refl c.top.ensures in
+    let last = ap (λ (n : List ℕ). last_that (λ x. is_before (Named n) x.key) found.entries) (sym c.copied.ensures) ∙ sym c.last_before.ensures.last ∙ c.in_default.is in
+    let first : leaf.low ≡ None = subst (λ (o : Option Neighbour). BeginsBeside c.top.result.low o leaf.low) c.in-None.is e.from.1.low ∙ ap (λ (d : Child). d.low) c.top.ensures in
+    record {
+      leaf = leaf;
+      entries = found.entries;
+      at = subst (λ (n : List ℕ). IsLeafBy s (is_before (Named n)) leaf found.entries) c.copied.ensures at;
+      other = subst (λ (o : Option Entry). MatchOption o ((leaf.low ≡ None) ⊎ HasOtherLeft s name leaf) (λ x. same_name x.key.name name ≡ false)) (sym last) (inl first);
+    }
 
 pub returns-in_err-found-clause-fault : goal.returns-in_err-found-clause-fault
 returns-in_err-found-clause-fault g c =

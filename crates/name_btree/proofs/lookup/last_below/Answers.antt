@@ -1,8 +1,13 @@
-use Rattle.std.proofs.Common.{◌≡◌, ◌∙◌, ◌<◌, ◌-◌, Bool, List, false, length, ap, arith}
+use Rattle.std.proofs.Common.{◌≡◌, ◌∙◌, ◌<◌, ◌+◌, ◌-◌, Bool, List, false, length, take, ap, subst, arith}
 use Rattle.name_page.specs.Pages.{is_spare}
 use Rattle.name_page.proofs.LookLaws.{agrees_at}
 use Rattle.name_btree.proofs.LookupLaws.{contains_at, stands_in}
-use Rattle.name_btree.proofs.NextLaws.{ends, empty_is, leaf_has_entries}
+use Rattle.name_btree.proofs.NextLaws.{ends, empty_is, last_is, leaf_has_entries}
+use Rattle.name_btree.proofs.DownLaws.{ends_last, leaf_read}
+use Rattle.name_page.specs.Cut.{is_before}
+use Rattle.name_btree.specs.Lookup.{IsReadLeaf}
+use Rattle.name_page.specs.declared.cut.Cut.TheVariants.{End}
+use Rattle.fsd_table.specs.declared.child.Child.{Child}
 use Rattle.std.proofs.lemmas.Result.{err_from_is_err_and}
 use Rattle.name_btree.proofs.VisitedLaws.{root_above, neighbour_breaks, shown_beside}
 use Rattle.name_btree.proofs.lookup.last_below.Goals as goal
@@ -36,6 +41,27 @@ returns-clause-there g c =
     let leaf = c.in_ok-found.found in
     stands_in (g.T.Pages.step c.args.t.now) (g.T.Pages.step c.leaf_below.new.t) leaf.page leaf.entries c.get.result e.reached e.used e.calls.looks.spares e.leaf
     (contains_at leaf.entries (c.len-count.result - 1) c.get.result c.get.ensures.there)
+
+pub returns-clause-beside : goal.returns-clause-beside
+returns-clause-beside g c =
+    let old = g.T.Pages.step c.args.t.now in
+    let s = g.T.Pages.step c.leaf_below.new.t in
+    let n = c.args.previous in
+    let found = c.in_ok-found.found in
+    let e = c.in_ok-found.ensures in
+    let leaf : Child = e.from.0 in
+    let led = e.from.1 in
+    let count = c.len-count.result in
+    let some : 0 < count = omega arith in
+    record {
+      leaf = leaf;
+      rest = take (count - 1) found.entries;
+      is_read = subst (IsReadLeaf s leaf) (last_is found.entries count c.get.result c.len-count.ensures.value some c.get.ensures.there)
+          (leaf_read old s (is_before End) n.above n.child found e.reached e.used e.calls.looks.spares e.leaf leaf led);
+      depth = led.below + 1;
+      path = λ pages agrees is. led.path pages agrees is.1;
+      high = ends_last found.next n.child.high leaf.high e.next led.high;
+    }
 
 pub returns-clause-way : goal.returns-clause-way
 returns-clause-way g c = λ pages is there. c.in_ok-found.ensures.way pages is there.1

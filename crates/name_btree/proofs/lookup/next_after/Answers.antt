@@ -1,20 +1,22 @@
-use Rattle.std.proofs.Common.{◌≡◌, ◌∙◌, length, sym, subst, true, not, List, ℕ, Option}
+use Rattle.std.proofs.Common.{◌≡◌, ◌∙◌, length, refl, sym, subst, true, not, ap, List, ℕ, Option}
 use Rattle.std.specs.Prelude.{IfSome}
 use Rattle.fsd_formats.specs.declared.entry.Entry.{Entry}
 use Rattle.fsd_formats.specs.NamePage.{FitsEntry}
 use Rattle.fsd_table.specs.Pages.{not_below}
-use Rattle.name_btree.specs.Lookup.{BeginsBehind, IsLedBeside}
+use Rattle.name_btree.specs.Lookup.{BeginsBehind, EndsBeside, IsLeafBy, IsLedBeside}
+use Rattle.name_btree.proofs.DownLaws.{leaf_by}
 use Rattle.name_btree.proofs.LookupLaws.{find_contains, stands_in, good_entry, led_to, led_next, later_in_leaf, later_in_next}
 use Rattle.std.specs.Option.{option_copied}
 use Rattle.fsd_table.specs.declared.child.Child.{Child}
 use Rattle.fsd_table.specs.Table.{top}
 use Rattle.name_page.specs.Cut.{is_before}
+use Rattle.name_page.specs.declared.cut.Cut.{Cut}
 use Rattle.name_btree.specs.declared.descent.Neighbour.{Neighbour}
 use Rattle.name_page.specs.Looks.{Shows}
 use Rattle.name_page.proofs.LookLaws.{reaches_then, shows_trusted, agrees_before, agrees_now}
 use Rattle.name_btree.specs.Fault.{HasCause, BreaksBeside, BarsBeside, BarsTable, IsBeside, ShowsCause}
 use Rattle.name_btree.specs.Descent.{IsPlace, BeginsWith}
-use Rattle.name_btree.proofs.NextLaws.{next_in_leaf, next_at_end, next_in_next}
+use Rattle.name_btree.proofs.NextLaws.{cut_tests, next_in_leaf, next_at_end, next_in_next}
 use Rattle.std.proofs.lemmas.Result.{err_from_is_err_and}
 use Rattle.name_btree.proofs.VisitedLaws.{shown_next, shown_top, top_breaks, next_breaks}
 use Rattle.name_btree.proofs.WithinLaws.{fails_among}
@@ -59,6 +61,26 @@ returns-in-None-clause-found g c = λ trusted.
     let P : Child → Type 0 = λ (d : Child). IsPlace (is_before cut) pages d found in
     let place : P top = subst P c.top.ensures seen in
     next_at_end (option_copied c.args.after) cut pages found c.cut_after-cut.ensures c.in-None.is place (sym c.first_behind.ensures.first ∙ c.in_default.is)
+
+-- the leaf behind the key was reached, which is the last, and no entry of it is after the key
+pub returns-in-None-clause-absent : goal.returns-in-None-clause-absent
+returns-in-None-clause-absent g c =
+    let old = g.T.Pages.step c.args.t.now in
+    let s = g.T.Pages.step c.leaf_below.new.t in
+    let after = option_copied c.args.after in
+    let found = c.in_ok-found.found in
+    let cut = c.cut_after-cut.result in
+    let e = c.in_ok-found.ensures in
+    let leaf : Child = e.from.0 in
+    let led = e.from.1 in
+    let at = leaf_by old s (is_before cut) 0 c.top.result found e.reached e.used e.calls.looks.spares e.leaf leaf led refl c.top.ensures in
+    record {
+      leaf = leaf;
+      entries = found.entries;
+      at = subst (λ (k : Cut). IsLeafBy s (is_before k) leaf found.entries) c.cut_after-cut.ensures at;
+      last = subst (λ (o : Option Neighbour). EndsBeside c.top.result.high o leaf.high) c.in-None.is led.high ∙ ap (λ (d : Child). d.high) c.top.ensures;
+      none = sym (cut_tests after cut c.cut_after-cut.ensures found.entries) ∙ sym c.first_behind.ensures.first ∙ c.in_default.is;
+    }
 
 pub returns-in-Some-clause-there : goal.returns-in-Some-clause-there
 returns-in-Some-clause-there g c =
