@@ -45,7 +45,7 @@ pub record IsHoming (log : LogValue) (records : List Placed) (disk : List (List 
   pub size : length image ≡ length old.image
   pub outside : (s : ℕ) → (MayWrite log.layout s → ⊥) → sector_at image s ≡ sector_at old.image s
 
--- The window's run is narrow.
+-- No two sectors of the window but neighbours are weak.
 pub record MayHome (log : LogValue) (windows : List WeakRun) (old : Moment) : Type 0 where
   pub planned : plan log.layout.sectors log.layout.third log.layout.pages ≡ Ok log.layout
   pub shape : FitsLayout log

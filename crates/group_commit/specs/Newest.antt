@@ -25,8 +25,8 @@ newest_by log i page = if nat_lt page log.layout.pages then newest log.layout i 
 abbrev pub KnowsImages : LogValue → Image → Type 0
 KnowsImages log i = IsIndexed log (records_by log.layout i log.anchor)
 
--- The disk shows these pages in the window of this moment, whose run is narrow;
--- the log is its own, and knows where each page's last image lies.
+-- The disk shows these pages in the window of this moment, of which no two sectors but neighbours are weak; the log is
+-- its own, and knows where each page's last image lies.
 pub record KnowsPages (log : LogValue) (at : Moment) : Type 0 where
   pub windows : List WeakRun
   pub ends : EndIn at.windows windows

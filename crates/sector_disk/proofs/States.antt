@@ -31,7 +31,7 @@ use Rattle.std.proofs.lemmas.List.Sums.{sum_by-append}
 
 -- A REFUSED CALL
 
-pub refused_state : (old new : MemoryMachine) → Refuses old new → Rests (memory_state old) (memory_state new)
+pub refused_state : (old new : MemoryMachine) → Refuses old new → Rests same (memory_state old) (memory_state new)
 refused_state old new refused = elim refused.cause [
   | inl stopped ↦ inl (stopped.0, at stopped.1)
   | inr starved ↦ inr (starved.0, at starved.1)
@@ -109,13 +109,13 @@ pub quiet_state : (settle : Bool) (old new : MemoryMachine) → Notes settle Qui
 quiet_state settle old new call = noted_state settle Quiet old new call ∙ plain settle (memory_state old)
 
 -- by what the call answers
-pub quiet_calls : (settle : Bool) (old new : MemoryMachine) (r : Result Unit Failed) → OnOk r (Notes settle Quiet old new) → OnErr r (Failing settle Quiet old new) → OnOk r (call_goes (memory_state old) ≡ true) → Calls settle same (memory_state old) (memory_state new) (is_ok r)
+pub quiet_calls : (settle : Bool) (old new : MemoryMachine) (r : Result Unit Failed) → OnOk r (Notes settle Quiet old new) → OnErr r (Failing settle Quiet old new) → OnOk r (call_goes (memory_state old) ≡ true) → Calls settle same same (memory_state old) (memory_state new) (is_ok r)
 quiet_calls settle old new (Ok x) ok err goes = record { running = ok.running; goes = goes; after = quiet_state settle old new ok }
 quiet_calls settle old new (Err e) ok (inl refused) goes = inl (refused_state old new refused)
 quiet_calls settle old new (Err e) ok (inr failed) goes = inr (record { running = failed.0.running; goes = failed.1; after = quiet_state settle old new failed.0 })
 
 -- a call that fails, by its work
-pub failed_exactly : (settle : Bool) (work : Work) (old new : MemoryMachine) (done after : State) → noted_by settle work (memory_state old) ≡ after → Failing settle work old new → Exactly (call_goes (memory_state old)) done after (memory_state old) (memory_state new) false
+pub failed_exactly : (settle : Bool) (work : Work) (old new : MemoryMachine) (done after : State) → noted_by settle work (memory_state old) ≡ after → Failing settle work old new → Exactly (call_goes (memory_state old)) done after same (memory_state old) (memory_state new) false
 failed_exactly settle work old new done after is (inl refused) = inl (refused_state old new refused)
 failed_exactly settle work old new done after is (inr failed) = inr (record { running = failed.0.running; goes = failed.1; after = noted_state settle work old new failed.0 ∙ is })
 
@@ -125,18 +125,18 @@ failed_exactly settle work old new done after is (inr failed) = inr (record { ru
 pub room_state : (old : MemoryMachine) (said : Vec ℕ Global) → said.items ≡ old.said.items → memory_state (record old { said = said }) ≡ memory_state old
 room_state old said is = λ i. record (memory_state old) { now = record { image = old.image.items; windows = record { present = old.present; next = old.next }; said = is i } }
 
-pub said_none : (bytes : List ℕ) (old : MemoryMachine) (said copy : Vec ℕ Global) (new : MemoryMachine) → said.items ≡ old.said.items → Failing false (Saying copy) (record old { said = said }) new → Calls false (spoken bytes) (memory_state old) (memory_state new) false
+pub said_none : (bytes : List ℕ) (old : MemoryMachine) (said copy : Vec ℕ Global) (new : MemoryMachine) → said.items ≡ old.said.items → Failing false (Saying copy) (record old { said = said }) new → Calls false (spoken bytes) same (memory_state old) (memory_state new) false
 said_none bytes old said copy new is failed =
     let ready : MemoryMachine = record old { said = said } in
-    subst (λ (s : State). Calls false (spoken bytes) s (memory_state new) false) (room_state old said is)
+    subst (λ (s : State). Calls false (spoken bytes) same s (memory_state new) false) (room_state old said is)
     (failed_exactly false (Saying copy) ready new (spoken bytes (noted false (memory_state ready))) (noted false (memory_state ready)) (plain false (memory_state ready)) failed)
 
 pub said_all : (bytes : List ℕ) (old : MemoryMachine) (said copy : Vec ℕ Global) (new end : MemoryMachine) → said.items ≡ old.said.items → Notes false (Saying copy) (record old { said = said }) new → call_goes (memory_state (record old { said = said })) ≡ true
-    → end ≡ record new { said = end.said } → end.said.items ≡ new.said.items ++ bytes → Calls false (spoken bytes) (memory_state old) (memory_state end) true
+    → end ≡ record new { said = end.said } → end.said.items ≡ new.said.items ++ bytes → Calls false (spoken bytes) same (memory_state old) (memory_state end) true
 said_all bytes old said copy new end is call goes rest all =
     let ready : MemoryMachine = record old { said = said } in
     let after : memory_state end ≡ spoken bytes (memory_state new) = ap memory_state rest ∙ (λ i. record (memory_state new) { now = record { image = new.image.items; windows = record { present = new.present; next = new.next }; said = all i } }) in
-    subst (λ (s : State). Calls false (spoken bytes) s (memory_state end) true) (room_state old said is) (record {
+    subst (λ (s : State). Calls false (spoken bytes) same s (memory_state end) true) (room_state old said is) (record {
       running = call.running;
       goes = goes;
       after = after ∙ ap (spoken bytes) (noted_state false (Saying copy) ready new call ∙ plain false (memory_state ready));
@@ -153,19 +153,19 @@ asking (Writing first bytes olds done) image text how s is = absurd is
 asking (Saying bytes) image text how s is = absurd is
 asking Quiet image text how s is = absurd is
 
-pub unopened : (work : Work) (image : List Sector) (text : List ℕ) (how : Attach) (old new : MemoryMachine) → IsAttaching image text how work → Failing false work old new → Attached text how (memory_state old) (memory_state new) false
+pub unopened : (work : Work) (image : List Sector) (text : List ℕ) (how : Attach) (old new : MemoryMachine) → IsAttaching image text how work → Failing false work old new → Attached text how same (memory_state old) (memory_state new) false
 unopened work image text how old new is failed =
     failed_exactly false work old new (opened how (asked text how (noted false (memory_state old)))) (asked text how (noted false (memory_state old))) (asking work image text how (memory_state old) is) failed
 
 pub found_state : (work : Work) (image : List Sector) (text : List ℕ) (old new : MemoryMachine) → IsAttaching image text Old work → Notes false work old new → call_goes (memory_state old) ≡ true
-    → Attached text Old (memory_state old) (memory_state (record new { next = None; attached = true })) true
+    → Attached text Old same (memory_state old) (memory_state (record new { next = None; attached = true })) true
 found_state work image text old new is call goes = record { running = call.running; goes = goes; after = ap (opened Old) (noted_state false work old new call ∙ asking work image text Old (memory_state old) is) }
 
 pub made_state : (work : Work) (image : List Sector) (text : List ℕ) (count : ℕ) (fresh : Vec Sector Global) (old new : MemoryMachine) → IsAttaching image text (New count) work → fresh.items ≡ replicate count Damaged → Notes false work old new → call_goes (memory_state old) ≡ true
-    → Attached text (New count) (memory_state old) (memory_state (record new { next = None; present = None; attached = true; image = fresh })) true
+    → Attached text (New count) same (memory_state old) (memory_state (record new { next = None; present = None; attached = true; image = fresh })) true
 made_state work image text count fresh old new is made call goes =
     let fresh_is : memory_state (record new { next = None; present = None; attached = true; image = fresh }) ≡ opened (New count) (memory_state new) =
-    λ i. record (memory_state new) { now = record { image = made i; windows = record { present = None; next = None }; said = new.said.items } } in
+    λ i. record (memory_state new) { now = record { image = made i; windows = record { present = None; next = None }; said = new.said.items }; attached = true } in
     record { running = call.running; goes = goes; after = fresh_is ∙ ap (opened (New count)) (noted_state false work old new call ∙ asking work image text (New count) (memory_state old) is) }
 
 -- A WRITE
@@ -204,7 +204,7 @@ put_state work first text some done stops old new end is call image written rest
 
 pub put_exactly : (work : Work) (first : ℕ) (text : List ℕ) (some : ℕ) (done stops : Bool) (old new end : MemoryMachine) → IsWriting old.image.items first text some done work → Notes false work old new → end.image.items ≡ stand new.image.items first text some
     → end.written ≡ min (new.written + some) (2 ^ 64 - 1) → end ≡ record new { image = end.image; written = end.written; stopped = stops }
-    → Exactly done (put first text some done stops (noted false (memory_state old))) (put first text some done stops (noted false (memory_state old))) (memory_state old) (memory_state end) done
+    → Exactly done (put first text some done stops (noted false (memory_state old))) (put first text some done stops (noted false (memory_state old))) same (memory_state old) (memory_state end) done
 put_exactly work first text some true stops old new end is call image written rest = record { running = call.running; goes = refl; after = put_state work first text some true stops old new end is call image written rest }
 put_exactly work first text some false stops old new end is call image written rest = inr (record { running = call.running; goes = refl; after = put_state work first text some false stops old new end is call image written rest })
 
@@ -249,13 +249,27 @@ by_ok (Ok x) P ok is = is
 by_ok (Err e) P ok is = absurd (cc ok)
 
 -- and the call does more than its part
-pub then_does : (settle : Bool) (does : State → State) (old new end : State) → Calls settle same old new true → end ≡ does new → Calls settle does old end true
-then_does settle does old new end call is = record { running = call.running; goes = call.goes; after = is ∙ ap does call.after }
+pub then_does : (settle : Bool) (does fault : State → State) (old new end : State) → Calls settle same same old new true → end ≡ does new → Calls settle does fault old end true
+then_does settle does fault old new end call is = record { running = call.running; goes = call.goes; after = is ∙ ap does call.after }
+
+-- or fails, and its fault is counted
+pub then_fails : (going : Bool) (done failed : State) (fault : State → State) (old new end : State) → Exactly going done failed same old new false → end ≡ fault new → Exactly going done failed fault old end false
+then_fails going done failed fault old new end (inl (inl stopped)) is = inl (inl (stopped.0, is ∙ ap fault stopped.1))
+then_fails going done failed fault old new end (inl (inr starved)) is = inl (inr (starved.0, is ∙ ap fault starved.1))
+then_fails going done failed fault old new end (inr runs) is = inr (record { running = runs.running; goes = runs.goes; after = is ∙ ap fault runs.after })
+
+-- a call that isn't a write
+pub call_fails : (settle : Bool) (does fault : State → State) (old new end : State) → Calls settle same same old new false → end ≡ fault new → Calls settle does fault old end false
+call_fails settle does fault old new end call is = then_fails (call_goes old) (does (noted settle old)) (noted settle old) fault old new end call is
+
+-- an attach
+pub attach_fails : (text : List ℕ) (how : Attach) (fault : State → State) (old new end : State) → Attached text how same old new false → end ≡ fault new → Attached text how fault old end false
+attach_fails text how fault old new end call is = then_fails (call_goes old) (opened how (asked text how (noted false old))) (asked text how (noted false old)) fault old new end call is
 
 -- a write, by the parts of its verdict
-pub written_as : (first : ℕ) (text : List ℕ) (some : ℕ) (goes stops : Bool) (verdict : Verdict) (old new : State) (ok : Bool) → some ≡ stood_by verdict (length text / 512) → goes ≡ is_going verdict → stops ≡ is_stop verdict → verdict ≡ write_verdict first (length text / 512) old
-    → Exactly goes (put first text some goes stops (noted false old)) (put first text some goes stops (noted false old)) old new ok → Written first text old new ok
-written_as first text some goes stops verdict old new ok some_is goes_is stops_is verdict_is exact =
-    let By : ℕ → Bool → Bool → Type 0 = λ (n : ℕ) (g s : Bool). Exactly g (put first text n g s (noted false old)) (put first text n g s (noted false old)) old new ok in
+pub written_as : (first : ℕ) (text : List ℕ) (some : ℕ) (goes stops : Bool) (verdict : Verdict) (fault : State → State) (old new : State) (ok : Bool) → some ≡ stood_by verdict (length text / 512) → goes ≡ is_going verdict → stops ≡ is_stop verdict → verdict ≡ write_verdict first (length text / 512) old
+    → Exactly goes (put first text some goes stops (noted false old)) (put first text some goes stops (noted false old)) fault old new ok → Written first text fault old new ok
+written_as first text some goes stops verdict fault old new ok some_is goes_is stops_is verdict_is exact =
+    let By : ℕ → Bool → Bool → Type 0 = λ (n : ℕ) (g s : Bool). Exactly g (put first text n g s (noted false old)) (put first text n g s (noted false old)) fault old new ok in
     let by_verdict = subst (λ (n : ℕ). By n (is_going verdict) (is_stop verdict)) some_is (subst (λ (g : Bool). By some g (is_stop verdict)) goes_is (subst (λ (s : Bool). By some goes s) stops_is exact)) in
-    subst (λ (v : Verdict). Exactly (is_going v) (put_by v first text (noted false old)) (put_by v first text (noted false old)) old new ok) verdict_is by_verdict
+    subst (λ (v : Verdict). Exactly (is_going v) (put_by v first text (noted false old)) (put_by v first text (noted false old)) fault old new ok) verdict_is by_verdict

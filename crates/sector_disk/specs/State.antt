@@ -23,20 +23,34 @@ pub record Line : Type 0 where
 abbrev pub next_run : Line → WeakRun
 next_run line = run_at line.runs (line.named + 1)
 
+-- one more, but not past the last value of a count
+abbrev pub one_more : ℕ → ℕ
+one_more n = min (n + 1) (2 ^ 64 - 1)
+
 -- the line after a healing
 abbrev pub moved_on : Line → Line
-moved_on line = record { runs = line.runs; named = min (line.named + 1) (2 ^ 64 - 1) }
+moved_on line = record { runs = line.runs; named = one_more line.named }
 
 -- the line before any healing
 abbrev pub from_first : List WeakRun → Line
 from_first runs = record { runs = runs; named = 0 }
 
--- All of a machine but its counts of faults: what is there, what was asked, what is to happen, how many calls were
--- noted, how many writes have begun at each sector, how many sectors writes have put, whether it has stopped, whether
--- the hurts lay in the windows and the runs before the last call were short, and how often a growth was refused.
+-- How often the disk, the input and the output have failed, and the place of the disk's last fault.
+pub record Faults : Type 0 where
+  pub place : ℕ
+  pub disk : ℕ
+  pub input : ℕ
+  pub output : ℕ
+
+-- All of a machine but its earlier moments: what is there, what was asked, whether an image was attached, the faults,
+-- what is to happen, how many calls were noted, how many writes have begun at each sector, how many sectors writes have
+-- put, whether it has stopped, whether the hurts lay in the windows and the runs before the last call were short, and
+-- how often a growth was refused.
 pub record State : Type 0 where
   pub now : Moment
   pub ledger : Ledger
+  pub attached : Bool
+  pub faults : Faults
   pub line : Line
   pub events : List Event
   pub calls : ℕ
@@ -76,8 +90,8 @@ asked path how s = record s { ledger = asked_for s.ledger path how }
 
 -- and finds or makes its image
 abbrev pub opened : Attach → State → State
-opened Old s = record s { now = record { image = s.now.image; windows = record { present = s.now.windows.present; next = None }; said = s.now.said } }
-opened (New count) s = record s { now = record { image = replicate count Damaged; windows = record { present = None; next = None }; said = s.now.said } }
+opened Old s = record s { now = record { image = s.now.image; windows = record { present = s.now.windows.present; next = None }; said = s.now.said }; attached = true }
+opened (New count) s = record s { now = record { image = replicate count Damaged; windows = record { present = None; next = None }; said = s.now.said }; attached = true }
 
 -- so many sectors of a write stand; it is done, or not, and stops the machine, or not
 abbrev pub put : ℕ → List ℕ → ℕ → Bool → Bool → State → State
@@ -118,10 +132,23 @@ spoken bytes s = record s { now = record { image = s.now.image; windows = s.now.
 abbrev pub same : State → State
 same s = s
 
--- A call isn't noted: the machine had stopped, or a growth was refused and that is counted. It does nothing else.
-abbrev pub Rests : State → State → Type 0
-Rests old new = ((old.stopped ≡ true) × (new ≡ old))
-    ⊎ ((old.stopped ≡ false) × (new ≡ record old { starved = min (old.starved + 1) (2 ^ 64 - 1) }))
+-- a fault of the disk is counted, and its place is told
+abbrev pub disk_failed : ℕ → State → State
+disk_failed place s = record s { faults = record { place = place; disk = one_more s.faults.disk; input = s.faults.input; output = s.faults.output } }
+
+-- one of the input is counted
+abbrev pub input_failed : State → State
+input_failed s = record s { faults = record { place = s.faults.place; disk = s.faults.disk; input = one_more s.faults.input; output = s.faults.output } }
+
+-- one of the output is counted
+abbrev pub output_failed : State → State
+output_failed s = record s { faults = record { place = s.faults.place; disk = s.faults.disk; input = s.faults.input; output = one_more s.faults.output } }
+
+-- A call isn't noted: the machine had stopped, or a growth was refused and that is counted. It counts its fault and
+-- does nothing else.
+abbrev pub Rests : (State → State) → State → State → Type 0
+Rests fault old new = ((old.stopped ≡ true) × (new ≡ fault old))
+    ⊎ ((old.stopped ≡ false) × (new ≡ fault (record old { starved = one_more old.starved })))
 
 -- A call of a machine that runs is noted, and whether it goes is said by the events.
 pub record Runs (going finished : Bool) (old new noted : State) : Type 0 where
@@ -129,22 +156,23 @@ pub record Runs (going finished : Bool) (old new noted : State) : Type 0 where
   pub goes : going ≡ finished
   pub after : new ≡ noted
 
--- Where a call answers Ok it is noted and done. One that fails rests, or is noted and failed by an event.
-abbrev pub Exactly : Bool → State → State → State → State → Bool → Type 0
-Exactly going done failed old new true = Runs going true old new done
-Exactly going done failed old new false = Rests old new ⊎ Runs going false old new failed
+-- Where a call answers Ok it is noted and done, and counts no fault. One that fails rests, or is noted and failed by an
+-- event, and counts its fault.
+abbrev pub Exactly : Bool → (done failed : State) → (fault : State → State) → State → State → Bool → Type 0
+Exactly going done failed fault old new true = Runs going true old new done
+Exactly going done failed fault old new false = Rests fault old new ⊎ Runs going false old new (fault failed)
 
 -- so is a call that isn't a write
-abbrev pub Calls : Bool → (State → State) → State → State → Bool → Type 0
-Calls settle does old new ok = Exactly (call_goes old) (does (noted settle old)) (noted settle old) old new ok
+abbrev pub Calls : Bool → (does fault : State → State) → State → State → Bool → Type 0
+Calls settle does fault old new ok = Exactly (call_goes old) (does (noted settle old)) (noted settle old) fault old new ok
 
 -- and an attach, which is asked for also where an event fails it
-abbrev pub Attached : List ℕ → Attach → State → State → Bool → Type 0
-Attached path how old new ok = Exactly (call_goes old) (opened how (asked path how (noted false old))) (asked path how (noted false old)) old new ok
+abbrev pub Attached : List ℕ → Attach → (fault : State → State) → State → State → Bool → Type 0
+Attached path how fault old new ok = Exactly (call_goes old) (opened how (asked path how (noted false old))) (asked path how (noted false old)) fault old new ok
 
 -- and a write, of which some first sectors stand also where an event fails it
-abbrev pub Written : ℕ → List ℕ → State → State → Bool → Type 0
-Written first bytes old new ok =
+abbrev pub Written : ℕ → List ℕ → (fault : State → State) → State → State → Bool → Type 0
+Written first bytes fault old new ok =
     let verdict = write_verdict first (length bytes / 512) old in
     let after = put_by verdict first bytes (noted false old) in
-    Exactly (is_going verdict) after after old new ok
+    Exactly (is_going verdict) after after fault old new ok

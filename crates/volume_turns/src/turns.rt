@@ -61,7 +61,7 @@ pub(crate) fn say<M: Machine, T: Says>(alloc: Global, m: &mut M, answer: &Answer
 }
 
 /// Does one command and says its reply.
-pub fn step<M: Machine, V: Files<M>, T: Says>(
+pub(crate) fn step<M: Machine, V: Files<M>, T: Says>(
     alloc: Global,
     v: &mut V,
     m: &mut M,
@@ -92,7 +92,7 @@ pub fn step<M: Machine, V: Files<M>, T: Says>(
 }
 
 /// Does commands one after another, and says the reply of each.
-pub fn run<M: Machine, V: Files<M>, T: Says>(
+pub(crate) fn run<M: Machine, V: Files<M>, T: Says>(
     alloc: Global,
     v: &mut V,
     m: &mut M,

@@ -1,8 +1,8 @@
 //! The calls of the outside in memory.
-ghost use Rattle.std.specs.Prelude.{◌≡◌, false, true, ◌⊎◌, ◌+◌, ◌-◌, ◌/◌, ◌%◌, ◌^◌, ◌<◌, ◌≤◌, ◌++◌, min, drop, refl, length, is_ok, IfOk, OnOk, OnErr};
+ghost use Rattle.std.specs.Prelude.{◌≡◌, false, true, ◌⊎◌, ◌+◌, ◌-◌, ◌/◌, ◌%◌, ◌^◌, ◌<◌, ◌≤◌, ◌++◌, min, drop, refl, length, is_ok, IfOk, IfErr, OnOk, OnErr};
 ghost use Rattle.std.proofs.Common.{inl};
 ghost use Rattle.sector_disk.specs.Image.{sector_at};
-ghost use Rattle.sector_disk.specs.State.{Calls, Attached, Written, same, healed, closed, given, taken, spoken};
+ghost use Rattle.sector_disk.specs.State.{Calls, Attached, Written, same, healed, closed, given, taken, spoken, disk_failed, input_failed, output_failed};
 ghost use Rattle.sector_disk.specs.Machine.{Takes, Wears, Utters, Says, OutputCause, Attaches, GivesAsked, asked_for, Writes, Tears, DiskCause, InputCause, Names, Settles, Shows, Before, took, wrote};
 ghost use Rattle.sector_disk.specs.Past.{only_at_end};
 ghost use Rattle.sector_disk.specs.Memory.{memory_report, memory_now, memory_ledger, memory_sized, memory_small, memory_state, MemoryTrusts, MemoryElapses, MemoryReaches, IsHonest, memory_calls, memory_left, memory_short};
@@ -50,7 +50,7 @@ impl Machine for MemoryMachine {
         ensures time { MemoryElapses self.old self.new (Wears (memory_now self.old)) }
         ensures reached { OnOk result (MemoryReaches self.old self.new (Wears (memory_now self.old))) }
         ensures ledger { Unit {0} → memory_ledger self.new ≡ memory_ledger self.old }
-        ensures exact { Calls false same (memory_state self.old) (memory_state self.new) (is_ok result) }
+        ensures exact { Calls false same (disk_failed sector) (memory_state self.old) (memory_state self.new) (is_ok result) }
     {
         if self.pass(false).is_err() {
             return Err(self.disk_fault(sector));
@@ -77,7 +77,7 @@ impl Machine for MemoryMachine {
         ensures reached { OnOk result (MemoryReaches self.old self.new (Wears (memory_now self.old))) }
         ensures asked { OnOk result (Unit {0} → memory_ledger self.new ≡ asked_for (memory_ledger self.old) path.now how) }
         ensures asked_err { OnErr result (Unit {0} → (memory_ledger self.new ≡ memory_ledger self.old) ⊎ (memory_ledger self.new ≡ asked_for (memory_ledger self.old) path.now how)) }
-        ensures exact { Attached path.now how (memory_state self.old) (memory_state self.new) (is_ok result) }
+        ensures exact { Attached path.now how (disk_failed 0) (memory_state self.old) (memory_state self.new) (is_ok result) }
     {
         match self.open(path, how) {
             Some(count) => Ok(count),
@@ -98,7 +98,7 @@ impl Machine for MemoryMachine {
         ensures reached { OnOk result (MemoryReaches self.old self.new (Tears sector bytes.now (memory_now self.old))) }
         ensures counted { OnOk result (Unit {0} → memory_ledger self.new ≡ wrote (memory_ledger self.old) (length bytes.now / 512)) }
         ensures counted_err { OnErr result (Unit {0} → memory_ledger self.new ≡ memory_ledger self.old) }
-        ensures exact { Written sector bytes.now (memory_state self.old) (memory_state self.new) (is_ok result) }
+        ensures exact { Written sector bytes.now (disk_failed sector) (memory_state self.old) (memory_state self.new) (is_ok result) }
     {
         let count = bytes.len() / 512;
         let verdict = self.verdict(sector, count);
@@ -121,7 +121,7 @@ impl Machine for MemoryMachine {
         ensures time { MemoryElapses self.old self.new (Before (memory_now self.old) (memory_now self.new)) }
         ensures reached { OnOk result (MemoryReaches self.old self.new (Wears (memory_now self.old))) }
         ensures ledger { Unit {0} → memory_ledger self.new ≡ memory_ledger self.old }
-        ensures exact { Calls false healed (memory_state self.old) (memory_state self.new) (is_ok result) }
+        ensures exact { Calls false healed (disk_failed 0) (memory_state self.old) (memory_state self.new) (is_ok result) }
     {
         if self.pass(false).is_err() {
             return Err(self.disk_fault(0));
@@ -140,7 +140,7 @@ impl Machine for MemoryMachine {
         ensures time { MemoryElapses self.old self.new (Before (memory_now self.old) (memory_now self.new)) }
         ensures reached { OnOk result (MemoryReaches self.old self.new (Wears (memory_now self.old))) }
         ensures ledger { Unit {0} → memory_ledger self.new ≡ memory_ledger self.old }
-        ensures exact { Calls true closed (memory_state self.old) (memory_state self.new) (is_ok result) }
+        ensures exact { Calls true closed (disk_failed 0) (memory_state self.old) (memory_state self.new) (is_ok result) }
     {
         if self.pass(true).is_err() {
             return Err(self.disk_fault(0));
@@ -158,6 +158,7 @@ impl Machine for MemoryMachine {
     fn take(&mut self, buf: &mut [u8]) -> Result<usize, Failed>
         requires { 0 < length buf.old }
         ensures cause { InputCause (memory_report self.old) (memory_report self.new) result }
+        ensures place { IfErr result (λ failed. failed.place ≡ 0) }
         ensures room { IfOk result (λ count. count ≤ length buf.old) }
         ensures count { IfOk result (λ count. count ≡ given (memory_state self.old) (length buf.old)) }
         ensures trust { MemoryTrusts self.old self.new }
@@ -167,7 +168,7 @@ impl Machine for MemoryMachine {
         ensures taken { IfOk result (λ count. Unit {0} → Takes (memory_ledger self.old).input count buf.new) }
         ensures left { IfOk result (λ count. Unit {0} → memory_ledger self.new ≡ took (memory_ledger self.old) count) }
         ensures left_err { OnErr result (Unit {0} → memory_ledger self.new ≡ memory_ledger self.old) }
-        ensures exact { Calls false (taken (length buf.old)) (memory_state self.old) (memory_state self.new) (is_ok result) }
+        ensures exact { Calls false (taken (length buf.old)) input_failed (memory_state self.old) (memory_state self.new) (is_ok result) }
     {
         if self.pass(false).is_err() {
             self.input_faults = self.input_faults.saturating_add(1);
@@ -181,13 +182,14 @@ impl Machine for MemoryMachine {
 
     fn say(&mut self, bytes: &[u8]) -> Result<(), Failed>
         ensures cause { OutputCause (memory_report self.old) (memory_report self.new) result }
+        ensures place { IfErr result (λ failed. failed.place ≡ 0) }
         ensures trust { MemoryTrusts self.old self.new }
         ensures said { OnOk result (IsHonest self.new → Says bytes.now (memory_now self.old) (memory_now self.new)) }
         ensures cut { IsHonest self.new → Utters bytes.now (memory_now self.old) (memory_now self.new) }
         ensures time { MemoryElapses self.old self.new (Utters bytes.now (memory_now self.old)) }
         ensures reached { OnOk result (MemoryReaches self.old self.new (Utters bytes.now (memory_now self.old))) }
         ensures ledger { Unit {0} → memory_ledger self.new ≡ memory_ledger self.old }
-        ensures exact { Calls false (spoken bytes.now) (memory_state self.old) (memory_state self.new) (is_ok result) }
+        ensures exact { Calls false (spoken bytes.now) output_failed (memory_state self.old) (memory_state self.new) (is_ok result) }
     {
         if !self.speak(bytes) {
             self.output_faults = self.output_faults.saturating_add(1);

@@ -1,9 +1,8 @@
-use Rattle.std.proofs.Common.{◌≡◌, ◌/◌, Bool, false, length, sym, subst, rules}
-use Rattle.sector_disk.specs.declared.memory.MemoryMachine.{MemoryMachine}
+use Rattle.std.proofs.Common.{◌≡◌, ◌/◌, Bool, false, length, ap, subst, rules}
 use Rattle.sector_disk.specs.Events.{stood_by, is_going, is_stop}
-use Rattle.sector_disk.specs.State.{Exactly, Written, put, noted}
+use Rattle.sector_disk.specs.State.{Exactly, put, noted, same, disk_failed}
 use Rattle.sector_disk.specs.Memory.{memory_state}
-use Rattle.sector_disk.proofs.States.{written_as}
+use Rattle.sector_disk.proofs.States.{written_as, then_fails}
 use Rattle.sector_disk.proofs.Calls.{counts_of, fault_told}
 use Rattle.sector_disk.proofs.memory.calls.MemoryMachineMachine.write.Goals as goal
 
@@ -14,12 +13,13 @@ returns-then-not-done-clause-exact c =
     let goes : c.match-matches.matches ≡ is_going verdict = search rules in
     let stops : c.match-matches-2.matches ≡ is_stop verdict = search rules in
     let old = memory_state c.args.self.now in
+    let mid = memory_state c.put-done.new.self in
+    let end = memory_state c.disk_fault.new.self in
     let after = put c.args.sector c.args.bytes.now c.stood_of-stood.result c.match-matches.matches c.match-matches-2.matches (noted false old) in
-    subst (λ (m : MemoryMachine). Written c.args.sector c.args.bytes.now old (memory_state m) false) (sym c.disk_fault.ensures.rest)
-    (written_as c.args.sector c.args.bytes.now c.stood_of-stood.result c.match-matches.matches c.match-matches-2.matches verdict old (memory_state c.put-done.new.self) false some goes stops c.verdict-verdict.ensures
-    (subst (λ (b : Bool). Exactly c.match-matches.matches after after old (memory_state c.put-done.new.self) b) c.if-not-done.true c.put-done.ensures.exact))
+    let put_fails = subst (λ (b : Bool). Exactly c.match-matches.matches after after same old mid b) c.if-not-done.true c.put-done.ensures.exact in
+    let call = then_fails c.match-matches.matches after after (disk_failed c.args.sector) old mid end put_fails (ap memory_state c.disk_fault.ensures.told) in
+    written_as c.args.sector c.args.bytes.now c.stood_of-stood.result c.match-matches.matches c.match-matches-2.matches verdict (disk_failed c.args.sector) old end false some goes stops c.verdict-verdict.ensures call
 
 pub returns-then-not-done-clause-cause : goal.returns-then-not-done-clause-cause
 returns-then-not-done-clause-cause c =
-    let told = c.disk_fault.ensures in
-    fault_told c.args.self.now c.put-done.new.self c.disk_fault.new.self c.args.sector c.disk_fault.result (λ i. counts_of (c.put-done.ensures.rest i)) told.place told.told told.later told.counted told.rest
+    fault_told c.args.self.now c.put-done.new.self c.disk_fault.new.self c.args.sector c.disk_fault.result (λ i. counts_of (c.put-done.ensures.rest i)) c.disk_fault.ensures.place c.disk_fault.ensures.later c.disk_fault.ensures.told
