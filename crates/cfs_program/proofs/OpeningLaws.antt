@@ -85,9 +85,8 @@ module _ (l : Layout) (windows : List WeakRun) (h : List Change) (f : ℕ) (old 
     pub before_on : (left : Moment) → LeftBefore l windows h f at left → LeftBefore l windows h f old left
     before_on left x = record { present = x.present ∙ found.present; part = x.part; said = x.said ∙ ap (λ (s : List ℕ). s ++ x.part) found.said; fault = x.fault; sound = x.sound }
 
-    pub since_on : (n : ℕ) (turns : List Turn) (left : Moment) → LeftSince l windows h n turns at left → LeftSince l windows h n turns old left
-    since_on n turns left x = record {
-      run = x.run;
+    pub since_on : (run : WeakRun) (n : ℕ) (turns : List Turn) (left : Moment) → LeftSince l windows run h n turns at left → LeftSince l windows run h n turns old left
+    since_on run n turns left x = record {
       settled = x.settled;
       whole = x.whole;
       part = x.part;
@@ -98,9 +97,9 @@ module _ (l : Layout) (windows : List WeakRun) (h : List Change) (f : ℕ) (old 
       sound = x.sound;
     }
 
-    pub left_on : (n : ℕ) (turns : List Turn) (left : Moment) → Left l windows h f n turns at left → Left l windows h f n turns old left
-    left_on n turns left (inl x) = inl (before_on left x)
-    left_on n turns left (inr x) = inr (since_on n turns left x)
+    pub left_on : (run : WeakRun) (n : ℕ) (turns : List Turn) (left : Moment) → Left l windows run h f n turns at left → Left l windows run h f n turns old left
+    left_on run n turns left (inl x) = inl (before_on left x)
+    left_on run n turns left (inr x) = inr (since_on run n turns left x)
 
     -- the disk that the mount finds
     pub sound_found : (count : ℕ) → count ≡ min (length at.image) (2 ^ 32 - 1) → IsSoundAt count l windows h f at
@@ -165,11 +164,11 @@ module _ {D : Type 0} (M : Ghosts D) (request : Request) (input rest : List ℕ)
       goes = subst (λ (base : List ℕ). Goes (in_runs (windows ++ m.next ∷ [])) (M.left_since c m.at) (IsCutAt m.run.cut) (errand_in request input m.run.cut) base m.from m.volume m.run.mets (errand_in request input m.run.cut).commands) found.said m.run.goes;
     }
 
-    replied_on : IsReplied l windows h m.count turns (run_status m.run) (run_end m.run) (M.now b) (M.now c) status → IsReplied l windows h m.count turns (run_status m.run) (run_end m.run) (M.now a) (M.now c) status
-    replied_on x = record { ends = x.ends; said = x.said ∙ ap (λ (s : List ℕ). s ++ said_in turns) found.said; run = x.run; settled = x.settled; sound = x.sound; tells = x.tells }
+    replied_on : IsReplied l windows m.next h m.count turns (run_status m.run) (run_end m.run) (M.now b) (M.now c) status → IsReplied l windows m.next h m.count turns (run_status m.run) (run_end m.run) (M.now a) (M.now c) status
+    replied_on x = record { ends = x.ends; said = x.said ∙ ap (λ (s : List ℕ). s ++ said_in turns) found.said; settled = x.settled; sound = x.sound; tells = x.tells }
 
-    ends_on : (IsThrough m.run × IsReplied l windows h m.count turns (run_status m.run) (run_end m.run) (M.now b) (M.now c) status) ⊎ (IsUnsaid (M.report b) (M.report c) status ⊎ IsBroken request (M.report b) (M.report c) turns (M.now b) (M.now c) status)
-        → (IsThrough run_is × IsReplied l windows h m.count (run_turns run_is) (run_status run_is) (run_end run_is) (M.now a) (M.now c) status) ⊎ (IsUnsaid (M.report a) (M.report c) status ⊎ IsBroken request (M.report a) (M.report c) (run_turns run_is) (M.now a) (M.now c) status)
+    ends_on : (IsThrough m.run × IsReplied l windows m.next h m.count turns (run_status m.run) (run_end m.run) (M.now b) (M.now c) status) ⊎ (IsUnsaid (M.report b) (M.report c) status ⊎ IsBroken request (M.report b) (M.report c) turns (M.now b) (M.now c) status)
+        → (IsThrough run_is × IsReplied l windows m.next h m.count (run_turns run_is) (run_status run_is) (run_end run_is) (M.now a) (M.now c) status) ⊎ (IsUnsaid (M.report a) (M.report c) status ⊎ IsBroken request (M.report a) (M.report c) (run_turns run_is) (M.now a) (M.now c) status)
     ends_on (inl (through, replied)) = inl (through, replied_on replied)
     ends_on (inr failed) = inr (failed_on l windows h f (M.now a) sound short (M.now b) found request (M.report a) (M.report b) (M.report c) same (M.now c) status turns failed)
 
@@ -187,11 +186,11 @@ module _ {D : Type 0} (M : Ghosts D) (request : Request) (input rest : List ℕ)
       starts = m.starts;
       run = run_is;
       cause = cause_on m.run.cut input rest (M.report a) (M.report b) (M.report c) same m.cause;
-      moments = then_on M.moment M.left_since a b c (Left l windows h f m.count turns (M.now a))
-          (leaves_more M.moment M.left_since a b (LeftBefore l windows h f (M.now a)) (Left l windows h f m.count turns (M.now a)) (λ left x. inl x) ahead)
-          (leaves_more M.moment M.left_since b c (Left l windows h f m.count turns (M.now b)) (Left l windows h f m.count turns (M.now a)) (left_on l windows h f (M.now a) sound short (M.now b) found m.count turns) m.moments);
-      later = λ left was. since_on l windows h f (M.now a) sound short (M.now b) found m.count turns left (m.later left was);
-      exit = since_on l windows h f (M.now a) sound short (M.now b) found m.count turns (M.now c) m.exit;
+      moments = then_on M.moment M.left_since a b c (Left l windows m.next h f m.count turns (M.now a))
+          (leaves_more M.moment M.left_since a b (LeftBefore l windows h f (M.now a)) (Left l windows m.next h f m.count turns (M.now a)) (λ left x. inl x) ahead)
+          (leaves_more M.moment M.left_since b c (Left l windows m.next h f m.count turns (M.now b)) (Left l windows m.next h f m.count turns (M.now a)) (left_on l windows h f (M.now a) sound short (M.now b) found m.next m.count turns) m.moments);
+      later = λ left was. since_on l windows h f (M.now a) sound short (M.now b) found m.next m.count turns left (m.later left was);
+      exit = since_on l windows h f (M.now a) sound short (M.now b) found m.next m.count turns (M.now c) m.exit;
       ends = ends_on m.ends;
     }
 

@@ -29,21 +29,21 @@ take_of_take (suc f) (suc n) [] le = refl
 take_of_take (suc f) (suc n) (c ∷ h) le = ap (λ (x : List Change). c ∷ x) (take_of_take f n h (omega (arith, le)))
 
 -- whatever a stop leaves is sound again
-pub left_stays : (l : Layout) (windows : List WeakRun) (h : List Change) (f n : ℕ) (turns : List Turn) (old left : Moment) → IsPrefixOf h f n → last_or None windows ≡ old.windows.present
-    → Left l windows h f n turns old left → StaysSound l h f left
-left_stays l windows h f n turns old left prefix ends (inl b) =
+pub left_stays : (l : Layout) (windows : List WeakRun) (run : WeakRun) (h : List Change) (f n : ℕ) (turns : List Turn) (old left : Moment) → IsPrefixOf h f n → last_or None windows ≡ old.windows.present
+    → Left l windows run h f n turns old left → StaysSound l h f left
+left_stays l windows run h f n turns old left prefix ends (inl b) =
     record { windows = windows; changes = h; count = f; keeps = record { forced = omega arith; same = refl }; present = ends ∙ sym b.present; sound = b.sound }
-left_stays l windows h f n turns old left prefix ends (inr s) =
+left_stays l windows run h f n turns old left prefix ends (inr s) =
     let forced = prefix.forced in
     let made = prefix.made in
     let long : length (take n h) ≡ min n (length h) = length-take n h in
     let few : f ≤ length (take n h) = omega (arith, forced, made, long) in
     record {
-      windows = windows ++ s.run ∷ [];
+      windows = windows ++ run ∷ [];
       changes = take n h ++ changes_in (take (suc s.whole) turns);
       count = n + s.forced;
       keeps = record { forced = omega (arith, forced); same = take-append-le f (take n h) (changes_in (take (suc s.whole) turns)) few ∙ take_of_take f n h forced };
-      present = last_is windows None s.run ∙ sym (ap (λ (w : Windows). w.present) s.settled);
+      present = last_is windows None run ∙ sym (ap (λ (w : Windows). w.present) s.settled);
       sound = s.sound;
     }
 

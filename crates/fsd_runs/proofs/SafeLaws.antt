@@ -143,7 +143,7 @@ module _ (request : Request) (input rest : List ℕ) (l : Layout) (windows : Lis
   mounted_otherwise : EndsOtherwise (errand_of request input) → LeavesMounted request input rest l windows h f Past Only before after old new result → NotThree result
   mounted_otherwise otherwise m e = by m.ends
     where
-      by : (Rattle.fsd_runs.specs.Runs.IsThrough m.run × Rattle.fsd_runs.specs.Leaves.IsReplied l windows h m.count (Rattle.fsd_runs.specs.Runs.run_turns m.run) (run_status m.run) (Rattle.fsd_runs.specs.Runs.run_end m.run) old new result)
+      by : (Rattle.fsd_runs.specs.Runs.IsThrough m.run × Rattle.fsd_runs.specs.Leaves.IsReplied l windows m.next h m.count (Rattle.fsd_runs.specs.Runs.run_turns m.run) (run_status m.run) (Rattle.fsd_runs.specs.Runs.run_end m.run) old new result)
           ⊎ (IsUnsaid before after result ⊎ IsBroken request before after (Rattle.fsd_runs.specs.Runs.run_turns m.run) old new result) → ⊥
       by (inl through) = in_otherwise request input m.run.cut m.run.may otherwise (answered m.run.mets m.volume (errand_in request input m.run.cut).commands) (sym through.1.ends ∙ e)
       by (inr other) = broken_otherwise request before after (Rattle.fsd_runs.specs.Runs.run_turns m.run) old new result other e

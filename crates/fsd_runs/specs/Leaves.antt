@@ -58,11 +58,11 @@ pub record LeftBefore (l : Layout) (windows : List WeakRun) (h : List Change) (f
   pub fault : SaysFault part
   pub sound : IsSound l windows h f left.image
 
--- Since then: the run that was named is the present one, and no next one is named. Some turns are said whole, and a
--- part of what comes next. The image is sound for the n changes that were found, all of them forced, and those of the
--- turns said and of the one under way, of which those are forced at least that are forced by what is said whole.
-pub record LeftSince (l : Layout) (windows : List WeakRun) (h : List Change) (n : ℕ) (turns : List Turn) (old left : Moment) : Type 0 where
-  pub run : WeakRun
+-- Since then: run, the one that was named, is the present one, and no next one is named. Some turns are said
+-- whole, and a part of what comes next. The image is sound for the n changes that were found, all of them forced, and
+-- those of the turns said and of the one under way, of which those are forced at least that are forced by what is said
+-- whole.
+pub record LeftSince (l : Layout) (windows : List WeakRun) (run : WeakRun) (h : List Change) (n : ℕ) (turns : List Turn) (old left : Moment) : Type 0 where
   pub settled : left.windows ≡ record { present = Some run; next = None }
   pub whole : ℕ
   pub part : List ℕ
@@ -72,17 +72,16 @@ pub record LeftSince (l : Layout) (windows : List WeakRun) (h : List Change) (n 
   pub enough : forced_in (take whole turns) ≤ forced
   pub sound : IsSound l (windows ++ run ∷ []) (take n h ++ changes_in (take (suc whole) turns)) (n + forced) left.image
 
-abbrev pub Left : Layout → List WeakRun → List Change → (f n : ℕ) → List Turn → (old left : Moment) → Type 0
-Left l windows h f n turns old left = LeftBefore l windows h f old left ⊎ LeftSince l windows h n turns old left
+abbrev pub Left : Layout → List WeakRun → (run : WeakRun) → List Change → (f n : ℕ) → List Turn → (old left : Moment) → Type 0
+Left l windows run h f n turns old left = LeftBefore l windows h f old left ⊎ LeftSince l windows run h n turns old left
 
 -- ---- how a run ends
 
--- The whole text of the run is said, its status is given, and all its changes are forced: the disk's own table is that
--- of the volume behind them, in the places and with the serials that it gave.
-pub record IsReplied (l : Layout) (windows : List WeakRun) (h : List Change) (n : ℕ) (turns : List Turn) (status : ℕ) (behind : Volume) (old new : Moment) (result : ℕ) : Type 0 where
+-- The whole text is said, its status is given, and all changes are forced: the disk's own table is that of the volume
+-- behind them, in the places and with the serials that it gave. The present window is run still.
+pub record IsReplied (l : Layout) (windows : List WeakRun) (run : WeakRun) (h : List Change) (n : ℕ) (turns : List Turn) (status : ℕ) (behind : Volume) (old new : Moment) (result : ℕ) : Type 0 where
   pub ends : result ≡ status
   pub said : new.said ≡ old.said ++ said_in turns
-  pub run : WeakRun
   pub settled : new.windows ≡ record { present = Some run; next = None }
   pub sound : IsSound l (windows ++ run ∷ []) (take n h ++ changes_in turns) (n + length (changes_in turns)) new.image
   pub tells : told l new.image ≡ Some (telling_of behind)
@@ -175,9 +174,10 @@ pub record RaisesEpoch (windows : List WeakRun) (old from : Image) : Type 0 wher
   pub next : AreNext (anchor_of left) (anchor_of from)
 
 -- The mount settled at some time: it found the first n changes, every forced one among them, and the run went on from
--- the image as it settled, in the window of this run. Each moment is what is said above; from that time on each is of
--- the second kind, and the images of the run are of these. Either all commands were begun, all is said and all changes
--- are forced; or a fault from outside has ended the run at once; or the output failed.
+-- the image as it settled. The window that it settled is next, and next is the present one at each moment from then on
+-- and at the end. Each moment is what is said above; from that time on each is of the second kind, and the images of
+-- the run are of these. Either all commands were begun, all is said and all changes are forced; or a fault from outside
+-- has ended the run at once; or the output failed.
 pub record LeavesMounted (request : Request) (input rest : List ℕ) (l : Layout) (windows : List WeakRun) (h : List Change) (f : ℕ) (Past : ℕ → Moment → Type 0) (Only : (Moment → Type 0) → Type 0) (before after : Report) (old new : Moment) (result : ℕ) : Type 0 where
   pub count : ℕ
   pub prefix : IsPrefixOf h f count
@@ -191,10 +191,10 @@ pub record LeavesMounted (request : Request) (input rest : List ℕ) (l : Layout
   pub starts : Starts l (windows ++ next ∷ []) (take count h) volume from
   pub run : Run request input (windows ++ next ∷ []) (Past at) old.said volume from
   pub cause : CutCause run.cut input rest before after
-  pub moments : Only (Left l windows h f count (run_turns run) old)
-  pub later : (left : Moment) → Past at left → LeftSince l windows h count (run_turns run) old left
-  pub exit : LeftSince l windows h count (run_turns run) old new
-  pub ends : (IsThrough run × IsReplied l windows h count (run_turns run) (run_status run) (run_end run) old new result) ⊎ (IsUnsaid before after result ⊎ IsBroken request before after (run_turns run) old new result)
+  pub moments : Only (Left l windows next h f count (run_turns run) old)
+  pub later : (left : Moment) → Past at left → LeftSince l windows next h count (run_turns run) old left
+  pub exit : LeftSince l windows next h count (run_turns run) old new
+  pub ends : (IsThrough run × IsReplied l windows next h count (run_turns run) (run_status run) (run_end run) old new result) ⊎ (IsUnsaid before after result ⊎ IsBroken request before after (run_turns run) old new result)
 
 -- A run over a sound image. The input is as it was, and rest what is left of it.
 -- Past is what a stop from a time on may have left.

@@ -39,8 +39,8 @@ pub fn each_command_has_an_answer()
 /// Whatever a stop leaves of a run over a sound disk is a sound disk again, in the windows that the machine has then,
 /// with every change forced that was: so runs go on from each other.
 pub fn stops_leave_sound_disks()
-    ensures { (l : Layout) (windows : List WeakRun) (h : List Change) (f n : ℕ) (turns : List Turn) (old left : Moment) → IsPrefixOf h f n →
-        last_or None windows ≡ old.windows.present → Left l windows h f n turns old left → StaysSound l h f left }
+    ensures { (l : Layout) (windows : List WeakRun) (run : WeakRun) (h : List Change) (f n : ℕ) (turns : List Turn) (old left : Moment) → IsPrefixOf h f n →
+        last_or None windows ≡ old.windows.present → Left l windows run h f n turns old left → StaysSound l h f left }
 {}
 
 /// Where no fault is counted, a run that does not say all says that memory was refused.

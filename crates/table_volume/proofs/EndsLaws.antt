@@ -91,18 +91,18 @@ module _ (sectors : ℕ) (l : Layout) (windows : List WeakRun) (h : List Change)
     same : SameData l (weak_of windows) old.image mid.image
     same = data_stays l (weak_of windows) old mid exit.rest
 
-    since : (left : Moment) → Wears mid left → SoundSince l windows h (count sectors l windows h f old begun log mid done short) old left
+    since : (left : Moment) → Wears mid left → SoundSince l windows done.after.run h (count sectors l windows h f old begun log mid done short) old left
     since left wears = since_settled sectors l windows h f old begun log mid done short (data_stays l (weak_of windows) old mid exit.rest) exit.said exit.rest left wears
 
     at_mid : Wears mid mid
     at_mid = record { image = worn_refl _ mid.image; windows = refl; said = refl }
 
     abbrev Each : Moment → Type 0
-    Each left = SoundBefore l windows h f old left ⊎ SoundSince l windows h (count sectors l windows h f old begun log mid done short) old left
+    Each left = SoundBefore l windows h f old left ⊎ SoundSince l windows done.after.run h (count sectors l windows h f old begun log mid done short) old left
 
     each : (left : Moment) → Replays l windows (lists_now sectors l windows h f old begun) old left → TurnsLast old mid left → Each left
     each left replays (inl still) = inl (moment_before left replays still)
-    each left replays (inr end) = inr (subst (SoundSince l windows h (count sectors l windows h f old begun log mid done short) old) (sym end) (since mid at_mid))
+    each left replays (inr end) = inr (subst (SoundSince l windows done.after.run h (count sectors l windows h f old begun log mid done short) old) (sym end) (since mid at_mid))
 
     pub knows : KnowsHomes l mid
     knows = knows_settled sectors l windows h f old begun log mid done short
@@ -113,6 +113,7 @@ module _ (sectors : ℕ) (l : Layout) (windows : List WeakRun) (h : List Change)
     ends_settled replays turns reads fresh is fits wears r assembled opens = record {
       count = count sectors l windows h f old begun log mid done short;
       prefix = (files_settled sectors l windows h f old begun log mid done short).prefix;
+      next = done.after.run;
       known = known_new sectors l windows h f old begun log mid done short same exit.said exit.rest fresh is fits new wears;
       moments = then_on M.moment M.left_since a b c Each
           (leaves_more M.moment M.left_since a b (λ left. Replays l windows (lists_now sectors l windows h f old begun) old left × TurnsLast old mid left) Each (λ left both. each left both.0 both.1)

@@ -139,9 +139,8 @@ module _ (sectors : ℕ) (l : Layout) (windows : List WeakRun) (h : List Change)
   module _ (same : SameData l (weak_of windows) old.image mid.image) (said : mid.said ≡ old.said) (rest : WritesAsMount l (weak_of windows) old mid) where
     -- ---- each moment since
 
-    pub since_settled : (left : Moment) → Wears mid left → SoundSince l windows h count old left
+    pub since_settled : (left : Moment) → Wears mid left → SoundSince l windows run h count old left
     since_settled left wears = record {
-      run = run;
       settled = wears.windows ∙ done.after.settled;
       said = wears.said ∙ said;
       sound = sound_still l later (apart_narrow later apart_later) (take count h) count mid.image left.image (worn_later left.image wears.image)
@@ -200,9 +199,8 @@ module _ (sectors : ℕ) (l : Layout) (windows : List WeakRun) (h : List Change)
       abbrev pub known_new : Known
       known_new = record { mounted = mounted_new; windows = later; changes = take count h }
 
-      pub settled_new : Settled l windows h count known_new old new
+      pub settled_new : Settled l windows run h count known_new old new
       settled_new = record {
-        run = run;
         settled = wears.windows ∙ done.after.settled;
         known = refl;
         changes = refl;

@@ -134,10 +134,9 @@ pub record SoundBefore (l : Layout) (windows : List WeakRun) (h : List Change) (
   pub sound : IsSound l windows h f left.image
   pub writes : WritesAsMount l (weak_of windows) old left
 
--- Since then: the run that was named is the present one, no next one is named,
+-- Since then: run, the one that was named, is the present one, no next one is named,
 -- and the disk is sound for the first n changes alone.
-pub record SoundSince (l : Layout) (windows : List WeakRun) (h : List Change) (n : ℕ) (old left : Moment) : Type 0 where
-  pub run : WeakRun
+pub record SoundSince (l : Layout) (windows : List WeakRun) (run : WeakRun) (h : List Change) (n : ℕ) (old left : Moment) : Type 0 where
   pub settled : left.windows ≡ record { present = Some run; next = None }
   pub said : left.said ≡ old.said
   pub sound : IsSound l (windows ++ run ∷ []) (take n h) n left.image
@@ -145,9 +144,9 @@ pub record SoundSince (l : Layout) (windows : List WeakRun) (h : List Change) (n
 
 -- ---- its end
 
--- The disk that settled, in the epoch behind that of the old one: it is this volume's, with nothing that waits.
-pub record Settled (l : Layout) (windows : List WeakRun) (h : List Change) (n : ℕ) (k : Known) (old new : Moment) : Type 0 where
-  pub run : WeakRun
+-- The disk that settled, with run as its window, in the epoch behind that of the old one: it is this volume's, with
+-- nothing that waits.
+pub record Settled (l : Layout) (windows : List WeakRun) (run : WeakRun) (h : List Change) (n : ℕ) (k : Known) (old new : Moment) : Type 0 where
   pub settled : new.windows ≡ record { present = Some run; next = None }
   pub known : k.windows ≡ windows ++ run ∷ []
   pub changes : k.changes ≡ take n h
@@ -187,13 +186,15 @@ module _ {S : Type 0} (state : S → State) (has : S → Mounted → List Placed
     pub exit : SoundBefore l windows h f old new
     pub why : FailsFor (ExcusesOf old.image) result
 
-  -- it settled, with the files after the first n changes, all of them forced: the volume is mounted, or its walk failed
+  -- It settled, with the files after the first n changes, all of them forced, and with one run, next, as the present
+  -- window at each moment since: the volume is mounted, or its walk failed.
   pub record EndsSettled (l : Layout) (windows : List WeakRun) (h : List Change) (f : ℕ) (Only : (Moment → Type 0) → Type 0) (old new : Moment) (result : Result S MountFault) : Type 0 where
     pub count : ℕ
     pub prefix : IsPrefixOf h f count
+    pub next : WeakRun
     pub known : Known
-    pub moments : Only (λ left. SoundBefore l windows h f old left ⊎ SoundSince l windows h count old left)
-    pub settled : Settled l windows h count known old new
+    pub moments : Only (λ left. SoundBefore l windows h f old left ⊎ SoundSince l windows next h count old left)
+    pub settled : Settled l windows next h count known old new
     pub ends : Mounts known new result
 
   abbrev pub MountsSound : Layout → List WeakRun → List Change → ℕ → ((Moment → Type 0) → Type 0) → (old new : Moment) → Result S MountFault → Type 0

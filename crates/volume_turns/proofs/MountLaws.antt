@@ -33,7 +33,7 @@ sound_to l l2 w w2 h h2 f f2 i el ew eh ef sound =
 pub nothing_said : SaysFault []
 nothing_said = (Ends.Memory, 0, tt, refl)
 
-module _ (l : Layout) (windows : List WeakRun) (h : List Change) (f n : ℕ) (prefix : IsPrefixOf h f n) (k : Known) (old mid : Moment) (s : Settled l windows h n k old mid) (quiet : mid.said ≡ old.said) where
+module _ (l : Layout) (windows : List WeakRun) (run : WeakRun) (h : List Change) (f n : ℕ) (prefix : IsPrefixOf h f n) (k : Known) (old mid : Moment) (s : Settled l windows run h n k old mid) (quiet : mid.said ≡ old.said) where
   pub taken : length (take n h) ≡ n
   taken = let made = prefix.made in let long = length-take n h in omega (arith, made, long)
 
@@ -45,12 +45,11 @@ module _ (l : Layout) (windows : List WeakRun) (h : List Change) (f n : ℕ) (pr
 
   -- ---- moments
 
-  pub before_left : (turns : List Turn) (left : Moment) → SoundBefore l windows h f old left → Left l windows h f n turns old left
+  pub before_left : (turns : List Turn) (left : Moment) → SoundBefore l windows h f old left → Left l windows run h f n turns old left
   before_left turns left x = inl (record { present = x.present; part = []; said = x.said ∙ sym (append-nil old.said); fault = nothing_said; sound = x.sound })
 
-  pub since_left : (turns : List Turn) (left : Moment) → SoundSince l windows h n old left → LeftSince l windows h n turns old left
+  pub since_left : (turns : List Turn) (left : Moment) → SoundSince l windows run h n old left → LeftSince l windows run h n turns old left
   since_left turns left x = record {
-    run = x.run;
     settled = x.settled;
     whole = 0;
     part = [];
@@ -58,13 +57,12 @@ module _ (l : Layout) (windows : List WeakRun) (h : List Change) (f n : ℕ) (pr
     next = says_nothing (slice_get turns 0);
     forced = 0;
     enough = omega arith;
-    sound = sound_to l l (windows ++ x.run ∷ []) (windows ++ x.run ∷ []) (take n h ++ changes_in (take 1 turns)) (take n h ++ changes_in (take 1 turns)) n (n + 0) left.image refl refl refl (omega arith)
-        (sound_more l (windows ++ x.run ∷ []) (take n h) (changes_in (take 1 turns)) n left.image x.sound);
+    sound = sound_to l l (windows ++ run ∷ []) (windows ++ run ∷ []) (take n h ++ changes_in (take 1 turns)) (take n h ++ changes_in (take 1 turns)) n (n + 0) left.image refl refl refl (omega arith)
+        (sound_more l (windows ++ run ∷ []) (take n h) (changes_in (take 1 turns)) n left.image x.sound);
   }
 
-  pub run_left : (turns : List Turn) (left : Moment) → InRun k turns mid left → LeftSince l windows h n turns old left
+  pub run_left : (turns : List Turn) (left : Moment) → InRun k turns mid left → LeftSince l windows run h n turns old left
   run_left turns left r = record {
-    run = s.run;
     settled = r.windows ∙ s.settled;
     whole = r.whole;
     part = r.part;
@@ -72,7 +70,7 @@ module _ (l : Layout) (windows : List WeakRun) (h : List Change) (f n : ℕ) (pr
     next = r.next;
     forced = r.forced - n;
     enough = by (list_any (λ t. t.forces) (take r.whole turns)) refl;
-    sound = sound_to k.mounted.volume.layout l k.windows (windows ++ s.run ∷ []) (k.changes ++ changes_in (take (suc r.whole) turns)) (take n h ++ changes_in (take (suc r.whole) turns)) r.forced (n + (r.forced - n)) left.image
+    sound = sound_to k.mounted.volume.layout l k.windows (windows ++ run ∷ []) (k.changes ++ changes_in (take (suc r.whole) turns)) (take n h ++ changes_in (take (suc r.whole) turns)) r.forced (n + (r.forced - n)) left.image
         s.layout s.known (ap (λ (x : List Change). x ++ changes_in (take (suc r.whole) turns)) s.changes) (let least = r.least in let known = known_forced in omega (arith, least, known)) r.sound;
   }
     where
@@ -92,12 +90,12 @@ module _ (l : Layout) (windows : List WeakRun) (h : List Change) (f n : ℕ) (pr
   epoch_of None is = tt
   epoch_of (Some a) is = ap (λ (x : Anchor). x.epoch) is ∙ sym s.fresh.epoch
 
-  pub starts : Starts l (windows ++ s.run ∷ []) (take n h) (volume_of k) mid.image
+  pub starts : Starts l (windows ++ run ∷ []) (take n h) (volume_of k) mid.image
   starts = record {
     layout = s.layout;
     files = s.fresh.files ∙ ap (λ (x : List Change). after x) s.changes;
     tells = subst (λ (x : Layout). told x mid.image ≡ Some (telling_of (volume_of k))) s.layout (mounted_tells k.mounted k.windows k.changes (length k.changes) mid.image mounted s.fresh.unforced);
-    described = subst (λ (x : Layout). Describes x (in_runs (windows ++ s.run ∷ [])) mid.image (volume_of k).files (volume_of k).entries) s.layout
+    described = subst (λ (x : Layout). Describes x (in_runs (windows ++ run ∷ [])) mid.image (volume_of k).files (volume_of k).entries) s.layout
         (subst (λ (x : List WeakRun). Describes k.mounted.volume.layout (in_runs x) mid.image (volume_of k).files (volume_of k).entries) s.known s.fresh.described);
     epoch = epoch_of (anchor_of mid.image) own;
     count = s.first;

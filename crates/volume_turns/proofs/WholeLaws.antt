@@ -100,39 +100,38 @@ runs_on M request input rest a m uses faults k c b status r = record {
 
 -- ---- it was mounted
 
-module _ {D : Type 0} (M : Ghosts D) (request : Request) (input rest : List ℕ) (l : Layout) (windows : List WeakRun) (h : List Change) (f n : ℕ) (prefix : IsPrefixOf h f n) (k : Known) (a m b : D) (s : Settled l windows h n k (M.now a) (M.now m)) (quiet : (M.now m).said ≡ (M.now a).said)
-    (mount : LeavesOnly M.moment M.left_since a m (λ left. SoundBefore l windows h f (M.now a) left ⊎ SoundSince l windows h n (M.now a) left))
+module _ {D : Type 0} (M : Ghosts D) (request : Request) (input rest : List ℕ) (l : Layout) (windows : List WeakRun) (run : WeakRun) (h : List Change) (f n : ℕ) (prefix : IsPrefixOf h f n) (k : Known) (a m b : D) (s : Settled l windows run h n k (M.now a) (M.now m)) (quiet : (M.now m).said ≡ (M.now a).said)
+    (mount : LeavesOnly M.moment M.left_since a m (λ left. SoundBefore l windows h f (M.now a) left ⊎ SoundSince l windows run h n (M.now a) left))
     (since : Since M m b) (here : M.left_since m (M.moment m) (M.now m)) (now : M.left_since b (M.moment m) (M.now b)) (status : ℕ) (r : RunsOut M request input rest (M.report a) k m b status) where
   abbrev turns : List Turn
   turns = turns_of (errand_in request input r.cut) r.finishes.mets (volume_of k)
 
-  on : (left : Moment) → InRun k turns (M.now m) left → LeftSince l windows h n turns (M.now a) left
-  on left x = run_left l windows h f n prefix k (M.now a) (M.now m) s quiet turns left x
+  on : (left : Moment) → InRun k turns (M.now m) left → LeftSince l windows run h n turns (M.now a) left
+  on left x = run_left l windows run h f n prefix k (M.now a) (M.now m) s quiet turns left x
 
-  mount_left : LeavesOnly M.moment M.left_since a m (Left l windows h f n turns (M.now a))
-  mount_left = leaves_more M.moment M.left_since a m (λ left. SoundBefore l windows h f (M.now a) left ⊎ SoundSince l windows h n (M.now a) left) (Left l windows h f n turns (M.now a))
-      (λ left x. elim x [ inl y ↦ before_left l windows h f n prefix k (M.now a) (M.now m) s quiet turns left y | inr y ↦ inr (since_left l windows h f n prefix k (M.now a) (M.now m) s quiet turns left y) ]) mount
+  mount_left : LeavesOnly M.moment M.left_since a m (Left l windows run h f n turns (M.now a))
+  mount_left = leaves_more M.moment M.left_since a m (λ left. SoundBefore l windows h f (M.now a) left ⊎ SoundSince l windows run h n (M.now a) left) (Left l windows run h f n turns (M.now a))
+      (λ left x. elim x [ inl y ↦ before_left l windows run h f n prefix k (M.now a) (M.now m) s quiet turns left y | inr y ↦ inr (since_left l windows run h f n prefix k (M.now a) (M.now m) s quiet turns left y) ]) mount
 
-  abbrev run_is : Run request input (windows ++ s.run ∷ []) (M.left_since b (M.moment m)) (M.now a).said (volume_of k) (M.now m).image
+  abbrev run_is : Run request input (windows ++ run ∷ []) (M.left_since b (M.moment m)) (M.now a).said (volume_of k) (M.now m).image
   run_is = record {
     cut = r.cut;
     may = r.may;
     before = r.ahead;
     mets = r.finishes.mets;
-    goes = subst (λ (x : List ℕ). Goes (in_runs (windows ++ s.run ∷ [])) (M.left_since b (M.moment m)) (IsCutAt r.cut) (errand_in request input r.cut) x (M.now m).image (volume_of k) r.finishes.mets (errand_in request input r.cut).commands) quiet
+    goes = subst (λ (x : List ℕ). Goes (in_runs (windows ++ run ∷ [])) (M.left_since b (M.moment m)) (IsCutAt r.cut) (errand_in request input r.cut) x (M.now m).image (volume_of k) r.finishes.mets (errand_in request input r.cut).commands) quiet
         (subst (λ (x : List WeakRun). Goes (in_runs x) (M.left_since b (M.moment m)) (IsCutAt r.cut) (errand_in request input r.cut) (M.now m).said (M.now m).image (volume_of k) r.finishes.mets (errand_in request input r.cut).commands) s.known (r.finishes.goes (M.moment m) (omega arith)));
   }
 
-  replied : SaysOut (errand_in request input r.cut) k r.finishes.mets (M.now m) (M.now b) status → IsReplied l windows h n turns (run_status run_is) (run_end run_is) (M.now a) (M.now b) status
+  replied : SaysOut (errand_in request input r.cut) k r.finishes.mets (M.now m) (M.now b) status → IsReplied l windows run h n turns (run_status run_is) (run_end run_is) (M.now a) (M.now b) status
   replied out =
       let d = out.done in
-      let all : length (k.changes ++ changes_in turns) ≡ n + length (changes_in turns) = let sum = length-append k.changes (changes_in turns) in let known = known_length l windows h f n prefix k (M.now a) (M.now m) s quiet in omega (arith, sum, known) in
+      let all : length (k.changes ++ changes_in turns) ≡ n + length (changes_in turns) = let sum = length-append k.changes (changes_in turns) in let known = known_length l windows run h f n prefix k (M.now a) (M.now m) s quiet in omega (arith, sum, known) in
       record {
         ends = out.gives;
         said = d.said ∙ ap (λ (x : List ℕ). x ++ said_in turns) quiet;
-        run = s.run;
         settled = d.windows ∙ s.settled;
-        sound = sound_to k.mounted.volume.layout l k.windows (windows ++ s.run ∷ []) (k.changes ++ changes_in turns) (take n h ++ changes_in turns) (length (k.changes ++ changes_in turns)) (n + length (changes_in turns)) (M.now b).image
+        sound = sound_to k.mounted.volume.layout l k.windows (windows ++ run ∷ []) (k.changes ++ changes_in turns) (take n h ++ changes_in turns) (length (k.changes ++ changes_in turns)) (n + length (changes_in turns)) (M.now b).image
             s.layout s.known (ap (λ (x : List Change). x ++ changes_in turns) s.changes) all d.sound;
         tells = subst (λ (x : Layout). told x (M.now b).image ≡ Some (telling_of (run_end run_is))) s.layout d.tells;
       }
@@ -141,7 +140,7 @@ module _ {D : Type 0} (M : Ghosts D) (request : Request) (input rest : List ℕ)
   Over = IsUnsaid (M.report a) (M.report b) status ⊎ IsBroken request (M.report a) (M.report b) turns (M.now m) (M.now b) status
 
   ended : SaysOut (errand_in request input r.cut) k r.finishes.mets (M.now m) (M.now b) status ⊎ Over
-      → (IsThrough run_is × IsReplied l windows h n (run_turns run_is) (run_status run_is) (run_end run_is) (M.now a) (M.now b) status) ⊎ (IsUnsaid (M.report a) (M.report b) status ⊎ IsBroken request (M.report a) (M.report b) (run_turns run_is) (M.now a) (M.now b) status)
+      → (IsThrough run_is × IsReplied l windows run h n (run_turns run_is) (run_status run_is) (run_end run_is) (M.now a) (M.now b) status) ⊎ (IsUnsaid (M.report a) (M.report b) status ⊎ IsBroken request (M.report a) (M.report b) (run_turns run_is) (M.now a) (M.now b) status)
   ended (inl out) = inl (out.through, replied out)
   ended (inr (inl u)) = inr (inl u)
   ended (inr (inr x)) = inr (inr (broken_on_said (M.report a) (M.report b) request turns (M.now a) (M.now m) (M.now b) status quiet x))
@@ -150,18 +149,18 @@ module _ {D : Type 0} (M : Ghosts D) (request : Request) (input rest : List ℕ)
   mounted_run = inr (record {
     count = n;
     prefix = prefix;
-    next = s.run;
+    next = run;
     at = M.moment m;
     from = (M.now m).image;
     stood = record { moment = M.now m; passed = since (M.moment m) (M.now m) (omega arith) here; image = refl; so_far = quiet };
     settled = s.settled;
     raised = s.raised;
     volume = volume_of k;
-    starts = starts l windows h f n prefix k (M.now a) (M.now m) s quiet;
+    starts = starts l windows run h f n prefix k (M.now a) (M.now m) s quiet;
     run = run_is;
     cause = r.cause;
-    moments = then_on M.moment M.left_since a m b (Left l windows h f n turns (M.now a)) mount_left
-        (leaves_more M.moment M.left_since m b (InRun k turns (M.now m)) (Left l windows h f n turns (M.now a)) (λ left x. inr (on left x)) r.finishes.moments);
+    moments = then_on M.moment M.left_since a m b (Left l windows run h f n turns (M.now a)) mount_left
+        (leaves_more M.moment M.left_since m b (InRun k turns (M.now m)) (Left l windows run h f n turns (M.now a)) (λ left x. inr (on left x)) r.finishes.moments);
     later = λ left past. on left (r.finishes.moments.each left past);
     exit = on (M.now b) (r.finishes.moments.each (M.now b) now);
     ends = ended r.finishes.ends;
@@ -279,9 +278,9 @@ module _ {S D : Type 0} (state : S → State) (has : S → Mounted → List Plac
 
     ends_k : EndIn (M.now m).windows k.windows
     ends_k =
-        let present : (M.now m).windows.present ≡ Some e.settled.run = ap (λ (w : Windows). w.present) e.settled.settled in
+        let present : (M.now m).windows.present ≡ Some e.next = ap (λ (w : Windows). w.present) e.settled.settled in
         subst (λ (x : List WeakRun). EndIn (M.now m).windows x) (sym e.settled.known)
-        (record { last = last_snoc None windows e.settled.run ∙ sym present; some = subst (λ (x : Option WeakRun). IsSome x) (sym present) refl })
+        (record { last = last_snoc None windows e.next ∙ sym present; some = subst (λ (x : Option WeakRun). IsSome x) (sym present) refl })
 
     once : EndsAtOnce why
     once = at_once fault e.ends
@@ -301,7 +300,7 @@ module _ {S D : Type 0} (state : S → State) (has : S → Mounted → List Plac
     }
 
     settled_run : LeavesRun request input rest l windows h f (M.left_since b) (λ P. LeavesOnly M.moment M.left_since a b P) (M.report a) (M.report b) (M.now a) (M.now b) status
-    settled_run = mounted_run M request input rest l windows h f e.count e.prefix k a m b e.settled quiet e.moments (says.since honest) here now status runs
+    settled_run = mounted_run M request input rest l windows e.next h f e.count e.prefix k a m b e.settled quiet e.moments (says.since honest) here now status runs
 
   pub refused_run : (here : M.left_since m (M.moment m) (M.now m)) (now : M.left_since b (M.moment m) (M.now b)) (only : (left : Moment) → M.left_since m (M.moment m) left → left ≡ M.now m)
       (some : (v : Volume) → IsSome (slice_get (turns_of (errand_of request input) [] v) 0)) → MountsSound state has l windows h f (λ P. LeavesOnly M.moment M.left_since a m P) (M.now a) (M.now m) (Err fault)
@@ -318,4 +317,4 @@ joined_run state has M request input rest l windows h f a m b v quiet uses fault
 joined_run state has M request input rest l windows h f a m b v quiet uses faults since here now status (inr e) does =
     let k = e.known in
     let r = does k e.settled.fresh.unforced e.ends in
-    mounted_run M request input rest l windows h f e.count e.prefix k a m b e.settled quiet e.moments since here (now r.finishes.moments.later) status (runs_on M request input rest (M.report a) (M.report m) uses faults k m b status r)
+    mounted_run M request input rest l windows e.next h f e.count e.prefix k a m b e.settled quiet e.moments since here (now r.finishes.moments.later) status (runs_on M request input rest (M.report a) (M.report m) uses faults k m b status r)
