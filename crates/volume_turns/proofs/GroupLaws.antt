@@ -14,13 +14,12 @@ use Rattle.fsd_files.specs.Answers.{Met}
 use Rattle.fsd_files.specs.Disk.{Image, Sectors, in_runs}
 use Rattle.fsd_files.specs.Files.{Change}
 use Rattle.fsd_files.specs.Volume.{Volume}
-use Rattle.fsd_files.specs.Replies.{Reply}
 use Rattle.fsd_sound.specs.Mounted.{Mounted, telling_of}
 use Rattle.fsd_sound.specs.Shown.{told}
 use Rattle.fsd_sound.specs.Sound.{IsSound, weak_of}
 use Rattle.fsd_texts.specs.declared.command.Command.{Command}
 use Rattle.fsd_texts.specs.declared.fault.Fault.TheVariants as Ends
-use Rattle.fsd_runs.specs.Commands.{reply_text, answer}
+use Rattle.fsd_runs.specs.Commands.{answer}
 use Rattle.fsd_runs.specs.Errands.{Errand, Turn, forced_turn}
 use Rattle.fsd_runs.specs.Runs.{Goes, behind, changes_in, said_in, turns_begun}
 use Rattle.volume_turns.specs.declared.turns.End.{End}
@@ -101,10 +100,6 @@ module _ {S D : Type 0} (state : S → State) (has : S → Mounted → List Plac
         moments = λ more. subst (λ (x : Bool). LeavesOnly M.moment M.left_since a b (InRun k (turns ++ turns_behind x more) (M.now a))) (sym through) (both more);
         ends = ends_by result cut same through at_text.ends;
       }
-
--- the line of a force, as it is said
-pub at_forced : {D : Type 0} (M : Ghosts D) (x : Known) (e : Errand) (m b : D) (r : Result (Unit {0}) End) → e.says ≡ reply_text → ClosesAndSays M x (e.says Reply.Forced) m b r → ClosesAndSays M x forced_turn.said m b r
-at_forced M x e m b r says closed = subst (λ (f : Reply → List ℕ). ClosesAndSays M x (f Reply.Forced) m b r) says closed
 
 pub worn_is : (end : End) → is_worn_end end ≡ true → end ≡ Stopped Ends.WornOut
 worn_is (Stopped Ends.WornOut) is = refl

@@ -28,10 +28,9 @@ use Rattle.fsd_runs.proofs.AnswerLaws.{command_grows}
 use Rattle.volume_turns.specs.declared.turns.End.{End}
 use Rattle.volume_turns.specs.declared.turns.End.TheVariants.{Fault as Stopped, Output}
 use Rattle.sector_disk.specs.Calls.{DiskFaults, Since, WritesDisk}
-use Rattle.sector_disk.proofs.CallLaws.{faults_then}
 use Rattle.volume_contract.specs.State.{State, Ages, Known, volume_of, forced_of, Stands}
 use Rattle.volume_turns.specs.Steps.{Does, IsAnswered, Stays, device_told}
-use Rattle.volume_turns.specs.Turns.{Carries, Follows, InRun, RunsFrom, Runs, Steps, StepsBy, StepsOk, StandsBehind, EndsBy, Said, SaysAll, Unsaid, Behind, Told, Unheard, device_end, turn_by}
+use Rattle.volume_turns.specs.Turns.{Carries, Follows, InRun, RunsFrom, Runs, Steps, StepsBy, StepsOk, StandsBehind, EndsBy, Said, SaysAll, Unsaid, Behind, Told, turn_by}
 use Rattle.volume_turns.proofs.ReadLaws.{some_earlier}
 use Rattle.volume_turns.proofs.TurnLaws.{in_before, in_saying, in_behind, enough_from, said_before, said_more, said_nothing, worn_state, state_worn}
 
@@ -310,20 +309,6 @@ module _ {S D : Type 0} (state : S → State) (has : S → Mounted → List Plac
 
 pub told_fault : (old new : Report) (fault : Fault) → UsesDisk old new → DiskFaults (device_told fault) old new → Told {T = Unit {0}} old new (Err (Stopped fault))
 told_fault old new fault uses faults = record { sectors = uses.sectors; disk = faults; input = uses.input; later = omega (arith, uses.output); output = uses.output }
-
-pub told_then : (a b c : Report) (r : Result (Unit {0}) End) → Told {T = Unit {0}} a b (Ok tt) → Told b c r → Told a c r
-told_then a b c r x y = record {
-  sectors = y.sectors ∙ x.sectors;
-  disk = faults_then (device_end r) a b c x.disk y.disk;
-  input = y.input ∙ x.input;
-  later = let p = x.later in let q = y.later in omega (arith, p, q);
-  output = unheard r y.output;
-}
-  where
-    unheard : (s : Result (Unit {0}) End) → Unheard b c s → Unheard a c s
-    unheard (Err Output) rose = let same = x.output in omega (arith, same, rose)
-    unheard (Err (Stopped fault)) is = is ∙ x.output
-    unheard (Ok u) is = is ∙ x.output
 
 pub on_ok_said : {T : Type 0} {H : Type 0} (P : Type 0) (r : Result T End) → H → OnOk r (H → P) → OnOk r P
 on_ok_said P (Ok x) h fact = fact h

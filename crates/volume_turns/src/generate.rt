@@ -23,11 +23,10 @@ ghost use Rattle.volume_turns.specs.Turns.{IsEndOfVolume, IsEndOn, KeepsSaid, To
 ghost use Rattle.volume_turns.specs.Whole.{RunsOut};
 
 use crate::commands;
-use crate::group::is_worn_end;
 use crate::line::{end_with, last_line, say_one};
 use crate::once::{close_fault, fault_of};
 use crate::tally::Tally;
-use crate::turns::End;
+use crate::turns::{End, is_worn_end};
 use fsd_texts::{Command, Fault, Line};
 use script_text::Maker;
 use sector_disk::Machine;

@@ -1,12 +1,10 @@
-//! Programs over the contract of a volume that know nothing else of it: commands one after another, each with its reply
-//! said, a group of them with its force, and from the mount to the last line one command, a put of the input, a script,
-//! and commands that are made up.
+//! Programs over the contract of a volume that know nothing else of it: one command, a put of the input, a script, and
+//! commands that are made up, each from the mount to the last line.
 #![tactic(auto)]
 
 mod answer;
 mod commands;
 mod generate;
-mod group;
 mod input;
 mod line;
 mod listing;
@@ -19,7 +17,6 @@ mod whole;
 
 pub use answer::Answer;
 pub use generate::run_generate;
-pub use group::group_run;
 pub use input::run_put;
 pub use line::last_line;
 pub use once::alone;

@@ -30,10 +30,9 @@ ghost use Rattle.volume_turns.specs.Turns.{BreaksWhole, IsEndOfVolume, IsEndOn, 
 ghost use Rattle.volume_turns.specs.Script.{GoesOn, GroupsBy, Heard, Reads, RoseBy, SparesWanting, WholeRead};
 
 use crate::generate::close_forced;
-use crate::group::is_worn_end;
 use crate::line::{end_with, last_line};
 use crate::once::fault_of;
-use crate::turns::{End, Says, step};
+use crate::turns::{End, Says, is_worn_end, step};
 use fsd_texts::{End as ScriptEnd, Fault, Line};
 use script_text::{Reader, ScriptFault};
 use sector_disk::Machine;

@@ -1,4 +1,4 @@
-//! Commands one after another, each with its reply said.
+//! One command with its reply, and why commands were not all done.
 ghost use Rattle.std.specs.Prelude.{◌≡◌, ◌≤◌, None, Err, OnOk, IfOk, IfErr, IsTrue};
 ghost use Rattle.sector_disk.specs.Machine.{LeavesOnly, OnlyWrites, Trusts, Utters};
 ghost use Rattle.fsd_files.specs.Answers.{Met};
@@ -9,10 +9,11 @@ ghost use Rattle.fsd_runs.specs.Errands.{Errand};
 ghost use Rattle.sector_disk.specs.Calls.{Since};
 ghost use Rattle.fsd_texts.specs.declared.fault.Fault.TheVariants as Ends;
 ghost use Rattle.volume_turns.specs.Each.{SaysOnce};
+ghost use Rattle.volume_turns.specs.Group.{is_worn_end};
 ghost use Rattle.volume_turns.specs.Numbers.{GoesUp, MayWear};
 ghost use Rattle.volume_turns.specs.Steps.{reply_of};
 ghost use Rattle.volume_turns.specs.declared.turns.End.TheVariants.{Fault as Stopped};
-ghost use Rattle.volume_turns.specs.Turns.{IsEndOfVolume, IsEndOn, Runs, Steps, SaysAll, SaysWhole, Told, Unsaid};
+ghost use Rattle.volume_turns.specs.Turns.{IsEndOfVolume, IsEndOn, Steps, SaysAll, SaysWhole, Told, Unsaid};
 
 use crate::answer::Answer;
 use crate::commands;
@@ -28,6 +29,13 @@ pub enum End {
     Fault(Fault),
     /// The output has failed.
     Output,
+}
+
+// Whether a run ended since the mount is worn out.
+pub(crate) fn is_worn_end(end: &End) -> bool
+    ensures { result ≡ is_worn_end end.now }
+{
+    matches!(end, End::Fault(Fault::WornOut))
 }
 
 /// How replies are said.
@@ -89,31 +97,4 @@ pub(crate) fn step<M: Machine, V: Files<M>, T: Says>(
         Ok(answer) => say::<M, T>(alloc, m, &answer),
         Err(fault) => Err(End::Fault(fault)),
     }
-}
-
-/// Does commands one after another, and says the reply of each.
-pub(crate) fn run<M: Machine, V: Files<M>, T: Says>(
-    alloc: Global,
-    v: &mut V,
-    m: &mut M,
-    commands: &[Command],
-) -> Result<(), End>
-    requires room { (V.state v.old).layout.sectors ≤ (M.report m.old).sectors }
-    requires up { (V.state v.old).down ≡ None }
-    requires lazily { (met : Met) (x : Volume) (w : Word) → IsTrue (T.errand.forces (answer met x w).0) → (answer met x w).1.unforced ≡ 0 }
-    ensures layout { (V.state v.new).layout ≡ (V.state v.old).layout }
-    ensures up { OnOk result ((V.state v.new).down ≡ None) }
-    ensures told { Told (M.report m.old) (M.report m.new) result }
-    ensures trust { Trusts (M.tells m.old) (M.tells m.new) (M.honest m.old) (M.honest m.new) }
-    ensures since { M.honest m.new → Since M.Machine m.old m.new }
-    ensures later { M.honest m.new → M.moment m.old ≤ M.moment m.new }
-    ensures runs { Runs V.state V.holds M.Machine T.errand commands.now v.old m.old v.new m.new result }
-{
-    for c in commands {
-        match step::<M, V, T>(alloc, v, m, c) {
-            Ok(()) => {}
-            Err(end) => return Err(end),
-        }
-    }
-    Ok(())
 }
