@@ -1,11 +1,12 @@
 -- What `clap` is told of a command, argument by argument and command by command.
-use Rattle.std.proofs.Common.{◌≡◌, ◌<◌, ◌+◌, ℕ, zero, suc, List, [], ◌∷◌, ◌++◌, length, take, map, refl, ap, ap₂, ◌∙◌, false, arith, add-one}
-use Rattle.std.specs.List.{slice_index_or}
-use Rattle.clap.specs.Built.{AddsArg, AddsSubcommand}
-use Rattle.clap.specs.Simple.{App, Shape, app_of, with_rule, with_subcommand}
+use Rattle.std.proofs.Common.{◌≡◌, ◌<◌, ◌+◌, ℕ, List, [], ◌∷◌, ◌++◌, length, take, map, sym, ap, ap₂, ◌∙◌, Some, false}
 use Rattle.std.specs.Borrow.{Bor}
+use Rattle.std.specs.List.{slice_index_or}
+use Rattle.std.proofs.lemmas.List.{append_assoc, map_more}
+use Rattle.clap.specs.Built.{AddsArg, AddsSubcommand}
+use Rattle.clap.specs.Simple.{App, Shape, app_of, new_rule, with_rule, with_subcommand}
 use Rattle.clap.specs.Walk.{Rule, Text, rule_of}
-use Rattle.fsd_runs.specs.Words.{positional, subcommand}
+use Rattle.fsd_runs.specs.Words.{option, subcommand}
 use Rattle.clap.specs.declared.builder.arg.Arg.{Arg}
 use Rattle.clap.specs.declared.builder.command.Command.{Command}
 use Rattle.clap.specs.declared.builder.command.Command.TheViews.{out-Command}
@@ -14,15 +15,15 @@ use Rattle.clap.specs.declared.builder.command.Command.TheViews.{out-Command}
 abbrev pub alone : Shape → App
 alone s = record { top = s; subs = [] }
 
-first_more : {X Y : Type 0} (f : X → Y) (xs : List X) (i : ℕ) (d : X) → i < length xs → map f (take i xs) ++ (f (slice_index_or xs i d) ∷ []) ≡ map f (take (suc i) xs)
-first_more f [] i d inside = absurd (omega arith)
-first_more f (y ∷ ys) zero d inside = refl
-first_more f (y ∷ ys) (suc i) d inside = ap (λ zs. f y ∷ zs) (first_more f ys i d (omega arith))
+-- one more of some arguments
+pub rules_more : {X : Type 0} (name : Text) (before : List Rule) (f : X → Rule) (xs : List X) (i : ℕ) (d : X) → i < length xs
+    → with_rule (alone (subcommand name (before ++ map f (take i xs)))) (f (slice_index_or xs i d)) ≡ alone (subcommand name (before ++ map f (take (i + 1) xs)))
+rules_more name before f xs i d inside =
+    ap (λ (rules : List Rule). alone (subcommand name rules)) (append_assoc before (map f (take i xs)) (f (slice_index_or xs i d) ∷ []) ∙ ap (λ (rules : List Rule). before ++ rules) (sym (map_more f xs i d inside)))
 
--- one more of some positionals
-pub positional_more : (name : Text) (ids : List (Bor Text)) (i : ℕ) (d : Bor Text) → i < length ids
-    → with_rule (alone (subcommand name (map (λ id. positional id.now) (take i ids)))) (positional (slice_index_or ids i d).now) ≡ alone (subcommand name (map (λ id. positional id.now) (take (i + 1) ids)))
-positional_more name ids i d inside = rw add-one (ap (λ rules. alone (subcommand name rules)) (first_more (λ (id : Bor Text). positional id.now) ids i d inside))
+-- an option with a value
+pub rule_of_option : (new long : Arg) (id : Bor Text) → long ≡ record new { long = Some id } → rule_of new ≡ new_rule id.now → rule_of long ≡ option id.now
+rule_of_option new long id is rule = ap rule_of is ∙ ap (λ (r : Rule). record r { long = Some id.now }) rule
 
 -- one more argument
 pub with_last : (old new : Command) (a : Arg) (was : App) (r : Rule) → AddsArg old a new → a.global ≡ false → app_of old ≡ was → rule_of a ≡ r → app_of new ≡ with_rule was r

@@ -1,45 +1,96 @@
 //! The commands of the program, as `clap` is told of them.
-ghost use Rattle.std.specs.Prelude.{◌≡◌, IfOk, [], false, map};
-ghost use Rattle.clap.specs.Simple.{app_of};
+ghost use Rattle.std.specs.Prelude.{◌≡◌, IfOk, [], codes, false, fold};
+ghost use Rattle.clap.specs.Simple.{app_of, new_app};
 ghost use Rattle.clap.specs.declared.builder.command.Command.TheViews.{out-Command};
-ghost use Rattle.fsd_runs.specs.Words.{cfs, positional, subcommand};
+ghost use Rattle.fsd_runs.specs.Words.{cfs};
+ghost use Rattle.command_words.specs.CommandSet.{shape_of, with_row};
 
 use clap::{Arg, Command};
 use std::alloc::{AllocError, Global};
 
-/// The command set: each command with its positionals, all of them required, and the option of a put.
+// A command, its positionals, all of them required, and its options, each of which takes a value.
+struct Row<'a> {
+    name: &'a str,
+    positionals: &'a [&'a str],
+    options: &'a [&'a str],
+}
+
+const ROWS: [Row<'static>; 9] = [
+    Row {
+        name: "format",
+        positionals: &["image", "n", "t", "p"],
+        options: &[],
+    },
+    Row {
+        name: "put",
+        positionals: &["image", "name"],
+        options: &["keep"],
+    },
+    Row {
+        name: "get",
+        positionals: &["image", "key"],
+        options: &[],
+    },
+    Row {
+        name: "list",
+        positionals: &["image", "pat"],
+        options: &[],
+    },
+    Row {
+        name: "delete",
+        positionals: &["image", "key"],
+        options: &[],
+    },
+    Row {
+        name: "keep",
+        positionals: &["image", "name", "k"],
+        options: &[],
+    },
+    Row {
+        name: "stat",
+        positionals: &["image"],
+        options: &[],
+    },
+    Row {
+        name: "script",
+        positionals: &["image"],
+        options: &[],
+    },
+    Row {
+        name: "generate",
+        positionals: &["image", "seed", "count"],
+        options: &[],
+    },
+];
+
+/// The command set.
 pub(crate) fn command_set<'a>(alloc: Global) -> Result<Command<'a>, AllocError>
     ensures { IfOk result (λ c. app_of c ≡ cfs) }
 {
-    let format = taking(alloc, "format", &["image", "n", "t", "p"])?;
-    let put = taking(alloc, "put", &["image", "name"])?.arg(Arg::new(alloc, "keep").long("keep"))?;
-    let get = taking(alloc, "get", &["image", "key"])?;
-    let list = taking(alloc, "list", &["image", "pat"])?;
-    let delete = taking(alloc, "delete", &["image", "key"])?;
-    let keep = taking(alloc, "keep", &["image", "name", "k"])?;
-    let stat = taking(alloc, "stat", &["image"])?;
-    let script = taking(alloc, "script", &["image"])?;
-    let generate = taking(alloc, "generate", &["image", "seed", "count"])?;
-    Command::new(alloc, "cfs")
-        .subcommand(format)?
-        .subcommand(put)?
-        .subcommand(get)?
-        .subcommand(list)?
-        .subcommand(delete)?
-        .subcommand(keep)?
-        .subcommand(stat)?
-        .subcommand(script)?
-        .subcommand(generate)
+    program_of(alloc, &ROWS)
 }
 
-// A command that takes these positionals.
-fn taking<'a>(alloc: Global, name: &'a str, ids: &[&'a str]) -> Result<Command<'a>, AllocError>
-    ensures app { IfOk result (λ c. app_of c ≡ record { top = subcommand name.entry.now (map (λ id. positional id.now) ids.now); subs = [] }) }
+// The program with a command for each row.
+fn program_of<'a>(alloc: Global, rows: &[Row<'a>]) -> Result<Command<'a>, AllocError>
+    ensures { IfOk result (λ c. app_of c ≡ fold with_row (new_app (codes "cfs")) rows.now) }
+{
+    let mut program = Command::new(alloc, "cfs");
+    for row in rows {
+        program = program.subcommand(command_of(alloc, row)?)?;
+    }
+    Ok(program)
+}
+
+fn command_of<'a>(alloc: Global, row: &Row<'a>) -> Result<Command<'a>, AllocError>
+    ensures app { IfOk result (λ c. app_of c ≡ record { top = shape_of row.now; subs = [] }) }
     ensures local { IfOk result (λ c. (out-Command c).has_globals ≡ false) }
 {
-    let mut command = Command::new(alloc, name);
-    for id in ids {
-        command = command.arg(Arg::new(alloc, id).required(true))?;
+    let mut command = Command::new(alloc, row.name);
+    for positional in row.positionals {
+        command = command.arg(Arg::new(alloc, positional).required(true))?;
+    }
+    for option in row.options {
+        command = command.arg(Arg::new(alloc, option).long(option))?;
     }
     Ok(command)
 }

@@ -19,7 +19,14 @@ pub(crate) fn field<'a>(fields: &ArgMatches<'a>, id: &str) -> &'a str
     fields.get_str(id).unwrap_or("")
 }
 
-pub(crate) fn number_of(word: &str) -> Result<u32, Cause>
+/// The number that a positional spells.
+pub(crate) fn number_at(fields: &ArgMatches<'_>, id: &str) -> Result<u32, Cause>
+    ensures { result ≡ number_in (field id.now (rows_of (found_of fields.now))) }
+{
+    number_of(field(fields, id))
+}
+
+fn number_of(word: &str) -> Result<u32, Cause>
     ensures { result ≡ number_in word.now }
 {
     read_number(word.as_bytes()).ok_or(Cause::BadNumber)

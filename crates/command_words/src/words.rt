@@ -8,7 +8,7 @@ ghost use Rattle.fsd_runs.specs.declared.request.Request.TheVariants.{Outside};
 ghost use Rattle.fsd_runs.specs.Words.{entered, image_in, or_bad_field, path_of, reads, reads_format, reads_generate, reads_keep, reads_put, request_of};
 
 use crate::command_set::command_set;
-use crate::field::{field, keep_of, key_of, name_of, number_of, pattern_of, seed_of};
+use crate::field::{field, keep_of, key_of, name_of, number_at, pattern_of, seed_of};
 use clap::ArgMatches;
 use clap::error::ErrorKind;
 use fsd_runs::Request;
@@ -91,9 +91,9 @@ fn read_fields(name: &str, fields: &ArgMatches<'_>) -> Result<Request, Cause>
 fn read_format(fields: &ArgMatches<'_>) -> Result<Request, Cause>
     ensures { result ≡ reads_format (rows_of (found_of fields.now)) }
 {
-    let sectors = number_of(field(fields, "n"))?;
-    let third = number_of(field(fields, "t"))?;
-    let pages = number_of(field(fields, "p"))?;
+    let sectors = number_at(fields, "n")?;
+    let third = number_at(fields, "t")?;
+    let pages = number_at(fields, "p")?;
     Ok(Request::Format {
         sectors,
         third,
@@ -113,7 +113,7 @@ fn read_keep(fields: &ArgMatches<'_>) -> Result<Request, Cause>
     ensures { result ≡ reads_keep (rows_of (found_of fields.now)) }
 {
     let name = name_of(field(fields, "name"))?;
-    let keep = number_of(field(fields, "k"))?;
+    let keep = number_at(fields, "k")?;
     Ok(Request::One(Command::Keep { name, keep }))
 }
 
@@ -121,6 +121,6 @@ fn read_generate(fields: &ArgMatches<'_>) -> Result<Request, Cause>
     ensures { result ≡ reads_generate (rows_of (found_of fields.now)) }
 {
     let seed = seed_of(field(fields, "seed"))?;
-    let count = number_of(field(fields, "count"))?;
+    let count = number_at(fields, "count")?;
     Ok(Request::Generate { seed, count })
 }
