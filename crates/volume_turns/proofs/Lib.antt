@@ -22,6 +22,7 @@ pub mod RunLaws
 pub mod SaidLaws
 pub mod ScriptEndLaws
 pub mod ScriptGroupLaws
+pub mod ScriptLastLaws
 pub mod ScriptLaws
 pub mod ScriptRunLaws
 pub mod StatusLaws

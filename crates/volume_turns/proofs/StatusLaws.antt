@@ -159,7 +159,7 @@ pub not_as : (n gives status : ℕ) → (gives ≡ n → ⊥) → (6 ≡ n → �
 not_as n gives status a b (inl is) at = a (sym is ∙ at)
 not_as n gives status a b (inr six) at = b (sym six ∙ at)
 
-fault_some : (why : Fault) → fault_status why ≡ 0 → ⊥
+pub fault_some : (why : Fault) → fault_status why ≡ 0 → ⊥
 fault_some Ends.NotVolume is = omega (arith, is)
 fault_some (Ends.Lost x y) is = omega (arith, is)
 fault_some Ends.NoAnchor is = omega (arith, is)
@@ -315,7 +315,7 @@ script_done_counts stop a b heard same = record { sectors = heard.sectors; disk 
 
 -- ---- the input
 
-volume_not_five : (why : Fault) → IsOfVolume why → fault_status why ≡ 5 → ⊥
+pub volume_not_five : (why : Fault) → IsOfVolume why → fault_status why ≡ 5 → ⊥
 volume_not_five Ends.NotVolume of is = omega (arith, is)
 volume_not_five (Ends.Lost x y) of is = omega (arith, is)
 volume_not_five Ends.NoAnchor of is = omega (arith, is)
@@ -336,7 +336,7 @@ one_not_five command status (inl from) five = from_not 5 command status (omega a
 one_not_five command status (inr (inl (why, of, is))) five = volume_not_five why of (sym is ∙ five)
 one_not_five command status (inr (inr six)) five = omega (arith, six, five)
 
-fault_not_two : (why : Fault) → fault_status why ≡ 2 → ⊥
+pub fault_not_two : (why : Fault) → fault_status why ≡ 2 → ⊥
 fault_not_two Ends.NotVolume is = omega (arith, is)
 fault_not_two (Ends.Lost x y) is = omega (arith, is)
 fault_not_two Ends.NoAnchor is = omega (arith, is)

@@ -55,7 +55,7 @@ unsaid_unworn old new {T = T} r unsaid is = subst (λ (x : Result T End). IfErr 
 
 -- ---- its status
 
-fault_nine : (why : Fault) → fault_status why ≡ 9 → why ≡ Ends.WornOut
+pub fault_nine : (why : Fault) → fault_status why ≡ 9 → why ≡ Ends.WornOut
 fault_nine Ends.WornOut is = refl
 fault_nine Ends.NotVolume is = absurd (omega (arith, is))
 fault_nine (Ends.Lost a b) is = absurd (omega (arith, is))

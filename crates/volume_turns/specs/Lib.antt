@@ -3,6 +3,7 @@ pub mod Causes
 pub mod Each
 pub mod Generate
 pub mod Group
+pub mod Last
 pub mod Line
 pub mod Listing
 pub mod Numbers

@@ -14,7 +14,7 @@ use script_text::lay_line;
 use sector_disk::Machine;
 
 // The status of a fault.
-fn fault_status(fault: Fault) -> u8
+pub(crate) fn fault_status(fault: Fault) -> u8
     ensures status { result ≡ fault_status fault }
     ensures said { is_unsaid result ≡ false }
 {

@@ -18,6 +18,7 @@ ghost use Rattle.fsd_runs.specs.Errands.{forced_turn, is_forced};
 ghost use Rattle.volume_contract.specs.State.{Known, Stands};
 ghost use Rattle.volume_turns.specs.Causes.{FailsInput, SaysFault, SaysOfCall, SaysOfInput, TellsImage, is_of_fault};
 ghost use Rattle.volume_turns.specs.Each.{SaysBadLine, SaysBetween, SaysForced};
+ghost use Rattle.volume_turns.specs.Last.{EndsSo, ending_line, ending_status};
 ghost use Rattle.volume_turns.specs.Numbers.{GoesUp, MayWear};
 ghost use Rattle.volume_turns.specs.Once.{ClosesAndSays, unit_of};
 ghost use Rattle.volume_turns.specs.Status.{CountsTaking, IsScriptStatus};
@@ -30,7 +31,7 @@ ghost use Rattle.volume_turns.specs.Turns.{BreaksWhole, IsEndOfVolume, IsEndOn, 
 ghost use Rattle.volume_turns.specs.Script.{GoesOn, GroupsBy, Heard, Reads, RoseBy, SparesWanting, WholeRead};
 
 use crate::generate::close_forced;
-use crate::line::{end_with, last_line};
+use crate::line::{end_with, fault_status, last_line};
 use crate::once::fault_of;
 use crate::turns::{End, Says, is_worn_end, step};
 use fsd_texts::{End as ScriptEnd, Fault, Line};
@@ -191,6 +192,48 @@ fn force_read<M: Machine, V: Files<M>>(v: V, m: &mut M, stop: Stop) -> Result<St
     }
 }
 
+// The line that is said last, if one is.
+fn ending_line(ended: Result<Stop, End>) -> Option<Line>
+    ensures { result ≡ ending_line ended }
+{
+    match ended {
+        Ok(Stop::Ended(ScriptEnd::Done)) | Err(End::Output) => None,
+        Ok(Stop::Ended(ScriptEnd::Bad(bad))) => Some(Line::Bad(bad)),
+        Ok(Stop::Ended(ScriptEnd::TooLong)) => Some(Line::Ended(Fault::InputTooLong)),
+        Ok(Stop::Input) => Some(Line::Ended(Fault::Input)),
+        Ok(Stop::WornOut) => Some(Line::Ended(Fault::WornOut)),
+        Err(End::Fault(why)) => Some(Line::Ended(why)),
+    }
+}
+
+// And the status behind it.
+fn ending_status(ended: Result<Stop, End>) -> u8
+    ensures { result ≡ ending_status ended }
+{
+    match ended {
+        Ok(Stop::Ended(ScriptEnd::Done)) => 0,
+        Ok(Stop::Ended(ScriptEnd::Bad(_))) => 2,
+        Ok(Stop::Ended(ScriptEnd::TooLong)) | Ok(Stop::Input) => 5,
+        Ok(Stop::WornOut) => 9,
+        Err(End::Fault(why)) => fault_status(why),
+        Err(End::Output) => 6,
+    }
+}
+
+// Says the last line of a script, if there is one, and gives its status.
+fn say_last<M: Machine>(m: &mut M, ended: Result<Stop, End>) -> u8
+    ensures trust { Trusts (M.tells m.old) (M.tells m.new) (M.honest m.old) (M.honest m.new) }
+    ensures since { M.honest m.new → Since M.Machine m.old m.new }
+    ensures ledger { M.tells m.new → M.ledger m.new ≡ M.ledger m.old }
+    ensures last { EndsSo M.Machine (ending_line ended) (ending_status ended) m.old m.new result }
+{
+    let gives = ending_status(ended);
+    match ending_line(ended) {
+        Some(line) => last_line(m, &line, gives),
+        None => gives,
+    }
+}
+
 // Reads the commands of the input over a mounted volume and does them, to the last line. It gives the status.
 fn script_on<M: Machine, V: Files<M> + Drop, T: Says>(alloc: Global, v: V, m: &mut M) -> u8
     requires room { (V.state v).layout.sectors ≤ (M.report m.old).sectors }
@@ -215,17 +258,8 @@ fn script_on<M: Machine, V: Files<M> + Drop, T: Says>(alloc: Global, v: V, m: &m
         SaysForced reply_text (M.left_since m.new t) (script_in (M.ledger m.old).input).0 (M.now m.old).said (M.now m.new).said }
     ensures runs { M.honest m.new → (k : Known) → Stands V.state V.holds v k (M.now m.old) → RunsOut M.Machine Script (M.ledger m.old).input (M.ledger m.new).input (M.report m.old) k m.old m.new result }
 {
-    match group_read::<M, V, T>(alloc, v, m) {
-        Ok(Stop::Ended(ScriptEnd::Done)) => 0,
-        Ok(Stop::Ended(ScriptEnd::Bad(bad))) => last_line(m, &Line::Bad(bad), 2),
-        Ok(Stop::Ended(ScriptEnd::TooLong)) => {
-            last_line(m, &Line::Ended(Fault::InputTooLong), 5)
-        }
-        Ok(Stop::Input) => last_line(m, &Line::Ended(Fault::Input), 5),
-        Ok(Stop::WornOut) => last_line(m, &Line::Ended(Fault::WornOut), 9),
-        Err(End::Fault(why)) => end_with(m, why),
-        Err(End::Output) => 6,
-    }
+    let ended = group_read::<M, V, T>(alloc, v, m);
+    say_last(m, ended)
 }
 
 /// Mounts a volume, reads the commands of the input and does them one after another, each with its reply said, and
