@@ -1,35 +1,39 @@
 -- What `clap` is told of a command, argument by argument and command by command.
-use Rattle.std.proofs.Common.{◌≡◌, ◌<◌, ◌+◌, ℕ, List, [], ◌∷◌, ◌++◌, length, take, map, sym, ap, ap₂, ◌∙◌, Some, false}
+use Rattle.std.proofs.Common.{◌≡◌, ◌<◌, ◌+◌, ◌||◌, ◌∙◌, ℕ, Bool, true, false, List, [], ◌∷◌, ◌++◌, length, take, map, Some, sym, ap, ap₂, subst}
 use Rattle.std.specs.Borrow.{Bor}
 use Rattle.std.specs.List.{slice_index_or}
 use Rattle.std.proofs.lemmas.List.{append_assoc, map_more}
 use Rattle.clap.specs.Built.{AddsArg, AddsSubcommand}
 use Rattle.clap.specs.Simple.{App, Shape, app_of, new_rule, with_rule, with_subcommand}
 use Rattle.clap.specs.Walk.{Rule, Text, rule_of}
-use Rattle.fsd_runs.specs.Words.{option, subcommand}
 use Rattle.clap.specs.declared.builder.arg.Arg.{Arg}
 use Rattle.clap.specs.declared.builder.command.Command.{Command}
-use Rattle.clap.specs.declared.builder.command.Command.TheViews.{out-Command}
+use Rattle.fsd_runs.specs.Words.{option, positional, subcommand}
+use Rattle.command_words.specs.CommandSet.{IsCommand}
 
--- a command with no subcommand
-abbrev pub alone : Shape → App
-alone s = record { top = s; subs = [] }
+-- ---- one more argument
 
--- one more of some arguments
-pub rules_more : {X : Type 0} (name : Text) (before : List Rule) (f : X → Rule) (xs : List X) (i : ℕ) (d : X) → i < length xs
-    → with_rule (alone (subcommand name (before ++ map f (take i xs)))) (f (slice_index_or xs i d)) ≡ alone (subcommand name (before ++ map f (take (i + 1) xs)))
-rules_more name before f xs i d inside =
-    ap (λ (rules : List Rule). alone (subcommand name rules)) (append_assoc before (map f (take i xs)) (f (slice_index_or xs i d) ∷ []) ∙ ap (λ (rules : List Rule). before ++ rules) (sym (map_more f xs i d inside)))
+module _ (old new : Command) (plain made : Arg) (adds : AddsArg old made new) (local : plain.global ≡ false) (name : Text) where
+  one_more : (rules : List Rule) (r : Rule) → made.global ≡ plain.global → rule_of made ≡ r → IsCommand old (subcommand name rules) → IsCommand new (subcommand name (rules ++ r ∷ []))
+  one_more rules r same is was = record {
+    app = adds.shape (same ∙ local) ∙ ap₂ with_rule was.app is;
+    local = adds.globals ∙ ap₂ (λ (x y : Bool). x || y) was.local (same ∙ local);
+  }
 
--- an option with a value
-pub rule_of_option : (new long : Arg) (id : Bor Text) → long ≡ record new { long = Some id } → rule_of new ≡ new_rule id.now → rule_of long ≡ option id.now
-rule_of_option new long id is rule = ap rule_of is ∙ ap (λ (r : Rule). record r { long = Some id.now }) rule
+  pub positional_more : (ids : List (Bor Text)) (i : ℕ) (d : Bor Text) → i < length ids → made ≡ record plain { required = true } → rule_of plain ≡ new_rule (slice_index_or ids i d).now
+      → IsCommand old (subcommand name (map (λ id. positional id.now) (take i ids))) → IsCommand new (subcommand name (map (λ id. positional id.now) (take (i + 1) ids)))
+  positional_more ids i d inside is rule was =
+      subst (λ (rules : List Rule). IsCommand new (subcommand name rules)) (sym (map_more (λ (id : Bor Text). positional id.now) ids i d inside))
+      (one_more _ _ (ap (λ (a : Arg). a.global) is) (ap rule_of is ∙ ap (λ (r : Rule). record r { required = true }) rule) was)
 
--- one more argument
-pub with_last : (old new : Command) (a : Arg) (was : App) (r : Rule) → AddsArg old a new → a.global ≡ false → app_of old ≡ was → rule_of a ≡ r → app_of new ≡ with_rule was r
-with_last old new a was r adds local above is = adds.shape local ∙ ap₂ with_rule above is
+  pub option_more : (before : List Rule) (ids : List (Bor Text)) (i : ℕ) (d : Bor Text) → i < length ids → made ≡ record plain { long = Some (slice_index_or ids i d) } → rule_of plain ≡ new_rule (slice_index_or ids i d).now
+      → IsCommand old (subcommand name (before ++ map (λ id. option id.now) (take i ids))) → IsCommand new (subcommand name (before ++ map (λ id. option id.now) (take (i + 1) ids)))
+  option_more before ids i d inside is rule was =
+      subst (λ (rules : List Rule). IsCommand new (subcommand name rules))
+      (append_assoc before _ (option (slice_index_or ids i d).now ∷ []) ∙ ap (λ (rules : List Rule). before ++ rules) (sym (map_more (λ (id : Bor Text). option id.now) ids i d inside)))
+      (one_more (before ++ map (λ id. option id.now) (take i ids)) _ (ap (λ (a : Arg). a.global) is) (ap rule_of is ∙ ap (λ (r : Rule). record r { long = Some (slice_index_or ids i d).now }) rule) was)
 
--- one more command
-pub with_next : (old sub new : Command) (a : App) (s : Shape) → AddsSubcommand old sub new → (out-Command sub).has_globals ≡ false → app_of old ≡ a → app_of sub ≡ alone s
-    → app_of new ≡ with_subcommand a s
-with_next old sub new a s adds local above below = adds.shape local ∙ ap₂ with_subcommand above (ap (λ (x : App). x.top) below)
+-- ---- one more command
+
+pub with_next : (old sub new : Command) (a : App) (s : Shape) → AddsSubcommand old sub new → IsCommand sub s → app_of old ≡ a → app_of new ≡ with_subcommand a s
+with_next old sub new a s adds is above = adds.shape is.local ∙ ap₂ with_subcommand above (ap (λ (x : App). x.top) is.app)

@@ -1,9 +1,8 @@
 //! The commands of the program, as `clap` is told of them.
-ghost use Rattle.std.specs.Prelude.{◌≡◌, IfOk, [], codes, false, fold};
+ghost use Rattle.std.specs.Prelude.{◌≡◌, IfOk, codes, fold};
 ghost use Rattle.clap.specs.Simple.{app_of, new_app};
-ghost use Rattle.clap.specs.declared.builder.command.Command.TheViews.{out-Command};
 ghost use Rattle.fsd_runs.specs.Words.{cfs};
-ghost use Rattle.command_words.specs.CommandSet.{shape_of, with_row};
+ghost use Rattle.command_words.specs.CommandSet.{IsCommand, shape_of, with_row};
 
 use clap::{Arg, Command};
 use std::alloc::{AllocError, Global};
@@ -82,8 +81,7 @@ fn program_of<'a>(alloc: Global, rows: &[Row<'a>]) -> Result<Command<'a>, AllocE
 }
 
 fn command_of<'a>(alloc: Global, row: &Row<'a>) -> Result<Command<'a>, AllocError>
-    ensures app { IfOk result (λ c. app_of c ≡ record { top = shape_of row.now; subs = [] }) }
-    ensures local { IfOk result (λ c. (out-Command c).has_globals ≡ false) }
+    ensures { IfOk result (λ c. IsCommand c (shape_of row.now)) }
 {
     let mut command = Command::new(alloc, row.name);
     for positional in row.positionals {

@@ -6,5 +6,5 @@ use Rattle.command_words.proofs.command_set.program_of.Goals as goal
 
 pub loop-row-preserved : goal.loop-row-preserved
 loop-row-preserved c =
-    with_next _ _ _ _ _ c.in_ok-program.ensures c.in_ok-command_of.ensures.local c.loop-row.invariant c.in_ok-command_of.ensures.app
+    with_next _ _ _ _ _ c.in_ok-program.ensures c.in_ok-command_of.ensures c.loop-row.invariant
     ∙ sym (fold_more with_row _ c.args.rows.now c.loop-row.row-index _ c.loop-row-test.true)
