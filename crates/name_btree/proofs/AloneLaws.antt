@@ -90,7 +90,16 @@ module _ (key : Key) (old s : Step) (above : ℕ) (c : Child) (looks : Looks old
   alone_led pages agrees = (visit_of pages (above + 1) c, (visited pages agrees (visited_top pages)).0, refl)
 
   pub alone_leaf : (entries : List Entry) → IsReached s c.page → is_spare s.spares c.page ≡ false → page_at s.images c.page ≡ Some (Leaf entries) → HasLeafBy s (is_before (UpTo key)) c.page entries
-  alone_leaf entries reached used has = (c, refl, record { is_read = record { reached = reached; used = used; has = has }; above = above; way = down })
+  alone_leaf entries reached used has = (
+    c,
+    refl,
+    record {
+      is_read = record { reached = reached; used = used; has = has };
+      above = above;
+      way = down;
+      path = λ pages agrees. (visited pages agrees (visited_top pages)).0;
+    },
+  )
 
   -- ---- faults
 

@@ -8,7 +8,8 @@ use Rattle.fsd_formats.specs.declared.page.Separator.{Separator}
 use Rattle.fsd_formats.specs.NamePage.{Content, Leaf, Interior}
 use Rattle.fsd_table.specs.declared.child.Child.{Child}
 use Rattle.fsd_table.specs.Pages.{page_at, children, children_of}
-use Rattle.fsd_table.specs.Table.{top}
+use Rattle.fsd_table.specs.Table.{top, IsVisited}
+use Rattle.fsd_table.proofs.BreakLaws.{visited_top}
 use Rattle.fsd_forest.specs.Ways.{end_of}
 use Rattle.name_page.specs.Cut.{is_before, AtLow, AtHigh}
 use Rattle.name_page.specs.declared.cut.Cut.TheVariants.{End}
@@ -60,7 +61,8 @@ placed before above previous next first low high (s ∷ separators) at_low at_hi
 
 -- ---- from page 0
 
-between : (before : Key → Bool) (pages : List (List ℕ)) (above : ℕ) (c : Child) → LeadsDown before pages above c → AtLow before c.low × AtHigh before c.high
+-- the place stands between the keys of the child
+pub between : (before : Key → Bool) (pages : List (List ℕ)) (above : ℕ) (c : Child) → LeadsDown before pages above c → AtLow before c.low × AtHigh before c.high
 between before pages zero c is = (subst (λ (d : Child). AtLow before d.low) (sym is) tt, subst (λ (d : Child). AtHigh before d.high) (sym is) tt)
 between before pages (suc above) c is = (is.2.low, is.2.high)
 
@@ -142,6 +144,7 @@ module _ (old s : Step) (before : Key → Bool) (above : ℕ) (start : Child) (f
     is_read = leaf_read;
     above = led.below;
     way = λ pages agrees. led.way pages agrees (subst (λ (n : ℕ). LeadsDown before pages n start) (sym none) is);
+    path = λ pages agrees. led.path pages agrees (subst (λ (n : ℕ). IsVisited pages (n + 1) start) (sym none) (subst (IsVisited pages 1) (sym is) (visited_top pages)));
   }
 
 -- what was reached since then shows the same
@@ -154,6 +157,7 @@ leaf_later old s before leaf entries looks is = record {
   };
   above = is.above;
   way = λ pages agrees. is.way pages (agrees_before old s pages looks agrees);
+  path = λ pages agrees. is.path pages (agrees_before old s pages looks agrees);
 }
 
 -- along the last children nothing stands right of the way

@@ -88,11 +88,12 @@ pub record IsLastBeside (s : Step) (n : Neighbour) (last : Entry) : Type 0 where
 
 -- ---- where nothing is found
 
--- a leaf that was read; what was reached shows that the way to the place leads to it
+-- a leaf that was read; what was reached shows that the way to the place leads to it, along a path from page 0
 pub record IsLeafBy (s : Step) (before : Key → Bool) (leaf : Child) (entries : List Entry) : Type 0 where
   pub is_read : IsReadLeaf s leaf entries
   pub above : ℕ
   pub way : Shows s (λ pages. LeadsDown before pages above leaf)
+  pub path : Shows s (λ pages. IsVisited pages (above + 1) leaf)
 
 -- the leaf to which the way to the place leads, by its page
 abbrev pub HasLeafBy : Step → (Key → Bool) → (page : ℕ) → List Entry → Type 0
