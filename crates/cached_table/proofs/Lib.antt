@@ -1,3 +1,4 @@
+pub mod AbsentLaws
 pub mod EditLaws
 pub mod EnteringLaws
 pub mod HighestLaws

@@ -1,6 +1,6 @@
 -- What a table over a cache leaves where it was looked into.
 use Rattle.std.proofs.Common.{◌≡◌, ℕ, ◌<◌, Bool, true, List, length, Option, Some, None, Result, Ok, Err, refl, sym, ap, subst, ◌∙◌, arith, ◌⊎◌, inl, inr, ◌≤◌, false, ◌||◌}
-use Rattle.std.specs.Prelude.{IfErr, IfOk, IfSome, slice_get, slice_index_or, nat_eq, option_and_then}
+use Rattle.std.specs.Prelude.{IfErr, IfNone, IfOk, IfSome, slice_get, slice_index_or, nat_eq, option_and_then}
 use Rattle.std.specs.Borrow.{MutBor}
 use Rattle.std.specs.Option.{option_or}
 use Rattle.std.proofs.lemmas.Bool.{both_ways, eqb-true, or_right}
@@ -89,6 +89,13 @@ module _ {D E : Type 0} {M : MachineGhosts D} {S : SourceGhosts E} where
     leads_left (Err fault) there way = tt
     leads_left (Ok None) there way = tt
     leads_left (Ok (Some f)) there way = leads f there way
+
+    -- where nothing is found, what is in the cache in the end shows why
+    pub absent_left : {Shown : Type 0} {Is : List (List ℕ) → Type 0} → ((pages : List (List ℕ)) → Agrees pages (step_of b) → Shown → Is pages) → (r : Result (Option FoundEntry) TreeFault) → IfOk r (λ found. IfNone found Shown)
+        → IfOk r (λ found. IfNone found ((pages : List (List ℕ)) → HavePages cache' (length free.now) pages → Is pages))
+    absent_left is (Err fault) shown = tt
+    absent_left is (Ok None) shown = λ pages have. is pages (agrees pages have) shown
+    absent_left is (Ok (Some f)) shown = tt
 
     -- ---- what shows that a page breaks
 

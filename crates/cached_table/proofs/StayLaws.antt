@@ -40,20 +40,17 @@ pub walks_stay : {D : Type 0} (P : PagesGhosts D) {refusal : Option Refusal} (a 
 walks_stay P a b x = record { spares = x.spares; home_a = x.home_a; changed = x.changed; stood = x.stood }
 
 module _ {D E : Type 0} {M : MachineGhosts D} {S : SourceGhosts E} where
-  -- the table as it was once it was looked into
-  module _ (m : MutBor D) (cache : MutBor CacheValue) (source : E) (free : MutBor (List Bool)) (a b : Table D E M S) (over : IsOver m cache source free a) (looks : StaysStep (step_of a) (step_of b)) where
+  -- a table in which the same pages are spare
+  module _ (m : MutBor D) (cache : MutBor CacheValue) (source : E) (free : MutBor (List Bool)) (a b : Table D E M S) (over : IsOver m cache source free a) (spares : (step_of b).spares ≡ (step_of a).spares) where
     free_then : b.free.now ≡ free.now
-    free_then = looks.spares ∙ ap (λ (f : MutBor (List Bool)). f.now) over.spared
-
-    dirty_then : b.cache.now.dirty ≡ cache.now.dirty
-    dirty_then = looks.changed ∙ ap (λ (x : MutBor CacheValue). x.now.dirty) over.cached
+    free_then = spares ∙ ap (λ (f : MutBor (List Bool)). f.now) over.spared
 
     within_then : (page : ℕ) → page < length (step_of b).images → page < length free.now
     within_then page lt = omega (arith, lt, image_count (newest b.cache.now (given_by M S b.source.now b.m.now)) (length b.free.now), ap (λ (f : List Bool). length f) free_then)
 
     -- pages with what was in the cache have what was reached
-    pub agrees_then : (pages : List (List ℕ)) → HavePages b.cache.now (length free.now) pages → Agrees pages (step_of b)
-    agrees_then pages have = record {
+    pub agrees_spared : (pages : List (List ℕ)) → HavePages b.cache.now (length free.now) pages → Agrees pages (step_of b)
+    agrees_spared pages have = record {
       count = have.size ∙ sym (image_count (newest b.cache.now (given_by M S b.source.now b.m.now)) (length b.free.now) ∙ ap (λ (f : List Bool). length f) free_then);
       reached = λ page is used.
           let there = in_memory b.cache.now page (reached_there M S b.source.now b.made_over.value b.made_with.value b.m.now b.cache.now b.free.now b.reached.items b.spares.items b.promised b.kept page is.1) in
@@ -62,6 +59,17 @@ module _ {D E : Type 0} {M : MachineGhosts D} {S : SourceGhosts E} where
           have.same page there.0 lt there.1
           ∙ sym (image_at (newest b.cache.now (given_by M S b.source.now b.m.now)) (length b.free.now) page there.0 lt_b (ap (λ (o : Option (List ℕ)). option_or o (given_by M S b.source.now b.m.now page)) there.1));
     }
+
+  -- the table as it was once it was looked into
+  module _ (m : MutBor D) (cache : MutBor CacheValue) (source : E) (free : MutBor (List Bool)) (a b : Table D E M S) (over : IsOver m cache source free a) (looks : StaysStep (step_of a) (step_of b)) where
+    free_there : b.free.now ≡ free.now
+    free_there = free_then m cache source free a b over looks.spares
+
+    dirty_then : b.cache.now.dirty ≡ cache.now.dirty
+    dirty_then = looks.changed ∙ ap (λ (x : MutBor CacheValue). x.now.dirty) over.cached
+
+    pub agrees_then : (pages : List (List ℕ)) → HavePages b.cache.now (length free.now) pages → Agrees pages (step_of b)
+    agrees_then = agrees_spared m cache source free a b over looks.spares
 
     pub leads_then : (f : FoundEntry) → StandsIn (step_of b) f → IsLedTo (step_of b) f → (pages : List (List ℕ)) → HavePages b.cache.now (length free.now) pages → LeadsTo pages f
     leads_then f there way pages have =
@@ -79,7 +87,7 @@ module _ {D E : Type 0} {M : MachineGhosts D} {S : SourceGhosts E} where
         let had = in_memory a.cache.now page (a.kept.dirty page at_a) in
         let has = in_memory b.cache.now page (b.kept.dirty page at_b) in
         let lt_a : page < length a.free.now = omega (arith, lt, ap (λ (f : MutBor (List Bool)). length f.now) over.spared) in
-        let lt_b : page < length b.free.now = omega (arith, lt, ap (λ (f : List Bool). length f) free_then) in
+        let lt_b : page < length b.free.now = omega (arith, lt, ap (λ (f : List Bool). length f) free_there) in
         let inside : page < length (step_of a).images = omega (arith, lt_a, image_count (newest a.cache.now (given_by M S a.source.now a.m.now)) (length a.free.now)) in
         let was : slice_get (step_of a).images page ≡ Some had.0 =
         image_at (newest a.cache.now (given_by M S a.source.now a.m.now)) (length a.free.now) page had.0 lt_a (ap (λ (o : Option (List ℕ)). option_or o (given_by M S a.source.now a.m.now page)) had.1) in
@@ -89,7 +97,7 @@ module _ {D E : Type 0} {M : MachineGhosts D} {S : SourceGhosts E} where
 
     -- the leaf of a version was met
     pub met_shown : ReadsOnly None a b → M.honest b.m.now → (f : FoundEntry) → StandsIn (step_of b) f → IsLedTo (step_of b) f → (f.page < length free.now) × ShowsMet M S source (M.now m.now) cache.now (length free.now) f
-    met_shown outside honest f there way = (within_then f.page there.reached.0, record { cache = b.cache.now; had = λ page bytes lt is. by page bytes lt is (is_one_of b.cache.now.dirty page) refl; leads = leads_then f there way })
+    met_shown outside honest f there way = (within_then m cache source free a b over looks.spares f.page there.reached.0, record { cache = b.cache.now; had = λ page bytes lt is. by page bytes lt is (is_one_of b.cache.now.dirty page) refl; leads = leads_then f there way })
       where
         of_first : (page : ℕ) (bytes : List ℕ) → Had M S a.source.now (M.now a.m.now) a.cache.now page bytes → Had M S source (M.now m.now) cache.now page bytes
         of_first page bytes had = subst (λ (e : E). Had M S e (M.now m.now) cache.now page bytes) over.from

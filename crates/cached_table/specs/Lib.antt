@@ -1,3 +1,4 @@
+pub mod Absent
 pub mod Editing
 pub mod Entering
 pub mod HomeLaws

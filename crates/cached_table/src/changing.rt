@@ -1,9 +1,10 @@
 //! Edits of a table over a cache.
-ghost use Rattle.std.specs.Prelude.{◌≤◌, ◌∷◌, [], ◌≡◌, ◌⊎◌, ℕ, IfOk, IfErr, OnErr, OnOk, Some, length};
+ghost use Rattle.std.specs.Prelude.{◌≤◌, ◌∷◌, [], ◌≡◌, ◌⊎◌, ℕ, List, Err, IfOk, IfErr, OnErr, OnOk, Some, length};
 ghost use Rattle.fsd_bytes.specs.declared.refusal.Refusal.TheVariants.{Memory};
 ghost use Rattle.fsd_files.specs.Volume.{entries_without};
 ghost use Rattle.name_btree.specs.Fault.{outer_told};
 ghost use Rattle.group_commit.specs.Cached.{AreWaiting};
+ghost use Rattle.name_btree.specs.Lookup.{ShowsNoVersion};
 ghost use Rattle.name_btree.specs.Map.{IsTable};
 ghost use Rattle.name_btree.specs.Path.{HasPath};
 ghost use Rattle.name_page.specs.declared.pages.TheConstants.{MOST_CHANGED, MOST_REACHED};
@@ -11,7 +12,8 @@ ghost use Rattle.name_page.specs.Looks.{ChangesPages, HasAllIn, OnlyEdits};
 ghost use Rattle.name_page.specs.Pages.{changes};
 ghost use Rattle.version_table.specs.Fault.{outer_met};
 ghost use Rattle.table_pages.specs.Kept.{IsReady};
-ghost use Rattle.cached_table.specs.Looking.{HasEnoughIn};
+ghost use Rattle.cached_table.specs.Absent.{LacksName, Reaches};
+ghost use Rattle.cached_table.specs.Looking.{HasEnoughIn, HavePages};
 ghost use Rattle.cached_table.specs.Editing.{ChangesNone, ChangesOne, FaultsEdit, FaultsKeep, KeepFails, DirtiesAtMost, DirtiesOne, EditsOnly, EditsTable, SetsKeep, SetsKeepIn, StaysIn};
 
 use crate::CachedTable;
@@ -61,6 +63,7 @@ fn keep_at<T: Pages>(t: &mut T, name: &FileName, keep: u32) -> Result<Key, Versi
     ensures name { IfOk result (λ key. key.name ≡ name.now) }
     ensures one { IfOk result (λ key. ChangesOne (T.step t.old) (T.step t.new)) }
     ensures memory { HasPath T.Pages name.now t.old ⊎ HasAllIn T.Pages t.old → outer_met result ≡ Some Memory → ⊥ }
+    ensures absent { result ≡ Err VersionFault.NoSuch → ShowsNoVersion (T.step t.new) name.now }
     ensures fault { IfErr result (KeepFails (T.trusted t.new) (T.step t.old) (T.step t.new) name.now) }
     ensures set { IfOk result (λ key. T.trusted t.new → (height : ℕ) → IsTable (T.step t.old) height → SetsKeep (T.step t.old) (T.step t.new) name.now keep key height) }
 {
@@ -91,6 +94,7 @@ impl CachedTable {
         ensures name { IfOk result (λ key. key.name ≡ name.now) }
         ensures one { IfOk result (λ key. DirtiesOne (length self.old.free_pages) self.old.cache self.new.cache) }
         ensures memory { HasEnoughIn self.old.free_pages name.now self.old.cache → outer_met result ≡ Some Memory → ⊥ }
+        ensures absent { result ≡ Err VersionFault.NoSuch → (pages : List (List ℕ)) → HavePages self.new.cache (length self.old.free_pages) pages → Reaches (LacksName name.now pages) pages }
         ensures fault { IfErr result (FaultsKeep M.Machine S.PageSource source.now m.old m.new self.old.cache self.new.cache self.old.free_pages self.new.free_pages home_a name.now) }
         ensures set { IfOk result (SetsKeepIn M.Machine S.PageSource source.now m.old m.new self.old.cache self.new.cache self.old.free_pages self.new.free_pages name.now keep) }
     {

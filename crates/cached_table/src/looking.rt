@@ -1,5 +1,5 @@
 //! Look-ups in a table over a cache.
-ghost use Rattle.std.specs.Prelude.{◌≡◌, ◌<◌, ℕ, List, IfOk, IfErr, IfSome, Some, length, true};
+ghost use Rattle.std.specs.Prelude.{◌≡◌, ◌<◌, ℕ, List, IfOk, IfErr, IfNone, IfSome, Some, length, true};
 ghost use Rattle.std.specs.Option.{option_copied};
 ghost use Rattle.fsd_bytes.specs.declared.refusal.Refusal.TheVariants.{Memory};
 ghost use Rattle.table_pages.specs.Bringing.{IsTrusted};
@@ -9,6 +9,7 @@ ghost use Rattle.fsd_table.specs.Tree.{IsTree, table_of};
 ghost use Rattle.name_page.specs.Lookups.{entry_after, entry_with, highest_of, is_after};
 ghost use Rattle.name_btree.specs.Fault.{outer_told};
 ghost use Rattle.name_btree.specs.Lookup.{entry_of};
+ghost use Rattle.cached_table.specs.Absent.{LacksKey, LacksLater, LacksName, Reaches};
 ghost use Rattle.cached_table.specs.Looking.{FaultsOver, HasAllUsed, HasEnoughIn, HasPathIn, HavePages, LeadsTo, LooksOnly, ShowsFault, images_by, refusal_in, told};
 
 use crate::CachedTable;
@@ -35,6 +36,7 @@ impl CachedTable {
         ensures entry { IfOk result (λ found. IfSome found (λ f. is_entry f.entry ≡ true)) }
         ensures key { IfOk result (λ found. IfSome found (λ f. f.entry.key ≡ key.now)) }
         ensures way { IfOk result (λ found. IfSome found (λ f. (pages : List (List ℕ)) → HavePages self.new.cache (length self.old.free_pages) pages → LeadsTo pages f)) }
+        ensures absent { IfOk result (λ found. IfNone found ((pages : List (List ℕ)) → HavePages self.new.cache (length self.old.free_pages) pages → Reaches (LacksKey key.now) pages)) }
         ensures found { IfOk result (λ found. IsTrusted M.Machine S.PageSource source.now m.old self.old.cache m.new → (height : ℕ) →
             let pages = images_by M.Machine S.PageSource source.now m.old self.old.cache (length self.old.free_pages) in IsTree pages height → entry_of found ≡ entry_with key.now (table_of pages height)) }
         ensures fault { IfErr result (FaultsOver M.Machine S.PageSource source.now m.new self.new.cache self.old.free_pages home_a) }
@@ -60,6 +62,7 @@ impl CachedTable {
         ensures page { IfOk result (λ found. IfSome found (λ f. f.page < length self.old.free_pages)) }
         ensures later { IfOk result (λ found. IfSome found (λ f. is_after (option_copied after.entry) f.entry.key ≡ true)) }
         ensures way { IfOk result (λ found. IfSome found (λ f. (pages : List (List ℕ)) → HavePages self.new.cache (length self.old.free_pages) pages → LeadsTo pages f)) }
+        ensures absent { IfOk result (λ found. IfNone found ((pages : List (List ℕ)) → HavePages self.new.cache (length self.old.free_pages) pages → Reaches (LacksLater (option_copied after.entry)) pages)) }
         ensures found { IfOk result (λ found. IsTrusted M.Machine S.PageSource source.now m.old self.old.cache m.new → (height : ℕ) →
             let pages = images_by M.Machine S.PageSource source.now m.old self.old.cache (length self.old.free_pages) in IsTree pages height → entry_of found ≡ entry_after (option_copied after.entry) (table_of pages height)) }
         ensures fault { IfErr result (FaultsOver M.Machine S.PageSource source.now m.new self.new.cache self.old.free_pages home_a) }
@@ -89,6 +92,7 @@ impl CachedTable {
         ensures page { IfOk result (λ found. IfSome found (λ f. f.page < length self.old.free_pages)) }
         ensures name { IfOk result (λ found. IfSome found (λ f. f.entry.key.name ≡ name.now)) }
         ensures way { IfOk result (λ found. IfSome found (λ f. (pages : List (List ℕ)) → HavePages self.new.cache (length self.old.free_pages) pages → LeadsTo pages f)) }
+        ensures absent { IfOk result (λ found. IfNone found ((pages : List (List ℕ)) → HavePages self.new.cache (length self.old.free_pages) pages → Reaches (LacksName name.now pages) pages)) }
         ensures found { IfOk result (λ found. IsTrusted M.Machine S.PageSource source.now m.old self.old.cache m.new → (height : ℕ) →
             let pages = images_by M.Machine S.PageSource source.now m.old self.old.cache (length self.old.free_pages) in IsTree pages height → entry_of found ≡ highest_of name.now (table_of pages height)) }
         ensures fault { IfErr result (FaultsOver M.Machine S.PageSource source.now m.new self.new.cache self.old.free_pages home_a) }

@@ -10,7 +10,7 @@ mod ChangeLaws
 mod ComeLaws
 pub mod CommitLaws
 pub mod DescentLaws
-mod DownLaws
+pub mod DownLaws
 mod DraftLaws
 pub mod FindLaws
 mod GrowLaws

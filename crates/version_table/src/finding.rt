@@ -1,8 +1,8 @@
 //! Versions that are looked up to be taken out or changed.
-ghost use Rattle.std.specs.Prelude.{◌≡◌, ◌<◌, ◌≤◌, IfOk, IfErr, Some, None, true, length};
+ghost use Rattle.std.specs.Prelude.{◌≡◌, ◌<◌, ◌≤◌, IfOk, IfErr, Err, Some, None, true, length};
 ghost use Rattle.fsd_files.specs.Answers.{entry_of, highest_entry};
 ghost use Rattle.fsd_formats.specs.NamePage.{is_entry, FitsEntry};
-ghost use Rattle.name_btree.specs.Lookup.{StandsIn, IsLedTo};
+ghost use Rattle.name_btree.specs.Lookup.{StandsIn, IsLedTo, ShowsAbsent, ShowsNoVersion};
 ghost use Rattle.name_btree.specs.Path.{TakesNone, HasPath, HasWayTo};
 ghost use Rattle.name_page.specs.declared.pages.TheConstants.{MOST_REACHED};
 ghost use Rattle.name_page.specs.Looks.{NeedsNoMore, OnlyWalks};
@@ -14,7 +14,7 @@ use fsd_bytes::{FileName, Key};
 use name_btree::{FoundEntry, find, highest};
 use name_page::Pages;
 
-/// The version with a key, in a step of its own.
+/// The version with a key, in a step of its own. NoSuch is told where the leaf at the key has no such entry.
 pub fn version_at<T: Pages>(t: &mut T, key: &Key) -> Result<FoundEntry, VersionFault>
     requires { MOST_REACHED ≤ (T.step t.old).most_reached }
     ensures walks { OnlyWalks T.Pages (outer_met result) t.old t.new }
@@ -25,6 +25,7 @@ pub fn version_at<T: Pages>(t: &mut T, key: &Key) -> Result<FoundEntry, VersionF
     ensures fits { IfOk result (λ found. FitsEntry found.entry) }
     ensures key { IfOk result (λ found. found.entry.key ≡ key.now) }
     ensures found { IfOk result (λ found. OfTable T.Pages t.old t.new (λ table. entry_of key.now table ≡ Some found.entry)) }
+    ensures absent { result ≡ Err VersionFault.NoSuch → ShowsAbsent (T.step t.new) key.now }
     ensures fault { IfErr result (FailsLook T.Pages t.new (OfTable T.Pages t.old t.new (λ table. entry_of key.now table ≡ None)) ⊥) }
 {
     t.rest();
@@ -35,7 +36,7 @@ pub fn version_at<T: Pages>(t: &mut T, key: &Key) -> Result<FoundEntry, VersionF
     }
 }
 
-/// The highest version of a name, in a step of its own.
+/// The highest version of a name, in a step of its own. NoSuch is told where what stands last up to the name has another.
 pub fn newest<T: Pages>(t: &mut T, name: &FileName) -> Result<FoundEntry, VersionFault>
     requires { MOST_REACHED ≤ (T.step t.old).most_reached }
     ensures walks { OnlyWalks T.Pages (outer_met result) t.old t.new }
@@ -49,6 +50,7 @@ pub fn newest<T: Pages>(t: &mut T, name: &FileName) -> Result<FoundEntry, Versio
     ensures fits { IfOk result (λ found. FitsEntry found.entry) }
     ensures name { IfOk result (λ found. found.entry.key.name ≡ name.now) }
     ensures found { IfOk result (λ found. OfTable T.Pages t.old t.new (λ table. highest_entry name.now table ≡ Some found.entry)) }
+    ensures absent { result ≡ Err VersionFault.NoSuch → ShowsNoVersion (T.step t.new) name.now }
     ensures fault { IfErr result (FailsLook T.Pages t.new (OfTable T.Pages t.old t.new (λ table. highest_entry name.now table ≡ None)) ⊥) }
 {
     t.rest();

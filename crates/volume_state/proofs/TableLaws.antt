@@ -27,16 +27,11 @@ use Rattle.volume_contract.specs.State.{Known, Stands}
 use Rattle.volume_state.specs.State.{Holds, state}
 use Rattle.volume_state.specs.Volume.{IsWhole, VolumeValue}
 use Rattle.volume_state.proofs.PageLaws.{over, page_read}
+use Rattle.cached_table.proofs.AbsentLaws.{behind_is}
 use Rattle.version_table.proofs.EditLaws.{with_is}
 use Rattle.version_table.proofs.VersionLaws.{same_both}
 
 -- ---- look-ups among entries
-
-behind_is : (after : Option Key) (entries : List Entry) → entry_after after entries ≡ entry_behind after entries
-behind_is None [] = refl
-behind_is (Some key) [] = refl
-behind_is None (e ∷ entries) = refl
-behind_is (Some key) (e ∷ entries) = ap (λ (o : Option Entry). cond (key_lt key e.key) (Some e) o) (behind_is (Some key) entries)
 
 last_is : (name : List ℕ) (entries : List Entry) (o : Option Entry) → option_or (highest_of name entries) o ≡ last_or o (filter (λ e. same_bytes name e.key.name) entries)
 last_is name [] o = refl

@@ -1,6 +1,7 @@
-use Rattle.std.proofs.Common.{inl, inr}
+use Rattle.std.proofs.Common.{◌≡◌, Err, ap, inl, inr}
 use Rattle.std.proofs.lemmas.Result.{err_from_is_err_and}
 use Rattle.name_page.proofs.LookLaws.{all_stay, edits_then, pages_then, walks_edits, walks_pages}
+use Rattle.version_table.specs.declared.fault.VersionFault.TheVariants.{NoSuch}
 use Rattle.cached_table.proofs.HighestLaws.{fails_trusted, look_fails, sets_now, there_now}
 use Rattle.cached_table.proofs.changing.keep_at.Goals as goal
 
@@ -53,3 +54,16 @@ returns-in-Err-clause-memory g c = λ has. elim has [
 
 pub returns-in-Ok-clause-memory : goal.returns-in-Ok-clause-memory
 returns-in-Ok-clause-memory g c = λ has is. cc is
+
+-- ---- where there is no version of the name
+
+pub returns-in_err-found-clause-absent : goal.returns-in_err-found-clause-absent
+returns-in_err-found-clause-absent g c =
+    let p = err_from_is_err_and c.from_residual.result c.from_residual.ensures.1 in
+    rw (p.1, p.2) (λ told. c.in_err-found.ensures.absent (let same : c.in_err-found.field-0.0 ≡ NoSuch = cc told in ap Err same))
+
+pub returns-in-Err-clause-absent : goal.returns-in-Err-clause-absent
+returns-in-Err-clause-absent g c = λ told. absurd (cc told)
+
+pub returns-in-Ok-clause-absent : goal.returns-in-Ok-clause-absent
+returns-in-Ok-clause-absent g c = λ told. absurd (cc told)

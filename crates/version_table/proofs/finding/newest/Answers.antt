@@ -1,7 +1,8 @@
 use Rattle.std.proofs.Common.{◌∙◌, Ok, None, Option, Result, Some, ap, subst}
-use Rattle.std.specs.Prelude.{IfOk, IfSome}
+use Rattle.std.specs.Prelude.{IfNone, IfOk, IfSome}
 use Rattle.name_btree.specs.declared.fault.TreeFault.{TreeFault}
 use Rattle.name_btree.specs.declared.lookup.FoundEntry.{FoundEntry}
+use Rattle.name_btree.specs.Lookup.{ShowsNoVersion}
 use Rattle.name_btree.specs.Path.{HasWayTo}
 use Rattle.fsd_files.specs.Answers.{highest_entry}
 use Rattle.name_page.specs.Lookups.{highest_of}
@@ -46,3 +47,15 @@ returns-in-Ok-None-clause-full g c = no_more_rested g.T.Pages c.args.t.now c.res
 
 pub returns-in-Err-clause-full : goal.returns-in-Err-clause-full
 returns-in-Err-clause-full g c = no_more_rested g.T.Pages c.args.t.now c.rest.new.self c.highest.new.t c.rest.ensures.memory (rw c.in-Err.is at c.highest.ensures.calls.memory)
+
+-- ---- where there is none
+
+pub returns-in-Ok-None-clause-absent : goal.returns-in-Ok-None-clause-absent
+returns-in-Ok-None-clause-absent g c = λ told.
+    subst (λ (r : Result (Option FoundEntry) TreeFault). IfOk r (λ found. IfNone found (ShowsNoVersion (g.T.Pages.step c.highest.new.t) c.args.name.now))) (c.in-Ok-None.is ∙ ap Ok c.in-Ok-None.field-0-is) c.highest.ensures.absent
+
+pub returns-in-Ok-Some-clause-absent : goal.returns-in-Ok-Some-clause-absent
+returns-in-Ok-Some-clause-absent g c = λ told. absurd (cc told)
+
+pub returns-in-Err-clause-absent : goal.returns-in-Err-clause-absent
+returns-in-Err-clause-absent g c = λ told. absurd (cc told)

@@ -1,6 +1,7 @@
 use Rattle.std.proofs.Common.{refl, rules}
 use Rattle.cached_table.proofs.LeftLaws.{left_as}
-use Rattle.cached_table.proofs.LookLaws.{faults_left, leads_left, looks_left, pages_within, shown_left}
+use Rattle.cached_table.proofs.AbsentLaws.{lacks_key}
+use Rattle.cached_table.proofs.LookLaws.{absent_left, faults_left, leads_left, looks_left, pages_within, shown_left}
 use Rattle.cached_table.proofs.StayLaws.{looks_stay}
 use Rattle.cached_table.proofs.table.CachedTable.find.Goals as goal
 
@@ -15,6 +16,9 @@ returns-clause-fault g c = faults_left c.new-table.ensures.over c.new-table.ensu
 
 pub returns-clause-way : goal.returns-clause-way
 returns-clause-way g c = leads_left c.new-table.ensures.over c.new-table.ensures.step (looks_stay _ _ c.find-found.ensures.calls.looks) c.find-found.ensures.calls.outside (left_as c.rest.ensures.left refl (search rules) refl) c.find-found.result c.find-found.ensures.there c.find-found.ensures.way
+
+pub returns-clause-absent : goal.returns-clause-absent
+returns-clause-absent g c = absent_left c.new-table.ensures.over c.new-table.ensures.step (looks_stay _ _ c.find-found.ensures.calls.looks) c.find-found.ensures.calls.outside (left_as c.rest.ensures.left refl (search rules) refl) (λ pages agree shown. lacks_key _ pages agree c.args.key.now shown) c.find-found.result c.find-found.ensures.absent
 
 pub returns-clause-shown : goal.returns-clause-shown
 returns-clause-shown g c = shown_left c.new-table.ensures.over c.new-table.ensures.step (looks_stay _ _ c.find-found.ensures.calls.looks) c.find-found.ensures.calls.outside (left_as c.rest.ensures.left (search rules) (search rules) refl) c.find-found.result c.find-found.ensures.fault c.find-found.ensures.shown

@@ -1,6 +1,7 @@
 use Rattle.std.proofs.Common.{inl, inr, refl, rules}
 use Rattle.cached_table.proofs.LeftLaws.{left_as}
-use Rattle.cached_table.proofs.LookLaws.{faults_left, leads_left, looks_left, pages_within, shown_left}
+use Rattle.cached_table.proofs.AbsentLaws.{lacks_name}
+use Rattle.cached_table.proofs.LookLaws.{absent_left, faults_left, leads_left, looks_left, pages_within, shown_left}
 use Rattle.cached_table.proofs.PathLaws.{path_first, path_left, used_first, used_left}
 use Rattle.cached_table.proofs.StayLaws.{looks_stay}
 use Rattle.cached_table.proofs.table.CachedTable.highest.Goals as goal
@@ -16,6 +17,9 @@ returns-clause-fault g c = faults_left c.new-table.ensures.over c.new-table.ensu
 
 pub returns-clause-way : goal.returns-clause-way
 returns-clause-way g c = leads_left c.new-table.ensures.over c.new-table.ensures.step (looks_stay _ _ c.highest-found.ensures.calls.looks) c.highest-found.ensures.calls.outside (left_as c.rest.ensures.left refl (search rules) refl) c.highest-found.result c.highest-found.ensures.there c.highest-found.ensures.way
+
+pub returns-clause-absent : goal.returns-clause-absent
+returns-clause-absent g c = absent_left c.new-table.ensures.over c.new-table.ensures.step (looks_stay _ _ c.highest-found.ensures.calls.looks) c.highest-found.ensures.calls.outside (left_as c.rest.ensures.left refl (search rules) refl) (λ pages agree shown. lacks_name _ pages agree c.args.name.now shown) c.highest-found.result c.highest-found.ensures.absent
 
 pub returns-clause-shown : goal.returns-clause-shown
 returns-clause-shown g c = shown_left c.new-table.ensures.over c.new-table.ensures.step (looks_stay _ _ c.highest-found.ensures.calls.looks) c.highest-found.ensures.calls.outside (left_as c.rest.ensures.left (search rules) (search rules) refl) c.highest-found.result c.highest-found.ensures.fault c.highest-found.ensures.shown

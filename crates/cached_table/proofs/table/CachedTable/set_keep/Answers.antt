@@ -1,5 +1,6 @@
 use Rattle.std.proofs.Common.{inl, inr, refl, rules}
 use Rattle.cached_table.proofs.LeftLaws.{left_as}
+use Rattle.cached_table.proofs.AbsentLaws.{keep_absent}
 use Rattle.cached_table.proofs.EditLaws.{edits_left, keeps_left, one_left, sets_left, stays_left}
 use Rattle.cached_table.proofs.PathLaws.{path_first, used_first}
 use Rattle.cached_table.proofs.WaitingLaws.{waits_left}
@@ -28,3 +29,6 @@ returns-clause-memory g c = λ has. elim has [
   | inl path ↦ c.keep_at-done.ensures.memory (inl (path_first c.new-table.ensures.over c.args.name.now path))
   | inr all ↦ c.keep_at-done.ensures.memory (inr (record { each = used_first c.new-table.ensures.over all }))
 ]
+
+pub returns-clause-absent : goal.returns-clause-absent
+returns-clause-absent g c = keep_absent c.new-table.ensures.over (left_as c.rest.ensures.left refl (search rules) refl) c.args.name.now c.keep_at-done.result c.keep_at-done.ensures.kept c.keep_at-done.ensures.absent

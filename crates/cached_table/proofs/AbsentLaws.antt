@@ -1,0 +1,141 @@
+-- Where nothing is found, pages that have what was reached have the leaf that lacks it, and a path reaches the leaf.
+use Rattle.std.proofs.Common.{◌≡◌, ◌∙◌, ◌⊎◌, inl, inr, ℕ, ◌+◌, ◌&&◌, Bool, true, false, cond, not, List, [], ◌∷◌, Option, Some, None, refl, sym, ap}
+use Rattle.std.specs.Borrow.{MutBor}
+use Rattle.std.specs.Prelude.{Err, Ok, OnErr, Result, length}
+use Rattle.std.specs.Option.{MatchOption}
+use Rattle.fsd_bytes.specs.declared.key.Key.{Key}
+use Rattle.fsd_bytes.specs.Keys.{key_cmp, key_lt}
+use Rattle.std.specs.Ordering.{is_gt}
+use Rattle.fsd_formats.specs.declared.entry.Entry.{Entry}
+use Rattle.fsd_formats.specs.NamePage.{Leaf}
+use Rattle.fsd_table.specs.declared.child.Child.{Child}
+use Rattle.fsd_table.specs.Pages.{below, keys_fit, not_below, page_at}
+use Rattle.fsd_table.specs.Table.{visit_of}
+use Rattle.fsd_files.specs.Answers.{entry_after as entry_behind}
+use Rattle.name_page.specs.Cut.{AtHigh, AtLow, after_cut, is_before}
+use Rattle.name_page.specs.declared.cut.Cut.TheVariants.{Named, UpTo}
+use Rattle.name_page.specs.Lookups.{entry_after, last_that, same_name}
+use Rattle.name_page.specs.Looks.{Agrees}
+use Rattle.name_page.specs.Pages.{Step}
+use Rattle.name_page.proofs.CutLaws.{greater}
+use Rattle.name_page.proofs.LookLaws.{agrees_at}
+use Rattle.name_btree.specs.Lookup.{HasOtherLeft, IsLeafBy, IsReadLeaf, ShowsAbsent, ShowsNoVersion, ShowsNoneAfter}
+use Rattle.name_btree.proofs.DownLaws.{between}
+use Rattle.version_table.proofs.EditLaws.{with_is}
+use Rattle.cached_table.specs.Absent.{EndsOther, LacksKey, LacksLater, LacksName, Reaches}
+use Rattle.sector_disk.specs.declared.machine.Machine.{Ghosts as MachineGhosts}
+use Rattle.page_cache.specs.declared.source.PageSource.{Ghosts as SourceGhosts}
+use Rattle.page_cache.specs.Cache.{CacheValue}
+use Rattle.table_pages.specs.Table.{IsOver, Leaves, Trusted, step_of}
+use Rattle.table_pages.specs.declared.table.Table.{Table}
+use Rattle.version_table.specs.declared.fault.VersionFault.{VersionFault}
+use Rattle.version_table.specs.declared.fault.VersionFault.TheVariants.{NoSuch}
+use Rattle.cached_table.specs.Editing.{ChangesNone}
+use Rattle.cached_table.specs.Looking.{HavePages}
+use Rattle.cached_table.proofs.StayLaws.{agrees_spared}
+
+-- ---- keys
+
+low_fits : (key : Key) (low : Option Key) → AtLow (is_before (UpTo key)) low → not_below low key ≡ true
+low_fits key None at = refl
+low_fits key (Some k) at = ap not (sym (greater k key)) ∙ at
+
+was_true : (b : Bool) → not b ≡ false → b ≡ true
+was_true true is = refl
+was_true false is = absurd (cc is)
+
+high_fits : (key : Key) (high : Option Key) → AtHigh (is_before (UpTo key)) high → below high key ≡ true
+high_fits key None at = refl
+high_fits key (Some k) at = sym (greater k key) ∙ was_true (is_gt (key_cmp k key)) at
+
+both_fit : (low high : Option Key) (key : Key) → not_below low key ≡ true → below high key ≡ true → keys_fit low high (key ∷ []) ≡ true
+both_fit low high key a b = ap (λ (x : Bool). (x && below high key) && true) a ∙ ap (λ (x : Bool). x && true) b
+
+-- from the first key on, or from one up to a key
+begins_by : (after low : Option Key) → AtLow (is_before (after_cut after)) low → MatchOption after (low ≡ None) (λ key. not_below low key ≡ true)
+begins_by None None at = refl
+begins_by None (Some k) at = absurd (cc at)
+begins_by (Some key) low at = low_fits key low at
+
+-- ---- entries
+
+pub behind_is : (after : Option Key) (entries : List Entry) → entry_after after entries ≡ entry_behind after entries
+behind_is None [] = refl
+behind_is (Some key) [] = refl
+behind_is None (e ∷ entries) = refl
+behind_is (Some key) (e ∷ entries) = ap (λ (o : Option Entry). cond (key_lt key e.key) (Some e) o) (behind_is (Some key) entries)
+
+-- ---- pages with what was reached
+
+module _ (s : Step) (pages : List (List ℕ)) (agree : Agrees pages s) where
+  -- a leaf that was read has its entries
+  has_leaf : (leaf : Child) (entries : List Entry) → IsReadLeaf s leaf entries → page_at pages leaf.page ≡ Some (Leaf entries)
+  has_leaf leaf entries read = agrees_at s pages leaf.page read.reached read.used agree ∙ read.has
+
+  ends_at : {before : Key → Bool} {leaf : Child} {entries : List Entry} → IsLeafBy s before leaf entries → AtLow before leaf.low × AtHigh before leaf.high
+  ends_at {before} {leaf} at = between before pages at.above leaf (at.way pages agree)
+
+  pub lacks_key : (key : Key) → ShowsAbsent s key → Reaches (LacksKey key) pages
+  lacks_key key x =
+      let ends = ends_at x.at in (
+        visit_of pages (x.at.above + 1) x.leaf,
+        x.at.path pages agree,
+        record {
+          entries = x.entries;
+          leaf = has_leaf x.leaf x.entries x.at.is_read;
+          between = both_fit x.leaf.low x.leaf.high key (low_fits key x.leaf.low ends.0) (high_fits key x.leaf.high ends.1);
+          none = sym (with_is key x.entries) ∙ x.none;
+        },
+      )
+
+  pub lacks_later : (after : Option Key) → ShowsNoneAfter s after → Reaches (LacksLater after) pages
+  lacks_later after x = (
+    visit_of pages (x.at.above + 1) x.leaf,
+    x.at.path pages agree,
+    record {
+      entries = x.entries;
+      leaf = has_leaf x.leaf x.entries x.at.is_read;
+      last = x.last;
+      begins = begins_by after x.leaf.low (ends_at x.at).0;
+      none = sym (behind_is after x.entries) ∙ x.none;
+    },
+  )
+
+  -- the leaf before one ends with another name
+  ends_other : (name : List ℕ) (depth : ℕ) (leaf : Child) → HasOtherLeft s name leaf → Reaches (EndsOther name (visit_of pages depth leaf)) pages
+  ends_other name depth leaf x = (
+    visit_of pages x.depth x.left,
+    x.path pages agree,
+    record { rest = x.rest; last = x.last; leaf = has_leaf x.left _ x.is_read; beside = x.beside; other = x.other },
+  )
+
+  others : (name : List ℕ) (depth : ℕ) (leaf : Child) (o : Option Entry) → MatchOption o ((leaf.low ≡ None) ⊎ HasOtherLeft s name leaf) (λ e. same_name e.key.name name ≡ false)
+      → MatchOption o ((leaf.low ≡ None) ⊎ Reaches (EndsOther name (visit_of pages depth leaf)) pages) (λ e. same_name e.key.name name ≡ false)
+  others name depth leaf None (inl first) = inl first
+  others name depth leaf None (inr left) = inr (ends_other name depth leaf left)
+  others name depth leaf (Some e) other = other
+
+  pub lacks_name : (name : List ℕ) → ShowsNoVersion s name → Reaches (LacksName name pages) pages
+  lacks_name name x =
+      let ends = ends_at x.at in (
+        visit_of pages (x.at.above + 1) x.leaf,
+        x.at.path pages agree,
+        record {
+          entries = x.entries;
+          leaf = has_leaf x.leaf x.entries x.at.is_read;
+          low = ends.0;
+          high = ends.1;
+          other = others name (x.at.above + 1) x.leaf (last_that (λ e. is_before (Named name) e.key) x.entries) x.other;
+        },
+      )
+
+-- ---- a table over a cache, where a keep is to be set
+
+module _ {D E : Type 0} {M : MachineGhosts D} {S : SourceGhosts E} {m : MutBor D} {cache : MutBor CacheValue} {source : E} {free : MutBor (List Bool)} {a b : Table D E M S} {m' : D} {cache' : CacheValue} {free' : List Bool}
+    (over : IsOver m cache source free a) (left : Leaves b m' cache' free') where
+  pub keep_absent : (name : List ℕ) (r : Result Key VersionFault) → OnErr r (ChangesNone (Trusted b) (step_of a) (step_of b)) → (r ≡ Err NoSuch → ShowsNoVersion (step_of b) name)
+      → r ≡ Err NoSuch → (pages : List (List ℕ)) → HavePages cache' (length free.now) pages → Reaches (LacksName name pages) pages
+  keep_absent name (Ok key) none shown told pages have = absurd (cc told)
+  keep_absent name (Err f) none shown told pages have =
+      let before : HavePages b.cache.now (length free.now) pages = record { size = have.size; same = λ page bytes lt is. have.same page bytes lt (left.pins.bytes page ∙ is) } in
+      lacks_name (step_of b) pages (agrees_spared m cache source free a b over none.spares pages before) name (shown told)
