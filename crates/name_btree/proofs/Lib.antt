@@ -3,6 +3,7 @@ mod AbsentLaws
 pub mod AloneLaws
 mod ApartLaws
 pub mod AroundLaws
+pub mod BeginLaws
 mod BranchLaws
 pub mod CallLaws
 pub mod CauseLaws
@@ -33,6 +34,7 @@ pub mod PutTreeLaws
 pub mod RaiseLaws
 pub mod RemoveLaws
 mod ReplaceLaws
+pub mod RestLaws
 pub mod ResultLaws
 pub mod RootLaws
 mod SearchLaws

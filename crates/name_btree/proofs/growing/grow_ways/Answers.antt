@@ -90,3 +90,20 @@ returns-clause-drawn g c =
     let step = g.T.Pages.step in
     two_sheets (step c.args.t.now) (step c.front_page-left.new.t) (step c.take_page-right.new.t) c.args.draft.now.sheets.items c.put_ways-2.new.self.sheets.items c.put_ways-3.new.self.sheets.items c.args.page c.front_page-left.result c.take_page-right.result
     _ _ c.front_page-left.ensures.takes c.take_page-right.ensures.takes c.put_ways-2.ensures.sheets c.put_ways-3.ensures.sheets
+
+-- ---- what stays
+
+pub returns-clause-freed : goal.returns-clause-freed
+returns-clause-freed g c = c.put_ways-3.ensures.freed ∙ c.put_ways-2.ensures.freed
+
+pub returns-clause-images : goal.returns-clause-images
+returns-clause-images g c = c.take_page-right.ensures.takes.images ∙ c.front_page-left.ensures.images
+
+pub returns-clause-home : goal.returns-clause-home
+returns-clause-home g c = c.take_page-right.ensures.home ∙ c.front_page-left.ensures.home
+
+pub returns-clause-reached : goal.returns-clause-reached
+returns-clause-reached g c = c.take_page-right.ensures.reached ∙ c.front_page-left.ensures.reached
+
+pub put_ways-requires-3-clause-sheets : goal.put_ways-requires-3-clause-sheets
+put_ways-requires-3-clause-sheets g c = c.put_ways-2.ensures.sheets.sheets

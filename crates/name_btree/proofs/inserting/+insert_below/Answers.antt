@@ -1,4 +1,5 @@
-use Rattle.std.proofs.Common.{◌≡◌, ◌∙◌, ◌-◌, ◌≤◌, ℕ, Bool, suc, List, Option, Some, length, true, refl, sym, ap, subst, arith, rules}
+use Rattle.std.proofs.Common.{◌≡◌, ◌∙◌, ◌+◌, ◌*◌, ◌-◌, ◌≤◌, ℕ, Bool, suc, List, Option, Some, length, true, false, refl, sym, ap, subst, arith, rules}
+use Rattle.std.specs.Prelude.{Result, Ok, Err, IfOk, OnOk}
 use Rattle.std.proofs.lemmas.Result.{err_from_is_err_and, on_ok_weaker}
 use Rattle.fsd_bytes.specs.declared.refusal.Refusal.{Refusal}
 use Rattle.fsd_formats.specs.NamePage.{Leaf, Interior, is_page}
@@ -6,15 +7,17 @@ use Rattle.fsd_forest.specs.Parts.{is_inside}
 use Rattle.fsd_table.specs.declared.child.Child.{Child}
 use Rattle.fsd_table.specs.Pages.{page_at, content_fits, keys_fit, separator_keys}
 use Rattle.fsd_table.proofs.PageLaws.{at_is_page}
-use Rattle.name_page.specs.Pages.{with_images, is_spare, changes}
+use Rattle.name_page.specs.Pages.{with_images, is_spare, changes, IsReached}
 use Rattle.name_page.specs.Looks.{Shows, OnlyReaches}
 use Rattle.name_page.proofs.LookLaws.{reaches_then, reaches_takes, takes_takes, agrees_now, agrees_before}
 use Rattle.name_page.specs.declared.node.Node.{Node}
 use Rattle.name_page.specs.Node.{content_of}
+use Rattle.name_btree.specs.declared.fault.TreeFault.{TreeFault}
 use Rattle.name_btree.specs.declared.fault.TreeFault.TheVariants.{Broken}
-use Rattle.name_btree.specs.Draft.{drafted}
+use Rattle.name_btree.specs.Draft.{drafted, AreSheets}
 use Rattle.name_btree.specs.Fault.{outer_told, FailsBy, IsMisfit}
-use Rattle.name_btree.specs.Grown.{most_taken, IsDivided, Grows, BreaksGrowth}
+use Rattle.name_btree.specs.Grown.{most_taken, IsDivided, IsGrown, Grows, BreaksGrowth, Over}
+use Rattle.name_btree.specs.declared.growing.Grown.{Grown}
 use Rattle.name_btree.proofs.CauseLaws.{fails_by_map, broken_by, on_err_same}
 use Rattle.name_btree.proofs.DraftLaws.{drafted_length}
 use Rattle.name_btree.proofs.StepLaws.{above_grows, few_above}
@@ -268,3 +271,82 @@ returns-in_ok-grown-in-Interior-clause-drawn g t c =
     let s1 = c.insert_below.new.draft.sheets.items in
     let below = sheets_then first looked between s0 s0 s1 (sheets_looked first looked s0 c.in_ok-entries.ensures.calls.looks) c.in_ok-grown-in-Interior.ensures.drawn in
     sheets_then first between (step c.grow_above.new.t) s0 s1 c.grow_above.new.draft.sheets.items below c.grow_above.ensures.drawn
+
+-- ---- a leaf that has grown
+
+grown_on : (r : Result Grown TreeFault) (P : Grown → Type 0) (Q : Type 0) → ((grown : Grown) → P grown → Q) → IfOk r P → OnOk r Q
+grown_on (Ok grown) P Q f h = f grown h
+grown_on (Err fault) P Q f h = tt
+
+pub returns-in-Leaf-clause-room : goal.returns-in-Leaf-clause-room
+returns-in-Leaf-clause-room g t c =
+    let looked = g.T.Pages.step c.child_node.new.t in
+    let last = g.T.Pages.step c.insert_here.new.t in
+    let s0 = c.args.draft.now.sheets.items in
+    let s1 = c.insert_here.new.draft.sheets.items in
+    let page : ℕ = c.args.child.now.page in
+    let P : Grown → Type 0 = λ (grown : Grown). Over looked (λ pages. IsGrown (with_images pages looked) (with_images pages last) s0 s1 page grown) in
+    grown_on c.insert_here.result P (length s1 ≤ length s0 + 2 * c.args.levels + 2) (λ grown h. omega (arith, (h looked.images refl).few)) c.insert_here.ensures.grown
+
+pub returns-in-Leaf-clause-sheets : goal.returns-in-Leaf-clause-sheets
+returns-in-Leaf-clause-sheets g t c =
+    let looked = g.T.Pages.step c.child_node.new.t in
+    let last = g.T.Pages.step c.insert_here.new.t in
+    let s0 = c.args.draft.now.sheets.items in
+    let s1 = c.insert_here.new.draft.sheets.items in
+    let page : ℕ = c.args.child.now.page in
+    let P : Grown → Type 0 = λ (grown : Grown). Over looked (λ pages. IsGrown (with_images pages looked) (with_images pages last) s0 s1 page grown) in
+    let count : length last.images ≡ length looked.images = c.insert_here.ensures.calls.edits.count in
+    grown_on c.insert_here.result P (AreSheets last s1) (λ grown h. (h last.images count).ready) c.insert_here.ensures.grown
+
+pub returns-in-Leaf-clause-reached : goal.returns-in-Leaf-clause-reached
+returns-in-Leaf-clause-reached g t c =
+    let looked = g.T.Pages.step c.child_node.new.t in
+    let last = g.T.Pages.step c.insert_here.new.t in
+    let s0 = c.args.draft.now.sheets.items in
+    let s1 = c.insert_here.new.draft.sheets.items in
+    let page : ℕ = c.args.child.now.page in
+    let P : Grown → Type 0 = λ (grown : Grown). Over looked (λ pages. IsGrown (with_images pages looked) (with_images pages last) s0 s1 page grown) in
+    let count : length last.images ≡ length looked.images = c.insert_here.ensures.calls.edits.count in
+    grown_on c.insert_here.result P (IsReached last page) (λ grown h. (h last.images count).takes.reached page (reached_over last.images looked page count c.in_ok-entries.ensures.reached)) c.insert_here.ensures.grown
+
+pub returns-in-Leaf-clause-used : goal.returns-in-Leaf-clause-used
+returns-in-Leaf-clause-used g t c =
+    let looked = g.T.Pages.step c.child_node.new.t in
+    let last = g.T.Pages.step c.insert_here.new.t in
+    let s0 = c.args.draft.now.sheets.items in
+    let s1 = c.insert_here.new.draft.sheets.items in
+    let page : ℕ = c.args.child.now.page in
+    let P : Grown → Type 0 = λ (grown : Grown). Over looked (λ pages. IsGrown (with_images pages looked) (with_images pages last) s0 s1 page grown) in
+    let count : length last.images ≡ length looked.images = c.insert_here.ensures.calls.edits.count in
+    let here : is_spare looked.spares page ≡ false = ap (λ (x : List Bool). is_spare x page) c.in_ok-entries.ensures.calls.looks.spares ∙ c.in_ok-entries.ensures.used in
+    grown_on c.insert_here.result P (is_spare last.spares page ≡ false) (λ grown h. used_over (with_images last.images looked) last _ page (h last.images count).takes here) c.insert_here.ensures.grown
+
+-- ---- a page above
+
+pub returns-in_ok-grown-in-Interior-clause-room : goal.returns-in_ok-grown-in-Interior-clause-room
+returns-in_ok-grown-in-Interior-clause-room g t c =
+    let between = g.T.Pages.step c.insert_below.new.t in
+    omega (arith, (c.grow_above.ensures.grown between.images refl).few, c.in_ok-grown-in-Interior.ensures.room, c.if-levels-gt0.true)
+
+pub returns-in_ok-grown-in-Interior-clause-sheets : goal.returns-in_ok-grown-in-Interior-clause-sheets
+returns-in_ok-grown-in-Interior-clause-sheets g t c =
+    let last = g.T.Pages.step c.grow_above.new.t in
+    (c.grow_above.ensures.grown last.images c.grow_above.ensures.calls.edits.count).ready
+
+pub returns-in_ok-grown-in-Interior-clause-freed : goal.returns-in_ok-grown-in-Interior-clause-freed
+returns-in_ok-grown-in-Interior-clause-freed g t c = c.grow_above.ensures.freed ∙ c.in_ok-grown-in-Interior.ensures.freed
+
+-- ---- nothing has grown
+
+pub returns-then-below-eq0-clause-failed : goal.returns-then-below-eq0-clause-failed
+returns-then-below-eq0-clause-failed g t c = c.in_ok-entries.ensures.calls
+
+pub returns-then-below-eq0-clause-calls : goal.returns-then-below-eq0-clause-calls
+returns-then-below-eq0-clause-calls g t c = reaches_takes g.T.Pages c.args.t.now c.child_node.new.t c.in_ok-entries.ensures.calls
+
+pub returns-in_default-clause-failed : goal.returns-in_default-clause-failed
+returns-in_default-clause-failed g t c = c.in_ok-entries.ensures.calls
+
+pub returns-in_default-clause-calls : goal.returns-in_default-clause-calls
+returns-in_default-clause-calls g t c = reaches_takes g.T.Pages c.args.t.now c.child_node.new.t c.in_ok-entries.ensures.calls

@@ -81,3 +81,20 @@ pub returns-in_err-found-clause-shown : goal.returns-in_err-found-clause-shown
 returns-in_err-found-clause-shown g c =
     let p = err_from_is_err_and c.from_residual.result c.from_residual.ensures.1 in
     rw (p.1, p.2) (shown_beside (g.T.Pages.step c.leaf_below.new.t) c.in_err-found.field-0.0 c.args.previous c.in_err-found.ensures.shown)
+
+-- ---- memory is not wanting
+
+pub returns-in_err-found-clause-memory : goal.returns-in_err-found-clause-memory
+returns-in_err-found-clause-memory g c = λ has.
+    let p = err_from_is_err_and c.from_residual.result c.from_residual.ensures.1 in
+    rw (p.1, p.2) (c.in_err-found.ensures.memory has)
+
+pub returns-then-count-eq0-clause-memory : goal.returns-then-count-eq0-clause-memory
+returns-then-count-eq0-clause-memory g c = c.in_ok-found.ensures.memory
+
+pub returns-clause-memory : goal.returns-clause-memory
+returns-clause-memory g c = c.in_ok-found.ensures.memory
+
+pub returns-clause-back : goal.returns-clause-back
+returns-clause-back g c = λ has.
+    (c.in_ok-found.ensures.back has).here c.get.result (contains_at c.in_ok-found.found.entries (c.len-count.result - 1) c.get.result c.get.ensures.there)

@@ -1,4 +1,4 @@
-use Rattle.std.proofs.Common.{◌≡◌, ◌∙◌, ◌+◌, ◌*◌, ◌-◌, ◌≤◌, true, false, take, drop, refl, sym, ap, subst, length, ℕ, List, Some, arith, rules}
+use Rattle.std.proofs.Common.{◌≡◌, ◌∙◌, ◌+◌, ◌*◌, ◌-◌, ◌<◌, ◌≤◌, Bool, true, false, take, drop, refl, sym, ap, subst, length, ℕ, List, Some, arith, rules}
 use Rattle.std.specs.List.{AllByRecursion}
 use Rattle.fsd_bytes.specs.declared.key.Key.{Key}
 use Rattle.name_page.specs.declared.cut.Cut.TheVariants.{UpTo}
@@ -12,7 +12,7 @@ use Rattle.fsd_table.proofs.PageLaws.{at_is_page}
 use Rattle.name_page.specs.declared.node.Node.{Node}
 use Rattle.name_page.specs.Node.{content_of}
 use Rattle.name_page.proofs.SideLaws.{without_used, without_fits}
-use Rattle.name_page.specs.Pages.{with_images, reaches}
+use Rattle.name_page.specs.Pages.{Step, with_images, is_spare, reaches}
 use Rattle.name_page.specs.Looks.{Shows}
 use Rattle.name_page.specs.Parting.{used_by}
 use Rattle.name_page.proofs.LookLaws.{reaches_then, agrees_now, agrees_before}
@@ -21,10 +21,14 @@ use Rattle.name_btree.specs.Fault.{FailsBy, IsMisfit}
 use Rattle.name_btree.proofs.CauseLaws.{fails_by_map}
 use Rattle.name_btree.proofs.OverLaws.{leaf_over}
 use Rattle.name_btree.specs.Remove.{BreaksAround, IsTrimmedBelow, IsRootLeft}
-use Rattle.name_btree.specs.Trim.{IsUnlike, AreEntries, IsOpened, IsMended, IsLeft, MayHave, sheets_below}
+use Rattle.name_btree.specs.Trim.{IsUnlike, AreEntries, IsLeafPut, IsOpened, IsMended, IsLeft, MayHave, sheets_below}
+use Rattle.name_btree.specs.declared.draft.Sheet.{Sheet}
+use Rattle.name_btree.specs.declared.trimming.Trimmed.{Trimmed}
+use Rattle.name_btree.specs.declared.trimming.Trimmed.TheVariants.{Whole}
+use Rattle.name_btree.specs.declared.trimming.Trimmed.TheVariants as left
 use Rattle.name_btree.proofs.AboveLaws.{ok_on, mended_left, mended_freed, mended_sheets, room_left}
 use Rattle.name_btree.proofs.DraftLaws.{drafted_length}
-use Rattle.name_btree.proofs.MendLaws.{draft_kept}
+use Rattle.name_btree.proofs.MendLaws.{draft_kept, page_kept}
 use Rattle.name_btree.proofs.MendedLaws.{trimmed_above, breaks_above}
 use Rattle.name_btree.proofs.PairLaws.{child_is_at}
 use Rattle.name_btree.proofs.RemoveLaws.{misfit_below, leaf_most, leaf_left, leaf_trimmed, without_leaf}
@@ -301,3 +305,55 @@ pub returns-in_err-entries-clause-calls : goal.returns-in_err-entries-clause-cal
 returns-in_err-entries-clause-calls g t c =
     let p = err_from_is_err_and c.from_residual.result c.from_residual.ensures.1 in
     rw (p.1, p.2) c.in_err-entries.ensures.calls
+
+-- ---- what is written, and what may be
+
+-- one sheet, or none
+leaf_sheets : (step : Step) (old new : List Sheet) (page : ℕ) (entries : List Entry) (levels : ℕ) (put : Trimmed) → IsLeafPut step old new page entries put → length new ≤ length old + sheets_below levels put
+leaf_sheets step old new page entries levels Whole h = omega (arith, h.one)
+leaf_sheets step old new page entries levels (left.Leaf list) h = omega (arith, ap length h.0)
+leaf_sheets step old new page entries levels (left.Interior first list) h = absurd h
+
+pub returns-in-Leaf-clause-sheets : goal.returns-in-Leaf-clause-sheets
+returns-in-Leaf-clause-sheets g t c =
+    leaf_sheets (g.T.Pages.step c.child_node.new.t) c.args.draft.now.sheets.items c.trim_leaf.new.draft.sheets.items c.args.child.now.page c.entries_without-left.result.items c.args.levels c.trim_leaf.result c.trim_leaf.ensures.put
+
+pub trim_leaf-requires-clause-page : goal.trim_leaf-requires-clause-page
+trim_leaf-requires-clause-page g t c =
+    let e = c.in_ok-entries.ensures in
+    record { reached = e.reached; used = ap (λ (x : List Bool). is_spare x c.args.child.now.page) c.child_node.ensures.calls.looks.spares ∙ e.used }
+
+pub returns-in-Leaf-clause-page : goal.returns-in-Leaf-clause-page
+returns-in-Leaf-clause-page g t c =
+    let e = c.in_ok-entries.ensures in
+    record { reached = e.reached; used = ap (λ (x : List Bool). is_spare x c.args.child.now.page) c.child_node.ensures.calls.looks.spares ∙ e.used }
+
+pub trim_above-requires-clause-page : goal.trim_above-requires-clause-page
+trim_above-requires-clause-page g t c =
+    let e = c.in_ok-entries.ensures in
+    let page : ℕ = c.args.child.now.page in
+    let looks = c.in_ok-trimmed-in-Interior.ensures.calls.looks in
+    page_kept (g.T.Pages.step c.child_node.new.t) (g.T.Pages.step c.remove_below.new.t) page looks.reached looks.spares
+    (record { reached = e.reached; used = ap (λ (x : List Bool). is_spare x page) c.child_node.ensures.calls.looks.spares ∙ e.used })
+
+pub returns-in_ok-trimmed-in-Interior-clause-page : goal.returns-in_ok-trimmed-in-Interior-clause-page
+returns-in_ok-trimmed-in-Interior-clause-page g t c =
+    let s = g.T.Pages.step c.trim_above.new.t in
+    let e = c.in_ok-entries.ensures in
+    let page : ℕ = c.args.child.now.page in
+    let ways = c.in-Interior.ways in
+    let below = c.in_ok-trimmed-in-Interior.trimmed in
+    let first = c.in_ok-trimmed-in-Interior.ensures.calls.looks in
+    let looks = c.trim_above.ensures.calls.looks in
+    ok_on c.trim_above.result (λ left. Shows s (λ pages. IsMended (with_images pages s) c.remove_below.new.draft c.trim_above.new.draft c.args.child.now ways.0 ways.1 c.ways_before-i.result below left)) (MayHave s page)
+    (λ left m. page_kept (g.T.Pages.step c.child_node.new.t) s page (λ q h. looks.reached q (first.reached q h)) (looks.spares ∙ first.spares)
+    (record { reached = e.reached; used = ap (λ (x : List Bool). is_spare x page) c.child_node.ensures.calls.looks.spares ∙ e.used })) c.trim_above.ensures.mended
+
+pub trim_above-requires-clause-more : goal.trim_above-requires-clause-more
+trim_above-requires-clause-more g t c = omega (arith, c.requires.more, c.child_node.ensures.reaches, c.remove_below.ensures.reaches, c.if-levels-gt0.true)
+
+pub trim_above-requires-clause-free : goal.trim_above-requires-clause-free
+trim_above-requires-clause-free g t c = omega (arith, c.in_ok-trimmed-in-Interior.ensures.freed, c.requires.free, c.if-levels-gt0.true)
+
+pub returns-in_ok-trimmed-in-Interior-clause-reaches : goal.returns-in_ok-trimmed-in-Interior-clause-reaches
+returns-in_ok-trimmed-in-Interior-clause-reaches g t c = omega (arith, c.child_node.ensures.reaches, c.remove_below.ensures.reaches, c.trim_above.ensures.reaches, c.if-levels-gt0.true)

@@ -1,5 +1,7 @@
-use Rattle.std.proofs.Common.{sym, subst, length, ℕ}
-use Rattle.name_btree.specs.Trim.{AreWays}
+use Rattle.std.proofs.Common.{◌∙◌, sym, subst, length, List, ℕ}
+use Rattle.fsd_formats.specs.declared.page.Separator.{Separator}
+use Rattle.name_btree.specs.declared.draft.Sheet.{Sheet}
+use Rattle.name_btree.specs.Trim.{AreWays, AreWaysPut}
 use Rattle.name_btree.proofs.TrimLaws.{joined_ways}
 use Rattle.name_btree.proofs.trimming.join_pair.Goals as goal
 
@@ -9,3 +11,22 @@ trim_ways-requires-clause-ways g c =
     let ways = c.args.ways.now in
     let are = joined_ways p ways.0 c.args.above.now ways.1 c.args.pair c.requires.pair c.requires.ways.ways in
     subst (λ (first : ℕ). AreWays p first c.ways_without.result.items) (sym c.first.ensures) (subst (AreWays p ways.0) (sym c.ways_without.ensures.separators) are)
+
+pub returns-clause-draft : goal.returns-clause-draft
+returns-clause-draft g c = c.trim_ways.ensures.draft
+
+pub returns-clause-freed : goal.returns-clause-freed
+returns-clause-freed g c = c.trim_ways.ensures.freed ∙ c.free.ensures.freed
+
+pub returns-clause-put : goal.returns-clause-put
+returns-clause-put g c =
+    let s = g.T.Pages.step c.args.t.now in
+    let page : ℕ = c.args.above.now.page in
+    let ways = c.args.ways.now in
+    let middle = c.free.new.self.sheets.items in
+    let last = c.trim_ways.new.draft.sheets.items in
+    let left = c.trim_ways.result in
+    let items = c.ways_without.result.items in
+    subst (λ (xs : List Separator). AreWaysPut s c.args.draft.now.sheets.items last page ways.0 xs left) c.ways_without.ensures.separators
+    (subst (λ (first : ℕ). AreWaysPut s c.args.draft.now.sheets.items last page first items left) c.first.ensures
+    (subst (λ (sheets : List Sheet). AreWaysPut s sheets last page c.first.result items left) c.free.ensures.sheets c.trim_ways.ensures.put))

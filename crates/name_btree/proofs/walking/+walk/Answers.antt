@@ -5,7 +5,7 @@ use Rattle.fsd_formats.specs.NamePage.{Interior}
 use Rattle.fsd_table.specs.declared.child.Child.{Child}
 use Rattle.fsd_table.specs.Pages.{page_at, children, content_fits, keys_fit, separator_keys}
 use Rattle.name_page.specs.Looks.{OnlyWalks}
-use Rattle.name_page.specs.Pages.{Step, is_spare}
+use Rattle.name_page.specs.Pages.{Step, is_spare, reaches, rested}
 use Rattle.name_page.proofs.LookLaws.{no_more_rested, no_more_still, no_more_then, reaches_still, reaches_walks, rest_reaches, walks_then}
 use Rattle.name_page.specs.declared.node.Node.{Node}
 use Rattle.name_page.specs.Node.{content_of}
@@ -14,6 +14,8 @@ use Rattle.name_page.proofs.CountLaws.{few_separators, few_entries, take_short, 
 use Rattle.name_btree.proofs.ResultLaws.{ok_more, err_more}
 use Rattle.fsd_table.proofs.PageLaws.{length_of_children}
 use Rattle.name_btree.specs.Fault.{BarsPage, IsAmong}
+use Rattle.name_btree.specs.Still.{HasRefusal}
+use Rattle.name_btree.proofs.RestLaws.{refused_rested}
 use Rattle.name_btree.proofs.MarkLaws.{one_marked, still_marked}
 use Rattle.name_btree.proofs.WalkLaws.{all_at, one_more, above_walked}
 use Rattle.name_btree.proofs.WithinLaws.{IsWithin, misfit_among, ways_within}
@@ -314,3 +316,41 @@ walk_children-returns-in_err-more-clause-memory g t c =
 
 pub walk_children-returns-clause-memory : goal.walk_children-returns-clause-memory
 walk_children-returns-clause-memory g t c = c.loop-i.invariant.memory
+
+-- ---- a page that is refused
+
+pub walk_below-returns-in_err-entries-clause-refused : goal.walk_below-returns-in_err-entries-clause-refused
+walk_below-returns-in_err-entries-clause-refused g t c =
+    let step = g.T.Pages.step in
+    let new = step c.child_node.new.t in
+    let fault = c.in_err-entries.field-0.0 in
+    let p = err_from_is_err_and c.from_residual.result c.from_residual.ensures.1 in
+    rw (p.1, p.2) (refused_rested (step c.args.t.now) new fault (subst (λ (s : Step). HasRefusal s new fault) c.rest.ensures.step c.in_err-entries.ensures.refused))
+
+pub walk_below-returns-in-Interior-clause-refused : goal.walk_below-returns-in-Interior-clause-refused
+walk_below-returns-in-Interior-clause-refused g t c = c.walk_children.ensures.refused
+
+pub walk_children-returns-in_err-more-clause-refused : goal.walk_children-returns-in_err-more-clause-refused
+walk_children-returns-in_err-more-clause-refused g t c =
+    let p = err_from_is_err_and c.from_residual.result c.from_residual.ensures.1 in
+    rw (p.1, p.2) c.in_err-more.ensures.refused
+
+-- ---- the pages are walked
+
+pub walk_below-child_node-requires : goal.walk_below-child_node-requires
+walk_below-child_node-requires g t c =
+    let again : 0 < reaches (rested (g.T.Pages.step c.args.t.now)) = omega (arith, c.requires.more) in
+    subst (λ (s : Step). 0 < reaches s) (sym c.rest.ensures.step) again
+
+pub walk_below-returns-in-Leaf-clause-calls : goal.walk_below-returns-in-Leaf-clause-calls
+walk_below-returns-in-Leaf-clause-calls g t c =
+    let law = g.met.T.Pages in
+    rest_reaches g.T.Pages law.then law.trust c.args.t.now c.rest.new.self c.child_node.new.t c.rest.ensures.outside c.rest.ensures.step c.in_ok-entries.ensures.calls
+
+pub walk_below-returns-in_default-clause-calls : goal.walk_below-returns-in_default-clause-calls
+walk_below-returns-in_default-clause-calls g t c =
+    let law = g.met.T.Pages in
+    rest_reaches g.T.Pages law.then law.trust c.args.t.now c.rest.new.self c.child_node.new.t c.rest.ensures.outside c.rest.ensures.step c.in_ok-entries.ensures.calls
+
+pub walk_children-returns-clause-calls : goal.walk_children-returns-clause-calls
+walk_children-returns-clause-calls g t c = c.loop-i.invariant.calls

@@ -1,13 +1,17 @@
-use Rattle.std.proofs.Common.{◌≡◌, ◌∙◌, ◌<◌, length, sym, ap, subst, List, ℕ, Some, arith}
+use Rattle.std.proofs.Common.{◌≡◌, ◌∙◌, ◌<◌, ◌≤◌, ◌+◌, length, sym, ap, subst, true, false, List, ℕ, Some, arith}
 use Rattle.std.proofs.lemmas.Result.{err_from_is_err_and}
 use Rattle.fsd_formats.specs.NamePage.{Leaf, Interior}
-use Rattle.fsd_table.specs.Pages.{page_at, children}
+use Rattle.fsd_table.specs.Pages.{page_at, children, content_fits}
+use Rattle.fsd_table.specs.Table.{max_height, IsVisited}
+use Rattle.fsd_table.proofs.BreakLaws.{too_deep_breaks}
 use Rattle.fsd_table.specs.declared.child.Child.{Child}
 use Rattle.name_page.specs.Pages.{Step, reaches, rested}
 use Rattle.name_page.proofs.LookLaws.{no_more_rested, no_more_still, no_more_then, reaches_still, reaches_walks, rest_reaches, walks_then}
 use Rattle.name_page.specs.declared.node.Node.{Node}
 use Rattle.name_page.specs.Node.{content_of}
 use Rattle.name_btree.specs.Fault.{BarsPage}
+use Rattle.name_btree.specs.Still.{HasRefusal}
+use Rattle.name_btree.proofs.RestLaws.{refused_rested}
 use Rattle.name_btree.proofs.WalkLaws.{all_at}
 use Rattle.name_btree.proofs.WithinLaws.{IsWithin, misfit_among, ways_within}
 use Rattle.name_btree.proofs.TopLaws.{IsDown, down_begins, down_first, down_ends, down_breaks}
@@ -127,3 +131,50 @@ returns-in-Leaf-clause-memory g c =
 
 pub returns-clause-memory : goal.returns-clause-memory
 returns-clause-memory g c = c.loop-level.invariant.memory
+
+-- ---- a page that is refused
+
+pub returns-in_err-child_node-clause-refused : goal.returns-in_err-child_node-clause-refused
+returns-in_err-child_node-clause-refused g c =
+    let step = g.T.Pages.step in
+    let new = step c.child_node.new.t in
+    let fault = c.in_err-child_node.field-0.0 in
+    let p = err_from_is_err_and c.from_residual.result c.from_residual.ensures.1 in
+    rw (p.1, p.2) (refused_rested (step c.loop-level.t) new fault (subst (λ (s : Step). HasRefusal s new fault) c.rest.ensures.step c.in_err-child_node.ensures.refused))
+
+-- ---- the other ways out
+
+pub returns-in-Free-clause-calls : goal.returns-in-Free-clause-calls
+returns-in-Free-clause-calls g c =
+    let G = g.T.Pages in
+    let law = g.met.T.Pages in
+    walks_then G law.then c.args.t.now c.loop-level.t c.child_node.new.t c.loop-level.invariant.calls
+    (rest_reaches G law.then law.trust c.loop-level.t c.rest.new.self c.child_node.new.t c.rest.ensures.outside c.rest.ensures.step c.in_ok-child_node.ensures.calls)
+
+-- a page that is spare fits nowhere
+pub returns-in-Free-clause-fault : goal.returns-in-Free-clause-fault
+returns-in-Free-clause-fault g c = λ trusted.
+    let child = c.loop-level.child in
+    absurd (let none : false ≡ true = ap (λ (n : Node). content_fits child.low child.high (Some (content_of n))) (sym c.in-Free.is) ∙ c.in_ok-child_node.ensures.fits in cc)
+
+pub returns-in-Leaf-clause-calls : goal.returns-in-Leaf-clause-calls
+returns-in-Leaf-clause-calls g c =
+    let G = g.T.Pages in
+    let law = g.met.T.Pages in
+    walks_then G law.then c.args.t.now c.loop-level.t c.child_node.new.t c.loop-level.invariant.calls
+    (rest_reaches G law.then law.trust c.loop-level.t c.rest.new.self c.child_node.new.t c.rest.ensures.outside c.rest.ensures.step c.in_ok-child_node.ensures.calls)
+
+pub returns-in-Leaf-clause-low : goal.returns-in-Leaf-clause-low
+returns-in-Leaf-clause-low g c = omega (arith, c.loop-level-test.true)
+
+pub returns-clause-calls : goal.returns-clause-calls
+returns-clause-calls g c = c.loop-level.invariant.calls
+
+pub returns-clause-fault : goal.returns-clause-fault
+returns-clause-fault g c = λ trusted.
+    let G = g.T.Pages in
+    let child = c.loop-level.child in
+    let deep : max_height < c.loop-level.level + 1 = omega (arith, c.loop-level-test.false) in
+    let all = c.loop-level.invariant.calls in
+    too_deep_breaks (G.step c.loop-level.t).images (c.loop-level.level + 1) child
+    (subst (λ (p : List (List ℕ)). IsVisited p (c.loop-level.level + 1) child) (sym (all.stays trusted)) (c.loop-level.invariant.down trusted).0) deep
