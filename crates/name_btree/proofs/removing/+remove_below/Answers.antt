@@ -1,4 +1,4 @@
-use Rattle.std.proofs.Common.{◌≡◌, ◌∙◌, ◌+◌, ◌*◌, ◌-◌, ◌<◌, ◌≤◌, Bool, true, false, take, drop, refl, sym, ap, subst, length, ℕ, List, Some, arith, rules}
+use Rattle.std.proofs.Common.{◌≡◌, ◌∙◌, ◌+◌, ◌*◌, ◌-◌, ◌≤◌, Bool, true, false, take, drop, refl, sym, ap, subst, length, ℕ, List, Some, arith, rules}
 use Rattle.std.specs.List.{AllByRecursion}
 use Rattle.fsd_bytes.specs.declared.key.Key.{Key}
 use Rattle.name_page.specs.declared.cut.Cut.TheVariants.{UpTo}
