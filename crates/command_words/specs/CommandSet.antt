@@ -11,6 +11,7 @@ pub record IsCommand (command : Command) (shape : Shape) : Type 0 where
   pub app : app_of command ≡ record { top = shape; subs = [] }
   pub local : (out-Command command).has_globals ≡ false
 
+-- the command of a row
 abbrev pub shape_of : Row → Shape
 shape_of row = subcommand row.name.now (map (λ id. positional id.now) row.positionals.now ++ map (λ id. option id.now) row.options.now)
 
