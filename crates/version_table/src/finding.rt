@@ -36,7 +36,8 @@ pub fn version_at<T: Pages>(t: &mut T, key: &Key) -> Result<FoundEntry, VersionF
     }
 }
 
-/// The highest version of a name, in a step of its own. NoSuch is told where what stands last up to the name has another.
+/// The highest version of a name, in a step of its own.
+/// NoSuch is told where what stands last up to the name has another.
 pub fn newest<T: Pages>(t: &mut T, name: &FileName) -> Result<FoundEntry, VersionFault>
     requires { MOST_REACHED ≤ (T.step t.old).most_reached }
     ensures walks { OnlyWalks T.Pages (outer_met result) t.old t.new }
