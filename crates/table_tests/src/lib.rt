@@ -1,5 +1,6 @@
 //! Tests of the name table: its tree over pages in memory, and over a small cache of pages that stand on a machine.
-//! Also of what it stands on: the machine in memory, records and the log, frames, the cache and the free pages.
+//! Also of what it stands on: texts, fields and runs, where everything lies, the machine in memory, records and the log,
+//! frames, the cache and the free pages.
 #![tactic(auto)]
 
 #[cfg(test)]
@@ -12,6 +13,8 @@ mod caches;
 mod calls;
 #[cfg(test)]
 mod desk;
+#[cfg(test)]
+mod formats;
 #[cfg(test)]
 mod frames;
 #[cfg(test)]

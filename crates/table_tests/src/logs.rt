@@ -2,6 +2,7 @@
 ghost use Rattle.std.specs.Prelude.{◌≡◌, ◌≤◌, IfOk};
 
 use crate::desk::{attached, damaged};
+use crate::machines::repeated;
 use fsd_formats::Anchor;
 use log_record::{anchor_bytes, lay};
 use log_thirds::{LastRecord, Log, LogFault, Place};
@@ -84,7 +85,7 @@ fn a_record_is_found_with_its_page(rt: HostRuntime) -> Result<(), Fail> {
         pages: 1,
     };
     assert_eq!(rt; log.last(), Some(last));
-    m.write(21, &[0; 1024])?;
+    m.write(21, &repeated::<1024>(0))?;
     log.complete_last(&mut m)?;
     m.read(21, &mut buf)?;
     assert_eq!(rt; buf, image_in(0, 1));

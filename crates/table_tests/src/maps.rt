@@ -148,124 +148,6 @@ fn look_up(rt: &impl Abort, t: &mut VecPages, map: &Versions, key: Key) -> Resul
     Ok(())
 }
 
-// Puts an entry in, and takes those with the keys out.
-fn put(
-    rt: &impl Abort,
-    alloc: Global,
-    t: &mut VecPages,
-    map: &mut Versions,
-    seen: &mut Seen,
-    entry: Entry,
-    gone: &ArrayVec<Key, 2>,
-) -> Result<(), Fail>
-    requires entry { is_entry entry ≡ true }
-    requires fits { FitsEntry entry }
-{
-    let before = images(t, alloc)?;
-    let free = spare_pages(t);
-    t.renew();
-    match calls::put(t, &entry, gone) {
-        Ok(Some(_)) => return Err(Fail::new("an entry has the key")),
-        Ok(None) => {
-            assert!(rt; free >= 8);
-            for key in gone.as_slice() {
-                map.remove(key);
-            }
-            map.insert(entry.key.copied(), entry)?;
-        }
-        Err(fault) => {
-            assert!(rt; free < 8);
-            assert_eq!(rt; fault, TreeFault::Pages(Refusal::NameTableFull { free }));
-            assert_eq!(rt; images(t, alloc)?, before);
-            count(&mut seen.full);
-        }
-    }
-    Ok(())
-}
-
-// Puts the next version of a name in, and takes the oldest beyond the keep out.
-fn put_next(
-    rt: &impl Abort,
-    alloc: Global,
-    t: &mut VecPages,
-    map: &mut Versions,
-    seen: &mut Seen,
-    seed: &mut u64,
-) -> Result<(), Fail> {
-    let name = name(next(seed) % 90);
-    let keep = 2 + next(seed) % 4;
-    let version = match highest_in(map, &name) {
-        Some(highest) => highest.key.version.wrapping_add(1),
-        None => 1,
-    };
-    let gone = oldest_in(
-        map,
-        &name,
-        count_in(map, &name).saturating_add(1).saturating_sub(keep),
-    );
-    if let Some(entry) = entry(&Key { name, version }, keep, next(seed) % 8) {
-        put(rt, alloc, t, map, seen, entry, &gone)?;
-    }
-    Ok(())
-}
-
-// Takes the entry with a key out.
-fn take(
-    rt: &impl Abort,
-    alloc: Global,
-    t: &mut VecPages,
-    map: &mut Versions,
-    seen: &mut Seen,
-    key: &Key,
-) -> Result<(), Fail> {
-    let before = images(t, alloc)?;
-    let free = spare_pages(t);
-    t.rest();
-    let stands = find(t, key)?.is_some();
-    assert_eq!(rt; stands, map.contains_key(key));
-    t.renew();
-    remove(t, key)?;
-    map.remove(key);
-    let changed = changes(&before, &images(t, alloc)?);
-    if !stands {
-        assert_eq!(rt; changed, 0);
-        count(&mut seen.absent);
-        return Ok(());
-    }
-    count(&mut seen.removed);
-    // Of one leaf only that changes; where two share, these and the page above them do.
-    if spare_pages(t) > free {
-        count(&mut seen.falls);
-    } else if changed >= 3 {
-        count(&mut seen.shares);
-    }
-    Ok(())
-}
-
-// Puts an entry in place of the one with its key, if that is as long.
-fn replace(
-    rt: &impl Abort,
-    t: &mut VecPages,
-    map: &mut Versions,
-    seen: &mut Seen,
-    entry: Entry,
-) -> Result<(), Fail>
-    requires entry { is_entry entry ≡ true }
-    requires fits { FitsEntry entry }
-{
-    let is_as_long = match map.get(&entry.key) {
-        Some(old) => entry_len(old) == entry_len(&entry),
-        None => false,
-    };
-    t.renew();
-    assert_eq!(rt; calls::replace(t, &entry)?.is_some(), is_as_long);
-    if is_as_long {
-        map.insert(entry.key.copied(), entry)?;
-        count(&mut seen.replaced);
-    }
-    Ok(())
-}
-
 // A key of the map, if one is later than some key.
 fn some_key(map: &Versions, seed: &mut u64) -> Key {
     let key = Key {
@@ -276,53 +158,6 @@ fn some_key(map: &Versions, seed: &mut u64) -> Key {
     match next_in(map, &after) {
         Some(entry) => entry.key.copied(),
         None => key,
-    }
-}
-
-// Replaces some entry by one with another keep, at times of another length.
-fn replace_some(
-    rt: &impl Abort,
-    t: &mut VecPages,
-    map: &mut Versions,
-    seen: &mut Seen,
-    seed: &mut u64,
-) -> Result<(), Fail> {
-    let key = some_key(map, seed);
-    let more = match map.get(&key) {
-        Some(entry) => entry.runs.as_slice().len().saturating_sub(1).min(7) as u32,
-        None => next(seed) % 8,
-    };
-    let more = if next(seed) % 4 == 0 { 7 - more } else { more };
-    if let Some(entry) = entry(&key, next(seed) % 1000, more) {
-        replace(rt, t, map, seen, entry)?;
-    }
-    Ok(())
-}
-
-// One of the calls. The table grows or shrinks on the whole.
-fn step(
-    rt: &impl Abort,
-    alloc: Global,
-    t: &mut VecPages,
-    map: &mut Versions,
-    seen: &mut Seen,
-    seed: &mut u64,
-    puts: u32,
-) -> Result<(), Fail> {
-    let draw = next(seed) % 16;
-    if draw < puts {
-        put_next(rt, alloc, t, map, seen, seed)
-    } else if draw < 12 {
-        let key = some_key(map, seed);
-        take(rt, alloc, t, map, seen, &key)
-    } else if draw < 14 {
-        replace_some(rt, t, map, seen, seed)
-    } else {
-        let key = Key {
-            name: name(next(seed) % 92),
-            version: next(seed) % 8,
-        };
-        look_up(rt, t, map, key)
     }
 }
 
@@ -342,38 +177,171 @@ fn interior_pages(images: &Images) -> u32 {
     interior
 }
 
-// What became of the tree by a call.
-fn look_on(
-    rt: &impl Abort,
+// A tree and the map that has what the tree is to have, and what came on the way.
+#[derive(Drop)]
+struct Beside {
     alloc: Global,
-    t: &mut VecPages,
-    map: &Versions,
-    seen: &mut Seen,
-) -> Result<(), Fail> {
-    let pages = walked(rt, alloc, t, map)?;
-    if pages > seen.pages {
-        count(&mut seen.rises);
+    t: VecPages,
+    map: Versions,
+    seen: Seen,
+}
+
+impl Beside {
+    fn new(alloc: Global) -> Result<Beside, AllocError> {
+        Ok(Beside {
+            alloc,
+            t: in_memory(alloc, PAGES, 100)?,
+            map: BTreeMap::new(alloc),
+            seen: Seen::default(),
+        })
     }
-    seen.pages = pages;
-    seen.interior = seen.interior.max(interior_pages(&images(t, alloc)?));
-    Ok(())
+
+    // Puts an entry in, and takes those with the keys out.
+    fn put(&mut self, rt: &impl Abort, entry: Entry, gone: &ArrayVec<Key, 2>) -> Result<(), Fail>
+        requires entry { is_entry entry ≡ true }
+        requires fits { FitsEntry entry }
+    {
+        let before = images(&mut self.t, self.alloc)?;
+        let free = spare_pages(&mut self.t);
+        self.t.renew();
+        match calls::put(&mut self.t, &entry, gone) {
+            Ok(Some(_)) => return Err(Fail::new("an entry has the key")),
+            Ok(None) => {
+                assert!(rt; free >= 8);
+                for key in gone.as_slice() {
+                    self.map.remove(key);
+                }
+                self.map.insert(entry.key.copied(), entry)?;
+            }
+            Err(fault) => {
+                assert!(rt; free < 8);
+                assert_eq!(rt; fault, TreeFault::Pages(Refusal::NameTableFull { free }));
+                assert_eq!(rt; images(&mut self.t, self.alloc)?, before);
+                count(&mut self.seen.full);
+            }
+        }
+        Ok(())
+    }
+
+    // Puts the next version of a name in, and takes the oldest beyond the keep out.
+    fn put_next(&mut self, rt: &impl Abort, seed: &mut u64) -> Result<(), Fail> {
+        let name = name(next(seed) % 90);
+        let keep = 2 + next(seed) % 4;
+        let version = match highest_in(&self.map, &name) {
+            Some(highest) => highest.key.version.wrapping_add(1),
+            None => 1,
+        };
+        let more = count_in(&self.map, &name).saturating_add(1);
+        let gone = oldest_in(&self.map, &name, more.saturating_sub(keep));
+        if let Some(entry) = entry(&Key { name, version }, keep, next(seed) % 8) {
+            self.put(rt, entry, &gone)?;
+        }
+        Ok(())
+    }
+
+    // Takes the entry with a key out.
+    fn take(&mut self, rt: &impl Abort, key: &Key) -> Result<(), Fail> {
+        let before = images(&mut self.t, self.alloc)?;
+        let free = spare_pages(&mut self.t);
+        self.t.rest();
+        let stands = find(&mut self.t, key)?.is_some();
+        assert_eq!(rt; stands, self.map.contains_key(key));
+        self.t.renew();
+        remove(&mut self.t, key)?;
+        self.map.remove(key);
+        let changed = changes(&before, &images(&mut self.t, self.alloc)?);
+        if !stands {
+            assert_eq!(rt; changed, 0);
+            count(&mut self.seen.absent);
+            return Ok(());
+        }
+        count(&mut self.seen.removed);
+        // Of one leaf only that changes; where two share, these and the page above them do.
+        if spare_pages(&mut self.t) > free {
+            count(&mut self.seen.falls);
+        } else if changed >= 3 {
+            count(&mut self.seen.shares);
+        }
+        Ok(())
+    }
+
+    // Puts an entry in place of the one with its key, if that is as long.
+    fn replace(&mut self, rt: &impl Abort, entry: Entry) -> Result<(), Fail>
+        requires entry { is_entry entry ≡ true }
+        requires fits { FitsEntry entry }
+    {
+        let is_as_long = match self.map.get(&entry.key) {
+            Some(old) => entry_len(old) == entry_len(&entry),
+            None => false,
+        };
+        self.t.renew();
+        assert_eq!(rt; calls::replace(&mut self.t, &entry)?.is_some(), is_as_long);
+        if is_as_long {
+            self.map.insert(entry.key.copied(), entry)?;
+            count(&mut self.seen.replaced);
+        }
+        Ok(())
+    }
+
+    // Replaces some entry by one with another keep, at times of another length.
+    fn replace_some(&mut self, rt: &impl Abort, seed: &mut u64) -> Result<(), Fail> {
+        let key = some_key(&self.map, seed);
+        let more = match self.map.get(&key) {
+            Some(entry) => entry.runs.as_slice().len().saturating_sub(1).min(7) as u32,
+            None => next(seed) % 8,
+        };
+        let more = if next(seed) % 4 == 0 { 7 - more } else { more };
+        if let Some(entry) = entry(&key, next(seed) % 1000, more) {
+            self.replace(rt, entry)?;
+        }
+        Ok(())
+    }
+
+    // One of the calls. The table grows or shrinks on the whole.
+    fn step(&mut self, rt: &impl Abort, seed: &mut u64, puts: u32) -> Result<(), Fail> {
+        let draw = next(seed) % 16;
+        if draw < puts {
+            self.put_next(rt, seed)
+        } else if draw < 12 {
+            let key = some_key(&self.map, seed);
+            self.take(rt, &key)
+        } else if draw < 14 {
+            self.replace_some(rt, seed)
+        } else {
+            let key = Key {
+                name: name(next(seed) % 92),
+                version: next(seed) % 8,
+            };
+            look_up(rt, &mut self.t, &self.map, key)
+        }
+    }
+
+    // What became of the tree by a call.
+    fn look_on(&mut self, rt: &impl Abort) -> Result<(), Fail> {
+        let pages = walked(rt, self.alloc, &mut self.t, &self.map)?;
+        if pages > self.seen.pages {
+            count(&mut self.seen.rises);
+        }
+        self.seen.pages = pages;
+        let interior = interior_pages(&images(&mut self.t, self.alloc)?);
+        self.seen.interior = self.seen.interior.max(interior);
+        Ok(())
+    }
 }
 
 #[test]
 fn holds_what_the_map_holds(rt: HostRuntime) -> Result<(), Fail> {
-    let alloc = rt.alloc();
-    let mut t = in_memory(alloc, PAGES, 100)?;
-    let mut map = BTreeMap::new(alloc);
-    let mut seen = Seen::default();
+    let mut beside = Beside::new(rt.alloc())?;
     let mut seed = 1;
     for call in 0u32..2000 {
         let puts = if call % 1000 < 650 { 11 } else { 1 };
-        step(&rt, alloc, &mut t, &mut map, &mut seen, &mut seed, puts)?;
-        look_on(&rt, alloc, &mut t, &map, &mut seen)?;
+        beside.step(&rt, &mut seed, puts)?;
+        beside.look_on(&rt)?;
         if call % 50 == 49 {
-            in_order(&rt, &mut t, &map)?;
+            in_order(&rt, &mut beside.t, &beside.map)?;
         }
     }
+    let seen = beside.seen;
     assert!(rt; seen.interior >= 2, "{seen:?}");
     assert!(rt; seen.least() > 10, "{seen:?}");
     Ok(())
@@ -382,9 +350,7 @@ fn holds_what_the_map_holds(rt: HostRuntime) -> Result<(), Fail> {
 #[test]
 fn the_eighth_entry_parts_page_0(rt: HostRuntime) -> Result<(), Fail> {
     let alloc = rt.alloc();
-    let mut t = in_memory(alloc, PAGES, 100)?;
-    let mut map = BTreeMap::new(alloc);
-    let mut seen = Seen::default();
+    let mut beside = Beside::new(alloc)?;
     for (i, pages, first) in [
         (1, 1, (1, 66)),
         (2, 1, (1, 132)),
@@ -403,17 +369,10 @@ fn the_eighth_entry_parts_page_0(rt: HostRuntime) -> Result<(), Fail> {
             return Ok(());
         };
         assert_eq!(rt; entry_len(&entry), 66);
-        put(
-            &rt,
-            alloc,
-            &mut t,
-            &mut map,
-            &mut seen,
-            entry,
-            &ArrayVec::new(),
-        )?;
-        assert_eq!(rt; walked(&rt, alloc, &mut t, &map)?, pages);
-        let images = images(&mut t, alloc)?;
+        beside.put(&rt, entry, &ArrayVec::new())?;
+        let walked = walked(&rt, alloc, &mut beside.t, &beside.map)?;
+        assert_eq!(rt; walked, pages);
+        let images = images(&mut beside.t, alloc)?;
         let mut heads = images.iter().flatten().map(head);
         assert_eq!(rt; heads.next(), Some(first));
         for (kind, used) in heads {
