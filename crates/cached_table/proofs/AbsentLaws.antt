@@ -22,7 +22,8 @@ use Rattle.name_page.proofs.LookLaws.{agrees_at}
 use Rattle.name_btree.specs.Lookup.{HasOtherLeft, IsLeafBy, IsReadLeaf, ShowsAbsent, ShowsNoVersion, ShowsNoneAfter}
 use Rattle.name_btree.proofs.DownLaws.{between}
 use Rattle.version_table.proofs.EditLaws.{with_is}
-use Rattle.cached_table.specs.Absent.{EndsOther, LacksKey, LacksLater, LacksName, Reaches}
+use Rattle.volume_contract.specs.Absent.{LacksKey, LacksLater, Reaches}
+use Rattle.cached_table.specs.Absent.{EndsOther, LacksName}
 use Rattle.sector_disk.specs.declared.machine.Machine.{Ghosts as MachineGhosts}
 use Rattle.page_cache.specs.declared.source.PageSource.{Ghosts as SourceGhosts}
 use Rattle.page_cache.specs.Cache.{CacheValue}

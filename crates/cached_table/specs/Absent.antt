@@ -1,35 +1,13 @@
--- Why a look-up finds nothing: what the pages that were read show, whatever the others have.
-use Rattle.std.specs.Prelude.{◌≡◌, ◌⊎◌, ℕ, true, false, List, [], ◌∷◌, ◌++◌, Option, Some, None}
+-- Why no version of a name is found: what the pages that were read show, whatever the others have.
+use Rattle.std.specs.Prelude.{◌≡◌, ◌⊎◌, ℕ, false, List, [], ◌∷◌, ◌++◌, Option, Some, None}
 use Rattle.std.specs.Option.{MatchOption}
-use Rattle.std.specs.List.{Contains}
-use Rattle.fsd_bytes.specs.declared.key.Key.{Key}
 use Rattle.fsd_formats.specs.declared.entry.Entry.{Entry}
 use Rattle.fsd_formats.specs.NamePage.{Leaf}
-use Rattle.fsd_table.specs.Pages.{keys_fit, not_below}
-use Rattle.fsd_table.specs.Table.{Visit, visits}
-use Rattle.fsd_files.specs.Answers.{entry_after, entry_of}
+use Rattle.fsd_table.specs.Table.{Visit}
 use Rattle.name_page.specs.Cut.{AtHigh, AtLow, is_before}
 use Rattle.name_page.specs.declared.cut.Cut.TheVariants.{Named}
 use Rattle.name_page.specs.Lookups.{last_that, same_name}
-
--- a path from page 0 reaches a page of which this holds
-abbrev pub Reaches : (Visit → Type 0) → List (List ℕ) → Type 0
-Reaches Is pages = (visit : Visit) × Contains (visits pages) visit × Is visit
-
--- a leaf between whose keys the key stands, and which has no entry of it
-pub record LacksKey (key : Key) (v : Visit) : Type 0 where
-  pub entries : List Entry
-  pub leaf : v.content ≡ Some (Leaf entries)
-  pub between : keys_fit v.low v.high (key ∷ []) ≡ true
-  pub none : entry_of key entries ≡ None
-
--- the last leaf, whose keys begin up to a key, or with the first of all where none is given, and which has no later entry
-pub record LacksLater (after : Option Key) (v : Visit) : Type 0 where
-  pub entries : List Entry
-  pub leaf : v.content ≡ Some (Leaf entries)
-  pub last : v.high ≡ None
-  pub begins : MatchOption after (v.low ≡ None) (λ key. not_below v.low key ≡ true)
-  pub none : entry_after after entries ≡ None
+use Rattle.volume_contract.specs.Absent.{Reaches}
 
 -- a leaf whose keys end where those of another begin, and whose last entry has another name
 pub record EndsOther (name : List ℕ) (v w : Visit) : Type 0 where

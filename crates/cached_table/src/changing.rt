@@ -12,7 +12,8 @@ ghost use Rattle.name_page.specs.Looks.{ChangesPages, HasAllIn, OnlyEdits};
 ghost use Rattle.name_page.specs.Pages.{changes};
 ghost use Rattle.version_table.specs.Fault.{outer_met};
 ghost use Rattle.table_pages.specs.Kept.{IsReady};
-ghost use Rattle.cached_table.specs.Absent.{LacksName, Reaches};
+ghost use Rattle.volume_contract.specs.Absent.{Reaches};
+ghost use Rattle.cached_table.specs.Absent.{LacksName};
 ghost use Rattle.cached_table.specs.Looking.{HasEnoughIn, HavePages};
 ghost use Rattle.cached_table.specs.Editing.{ChangesNone, ChangesOne, FaultsEdit, FaultsKeep, KeepFails, DirtiesAtMost, DirtiesOne, EditsOnly, EditsTable, SetsKeep, SetsKeepIn, StaysIn};
 

@@ -9,7 +9,8 @@ ghost use Rattle.fsd_table.specs.Tree.{IsTree, table_of};
 ghost use Rattle.name_page.specs.Lookups.{entry_after, entry_with, highest_of, is_after};
 ghost use Rattle.name_btree.specs.Fault.{outer_told};
 ghost use Rattle.name_btree.specs.Lookup.{entry_of};
-ghost use Rattle.cached_table.specs.Absent.{LacksKey, LacksLater, LacksName, Reaches};
+ghost use Rattle.volume_contract.specs.Absent.{LacksKey, LacksLater, Reaches};
+ghost use Rattle.cached_table.specs.Absent.{LacksName};
 ghost use Rattle.cached_table.specs.Looking.{FaultsOver, HasAllUsed, HasEnoughIn, HasPathIn, HavePages, LeadsTo, LooksOnly, ShowsFault, images_by, refusal_in, told};
 
 use crate::CachedTable;

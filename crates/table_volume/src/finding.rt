@@ -1,8 +1,10 @@
 //! Entries that are found in the table.
-ghost use Rattle.std.specs.Prelude.{◌≡◌, ◌<◌, ◌≤◌, Contains, IfOk, IfErr, IfSome, IsTrue, true};
+ghost use Rattle.std.specs.Prelude.{◌≡◌, ◌<◌, ◌≤◌, Contains, Err, IfOk, IfErr, IfNone, IfSome, IsTrue, true};
+ghost use Rattle.fsd_bytes.specs.declared.refusal.Refusal.TheVariants as Why;
 ghost use Rattle.sector_disk.specs.Calls.{OnlyReads, device_in};
 ghost use Rattle.fsd_formats.specs.NamePage.{is_entry};
 ghost use Rattle.fsd_files.specs.Answers.{entry_of, entry_reply};
+ghost use Rattle.volume_contract.specs.Absent.{LacksKey, ShowsReached};
 ghost use Rattle.volume_contract.specs.Causes.{Causes, IsTaken};
 ghost use Rattle.volume_contract.specs.Ends.{Looks, device_of, found_one};
 ghost use Rattle.volume_contract.specs.Order.{Follows, IsLookUp, entry_steps, is_idle};
@@ -39,6 +41,7 @@ impl Volume {
         ensures taken { M.honest m.new → (k : Known) → Stands state Holds self.old k (M.now m.old) → (e : Entry) → Contains (volume_of k).entries e → IsTrue (are_taken self.new e.runs) }
         ensures told { (e : Entry) → IsTrue (are_taken self.new e.runs) → IsTaken (state self.new) e }
         ensures causes { Causes M.Machine (resident self.old) (state self.old) (state self.new) m.old m.new result }
+        ensures absent { IfOk result (λ found. IfNone found (ShowsReached M.Machine (resident self.old) (state self.old) (state self.new) m.old m.new (LacksKey key.now))) }
         ensures met { IfOk result (λ found. IfSome found (λ f. Causes M.Machine (resident self.old) (state self.old) (state self.new) m.old m.new (met_entry self.new f.page f.entry))) }
     {
         let _whole = self.table.cache.dirty_list();
@@ -59,6 +62,7 @@ impl Volume {
         ensures taken { IfOk result (IsTaken (state self.new)) }
         ensures stands { M.honest m.new → (k : Known) → Stands state Holds self.old k (M.now m.old) → Stands state Holds self.new k (M.now m.new) }
         ensures causes { Causes M.Machine (resident self.old) (state self.old) (state self.new) m.old m.new result }
+        ensures absent { result ≡ Err Why.NoSuch → ShowsReached M.Machine (resident self.old) (state self.old) (state self.new) m.old m.new (LacksKey key.now) }
         ensures done { M.honest m.new → (k : Known) → Stands state Holds self.old k (M.now m.old) → Looks (entry_reply (volume_of k) key.now) (found_one result) }
     {
         self.is_up()?;

@@ -14,6 +14,7 @@ ghost use Rattle.fsd_files.specs.Answers.{entry_of, entry_reply};
 ghost use Rattle.fsd_files.specs.Disk.{Sectors};
 ghost use Rattle.fsd_files.specs.Files.{File};
 ghost use Rattle.fsd_files.specs.Kept.{KeptIn};
+ghost use Rattle.volume_contract.specs.Absent.{LacksKey, ShowsReached};
 ghost use Rattle.volume_contract.specs.Causes.{Causes};
 ghost use Rattle.volume_contract.specs.Ends.{Looks, Reads, device_of, found_one};
 ghost use Rattle.volume_contract.specs.Order.{Follows, IsData, entry_steps, is_idle, read_steps};
@@ -39,6 +40,7 @@ impl Volume {
         ensures within { IfOk result (λ e. (s : ℕ) → IsTrue (contains (sectors_of e.runs) s) → IsTrue (is_data (state self.old).layout s)) }
         ensures stands { M.honest m.new → (k : Known) → Stands state Holds self.old k (M.now m.old) → Stands state Holds self.new k (M.now m.new) }
         ensures causes { Causes M.Machine (resident self.old) (state self.old) (state self.new) m.old m.new result }
+        ensures absent { result ≡ Err Why.NoSuch → ShowsReached M.Machine (resident self.old) (state self.old) (state self.new) m.old m.new (LacksKey key.now) }
         ensures done { M.honest m.new → (k : Known) → Stands state Holds self.old k (M.now m.old) → Looks (entry_reply (volume_of k) key.now) (found_one result) }
     {
         let _ = &self.layout;
@@ -68,6 +70,7 @@ impl Volume {
         ensures most { IfOk result (λ count. count ≤ length buf.old) }
         ensures stands { M.honest m.new → (k : Known) → Stands state Holds self.old k (M.now m.old) → Stands state Holds self.new k (M.now m.new) }
         ensures causes { Causes M.Machine (resident self.old) (state self.old) (state self.new) m.old m.new result }
+        ensures absent { result ≡ Err Why.NoSuch → ShowsReached M.Machine (resident self.old) (state self.old) (state self.new) m.old m.new (LacksKey key.now) }
         ensures done { M.honest m.new → (k : Known) → Stands state Holds self.old k (M.now m.old) →
             Reads (M.now m.old).image (M.now m.new).image (file_of key_cmp key.now (volume_of k).files) (entry_of key.now (volume_of k).entries) from buf.old buf.new result }
     {

@@ -24,7 +24,7 @@ use Rattle.log_thirds.specs.LogValue.{LogValue}
 use Rattle.log_thirds.specs.declared.slots.Slot.{Slot}
 use Rattle.group_commit.specs.Logged.{StandsLogged}
 use Rattle.version_data.specs.Writing.{WritesIn}
-use Rattle.volume_contract.specs.Causes.{AreCopies, AreCopiesOf, BreaksMounted, Causes, HasCause, IsRead, ShowsBreak, StandsInCopy, StoodInCopy}
+use Rattle.volume_contract.specs.Causes.{AreCopies, AreCopiesOf, BreaksMounted, Causes, HasCause, IsRead, Shows, StandsInCopy, StoodInCopy}
 use Rattle.volume_contract.specs.Order.{Comes, with_drawn}
 use Rattle.volume_contract.specs.State.{State, forces_first, forces_for_place}
 use Rattle.volume_state.specs.Behind.{IsBehind, StandsInLog}
@@ -112,11 +112,12 @@ module _ (s t u : State) (before after : ℕ → Option (List ℕ)) (old mid now
     ];
   }
 
-  shows_behind : (place : ℕ) → ShowsBreak t u after mid now place → ShowsBreak s u before old now place
-  shows_behind place shows = record {
+  -- what was read behind it shows the same
+  pub shows_behind : (Is Was : List (List ℕ) → Type 0) → ((pages : List (List ℕ)) → Is pages → Was pages) → Shows t u after mid now Is → Shows s u before old now Was
+  shows_behind Is Was was shows = record {
     read = shows.read;
     are_read = λ page. by page (shows.read page) (shows.are_read page);
-    breaks = λ pages have. breaks_behind pages place (shows.breaks pages (record { size = have.size ∙ ap (λ (l : Layout). l.pages) (sym behind.layout); same = have.same }));
+    is = λ pages have. was pages (shows.is pages (record { size = have.size ∙ ap (λ (l : Layout). l.pages) (sym behind.layout); same = have.same }));
   }
     where
       by : (page : ℕ) (o : Option (List ℕ)) → IfSome o (IsRead t u after mid now page) → IfSome o (IsRead s u before old now page)
@@ -126,7 +127,7 @@ module _ (s t u : State) (before after : ℕ → Option (List ℕ)) (old mid now
   -- each refusal has its cause as it was before
   pub cause_behind : (why : Refusal) → HasCause t u after mid now why → HasCause s u before old now why
   cause_behind (Why.Lost a b) lost = lost_as (AreCopies t u) a b (AreCopies s u) now.image (lost_behind a b) lost
-  cause_behind (Why.Unsound place) shows = shows_behind place shows
+  cause_behind (Why.Unsound place) shows = shows_behind (λ pages. BreaksMounted t pages place) (λ pages. BreaksMounted s pages place) (λ pages broken. breaks_behind pages place broken) shows
   cause_behind why cause = tt
 
 pub causes_behind : {D T : Type 0} (M : Ghosts D) (s t u : State) (before after : ℕ → Option (List ℕ)) (old mid now : D) → (M.honest now → IsBehind s t before after (M.now mid)) → u.slots ≡ t.slots → u.layout ≡ t.layout → (M.honest now → Wears (M.now mid) (M.now now))

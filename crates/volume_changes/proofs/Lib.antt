@@ -1,3 +1,4 @@
+pub mod AbsentLaws
 pub mod BehindForce
 pub mod BehindLaws
 pub mod CauseLaws

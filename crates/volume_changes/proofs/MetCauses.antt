@@ -59,7 +59,7 @@ module _ {D : Type 0} (M : MachineGhosts D) (m m' : D) (v : VolumeValue) (whole 
   }
 
   shows_met : ShowsEntry (state v) new (resident v) (M.now m) (M.now m') f
-  shows_met = record { read = read_then; are_read = all_read; leads = λ pages have. met.leads pages (have_then pages have) }
+  shows_met = record { read = read_then; are_read = all_read; is = λ pages have. met.leads pages (have_then pages have) }
 
   met_breaks : (home place : ℕ) → home ≡ home_a v.layout 0 → f.page < length v.free_pages → place ≡ home_in home f.page → (AreTaken v.map v.shadow f.entry.runs → ⊥) → ShowsBreak (state v) new (resident v) (M.now m) (M.now m') place
   met_breaks home place first within is untaken =

@@ -1,6 +1,6 @@
 -- What a look-up has read of a volume's table, and what that shows.
 use Rattle.std.proofs.Common.{◌≡◌, ◌⊎◌, inl, inr, ℕ, ◌<◌, Bool, true, false, cond, nat_lt, List, [], length, Option, Some, None, Result, Ok, Err, refl, sym, ap, subst, ◌∙◌, arith}
-use Rattle.std.specs.Prelude.{IfOk, IfSome, Contains, IfErr, nat_eq, slice_get, slice_index_or}
+use Rattle.std.specs.Prelude.{IfOk, IfSome, IfNone, Contains, IfErr, nat_eq, slice_get, slice_index_or}
 use Rattle.std.proofs.lemmas.Bool.{lt-ltb, ltb-true, eq-eqb, eqb-true}
 use Rattle.std.proofs.lemmas.Option.{slice_get-get_or}
 use Rattle.std.proofs.Math.Nat.{mod-eq_of_lt}
@@ -26,7 +26,7 @@ use Rattle.name_page.specs.Pages.{is_spare}
 use Rattle.name_btree.specs.Fault.{IsOnWay, outer_told}
 use Rattle.table_pages.specs.Bringing.{home_in}
 use Rattle.table_pages.specs.Reads.{Stood}
-use Rattle.volume_contract.specs.Causes.{BreaksMounted, HaveRead, IsRead, ShowsBreak, StandsInCopy, StoodInCopy}
+use Rattle.volume_contract.specs.Causes.{BreaksMounted, HaveRead, IsRead, Shows, ShowsBreak, StandsInCopy, StoodInCopy}
 use Rattle.volume_contract.specs.State.{State}
 use Rattle.cached_table.specs.Looking.{Had, HaveOthers, HavePages, LeadsTo, LooksOnly, ShowsFault, ShowsPlace, refusal_in, told}
 use Rattle.volume_changes.specs.Meeting.{ShowsEntry}
@@ -93,8 +93,9 @@ module _ {D : Type 0} (M : MachineGhosts D) (m m' : D) (v : VolumeValue) (whole 
         have_one read_now pages have page bytes within (was_read page bytes within is);
   }
 
-  shows_entry : (f : FoundEntry) → ((pages : List (List ℕ)) → HavePages c (length v.free_pages) pages → LeadsTo pages f) → ShowsEntry (state v) new (resident v) (M.now m) (M.now m') f
-  shows_entry f way = record { read = read_now; are_read = all_read; leads = λ pages have. way pages (have_pages pages have) }
+  -- what the pages in memory show is shown by what was read
+  pub shows_now : (Is : List (List ℕ) → Type 0) → ((pages : List (List ℕ)) → HavePages c (length v.free_pages) pages → Is pages) → Shows (state v) new (resident v) (M.now m) (M.now m') Is
+  shows_now Is is = record { read = read_now; are_read = all_read; is = λ pages have. is pages (have_pages pages have) }
 
   -- an entry that is found
   shows_found : (home_a : ℕ) (r : Result (Option FoundEntry) TreeFault) (result : Result (Option FoundEntry) Refusal) → result ≡ told home_a r
@@ -106,7 +107,7 @@ module _ {D : Type 0} (M : MachineGhosts D) (m m' : D) (v : VolumeValue) (whole 
           → IfOk (told home_a r) (λ found. IfSome found (ShowsEntry (state v) new (resident v) (M.now m) (M.now m')))
       by (Err fault) way = tt
       by (Ok None) way = tt
-      by (Ok (Some f)) way = shows_entry f way
+      by (Ok (Some f)) way = shows_now (λ pages. LeadsTo pages f) way
 
   -- ---- a place that is told as unsound
 
@@ -180,10 +181,10 @@ module _ {D : Type 0} (M : MachineGhosts D) (m m' : D) (v : VolumeValue) (whole 
 
     pub unsound_shown : ShowsBreak (state v) new (resident v) (M.now m) (M.now m') place
     unsound_shown = elim shows.how [
-      | inl free ↦ record { read = read_now; are_read = all_read; breaks = λ pages have. freed pages have.size free.0 (free.1 pages (have_pages pages have)) }
+      | inl free ↦ record { read = read_now; are_read = all_read; is = λ pages have. freed pages have.size free.0 (free.1 pages (have_pages pages have)) }
       | inr other ↦ elim other [
-        | inl breaks ↦ record { read = read_now; are_read = all_read; breaks = λ pages have. broken pages have.size (breaks pages (have_pages pages have)) }
-        | inr x ↦ record { read = read_with x.0 x.1 x.2; are_read = all_with x.0 x.1 x.2; breaks = λ pages have. broken pages have.size (x.3 pages (have_others x.0 x.1 x.2 pages have)) }
+        | inl breaks ↦ record { read = read_now; are_read = all_read; is = λ pages have. broken pages have.size (breaks pages (have_pages pages have)) }
+        | inr x ↦ record { read = read_with x.0 x.1 x.2; are_read = all_with x.0 x.1 x.2; is = λ pages have. broken pages have.size (x.3 pages (have_others x.0 x.1 x.2 pages have)) }
       ]
     ]
 
@@ -204,11 +205,11 @@ unsound_by M m m' v w is whole c log of_log new home first r result told_is look
 -- an entry that is met, and whose sectors aren't taken
 pub untaken_by : (v w : VolumeValue) → v ≡ w → IsWhole v → (before now : Moment) (new : State) (f : FoundEntry) → ShowsEntry (state w) new (resident w) before now f → are_taken w f.entry.runs ≡ false
     → ShowsBreak (state w) new (resident w) before now (home_a w.layout f.page)
-untaken_by v w is whole before now new f shows untaken = record { read = shows.read; are_read = shows.are_read; breaks = breaks }
+untaken_by v w is whole before now new f shows untaken = record { read = shows.read; are_read = shows.are_read; is = breaks }
   where
     breaks : (pages : List (List ℕ)) → HaveRead (state w) shows.read pages → BreaksMounted (state w) pages (home_a w.layout f.page)
     breaks pages have =
-        let led = shows.leads pages have in
+        let led = shows.is pages have in
         record {
           visit = led.0;
           reached = led.1;
@@ -228,3 +229,19 @@ pub shows_by : {D : Type 0} (M : MachineGhosts D) (m m' : D) (v w : VolumeValue)
 shows_by M m m' v w is whole c log of_log new home_a r result told_is looks honest way =
     subst (λ (x : VolumeValue). IfOk result (λ found. IfSome found (ShowsEntry (state x) new (resident x) (M.now m) (M.now m')))) is
     (shows_found M m m' v whole c (outer_told r) (subst (λ (l : LogValue). LooksOnly M by_log.ghosts l (outer_told r) m m' v.cache c v.free_pages) of_log looks) honest new home_a r result told_is way)
+
+-- where nothing is found, what was read shows why
+pub absent_by : {D : Type 0} (M : MachineGhosts D) (m m' : D) (v w : VolumeValue) → v ≡ w → IsWhole v → (c : CacheValue) (log : LogValue) → log ≡ v.log → (new : State) (home_a : ℕ) (Is : List (List ℕ) → Type 0) (r : Result (Option FoundEntry) TreeFault)
+    (result : Result (Option FoundEntry) Refusal) → result ≡ told home_a r → LooksOnly M by_log.ghosts log (outer_told r) m m' v.cache c v.free_pages
+    → IfOk r (λ found. IfNone found ((pages : List (List ℕ)) → HavePages c (length v.free_pages) pages → Is pages))
+    → IfOk result (λ found. IfNone found (M.honest m' → Shows (state w) new (resident w) (M.now m) (M.now m') Is))
+absent_by M m m' v w is whole c log of_log new home_a Is r result told_is looks absent =
+    subst (λ (x : Result (Option FoundEntry) Refusal). IfOk x (λ found. IfNone found (M.honest m' → Shows (state w) new (resident w) (M.now m) (M.now m') Is))) (sym told_is) (by r looks absent)
+  where
+    by : (r : Result (Option FoundEntry) TreeFault) → LooksOnly M by_log.ghosts log (outer_told r) m m' v.cache c v.free_pages → IfOk r (λ found. IfNone found ((pages : List (List ℕ)) → HavePages c (length v.free_pages) pages → Is pages))
+        → IfOk (told home_a r) (λ found. IfNone found (M.honest m' → Shows (state w) new (resident w) (M.now m) (M.now m') Is))
+    by (Err fault) looks absent = tt
+    by (Ok (Some f)) looks absent = tt
+    by (Ok None) looks absent = λ honest.
+        subst (λ (x : VolumeValue). Shows (state x) new (resident x) (M.now m) (M.now m') Is) is
+        (shows_now M m m' v whole c None (subst (λ (l : LogValue). LooksOnly M by_log.ghosts l None m m' v.cache c v.free_pages) of_log looks) honest new Is absent)

@@ -89,11 +89,15 @@ pub record HaveRead (s : State) (read : ℕ → Option (List ℕ)) (pages : List
   pub size : length pages ≡ s.layout.pages
   pub same : (page : ℕ) → IfSome (read page) (λ bytes. image_at pages page ≡ bytes)
 
--- Some pages were read. Whatever the others have, the page at this home breaks the table.
-pub record ShowsBreak (old new : State) (resident : ℕ → Option (List ℕ)) (before now : Moment) (place : ℕ) : Type 0 where
+-- Some pages were read, and show this of all pages, whatever the others have.
+pub record Shows (old new : State) (resident : ℕ → Option (List ℕ)) (before now : Moment) (Is : List (List ℕ) → Type 0) : Type 0 where
   pub read : ℕ → Option (List ℕ)
   pub are_read : (page : ℕ) → IfSome (read page) (IsRead old new resident before now page)
-  pub breaks : (pages : List (List ℕ)) → HaveRead old read pages → BreaksMounted old pages place
+  pub is : (pages : List (List ℕ)) → HaveRead old read pages → Is pages
+
+-- the page at this home breaks the table
+abbrev pub ShowsBreak : (old new : State) → (resident : ℕ → Option (List ℕ)) → (before now : Moment) → (place : ℕ) → Type 0
+ShowsBreak old new resident before now place = Shows old new resident before now (λ pages. BreaksMounted old pages place)
 
 -- ---- both
 

@@ -3,4 +3,5 @@ pub mod Order
 pub mod Ends
 pub mod Mount
 pub mod Causes
+pub mod Absent
 pub mod Logged

@@ -1,5 +1,5 @@
 //! A volume as its callers see it.
-ghost use Rattle.std.specs.Prelude.{◌≡◌, ◌≤◌, ◌||◌, ℕ, List, Option, length, true, false, Some, Ok, Err, IfOk, IfSome, IfErr, IsTrue, MatchResult, option_map};
+ghost use Rattle.std.specs.Prelude.{◌≡◌, ◌≤◌, ◌||◌, ℕ, List, Option, length, true, false, Some, Ok, Err, IfOk, IfSome, IfNone, IfErr, IsTrue, MatchResult, option_map};
 ghost use Rattle.volume_layout.specs.declared.layout.Layout.{Layout as Plan};
 ghost use Rattle.volume_layout.specs.Layout.{is_data, plan};
 ghost use Rattle.sector_disk.specs.declared.sector.WeakRun.{WeakRun as Run};
@@ -23,6 +23,7 @@ ghost use Rattle.volume_contract.specs.State.{State, Known, Ages, volume_of, Sta
 ghost use Rattle.fsd_sound.specs.Writes.{MountKeeps, force_writes};
 ghost use Rattle.volume_contract.specs.Order.{Follows, IsDevice, Keeps, is_idle, put_steps, delete_steps, keep_steps, entry_steps, next_steps, read_steps, force_steps};
 ghost use Rattle.volume_contract.specs.Ends.{Ends, EndsPut, EndsForce, Closes, Looks, IsLater, found_one, Reads, kept_key, device_of};
+ghost use Rattle.volume_contract.specs.Absent.{LacksKey, LacksLater, ShowsReached};
 ghost use Rattle.volume_contract.specs.Causes.{Causes, IsTaken};
 ghost use Rattle.volume_contract.specs.Logged.{AllLogged, KeepsPages};
 ghost use Rattle.volume_contract.specs.Mount.{CountsMount, HealsAnchors, HealsHomes, IsFound, IsRefused, KeepsAll, UnsoundFor, MountsCalm, IsSoundAt, MountsSound};
@@ -159,6 +160,7 @@ pub trait Files<M: Machine>: Sized {
         ensures taken { IfOk result (IsTaken (state self.new)) }
         ensures stands { M.honest m.new → (k : Known) → Stands state holds self.old k (M.now m.old) → Stands state holds self.new k (M.now m.new) }
         ensures causes { Causes M.Machine (resident self.old) (state self.old) (state self.new) m.old m.new result }
+        ensures absent { result ≡ Err Why.NoSuch → ShowsReached M.Machine (resident self.old) (state self.old) (state self.new) m.old m.new (LacksKey key.now) }
         ensures done { M.honest m.new → (k : Known) → Stands state holds self.old k (M.now m.old) → Looks (entry_reply (volume_of k) key.now) (found_one result) };
 
     /// The entry of the version with the least later key, if there is one.
@@ -172,6 +174,7 @@ pub trait Files<M: Machine>: Sized {
         ensures taken { IfOk result (λ found. IfSome found (IsTaken (state self.new))) }
         ensures stands { M.honest m.new → (k : Known) → Stands state holds self.old k (M.now m.old) → Stands state holds self.new k (M.now m.new) }
         ensures causes { Causes M.Machine (resident self.old) (state self.old) (state self.new) m.old m.new result }
+        ensures absent { IfOk result (λ found. IfNone found (ShowsReached M.Machine (resident self.old) (state self.old) (state self.new) m.old m.new (LacksLater (option_map (λ key. key.now) after.entry)))) }
         ensures done { M.honest m.new → (k : Known) → Stands state holds self.old k (M.now m.old) → Looks (next_reply (volume_of k) (option_map (λ key. key.now) after.entry)) result };
 
     /// Reads bytes of a version from a place on, as many as there are and the buffer has room for.
@@ -186,6 +189,7 @@ pub trait Files<M: Machine>: Sized {
         ensures most { IfOk result (λ count. count ≤ length buf.old) }
         ensures stands { M.honest m.new → (k : Known) → Stands state holds self.old k (M.now m.old) → Stands state holds self.new k (M.now m.new) }
         ensures causes { Causes M.Machine (resident self.old) (state self.old) (state self.new) m.old m.new result }
+        ensures absent { result ≡ Err Why.NoSuch → ShowsReached M.Machine (resident self.old) (state self.old) (state self.new) m.old m.new (LacksKey key.now) }
         ensures done { M.honest m.new → (k : Known) → Stands state holds self.old k (M.now m.old) →
             Reads (M.now m.old).image (M.now m.new).image (file_of key_cmp key.now (volume_of k).files) (entry_of key.now (volume_of k).entries) from buf.old buf.new result };
 

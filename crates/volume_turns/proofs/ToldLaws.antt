@@ -45,7 +45,7 @@ module _ (old new : State) (resident : ℕ → Option (List ℕ)) (before now : 
 
   -- some pages are as they were read, and a page of them breaks the table
   told_unsound : (s : ℕ) → ShowsBreak old new resident before now s → (page : ℕ) × (page < old.layout.pages) × (s ≡ home_a old.layout page)
-  told_unsound s shows = let breaks = shows.breaks pages have in (breaks.visit.page, breaks.within, breaks.home)
+  told_unsound s shows = let breaks = shows.is pages have in (breaks.visit.page, breaks.within, breaks.home)
     where
       bytes_at : ℕ → List ℕ
       bytes_at page = unwrap_or (shows.read page) []

@@ -3,6 +3,7 @@ use Rattle.std.proofs.lemmas.Result.{err_from_is_err_and}
 use Rattle.fsd_files.specs.Answers.{entry_of as entry_in, entry_reply, found_or}
 use Rattle.name_btree.specs.Lookup.{entry_of}
 use Rattle.volume_state.specs.State.{resident, state}
+use Rattle.volume_changes.proofs.AbsentLaws.{none_found, not_down, not_handed, not_look_up, not_met}
 use Rattle.volume_changes.proofs.CauseLaws.{met_handed}
 use Rattle.volume_changes.proofs.EntryLaws.{entry_looked_up, fault_looked_up, key_met, taken_met}
 use Rattle.table_volume.proofs.volume.Volume.entry.Goals as goal
@@ -36,3 +37,15 @@ returns-in-Some-clause-key g c =
 
 pub returns-in-Some-clause-taken : goal.returns-in-Some-clause-taken
 returns-in-Some-clause-taken g c = taken_met c.find.new.self c.in-Some.found.page c.in-Some.found.entry c.met_entry.result c.in_ok-found.ensures.told c.met_entry.ensures
+
+-- ---- where there is none
+
+pub returns-in-None-clause-absent : goal.returns-in-None-clause-absent
+returns-in-None-clause-absent g c = λ told. none_found _ c.in-None.is c.in_ok-found.ensures.absent
+
+pub returns-in-Some-clause-absent : goal.returns-in-Some-clause-absent
+returns-in-Some-clause-absent g c = not_met c.find.new.self c.in-Some.found c.met_entry.result c.met_entry.ensures
+
+pub returns-in_err-found-clause-absent : goal.returns-in_err-found-clause-absent
+returns-in_err-found-clause-absent g c =
+    not_handed c.in_err-found.field-0.0 c.from_residual-in_err-found.result c.from_residual-in_err-found.ensures.1 (λ same. absurd (not_look_up c.in_err-found.field-0.0 c.in_err-found.ensures.cause same))

@@ -1,9 +1,10 @@
 use Rattle.std.proofs.Common.{refl}
+use Rattle.volume_contract.specs.Absent.{LacksKey, Reaches}
 use Rattle.volume_state.specs.State.{resident, state}
 use Rattle.volume_changes.proofs.CauseLaws.{causes_by, met_left}
 use Rattle.volume_changes.proofs.EntryLaws.{lost_found, taken_there}
 use Rattle.volume_changes.proofs.FindLaws.{finds_found, stands_found}
-use Rattle.volume_changes.proofs.ReadLaws.{shows_by, unsound_by}
+use Rattle.volume_changes.proofs.ReadLaws.{absent_by, shows_by, unsound_by}
 use Rattle.volume_state.proofs.TakenLaws.{taken_is_told}
 use Rattle.table_volume.proofs.volume.Volume.find.Goals as goal
 
@@ -40,3 +41,8 @@ returns-clause-met g c =
     met_left M c.args.m.now c.find-found.new.m _ w c.self.view_is c.self.invariant c.find-found.new.self.cache _ _ c.find-found.new.self.free_pages refl c.told.result
     (λ h. shows_by M c.args.m.now c.find-found.new.m _ w c.self.view_is c.self.invariant c.find-found.new.self.cache c.over-source.result c.over-source.ensures _ c.home_a-home_a.result
     c.find-found.result c.told.result c.told.ensures c.find-found.ensures.looks h c.find-found.ensures.way)
+
+pub returns-clause-absent : goal.returns-clause-absent
+returns-clause-absent g c =
+    absent_by g.M.Machine c.args.m.now c.find-found.new.m _ c.args.self.now c.self.view_is c.self.invariant c.find-found.new.self.cache c.over-source.result c.over-source.ensures _ c.home_a-home_a.result (Reaches (LacksKey c.args.key.now))
+    c.find-found.result c.told.result c.told.ensures c.find-found.ensures.looks c.find-found.ensures.absent

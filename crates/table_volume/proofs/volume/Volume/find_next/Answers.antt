@@ -2,10 +2,11 @@ use Rattle.std.proofs.Common.{refl}
 use Rattle.std.specs.Option.{option_copied}
 use Rattle.fsd_files.specs.Answers.{entry_after as entry_behind}
 use Rattle.name_page.specs.Lookups.{entry_after}
+use Rattle.volume_contract.specs.Absent.{LacksLater, Reaches}
 use Rattle.volume_state.specs.State.{resident, state}
 use Rattle.volume_changes.proofs.CauseLaws.{causes_by, met_left}
 use Rattle.volume_changes.proofs.EntryLaws.{lost_found, taken_there}
-use Rattle.volume_changes.proofs.ReadLaws.{shows_by, unsound_by}
+use Rattle.volume_changes.proofs.ReadLaws.{absent_by, shows_by, unsound_by}
 use Rattle.volume_changes.proofs.FindLaws.{finds_looked, stands_found}
 use Rattle.volume_state.proofs.TableLaws.{found_behind}
 use Rattle.volume_state.proofs.TakenLaws.{taken_is_told}
@@ -45,3 +46,8 @@ returns-clause-met g c =
     met_left M c.args.m.now c.next_after-found.new.m _ w c.self.view_is c.self.invariant c.next_after-found.new.self.cache _ _ c.next_after-found.new.self.free_pages refl c.told.result
     (λ h. shows_by M c.args.m.now c.next_after-found.new.m _ w c.self.view_is c.self.invariant c.next_after-found.new.self.cache c.over-source.result c.over-source.ensures _ c.home_a-home_a.result
     c.next_after-found.result c.told.result c.told.ensures c.next_after-found.ensures.looks h c.next_after-found.ensures.way)
+
+pub returns-clause-absent : goal.returns-clause-absent
+returns-clause-absent g c =
+    absent_by g.M.Machine c.args.m.now c.next_after-found.new.m _ c.args.self.now c.self.view_is c.self.invariant c.next_after-found.new.self.cache c.over-source.result c.over-source.ensures _ c.home_a-home_a.result (Reaches (LacksLater (option_copied c.args.after)))
+    c.next_after-found.result c.told.result c.told.ensures c.next_after-found.ensures.looks c.next_after-found.ensures.absent

@@ -1,16 +1,18 @@
-use Rattle.std.proofs.Common.{◌≡◌, ℕ, Err, arith}
+use Rattle.std.proofs.Common.{◌≡◌, ℕ, Err, ap, arith}
 use Rattle.std.specs.Prelude.{IsTrue}
 use Rattle.std.specs.FinMap.{find}
 use Rattle.volume_layout.specs.Layout.{is_data}
 use Rattle.run_table.specs.RunTable.{sectors_of}
 use Rattle.fsd_bytes.specs.Keys.{key_cmp}
 use Rattle.volume_contract.specs.Ends.{Reads}
+use Rattle.fsd_bytes.specs.declared.refusal.Refusal.{Refusal}
 use Rattle.fsd_bytes.specs.declared.refusal.Refusal.TheVariants as Why
 use Rattle.sector_disk.specs.declared.sector.Sector.TheVariants.{Damaged}
 use Rattle.sector_disk.specs.Image.{sector_at}
 use Rattle.sector_disk.proofs.CallLaws.{reads_then}
 use Rattle.fsd_files.specs.Answers.{entry_of}
 use Rattle.volume_state.specs.State.{resident, state}
+use Rattle.volume_changes.proofs.AbsentLaws.{not_data, not_handed}
 use Rattle.volume_changes.proofs.CauseLaws.{data_causes, handed_cause}
 use Rattle.volume_state.proofs.RangeLaws.{all_below, both_kept, busy_read, data_read, handed, none_damaged, reads_found, reads_refused}
 use Rattle.volume_state.specs.WearLaws.{stands_worn}
@@ -83,3 +85,9 @@ returns-clause-causes g c =
 pub returns-in_err-e-clause-causes : goal.returns-in_err-e-clause-causes
 returns-in_err-e-clause-causes g c =
     handed_cause g.M.Machine (resident c.args.self.now) (state c.args.self.now) (state c.version.new.self) c.args.m.now c.version.new.m c.in_err-e.field-0.0 c.from_residual.result c.from_residual.ensures.1 c.in_err-e.ensures.causes
+
+pub returns-in_err-e-clause-absent : goal.returns-in_err-e-clause-absent
+returns-in_err-e-clause-absent g c = not_handed c.in_err-e.field-0.0 c.from_residual.result c.from_residual.ensures.1 (λ same. c.in_err-e.ensures.absent (ap (λ (x : Refusal). Err x) same))
+
+pub returns-clause-absent : goal.returns-clause-absent
+returns-clause-absent g c = not_data c.read_version.result c.read_version.ensures.cause

@@ -13,6 +13,7 @@ use Rattle.name_btree.specs.Lookup.{entry_of}
 use Rattle.volume_state.specs.State.{resident, state}
 use Rattle.volume_state.specs.Taken.{met_entry}
 use Rattle.volume_state.specs.Volume.{VolumeValue}
+use Rattle.volume_changes.proofs.AbsentLaws.{none_found, not_down, not_handed, not_look_up, not_met}
 use Rattle.volume_changes.proofs.CauseLaws.{met_handed}
 use Rattle.volume_changes.proofs.EntryLaws.{entry_looked_up}
 use Rattle.volume_state.proofs.RangeLaws.{met_good, taken_data, taken_runs}
@@ -57,3 +58,15 @@ returns-in-Some-clause-causes g c =
     let w = c.args.self.now in
     let new = state c.find.new.self in
     met_handed g.M.Machine (resident w) (state w) new c.args.m.now c.find.new.m c.find.new.self _ c.in-Some.found c.in-Some.is c.in_ok-found.ensures.met c.met_entry.result c.met_entry.ensures
+
+-- ---- where there is none
+
+pub returns-in-None-clause-absent : goal.returns-in-None-clause-absent
+returns-in-None-clause-absent g c = λ told. none_found _ c.in-None.is c.in_ok-found.ensures.absent
+
+pub returns-in-Some-clause-absent : goal.returns-in-Some-clause-absent
+returns-in-Some-clause-absent g c = not_met c.find.new.self c.in-Some.found c.met_entry.result c.met_entry.ensures
+
+pub returns-in_err-found-clause-absent : goal.returns-in_err-found-clause-absent
+returns-in_err-found-clause-absent g c =
+    not_handed c.in_err-found.field-0.0 c.from_residual-in_err-found.result c.from_residual-in_err-found.ensures.1 (λ same. absurd (not_look_up c.in_err-found.field-0.0 c.in_err-found.ensures.cause same))

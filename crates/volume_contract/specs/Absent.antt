@@ -1,0 +1,36 @@
+-- Why a call of a volume finds no version, over an honest machine and any image.
+use Rattle.std.specs.Prelude.{◌≡◌, ℕ, true, List, [], ◌∷◌, Option, Some, None}
+use Rattle.std.specs.Option.{MatchOption}
+use Rattle.std.specs.List.{Contains}
+use Rattle.fsd_bytes.specs.declared.key.Key.{Key}
+use Rattle.fsd_formats.specs.declared.entry.Entry.{Entry}
+use Rattle.fsd_formats.specs.NamePage.{Leaf}
+use Rattle.fsd_table.specs.Pages.{keys_fit, not_below}
+use Rattle.fsd_table.specs.Table.{Visit, visits}
+use Rattle.fsd_files.specs.Answers.{entry_after, entry_of}
+use Rattle.sector_disk.specs.declared.machine.Machine.{Ghosts}
+use Rattle.volume_contract.specs.Causes.{Shows}
+use Rattle.volume_contract.specs.State.{State}
+
+-- a leaf between whose keys the key stands, and which has no entry of it
+pub record LacksKey (key : Key) (v : Visit) : Type 0 where
+  pub entries : List Entry
+  pub leaf : v.content ≡ Some (Leaf entries)
+  pub between : keys_fit v.low v.high (key ∷ []) ≡ true
+  pub none : entry_of key entries ≡ None
+
+-- the last leaf, whose keys begin up to a key, or with the first of all where none is given, and which has no later entry
+pub record LacksLater (after : Option Key) (v : Visit) : Type 0 where
+  pub entries : List Entry
+  pub leaf : v.content ≡ Some (Leaf entries)
+  pub last : v.high ≡ None
+  pub begins : MatchOption after (v.low ≡ None) (λ key. not_below v.low key ≡ true)
+  pub none : entry_after after entries ≡ None
+
+-- a path from page 0 reaches a page of which this holds
+abbrev pub Reaches : (Visit → Type 0) → List (List ℕ) → Type 0
+Reaches Is pages = (visit : Visit) × Contains (visits pages) visit × Is visit
+
+-- where the machine kept to its promise, the pages that were read show it
+abbrev pub ShowsReached : {D : Type 0} → (M : Ghosts D) → (resident : ℕ → Option (List ℕ)) → (old new : State) → (before now : D) → (Visit → Type 0) → Type 0
+ShowsReached M resident old new before now Is = M.honest now → Shows old new resident (M.now before) (M.now now) (Reaches Is)
