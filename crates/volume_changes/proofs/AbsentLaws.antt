@@ -39,9 +39,9 @@ not_handed why (Err x) is so told = let same : x ≡ Why.NoSuch = cc told in so 
 pub none_found : {P : Type 0} (found : Option FoundEntry) → found ≡ None → IfNone found P → P
 none_found {P} found is absent = subst (λ (o : Option FoundEntry). IfNone o P) is absent
 
-pub none_met : {P : Type 0} (v : VolumeValue) (found : Option FoundEntry) → IfNone found P → IfOk (met_found v found) (λ o. IfNone o P)
-none_met v None absent = absent
-none_met {P} v (Some f) absent = by (are_taken v f.entry.runs)
+pub none_met : (P : Type 0) (v : VolumeValue) (found : Option FoundEntry) → IfNone found P → IfOk (met_found v found) (λ o. IfNone o P)
+none_met P v None absent = absent
+none_met P v (Some f) absent = by (are_taken v f.entry.runs)
   where
     by : (b : Bool) → IfOk (found_one (cond b (Ok f.entry) (Err (Why.Unsound (home_a v.layout f.page))))) (λ o. IfNone o P)
     by true = tt

@@ -36,4 +36,4 @@ pub returns-clause-absent : goal.returns-clause-absent
 returns-clause-absent g c =
     let w = c.args.self.now in
     subst (λ r. IfOk r (λ found. IfNone found (ShowsReached g.M.Machine (resident w) (state w) (state c.find_next.new.self) c.args.m.now c.find_next.new.m (LacksLater (option_copied c.args.after))))) (sym c.met_found.ensures)
-    (none_met c.find_next.new.self c.in_ok-found.found c.in_ok-found.ensures.absent)
+    (none_met _ c.find_next.new.self c.in_ok-found.found c.in_ok-found.ensures.absent)
