@@ -1,15 +1,15 @@
 -- Where nothing is found, pages that have what was reached have the leaf that lacks it, and a path reaches the leaf.
-use Rattle.std.proofs.Common.{◌≡◌, ◌∙◌, ◌⊎◌, inl, inr, ℕ, ◌+◌, ◌&&◌, Bool, true, false, cond, not, List, [], ◌∷◌, Option, Some, None, refl, sym, ap}
+use Rattle.std.proofs.Common.{◌≡◌, ◌∙◌, ◌⊎◌, inl, inr, ℕ, ◌+◌, ◌&&◌, Bool, true, false, cond, List, [], ◌∷◌, Option, Some, None, refl, sym, ap}
+use Rattle.std.proofs.lemmas.Bool.{and_parts}
 use Rattle.std.specs.Borrow.{MutBor}
 use Rattle.std.specs.Prelude.{Err, Ok, OnErr, Result, length}
 use Rattle.std.specs.Option.{MatchOption}
 use Rattle.fsd_bytes.specs.declared.key.Key.{Key}
-use Rattle.fsd_bytes.specs.Keys.{key_cmp, key_lt}
-use Rattle.std.specs.Ordering.{is_gt}
+use Rattle.fsd_bytes.specs.Keys.{key_lt}
 use Rattle.fsd_formats.specs.declared.entry.Entry.{Entry}
 use Rattle.fsd_formats.specs.NamePage.{Leaf}
 use Rattle.fsd_table.specs.declared.child.Child.{Child}
-use Rattle.fsd_table.specs.Pages.{below, keys_fit, not_below, page_at}
+use Rattle.fsd_table.specs.Pages.{keys_fit, not_below, page_at}
 use Rattle.fsd_table.specs.Table.{visit_of}
 use Rattle.fsd_files.specs.Answers.{entry_after as entry_behind}
 use Rattle.name_page.specs.Cut.{AtHigh, AtLow, after_cut, is_before}
@@ -17,7 +17,7 @@ use Rattle.name_page.specs.declared.cut.Cut.TheVariants.{Named, UpTo}
 use Rattle.name_page.specs.Lookups.{entry_after, last_that, same_name}
 use Rattle.name_page.specs.Looks.{Agrees}
 use Rattle.name_page.specs.Pages.{Step}
-use Rattle.name_page.proofs.CutLaws.{greater}
+use Rattle.name_page.proofs.SideLaws.{with_fits}
 use Rattle.name_page.proofs.LookLaws.{agrees_at}
 use Rattle.name_btree.specs.Lookup.{HasOtherLeft, IsLeafBy, IsReadLeaf, ShowsAbsent, ShowsNoVersion, ShowsNoneAfter}
 use Rattle.name_btree.proofs.DownLaws.{between}
@@ -37,26 +37,15 @@ use Rattle.cached_table.proofs.StayLaws.{agrees_spared}
 
 -- ---- keys
 
-low_fits : (key : Key) (low : Option Key) → AtLow (is_before (UpTo key)) low → not_below low key ≡ true
-low_fits key None at = refl
-low_fits key (Some k) at = ap not (sym (greater k key)) ∙ at
-
-was_true : (b : Bool) → not b ≡ false → b ≡ true
-was_true true is = refl
-was_true false is = absurd (cc is)
-
-high_fits : (key : Key) (high : Option Key) → AtHigh (is_before (UpTo key)) high → below high key ≡ true
-high_fits key None at = refl
-high_fits key (Some k) at = sym (greater k key) ∙ was_true (is_gt (key_cmp k key)) at
-
-both_fit : (low high : Option Key) (key : Key) → not_below low key ≡ true → below high key ≡ true → keys_fit low high (key ∷ []) ≡ true
-both_fit low high key a b = ap (λ (x : Bool). (x && below high key) && true) a ∙ ap (λ (x : Bool). x && true) b
+-- a key at which a leaf stands lies between its bounds, as that of its only entry would
+fits : (key : Key) (low high : Option Key) → AtLow (is_before (UpTo key)) low → AtHigh (is_before (UpTo key)) high → keys_fit low high (key ∷ []) ≡ true
+fits key low high begins ends = with_fits (record { key = key; keep = 0; serial = record { epoch = 0; count = 0 }; length = 0; runs = [] }) low high [] begins ends refl
 
 -- from the first key on, or from one up to a key
 begins_by : (after low : Option Key) → AtLow (is_before (after_cut after)) low → MatchOption after (low ≡ None) (λ key. not_below low key ≡ true)
 begins_by None None at = refl
 begins_by None (Some k) at = absurd (cc at)
-begins_by (Some key) low at = low_fits key low at
+begins_by (Some key) low at = (and_parts (not_below low key) true ((and_parts (not_below low key && true) true (fits key low None at tt)).0)).0
 
 -- ---- entries
 
@@ -84,7 +73,7 @@ module _ (s : Step) (pages : List (List ℕ)) (agree : Agrees pages s) where
         record {
           entries = x.entries;
           leaf = has_leaf x.leaf x.entries x.at.is_read;
-          between = both_fit x.leaf.low x.leaf.high key (low_fits key x.leaf.low ends.0) (high_fits key x.leaf.high ends.1);
+          between = fits key x.leaf.low x.leaf.high ends.0 ends.1;
           none = sym (with_is key x.entries) ∙ x.none;
         },
       )
