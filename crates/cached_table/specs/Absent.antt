@@ -1,5 +1,5 @@
 -- Why no version of a name is found: what the pages that were read show, whatever the others have.
-use Rattle.std.specs.Prelude.{◌≡◌, ◌⊎◌, ℕ, false, List, [], ◌∷◌, ◌++◌, Option, Some, None}
+use Rattle.std.specs.Prelude.{◌≡◌, ◌⊎◌, ℕ, false, List, [], ◌∷◌, ◌++◌, Some, None}
 use Rattle.std.specs.Option.{MatchOption}
 use Rattle.fsd_formats.specs.declared.entry.Entry.{Entry}
 use Rattle.fsd_formats.specs.NamePage.{Leaf}

@@ -1,5 +1,5 @@
 -- Where a call of a volume finds no version.
-use Rattle.std.proofs.Common.{◌≡◌, ℕ, Bool, true, false, cond, Option, Some, None, Result, Ok, Err, sym, subst}
+use Rattle.std.proofs.Common.{◌≡◌, ℕ, Bool, true, false, cond, Option, Some, None, Result, Ok, Err, subst}
 use Rattle.std.specs.Prelude.{IfErr, IfNone, IfOk, IsErrAnd}
 use Rattle.volume_layout.specs.Layout.{home_a}
 use Rattle.fsd_bytes.specs.declared.refusal.Refusal.{Refusal}

@@ -3,7 +3,7 @@ use Rattle.std.proofs.lemmas.Result.{err_from_is_err_and}
 use Rattle.fsd_files.specs.Answers.{entry_of as entry_in, entry_reply, found_or}
 use Rattle.name_btree.specs.Lookup.{entry_of}
 use Rattle.volume_state.specs.State.{resident, state}
-use Rattle.volume_changes.proofs.AbsentLaws.{none_found, not_down, not_handed, not_look_up, not_met}
+use Rattle.volume_changes.proofs.AbsentLaws.{none_found, not_handed, not_look_up, not_met}
 use Rattle.volume_changes.proofs.CauseLaws.{met_handed}
 use Rattle.volume_changes.proofs.EntryLaws.{entry_looked_up, fault_looked_up, key_met, taken_met}
 use Rattle.table_volume.proofs.volume.Volume.entry.Goals as goal

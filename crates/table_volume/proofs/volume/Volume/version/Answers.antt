@@ -13,7 +13,7 @@ use Rattle.name_btree.specs.Lookup.{entry_of}
 use Rattle.volume_state.specs.State.{resident, state}
 use Rattle.volume_state.specs.Taken.{met_entry}
 use Rattle.volume_state.specs.Volume.{VolumeValue}
-use Rattle.volume_changes.proofs.AbsentLaws.{none_found, not_down, not_handed, not_look_up, not_met}
+use Rattle.volume_changes.proofs.AbsentLaws.{none_found, not_handed, not_look_up, not_met}
 use Rattle.volume_changes.proofs.CauseLaws.{met_handed}
 use Rattle.volume_changes.proofs.EntryLaws.{entry_looked_up}
 use Rattle.volume_state.proofs.RangeLaws.{met_good, taken_data, taken_runs}
