@@ -58,7 +58,7 @@ pub record LeftBefore (l : Layout) (windows : List WeakRun) (h : List Change) (f
   pub fault : SaysFault part
   pub sound : IsSound l windows h f left.image
 
--- Since then: run, the one that was named, is the present one, and no next one is named. Some turns are said
+-- Since then: run is the present window, and no next one is named. Some turns are said
 -- whole, and a part of what comes next. The image is sound for the n changes that were found, all of them forced, and
 -- those of the turns said and of the one under way, of which those are forced at least that are forced by what is said
 -- whole.

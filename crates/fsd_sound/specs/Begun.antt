@@ -35,7 +35,7 @@ pub record IsBegun (l : Layout) (epoch : ℕ) (pages : List (List ℕ)) (i : Ima
 abbrev pub AreOlder : (epoch : ℕ) → Image → Type 0
 AreOlder epoch i = EachAnchor i (λ a. (a.epoch < epoch) ⊎ (a ≡ fresh_anchor epoch))
 
--- The run that was named is the present one, and in its window the disk shows the pages.
+-- A run is the present window, and in it the disk shows the pages.
 pub record IsMountedIn (l : Layout) (windows : List WeakRun) (run : WeakRun) (pages : List (List ℕ)) (new : Moment) : Type 0 where
   pub settled : new.windows ≡ record { present = Some run; next = None }
   pub shows : ShowsPages l (windows ++ run ∷ []) (pages ∷ []) new.image

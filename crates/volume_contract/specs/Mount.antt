@@ -134,7 +134,7 @@ pub record SoundBefore (l : Layout) (windows : List WeakRun) (h : List Change) (
   pub sound : IsSound l windows h f left.image
   pub writes : WritesAsMount l (weak_of windows) old left
 
--- Since then: run, the one that was named, is the present one, no next one is named,
+-- Since then: run is the present window, no next one is named,
 -- and the disk is sound for the first n changes alone.
 pub record SoundSince (l : Layout) (windows : List WeakRun) (run : WeakRun) (h : List Change) (n : ℕ) (old left : Moment) : Type 0 where
   pub settled : left.windows ≡ record { present = Some run; next = None }
