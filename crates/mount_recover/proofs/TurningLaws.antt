@@ -1,8 +1,9 @@
 -- When a mount turns its windows: as the last that it does.
-use Rattle.std.proofs.Common.{◌≡◌, inl, inr, ℕ, List, ap, ◌∙◌}
+use Rattle.std.specs.Prelude.{Option, Some, None, IsSome}
+use Rattle.std.proofs.Common.{◌≡◌, inl, inr, ℕ, List, ap, refl, sym, ◌∙◌}
 use Rattle.volume_layout.specs.declared.layout.Layout.{Layout}
 use Rattle.sector_disk.specs.declared.sector.WeakRun.{WeakRun}
-use Rattle.sector_disk.specs.Image.{Windows}
+use Rattle.sector_disk.specs.Image.{Windows, settled}
 use Rattle.sector_disk.specs.Machine.{Before, Moment, Names, Wears}
 use Rattle.fsd_formats.specs.declared.anchor.Anchor.{Anchor}
 use Rattle.log_thirds.specs.Anchoring.{AnchorsIn}
@@ -35,6 +36,14 @@ module _ (old mid new left : Moment) (same : mid.windows ≡ old.windows) where
 
 pub anchors_turn : (a : Anchor) (old new left : Moment) → AnchorsIn a old left → TurnsLast old new left
 anchors_turn a old new left anchors = inl (present_as left.windows old.windows anchors.holds.windows)
+
+settles_next : (present next : Option WeakRun) → IsSome next → (settled present next).present ≡ next
+settles_next present None some = absurd (cc some)
+settles_next present (Some run) some = refl
+
+-- a run that is named is the present one once it has settled
+pub next_present : (two three new : Windows) → IsSome two.next → three ≡ two → new ≡ settled three.present three.next → two.next ≡ new.present
+next_present two three new some kept is = sym (present_as new (settled two.present two.next) (is ∙ ap (λ (w : Windows). settled w.present w.next) kept) ∙ settles_next two.present two.next some)
 
 -- ---- the whole
 

@@ -1,4 +1,4 @@
-use Rattle.std.proofs.Common.{inl, inr, ℕ, ◌<◌, List, arith, refl, sym, ap, subst}
+use Rattle.std.proofs.Common.{inl, inr, ℕ, ◌<◌, ◌≤◌, List, arith, refl, sym, ap, subst}
 use Rattle.volume_layout.specs.declared.layout.Layout.{Layout}
 use Rattle.sector_disk.specs.declared.sector.WeakRun.{WeakRun}
 use Rattle.sector_disk.specs.Machine.{LeavesOnly, Ledger, Wears}
@@ -24,7 +24,7 @@ use Rattle.mount_recover.proofs.FaultLaws.{handed_up, load_left, load_sound, wor
 use Rattle.fsd_sound.specs.declared.fault.MountFault.TheVariants.{Device}
 use Rattle.mount_recover.proofs.MountLaws.{wears_replays, not_found_excused, found_same, is_seen, replays_from, stays_replays, begins_replays, lost_on, rest_kept, rest_left, mend_refused, none_found}
 use Rattle.mount_recover.proofs.HomesLaws.{both_settled}
-use Rattle.mount_recover.proofs.TurningLaws.{beginning_turns, completing_turns, stays_turns, still_unturned, worn_turns}
+use Rattle.mount_recover.proofs.TurningLaws.{beginning_turns, completing_turns, next_present, stays_turns, still_unturned, worn_turns}
 use Rattle.mount_recover.proofs.mounting.recover.Goals as goal
 use Rattle.mount_recover.proofs.KeepsLaws.{keeps_none}
 
@@ -520,3 +520,18 @@ pub returns-clause-grows : goal.returns-clause-grows
 returns-clause-grows g c t =
     let t3 = c.begin_epoch.ensures.disk.trust.tells t in let t2 = c.mend.ensures.disk.trust.tells t3 in let t1 = c.complete.ensures.disk.trust.tells t2 in
     omega (arith, ap (λ (x : Ledger). x.written) (c.find_volume.ensures.reads.ledger t1), c.in_ok-complete.ensures.grows t2, c.in_ok-mend.ensures.grows t3, c.in_ok-begin_epoch.ensures.grows t)
+
+pub returns-clause-named : goal.returns-clause-named
+returns-clause-named g c h =
+    let M = g.M.Machine in
+    let h3 = c.begin_epoch.ensures.disk.trust.honest h in let h2 = c.mend.ensures.disk.trust.honest h3 in let h1 = c.complete.ensures.disk.trust.honest h2 in
+    let two = M.now c.complete.new.m in let three = M.now c.mend.new.m in let new = M.now c.begin_epoch.new.m in
+    let found = (c.find_volume.ensures.reads.any_moment h1).later in let completed = c.complete.ensures.disk.later h2 in let mended = c.mend.ensures.disk.later h3 in
+    let some = c.in_ok-complete.ensures.named h2 in
+    record {
+      left = two;
+      passed = λ t le. let at_two : t ≤ M.moment c.complete.new.m = omega (arith, le, found, completed) in
+          c.begin_epoch.ensures.disk.since h t two (omega (arith, at_two, mended)) (c.mend.ensures.disk.since h3 t two at_two (g.met.M.Machine.counts_now c.complete.new.m t h2 at_two));
+      named = some;
+      same = next_present two.windows three.windows new.windows some (c.mend.ensures.keeps h3).windows (c.in_ok-begin_epoch.ensures.windows h);
+    }
