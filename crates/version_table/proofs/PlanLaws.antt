@@ -1,6 +1,6 @@
 -- What a table's entries are, and that a next version is new.
-use Rattle.std.proofs.Common.{◌≡◌, ℕ, zero, suc, ◌≤◌, Bool, true, false, cond, ◌&&◌, ◌||◌, List, [], ◌∷◌, length, take, map, filter, Option, Some, None, refl, sym, ap, subst, ◌∙◌}
-use Rattle.std.specs.Prelude.{T, ◌==◌, nat_le, option_map, replicate}
+use Rattle.std.proofs.Common.{◌≡◌, ℕ, zero, suc, ◌≤◌, Bool, true, false, cond, ◌&&◌, ◌||◌, List, [], ◌∷◌, length, take, map, filter, Option, Some, None, refl, sym, ap, subst, ◌∙◌, arith}
+use Rattle.std.specs.Prelude.{T, ◌==◌, nat_le, option_map, replicate, IfSome}
 use Rattle.std.specs.List.{AllByRecursion, flat_map, list_all, list_any}
 use Rattle.std.specs.declared.cmp.Ordering.TheVariants.{Equal}
 use Rattle.std.specs.FinMap.{is_sorted}
@@ -28,6 +28,8 @@ use Rattle.fsd_files.specs.Kept.{Lists}
 use Rattle.fsd_files.proofs.FreshLaws.{new_key_is_new}
 use Rattle.fsd_files.proofs.ListingLaws.{BothOrNone, highest_both}
 use Rattle.name_page.proofs.PutLaws.{ascend_head, lt_unequal, one_key}
+use Rattle.name_btree.specs.declared.lookup.FoundEntry.{FoundEntry}
+use Rattle.name_btree.specs.Lookup.{entry_of as found_entry}
 use Rattle.version_table.specs.Versions.{next_key}
 use Rattle.version_table.proofs.EditLaws.{AllAbove}
 
@@ -62,6 +64,12 @@ entry_bounds e is =
     let p4 = and_parts (is_key e.key) (nat_le e.keep max_keep) p3.0 in
     let p5 = and_parts (is_name e.key.name) (nat_le 1 e.key.version) p4.0 in
     record { keep = leb-true e.keep 999 p4.1; version = leb-true 1 e.key.version p5.1 }
+
+-- the keep of a next version
+pub keep_within : (given : Option ℕ) (highest : Option FoundEntry) → IfSome given (λ keep. keep ≤ 999) → IfSome highest (λ f. is_entry f.entry ≡ true) → keep_of given (option_map (λ e. e.keep) (found_entry highest)) ≤ 999
+keep_within (Some keep) highest small good = small
+keep_within None (Some f) small good = (entry_bounds f.entry good).keep
+keep_within None None small good = omega arith
 
 pub entries_numbered : (xs : List Entry) → list_all is_entry xs ≡ true → AllByRecursion (λ e. 1 ≤ e.key.version) xs
 entries_numbered [] all = tt

@@ -1,5 +1,5 @@
 -- A step that begins, and what holds of the table before it.
-use Rattle.std.proofs.Common.{◌≡◌, ℕ, ◌-◌, List, length, Option, sym, ap, subst, ◌∙◌, zero, suc, Some, None, Bool}
+use Rattle.std.proofs.Common.{◌≡◌, ℕ, ◌-◌, ◌<◌, List, length, Option, sym, ap, subst, ◌∙◌, zero, suc, Some, None, Bool}
 use Rattle.std.specs.Prelude.{IfOk, Result, Ok, slice_get}
 use Rattle.fsd_formats.specs.declared.entry.Entry.{Entry}
 use Rattle.fsd_table.specs.Tree.{IsTree, table_of}
@@ -29,6 +29,10 @@ tree_ascends pages height tree = entries_ascend (height - 1) pages top tree.subt
 module _ {D : Type 0} (P : Ghosts D) (a b c : D) (is : P.step b ≡ rested (P.step a)) where
   same_images : (P.step b).images ≡ (P.step a).images
   same_images = ap (λ (s : Step). s.images) is
+
+  -- so many pages are there
+  pub among_rested : (Holds : ℕ → Type 0) → (0 < length (P.step b).images → Holds (length (P.step b).images)) → 0 < length (P.step a).images → Holds (length (P.step a).images)
+  among_rested Holds h = subst (λ (n : ℕ). 0 < n → Holds n) (ap (λ (pages : List (List ℕ)). length pages) same_images) h
 
   -- what holds of the table as the step begins
   pub of_rested : (Holds : List Entry → Type 0) → (P.trusted c → (height : ℕ) → IsTree (P.step b).images height → Holds (table_of (P.step b).images height)) → OfTable P a c Holds

@@ -1,15 +1,32 @@
-use Rattle.std.proofs.Common.{◌∙◌, Ok, None, Option, Result, Some, ap, subst}
+use Rattle.std.proofs.Common.{◌∙◌, ℕ, Ok, None, Option, Result, Some, ap, arith, subst}
 use Rattle.std.specs.Prelude.{IfNone, IfOk, IfSome}
 use Rattle.name_btree.specs.declared.fault.TreeFault.{TreeFault}
 use Rattle.name_btree.specs.declared.lookup.FoundEntry.{FoundEntry}
+use Rattle.name_btree.specs.Fault.{IsAmong}
 use Rattle.name_btree.specs.Lookup.{ShowsNoVersion}
 use Rattle.name_btree.specs.Path.{HasWayTo}
 use Rattle.fsd_files.specs.Answers.{highest_entry}
 use Rattle.name_page.specs.Lookups.{highest_of}
-use Rattle.name_page.proofs.LookLaws.{memory_then, no_more_rested}
+use Rattle.name_page.specs.Pages.{reaches}
+use Rattle.name_page.proofs.LookLaws.{memory_then, no_more_rested, rest_reaches}
 use Rattle.version_table.proofs.VersionLaws.{highest_is}
-use Rattle.version_table.proofs.StepLaws.{found_rested, path_later}
+use Rattle.version_table.proofs.StepLaws.{among_rested, found_rested, path_later}
 use Rattle.version_table.proofs.finding.newest.Goals as goal
+
+pub returns-in-Ok-Some-clause-walks : goal.returns-in-Ok-Some-clause-walks
+returns-in-Ok-Some-clause-walks g c = rest_reaches g.T.Pages g.met.T.Pages.then g.met.T.Pages.trust c.args.t.now c.rest.new.self c.highest.new.t c.rest.ensures.outside c.rest.ensures.step c.in-Ok-Some.ensures.calls
+
+pub returns-in-Ok-None-clause-walks : goal.returns-in-Ok-None-clause-walks
+returns-in-Ok-None-clause-walks g c = rest_reaches g.T.Pages g.met.T.Pages.then g.met.T.Pages.trust c.args.t.now c.rest.new.self c.highest.new.t c.rest.ensures.outside c.rest.ensures.step c.in-Ok-None.ensures.calls
+
+pub returns-in-Err-clause-walks : goal.returns-in-Err-clause-walks
+returns-in-Err-clause-walks g c = rest_reaches g.T.Pages g.met.T.Pages.then g.met.T.Pages.trust c.args.t.now c.rest.new.self c.highest.new.t c.rest.ensures.outside c.rest.ensures.step c.in-Err.ensures.calls
+
+pub returns-in-Err-clause-among : goal.returns-in-Err-clause-among
+returns-in-Err-clause-among g c = among_rested g.T.Pages c.args.t.now c.rest.new.self c.highest.new.t c.rest.ensures.step (λ (pages : ℕ). IsAmong pages c.in-Err.fault) c.in-Err.ensures.among
+
+pub highest-requires : goal.highest-requires
+highest-requires g c = omega (arith, c.requires, ap reaches c.rest.ensures.step)
 
 pub returns-in-Ok-Some-clause-found : goal.returns-in-Ok-Some-clause-found
 returns-in-Ok-Some-clause-found g c =
