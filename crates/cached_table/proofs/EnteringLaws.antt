@@ -1,5 +1,5 @@
 -- A version that is entered over pages: what is needed of its entry, what it makes, and why none is entered.
-use Rattle.std.proofs.Common.{◌≡◌, inl, inr, ℕ, ◌<◌, ◌≤◌, ◌^◌, true, List, [], Option, None, refl, sym, ap, subst, ◌∙◌, arith}
+use Rattle.std.proofs.Common.{◌≡◌, inl, inr, ℕ, ◌-◌, ◌<◌, length, ◌≤◌, ◌^◌, true, List, [], Option, None, refl, sym, ap, subst, ◌∙◌, arith}
 use Rattle.std.specs.Prelude.{◌&&◌, ◌==◌, nat_le}
 use Rattle.std.specs.List.{AllByRecursion}
 use Rattle.std.proofs.lemmas.Bool.{and_parts}
@@ -16,14 +16,14 @@ use Rattle.fsd_formats.specs.NamePage.{is_entry, max_keep, max_length, sectors_f
 use Rattle.fsd_table.specs.Table.{BreaksTable}
 use Rattle.name_page.specs.declared.pages.Pages.{Ghosts}
 use Rattle.name_page.specs.Looks.{OnlyWalks}
-use Rattle.name_page.specs.Pages.{IsOuter, free_count, outer_refusal}
+use Rattle.name_page.specs.Pages.{IsOuter, changes, free_count, outer_refusal}
 use Rattle.name_btree.specs.declared.fault.TreeFault.{TreeFault}
 use Rattle.name_btree.specs.declared.fault.TreeFault.TheVariants.{Pages, Broken}
 use Rattle.name_btree.specs.Fault.{BarsTable, FailsSpare, FailsTable, HasCause, IsOnWay, ShowsCause, outer_of}
 use Rattle.version_table.specs.declared.fault.VersionFault.{VersionFault}
 use Rattle.version_table.specs.declared.fault.VersionFault.TheVariants.{Table, NoSuch, VersionsUsedUp}
 use Rattle.version_table.specs.declared.planning.Plan.{Plan}
-use Rattle.version_table.specs.Fault.{FailsLook, ShowsLook}
+use Rattle.version_table.specs.Fault.{FailsLook, ShowsLook, outer_in}
 use Rattle.version_table.specs.Met.{IsMet}
 use Rattle.version_table.specs.declared.oldest.Leaving.{Leaving}
 use Rattle.version_table.specs.Plan.{IsPlan, keys_left}
@@ -51,6 +51,10 @@ module _ (draft : Entry) (plan : Plan) (good : is_entry draft ≡ true) where
 pub is_usable : {D : Type 0} (P : Ghosts D) (old now new : D) (name : List ℕ) (given : Option ℕ) (plan : Plan) → plan.key.version < 2 ^ 32 → (P.trusted new → P.trusted now) → OfTable P old now (λ table. IsPlan name given table plan)
     → OfTable P old new (λ table. (next_key name table).version ≤ max_u32)
 is_usable P old now new name given plan small trust planned trusted height tree = omega (arith, small, ap (λ (k : Key). k.version) (planned (trust trusted) height tree).key)
+
+-- as many pages may be changed as before
+pub changes_stay : {D : Type 0} (P : Ghosts D) {refusal : Option Refusal} (old now : D) → OnlyWalks P refusal old now → changes (P.step now) ≡ changes (P.step old)
+changes_stay P old now walks = λ i. walks.most_changed i - length (walks.changed i)
 
 -- ---- why none is entered
 
@@ -112,6 +116,12 @@ pub outer_entered : (f : TreeFault) → outer_refusal (enter_refusal f) ≡ oute
 outer_entered (Pages (Why.Unsound s)) = refl
 outer_entered (Pages other) = refl
 outer_entered (Broken page) = refl
+
+pub outer_planned : (home_a : ℕ) (f : VersionFault) → outer_refusal (plan_refusal home_a f) ≡ outer_in f
+outer_planned home_a (Table (Pages refusal)) = refl
+outer_planned home_a (Table (Broken page)) = refl
+outer_planned home_a NoSuch = refl
+outer_planned home_a VersionsUsedUp = refl
 
 pub outer_untaken : (home_a : ℕ) (map : Area) (w : Waits) (gone : List Leaving) (r : Refusal) → TellsUntaken home_a map w gone r → outer_refusal r ≡ None
 outer_untaken home_a map w gone (Why.Unsound s) tells = refl

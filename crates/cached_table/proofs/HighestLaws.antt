@@ -62,6 +62,12 @@ module _ {D : Type 0} (P : Ghosts D) (old now : D) (walks : OnlyWalks P None old
       let same = walks.stays (trust trusted) in
       subst (HasTable (P.step new)) (ap (λ (pages : List (List ℕ)). edit (table_of pages height)) same) (makes trusted height (same_table (P.step old) (P.step now) height same walks.spares table))
 
+  -- and what held of it holds of it then
+  pub holds_now : (Holds : List Entry → Type 0) → OfTable P old now Holds → OfTable P now now Holds
+  holds_now Holds held trusted height tree =
+      let same : (P.step now).images ≡ (P.step old).images = walks.stays trusted in
+      subst (λ (pages : List (List ℕ)). Holds (table_of pages height)) (sym same) (held trusted height (subst (λ (pages : List (List ℕ)). IsTree pages height) same tree))
+
 -- ---- no edit
 
 pub none_walked : {D : Type 0} (P : Ghosts D) (refusal : Option Refusal) (a b : D) → OnlyWalks P refusal a b → ChangesNone (P.trusted b) (P.step a) (P.step b)

@@ -6,9 +6,11 @@ use Rattle.std.specs.Option.{option_or}
 use Rattle.std.proofs.lemmas.Bool.{both_ways, eqb-true, or_right}
 use Rattle.fsd_bytes.specs.declared.refusal.Refusal.{Refusal}
 use Rattle.fsd_bytes.specs.declared.refusal.Refusal.TheVariants.{Unsound}
+use Rattle.fsd_formats.specs.declared.entry.Entry.{Entry}
 use Rattle.fsd_formats.specs.NamePage.{read_page}
 use Rattle.fsd_table.specs.Pages.{page_at}
 use Rattle.fsd_table.specs.Table.{BreaksTable}
+use Rattle.fsd_table.specs.Tree.{IsTree, table_of}
 use Rattle.sector_disk.specs.declared.machine.Machine.{Ghosts as MachineGhosts}
 use Rattle.page_cache.specs.declared.source.PageSource.{Ghosts as SourceGhosts}
 use Rattle.page_cache.specs.Cache.{CacheValue, is_one_of, newest}
@@ -19,8 +21,8 @@ use Rattle.name_btree.specs.declared.fault.TreeFault.{TreeFault}
 use Rattle.name_btree.specs.declared.fault.TreeFault.TheVariants.{Pages, Broken}
 use Rattle.name_btree.specs.Fault.{BarsTable, HasCause, IsOnWay, ShowsCause}
 use Rattle.name_btree.specs.declared.lookup.FoundEntry.{FoundEntry}
-use Rattle.name_btree.specs.Lookup.{IsLedTo, StandsIn}
-use Rattle.table_pages.specs.Bringing.{given_by, home_in}
+use Rattle.name_btree.specs.Lookup.{IsLedTo, StandsIn, entry_of}
+use Rattle.table_pages.specs.Bringing.{IsTrusted, given_by, home_in}
 use Rattle.table_pages.specs.Kept.{IsReady}
 use Rattle.table_pages.specs.ImageLaws.{image_at, image_count}
 use Rattle.table_pages.specs.Reads.{HadRefused}
@@ -73,6 +75,12 @@ module _ {D E : Type 0} {M : MachineGhosts D} {S : SourceGhosts E} where
     pages_within (Err fault) there = tt
     pages_within (Ok None) there = tt
     pages_within (Ok (Some f)) there = within f.page there.reached.0
+
+    -- what was found in the table, where the outside is trusted
+    pub found_left : (look : List Entry → Option Entry) (r : Result (Option FoundEntry) TreeFault) → IfOk r (λ found. Trusted b → (height : ℕ) → IsTree (step_of a).images height → entry_of found ≡ look (table_of (step_of a).images height))
+        → IfOk r (λ found. IsTrusted M S source m.now cache.now m' → (height : ℕ) → IsTree (images_by M S source m.now cache.now (length free.now)) height → entry_of found ≡ look (table_of (images_by M S source m.now cache.now (length free.now)) height))
+    found_left look (Err fault) found = tt
+    found_left look (Ok o) found = λ t height. subst (λ (pages : List (List ℕ)). IsTree pages height → entry_of o ≡ look (table_of pages height)) images_first (found (trusted_left over outside left t) height)
 
     -- pages with what is in the cache in the end have what was in it then
     have_before : (pages : List (List ℕ)) → HavePages cache' (length free.now) pages → HavePages b.cache.now (length free.now) pages

@@ -44,7 +44,7 @@ use Rattle.volume_contract.specs.Mount.{BreaksAt}
 use Rattle.cached_table.specs.HomeLaws.{home_stays, past_homes}
 use Rattle.cached_table.specs.Homes.{KnowsHomes, home_by}
 use Rattle.cached_table.specs.Looking.{BarsPages, images_by}
-use Rattle.cached_table.specs.Opening.{IsNoTable, IsTableOf, home_pages, frames, is_reached}
+use Rattle.cached_table.specs.Opening.{IsNoTable, IsOpenFault, IsTableOf, home_pages, frames, is_reached}
 use Rattle.cached_table.specs.Surveying.{SurveyFails, SurveyFaultIn, SurveysOnly, mount_fault_for, mount_fault_in}
 use Rattle.cached_table.specs.contracts.homes.HomesPageSource.TheImpl as at_home
 
@@ -76,6 +76,10 @@ refusal_cases P device lost unsound memory (Why.Long declared got) = memory (Why
 device_told : (home_a : ℕ) (f : TreeFault) → device_of_mount (mount_fault_in home_a f) ≡ device_of (outer_of f)
 device_told home_a (Broken page) = refl
 device_told home_a (Pages r) = refusal_cases (λ was told. device_of_mount told ≡ device_of (outer_refusal was)) (λ s. refl) (λ a b. refl) (λ s. refl) (λ r none. sym none) r
+
+pub opens_fault : (home_a : ℕ) (f : TreeFault) → IsOpenFault (mount_fault_in home_a f)
+opens_fault home_a (Broken page) = tt
+opens_fault home_a (Pages r) = refusal_cases (λ was told. IsOpenFault told) (λ s. tt) (λ a b. tt) (λ s. tt) (λ r none. tt) r
 
 module _ {D : Type 0} (M : MachineGhosts D) (l : Layout) (m m' : D) (home_a : ℕ) (f : TreeFault) where
   pub reads_told : OnlyReads M (device_of (outer_of f)) m m' → OnlyReads M (device_of_mount (mount_fault_in home_a f)) m m'

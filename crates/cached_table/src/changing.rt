@@ -53,7 +53,6 @@ impl CachedTable {
 }
 
 // Gives the highest version of a name another keep of at most 999, and answers its key.
-#[tactic(auto, using(crate::proofs::HighestLaws::none_walked, crate::proofs::HighestLaws::none_after))]
 fn keep_at<T: Pages>(t: &mut T, name: &FileName, keep: u32) -> Result<Key, VersionFault>
     requires more { MOST_REACHED ≤ (T.step t.old).most_reached }
     requires changes { MOST_CHANGED ≤ changes (T.step t.old) }

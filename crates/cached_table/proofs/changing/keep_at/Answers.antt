@@ -1,8 +1,9 @@
-use Rattle.std.proofs.Common.{◌≡◌, Err, ap, inl, inr}
+use Rattle.std.proofs.Common.{◌≡◌, ◌∙◌, ℕ, List, Err, ap, arith, inl, inr}
 use Rattle.std.proofs.lemmas.Result.{err_from_is_err_and}
+use Rattle.name_page.specs.Pages.{with_one}
 use Rattle.name_page.proofs.LookLaws.{all_stay, edits_then, pages_then, walks_edits, walks_pages}
 use Rattle.version_table.specs.declared.fault.VersionFault.TheVariants.{NoSuch}
-use Rattle.cached_table.proofs.HighestLaws.{fails_trusted, look_fails, sets_now, there_now}
+use Rattle.cached_table.proofs.HighestLaws.{fails_trusted, look_fails, none_after, none_walked, sets_now, there_now}
 use Rattle.cached_table.proofs.changing.keep_at.Goals as goal
 
 pub set_keep-requires-clause-there : goal.set_keep-requires-clause-there
@@ -10,6 +11,28 @@ set_keep-requires-clause-there g c = there_now g.T.Pages c.args.t.now c.newest.n
 
 pub returns-in-Ok-clause-calls : goal.returns-in-Ok-clause-calls
 returns-in-Ok-clause-calls g c = edits_then g.T.Pages g.met.T.Pages.then c.args.t.now c.newest.new.t c.set_keep.new.t (walks_edits g.T.Pages c.args.t.now c.newest.new.t c.in_ok-found.ensures.walks) c.in-Ok.ensures.calls
+
+pub returns-in_err-found-clause-calls : goal.returns-in_err-found-clause-calls
+returns-in_err-found-clause-calls g c =
+    let p = err_from_is_err_and c.from_residual.result c.from_residual.ensures.1 in
+    rw (p.1, p.2) (walks_edits g.T.Pages c.args.t.now c.newest.new.t c.in_err-found.ensures.walks)
+
+pub returns-in-Err-clause-calls : goal.returns-in-Err-clause-calls
+returns-in-Err-clause-calls g c = edits_then g.T.Pages g.met.T.Pages.then c.args.t.now c.newest.new.t c.set_keep.new.t (walks_edits g.T.Pages c.args.t.now c.newest.new.t c.in_ok-found.ensures.walks) c.in-Err.ensures.calls
+
+pub returns-in_err-found-clause-kept : goal.returns-in_err-found-clause-kept
+returns-in_err-found-clause-kept g c =
+    let p = err_from_is_err_and c.from_residual.result c.from_residual.ensures.1 in
+    rw p.1 (none_walked g.T.Pages _ c.args.t.now c.newest.new.t c.in_err-found.ensures.walks)
+
+pub returns-in-Err-clause-kept : goal.returns-in-Err-clause-kept
+returns-in-Err-clause-kept g c = none_after g.T.Pages _ c.args.t.now c.newest.new.t c.set_keep.new.t c.in_ok-found.ensures.walks c.in-Err.ensures.kept
+
+pub returns-in-Ok-clause-one : goal.returns-in-Ok-clause-one
+returns-in-Ok-clause-one g c =
+    let walks = c.in_ok-found.ensures.walks in
+    let one = c.in-Ok.ensures.written in
+    record { page = one.page; there = omega (arith, one.there, walks.count); spares = one.spares ∙ walks.spares; changed = one.changed ∙ ap (λ (pages : List ℕ). with_one pages one.page) walks.changed }
 
 pub returns-in-Ok-clause-set : goal.returns-in-Ok-clause-set
 returns-in-Ok-clause-set g c =

@@ -12,10 +12,43 @@ use Rattle.name_page.proofs.LookLaws.{edits_then, pages_then, walks_edits, walks
 use Rattle.cached_table.specs.Entering.{AreInTurn, EntersNone, ShowsRefusal, TellsUntaken}
 use Rattle.version_table.specs.declared.oldest.Leaving.{Leaving}
 use Rattle.version_table.specs.declared.planning.Plan.{Plan}
-use Rattle.version_table.specs.Plan.{planned_entry, with_planned}
-use Rattle.cached_table.proofs.EnteringLaws.{enter_refused, enter_shows, gone_refuse, gone_shows, is_usable, outer_entered, outer_untaken, plan_refuses, plan_shows}
-use Rattle.cached_table.proofs.HighestLaws.{makes_before}
+use Rattle.version_table.specs.Plan.{IsReady, planned_entry, with_planned}
+use Rattle.cached_table.proofs.EnteringLaws.{changes_stay, enter_refused, enter_shows, gone_refuse, gone_shows, is_usable, outer_entered, outer_planned, outer_untaken, plan_refuses, plan_shows}
+use Rattle.cached_table.proofs.HighestLaws.{holds_now, makes_before}
 use Rattle.cached_table.proofs.entering.enter_at.Goals as goal
+
+pub returns-in-Err-clause-calls : goal.returns-in-Err-clause-calls
+returns-in-Err-clause-calls g c =
+    let told = ap outer_refusal c.plan_refusal.ensures ∙ outer_planned c.args.home_a c.in-Err.fault in
+    subst (λ (o : Option Refusal). OnlyEdits g.T.Pages o c.args.t.now c.plan_version.new.t) (sym told) (walks_edits g.T.Pages c.args.t.now c.plan_version.new.t c.in-Err.ensures.walks)
+
+pub returns-in-Err-clause-kept : goal.returns-in-Err-clause-kept
+returns-in-Err-clause-kept g c =
+    let told = ap outer_refusal c.plan_refusal.ensures ∙ outer_planned c.args.home_a c.in-Err.fault in
+    subst (λ (o : Option Refusal). OnlyWalks g.T.Pages o c.args.t.now c.plan_version.new.t) (sym told) c.in-Err.ensures.walks
+
+pub returns-in-Err-clause-changes : goal.returns-in-Err-clause-changes
+returns-in-Err-clause-changes g c = omega (arith, changes_stay g.T.Pages c.args.t.now c.plan_version.new.t c.in-Err.ensures.walks)
+
+pub returns-in-Some-clause-changes : goal.returns-in-Some-clause-changes
+returns-in-Some-clause-changes g c = omega (arith, changes_stay g.T.Pages c.args.t.now c.plan_version.new.t c.in-Ok.ensures.walks)
+
+pub returns-in-Ok-enter-clause-changes : goal.returns-in-Ok-enter-clause-changes
+returns-in-Ok-enter-clause-changes g c = omega (arith, changes_stay g.T.Pages c.args.t.now c.plan_version.new.t c.in-Ok.ensures.walks, c.in-Ok-enter.ensures.changes)
+
+pub returns-in-Err-enter-clause-changes : goal.returns-in-Err-enter-clause-changes
+returns-in-Err-enter-clause-changes g c = omega (arith, changes_stay g.T.Pages c.args.t.now c.plan_version.new.t c.in-Ok.ensures.walks, c.in-Err-enter.ensures.changes)
+
+pub enter-requires-clause-changes : goal.enter-requires-clause-changes
+enter-requires-clause-changes g c = omega (arith, c.requires.changes, changes_stay g.T.Pages c.args.t.now c.plan_version.new.t c.in-Ok.ensures.walks)
+
+pub enter-requires-clause-ready : goal.enter-requires-clause-ready
+enter-requires-clause-ready g c = holds_now g.T.Pages c.args.t.now c.plan_version.new.t c.in-Ok.ensures.walks (IsReady (record { key = c.in-Ok.plan.key; keep = c.in-Ok.plan.keep; gone = c.in-Ok.plan.gone })) c.in-Ok.ensures.ready
+
+pub returns-in-Ok-enter-clause-calls : goal.returns-in-Ok-enter-clause-calls
+returns-in-Ok-enter-clause-calls g c =
+    let P = g.T.Pages in
+    edits_then P g.met.T.Pages.then c.args.t.now c.plan_version.new.t c.enter.new.t (walks_edits P c.args.t.now c.plan_version.new.t c.in-Ok.ensures.walks) c.in-Ok-enter.ensures.calls
 
 pub returns-in-Err-clause-fault : goal.returns-in-Err-clause-fault
 returns-in-Err-clause-fault g c =

@@ -2,8 +2,10 @@ use Rattle.std.proofs.Common.{◌≡◌, ◌<◌, ℕ, Bool, false, not, None, L
 use Rattle.std.specs.Prelude.{drop, slice_index_or}
 use Rattle.volume_layout.specs.declared.layout.Layout.{Layout}
 use Rattle.page_cache.specs.Cache.{CacheValue}
+use Rattle.sector_disk.specs.Calls.{OnlyReads}
 use Rattle.name_btree.specs.Fault.{outer_of}
 use Rattle.fsd_sound.specs.Lost.{AreHomes, LostIn}
+use Rattle.fsd_sound.specs.Mounting.{device_of_mount}
 use Rattle.fsd_sound.specs.declared.fault.MountFault.{MountFault}
 use Rattle.fsd_table.specs.Breaks.{Breaks}
 use Rattle.table_pages.specs.Bringing.{IsTrusted, given_by}
@@ -11,10 +13,10 @@ use Rattle.table_pages.specs.Reads.{LosesFor}
 use Rattle.table_pages.specs.Table.{begun}
 use Rattle.cached_table.specs.Looking.{images_by}
 use Rattle.table_survey.specs.Survey.{IsSurveyed}
-use Rattle.cached_table.specs.Opening.{IsNoTable, home_pages}
+use Rattle.cached_table.specs.Opening.{IsNoTable, IsOpenFault, home_pages}
 use Rattle.cached_table.specs.Surveying.{SurveyFails, SurveysOnly}
 use Rattle.cached_table.specs.contracts.homes.HomesPageSource.TheImpl as at_home
-use Rattle.cached_table.proofs.OpeningLaws.{as_many, clear_marks, still_marks, lost_told, no_table, table_of}
+use Rattle.cached_table.proofs.OpeningLaws.{as_many, clear_marks, still_marks, lost_told, no_table, opens_fault, reads_told, table_of}
 use Rattle.cached_table.proofs.opening.survey_room.Goals as goal
 
 pub survey_in-counts-requires-clause-clear : goal.survey_in-counts-requires-clause-clear
@@ -53,6 +55,15 @@ returns-in-Ok-clause-table g c honest knows =
     (subst (λ (k : Layout). IsTrusted M at_home.ghosts k m room.cache m' → IsSurveyed l (begun (given_by M at_home.ghosts k m) room.cache room.free_pages c.home_a-home_a.result) c.survey_in-counts.new.map marks c.in-Ok.counts) of_l c.in-Ok.ensures.told)
     (subst (λ (k : Layout). IsTrusted M at_home.ghosts k m room.cache m' → (page : ℕ) → Breaks l (images_by M at_home.ghosts k m room.cache (length room.free_pages)) page → ⊥) of_l c.in-Ok.ensures.unbroken)
     c.in-Ok.ensures.counted long (c.free_unmarked.ensures.count ∙ ap (λ (xs : List Bool). length xs) same) (subst (λ (xs : List Bool). (page : ℕ) → page < length xs → slice_index_or c.free_unmarked.new.free page false ≡ not (slice_index_or xs page false)) same c.free_unmarked.ensures.free)
+
+pub returns-in-Err-clause-cause : goal.returns-in-Err-clause-cause
+returns-in-Err-clause-cause g c = subst IsOpenFault (sym c.survey_fault.ensures) (opens_fault c.home_a-home_a.result c.in-Err.fault)
+
+pub returns-in-Err-clause-reads : goal.returns-in-Err-clause-reads
+returns-in-Err-clause-reads g c =
+    let M = g.M.Machine in
+    let m = c.args.m.now in let m' = c.survey_in-counts.new.m in
+    subst (λ (told : MountFault). OnlyReads M (device_of_mount told) m m') (sym c.survey_fault.ensures) (reads_told M c.args.l.now m m' c.home_a-home_a.result c.in-Err.fault c.in-Err.ensures.only.reads)
 
 pub returns-in-Err-clause-lost : goal.returns-in-Err-clause-lost
 returns-in-Err-clause-lost g c honest =

@@ -1,7 +1,8 @@
 use Rattle.std.proofs.Common.{refl, rules}
+use Rattle.name_page.specs.Lookups.{entry_with}
 use Rattle.cached_table.proofs.LeftLaws.{left_as}
 use Rattle.cached_table.proofs.AbsentLaws.{lacks_key}
-use Rattle.cached_table.proofs.LookLaws.{absent_left, faults_left, leads_left, looks_left, pages_within, shown_left}
+use Rattle.cached_table.proofs.LookLaws.{absent_left, faults_left, found_left, leads_left, looks_left, pages_within, shown_left}
 use Rattle.cached_table.proofs.StayLaws.{looks_stay}
 use Rattle.cached_table.proofs.table.CachedTable.find.Goals as goal
 
@@ -10,6 +11,9 @@ returns-clause-looks g c = looks_left c.new-table.ensures.over c.new-table.ensur
 
 pub returns-clause-page : goal.returns-clause-page
 returns-clause-page g c = pages_within c.new-table.ensures.over c.new-table.ensures.step (looks_stay _ _ c.find-found.ensures.calls.looks) c.find-found.ensures.calls.outside c.rest.ensures.left c.find-found.result c.find-found.ensures.there
+
+pub returns-clause-found : goal.returns-clause-found
+returns-clause-found g c = found_left c.new-table.ensures.over c.new-table.ensures.step (looks_stay _ _ c.find-found.ensures.calls.looks) c.find-found.ensures.calls.outside (left_as c.rest.ensures.left (search rules) refl refl) (entry_with c.args.key.now) c.find-found.result c.find-found.ensures.found
 
 pub returns-clause-fault : goal.returns-clause-fault
 returns-clause-fault g c = faults_left c.new-table.ensures.over c.new-table.ensures.step (looks_stay _ _ c.find-found.ensures.calls.looks) c.find-found.ensures.calls.outside (left_as c.rest.ensures.left (search rules) (search rules) refl) c.find-found.result c.find-found.ensures.fault

@@ -1,7 +1,8 @@
 use Rattle.std.proofs.Common.{inl, inr, refl, rules}
+use Rattle.name_page.specs.Lookups.{highest_of}
 use Rattle.cached_table.proofs.LeftLaws.{left_as}
 use Rattle.cached_table.proofs.AbsentLaws.{lacks_name}
-use Rattle.cached_table.proofs.LookLaws.{absent_left, faults_left, leads_left, looks_left, pages_within, shown_left}
+use Rattle.cached_table.proofs.LookLaws.{absent_left, faults_left, found_left, leads_left, looks_left, pages_within, shown_left}
 use Rattle.cached_table.proofs.PathLaws.{path_first, path_left, used_first, used_left}
 use Rattle.cached_table.proofs.StayLaws.{looks_stay}
 use Rattle.cached_table.proofs.table.CachedTable.highest.Goals as goal
@@ -11,6 +12,9 @@ returns-clause-looks g c = looks_left c.new-table.ensures.over c.new-table.ensur
 
 pub returns-clause-page : goal.returns-clause-page
 returns-clause-page g c = pages_within c.new-table.ensures.over c.new-table.ensures.step (looks_stay _ _ c.highest-found.ensures.calls.looks) c.highest-found.ensures.calls.outside c.rest.ensures.left c.highest-found.result c.highest-found.ensures.there
+
+pub returns-clause-found : goal.returns-clause-found
+returns-clause-found g c = found_left c.new-table.ensures.over c.new-table.ensures.step (looks_stay _ _ c.highest-found.ensures.calls.looks) c.highest-found.ensures.calls.outside (left_as c.rest.ensures.left (search rules) refl refl) (highest_of c.args.name.now) c.highest-found.result c.highest-found.ensures.found
 
 pub returns-clause-fault : goal.returns-clause-fault
 returns-clause-fault g c = faults_left c.new-table.ensures.over c.new-table.ensures.step (looks_stay _ _ c.highest-found.ensures.calls.looks) c.highest-found.ensures.calls.outside (left_as c.rest.ensures.left (search rules) (search rules) refl) c.highest-found.result c.highest-found.ensures.fault

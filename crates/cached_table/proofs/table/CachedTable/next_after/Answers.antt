@@ -1,8 +1,9 @@
 use Rattle.std.proofs.Common.{refl, rules}
 use Rattle.std.specs.Option.{option_copied}
+use Rattle.name_page.specs.Lookups.{entry_after}
 use Rattle.cached_table.proofs.LeftLaws.{left_as}
 use Rattle.cached_table.proofs.AbsentLaws.{lacks_later}
-use Rattle.cached_table.proofs.LookLaws.{absent_left, faults_left, leads_left, looks_left, pages_within, shown_left}
+use Rattle.cached_table.proofs.LookLaws.{absent_left, faults_left, found_left, leads_left, looks_left, pages_within, shown_left}
 use Rattle.cached_table.proofs.StayLaws.{looks_stay}
 use Rattle.cached_table.proofs.table.CachedTable.next_after.Goals as goal
 
@@ -11,6 +12,9 @@ returns-clause-looks g c = looks_left c.new-table.ensures.over c.new-table.ensur
 
 pub returns-clause-page : goal.returns-clause-page
 returns-clause-page g c = pages_within c.new-table.ensures.over c.new-table.ensures.step (looks_stay _ _ c.next_after-found.ensures.calls.looks) c.next_after-found.ensures.calls.outside c.rest.ensures.left c.next_after-found.result c.next_after-found.ensures.there
+
+pub returns-clause-found : goal.returns-clause-found
+returns-clause-found g c = found_left c.new-table.ensures.over c.new-table.ensures.step (looks_stay _ _ c.next_after-found.ensures.calls.looks) c.next_after-found.ensures.calls.outside (left_as c.rest.ensures.left (search rules) refl refl) (entry_after (option_copied c.args.after)) c.next_after-found.result c.next_after-found.ensures.found
 
 pub returns-clause-fault : goal.returns-clause-fault
 returns-clause-fault g c = faults_left c.new-table.ensures.over c.new-table.ensures.step (looks_stay _ _ c.next_after-found.ensures.calls.looks) c.next_after-found.ensures.calls.outside (left_as c.rest.ensures.left (search rules) (search rules) refl) c.next_after-found.result c.next_after-found.ensures.fault
