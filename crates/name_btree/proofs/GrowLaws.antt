@@ -116,11 +116,11 @@ entry_key e is =
     let p3 = and_parts (is_key e.key && nat_le e.keep max_keep) (nat_le e.length max_length) p2.0 in
     (and_parts (is_key e.key) (nat_le e.keep max_keep) p3.0).0
 
-record GoodKey (key : Key) : Type 0 where
-  is : is_key key ≡ true
-  version : key.version < 2 ^ 32
+pub record GoodKey (key : Key) : Type 0 where
+  pub is : is_key key ≡ true
+  pub version : key.version < 2 ^ 32
 
-behind_key : (entries : List Entry) (i : ℕ) (y : Entry) (ys : List Entry) → drop i entries ≡ y ∷ ys → list_all is_entry entries ≡ true → AllByRecursion FitsEntry entries → GoodKey y.key
+pub behind_key : (entries : List Entry) (i : ℕ) (y : Entry) (ys : List Entry) → drop i entries ≡ y ∷ ys → list_all is_entry entries ≡ true → AllByRecursion FitsEntry entries → GoodKey y.key
 behind_key entries i y ys e each fits =
     let whole : take i entries ++ y ∷ ys ≡ entries = ap (λ (zs : List Entry). take i entries ++ zs) (sym e) ∙ take-append-drop i entries in
     let fit = (all_split FitsEntry (take i entries) (y ∷ ys) (subst (AllByRecursion FitsEntry) (sym whole) fits)).1 in

@@ -30,6 +30,7 @@ pub mod NextLaws
 pub mod OverLaws
 pub mod PairLaws
 mod PathLaws
+mod PutLaws
 pub mod PutTreeLaws
 pub mod RaiseLaws
 pub mod RemoveLaws

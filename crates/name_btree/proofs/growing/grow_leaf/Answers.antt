@@ -1,20 +1,101 @@
-use Rattle.std.proofs.Common.{◌≡◌, ◌∙◌, ◌<◌, ◌^◌, sym, ap, length, List, ℕ, arith}
-use Rattle.fsd_formats.specs.NamePage.{Leaf}
-use Rattle.name_page.specs.Pages.{with_images}
-use Rattle.name_btree.proofs.OverLaws.{drafted_over, takes_over, reached_over}
-use Rattle.name_btree.proofs.TakeLaws.{sheets_over}
+use Rattle.std.proofs.Common.{◌≡◌, ◌∙◌, ◌<◌, ◌≤◌, ◌^◌, refl, sym, ap, subst, length, List, ℕ, Some, arith}
+use Rattle.std.specs.List.{list_all, AllByRecursion}
+use Rattle.fsd_formats.specs.declared.entry.Entry.{Entry}
+use Rattle.fsd_formats.specs.NamePage.{Leaf, FitsEntry, are_ascending, is_entry, is_page, room}
+use Rattle.fsd_table.specs.Pages.{entry_keys}
+use Rattle.name_page.specs.Pages.{is_spare, with_images}
+use Rattle.name_page.specs.Parting.{used_by}
+use Rattle.name_btree.proofs.OverLaws.{drafted_over, grown_whole, takes_over, reached_over}
+use Rattle.name_btree.proofs.PutLaws.{all_back, all_front, leaf_page}
+use Rattle.name_btree.proofs.TakeLaws.{sheets_over, taken_itself, used_over}
 use Rattle.name_btree.proofs.GrowLaws.{IsParted, HasLeaves, leaves_parted}
-use Rattle.name_btree.proofs.SheetLaws.{two_sheets}
+use Rattle.name_btree.proofs.SheetLaws.{one_sheet, two_sheets}
 use Rattle.name_btree.proofs.growing.grow_leaf.Given as given
 use Rattle.name_btree.proofs.growing.grow_leaf.Goals as goal
 
-pub put_leaf-requires-2-clause-sheets : goal.put_leaf-requires-2-clause-sheets
-put_leaf-requires-2-clause-sheets g c =
+-- ---- one leaf
+
+pub put_leaf-requires : goal.put_leaf-requires
+put_leaf-requires g c =
+    let page = c.args.page in
+    let entries = c.args.entries.now.items in
+    let value = c.as_slice-entries.ensures.value in
+    let are = c.requires.entries in
+    let most : used_by entries ≤ room = omega (arith, ap used_by value) in
+    record {
+      room = omega (arith, c.requires.room);
+      sheets = c.requires.sheets;
+      reached = c.requires.reached;
+      used = c.requires.used;
+      accepted = ap (λ (xs : List Entry). is_page page 0 (Leaf xs)) value ∙ leaf_page page entries are.each are.order are.least most;
+      fits = subst (AllByRecursion FitsEntry) (sym value) c.requires.fits;
+    }
+
+pub returns-then-used-le-PAGE_ROOM : goal.returns-then-used-le-PAGE_ROOM
+returns-then-used-le-PAGE_ROOM g c =
+    let step = g.T.Pages.step c.args.t.now in
+    let page = c.args.page in
+    let old = c.args.draft.now.sheets.items in
+    let new = c.put_leaf.new.self.sheets.items in
+    let list = c.as_slice-entries.result.now in
+    let put = c.put_leaf.ensures in
+    record {
+      outside = g.met.T.Pages.still c.args.t.now;
+      grown = λ pages same. grown_whole (with_images pages step) old new page (Leaf list) (drafted_over step pages same old new page (Leaf list) put.sheets);
+      leaves = λ pages same. (put.sheets.over pages same).content ∙ ap (λ (xs : List Entry). Some (Leaf xs)) c.as_slice-entries.ensures.value;
+      freed = put.freed;
+      drawn = one_sheet step old new page (Leaf list) put.sheets;
+      images = refl;
+      home = refl;
+      reached = refl;
+    }
+
+-- ---- two leaves
+
+pub leaf_cut-requires : goal.leaf_cut-requires
+leaf_cut-requires g c =
+    let are = c.requires.entries in
+    let value = c.as_slice-entries.ensures.value in
+    record {
+      entries = ap (list_all is_entry) value ∙ are.each;
+      order = ap (λ (xs : List Entry). are_ascending (entry_keys xs)) value ∙ are.order;
+      many = omega arith;
+      few = omega (arith, are.most, ap used_by value);
+    }
+
+pub put_leaf-requires-2 : goal.put_leaf-requires-2
+put_leaf-requires-2 g c =
     let step = g.T.Pages.step c.args.t.now in
     let between = g.T.Pages.step c.front_page-left.new.t in
     let last = g.T.Pages.step c.take_page-right.new.t in
     let sheets = c.args.draft.now.sheets.items in
-    sheets_over between last _ sheets c.take_page-right.ensures.takes (sheets_over step between _ sheets c.front_page-left.ensures.takes c.requires.sheets)
+    let left = c.front_page-left.result in
+    let list = c.as_slice-entries.result.now in
+    let front = c.front_page-left.ensures in
+    let takes = c.take_page-right.ensures.takes in
+    record {
+      room = omega (arith, c.requires.room);
+      sheets = sheets_over between last _ sheets takes (sheets_over step between _ sheets front.takes c.requires.sheets);
+      reached = takes.reached left front.own;
+      used = used_over between last _ left takes front.used;
+      accepted = ap (λ (xs : List Entry). is_page left 0 (Leaf xs)) c.split_at.ensures.front ∙ (c.leaf_cut.ensures.leaves left).0;
+      fits = all_front FitsEntry list c.leaf_cut.result (subst (AllByRecursion FitsEntry) (sym c.as_slice-entries.ensures.value) c.requires.fits) _ c.split_at.ensures.front;
+    }
+
+pub put_leaf-requires-3 : goal.put_leaf-requires-3
+put_leaf-requires-3 g c =
+    let right = c.take_page-right.result in
+    let list = c.as_slice-entries.result.now in
+    let takes = c.take_page-right.ensures.takes in
+    let one = c.put_leaf-2.ensures.sheets in
+    record {
+      room = omega (arith, c.requires.room, one.one);
+      sheets = one.sheets;
+      reached = takes.own.0;
+      used = takes.taken.spares right ∙ taken_itself (is_spare (g.T.Pages.step c.front_page-left.new.t).spares right) right;
+      accepted = ap (λ (xs : List Entry). is_page right 0 (Leaf xs)) c.split_at.ensures.back ∙ (c.leaf_cut.ensures.leaves right).1;
+      fits = all_back FitsEntry list c.leaf_cut.result (subst (AllByRecursion FitsEntry) (sym c.as_slice-entries.ensures.value) c.requires.fits) _ c.split_at.ensures.back;
+    }
 
 parted : (g : given.Over) (c : goal.After-copied g) (pages : List (List ℕ)) → length pages ≡ length (g.T.Pages.step c.args.t.now).images
     → HasLeaves (with_images pages (g.T.Pages.step c.args.t.now)) (with_images pages (g.T.Pages.step c.take_page-right.new.t)) c.args.draft.now.sheets.items c.put_leaf-3.new.self.sheets.items c.args.page c.args.entries.now.items
@@ -76,6 +157,3 @@ returns-clause-home g c = c.take_page-right.ensures.home ∙ c.front_page-left.e
 
 pub returns-clause-reached : goal.returns-clause-reached
 returns-clause-reached g c = c.take_page-right.ensures.reached ∙ c.front_page-left.ensures.reached
-
-pub put_leaf-requires-3-clause-sheets : goal.put_leaf-requires-3-clause-sheets
-put_leaf-requires-3-clause-sheets g c = c.put_leaf-2.ensures.sheets.sheets

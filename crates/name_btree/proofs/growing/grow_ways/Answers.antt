@@ -1,47 +1,111 @@
-use Rattle.std.proofs.Common.{◌≡◌, ◌∙◌, sym, ap, subst, ℕ, List, length, take, drop, ◌&&◌, ◌<◌, ◌^◌, arith}
+use Rattle.std.proofs.Common.{◌≡◌, ◌∙◌, refl, sym, ap, subst, ℕ, List, Some, length, take, drop, ◌&&◌, ◌<◌, ◌≤◌, ◌^◌, arith}
 use Rattle.fsd_formats.specs.declared.page.Separator.{Separator}
 use Rattle.std.specs.Prelude.{nat_lt}
-use Rattle.std.specs.List.{list_all}
+use Rattle.std.specs.List.{list_all, AllByRecursion}
 use Rattle.fsd_bytes.specs.Keys.{is_key}
-use Rattle.fsd_formats.specs.NamePage.{Interior, is_page, are_ascending}
+use Rattle.fsd_formats.specs.NamePage.{Content, Interior, FitsSeparator, is_page, are_ascending}
 use Rattle.fsd_table.specs.Pages.{separator_keys}
-use Rattle.name_page.specs.Pages.{is_spare}
+use Rattle.name_page.specs.Pages.{is_spare, with_images}
 use Rattle.name_btree.specs.Draft.{IsDrafted}
-use Rattle.name_page.specs.Pages.{with_images}
-use Rattle.name_btree.proofs.OverLaws.{drafted_over, takes_over, reached_over}
-use Rattle.name_btree.proofs.TakeLaws.{sheets_over, taken_itself}
+use Rattle.name_btree.proofs.OverLaws.{drafted_over, grown_whole, takes_over, reached_over}
+use Rattle.name_btree.proofs.PutLaws.{all_back, all_front}
+use Rattle.name_btree.proofs.TakeLaws.{sheets_over, taken_itself, used_over}
+use Rattle.name_btree.proofs.TrimLaws.{ways_page}
 use Rattle.name_btree.proofs.GrowLaws.{IsParted, HasInteriors, ways_parted, rest_of}
-use Rattle.name_btree.proofs.SheetLaws.{two_sheets}
+use Rattle.name_btree.proofs.SheetLaws.{one_sheet, two_sheets}
 use Rattle.name_btree.proofs.growing.grow_ways.Given as given
 use Rattle.name_btree.proofs.growing.grow_ways.Goals as goal
 
-pub put_ways-requires-2-clause-sheets : goal.put_ways-requires-2-clause-sheets
-put_ways-requires-2-clause-sheets g c =
+-- ---- one page
+
+pub put_ways-requires : goal.put_ways-requires
+put_ways-requires g c =
+    let step = g.T.Pages.step c.args.t.now in
+    let p : ℕ = length step.images in
+    let page = c.args.page in
+    let separators = c.args.separators.now.items in
+    let value = c.as_slice-separators.ensures.value in
+    let are = c.requires.separators in
+    let most : length separators ≤ 9 = omega (arith, ap length value) in
+    record {
+      room = omega (arith, c.requires.room);
+      sheets = c.requires.sheets;
+      reached = c.requires.reached;
+      used = c.requires.used;
+      accepted = ap (λ (zs : List Separator). is_page page p (Interior c.args.first zs)) value
+          ∙ ways_page page p c.args.first separators (record { below = are.each; ascend = are.order; first_below = are.low }) are.least most;
+      fits = subst (AllByRecursion FitsSeparator) (sym value) c.requires.fits;
+    }
+
+pub returns-then-separators-le9 : goal.returns-then-separators-le9
+returns-then-separators-le9 g c =
+    let step = g.T.Pages.step c.args.t.now in
+    let page = c.args.page in
+    let old = c.args.draft.now.sheets.items in
+    let new = c.put_ways.new.self.sheets.items in
+    let x : Content = Interior c.args.first c.as_slice-separators.result.now in
+    let put = c.put_ways.ensures in
+    record {
+      outside = g.met.T.Pages.still c.args.t.now;
+      grown = λ pages same. grown_whole (with_images pages step) old new page x (drafted_over step pages same old new page x put.sheets);
+      interiors = λ pages same. (put.sheets.over pages same).content ∙ ap (λ (zs : List Separator). Some (Interior c.args.first zs)) c.as_slice-separators.ensures.value;
+      freed = put.freed;
+      drawn = one_sheet step old new page x put.sheets;
+      images = refl;
+      home = refl;
+      reached = refl;
+    }
+
+-- ---- two pages
+
+pub put_ways-requires-2 : goal.put_ways-requires-2
+put_ways-requires-2 g c =
     let step = g.T.Pages.step c.args.t.now in
     let between = g.T.Pages.step c.front_page-left.new.t in
     let last = g.T.Pages.step c.take_page-right.new.t in
     let sheets = c.args.draft.now.sheets.items in
-    sheets_over between last _ sheets c.take_page-right.ensures.takes (sheets_over step between _ sheets c.front_page-left.ensures.takes c.requires.sheets)
+    let left = c.front_page-left.result in
+    let some = c.as_slice-separators.result.now in
+    let value = c.as_slice-separators.ensures.value in
+    let are = c.requires.separators in
+    let front = c.front_page-left.ensures in
+    let takes = c.take_page-right.ensures.takes in
+    let images : length last.images ≡ length step.images = ap length (takes.images ∙ front.takes.images) in
+    let each = ap (list_all (λ s. is_key s.key && nat_lt s.child (length step.images))) value ∙ are.each in
+    let order = ap (λ (zs : List Separator). are_ascending (separator_keys zs)) value ∙ are.order in
+    let is = (c.middle-middle.ensures.interiors (length step.images) c.args.first each order are.low left).0 in
+    record {
+      room = omega (arith, c.requires.room);
+      sheets = sheets_over between last _ sheets takes (sheets_over step between _ sheets front.takes c.requires.sheets);
+      reached = takes.reached left front.own;
+      used = used_over between last _ left takes front.used;
+      accepted = ap (λ (n : ℕ). is_page left n (Interior c.args.first (take 4 some))) images ∙ is;
+      fits = all_front FitsSeparator some 4 (subst (AllByRecursion FitsSeparator) (sym value) c.requires.fits) _ refl;
+    }
 
-pub put_ways-requires-3-clause-used : goal.put_ways-requires-3-clause-used
-put_ways-requires-3-clause-used g c =
-    let last = g.T.Pages.step c.take_page-right.new.t in
-    let right = c.take_page-right.result in
-    c.take_page-right.ensures.takes.taken.spares right ∙ taken_itself (is_spare (g.T.Pages.step c.front_page-left.new.t).spares right) right
-
-pub put_ways-requires-3-clause-accepted : goal.put_ways-requires-3-clause-accepted
-put_ways-requires-3-clause-accepted g c =
+pub put_ways-requires-3 : goal.put_ways-requires-3
+put_ways-requires-3 g c =
     let step = g.T.Pages.step c.args.t.now in
     let last = g.T.Pages.step c.take_page-right.new.t in
     let right = c.take_page-right.result in
     let some = c.as_slice-separators.result.now in
+    let value = c.as_slice-separators.ensures.value in
     let middle = c.middle-middle.result in
-    let images : length last.images ≡ length step.images = ap length (c.take_page-right.ensures.takes.images ∙ c.front_page-left.ensures.takes.images) in
-    let fits = c.requires.separators in
-    let each = ap (list_all (λ s. is_key s.key && nat_lt s.child (length step.images))) c.as_slice-separators.ensures.value ∙ fits.each in
-    let order = ap (λ (zs : List Separator). are_ascending (separator_keys zs)) c.as_slice-separators.ensures.value ∙ fits.order in
-    let is = (c.middle-middle.ensures.interiors (length step.images) c.args.first each order fits.low right).1 in
-    (λ i. is_page right (images i) (Interior middle.child (rest_of some 5 i))) ∙ is
+    let takes = c.take_page-right.ensures.takes in
+    let images : length last.images ≡ length step.images = ap length (takes.images ∙ c.front_page-left.ensures.takes.images) in
+    let are = c.requires.separators in
+    let each = ap (list_all (λ s. is_key s.key && nat_lt s.child (length step.images))) value ∙ are.each in
+    let order = ap (λ (zs : List Separator). are_ascending (separator_keys zs)) value ∙ are.order in
+    let is = (c.middle-middle.ensures.interiors (length step.images) c.args.first each order are.low right).1 in
+    let one = c.put_ways-2.ensures.sheets in
+    record {
+      room = omega (arith, c.requires.room, one.one);
+      sheets = one.sheets;
+      reached = takes.own.0;
+      used = takes.taken.spares right ∙ taken_itself (is_spare (g.T.Pages.step c.front_page-left.new.t).spares right) right;
+      accepted = (λ i. is_page right (images i) (Interior middle.child (rest_of some 5 i))) ∙ is;
+      fits = all_back FitsSeparator some 5 (subst (AllByRecursion FitsSeparator) (sym value) c.requires.fits) _ (rest_of some 5);
+    }
 
 parted : (g : given.Over) (c : goal.After-put_ways-3 g) (pages : List (List ℕ)) → length pages ≡ length (g.T.Pages.step c.args.t.now).images
     → HasInteriors (with_images pages (g.T.Pages.step c.args.t.now)) (with_images pages (g.T.Pages.step c.take_page-right.new.t)) c.args.draft.now.sheets.items c.put_ways-3.new.self.sheets.items c.args.page c.args.first
@@ -104,6 +168,3 @@ returns-clause-home g c = c.take_page-right.ensures.home ∙ c.front_page-left.e
 
 pub returns-clause-reached : goal.returns-clause-reached
 returns-clause-reached g c = c.take_page-right.ensures.reached ∙ c.front_page-left.ensures.reached
-
-pub put_ways-requires-3-clause-sheets : goal.put_ways-requires-3-clause-sheets
-put_ways-requires-3-clause-sheets g c = c.put_ways-2.ensures.sheets.sheets

@@ -27,26 +27,72 @@ use Rattle.name_btree.proofs.InsertLaws.{middle_is, inside_middle, least_taken, 
 use Rattle.name_btree.proofs.SheetLaws.{sheets_looked, sheets_then}
 use Rattle.name_btree.proofs.inserting.+insert_below.Goals as goal
 
-pub returns-in_err-entries-clause-fault : goal.returns-in_err-entries-clause-fault
-returns-in_err-entries-clause-fault g t c =
+pub returns-in_err-entries : goal.returns-in_err-entries
+returns-in_err-entries g t c =
     let sheets = c.args.draft.now.sheets.items in
     let child = c.args.child.now in
     let new = c.child_node.new.t in
+    let found = c.in_err-entries.ensures in
     let p = err_from_is_err_and c.from_residual.result c.from_residual.ensures.1 in
-    rw (p.1, p.2) (fails_by_map (g.T.Pages.step new) (λ pages. IsMisfit (drafted sheets pages) child) (λ pages. BreaksGrowth c.args.entry.now (drafted sheets pages) c.args.levels child)
-    (λ images page is h. misfit_growth c.args.entry.now (drafted sheets images) c.args.levels child page h) c.in_err-entries.field-0.0 c.in_err-entries.ensures.fault)
+    rw (p.1, p.2) (record {
+      calls = reaches_takes g.T.Pages c.args.t.now new found.calls;
+      failed = found.calls;
+      reaches = omega (arith, found.reaches);
+      room = tt;
+      sheets = tt;
+      freed = tt;
+      drawn = tt;
+      reached = tt;
+      used = tt;
+      grown = tt;
+      fault = fails_by_map (g.T.Pages.step new) (λ pages. IsMisfit (drafted sheets pages) child) (λ pages. BreaksGrowth c.args.entry.now (drafted sheets pages) c.args.levels child)
+          (λ images page is h. misfit_growth c.args.entry.now (drafted sheets images) c.args.levels child page h) c.in_err-entries.field-0.0 found.fault;
+    })
 
-pub returns-then-below-eq0-clause-fault : goal.returns-then-below-eq0-clause-fault
-returns-then-below-eq0-clause-fault g t c = λ images agrees.
+pub returns-then-below-eq0 : goal.returns-then-below-eq0
+returns-then-below-eq0 g t c =
     let sheets = c.args.draft.now.sheets.items in
     let child = c.args.child.now in
     let e = c.args.entry.now in
     let ways = c.in-Interior.ways in
     let i = c.ways_before-i.result in
-    let pages = drafted sheets images in
-    let at : page_at pages child.page ≡ Some (Interior ways.0 ways.1) = c.in_ok-entries.ensures.node images agrees ∙ ap (λ (n : Node). Some (content_of n)) c.in-Interior.is in
-    let m = middle_is e.key c.copied.result pages child c.child_at-below.result ways.0 ways.1 i at c.copied.ensures c.ways_before-i.ensures.within c.ways_before-i.ensures.before c.ways_before-i.ensures.behind c.child_at-below.ensures in
-    zero_below e pages c.args.levels child ways.0 ways.1 i 0 at m.around (ap (λ (d : Child). d.page) (sym m.is) ∙ c.if-below-eq0.true)
+    let looked = c.in_ok-entries.ensures in
+    record {
+      calls = reaches_takes g.T.Pages c.args.t.now c.child_node.new.t looked.calls;
+      failed = looked.calls;
+      reaches = omega (arith, looked.reaches);
+      room = tt;
+      sheets = tt;
+      freed = tt;
+      drawn = tt;
+      reached = tt;
+      used = tt;
+      grown = tt;
+      fault = λ images agrees.
+          let pages = drafted sheets images in
+          let at : page_at pages child.page ≡ Some (Interior ways.0 ways.1) = looked.node images agrees ∙ ap (λ (n : Node). Some (content_of n)) c.in-Interior.is in
+          let m = middle_is e.key c.copied.result pages child c.child_at-below.result ways.0 ways.1 i at c.copied.ensures c.ways_before-i.ensures.within c.ways_before-i.ensures.before c.ways_before-i.ensures.behind c.child_at-below.ensures in
+          zero_below e pages c.args.levels child ways.0 ways.1 i 0 at m.around (ap (λ (d : Child). d.page) (sym m.is) ∙ c.if-below-eq0.true);
+    }
+
+pub insert_here-requires : goal.insert_here-requires
+insert_here-requires g t c =
+    let child = c.args.child.now in
+    let looked = c.in_ok-entries.ensures in
+    let looks = looked.calls.looks in
+    record {
+      promised = omega (arith, looks.promised, c.requires.promised);
+      more = omega (arith, ap length looks.changed, looks.most_changed, c.requires.changes);
+      room = omega (arith, c.requires.room);
+      sheets = looked.sheets;
+      reached = looked.reached;
+      used = ap (λ (x : List Bool). is_spare x child.page) looks.spares ∙ looked.used;
+      leaf = λ images agrees. looked.node images agrees ∙ ap (λ (n : Node). Some (content_of n)) c.in-Leaf.is;
+      keys = sym (ap (λ (n : Node). content_fits child.low child.high (Some (content_of n))) c.in-Leaf.is) ∙ looked.fits;
+      inside = c.requires.inside;
+      entry = c.requires.entry;
+      fits = c.requires.fits;
+    }
 
 pub insert_below-requires : goal.insert_below-requires
 insert_below-requires g t c κs within =
@@ -69,20 +115,11 @@ insert_below-requires g t c κs within =
     let more : most_taken d.page (levels - 1) ≤ changes looked = omega (arith, few, least_taken child.page levels, takes.changes, c.requires.changes, c.if-levels-gt0.true) in
     search (rules, inside, promised, more)
 
-pub returns-in_err-grown-in-Interior-clause-failed : goal.returns-in_err-grown-in-Interior-clause-failed
-returns-in_err-grown-in-Interior-clause-failed g t c =
-    let p = err_from_is_err_and c.from_residual-in_err-grown-in-Interior.result c.from_residual-in_err-grown-in-Interior.ensures.1 in
-    rw (p.1, p.2) (reaches_then g.T.Pages g.met.T.Pages.then c.args.t.now c.child_node.new.t c.insert_below.new.t c.in_ok-entries.ensures.calls c.in_err-grown-in-Interior.ensures.failed)
-
-pub returns-in_err-grown-in-Interior-clause-calls : goal.returns-in_err-grown-in-Interior-clause-calls
-returns-in_err-grown-in-Interior-clause-calls g t c =
-    let p = err_from_is_err_and c.from_residual-in_err-grown-in-Interior.result c.from_residual-in_err-grown-in-Interior.ensures.1 in
-    rw (p.1, p.2) (reaches_takes g.T.Pages c.args.t.now c.insert_below.new.t (reaches_then g.T.Pages g.met.T.Pages.then c.args.t.now c.child_node.new.t c.insert_below.new.t c.in_ok-entries.ensures.calls c.in_err-grown-in-Interior.ensures.failed))
-
-pub returns-in_err-grown-in-Interior-clause-fault : goal.returns-in_err-grown-in-Interior-clause-fault
-returns-in_err-grown-in-Interior-clause-fault g t c =
+pub returns-in_err-grown-in-Interior : goal.returns-in_err-grown-in-Interior
+returns-in_err-grown-in-Interior g t c =
     let G = g.T.Pages in
-    let looked = G.step c.child_node.new.t in
+    let old = c.args.t.now in
+    let mid = c.child_node.new.t in
     let new = c.insert_below.new.t in
     let sheets = c.args.draft.now.sheets.items in
     let child = c.args.child.now in
@@ -91,17 +128,32 @@ returns-in_err-grown-in-Interior-clause-fault g t c =
     let ways = c.in-Interior.ways in
     let i = c.ways_before-i.result in
     let levels = c.args.levels in
-    let calls = c.in_err-grown-in-Interior.ensures.failed in
+    let looked = c.in_ok-entries.ensures in
+    let found = c.in_err-grown-in-Interior.ensures in
+    let calls = found.failed in
+    let all = reaches_then G g.met.T.Pages.then old mid new looked.calls calls in
     let up : suc (levels - 1) ≡ levels = omega (arith, c.if-levels-gt0.true) in
     let p = err_from_is_err_and c.from_residual-in_err-grown-in-Interior.result c.from_residual-in_err-grown-in-Interior.ensures.1 in
-    rw (p.1, p.2) (fails_by_map (G.step new) (λ pages. BreaksGrowth e (drafted sheets pages) (levels - 1) below) (λ pages. BreaksGrowth e (drafted sheets pages) levels child)
-    (λ images page agrees h.
-    let before = agrees_before looked (G.step new) images calls.looks agrees in
-    let pages = drafted sheets images in
-    let at : page_at pages child.page ≡ Some (Interior ways.0 ways.1) = c.in_ok-entries.ensures.node images before ∙ ap (λ (n : Node). Some (content_of n)) c.in-Interior.is in
-    let m = middle_is e.key c.copied.result pages child c.child_at-below.result ways.0 ways.1 i at c.copied.ensures c.ways_before-i.ensures.within c.ways_before-i.ensures.before c.ways_before-i.ensures.behind c.child_at-below.ensures in
-    let here = subst (λ (d : Child). BreaksGrowth e pages (levels - 1) d page) m.is h in
-    subst (λ (n : ℕ). BreaksGrowth e pages n child page) up (growth_below e pages (levels - 1) child ways.0 ways.1 i page at m.around here)) c.in_err-grown-in-Interior.field-0.0 c.in_err-grown-in-Interior.ensures.fault)
+    rw (p.1, p.2) (record {
+      calls = reaches_takes G old new all;
+      failed = all;
+      reaches = omega (arith, looked.reaches, found.reaches, up);
+      room = tt;
+      sheets = tt;
+      freed = tt;
+      drawn = tt;
+      reached = tt;
+      used = tt;
+      grown = tt;
+      fault = fails_by_map (G.step new) (λ pages. BreaksGrowth e (drafted sheets pages) (levels - 1) below) (λ pages. BreaksGrowth e (drafted sheets pages) levels child)
+          (λ images page agrees h.
+          let before = agrees_before (G.step mid) (G.step new) images calls.looks agrees in
+          let pages = drafted sheets images in
+          let at : page_at pages child.page ≡ Some (Interior ways.0 ways.1) = looked.node images before ∙ ap (λ (n : Node). Some (content_of n)) c.in-Interior.is in
+          let m = middle_is e.key c.copied.result pages child below ways.0 ways.1 i at c.copied.ensures c.ways_before-i.ensures.within c.ways_before-i.ensures.before c.ways_before-i.ensures.behind c.child_at-below.ensures in
+          let here = subst (λ (d : Child). BreaksGrowth e pages (levels - 1) d page) m.is h in
+          subst (λ (n : ℕ). BreaksGrowth e pages n child page) up (growth_below e pages (levels - 1) child ways.0 ways.1 i page at m.around here)) c.in_err-grown-in-Interior.field-0.0 found.fault;
+    })
 
 pub grow_above-requires-clause-ways : goal.grow_above-requires-clause-ways
 grow_above-requires-clause-ways g t c =
@@ -244,16 +296,6 @@ returns-in_ok-grown-in-Interior-clause-used g t c =
     let here = ap (λ (x : List Bool). is_spare x page) c.in_ok-entries.ensures.calls.looks.spares ∙ c.in_ok-entries.ensures.used in
     used_over between last _ page upper (used_over looked between _ page lower here)
 
-pub returns-in_err-entries-clause-failed : goal.returns-in_err-entries-clause-failed
-returns-in_err-entries-clause-failed g t c =
-    let p = err_from_is_err_and c.from_residual.result c.from_residual.ensures.1 in
-    rw (p.1, p.2) c.in_err-entries.ensures.calls
-
-pub returns-in_err-entries-clause-calls : goal.returns-in_err-entries-clause-calls
-returns-in_err-entries-clause-calls g t c =
-    let p = err_from_is_err_and c.from_residual.result c.from_residual.ensures.1 in
-    rw (p.1, p.2) (reaches_takes g.T.Pages c.args.t.now c.child_node.new.t c.in_err-entries.ensures.calls)
-
 pub returns-in-Leaf-clause-drawn : goal.returns-in-Leaf-clause-drawn
 returns-in-Leaf-clause-drawn g t c =
     let step = g.T.Pages.step in
@@ -338,12 +380,6 @@ pub returns-in_ok-grown-in-Interior-clause-freed : goal.returns-in_ok-grown-in-I
 returns-in_ok-grown-in-Interior-clause-freed g t c = c.grow_above.ensures.freed ∙ c.in_ok-grown-in-Interior.ensures.freed
 
 -- ---- nothing has grown
-
-pub returns-then-below-eq0-clause-failed : goal.returns-then-below-eq0-clause-failed
-returns-then-below-eq0-clause-failed g t c = c.in_ok-entries.ensures.calls
-
-pub returns-then-below-eq0-clause-calls : goal.returns-then-below-eq0-clause-calls
-returns-then-below-eq0-clause-calls g t c = reaches_takes g.T.Pages c.args.t.now c.child_node.new.t c.in_ok-entries.ensures.calls
 
 pub returns-in_default-clause-failed : goal.returns-in_default-clause-failed
 returns-in_default-clause-failed g t c = c.in_ok-entries.ensures.calls

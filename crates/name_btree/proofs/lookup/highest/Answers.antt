@@ -1,5 +1,5 @@
-use Rattle.std.proofs.Common.{◌≡◌, ◌∙◌, ◌⊎◌, ◌-◌, inl, inr, length, refl, sym, ap, subst, false, List, ℕ, Option, Some, None}
-use Rattle.std.specs.Prelude.{IfSome}
+use Rattle.std.proofs.Common.{◌≡◌, ◌∙◌, ◌⊎◌, ◌-◌, inl, inr, length, refl, sym, ap, subst, false, List, ℕ, Option, Some, None, arith}
+use Rattle.std.specs.Prelude.{Err, IfSome}
 use Rattle.std.specs.Option.{MatchOption}
 use Rattle.std.proofs.lemmas.Option.{IfSome_then}
 use Rattle.fsd_formats.specs.declared.entry.Entry.{Entry}
@@ -189,76 +189,10 @@ returns-in-None-clause-absent g c =
       other = subst (λ (o : Option Entry). MatchOption o ((leaf.low ≡ None) ⊎ HasOtherLeft s name leaf) (λ x. same_name x.key.name name ≡ false)) (sym last) (inl first);
     }
 
-pub returns-in_err-found-clause-fault : goal.returns-in_err-found-clause-fault
-returns-in_err-found-clause-fault g c =
-    let p = err_from_is_err_and c.from_residual.result c.from_residual.ensures.1 in
-    let new = c.leaf_below.new.t in
-    rw (p.1, p.2) (top_breaks (g.T.Pages.step new) c.in_err-found.field-0.0 c.top.result c.top.ensures c.in_err-found.ensures.fault)
-
-pub returns-in_err-last_below-in-Some-previous-clause-fault : goal.returns-in_err-last_below-in-Some-previous-clause-fault
-returns-in_err-last_below-in-Some-previous-clause-fault g c =
-    let mid = c.leaf_below.new.t in
-    let new = c.last_below.new.t in
-    let s = g.T.Pages.step new in
-    let fault = c.in_err-last_below-in-Some-previous.field-0.0 in
-    let P : Neighbour → Type 0 = λ (n : Neighbour). HasCause s (BreaksBeside s.images n) (BarsBeside s n) fault in
-    let h : P c.in-Some-previous.previous = subst P c.in-Some-previous.previous-is c.in_err-last_below-in-Some-previous.ensures.fault in
-    let beside = c.in_ok-found.ensures.beside s.images (agrees_before (g.T.Pages.step mid) s s.images c.in_err-last_below-in-Some-previous.ensures.calls.looks (agrees_now s)) in
-    let p = err_from_is_err_and c.from_residual-in_err-last_below-in-Some-previous.result c.from_residual-in_err-last_below-in-Some-previous.ensures.1 in
-    rw (p.1, p.2) (previous_breaks s c.top.result c.in_ok-found.found c.top.ensures beside
-    c.in-Some-previous.previous fault h c.in-Some-previous.is)
-
 pub returns-in_ok-last_below-in-Some-previous-clause-calls : goal.returns-in_ok-last_below-in-Some-previous-clause-calls
 returns-in_ok-last_below-in-Some-previous-clause-calls g c = reaches_then g.T.Pages g.met.T.Pages.then c.args.t.now c.leaf_below.new.t c.last_below.new.t c.in_ok-found.ensures.calls c.in_ok-last_below-in-Some-previous.ensures.calls
 
-pub returns-in_err-last_below-in-Some-previous-clause-calls : goal.returns-in_err-last_below-in-Some-previous-clause-calls
-returns-in_err-last_below-in-Some-previous-clause-calls g c =
-    let p = err_from_is_err_and c.from_residual-in_err-last_below-in-Some-previous.result c.from_residual-in_err-last_below-in-Some-previous.ensures.1 in
-    rw (p.1, p.2) (reaches_then g.T.Pages g.met.T.Pages.then c.args.t.now c.leaf_below.new.t c.last_below.new.t c.in_ok-found.ensures.calls c.in_err-last_below-in-Some-previous.ensures.calls)
-
-pub returns-in_err-found-clause-calls : goal.returns-in_err-found-clause-calls
-returns-in_err-found-clause-calls g c =
-    let p = err_from_is_err_and c.from_residual.result c.from_residual.ensures.1 in
-    rw (p.1, p.2) c.in_err-found.ensures.calls
-
--- ---- a page that is named is one of the table
-
-pub returns-in_err-found-clause-among : goal.returns-in_err-found-clause-among
-returns-in_err-found-clause-among g c = λ some.
-    let new = c.leaf_below.new.t in
-    let s = g.T.Pages.step new in
-    fails_among c.from_residual.result s (BarsTable s) (length (g.T.Pages.step c.args.t.now).images) c.in_err-found.ensures.calls.looks.count some (returns-in_err-found-clause-fault g c)
-
-pub returns-in_err-last_below-in-Some-previous-clause-among : goal.returns-in_err-last_below-in-Some-previous-clause-among
-returns-in_err-last_below-in-Some-previous-clause-among g c = λ some.
-    let new = c.last_below.new.t in
-    let s = g.T.Pages.step new in
-    let same = c.in_err-last_below-in-Some-previous.ensures.calls.looks.count ∙ c.in_ok-found.ensures.calls.looks.count in
-    fails_among c.from_residual-in_err-last_below-in-Some-previous.result s (BarsTable s) (length (g.T.Pages.step c.args.t.now).images) same some (returns-in_err-last_below-in-Some-previous-clause-fault g c)
-
--- ---- whatever the other pages have
-
-pub returns-in_err-found-clause-shown : goal.returns-in_err-found-clause-shown
-returns-in_err-found-clause-shown g c =
-    let p = err_from_is_err_and c.from_residual.result c.from_residual.ensures.1 in
-    rw (p.1, p.2) (shown_top (g.T.Pages.step c.leaf_below.new.t) c.in_err-found.field-0.0 c.top.result c.top.ensures c.in_err-found.ensures.shown)
-
-pub returns-in_err-last_below-in-Some-previous-clause-shown : goal.returns-in_err-last_below-in-Some-previous-clause-shown
-returns-in_err-last_below-in-Some-previous-clause-shown g c =
-    let s = g.T.Pages.step c.last_below.new.t in
-    let fault = c.in_err-last_below-in-Some-previous.field-0.0 in
-    let kept = c.in_err-last_below-in-Some-previous.ensures in
-    let P : Neighbour → Type 0 = λ (n : Neighbour). ShowsCause s (λ pages. BreaksBeside pages n) (λ pages. IsBeside pages n) fault in
-    let h : P c.in-Some-previous.previous = subst P c.in-Some-previous.previous-is kept.shown in
-    let p = err_from_is_err_and c.from_residual-in_err-last_below-in-Some-previous.result c.from_residual-in_err-last_below-in-Some-previous.ensures.1 in
-    rw (p.1, p.2) (shown_previous (g.T.Pages.step c.leaf_below.new.t) s c.top.result c.in_ok-found.found c.top.ensures kept.calls.looks c.in_ok-found.ensures.beside c.in-Some-previous.previous c.in-Some-previous.is fault h)
-
 -- ---- memory is not wanting
-
-pub returns-in_err-found-clause-memory : goal.returns-in_err-found-clause-memory
-returns-in_err-found-clause-memory g c = λ has.
-    let p = err_from_is_err_and c.from_residual.result c.from_residual.ensures.1 in
-    rw (p.1, p.2) (c.in_err-found.ensures.memory (path_met g.T.Pages c.args.t.now c.args.name.now c.copied.result c.top.result c.copied.ensures c.top.ensures has))
 
 pub returns-in-Some-clause-memory : goal.returns-in-Some-clause-memory
 returns-in-Some-clause-memory g c = λ has. c.in_ok-found.ensures.memory (path_met g.T.Pages c.args.t.now c.args.name.now c.copied.result c.top.result c.copied.ensures c.top.ensures has)
@@ -274,20 +208,6 @@ returns-in-Some-clause-back g c = λ has.
     if_named (λ x. HasWayTo P x.entry c.leaf_below.new.t) f (same_name f.entry.key.name c.args.name.now) c.named.result c.named.ensures
     (λ same. led_here P c.leaf_below.new.t c.top.result leaf f.entry c.top.ensures (c.in_ok-found.ensures.back (path_met P c.args.t.now c.args.name.now c.copied.result c.top.result c.copied.ensures c.top.ensures has))
     (last_contains (λ x. is_before (Named c.copied.result) x.key) leaf.entries f.entry (sym c.last_before.ensures.last ∙ c.in-Some.is)))
-
-pub returns-in_err-last_below-in-Some-previous-clause-memory : goal.returns-in_err-last_below-in-Some-previous-clause-memory
-returns-in_err-last_below-in-Some-previous-clause-memory g c = λ has.
-    let P = g.T.Pages in
-    let old = c.args.t.now in
-    let mid = c.leaf_below.new.t in
-    let met = path_met P old c.args.name.now c.copied.result c.top.result c.copied.ensures c.top.ensures has in
-    let takes = c.in_ok-found.ensures.memory met in
-    let none = none_before (is_before (Named c.copied.result)) c.in_ok-found.found.entries (sym c.last_before.ensures.last ∙ c.in_default.is) in
-    let Left : Option Neighbour → Type 0 = λ (o : Option Neighbour). HasAll P mid (met_beside (page_at (P.step mid).images) o) in
-    let left : Left (Some c.in-Some-previous.previous) = subst Left c.in-Some-previous.is (beside_later P old mid takes c.in_ok-found.found.previous (c.in_ok-found.ensures.left met none)) in
-    let here = subst (λ (n : Neighbour). Left (Some n)) (sym c.in-Some-previous.previous-is) left in
-    let p = err_from_is_err_and c.from_residual-in_err-last_below-in-Some-previous.result c.from_residual-in_err-last_below-in-Some-previous.ensures.1 in
-    rw (p.1, p.2) (memory_then P old mid c.last_below.new.t takes (c.in_err-last_below-in-Some-previous.ensures.memory here))
 
 pub returns-in_ok-last_below-in-Some-previous-clause-memory : goal.returns-in_ok-last_below-in-Some-previous-clause-memory
 returns-in_ok-last_below-in-Some-previous-clause-memory g c = λ has.
@@ -319,3 +239,70 @@ returns-in_ok-last_below-in-Some-previous-clause-back g c = λ has.
     let lead = subst (λ (n : Neighbour). Leads P (max_height - n.above) new f.entry n.child) c.in-Some-previous.previous-is (second.back here) in
     if_named (λ x. HasWayTo P x.entry new) f (same_name f.entry.key.name c.args.name.now) c.named-in-Some-previous.result c.named-in-Some-previous.ensures
     (λ same. led_beside P mid new c.top.result c.in_ok-found.found c.in-Some-previous.previous f.entry c.top.ensures c.in-Some-previous.is (second.memory here) (c.in_ok-found.ensures.back met) lead)
+
+-- ---- no leaf is reached
+
+pub returns-in_err-found : goal.returns-in_err-found
+returns-in_err-found g c =
+    let s = g.T.Pages.step c.leaf_below.new.t in
+    let fault = c.in_err-found.field-0.0 in
+    let failed = c.in_err-found.ensures in
+    let breaks = top_breaks s fault c.top.result c.top.ensures failed.fault in
+    let p = err_from_is_err_and c.from_residual.result c.from_residual.ensures.1 in
+    rw (p.1, p.2) (record {
+      calls = failed.calls;
+      reaches = omega (arith, failed.reaches);
+      among = λ some. fails_among {X = ℕ} (Err fault) s (BarsTable s) (length (g.T.Pages.step c.args.t.now).images) failed.calls.looks.count some breaks;
+      there = tt;
+      way = tt;
+      entry = tt;
+      fits = tt;
+      memory = λ has. failed.memory (path_met g.T.Pages c.args.t.now c.args.name.now c.copied.result c.top.result c.copied.ensures c.top.ensures has);
+      back = λ has. tt;
+      absent = tt;
+      name = tt;
+      found = tt;
+      fault = breaks;
+      shown = shown_top s fault c.top.result c.top.ensures failed.shown;
+    })
+
+pub returns-in_err-last_below-in-Some-previous : goal.returns-in_err-last_below-in-Some-previous
+returns-in_err-last_below-in-Some-previous g c =
+    let P = g.T.Pages in
+    let old = c.args.t.now in
+    let mid = c.leaf_below.new.t in
+    let new = c.last_below.new.t in
+    let s = P.step new in
+    let fault = c.in_err-last_below-in-Some-previous.field-0.0 in
+    let n : Neighbour = c.in-Some-previous.previous in
+    let looked = c.in_ok-found.ensures in
+    let failed = c.in_err-last_below-in-Some-previous.ensures in
+    let looks = failed.calls.looks in
+    let Breaks : Neighbour → Type 0 = λ (n : Neighbour). HasCause s (BreaksBeside s.images n) (BarsBeside s n) fault in
+    let Shown : Neighbour → Type 0 = λ (n : Neighbour). ShowsCause s (λ pages. BreaksBeside pages n) (λ pages. IsBeside pages n) fault in
+    let beside = looked.beside s.images (agrees_before (P.step mid) s s.images looks (agrees_now s)) in
+    let breaks = previous_breaks s c.top.result c.in_ok-found.found c.top.ensures beside n fault (subst Breaks c.in-Some-previous.previous-is failed.fault) c.in-Some-previous.is in
+    let p = err_from_is_err_and c.from_residual-in_err-last_below-in-Some-previous.result c.from_residual-in_err-last_below-in-Some-previous.ensures.1 in
+    rw (p.1, p.2) (record {
+      calls = reaches_then P g.met.T.Pages.then old mid new looked.calls failed.calls;
+      reaches = omega (arith, looked.reaches, failed.reaches);
+      among = λ some. fails_among {X = ℕ} (Err fault) s (BarsTable s) (length (P.step old).images) (looks.count ∙ looked.calls.looks.count) some breaks;
+      there = tt;
+      way = tt;
+      entry = tt;
+      fits = tt;
+      memory = λ has.
+          let met = path_met P old c.args.name.now c.copied.result c.top.result c.copied.ensures c.top.ensures has in
+          let takes = looked.memory met in
+          let none = none_before (is_before (Named c.copied.result)) c.in_ok-found.found.entries (sym c.last_before.ensures.last ∙ c.in_default.is) in
+          let Left : Option Neighbour → Type 0 = λ (o : Option Neighbour). HasAll P mid (met_beside (page_at (P.step mid).images) o) in
+          let left : Left (Some n) = subst Left c.in-Some-previous.is (beside_later P old mid takes c.in_ok-found.found.previous (looked.left met none)) in
+          let here = subst (λ (m : Neighbour). Left (Some m)) (sym c.in-Some-previous.previous-is) left in
+          memory_then P old mid new takes (failed.memory here);
+      back = λ has. tt;
+      absent = tt;
+      name = tt;
+      found = tt;
+      fault = breaks;
+      shown = shown_previous (P.step mid) s c.top.result c.in_ok-found.found c.top.ensures looks looked.beside n c.in-Some-previous.is fault (subst Shown c.in-Some-previous.previous-is failed.shown);
+    })

@@ -1,5 +1,5 @@
-use Rattle.std.proofs.Common.{◌≡◌, ◌∙◌, length, refl, sym, subst, true, not, ap, List, ℕ, Option}
-use Rattle.std.specs.Prelude.{IfSome}
+use Rattle.std.proofs.Common.{◌≡◌, ◌∙◌, length, refl, sym, subst, true, not, ap, List, ℕ, Option, arith}
+use Rattle.std.specs.Prelude.{Err, IfSome}
 use Rattle.fsd_formats.specs.declared.entry.Entry.{Entry}
 use Rattle.fsd_formats.specs.NamePage.{FitsEntry}
 use Rattle.fsd_table.specs.Pages.{not_below}
@@ -124,66 +124,59 @@ returns-in_ok-first_below-in-Some-next-clause-later g c =
     let least = subst (λ (m : Neighbour). not_below m.child.low f.entry.key ≡ true) c.in-Some-next.next-is c.in_ok-first_below-in-Some-next.ensures.least in
     later_in_next (option_copied c.args.after) cut n f.entry c.cut_after-cut.ensures begins least
 
-pub returns-in_err-found-clause-fault : goal.returns-in_err-found-clause-fault
-returns-in_err-found-clause-fault g c =
-    let p = err_from_is_err_and c.from_residual.result c.from_residual.ensures.1 in
-    let new = c.leaf_below.new.t in
-    rw (p.1, p.2) (top_breaks (g.T.Pages.step new) c.in_err-found.field-0.0 c.top.result c.top.ensures c.in_err-found.ensures.fault)
+pub returns-in_ok-first_below-in-Some-next-clause-calls : goal.returns-in_ok-first_below-in-Some-next-clause-calls
+returns-in_ok-first_below-in-Some-next-clause-calls g c = reaches_then g.T.Pages g.met.T.Pages.then c.args.t.now c.leaf_below.new.t c.first_below.new.t c.in_ok-found.ensures.calls c.in_ok-first_below-in-Some-next.ensures.calls
 
-pub returns-in_err-first_below-in-Some-next-clause-fault : goal.returns-in_err-first_below-in-Some-next-clause-fault
-returns-in_err-first_below-in-Some-next-clause-fault g c =
+-- ---- no leaf is reached
+
+pub returns-in_err-found : goal.returns-in_err-found
+returns-in_err-found g c =
+    let s = g.T.Pages.step c.leaf_below.new.t in
+    let fault = c.in_err-found.field-0.0 in
+    let failed = c.in_err-found.ensures in
+    let breaks = top_breaks s fault c.top.result c.top.ensures failed.fault in
+    let p = err_from_is_err_and c.from_residual.result c.from_residual.ensures.1 in
+    rw (p.1, p.2) (record {
+      calls = failed.calls;
+      reaches = omega (arith, failed.reaches);
+      among = λ some. fails_among {X = ℕ} (Err fault) s (BarsTable s) (length (g.T.Pages.step c.args.t.now).images) failed.calls.looks.count some breaks;
+      there = tt;
+      way = tt;
+      entry = tt;
+      fits = tt;
+      absent = tt;
+      later = tt;
+      found = tt;
+      fault = breaks;
+      shown = shown_top s fault c.top.result c.top.ensures failed.shown;
+    })
+
+pub returns-in_err-first_below-in-Some-next : goal.returns-in_err-first_below-in-Some-next
+returns-in_err-first_below-in-Some-next g c =
     let mid = c.leaf_below.new.t in
     let new = c.first_below.new.t in
     let s = g.T.Pages.step new in
     let fault = c.in_err-first_below-in-Some-next.field-0.0 in
+    let n : Neighbour = c.in-Some-next.next in
+    let looked = c.in_ok-found.ensures in
+    let failed = c.in_err-first_below-in-Some-next.ensures in
+    let looks = failed.calls.looks in
     let P : Neighbour → Type 0 = λ (n : Neighbour). HasCause s (BreaksBeside s.images n) (BarsBeside s n) fault in
-    let h : P c.in-Some-next.next = subst P c.in-Some-next.next-is c.in_err-first_below-in-Some-next.ensures.fault in
-    let beside = c.in_ok-found.ensures.beside s.images (agrees_before (g.T.Pages.step mid) s s.images c.in_err-first_below-in-Some-next.ensures.calls.looks (agrees_now s)) in
+    let Q : Neighbour → Type 0 = λ (n : Neighbour). ShowsCause s (λ pages. BreaksBeside pages n) (λ pages. IsBeside pages n) fault in
+    let beside = looked.beside s.images (agrees_before (g.T.Pages.step mid) s s.images looks (agrees_now s)) in
+    let breaks = next_breaks s c.top.result c.in_ok-found.found c.top.ensures beside n fault (subst P c.in-Some-next.next-is failed.fault) c.in-Some-next.is in
     let p = err_from_is_err_and c.from_residual-in_err-first_below-in-Some-next.result c.from_residual-in_err-first_below-in-Some-next.ensures.1 in
-    rw (p.1, p.2) (next_breaks s c.top.result c.in_ok-found.found c.top.ensures beside
-    c.in-Some-next.next fault h c.in-Some-next.is)
-
-pub returns-in_ok-first_below-in-Some-next-clause-calls : goal.returns-in_ok-first_below-in-Some-next-clause-calls
-returns-in_ok-first_below-in-Some-next-clause-calls g c = reaches_then g.T.Pages g.met.T.Pages.then c.args.t.now c.leaf_below.new.t c.first_below.new.t c.in_ok-found.ensures.calls c.in_ok-first_below-in-Some-next.ensures.calls
-
-pub returns-in_err-first_below-in-Some-next-clause-calls : goal.returns-in_err-first_below-in-Some-next-clause-calls
-returns-in_err-first_below-in-Some-next-clause-calls g c =
-    let p = err_from_is_err_and c.from_residual-in_err-first_below-in-Some-next.result c.from_residual-in_err-first_below-in-Some-next.ensures.1 in
-    rw (p.1, p.2) (reaches_then g.T.Pages g.met.T.Pages.then c.args.t.now c.leaf_below.new.t c.first_below.new.t c.in_ok-found.ensures.calls c.in_err-first_below-in-Some-next.ensures.calls)
-
-pub returns-in_err-found-clause-calls : goal.returns-in_err-found-clause-calls
-returns-in_err-found-clause-calls g c =
-    let p = err_from_is_err_and c.from_residual.result c.from_residual.ensures.1 in
-    rw (p.1, p.2) c.in_err-found.ensures.calls
-
--- ---- a page that is named is one of the table
-
-pub returns-in_err-found-clause-among : goal.returns-in_err-found-clause-among
-returns-in_err-found-clause-among g c = λ some.
-    let new = c.leaf_below.new.t in
-    let s = g.T.Pages.step new in
-    fails_among c.from_residual.result s (BarsTable s) (length (g.T.Pages.step c.args.t.now).images) c.in_err-found.ensures.calls.looks.count some (returns-in_err-found-clause-fault g c)
-
-pub returns-in_err-first_below-in-Some-next-clause-among : goal.returns-in_err-first_below-in-Some-next-clause-among
-returns-in_err-first_below-in-Some-next-clause-among g c = λ some.
-    let new = c.first_below.new.t in
-    let s = g.T.Pages.step new in
-    let same = c.in_err-first_below-in-Some-next.ensures.calls.looks.count ∙ c.in_ok-found.ensures.calls.looks.count in
-    fails_among c.from_residual-in_err-first_below-in-Some-next.result s (BarsTable s) (length (g.T.Pages.step c.args.t.now).images) same some (returns-in_err-first_below-in-Some-next-clause-fault g c)
-
--- ---- whatever the other pages have
-
-pub returns-in_err-found-clause-shown : goal.returns-in_err-found-clause-shown
-returns-in_err-found-clause-shown g c =
-    let p = err_from_is_err_and c.from_residual.result c.from_residual.ensures.1 in
-    rw (p.1, p.2) (shown_top (g.T.Pages.step c.leaf_below.new.t) c.in_err-found.field-0.0 c.top.result c.top.ensures c.in_err-found.ensures.shown)
-
-pub returns-in_err-first_below-in-Some-next-clause-shown : goal.returns-in_err-first_below-in-Some-next-clause-shown
-returns-in_err-first_below-in-Some-next-clause-shown g c =
-    let s = g.T.Pages.step c.first_below.new.t in
-    let fault = c.in_err-first_below-in-Some-next.field-0.0 in
-    let kept = c.in_err-first_below-in-Some-next.ensures in
-    let P : Neighbour → Type 0 = λ (n : Neighbour). ShowsCause s (λ pages. BreaksBeside pages n) (λ pages. IsBeside pages n) fault in
-    let h : P c.in-Some-next.next = subst P c.in-Some-next.next-is kept.shown in
-    let p = err_from_is_err_and c.from_residual-in_err-first_below-in-Some-next.result c.from_residual-in_err-first_below-in-Some-next.ensures.1 in
-    rw (p.1, p.2) (shown_next (g.T.Pages.step c.leaf_below.new.t) s c.top.result c.in_ok-found.found c.top.ensures kept.calls.looks c.in_ok-found.ensures.beside c.in-Some-next.next c.in-Some-next.is fault h)
+    rw (p.1, p.2) (record {
+      calls = reaches_then g.T.Pages g.met.T.Pages.then c.args.t.now mid new looked.calls failed.calls;
+      reaches = omega (arith, looked.reaches, failed.reaches);
+      among = λ some. fails_among {X = ℕ} (Err fault) s (BarsTable s) (length (g.T.Pages.step c.args.t.now).images) (looks.count ∙ looked.calls.looks.count) some breaks;
+      there = tt;
+      way = tt;
+      entry = tt;
+      fits = tt;
+      absent = tt;
+      later = tt;
+      found = tt;
+      fault = breaks;
+      shown = shown_next (g.T.Pages.step mid) s c.top.result c.in_ok-found.found c.top.ensures looks looked.beside n c.in-Some-next.is fault (subst Q c.in-Some-next.next-is failed.shown);
+    })

@@ -39,14 +39,62 @@ use Rattle.name_btree.proofs.TrimLaws.{page_ways}
 use Rattle.name_btree.proofs.removing.+remove_below.Goals as goal
 use Rattle.name_btree.proofs.ResultLaws.{ok_more, err_more}
 
-pub returns-in_err-entries-clause-fault : goal.returns-in_err-entries-clause-fault
-returns-in_err-entries-clause-fault g t c =
+pub returns-in_err-entries : goal.returns-in_err-entries
+returns-in_err-entries g t c =
     let new = c.child_node.new.t in
     let sheets = c.args.draft.now.sheets.items in
     let child = c.args.child.now in
+    let failed = c.in_err-entries.ensures in
     let p = err_from_is_err_and c.from_residual.result c.from_residual.ensures.1 in
-    rw (p.1, p.2) (fails_by_map (g.T.Pages.step new) (λ pages. IsMisfit (drafted sheets pages) child) (λ pages. BreaksAround c.args.key.now (drafted sheets pages) c.args.levels child)
-    (λ images page is h. misfit_below c.args.key.now sheets c.args.levels child images page h) c.in_err-entries.field-0.0 c.in_err-entries.ensures.fault)
+    rw (p.1, p.2) (record {
+      calls = failed.calls;
+      reaches = omega (arith, failed.reaches);
+      draft = tt;
+      sheets = tt;
+      freed = tt;
+      page = tt;
+      left = tt;
+      root = tt;
+      trimmed = tt;
+      fault = fails_by_map (g.T.Pages.step new) (λ pages. IsMisfit (drafted sheets pages) child) (λ pages. BreaksAround c.args.key.now (drafted sheets pages) c.args.levels child)
+          (λ images page is h. misfit_below c.args.key.now sheets c.args.levels child images page h) c.in_err-entries.field-0.0 failed.fault;
+    })
+
+pub returns-in_err-trimmed-in-Interior : goal.returns-in_err-trimmed-in-Interior
+returns-in_err-trimmed-in-Interior g t c =
+    let G = g.T.Pages in
+    let s1 = G.step c.child_node.new.t in
+    let new = c.remove_below.new.t in
+    let draft = c.args.draft.now in
+    let child = c.args.child.now in
+    let ways = c.in-Interior.ways in
+    let i = c.ways_before-i.result in
+    let key = c.args.key.now in
+    let below_child = c.child_at-below.result in
+    let looked = c.in_ok-entries.ensures in
+    let failed = c.in_err-trimmed-in-Interior.ensures in
+    let calls = failed.calls in
+    let p = err_from_is_err_and c.from_residual-in_err-trimmed-in-Interior.result c.from_residual-in_err-trimmed-in-Interior.ensures.1 in
+    rw (p.1, p.2) (record {
+      calls = reaches_then G g.met.T.Pages.then c.args.t.now c.child_node.new.t new looked.calls calls;
+      reaches = omega (arith, looked.reaches, failed.reaches, c.if-levels-gt0.true);
+      draft = tt;
+      sheets = tt;
+      freed = tt;
+      page = tt;
+      left = tt;
+      root = tt;
+      trimmed = tt;
+      fault = fails_by_map (G.step new) (λ pages. BreaksAround key (drafted draft.sheets.items pages) (c.args.levels - 1) below_child) (λ pages. BreaksAround key (drafted draft.sheets.items pages) c.args.levels child)
+          (λ images page agrees h.
+          let agrees1 = agrees_before s1 (G.step new) images calls.looks agrees in
+          let pages : List (List ℕ) = drafted draft.sheets.items images in
+          let at : page_at pages child.page ≡ Some (Interior ways.0 ways.1) = looked.node images agrees1 ∙ ap (λ (n : Node). Some (content_of n)) c.in-Interior.is in
+          let before = subst (λ (k : Key). AllByRecursion (λ s. is_before (UpTo k) s.key ≡ true) (take i ways.1)) c.copied.ensures c.ways_before-i.ensures.before in
+          let behind = subst (λ (k : Key). AllByRecursion (λ s. is_before (UpTo k) s.key ≡ false) (drop i ways.1)) c.copied.ensures c.ways_before-i.ensures.behind in
+          breaks_above images key draft c.args.levels child ways.0 ways.1 i below_child page at c.ways_before-i.ensures.within before behind c.child_at-below.ensures h)
+          c.in_err-trimmed-in-Interior.field-0.0 failed.fault;
+    })
 
 pub entries_without-left-requires : goal.entries_without-left-requires
 entries_without-left-requires g t c =
@@ -153,12 +201,6 @@ returns-in_ok-trimmed-in-Interior-clause-calls g t c =
     let law = g.met.T.Pages.then in
     reaches_then G law c.args.t.now c.child_node.new.t c.trim_above.new.t c.in_ok-entries.ensures.calls (reaches_then G law c.child_node.new.t c.remove_below.new.t c.trim_above.new.t c.in_ok-trimmed-in-Interior.ensures.calls c.trim_above.ensures.calls)
 
-pub returns-in_err-trimmed-in-Interior-clause-calls : goal.returns-in_err-trimmed-in-Interior-clause-calls
-returns-in_err-trimmed-in-Interior-clause-calls g t c =
-    let G = g.T.Pages in
-    let p = err_from_is_err_and c.from_residual-in_err-trimmed-in-Interior.result c.from_residual-in_err-trimmed-in-Interior.ensures.1 in
-    rw (p.1, p.2) (reaches_then G g.met.T.Pages.then c.args.t.now c.child_node.new.t c.remove_below.new.t c.in_ok-entries.ensures.calls c.in_err-trimmed-in-Interior.ensures.calls)
-
 pub returns-in_ok-trimmed-in-Interior-clause-freed : goal.returns-in_ok-trimmed-in-Interior-clause-freed
 returns-in_ok-trimmed-in-Interior-clause-freed g t c =
     let s = g.T.Pages.step c.trim_above.new.t in
@@ -219,30 +261,6 @@ returns-in_ok-trimmed-in-Interior-clause-trimmed g t c =
     trimmed_above (with_images images s) images images refl refl key draft mid new c.args.levels child ways.0 ways.1 i below_child below left at opened c.ways_before-i.ensures.within before behind c.child_at-below.ensures small
     (c.in_ok-trimmed-in-Interior.ensures.trimmed images agrees2) (m images agrees)) c.trim_above.ensures.mended
 
-pub returns-in_err-trimmed-in-Interior-clause-fault : goal.returns-in_err-trimmed-in-Interior-clause-fault
-returns-in_err-trimmed-in-Interior-clause-fault g t c =
-    let G = g.T.Pages in
-    let s1 = G.step c.child_node.new.t in
-    let new = c.remove_below.new.t in
-    let draft = c.args.draft.now in
-    let child = c.args.child.now in
-    let ways = c.in-Interior.ways in
-    let i = c.ways_before-i.result in
-    let key = c.args.key.now in
-    let below_child = c.child_at-below.result in
-    let calls = c.in_err-trimmed-in-Interior.ensures.calls in
-    let p = err_from_is_err_and c.from_residual-in_err-trimmed-in-Interior.result c.from_residual-in_err-trimmed-in-Interior.ensures.1 in
-    rw (p.1, p.2) (fails_by_map (G.step new) (λ pages. BreaksAround key (drafted draft.sheets.items pages) (c.args.levels - 1) below_child) (λ pages. BreaksAround key (drafted draft.sheets.items pages) c.args.levels child)
-    (λ images page agrees h.
-    let agrees1 = agrees_before s1 (G.step new) images calls.looks agrees in
-    let pages : List (List ℕ) = drafted draft.sheets.items images in
-    let at : page_at pages child.page ≡ Some (Interior ways.0 ways.1) = c.in_ok-entries.ensures.node images agrees1 ∙ ap (λ (n : Node). Some (content_of n)) c.in-Interior.is in
-    let has = page_ways child.page (length pages) ways.0 ways.1 (at_is_page pages child.page (Interior ways.0 ways.1) at) in
-    let before = subst (λ (k : Key). AllByRecursion (λ s. is_before (UpTo k) s.key ≡ true) (take i ways.1)) c.copied.ensures c.ways_before-i.ensures.before in
-    let behind = subst (λ (k : Key). AllByRecursion (λ s. is_before (UpTo k) s.key ≡ false) (drop i ways.1)) c.copied.ensures c.ways_before-i.ensures.behind in
-    breaks_above images key draft c.args.levels child ways.0 ways.1 i below_child page at c.ways_before-i.ensures.within before behind c.child_at-below.ensures h)
-    c.in_err-trimmed-in-Interior.field-0.0 c.in_err-trimmed-in-Interior.ensures.fault)
-
 pub returns-in_ok-trimmed-in-Interior-clause-fault : goal.returns-in_ok-trimmed-in-Interior-clause-fault
 returns-in_ok-trimmed-in-Interior-clause-fault g t c =
     let G = g.T.Pages in
@@ -300,11 +318,6 @@ returns-in_ok-trimmed-in-Interior-clause-sheets g t c =
     ok_more c.trim_above.result (λ left. Shows s (λ pages. IsMended (with_images pages s) mid new child ways.0 ways.1 c.ways_before-i.result below left))
     (λ left. length new.sheets.items ≤ length c.args.draft.now.sheets.items + sheets_below c.args.levels left)
     (λ left m. omega (arith, mended_sheets (with_images s.images s) mid new child ways.0 ways.1 c.ways_before-i.result below left (length c.args.draft.now.sheets.items) c.args.levels c.if-levels-gt0.true c.in_ok-trimmed-in-Interior.ensures.sheets (m s.images (agrees_now s)))) c.trim_above.ensures.mended
-
-pub returns-in_err-entries-clause-calls : goal.returns-in_err-entries-clause-calls
-returns-in_err-entries-clause-calls g t c =
-    let p = err_from_is_err_and c.from_residual.result c.from_residual.ensures.1 in
-    rw (p.1, p.2) c.in_err-entries.ensures.calls
 
 -- ---- what is written, and what may be
 
