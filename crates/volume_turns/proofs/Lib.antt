@@ -1,4 +1,5 @@
 pub mod AnsweringLaws
+pub mod ApartLaws
 pub mod CauseLaws
 pub mod CountLaws
 pub mod EachLaws

@@ -7,7 +7,7 @@ use Rattle.volume_turns.specs.declared.script.Stop.{Stop}
 use Rattle.volume_turns.specs.Turns.{Follows, IsEndOn}
 use Rattle.volume_turns.proofs.RunLaws.{follows_then}
 use Rattle.volume_turns.proofs.ScriptLaws.{done_none, done_replies, heard_as, heard_end, heard_none, heard_then, reads_then, rose_then}
-use Rattle.std.proofs.Common.{◌≡◌, ◌+◌}
+use Rattle.std.proofs.Common.{◌+◌}
 use Rattle.fsd_texts.specs.declared.fault.Fault.TheVariants as Ends
 use Rattle.fsd_texts.specs.Script.{max_input}
 use Rattle.volume_turns.specs.declared.turns.End.TheVariants.{Fault as Stopped}
@@ -15,6 +15,7 @@ use Rattle.std.specs.Prelude.{Result}
 use Rattle.fsd_texts.specs.declared.end.End.TheVariants.{Done}
 use Rattle.volume_turns.specs.declared.turns.End.{End}
 use Rattle.volume_turns.specs.declared.script.Stop.TheVariants.{Ended}
+use Rattle.volume_turns.proofs.ApartLaws.{err_is, ok_apart, ok_is}
 use Rattle.volume_turns.proofs.CauseLaws.{read_says}
 use Rattle.volume_turns.proofs.NumberLaws.{ended, goes_none, goes_then, may_before}
 use Rattle.volume_turns.proofs.SaidLaws.{replies_then, whole_then}
@@ -151,11 +152,11 @@ read_so stop = Ok stop
 pub returns-in-Ok-Some-clause-whole : goal.returns-in-Ok-Some-clause-whole
 returns-in-Ok-Some-clause-whole g c is t =
     let x = c.in-Ok-Some in
-    let same : x.stop ≡ Ended Done = cc is in
+    let same = ok_is _ x.stop (Ended Done) refl is in
     x.ensures.whole (ap read_so (x.field-0-is ∙ ap (λ (s : Stop). Some s) same)) c.loop-stop.invariant.going t
 
 pub returns-in-Err-clause-whole : goal.returns-in-Err-clause-whole
-returns-in-Err-clause-whole g c is t = absurd (cc is)
+returns-in-Err-clause-whole g c is t = absurd (ok_apart _ (Ended Done) c.in-Err.end is refl)
 
 -- ---- what is said
 
@@ -190,12 +191,12 @@ returns-in-Ok-Some-clause-replies g c end is h =
     let M = g.M.Machine in
     let x = c.in-Ok-Some in
     let m = c.read_on.new.m in
-    let same : x.stop ≡ Ended end = cc is in
+    let same = ok_is _ x.stop (Ended end) refl is in
     let all = returns-in-Ok-Some-clause-reads g c (g.met.M.Machine.honest_tells m h) in
     read_says V.state V.holds M g.T.Says.errand c.read_on.new.reader c.args.v.now c.args.m.now c.read_on.new.v m x.stop end all.reads same h
 
 pub returns-in-Err-clause-replies : goal.returns-in-Err-clause-replies
-returns-in-Err-clause-replies g c end is h = absurd (cc is)
+returns-in-Err-clause-replies g c end is h = absurd (ok_apart _ (Ended end) c.in-Err.end is refl)
 
 -- ---- what is told of the image
 
@@ -208,9 +209,9 @@ pub returns-in-Err-clause-used : goal.returns-in-Err-clause-used
 returns-in-Err-clause-used g c is h =
     let state = g.V.Files.state in
     let l = c.loop-stop in
-    let e : c.in-Err.end ≡ Stopped Ends.WornOut = cc is in
+    let e = err_is _ c.in-Err.end (Stopped Ends.WornOut) refl is in
     let few = l.invariant.few in
     may_before l.reader.given (max_input + 1) (state c.args.v.now) (state l.v) (omega (arith, few)) (l.invariant.numbers (c.read_on.ensures.trust.honest h)) (c.in-Err.ensures.used (ap ended e) h)
 
 pub returns-in-Ok-Some-clause-used : goal.returns-in-Ok-Some-clause-used
-returns-in-Ok-Some-clause-used g c is h = absurd (cc is)
+returns-in-Ok-Some-clause-used g c is h = absurd (ok_apart _ c.in-Ok-Some.stop (Stopped Ends.WornOut) refl is)

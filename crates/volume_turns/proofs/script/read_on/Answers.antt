@@ -7,9 +7,10 @@ use Rattle.script_text.specs.declared.fault.ScriptFault.{ScriptFault}
 use Rattle.script_text.specs.Reading.{Answers, NoneWaits, end_with, script_left}
 use Rattle.script_text.specs.Taking.{Moves}
 use Rattle.fsd_texts.specs.declared.bad_line.BadLine.{BadLine}
-use Rattle.fsd_texts.specs.declared.end.End.TheVariants.{Bad}
+use Rattle.fsd_texts.specs.declared.end.End.TheVariants.{Bad, Done}
 use Rattle.volume_turns.specs.Script.{Reads}
 use Rattle.volume_turns.specs.declared.script.Stop.TheVariants.{Ended}
+use Rattle.volume_turns.proofs.ApartLaws.{bad_done, err_is, input_done, long_done, memory_worn, nothing_done, ok_apart}
 use Rattle.volume_turns.proofs.ScriptLaws.{ended_so, moves_spells, none_done, none_read, one_done, one_stops}
 use Rattle.volume_turns.proofs.CauseLaws.{none_left}
 use Rattle.volume_turns.proofs.NumberLaws.{ended, goes_none}
@@ -134,22 +135,22 @@ returns-clause-attaches g c t = ap (λ (l : Ledger). l.attaches) (c.next_command
 -- ---- where all is read
 
 pub returns-in-Ok-clause-whole : goal.returns-in-Ok-clause-whole
-returns-in-Ok-clause-whole g c is still t = absurd (cc is)
+returns-in-Ok-clause-whole g c is still t = absurd (nothing_done _ is refl)
 
 pub returns-in-Ok-Some-clause-whole : goal.returns-in-Ok-Some-clause-whole
-returns-in-Ok-Some-clause-whole g c is still t = absurd (cc is)
+returns-in-Ok-Some-clause-whole g c is still t = absurd (ok_apart _ (Some (Ended Done)) c.in-Err.end is refl)
 
 pub returns-in-Err-Bad-clause-whole : goal.returns-in-Err-Bad-clause-whole
-returns-in-Err-Bad-clause-whole g c is still t = absurd (cc is)
+returns-in-Err-Bad-clause-whole g c is still t = absurd (bad_done _ is _ refl)
 
 pub returns-in-Err-TooLong-clause-whole : goal.returns-in-Err-TooLong-clause-whole
-returns-in-Err-TooLong-clause-whole g c is still t = absurd (cc is)
+returns-in-Err-TooLong-clause-whole g c is still t = absurd (long_done _ is refl)
 
 pub returns-in-Err-Input-clause-whole : goal.returns-in-Err-Input-clause-whole
-returns-in-Err-Input-clause-whole g c is still t = absurd (cc is)
+returns-in-Err-Input-clause-whole g c is still t = absurd (input_done _ is refl)
 
 pub returns-clause-whole : goal.returns-clause-whole
-returns-clause-whole g c is still t = absurd (cc is)
+returns-clause-whole g c is still t = absurd (ok_apart _ (Some (Ended Done)) (Stopped Ends.Memory) is refl)
 
 pub returns-in-Ok-None-clause-whole : goal.returns-in-Ok-None-clause-whole
 returns-in-Ok-None-clause-whole g c is still t =
@@ -202,25 +203,25 @@ returns-clause-image g c h = tt
 -- ---- the numbers of a mount
 
 pub returns-in-Ok-Some-clause-used : goal.returns-in-Ok-Some-clause-used
-returns-in-Ok-Some-clause-used g c is h = let e : c.in-Err.end ≡ Stopped Ends.WornOut = cc is in c.in-Err.ensures.used (ap ended e) h
+returns-in-Ok-Some-clause-used g c is h = let e = err_is _ c.in-Err.end (Stopped Ends.WornOut) refl is in c.in-Err.ensures.used (ap ended e) h
 
 pub returns-in-Ok-clause-used : goal.returns-in-Ok-clause-used
-returns-in-Ok-clause-used g c is h = absurd (cc is)
+returns-in-Ok-clause-used g c is h = absurd (ok_apart _ _ (Stopped Ends.WornOut) refl is)
 
 pub returns-in-Ok-None-clause-used : goal.returns-in-Ok-None-clause-used
-returns-in-Ok-None-clause-used g c is h = absurd (cc is)
+returns-in-Ok-None-clause-used g c is h = absurd (ok_apart _ _ (Stopped Ends.WornOut) refl is)
 
 pub returns-in-Err-Bad-clause-used : goal.returns-in-Err-Bad-clause-used
-returns-in-Err-Bad-clause-used g c is h = absurd (cc is)
+returns-in-Err-Bad-clause-used g c is h = absurd (ok_apart _ _ (Stopped Ends.WornOut) refl is)
 
 pub returns-in-Err-TooLong-clause-used : goal.returns-in-Err-TooLong-clause-used
-returns-in-Err-TooLong-clause-used g c is h = absurd (cc is)
+returns-in-Err-TooLong-clause-used g c is h = absurd (ok_apart _ _ (Stopped Ends.WornOut) refl is)
 
 pub returns-in-Err-Input-clause-used : goal.returns-in-Err-Input-clause-used
-returns-in-Err-Input-clause-used g c is h = absurd (cc is)
+returns-in-Err-Input-clause-used g c is h = absurd (ok_apart _ _ (Stopped Ends.WornOut) refl is)
 
 pub returns-clause-used : goal.returns-clause-used
-returns-clause-used g c is h = absurd (cc is)
+returns-clause-used g c is h = absurd (memory_worn _ refl is)
 
 pub returns-in-Ok-clause-grows : goal.returns-in-Ok-clause-grows
 returns-in-Ok-clause-grows g c = c.step.ensures.grows
