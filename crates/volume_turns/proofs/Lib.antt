@@ -21,6 +21,7 @@ pub mod QuietLaws
 pub mod ReadLaws
 pub mod RunLaws
 pub mod SaidLaws
+pub mod SayLaws
 pub mod ScriptEndLaws
 pub mod ScriptGroupLaws
 pub mod ScriptLastLaws
