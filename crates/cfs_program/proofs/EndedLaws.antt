@@ -55,7 +55,7 @@ module _ {D : Type 0} (M : Ghosts D) (request : Request) (input rest : List ℕ)
   ended (inl six) = inr (inl (unsaid six))
   ended (inr (is, all)) = inr (inr (broken is all.said))
 
-  pub ended_behind : LeavesRun request input rest l windows h f (M.left_since c) (λ P. LeavesOnly M.moment M.left_since a c P) (M.report a) (M.report c) (M.now a) (M.now c) status
+  pub ended_behind : LeavesRun request input rest l windows h f (M.left_since c) (M.moment a) (λ P. LeavesOnly M.moment M.left_since a c P) (M.report a) (M.report c) (M.now a) (M.now c) status
   ended_behind = inl (record {
     moments = then_on M.moment M.left_since a b c (LeftBefore l windows h f (M.now a)) first
         (leaves_more M.moment M.left_since b c (Utters (fault_text why) (M.now b)) (LeftBefore l windows h f (M.now a)) saying (says.any_moment honest));
@@ -69,7 +69,7 @@ module _ {D : Type 0} (M : Ghosts D) (request : Request) (input rest : List ℕ)
   pub ended_run : (only : (left : Moment) → M.left_since a (M.moment a) left → left ≡ M.now a) → Elapses (M.moment a) (M.moment b) (M.left_since a) (M.left_since b) (Before (M.now a) (M.now b)) → Wears (M.now a) (M.now b)
       → LeavesDisk M false (is_unsaid status) (Utters (fault_text why)) b c → M.honest c → EndsWith why (M.now b) (M.now c) status
       → IsOutside request (M.report a) (M.report c) why → (M.report a).output_faults ≤ (M.report b).output_faults
-      → LeavesRun request input rest l windows h f (M.left_since c) (λ P. LeavesOnly M.moment M.left_since a c P) (M.report a) (M.report c) (M.now a) (M.now c) status
+      → LeavesRun request input rest l windows h f (M.left_since c) (M.moment a) (λ P. LeavesOnly M.moment M.left_since a c P) (M.report a) (M.report c) (M.now a) (M.now c) status
   ended_run only time worn = ended_behind M request input rest l windows h f a b c why may status sound short first worn
     where
       before : (left : Moment) → Before (M.now a) (M.now b) left → LeftBefore l windows h f (M.now a) left

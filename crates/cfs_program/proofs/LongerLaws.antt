@@ -30,7 +30,7 @@ pub ran_put : {D : Type 0} (M : Ghosts D) (name : List ℕ) (keep : Option ℕ) 
     → Trusts (M.tells a) (M.tells b) (M.honest a) (M.honest b) → (M.honest b → TellsFound false None (M.now a) (M.now b) result) → (M.honest b → SaysOne (Word.Put name (M.ledger a).input keep) (M.now a) (M.now b) result)
     → (IsTrue (is_of_fault result) → M.honest b → SaysFault (M.report b).fault_place (M.now b) result)
     → (M.honest b → (l : Layout) (windows : List WeakRun) (h : List Change) (f : ℕ) → IsSoundDisk l windows h f (M.now a) →
-    LeavesRun (Put name keep) (M.ledger a).input (M.ledger b).input l windows h f (M.left_since b) (λ P. LeavesOnly M.moment M.left_since a b P) (M.report a) (M.report b) (M.now a) (M.now b) result)
+    LeavesRun (Put name keep) (M.ledger a).input (M.ledger b).input l windows h f (M.left_since b) (M.moment a) (λ P. LeavesOnly M.moment M.left_since a b P) (M.report a) (M.report b) (M.now a) (M.now b) result)
     → Ran M (Put name keep) path a b result
 ran_put M name keep path a b result status counts asks asked fails told whole few trust image one last leaves = record {
   one = one;
@@ -60,7 +60,7 @@ ran_put M name keep path a b result status counts asks asked fails told whole fe
   image = λ zero h. tt;
   untouched = λ h. tt;
   leaves = λ h l windows changes f sound. leaves h l windows changes f sound;
-  accepted = λ h l windows changes f sound. never_refused (Put name keep) (M.ledger a).input (M.ledger b).input l windows changes f (M.left_since b) (λ P. LeavesOnly M.moment M.left_since a b P) (M.report a) (M.report b) (M.now a) (M.now b) result
+  accepted = λ h l windows changes f sound. never_refused (Put name keep) (M.ledger a).input (M.ledger b).input l windows changes f (M.left_since b) (M.moment a) (λ P. LeavesOnly M.moment M.left_since a b P) (M.report a) (M.report b) (M.now a) (M.now b) result
       (leaves h l windows changes f sound);
 }
 
@@ -77,7 +77,7 @@ pub ran_script : {D : Type 0} (M : Ghosts D) (path : List ℕ) (a b : D) (result
     → (result ≡ 0 → M.honest b → SaysForced reply_text (M.left_since b (M.moment a)) (script_in (M.ledger a).input).0 (M.now a).said (M.now b).said)
     → (IsTrue (is_of_fault result) → M.honest b → SaysFault (M.report b).fault_place (M.now b) result)
     → (M.honest b → (l : Layout) (windows : List WeakRun) (h : List Change) (f : ℕ) → IsSoundDisk l windows h f (M.now a) →
-    LeavesRun Script (M.ledger a).input (M.ledger b).input l windows h f (M.left_since b) (λ P. LeavesOnly M.moment M.left_since a b P) (M.report a) (M.report b) (M.now a) (M.now b) result)
+    LeavesRun Script (M.ledger a).input (M.ledger b).input l windows h f (M.left_since b) (M.moment a) (λ P. LeavesOnly M.moment M.left_since a b P) (M.report a) (M.report b) (M.now a) (M.now b) result)
     → Ran M Script path a b result
 ran_script M path a b result status counts asks asked fails told bad whole spelled trust image answered last leaves = record {
   one = λ h. tt;
@@ -107,7 +107,7 @@ ran_script M path a b result status counts asks asked fails told bad whole spell
   image = λ zero h. tt;
   untouched = λ h. tt;
   leaves = λ h l windows changes f sound. leaves h l windows changes f sound;
-  accepted = λ h l windows changes f sound. never_refused Script (M.ledger a).input (M.ledger b).input l windows changes f (M.left_since b) (λ P. LeavesOnly M.moment M.left_since a b P) (M.report a) (M.report b) (M.now a) (M.now b) result
+  accepted = λ h l windows changes f sound. never_refused Script (M.ledger a).input (M.ledger b).input l windows changes f (M.left_since b) (M.moment a) (λ P. LeavesOnly M.moment M.left_since a b P) (M.report a) (M.report b) (M.now a) (M.now b) result
       (leaves h l windows changes f sound);
 }
 
@@ -123,7 +123,7 @@ pub ran_made : {D : Type 0} (M : Ghosts D) (seed count : ℕ) (path : List ℕ) 
     → (result ≡ 0 → M.honest b → SaysMade count (M.now a).said (M.now b))
     → (IsTrue (is_of_fault result) → M.honest b → SaysFault (M.report b).fault_place (M.now b) result)
     → (M.honest b → (rest : List ℕ) (l : Layout) (windows : List WeakRun) (h : List Change) (f : ℕ) → IsSoundDisk l windows h f (M.now a) →
-    LeavesRun (Generate seed count) [] rest l windows h f (M.left_since b) (λ P. LeavesOnly M.moment M.left_since a b P) (M.report a) (M.report b) (M.now a) (M.now b) result)
+    LeavesRun (Generate seed count) [] rest l windows h f (M.left_since b) (M.moment a) (λ P. LeavesOnly M.moment M.left_since a b P) (M.report a) (M.report b) (M.now a) (M.now b) result)
     → Ran M (Generate seed count) path a b result
 ran_made M seed count path a b result status counts asks asked trust image answered last leaves = record {
   one = λ h. tt;
@@ -153,6 +153,6 @@ ran_made M seed count path a b result status counts asks asked trust image answe
   image = λ zero h. tt;
   untouched = λ h. tt;
   leaves = λ h l windows changes f sound. leaves h (M.ledger b).input l windows changes f sound;
-  accepted = λ h l windows changes f sound. never_refused (Generate seed count) [] (M.ledger b).input l windows changes f (M.left_since b) (λ P. LeavesOnly M.moment M.left_since a b P) (M.report a) (M.report b) (M.now a) (M.now b) result
+  accepted = λ h l windows changes f sound. never_refused (Generate seed count) [] (M.ledger b).input l windows changes f (M.left_since b) (M.moment a) (λ P. LeavesOnly M.moment M.left_since a b P) (M.report a) (M.report b) (M.now a) (M.now b) result
       (leaves h (M.ledger b).input l windows changes f sound);
 }

@@ -13,6 +13,7 @@ use Rattle.sector_disk.proofs.Wear.{worn_trans}
 use Rattle.fsd_files.specs.Files.{Change}
 use Rattle.fsd_files.specs.Disk.{in_runs}
 use Rattle.fsd_sound.specs.Sound.{weak_of}
+use Rattle.fsd_sound.proofs.WindowLaws.{named_from}
 use Rattle.fsd_sound.proofs.MoreLaws.{wear_sound}
 use Rattle.fsd_sound.proofs.WindowLaws.{open_is_weak}
 use Rattle.fsd_texts.specs.declared.fault.Fault.{Fault}
@@ -151,7 +152,7 @@ module _ {D : Type 0} (M : Ghosts D) (request : Request) (input rest : List ℕ)
     ends = spent_or l windows h f (M.now a) sound short (M.now b) found request (M.report a) (M.report b) (M.report c) same (M.now c) status _ u.ends;
   }
 
-  module _ (m : LeavesMounted request input rest l windows h f (M.left_since c) (λ P. LeavesOnly M.moment M.left_since b c P) (M.report b) (M.report c) (M.now b) (M.now c) status) where
+  module _ (m : LeavesMounted request input rest l windows h f (M.left_since c) (M.moment b) (λ P. LeavesOnly M.moment M.left_since b c P) (M.report b) (M.report c) (M.now b) (M.now c) status) where
     abbrev turns : List Turn
     turns = run_turns m.run
 
@@ -172,11 +173,12 @@ module _ {D : Type 0} (M : Ghosts D) (request : Request) (input rest : List ℕ)
     ends_on (inl (through, replied)) = inl (through, replied_on replied)
     ends_on (inr failed) = inr (failed_on l windows h f (M.now a) sound short (M.now b) found request (M.report a) (M.report b) (M.report c) same (M.now c) status turns failed)
 
-    opened_mounted : LeavesMounted request input rest l windows h f (M.left_since c) (λ P. LeavesOnly M.moment M.left_since a c P) (M.report a) (M.report c) (M.now a) (M.now c) status
+    opened_mounted : LeavesMounted request input rest l windows h f (M.left_since c) (M.moment a) (λ P. LeavesOnly M.moment M.left_since a c P) (M.report a) (M.report c) (M.now a) (M.now c) status
     opened_mounted = record {
       count = m.count;
       prefix = m.prefix;
       next = m.next;
+      named = named_from (M.left_since c) (M.moment a) (M.moment b) (Some m.next) ahead.later m.named;
       at = m.at;
       from = m.from;
       stood = record { moment = m.stood.moment; passed = m.stood.passed; image = m.stood.image; so_far = m.stood.so_far ∙ found.said };
@@ -194,8 +196,8 @@ module _ {D : Type 0} (M : Ghosts D) (request : Request) (input rest : List ℕ)
       ends = ends_on m.ends;
     }
 
-  pub found_run : LeavesRun request input rest l windows h f (M.left_since c) (λ P. LeavesOnly M.moment M.left_since b c P) (M.report b) (M.report c) (M.now b) (M.now c) status
-      → LeavesRun request input rest l windows h f (M.left_since c) (λ P. LeavesOnly M.moment M.left_since a c P) (M.report a) (M.report c) (M.now a) (M.now c) status
+  pub found_run : LeavesRun request input rest l windows h f (M.left_since c) (M.moment b) (λ P. LeavesOnly M.moment M.left_since b c P) (M.report b) (M.report c) (M.now b) (M.now c) status
+      → LeavesRun request input rest l windows h f (M.left_since c) (M.moment a) (λ P. LeavesOnly M.moment M.left_since a c P) (M.report a) (M.report c) (M.now a) (M.now c) status
   found_run (inl u) = inl (opened_unmounted u)
   found_run (inr m) = inr (opened_mounted m)
 
@@ -203,8 +205,8 @@ module _ {D : Type 0} (M : Ghosts D) (request : Request) (input rest : List ℕ)
     (sound : IsSoundDisk l windows h f (M.now a)) (short : AreShort (M.now a).windows) where
   -- behind an attach
   pub opened_run : (only : (left : Moment) → M.left_since a (M.moment a) left → left ≡ M.now a) → Elapses (M.moment a) (M.moment b) (M.left_since a) (M.left_since b) (Before (M.now a) (M.now b)) → Finds (M.now a) (M.now b) → CountsNone (M.report a) (M.report b)
-      → LeavesRun request input rest l windows h f (M.left_since c) (λ P. LeavesOnly M.moment M.left_since b c P) (M.report b) (M.report c) (M.now b) (M.now c) status
-      → LeavesRun request input rest l windows h f (M.left_since c) (λ P. LeavesOnly M.moment M.left_since a c P) (M.report a) (M.report c) (M.now a) (M.now c) status
+      → LeavesRun request input rest l windows h f (M.left_since c) (M.moment b) (λ P. LeavesOnly M.moment M.left_since b c P) (M.report b) (M.report c) (M.now b) (M.now c) status
+      → LeavesRun request input rest l windows h f (M.left_since c) (M.moment a) (λ P. LeavesOnly M.moment M.left_since a c P) (M.report a) (M.report c) (M.now a) (M.now c) status
   opened_run only time found same =
       let keeps = finds_keep (M.now a) (M.now b) found in
       found_run M request input rest l windows h f a b c status sound short

@@ -353,7 +353,7 @@ pub ran_command : {D : Type 0} (M : Ghosts D) (c : Command) (path : List ℕ) (a
     → (M.honest b → SaysOne c (M.now a) (M.now b) result) → (M.honest b → WritesFound c (M.now a) (M.now b))
     → (IsTrue (is_of_fault result) → M.honest b → SaysFault (M.report b).fault_place (M.now b) result)
     → (M.honest b → (rest : List ℕ) (l : Layout) (windows : List WeakRun) (h : List Change) (f : ℕ) → IsSoundDisk l windows h f (M.now a) →
-    LeavesRun (One c) [] rest l windows h f (M.left_since b) (λ P. LeavesOnly M.moment M.left_since a b P) (M.report a) (M.report b) (M.now a) (M.now b) result)
+    LeavesRun (One c) [] rest l windows h f (M.left_since b) (M.moment a) (λ P. LeavesOnly M.moment M.left_since a b P) (M.report a) (M.report b) (M.now a) (M.now b) result)
     → Ran M (One c) path a b result
 ran_command M c path a b result status counts asks asked trust image one rest last leaves = record {
   one = one;
@@ -383,6 +383,6 @@ ran_command M c path a b result status counts asks asked trust image one rest la
   image = λ zero h. tt;
   untouched = λ h. tt;
   leaves = λ h l windows changes f sound. leaves h (M.ledger b).input l windows changes f sound;
-  accepted = λ h l windows changes f sound. never_refused (One c) [] (M.ledger b).input l windows changes f (M.left_since b) (λ P. LeavesOnly M.moment M.left_since a b P) (M.report a) (M.report b) (M.now a) (M.now b) result
+  accepted = λ h l windows changes f sound. never_refused (One c) [] (M.ledger b).input l windows changes f (M.left_since b) (M.moment a) (λ P. LeavesOnly M.moment M.left_since a b P) (M.report a) (M.report b) (M.now a) (M.now b) result
       (leaves h (M.ledger b).input l windows changes f sound);
 }

@@ -183,10 +183,10 @@ SparesImage request old new = ⊤
 -- ---- a sound disk
 
 -- so a request that mounts its image leaves each sound disk
-abbrev pub LeavesSound : Request → (input rest : List ℕ) → (Past : ℕ → Moment → Type 0) → (Only : (Moment → Type 0) → Type 0) → (before after : Report) → (old new : Moment) → (result : ℕ) → Type 0
-LeavesSound request input rest Past Only before after old new result =
+abbrev pub LeavesSound : Request → (input rest : List ℕ) → (Past : ℕ → Moment → Type 0) → (began : ℕ) → (Only : (Moment → Type 0) → Type 0) → (before after : Report) → (old new : Moment) → (result : ℕ) → Type 0
+LeavesSound request input rest Past began Only before after old new result =
     (l : Layout) (windows : List WeakRun) (h : List Change) (f : ℕ) → IsSoundDisk l windows h f old →
-    IfMounts request (LeavesRun request (input_for request input) rest l windows h f Past Only before after old new result)
+    IfMounts request (LeavesRun request (input_for request input) rest l windows h f Past began Only before after old new result)
 
 -- 3 is no answer over a sound disk: nothing of it is refused as lost, as unsound or as no volume
 abbrev pub AcceptsSound : (old : Moment) → (result : ℕ) → Type 0
@@ -222,5 +222,5 @@ pub record Ran {D : Type 0} (M : Ghosts D) (request : Request) (path : List ℕ)
   pub all : result ≡ 0 → M.honest b → SaysToEnd request (M.left_since b (M.moment a)) (M.ledger a).input (M.now a).said (M.now b)
   pub image : result ≡ 0 → M.honest b → HoldsAfter request (M.now b)
   pub untouched : M.honest b → SparesImage request (M.now a) (M.now b)
-  pub leaves : M.honest b → LeavesSound request (M.ledger a).input (M.ledger b).input (M.left_since b) (λ P. LeavesOnly M.moment M.left_since a b P) (M.report a) (M.report b) (M.now a) (M.now b) result
+  pub leaves : M.honest b → LeavesSound request (M.ledger a).input (M.ledger b).input (M.left_since b) (M.moment a) (λ P. LeavesOnly M.moment M.left_since a b P) (M.report a) (M.report b) (M.now a) (M.now b) result
   pub accepted : M.honest b → AcceptsSound (M.now a) result

@@ -35,7 +35,7 @@ pub fn run_made_up<M: Machine, V: Files<M> + Drop>(
     ensures all { result ≡ 0 → M.honest m.new → SaysMade count (M.now m.old).said (M.now m.new) }
     ensures last { IsTrue (is_of_fault result) → M.honest m.new → SaysFault (M.report m.new).fault_place (M.now m.new) result }
     ensures leaves { M.honest m.new → (rest : List ℕ) (l : Plan) (windows : List WeakRun) (h : List Change) (f : ℕ) → IsSoundDisk l windows h f (M.now m.old) →
-        LeavesRun (Generate seed count) [] rest l windows h f (M.left_since m.new) (LeavesOnly M.moment M.left_since m.old m.new) (M.report m.old) (M.report m.new) (M.now m.old) (M.now m.new) result }
+        LeavesRun (Generate seed count) [] rest l windows h f (M.left_since m.new) (M.moment m.old) (LeavesOnly M.moment M.left_since m.old m.new) (M.report m.old) (M.report m.new) (M.now m.old) (M.now m.new) result }
 {
     match m.attach(path, Attach::Old) {
         Ok(sectors) => run_generate::<M, V>(alloc, m, sectors, seed, count),

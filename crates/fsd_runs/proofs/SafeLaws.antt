@@ -132,7 +132,7 @@ broken_otherwise request before after turns old new result (inr broken) e = by r
     by r Ends.NoAnchor outside e = absurd outside
     by r (Ends.Unsound s) outside e = absurd outside
 
-module _ (request : Request) (input rest : List ℕ) (l : Layout) (windows : List WeakRun) (h : List Change) (f : ℕ) (Past : ℕ → Moment → Type 0) (Only : (Moment → Type 0) → Type 0) (before after : Report) (old new : Moment) (result : ℕ) where
+module _ (request : Request) (input rest : List ℕ) (l : Layout) (windows : List WeakRun) (h : List Change) (f : ℕ) (Past : ℕ → Moment → Type 0) (began : ℕ) (Only : (Moment → Type 0) → Type 0) (before after : Report) (old new : Moment) (result : ℕ) where
   unmounted_otherwise : LeavesUnmounted request l windows h f Only before after old new result → NotThree result
   unmounted_otherwise u e = by u.ends
     where
@@ -140,7 +140,7 @@ module _ (request : Request) (input rest : List ℕ) (l : Layout) (windows : Lis
       by (inl spent) = let nine = spent.ends in omega (arith, e, nine)
       by (inr other) = broken_otherwise request before after (blank ∷ []) old new result other e
 
-  mounted_otherwise : EndsOtherwise (errand_of request input) → LeavesMounted request input rest l windows h f Past Only before after old new result → NotThree result
+  mounted_otherwise : EndsOtherwise (errand_of request input) → LeavesMounted request input rest l windows h f Past began Only before after old new result → NotThree result
   mounted_otherwise otherwise m e = by m.ends
     where
       by : (Rattle.fsd_runs.specs.Runs.IsThrough m.run × Rattle.fsd_runs.specs.Leaves.IsReplied l windows m.next h m.count (Rattle.fsd_runs.specs.Runs.run_turns m.run) (run_status m.run) (Rattle.fsd_runs.specs.Runs.run_end m.run) old new result)
@@ -148,19 +148,19 @@ module _ (request : Request) (input rest : List ℕ) (l : Layout) (windows : Lis
       by (inl through) = in_otherwise request input m.run.cut m.run.may otherwise (answered m.run.mets m.volume (errand_in request input m.run.cut).commands) (sym through.1.ends ∙ e)
       by (inr other) = broken_otherwise request before after (Rattle.fsd_runs.specs.Runs.run_turns m.run) old new result other e
 
-  run_otherwise : EndsOtherwise (errand_of request input) → LeavesRun request input rest l windows h f Past Only before after old new result → NotThree result
+  run_otherwise : EndsOtherwise (errand_of request input) → LeavesRun request input rest l windows h f Past began Only before after old new result → NotThree result
   run_otherwise otherwise (inl u) = unmounted_otherwise u
   run_otherwise otherwise (inr m) = mounted_otherwise otherwise m
 
-pub never_refused : (request : Request) (input rest : List ℕ) (l : Layout) (windows : List WeakRun) (h : List Change) (f : ℕ) (Past : ℕ → Moment → Type 0) (Only : (Moment → Type 0) → Type 0) (before after : Report) (old new : Moment) (result : ℕ)
-    → IfMounts request (LeavesRun request input rest l windows h f Past Only before after old new result → result ≡ 3 → ⊥)
-never_refused request input rest l windows h f Past Only before after old new result = by request (errand_otherwise request input)
+pub never_refused : (request : Request) (input rest : List ℕ) (l : Layout) (windows : List WeakRun) (h : List Change) (f : ℕ) (Past : ℕ → Moment → Type 0) (began : ℕ) (Only : (Moment → Type 0) → Type 0) (before after : Report) (old new : Moment) (result : ℕ)
+    → IfMounts request (LeavesRun request input rest l windows h f Past began Only before after old new result → result ≡ 3 → ⊥)
+never_refused request input rest l windows h f Past began Only before after old new result = by request (errand_otherwise request input)
   where
-    by : (r : Request) → IfMounts r (EndsOtherwise (errand_of r input)) → IfMounts r (LeavesRun r input rest l windows h f Past Only before after old new result → result ≡ 3 → ⊥)
-    by (Asks.Put name keep) otherwise = λ leaves. run_otherwise (Asks.Put name keep) input rest l windows h f Past Only before after old new result otherwise leaves
-    by (Asks.One command) otherwise = λ leaves. run_otherwise (Asks.One command) input rest l windows h f Past Only before after old new result otherwise leaves
-    by Asks.Script otherwise = λ leaves. run_otherwise Asks.Script input rest l windows h f Past Only before after old new result otherwise leaves
-    by (Asks.Generate a b) otherwise = λ leaves. run_otherwise (Asks.Generate a b) input rest l windows h f Past Only before after old new result otherwise leaves
+    by : (r : Request) → IfMounts r (EndsOtherwise (errand_of r input)) → IfMounts r (LeavesRun r input rest l windows h f Past began Only before after old new result → result ≡ 3 → ⊥)
+    by (Asks.Put name keep) otherwise = λ leaves. run_otherwise (Asks.Put name keep) input rest l windows h f Past began Only before after old new result otherwise leaves
+    by (Asks.One command) otherwise = λ leaves. run_otherwise (Asks.One command) input rest l windows h f Past began Only before after old new result otherwise leaves
+    by Asks.Script otherwise = λ leaves. run_otherwise Asks.Script input rest l windows h f Past began Only before after old new result otherwise leaves
+    by (Asks.Generate a b) otherwise = λ leaves. run_otherwise (Asks.Generate a b) input rest l windows h f Past began Only before after old new result otherwise leaves
     by Asks.Outside otherwise = tt
     by (Asks.BadField cause) otherwise = tt
     by (Asks.Format a b c) otherwise = tt

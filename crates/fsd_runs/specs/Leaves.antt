@@ -14,6 +14,7 @@ use Rattle.fsd_sound.specs.Mounted.{telling_of}
 use Rattle.fsd_sound.specs.Mounting.{last_epoch}
 use Rattle.fsd_sound.specs.Shown.{told}
 use Rattle.fsd_sound.specs.Sound.{IsPrefixOf, IsSound, weak_of}
+use Rattle.fsd_sound.specs.Windows.{IsNamedSince}
 use Rattle.fsd_texts.specs.declared.fault.Fault.{Fault}
 use Rattle.fsd_texts.specs.declared.fault.Fault.TheVariants as Ends
 use Rattle.fsd_texts.specs.Script.{script_of}
@@ -174,14 +175,15 @@ pub record RaisesEpoch (windows : List WeakRun) (old from : Image) : Type 0 wher
   pub next : AreNext (anchor_of left) (anchor_of from)
 
 -- The mount settled at some time: it found the first n changes, every forced one among them, and the run went on from
--- the image as it settled. The window that it settled is next, and next is the present one at each moment from then on
--- and at the end. Each moment is what is said above; from that time on each is of the second kind, and the images of
+-- the image as it settled. The window that it settled is next, which was named since the run began, and next is the
+-- present one at each moment from then on and at the end. Each moment is what is said above; from that time on each is of the second kind, and the images of
 -- the run are of these. Either all commands were begun, all is said and all changes are forced; or a fault from outside
 -- has ended the run at once; or the output failed.
-pub record LeavesMounted (request : Request) (input rest : List ℕ) (l : Layout) (windows : List WeakRun) (h : List Change) (f : ℕ) (Past : ℕ → Moment → Type 0) (Only : (Moment → Type 0) → Type 0) (before after : Report) (old new : Moment) (result : ℕ) : Type 0 where
+pub record LeavesMounted (request : Request) (input rest : List ℕ) (l : Layout) (windows : List WeakRun) (h : List Change) (f : ℕ) (Past : ℕ → Moment → Type 0) (began : ℕ) (Only : (Moment → Type 0) → Type 0) (before after : Report) (old new : Moment) (result : ℕ) : Type 0 where
   pub count : ℕ
   pub prefix : IsPrefixOf h f count
   pub next : WeakRun
+  pub named : IsNamedSince Past began (Some next)
   pub at : ℕ
   pub from : Image
   pub stood : Stood (Past at) old.said from
@@ -197,7 +199,7 @@ pub record LeavesMounted (request : Request) (input rest : List ℕ) (l : Layout
   pub ends : (IsThrough run × IsReplied l windows next h count (run_turns run) (run_status run) (run_end run) old new result) ⊎ (IsUnsaid before after result ⊎ IsBroken request before after (run_turns run) old new result)
 
 -- A run over a sound image. The input is as it was, and rest what is left of it.
--- Past is what a stop from a time on may have left.
-abbrev pub LeavesRun : Request → (input rest : List ℕ) → Layout → List WeakRun → List Change → ℕ → (Past : ℕ → Moment → Type 0) → (Only : (Moment → Type 0) → Type 0) → (before after : Report) → (old new : Moment) → (result : ℕ) → Type 0
-LeavesRun request input rest l windows h f Past Only before after old new result =
-    LeavesUnmounted request l windows h f Only before after old new result ⊎ LeavesMounted request input rest l windows h f Past Only before after old new result
+-- Past is what a stop from a time on may have left, and began the time at which the run began.
+abbrev pub LeavesRun : Request → (input rest : List ℕ) → Layout → List WeakRun → List Change → ℕ → (Past : ℕ → Moment → Type 0) → (began : ℕ) → (Only : (Moment → Type 0) → Type 0) → (before after : Report) → (old new : Moment) → (result : ℕ) → Type 0
+LeavesRun request input rest l windows h f Past began Only before after old new result =
+    LeavesUnmounted request l windows h f Only before after old new result ⊎ LeavesMounted request input rest l windows h f Past began Only before after old new result

@@ -1,5 +1,5 @@
 -- What a mount leaves at each moment, and at its end.
-use Rattle.std.specs.Prelude.{◌≡◌, ◌⊎◌, ℕ, ◌+◌, ◌*◌, ◌<◌, ◌≤◌, List, [], ◌∷◌, ◌++◌, get_or, Option, Some, None, IsSome, Contains}
+use Rattle.std.specs.Prelude.{◌≡◌, ◌⊎◌, ℕ, ◌+◌, ◌*◌, ◌<◌, ◌≤◌, List, [], ◌∷◌, ◌++◌, get_or, Some, None, Contains}
 use Rattle.volume_layout.specs.declared.layout.Layout.{Layout}
 use Rattle.volume_layout.specs.Layout.{home_a, home_b}
 use Rattle.fsd_formats.specs.declared.anchor.Anchor.{Anchor}
@@ -43,13 +43,6 @@ IsUnturned old left = left.windows.present ≡ old.windows.present
 -- so it is, or this is the end: a mount settles as the last that it does
 abbrev pub TurnsLast : (old new left : Moment) → Type 0
 TurnsLast old new left = IsUnturned old left ⊎ (left ≡ new)
-
--- At a moment since old this run was the next one, also for a run that began earlier.
-pub record IsNamedSince {D : Type 0} (moment : D → ℕ) (left_since : D → ℕ → Moment → Type 0) (old new : D) (run : Option WeakRun) : Type 0 where
-  pub left : Moment
-  pub passed : (t : ℕ) → t ≤ moment old → left_since new t left
-  pub named : IsSome left.windows.next
-  pub same : left.windows.next ≡ run
 
 -- Before the mount settles: the present window is as it was, and the image shows one of the page lists.
 pub record IsBefore (l : Layout) (windows : List WeakRun) (choices : List (List (List ℕ))) (old left : Moment) : Type 0 where

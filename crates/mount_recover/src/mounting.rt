@@ -15,8 +15,9 @@ ghost use Rattle.mount_recover.specs.Lost.{StandAsShown, WritesMost};
 ghost use Rattle.fsd_sound.specs.Homes.{HasBothHomes};
 ghost use Rattle.mount_recover.specs.Recover.{IsSettledIn, IsFreshLog, IsRefusedFor, LeavesAll, HasAnchors, IsNotUnsound, ShowsVolume, writes_most};
 ghost use Rattle.fsd_sound.specs.Mounting.{device_of_mount};
+ghost use Rattle.fsd_sound.specs.Windows.{IsNamedSince};
 ghost use Rattle.mount_recover.specs.Finding.{IsExcuse};
-ghost use Rattle.mount_recover.specs.Replay.{IsNamedSince, IsReplayed, IsUnturned, Replays, TurnsLast};
+ghost use Rattle.mount_recover.specs.Replay.{IsReplayed, IsUnturned, Replays, TurnsLast};
 
 use crate::completing::complete;
 use crate::epoch::begin_epoch;
@@ -56,8 +57,8 @@ pub fn recover<M: Machine>(alloc: Global, m: &mut M, sectors: u32) -> Result<Set
     // The anchors on the disk are then those of the log, whatever the image was.
     ensures anchors { IfOk result (λ settled. M.honest m.new → HasAnchors settled.log.anchor (M.now m.new)) }
 
-    // The window that is present then was named in this call, or before it and not settled.
-    ensures named { OnOk result (M.honest m.new → IsNamedSince M.moment M.left_since m.old m.new (M.now m.new).windows.present) }
+    // The window that is present then was named: since the call began it was the next one.
+    ensures named { OnOk result (M.honest m.new → IsNamedSince (M.left_since m.new) (M.moment m.old) (M.now m.new).windows.present) }
 
     // Each answer but a fault of the disk and want of memory says what the image was, as it was seen.
     ensures found { IfOk result (λ settled. M.honest m.new → IsSettledIn sectors settled.layout settled.log (M.now m.old)) }

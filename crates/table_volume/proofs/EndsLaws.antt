@@ -1,16 +1,17 @@
 -- How a mount of a sound disk ends.
-use Rattle.std.proofs.Common.{◌≡◌, ◌⊎◌, inl, inr, ⊎_elim, ℕ, ◌^◌, ◌<◌, List, Ok, Err, refl, sym, subst}
+use Rattle.std.proofs.Common.{◌≡◌, ◌⊎◌, inl, inr, ⊎_elim, ℕ, ◌^◌, ◌<◌, List, Ok, Err, refl, sym, ap, subst}
 use Rattle.std.specs.Prelude.{IfOk, IsErrAnd, Result}
 use Rattle.volume_layout.specs.declared.layout.Layout.{Layout}
 use Rattle.sector_disk.specs.declared.machine.Machine.{Ghosts as MachineGhosts}
 use Rattle.sector_disk.specs.declared.sector.WeakRun.{WeakRun}
-use Rattle.sector_disk.specs.Image.{AreShort}
+use Rattle.sector_disk.specs.Image.{AreShort, Windows}
 use Rattle.sector_disk.specs.Machine.{LeavesOnly, Moment, Wears}
 use Rattle.sector_disk.proofs.Moments.{leaves_more, then_on}
 use Rattle.sector_disk.proofs.Wear.{worn_refl}
 use Rattle.fsd_files.specs.Files.{Change}
 use Rattle.fsd_sound.specs.Mounted.{SameData}
 use Rattle.fsd_sound.specs.Sound.{weak_of}
+use Rattle.fsd_sound.specs.Windows.{IsNamedSince}
 use Rattle.fsd_sound.specs.declared.fault.MountFault.{MountFault}
 use Rattle.fsd_sound.specs.declared.fault.MountFault.TheVariants.{Device, Lost, Memory, NoAnchor, NotVolume, Unsound, WornOut}
 use Rattle.fsd_sound.proofs.WritesLaws.{data_stays}
@@ -109,11 +110,12 @@ module _ (sectors : ℕ) (l : Layout) (windows : List WeakRun) (h : List Change)
 
     pub ends_settled : LeavesOnly M.moment M.left_since a b (Replays l windows (lists_now sectors l windows h f old begun) old) → LeavesOnly M.moment M.left_since a b (TurnsLast old mid) → LeavesOnly M.moment M.left_since b c (Wears mid)
         → IsFreshLog l log → IsSettledIn sectors l log old → log.anchor.epoch < 2 ^ 32 → Wears mid new → (r : Result VolumeValue MountFault) → IfOk r (IsAssembled l log) → OpensKnown l mid r
-        → EndsSettled state Holds l windows h f (LeavesOnly M.moment M.left_since a c) old new r
-    ends_settled replays turns reads fresh is fits wears r assembled opens = record {
+        → IsNamedSince (M.left_since c) (M.moment a) mid.windows.present → EndsSettled state Holds l windows h f (M.left_since c) (M.moment a) (LeavesOnly M.moment M.left_since a c) old new r
+    ends_settled replays turns reads fresh is fits wears r assembled opens named = record {
       count = count sectors l windows h f old begun log mid done short;
       prefix = (files_settled sectors l windows h f old begun log mid done short).prefix;
       next = done.after.run;
+      named = subst (IsNamedSince (M.left_since c) (M.moment a)) (ap (λ (w : Windows). w.present) done.after.settled) named;
       known = known_new sectors l windows h f old begun log mid done short same exit.said exit.rest fresh is fits new wears;
       moments = then_on M.moment M.left_since a b c Each
           (leaves_more M.moment M.left_since a b (λ left. Replays l windows (lists_now sectors l windows h f old begun) old left × TurnsLast old mid left) Each (λ left both. each left both.0 both.1)

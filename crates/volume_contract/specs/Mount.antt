@@ -22,6 +22,7 @@ use Rattle.fsd_sound.specs.declared.fault.MountFault.{MountFault}
 use Rattle.fsd_sound.specs.declared.fault.MountFault.TheVariants.{Device, Memory, NoAnchor, NotVolume, Unsound, WornOut}
 use Rattle.fsd_sound.specs.Lost.{LosesShown}
 use Rattle.fsd_sound.specs.Writes.{WritesAsMount}
+use Rattle.fsd_sound.specs.Windows.{IsNamedSince}
 use Rattle.fsd_sound.specs.Mounting.{HasNextEpoch, HasRoot, IsVolume, RefusedFor, last_epoch}
 use Rattle.fsd_runs.specs.Leaves.{RaisesEpoch}
 use Rattle.volume_contract.specs.State.{Fits, Known, ListsPages, Stands, State}
@@ -187,15 +188,16 @@ module _ {S : Type 0} (state : S → State) (has : S → Mounted → List Placed
     pub why : FailsFor (ExcusesOf old.image) result
 
   -- It settled, with the files after the first n changes, all of them forced, and with one run, next, as the present
-  -- window at each moment since: the volume is mounted, or its walk failed.
-  pub record EndsSettled (l : Layout) (windows : List WeakRun) (h : List Change) (f : ℕ) (Only : (Moment → Type 0) → Type 0) (old new : Moment) (result : Result S MountFault) : Type 0 where
+  -- window at each moment since, which was named since the mount began: the volume is mounted, or its walk failed.
+  pub record EndsSettled (l : Layout) (windows : List WeakRun) (h : List Change) (f : ℕ) (Past : ℕ → Moment → Type 0) (began : ℕ) (Only : (Moment → Type 0) → Type 0) (old new : Moment) (result : Result S MountFault) : Type 0 where
     pub count : ℕ
     pub prefix : IsPrefixOf h f count
     pub next : WeakRun
+    pub named : IsNamedSince Past began (Some next)
     pub known : Known
     pub moments : Only (λ left. SoundBefore l windows h f old left ⊎ SoundSince l windows next h count old left)
     pub settled : Settled l windows next h count known old new
     pub ends : Mounts known new result
 
-  abbrev pub MountsSound : Layout → List WeakRun → List Change → ℕ → ((Moment → Type 0) → Type 0) → (old new : Moment) → Result S MountFault → Type 0
-  MountsSound l windows h f Only old new result = EndsBefore l windows h f Only old new result ⊎ EndsSettled l windows h f Only old new result
+  abbrev pub MountsSound : Layout → List WeakRun → List Change → ℕ → (Past : ℕ → Moment → Type 0) → (began : ℕ) → ((Moment → Type 0) → Type 0) → (old new : Moment) → Result S MountFault → Type 0
+  MountsSound l windows h f Past began Only old new result = EndsBefore l windows h f Only old new result ⊎ EndsSettled l windows h f Past began Only old new result

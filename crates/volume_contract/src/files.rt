@@ -92,7 +92,7 @@ pub trait Files<M: Machine>: Sized {
         // A sound disk stays sound at each moment, and its files after a prefix of the changes,
         // with every forced one, are mounted.
         ensures sound { M.honest m.new → (l : Plan) (windows : List Run) (h : List Change) (f : ℕ) → IsSoundAt sectors l windows h f (M.now m.old) →
-            MountsSound state holds l windows h f (LeavesOnly M.moment M.left_since m.old m.new) (M.now m.old) (M.now m.new) result };
+            MountsSound state holds l windows h f (M.left_since m.new) (M.moment m.old) (LeavesOnly M.moment M.left_since m.old m.new) (M.now m.old) (M.now m.new) result };
 
     /// Makes a version with these bytes.
     fn put(

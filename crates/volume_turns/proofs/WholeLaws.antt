@@ -18,6 +18,8 @@ use Rattle.fsd_sound.specs.Mounted.{Mounted, telling_of}
 use Rattle.fsd_sound.specs.Mounting.{device_of_mount}
 use Rattle.fsd_sound.specs.Shown.{told}
 use Rattle.fsd_sound.specs.Sound.{EndIn, IsPrefixOf, IsSound}
+use Rattle.fsd_sound.specs.Windows.{IsNamedSince}
+use Rattle.fsd_sound.proofs.WindowLaws.{named_on}
 use Rattle.fsd_sound.specs.declared.fault.MountFault.{MountFault}
 use Rattle.fsd_sound.specs.declared.fault.MountFault.TheVariants as Refused
 use Rattle.fsd_sound.proofs.MoreLaws.{sound_more, wear_sound}
@@ -102,7 +104,7 @@ runs_on M request input rest a m uses faults k c b status r = record {
 
 module _ {D : Type 0} (M : Ghosts D) (request : Request) (input rest : List ℕ) (l : Layout) (windows : List WeakRun) (run : WeakRun) (h : List Change) (f n : ℕ) (prefix : IsPrefixOf h f n) (k : Known) (a m b : D) (s : Settled l windows run h n k (M.now a) (M.now m)) (quiet : (M.now m).said ≡ (M.now a).said)
     (mount : LeavesOnly M.moment M.left_since a m (λ left. SoundBefore l windows h f (M.now a) left ⊎ SoundSince l windows run h n (M.now a) left))
-    (since : Since M m b) (here : M.left_since m (M.moment m) (M.now m)) (now : M.left_since b (M.moment m) (M.now b)) (status : ℕ) (r : RunsOut M request input rest (M.report a) k m b status) where
+    (named : IsNamedSince (M.left_since m) (M.moment a) (Some run)) (since : Since M m b) (here : M.left_since m (M.moment m) (M.now m)) (now : M.left_since b (M.moment m) (M.now b)) (status : ℕ) (r : RunsOut M request input rest (M.report a) k m b status) where
   abbrev turns : List Turn
   turns = turns_of (errand_in request input r.cut) r.finishes.mets (volume_of k)
 
@@ -145,11 +147,12 @@ module _ {D : Type 0} (M : Ghosts D) (request : Request) (input rest : List ℕ)
   ended (inr (inl u)) = inr (inl u)
   ended (inr (inr x)) = inr (inr (broken_on_said (M.report a) (M.report b) request turns (M.now a) (M.now m) (M.now b) status quiet x))
 
-  pub mounted_run : LeavesRun request input rest l windows h f (M.left_since b) (λ P. LeavesOnly M.moment M.left_since a b P) (M.report a) (M.report b) (M.now a) (M.now b) status
+  pub mounted_run : LeavesRun request input rest l windows h f (M.left_since b) (M.moment a) (λ P. LeavesOnly M.moment M.left_since a b P) (M.report a) (M.report b) (M.now a) (M.now b) status
   mounted_run = inr (record {
     count = n;
     prefix = prefix;
     next = run;
+    named = named_on (M.left_since m) (M.left_since b) (M.moment a) (M.moment m) (Some run) mount.later since named;
     at = M.moment m;
     from = (M.now m).image;
     stood = record { moment = M.now m; passed = since (M.moment m) (M.now m) (omega arith) here; image = refl; so_far = quiet };
@@ -237,7 +240,7 @@ module _ {S D : Type 0} (state : S → State) (has : S → Mounted → List Plac
     by_end (inl six) = inr (inl (unsaid six))
     by_end (inr (gives, all)) = by_fault fault u.why refl gives all
 
-    unmounted_run : LeavesRun request input rest l windows h f (M.left_since b) (λ P. LeavesOnly M.moment M.left_since a b P) (M.report a) (M.report b) (M.now a) (M.now b) status
+    unmounted_run : LeavesRun request input rest l windows h f (M.left_since b) (M.moment a) (λ P. LeavesOnly M.moment M.left_since a b P) (M.report a) (M.report b) (M.now a) (M.now b) status
     unmounted_run = inl (record {
       moments = then_on M.moment M.left_since a m b (LeftBefore l windows h f (M.now a)) (leaves_more M.moment M.left_since a m (SoundBefore l windows h f (M.now a)) (LeftBefore l windows h f (M.now a)) before_only u.moments)
           (leaves_more M.moment M.left_since m b (Utters (fault_text why) (M.now m)) (LeftBefore l windows h f (M.now a)) on_line (says.any_moment honest));
@@ -248,7 +251,7 @@ module _ {S D : Type 0} (state : S → State) (has : S → Mounted → List Plac
   -- behind that, while its table was walked
   module _ (here : M.left_since m (M.moment m) (M.now m)) (now : M.left_since b (M.moment m) (M.now b)) (only : (left : Moment) → M.left_since m (M.moment m) left → left ≡ M.now m)
       (some : (v : Volume) → IsSome (slice_get (turns_of (errand_of request input) [] v) 0))
-      (e : EndsSettled state has l windows h f (λ P. LeavesOnly M.moment M.left_since a m P) (M.now a) (M.now m) (Err fault)) where
+      (e : EndsSettled state has l windows h f (M.left_since m) (M.moment a) (λ P. LeavesOnly M.moment M.left_since a m P) (M.now a) (M.now m) (Err fault)) where
     abbrev k : Known
     k = e.known
 
@@ -299,22 +302,22 @@ module _ {S D : Type 0} (state : S → State) (has : S → Mounted → List Plac
       };
     }
 
-    settled_run : LeavesRun request input rest l windows h f (M.left_since b) (λ P. LeavesOnly M.moment M.left_since a b P) (M.report a) (M.report b) (M.now a) (M.now b) status
-    settled_run = mounted_run M request input rest l windows e.next h f e.count e.prefix k a m b e.settled quiet e.moments (says.since honest) here now status runs
+    settled_run : LeavesRun request input rest l windows h f (M.left_since b) (M.moment a) (λ P. LeavesOnly M.moment M.left_since a b P) (M.report a) (M.report b) (M.now a) (M.now b) status
+    settled_run = mounted_run M request input rest l windows e.next h f e.count e.prefix k a m b e.settled quiet e.moments e.named (says.since honest) here now status runs
 
   pub refused_run : (here : M.left_since m (M.moment m) (M.now m)) (now : M.left_since b (M.moment m) (M.now b)) (only : (left : Moment) → M.left_since m (M.moment m) left → left ≡ M.now m)
-      (some : (v : Volume) → IsSome (slice_get (turns_of (errand_of request input) [] v) 0)) → MountsSound state has l windows h f (λ P. LeavesOnly M.moment M.left_since a m P) (M.now a) (M.now m) (Err fault)
-      → LeavesRun request input rest l windows h f (M.left_since b) (λ P. LeavesOnly M.moment M.left_since a b P) (M.report a) (M.report b) (M.now a) (M.now b) status
+      (some : (v : Volume) → IsSome (slice_get (turns_of (errand_of request input) [] v) 0)) → MountsSound state has l windows h f (M.left_since m) (M.moment a) (λ P. LeavesOnly M.moment M.left_since a m P) (M.now a) (M.now m) (Err fault)
+      → LeavesRun request input rest l windows h f (M.left_since b) (M.moment a) (λ P. LeavesOnly M.moment M.left_since a b P) (M.report a) (M.report b) (M.now a) (M.now b) status
   refused_run here now only some (inl u) = unmounted_run u
   refused_run here now only some (inr e) = settled_run here now only some e
 
 -- what a request does over a volume that was just mounted
 pub joined_run : {S D : Type 0} (state : S → State) (has : S → Mounted → List Placed → Type 0) (M : Ghosts D) (request : Request) (input rest : List ℕ) (l : Layout) (windows : List WeakRun) (h : List Change) (f : ℕ) (a m b : D) (v : S)
     → (M.now m).said ≡ (M.now a).said → UsesDisk (M.report a) (M.report m) → DiskFaults None (M.report a) (M.report m) → Since M m b → M.left_since m (M.moment m) (M.now m) → (M.moment m ≤ M.moment b → M.left_since b (M.moment m) (M.now b)) → (status : ℕ)
-    → MountsSound state has l windows h f (λ P. LeavesOnly M.moment M.left_since a m P) (M.now a) (M.now m) (Ok v) → ((k : Known) → (volume_of k).unforced ≡ 0 → Stands state has v k (M.now m) → RunsOut M request input rest (M.report m) k m b status)
-    → LeavesRun request input rest l windows h f (M.left_since b) (λ P. LeavesOnly M.moment M.left_since a b P) (M.report a) (M.report b) (M.now a) (M.now b) status
+    → MountsSound state has l windows h f (M.left_since m) (M.moment a) (λ P. LeavesOnly M.moment M.left_since a m P) (M.now a) (M.now m) (Ok v) → ((k : Known) → (volume_of k).unforced ≡ 0 → Stands state has v k (M.now m) → RunsOut M request input rest (M.report m) k m b status)
+    → LeavesRun request input rest l windows h f (M.left_since b) (M.moment a) (λ P. LeavesOnly M.moment M.left_since a b P) (M.report a) (M.report b) (M.now a) (M.now b) status
 joined_run state has M request input rest l windows h f a m b v quiet uses faults since here now status (inl u) does = absurd u.why
 joined_run state has M request input rest l windows h f a m b v quiet uses faults since here now status (inr e) does =
     let k = e.known in
     let r = does k e.settled.fresh.unforced e.ends in
-    mounted_run M request input rest l windows e.next h f e.count e.prefix k a m b e.settled quiet e.moments since here (now r.finishes.moments.later) status (runs_on M request input rest (M.report a) (M.report m) uses faults k m b status r)
+    mounted_run M request input rest l windows e.next h f e.count e.prefix k a m b e.settled quiet e.moments e.named since here (now r.finishes.moments.later) status (runs_on M request input rest (M.report a) (M.report m) uses faults k m b status r)

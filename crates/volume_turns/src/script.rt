@@ -287,7 +287,7 @@ pub fn run_script<M: Machine, V: Files<M> + Drop, T: Says>(
     ensures all { result ≡ 0 → M.honest m.new → (t : ℕ) → t ≤ M.moment m.old →
         SaysForced reply_text (M.left_since m.new t) (script_in (M.ledger m.old).input).0 (M.now m.old).said (M.now m.new).said }
     ensures leaves { M.honest m.new → (l : Plan) (windows : List WeakRun) (h : List Change) (f : ℕ) → IsSoundAt sectors l windows h f (M.now m.old) →
-        LeavesRun Script (M.ledger m.old).input (M.ledger m.new).input l windows h f (M.left_since m.new) (LeavesOnly M.moment M.left_since m.old m.new) (M.report m.old) (M.report m.new) (M.now m.old) (M.now m.new) result }
+        LeavesRun Script (M.ledger m.old).input (M.ledger m.new).input l windows h f (M.left_since m.new) (M.moment m.old) (LeavesOnly M.moment M.left_since m.old m.new) (M.report m.old) (M.report m.new) (M.now m.old) (M.now m.new) result }
 {
     match V::mount(alloc, m, sectors) {
         Ok(v) => script_on::<M, V, T>(alloc, v, m),

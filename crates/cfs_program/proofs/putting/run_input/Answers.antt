@@ -29,8 +29,8 @@ returns-in-Ok-clause-leaves g c honest l windows h f sound =
     let input : (M.ledger b).input ≡ (M.ledger a).input = ap (λ (x : Ledger). x.input) (c.in-Ok.ensures.asked (g.met.M.Machine.honest_tells b back)) in
     opened_run M (Put c.args.name.now c.args.keep) (M.ledger a).input (M.ledger z).input l windows h f a b z c.run_put.result sound (g.met.M.Machine.short a first) (λ left was. g.met.M.Machine.only_now a left first was) (c.attach.ensures.time back) found
     (record { disk = c.in-Ok.ensures.cause.disk.stays; input = cause.input; output = cause.output })
-    (subst (λ (x : List ℕ). LeavesRun (Put c.args.name.now c.args.keep) x (M.ledger z).input l windows h f (M.left_since z) (λ P. LeavesOnly M.moment M.left_since b z P) (M.report b) (M.report z) (M.now b) (M.now z) c.run_put.result) input
-    (subst (λ (n : List ℕ). LeavesRun (Put n c.args.keep) (M.ledger b).input (M.ledger z).input l windows h f (M.left_since z) (λ P. LeavesOnly M.moment M.left_since b z P) (M.report b) (M.report z) (M.now b) (M.now z) c.run_put.result) c.copied.ensures
+    (subst (λ (x : List ℕ). LeavesRun (Put c.args.name.now c.args.keep) x (M.ledger z).input l windows h f (M.left_since z) (M.moment b) (λ P. LeavesOnly M.moment M.left_since b z P) (M.report b) (M.report z) (M.now b) (M.now z) c.run_put.result) input
+    (subst (λ (n : List ℕ). LeavesRun (Put n c.args.keep) (M.ledger b).input (M.ledger z).input l windows h f (M.left_since z) (M.moment b) (λ P. LeavesOnly M.moment M.left_since b z P) (M.report b) (M.report z) (M.now b) (M.now z) c.run_put.result) c.copied.ensures
     (c.run_put.ensures.leaves honest l windows h f (sound_found l windows h f (M.now a) sound (g.met.M.Machine.short a first) (M.now b) (finds_keep (M.now a) (M.now b) found) c.in-Ok.sectors (c.in-Ok.ensures.size back)))))
 
 pub returns-in-Err-clause-status : goal.returns-in-Err-clause-status

@@ -5,6 +5,7 @@ use Rattle.volume_layout.specs.declared.layout.Layout.{Layout}
 use Rattle.sector_disk.proofs.CallLaws.{heals_then, reads_as_heals}
 use Rattle.sector_disk.proofs.Calm.{calm_worn, same_calm}
 use Rattle.fsd_sound.specs.Lost.{AreCopiesOn, AreHomes, LostIn}
+use Rattle.fsd_sound.proofs.WindowLaws.{named_on}
 use Rattle.mount_recover.specs.Recover.{IsFreshLog, IsSettledIn}
 use Rattle.volume_contract.specs.Mount.{CountsMount, HealsAnchors, HealsHomes, IsRefused, UnsoundFor}
 use Rattle.volume_contract.specs.State.{IsNew}
@@ -135,7 +136,8 @@ returns-clause-sound g c honest l windows h f begun =
     (c.recover.ensures.any_moment l windows lists back shows) (c.recover.ensures.turns l windows lists back shows) (c.open_read.ensures.reads.any_moment honest)
     (subst (λ (k : Layout). IsFreshLog k settled.log) same c.in_ok-settled.ensures.log) (subst (λ (k : Layout). IsSettledIn s k settled.log old) same (c.in_ok-settled.ensures.found back)) c.in_ok-settled.ensures.epoch
     (c.open_read.ensures.reads.worn honest) c.open_read.result (subst (λ (k : Layout). IfOk c.open_read.result (IsAssembled k settled.log)) same c.open_read.ensures.assembled)
-    (known (knows s l windows h f old begun M c.args.m.now c.recover.new.m c.open_read.new.m settled.log mid new done short exit)))
+    (known (knows s l windows h f old begun M c.args.m.now c.recover.new.m c.open_read.new.m settled.log mid new done short exit))
+    (named_on (M.left_since c.recover.new.m) (M.left_since c.open_read.new.m) (M.moment c.args.m.now) (M.moment c.recover.new.m) mid.windows.present (c.recover.ensures.disk.later back) (c.open_read.ensures.reads.since honest) (c.in_ok-settled.ensures.named back)))
 
 pub returns-in_err-settled-clause-unsound : goal.returns-in_err-settled-clause-unsound
 returns-in_err-settled-clause-unsound g c =
