@@ -1,5 +1,5 @@
 //! One line of a script, and what it asks for.
-ghost use Rattle.std.specs.Prelude.{◌≡◌, ◌<◌, ◌+◌, MatchResult, IfOk, Ok, Err, length, map, drop, ◌==◌, position};
+ghost use Rattle.std.specs.Prelude.{◌≡◌, ◌<◌, ◌+◌, ◌∷◌, [], MatchResult, IfOk, Ok, Err, length, map, drop, ◌==◌, position};
 ghost use Rattle.fsd_texts.specs.declared.command.Command.TheVariants as Word;
 ghost use Rattle.fsd_texts.specs.Script.{asked_by, asks, asks_alone, asks_keep, asks_put, key_in, line_at, max_line, pattern_in, with_field, words_of};
 ghost use Rattle.script_text.specs.Front.{Finds};
@@ -80,18 +80,30 @@ fn put_of(fields: &[&[u8]]) -> Result<Asking, Cause>
     ensures { result ≡ asks_put (map (λ w. w.now) fields.now) }
 {
     match fields {
-        [name, length] => Ok(Asking::Put {
-            name: name_of(name)?,
-            length: number_of(length)?,
-            keep: None,
-        }),
-        [name, length, keep] => Ok(Asking::Put {
-            name: name_of(name)?,
-            length: number_of(length)?,
-            keep: Some(number_of(keep)?),
-        }),
+        [name, length] => put_alone(name, length),
+        [name, length, keep] => put_with_keep(name, length, keep),
         _ => Err(Cause::WordCount),
     }
+}
+
+fn put_alone(name: &[u8], length: &[u8]) -> Result<Asking, Cause>
+    ensures { result ≡ asks_put (name.now ∷ length.now ∷ []) }
+{
+    Ok(Asking::Put {
+        name: name_of(name)?,
+        length: number_of(length)?,
+        keep: None,
+    })
+}
+
+fn put_with_keep(name: &[u8], length: &[u8], keep: &[u8]) -> Result<Asking, Cause>
+    ensures { result ≡ asks_put (name.now ∷ length.now ∷ keep.now ∷ []) }
+{
+    Ok(Asking::Put {
+        name: name_of(name)?,
+        length: number_of(length)?,
+        keep: Some(number_of(keep)?),
+    })
 }
 
 fn keep_of(fields: &[&[u8]]) -> Result<Asking, Cause>

@@ -1,12 +1,8 @@
 use Rattle.std.proofs.Common.{arith}
 use borrow.Author.Tests.{ltb-true, ltb-false}
-use Rattle.script_text.proofs.FieldLaws.{bad_length, other_put}
+use Rattle.script_text.proofs.FieldLaws.{other_put}
 use Rattle.script_text.proofs.line.put_of.Goals.{in_default-via-then-fields-lt2, in_default-via-else-fields-lt2+else-fields-lt3+else-fields-lt4}
 use Rattle.script_text.proofs.line.put_of.Goals as goal
-
-pub returns-in_err-number_of-in-len3 : goal.returns-in_err-number_of-in-len3
-returns-in_err-number_of-in-len3 c =
-    bad_length (λ w. w.now) _ c.args.fields.now _ _ _ (omega arith) c.in_ok-name_of-in-len3.ensures c.in_err-number_of-in-len3.ensures c.from_residual-in_err-number_of-in-len3.ensures.1
 
 pub returns-in_default : goal.returns-in_default
 returns-in_default c = elim c.in_default.branch [
