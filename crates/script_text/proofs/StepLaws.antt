@@ -141,9 +141,13 @@ pub none_of : (end : Option End) → is_some end ≡ false → end ≡ None
 none_of None h = refl
 none_of (Some end) h = absurd cc
 
-pub never_ended : (end : Option End) (first here : Reading) (P : Type 0) → first.end ≡ end → IfSome end (λ e. here ≡ first) → here.end ≡ None → IfSome end (λ e. P)
+never_ended : (end : Option End) (first here : Reading) (P : End → Type 0) → first.end ≡ end → IfSome end (λ e. here ≡ first) → here.end ≡ None → IfSome end P
 never_ended None first here P is same still = tt
 never_ended (Some end) first here P is same still = let e : first.end ≡ here.end = ap (λ (r : Reading). r.end) (sym same) in absurd cc
+
+-- nothing is owed of an end that was known, where the reader has not ended
+pub never : (first inside here : Reading) (P : End → Type 0) → inside ≡ here → is_some inside.end ≡ false → IfSome first.end (λ e. here ≡ first) → IfSome first.end P
+never first inside here P is none again = never_ended first.end first here P refl again (sym (ap (λ (r : Reading). r.end) is) ∙ none_of inside.end none)
 
 -- where no command is given the reader is as it was
 pub as_it_was : (old new : Reading) (fault : BodyFault) → GivesFirst old (Err fault) new → new ≡ old

@@ -3,7 +3,7 @@ use Rattle.std.specs.Prelude.{is_none, is_some}
 use Rattle.script_text.specs.Reading.{Ahead, GoesOn, IsShort, NoneWaits, Reading, script_left}
 use Rattle.script_text.specs.Taking.{Grows}
 use Rattle.script_text.proofs.ReaderLaws.{open_of}
-use Rattle.script_text.proofs.StepLaws.{Answer, answer_ahead, answer_waits, fault_ahead, fault_is, fault_waits, falls, gives_next, grows_then, moves_from, moves_still, as_it_was, never_ended, none_of}
+use Rattle.script_text.proofs.StepLaws.{Answer, answer_ahead, answer_waits, fault_ahead, fault_is, fault_waits, falls, gives_next, grows_then, moves_from, moves_still, as_it_was, never, none_of}
 use Rattle.sector_disk.proofs.CallLaws.{takes_then}
 use Rattle.script_text.proofs.reader.Reader.next_command.Goals as goal
 
@@ -13,10 +13,16 @@ returns-in-Ok-clause-script g c h =
     sym (c.loop-alloc.invariant.script h)
     ∙ gives_next c.loop-alloc.self c.front.new.self c.in-Ok.command _ (open_of _ _ _ _ _ c.loop-alloc.self c.self.invariant c.self.view_is still) c.in-Ok.ensures
 
+pub returns-in-Ok-clause-again : goal.returns-in-Ok-clause-again
+returns-in-Ok-clause-again g c = never c.args.self.now _ c.loop-alloc.self _ c.self.view_is c.loop-alloc-test.ensures c.loop-alloc.invariant.again
+
 pub returns-in-Ok-clause-moves : goal.returns-in-Ok-clause-moves
 returns-in-Ok-clause-moves g c h =
     let still : c.loop-alloc.self.end ≡ None = sym (ap (λ (r : Reading). r.end) c.self.view_is) ∙ none_of c.self.inside.end c.loop-alloc-test.ensures in
     moves_from _ _ _ _ _ _ (open_of _ _ _ _ _ c.loop-alloc.self c.self.invariant c.self.view_is still) (c.loop-alloc.invariant.grows h) c.in-Ok.ensures
+
+pub returns-in-Err-Memory-clause-again : goal.returns-in-Err-Memory-clause-again
+returns-in-Err-Memory-clause-again g c = never c.args.self.now _ c.loop-alloc.self _ c.self.view_is c.loop-alloc-test.ensures c.loop-alloc.invariant.again
 
 pub returns-in-Err-Memory-clause-moves : goal.returns-in-Err-Memory-clause-moves
 returns-in-Err-Memory-clause-moves g c h =
@@ -32,6 +38,12 @@ pub returns-clause-waits : goal.returns-clause-waits
 returns-clause-waits g c =
     let some : is_some c.self-2.inside.end ≡ true = ap (λ (r : Reading). is_some r.end) (c.self-2.view_is ∙ sym c.self.view_is) ∙ c.loop-alloc-test.ensures in
     answer_waits c.self-2.inside.end c.answer.result _ some c.answer.ensures
+
+pub returns-in_err-go_on-in-Err-Bad-clause-again : goal.returns-in_err-go_on-in-Err-Bad-clause-again
+returns-in_err-go_on-in-Err-Bad-clause-again g c = never c.args.self.now _ c.loop-alloc.self _ c.self.view_is c.loop-alloc-test.ensures c.loop-alloc.invariant.again
+
+pub returns-in_err-go_on-in-Err-Bad-clause-unasked : goal.returns-in_err-go_on-in-Err-Bad-clause-unasked
+returns-in_err-go_on-in-Err-Bad-clause-unasked g c = never c.args.self.now _ c.loop-alloc.self _ c.self.view_is c.loop-alloc-test.ensures c.loop-alloc.invariant.again
 
 pub returns-in_err-go_on-in-Err-Bad-clause-moves : goal.returns-in_err-go_on-in-Err-Bad-clause-moves
 returns-in_err-go_on-in-Err-Bad-clause-moves g c h =
@@ -69,8 +81,8 @@ loop-alloc-preserved g c =
     record {
       script = λ h. step.script h ∙ ap (λ (r : Reading). script_left r (M.ledger c.loop-alloc.m).input) same ∙ so_far.script (step.calls.trust.tells h);
       given = step.on.given ∙ ap (λ (r : Reading). r.given) same ∙ so_far.given;
-      again = never_ended c.args.self.now.end c.args.self.now c.loop-alloc.self (new ≡ c.args.self.now) refl so_far.again still;
-      unasked = never_ended c.args.self.now.end c.args.self.now c.loop-alloc.self (c.go_on.new.m ≡ c.args.m.now) refl so_far.again still;
+      again = never c.args.self.now _ c.loop-alloc.self _ c.self.view_is c.loop-alloc-test.ensures so_far.again;
+      unasked = never c.args.self.now _ c.loop-alloc.self _ c.self.view_is c.loop-alloc-test.ensures so_far.again;
       grows = λ h. grows_then c.args.self.now c.loop-alloc.self new _ _ _ still (so_far.grows (step.calls.trust.tells h)) (subst (λ (r : Reading). Grows r new (M.ledger c.loop-alloc.m) (M.ledger c.go_on.new.m)) same (step.grows h));
       calls = takes_then so_far.calls step.calls;
     }
