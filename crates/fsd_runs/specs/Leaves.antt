@@ -175,10 +175,10 @@ pub record RaisesEpoch (windows : List WeakRun) (old from : Image) : Type 0 wher
   pub next : AreNext (anchor_of left) (anchor_of from)
 
 -- The mount settled at some time: it found the first n changes, every forced one among them, and the run went on from
--- the image as it settled. The window that it settled is next, which was named since the run began, and next is the
--- present one at each moment from then on and at the end. Each moment is what is said above; from that time on each is of the second kind, and the images of
--- the run are of these. Either all commands were begun, all is said and all changes are forced; or a fault from outside
--- has ended the run at once; or the output failed.
+-- the image as it settled. The window that it settled is next: it was named since the run began, and is the present one
+-- at each moment from then on and at the end. Each moment is what is said above; from that time on each is of the second
+-- kind, and the images of the run are of these. Either all commands were begun, all is said and all changes are forced;
+-- or a fault from outside has ended the run at once; or the output failed.
 pub record LeavesMounted (request : Request) (input rest : List ℕ) (l : Layout) (windows : List WeakRun) (h : List Change) (f : ℕ) (Past : ℕ → Moment → Type 0) (began : ℕ) (Only : (Moment → Type 0) → Type 0) (before after : Report) (old new : Moment) (result : ℕ) : Type 0 where
   pub count : ℕ
   pub prefix : IsPrefixOf h f count
