@@ -114,6 +114,3 @@ pub returns-clause-grows : goal.returns-clause-grows
 returns-clause-grows g c t =
     let t1 = c.healing.ensures.trust.tells t in
     omega (arith, ap (λ (x : Ledger). x.written) (c.in_ok-complete_last.ensures.counted t1), ap (λ (x : Ledger). x.written) (c.healing.ensures.ledger t))
-
-pub returns-clause-named : goal.returns-clause-named
-returns-clause-named g c h = (c.in_ok-healing.ensures.named h).next
