@@ -1,7 +1,7 @@
 //! A force, and the newest pages behind it.
 ghost use Rattle.std.specs.Prelude.{◌≡◌, ◌<◌, ◌≤◌, IfSome};
 
-use crate::machines::calm;
+use crate::machines::{calm, planned, repeated};
 use crate::waiting::force_page;
 use fsd_formats::Anchor;
 use group_commit::Newest;
@@ -35,7 +35,7 @@ fn forced_log<M: Machine>(alloc: Global, m: &mut M, layout: &Layout) -> Option<L
     ensures layout { IfSome result (λ log. log.layout ≡ layout.now) }
     ensures sectors { (M.report m.new).sectors ≡ (M.report m.old).sectors }
 {
-    write_a(m, layout, 3, &[9; 512]).ok()?;
+    write_a(m, layout, 3, &repeated(9)).ok()?;
     let mut log = Log::scan(alloc, m, layout).ok()?;
     match force_page(alloc, m, &mut log, 3)? {
         Ok(_) => Some(log),
@@ -73,9 +73,9 @@ fn load_all<M: Machine>(
     let logged = loaded(&newest, m, 3);
     let unlogged = loaded(&newest, bare, 3);
     let neither = loaded(&newest, m, 5);
-    write_b(m, layout, 5, &[7; 512]).ok()?;
+    write_b(m, layout, 5, &repeated(7)).ok()?;
     let second = loaded(&newest, m, 5);
-    write_a(m, layout, 5, &[8; 512]).ok()?;
+    write_a(m, layout, 5, &repeated(8)).ok()?;
     let first = loaded(&newest, m, 5);
     Some([logged, unlogged, neither, second, first])
 }
@@ -90,7 +90,7 @@ fn stamped_page() -> [u8; 512] {
 #[test]
 fn pages_come_from_the_log_or_from_home(rt: HostRuntime) -> Result<(), Fail> {
     let alloc = rt.alloc();
-    let layout = Layout::plan(2048, 256, 64)?;
+    let layout = planned(2048, 256, 64)?;
     let mut m = bare_disk(alloc)?;
     let mut bare = bare_disk(alloc)?;
     let sectors = m.attach("v", Attach::Old)?;
@@ -103,8 +103,8 @@ fn pages_come_from_the_log_or_from_home(rt: HostRuntime) -> Result<(), Fail> {
         Ok(stamped_page()),
         Err(LoadFault::Lost { a: 19, b: 21 }),
         Err(LoadFault::Lost { a: 789, b: 857 }),
-        Ok([7; 512]),
-        Ok([8; 512]),
+        Ok(repeated(7)),
+        Ok(repeated(8)),
     ];
     assert_eq!(rt; load_all(alloc, &mut m, &mut bare, &layout), Some(want));
     Ok(())

@@ -1,7 +1,7 @@
 //! The two homes of a page.
 ghost use Rattle.std.specs.Prelude.{◌≡◌, ◌<◌, ◌≤◌};
 
-use crate::machines::calm;
+use crate::machines::{calm, planned, repeated};
 use sector_disk::{Attach, Failed, Machine, Sector, Seen};
 use std::test::Fail;
 use twin_home::{read_home, write_a, write_b};
@@ -13,7 +13,7 @@ fn home_of<M: Machine>(m: &mut M, l: &Layout) -> Result<(Seen, [u8; 512]), Faile
     requires sectors { l.now.sectors ≤ (M.report m.old).sectors }
     ensures { (M.report m.new).sectors ≡ (M.report m.old).sectors }
 {
-    let mut buf = [9; 512];
+    let mut buf = repeated(9);
     let seen = read_home(m, l, 3, &mut buf)?;
     Ok((seen, buf))
 }
@@ -24,9 +24,9 @@ fn homes<M: Machine>(m: &mut M, l: &Layout) -> Result<[(Seen, [u8; 512]); 3], Fa
     requires sectors { l.now.sectors ≤ (M.report m.old).sectors }
 {
     let neither = home_of(m, l)?;
-    write_b(m, l, 3, &[7; 512])?;
+    write_b(m, l, 3, &repeated(7))?;
     let second = home_of(m, l)?;
-    write_a(m, l, 3, &[8; 512])?;
+    write_a(m, l, 3, &repeated(8))?;
     let both = home_of(m, l)?;
     Ok([neither, second, both])
 }
@@ -36,16 +36,19 @@ fn one_whole_copy_is_enough(rt: HostRuntime) -> Result<(), Fail> {
     let alloc = rt.alloc();
     let mut m = calm(alloc, vec![in alloc; Sector::Damaged; 2048]?);
     let sectors = m.attach("v", Attach::Old)?;
-    let l = Layout::plan(2048, 256, 64)?;
+    let l = planned(2048, 256, 64)?;
     assert!(rt; sectors >= l.sectors() && l.pages() > 3);
     let want = [
-        (Seen::Damaged, [9; 512]),
-        (Seen::Whole, [7; 512]),
-        (Seen::Whole, [8; 512]),
+        (Seen::Damaged, repeated(9)),
+        (Seen::Whole, repeated(7)),
+        (Seen::Whole, repeated(8)),
     ];
     assert_eq!(rt; homes(&mut m, &l), Ok(want));
     // 16 sectors, 3 thirds of 256, 64 first homes and 4 between
     let found = [787, 855].map(|sector| m.image().get(sector).copied());
-    assert_eq!(rt; found, [8, 7].map(|byte| Some(Sector::Whole([byte; 512]))));
+    assert_eq!(rt;
+        found,
+        [8, 7].map(|byte| Some(Sector::Whole(repeated(byte))))
+    );
     Ok(())
 }

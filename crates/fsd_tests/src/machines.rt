@@ -3,6 +3,17 @@ use cfs_program::run_words;
 use sector_disk::{Event, MemoryMachine, Sector, WeakRun, When};
 use std::alloc::{AllocError, Global};
 use table_volume::Volume;
+use volume_layout::{Layout, LayoutFault};
+
+/// The same byte so many times.
+pub(crate) fn repeated<const N: usize>(byte: u8) -> [u8; N] {
+    [byte; N]
+}
+
+/// A volume of so many sectors, sectors of a third and pages, as it is planned.
+pub(crate) fn planned(sectors: u32, third: u32, pages: u32) -> Result<Layout, LayoutFault> {
+    Layout::plan(sectors, third, pages)
+}
 
 /// An event that never comes.
 pub(crate) const NEVER: Event = Event::FailCall { call: 0, stand: 0 };

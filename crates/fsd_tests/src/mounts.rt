@@ -1,5 +1,5 @@
 //! The mount up to the name table, of images that no run has left.
-use crate::machines::calm;
+use crate::machines::{calm, repeated};
 use fsd_sound::MountFault;
 use log_record::lay;
 use mount_recover::{Settled, recover};
@@ -8,7 +8,7 @@ use std::alloc::{AllocError, Global};
 use std::test::Fail;
 
 fn beginning(front: &[u8; 20]) -> [u8; 512] {
-    let mut bytes = [0; 512];
+    let mut bytes = repeated(0);
     bytes[..20].copy_from_slice(front);
     bytes
 }
@@ -51,7 +51,7 @@ fn homed(alloc: Global, whole: &[Placed]) -> Result<Vec<Sector>, AllocError> {
     let mut image = damaged(alloc, whole)?;
     for (i, sector) in image.iter_mut().enumerate() {
         if 784 < i && i < 848 || 852 <= i && i < 916 {
-            *sector = Sector::Whole([0; 512]);
+            *sector = Sector::Whole(repeated(0));
         }
     }
     Ok(image)
@@ -69,9 +69,10 @@ fn mount(alloc: Global, m: &mut MemoryMachine) -> Result<Result<(u32, u32), Moun
 fn what_is_no_volume_is_not_mounted(rt: HostRuntime) -> Result<(), Fail> {
     let alloc = rt.alloc();
     let root = (4, root());
+    let zeros = repeated(0);
     let rows = [
-        ([(99, [0; 512]), (98, [0; 512])], MountFault::NotVolume),
-        ([root, (98, [0; 512])], MountFault::NoAnchor),
+        ([(99, zeros), (98, zeros)], MountFault::NotVolume),
+        ([root, (98, zeros)], MountFault::NoAnchor),
         ([root, (8, last_anchor())], MountFault::WornOut),
         ([root, (8, anchor(1))], MountFault::Lost { a: 784, b: 852 }),
     ];
@@ -107,14 +108,15 @@ fn logged_page() -> [u8; 512] {
 // Page 0 is in one record at the start of the log, whose page copy and end copy are old,
 // and its home at 784 is damaged.
 fn logged(alloc: Global) -> Result<Vec<Sector>, AllocError> {
-    let mut record = [0; 3584];
+    let mut record = repeated::<3584>(0);
     lay(2, 1, &[0], &logged_page(), &mut record);
+    let zeros = repeated(0);
     let mut image = homed(
         alloc,
-        &[(0, root()), (8, anchor(2)), (21, [0; 512]), (22, [0; 512])],
+        &[(0, root()), (8, anchor(2)), (21, zeros), (22, zeros)],
     )?;
     for (i, bytes) in record.chunks_exact(512).take(5).enumerate() {
-        let mut sector = [0; 512];
+        let mut sector = repeated(0);
         sector.copy_from_slice(bytes);
         place(&mut image, &[(16 + i, sector)]);
     }

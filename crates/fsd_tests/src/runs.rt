@@ -1,78 +1,80 @@
 //! Runs on which nothing wears, each on what the one before has left.
-use crate::machines::{calm, first_wrong, formatted, run, stop_in};
+use crate::machines::{Row, calm, first_wrong, formatted, run, stop_in};
 use sector_disk::{MemoryMachine, Sector};
 use std::test::Fail;
 
+// A line, and the status, the sectors and the text with which it ends.
+const LINES: [(&str, u8, usize, &str); 18] = [
+    (
+        "cfs format v 2048 256 64",
+        0,
+        2048,
+        "formatted 2048 free 1127\n",
+    ),
+    (
+        "cfs format w 720 200 16",
+        1,
+        2048,
+        "refused too-small 721\n",
+    ),
+    ("cfs format w 721 200 16", 0, 721, "formatted 721 free 64\n"),
+    (
+        "cfs format w 720 4096 4096",
+        1,
+        721,
+        "refused too-small 20574\n",
+    ),
+    ("cfs format w 720 199 16", 1, 721, "refused third 199\n"),
+    ("cfs format w 720 200 4097", 1, 721, "refused pages 4097\n"),
+    (
+        "cfs format w 16777217 200 16",
+        1,
+        721,
+        "refused too-large 16777217\n",
+    ),
+    (
+        "cfs format w 0721 200 16",
+        2,
+        721,
+        "bad line 0: bad number\n",
+    ),
+    (
+        "cfs format w 721 200 4294967296",
+        2,
+        721,
+        "bad line 0: bad number\n",
+    ),
+    ("cfs frob v", 2, 721, "usage: cfs COMMAND IMAGE WORDS\n"),
+    (
+        "cfs format -v 721 200 16",
+        2,
+        721,
+        "usage: cfs COMMAND IMAGE WORDS\n",
+    ),
+    ("cfs put w a b", 2, 721, "usage: cfs COMMAND IMAGE WORDS\n"),
+    ("cfs get w a!0", 2, 721, "bad line 0: bad key\n"),
+    ("cfs put w a*b", 2, 721, "bad line 0: bad name\n"),
+    (
+        "cfs put w 12345678901234567890123456789012345678901",
+        2,
+        721,
+        "bad line 0: bad name\n",
+    ),
+    ("cfs put w ", 2, 721, "bad line 0: bad name\n"),
+    (
+        "cfs put w 1234567890123456789012345678901234567890",
+        0,
+        721,
+        "made 1234567890123456789012345678901234567890!1 1\n",
+    ),
+    ("cfs", 2, 721, "usage: cfs COMMAND IMAGE WORDS\n"),
+];
+
 #[test]
 fn says_each_line(rt: HostRuntime) -> Result<(), Fail> {
-    let cases = [
-        (
-            "cfs format v 2048 256 64",
-            0,
-            2048,
-            "formatted 2048 free 1127\n",
-        ),
-        (
-            "cfs format w 720 200 16",
-            1,
-            2048,
-            "refused too-small 721\n",
-        ),
-        ("cfs format w 721 200 16", 0, 721, "formatted 721 free 64\n"),
-        (
-            "cfs format w 720 4096 4096",
-            1,
-            721,
-            "refused too-small 20574\n",
-        ),
-        ("cfs format w 720 199 16", 1, 721, "refused third 199\n"),
-        ("cfs format w 720 200 4097", 1, 721, "refused pages 4097\n"),
-        (
-            "cfs format w 16777217 200 16",
-            1,
-            721,
-            "refused too-large 16777217\n",
-        ),
-        (
-            "cfs format w 0721 200 16",
-            2,
-            721,
-            "bad line 0: bad number\n",
-        ),
-        (
-            "cfs format w 721 200 4294967296",
-            2,
-            721,
-            "bad line 0: bad number\n",
-        ),
-        ("cfs frob v", 2, 721, "usage: cfs COMMAND IMAGE WORDS\n"),
-        (
-            "cfs format -v 721 200 16",
-            2,
-            721,
-            "usage: cfs COMMAND IMAGE WORDS\n",
-        ),
-        ("cfs put w a b", 2, 721, "usage: cfs COMMAND IMAGE WORDS\n"),
-        ("cfs get w a!0", 2, 721, "bad line 0: bad key\n"),
-        ("cfs put w a*b", 2, 721, "bad line 0: bad name\n"),
-        (
-            "cfs put w 12345678901234567890123456789012345678901",
-            2,
-            721,
-            "bad line 0: bad name\n",
-        ),
-        ("cfs put w ", 2, 721, "bad line 0: bad name\n"),
-        (
-            "cfs put w 1234567890123456789012345678901234567890",
-            0,
-            721,
-            "made 1234567890123456789012345678901234567890!1 1\n",
-        ),
-        ("cfs", 2, 721, "usage: cfs COMMAND IMAGE WORDS\n"),
-    ];
     let alloc = rt.alloc();
     let mut m = calm(alloc, Vec::new(alloc));
-    for (line, status, sectors, said) in cases {
+    for (line, status, sectors, said) in LINES {
         let (next, ended) = run(alloc, m, &[], line, b"")?;
         assert_eq!(rt; ended, status, "{line}");
         assert_eq!(rt; next.said(), said.as_bytes(), "{line}");
@@ -92,39 +94,42 @@ fn four_damaged_sectors_are_no_volume(rt: HostRuntime) -> Result<(), Fail> {
     Ok(())
 }
 
+// A volume that is made three times, and what is put and read there.
+const PUTS_AND_GETS: [Row<'static>; 11] = [
+    ("cfs get v a!1", b"", 3, "fault not-a-volume\n"),
+    (
+        "cfs format v 2048 256 64",
+        b"",
+        0,
+        "formatted 2048 free 1127\n",
+    ),
+    ("cfs put v a", b"hi", 0, "made a!1 2\n"),
+    ("cfs get v a!1", b"", 0, "hi"),
+    ("cfs get v a!2", b"", 1, "refused no-such\n"),
+    ("cfs put v a", b"hi", 0, "made a!2 2\n"),
+    (
+        "cfs format v 2048 256 64",
+        b"",
+        0,
+        "formatted 2048 free 1127\n",
+    ),
+    ("cfs put v a", b"", 0, "made a!1 1\n"),
+    ("cfs put v b", &[7; 512], 0, "made b!1 2\n"),
+    ("cfs get v a!1", b"", 0, ""),
+    (
+        "cfs format v 2048 256 64",
+        b"",
+        0,
+        "formatted 2048 free 1127\n",
+    ),
+];
+
 #[test]
 fn puts_and_gets(rt: HostRuntime) -> Result<(), Fail> {
     let alloc = rt.alloc();
-    let sector = [7; 512];
     let too_long = vec![in alloc; 5u8; 4_193_793]?;
     let longest = vec![in alloc; 5u8; 4_193_792]?;
-    let rows = [
-        ("cfs get v a!1", b"".as_slice(), 3, "fault not-a-volume\n"),
-        (
-            "cfs format v 2048 256 64",
-            b"".as_slice(),
-            0,
-            "formatted 2048 free 1127\n",
-        ),
-        ("cfs put v a", b"hi".as_slice(), 0, "made a!1 2\n"),
-        ("cfs get v a!1", b"".as_slice(), 0, "hi"),
-        ("cfs get v a!2", b"".as_slice(), 1, "refused no-such\n"),
-        ("cfs put v a", b"hi".as_slice(), 0, "made a!2 2\n"),
-        (
-            "cfs format v 2048 256 64",
-            b"".as_slice(),
-            0,
-            "formatted 2048 free 1127\n",
-        ),
-        ("cfs put v a", b"".as_slice(), 0, "made a!1 1\n"),
-        ("cfs put v b", sector.as_slice(), 0, "made b!1 2\n"),
-        ("cfs get v a!1", b"".as_slice(), 0, ""),
-        (
-            "cfs format v 2048 256 64",
-            b"".as_slice(),
-            0,
-            "formatted 2048 free 1127\n",
-        ),
+    let rows: [Row; 2] = [
         (
             "cfs put v c",
             too_long.as_slice(),
@@ -138,7 +143,9 @@ fn puts_and_gets(rt: HostRuntime) -> Result<(), Fail> {
             "refused no-space 8192 1127\n",
         ),
     ];
-    let (_, wrong) = first_wrong(alloc, calm(alloc, Vec::new(alloc)), &rows)?;
+    let (m, wrong) = first_wrong(alloc, calm(alloc, Vec::new(alloc)), &PUTS_AND_GETS)?;
+    assert_eq!(rt; wrong, None);
+    let (_, wrong) = first_wrong(alloc, m, &rows)?;
     assert_eq!(rt; wrong, None);
     Ok(())
 }

@@ -1,5 +1,5 @@
 //! Scripts that are read from a machine in memory.
-use crate::machines::calm;
+use crate::machines::{calm, repeated};
 use fsd_bytes::Key;
 use fsd_texts::{BadLine, Bytes, Cause, Command, Line};
 use script_text::{Maker, Reader, ScriptFault, say_line};
@@ -47,7 +47,7 @@ fn bad(line: u32, cause: Cause) -> Option<ScriptFault> {
 #[test]
 fn reads_each_script(rt: HostRuntime) -> Result<(), Fail> {
     let alloc = rt.alloc();
-    let long = [b'a'; 129];
+    let long = repeated::<129>(b'a');
     let mut full = Vec::from_slice(alloc, &long[..128])?;
     full.push(b'\n')?;
     let rows = [

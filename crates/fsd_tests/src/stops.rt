@@ -6,6 +6,11 @@ use std::test::Fail;
 
 const FORMAT: &str = "cfs format v 2048 256 64";
 
+// A put that is forced, and a delete and a put that are not.
+const DELETES: &[u8] = b"put d 1\nx\nforce\ndelete d!1\nput e 1\ny\n";
+
+const PUTS: &[u8] = b"put a 1\nx\nput b 1\ny\nput c 1\nz\n";
+
 // One run with an event on a fresh volume, and what it and a list say then.
 #[derive(Drop)]
 struct Stopped<'a> {
@@ -29,8 +34,6 @@ fn goes_so(alloc: Global, row: &Stopped) -> Result<bool, AllocError> {
 #[test]
 fn the_next_run_lists_what_stands(rt: HostRuntime) -> Result<(), Fail> {
     let alloc = rt.alloc();
-    let script = b"put d 1\nx\nforce\ndelete d!1\nput e 1\ny\n".as_slice();
-    let cut = b"put a 1\nx\nput b 1\ny\nput c 1\nz\n".as_slice();
     let rows = [
         // The record stands at 16..23: a header, a blank, the header's copy, the page and the end,
         // and the copies of both.
@@ -66,7 +69,7 @@ fn the_next_run_lists_what_stands(rt: HostRuntime) -> Result<(), Fail> {
         Stopped {
             event: stop_in(23, 1, 0),
             line: "cfs script v",
-            input: script,
+            input: DELETES,
             said: "made d!1 2\nforced\ndeleted d!1\nmade e!1 2\n",
             status: 6,
             listed: "d!1 1 2 2\nlisted 1\n",
@@ -74,7 +77,7 @@ fn the_next_run_lists_what_stands(rt: HostRuntime) -> Result<(), Fail> {
         Stopped {
             event: Event::Pieces { most: 1 },
             line: "cfs script v",
-            input: cut,
+            input: PUTS,
             said: "made a!1 2\nmade b!1 2\nmade c!1 2\nforced\n",
             status: 0,
             listed: "a!1 1 2 2\nb!1 1 2 2\nc!1 1 2 2\nlisted 3\n",
@@ -90,9 +93,8 @@ fn the_next_run_lists_what_stands(rt: HostRuntime) -> Result<(), Fail> {
 #[test]
 fn what_was_deleted_is_read_behind_a_stop(rt: HostRuntime) -> Result<(), Fail> {
     let alloc = rt.alloc();
-    let script = b"put d 1\nx\nforce\ndelete d!1\nput e 1\ny\n";
     let m = calm(alloc, formatted(alloc, FORMAT)?);
-    let (m, _) = run(alloc, m, &[stop_in(23, 1, 0)], "cfs script v", script)?;
+    let (m, _) = run(alloc, m, &[stop_in(23, 1, 0)], "cfs script v", DELETES)?;
     let (m, status) = run(alloc, m, &[], "cfs get v d!1", b"")?;
     assert_eq!(rt; status, 0);
     assert_eq!(rt; m.said(), b"x".as_slice());

@@ -1,6 +1,6 @@
 //! Runs on which a pair of sectors wears, in a volume whose log begins at 16, whose homes begin at 784 and 852,
 //! and whose data begins at 921.
-use crate::machines::{NEVER, formatted, hurt, hurt_late, run, stop_in, weak};
+use crate::machines::{NEVER, formatted, hurt, hurt_late, repeated, run, stop_in, weak};
 use sector_disk::{Event, Sector};
 use std::alloc::{AllocError, Global};
 use std::test::Fail;
@@ -33,16 +33,18 @@ fn first_wrong_row(
     Ok(None)
 }
 
+// The four runs: a line, its input, and the text with which it ends.
+const LINES: [(&str, &[u8], &str); 4] = [
+    ("cfs put v a", b"x", "made a!1 2\n"),
+    ("cfs list v *", b"", LISTED),
+    ("cfs list v *", b"", LISTED),
+    ("cfs get v a!1", b"", "x"),
+];
+
 #[test]
 fn a_worn_pair_loses_nothing(rt: HostRuntime) -> Result<(), Fail> {
     let alloc = rt.alloc();
     let image = formatted(alloc, FORMAT)?;
-    let lines = [
-        ("cfs put v a", b"x".as_slice(), "made a!1 2\n"),
-        ("cfs list v *", b"".as_slice(), LISTED),
-        ("cfs list v *", b"".as_slice(), LISTED),
-        ("cfs get v a!1", b"".as_slice(), "x"),
-    ];
     // The pair of all windows, what happens in the four runs, and a sector that is whole at the end.
     let rows = [
         // A page of the record, which stands at 16..23, and the end behind it.
@@ -57,7 +59,7 @@ fn a_worn_pair_loses_nothing(rt: HostRuntime) -> Result<(), Fail> {
     ];
     for (pair, events, whole) in rows {
         let mut m = weak(alloc, image.as_slice(), [pair; 3])?;
-        for (happens, (line, input, said)) in events.iter().zip(lines) {
+        for (happens, (line, input, said)) in events.iter().zip(LINES) {
             let (next, status) = run(alloc, m, happens, line, input)?;
             assert_eq!(rt; next.said(), said.as_bytes(), "{pair} {line}");
             assert!(rt; status == 0 && next.honest(), "{pair} {line}");
@@ -75,17 +77,11 @@ fn a_worn_pair_loses_nothing(rt: HostRuntime) -> Result<(), Fail> {
 #[test]
 fn an_old_copy_serves_no_record(rt: HostRuntime) -> Result<(), Fail> {
     let stop = stop_in(16, 1, 5);
-    let rows = [
-        (NEVER, "cfs put v a", b"x".as_slice(), 0, "made a!1 2\n"),
-        (stop, "cfs put v b", b"y".as_slice(), 6, ""),
-        (
-            hurt(19),
-            "cfs get v b!1",
-            b"".as_slice(),
-            1,
-            "refused no-such\n",
-        ),
-        (NEVER, "cfs list v *", b"".as_slice(), 0, LISTED),
+    let rows: [Row; 4] = [
+        (NEVER, "cfs put v a", b"x", 0, "made a!1 2\n"),
+        (stop, "cfs put v b", b"y", 6, ""),
+        (hurt(19), "cfs get v b!1", b"", 1, "refused no-such\n"),
+        (NEVER, "cfs list v *", b"", 0, LISTED),
     ];
     assert_eq!(rt; first_wrong_row(rt.alloc(), [19; 3], &rows)?, None);
     Ok(())
@@ -97,11 +93,11 @@ fn an_old_copy_serves_no_record(rt: HostRuntime) -> Result<(), Fail> {
 fn a_record_is_completed_before_its_pages_go_home(rt: HostRuntime) -> Result<(), Fail> {
     let cut = stop_in(16, 1, 5);
     let between = stop_in(852, 1, 0);
-    let rows = [
-        (cut, "cfs put v a", b"x".as_slice(), 6, ""),
-        (between, "cfs get v a!1", b"".as_slice(), 6, ""),
-        (hurt(19), "cfs get v a!1", b"".as_slice(), 0, "x"),
-        (hurt(784), "cfs get v a!1", b"".as_slice(), 0, "x"),
+    let rows: [Row; 4] = [
+        (cut, "cfs put v a", b"x", 6, ""),
+        (between, "cfs get v a!1", b"", 6, ""),
+        (hurt(19), "cfs get v a!1", b"", 0, "x"),
+        (hurt(784), "cfs get v a!1", b"", 0, "x"),
     ];
     assert_eq!(rt; first_wrong_row(rt.alloc(), [19, 19, 784], &rows)?, None);
     Ok(())
@@ -110,12 +106,12 @@ fn a_record_is_completed_before_its_pages_go_home(rt: HostRuntime) -> Result<(),
 // The leader stands at 921, and three sectors of bytes behind it.
 #[test]
 fn bytes_of_a_version_stand_once(rt: HostRuntime) -> Result<(), Fail> {
-    let bytes = [7; 1200];
+    let bytes = repeated::<1200>(7);
     let damaged = "damaged g!1 923\n";
-    let rows = [
-        (NEVER, "cfs put v g", bytes.as_slice(), 0, "made g!1 4\n"),
-        (hurt(923), "cfs get v g!1", b"".as_slice(), 8, damaged),
-        (NEVER, "cfs get v g!1", b"".as_slice(), 8, damaged),
+    let rows: [Row; 3] = [
+        (NEVER, "cfs put v g", &bytes, 0, "made g!1 4\n"),
+        (hurt(923), "cfs get v g!1", b"", 8, damaged),
+        (NEVER, "cfs get v g!1", b"", 8, damaged),
     ];
     assert_eq!(rt; first_wrong_row(rt.alloc(), [923; 3], &rows)?, None);
     Ok(())
