@@ -1,18 +1,13 @@
 -- A version that is entered over pages: what is needed of its entry, what it makes, and why none is entered.
-use Rattle.std.proofs.Common.{◌≡◌, inl, inr, ℕ, ◌-◌, ◌<◌, length, ◌≤◌, ◌^◌, true, List, [], Option, None, refl, sym, ap, subst, ◌∙◌, arith}
-use Rattle.std.specs.Prelude.{◌&&◌, ◌==◌, nat_le}
+use Rattle.std.proofs.Common.{◌≡◌, inl, inr, ℕ, ◌-◌, ◌<◌, length, ◌≤◌, ◌^◌, List, [], Option, None, refl, sym, ap, subst, ◌∙◌, arith}
 use Rattle.std.specs.List.{AllByRecursion}
-use Rattle.std.proofs.lemmas.Bool.{and_parts}
 use Rattle.std.proofs.lemmas.List.Elements.{All-contains, All-from_recursion}
-use Rattle.fsd_bytes.specs.Keys.{is_key, max_u32}
+use Rattle.fsd_bytes.specs.Keys.{max_u32}
 use Rattle.fsd_bytes.specs.declared.key.Key.{Key}
 use Rattle.fsd_bytes.specs.declared.refusal.Refusal.{Refusal}
 use Rattle.fsd_bytes.specs.declared.refusal.Refusal.TheVariants as Why
-use Rattle.run_table.specs.RunTable.{are_runs, total}
 use Rattle.sector_set.specs.Area.{Area}
 use Rattle.shadow_frees.specs.Waits.{Waits}
-use Rattle.fsd_formats.specs.declared.entry.Entry.{Entry}
-use Rattle.fsd_formats.specs.NamePage.{is_entry, max_keep, max_length, sectors_for}
 use Rattle.fsd_table.specs.Table.{BreaksTable}
 use Rattle.name_page.specs.declared.pages.Pages.{Ghosts}
 use Rattle.name_page.specs.Looks.{OnlyWalks}
@@ -32,18 +27,6 @@ use Rattle.version_table.specs.Versions.{next_key}
 use Rattle.cached_table.specs.Entering.{AreInTurn, EntersNone, LosesUntaken, RefusesFor, ShowsRefusal, TellsUntaken, enter_refusal, plan_refusal}
 use Rattle.cached_table.specs.Looking.{refusal_in}
 use Rattle.cached_table.proofs.RefusalLaws.{outer_cases}
-
--- ---- its entry
-
-module _ (draft : Entry) (plan : Plan) (good : is_entry draft ≡ true) where
-  sizes : ((((is_key draft.key && nat_le draft.keep max_keep) && nat_le draft.length max_length) && are_runs draft.runs) ≡ true) × ((total draft.runs == sectors_for draft.length) ≡ true)
-  sizes = and_parts (is_key draft.key && nat_le draft.keep max_keep && nat_le draft.length max_length && are_runs draft.runs) (total draft.runs == sectors_for draft.length) good
-
-  runs_good : ((is_key draft.key && nat_le draft.keep max_keep && nat_le draft.length max_length) ≡ true) × (are_runs draft.runs ≡ true)
-  runs_good = and_parts (is_key draft.key && nat_le draft.keep max_keep && nat_le draft.length max_length) (are_runs draft.runs) sizes.0
-
-  length_good : nat_le draft.length max_length ≡ true
-  length_good = (and_parts (is_key draft.key && nat_le draft.keep max_keep) (nat_le draft.length max_length) runs_good.0).1
 
 -- ---- what holds of the table
 

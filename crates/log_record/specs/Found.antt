@@ -1,5 +1,5 @@
 -- What is read of sectors in memory, and what is found of a record in them.
-use Rattle.std.specs.Prelude.{◌≡◌, ℕ, ◌*◌, Bool, false, List, length, Option, Some, None, if◌then◌else◌, slice_index_or, ⊤}
+use Rattle.std.specs.Prelude.{◌≡◌, ℕ, Bool, false, List, length, Option, Some, None, if◌then◌else◌, slice_index_or, ⊤}
 use Rattle.fsd_log.specs.Judged.{Reader, slice_of, Serving}
 use Rattle.log_record.specs.declared.judging.Found.{Found}
 use Rattle.log_record.specs.declared.judging.Judged.{Judged}

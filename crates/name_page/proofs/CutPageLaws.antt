@@ -31,17 +31,18 @@ keys_behind (x ∷ xs) ys e = keys_behind xs ys (ascend_tail x (xs ++ ys) e)
 
 -- ---- leaves
 
-least_of : (page n : ℕ) → 190 ≤ n → least_used page ≤ n
+-- any page may have so much
+pub least_of : (page n : ℕ) → 190 ≤ n → least_used page ≤ n
 least_of page n h = by (page == 0)
   where
     by : (b : Bool) → cond b 0 190 ≤ n
     by true = omega arith
     by false = h
 
-a_leaf : (page : ℕ) (xs : List Entry) → list_all is_entry xs ≡ true → are_ascending (entry_keys xs) ≡ true → 190 ≤ used_by xs → used_by xs ≤ 488 → is_page page 0 (Leaf xs) ≡ true
-a_leaf page xs all asc least most =
+pub leaf_page : (page : ℕ) (xs : List Entry) → list_all is_entry xs ≡ true → are_ascending (entry_keys xs) ≡ true → least_used page ≤ used_by xs → used_by xs ≤ room → is_page page 0 (Leaf xs) ≡ true
+leaf_page page xs all asc least most =
     and_from (list_all is_entry xs && are_ascending (entry_keys xs)) (is_between (least_used page) room (used_by xs)) (and_from (list_all is_entry xs) (are_ascending (entry_keys xs)) all asc)
-    (is_between_from (least_used page) room (used_by xs) (least_of page (used_by xs) least) most)
+    (is_between_from (least_used page) room (used_by xs) least most)
 
 pub used_apart : (xs ys : List Entry) → used_by (xs ++ ys) ≡ used_by xs + used_by ys
 used_apart xs ys = ap length (flat_map-append entry_bytes xs ys) ∙ length-append (flat_map entry_bytes xs) (flat_map entry_bytes ys)
@@ -52,8 +53,8 @@ leaves_of xs ys all asc many few least most page =
     let sum = used_apart xs ys in
     let each = and_parts (list_all is_entry xs) (list_all is_entry ys) (sym (list_all-append is_entry xs ys) ∙ all) in
     let keys : are_ascending (entry_keys xs ++ entry_keys ys) ≡ true = ap are_ascending (sym (entry_keys_append xs ys)) ∙ asc in (
-      a_leaf page xs each.0 (keys_front (entry_keys xs) (entry_keys ys) keys) least (omega (arith, most)),
-      a_leaf page ys each.1 (keys_behind (entry_keys xs) (entry_keys ys) keys) (omega (arith, sum, many, most)) (omega (arith, sum, few, least)),
+      leaf_page page xs each.0 (keys_front (entry_keys xs) (entry_keys ys) keys) (least_of page (used_by xs) least) (omega (arith, most)),
+      leaf_page page ys each.1 (keys_behind (entry_keys xs) (entry_keys ys) keys) (least_of page (used_by ys) (omega (arith, sum, many, most))) (omega (arith, sum, few, least)),
     )
 
 pub leaves_at : (entries : List Entry) (i : ℕ) → list_all is_entry entries ≡ true → are_ascending (entry_keys entries) ≡ true → 488 < used_by entries → used_by entries ≤ 678 → 190 ≤ used_by (take i entries)

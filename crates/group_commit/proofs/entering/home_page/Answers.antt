@@ -1,4 +1,4 @@
-use Rattle.std.proofs.Common.{rules, ◌≡◌, ◌+◌, ℕ, Bool, List, length, Some, Ok, ap, subst, arith}
+use Rattle.std.proofs.Common.{rules, ◌≡◌, ℕ, Bool, List, length, Some, Ok, ap, subst, arith}
 use Rattle.volume_layout.specs.declared.layout.Layout.{Layout}
 use Rattle.sector_disk.specs.declared.machine.LoadFault.TheVariants.{Device}
 use Rattle.sector_disk.specs.declared.sector.WeakRun.{WeakRun}

@@ -10,7 +10,8 @@ use Rattle.name_btree.specs.Draft.{IsDrafted, with_freed}
 use Rattle.name_btree.specs.Trim.{IsBetween, separators_shared}
 use Rattle.name_btree.proofs.GrowLaws.{behind_key}
 use Rattle.name_btree.proofs.PairLaws.{at_place, head_of}
-use Rattle.name_btree.proofs.PutLaws.{all_back, all_front, draft_with, leaf_page, least_of}
+use Rattle.name_page.proofs.CutPageLaws.{leaf_page, least_of}
+use Rattle.name_btree.proofs.PutLaws.{all_back, all_front, draft_with}
 use Rattle.name_btree.proofs.TrimLaws.{entry_between}
 use Rattle.name_btree.proofs.trimming.put_leaves.Goals as goal
 
