@@ -1,6 +1,8 @@
 -- An anchor that is written twice.
-use Rattle.std.proofs.Common.{arith}
+use Rattle.std.proofs.Common.{◌≡◌, ℕ, Option, arith, subst}
 use Rattle.sector_disk.specs.Image.{stand}
+use Rattle.sector_disk.specs.declared.machine.Machine.{Ghosts}
+use Rattle.sector_disk.specs.Calls.{WritesDisk}
 use Rattle.sector_disk.specs.Machine.{Moment, Holds}
 use Rattle.sector_disk.proofs.Holding.{holds_on}
 use Rattle.fsd_formats.specs.declared.anchor.Anchor.{Anchor}
@@ -19,3 +21,7 @@ then_copy anchor old mid left first part = record {
   once = omega arith;
   holds = holds_on old mid left (stand old.image 8 (anchor_bytes anchor) 1) 12 (anchor_bytes anchor) part.stood first part.holds;
 }
+
+-- a call that writes an anchor, by another spelling of it
+pub anchored : {D : Type 0} (M : Ghosts D) (fault : Option ℕ) (written anchor : Anchor) (old new : D) → written ≡ anchor → WritesDisk M fault (AnchorsIn written) old new → WritesDisk M fault (AnchorsIn anchor) old new
+anchored M fault written anchor old new is writes = subst (λ (a : Anchor). WritesDisk M fault (AnchorsIn a) old new) is writes

@@ -1,188 +1,183 @@
-use Rattle.std.proofs.Common.{◌≡◌, ◌+◌, ◌*◌, ◌<◌, ◌≤◌, ◌^◌, ℕ, length, arith, subst, ap, ◌∙◌, sym, rules, refl, [], ◌∷◌, ◌++◌}
+use Rattle.std.proofs.Common.{◌≡◌, ◌+◌, ◌*◌, ◌<◌, ◌≤◌, ◌^◌, ℕ, List, Option, None, length, arith, subst, ap, ◌∙◌, sym, rules, refl, [], ◌∷◌, ◌++◌}
 use Rattle.sector_disk.specs.Image.{stand}
-use Rattle.sector_disk.specs.Machine.{Holds}
+use Rattle.sector_disk.specs.declared.machine.Machine.{Ghosts}
+use Rattle.sector_disk.specs.Calls.{WritesDisk}
+use Rattle.sector_disk.specs.Machine.{Holds, LeavesOnly}
 use Rattle.sector_disk.proofs.Moments.{leaves_more}
 use Rattle.fsd_formats.specs.Record.{Stamp, record_len}
 use Rattle.fsd_log.specs.Laid.{laid_bytes}
-use Rattle.fsd_log.specs.Scan.{IsIn, IsEnd, spot_for, place_of}
-use Rattle.log_thirds.specs.LogValue.{LogValue}
-use Rattle.log_thirds.specs.Append.{StandsInPart, IsLogWorn, stamp_now, next_record, log_past, log_with, IsIndexed}
+use Rattle.fsd_log.specs.Scan.{IsIn, IsEnd, Placed, spot_for, place_of}
+use Rattle.log_thirds.specs.LogValue.{FitsLayout, LogValue}
+use Rattle.std.proofs.lemmas.Result.{err_from_is_err_and}
+use Rattle.log_thirds.specs.Append.{AppendsWorn, StandsInPart, IsLogWorn, stamp_now, next_record, log_with, IsIndexed}
 use Rattle.log_thirds.specs.Slots.{noted, LieInRecords, SlotsInside}
 use Rattle.log_thirds.specs.Firsts.{firsts_with, AreNumbers}
 use Rattle.log_thirds.proofs.FirstsLaws.{firsts_more, numbers_more}
 use Rattle.log_thirds.proofs.SlotLaws.{length-noted, slots_more, record_inside, record_lies}
+use Rattle.std.specs.List.{AllByRecursion}
 use Rattle.std.specs.Vec.{with_items}
 use Rattle.std.proofs.lemmas.List.{with_items_is}
 use Rattle.log_thirds.proofs.MomentLaws.{MayAppend, all_small, write_inside, spots, in_third}
 use Rattle.log_thirds.proofs.WornMomentLaws.{worn_appends, worn_appended}
+use Rattle.log_thirds.proofs.thirds.Log.append.Given as given
+use Rattle.log_thirds.proofs.thirds.Log.append.Goals.{After-note, After-place-place}
 use Rattle.log_thirds.proofs.thirds.Log.append.Goals as goal
+
+-- ---- the log takes the record, whatever the disk shows
+
+inside : (g : given.Over) (c : After-place-place g) → 16 + 3 * c.args.self.now.layout.third ≤ c.args.self.now.layout.sectors
+inside g c = subst (λ (x : LogValue). 16 + 3 * x.layout.third ≤ x.layout.sectors) c.self.view_is c.self.invariant.inside
+
+place_is : (g : given.Over) (c : After-place-place g)
+    → c.place-place.result ≡ place_of c.args.self.now.layout c.args.self.now.anchor.third (spot_for c.args.self.now.layout (length c.args.pages.now) c.args.self.now.head).at
+place_is g c = c.place-place.ensures ∙ ap (place_of c.args.self.now.layout c.args.self.now.anchor.third) c.spot-at.ensures.at
+
+may : (g : given.Over) (c : After-place-place g) (long : ℕ) → AllByRecursion (λ n. n < 2 ^ 32) c.args.pages.now → 16 + 3 * c.args.self.now.layout.third ≤ long → MayAppend c.args.self.now c.args.pages.now c.args.images.now long
+may g c long small sized =
+    let was = c.self.invariant in
+    let epoch : c.self.inside.anchor.epoch < 2 ^ 32 = search rules in
+    record {
+      least = subst (λ (x : LogValue). 200 ≤ x.layout.third) c.self.view_is was.least;
+      one_of = subst (λ (x : LogValue). x.anchor.third ≤ 2) c.self.view_is was.third;
+      is_in = subst (λ (x : LogValue). IsIn x.layout x.head) c.self.view_is was.is_in;
+      epoch = subst (λ (x : LogValue). x.anchor.epoch < 2 ^ 32) c.self.view_is epoch;
+      number = c.requires.numbered;
+      accepted = c.requires.pages;
+      small = small;
+      bytes = c.requires.images;
+      stamped = c.requires.stamped;
+      room = c.requires.room;
+      sized = sized;
+    }
+
+may_now : (g : given.Over) (c : After-place-place g) → AllByRecursion (λ n. n < 2 ^ 32) c.args.pages.now → g.M.Machine.honest c.args.m.now → MayAppend c.args.self.now c.args.pages.now c.args.images.now (length (g.M.Machine.now c.args.m.now).image)
+may_now g c small h = may g c (length (g.M.Machine.now c.args.m.now).image) small (omega (arith, inside g c, c.requires.sectors, g.met.M.Machine.sized c.args.m.now h))
+
+shape : (g : given.Over) (c : After-place-place g) → FitsLayout c.args.self.now
+shape g c =
+    let was = c.self.invariant in
+    subst FitsLayout c.self.view_is (record {
+      least = was.least;
+      inside = was.inside;
+      third = was.third;
+      is_in = was.is_in;
+      begun = was.begun;
+      epoch = search rules;
+      number = search rules;
+      numbers = was.numbers;
+      pages = search rules;
+      table = was.table;
+    })
+
+-- ---- what is written, by the log's own words for where and under which stamp
+
+written_at : (g : given.Over) (c : After-place-place g)
+    → ◌≡◌ {A = ℕ × Stamp} (c.place-place.result, record { epoch = c.self.inside.anchor.epoch; number = c.self.inside.number }) (place_of c.args.self.now.layout c.args.self.now.anchor.third (spot_for c.args.self.now.layout (length c.args.pages.now) c.args.self.now.head).at, stamp_now c.args.self.now)
+written_at g c = λ i. (place_is g c i, stamp_now (c.self.view_is i))
+
+module _ {D : Type 0} (M : Ghosts D) (old new : D) (pages images : List ℕ) where
+  written : (fault : Option ℕ) (was is : ℕ × Stamp) → was ≡ is → WritesDisk M fault (StandsInPart was.0 (laid_bytes was.1 pages images) (record_len (length pages))) old new → WritesDisk M fault (StandsInPart is.0 (laid_bytes is.1 pages images) (record_len (length pages))) old new
+  written fault was is same writes = subst (λ (at : ℕ × Stamp). WritesDisk M fault (StandsInPart at.0 (laid_bytes at.1 pages images) (record_len (length pages))) old new) same writes
+
+  module _ (log : LogValue) (fault : Option ℕ)
+      (writes : WritesDisk M fault (StandsInPart (place_of log.layout log.anchor.third (spot_for log.layout (length pages) log.head).at) (laid_bytes (stamp_now log) pages images) (record_len (length pages))) old new)
+      (may : M.honest old → MayAppend log pages images (length (M.now old).image)) (records : List Placed) (h : M.honest new) (is_log : IsLogWorn log records (M.now old)) where
+    any_moment : LeavesOnly M.moment M.left_since old new (AppendsWorn log records pages images (M.now old))
+    any_moment =
+        leaves_more M.moment M.left_since old new _ _ (λ left part. worn_appends log pages images (length (M.now old).image) (may (writes.trust.honest h)) (M.now old) refl records is_log left part) (writes.any_moment h)
+
+-- the table of slots has the record's
+slots_noted : (g : given.Over) (c : After-note g) → (with_items c.self.inside.slots c.note.new.slots).items ≡ noted c.self.inside.number (c.place-place.result + 3) (c.place-place.result + 3 + length c.args.pages.now + 1) c.args.pages.now c.self.inside.slots.items
+slots_noted g c =
+    let held = c.as_mut_slice-2.ensures in
+    let number : ℕ = c.self.inside.number in
+    let place : ℕ = c.place-place.result + 3 in
+    let copy : ℕ = place + length c.args.pages.now + 1 in
+    let long : length c.note.new.slots ≡ length c.as_mut_slice-2.result.now = ap length c.note.ensures ∙ length-noted number c.as_mut_slice-2.result.now place copy c.args.pages.now in
+    with_items_is c.self.inside.slots c.note.new.slots (long ∙ held.len) ∙ c.note.ensures ∙ ap (noted number place copy c.args.pages.now) held.value
 
 pub write_record-requires-clause-in_range : goal.write_record-requires-clause-in_range
 write_record-requires-clause-in_range g c =
     let log = c.args.self.now in
-    let epoch : c.self.inside.anchor.epoch < 2 ^ 32 = search rules in
-    let inside : 16 + 3 * log.layout.third ≤ log.layout.sectors = subst (λ (x : LogValue). 16 + 3 * x.layout.third ≤ x.layout.sectors) c.self.view_is c.self.invariant.inside in
-    let may : MayAppend log c.args.pages.now c.args.images.now (16 + 3 * log.layout.third) = record {
-      least = subst (λ (x : LogValue). 200 ≤ x.layout.third) c.self.view_is c.self.invariant.least;
-      one_of = subst (λ (x : LogValue). x.anchor.third ≤ 2) c.self.view_is c.self.invariant.third;
-      is_in = subst (λ (x : LogValue). IsIn x.layout x.head) c.self.view_is c.self.invariant.is_in;
-      epoch = subst (λ (x : LogValue). x.anchor.epoch < 2 ^ 32) c.self.view_is epoch;
-      number = c.requires.numbered;
-      accepted = c.requires.pages;
-      small = all_small c.args.pages.now (λ k. omega (arith, c.type_inv.pages k));
-      bytes = c.requires.images;
-      stamped = c.requires.stamped;
-      room = c.requires.room;
-      sized = omega arith;
-    } in
-    let place : c.place-place.result ≡ place_of log.layout log.anchor.third (spot_for log.layout (length c.args.pages.now) log.head).at = c.place-place.ensures ∙ ap (place_of log.layout log.anchor.third) c.spot-at.ensures.at in
-    omega (arith, write_inside log c.args.pages.now c.args.images.now (16 + 3 * log.layout.third) may, inside, place, c.requires.sectors)
+    let p = (goal.at.write_record-requires-clause-in_range g c).After-place-place in
+    let may = may g p (16 + 3 * log.layout.third) (all_small c.args.pages.now (λ k. omega (arith, c.type_inv.pages k))) (omega arith) in
+    omega (arith, write_inside log c.args.pages.now c.args.images.now (16 + 3 * log.layout.third) may, inside g p, place_is g p, c.requires.sectors)
 
-pub returns-in_err-write_record-clause-worn_moment : goal.returns-in_err-write_record-clause-worn_moment
-returns-in_err-write_record-clause-worn_moment g c records h1 is_log =
+pub returns-in_err-write_record : goal.returns-in_err-write_record
+returns-in_err-write_record g c =
     let M = g.M.Machine in
-    let old = c.args.m.now in
-    let h0 = c.write_record.ensures.writes.trust.honest h1 in
-    let image = (M.now old).image in
-    let sized = g.met.M.Machine.sized old h0 in
     let log = c.args.self.now in
-    let epoch : c.self.inside.anchor.epoch < 2 ^ 32 = search rules in
-    let inside : 16 + 3 * log.layout.third ≤ log.layout.sectors = subst (λ (x : LogValue). 16 + 3 * x.layout.third ≤ x.layout.sectors) c.self.view_is c.self.invariant.inside in
-    let may : MayAppend log c.args.pages.now c.args.images.now (length (M.now old).image) = record {
-      least = subst (λ (x : LogValue). 200 ≤ x.layout.third) c.self.view_is c.self.invariant.least;
-      one_of = subst (λ (x : LogValue). x.anchor.third ≤ 2) c.self.view_is c.self.invariant.third;
-      is_in = subst (λ (x : LogValue). IsIn x.layout x.head) c.self.view_is c.self.invariant.is_in;
-      epoch = subst (λ (x : LogValue). x.anchor.epoch < 2 ^ 32) c.self.view_is epoch;
-      number = c.requires.numbered;
-      accepted = c.requires.pages;
-      small = all_small c.args.pages.now (λ k. omega (arith, c.type_inv.pages k));
-      bytes = c.requires.images;
-      stamped = c.requires.stamped;
-      room = c.requires.room;
-      sized = omega (arith, inside, c.requires.sectors, sized);
-    } in
-    let place : c.place-place.result ≡ place_of log.layout log.anchor.third (spot_for log.layout (length c.args.pages.now) log.head).at = c.place-place.ensures ∙ ap (place_of log.layout log.anchor.third) c.spot-at.ensures.at in
-    let stamp : stamp_now log ≡ record { epoch = c.self.inside.anchor.epoch; number = c.self.inside.number } = ap stamp_now (sym c.self.view_is) in
-    leaves_more M.moment M.left_since old c.write_record.new.m _ _
-    (λ left part. worn_appends log c.args.pages.now c.args.images.now (length (M.now old).image) may (M.now old) refl records is_log left
-    (subst (λ (p : ℕ). StandsInPart p (laid_bytes (stamp_now log) c.args.pages.now c.args.images.now) (record_len (length c.args.pages.now)) (M.now old) left) place
-    (subst (λ (s : Stamp). StandsInPart c.place-place.result (laid_bytes s c.args.pages.now c.args.images.now) (record_len (length c.args.pages.now)) (M.now old) left) (sym stamp) part)))
-    (c.write_record.ensures.writes.any_moment h1)
-
-pub returns-clause-worn_moment : goal.returns-clause-worn_moment
-returns-clause-worn_moment g c records h1 is_log =
-    let M = g.M.Machine in
-    let old = c.args.m.now in
-    let h0 = c.write_record.ensures.writes.trust.honest h1 in
-    let image = (M.now old).image in
-    let sized = g.met.M.Machine.sized old h0 in
-    let log = c.args.self.now in
-    let epoch : c.self.inside.anchor.epoch < 2 ^ 32 = search rules in
-    let inside : 16 + 3 * log.layout.third ≤ log.layout.sectors = subst (λ (x : LogValue). 16 + 3 * x.layout.third ≤ x.layout.sectors) c.self.view_is c.self.invariant.inside in
-    let may : MayAppend log c.args.pages.now c.args.images.now (length (M.now old).image) = record {
-      least = subst (λ (x : LogValue). 200 ≤ x.layout.third) c.self.view_is c.self.invariant.least;
-      one_of = subst (λ (x : LogValue). x.anchor.third ≤ 2) c.self.view_is c.self.invariant.third;
-      is_in = subst (λ (x : LogValue). IsIn x.layout x.head) c.self.view_is c.self.invariant.is_in;
-      epoch = subst (λ (x : LogValue). x.anchor.epoch < 2 ^ 32) c.self.view_is epoch;
-      number = c.requires.numbered;
-      accepted = c.requires.pages;
-      small = all_small c.args.pages.now (λ k. omega (arith, c.type_inv.pages k));
-      bytes = c.requires.images;
-      stamped = c.requires.stamped;
-      room = c.requires.room;
-      sized = omega (arith, inside, c.requires.sectors, sized);
-    } in
-    let place : c.place-place.result ≡ place_of log.layout log.anchor.third (spot_for log.layout (length c.args.pages.now) log.head).at = c.place-place.ensures ∙ ap (place_of log.layout log.anchor.third) c.spot-at.ensures.at in
-    let stamp : stamp_now log ≡ record { epoch = c.self.inside.anchor.epoch; number = c.self.inside.number } = ap stamp_now (sym c.self.view_is) in
-    leaves_more M.moment M.left_since old c.write_record.new.m _ _
-    (λ left part. worn_appends log c.args.pages.now c.args.images.now (length (M.now old).image) may (M.now old) refl records is_log left
-    (subst (λ (p : ℕ). StandsInPart p (laid_bytes (stamp_now log) c.args.pages.now c.args.images.now) (record_len (length c.args.pages.now)) (M.now old) left) place
-    (subst (λ (s : Stamp). StandsInPart c.place-place.result (laid_bytes s c.args.pages.now c.args.images.now) (record_len (length c.args.pages.now)) (M.now old) left) (sym stamp) part)))
-    (c.write_record.ensures.writes.any_moment h1)
-
-pub returns-clause-worn_done : goal.returns-clause-worn_done
-returns-clause-worn_done g c records h1 narrow is_log =
-    let M = g.M.Machine in
-    let old = c.args.m.now in
-    let h0 = c.write_record.ensures.writes.trust.honest h1 in
-    let image = (M.now old).image in
-    let sized = g.met.M.Machine.sized old h0 in
-    let log = c.args.self.now in
-    let epoch : c.self.inside.anchor.epoch < 2 ^ 32 = search rules in
-    let inside : 16 + 3 * log.layout.third ≤ log.layout.sectors = subst (λ (x : LogValue). 16 + 3 * x.layout.third ≤ x.layout.sectors) c.self.view_is c.self.invariant.inside in
-    let may : MayAppend log c.args.pages.now c.args.images.now (length (M.now old).image) = record {
-      least = subst (λ (x : LogValue). 200 ≤ x.layout.third) c.self.view_is c.self.invariant.least;
-      one_of = subst (λ (x : LogValue). x.anchor.third ≤ 2) c.self.view_is c.self.invariant.third;
-      is_in = subst (λ (x : LogValue). IsIn x.layout x.head) c.self.view_is c.self.invariant.is_in;
-      epoch = subst (λ (x : LogValue). x.anchor.epoch < 2 ^ 32) c.self.view_is epoch;
-      number = c.requires.numbered;
-      accepted = c.requires.pages;
-      small = all_small c.args.pages.now (λ k. omega (arith, c.type_inv.pages k));
-      bytes = c.requires.images;
-      stamped = c.requires.stamped;
-      room = c.requires.room;
-      sized = omega (arith, inside, c.requires.sectors, sized);
-    } in
-    let place : c.place-place.result ≡ place_of log.layout log.anchor.third (spot_for log.layout (length c.args.pages.now) log.head).at = c.place-place.ensures ∙ ap (place_of log.layout log.anchor.third) c.spot-at.ensures.at in
-    let stamp : stamp_now log ≡ record { epoch = c.self.inside.anchor.epoch; number = c.self.inside.number } = ap stamp_now (sym c.self.view_is) in
-    let done = worn_appended log c.args.pages.now c.args.images.now (length (M.now old).image) may (M.now old) refl records is_log (M.now c.write_record.new.m) narrow
-    (subst (λ (p : ℕ). Holds (M.now old) (stand (M.now old).image p (laid_bytes (stamp_now log) c.args.pages.now c.args.images.now) (record_len (length c.args.pages.now))) (M.now c.write_record.new.m)) place
-    (subst (λ (s : Stamp). Holds (M.now old) (stand (M.now old).image c.place-place.result (laid_bytes s c.args.pages.now c.args.images.now) (record_len (length c.args.pages.now))) (M.now c.write_record.new.m)) (sym stamp) (c.in_ok-write_record.ensures.done h1))) in
-    let n : ℕ = length c.args.pages.now in
-    let same : ◌≡◌ {A = LogValue} (record { layout = c.self.inside.layout; anchor = c.self.inside.anchor; head = record { number = c.self.inside.number + 1; at = c.spot-at.result.0 + (2 * length c.args.pages.now + 5); end = c.spot-at.result.1 }; firsts = c.self.inside.firsts; slots = c.self.inside.slots.items; copies = record { place = c.self.inside.copies_at; bytes = c.self.inside.copies.items } }) (log_past log (length c.args.pages.now)) =
-    λ i. record { layout = (c.self.view_is i).layout; anchor = (c.self.view_is i).anchor; head = record { number = (c.self.view_is i).head.number + 1; at = c.spot-at.ensures.at i + (2 * length c.args.pages.now + 5); end = c.spot-at.ensures.end i }; firsts = (c.self.view_is i).firsts; slots = (c.self.view_is i).slots; copies = (c.self.view_is i).copies } in
-    subst (λ (x : LogValue). IsLogWorn x (records ++ next_record log c.args.pages.now c.args.images.now ∷ []) (M.now c.write_record.new.m)) (sym same) done
-
-pub returns-clause-indexed : goal.returns-clause-indexed
-returns-clause-indexed g c records are =
-    let log = c.args.self.now in
-    let place : c.place-place.result ≡ place_of log.layout log.anchor.third (spot_for log.layout (length c.args.pages.now) log.head).at = c.place-place.ensures ∙ ap (place_of log.layout log.anchor.third) c.spot-at.ensures.at in
-    let long : length c.note.new.slots ≡ length c.as_mut_slice-2.result.now =
-    ap length c.note.ensures ∙ length-noted c.self.inside.number c.as_mut_slice-2.result.now (c.place-place.result + 3) (c.place-place.result + 3 + length c.args.pages.now + 1) c.args.pages.now in
-    let kept : (with_items c.self.inside.slots c.note.new.slots).items ≡ c.note.new.slots = with_items_is c.self.inside.slots c.note.new.slots (long ∙ c.as_mut_slice-2.ensures.len) in
-    let slots : c.as_mut_slice-2.result.now ≡ log.slots = c.as_mut_slice-2.ensures.value ∙ ap (λ (x : LogValue). x.slots) c.self.view_is in
-    let number : c.self.inside.number ≡ log.head.number = ap (λ (x : LogValue). x.head.number) c.self.view_is in
-    let table : (with_items c.self.inside.slots c.note.new.slots).items ≡ (log_with log c.args.pages.now).slots =
-    kept ∙ c.note.ensures ∙ λ i. noted (number i) (place i + 3) (place i + 3 + length c.args.pages.now + 1) c.args.pages.now (slots i) in
-    let firsts_is : c.with-self-inside.result ≡ firsts_with log.layout.third (spot_for log.layout (length c.args.pages.now) log.head).at log.firsts =
-    c.with-self-inside.ensures ∙ λ i. firsts_with ((c.third.ensures.value ∙ ap (λ (x : LogValue). x.layout.third) c.self.view_is) i) (c.spot-at.ensures.at i) (c.self.view_is i).firsts in
-    let same : ◌≡◌ {A = LogValue} (record { layout = c.self.inside.layout; anchor = c.self.inside.anchor; head = record { number = c.self.inside.number + 1; at = c.spot-at.result.0 + (2 * length c.args.pages.now + 5); end = c.spot-at.result.1 }; firsts = c.with-self-inside.result; slots = (with_items c.self.inside.slots c.note.new.slots).items; copies = record { place = c.self.inside.copies_at; bytes = c.self.inside.copies.items } }) (log_with log c.args.pages.now) =
-    λ i. record { layout = (c.self.view_is i).layout; anchor = (c.self.view_is i).anchor; head = record { number = (c.self.view_is i).head.number + 1; at = c.spot-at.ensures.at i + (2 * length c.args.pages.now + 5); end = c.spot-at.ensures.end i }; firsts = firsts_is i; slots = table i; copies = (c.self.view_is i).copies } in
-    subst (λ (x : LogValue). IsIndexed x (records ++ next_record log c.args.pages.now c.args.images.now ∷ [])) (sym same)
-    (record {
-      slots = slots_more log.layout log.anchor.third records (next_record log c.args.pages.now c.args.images.now) log.slots are.slots;
-      firsts = firsts_more log.layout.third log.anchor.first records (next_record log c.args.pages.now c.args.images.now) log.firsts are.firsts;
+    let p = (goal.at.returns-in_err-write_record g c).After-place-place in
+    let failed = c.in_err-write_record.ensures in
+    let small = all_small c.args.pages.now (λ k. omega (arith, c.type_inv.pages k)) in
+    let told = err_from_is_err_and c.from_residual.result c.from_residual.ensures.1 in
+    let writes = written M c.args.m.now c.write_record.new.m c.args.pages.now c.args.images.now _ _ _ (written_at g p) failed.writes in
+    rw (told.1, told.2) (record {
+      writes = writes;
+      counted = tt;
+      counted_err = failed.counted_err;
+      worn_moment = any_moment M c.args.m.now c.write_record.new.m c.args.pages.now c.args.images.now log _ writes (may_now g p small);
+      worn_done = tt;
+      stands = tt;
+      shape = shape g p;
+      past = tt;
+      indexed = tt;
+      kept = c.self.view_is;
     })
+
+pub returns : goal.returns
+returns g c =
+    let M = g.M.Machine in
+    let log = c.args.self.now in
+    let pages = c.args.pages.now in
+    let old = M.now c.args.m.now in
+    let new = M.now c.write_record.new.m in
+    let p = (goal.at.returns g c).After-place-place in
+    let wrote = c.in_ok-write_record.ensures in
+    let small = all_small pages (λ k. omega (arith, c.type_inv.pages k)) in
+    let place = place_is g p in
+    let writes = written M c.args.m.now c.write_record.new.m pages c.args.images.now None _ _ (written_at g p) wrote.writes in
+    let stands : M.honest c.write_record.new.m → Holds old (stand old.image (place_of log.layout log.anchor.third (spot_for log.layout (length pages) log.head).at) (laid_bytes (stamp_now log) pages c.args.images.now) (record_len (length pages))) new =
+    λ h. subst (λ (at : ℕ × Stamp). Holds old (stand old.image at.0 (laid_bytes at.1 pages c.args.images.now) (record_len (length pages))) new) (written_at g p) (wrote.done h) in
+    let number : c.self.inside.number ≡ log.head.number = ap (λ (x : LogValue). x.head.number) c.self.view_is in
+    let slots : (with_items c.self.inside.slots c.note.new.slots).items ≡ (log_with log pages).slots =
+    slots_noted g (goal.at.returns g c).After-note ∙ λ i. noted (number i) (place i + 3) (place i + 3 + length pages + 1) pages (c.self.view_is i).slots in
+    let firsts : c.with-self-inside.result ≡ firsts_with log.layout.third (spot_for log.layout (length pages) log.head).at log.firsts =
+    c.with-self-inside.ensures ∙ λ i. firsts_with ((c.third.ensures.value ∙ ap (λ (x : LogValue). x.layout.third) c.self.view_is) i) (c.spot-at.ensures.at i) (c.self.view_is i).firsts in
+    let same : ◌≡◌ {A = LogValue} (record { layout = c.self.inside.layout; anchor = c.self.inside.anchor; head = record { number = c.self.inside.number + 1; at = c.spot-at.result.0 + (2 * length pages + 5); end = c.spot-at.result.1 }; firsts = c.with-self-inside.result; slots = (with_items c.self.inside.slots c.note.new.slots).items; copies = record { place = c.self.inside.copies_at; bytes = c.self.inside.copies.items } }) (log_with log pages) =
+    λ i. record { layout = (c.self.view_is i).layout; anchor = (c.self.view_is i).anchor; head = record { number = (c.self.view_is i).head.number + 1; at = c.spot-at.ensures.at i + (2 * length pages + 5); end = c.spot-at.ensures.end i }; firsts = firsts i; slots = slots i; copies = (c.self.view_is i).copies } in
+    record {
+      writes = writes;
+      counted = wrote.counted;
+      counted_err = tt;
+      worn_moment = any_moment M c.args.m.now c.write_record.new.m pages c.args.images.now log None writes (may_now g p small);
+      worn_done = λ records h narrow is_log. subst (λ (x : LogValue). IsLogWorn x (records ++ next_record log pages c.args.images.now ∷ []) new) (sym same)
+          (worn_appended log pages c.args.images.now (length old.image) (may_now g p small (writes.trust.honest h)) old refl records is_log new narrow (stands h));
+      stands = stands;
+      shape = shape g p;
+      past = same;
+      indexed = λ records are. subst (λ (x : LogValue). IsIndexed x (records ++ next_record log pages c.args.images.now ∷ [])) (sym same)
+          (record {
+            slots = slots_more log.layout log.anchor.third records (next_record log pages c.args.images.now) log.slots are.slots;
+            firsts = firsts_more log.layout.third log.anchor.first records (next_record log pages c.args.images.now) log.firsts are.firsts;
+          });
+      kept = tt;
+    }
 
 pub invariant_of-self-2 : goal.invariant_of-self-2
 invariant_of-self-2 g c =
     let log = c.args.self.now in
     let was = c.self.invariant in
-    let epoch : c.self.inside.anchor.epoch < 2 ^ 32 = search rules in
-    let inside : 16 + 3 * log.layout.third ≤ log.layout.sectors = subst (λ (x : LogValue). 16 + 3 * x.layout.third ≤ x.layout.sectors) c.self.view_is c.self.invariant.inside in
-    let may : MayAppend log c.args.pages.now c.args.images.now (16 + 3 * log.layout.third) = record {
-      least = subst (λ (x : LogValue). 200 ≤ x.layout.third) c.self.view_is c.self.invariant.least;
-      one_of = subst (λ (x : LogValue). x.anchor.third ≤ 2) c.self.view_is c.self.invariant.third;
-      is_in = subst (λ (x : LogValue). IsIn x.layout x.head) c.self.view_is c.self.invariant.is_in;
-      epoch = subst (λ (x : LogValue). x.anchor.epoch < 2 ^ 32) c.self.view_is epoch;
-      number = c.requires.numbered;
-      accepted = c.requires.pages;
-      small = all_small c.args.pages.now (λ k. omega (arith, c.type_inv.pages k));
-      bytes = c.requires.images;
-      stamped = c.requires.stamped;
-      room = c.requires.room;
-      sized = omega arith;
-    } in
+    let p = (goal.at.invariant_of-self-2 g c).After-place-place in
+    let may = may g p (16 + 3 * log.layout.third) (all_small c.args.pages.now (λ k. omega (arith, c.type_inv.pages k))) (omega arith) in
     let spot = spots log c.args.pages.now c.args.images.now (16 + 3 * log.layout.third) may in
     let at = c.spot-at.ensures.at in
     let end = c.spot-at.ensures.end in
-    let long : length c.note.new.slots ≡ length c.as_mut_slice-2.result.now =
-    ap length c.note.ensures ∙ length-noted c.self.inside.number c.as_mut_slice-2.result.now (c.place-place.result + 3) (c.place-place.result + 3 + length c.args.pages.now + 1) c.args.pages.now in
-    let kept : (with_items c.self.inside.slots c.note.new.slots).items ≡ c.note.new.slots = with_items_is c.self.inside.slots c.note.new.slots (long ∙ c.as_mut_slice-2.ensures.len) in
+    let noted_in = slots_noted g (goal.at.invariant_of-self-2 g c).After-note in
     let buffer : (with_items c.self.inside.buffer c.write_record.new.buffer).items ≡ c.write_record.new.buffer = with_items_is c.self.inside.buffer c.write_record.new.buffer (c.write_record.auto.buffer ∙ c.as_mut_slice.ensures.len) in
-    let slots : c.as_mut_slice-2.result.now ≡ log.slots = c.as_mut_slice-2.ensures.value ∙ ap (λ (x : LogValue). x.slots) c.self.view_is in
-    let on_disk : SlotsInside log.layout.sectors c.as_mut_slice-2.result.now = subst (SlotsInside log.layout.sectors) (sym slots) (subst (λ (x : LogValue). SlotsInside x.layout.sectors x.slots) c.self.view_is was.on_disk) in
-    let in_records : LieInRecords log.layout c.as_mut_slice-2.result.now = subst (LieInRecords log.layout) (sym slots) (subst (λ (x : LogValue). LieInRecords x.layout x.slots) c.self.view_is was.in_records) in
+    let on_disk = subst (λ (x : LogValue). SlotsInside x.layout.sectors c.self.inside.slots.items) c.self.view_is was.on_disk in
+    let in_records = subst (λ (x : LogValue). LieInRecords x.layout c.self.inside.slots.items) c.self.view_is was.in_records in
+    let within = in_third log c.args.pages.now c.args.images.now (16 + 3 * log.layout.third) may in
     let numbers : AreNumbers (c.self.inside.number + 1) c.with-self-inside.result = subst (AreNumbers (c.self.inside.number + 1)) (sym c.with-self-inside.ensures) (numbers_more c.third.result c.self.inside.number c.spot-at.result.0 c.self.inside.firsts was.numbers) in
     record {
       least = was.least;
@@ -193,15 +188,15 @@ invariant_of-self-2 g c =
       third = was.third;
       is_in = subst (λ (x : LogValue). IsIn x.layout (record { number = c.self.inside.number + 1; at = c.spot-at.result.0 + (2 * length c.args.pages.now + 5); end = c.spot-at.result.1 })) (sym c.self.view_is)
           (record { before = omega (arith, spot.1.to, at, end); from = omega (arith, spot.1.from, at, end); ends = subst (IsEnd log.layout) (sym end) spot.1.ends });
-      table = ap length kept ∙ long ∙ ap length c.as_mut_slice-2.ensures.value ∙ was.table;
-      on_disk = subst (SlotsInside c.self.inside.layout.sectors) (sym (kept ∙ c.note.ensures))
-          (subst (λ (x : LogValue). SlotsInside x.layout.sectors (noted c.self.inside.number (c.place-place.result + 3) (c.place-place.result + 3 + length c.args.pages.now + 1) c.args.pages.now c.as_mut_slice-2.result.now)) (sym c.self.view_is)
-          (record_inside log.layout log.anchor.third c.self.inside.number (spot_for log.layout (length c.args.pages.now) log.head).at (spot_for log.layout (length c.args.pages.now) log.head).end c.place-place.result c.args.pages.now c.as_mut_slice-2.result.now
-          (in_third log c.args.pages.now c.args.images.now (16 + 3 * log.layout.third) may) inside (c.place-place.ensures ∙ ap (place_of log.layout log.anchor.third) at) on_disk));
-      in_records = subst (LieInRecords c.self.inside.layout) (sym (kept ∙ c.note.ensures))
-          (subst (λ (x : LogValue). LieInRecords x.layout (noted c.self.inside.number (c.place-place.result + 3) (c.place-place.result + 3 + length c.args.pages.now + 1) c.args.pages.now c.as_mut_slice-2.result.now)) (sym c.self.view_is)
-          (record_lies log.layout log.anchor.third c.self.inside.number (spot_for log.layout (length c.args.pages.now) log.head).at (spot_for log.layout (length c.args.pages.now) log.head).end c.place-place.result c.args.pages.now c.as_mut_slice-2.result.now
-          (in_third log c.args.pages.now c.args.images.now (16 + 3 * log.layout.third) may) (c.place-place.ensures ∙ ap (place_of log.layout log.anchor.third) at) in_records));
+      table = ap length noted_in ∙ length-noted c.self.inside.number c.self.inside.slots.items (c.place-place.result + 3) (c.place-place.result + 3 + length c.args.pages.now + 1) c.args.pages.now ∙ was.table;
+      on_disk = subst (SlotsInside c.self.inside.layout.sectors) (sym noted_in)
+          (subst (λ (x : LogValue). SlotsInside x.layout.sectors (noted c.self.inside.number (c.place-place.result + 3) (c.place-place.result + 3 + length c.args.pages.now + 1) c.args.pages.now c.self.inside.slots.items)) (sym c.self.view_is)
+          (record_inside log.layout log.anchor.third c.self.inside.number (spot_for log.layout (length c.args.pages.now) log.head).at (spot_for log.layout (length c.args.pages.now) log.head).end c.place-place.result c.args.pages.now c.self.inside.slots.items
+          within (inside g p) (place_is g p) on_disk));
+      in_records = subst (LieInRecords c.self.inside.layout) (sym noted_in)
+          (subst (λ (x : LogValue). LieInRecords x.layout (noted c.self.inside.number (c.place-place.result + 3) (c.place-place.result + 3 + length c.args.pages.now + 1) c.args.pages.now c.self.inside.slots.items)) (sym c.self.view_is)
+          (record_lies log.layout log.anchor.third c.self.inside.number (spot_for log.layout (length c.args.pages.now) log.head).at (spot_for log.layout (length c.args.pages.now) log.head).end c.place-place.result c.args.pages.now c.self.inside.slots.items
+          within (place_is g p) in_records));
       copied = was.copied;
       few = was.few;
       long = ap length buffer ∙ c.write_record.auto.buffer ∙ ap length c.as_mut_slice.ensures.value ∙ was.long;

@@ -1,139 +1,164 @@
-use Rattle.std.proofs.Common.{◌≡◌, ◌<◌, ◌≤◌, ℕ, List, Option, Some, None, Ok, length, get_or, sym, ap, subst, arith, ◌∙◌}
+use Rattle.std.proofs.Common.{◌≡◌, ◌<◌, ◌≤◌, ℕ, Bool, true, false, List, Option, Some, None, Result, Ok, Err, length, get_or, refl, sym, ap, subst, arith, ◌∙◌}
 use Rattle.std.specs.Prelude.{IfSome}
 use Rattle.std.proofs.lemmas.List.{get_or_read}
+use Rattle.sector_disk.specs.declared.machine.LoadFault.{LoadFault}
+use Rattle.sector_disk.specs.Machine.{Moment}
+use Rattle.sector_disk.proofs.CallLaws.{reads_none}
 use Rattle.sector_disk.proofs.Damage.{lost_as}
 use Rattle.fsd_log.specs.Images.{last_image}
 use Rattle.fsd_log.specs.Places.{LieInRecord}
+use Rattle.fsd_log.specs.Scan.{Placed}
 use Rattle.log_thirds.specs.declared.slots.Slot.{Slot}
+use Rattle.log_thirds.specs.Append.{IsCalmNow, IsIndexed, scan_of}
 use Rattle.log_thirds.specs.Disk.{reads}
 use Rattle.log_thirds.specs.LogValue.{LogValue}
-use Rattle.log_thirds.specs.Slots.{LieInRecords, slot_of}
-use Rattle.log_thirds.specs.Images.{AreLogged, GivesSlot, LiesAt, SeesSlot, StandsAt}
+use Rattle.log_thirds.specs.Slots.{LieInRecords}
+use Rattle.log_thirds.specs.Images.{AreLogged, GivesLast, GivesSlot, LiesAt, SeesSlot, StandsAt}
 use Rattle.log_thirds.proofs.ImageLaws.{image_there, image_nowhere, slot_seen, stands_there}
+use Rattle.log_thirds.proofs.thirds.Log.image_of.Given as given
+use Rattle.log_thirds.proofs.thirds.Log.image_of.Goals.{After-index}
 use Rattle.log_thirds.proofs.thirds.Log.image_of.Goals as goal
 
 some_none : {A : Type 0} (x : A) → Some x ≡ None → ⊥
 some_none x is = cc is
 
-pub returns-in-Ok-Some-clause-image : goal.returns-in-Ok-Some-clause-image
-returns-in-Ok-Some-clause-image g c records h calm are same =
-    let M = g.M.Machine in
-    let log = c.args.self.now in
-    let long : length log.slots ≡ log.layout.pages = subst (λ (x : LogValue). length x.slots ≡ x.layout.pages) c.self.view_is c.self.invariant.table in
-    let within : c.args.page < length log.slots = omega (arith, long, c.requires.page) in
-    let slots : c.self.inside.slots.items ≡ log.slots = ap (λ (x : LogValue). x.slots) c.self.view_is in
-    let read : c.index.result.now ≡ get_or c.self.inside.slots.items c.args.page None = get_or_read c.self.inside.slots.items c.args.page c.index.result.now (omega (arith, within, ap length slots)) c.index.ensures None in
-    let is : get_or log.slots c.args.page None ≡ Some c.in-Some.slot = ap (λ (s : List (Option Slot)). get_or s c.args.page None) (sym slots) ∙ sym read ∙ c.in-Some.is in
-    let sees : SeesSlot (M.now c.args.m.now) c.in-Some.slot c.args.page log.anchor.epoch (Some c.in-Ok-Some.image) =
-    subst (λ (x : LogValue). SeesSlot (M.now c.args.m.now) c.in-Some.slot c.args.page x.anchor.epoch (Some c.in-Ok-Some.image)) c.self.view_is
-    (subst (λ (o : Option (List ℕ)). SeesSlot (M.now c.args.m.now) c.in-Some.slot c.args.page c.self.inside.anchor.epoch o) c.in-Ok-Some.field-0-is (c.in-Ok-Some.ensures.sees h)) in
-    let third : log.anchor.third ≤ 2 = subst (λ (x : LogValue). x.anchor.third ≤ 2) c.self.view_is c.self.invariant.third in
-    let gives = image_there log records (M.now c.args.m.now) c.args.page third are within c.in-Some.slot same is in
-    slot_seen (M.now c.args.m.now) c.in-Some.slot c.args.page log.anchor.epoch (Some c.in-Ok-Some.image) _ calm sees gives
+there_nowhere : ◌≡◌ {A = Result Bool LoadFault} (Ok true) (Ok false) → ⊥
+there_nowhere same = cc same
 
-pub returns-in-Ok-None-clause-lost : goal.returns-in-Ok-None-clause-lost
-returns-in-Ok-None-clause-lost g c h =
-    let M = g.M.Machine in
-    let log = c.args.self.now in
-    let long : length log.slots ≡ log.layout.pages = subst (λ (x : LogValue). length x.slots ≡ x.layout.pages) c.self.view_is c.self.invariant.table in
-    let within : c.args.page < length log.slots = omega (arith, long, c.requires.page) in
-    let slots : c.self.inside.slots.items ≡ log.slots = ap (λ (x : LogValue). x.slots) c.self.view_is in
-    let read : c.index.result.now ≡ get_or c.self.inside.slots.items c.args.page None = get_or_read c.self.inside.slots.items c.args.page c.index.result.now (omega (arith, within, ap length slots)) c.index.ensures None in
-    let is : get_or log.slots c.args.page None ≡ Some c.in-Some.slot = ap (λ (s : List (Option Slot)). get_or s c.args.page None) (sym slots) ∙ sym read ∙ c.in-Some.is in
-    let each : LieInRecords log.layout log.slots = subst (λ (x : LogValue). LieInRecords x.layout x.slots) c.self.view_is c.self.invariant.in_records in
-    let in_record : LieInRecord log.layout c.in-Some.slot.place c.in-Some.slot.copy = subst (λ (o : Option Slot). IfSome o (λ slot. LieInRecord log.layout slot.place slot.copy)) is (each c.args.page) in
-    lost_as (LiesAt (Some c.in-Some.slot)) c.in-Some.slot.place c.in-Some.slot.copy (AreLogged log c.args.page) (M.now c.read_slot.new.m).image
-    (λ lies. record { lies = record { number = lies.number; is = is ∙ lies.is }; in_record = in_record })
-    (c.in-Ok-None.ensures.lost (ap (λ (o : Option (List ℕ)). Ok o) c.in-Ok-None.field-0-is) h)
+err_ok : (fault : LoadFault) (there : Bool) → ◌≡◌ {A = Result Bool LoadFault} (Err fault) (Ok there) → ⊥
+err_ok fault there same = cc same
 
-pub returns-in-Ok-Some-clause-whole : goal.returns-in-Ok-Some-clause-whole
-returns-in-Ok-Some-clause-whole g c there h =
-    let M = g.M.Machine in
-    let log = c.args.self.now in
-    let long : length log.slots ≡ log.layout.pages = subst (λ (x : LogValue). length x.slots ≡ x.layout.pages) c.self.view_is c.self.invariant.table in
-    let within : c.args.page < length log.slots = omega (arith, long, c.requires.page) in
-    let slots : c.self.inside.slots.items ≡ log.slots = ap (λ (x : LogValue). x.slots) c.self.view_is in
-    let read : c.index.result.now ≡ get_or c.self.inside.slots.items c.args.page None = get_or_read c.self.inside.slots.items c.args.page c.index.result.now (omega (arith, within, ap length slots)) c.index.ensures None in
-    let is : get_or log.slots c.args.page None ≡ Some c.in-Some.slot = ap (λ (s : List (Option Slot)). get_or s c.args.page None) (sym slots) ∙ sym read ∙ c.in-Some.is in
-    let sees : SeesSlot (M.now c.args.m.now) c.in-Some.slot c.args.page log.anchor.epoch (Some c.in-Ok-Some.image) =
-    subst (λ (x : LogValue). SeesSlot (M.now c.args.m.now) c.in-Some.slot c.args.page x.anchor.epoch (Some c.in-Ok-Some.image)) c.self.view_is
-    (subst (λ (o : Option (List ℕ)). SeesSlot (M.now c.args.m.now) c.in-Some.slot c.args.page c.self.inside.anchor.epoch o) c.in-Ok-Some.field-0-is (c.in-Ok-Some.ensures.sees h)) in
-    subst (λ (o : Option Slot). StandsAt o (M.now c.args.m.now).image c.in-Ok-Some.image) (sym is) (stands_there (M.now c.args.m.now) c.in-Some.slot c.args.page log.anchor.epoch c.in-Ok-Some.image sees)
+-- ---- the page's slot
 
-pub returns-in-Ok-None-clause-never_lost : goal.returns-in-Ok-None-clause-never_lost
-returns-in-Ok-None-clause-never_lost g c records h calm are same =
-    let M = g.M.Machine in
-    let log = c.args.self.now in
-    let long : length log.slots ≡ log.layout.pages = subst (λ (x : LogValue). length x.slots ≡ x.layout.pages) c.self.view_is c.self.invariant.table in
-    let within : c.args.page < length log.slots = omega (arith, long, c.requires.page) in
-    let slots : c.self.inside.slots.items ≡ log.slots = ap (λ (x : LogValue). x.slots) c.self.view_is in
-    let read : c.index.result.now ≡ get_or c.self.inside.slots.items c.args.page None = get_or_read c.self.inside.slots.items c.args.page c.index.result.now (omega (arith, within, ap length slots)) c.index.ensures None in
-    let is : get_or log.slots c.args.page None ≡ Some c.in-Some.slot = ap (λ (s : List (Option Slot)). get_or s c.args.page None) (sym slots) ∙ sym read ∙ c.in-Some.is in
-    let sees : SeesSlot (M.now c.args.m.now) c.in-Some.slot c.args.page log.anchor.epoch None =
-    subst (λ (x : LogValue). SeesSlot (M.now c.args.m.now) c.in-Some.slot c.args.page x.anchor.epoch None) c.self.view_is
-    (subst (λ (o : Option (List ℕ)). SeesSlot (M.now c.args.m.now) c.in-Some.slot c.args.page c.self.inside.anchor.epoch o) c.in-Ok-None.field-0-is (c.in-Ok-None.ensures.sees h)) in
-    let third : log.anchor.third ≤ 2 = subst (λ (x : LogValue). x.anchor.third ≤ 2) c.self.view_is c.self.invariant.third in
-    let gives = image_there log records (M.now c.args.m.now) c.args.page third are within c.in-Some.slot same is in
-    absurd (some_none gives.image (sym gives.is ∙ slot_seen (M.now c.args.m.now) c.in-Some.slot c.args.page log.anchor.epoch None _ calm sees gives))
+within : (g : given.Over) (c : After-index g) → c.args.page < length c.args.self.now.slots
+within g c =
+    let long : length c.args.self.now.slots ≡ c.args.self.now.layout.pages = subst (λ (x : LogValue). length x.slots ≡ x.layout.pages) c.self.view_is c.self.invariant.table in
+    omega (arith, long, c.requires.page)
 
-pub returns-in-None-clause-image : goal.returns-in-None-clause-image
-returns-in-None-clause-image g c records h calm are same =
-    let log = c.args.self.now in
-    let long : length log.slots ≡ log.layout.pages = subst (λ (x : LogValue). length x.slots ≡ x.layout.pages) c.self.view_is c.self.invariant.table in
-    let within : c.args.page < length log.slots = omega (arith, long, c.requires.page) in
-    let slots : c.self.inside.slots.items ≡ log.slots = ap (λ (x : LogValue). x.slots) c.self.view_is in
-    let read : c.index.result.now ≡ get_or c.self.inside.slots.items c.args.page None = get_or_read c.self.inside.slots.items c.args.page c.index.result.now (omega (arith, within, ap length slots)) c.index.ensures None in
-    let is : get_or log.slots c.args.page None ≡ None = ap (λ (s : List (Option Slot)). get_or s c.args.page None) (sym slots) ∙ sym read ∙ c.in-None.is in
-    image_nowhere log records c.args.page are within is
+slot_is : (g : given.Over) (c : After-index g) → get_or c.args.self.now.slots c.args.page None ≡ c.index.result.now
+slot_is g c =
+    let slots : c.self.inside.slots.items ≡ c.args.self.now.slots = ap (λ (x : LogValue). x.slots) c.self.view_is in
+    ap (λ (s : List (Option Slot)). get_or s c.args.page None) (sym slots)
+    ∙ sym (get_or_read c.self.inside.slots.items c.args.page c.index.result.now (omega (arith, within g c, ap length slots)) c.index.ensures None)
 
-pub returns-in-None-clause-nowhere : goal.returns-in-None-clause-nowhere
-returns-in-None-clause-nowhere g c same records are =
-    let log = c.args.self.now in
-    let long : length log.slots ≡ log.layout.pages = subst (λ (x : LogValue). length x.slots ≡ x.layout.pages) c.self.view_is c.self.invariant.table in
-    let within : c.args.page < length log.slots = omega (arith, long, c.requires.page) in
-    let slots : c.self.inside.slots.items ≡ log.slots = ap (λ (x : LogValue). x.slots) c.self.view_is in
-    let read : c.index.result.now ≡ get_or c.self.inside.slots.items c.args.page None = get_or_read c.self.inside.slots.items c.args.page c.index.result.now (omega (arith, within, ap length slots)) c.index.ensures None in
-    let is : get_or log.slots c.args.page None ≡ None = ap (λ (s : List (Option Slot)). get_or s c.args.page None) (sym slots) ∙ sym read ∙ c.in-None.is in
-    image_nowhere log records c.args.page are within is
+-- ---- what stands at a slot
 
-pub returns-in-Ok-Some-clause-given : goal.returns-in-Ok-Some-clause-given
-returns-in-Ok-Some-clause-given g c records h calm are gives =
-    let M = g.M.Machine in
-    let log = c.args.self.now in
-    let long : length log.slots ≡ log.layout.pages = subst (λ (x : LogValue). length x.slots ≡ x.layout.pages) c.self.view_is c.self.invariant.table in
-    let within : c.args.page < length log.slots = omega (arith, long, c.requires.page) in
-    let slots : c.self.inside.slots.items ≡ log.slots = ap (λ (x : LogValue). x.slots) c.self.view_is in
-    let read : c.index.result.now ≡ get_or c.self.inside.slots.items c.args.page None = get_or_read c.self.inside.slots.items c.args.page c.index.result.now (omega (arith, within, ap length slots)) c.index.ensures None in
-    let is : get_or log.slots c.args.page None ≡ Some c.in-Some.slot = ap (λ (s : List (Option Slot)). get_or s c.args.page None) (sym slots) ∙ sym read ∙ c.in-Some.is in
-    let sees : SeesSlot (M.now c.args.m.now) c.in-Some.slot c.args.page log.anchor.epoch (Some c.in-Ok-Some.image) =
-    subst (λ (x : LogValue). SeesSlot (M.now c.args.m.now) c.in-Some.slot c.args.page x.anchor.epoch (Some c.in-Ok-Some.image)) c.self.view_is
-    (subst (λ (o : Option (List ℕ)). SeesSlot (M.now c.args.m.now) c.in-Some.slot c.args.page c.self.inside.anchor.epoch o) c.in-Ok-Some.field-0-is (c.in-Ok-Some.ensures.sees h)) in
-    let there : slot_of log.layout log.anchor.third c.args.page records ≡ Some c.in-Some.slot = sym (are.slots c.args.page within) ∙ is in
-    let at_slot = subst (λ (o : Option Slot). IfSome o (λ slot. GivesSlot c.args.page log.anchor.epoch (reads (M.now c.args.m.now).image) slot (last_image c.args.page records))) there gives in
-    slot_seen (M.now c.args.m.now) c.in-Some.slot c.args.page log.anchor.epoch (Some c.in-Ok-Some.image) (last_image c.args.page records) calm sees at_slot
+module _ (g : given.Over) (c : After-index g) (slot : Slot) (is : c.index.result.now ≡ Some slot) where
+  abbrev log : LogValue
+  log = c.args.self.now
 
-pub returns-in-Ok-None-clause-none_lost : goal.returns-in-Ok-None-clause-none_lost
-returns-in-Ok-None-clause-none_lost g c records h calm are gives =
-    let M = g.M.Machine in
-    let log = c.args.self.now in
-    let long : length log.slots ≡ log.layout.pages = subst (λ (x : LogValue). length x.slots ≡ x.layout.pages) c.self.view_is c.self.invariant.table in
-    let within : c.args.page < length log.slots = omega (arith, long, c.requires.page) in
-    let slots : c.self.inside.slots.items ≡ log.slots = ap (λ (x : LogValue). x.slots) c.self.view_is in
-    let read : c.index.result.now ≡ get_or c.self.inside.slots.items c.args.page None = get_or_read c.self.inside.slots.items c.args.page c.index.result.now (omega (arith, within, ap length slots)) c.index.ensures None in
-    let is : get_or log.slots c.args.page None ≡ Some c.in-Some.slot = ap (λ (s : List (Option Slot)). get_or s c.args.page None) (sym slots) ∙ sym read ∙ c.in-Some.is in
-    let sees : SeesSlot (M.now c.args.m.now) c.in-Some.slot c.args.page log.anchor.epoch None =
-    subst (λ (x : LogValue). SeesSlot (M.now c.args.m.now) c.in-Some.slot c.args.page x.anchor.epoch None) c.self.view_is
-    (subst (λ (o : Option (List ℕ)). SeesSlot (M.now c.args.m.now) c.in-Some.slot c.args.page c.self.inside.anchor.epoch o) c.in-Ok-None.field-0-is (c.in-Ok-None.ensures.sees h)) in
-    let there : slot_of log.layout log.anchor.third c.args.page records ≡ Some c.in-Some.slot = sym (are.slots c.args.page within) ∙ is in
-    let at_slot = subst (λ (o : Option Slot). IfSome o (λ slot. GivesSlot c.args.page log.anchor.epoch (reads (M.now c.args.m.now).image) slot (last_image c.args.page records))) there gives in
-    absurd (some_none at_slot.image (sym at_slot.is ∙ slot_seen (M.now c.args.m.now) c.in-Some.slot c.args.page log.anchor.epoch None (last_image c.args.page records) calm sees at_slot))
+  abbrev old : Moment
+  old = g.M.Machine.now c.args.m.now
 
-pub returns-in-None-clause-given : goal.returns-in-None-clause-given
-returns-in-None-clause-given g c records h calm are gives =
-    let log = c.args.self.now in
-    let long : length log.slots ≡ log.layout.pages = subst (λ (x : LogValue). length x.slots ≡ x.layout.pages) c.self.view_is c.self.invariant.table in
-    let within : c.args.page < length log.slots = omega (arith, long, c.requires.page) in
-    let slots : c.self.inside.slots.items ≡ log.slots = ap (λ (x : LogValue). x.slots) c.self.view_is in
-    let read : c.index.result.now ≡ get_or c.self.inside.slots.items c.args.page None = get_or_read c.self.inside.slots.items c.args.page c.index.result.now (omega (arith, within, ap length slots)) c.index.ensures None in
-    let is : get_or log.slots c.args.page None ≡ None = ap (λ (s : List (Option Slot)). get_or s c.args.page None) (sym slots) ∙ sym read ∙ c.in-None.is in
-    image_nowhere log records c.args.page are within is
+  at_page : get_or log.slots c.args.page None ≡ Some slot
+  at_page = slot_is g c ∙ is
+
+  some_there : get_or log.slots c.args.page None ≡ None → ⊥
+  some_there none = some_none slot (sym at_page ∙ none)
+
+  in_record : LieInRecord log.layout slot.place slot.copy
+  in_record = subst (λ (o : Option Slot). IfSome o (λ slot. LieInRecord log.layout slot.place slot.copy)) at_page (subst (λ (x : LogValue). LieInRecords x.layout x.slots) c.self.view_is c.self.invariant.in_records c.args.page)
+
+  -- what was read of it, at the log's epoch
+  seen : (o p : Option (List ℕ)) → o ≡ p → SeesSlot old slot c.args.page c.self.inside.anchor.epoch o → SeesSlot old slot c.args.page log.anchor.epoch p
+  seen o p same sees = subst (λ (x : LogValue). SeesSlot old slot c.args.page x.anchor.epoch p) c.self.view_is (subst (SeesSlot old slot c.args.page c.self.inside.anchor.epoch) same sees)
+
+  module _ (records : List Placed) (are : IsIndexed log records) where
+    by_scan : (scan_of log old).records ≡ records → GivesSlot c.args.page log.anchor.epoch (reads old.image) slot (last_image c.args.page records)
+    by_scan same =
+        let third : log.anchor.third ≤ 2 = subst (λ (x : LogValue). x.anchor.third ≤ 2) c.self.view_is c.self.invariant.third in
+        image_there log records old c.args.page third are (within g c) slot same at_page
+
+    by_sectors : GivesLast log records c.args.page old.image → GivesSlot c.args.page log.anchor.epoch (reads old.image) slot (last_image c.args.page records)
+    by_sectors gives = subst (λ (o : Option Slot). IfSome o (λ slot. GivesSlot c.args.page log.anchor.epoch (reads old.image) slot (last_image c.args.page records))) (sym (are.slots c.args.page (within g c)) ∙ at_page) gives
+
+    -- where nothing wears, what was read is the last image
+    given_is : IsCalmNow old → (o : Option (List ℕ)) → SeesSlot old slot c.args.page log.anchor.epoch o → GivesSlot c.args.page log.anchor.epoch (reads old.image) slot (last_image c.args.page records) → last_image c.args.page records ≡ o
+    given_is calm o sees gives = slot_seen old slot c.args.page log.anchor.epoch o (last_image c.args.page records) calm sees gives
+
+    never_none : IsCalmNow old → SeesSlot old slot c.args.page log.anchor.epoch None → GivesSlot c.args.page log.anchor.epoch (reads old.image) slot (last_image c.args.page records) → ⊥
+    never_none calm sees gives = some_none gives.image (sym gives.is ∙ given_is calm None sees gives)
+
+pub returns-in-Ok-Some : goal.returns-in-Ok-Some
+returns-in-Ok-Some g c =
+    let p = (goal.at.returns-in-Ok-Some g c).After-index in
+    let slot = c.in-Some.slot in
+    let is = c.in-Some.is in
+    let read = c.in-Ok-Some.ensures in
+    let sees : g.M.Machine.honest c.read_slot.new.m → SeesSlot (g.M.Machine.now c.args.m.now) slot c.args.page c.args.self.now.anchor.epoch (Some c.in-Ok-Some.image) = λ h. seen g p slot is c.in-Ok-Some.field-0 (Some c.in-Ok-Some.image) c.in-Ok-Some.field-0-is (read.sees h) in
+    record {
+      reads = read.reads;
+      absent = (λ same. absurd (there_nowhere same), λ none. absurd (some_there g p slot is none));
+      named = tt;
+      lost = tt;
+      whole = λ there h. subst (λ (o : Option Slot). StandsAt o (g.M.Machine.now c.args.m.now).image c.in-Ok-Some.image) (sym (at_page g p slot is)) (stands_there (g.M.Machine.now c.args.m.now) slot c.args.page c.args.self.now.anchor.epoch c.in-Ok-Some.image (sees h));
+      image = λ records h calm are same. given_is g p slot is records are calm _ (sees h) (by_scan g p slot is records are same);
+      never_lost = tt;
+      given = λ records h calm are gives. given_is g p slot is records are calm _ (sees h) (by_sectors g p slot is records are gives);
+      none_lost = tt;
+      nowhere = λ same. absurd (there_nowhere same);
+      kept = λ same. absurd (there_nowhere same);
+      kept_err = tt;
+    }
+
+pub returns-in-Ok-None : goal.returns-in-Ok-None
+returns-in-Ok-None g c =
+    let p = (goal.at.returns-in-Ok-None g c).After-index in
+    let slot = c.in-Some.slot in
+    let is = c.in-Some.is in
+    let read = c.in-Ok-None.ensures in
+    let sees : g.M.Machine.honest c.read_slot.new.m → SeesSlot (g.M.Machine.now c.args.m.now) slot c.args.page c.args.self.now.anchor.epoch None = λ h. seen g p slot is c.in-Ok-None.field-0 None c.in-Ok-None.field-0-is (read.sees h) in
+    record {
+      reads = read.reads;
+      absent = (λ same. absurd (err_ok _ false same), λ none. absurd (some_there g p slot is none));
+      named = record { number = slot.number; is = at_page g p slot is };
+      lost = λ h. lost_as (LiesAt (Some slot)) slot.place slot.copy (AreLogged c.args.self.now c.args.page) (g.M.Machine.now c.read_slot.new.m).image
+          (λ lies. record { lies = record { number = lies.number; is = at_page g p slot is ∙ lies.is }; in_record = in_record g p slot is })
+          (read.lost (ap (λ (o : Option (List ℕ)). Ok o) c.in-Ok-None.field-0-is) h);
+      whole = λ same. absurd (err_ok _ true same);
+      image = tt;
+      never_lost = λ records h calm are same. absurd (never_none g p slot is records are calm (sees h) (by_scan g p slot is records are same));
+      given = tt;
+      none_lost = λ records h calm are gives. absurd (never_none g p slot is records are calm (sees h) (by_sectors g p slot is records are gives));
+      nowhere = λ same. absurd (err_ok _ false same);
+      kept = λ same. absurd (err_ok _ false same);
+      kept_err = refl;
+    }
+
+pub returns-in-Err : goal.returns-in-Err
+returns-in-Err g c =
+    let p = (goal.at.returns-in-Err g c).After-index in
+    record {
+      reads = c.in-Err.ensures.reads;
+      absent = (λ same. absurd (err_ok _ false same), λ none. absurd (some_there g p c.in-Some.slot c.in-Some.is none));
+      named = tt;
+      lost = λ h. tt;
+      whole = λ same. absurd (err_ok _ true same);
+      image = tt;
+      never_lost = λ records h calm are same. tt;
+      given = tt;
+      none_lost = λ records h calm are gives. tt;
+      nowhere = λ same. absurd (err_ok _ false same);
+      kept = λ same. absurd (err_ok _ false same);
+      kept_err = refl;
+    }
+
+pub returns-in-None : goal.returns-in-None
+returns-in-None g c =
+    let p = (goal.at.returns-in-None g c).After-index in
+    let none : get_or c.args.self.now.slots c.args.page None ≡ None = slot_is g p ∙ c.in-None.is in
+    let nowhere : (records : List Placed) → IsIndexed c.args.self.now records → last_image c.args.page records ≡ None = λ records are. image_nowhere c.args.self.now records c.args.page are (within g p) none in
+    record {
+      reads = reads_none c.args.m.now (λ l h left. g.met.M.Machine.only_now c.args.m.now l h left);
+      absent = (λ same. none, λ same. refl);
+      named = tt;
+      lost = tt;
+      whole = λ same. absurd (there_nowhere (sym same));
+      image = λ records h calm are same. nowhere records are;
+      never_lost = tt;
+      given = λ records h calm are gives. nowhere records are;
+      none_lost = tt;
+      nowhere = λ same records are. nowhere records are;
+      kept = λ same. refl;
+      kept_err = tt;
+    }

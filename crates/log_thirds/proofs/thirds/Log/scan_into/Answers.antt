@@ -10,10 +10,9 @@ use Rattle.log_thirds.specs.Disk.{reads}
 use Rattle.log_thirds.specs.Slots.{noted, slots_with, LieInRecords, SlotsInside}
 use Rattle.log_thirds.specs.Reading.{StepsOn, stepped_in, stepped_of}
 use Rattle.volume_layout.proofs.RootLaws.{planned_bounds}
-use Rattle.log_thirds.proofs.FindLaws.{place_most}
 use Rattle.log_thirds.proofs.SlotLaws.{length-noted, none_inside, none_lie, record_inside, record_lies}
 use Rattle.log_thirds.specs.Copies.{FitsDisk, AreCopies, AreLastCopies, copies_count}
-use Rattle.fsd_log.proofs.PlaceLaws.{place_inside, end_most}
+use Rattle.fsd_log.proofs.PlaceLaws.{InThird, place_inside, end_most}
 use Rattle.log_thirds.proofs.ScanLaws.{Reaches, EndsThere, reaches_start, reaches_as, reaches_on, reaches_end}
 use Rattle.log_thirds.specs.Firsts.{AreNumbers, firsts_of, firsts_with}
 use Rattle.log_thirds.proofs.FirstsLaws.{numbers_more}
@@ -22,6 +21,8 @@ use Rattle.sector_disk.specs.Image.{Windows, IsWorn, open_damage}
 use Rattle.sector_disk.proofs.Wear.{worn_refl}
 use Rattle.log_thirds.specs.Seen.{SeesOn}
 use Rattle.log_thirds.proofs.SeenLaws.{sees_on, reaches_keeps, tape_worn}
+use Rattle.log_thirds.proofs.thirds.Log.scan_into.Given as given
+use Rattle.log_thirds.proofs.thirds.Log.scan_into.Goals.{After-place_of-place}
 use Rattle.log_thirds.proofs.thirds.Log.scan_into.Goals as goal
 
 pub loop-from-init : goal.loop-from-init
@@ -47,88 +48,52 @@ loop-from-init g c =
       seen = λ j h jw. record { image = j; from = worn_refl (open_damage (M.now c.args.m.now).windows) j; to = jw; below = λ w lt. refl; front = λ s lt. refl; is = start_on j };
     }
 
+-- ---- a step to a record that was found
+
+stepped : (g : given.Over) (c : After-place_of-place g) → StepsOn c.args.layout.now c.loop-from.at c.in-Ok-Some.field-0-0
+stepped g c = subst (λ (o : Option Step). IfSome o (StepsOn c.args.layout.now c.loop-from.at)) c.in-Ok-Some.field-0-is c.in-Ok-Some.ensures.goes
+
+numbered : (g : given.Over) (c : After-place_of-place g) → c.loop-from.number < last_number
+numbered g c = subst (λ (o : Option Step). IfSome o (λ _. c.loop-from.number < last_number)) c.in-Ok-Some.field-0-is c.in-Ok-Some.ensures.numbered
+
+lies : (g : given.Over) (c : After-place_of-place g) → InThird c.args.layout.now c.args.anchor.now.third c.in-Ok-Some.field-0-0.from (2 * length c.in-Ok-Some.field-0-0.found.pages.items + 5) c.in-Ok-Some.field-0-0.past.end
+lies g c = let gone = stepped g c in record { one_of = c.requires.third; ends = gone.goes.ends; from = gone.in_third; to = omega (arith, gone.lies, gone.goes.before) }
+
+placed : (g : given.Over) (c : After-place_of-place g) → c.place_of-place.result + (2 * length c.in-Ok-Some.field-0-0.found.pages.items + 5) ≤ 16 + 3 * 4096
+placed g c =
+    let from : ℕ = c.in-Ok-Some.field-0-0.from in
+    let count : ℕ = 2 * length c.in-Ok-Some.field-0-0.found.pages.items + 5 in
+    omega (arith, place_inside c.args.layout.now c.args.anchor.now.third from count c.in-Ok-Some.field-0-0.past.end (lies g c) (omega arith), c.place_of-place.ensures, c.third-third.ensures.most, c.third-third.ensures.value)
+
 pub place_of-place-requires-clause-at : goal.place_of-place-requires-clause-at
 place_of-place-requires-clause-at g c =
     let gone = subst (λ (o : Option Step). IfSome o (StepsOn c.args.layout.now c.loop-from.at)) c.in-Ok-Some.field-0-is c.in-Ok-Some.ensures.goes in
     omega (arith, gone.lies, gone.goes.before, end_most c.args.layout.now c.in-Ok-Some.field-0-0.past.end gone.goes.ends)
 
 pub overflow_add-place : goal.overflow_add-place
-overflow_add-place g c =
-    let gone = subst (λ (o : Option Step). IfSome o (StepsOn c.args.layout.now c.loop-from.at)) c.in-Ok-Some.field-0-is c.in-Ok-Some.ensures.goes in
-    let inside : c.in-Ok-Some.field-0-0.from ≤ 3 * c.args.layout.now.third = omega (arith, gone.lies, gone.goes.before, end_most c.args.layout.now c.in-Ok-Some.field-0-0.past.end gone.goes.ends) in
-    omega (arith, place_most c.args.layout.now c.args.anchor.now.third c.in-Ok-Some.field-0-0.from c.requires.third inside, c.place_of-place.ensures, c.third-third.ensures.most, c.third-third.ensures.value)
+overflow_add-place g c = omega (arith, placed g (goal.at.overflow_add-place g c).After-place_of-place)
 
 pub note-requires : goal.note-requires
-note-requires g c =
-    let gone = subst (λ (o : Option Step). IfSome o (StepsOn c.args.layout.now c.loop-from.at)) c.in-Ok-Some.field-0-is c.in-Ok-Some.ensures.goes in
-    let inside : c.in-Ok-Some.field-0-0.from ≤ 3 * c.args.layout.now.third = omega (arith, gone.lies, gone.goes.before, end_most c.args.layout.now c.in-Ok-Some.field-0-0.past.end gone.goes.ends) in
-    omega (
-      arith,
-      place_most c.args.layout.now c.args.anchor.now.third c.in-Ok-Some.field-0-0.from c.requires.third inside,
-      c.place_of-place.ensures,
-      gone.lies,
-      gone.goes.before,
-      end_most c.args.layout.now c.in-Ok-Some.field-0-0.past.end gone.goes.ends,
-      ap length c.as_slice-pages.ensures.value,
-      c.third-third.ensures.most,
-      c.third-third.ensures.value,
-    )
+note-requires g c = omega (arith, placed g (goal.at.note-requires g c).After-place_of-place, ap length c.as_slice-pages.ensures.value)
 
 pub overflow_add-copies_at : goal.overflow_add-copies_at
-overflow_add-copies_at g c =
-    let gone = subst (λ (o : Option Step). IfSome o (StepsOn c.args.layout.now c.loop-from.at)) c.in-Ok-Some.field-0-is c.in-Ok-Some.ensures.goes in
-    let inside : c.in-Ok-Some.field-0-0.from ≤ 3 * c.args.layout.now.third = omega (arith, gone.lies, gone.goes.before, end_most c.args.layout.now c.in-Ok-Some.field-0-0.past.end gone.goes.ends) in
-    omega (
-      arith,
-      place_most c.args.layout.now c.args.anchor.now.third c.in-Ok-Some.field-0-0.from c.requires.third inside,
-      c.place_of-place.ensures,
-      gone.lies,
-      gone.goes.before,
-      end_most c.args.layout.now c.in-Ok-Some.field-0-0.past.end gone.goes.ends,
-      c.len.ensures.value,
-      c.third-third.ensures.most,
-      c.third-third.ensures.value,
-    )
+overflow_add-copies_at g c = omega (arith, placed g (goal.at.overflow_add-copies_at g c).After-place_of-place, c.len.ensures.value)
 
 pub overflow_add-copies_at-in-Ok-Some : goal.overflow_add-copies_at-in-Ok-Some
-overflow_add-copies_at-in-Ok-Some g c =
-    let gone = subst (λ (o : Option Step). IfSome o (StepsOn c.args.layout.now c.loop-from.at)) c.in-Ok-Some.field-0-is c.in-Ok-Some.ensures.goes in
-    let inside : c.in-Ok-Some.field-0-0.from ≤ 3 * c.args.layout.now.third = omega (arith, gone.lies, gone.goes.before, end_most c.args.layout.now c.in-Ok-Some.field-0-0.past.end gone.goes.ends) in
-    omega (
-      arith,
-      place_most c.args.layout.now c.args.anchor.now.third c.in-Ok-Some.field-0-0.from c.requires.third inside,
-      c.place_of-place.ensures,
-      gone.lies,
-      gone.goes.before,
-      end_most c.args.layout.now c.in-Ok-Some.field-0-0.past.end gone.goes.ends,
-      c.len.ensures.value,
-      c.third-third.ensures.most,
-      c.third-third.ensures.value,
-    )
+overflow_add-copies_at-in-Ok-Some g c = omega (arith, placed g (goal.at.overflow_add-copies_at-in-Ok-Some g c).After-place_of-place, c.len.ensures.value)
 
 pub overflow_add-number : goal.overflow_add-number
-overflow_add-number g c =
-    let numbered = subst (λ (o : Option Step). IfSome o (λ _. c.loop-from.number < last_number)) c.in-Ok-Some.field-0-is c.in-Ok-Some.ensures.numbered in
-    omega (arith, numbered)
+overflow_add-number g c = omega (arith, numbered g (goal.at.overflow_add-number g c).After-place_of-place)
 
-pub with-firsts-requires-clause-second : goal.with-firsts-requires-clause-second
-with-firsts-requires-clause-second g c =
-    let numbered = subst (λ (o : Option Step). IfSome o (λ _. c.loop-from.number < last_number)) c.in-Ok-Some.field-0-is c.in-Ok-Some.ensures.numbered in
+pub with-firsts-requires : goal.with-firsts-requires
+with-firsts-requires g c =
     let numbers = c.loop-from.invariant.numbers in
-    omega (arith, numbered, numbers.in_order, numbers.most)
-
-pub with-firsts-requires-clause-last : goal.with-firsts-requires-clause-last
-with-firsts-requires-clause-last g c =
-    let numbered = subst (λ (o : Option Step). IfSome o (λ _. c.loop-from.number < last_number)) c.in-Ok-Some.field-0-is c.in-Ok-Some.ensures.numbered in
-    let numbers = c.loop-from.invariant.numbers in
-    omega (arith, numbered, numbers.most)
-
-pub with-firsts-requires-clause-third : goal.with-firsts-requires-clause-third
-with-firsts-requires-clause-third g c = omega (arith, c.third-third.ensures.most)
+    let below = numbered g (goal.at.with-firsts-requires g c).After-place_of-place in
+    record { second = omega (arith, below, numbers.in_order, numbers.most); last = omega (arith, below, numbers.most); third = omega (arith, c.third-third.ensures.most) }
 
 pub loop-from-smaller : goal.loop-from-smaller
 loop-from-smaller g c =
-    let gone = subst (λ (o : Option Step). IfSome o (StepsOn c.args.layout.now c.loop-from.at)) c.in-Ok-Some.field-0-is c.in-Ok-Some.ensures.goes in
+    let gone = stepped g (goal.at.loop-from-smaller g c).After-place_of-place in
     omega (arith, gone.goes.on, gone.goes.before, end_most c.args.layout.now c.in-Ok-Some.field-0-0.past.end gone.goes.ends)
 
 pub loop-from-preserved : goal.loop-from-preserved
@@ -136,7 +101,10 @@ loop-from-preserved g c =
     let M = g.M.Machine in
     let so_far = c.loop-from.invariant in
     let back = c.next.ensures.reads.trust.honest in
-    let gone = subst (λ (o : Option Step). IfSome o (StepsOn c.args.layout.now c.loop-from.at)) c.in-Ok-Some.field-0-is c.in-Ok-Some.ensures.goes in
+    let p = (goal.at.loop-from-preserved g c).After-place_of-place in
+    let gone = stepped g p in
+    let in_third : InThird c.args.layout.now c.args.anchor.now.third c.in-Ok-Some.field-0-0.from (2 * length c.as_slice-pages.result.now + 5) c.in-Ok-Some.field-0-0.past.end =
+    subst (λ (pages : List ℕ). InThird c.args.layout.now c.args.anchor.now.third c.in-Ok-Some.field-0-0.from (2 * length pages + 5) c.in-Ok-Some.field-0-0.past.end) (sym c.as_slice-pages.ensures.value) (lies g p) in
     let copied = subst (λ (o : Option Step). IfSome o (λ s. AreCopies (record { epoch = c.args.anchor.now.epoch; number = c.loop-from.number }) (length s.found.pages.items) c.next.new.scratch.copies.items)) c.in-Ok-Some.field-0-is c.in-Ok-Some.ensures.copied in
     let long : length c.note.new.slots ≡ length c.as_mut_slice.result.now =
     ap length c.note.ensures ∙ length-noted c.loop-from.number c.as_mut_slice.result.now (c.place_of-place.result + 3) (c.place_of-place.result + 3 + length c.as_slice-pages.result.now + 1) c.as_slice-pages.result.now in
@@ -151,19 +119,16 @@ loop-from-preserved g c =
       table = ap length kept ∙ long ∙ ap length c.as_mut_slice.ensures.value ∙ so_far.table;
       on_disk = subst (SlotsInside c.args.layout.now.sectors) (sym (kept ∙ c.note.ensures))
           (record_inside c.args.layout.now c.args.anchor.now.third c.loop-from.number c.in-Ok-Some.field-0-0.from c.in-Ok-Some.field-0-0.past.end c.place_of-place.result c.as_slice-pages.result.now c.as_mut_slice.result.now
-          (record { one_of = c.requires.third; ends = gone.goes.ends; from = gone.in_third; to = omega (arith, gone.lies, gone.goes.before, ap length c.as_slice-pages.ensures.value) })
-          (omega (arith, (planned_bounds c.args.layout.now c.third-third.ensures.planned).sectors_least)) c.place_of-place.ensures (subst (SlotsInside c.args.layout.now.sectors) (sym c.as_mut_slice.ensures.value) so_far.on_disk));
+          in_third (omega (arith, (planned_bounds c.args.layout.now c.third-third.ensures.planned).sectors_least)) c.place_of-place.ensures (subst (SlotsInside c.args.layout.now.sectors) (sym c.as_mut_slice.ensures.value) so_far.on_disk));
       in_records = subst (LieInRecords c.args.layout.now) (sym (kept ∙ c.note.ensures))
           (record_lies c.args.layout.now c.args.anchor.now.third c.loop-from.number c.in-Ok-Some.field-0-0.from c.in-Ok-Some.field-0-0.past.end c.place_of-place.result c.as_slice-pages.result.now c.as_mut_slice.result.now
-          (record { one_of = c.requires.third; ends = gone.goes.ends; from = gone.in_third; to = omega (arith, gone.lies, gone.goes.before, ap length c.as_slice-pages.ensures.value) })
-          c.place_of-place.ensures (subst (LieInRecords c.args.layout.now) (sym c.as_mut_slice.ensures.value) so_far.in_records));
+          in_third c.place_of-place.ensures (subst (LieInRecords c.args.layout.now) (sym c.as_mut_slice.ensures.value) so_far.in_records));
       fits = record {
         whole = omega (arith, copied.long);
         inside = omega (
           arith,
           copied.long,
-          place_inside c.args.layout.now c.args.anchor.now.third c.in-Ok-Some.field-0-0.from (2 * length c.in-Ok-Some.field-0-0.found.pages.items + 5) c.in-Ok-Some.field-0-0.past.end
-              (record { one_of = c.requires.third; ends = gone.goes.ends; from = gone.in_third; to = omega (arith, gone.lies, gone.goes.before) }) (omega arith),
+          place_inside c.args.layout.now c.args.anchor.now.third c.in-Ok-Some.field-0-0.from (2 * length c.in-Ok-Some.field-0-0.found.pages.items + 5) c.in-Ok-Some.field-0-0.past.end (lies g p) (omega arith),
           c.place_of-place.ensures,
           c.len.ensures.value,
           (planned_bounds c.args.layout.now c.third-third.ensures.planned).sectors_least,
