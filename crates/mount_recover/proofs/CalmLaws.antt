@@ -38,7 +38,7 @@ use Rattle.log_thirds.proofs.RunLaws.{calm_runs}
 use Rattle.twin_home.specs.Heal.{MayReadDamaged, Mends, Heals, Healed, RootsIn}
 use Rattle.fsd_sound.proofs.CommuteLaws.{with_same, with_other}
 use Rattle.fsd_sound.specs.declared.fault.MountFault.{MountFault}
-use Rattle.fsd_sound.specs.declared.fault.MountFault.TheVariants.{NotVolume, Device, Memory, Lost, NoAnchor, Unsound, WornOut}
+use Rattle.fsd_sound.specs.declared.fault.MountFault.TheVariants.{Device, Lost}
 use Rattle.mount_recover.specs.Finding.{IsExcuse, IsFound}
 use Rattle.mount_recover.specs.Lost.{StandAsShown}
 use Rattle.fsd_sound.specs.Lost.{LosesShown}
@@ -205,12 +205,7 @@ module _ (l : Layout) (records : List Placed) (first : Image) (n : ℕ) (lt : n 
 
   pub loses_so : last_image n records ≡ None → (fault : MountFault) → LosesHome l n i fault → LosesNone l records first fault
   loses_so none (Lost a b) lost = record { page = n; within = lt; first = lost.0.0; second = lost.0.1; none = sym (at_home none) ∙ lost.1 }
-  loses_so none NotVolume lost = tt
-  loses_so none (Device s) lost = tt
-  loses_so none Memory lost = tt
-  loses_so none NoAnchor lost = tt
-  loses_so none (Unsound s) lost = tt
-  loses_so none WornOut lost = tt
+  loses_so none other lost = tt
 
 -- what was read is not lost
 pub device_loses : (l : Layout) (records : List Placed) (first : Image) (fault : LoadFault) (told : MountFault) → told ≡ load_fault_of fault → IsDevice fault → LosesNone l records first told
@@ -219,12 +214,7 @@ device_loses l records first (load.Lost a b) told is device = absurd device
 
 pub excuse_loses : (l : Layout) (records : List Placed) (first : Image) (fault : MountFault) → IsExcuse fault → LosesNone l records first fault
 excuse_loses l records first (Lost a b) excuse = absurd excuse
-excuse_loses l records first NotVolume excuse = tt
-excuse_loses l records first (Device s) excuse = tt
-excuse_loses l records first Memory excuse = tt
-excuse_loses l records first NoAnchor excuse = tt
-excuse_loses l records first (Unsound s) excuse = tt
-excuse_loses l records first WornOut excuse = tt
+excuse_loses l records first other excuse = tt
 
 -- ---- the last record
 
@@ -343,12 +333,7 @@ module _ (sectors : ℕ) (l : Layout) (log : LogValue) (old one two : Moment) (c
       homes = record { first = lost.first; second = lost.second };
       none = sym (shows_same lost.page) ∙ lost.none;
     }
-    loses_shown NotVolume lost = tt
-    loses_shown (Device s) lost = tt
-    loses_shown Memory lost = tt
-    loses_shown NoAnchor lost = tt
-    loses_shown (Unsound s) lost = tt
-    loses_shown WornOut lost = tt
+    loses_shown other lost = tt
 
     pub stand_shown : (three new : Moment) (a : Anchor) → anchor_of old.image ≡ Some a → ((page : ℕ) → page < l.pages → home_of l three.image page ≡ shows_of l (records_by l one.image log.anchor) two.image page) → IsCalmNow three → StaysBut 8 12 three new
         → StandAsShown l a old.image new.image

@@ -42,13 +42,11 @@ load_not_lost AreCopies image (load.Lost a b) told is none lost = absurd (none a
 
 -- where none of these can be lost
 pub cause_excused : (AreCopies : ℕ → ℕ → Type 0) (image : Image) (fault : MountFault) → ((a b : ℕ) → AreLost AreCopies image a b → ⊥) → IsLoadFault fault → LostIn AreCopies image fault → IsExcuse fault
-cause_excused AreCopies image (Device s) none cause lost = tt
 cause_excused AreCopies image (Lost a b) none cause lost = none a b lost
 cause_excused AreCopies image NotVolume none cause lost = absurd cause
-cause_excused AreCopies image Memory none cause lost = tt
 cause_excused AreCopies image NoAnchor none cause lost = absurd cause
 cause_excused AreCopies image (Unsound s) none cause lost = absurd cause
-cause_excused AreCopies image WornOut none cause lost = tt
+cause_excused AreCopies image other none cause lost = tt
 
 module _ (l : Layout) (windows : List WeakRun) (narrow : IsNarrow (weak_of windows)) (choices : List (List (List ℕ))) (i : Image) (shows : ShowsPages l windows choices i) where
   -- of a page one home is whole
@@ -97,29 +95,16 @@ scan_sound log.NoAnchor told is = subst IsNotUnsound (sym is) tt
 scan_sound log.WornOut told is = subst IsNotUnsound (sym is) tt
 
 pub load_sound : (fault : MountFault) → IsLoadFault fault → IsNotUnsound fault
-load_sound (Device s) load = tt
-load_sound (Lost a b) load = tt
-load_sound NotVolume load = tt
-load_sound Memory load = tt
-load_sound NoAnchor load = tt
 load_sound (Unsound s) load = load
-load_sound WornOut load = tt
+load_sound other load = tt
 
 -- what is only worn is left, whatever the fault
 pub worn_left : (old new : Moment) (fault : MountFault) → Wears old new → LeavesAll fault old new
 worn_left old new (Device s) worn = tt
 worn_left old new (Lost a b) worn = tt
-worn_left old new NotVolume worn = worn
-worn_left old new Memory worn = worn
-worn_left old new NoAnchor worn = worn
-worn_left old new (Unsound s) worn = worn
-worn_left old new WornOut worn = worn
+worn_left old new other worn = worn
 
 pub load_left : (old new : Moment) (fault : MountFault) → IsLoadFault fault → LeavesAll fault old new
 load_left old new (Device s) load = tt
 load_left old new (Lost a b) load = tt
-load_left old new NotVolume load = absurd load
-load_left old new Memory load = absurd load
-load_left old new NoAnchor load = absurd load
-load_left old new (Unsound s) load = absurd load
-load_left old new WornOut load = absurd load
+load_left old new other load = absurd load

@@ -16,8 +16,8 @@ use Rattle.sector_disk.specs.Image.{Windows, sector_at, IsWorn, IsCalm, AreShort
 use Rattle.sector_disk.specs.Machine.{Moment, Wears}
 use Rattle.sector_disk.proofs.Calm.{calm_worn}
 use Rattle.sector_disk.proofs.Damage.{lost_as}
-use Rattle.sector_disk.proofs.Wear.{worn_trans, worn_twice}
-use Rattle.fsd_log.specs.Scan.{Placed, place_of}
+use Rattle.sector_disk.proofs.Wear.{worn_refl, worn_trans, worn_twice}
+use Rattle.fsd_log.specs.Scan.{Placed, place_of, start}
 use Rattle.fsd_log.proofs.PlaceLaws.{place_inside, place_from}
 use Rattle.fsd_files.specs.Disk.{Image, Sectors, SectorWorn, bytes_of, either_copy}
 use Rattle.fsd_sound.specs.Anchors.{anchor_of}
@@ -34,12 +34,14 @@ use Rattle.log_thirds.proofs.ImageLaws.{logged_by}
 use Rattle.fsd_sound.specs.Windows.{IsNarrow, IsApart}
 use Rattle.fsd_sound.specs.Writes.{KeepsElsewhere, WritesAsMount}
 use Rattle.fsd_sound.specs.declared.fault.MountFault.{MountFault}
-use Rattle.fsd_sound.specs.declared.fault.MountFault.TheVariants.{NotVolume, Device, Memory, Lost, NoAnchor, Unsound, WornOut}
+use Rattle.fsd_sound.specs.declared.fault.MountFault.TheVariants.{NotVolume, Device, Memory, Lost, NoAnchor, Unsound}
 use Rattle.mount_recover.specs.Finding.{IsFound, NotFoundFor, IsNotFound, IsExcuse}
-use Rattle.fsd_sound.specs.Lost.{AreHomes, AreLoggedOn, AreHomesOn, AreCopiesOn, LostIn}
+use Rattle.fsd_sound.specs.Lost.{AreHomes, AreLoggedOn, AreHomesOn, AreCopiesOn, LosesShown, LostIn}
 use Rattle.fsd_sound.specs.Mounting.{HasRoot, last_epoch}
 use Rattle.mount_recover.specs.Mending.{IsLoadFault, AreOfAll, StaysElsewhere, Keeps, IsSeen, Completed, Stays, Settled, Begins}
-use Rattle.mount_recover.specs.Recover.{IsRefusedFor, ShowsVolume}
+use Rattle.log_thirds.specs.Anchoring.{in_next_epoch}
+use Rattle.log_thirds.proofs.SlotLaws.{no_records}
+use Rattle.mount_recover.specs.Recover.{IsFreshLog, IsRefusedFor, ShowsVolume}
 use Rattle.mount_recover.specs.Replay.{HasLastCopies, IsCompletedFrom, Replays}
 use Rattle.fsd_sound.proofs.WindowLaws.{short_apart}
 use Rattle.fsd_sound.proofs.CompleteLaws.{all_last}
@@ -124,15 +126,17 @@ module _ (sectors : ℕ) (l : Layout) (windows : List WeakRun) (choices : List (
       by_fault NotVolume none = let some : root_of sectors refused.seen ≡ Some l = root_shown l sectors windows choices refused.seen start.planned start.fits shows in absurd (cc (some, none))
       by_fault NoAnchor none =
           subst (λ (o : Option Anchor). ShowsOne choices (option_and_then (shown_by l refused.seen) o)) none.1 (start.shows.shows refused.seen (weaker old.image refused.seen refused.from))
-      by_fault WornOut why = tt
-      by_fault (Device s) why = tt
-      by_fault Memory why = tt
       by_fault (Lost a b) why = why
       by_fault (Unsound s) why = why
+      by_fault other why = tt
 
   module _ (one : Moment) (wears : Wears old one) (found : Layout) (log : LogValue) (is : IsFound sectors found log old one) where
     pub found_same : found ≡ l
     found_same = some_same found l (sym is.root ∙ root_shown l sectors windows choices is.seen start.planned start.fits (shows_worn is.seen is.from))
+
+    -- what is so by the layout that was found is so by the one that is shown
+    pub by_found : (P : Layout → Type 0) → (ShowsVolume sectors found windows choices old → P found) → P l
+    by_found P so = subst P found_same (so (subst (λ (k : Layout). ShowsVolume sectors k windows choices old) (sym found_same) start))
 
   -- the log that was found, of the layout that is shown
   module _ (one : Moment) (wears : Wears old one) (log : LogValue) (is : IsFound sectors l log old one) where
@@ -205,13 +209,12 @@ module _ (sectors : ℕ) (l : Layout) (windows : List WeakRun) (choices : List (
 
 -- what is refused before the log is read is not lost
 pub none_found : (AreCopies : ℕ → ℕ → Type 0) (image : Image) (sectors : ℕ) (old : Moment) (fault : MountFault) → IsNotFound sectors fault old → LostIn AreCopies image fault
-none_found AreCopies image sectors old NotVolume not = tt
-none_found AreCopies image sectors old (Device s) not = tt
-none_found AreCopies image sectors old Memory not = tt
 none_found AreCopies image sectors old (Lost a b) not = absurd not.why
-none_found AreCopies image sectors old NoAnchor not = tt
-none_found AreCopies image sectors old (Unsound s) not = tt
-none_found AreCopies image sectors old WornOut not = tt
+none_found AreCopies image sectors old other not = tt
+
+pub none_shown : (sectors : ℕ) (image : Image) (old : Moment) (fault : MountFault) → IsNotFound sectors fault old → LosesShown sectors image fault
+none_shown sectors image old (Lost a b) not = absurd not.why
+none_shown sectors image old other not = tt
 
 module _ (sectors : ℕ) (l : Layout) (log : LogValue) (old one : Moment) (same : log.layout ≡ l) (root : HasRoot sectors old.image l) (is : IsFound sectors l log old one) where
   as_old : IsCalm old.windows → is.seen ≡ old.image
@@ -244,12 +247,7 @@ module _ (sectors : ℕ) (l : Layout) (log : LogValue) (old one : Moment) (same 
 
   pub lost_on : (image : Image) (fault : MountFault) → LostIn (AreOfAll l log) image fault → LostIn (AreCopiesOn sectors old) image fault
   lost_on image (Lost a b) lost = lost_as (AreOfAll l log) a b (AreCopiesOn sectors old) image (twins_on a b) lost
-  lost_on image NotVolume lost = tt
-  lost_on image (Device s) lost = tt
-  lost_on image Memory lost = tt
-  lost_on image NoAnchor lost = tt
-  lost_on image (Unsound s) lost = tt
-  lost_on image WornOut lost = tt
+  lost_on image other lost = tt
 
 -- ---- why it is refused
 
@@ -257,10 +255,27 @@ pub mend_refused : (sectors : ℕ) (l : Layout) (log : LogValue) (old one : Mome
 mend_refused sectors l log old one fits is (Lost a b) cause = record { seen = is.seen; from = is.from; why = record { layout = l; anchor = log.anchor; found = record { root = is.root; anchor = is.knows.taken }; epoch = fits } }
 mend_refused sectors l log old one fits is (Device s) cause = record { seen = is.seen; from = is.from; why = tt }
 mend_refused sectors l log old one fits is Memory cause = record { seen = is.seen; from = is.from; why = tt }
-mend_refused sectors l log old one fits is NotVolume cause = absurd cause
-mend_refused sectors l log old one fits is NoAnchor cause = absurd cause
-mend_refused sectors l log old one fits is (Unsound s) cause = absurd cause
-mend_refused sectors l log old one fits is WornOut cause = absurd cause
+mend_refused sectors l log old one fits is other cause = absurd cause
+
+pub not_refused : (sectors : ℕ) (old : Moment) (fault : MountFault) → IsNotFound sectors fault old → IsRefusedFor sectors fault old
+not_refused sectors old (Device s) not = record { seen = not.seen; from = not.from; why = tt }
+not_refused sectors old Memory not = record { seen = not.seen; from = not.from; why = tt }
+not_refused sectors old (Lost a b) not = absurd not.why
+not_refused sectors old (Unsound s) not = absurd not.why
+not_refused sectors old other not = record { seen = not.seen; from = not.from; why = not.why }
+
+pub device_refused : (sectors : ℕ) (old : Moment) (place : ℕ) → IsRefusedFor sectors (Device place) old
+device_refused sectors old place = record { seen = old.image; from = worn_refl (open_damage old.windows) old.image; why = tt }
+
+-- ---- the log of the epoch that begins
+
+pub fresh : (l : Layout) (log new : LogValue) → log.layout ≡ l → new ≡ in_next_epoch log → IsFreshLog l new
+fresh l log new same is = subst (IsFreshLog l) (sym is) (record {
+  layout = same;
+  anchor = refl;
+  head = ap (λ (k : Layout). start k 1) same;
+  indexed = record { slots = no_records log.layout 0 (length log.slots); firsts = record { second = refl; last = refl } };
+})
 
 -- ---- where a mount does not write
 

@@ -1,6 +1,10 @@
 -- One of two copies is healed from the other.
 use Rattle.std.proofs.Common.{◌≡◌, inl, inr, ⊎_elim, ◌⊎◌, ℕ, ◌≤◌, List, length, Option, Some, None, Result, Ok, Err, refl, sym, ap, subst, ◌∙◌, arith}
-use Rattle.std.specs.Prelude.{IfOk, OnOk}
+use Rattle.std.specs.Prelude.{IfErr, IfOk, OnOk}
+use Rattle.sector_disk.specs.declared.machine.LoadFault.{LoadFault}
+use Rattle.sector_disk.specs.declared.machine.LoadFault.TheVariants.{Device, Lost}
+use Rattle.sector_disk.specs.declared.sector.Sector.{Sector}
+use Rattle.sector_disk.specs.Damage.{IsDevice, LostCause}
 use Rattle.sector_disk.specs.declared.sector.Sector.TheVariants.{Whole, Damaged}
 use Rattle.sector_disk.specs.Calls.{as_sector}
 use Rattle.sector_disk.specs.Image.{sector_at, stand, IsWorn, Windows, open_damage}
@@ -8,7 +12,7 @@ use Rattle.sector_disk.specs.Machine.{Moment, Wears, Holds}
 use Rattle.sector_disk.proofs.Holding.{holds_now, holds_wears, holds_on}
 use Rattle.sector_disk.proofs.Wear.{stand_worn, worn_damaged, worn_trans, worn_whole}
 use Rattle.twin_home.specs.Home.{WritesPart}
-use Rattle.twin_home.specs.Heal.{MayReadDamaged, ReadsCopy, ReadsBoth, Mends, Heals, Mended, SetsRoot, SetsRoots, RootsIn, NeedsRoot, RootsHealed, WasWhole}
+use Rattle.twin_home.specs.Heal.{MayReadDamaged, ReadsCopy, ReadsBoth, Mends, Heals, Mended, SetsRoot, SetsRoots, RootsIn, NeedsRoot, RootsHealed, TellsCopies, WasWhole}
 
 -- a moment that is only worn
 pub still : (old left : Moment) → Wears old left → Holds old old.image left
@@ -50,6 +54,17 @@ module _ (old mid : Moment) (wears : Wears old mid) (place twin : ℕ) (bytes : 
 pub if_ok_both : {T E : Type 0} (P : T → Type 0) (Q : Type 0) (R : T → Type 0) (r : Result T E) → IfOk r P → OnOk r Q → ((x : T) → P x → Q → R x) → IfOk r R
 if_ok_both P Q R (Ok x) p q more = more x p q
 if_ok_both P Q R (Err e) p q more = tt
+
+-- a fault of the disk tells no other copies, and nothing as lost
+pub device_copies : {T : Type 0} (a b : ℕ) (r : Result T LoadFault) → IfErr r IsDevice → IfErr r (TellsCopies a b)
+device_copies a b (Ok x) device = tt
+device_copies a b (Err (Device place)) device = tt
+device_copies a b (Err (Lost x y)) device = absurd device
+
+pub device_lost : {T : Type 0} (P : Type 0) (Copies : ℕ → ℕ → Type 0) (image : List Sector) (r : Result T LoadFault) → IfErr r IsDevice → IfErr r (λ fault. P → LostCause Copies image fault)
+device_lost P Copies image (Ok x) device = tt
+device_lost P Copies image (Err (Device place)) device = λ p. tt
+device_lost P Copies image (Err (Lost x y)) device = absurd device
 
 -- ---- roots
 

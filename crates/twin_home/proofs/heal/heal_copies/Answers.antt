@@ -1,52 +1,91 @@
-use Rattle.std.proofs.Common.{inl, inr}
-use Rattle.sector_disk.proofs.CallLaws.{reads_then_writes}
-use Rattle.twin_home.proofs.HealLaws.{hurt_before, if_ok_both, mended, mends, reads_damaged, reads_whole, still_heals}
+use Rattle.std.proofs.Common.{inl, inr, ap, refl, sym, ◌∙◌, arith}
+use Rattle.std.proofs.lemmas.Result.{err_from_is_err_and}
+use Rattle.sector_disk.specs.Machine.{Ledger, wrote}
+use Rattle.sector_disk.proofs.CallLaws.{reads_as_writes, reads_then_writes}
+use Rattle.twin_home.specs.Heal.{AreCopies}
+use Rattle.twin_home.proofs.HealLaws.{device_copies, device_lost, hurt_before, if_ok_both, mended, mends, reads_damaged, reads_whole, still_heals}
 use Rattle.twin_home.proofs.heal.heal_copies.Goals as goal
 
-pub returns-in-Some-None-clause-writes : goal.returns-in-Some-None-clause-writes
-returns-in-Some-None-clause-writes g c =
+pub returns-in_err-read_both : goal.returns-in_err-read_both
+returns-in_err-read_both g c =
+    let a = c.args.a in let b = c.args.b in
+    let reads = c.in_err-read_both.ensures.reads in
+    let p = err_from_is_err_and c.from_residual.result c.from_residual.ensures.1 in
+    rw (p.1, p.2) (record {
+      writes = reads_as_writes reads (λ h left worn. still_heals a b (g.M.Machine.now c.args.m.now) left worn);
+      copies = tt;
+      counted = tt;
+      most = λ t. omega (arith, ap (λ (x : Ledger). x.written) (reads.ledger t));
+      done = tt;
+      lost = λ h. tt;
+    })
+
+pub returns-in-Some-None : goal.returns-in-Some-None
+returns-in-Some-None g c =
     let M = g.M.Machine in
     let a = c.args.a in let b = c.args.b in let bytes = c.in-Some-None.bytes in
     let old = M.now c.args.m.now in let mid = M.now c.read_both.new.m in
-    reads_then_writes c.in_ok-read_both.ensures.reads c.set_copy.ensures.writes (λ h left worn. still_heals a b old left worn)
-    (λ h left part.
-    let h1 = c.set_copy.ensures.writes.trust.honest h in
-    let whole = reads_whole old mid a c.in_ok-read_both.field-0.0 bytes c.in-Some-None.is-0 (c.in_ok-read_both.ensures.read h1).first in
-    inr (inr (mends old mid (c.read_both.ensures.reads.worn h1) b a bytes c.set_copy.ensures.long whole left part)))
+    let both = c.in_ok-read_both.ensures in let set = c.set_copy.ensures in
+    let trust = set.writes.trust in
+    record {
+      writes = reads_then_writes both.reads set.writes (λ h left worn. still_heals a b old left worn)
+          (λ h left part.
+          let whole = reads_whole old mid a c.in_ok-read_both.field-0.0 bytes c.in-Some-None.is-0 (both.read (trust.honest h)).first in
+          inr (inr (mends old mid (both.reads.worn (trust.honest h)) b a bytes set.long whole left part)));
+      copies = device_copies a b c.set_copy.result set.device;
+      counted = if_ok_both _ _ _ c.set_copy.result set.one set.counted (λ count one counted t. counted t ∙ λ i. wrote (both.reads.ledger (trust.tells t) i) (sym one i));
+      most = λ t. omega (arith, set.most t, ap (λ (x : Ledger). x.written) (both.reads.ledger (trust.tells t)));
+      done = if_ok_both _ _ _ c.set_copy.result set.one set.done
+          (λ count one done h.
+          let h1 = trust.honest h in
+          let wears = both.reads.worn h1 in let read = both.read h1 in
+          let whole = reads_whole old mid a c.in_ok-read_both.field-0.0 bytes c.in-Some-None.is-0 read.first in
+          let hurt = hurt_before old mid b wears (reads_damaged old mid b c.in_ok-read_both.field-0.1 c.in-Some-None.is-1 read.second) in
+          inr (one, inr (mended old mid wears b a bytes set.long whole (M.now c.set_copy.new.m) hurt (done h))));
+      lost = device_lost (M.honest c.set_copy.new.m) (AreCopies a b) (M.now c.set_copy.new.m).image c.set_copy.result set.device;
+    }
 
-pub returns-in-Some-None-clause-done : goal.returns-in-Some-None-clause-done
-returns-in-Some-None-clause-done g c =
-    let M = g.M.Machine in
-    let a = c.args.a in let b = c.args.b in let bytes = c.in-Some-None.bytes in
-    let old = M.now c.args.m.now in let mid = M.now c.read_both.new.m in
-    if_ok_both _ _ _ c.set_copy.result c.set_copy.ensures.one c.set_copy.ensures.done
-    (λ count one done h.
-    let h1 = c.set_copy.ensures.writes.trust.honest h in
-    let wears = c.read_both.ensures.reads.worn h1 in let read = c.in_ok-read_both.ensures.read h1 in
-    let whole = reads_whole old mid a c.in_ok-read_both.field-0.0 bytes c.in-Some-None.is-0 read.first in
-    let hurt = hurt_before old mid b wears (reads_damaged old mid b c.in_ok-read_both.field-0.1 c.in-Some-None.is-1 read.second) in
-    inr (one, inr (mended old mid wears b a bytes c.set_copy.ensures.long whole (M.now c.set_copy.new.m) hurt (done h))))
-
-pub returns-in-None-Some-clause-writes : goal.returns-in-None-Some-clause-writes
-returns-in-None-Some-clause-writes g c =
-    let M = g.M.Machine in
-    let a = c.args.a in let b = c.args.b in let bytes = c.in-None-Some.bytes in
-    let old = M.now c.args.m.now in let mid = M.now c.read_both.new.m in
-    reads_then_writes c.in_ok-read_both.ensures.reads c.set_copy-in-None-Some.ensures.writes (λ h left worn. still_heals a b old left worn)
-    (λ h left part.
-    let h1 = c.set_copy-in-None-Some.ensures.writes.trust.honest h in
-    let whole = reads_whole old mid b c.in_ok-read_both.field-0.1 bytes c.in-None-Some.is-1 (c.in_ok-read_both.ensures.read h1).second in
-    inr (inl (mends old mid (c.read_both.ensures.reads.worn h1) a b bytes c.set_copy-in-None-Some.ensures.long whole left part)))
-
-pub returns-in-None-Some-clause-done : goal.returns-in-None-Some-clause-done
-returns-in-None-Some-clause-done g c =
+pub returns-in-None-Some : goal.returns-in-None-Some
+returns-in-None-Some g c =
     let M = g.M.Machine in
     let a = c.args.a in let b = c.args.b in let bytes = c.in-None-Some.bytes in
     let old = M.now c.args.m.now in let mid = M.now c.read_both.new.m in
-    if_ok_both _ _ _ c.set_copy-in-None-Some.result c.set_copy-in-None-Some.ensures.one c.set_copy-in-None-Some.ensures.done
-    (λ count one done h.
-    let h1 = c.set_copy-in-None-Some.ensures.writes.trust.honest h in
-    let wears = c.read_both.ensures.reads.worn h1 in let read = c.in_ok-read_both.ensures.read h1 in
-    let whole = reads_whole old mid b c.in_ok-read_both.field-0.1 bytes c.in-None-Some.is-1 read.second in
-    let hurt = hurt_before old mid a wears (reads_damaged old mid a c.in_ok-read_both.field-0.0 c.in-None-Some.is-0 read.first) in
-    inr (one, inl (mended old mid wears a b bytes c.set_copy-in-None-Some.ensures.long whole (M.now c.set_copy-in-None-Some.new.m) hurt (done h))))
+    let both = c.in_ok-read_both.ensures in let set = c.set_copy-in-None-Some.ensures in
+    let trust = set.writes.trust in
+    record {
+      writes = reads_then_writes both.reads set.writes (λ h left worn. still_heals a b old left worn)
+          (λ h left part.
+          let whole = reads_whole old mid b c.in_ok-read_both.field-0.1 bytes c.in-None-Some.is-1 (both.read (trust.honest h)).second in
+          inr (inl (mends old mid (both.reads.worn (trust.honest h)) a b bytes set.long whole left part)));
+      copies = device_copies a b c.set_copy-in-None-Some.result set.device;
+      counted = if_ok_both _ _ _ c.set_copy-in-None-Some.result set.one set.counted (λ count one counted t. counted t ∙ λ i. wrote (both.reads.ledger (trust.tells t) i) (sym one i));
+      most = λ t. omega (arith, set.most t, ap (λ (x : Ledger). x.written) (both.reads.ledger (trust.tells t)));
+      done = if_ok_both _ _ _ c.set_copy-in-None-Some.result set.one set.done
+          (λ count one done h.
+          let h1 = trust.honest h in
+          let wears = both.reads.worn h1 in let read = both.read h1 in
+          let whole = reads_whole old mid b c.in_ok-read_both.field-0.1 bytes c.in-None-Some.is-1 read.second in
+          let hurt = hurt_before old mid a wears (reads_damaged old mid a c.in_ok-read_both.field-0.0 c.in-None-Some.is-0 read.first) in
+          inr (one, inl (mended old mid wears a b bytes set.long whole (M.now c.set_copy-in-None-Some.new.m) hurt (done h))));
+      lost = device_lost (M.honest c.set_copy-in-None-Some.new.m) (AreCopies a b) (M.now c.set_copy-in-None-Some.new.m).image c.set_copy-in-None-Some.result set.device;
+    }
+
+pub returns-in-None-None : goal.returns-in-None-None
+returns-in-None-None g c =
+    let M = g.M.Machine in
+    let a = c.args.a in let b = c.args.b in
+    let old = M.now c.args.m.now in let mid = M.now c.read_both.new.m in
+    let both = c.in_ok-read_both.ensures in
+    record {
+      writes = reads_as_writes both.reads (λ h left worn. still_heals a b old left worn);
+      copies = (refl, refl);
+      counted = tt;
+      most = λ t. omega (arith, ap (λ (x : Ledger). x.written) (both.reads.ledger t));
+      done = tt;
+      lost = λ h. let read = both.read h in
+          record {
+            copies = (refl, refl);
+            first = reads_damaged old mid a c.in_ok-read_both.field-0.0 c.in-None-None.is-0 read.first;
+            second = reads_damaged old mid b c.in_ok-read_both.field-0.1 c.in-None-None.is-1 read.second;
+          };
+    }

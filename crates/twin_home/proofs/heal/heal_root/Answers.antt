@@ -1,12 +1,37 @@
-use Rattle.std.proofs.Common.{◌≡◌, ℕ, List, None, ap, rules, subst}
-use Rattle.std.proofs.lemmas.Result.{IfOk-weaker}
+use Rattle.std.proofs.Common.{◌≡◌, ◌+◌, ◌∙◌, ℕ, List, None, ap, rules, subst, arith}
+use Rattle.std.proofs.lemmas.Result.{err_from_is_err_and, IfOk-weaker}
+use Rattle.sector_disk.specs.Machine.{Ledger}
 use Rattle.std.specs.Prelude.{is_none}
-use Rattle.sector_disk.proofs.CallLaws.{reads_then_writes}
+use Rattle.sector_disk.proofs.CallLaws.{reads_as_writes, reads_then_writes}
 use Rattle.volume_layout.specs.Root.{root_bytes}
-use Rattle.twin_home.specs.Heal.{RootsIn, SetsRoots}
-use Rattle.twin_home.proofs.HealLaws.{both_healed, roots_on, roots_still}
+use Rattle.twin_home.specs.Heal.{AreCopies, RootsIn, SetsRoots}
+use Rattle.twin_home.proofs.HealLaws.{both_healed, device_copies, device_lost, roots_on, roots_still}
 use Rattle.twin_home.proofs.heal.heal_root.Goals.{else-is_none-via-then-is_none+else-is_none-2, else-is_none-via-else-is_none}
 use Rattle.twin_home.proofs.heal.heal_root.Goals as goal
+
+pub returns-in_err-first : goal.returns-in_err-first
+returns-in_err-first g c =
+    let reads = c.in_err-first.ensures.reads in
+    let p = err_from_is_err_and c.from_residual.result c.from_residual.ensures.1 in
+    rw (p.1, p.2) (record {
+      writes = reads_as_writes reads (λ h left worn. roots_still (root_bytes c.args.l.now) (g.M.Machine.now c.args.m.now) left worn);
+      copies = tt;
+      counted = tt;
+      most = λ t. omega (arith, ap (λ (x : Ledger). x.written) (reads.ledger t));
+      done = tt;
+      lost = λ h. tt;
+    })
+
+pub returns-clause-copies : goal.returns-clause-copies
+returns-clause-copies g c = device_copies 0 4 c.set_roots.result c.set_roots.ensures.device
+
+pub returns-clause-counted : goal.returns-clause-counted
+returns-clause-counted g c =
+    let reads = c.in_ok-first.ensures.reads in
+    IfOk-weaker c.set_roots.result _ _ (λ count counted t. counted t ∙ ap (λ (x : Ledger). x.written + count) (reads.ledger (c.set_roots.ensures.writes.trust.tells t))) c.set_roots.ensures.counted
+
+pub returns-clause-lost : goal.returns-clause-lost
+returns-clause-lost g c = let M = g.M.Machine in device_lost (M.honest c.set_roots.new.m) (AreCopies 0 4) (M.now c.set_roots.new.m).image c.set_roots.result c.set_roots.ensures.device
 
 pub returns-clause-writes : goal.returns-clause-writes
 returns-clause-writes g c =
