@@ -1,5 +1,5 @@
 -- A force of the dirty pages of a cache.
-use Rattle.std.proofs.Common.{◌≡◌, ℕ, ◌+◌, ◌≤◌, true, List, [], ◌∷◌, length, refl, sym, ap, subst, ◌∙◌, arith}
+use Rattle.std.proofs.Common.{◌≡◌, Bool, true, false, cond, ℕ, ◌+◌, ◌≤◌, List, [], ◌∷◌, length, refl, sym, ap, subst, ◌∙◌, arith}
 use Rattle.run_table.specs.Space.{contains}
 use Rattle.sector_disk.specs.declared.sector.WeakRun.{WeakRun}
 use Rattle.sector_disk.specs.Machine.{Moment}
@@ -12,7 +12,8 @@ use Rattle.page_cache.specs.Cache.{CacheValue, IsCache, IsResident, cleaned, is_
 use Rattle.group_commit.specs.Cached.{AreWaiting, CacheLeaves, ascending_of, stamped_for, stamped_frames, with_waiting}
 use Rattle.group_commit.specs.Force.{Committed, StandsOver, log_forced, sectors_written, stamped_by}
 use Rattle.group_commit.specs.Resident.{stamped}
-use Rattle.group_commit.specs.Room.{log_before, sectors_before}
+use Rattle.log_thirds.specs.Moving.{moved}
+use Rattle.group_commit.specs.Room.{goes_before, log_before, sectors_before}
 use Rattle.group_commit.proofs.CommitLaws.{idle_commits, idle_committed}
 use Rattle.group_commit.proofs.FrameLaws.{stamped_none, stamped_same}
 use Rattle.group_commit.proofs.ImageLaws.{all_at}
@@ -22,6 +23,14 @@ use Rattle.std.proofs.lemmas.List.{nil_from_length}
 pub written_some : (log : LogValue) (dirty : List ℕ) → 1 ≤ length dirty → sectors_written log dirty ≡ sectors_before log (length dirty) + record_len (length dirty)
 written_some log [] some = absurd (omega (arith, some))
 written_some log (x ∷ xs) some = refl
+
+-- an anchor that moves on leaves the layout
+either_layout : (here : Bool) (log : LogValue) → (cond here log (moved log)).layout ≡ log.layout
+either_layout true log = refl
+either_layout false log = refl
+
+pub before_layout : (log : LogValue) (n : ℕ) → (log_before log n).layout ≡ log.layout
+before_layout log n = either_layout (goes_before log n) log
 
 pub forced_some : (log : LogValue) (dirty : List ℕ) → 1 ≤ length dirty → log_forced log dirty ≡ log_with (log_before log (length dirty)) dirty
 forced_some log [] some = absurd (omega (arith, some))

@@ -1,8 +1,14 @@
 -- What a fetch leaves in memory.
-use Rattle.std.proofs.Common.{◌≡◌, ◌⊎◌, ℕ, List, Result, Ok, Some, None, IsSome, refl, sym, ap, ◌∙◌, subst, inl, inr}
-use Rattle.std.specs.Prelude.{IfSome, OnOk}
+use Rattle.std.proofs.Common.{◌≡◌, ◌⊎◌, ℕ, List, Option, Result, Ok, Some, None, IsSome, refl, sym, ap, ◌∙◌, subst, inl, inr}
+use Rattle.std.specs.Prelude.{IfSome, OnOk, option_map}
+use Rattle.sector_disk.specs.declared.sector.Sector.{Sector}
+use Rattle.sector_disk.specs.declared.machine.LoadFault.{LoadFault}
+use Rattle.sector_disk.specs.declared.machine.LoadFault.TheVariants as load
+use Rattle.sector_disk.specs.Calls.{load_failed_at}
+use Rattle.sector_disk.specs.Damage as load_damage
 use Rattle.page_cache.specs.declared.fault.CacheFault.{CacheFault}
-use Rattle.page_cache.specs.Cache.{CacheValue, Held, IsCache, IsResident, IsBusy, held, used, entered}
+use Rattle.page_cache.specs.Cache.{CacheValue, Held, IsCache, IsResident, IsBusy, bytes_of, held, used, entered}
+use Rattle.page_cache.specs.Fetch.{IsNotLost, LostCause, fault_of, fetch_failed_at}
 use Rattle.page_cache.proofs.Entries.{by_option, same_key}
 use Rattle.page_cache.proofs.NewestLaws.{used_held}
 use Rattle.page_cache.proofs.BusyLaws.{busy_stays}
@@ -31,3 +37,34 @@ module _ (page : ℕ) (old new : CacheValue) where
   pub fetched_dirty : Fetched page old new → new.dirty ≡ old.dirty
   fetched_dirty (inl at) = ap (λ (c : CacheValue). c.dirty) at.1
   fetched_dirty (inr at) = ap (λ (c : CacheValue). c.dirty) at.1.1
+
+-- ---- a page by the frame that is answered of it
+
+pub none_held : (o : Option Held) → None ≡ option_map (λ h. h.frame) o → o ≡ None
+none_held None is = refl
+none_held (Some h) is = absurd (cc is)
+
+pub some_held : (o : Option Held) (frame : ℕ) → Some frame ≡ option_map (λ h. h.frame) o → o ≡ None → ⊥
+some_held None frame is none = cc is
+some_held (Some h) frame is none = cc none
+
+pub hit_of : (o : Option Held) (frame : ℕ) (P Q : Type 0) → Some frame ≡ option_map (λ h. h.frame) o → P → Q → IfSome o (λ h. (◌≡◌ {A = Result ℕ CacheFault} (Ok frame) (Ok h.frame)) × P × Q)
+hit_of None frame P Q is p q = tt
+hit_of (Some h) frame P Q is p q = (cc is, p, q)
+
+pub entered_bytes : (page : ℕ) (bytes : List ℕ) (old new : CacheValue) → new ≡ entered page bytes old → bytes_of new page ≡ Some bytes
+entered_bytes page bytes old new is = ap (λ (c : CacheValue). bytes_of c page) is ∙ rw (same_key page) refl
+
+-- ---- the fault of a load, as a fetch tells it
+
+pub load_place : (fault : LoadFault) → fetch_failed_at (fault_of fault) ≡ load_failed_at fault
+load_place (load.Device place) = refl
+load_place (load.Lost a b) = refl
+
+pub load_lost : (AreCopies : ℕ → ℕ → Type 0) (image : List Sector) (fault : LoadFault) → load_damage.LostCause AreCopies image fault → LostCause AreCopies image (fault_of fault)
+load_lost AreCopies image (load.Device place) lost = tt
+load_lost AreCopies image (load.Lost a b) lost = lost
+
+pub load_not_lost : (fault : LoadFault) → load_damage.IsDevice fault → IsNotLost (fault_of fault)
+load_not_lost (load.Device place) device = tt
+load_not_lost (load.Lost a b) device = device

@@ -1,7 +1,7 @@
 -- What is still to come of a script, as a reader goes on.
 use Rattle.std.proofs.Common.{◌≡◌, Bool, true, false, cond, ℕ, ◌+◌, ◌-◌, ◌<◌, ◌≤◌, List, [], ◌∷◌, ◌++◌, length, take, drop, Option, Some, None, Err, refl, sym, ap, ◌∙◌, arith, append_assoc, append-nil, length-append, length-drop, length-take-le}
 use Rattle.std.specs.Prelude.{nat_lt, min, max, ◌==◌}
-use Rattle.std.proofs.lemmas.Bool.{cond-false, ne_eqb, eqb-true, eqb-false, ltb-true}
+use Rattle.std.proofs.lemmas.Bool.{cond-false, ne_eqb, eqb-true, eqb-false, ltb-false, ltb-true}
 use Rattle.std.proofs.lemmas.List.{take-append-drop}
 use Rattle.sector_disk.specs.Machine.{Ledger}
 use Rattle.fsd_texts.specs.declared.bad_line.Cause.{Cause}
@@ -116,3 +116,14 @@ module _ (old : Reading) (h : IsOpen old) (cause : Cause) (read : command_at old
     waiting = comes.bytes;
     ahead = λ still rest. some_ahead rest ∙ ap (λ (e : Option End). script_left (new_with e) rest) (sym still);
   }
+
+-- ---- an end that is not known after bytes came
+
+open_by : (e : End) (none over : Bool) (count taken : ℕ) → none ≡ (count == 0) → over ≡ nat_lt max_input taken → cond none (Some e) (cond over (Some TooLong) None) ≡ None → (0 < count) × (taken ≤ max_input)
+open_by e true over count taken none_is over_is still = absurd (cc still)
+open_by e false true count taken none_is over_is still = absurd (cc still)
+open_by e false false count taken none_is over_is still = let some = eqb-false count 0 (sym none_is) in (omega (arith, some), ltb-false max_input taken (sym over_is))
+
+-- some came, and no more than may be read
+pub open_after : (e : End) (count taken : ℕ) → end_after e count taken ≡ None → (0 < count) × (taken ≤ max_input)
+open_after e count taken still = open_by e (count == 0) (nat_lt max_input taken) count taken refl refl still

@@ -1,33 +1,62 @@
-use Rattle.std.proofs.Common.{◌≡◌, ◌∙◌, sym, ap, subst, refl, true, None}
+use Rattle.std.proofs.Common.{◌≡◌, ◌+◌, ◌∙◌, ℕ, arith, sym, ap, subst, refl, true, None}
 use Rattle.std.specs.Prelude.{is_none, is_some}
 use Rattle.script_text.specs.Reading.{Ahead, GoesOn, IsShort, NoneWaits, Reading, script_left}
 use Rattle.script_text.specs.Taking.{Grows}
-use Rattle.script_text.proofs.ReaderLaws.{open_of}
+use Rattle.script_text.proofs.ReaderLaws.{IsOpen, open_of}
 use Rattle.script_text.proofs.StepLaws.{Answer, answer_ahead, answer_waits, fault_ahead, fault_is, fault_waits, falls, gives_next, grows_then, moves_from, moves_still, as_it_was, never, none_of}
 use Rattle.sector_disk.proofs.CallLaws.{takes_then}
+use Rattle.script_text.proofs.reader.Reader.next_command.Given as given
 use Rattle.script_text.proofs.reader.Reader.next_command.Goals as goal
 
-pub returns-in-Ok-clause-script : goal.returns-in-Ok-clause-script
-returns-in-Ok-clause-script g c h =
+-- the reader has not ended
+open_here : (g : given.Over) (c : goal.In-Ok g) → IsOpen c.loop-alloc.self
+open_here g c =
     let still : c.loop-alloc.self.end ≡ None = sym (ap (λ (r : Reading). r.end) c.self.view_is) ∙ none_of c.self.inside.end c.loop-alloc-test.ensures in
-    sym (c.loop-alloc.invariant.script h)
-    ∙ gives_next c.loop-alloc.self c.front.new.self c.in-Ok.command _ (open_of _ _ _ _ _ c.loop-alloc.self c.self.invariant c.self.view_is still) c.in-Ok.ensures
+    open_of _ _ _ _ _ c.loop-alloc.self c.self.invariant c.self.view_is still
+
+pub returns-in-Ok-clause-script : goal.returns-in-Ok-clause-script
+returns-in-Ok-clause-script g c h = sym (c.loop-alloc.invariant.script h) ∙ gives_next c.loop-alloc.self c.front.new.self c.in-Ok.command _ (open_here g c) c.in-Ok.ensures
+
+pub returns-in-Ok-clause-end : goal.returns-in-Ok-clause-end
+returns-in-Ok-clause-end g c = ap (λ (r : Reading). r.end) c.in-Ok.ensures.new_is ∙ (open_here g c).open_still
+
+pub returns-in-Ok-clause-given : goal.returns-in-Ok-clause-given
+returns-in-Ok-clause-given g c = ap (λ (r : Reading). r.given) c.in-Ok.ensures.new_is ∙ ap (λ (n : ℕ). n + 1) c.loop-alloc.invariant.given
 
 pub returns-in-Ok-clause-again : goal.returns-in-Ok-clause-again
 returns-in-Ok-clause-again g c = never c.args.self.now _ c.loop-alloc.self _ c.self.view_is c.loop-alloc-test.ensures c.loop-alloc.invariant.again
 
+pub returns-in-Ok-clause-unasked : goal.returns-in-Ok-clause-unasked
+returns-in-Ok-clause-unasked g c = never c.args.self.now _ c.loop-alloc.self _ c.self.view_is c.loop-alloc-test.ensures c.loop-alloc.invariant.again
+
 pub returns-in-Ok-clause-moves : goal.returns-in-Ok-clause-moves
-returns-in-Ok-clause-moves g c h =
-    let still : c.loop-alloc.self.end ≡ None = sym (ap (λ (r : Reading). r.end) c.self.view_is) ∙ none_of c.self.inside.end c.loop-alloc-test.ensures in
-    moves_from _ _ _ _ _ _ (open_of _ _ _ _ _ c.loop-alloc.self c.self.invariant c.self.view_is still) (c.loop-alloc.invariant.grows h) c.in-Ok.ensures
+returns-in-Ok-clause-moves g c h = moves_from _ _ _ _ _ _ (open_here g c) (c.loop-alloc.invariant.grows h) c.in-Ok.ensures
 
-pub returns-in-Err-Memory-clause-again : goal.returns-in-Err-Memory-clause-again
-returns-in-Err-Memory-clause-again g c = never c.args.self.now _ c.loop-alloc.self _ c.self.view_is c.loop-alloc-test.ensures c.loop-alloc.invariant.again
+pub returns-in-Ok-clause-calls : goal.returns-in-Ok-clause-calls
+returns-in-Ok-clause-calls g c = c.loop-alloc.invariant.calls
 
-pub returns-in-Err-Memory-clause-moves : goal.returns-in-Err-Memory-clause-moves
-returns-in-Err-Memory-clause-moves g c h =
-    let still : c.loop-alloc.self.end ≡ None = sym (ap (λ (r : Reading). r.end) c.self.view_is) ∙ none_of c.self.inside.end c.loop-alloc-test.ensures in
-    moves_still _ _ _ _ _ _ (c.loop-alloc.invariant.grows h) (as_it_was c.loop-alloc.self c.front.new.self c.in-Err-Memory.field-0 c.in-Err-Memory.ensures) (λ s t e. e still)
+pub returns-in-Err-Memory : goal.returns-in-Err-Memory
+returns-in-Err-Memory g c =
+    let M = g.M.Machine in
+    let first = c.args.self.now in let here = c.loop-alloc.self in
+    let so_far = c.loop-alloc.invariant in
+    let still : here.end ≡ None = sym (ap (λ (r : Reading). r.end) c.self.view_is) ∙ none_of c.self.inside.end c.loop-alloc-test.ensures in
+    let is_open : IsOpen here = open_of _ _ _ _ _ here c.self.invariant c.self.view_is still in
+    let same : c.front.new.self ≡ here = as_it_was here c.front.new.self c.in-Err-Memory.field-0 c.in-Err-Memory.ensures in
+    let taken : c.front.new.self.taken ≡ here.taken = ap (λ (r : Reading). r.taken) same in
+    record {
+      script = λ h. ap (λ (r : Reading). script_left r (M.ledger c.loop-alloc.m).input) same ∙ so_far.script h;
+      end = ap (λ (r : Reading). r.end) same ∙ still;
+      given = omega (arith, ap (λ (r : Reading). r.given) same, so_far.given);
+      again = never first _ here _ c.self.view_is c.loop-alloc-test.ensures so_far.again;
+      unasked = never first _ here _ c.self.view_is c.loop-alloc-test.ensures so_far.again;
+      most = omega (arith, taken, is_open.within);
+      «open» = λ e. omega (arith, taken, is_open.within);
+      few = omega (arith, ap (λ (r : Reading). r.given) same, taken, ap (λ (r : Reading). r.given) c.self.view_is, ap (λ (r : Reading). r.taken) c.self.view_is, c.self.invariant.each_took);
+      moves = λ h. moves_still _ _ _ _ _ _ (so_far.grows h) same (λ s t e. e still);
+      waits = tt;
+      calls = so_far.calls;
+    }
 
 pub returns-clause-moves : goal.returns-clause-moves
 returns-clause-moves g c h =
