@@ -271,13 +271,7 @@ finds_in i v key = by (entry_of key v.entries)
 
 may_find : (i : Image) (v : Volume) (command : Command) → (damaged : Option ℕ) × MayFind i i v command (record { forces = false; reached = 1; damaged = damaged })
 may_find i v (Word.Get key) = finds_in i v key
-may_find i v (Word.Put name bytes given) = (None, tt)
-may_find i v (Word.Delete key) = (None, tt)
-may_find i v (Word.Keep name keep) = (None, tt)
-may_find i v (Word.List pattern) = (None, tt)
-may_find i v Word.Force = (None, tt)
-may_find i v Word.Tick = (None, tt)
-may_find i v Word.Stat = (None, tt)
+may_find i v command = (None, tt)
 
 pub some_answer : (i : Image) (v : Volume) (command : Command) → HasReach v → (met : Met) × MayMeet i i v command met
 some_answer i v command reach = by (may_find i v command)

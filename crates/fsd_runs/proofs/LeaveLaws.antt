@@ -11,10 +11,10 @@ use Rattle.fsd_files.specs.Files.{Change}
 use Rattle.fsd_sound.specs.Sound.{IsPrefixOf}
 use Rattle.fsd_texts.specs.declared.fault.Fault.{Fault}
 use Rattle.fsd_texts.specs.declared.fault.Fault.TheVariants as Ends
-use Rattle.fsd_texts.specs.Text.{memory_text}
+use Rattle.fsd_texts.specs.Text.{fault_text, memory_text}
 use Rattle.fsd_runs.specs.declared.request.Request.{Request}
 use Rattle.fsd_runs.specs.declared.request.Request.TheVariants as Asks
-use Rattle.fsd_runs.specs.Errands.{Turn}
+use Rattle.fsd_runs.specs.Errands.{Turn, fault_status}
 use Rattle.fsd_runs.specs.Leaves.{IsBroken, IsOutside, IsUnsaid, Left, NoneRose, SaysThen, StaysSound}
 use Rattle.fsd_runs.specs.Runs.{changes_in}
 
@@ -53,23 +53,9 @@ pub broken_by_memory : (request : Request) (before after : Report) (turns : List
 broken_by_memory request before after turns old new result none (inl unsaid) = absurd (none.output unsaid.rose)
 broken_by_memory request before after turns old new result none (inr broken) = by request broken.why broken.outside broken.ends broken.says
   where
-    by : (r : Request) (why : Fault) → IsOutside r before after why → result ≡ Rattle.fsd_runs.specs.Errands.fault_status why → SaysThen turns (Rattle.fsd_texts.specs.Text.fault_text why) old new
+    by : (r : Request) (why : Fault) → IsOutside r before after why → result ≡ fault_status why → SaysThen turns (fault_text why) old new
         → (result ≡ 7) × SaysThen turns memory_text old new
     by r (Ends.Device s) outside ends says = absurd (none.disk outside.rose)
     by r Ends.Memory outside ends says = (ends, says)
     by (Asks.Put name keep) Ends.Input outside ends says = absurd (none.input outside)
-    by Asks.Outside Ends.Input outside ends says = absurd outside
-    by (Asks.BadField cause) Ends.Input outside ends says = absurd outside
-    by (Asks.Format a b c) Ends.Input outside ends says = absurd outside
-    by (Asks.One command) Ends.Input outside ends says = absurd outside
-    by Asks.Script Ends.Input outside ends says = absurd outside
-    by (Asks.Generate a b) Ends.Input outside ends says = absurd outside
-    by r Ends.NotVolume outside ends says = absurd (never r outside)
-      where
-        never : (r : Request) → IsOutside r before after Ends.NotVolume → ⊥
-        never r outside = outside
-    by r (Ends.Lost a b) outside ends says = absurd outside
-    by r Ends.NoAnchor outside ends says = absurd outside
-    by r (Ends.Unsound s) outside ends says = absurd outside
-    by r Ends.InputTooLong outside ends says = absurd outside
-    by r Ends.WornOut outside ends says = absurd outside
+    by r why outside ends says = absurd outside

@@ -11,13 +11,13 @@ use Rattle.fsd_texts.specs.declared.command.Command.TheVariants as Word
 use Rattle.fsd_texts.specs.declared.fault.Fault.{Fault}
 use Rattle.fsd_texts.specs.declared.fault.Fault.TheVariants as Ends
 use Rattle.fsd_texts.specs.declared.end.End.{End}
-use Rattle.fsd_texts.specs.declared.end.End.TheVariants.{Done, Bad, TooLong}
+use Rattle.fsd_texts.specs.declared.end.End.TheVariants.{Done}
 use Rattle.fsd_texts.specs.Script.{max_input, script_in}
 use Rattle.fsd_runs.specs.declared.request.Request.{Request}
 use Rattle.fsd_runs.specs.declared.request.Request.TheVariants as Asks
 use Rattle.fsd_runs.specs.Errands.{Answered, Cut, Errand, IfMounts, MayCut, Turn, alone, blank, errand_of, fault_status, nothing_but, reply_status, script_ending}
-use Rattle.fsd_runs.specs.Leaves.{IsBroken, IsOutside, IsUnsaid, LeavesMounted, LeavesRun, LeavesUnmounted}
-use Rattle.fsd_runs.specs.Runs.{answered, errand_in, run_status}
+use Rattle.fsd_runs.specs.Leaves.{IsBroken, IsOutside, IsReplied, IsSpent, IsUnsaid, LeavesMounted, LeavesRun, LeavesUnmounted}
+use Rattle.fsd_runs.specs.Runs.{IsThrough, answered, errand_in, run_end, run_status, run_turns}
 
 abbrev NotThree : ℕ → Type 0
 NotThree status = status ≡ 3 → ⊥
@@ -29,15 +29,7 @@ EndsOtherwise e = (done : List Answered) → NotThree (e.ends done).status
 
 reply_otherwise : (reply : Reply) → NotThree (reply_status reply)
 reply_otherwise (Reply.Refused why) e = absurd (omega (arith, e))
-reply_otherwise (Reply.DamagedAt key s) e = absurd (omega (arith, e))
-reply_otherwise (Reply.Made key sectors) e = absurd (omega (arith, e))
-reply_otherwise (Reply.Deleted key) e = absurd (omega (arith, e))
-reply_otherwise (Reply.Kept key keep) e = absurd (omega (arith, e))
-reply_otherwise (Reply.Listed entries) e = absurd (omega (arith, e))
-reply_otherwise (Reply.Bytes key bytes) e = absurd (omega (arith, e))
-reply_otherwise Reply.Forced e = absurd (omega (arith, e))
-reply_otherwise (Reply.Counts a b c d) e = absurd (omega (arith, e))
-reply_otherwise (Reply.Found o) e = absurd (omega (arith, e))
+reply_otherwise reply e = absurd (omega (arith, e))
 
 alone_otherwise : (command : Command) → EndsOtherwise (alone command)
 alone_otherwise command [] e = absurd (omega (arith, e))
@@ -45,8 +37,7 @@ alone_otherwise command (p ∷ done) e = reply_otherwise p.reply e
 
 script_otherwise : (ends : End) → NotThree (script_ending ends).status
 script_otherwise Done e = absurd (omega (arith, e))
-script_otherwise (Bad bad) e = absurd (omega (arith, e))
-script_otherwise TooLong e = absurd (omega (arith, e))
+script_otherwise end e = absurd (omega (arith, e))
 
 put_otherwise : (b : Bool) (command : Command) → EndsOtherwise (cond b (nothing_but Ends.InputTooLong) (alone command))
 put_otherwise true command done e = absurd (omega (arith, e))
@@ -59,61 +50,25 @@ errand_otherwise (Asks.Put name keep) input = put_otherwise (nat_lt max_input (l
 errand_otherwise (Asks.One command) input = alone_otherwise command
 errand_otherwise Asks.Script input = λ done e. script_otherwise (script_in input).1 e
 errand_otherwise (Asks.Generate seed count) input = λ done e. absurd (omega (arith, e))
-errand_otherwise Asks.Outside input = tt
-errand_otherwise (Asks.BadField cause) input = tt
-errand_otherwise (Asks.Format a b c) input = tt
+errand_otherwise request input = tt
 
-cut_otherwise : (request : Request) (input : List ℕ) (k : ℕ) (why : Fault) → MayCut request (Some (k, why)) → NotThree (fault_status why)
-cut_otherwise Asks.Script input k Ends.Input may e = absurd (omega (arith, e))
-cut_otherwise request input k Ends.WornOut may e = absurd (omega (arith, e))
-cut_otherwise request input k (Ends.Device s) may e = absurd (omega (arith, e))
-cut_otherwise request input k Ends.Memory may e = absurd (omega (arith, e))
-cut_otherwise request input k Ends.InputTooLong may e = absurd (omega (arith, e))
-cut_otherwise request input k Ends.Input may e = absurd (omega (arith, e))
-cut_otherwise request input k Ends.NotVolume may e = never request may
-  where
-    never : (r : Request) → MayCut r (Some (k, Ends.NotVolume)) → ⊥
-    never Asks.Outside may = may
-    never (Asks.BadField cause) may = may
-    never (Asks.Format a b c) may = may
-    never (Asks.Put name keep) may = may
-    never (Asks.One command) may = may
-    never Asks.Script may = may
-    never (Asks.Generate a b) may = may
-cut_otherwise request input k (Ends.Lost a b) may e = never request may
-  where
-    never : (r : Request) → MayCut r (Some (k, Ends.Lost a b)) → ⊥
-    never Asks.Outside may = may
-    never (Asks.BadField cause) may = may
-    never (Asks.Format x y z) may = may
-    never (Asks.Put name keep) may = may
-    never (Asks.One command) may = may
-    never Asks.Script may = may
-    never (Asks.Generate x y) may = may
-cut_otherwise request input k Ends.NoAnchor may e = never request may
-  where
-    never : (r : Request) → MayCut r (Some (k, Ends.NoAnchor)) → ⊥
-    never Asks.Outside may = may
-    never (Asks.BadField cause) may = may
-    never (Asks.Format a b c) may = may
-    never (Asks.Put name keep) may = may
-    never (Asks.One command) may = may
-    never Asks.Script may = may
-    never (Asks.Generate a b) may = may
-cut_otherwise request input k (Ends.Unsound s) may e = never request may
-  where
-    never : (r : Request) → MayCut r (Some (k, Ends.Unsound s)) → ⊥
-    never Asks.Outside may = may
-    never (Asks.BadField cause) may = may
-    never (Asks.Format a b c) may = may
-    never (Asks.Put name keep) may = may
-    never (Asks.One command) may = may
-    never Asks.Script may = may
-    never (Asks.Generate a b) may = may
+-- so it is of each request that mounts
+if_mounts : (request : Request) (P Q : Type 0) → (P → Q) → IfMounts request P → IfMounts request Q
+if_mounts (Asks.Put name keep) P Q so p = so p
+if_mounts (Asks.One command) P Q so p = so p
+if_mounts Asks.Script P Q so p = so p
+if_mounts (Asks.Generate seed count) P Q so p = so p
+if_mounts request P Q so p = tt
+
+cut_otherwise : (request : Request) (k : ℕ) (why : Fault) → MayCut request (Some (k, why)) → NotThree (fault_status why)
+cut_otherwise Asks.Script k Ends.Input may e = absurd (omega (arith, e))
+cut_otherwise Asks.Script k Ends.WornOut may e = absurd (omega (arith, e))
+cut_otherwise (Asks.Generate seed count) k Ends.WornOut may e = absurd (omega (arith, e))
+cut_otherwise request k why may e = absurd may
 
 in_otherwise : (request : Request) (input : List ℕ) (cut : Cut) → MayCut request cut → EndsOtherwise (errand_of request input) → EndsOtherwise (errand_in request input cut)
 in_otherwise request input None may otherwise done e = otherwise done e
-in_otherwise request input (Some x) may otherwise done e = cut_otherwise request input x.0 x.1 may e
+in_otherwise request input (Some x) may otherwise done e = cut_otherwise request x.0 x.1 may e
 
 -- ---- the whole
 
@@ -124,43 +79,28 @@ broken_otherwise request before after turns old new result (inr broken) e = by r
     by : (r : Request) (why : Fault) → IsOutside r before after why → NotThree (fault_status why)
     by r (Ends.Device s) outside e = absurd (omega (arith, e))
     by r Ends.Memory outside e = absurd (omega (arith, e))
-    by r Ends.Input outside e = absurd (omega (arith, e))
-    by r Ends.InputTooLong outside e = absurd (omega (arith, e))
-    by r Ends.WornOut outside e = absurd (omega (arith, e))
-    by r Ends.NotVolume outside e = absurd outside
-    by r (Ends.Lost a b) outside e = absurd outside
-    by r Ends.NoAnchor outside e = absurd outside
-    by r (Ends.Unsound s) outside e = absurd outside
+    by (Asks.Put name keep) Ends.Input outside e = absurd (omega (arith, e))
+    by r why outside e = absurd outside
 
 module _ (request : Request) (input rest : List ℕ) (l : Layout) (windows : List WeakRun) (h : List Change) (f : ℕ) (Past : ℕ → Moment → Type 0) (began : ℕ) (Only : (Moment → Type 0) → Type 0) (before after : Report) (old new : Moment) (result : ℕ) where
   unmounted_otherwise : LeavesUnmounted request l windows h f Only before after old new result → NotThree result
   unmounted_otherwise u e = by u.ends
     where
-      by : Rattle.fsd_runs.specs.Leaves.IsSpent old new result ⊎ (IsUnsaid before after result ⊎ IsBroken request before after (blank ∷ []) old new result) → ⊥
+      by : IsSpent old new result ⊎ (IsUnsaid before after result ⊎ IsBroken request before after (blank ∷ []) old new result) → ⊥
       by (inl spent) = let nine = spent.ends in omega (arith, e, nine)
       by (inr other) = broken_otherwise request before after (blank ∷ []) old new result other e
 
   mounted_otherwise : EndsOtherwise (errand_of request input) → LeavesMounted request input rest l windows h f Past began Only before after old new result → NotThree result
   mounted_otherwise otherwise m e = by m.ends
     where
-      by : (Rattle.fsd_runs.specs.Runs.IsThrough m.run × Rattle.fsd_runs.specs.Leaves.IsReplied l windows m.next h m.count (Rattle.fsd_runs.specs.Runs.run_turns m.run) (run_status m.run) (Rattle.fsd_runs.specs.Runs.run_end m.run) old new result)
-          ⊎ (IsUnsaid before after result ⊎ IsBroken request before after (Rattle.fsd_runs.specs.Runs.run_turns m.run) old new result) → ⊥
+      by : (IsThrough m.run × IsReplied l windows m.next h m.count (run_turns m.run) (run_status m.run) (run_end m.run) old new result)
+          ⊎ (IsUnsaid before after result ⊎ IsBroken request before after (run_turns m.run) old new result) → ⊥
       by (inl through) = in_otherwise request input m.run.cut m.run.may otherwise (answered m.run.mets m.volume (errand_in request input m.run.cut).commands) (sym through.1.ends ∙ e)
-      by (inr other) = broken_otherwise request before after (Rattle.fsd_runs.specs.Runs.run_turns m.run) old new result other e
+      by (inr other) = broken_otherwise request before after (run_turns m.run) old new result other e
 
   run_otherwise : EndsOtherwise (errand_of request input) → LeavesRun request input rest l windows h f Past began Only before after old new result → NotThree result
   run_otherwise otherwise (inl u) = unmounted_otherwise u
   run_otherwise otherwise (inr m) = mounted_otherwise otherwise m
 
-pub never_refused : (request : Request) (input rest : List ℕ) (l : Layout) (windows : List WeakRun) (h : List Change) (f : ℕ) (Past : ℕ → Moment → Type 0) (began : ℕ) (Only : (Moment → Type 0) → Type 0) (before after : Report) (old new : Moment) (result : ℕ)
-    → IfMounts request (LeavesRun request input rest l windows h f Past began Only before after old new result → result ≡ 3 → ⊥)
-never_refused request input rest l windows h f Past began Only before after old new result = by request (errand_otherwise request input)
-  where
-    by : (r : Request) → IfMounts r (EndsOtherwise (errand_of r input)) → IfMounts r (LeavesRun r input rest l windows h f Past began Only before after old new result → result ≡ 3 → ⊥)
-    by (Asks.Put name keep) otherwise = λ leaves. run_otherwise (Asks.Put name keep) input rest l windows h f Past began Only before after old new result otherwise leaves
-    by (Asks.One command) otherwise = λ leaves. run_otherwise (Asks.One command) input rest l windows h f Past began Only before after old new result otherwise leaves
-    by Asks.Script otherwise = λ leaves. run_otherwise Asks.Script input rest l windows h f Past began Only before after old new result otherwise leaves
-    by (Asks.Generate a b) otherwise = λ leaves. run_otherwise (Asks.Generate a b) input rest l windows h f Past began Only before after old new result otherwise leaves
-    by Asks.Outside otherwise = tt
-    by (Asks.BadField cause) otherwise = tt
-    by (Asks.Format a b c) otherwise = tt
+  pub never_refused : IfMounts request (LeavesRun request input rest l windows h f Past began Only before after old new result → result ≡ 3 → ⊥)
+  never_refused = if_mounts request (EndsOtherwise (errand_of request input)) (LeavesRun request input rest l windows h f Past began Only before after old new result → NotThree result) run_otherwise (errand_otherwise request input)

@@ -230,10 +230,6 @@ module _ (s : State) (up : s.down ≡ None) (key : Key) (i : Image) where
   read_refused (Why.Device n) gone comes = tt
   read_refused why gone comes = by_order why (λ x. absurd x) comes
 
--- what was answered of a command is so of one that is the same
-pub answers_at : (c d : Command) → c ≡ d → (s t : State) (old new : Moment) (r : Result Answer Fault) → Answers d s t old new r → Answers c s t old new r
-answers_at c d is s t old new r answers = subst (λ (x : Command). Answers x s t old new r) (sym is) answers
-
 -- ---- the end of a volume
 
 pub said_by : (text : List ℕ) (a m b : Moment) → m.said ≡ a.said → {T : Type 0} (r : Result T End) → SaysBy text m b r → SaysBy text a b r

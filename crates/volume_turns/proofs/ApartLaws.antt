@@ -3,6 +3,7 @@ use Rattle.std.proofs.Common.{◌≡◌, Option, Some, None}
 use Rattle.std.specs.Prelude.{Result, Ok, Err}
 use Rattle.fsd_texts.specs.declared.bad_line.BadLine.{BadLine}
 use Rattle.fsd_texts.specs.declared.end.End.TheVariants.{Bad, Done, TooLong}
+use Rattle.fsd_texts.specs.declared.fault.Fault.{Fault}
 use Rattle.fsd_texts.specs.declared.fault.Fault.TheVariants as Ends
 use Rattle.volume_turns.specs.declared.script.Stop.{Stop}
 use Rattle.volume_turns.specs.declared.script.Stop.TheVariants.{Ended, Input}
@@ -18,6 +19,9 @@ module _ {A E : Type 0} (r : Result A E) where
 
   pub ok_apart : (x : A) (y : E) → r ≡ Ok x → r ≡ Err y → ⊥
   ok_apart x y p q = cc
+
+pub fault_is : {A : Type 0} (r : Result A End) (x y : Fault) → r ≡ Err (Stopped x) → r ≡ Err (Stopped y) → x ≡ y
+fault_is r x y p q = cc
 
 -- what has not read a script to its end
 module _ (r : Result (Option Stop) End) (done : r ≡ Ok (Some (Ended Done))) where

@@ -104,12 +104,7 @@ tells_mounted script made sectors s old new status now same f says may =
 -- no status of a mount's fault is one of a volume that is mounted
 not_mounted : (fault : MountFault) → IsTrue (is_of_mounted (fault_status (fault_of fault))) → ⊥
 not_mounted Refused.NotVolume is = cc is
-not_mounted Refused.NoAnchor is = cc is
-not_mounted (Refused.Lost a b) is = cc is
-not_mounted (Refused.Unsound s) is = cc is
-not_mounted (Refused.Device s) is = cc is
-not_mounted Refused.Memory is = cc is
-not_mounted Refused.WornOut is = cc is
+not_mounted fault is = cc is
 
 refused_not : (fault : MountFault) (status : ℕ) → IsStatusFor (fault_of fault) status → IsTrue (is_of_mounted status) → ⊥
 refused_not fault status (inl is) any = not_mounted fault (subst (λ (n : ℕ). IsTrue (is_of_mounted n)) is any)
@@ -119,12 +114,7 @@ refused_not fault status (inr six) any = let no : IsTrue (is_of_mounted 6) = sub
 worn_of : (sectors : ℕ) (old : Moment) (fault : MountFault) (status : ℕ) → IsStatusFor (fault_of fault) status → status ≡ 9 → IsRefused sectors fault old → IsRefused sectors Refused.WornOut old
 worn_of sectors old fault status (inr six) nine refused = absurd (omega (arith, six, nine))
 worn_of sectors old Refused.WornOut status (inl is) nine refused = refused
-worn_of sectors old Refused.NotVolume status (inl is) nine refused = absurd (omega (arith, is, nine))
-worn_of sectors old Refused.NoAnchor status (inl is) nine refused = absurd (omega (arith, is, nine))
-worn_of sectors old (Refused.Lost a b) status (inl is) nine refused = absurd (omega (arith, is, nine))
-worn_of sectors old (Refused.Unsound s) status (inl is) nine refused = absurd (omega (arith, is, nine))
-worn_of sectors old (Refused.Device s) status (inl is) nine refused = absurd (omega (arith, is, nine))
-worn_of sectors old Refused.Memory status (inl is) nine refused = absurd (omega (arith, is, nine))
+worn_of sectors old fault status (inl is) nine refused = absurd (omega (arith, is, nine))
 
 spent_refused : (made : Option ℕ) (sectors : ℕ) (old : Moment) → IsRefused sectors Refused.WornOut old → HasSpent made sectors old
 spent_refused (Some count) sectors old refused = inr refused
@@ -182,6 +172,10 @@ long_input most ordinal input is =
 pub passes_on : (stop : Stop) (end : ScriptEnd) (result : Result Stop End) → IfOk result (λ x. x ≡ stop) → result ≡ Ok (Ended end) → stop ≡ Ended end
 passes_on stop end (Ok x) same is = let e : x ≡ Ended end = cc is in sym same ∙ e
 passes_on stop end (Err why) same is = absurd (cc is)
+
+-- which for a worn-out mount is no end of the script
+pub worn_apart : (end : ScriptEnd) (result : Result Stop End) → IfOk result (λ x. x ≡ WornOut) → result ≡ Ok (Ended end) → ⊥
+worn_apart end result same is = let e : WornOut ≡ Ended end = passes_on WornOut end result same is in cc e
 
 -- what is read to its end does not stop for a worn-out mount
 pub read_not_worn : {S D : Type 0} (state : S → State) (has : S → Mounted → List Placed → Type 0) (M : Ghosts D) (e : Errand) (old : S) (a : D) (new : S) (b : D) (stop : Stop) → stop ≡ WornOut → WholeRead state has M e old a new b (Ok stop) → ⊥

@@ -215,5 +215,10 @@ pub told_end : {T U : Type 0} (a b : Report) (end : End) → Told {T = T} a b (E
 told_end a b (Stopped fault) x = record { sectors = x.sectors; disk = x.disk; input = x.input; later = x.later; output = x.output }
 told_end a b Output x = record { sectors = x.sectors; disk = x.disk; input = x.input; later = x.later; output = x.output }
 
+-- up to where the mount was worn out
+pub told_worn_out : {T : Type 0} (a b : Report) (end : End) → is_worn_end end ≡ true → Told {T = T} a b (Err end) → Told {T = Unit {0}} a b (Ok tt)
+told_worn_out a b (Stopped Ends.WornOut) worn x = record { sectors = x.sectors; disk = x.disk; input = x.input; later = x.later; output = x.output }
+told_worn_out a b end worn x = cc worn
+
 pub told_none : (a : Report) → Told {T = Unit {0}} a a (Ok tt)
 told_none a = record { sectors = refl; disk = (refl, refl); input = refl; later = omega arith; output = refl }

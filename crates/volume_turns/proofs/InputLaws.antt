@@ -101,7 +101,6 @@ device_close why = refl
 
 pub close_of_call : (why : Refusal) → IsOfCall (close_fault why)
 close_of_call (Why.Device s) = tt
-close_of_call (Why.Lost x y) = tt
 close_of_call why = tt
 
 module _ {S D : Type 0} (state : S → State) (has : S → Mounted → List Placed → Type 0) (M : Ghosts D) (name : List ℕ) (keep : Option ℕ) (input rest : List ℕ) (many : max_input < length input) (v : S) (a m b : D) (k : Known) (stands : Stands state has v k (M.now a))

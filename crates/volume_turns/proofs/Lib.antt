@@ -1,5 +1,6 @@
 pub mod AnsweringLaws
 pub mod ApartLaws
+pub mod BehindLaws
 pub mod CauseLaws
 pub mod CountLaws
 pub mod EachLaws

@@ -14,7 +14,7 @@ use Rattle.fsd_texts.specs.declared.fault.Fault.TheVariants as Ends
 use Rattle.fsd_texts.specs.declared.line.Line.{Line}
 use Rattle.fsd_texts.specs.declared.line.Line.TheVariants as Says
 use Rattle.fsd_texts.specs.Text.{text}
-use Rattle.volume_contract.specs.Order.{Step, Test, Asks, Draw, Disk, Force, LookUp, Fetch, Data, IsDownBy, Keeps, Passes, Refuses, delete_steps, force_steps, keep_steps, put_steps, with_drawn}
+use Rattle.volume_contract.specs.Order.{Step, Draw, Force, IsDownBy, Keeps, Passes, Refuses, delete_steps, force_steps, keep_steps, put_steps, with_drawn}
 use Rattle.volume_contract.specs.State.{HasCounted, IsDownAt, IsForced, IsNew, State, enters_again, forces_first, forces_for_place, is_worn, moved_on, numbered}
 use Rattle.volume_turns.specs.declared.turns.End.{End}
 use Rattle.volume_turns.specs.declared.turns.End.TheVariants.{Fault as Stopped, Output}
@@ -123,12 +123,7 @@ keeps_goes (Draw ∷ steps) r s t keeps =
     record { serials = let a = more.serials in omega (arith, a); records = more.records }
 keeps_goes (Force true ∷ steps) r s t keeps = forces_then steps r s t (λ next k. keeps_goes steps r next t k) keeps
 keeps_goes (Force false ∷ steps) r s t keeps = let x = stays steps (Refuses (Force false) r) (Passes (Force false)) r s t (λ k. keeps_goes steps r s t k) keeps in record { serials = x.serials; records = let n = x.records in omega (arith, n) }
-keeps_goes (Test why ∷ steps) r s t keeps = let x = stays steps (Refuses (Test why) r) (Passes (Test why)) r s t (λ k. keeps_goes steps r s t k) keeps in record { serials = x.serials; records = x.records }
-keeps_goes (Asks why ∷ steps) r s t keeps = let x = stays steps (Refuses (Asks why) r) (Passes (Asks why)) r s t (λ k. keeps_goes steps r s t k) keeps in record { serials = x.serials; records = x.records }
-keeps_goes (Disk may ∷ steps) r s t keeps = let x = stays steps (Refuses (Disk may) r) (Passes (Disk may)) r s t (λ k. keeps_goes steps r s t k) keeps in record { serials = x.serials; records = x.records }
-keeps_goes (LookUp ∷ steps) r s t keeps = let x = stays steps (Refuses LookUp r) (Passes LookUp) r s t (λ k. keeps_goes steps r s t k) keeps in record { serials = x.serials; records = x.records }
-keeps_goes (Fetch ∷ steps) r s t keeps = let x = stays steps (Refuses Fetch r) (Passes Fetch) r s t (λ k. keeps_goes steps r s t k) keeps in record { serials = x.serials; records = x.records }
-keeps_goes (Data ∷ steps) r s t keeps = let x = stays steps (Refuses Data r) (Passes Data) r s t (λ k. keeps_goes steps r s t k) keeps in record { serials = x.serials; records = x.records }
+keeps_goes (step ∷ steps) r s t keeps = let x = stays steps (Refuses step r) (Passes step) r s t (λ k. keeps_goes steps r s t k) keeps in record { serials = x.serials; records = x.records }
 
 one_force : (b : Bool) → cond b 1 0 + 0 ≤ 1
 one_force true = omega arith

@@ -1,5 +1,5 @@
 -- What the order of refusals tells of a mount that is worn out.
-use Rattle.std.proofs.Common.{◌≡◌, inl, inr, ℕ, Bool, true, false, cond, List, [], ◌∷◌, length, Option, Some, None, refl, subst, ap}
+use Rattle.std.proofs.Common.{◌≡◌, inl, inr, ℕ, Bool, true, false, cond, List, [], ◌∷◌, length, Option, Some, None, refl, sym, subst, ap}
 use Rattle.std.specs.Prelude.{IsTrue, IsFalse, option_map, is_none, not, nat_lt, ◌&&◌, ◌<◌, ◌≤◌, ⊤}
 use Rattle.std.proofs.lemmas.Bool.{ltb-false}
 use Rattle.fsd_bytes.specs.declared.refusal.Refusal.{Refusal}
@@ -64,40 +64,8 @@ IsOther Why.WornOut = ⊤
 IsOther (Why.Down t) = ⊤
 IsOther why = ⊥
 
-not_keep : (why : Refusal) (k : ℕ) → IsOther why → Why.KeepTooLarge k ≡ why → ⊥
-not_keep Why.WornOut k o is = cc is
-not_keep (Why.Down t) k o is = cc is
-not_keep why k o is = absurd o
-
-not_long : (why : Refusal) (n : ℕ) → IsOther why → Why.TooLong n ≡ why → ⊥
-not_long Why.WornOut n o is = cc is
-not_long (Why.Down t) n o is = cc is
-not_long why n o is = absurd o
-
-not_space : (why : Refusal) (need free : ℕ) → IsOther why → Why.NoSpace need free ≡ why → ⊥
-not_space Why.WornOut need free o is = cc is
-not_space (Why.Down t) need free o is = cc is
-not_space why need free o is = absurd o
-
-not_fragmented : (why : Refusal) (need most : ℕ) → IsOther why → Why.TooFragmented need most ≡ why → ⊥
-not_fragmented Why.WornOut need most o is = cc is
-not_fragmented (Why.Down t) need most o is = cc is
-not_fragmented why need most o is = absurd o
-
-not_full : (why : Refusal) (free : ℕ) → IsOther why → Why.NameTableFull free ≡ why → ⊥
-not_full Why.WornOut free o is = cc is
-not_full (Why.Down t) free o is = cc is
-not_full why free o is = absurd o
-
-not_versions : (why : Refusal) → IsOther why → why ≡ Why.VersionsUsedUp → ⊥
-not_versions Why.WornOut o is = cc is
-not_versions (Why.Down t) o is = cc is
-not_versions why o is = absurd o
-
-not_such : (why : Refusal) → IsOther why → why ≡ Why.NoSuch → ⊥
-not_such Why.WornOut o is = cc is
-not_such (Why.Down t) o is = cc is
-not_such why o is = absurd o
+not_other : (x why : Refusal) → (IsOther x → ⊥) → IsOther why → x ≡ why → ⊥
+not_other x why none o is = none (subst IsOther (sym is) o)
 
 no_write : (why : Refusal) → IsOther why → (may : Sectors) → IsDeviceIn may why → ⊥
 no_write Why.WornOut o may is = is
@@ -110,22 +78,22 @@ not_looked (Why.Down t) o = (λ x. x, λ x. x, λ x. x, λ x. x)
 not_looked why o = absurd o
 
 pub keep_never : (keep : ℕ) (why : Refusal) → IsOther why → cond (nat_lt max_keep keep) (Some (Why.KeepTooLarge keep)) None ≡ Some why → ⊥
-keep_never keep why o is = some_never (nat_lt max_keep keep) (Why.KeepTooLarge keep) why (not_keep why keep o) is
+keep_never keep why o is = some_never (nat_lt max_keep keep) (Why.KeepTooLarge keep) why (not_other (Why.KeepTooLarge keep) why (λ x. x) o) is
 
 pub size_never : (keep len : ℕ) (why : Refusal) → IsOther why → size_fault keep len ≡ Some why → ⊥
 size_never keep len why o = by (nat_lt max_keep keep) (nat_lt max_length len)
   where
     by : (a b : Bool) → cond a (Some (Why.KeepTooLarge keep)) (cond b (Some (Why.TooLong len)) None) ≡ Some why → ⊥
-    by true b is = not_keep why keep o (cc is)
-    by false true is = not_long why len o (cc is)
+    by true b is = not_other (Why.KeepTooLarge keep) why (λ x. x) o (cc is)
+    by false true is = not_other (Why.TooLong len) why (λ x. x) o (cc is)
     by false false is = cc is
 
 place_never : (s : State) (need : ℕ) (why : Refusal) → IsOther why → cond (is_none (place_in s need)) (Some (no_place_in s (runs_at s need) need)) None ≡ Some why → ⊥
 place_never s need why o is = some_never (is_none (place_in s need)) (no_place_in s (runs_at s need) need) why (by (nat_lt (total (runs_at s need)) need)) is
   where
     by : (b : Bool) → cond b (Why.NoSpace need (total (runs_at s need))) (Why.TooFragmented need (best (runs_at s need))) ≡ why → ⊥
-    by true is = not_space why need (total (runs_at s need)) o is
-    by false is = not_fragmented why need (best (runs_at s need)) o is
+    by true is = not_other (Why.NoSpace need (total (runs_at s need))) why (λ x. x) o is
+    by false is = not_other (Why.TooFragmented need (best (runs_at s need))) why (λ x. x) o is
 
 -- ---- of a volume that is up
 
@@ -154,8 +122,8 @@ put_never s need why o =
               (
                 no_call.0,
                 (
-                  not_versions why o,
-                  (some_never (nat_lt (length s.free_pages) least_pages) (Why.NameTableFull (length s.free_pages)) why (not_full why (length s.free_pages) o), (no_call.1, tt)),
+                  λ is. not_other Why.VersionsUsedUp why (λ x. x) o (sym is),
+                  (some_never (nat_lt (length s.free_pages) least_pages) (Why.NameTableFull (length s.free_pages)) why (not_other (Why.NameTableFull (length s.free_pages)) why (λ x. x) o), (no_call.1, tt)),
                 ),
               ),
             ),
@@ -165,7 +133,7 @@ put_never s need why o =
     )
 
 pub edit_never : (s : State) (why : Refusal) → IsOther why → Never why (edit_rest s)
-edit_never s why o = let no_call = not_looked why o in (λ x. no_call.2 x.1, (no_call.0, (not_such why o, tt)))
+edit_never s why o = let no_call = not_looked why o in (λ x. no_call.2 x.1, (no_call.0, (λ is. not_other Why.NoSuch why (λ x. x) o (sym is), tt)))
 
 module _ (s : State) (up : s.down ≡ None) where
   pub starts_up : (rest : List Step) (why : Refusal) → Comes (down s ∷ rest) why → Comes rest why
@@ -264,12 +232,12 @@ force_down s up comes_one why comes t is =
 pub entry_down : (s : State) → s.down ≡ None → (why : Refusal) → Comes (down s ∷ LookUp ∷ Asks Why.NoSuch ∷ []) why → (t : ℕ) → why ≡ Why.Down t → ⊥
 entry_down s up why comes t is =
     let rest = LookUp ∷ Asks Why.NoSuch ∷ [] in
-    never (Why.Down t) rest (λ x. x, (not_such (Why.Down t) tt, tt)) (starts_up s up rest (Why.Down t) (subst (λ (w : Refusal). Comes (down s ∷ rest) w) is comes))
+    never (Why.Down t) rest (λ x. x, (λ is. cc is, tt)) (starts_up s up rest (Why.Down t) (subst (λ (w : Refusal). Comes (down s ∷ rest) w) is comes))
 
 pub read_down : (s : State) → s.down ≡ None → (why : Refusal) → Comes (down s ∷ LookUp ∷ Asks Why.NoSuch ∷ Data ∷ []) why → (t : ℕ) → why ≡ Why.Down t → ⊥
 read_down s up why comes t is =
     let rest = LookUp ∷ Asks Why.NoSuch ∷ Data ∷ [] in
-    never (Why.Down t) rest (λ x. x, (not_such (Why.Down t) tt, (λ x. x, tt))) (starts_up s up rest (Why.Down t) (subst (λ (w : Refusal). Comes (down s ∷ rest) w) is comes))
+    never (Why.Down t) rest (λ x. x, (λ is. cc is, (λ x. x, tt))) (starts_up s up rest (Why.Down t) (subst (λ (w : Refusal). Comes (down s ∷ rest) w) is comes))
 
 -- none of these tells the mount as worn out
 pub force_worn : (s : State) → s.down ≡ None → (comes_one : Bool) → Comes (down s ∷ Force comes_one ∷ []) Why.WornOut → ⊥
@@ -278,12 +246,12 @@ force_worn s up comes_one comes = force_loss s up comes_one Why.WornOut comes
 pub entry_worn : (s : State) → s.down ≡ None → Comes (down s ∷ LookUp ∷ Asks Why.NoSuch ∷ []) Why.WornOut → ⊥
 entry_worn s up comes =
     let rest = LookUp ∷ Asks Why.NoSuch ∷ [] in
-    never Why.WornOut rest (λ x. x, (not_such Why.WornOut tt, tt)) (starts_up s up rest Why.WornOut comes)
+    never Why.WornOut rest (λ x. x, (λ is. cc is, tt)) (starts_up s up rest Why.WornOut comes)
 
 pub read_worn : (s : State) → s.down ≡ None → Comes (down s ∷ LookUp ∷ Asks Why.NoSuch ∷ Data ∷ []) Why.WornOut → ⊥
 read_worn s up comes =
     let rest = LookUp ∷ Asks Why.NoSuch ∷ Data ∷ [] in
-    never Why.WornOut rest (λ x. x, (not_such Why.WornOut tt, (λ x. x, tt))) (starts_up s up rest Why.WornOut comes)
+    never Why.WornOut rest (λ x. x, (λ is. cc is, (λ x. x, tt))) (starts_up s up rest Why.WornOut comes)
 
 -- the look-up behind a test that refuses nothing
 pub next_refuses : (s : State) → s.down ≡ None → (why : Refusal) → Comes (down s ∷ LookUp ∷ []) why → IsLookUp why

@@ -42,15 +42,9 @@ quiet_line gives status (inr six) quiet = absurd (quiet_not 6 status refl quiet 
 
 -- each fault has another one but a want
 quiet_fault : (why : Fault) → IsTrue (is_quiet (fault_status why)) → IsWant why
-quiet_fault Ends.NotVolume is = cc is
-quiet_fault (Ends.Lost x y) is = cc is
-quiet_fault Ends.NoAnchor is = cc is
-quiet_fault (Ends.Unsound s) is = cc is
-quiet_fault (Ends.Device s) is = cc is
-quiet_fault Ends.Input is = cc is
-quiet_fault Ends.InputTooLong is = cc is
 quiet_fault Ends.Memory is = tt
 quiet_fault Ends.WornOut is = tt
+quiet_fault other is = cc is
 
 pub quiet_wants : (why : Fault) (status : ℕ) → IsStatusFor why status → IsTrue (is_quiet status) → IsWant why
 quiet_wants why status for quiet = quiet_fault why (quiet_line (fault_status why) status for quiet)

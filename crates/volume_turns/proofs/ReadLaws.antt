@@ -90,18 +90,9 @@ got_by key (Some file) (Some e) i j old new (Why.Damaged s) len reads =
     let all : min (e.length - 0) (length old) ≡ e.length = omega (arith, len) in
     record { damaged = Some s; is = refl; finds = subst (λ (x : ℕ). FirstDamaged i j (range_sectors e.runs 0 x) s) all reads }
 got_by key None None i j old new Why.NoSuch len reads = record { damaged = None; is = refl; finds = tt }
-got_by key None None i j old new (Why.Device s) len reads = tt
-got_by key None None i j old new Why.Memory len reads = tt
-got_by key None (Some e) i j old new (Why.Device s) len reads = tt
-got_by key None (Some e) i j old new Why.Memory len reads = tt
-got_by key (Some file) None i j old new (Why.Device s) len reads = tt
-got_by key (Some file) None i j old new Why.Memory len reads = tt
-got_by key (Some file) (Some e) i j old new (Why.Device s) len reads = tt
-got_by key (Some file) (Some e) i j old new Why.Memory len reads = tt
-got_by key None None i j old new why len reads = absurd reads
-got_by key None (Some e) i j old new why len reads = absurd reads
-got_by key (Some file) None i j old new why len reads = absurd reads
-got_by key (Some file) (Some e) i j old new why len reads = absurd reads
+got_by key file e i j old new (Why.Device s) len reads = tt
+got_by key file e i j old new Why.Memory len reads = tt
+got_by key file e i j old new why len reads = absurd reads
 
 module _ {S : Type 0} (state : S → State) (has : S → Mounted → List Placed → Type 0) (key : Key) (old new : S) (k : Known) (before now : Moment) where
   abbrev file_at : Option File

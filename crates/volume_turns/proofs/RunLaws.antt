@@ -1,5 +1,5 @@
 -- A command and its reply, and the commands behind it.
-use Rattle.std.proofs.Common.{◌≡◌, ℕ, suc, ◌+◌, ◌≤◌, Bool, List, [], ◌∷◌, ◌++◌, length, take, Option, refl, sym, ◌∙◌, ap, subst, arith, append_assoc, length-append}
+use Rattle.std.proofs.Common.{◌≡◌, ℕ, suc, ◌+◌, ◌≤◌, Bool, List, [], ◌∷◌, ◌++◌, length, take, Option, None, refl, sym, ◌∙◌, ap, subst, arith, append_assoc, length-append}
 use Rattle.fsd_log.specs.Scan.{Placed}
 use Rattle.std.specs.Prelude.{IsTrue, Result, Ok, Err, OnOk, IfErr}
 use Rattle.std.specs.List.{list_any}
@@ -7,7 +7,7 @@ use Rattle.std.proofs.lemmas.List.{append-nil}
 use Rattle.sector_disk.specs.declared.machine.Machine.{Ghosts}
 use Rattle.sector_disk.specs.declared.sector.WeakRun.{WeakRun}
 use Rattle.sector_disk.specs.Image.{IsWorn, open_damage, AreShort}
-use Rattle.sector_disk.specs.Machine.{Moment, Report, LeavesOnly, UsesDisk, Utters, Wears}
+use Rattle.sector_disk.specs.Machine.{Ledger, LeavesOnly, Moment, OnlyWrites, Report, UsesDisk, Utters, Wears}
 use Rattle.sector_disk.proofs.Moments.{started, then_on, leaves_more}
 use Rattle.fsd_files.specs.Answers.{Met, Outcome, entry_of}
 use Rattle.fsd_files.specs.Disk.{Image, Sectors, in_runs}
@@ -202,6 +202,16 @@ module _ {H : Sectors} {P Q : Moment → Type 0} (wider : (c : Moment) → P c �
     may = step.may;
   }
 
+-- what two calls keep, one after the other
+pub since_on : {D : Type 0} (M : Ghosts D) (a p b : D) → (M.honest b → M.honest p) → (M.honest p → Since M a p) → (M.honest p → M.moment a ≤ M.moment p) → (M.honest b → Since M p b) → M.honest b → Since M a b
+since_on M a p b back first later second h t left le was = let reached = later (back h) in second h t left (omega (arith, le, reached)) (first (back h) t left le was)
+
+pub later_on : {D : Type 0} (M : Ghosts D) (a p b : D) → (M.honest b → M.honest p) → (M.honest p → M.moment a ≤ M.moment p) → (M.honest b → M.moment p ≤ M.moment b) → M.honest b → M.moment a ≤ M.moment b
+later_on M a p b back first second h = let x = first (back h) in let y = second h in omega (arith, x, y)
+
+pub writes_on : (a p b : Ledger) → b ≡ p → OnlyWrites a p → OnlyWrites a b
+writes_on a p b same writes = subst (λ (l : Ledger). OnlyWrites a l) (sym same) writes
+
 pub follows_then : {D : Type 0} (M : Ghosts D) (a b c : D) → Follows M a b → Follows M b c → Follows M a c
 follows_then M a b c x y = record {
   honest = λ h. x.honest (y.honest h);
@@ -306,6 +316,9 @@ module _ {S D : Type 0} (state : S → State) (has : S → Mounted → List Plac
   runs_stop command commands v z a b end steps honest k from stood aged = steps honest k from stood aged commands
 
 -- ---- counts
+
+pub told_done : (old new : Report) → UsesDisk old new → DiskFaults None old new → Told {T = Unit {0}} old new (Ok tt)
+told_done old new uses none = record { sectors = uses.sectors; disk = none; input = uses.input; later = let same = uses.output in omega (arith, same); output = uses.output }
 
 pub told_fault : (old new : Report) (fault : Fault) → UsesDisk old new → DiskFaults (device_told fault) old new → Told {T = Unit {0}} old new (Err (Stopped fault))
 told_fault old new fault uses faults = record { sectors = uses.sectors; disk = faults; input = uses.input; later = omega (arith, uses.output); output = uses.output }

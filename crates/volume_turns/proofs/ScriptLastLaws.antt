@@ -1,5 +1,5 @@
 -- How a script that was done goes on to its status, whatever has ended it.
-use Rattle.std.proofs.Common.{◌≡◌, ◌⊎◌, inl, inr, ⊎_elim, ℕ, ◌+◌, ◌++◌, List, [], ◌∷◌, Option, Some, None, refl, sym, ◌∙◌, ap, subst, arith}
+use Rattle.std.proofs.Common.{◌≡◌, ◌⊎◌, inl, inr, ⊎_elim, ℕ, ◌++◌, List, [], ◌∷◌, Option, Some, None, refl, sym, ◌∙◌, ap, subst, arith}
 use Rattle.std.specs.Prelude.{IsTrue, IfErr, IfOk, true, false, Result, Ok, Err}
 use Rattle.std.proofs.lemmas.Bool.{eqb-false}
 use Rattle.std.proofs.Math.Dec.{eqb}
@@ -43,33 +43,20 @@ use Rattle.volume_turns.proofs.WornLaws.{fault_nine}
 
 fault_unsaid : (why : Fault) → is_unsaid (fault_status why) ≡ false
 fault_unsaid Ends.NotVolume = refl
-fault_unsaid (Ends.Lost x y) = refl
-fault_unsaid Ends.NoAnchor = refl
-fault_unsaid (Ends.Unsound s) = refl
-fault_unsaid (Ends.Device s) = refl
-fault_unsaid Ends.Input = refl
-fault_unsaid Ends.InputTooLong = refl
-fault_unsaid Ends.Memory = refl
-fault_unsaid Ends.WornOut = refl
+fault_unsaid why = refl
 
 pub line_unsaid : (ended : Result Stop End) (line : Line) → ending_line ended ≡ Some line → is_unsaid (ending_status ended) ≡ false
 line_unsaid (Err (Stopped why)) line is = fault_unsaid why
 line_unsaid (Err Output) line is = absurd (cc is)
 line_unsaid (Ok (Ended Done)) line is = refl
-line_unsaid (Ok (Ended (Bad bad))) line is = refl
-line_unsaid (Ok (Ended TooLong)) line is = refl
-line_unsaid (Ok Input) line is = refl
-line_unsaid (Ok WornOut) line is = refl
+line_unsaid ended line is = refl
 
 -- the numbers of a mount
 pub script_spent : (P : Type 0) (ended : Result Stop End) → (ended ≡ Ok WornOut → P) → (ended ≡ Err (Stopped Ends.WornOut) → ⊥) → ending_status ended ≡ 9 → P
 script_spent P (Ok WornOut) used unworn is = used refl
 script_spent P (Err (Stopped why)) used unworn is = absurd (unworn (ap (λ (w : Fault). Err (Stopped w)) (fault_nine why is)))
 script_spent P (Ok (Ended Done)) used unworn is = absurd (omega (arith, is))
-script_spent P (Ok (Ended (Bad bad))) used unworn is = absurd (omega (arith, is))
-script_spent P (Ok (Ended TooLong)) used unworn is = absurd (omega (arith, is))
-script_spent P (Ok Input) used unworn is = absurd (omega (arith, is))
-script_spent P (Err Output) used unworn is = absurd (omega (arith, is))
+script_spent P ended used unworn is = absurd (omega (arith, is))
 
 module _ {D : Type 0} (M : Ghosts D) (a p b : D) (status : ℕ) where
   abbrev So : Result Stop End → Type 0
@@ -161,11 +148,7 @@ module _ {D : Type 0} (M : Ghosts D) (a p b : D) (status : ℕ) where
       → SaysOfCall true l (M.now a).said (M.now b)
   script_call l (Err (Stopped why)) of whole on back x is three h = call_says true l (M.now a).said why of (M.now p) (M.now b) status whole (x.says.exit h).image (on back) (x.ends h) three
   script_call l (Ok (Ended Done)) of whole on back x is three h = absurd (omega (arith, is))
-  script_call l (Ok (Ended (Bad bad))) of whole on back x is three h = absurd (omega (arith, is))
-  script_call l (Ok (Ended TooLong)) of whole on back x is three h = absurd (omega (arith, is))
-  script_call l (Ok Input) of whole on back x is three h = absurd (omega (arith, is))
-  script_call l (Ok WornOut) of whole on back x is three h = absurd (omega (arith, is))
-  script_call l (Err Output) of whole on back x is three h = absurd (omega (arith, is))
+  script_call l ended of whole on back x is three h = absurd (omega (arith, is))
 
   -- ---- what is left at each moment
 

@@ -14,7 +14,7 @@ use Rattle.fsd_sound.specs.declared.fault.MountFault.{MountFault}
 use Rattle.fsd_sound.specs.declared.fault.MountFault.TheVariants as Refused
 use Rattle.fsd_sound.specs.Mounting.{device_of_mount}
 use Rattle.fsd_texts.specs.declared.command.Command.{Command}
-use Rattle.fsd_texts.specs.declared.command.Command.TheVariants.{Delete, Get, Keep, Put}
+use Rattle.fsd_texts.specs.declared.command.Command.TheVariants.{Get, Put}
 use Rattle.fsd_texts.specs.declared.fault.Fault.{Fault}
 use Rattle.fsd_texts.specs.declared.fault.Fault.TheVariants as Ends
 use Rattle.fsd_texts.specs.Script.{max_input}
@@ -38,10 +38,6 @@ use Rattle.volume_turns.proofs.QuietLaws.{unfailed_not, unfailed_said, quiet_wan
 pub refused_low : (why : Refusal) (r : Result Answer Fault) → IfOk r (λ a. a ≡ Said.Refused why) → IfOk r (λ a. reply_status (reply_of a) ≤ 1)
 refused_low why (Ok a) is = subst (λ (x : Answer). reply_status (reply_of x) ≤ 1) (sym is) (omega arith)
 refused_low why (Err fault) is = tt
-
-pub from_command : (c d : Command) → c ≡ d → (r : Result Answer Fault) → IfOk r (λ a. IsStatusFrom d (reply_status (reply_of a))) → IfOk r (λ a. IsStatusFrom c (reply_status (reply_of a)))
-from_command c d is (Ok a) from = subst (λ (x : Command). IsStatusFrom x (reply_status (reply_of a))) (sym is) from
-from_command c d is (Err fault) from = tt
 
 -- a refusal that is said
 refused_status : (why : Refusal) → IfOk (ended_by why) (λ a. reply_status (reply_of a) ≤ 1)
@@ -146,12 +142,9 @@ worn_is_script status is = line_or IsScriptStatus 9 status (inr (inr (inr (inl (
 
 -- a reply has no other status
 pub from_not : (n : ℕ) (command : Command) (status : ℕ) → 1 < n → (n ≡ 8 → ⊥) → IsStatusFrom command status → status ≡ n → ⊥
-from_not n (Put name bytes keep) status more other low at = omega (arith, more, low, at)
-from_not n (Delete key) status more other low at = omega (arith, more, low, at)
-from_not n (Keep name keep) status more other low at = omega (arith, more, low, at)
 from_not n (Get key) status more other (inl low) at = omega (arith, more, low, at)
 from_not n (Get key) status more other (inr eight) at = other (sym at ∙ eight)
-from_not n command status more other none at = omega (arith, more, none, at)
+from_not n command status more other low at = omega (arith, more, low, at)
 
 -- ---- what is counted
 
@@ -159,27 +152,12 @@ pub not_as : (n gives status : ℕ) → (gives ≡ n → ⊥) → (6 ≡ n → �
 not_as n gives status a b (inl is) at = a (sym is ∙ at)
 not_as n gives status a b (inr six) at = b (sym six ∙ at)
 
-pub fault_some : (why : Fault) → fault_status why ≡ 0 → ⊥
-fault_some Ends.NotVolume is = omega (arith, is)
-fault_some (Ends.Lost x y) is = omega (arith, is)
-fault_some Ends.NoAnchor is = omega (arith, is)
-fault_some (Ends.Unsound s) is = omega (arith, is)
-fault_some (Ends.Device s) is = omega (arith, is)
-fault_some Ends.Input is = omega (arith, is)
-fault_some Ends.InputTooLong is = omega (arith, is)
-fault_some Ends.Memory is = omega (arith, is)
-fault_some Ends.WornOut is = omega (arith, is)
-
 fault_above : (why : Fault) → 2 ≤ fault_status why
 fault_above Ends.NotVolume = omega arith
-fault_above (Ends.Lost x y) = omega arith
-fault_above Ends.NoAnchor = omega arith
-fault_above (Ends.Unsound s) = omega arith
-fault_above (Ends.Device s) = omega arith
-fault_above Ends.Input = omega arith
-fault_above Ends.InputTooLong = omega arith
-fault_above Ends.Memory = omega arith
-fault_above Ends.WornOut = omega arith
+fault_above why = omega arith
+
+pub fault_some : (why : Fault) → fault_status why ≡ 0 → ⊥
+fault_some why is = let above = fault_above why in omega (arith, is, above)
 
 -- none of a fault is that of a reply which is no damage
 pub as_not_low : (gives status : ℕ) → 2 ≤ gives → IsStatusAs gives status → status ≤ 1 → ⊥
@@ -195,14 +173,7 @@ fault_not_zero why status for zero = not_as 0 (fault_status why) status (fault_s
 module _ (a m b : Report) (status : ℕ) (spares : SparesDisk false (is_unsaid status) m b) where
   disk_counted : (why : Fault) → DiskFaults (device_told why) a m → status ≡ 4 → IsStatusFor why status → Rose a.disk_faults b.disk_faults
   disk_counted (Ends.Device s) disk four (inl is) = subst (λ (n : ℕ). Rose a.disk_faults n) (sym spares.disk) disk.rose
-  disk_counted Ends.NotVolume disk four (inl is) = absurd (omega (arith, is, four))
-  disk_counted (Ends.Lost x y) disk four (inl is) = absurd (omega (arith, is, four))
-  disk_counted Ends.NoAnchor disk four (inl is) = absurd (omega (arith, is, four))
-  disk_counted (Ends.Unsound s) disk four (inl is) = absurd (omega (arith, is, four))
-  disk_counted Ends.Input disk four (inl is) = absurd (omega (arith, is, four))
-  disk_counted Ends.InputTooLong disk four (inl is) = absurd (omega (arith, is, four))
-  disk_counted Ends.Memory disk four (inl is) = absurd (omega (arith, is, four))
-  disk_counted Ends.WornOut disk four (inl is) = absurd (omega (arith, is, four))
+  disk_counted why disk four (inl is) = absurd (omega (arith, is, four))
   disk_counted why disk four (inr six) = absurd (omega (arith, six, four))
 
   output_counted : a.output_faults ≤ m.output_faults → status ≡ 6 → Rose a.output_faults b.output_faults
@@ -316,15 +287,9 @@ script_done_counts stop a b heard same = record { sectors = heard.sectors; disk 
 -- ---- the input
 
 pub volume_not_five : (why : Fault) → IsOfVolume why → fault_status why ≡ 5 → ⊥
-volume_not_five Ends.NotVolume of is = omega (arith, is)
-volume_not_five (Ends.Lost x y) of is = omega (arith, is)
-volume_not_five Ends.NoAnchor of is = omega (arith, is)
-volume_not_five (Ends.Unsound s) of is = omega (arith, is)
-volume_not_five (Ends.Device s) of is = omega (arith, is)
 volume_not_five Ends.Input of is = absurd of
 volume_not_five Ends.InputTooLong of is = absurd of
-volume_not_five Ends.Memory of is = omega (arith, is)
-volume_not_five Ends.WornOut of is = omega (arith, is)
+volume_not_five why of is = omega (arith, is)
 
 -- a fault of a volume, or of its mount, tells none of the input
 pub fault_not_five : (why : Fault) (status : ℕ) → IsOfVolume why → IsStatusFor why status → status ≡ 5 → ⊥
@@ -338,14 +303,7 @@ one_not_five command status (inr (inr six)) five = omega (arith, six, five)
 
 pub fault_not_two : (why : Fault) → fault_status why ≡ 2 → ⊥
 fault_not_two Ends.NotVolume is = omega (arith, is)
-fault_not_two (Ends.Lost x y) is = omega (arith, is)
-fault_not_two Ends.NoAnchor is = omega (arith, is)
-fault_not_two (Ends.Unsound s) is = omega (arith, is)
-fault_not_two (Ends.Device s) is = omega (arith, is)
-fault_not_two Ends.Input is = omega (arith, is)
-fault_not_two Ends.InputTooLong is = omega (arith, is)
-fault_not_two Ends.Memory is = omega (arith, is)
-fault_not_two Ends.WornOut is = omega (arith, is)
+fault_not_two why is = omega (arith, is)
 
 -- a fault is no bad line
 pub fault_not_bad : (why : Fault) (status : ℕ) → IsStatusFor why status → status ≡ 2 → ⊥
@@ -388,24 +346,14 @@ script_counts a b status counts = record {
 
 of_mount : (fault : MountFault) → IsOfVolume (fault_of fault)
 of_mount Refused.NotVolume = tt
-of_mount Refused.NoAnchor = tt
-of_mount (Refused.Lost x y) = tt
-of_mount (Refused.Unsound s) = tt
-of_mount (Refused.Device s) = tt
-of_mount Refused.Memory = tt
-of_mount Refused.WornOut = tt
+of_mount fault = tt
 
 pub mount_of_volume : (fault : MountFault) (why : Fault) → why ≡ fault_of fault → IsOfVolume why
 mount_of_volume fault why is = subst IsOfVolume (sym is) (of_mount fault)
 
 pub same_device : (fault : MountFault) → device_of_mount fault ≡ device_told (fault_of fault)
 same_device Refused.NotVolume = refl
-same_device Refused.NoAnchor = refl
-same_device (Refused.Lost x y) = refl
-same_device (Refused.Unsound s) = refl
-same_device (Refused.Device s) = refl
-same_device Refused.Memory = refl
-same_device Refused.WornOut = refl
+same_device fault = refl
 
 pub mount_counts : (a m b : Report) (status : ℕ) → SparesDisk false (is_unsaid status) m b → (fault : MountFault) → UsesDisk a m → DiskFaults (device_of_mount fault) a m → IsStatusFor (fault_of fault) status → CountsRun a b status
 mount_counts a m b status spares fault uses faults for =

@@ -26,20 +26,12 @@ use Rattle.volume_turns.specs.Steps.{Does, IsAnswered, IsRefusedWorn, Stays, dev
 pub same_device : (why : Refusal) → ((s : ℕ) → why ≡ Why.Down s → ⊥) → device_of why ≡ device_by (ended_by why)
 same_device (Why.Device s) up = refl
 same_device (Why.Down s) up = absurd (up s refl)
-same_device (Why.Lost a b) up = refl
-same_device (Why.Unsound s) up = refl
-same_device Why.WornOut up = refl
-same_device Why.Memory up = refl
 same_device why up = refl
 
 pub same_read_device : (key : Key) (why : Refusal) → ((s : ℕ) → why ≡ Why.Down s → ⊥) → device_of why ≡ device_by (read_ended_by key why)
 same_read_device key (Why.Damaged s) up = refl
 same_read_device key (Why.Device s) up = refl
 same_read_device key (Why.Down s) up = absurd (up s refl)
-same_read_device key (Why.Lost a b) up = refl
-same_read_device key (Why.Unsound s) up = refl
-same_read_device key Why.WornOut up = refl
-same_read_device key Why.Memory up = refl
 same_read_device key why up = refl
 
 module _ {S : Type 0} (state : S → State) (has : S → Mounted → List Placed → Type 0) where

@@ -22,11 +22,6 @@ use Rattle.volume_turns.specs.Turns.{Unsaid}
 
 ended_worn : (why : Refusal) → ended_by why ≡ Err Ends.WornOut → why ≡ Why.WornOut
 ended_worn Why.WornOut is = refl
-ended_worn (Why.Device s) is = absurd (cc is)
-ended_worn (Why.Down s) is = absurd (cc is)
-ended_worn (Why.Lost a b) is = absurd (cc is)
-ended_worn (Why.Unsound s) is = absurd (cc is)
-ended_worn Why.Memory is = absurd (cc is)
 ended_worn why is = absurd (cc is)
 
 read_ended_worn : (key : Key) (why : Refusal) → read_ended_by key why ≡ Err Ends.WornOut → why ≡ Why.WornOut
@@ -47,7 +42,6 @@ look_up_worn s why r by refuses is = absurd (subst IsLookUp (ended_worn why (sym
 
 pub close_unworn : (why : Refusal) → close_fault why ≡ Ends.WornOut → ⊥
 close_unworn (Why.Device s) is = cc is
-close_unworn (Why.Lost a b) is = cc is
 close_unworn why is = cc is
 
 pub unsaid_unworn : (old new : Moment) {T : Type 0} (r : Result T End) → IfErr r (λ end. Unsaid old new end) → r ≡ Err (Stopped Ends.WornOut) → ⊥
@@ -57,14 +51,7 @@ unsaid_unworn old new {T = T} r unsaid is = subst (λ (x : Result T End). IfErr 
 
 pub fault_nine : (why : Fault) → fault_status why ≡ 9 → why ≡ Ends.WornOut
 fault_nine Ends.WornOut is = refl
-fault_nine Ends.NotVolume is = absurd (omega (arith, is))
-fault_nine (Ends.Lost a b) is = absurd (omega (arith, is))
-fault_nine Ends.NoAnchor is = absurd (omega (arith, is))
-fault_nine (Ends.Unsound s) is = absurd (omega (arith, is))
-fault_nine (Ends.Device s) is = absurd (omega (arith, is))
-fault_nine Ends.Input is = absurd (omega (arith, is))
-fault_nine Ends.InputTooLong is = absurd (omega (arith, is))
-fault_nine Ends.Memory is = absurd (omega (arith, is))
+fault_nine why is = absurd (omega (arith, is))
 
 pub status_worn : (why : Fault) (status : ℕ) → IsStatusFor why status → status ≡ 9 → why ≡ Ends.WornOut
 status_worn why status (inl is) nine = fault_nine why (sym is ∙ nine)

@@ -1,203 +1,128 @@
-use Rattle.std.proofs.Common.{◌≡◌, false, refl, Option, Ok, Err, ◌∙◌, ap, subst, arith}
-use Rattle.std.specs.Prelude.{IfSome, Result}
+use Rattle.std.proofs.Common.{◌≡◌, ℕ, inr, false, Option, Ok, refl, ◌∙◌, ap}
+use Rattle.std.specs.Prelude.{◌==◌, IsFalse, Result}
+use Rattle.std.proofs.lemmas.Bool.{eq-eqb}
+use Rattle.sector_disk.proofs.Holding.{trusts_on}
 use Rattle.fsd_texts.specs.declared.counts.Counts.{Counts}
 use Rattle.fsd_texts.specs.declared.fault.Fault.{Fault}
-use Rattle.volume_turns.specs.declared.turns.End.TheVariants.{Fault as Stopped}
-use Rattle.fsd_texts.specs.Generator.{made_up}
-use Rattle.volume_turns.specs.declared.turns.End.{End}
-use Rattle.volume_turns.specs.Generate.{CountedGroup}
-use Rattle.volume_turns.specs.Turns.{IsEndOfVolume, Told}
-use Rattle.volume_turns.specs.Turns.{IsEndOn, KeepsEnd}
-use Rattle.volume_turns.proofs.GenerateLaws.{made_broken, made_said, made_unsaid, made_worn}
-use Rattle.volume_turns.proofs.CauseLaws.{call_says}
-use Rattle.volume_turns.proofs.StatusLaws.{not_as, call_of_volume, all_is_made, fault_counts, fault_is_made, fault_not_zero, line_counts, unsaid_counts, worn_is_made}
 use Rattle.fsd_texts.specs.declared.fault.Fault.TheVariants as Ends
+use Rattle.volume_turns.specs.declared.turns.End.{End}
+use Rattle.volume_turns.specs.declared.turns.End.TheVariants.{Fault as Stopped}
+use Rattle.volume_turns.proofs.CauseLaws.{call_says}
+use Rattle.volume_turns.proofs.GenerateLaws.{made_broken, made_said, made_unsaid, made_worn}
+use Rattle.volume_turns.proofs.LastLaws.{ends_fault, fault_not, line_other, told_place}
 use Rattle.volume_turns.proofs.NumberLaws.{ended, made_all}
+use Rattle.volume_turns.proofs.RunLaws.{since_on, writes_on}
+use Rattle.volume_turns.proofs.StatusLaws.{all_is_made, call_of_volume, fault_counts, fault_is_made, fault_not_zero, line_counts, not_as, unsaid_counts, worn_is_made}
 use Rattle.volume_turns.proofs.WornLaws.{status_worn}
-use Rattle.volume_turns.proofs.LastLaws.{ends_fault, line_other, told_place}
 use Rattle.volume_turns.proofs.generate.generate_on.Goals as goal
 
-pub returns-in-Ok-Some-clause-since : goal.returns-in-Ok-Some-clause-since
-returns-in-Ok-Some-clause-since g c h t left le was =
-    let says = c.last_line.ensures.says in
-    let back = says.trust.honest h in
-    let later = c.make_group.ensures.later back in
-    says.since h t left (omega (arith, le, later)) (c.make_group.ensures.since back t left le was)
-
-pub returns-in-Ok-Some-clause-runs : goal.returns-in-Ok-Some-clause-runs
-returns-in-Ok-Some-clause-runs g c h input rest k stands =
-    let M = g.M.Machine in
-    let a = c.args.m.now in
-    let p = c.make_group.new.m in
-    let says = c.last_line.ensures.says in
-    let back = says.trust.honest h in
-    let group = subst (λ (o : Option Counts). CountedGroup M k (made_up c.args.seed c.args.count) a p (Ok o)) c.in-Ok-Some.field-0-is (c.in-Ok-Some.ensures.group back k stands) in
-    made_said M c.args.seed c.args.count input rest k a p c.last_line.new.m h (says.since h) (g.met.M.Machine.short p back) stands.ends c.last_line.result c.in-Ok-Some.tally group.group group.counts c.line.result c.line.ensures c.in-Ok-Some.ensures.told.later says
-    (c.last_line.ensures.ends h)
-
-pub returns-in-Ok-None-clause-since : goal.returns-in-Ok-None-clause-since
-returns-in-Ok-None-clause-since g c h t left le was =
-    let says = c.last_line-in-Ok-None.ensures.says in
-    let back = says.trust.honest h in
-    let later = c.make_group.ensures.later back in
-    says.since h t left (omega (arith, le, later)) (c.make_group.ensures.since back t left le was)
-
-pub returns-in-Ok-None-clause-runs : goal.returns-in-Ok-None-clause-runs
-returns-in-Ok-None-clause-runs g c h input rest k stands =
-    let M = g.M.Machine in
-    let a = c.args.m.now in
-    let p = c.make_group.new.m in
-    let says = c.last_line-in-Ok-None.ensures.says in
-    let back = says.trust.honest h in
-    let group = subst (λ (o : Option Counts). CountedGroup M k (made_up c.args.seed c.args.count) a p (Ok o)) c.in-Ok-None.field-0-is (c.in-Ok-None.ensures.group back k stands) in
-    made_worn M c.args.seed c.args.count input rest k a p c.last_line-in-Ok-None.new.m h (says.since h) (g.met.M.Machine.short p back) stands.ends c.last_line-in-Ok-None.result group.group c.in-Ok-None.ensures.told.later says (c.last_line-in-Ok-None.ensures.ends h)
-
-pub returns-in-Err-Fault-clause-since : goal.returns-in-Err-Fault-clause-since
-returns-in-Err-Fault-clause-since g c h t left le was =
-    let says = c.end_with.ensures.says in
-    let back = says.trust.honest h in
-    let later = c.make_group.ensures.later back in
-    says.since h t left (omega (arith, le, later)) (c.make_group.ensures.since back t left le was)
-
-pub returns-in-Err-Fault-clause-runs : goal.returns-in-Err-Fault-clause-runs
-returns-in-Err-Fault-clause-runs g c h input rest k stands =
-    let M = g.M.Machine in
-    let a = c.args.m.now in
-    let p = c.make_group.new.m in
-    let says = c.end_with.ensures.says in
-    let back = says.trust.honest h in
-    let group = subst (λ (e : End). CountedGroup M k (made_up c.args.seed c.args.count) a p (Err e)) c.in-Err-Fault.field-0-is (c.in-Err-Fault.ensures.group back k stands) in
-    let told = subst (λ (e : End). Told {T = Option Counts} (M.report a) (M.report p) (Err e)) c.in-Err-Fault.field-0-is c.in-Err-Fault.ensures.told in
-    made_broken M c.args.seed c.args.count input rest k a p c.end_with.new.m h (says.since h) (g.met.M.Machine.short p back) stands.ends c.end_with.result c.in-Err-Fault.why group.group told says (c.end_with.ensures.ends h)
-
-pub returns-in-Err-Output-clause-runs : goal.returns-in-Err-Output-clause-runs
-returns-in-Err-Output-clause-runs g c h input rest k stands =
-    let M = g.M.Machine in
-    let a = c.args.m.now in
-    let b = c.make_group.new.m in
-    let group = subst (λ (e : End). CountedGroup M k (made_up c.args.seed c.args.count) a b (Err e)) c.in-Err-Output.field-0-is (c.in-Err-Output.ensures.group h k stands) in
-    let told = subst (λ (e : End). Told {T = Option Counts} (M.report a) (M.report b) (Err e)) c.in-Err-Output.field-0-is c.in-Err-Output.ensures.told in
-    made_unsaid M c.args.seed c.args.count input rest k a b h (g.met.M.Machine.short b h) stands.ends group.group told
-
--- ---- the status
-
-pub returns-in-Ok-Some-clause-status : goal.returns-in-Ok-Some-clause-status
-returns-in-Ok-Some-clause-status g c = all_is_made c.last_line.result c.last_line.ensures.status
-
-pub returns-in-Ok-None-clause-status : goal.returns-in-Ok-None-clause-status
-returns-in-Ok-None-clause-status g c = worn_is_made c.last_line-in-Ok-None.result c.last_line-in-Ok-None.ensures.status
-
-pub returns-in-Err-Fault-clause-status : goal.returns-in-Err-Fault-clause-status
-returns-in-Err-Fault-clause-status g c = fault_is_made c.in-Err-Fault.why c.end_with.result (call_of_volume c.in-Err-Fault.why (subst IsEndOfVolume c.in-Err-Fault.field-0-is c.in-Err-Fault.ensures.fault)) c.end_with.ensures.status
-
-pub returns-in-Ok-Some-clause-counts : goal.returns-in-Ok-Some-clause-counts
-returns-in-Ok-Some-clause-counts g c =
-    let report = g.M.Machine.report in
-    line_counts (report c.args.m.now) (report c.make_group.new.m) (report c.last_line.new.m) c.last_line.result c.last_line.ensures.says.spares c.in-Ok-Some.field-0 0 (λ e. omega (arith, e)) c.in-Ok-Some.ensures.told c.last_line.ensures.status
-
-pub returns-in-Ok-None-clause-counts : goal.returns-in-Ok-None-clause-counts
-returns-in-Ok-None-clause-counts g c =
-    let report = g.M.Machine.report in
-    let line = c.last_line-in-Ok-None in
-    line_counts (report c.args.m.now) (report c.make_group.new.m) (report line.new.m) line.result line.ensures.says.spares c.in-Ok-None.field-0 9 (λ e. omega (arith, e)) c.in-Ok-None.ensures.told line.ensures.status
-
-pub returns-in-Err-Fault-clause-counts : goal.returns-in-Err-Fault-clause-counts
-returns-in-Err-Fault-clause-counts g c =
-    let report = g.M.Machine.report in
-    let a = report c.args.m.now in
-    let p = report c.make_group.new.m in
-    fault_counts a p (report c.end_with.new.m) c.end_with.result c.end_with.ensures.says.spares c.in-Err-Fault.why (subst (λ (e : End). Told {T = Option Counts} a p (Err e)) c.in-Err-Fault.field-0-is c.in-Err-Fault.ensures.told) c.end_with.ensures.status
-
-pub returns-in-Err-Output-clause-counts : goal.returns-in-Err-Output-clause-counts
-returns-in-Err-Output-clause-counts g c =
-    let report = g.M.Machine.report in
-    let a = report c.args.m.now in
-    let b = report c.make_group.new.m in
-    unsaid_counts a b (subst (λ (e : End). Told {T = Option Counts} a b (Err e)) c.in-Err-Output.field-0-is c.in-Err-Output.ensures.told)
-
--- ---- a fault of the image
-
-pub returns-in-Ok-Some-clause-says : goal.returns-in-Ok-Some-clause-says
-returns-in-Ok-Some-clause-says g c three h = absurd (not_as 3 0 c.last_line.result (λ e. omega (arith, e)) (λ e. omega (arith, e)) c.last_line.ensures.status three)
-
-pub returns-in-Ok-None-clause-says : goal.returns-in-Ok-None-clause-says
-returns-in-Ok-None-clause-says g c three h = absurd (not_as 3 9 c.last_line-in-Ok-None.result (λ e. omega (arith, e)) (λ e. omega (arith, e)) c.last_line-in-Ok-None.ensures.status three)
-
-pub returns-in-Err-Fault-clause-says : goal.returns-in-Err-Fault-clause-says
-returns-in-Err-Fault-clause-says g c three h =
-    let now = g.M.Machine.now in
-    let x = c.in-Err-Fault in
-    let a = now c.args.m.now in
-    let m = now c.make_group.new.m in
-    let l = (g.V.Files.state c.args.v).layout in
-    let said = c.end_with.ensures in
-    let back = said.says.trust.honest h in
-    call_says false l a.said x.why (subst IsEndOfVolume x.field-0-is x.ensures.fault) m (now c.end_with.new.m) c.end_with.result (subst (λ (e : End). KeepsEnd a m e) x.field-0-is (x.ensures.quiet back)) (said.says.exit h).image
-    (subst (λ (e : End). IsEndOn l m.image e) x.field-0-is (x.ensures.image back)) (said.ends h) three
-
-pub returns-in-Err-Output-clause-says : goal.returns-in-Err-Output-clause-says
-returns-in-Err-Output-clause-says g c three h = absurd (omega (arith, three))
-
--- ---- the fault that is said
-
-pub returns-in-Ok-Some-clause-last : goal.returns-in-Ok-Some-clause-last
-returns-in-Ok-Some-clause-last g c of h =
-    let line = c.last_line in
-    line_other (g.M.Machine.report line.new.m).fault_place (g.M.Machine.now c.make_group.new.m) (g.M.Machine.now line.new.m) line.result c.line.result 0 refl (line.ensures.ends h) of
-
-pub returns-in-Ok-None-clause-last : goal.returns-in-Ok-None-clause-last
-returns-in-Ok-None-clause-last g c of h =
-    let line = c.last_line-in-Ok-None in
-    ends_fault (g.M.Machine.report line.new.m).fault_place (g.M.Machine.now c.make_group.new.m) (g.M.Machine.now line.new.m) line.result Ends.WornOut tt (line.ensures.ends h) of
-
-pub returns-in-Err-Fault-clause-last : goal.returns-in-Err-Fault-clause-last
-returns-in-Err-Fault-clause-last g c of h =
-    let report = g.M.Machine.report in
-    let now = g.M.Machine.now in
-    let a = report c.args.m.now in
-    let p = report c.make_group.new.m in
-    let b = report c.end_with.new.m in
-    let x = c.in-Err-Fault in
-    let told = subst (λ (e : End). Told {T = Option Counts} a p (Err e)) x.field-0-is x.ensures.told in
-    ends_fault b.fault_place (now c.make_group.new.m) (now c.end_with.new.m) c.end_with.result x.why (told_place x.why a p b told.disk c.end_with.ensures.says.spares.place) (c.end_with.ensures.ends h) of
-
-pub returns-in-Err-Output-clause-last : goal.returns-in-Err-Output-clause-last
-returns-in-Err-Output-clause-last g c of h = absurd (cc of)
-
--- ---- the numbers of a mount
+differ : (m n : ℕ) → IsFalse (m == n) → m ≡ n → ⊥
+differ m n other is = let same = eq-eqb m n is in cc (same, other)
 
 abbrev came_to : Option Counts → Result (Option Counts) End
 came_to o = Ok o
 
-pub returns-in-Ok-Some-clause-spent : goal.returns-in-Ok-Some-clause-spent
-returns-in-Ok-Some-clause-spent g c nine h = absurd (not_as 9 0 c.last_line.result (λ e. omega (arith, e)) (λ e. omega (arith, e)) c.last_line.ensures.status nine)
+-- the last line tells what came of them
 
-pub returns-in-Ok-None-clause-spent : goal.returns-in-Ok-None-clause-spent
-returns-in-Ok-None-clause-spent g c nine h = c.in-Ok-None.ensures.used (ap came_to c.in-Ok-None.field-0-is) (c.last_line-in-Ok-None.ensures.says.trust.honest h)
+pub returns-in-Ok-Some : goal.returns-in-Ok-Some
+returns-in-Ok-Some g c =
+    let M = g.M.Machine in
+    let a = c.args.m.now in
+    let p = c.make_group.new.m in
+    let b = c.last_line.new.m in
+    let group = c.make_group.ensures in
+    let came = c.in-Ok-Some in
+    let at = rw came.field-0-is at came.ensures in
+    let line = c.last_line.ensures in
+    let status = c.last_line.result in
+    record {
+      ledger = λ t. writes_on (M.ledger a) (M.ledger p) (M.ledger b) (line.ledger t) (group.ledger (line.says.trust.tells t));
+      trust = trusts_on group.trust line.says.trust;
+      since = since_on M a p b line.says.trust.honest group.since group.later line.says.since;
+      status = all_is_made status line.status;
+      counts = line_counts (M.report a) (M.report p) (M.report b) status line.says.spares came.field-0 0 (differ 0 4 refl) came.ensures.told line.status;
+      says = λ three h. absurd (not_as 3 0 status (differ 0 3 refl) (differ 6 3 refl) line.status three);
+      last = λ of h. line_other (M.report b).fault_place (M.now p) (M.now b) status c.line.result 0 refl (line.ends h) of;
+      spent = λ nine h. absurd (not_as 9 0 status (differ 0 9 refl) (differ 6 9 refl) line.status nine);
+      all = λ zero h. made_all c.args.count came.tally at.counts c.line.result c.line.ensures (M.now a) (M.now p) (M.now b) status (at.says (line.says.trust.honest h)) (line.ends h) zero;
+      runs = λ h input rest k stands. let back = line.says.trust.honest h in let made = at.group back k stands in
+          made_said M c.args.seed c.args.count input rest k a p b h (line.says.since h) (g.met.M.Machine.short p back) stands.ends status came.tally made.group made.counts c.line.result c.line.ensures at.told.later line.says (line.ends h);
+    }
 
-pub returns-in-Err-Fault-clause-spent : goal.returns-in-Err-Fault-clause-spent
-returns-in-Err-Fault-clause-spent g c nine h =
-    let x = c.in-Err-Fault in
-    absurd (x.ensures.unworn (ap ended (x.field-0-is ∙ ap (λ (w : Fault). Stopped w) (status_worn x.why c.end_with.result c.end_with.ensures.status nine))))
+-- the mount is worn out
 
-pub returns-in-Err-Output-clause-spent : goal.returns-in-Err-Output-clause-spent
-returns-in-Err-Output-clause-spent g c nine h = absurd (omega (arith, nine))
+pub returns-in-Ok-None : goal.returns-in-Ok-None
+returns-in-Ok-None g c =
+    let M = g.M.Machine in
+    let a = c.args.m.now in
+    let p = c.make_group.new.m in
+    let b = c.last_line-in-Ok-None.new.m in
+    let group = c.make_group.ensures in
+    let came = c.in-Ok-None in
+    let at = rw came.field-0-is at came.ensures in
+    let line = c.last_line-in-Ok-None.ensures in
+    let status = c.last_line-in-Ok-None.result in
+    record {
+      ledger = λ t. writes_on (M.ledger a) (M.ledger p) (M.ledger b) (line.ledger t) (group.ledger (line.says.trust.tells t));
+      trust = trusts_on group.trust line.says.trust;
+      since = since_on M a p b line.says.trust.honest group.since group.later line.says.since;
+      status = worn_is_made status line.status;
+      counts = line_counts (M.report a) (M.report p) (M.report b) status line.says.spares came.field-0 9 (differ 9 4 refl) came.ensures.told line.status;
+      says = λ three h. absurd (not_as 3 9 status (differ 9 3 refl) (differ 6 3 refl) line.status three);
+      last = λ of h. ends_fault (M.report b).fault_place (M.now p) (M.now b) status Ends.WornOut tt (line.ends h) of;
+      spent = λ nine h. came.ensures.used (ap came_to came.field-0-is) (line.says.trust.honest h);
+      all = λ zero h. absurd (not_as 0 9 status (differ 9 0 refl) (differ 6 0 refl) line.status zero);
+      runs = λ h input rest k stands. let back = line.says.trust.honest h in
+          made_worn M c.args.seed c.args.count input rest k a p b h (line.says.since h) (g.met.M.Machine.short p back) stands.ends status (at.group back k stands).group at.told.later line.says (line.ends h);
+    }
 
--- ---- where all was answered
+-- a fault has ended it
 
-pub returns-in-Ok-Some-clause-all : goal.returns-in-Ok-Some-clause-all
-returns-in-Ok-Some-clause-all g c zero h =
-    let now = g.M.Machine.now in
-    let x = c.in-Ok-Some in
-    let line = c.last_line in
-    let counts = subst (λ (o : Option Counts). IfSome o (λ t. t.count ≡ c.args.count)) x.field-0-is x.ensures.counts in
-    made_all c.args.count x.tally counts c.line.result c.line.ensures (now c.args.m.now) (now c.make_group.new.m) (now line.new.m) line.result (x.ensures.says (line.ensures.says.trust.honest h)) (line.ensures.ends h) zero
+pub returns-in-Err-Fault : goal.returns-in-Err-Fault
+returns-in-Err-Fault g c =
+    let M = g.M.Machine in
+    let a = c.args.m.now in
+    let p = c.make_group.new.m in
+    let b = c.end_with.new.m in
+    let group = c.make_group.ensures in
+    let came = c.in-Err-Fault in
+    let at = rw came.field-0-is at came.ensures in
+    let line = c.end_with.ensures in
+    let status = c.end_with.result in
+    record {
+      ledger = λ t. writes_on (M.ledger a) (M.ledger p) (M.ledger b) (line.ledger t) (group.ledger (line.says.trust.tells t));
+      trust = trusts_on group.trust line.says.trust;
+      since = since_on M a p b line.says.trust.honest group.since group.later line.says.since;
+      status = fault_is_made came.why status (call_of_volume came.why at.fault) line.status;
+      counts = fault_counts (M.report a) (M.report p) (M.report b) status line.says.spares came.why at.told line.status;
+      says = λ three h. let back = line.says.trust.honest h in
+          call_says false (g.V.Files.state c.args.v).layout (M.now a).said came.why at.fault (M.now p) (M.now b) status (at.quiet back) (line.says.exit h).image (at.image back) (line.ends h) three;
+      last = λ of h. ends_fault (M.report b).fault_place (M.now p) (M.now b) status came.why (told_place came.why (M.report a) (M.report p) (M.report b) at.told.disk line.says.spares.place) (line.ends h) of;
+      spent = λ nine h. absurd (came.ensures.unworn (ap ended (came.field-0-is ∙ ap (λ (w : Fault). Stopped w) (status_worn came.why status line.status nine))));
+      all = λ zero h. absurd (fault_not_zero came.why status line.status zero);
+      runs = λ h input rest k stands. let back = line.says.trust.honest h in
+          made_broken M c.args.seed c.args.count input rest k a p b h (line.says.since h) (g.met.M.Machine.short p back) stands.ends status came.why (at.group back k stands).group at.told line.says (line.ends h);
+    }
 
-pub returns-in-Ok-None-clause-all : goal.returns-in-Ok-None-clause-all
-returns-in-Ok-None-clause-all g c zero h = absurd (not_as 0 9 c.last_line-in-Ok-None.result (λ e. omega (arith, e)) (λ e. omega (arith, e)) c.last_line-in-Ok-None.ensures.status zero)
+-- the output has failed
 
-pub returns-in-Err-Fault-clause-all : goal.returns-in-Err-Fault-clause-all
-returns-in-Err-Fault-clause-all g c zero h = absurd (fault_not_zero c.in-Err-Fault.why c.end_with.result c.end_with.ensures.status zero)
-
-pub returns-in-Err-Output-clause-all : goal.returns-in-Err-Output-clause-all
-returns-in-Err-Output-clause-all g c zero h = absurd (omega (arith, zero))
+pub returns-in-Err-Output : goal.returns-in-Err-Output
+returns-in-Err-Output g c =
+    let M = g.M.Machine in
+    let a = c.args.m.now in
+    let b = c.make_group.new.m in
+    let group = c.make_group.ensures in
+    let came = c.in-Err-Output in
+    let at = rw came.field-0-is at came.ensures in
+    record {
+      ledger = group.ledger;
+      trust = group.trust;
+      since = group.since;
+      status = inr (inr refl);
+      counts = unsaid_counts (M.report a) (M.report b) at.told;
+      says = λ three h. absurd (differ 6 3 refl three);
+      last = λ of h. absurd (fault_not 6 6 refl of refl);
+      spent = λ nine h. absurd (differ 6 9 refl nine);
+      all = λ zero h. absurd (differ 6 0 refl zero);
+      runs = λ h input rest k stands. made_unsaid M c.args.seed c.args.count input rest k a b h (g.met.M.Machine.short b h) stands.ends (at.group h k stands).group at.told;
+    }

@@ -1,79 +1,79 @@
-use Rattle.std.proofs.Common.{◌≡◌, Err, refl, sym, ◌∙◌, subst, arith}
+use Rattle.std.proofs.Common.{ℕ, Option, refl, subst}
+use Rattle.sector_disk.specs.Calls.{DiskFaults}
+use Rattle.sector_disk.proofs.Holding.{trusts_on}
+use Rattle.fsd_sound.specs.Writes.{force_writes}
 use Rattle.fsd_texts.specs.declared.fault.Fault.{Fault}
 use Rattle.fsd_texts.specs.declared.fault.Fault.TheVariants as Ends
-use Rattle.volume_turns.specs.declared.turns.End.TheVariants.{Fault as Stopped}
-use Rattle.volume_turns.specs.Once.{ClosesAndSays}
-use Rattle.fsd_sound.specs.Writes.{force_writes}
+use Rattle.volume_turns.specs.Once.{close_fault}
 use Rattle.volume_turns.specs.Steps.{IsToldOn, reply_of}
 use Rattle.volume_turns.specs.Turns.{SaysAll, Unsaid}
-use Rattle.volume_turns.proofs.OnceLaws.{close_failed, close_said}
-use Rattle.volume_turns.proofs.RunLaws.{on_ok_said, on_err_said}
 use Rattle.volume_turns.proofs.AnsweringLaws.{closed_by, closed_still, says_so}
+use Rattle.volume_turns.proofs.ApartLaws.{fault_is}
+use Rattle.volume_turns.proofs.CountLaws.{told_more}
+use Rattle.volume_turns.proofs.InputLaws.{close_of_call, device_close}
+use Rattle.volume_turns.proofs.OnceLaws.{close_failed, close_said}
+use Rattle.volume_turns.proofs.RunLaws.{later_on, on_err_said, on_ok_said, since_on, told_done, told_fault, writes_on}
 use Rattle.volume_turns.proofs.ToldLaws.{close_told, unsaid_told}
 use Rattle.volume_turns.proofs.WornLaws.{close_unworn, unsaid_unworn}
 use Rattle.volume_turns.proofs.once.close_and_say.Goals as goal
 
-pub returns-in-Ok-clause-closes : goal.returns-in-Ok-clause-closes
-returns-in-Ok-clause-closes g c h k stands =
+pub returns-in-Ok : goal.returns-in-Ok
+returns-in-Ok g c =
     let V = g.V.Files in
     let M = g.M.Machine in
-    let back = c.say.ensures.trust.honest h in
-    let text = g.T.Says.errand.says (reply_of c.args.answer.now) in
-    close_said V.state V.holds M c.args.v c.args.m.now c.close.new.m c.say.new.m k stands text (force_writes (V.state c.args.v).layout) _ c.in-Ok.ensures.disk back (c.in-Ok.ensures.done back k stands) (g.met.M.Machine.short c.close.new.m back)
-    (c.say.ensures.moments h) c.say.result (on_ok_said (SaysAll text (M.now c.close.new.m) (M.now c.say.new.m)) c.say.result h c.say.ensures.said) (on_err_said (Unsaid (M.now c.close.new.m) (M.now c.say.new.m)) c.say.result h c.say.ensures.unsaid)
-
-pub returns-in-Err-clause-closes : goal.returns-in-Err-clause-closes
-returns-in-Err-clause-closes g c h k stands =
-    let V = g.V.Files in
-    let M = g.M.Machine in
-    let text = g.T.Says.errand.says (reply_of c.args.answer.now) in
-    subst (λ (f : Fault). ClosesAndSays M k text c.args.m.now c.close.new.m (Err (Stopped f))) (sym c.close_fault.ensures)
-    (close_failed V.state V.holds M c.args.v c.args.m.now c.close.new.m c.close.new.m k stands text (force_writes (V.state c.args.v).layout) _ c.in-Err.ensures.disk h c.in-Err.why (c.in-Err.ensures.done h k stands))
-
-pub returns-in-Ok-clause-later : goal.returns-in-Ok-clause-later
-returns-in-Ok-clause-later g c h =
-    let back = c.say.ensures.trust.honest h in
-    let x = (c.in-Ok.ensures.disk.any_moment back).later in
-    let y = (c.say.ensures.moments h).later in
-    omega (arith, x, y)
-
-pub returns-in-Err-clause-later : goal.returns-in-Err-clause-later
-returns-in-Err-clause-later g c h = (c.in-Err.ensures.disk.any_moment h).later
-
--- ---- what is said and written
-
-pub returns-in-Ok-clause-closing : goal.returns-in-Ok-clause-closing
-returns-in-Ok-clause-closing g c h =
-    let V = g.V.Files in
-    let M = g.M.Machine in
+    let s = V.state c.args.v in
     let a = c.args.m.now in
     let m = c.close.new.m in
     let b = c.say.new.m in
-    let back = c.say.ensures.trust.honest h in
-    let s = V.state c.args.v in
     let text = g.T.Says.errand.says (reply_of c.args.answer.now) in
     let e = c.in-Ok.ensures in
-    let run = c.say.ensures.moments h in
-    let utters = run.each (M.now b) (g.met.M.Machine.counts_now b (M.moment m) h run.later) in
-    let unsaid = on_err_said (Unsaid (M.now m) (M.now b)) c.say.result h c.say.ensures.unsaid in
-    closed_by s text (M.now a) (M.now m) (M.now b) c.say.result (e.disk.windows back) (e.disk.quiet back) (e.rest back) (closed_still M.now s a m e.idle) (record { image = utters.image; windows = utters.windows })
-    (says_so text (M.now m) (M.now b) c.say.result (on_ok_said (SaysAll text (M.now m) (M.now b)) c.say.result h c.say.ensures.said) unsaid) (unsaid_unworn (M.now m) (M.now b) c.say.result unsaid)
-    (unsaid_told s.layout (M.now b).image (M.now m) (M.now b) c.say.result unsaid)
+    let disk = e.disk in
+    let say = c.say.ensures in
+    let result = c.say.result in
+    record {
+      told = told_more (M.report a) (M.report m) (M.report b) tt result (told_done (M.report a) (M.report m) disk.uses disk.faults) say.told;
+      trust = trusts_on disk.trust say.trust;
+      ledger = λ t. writes_on (M.ledger a) (M.ledger m) (M.ledger b) (say.ledger t) (disk.ledger (say.trust.tells t));
+      fault = say.fault;
+      since = since_on M a m b say.trust.honest disk.since (λ h. (disk.any_moment h).later) say.since;
+      later = later_on M a m b say.trust.honest (λ h. (disk.any_moment h).later) (λ h. (say.moments h).later);
+      closing = λ h.
+          let back = say.trust.honest h in
+          let run = say.moments h in
+          let utters = run.each (M.now b) (g.met.M.Machine.counts_now b (M.moment m) h run.later) in
+          let unsaid = on_err_said (Unsaid (M.now m) (M.now b)) result h say.unsaid in
+          closed_by s text (M.now a) (M.now m) (M.now b) result (disk.windows back) (disk.quiet back) (e.rest back) (closed_still M.now s a m e.idle) (record { image = utters.image; windows = utters.windows })
+          (says_so text (M.now m) (M.now b) result (on_ok_said (SaysAll text (M.now m) (M.now b)) result h say.said) unsaid) (unsaid_unworn (M.now m) (M.now b) result unsaid)
+          (unsaid_told s.layout (M.now b).image (M.now m) (M.now b) result unsaid);
+      closes = λ h k stands. let back = say.trust.honest h in
+          close_said V.state V.holds M c.args.v a m b k stands text (force_writes s.layout) _ disk back (e.done back k stands) (g.met.M.Machine.short m back) (say.moments h)
+          result (on_ok_said (SaysAll text (M.now m) (M.now b)) result h say.said) (on_err_said (Unsaid (M.now m) (M.now b)) result h say.unsaid);
+    }
 
-pub returns-in-Err-clause-closing : goal.returns-in-Err-clause-closing
-returns-in-Err-clause-closing g c h =
+pub returns-in-Err : goal.returns-in-Err
+returns-in-Err g c =
+    let V = g.V.Files in
     let M = g.M.Machine in
+    let s = V.state c.args.v in
     let a = c.args.m.now in
     let m = c.close.new.m in
-    let s = g.V.Files.state c.args.v in
+    let refused = c.in-Err.why in
     let e = c.in-Err.ensures in
-    record {
-      windows = e.disk.windows h;
-      says = e.disk.quiet h;
-      rest = e.rest h;
-      still = closed_still M.now s a m e.idle;
-      unworn = λ is. let worn : c.close_fault.result ≡ Ends.WornOut = cc is in close_unworn c.in-Err.why (sym c.close_fault.ensures ∙ worn);
-      told = λ why is.
-          let same : c.close_fault.result ≡ why = cc is in
-          subst (λ (w : Fault). IsToldOn s.layout (M.now m).image w) (sym c.close_fault.ensures ∙ same) (close_told s s (g.V.Files.resident c.args.v) (M.now a) (M.now m) refl c.in-Err.why (e.causes h));
-    }
+    let disk = e.disk in
+    rw c.close_fault.ensures (record {
+      told = told_fault (M.report a) (M.report m) (close_fault refused) disk.uses (subst (λ (o : Option ℕ). DiskFaults o (M.report a) (M.report m)) (device_close refused) disk.faults);
+      trust = disk.trust;
+      ledger = disk.ledger;
+      fault = close_of_call refused;
+      since = disk.since;
+      later = λ h. (disk.any_moment h).later;
+      closing = λ h. record {
+        windows = disk.windows h;
+        says = disk.quiet h;
+        rest = e.rest h;
+        still = closed_still M.now s a m e.idle;
+        unworn = λ is. close_unworn refused (fault_is _ (close_fault refused) Ends.WornOut refl is);
+        told = λ why is. subst (λ (w : Fault). IsToldOn s.layout (M.now m).image w) (fault_is _ (close_fault refused) why refl is) (close_told s s (V.resident c.args.v) (M.now a) (M.now m) refl refused (e.causes h));
+      };
+      closes = λ h k stands. close_failed V.state V.holds M c.args.v a m m k stands (g.T.Says.errand.says (reply_of c.args.answer.now)) (force_writes s.layout) _ disk h refused (e.done h k stands);
+    })

@@ -1,25 +1,27 @@
-use Rattle.std.proofs.Common.{Option, Some, None, Ok, Err, refl, sym, ◌∙◌, ap, subst, arith}
+use Rattle.std.proofs.Common.{◌+◌, Option, Some, None, Ok, Err, refl, sym, ◌∙◌, ap, subst, arith}
+use Rattle.std.specs.Prelude.{Result}
 use Rattle.volume_layout.specs.declared.layout.Layout.{Layout}
 use Rattle.sector_disk.proofs.Holding.{trusts_on}
-use Rattle.script_text.specs.Reading.{Reading, fresh}
-use Rattle.volume_turns.specs.Script.{DoneSo, GoesOn, Reads, RoseBy}
-use Rattle.volume_turns.specs.declared.script.Stop.{Stop}
-use Rattle.volume_turns.specs.Turns.{Follows, IsEndOn}
-use Rattle.volume_turns.proofs.RunLaws.{follows_then}
-use Rattle.volume_turns.proofs.ScriptLaws.{done_none, done_replies, heard_as, heard_end, heard_none, heard_then, reads_then, rose_then}
-use Rattle.std.proofs.Common.{◌+◌}
-use Rattle.fsd_texts.specs.declared.fault.Fault.TheVariants as Ends
 use Rattle.fsd_texts.specs.Script.{max_input}
-use Rattle.volume_turns.specs.declared.turns.End.TheVariants.{Fault as Stopped}
-use Rattle.std.specs.Prelude.{Result}
 use Rattle.fsd_texts.specs.declared.end.End.TheVariants.{Done}
-use Rattle.volume_turns.specs.declared.turns.End.{End}
+use Rattle.fsd_texts.specs.declared.fault.Fault.TheVariants as Ends
+use Rattle.script_text.specs.Reading.{Reading, fresh}
+use Rattle.volume_turns.specs.Script.{DoneSo, GoesOn, Reads, RoseBy, WholeRead}
+use Rattle.volume_turns.specs.Turns.{Follows, IsEndOn}
+use Rattle.volume_turns.specs.declared.script.Stop.{Stop}
 use Rattle.volume_turns.specs.declared.script.Stop.TheVariants.{Ended}
+use Rattle.volume_turns.specs.declared.turns.End.{End}
+use Rattle.volume_turns.specs.declared.turns.End.TheVariants.{Fault as Stopped}
 use Rattle.volume_turns.proofs.ApartLaws.{err_is, ok_apart, ok_is}
 use Rattle.volume_turns.proofs.CauseLaws.{read_says}
 use Rattle.volume_turns.proofs.NumberLaws.{ended, goes_none, goes_then, may_before}
+use Rattle.volume_turns.proofs.RunLaws.{follows_then, later_on, since_on}
 use Rattle.volume_turns.proofs.SaidLaws.{replies_then, whole_then}
+use Rattle.volume_turns.proofs.ScriptLaws.{done_none, done_replies, heard_as, heard_end, heard_none, heard_then, reads_then, rose_then}
 use Rattle.volume_turns.proofs.script.read_all.Goals as goal
+
+abbrev read_so : Stop → Result (Option Stop) End
+read_so stop = Ok (Some stop)
 
 pub loop-stop-init : goal.loop-stop-init
 loop-stop-init g c =
@@ -47,68 +49,80 @@ read_on-requires-clause-room g c =
     let room = c.requires.room in
     omega (arith, same, sectors, room)
 
-pub returns-in-Ok-Some-clause-heard : goal.returns-in-Ok-Some-clause-heard
-returns-in-Ok-Some-clause-heard g c =
-    let report = g.M.Machine.report in
-    heard_as (report c.args.m.now) (report c.read_on.new.m) c.in-Ok-Some.field-0 c.in-Ok-Some.stop (heard_then (report c.args.m.now) (report c.loop-stop.m) (report c.read_on.new.m) tt (Ok c.in-Ok-Some.field-0) c.loop-stop.invariant.heard c.in-Ok-Some.ensures.heard)
-
-pub returns-in-Ok-Some-clause-rose : goal.returns-in-Ok-Some-clause-rose
-returns-in-Ok-Some-clause-rose g c =
-    let report = g.M.Machine.report in
-    rose_then (report c.args.m.now) (report c.loop-stop.m) (report c.read_on.new.m) (Some c.in-Ok-Some.stop) c.loop-stop.invariant.input
-    (subst (λ (o : Option Stop). RoseBy (report c.loop-stop.m) (report c.read_on.new.m) o) c.in-Ok-Some.field-0-is c.in-Ok-Some.ensures.rose)
-
-pub returns-in-Ok-Some-clause-attaches : goal.returns-in-Ok-Some-clause-attaches
-returns-in-Ok-Some-clause-attaches g c t = c.read_on.ensures.attaches t ∙ c.loop-stop.invariant.attaches (c.read_on.ensures.trust.tells t)
-
-pub returns-in-Ok-Some-clause-since : goal.returns-in-Ok-Some-clause-since
-returns-in-Ok-Some-clause-since g c =
-    let M = g.M.Machine in
-    let was = c.loop-stop.invariant in
-    let on : Follows M c.args.m.now c.loop-stop.m = record { honest = was.trust.honest; since = was.since; later = was.later } in
-    (follows_then M c.args.m.now c.loop-stop.m c.read_on.new.m on (record { honest = c.read_on.ensures.trust.honest; since = c.read_on.ensures.since; later = c.read_on.ensures.later })).since
-
-pub returns-in-Ok-Some-clause-reads : goal.returns-in-Ok-Some-clause-reads
-returns-in-Ok-Some-clause-reads g c t =
+pub returns-in-Ok-Some : goal.returns-in-Ok-Some
+returns-in-Ok-Some g c =
     let V = g.V.Files in
     let M = g.M.Machine in
+    let e = g.T.Says.errand in
+    let a = c.args.m.now in
     let l = c.loop-stop in
-    let reads = subst (λ (o : Option Stop). Reads V.state V.holds M g.T.Says.errand l.reader c.read_on.new.reader l.v l.m c.read_on.new.v c.read_on.new.m (Ok o)) c.in-Ok-Some.field-0-is (c.in-Ok-Some.ensures.reads t) in
-    record {
+    let m = l.m in
+    let b = c.read_on.new.m in
+    let was = l.invariant in
+    let does = rw c.in-Ok-Some.field-0-is at c.in-Ok-Some.ensures in
+    let so_far = λ (h : M.honest m). done_replies V.state V.holds M e fresh l.reader c.args.v.now a l.v m (was.so_far (g.met.M.Machine.honest_tells m h)) h in
+    let reads : M.tells b → WholeRead V.state V.holds M e c.args.v.now a c.read_on.new.v b (Ok c.in-Ok-Some.stop) =
+    λ t. record {
       last = c.read_on.new.reader;
-      few = c.read_on.ensures.few;
-      reads = reads_then V.state V.holds M g.T.Says.errand fresh l.reader c.read_on.new.reader c.args.v.now l.v c.read_on.new.v c.args.m.now l.m c.read_on.new.m (Ok (Some c.in-Ok-Some.stop))
-          l.invariant.later (record { honest = c.read_on.ensures.trust.honest; since = c.read_on.ensures.since; later = c.read_on.ensures.later }) (l.invariant.so_far (c.read_on.ensures.trust.tells t)) reads;
+      few = does.few;
+      reads = reads_then V.state V.holds M e fresh l.reader c.read_on.new.reader c.args.v.now l.v c.read_on.new.v a m b (Ok (Some c.in-Ok-Some.stop)) was.later (record { honest = does.trust.honest; since = does.since; later = does.later }) (was.so_far (does.trust.tells t)) (does.reads t);
+    } in
+    record {
+      layout = does.layout ∙ was.layout;
+      attaches = λ t. does.attaches t ∙ was.attaches (does.trust.tells t);
+      trust = trusts_on was.trust does.trust;
+      since = since_on M a m b does.trust.honest was.since was.later does.since;
+      later = later_on M a m b does.trust.honest was.later does.later;
+      up = does.up;
+      heard = heard_as (M.report a) (M.report b) (Some c.in-Ok-Some.stop) c.in-Ok-Some.stop (heard_then (M.report a) (M.report m) (M.report b) tt (Ok (Some c.in-Ok-Some.stop)) was.heard does.heard);
+      fault = tt;
+      image = tt;
+      used = λ is h. absurd (ok_apart _ c.in-Ok-Some.stop (Stopped Ends.WornOut) refl is);
+      rose = rose_then (M.report a) (M.report m) (M.report b) (Some c.in-Ok-Some.stop) was.input does.rose;
+      quiet = tt;
+      whole_replies = λ h. replies_then e.says (M.now a).said (M.now m).said (M.now b).said (so_far (does.trust.honest h)) (does.whole_replies h);
+      replies = λ end is h. read_says V.state V.holds M e c.read_on.new.reader c.args.v.now a c.read_on.new.v b c.in-Ok-Some.stop end (reads (g.met.M.Machine.honest_tells b h)).reads (ok_is _ c.in-Ok-Some.stop (Ended end) refl is) h;
+      whole = λ is t. does.whole (ap read_so (ok_is _ c.in-Ok-Some.stop (Ended Done) refl is)) was.going t;
+      reads = reads;
     }
 
-pub returns-in-Err-clause-heard : goal.returns-in-Err-clause-heard
-returns-in-Err-clause-heard g c =
-    let report = g.M.Machine.report in
-    heard_end (report c.args.m.now) (report c.read_on.new.m) c.in-Err.end (heard_then (report c.args.m.now) (report c.loop-stop.m) (report c.read_on.new.m) tt (Err c.in-Err.end) c.loop-stop.invariant.heard c.in-Err.ensures.heard)
-
-pub returns-in-Err-clause-attaches : goal.returns-in-Err-clause-attaches
-returns-in-Err-clause-attaches g c t = c.read_on.ensures.attaches t ∙ c.loop-stop.invariant.attaches (c.read_on.ensures.trust.tells t)
-
-pub returns-in-Err-clause-quiet : goal.returns-in-Err-clause-quiet
-returns-in-Err-clause-quiet g c = c.in-Err.ensures.quiet ∙ c.loop-stop.invariant.input
-
-pub returns-in-Err-clause-since : goal.returns-in-Err-clause-since
-returns-in-Err-clause-since g c =
-    let M = g.M.Machine in
-    let was = c.loop-stop.invariant in
-    let on : Follows M c.args.m.now c.loop-stop.m = record { honest = was.trust.honest; since = was.since; later = was.later } in
-    (follows_then M c.args.m.now c.loop-stop.m c.read_on.new.m on (record { honest = c.read_on.ensures.trust.honest; since = c.read_on.ensures.since; later = c.read_on.ensures.later })).since
-
-pub returns-in-Err-clause-reads : goal.returns-in-Err-clause-reads
-returns-in-Err-clause-reads g c t =
+pub returns-in-Err : goal.returns-in-Err
+returns-in-Err g c =
     let V = g.V.Files in
     let M = g.M.Machine in
+    let e = g.T.Says.errand in
+    let a = c.args.m.now in
     let l = c.loop-stop in
-    record {
+    let m = l.m in
+    let b = c.read_on.new.m in
+    let was = l.invariant in
+    let does = c.in-Err.ensures in
+    let so_far = λ (h : M.honest m). done_replies V.state V.holds M e fresh l.reader c.args.v.now a l.v m (was.so_far (g.met.M.Machine.honest_tells m h)) h in
+    let reads : M.tells b → WholeRead V.state V.holds M e c.args.v.now a c.read_on.new.v b (Err c.in-Err.end) =
+    λ t. record {
       last = c.read_on.new.reader;
-      few = c.read_on.ensures.few;
-      reads = reads_then V.state V.holds M g.T.Says.errand fresh l.reader c.read_on.new.reader c.args.v.now l.v c.read_on.new.v c.args.m.now l.m c.read_on.new.m (Err c.in-Err.end)
-          l.invariant.later (record { honest = c.read_on.ensures.trust.honest; since = c.read_on.ensures.since; later = c.read_on.ensures.later }) (l.invariant.so_far (c.read_on.ensures.trust.tells t)) (c.in-Err.ensures.reads t);
+      few = does.few;
+      reads = reads_then V.state V.holds M e fresh l.reader c.read_on.new.reader c.args.v.now l.v c.read_on.new.v a m b (Err c.in-Err.end) was.later (record { honest = does.trust.honest; since = does.since; later = does.later }) (was.so_far (does.trust.tells t)) (does.reads t);
+    } in
+    record {
+      layout = does.layout ∙ was.layout;
+      attaches = λ t. does.attaches t ∙ was.attaches (does.trust.tells t);
+      trust = trusts_on was.trust does.trust;
+      since = since_on M a m b does.trust.honest was.since was.later does.since;
+      later = later_on M a m b does.trust.honest was.later does.later;
+      up = tt;
+      heard = heard_end (M.report a) (M.report b) c.in-Err.end (heard_then (M.report a) (M.report m) (M.report b) tt (Err c.in-Err.end) was.heard does.heard);
+      fault = does.fault;
+      image = λ h. subst (λ (x : Layout). IsEndOn x (M.now b).image c.in-Err.end) was.layout (does.image h);
+      used = λ is h.
+          let few = was.few in
+          may_before l.reader.given (max_input + 1) (V.state c.args.v.now) (V.state l.v) (omega (arith, few)) (was.numbers (does.trust.honest h)) (does.used (ap ended (err_is _ c.in-Err.end (Stopped Ends.WornOut) refl is)) h);
+      rose = tt;
+      quiet = does.quiet ∙ was.input;
+      whole_replies = λ h. whole_then e.says (M.now a) (M.now m) (M.now b) c.in-Err.end (so_far (does.trust.honest h)) (does.whole_replies h);
+      replies = λ end is h. absurd (ok_apart _ (Ended end) c.in-Err.end is refl);
+      whole = λ is t. absurd (ok_apart _ (Ended Done) c.in-Err.end is refl);
+      reads = reads;
     }
 
 pub loop-stop-smaller : goal.loop-stop-smaller
@@ -143,75 +157,3 @@ loop-stop-preserved g c =
       so_far = λ t. reads_then V.state V.holds M g.T.Says.errand fresh l.reader c.read_on.new.reader c.args.v.now l.v c.read_on.new.v c.args.m.now l.m c.read_on.new.m (Ok None) was.later step (was.so_far (c.read_on.ensures.trust.tells t))
           (subst (λ (o : Option Stop). Reads V.state V.holds M g.T.Says.errand l.reader c.read_on.new.reader l.v l.m c.read_on.new.v c.read_on.new.m (Ok o)) c.in-Ok-None.field-0-is (c.in-Ok-None.ensures.reads t));
     }
-
--- ---- where all is read
-
-abbrev read_so : Option Stop → Result (Option Stop) End
-read_so stop = Ok stop
-
-pub returns-in-Ok-Some-clause-whole : goal.returns-in-Ok-Some-clause-whole
-returns-in-Ok-Some-clause-whole g c is t =
-    let x = c.in-Ok-Some in
-    let same = ok_is _ x.stop (Ended Done) refl is in
-    x.ensures.whole (ap read_so (x.field-0-is ∙ ap (λ (s : Stop). Some s) same)) c.loop-stop.invariant.going t
-
-pub returns-in-Err-clause-whole : goal.returns-in-Err-clause-whole
-returns-in-Err-clause-whole g c is t = absurd (ok_apart _ (Ended Done) c.in-Err.end is refl)
-
--- ---- what is said
-
-pub returns-in-Ok-Some-clause-whole_replies : goal.returns-in-Ok-Some-clause-whole_replies
-returns-in-Ok-Some-clause-whole_replies g c h =
-    let V = g.V.Files in
-    let M = g.M.Machine in
-    let e = g.T.Says.errand in
-    let a = c.args.m.now in
-    let l = c.loop-stop in
-    let back = c.read_on.ensures.trust.honest h in
-    replies_then e.says (M.now a).said (M.now l.m).said (M.now c.read_on.new.m).said
-    (done_replies V.state V.holds M e fresh l.reader c.args.v.now a l.v l.m (l.invariant.so_far (g.met.M.Machine.honest_tells l.m back)) back) (c.in-Ok-Some.ensures.whole_replies h)
-
-pub returns-in-Err-clause-whole_replies : goal.returns-in-Err-clause-whole_replies
-returns-in-Err-clause-whole_replies g c h =
-    let V = g.V.Files in
-    let M = g.M.Machine in
-    let e = g.T.Says.errand in
-    let a = c.args.m.now in
-    let l = c.loop-stop in
-    let back = c.read_on.ensures.trust.honest h in
-    whole_then e.says (M.now a) (M.now l.m) (M.now c.read_on.new.m) c.in-Err.end
-    (done_replies V.state V.holds M e fresh l.reader c.args.v.now a l.v l.m (l.invariant.so_far (g.met.M.Machine.honest_tells l.m back)) back) (c.in-Err.ensures.whole_replies h)
-
--- ---- reply by reply
-
-pub returns-in-Ok-Some-clause-replies : goal.returns-in-Ok-Some-clause-replies
-unfolding returns-in-Ok-Some-clause-reads
-returns-in-Ok-Some-clause-replies g c end is h =
-    let V = g.V.Files in
-    let M = g.M.Machine in
-    let x = c.in-Ok-Some in
-    let m = c.read_on.new.m in
-    let same = ok_is _ x.stop (Ended end) refl is in
-    let all = returns-in-Ok-Some-clause-reads g c (g.met.M.Machine.honest_tells m h) in
-    read_says V.state V.holds M g.T.Says.errand c.read_on.new.reader c.args.v.now c.args.m.now c.read_on.new.v m x.stop end all.reads same h
-
-pub returns-in-Err-clause-replies : goal.returns-in-Err-clause-replies
-returns-in-Err-clause-replies g c end is h = absurd (ok_apart _ (Ended end) c.in-Err.end is refl)
-
--- ---- what is told of the image
-
-pub returns-in-Err-clause-image : goal.returns-in-Err-clause-image
-returns-in-Err-clause-image g c h = subst (λ (l : Layout). IsEndOn l (g.M.Machine.now c.read_on.new.m).image c.in-Err.end) c.loop-stop.invariant.layout (c.in-Err.ensures.image h)
-
--- ---- the numbers of a mount
-
-pub returns-in-Err-clause-used : goal.returns-in-Err-clause-used
-returns-in-Err-clause-used g c is h =
-    let state = g.V.Files.state in
-    let l = c.loop-stop in
-    let e = err_is _ c.in-Err.end (Stopped Ends.WornOut) refl is in
-    let few = l.invariant.few in
-    may_before l.reader.given (max_input + 1) (state c.args.v.now) (state l.v) (omega (arith, few)) (l.invariant.numbers (c.read_on.ensures.trust.honest h)) (c.in-Err.ensures.used (ap ended e) h)
-
-pub returns-in-Ok-Some-clause-used : goal.returns-in-Ok-Some-clause-used
-returns-in-Ok-Some-clause-used g c is h = absurd (ok_apart _ c.in-Ok-Some.stop (Stopped Ends.WornOut) refl is)

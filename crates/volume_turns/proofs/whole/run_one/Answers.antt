@@ -1,101 +1,47 @@
-use Rattle.std.proofs.Common.{false, None, [], subst, arith}
-use Rattle.fsd_texts.specs.Text.{fault_text}
-use Rattle.sector_disk.specs.Machine.{Utters}
-use Rattle.sector_disk.specs.Calls.{LeavesDisk}
-use Rattle.fsd_texts.specs.declared.fault.Fault.{Fault}
+use Rattle.std.proofs.Common.{false, None, []}
 use Rattle.fsd_runs.specs.declared.request.Request.TheVariants.{One}
-use Rattle.volume_turns.specs.Line.{EndsWith, is_unsaid}
 use Rattle.volume_turns.proofs.OneLaws.{some_one}
-use Rattle.volume_turns.proofs.CauseLaws.{tells_mounted, tells_refused}
-use Rattle.volume_turns.proofs.StatusLaws.{counts_after, fault_is_one, mount_counts, mount_of_volume}
-use Rattle.volume_turns.specs.Line.{IsStatusFor}
-use Rattle.volume_turns.proofs.WholeLaws.{joined_run, refused_run}
-use Rattle.volume_turns.proofs.LastLaws.{mount_fault}
-use Rattle.volume_turns.proofs.AnsweringLaws.{run_mounted, run_refused}
+use Rattle.volume_turns.proofs.BehindLaws.{RefusedBy, RunsOver, over_counts, over_image, over_leaves, over_one, over_trust, over_writes, refused_counts, refused_image, refused_last, refused_leaves, refused_of, refused_one, refused_trust, refused_writes}
+use Rattle.volume_turns.proofs.StatusLaws.{fault_is_one}
 use Rattle.volume_turns.proofs.whole.run_one.Goals as goal
 
-pub returns-in-Ok-clause-leaves : goal.returns-in-Ok-clause-leaves
-returns-in-Ok-clause-leaves g c honest rest l windows h f at =
-    let V = g.V.Files in
+pub returns-in-Ok : goal.returns-in-Ok
+returns-in-Ok g c =
     let M = g.M.Machine in
-    let m = c.mount.new.m in
-    let b = c.one_on.new.m in
-    let disk = c.in-Ok.ensures.disk in
-    let back = c.one_on.ensures.trust.honest honest in
-    joined_run V.state V.holds M (One c.args.c.now) [] rest l windows h f c.args.m.now m b c.in-Ok.v (disk.quiet back) disk.uses disk.faults (c.one_on.ensures.since honest) (g.met.M.Machine.counts_now m (M.moment m) back (omega arith))
-    (λ later. g.met.M.Machine.counts_now b (M.moment m) honest later) c.one_on.result (c.in-Ok.ensures.sound back l windows h f at) (λ k none stands. c.one_on.ensures.runs honest rest k none stands)
-
-pub returns-in-Err-clause-leaves : goal.returns-in-Err-clause-leaves
-returns-in-Err-clause-leaves g c honest rest l windows h f at =
-    let V = g.V.Files in
-    let M = g.M.Machine in
-    let m = c.mount.new.m in
-    let b = c.end_with.new.m in
-    let disk = c.in-Err.ensures.disk in
-    let status = c.end_with.result in
-    let says = subst (λ (why : Fault). LeavesDisk M false (is_unsaid status) (Utters (fault_text why)) m b) c.fault_of.ensures c.end_with.ensures.says in
-    let ended = subst (λ (why : Fault). EndsWith why (M.now m) (M.now b) status) c.fault_of.ensures (c.end_with.ensures.ends honest) in
-    let back = says.trust.honest honest in
-    refused_run V.state V.holds M (One c.args.c.now) [] rest l windows h f c.args.sectors c.args.m.now m b at c.in-Err.fault (disk.quiet back) disk.uses disk.faults status says honest (g.met.M.Machine.short m back) ended
-    (g.met.M.Machine.counts_now m (M.moment m) back (omega arith)) (g.met.M.Machine.counts_now b (M.moment m) honest ((says.any_moment honest).later)) (λ left was. g.met.M.Machine.only_now m left back was) (some_one c.args.c.now)
-    (c.in-Err.ensures.sound back l windows h f at)
-
-pub returns-in-Ok-clause-counts : goal.returns-in-Ok-clause-counts
-returns-in-Ok-clause-counts g c =
-    let M = g.M.Machine in
-    counts_after (M.report c.args.m.now) (M.report c.mount.new.m) (M.report c.one_on.new.m) c.one_on.result c.in-Ok.ensures.disk.uses c.in-Ok.ensures.disk.faults c.one_on.ensures.counts
-
-pub returns-in-Err-clause-status : goal.returns-in-Err-clause-status
-returns-in-Err-clause-status g c = fault_is_one c.args.c.now c.fault_of.result c.end_with.result (mount_of_volume c.in-Err.fault c.fault_of.result c.fault_of.ensures) c.end_with.ensures.status
-
-pub returns-in-Err-clause-counts : goal.returns-in-Err-clause-counts
-returns-in-Err-clause-counts g c =
-    let M = g.M.Machine in
-    mount_counts (M.report c.args.m.now) (M.report c.mount.new.m) (M.report c.end_with.new.m) c.end_with.result c.end_with.ensures.says.spares c.in-Err.fault c.in-Err.ensures.disk.uses c.in-Err.ensures.disk.faults
-    (subst (λ (why : Fault). IsStatusFor why c.end_with.result) c.fault_of.ensures c.end_with.ensures.status)
-
--- ---- the image
-
-pub returns-in-Ok-clause-image : goal.returns-in-Ok-clause-image
-returns-in-Ok-clause-image g c h =
-    let M = g.M.Machine in
-    let does = c.one_on.ensures in
-    let back = does.trust.honest h in
-    tells_mounted false None c.args.sectors (g.V.Files.state c.in-Ok.v) (M.now c.args.m.now) (M.now c.one_on.new.m) c.one_on.result (M.now c.mount.new.m).said (c.in-Ok.ensures.disk.quiet back) (c.in-Ok.ensures.found back) (λ three. does.says three h) (λ nine. does.unspent nine h)
-
-pub returns-in-Err-clause-image : goal.returns-in-Err-clause-image
-returns-in-Err-clause-image g c h =
-    let M = g.M.Machine in
-    let said = c.end_with.ensures in
-    let back = said.says.trust.honest h in
-    let why = c.in-Err.ensures in
-    tells_refused false None c.args.sectors c.in-Err.fault c.fault_of.result (M.now c.args.m.now) (M.now c.mount.new.m) (M.now c.end_with.new.m) c.end_with.result c.fault_of.ensures (why.refused back) (why.lost back) (why.unsound back) (why.unchanged back) (why.rest back) (why.disk.quiet back) (said.says.exit h) (said.ends h) said.status
-
--- ---- the fault that is said
-
-pub returns-in-Ok-clause-last : goal.returns-in-Ok-clause-last
-returns-in-Ok-clause-last g c = c.one_on.ensures.last
-
-pub returns-in-Err-clause-last : goal.returns-in-Err-clause-last
-returns-in-Err-clause-last g c of h =
-    let M = g.M.Machine in
-    let said = c.end_with in
-    mount_fault c.in-Err.fault c.fault_of.result (M.report c.args.m.now) (M.report c.mount.new.m) (M.report said.new.m) (M.now c.mount.new.m) (M.now said.new.m) said.result c.fault_of.ensures c.in-Err.ensures.disk.faults
-    said.ensures.says.spares.place (said.ensures.ends h) of
-
--- ---- what is said and written
-
-pub returns-in-Ok-clause-one : goal.returns-in-Ok-clause-one
-returns-in-Ok-clause-one g c h =
-    let now = g.M.Machine.now in
     let e = c.in-Ok.ensures in
-    let back = c.one_on.ensures.trust.honest h in
-    run_mounted c.args.c.now c.args.sectors (g.V.Files.state c.in-Ok.v) (now c.args.m.now) (now c.mount.new.m) (now c.one_on.new.m) c.one_on.result (e.found back) (e.disk.quiet back) (e.rest back) (c.one_on.ensures.one h e.fresh.dirty)
+    let does = c.one_on.ensures in
+    let x : RunsOver g.V.Files.state M c.args.sectors c.in-Ok.v c.args.m.now c.mount.new.m c.one_on.new.m = record { disk = e.disk; fresh = e.fresh; found = e.found; rest = e.rest; trust = does.trust } in
+    record {
+      ledger = λ t. over_writes x t (does.ledger t);
+      status = does.status;
+      counts = over_counts x does.counts;
+      trust = over_trust x;
+      image = λ h. over_image x false None c.one_on.result h (λ three. does.says three h) (λ nine. does.unspent nine h);
+      last = does.last;
+      one = λ h. over_one x c.args.c.now c.one_on.result h (does.one h e.fresh.dirty);
+      leaves = λ h rest l windows changes f at.
+          over_leaves x g.V.Files.holds (One c.args.c.now) [] rest l windows changes f c.one_on.result h does.since (λ y t. g.met.M.Machine.counts_now y t) (e.sound (does.trust.honest h) l windows changes f at)
+          (λ k none stands. does.runs h rest k none stands);
+    }
 
-pub returns-in-Err-clause-one : goal.returns-in-Err-clause-one
-returns-in-Err-clause-one g c h =
-    let now = g.M.Machine.now in
+pub returns-in-Err : goal.returns-in-Err
+returns-in-Err g c =
+    let M = g.M.Machine in
     let e = c.in-Err.ensures in
-    let said = c.end_with.ensures in
-    let back = said.says.trust.honest h in
-    run_refused c.args.c.now c.args.sectors c.fault_of.result (now c.args.m.now) (now c.mount.new.m) (now c.end_with.new.m) c.end_with.result (e.disk.quiet back) (e.rest back) (said.says.exit h) (said.ends h)
+    let why = c.fault_of.result in
+    let line = c.end_with.ensures in
+    let status = c.end_with.result in
+    let x : RefusedBy M c.args.sectors c.in-Err.fault why c.args.m.now c.mount.new.m c.end_with.new.m status =
+    record { disk = e.disk; refused = e.refused; kept = e.unchanged; rest = e.rest; lost = e.lost; unsound = e.unsound; is = c.fault_of.ensures; says = line.says; ends = line.ends; for = line.status } in
+    record {
+      ledger = λ t. refused_writes x t (line.ledger t);
+      status = fault_is_one c.args.c.now why status (refused_of x) line.status;
+      counts = refused_counts x;
+      trust = refused_trust x;
+      image = refused_image x false None;
+      last = refused_last x;
+      one = refused_one x c.args.c.now;
+      leaves = λ h rest l windows changes f at.
+          refused_leaves x g.V.Files.state g.V.Files.holds (One c.args.c.now) [] rest l windows changes f h (g.met.M.Machine.short c.mount.new.m) (λ y t. g.met.M.Machine.counts_now y t)
+          (λ left back was. g.met.M.Machine.only_now c.mount.new.m left back was) at (e.sound (line.says.trust.honest h) l windows changes f at) (some_one c.args.c.now);
+    }

@@ -1,0 +1,154 @@
+-- A run behind its mount: over the volume that was mounted, or by the line of the fault that refused it.
+use Rattle.std.proofs.Common.{◌≡◌, ℕ, ◌≤◌, Bool, false, List, [], Option, None, sym, ◌∙◌, subst, arith}
+use Rattle.std.specs.Prelude.{IsSome, IsTrue, Ok, Err, slice_get}
+use Rattle.volume_layout.specs.declared.layout.Layout.{Layout}
+use Rattle.sector_disk.specs.declared.machine.Machine.{Ghosts}
+use Rattle.sector_disk.specs.declared.sector.WeakRun.{WeakRun}
+use Rattle.sector_disk.specs.Calls.{HealsDisk, LeavesDisk, Since}
+use Rattle.sector_disk.specs.Image.{AreShort}
+use Rattle.sector_disk.specs.Machine.{Ledger, LeavesOnly, Moment, OnlyWrites, Trusts, Utters}
+use Rattle.sector_disk.proofs.CallLaws.{only_writes_then}
+use Rattle.sector_disk.proofs.Holding.{trusts_on}
+use Rattle.fsd_files.specs.Files.{Change}
+use Rattle.fsd_files.specs.Volume.{Volume}
+use Rattle.fsd_log.specs.Scan.{Placed}
+use Rattle.fsd_sound.specs.Lost.{AreCopiesOn, LostIn}
+use Rattle.fsd_sound.specs.Mounted.{Mounted}
+use Rattle.fsd_sound.specs.Mounting.{device_of_mount}
+use Rattle.fsd_sound.specs.Writes.{MountKeeps}
+use Rattle.fsd_sound.specs.declared.fault.MountFault.{MountFault}
+use Rattle.fsd_texts.specs.declared.command.Command.{Command}
+use Rattle.fsd_texts.specs.declared.fault.Fault.{Fault}
+use Rattle.fsd_texts.specs.Text.{fault_text}
+use Rattle.fsd_runs.specs.declared.request.Request.{Request}
+use Rattle.fsd_runs.specs.Errands.{errand_of}
+use Rattle.fsd_runs.specs.Leaves.{LeavesRun}
+use Rattle.fsd_runs.specs.Runs.{turns_of}
+use Rattle.volume_contract.specs.Mount.{IsFound, IsRefused, IsSoundAt, KeepsAll, MountsSound, UnsoundFor}
+use Rattle.volume_contract.specs.State.{IsNew, Known, Stands, State, volume_of}
+use Rattle.volume_turns.specs.Answering.{EndsOne, RunsOne, SaysNoReply}
+use Rattle.volume_turns.specs.Causes.{FailsInput, SaysFault, SaysOfCall, SaysOfInput, TellsImage, is_of_fault}
+use Rattle.volume_turns.specs.Line.{EndsWith, IsStatusFor, is_unsaid}
+use Rattle.volume_turns.specs.Once.{fault_of}
+use Rattle.volume_turns.specs.Status.{CountsRun, CountsTaking}
+use Rattle.volume_turns.specs.Steps.{IsOfVolume}
+use Rattle.volume_turns.specs.Whole.{RunsOut}
+use Rattle.volume_turns.proofs.AnsweringLaws.{fault_alone, run_mounted, run_refused}
+use Rattle.volume_turns.proofs.CauseLaws.{MaySpend, input_since, tells_mounted, tells_refused}
+use Rattle.volume_turns.proofs.LastLaws.{mount_fault}
+use Rattle.volume_turns.proofs.StatusLaws.{counts_after, fails_behind, mount_counts, mount_of_volume, script_counts, script_counts_after}
+use Rattle.volume_turns.proofs.WholeLaws.{joined_run, refused_run}
+
+-- ---- over the volume
+
+-- The mount gave a volume, and a run over it has ended.
+pub record RunsOver {S D : Type 0} (state : S → State) (M : Ghosts D) (sectors : ℕ) (v : S) (a m b : D) : Type 0 where
+  pub disk : HealsDisk M None a m
+  pub fresh : IsNew (state v)
+  pub found : M.honest m → IsFound sectors (state v) (M.now a)
+  pub rest : M.honest m → MountKeeps sectors (M.now a) (M.now m)
+  pub trust : Trusts (M.tells m) (M.tells b) (M.honest m) (M.honest b)
+
+module _ {S D : Type 0} {state : S → State} {M : Ghosts D} {sectors : ℕ} {v : S} {a m b : D} (x : RunsOver state M sectors v a m b) where
+  pub over_trust : Trusts (M.tells a) (M.tells b) (M.honest a) (M.honest b)
+  over_trust = trusts_on x.disk.trust x.trust
+
+  pub over_writes : M.tells b → OnlyWrites (M.ledger m) (M.ledger b) → OnlyWrites (M.ledger a) (M.ledger b)
+  over_writes t writes = only_writes_then (M.ledger a) (M.ledger m) (M.ledger b) (x.disk.ledger (x.trust.tells t)) writes
+
+  pub over_attaches : M.tells b → (M.ledger b).attaches ≡ (M.ledger m).attaches → (M.ledger b).attaches ≡ (M.ledger a).attaches
+  over_attaches t same = same ∙ (x.disk.ledger (x.trust.tells t)).attaches
+
+  pub over_said : M.honest b → (M.now m).said ≡ (M.now a).said
+  over_said h = x.disk.quiet (x.trust.honest h)
+
+  pub over_input : M.tells b → (M.ledger m).input ≡ (M.ledger a).input
+  over_input t = (x.disk.ledger (x.trust.tells t)).input
+
+  pub over_counts : {status : ℕ} → CountsRun (M.report m) (M.report b) status → CountsRun (M.report a) (M.report b) status
+  over_counts {status} counts = counts_after (M.report a) (M.report m) (M.report b) status x.disk.uses x.disk.faults counts
+
+  pub over_taking : {status : ℕ} → CountsTaking (M.report m) (M.report b) status → CountsTaking (M.report a) (M.report b) status
+  over_taking {status} counts = script_counts_after (M.report a) (M.report m) (M.report b) status x.disk.uses x.disk.faults counts
+
+  pub over_image : (script : Bool) (made : Option ℕ) (status : ℕ) → M.honest b → (status ≡ 3 → SaysOfCall script (state v).layout (M.now m).said (M.now b)) → (status ≡ 9 → MaySpend made) → TellsImage script made sectors (M.now a) (M.now b) status
+  over_image script made status h says may = tells_mounted script made sectors (state v) (M.now a) (M.now b) status (M.now m).said (over_said h) (x.found (x.trust.honest h)) says may
+
+  pub over_one : (command : Command) (status : ℕ) → M.honest b → EndsOne command (state v) (M.now m) (M.now b) status → RunsOne command sectors (M.now a) (M.now b) status
+  over_one command status h ends =
+      let back = x.trust.honest h in
+      run_mounted command sectors (state v) (M.now a) (M.now m) (M.now b) status (x.found back) (over_said h) (x.rest back) ends
+
+  -- where it takes the input
+  pub over_fails : M.tells b → FailsInput (M.ledger m).input (M.report m) (M.report b) → FailsInput (M.ledger a).input (M.report a) (M.report b)
+  over_fails t fails = fails_behind (M.report a) (M.report m) (M.report b) (M.ledger a) (M.ledger m) x.disk.uses (x.disk.ledger (x.trust.tells t)) fails
+
+  pub over_says_input : M.tells b → SaysOfInput (M.ledger m).input (M.report m) (M.report b) (M.now b) → SaysOfInput (M.ledger a).input (M.report a) (M.report b) (M.now b)
+  over_says_input t says = input_since (M.report a) (M.report m) (M.report b) (M.ledger a).input (M.ledger m).input (M.now b) x.disk.uses.input (over_input t) says
+
+  -- over a sound disk
+  pub over_leaves : (has : S → Mounted → List Placed → Type 0) (request : Request) (input rest : List ℕ) (l : Layout) (windows : List WeakRun) (h : List Change) (f status : ℕ) → M.honest b → (M.honest b → Since M m b)
+      → ((y : D) (t : ℕ) → M.honest y → t ≤ M.moment y → M.left_since y t (M.now y)) → MountsSound state has l windows h f (M.left_since m) (M.moment a) (λ P. LeavesOnly M.moment M.left_since a m P) (M.now a) (M.now m) (Ok v)
+      → ((k : Known) → (volume_of k).unforced ≡ 0 → Stands state has v k (M.now m) → RunsOut M request input rest (M.report m) k m b status)
+      → LeavesRun request input rest l windows h f (M.left_since b) (M.moment a) (λ P. LeavesOnly M.moment M.left_since a b P) (M.report a) (M.report b) (M.now a) (M.now b) status
+  over_leaves has request input rest l windows h f status honest since counts_now sound runs =
+      joined_run state has M request input rest l windows h f a m b v (over_said honest) x.disk.uses x.disk.faults (since honest) (counts_now m (M.moment m) (x.trust.honest honest) (omega arith)) (counts_now b (M.moment m) honest) status sound runs
+
+-- ---- by a line
+
+-- The mount was refused, and the line of its fault has ended the run.
+pub record RefusedBy {D : Type 0} (M : Ghosts D) (sectors : ℕ) (fault : MountFault) (why : Fault) (a m b : D) (status : ℕ) : Type 0 where
+  pub disk : HealsDisk M (device_of_mount fault) a m
+  pub refused : M.honest m → IsRefused sectors fault (M.now a)
+  pub kept : M.honest m → KeepsAll fault (M.now a) (M.now m)
+  pub rest : M.honest m → MountKeeps sectors (M.now a) (M.now m)
+  pub lost : M.honest m → LostIn (AreCopiesOn sectors (M.now a)) (M.now m).image fault
+  pub unsound : M.honest m → UnsoundFor sectors (M.now a) (M.now m) fault
+  pub is : why ≡ fault_of fault
+  pub says : LeavesDisk M false (is_unsaid status) (Utters (fault_text why)) m b
+  pub ends : M.honest b → EndsWith why (M.now m) (M.now b) status
+  pub for : IsStatusFor why status
+
+module _ {D : Type 0} {M : Ghosts D} {sectors : ℕ} {fault : MountFault} {why : Fault} {a m b : D} {status : ℕ} (x : RefusedBy M sectors fault why a m b status) where
+  pub refused_trust : Trusts (M.tells a) (M.tells b) (M.honest a) (M.honest b)
+  refused_trust = trusts_on x.disk.trust x.says.trust
+
+  pub refused_writes : M.tells b → M.ledger b ≡ M.ledger m → OnlyWrites (M.ledger a) (M.ledger b)
+  refused_writes t same = subst (λ (l : Ledger). OnlyWrites (M.ledger a) l) (sym same) (x.disk.ledger (x.says.trust.tells t))
+
+  pub refused_of : IsOfVolume why
+  refused_of = mount_of_volume fault why x.is
+
+  pub refused_counts : CountsRun (M.report a) (M.report b) status
+  refused_counts = mount_counts (M.report a) (M.report m) (M.report b) status x.says.spares fault x.disk.uses x.disk.faults (subst (λ (w : Fault). IsStatusFor w status) x.is x.for)
+
+  pub refused_taking : CountsTaking (M.report a) (M.report b) status
+  refused_taking = script_counts (M.report a) (M.report b) status refused_counts
+
+  pub refused_image : (script : Bool) (made : Option ℕ) → M.honest b → TellsImage script made sectors (M.now a) (M.now b) status
+  refused_image script made h =
+      let back = x.says.trust.honest h in
+      tells_refused script made sectors fault why (M.now a) (M.now m) (M.now b) status x.is (x.refused back) (x.lost back) (x.unsound back) (x.kept back) (x.rest back) (x.disk.quiet back) (x.says.exit h) (x.ends h) x.for
+
+  pub refused_last : IsTrue (is_of_fault status) → M.honest b → SaysFault (M.report b).fault_place (M.now b) status
+  refused_last of h = mount_fault fault why (M.report a) (M.report m) (M.report b) (M.now m) (M.now b) status x.is x.disk.faults x.says.spares.place (x.ends h) of
+
+  pub refused_alone : M.honest b → SaysNoReply (M.now a) (M.now b) status
+  refused_alone h = fault_alone why (M.now a) (M.now m) (M.now b) status (x.disk.quiet (x.says.trust.honest h)) (x.ends h)
+
+  pub refused_one : (command : Command) → M.honest b → RunsOne command sectors (M.now a) (M.now b) status
+  refused_one command h =
+      let back = x.says.trust.honest h in
+      run_refused command sectors why (M.now a) (M.now m) (M.now b) status (x.disk.quiet back) (x.rest back) (x.says.exit h) (x.ends h)
+
+  -- over a sound disk
+  pub refused_leaves : {S : Type 0} (state : S → State) (has : S → Mounted → List Placed → Type 0) (request : Request) (input rest : List ℕ) (l : Layout) (windows : List WeakRun) (h : List Change) (f : ℕ) → M.honest b → (M.honest m → AreShort (M.now m).windows)
+      → ((y : D) (t : ℕ) → M.honest y → t ≤ M.moment y → M.left_since y t (M.now y)) → ((left : Moment) → M.honest m → M.left_since m (M.moment m) left → left ≡ M.now m) → IsSoundAt sectors l windows h f (M.now a)
+      → MountsSound state has l windows h f (M.left_since m) (M.moment a) (λ P. LeavesOnly M.moment M.left_since a m P) (M.now a) (M.now m) (Err fault) → ((v : Volume) → IsSome (slice_get (turns_of (errand_of request input) [] v) 0))
+      → LeavesRun request input rest l windows h f (M.left_since b) (M.moment a) (λ P. LeavesOnly M.moment M.left_since a b P) (M.report a) (M.report b) (M.now a) (M.now b) status
+  refused_leaves state has request input rest l windows h f honest short counts_now only at sound some =
+      let back = x.says.trust.honest honest in
+      let says = subst (λ (w : Fault). LeavesDisk M false (is_unsaid status) (Utters (fault_text w)) m b) x.is x.says in
+      let ended = subst (λ (w : Fault). EndsWith w (M.now m) (M.now b) status) x.is (x.ends honest) in
+      refused_run state has M request input rest l windows h f sectors a m b at fault (x.disk.quiet back) x.disk.uses x.disk.faults status says honest (short back) ended
+      (counts_now m (M.moment m) back (omega arith)) (counts_now b (M.moment m) honest (x.says.any_moment honest).later) (λ left was. only left back was) some sound
