@@ -7,8 +7,7 @@ ghost use Rattle.fsd_runs.specs.Words.{path_of, request_of};
 ghost use Rattle.cfs_program.specs.Program.{Ran};
 ghost use Rattle.fsd_runs.specs.declared.request.Request.TheVariants.{Outside};
 
-use cfs_program::{run_out_of_memory, run_request, run_words};
-use fsd_runs::Request;
+use cfs_program::{run_out_of_memory, run_outside, run_words};
 use image_file::FileMachine;
 use sector_disk::Machine;
 use std::alloc::Global;
@@ -29,7 +28,7 @@ fn run<M: Machine>(alloc: Global, words: io::Result<Vec<String>>, m: &mut M) -> 
     match words {
         Ok(words) => run_words::<M, Volume>(alloc, words.as_slice(), m),
         Err(error) if error.kind() == io::ErrorKind::OutOfMemory => run_out_of_memory(m),
-        Err(_) => run_request::<M, Volume>(alloc, m, &Request::Outside, ""),
+        Err(_) => run_outside(m),
     }
 }
 

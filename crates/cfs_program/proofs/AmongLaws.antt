@@ -18,15 +18,12 @@ one_at statuses n result is has = subst (λ (x : ℕ). IsTrue (is_one_of statuse
 
 module _ (statuses : List ℕ) (three : IsTrue (is_one_of statuses 3)) (seven : IsTrue (is_one_of statuses 7)) (nine : IsTrue (is_one_of statuses 9)) (result : ℕ) where
   fault_among : (why : Fault) → IsOfVolume why → (fault_status why ≡ 4 → IsTrue (is_one_of statuses (fault_status why))) → IsTrue (is_one_of statuses (fault_status why))
-  fault_among Ends.NotVolume of four = three
-  fault_among (Ends.Lost x y) of four = three
-  fault_among Ends.NoAnchor of four = three
-  fault_among (Ends.Unsound s) of four = three
   fault_among (Ends.Device s) of four = four refl
   fault_among Ends.Input of four = absurd of
   fault_among Ends.InputTooLong of four = absurd of
   fault_among Ends.Memory of four = seven
   fault_among Ends.WornOut of four = nine
+  fault_among other of four = three
 
   broken_all : IsTrue (is_one_of statuses 4) → IsTrue (is_one_of statuses 6) → IsStatusBroken result → IsTrue (is_one_of statuses result)
   broken_all four six (inl (why, of, is)) = one_at statuses (fault_status why) result is (fault_among why of (λ at. one_at statuses 4 (fault_status why) at four))
@@ -36,7 +33,7 @@ module _ (statuses : List ℕ) (three : IsTrue (is_one_of statuses 3)) (seven : 
   broken_complete disk said (inl (why, of, is)) = one_at statuses (fault_status why) result is (fault_among why of (λ at. absurd (disk (is ∙ at))))
   broken_complete disk said (inr six) = absurd (said six)
 
-low_is : (n : ℕ) → n ≤ 1 → (n ≡ 0) ⊎ (n ≡ 1)
+pub low_is : (n : ℕ) → n ≤ 1 → (n ≡ 0) ⊎ (n ≡ 1)
 low_is zero low = inl refl
 low_is (suc zero) low = inr refl
 low_is (suc (suc n)) low = absurd (omega (arith, low))
@@ -132,6 +129,12 @@ script_complete_is result (inr (inl two)) disk said = one_at script_complete 2 r
 script_complete_is result (inr (inr (inl five))) disk said = one_at script_complete 5 result five refl
 script_complete_is result (inr (inr (inr broken))) disk said = broken_complete script_complete refl refl refl result disk said broken
 
+-- none is refused with 1
+pub script_low : (result : ℕ) → IsScriptStatus result → result ≤ 1 → result ≡ 0
+script_low zero status low = refl
+script_low (suc zero) status low = let at : IsTrue (is_one_of script_all 1) = script_status 1 status in absurd (cc at)
+script_low (suc (suc n)) status low = absurd (omega (arith, low))
+
 -- ---- commands that are made up
 
 abbrev made_complete : List ℕ
@@ -147,3 +150,6 @@ made_status result (inr broken) = broken_all made_all refl refl refl result refl
 pub made_complete_is : (result : ℕ) → IsMadeStatus result → (result ≡ 4 → ⊥) → (result ≡ 6 → ⊥) → IsTrue (is_one_of made_complete result)
 made_complete_is result (inl none) disk said = one_at made_complete 0 result none refl
 made_complete_is result (inr broken) disk said = broken_complete made_complete refl refl refl result disk said broken
+
+pub made_not_five : (result : ℕ) → IsMadeStatus result → result ≡ 5 → ⊥
+made_not_five result status five = let at : IsTrue (is_one_of made_all 5) = subst (λ (n : ℕ). IsTrue (is_one_of made_all n)) five (made_status result status) in cc at

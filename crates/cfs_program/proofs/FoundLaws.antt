@@ -56,7 +56,13 @@ tells_unfound script made old new status is = record {
   spent = λ nine. absurd (not_as 9 4 status (λ e. omega (arith, e)) (λ e. omega (arith, e)) is nine);
 }
 
--- memory was refused before anything was done
+-- a call of the outside failed, or memory was refused before anything was done
+outside_not : (gives result : ℕ) → IsTrue (is_from_outside gives) → IsStatusAs gives result → IsFalse (is_from_outside result) → ⊥
+outside_not gives result out (inl is) inside = let at : IsFalse (is_from_outside gives) = subst (λ (n : ℕ). IsFalse (is_from_outside n)) is inside in cc (out, at)
+outside_not gives result out (inr six) inside = let at : IsFalse (is_from_outside 6) = subst (λ (n : ℕ). IsFalse (is_from_outside n)) six inside in cc at
+
+pub failed_not : (result : ℕ) → IsStatusAs 4 result → IsFalse (is_from_outside result) → ⊥
+failed_not result is = outside_not 4 result refl is
+
 pub inside_not : (result : ℕ) → IsStatusAs 7 result → IsFalse (is_from_outside result) → ⊥
-inside_not result (inl seven) inside = let at : IsFalse (is_from_outside 7) = subst (λ (n : ℕ). IsFalse (is_from_outside n)) seven inside in cc at
-inside_not result (inr six) inside = let at : IsFalse (is_from_outside 6) = subst (λ (n : ℕ). IsFalse (is_from_outside n)) six inside in cc at
+inside_not result is = outside_not 7 result refl is

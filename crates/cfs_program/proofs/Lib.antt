@@ -1,9 +1,9 @@
 mod AmongLaws
 mod AnchorLaws
+mod AttachLaws
 mod CountsLaws
 mod EndedLaws
 mod FormatLaws
 mod FoundLaws
-mod LongerLaws
 mod OpeningLaws
 mod ProgramLaws

@@ -1,19 +1,16 @@
 -- What is told of each kind of request.
 use Rattle.std.proofs.Common.{◌≡◌, ◌⊎◌, inl, inr, ℕ, Bool, false, None, List, [], ◌∷◌, ◌++◌, refl, sym, ◌∙◌, ap, subst, arith}
-use Rattle.std.specs.Prelude.{Result, Ok, Err, IsFalse, IsTrue}
+use Rattle.std.specs.Prelude.{⊤, Option, Some, Result, Ok, Err, IsFalse, IsTrue}
 use Rattle.std.proofs.lemmas.Bool.{eq-eqb}
 use Rattle.std.proofs.lemmas.List.{append-nil}
 use Rattle.volume_layout.specs.declared.layout.Layout.{Layout}
 use Rattle.volume_layout.specs.declared.fault.LayoutFault.{LayoutFault}
 use Rattle.volume_layout.specs.Layout.{plan}
 use Rattle.sector_disk.specs.declared.machine.Machine.{Ghosts}
-use Rattle.sector_disk.specs.declared.sector.WeakRun.{WeakRun}
 use Rattle.sector_disk.specs.Calls.{Counts, LeavesDisk, SparesDisk}
 use Rattle.sector_disk.specs.Image.{AreShort}
-use Rattle.sector_disk.specs.Machine.{Ledger, LeavesOnly, Moment, Report, Rose, Trusts, Utters}
+use Rattle.sector_disk.specs.Machine.{Ledger, Moment, Report, Rose, Trusts, Utters}
 use Rattle.sector_disk.proofs.Holding.{wears_none}
-use Rattle.fsd_files.specs.Files.{Change}
-use Rattle.fsd_texts.specs.declared.bad_line.Cause.{Cause}
 use Rattle.fsd_texts.specs.declared.command.Command.{Command}
 use Rattle.fsd_texts.specs.declared.command.Command.TheVariants as Word
 use Rattle.fsd_texts.specs.declared.fault.Fault.TheVariants as Ends
@@ -23,21 +20,17 @@ use Rattle.fsd_texts.specs.Text.{fault_text, text}
 use Rattle.fsd_runs.specs.declared.request.Request.{Request}
 use Rattle.fsd_runs.specs.declared.request.Request.TheVariants.{Outside, BadField, Format, Put, One, Script, Generate}
 use Rattle.fsd_runs.specs.Errands.{IfMounts}
-use Rattle.fsd_runs.specs.Leaves.{LeavesRun}
-use Rattle.fsd_runs.proofs.SafeLaws.{never_refused}
 use Rattle.volume_contract.specs.State.{Ages}
-use Rattle.volume_turns.specs.Answering.{SaysNoReply, SaysOne}
-use Rattle.volume_turns.specs.Causes.{SaysFault, is_of_fault}
-use Rattle.volume_turns.specs.Status.{IsOneStatus}
+use Rattle.volume_turns.specs.Answering.{SaysNoReply}
 use Rattle.volume_turns.proofs.AnsweringLaws.{fault_alone}
 use Rattle.volume_turns.proofs.LastLaws.{ends_fault}
 use Rattle.volume_turns.proofs.QuietLaws.{quiet_unfailed}
-use Rattle.volume_turns.proofs.StatusLaws.{one_not_five, as_not_low, not_as}
+use Rattle.volume_turns.proofs.StatusLaws.{as_not_low, not_as}
 use Rattle.volume_turns.specs.Line.{is_unsaid, EndsLast, EndsWith, IsStatusAs}
 use Rattle.cfs_program.specs.Formatting.{AsksAll, AsksAtMost, CountsFaults, IsFormatStatus, IsMadeBy, SaysFormat, SparesUnplanned, format_status, plan_asks}
-use Rattle.cfs_program.specs.Opening.{IsSoundDisk, TellsFound, WritesFound, is_from_outside, mount_asks}
+use Rattle.cfs_program.specs.Opening.{is_from_outside}
 use Rattle.cfs_program.specs.Program.{LeavesInput, Ran, SaysAlone, WritesAlone, SaysLine, SparesImage, SparesInput, complete_statuses, fault_statuses, field_line, input_for, is_one_of, plan_faults}
-use Rattle.cfs_program.proofs.AmongLaws.{command_complete, command_status, one_at}
+use Rattle.cfs_program.proofs.AmongLaws.{one_at}
 use Rattle.cfs_program.proofs.CountsLaws.{input_alone, spares_none}
 use Rattle.cfs_program.proofs.EndedLaws.{ended_run}
 use Rattle.cfs_program.proofs.FoundLaws.{inside_not, not_mounted}
@@ -60,45 +53,28 @@ line_says line status old new result utters (inr (is, all)) = inr (is, all.said)
 output_rose : (a b : Report) (result : ℕ) → SparesDisk false (is_unsaid result) a b → result ≡ 6 → Rose a.output_faults b.output_faults
 output_rose a b result spares six = subst (λ (x : Bool). Counts x a.output_faults b.output_faults) (eq-eqb result 6 six) spares.output
 
+-- the line of words that ask for nothing
+abbrev line_for : Request → Option Line
+line_for Outside = Some Lines.Usage
+line_for (BadField cause) = Some (field_line cause)
+line_for request = None
+
 module _ {D : Type 0} (M : Ghosts D) (path : List ℕ) (a b : D) (line : Line) (result : ℕ) (says : LeavesDisk M false (is_unsaid result) (Utters (text line)) a b) (ledger : M.tells b → M.ledger b ≡ M.ledger a)
     (status : IsStatusAs 2 result) (ends : M.honest b → EndsLast line 2 (M.now a) (M.now b) result) where
   unasked : M.tells b → (M.ledger b).attaches ≡ (M.ledger a).attaches
   unasked t = ap (λ (x : Ledger). x.attaches) (ledger t)
 
-  pub ran_outside : line ≡ Lines.Usage → Ran M Outside path a b result
-  ran_outside is = record {
-    status = line_status result status;
-    complete = λ none. line_complete result status (λ six. none.output (output_rose (M.report a) (M.report b) result says.spares six));
-    device = λ four. absurd (not_as 4 2 result (λ e. omega (arith, e)) (λ e. omega (arith, e)) status four);
-    output = output_rose (M.report a) (M.report b) result says.spares;
-    quiet = λ quiet. spares_none (M.report a) (M.report b) result says.spares (quiet_unfailed result quiet);
-    unfailed = λ unfailed. input_alone (M.report a) (M.report b) (spares_none (M.report a) (M.report b) result says.spares unfailed);
-    attaches = λ t. inr (unasked t);
-    attached = λ inside t. unasked t ∙ sym (append-nil (M.ledger a).attaches);
-    taken = λ t. ap (λ (x : Ledger). x.input) (ledger t);
-    spared = says.spares.input;
-    input = λ five t. absurd (not_as 5 2 result (λ e. omega (arith, e)) (λ e. omega (arith, e)) status five);
-    fails = λ five h. absurd (not_as 5 2 result (λ e. omega (arith, e)) (λ e. omega (arith, e)) status five);
-    bad = λ two h. tt;
-    whole = λ zero t. tt;
-    spelled = λ zero t. tt;
-    one = λ h. tt;
-    rest = λ h. tt;
-    trust = says.trust;
-    says = λ h. inl (subst (λ (x : Line). SaysLine x 2 (M.now a) (M.now b) result) is (line_says line 2 (M.now a) (M.now b) result (says.exit h) (ends h)));
-    mounted = λ any h. tt;
-    refused = λ three h. absurd (not_as 3 2 result (λ e. omega (arith, e)) (λ e. omega (arith, e)) status three);
-    accepted = λ h l windows changes f sound three. not_as 3 2 result (λ e. omega (arith, e)) (λ e. omega (arith, e)) status three;
-    spent = λ nine h. absurd (not_as 9 2 result (λ e. omega (arith, e)) (λ e. omega (arith, e)) status nine);
-    last = λ of h. tt;
-    all = λ none h. tt;
-    image = λ none h. not_as 0 2 result (λ e. omega (arith, e)) (λ e. omega (arith, e)) status none;
-    untouched = λ h. untouched_by line (M.now a) (M.now b) (says.exit h);
-    leaves = λ h l windows changes f sound. tt;
-  }
+  abbrev IsSaid : Option Line → Type 0
+  IsSaid (Some told) = SaysLine told 2 (M.now a) (M.now b) result
+  IsSaid None = ⊤
 
-  pub ran_field : (cause : Cause) → line ≡ field_line cause → Ran M (BadField cause) path a b result
-  ran_field cause is = record {
+  pub ran_line : (request : Request) → Some line ≡ line_for request → Ran M request path a b result
+  ran_line (Format n t p) is = absurd (cc is)
+  ran_line (Put name keep) is = absurd (cc is)
+  ran_line (One command) is = absurd (cc is)
+  ran_line Script is = absurd (cc is)
+  ran_line (Generate seed count) is = absurd (cc is)
+  ran_line request is = record {
     status = line_status result status;
     complete = λ none. line_complete result status (λ six. none.output (output_rose (M.report a) (M.report b) result says.spares six));
     device = λ four. absurd (not_as 4 2 result (λ e. omega (arith, e)) (λ e. omega (arith, e)) status four);
@@ -117,7 +93,7 @@ module _ {D : Type 0} (M : Ghosts D) (path : List ℕ) (a b : D) (line : Line) (
     one = λ h. tt;
     rest = λ h. tt;
     trust = says.trust;
-    says = λ h. inl (subst (λ (x : Line). SaysLine x 2 (M.now a) (M.now b) result) is (line_says line 2 (M.now a) (M.now b) result (says.exit h) (ends h)));
+    says = λ h. inl (subst IsSaid is (line_says line 2 (M.now a) (M.now b) result (says.exit h) (ends h)));
     mounted = λ any h. tt;
     refused = λ three h. absurd (not_as 3 2 result (λ e. omega (arith, e)) (λ e. omega (arith, e)) status three);
     accepted = λ h l windows changes f sound three. not_as 3 2 result (λ e. omega (arith, e)) (λ e. omega (arith, e)) status three;
@@ -142,35 +118,21 @@ six_format (Err why) = refl
 
 seven_one : (command : Command) → IsTrue (is_one_of (complete_statuses (One command)) 7) × IsTrue (is_one_of (complete_statuses (One command) ++ fault_statuses (One command)) 7)
 seven_one (Word.Put name bytes keep) = (refl, refl)
-seven_one (Word.Delete key) = (refl, refl)
-seven_one (Word.Keep name keep) = (refl, refl)
-seven_one (Word.Get key) = (refl, refl)
 seven_one command = (refl, refl)
 
 six_one : (command : Command) → IsTrue (is_one_of (complete_statuses (One command) ++ fault_statuses (One command)) 6)
 six_one (Word.Put name bytes keep) = refl
-six_one (Word.Delete key) = refl
-six_one (Word.Keep name keep) = refl
-six_one (Word.Get key) = refl
 six_one command = refl
 
 seven_is : (request : Request) → IsTrue (is_one_of (complete_statuses request) 7) × IsTrue (is_one_of (complete_statuses request ++ fault_statuses request) 7)
 seven_is (Format n t p) = seven_format (plan n t p)
-seven_is Outside = (refl, refl)
-seven_is (BadField cause) = (refl, refl)
-seven_is (Put name keep) = (refl, refl)
 seven_is (One command) = seven_one command
-seven_is Script = (refl, refl)
-seven_is (Generate seed count) = (refl, refl)
+seven_is other = (refl, refl)
 
 six_is : (request : Request) → IsTrue (is_one_of (complete_statuses request ++ fault_statuses request) 6)
 six_is (Format n t p) = six_format (plan n t p)
-six_is Outside = refl
-six_is (BadField cause) = refl
-six_is (Put name keep) = refl
 six_is (One command) = six_one command
-six_is Script = refl
-six_is (Generate seed count) = refl
+six_is other = refl
 
 memory_status : (request : Request) (result : ℕ) → IsStatusAs 7 result → IsTrue (is_one_of (complete_statuses request ++ fault_statuses request) result)
 memory_status request result (inl seven) = one_at (complete_statuses request ++ fault_statuses request) 7 result seven (seven_is request).1
@@ -200,38 +162,21 @@ if_mounts request P p = tt
 input_left : (request : Request) (old new : List ℕ) → new ≡ old → LeavesInput request old new
 input_left (Put name keep) old new same = tt
 input_left Script old new same = tt
-input_left (One command) old new same = same
-input_left (Generate seed count) old new same = same
-input_left Outside old new same = same
-input_left (BadField cause) old new same = same
-input_left (Format n t p) old new same = same
+input_left request old new same = same
 
 memory_one : (request : Request) (input : List ℕ) (old new : Moment) (result : ℕ) → SaysNoReply old new result → SaysAlone request input old new result
 memory_one (Put name keep) input old new result says = inr says
 memory_one (One command) input old new result says = inr says
-memory_one Script input old new result says = tt
-memory_one (Generate seed count) input old new result says = tt
-memory_one Outside input old new result says = tt
-memory_one (BadField cause) input old new result says = tt
-memory_one (Format n t p) input old new result says = tt
+memory_one request input old new result says = tt
 
 memory_rest : (request : Request) (old new : Moment) → Ages old new → WritesAlone request old new
 memory_rest (One command) old new still = inl still
-memory_rest (Put name keep) old new still = tt
-memory_rest Script old new still = tt
-memory_rest (Generate seed count) old new still = tt
-memory_rest Outside old new still = tt
-memory_rest (BadField cause) old new still = tt
-memory_rest (Format n t p) old new still = tt
+memory_rest request old new still = tt
 
 input_spared : (request : Request) (old new : Report) → new.input_faults ≡ old.input_faults → SparesInput request old new
 input_spared (Put name keep) old new same = tt
 input_spared Script old new same = tt
-input_spared (One command) old new same = same
-input_spared (Generate seed count) old new same = same
-input_spared Outside old new same = same
-input_spared (BadField cause) old new same = same
-input_spared (Format n t p) old new same = same
+input_spared request old new same = same
 
 module _ {D : Type 0} (M : Ghosts D) (request : Request) (path : List ℕ) (a b : D) (result : ℕ) (says : LeavesDisk M false (is_unsaid result) (Utters (fault_text Ends.Memory)) a b)
     (ledger : M.tells b → M.ledger b ≡ M.ledger a) (status : IsStatusAs 7 result) (ends : M.honest b → EndsWith Ends.Memory (M.now a) (M.now b) result)
@@ -343,46 +288,4 @@ ran_format M n t p path a b result status counts asks asked trust says made unto
   one = λ h. tt;
   rest = λ h. tt;
   leaves = λ h l windows changes f sound. tt;
-}
-
--- ---- one command
-
-pub ran_command : {D : Type 0} (M : Ghosts D) (c : Command) (path : List ℕ) (a b : D) (result : ℕ) → IsOneStatus c result → CountsFaults (M.report a) (M.report b) result
-    → (M.tells b → AsksAtMost (mount_asks path) (M.ledger a) (M.ledger b)) → (IsFalse (is_from_outside result) → M.tells b → AsksAll (mount_asks path) (M.ledger a) (M.ledger b))
-    → Trusts (M.tells a) (M.tells b) (M.honest a) (M.honest b) → (M.honest b → TellsFound false None (M.now a) (M.now b) result)
-    → (M.honest b → SaysOne c (M.now a) (M.now b) result) → (M.honest b → WritesFound c (M.now a) (M.now b))
-    → (IsTrue (is_of_fault result) → M.honest b → SaysFault (M.report b).fault_place (M.now b) result)
-    → (M.honest b → (rest : List ℕ) (l : Layout) (windows : List WeakRun) (h : List Change) (f : ℕ) → IsSoundDisk l windows h f (M.now a) →
-    LeavesRun (One c) [] rest l windows h f (M.left_since b) (M.moment a) (λ P. LeavesOnly M.moment M.left_since a b P) (M.report a) (M.report b) (M.now a) (M.now b) result)
-    → Ran M (One c) path a b result
-ran_command M c path a b result status counts asks asked trust image one rest last leaves = record {
-  one = one;
-  rest = rest;
-  status = command_status c result status;
-  complete = λ none. command_complete c result status (λ four. none.disk (counts.disk four)) (λ six. none.output (counts.output six));
-  device = counts.disk;
-  output = counts.output;
-  quiet = λ quiet. counts.quiet (quiet_unfailed result quiet);
-  unfailed = λ unfailed. input_alone (M.report a) (M.report b) (counts.quiet unfailed);
-  attaches = λ t. (asks t).attaches;
-  attached = λ inside t. (asked inside t).attaches;
-  taken = λ t. (asks t).input;
-  spared = counts.input;
-  input = λ five t. absurd (one_not_five c result status five);
-  fails = λ five h. absurd (one_not_five c result status five);
-  bad = λ two h. tt;
-  whole = λ zero t. tt;
-  spelled = λ zero t. tt;
-  trust = trust;
-  says = λ h. inl tt;
-  mounted = λ any h. (image h).mounted any;
-  refused = λ three h. (image h).refused three;
-  spent = λ nine h. (image h).spent nine;
-  last = last;
-  all = λ zero h. tt;
-  image = λ zero h. tt;
-  untouched = λ h. tt;
-  leaves = λ h l windows changes f sound. leaves h (M.ledger b).input l windows changes f sound;
-  accepted = λ h l windows changes f sound. never_refused (One c) [] (M.ledger b).input l windows changes f (M.left_since b) (M.moment a) (λ P. LeavesOnly M.moment M.left_since a b P) (M.report a) (M.report b) (M.now a) (M.now b) result
-      (leaves h (M.ledger b).input l windows changes f sound);
 }

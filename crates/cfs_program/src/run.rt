@@ -1,6 +1,7 @@
 //! What the program does for a request.
 ghost use Rattle.std.specs.Prelude.{◌≡◌, ℕ, List};
 ghost use Rattle.fsd_runs.specs.declared.request.Request.{Request as Asked};
+ghost use Rattle.fsd_runs.specs.declared.request.Request.TheVariants.{Outside};
 ghost use Rattle.cfs_program.specs.Program.{Ran, field_line};
 
 use crate::formatting::run_format;
@@ -25,7 +26,7 @@ pub fn run_request<M: Machine, V: Files<M> + Drop>(
     ensures { Ran M.Machine request.now path.now m.old m.new result }
 {
     match request {
-        Request::Outside => last_line(m, &Line::Usage, 2),
+        Request::Outside => run_outside(m),
         Request::BadField(cause) => last_line(m, &field_line(*cause), 2),
         Request::Format {
             sectors,
@@ -37,6 +38,13 @@ pub fn run_request<M: Machine, V: Files<M> + Drop>(
         Request::Script => run_commands::<M, V>(alloc, m, path),
         Request::Generate { seed, count } => run_made_up::<M, V>(alloc, m, path, *seed, *count),
     }
+}
+
+/// Says how it is used, where the words are outside the command set.
+pub fn run_outside<M: Machine>(m: &mut M) -> u8
+    ensures { (path : List ℕ) → Ran M.Machine Outside path m.old m.new result }
+{
+    last_line(m, &Line::Usage, 2)
 }
 
 /// Says that memory was refused, before anything is done for a request, and gives the status.

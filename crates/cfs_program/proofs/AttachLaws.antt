@@ -1,0 +1,156 @@
+-- A run behind its attach: over the image that was found, or by the line of the fault.
+use Rattle.std.proofs.Common.{◌≡◌, ◌⊎◌, inl, inr, ℕ, ◌≤◌, ◌^◌, ◌-◌, min, Bool, false, List, ◌++◌, length, Option, Ok, Err, sym, ◌∙◌, ap, arith}
+use Rattle.std.specs.Prelude.{IsFalse, IsTrue}
+use Rattle.volume_layout.specs.declared.layout.Layout.{Layout}
+use Rattle.sector_disk.specs.declared.machine.Attach.TheVariants.{Old}
+use Rattle.sector_disk.specs.declared.machine.Failed.{Failed}
+use Rattle.sector_disk.specs.declared.machine.Machine.{Ghosts}
+use Rattle.sector_disk.specs.declared.sector.WeakRun.{WeakRun}
+use Rattle.sector_disk.specs.Calls.{LeavesDisk}
+use Rattle.sector_disk.specs.Image.{AreShort}
+use Rattle.sector_disk.specs.Machine.{Before, DiskCause, Elapses, Finds, Ledger, LeavesOnly, Moment, OnlyWrites, Trusts, Utters, Wears, asked_for}
+use Rattle.sector_disk.proofs.Holding.{trusts_on}
+use Rattle.fsd_files.specs.Files.{Change}
+use Rattle.fsd_texts.specs.declared.fault.Fault.TheVariants as Ends
+use Rattle.fsd_texts.specs.Text.{fault_text}
+use Rattle.fsd_runs.specs.declared.request.Request.{Request}
+use Rattle.fsd_runs.specs.Leaves.{LeavesRun}
+use Rattle.volume_contract.specs.Mount.{IsSoundAt}
+use Rattle.volume_turns.specs.Answering.{SaysNoReply}
+use Rattle.volume_turns.specs.Causes.{FailsInput, SaysFault, SaysOfInput, TellsImage, is_of_fault}
+use Rattle.volume_turns.specs.Line.{EndsWith, IsStatusAs, is_unsaid}
+use Rattle.volume_turns.specs.Status.{CountsNone, CountsRun, CountsTaking}
+use Rattle.volume_turns.proofs.AnsweringLaws.{fault_alone}
+use Rattle.volume_turns.proofs.CauseLaws.{input_since}
+use Rattle.volume_turns.proofs.LastLaws.{ends_fault}
+use Rattle.cfs_program.specs.Formatting.{AsksAll, AsksAtMost, CountsFaults}
+use Rattle.cfs_program.specs.Opening.{CountsReading, IsSoundDisk, TellsFound, is_from_outside, mount_asks}
+use Rattle.cfs_program.proofs.CountsLaws.{counts_failed, counts_opened, reading_of, reading_opened}
+use Rattle.cfs_program.proofs.EndedLaws.{ended_run}
+use Rattle.cfs_program.proofs.FoundLaws.{fails_attached, failed_not, tells_found, tells_unfound}
+use Rattle.cfs_program.proofs.OpeningLaws.{finds_keep, opened_run, sound_found}
+
+-- ---- over the image
+
+-- The image was found, and a run over it has ended.
+pub record RunsFound {D : Type 0} (M : Ghosts D) (path : List ℕ) (sectors : ℕ) (a b z : D) : Type 0 where
+  pub cause : DiskCause {T = ℕ} (M.report a) (M.report b) 0 (Ok sectors)
+  pub trust : Trusts (M.tells a) (M.tells b) (M.honest a) (M.honest b)
+  pub asked : M.tells b → M.ledger b ≡ asked_for (M.ledger a) path Old
+  pub found : M.honest b → Finds (M.now a) (M.now b)
+  pub size : M.honest b → sectors ≡ min (length (M.now b).image) (2 ^ 32 - 1)
+  pub time : M.honest b → Elapses (M.moment a) (M.moment b) (M.left_since a) (M.left_since b) (Before (M.now a) (M.now b))
+  pub runs : Trusts (M.tells b) (M.tells z) (M.honest b) (M.honest z)
+
+module _ {D : Type 0} {M : Ghosts D} {path : List ℕ} {sectors : ℕ} {a b z : D} (x : RunsFound M path sectors a b z) where
+  pub found_trust : Trusts (M.tells a) (M.tells z) (M.honest a) (M.honest z)
+  found_trust = trusts_on x.trust x.runs
+
+  none_rose : CountsNone (M.report a) (M.report b)
+  none_rose = record { disk = x.cause.disk.stays; input = x.cause.input; output = x.cause.output }
+
+  pub found_counts : (status : ℕ) → CountsRun (M.report b) (M.report z) status → CountsFaults (M.report a) (M.report z) status
+  found_counts status counts = counts_opened (M.report a) (M.report b) (M.report z) status none_rose counts
+
+  pub found_reading : (status : ℕ) → CountsTaking (M.report b) (M.report z) status → CountsReading (M.report a) (M.report z) status
+  found_reading status counts = reading_opened (M.report a) (M.report b) (M.report z) status none_rose counts
+
+  pub found_input : M.tells z → (M.ledger b).input ≡ (M.ledger a).input
+  found_input t = ap (λ (l : Ledger). l.input) (x.asked (x.runs.tells t))
+
+  pub found_attaches : M.tells z → (M.ledger z).attaches ≡ (M.ledger b).attaches → (M.ledger z).attaches ≡ (M.ledger a).attaches ++ mount_asks path
+  found_attaches t same = same ∙ ap (λ (l : Ledger). l.attaches) (x.asked (x.runs.tells t))
+
+  pub found_asked : M.tells z → OnlyWrites (M.ledger b) (M.ledger z) → AsksAll (mount_asks path) (M.ledger a) (M.ledger z)
+  found_asked t writes = record { input = writes.input ∙ found_input t; attaches = found_attaches t writes.attaches }
+
+  pub found_asks : M.tells z → OnlyWrites (M.ledger b) (M.ledger z) → AsksAtMost (mount_asks path) (M.ledger a) (M.ledger z)
+  found_asks t writes = let all = found_asked t writes in record { input = all.input; attaches = inl all.attaches }
+
+  pub found_said : M.honest z → (M.now b).said ≡ (M.now a).said
+  found_said h = (x.found (x.runs.honest h)).said
+
+  pub found_later : M.honest z → M.moment a ≤ M.moment b
+  found_later h = (x.time (x.runs.honest h)).later
+
+  pub found_image : (script : Bool) (made : Option ℕ) (status : ℕ) → M.honest z → TellsImage script made sectors (M.now b) (M.now z) status → TellsFound script made (M.now a) (M.now z) status
+  found_image script made status h tells = let back = x.runs.honest h in tells_found script made (M.now a) (M.now b) (M.now z) sectors status (x.found back) (x.size back) tells
+
+  -- where it takes the input
+  pub found_fails : M.tells z → FailsInput (M.ledger b).input (M.report b) (M.report z) → FailsInput (M.ledger a).input (M.report a) (M.report z)
+  found_fails t fails = fails_attached (M.report a) (M.report b) (M.report z) (M.ledger a).input (M.ledger b).input x.cause.input (found_input t) fails
+
+  pub found_says_input : M.tells z → SaysOfInput (M.ledger b).input (M.report b) (M.report z) (M.now z) → SaysOfInput (M.ledger a).input (M.report a) (M.report z) (M.now z)
+  found_says_input t says = input_since (M.report a) (M.report b) (M.report z) (M.ledger a).input (M.ledger b).input (M.now z) x.cause.input (found_input t) says
+
+  -- over a sound disk
+  pub found_leaves : (request : Request) (input rest : List ℕ) (l : Layout) (windows : List WeakRun) (h : List Change) (f status : ℕ) → M.honest z → (M.honest a → AreShort (M.now a).windows) → ((left : Moment) → M.honest a → M.left_since a (M.moment a) left → left ≡ M.now a)
+      → IsSoundDisk l windows h f (M.now a)
+      → (IsSoundAt sectors l windows h f (M.now b) → LeavesRun request input rest l windows h f (M.left_since z) (M.moment b) (λ P. LeavesOnly M.moment M.left_since b z P) (M.report b) (M.report z) (M.now b) (M.now z) status)
+      → LeavesRun request input rest l windows h f (M.left_since z) (M.moment a) (λ P. LeavesOnly M.moment M.left_since a z P) (M.report a) (M.report z) (M.now a) (M.now z) status
+  found_leaves request input rest l windows h f status honest short only sound leaves =
+      let back = x.runs.honest honest in
+      let first = x.trust.honest back in
+      let found = x.found back in
+      opened_run M request input rest l windows h f a b z status sound (short first) (λ left was. only left first was) (x.time back) found none_rose
+      (leaves (sound_found l windows h f (M.now a) sound (short first) (M.now b) (finds_keep (M.now a) (M.now b) found) sectors (x.size back)))
+
+-- ---- by a line
+
+-- The attach failed, and the line of its fault has ended the run.
+pub record EndsUnfound {D : Type 0} (M : Ghosts D) (path : List ℕ) (failed : Failed) (a b z : D) (status : ℕ) : Type 0 where
+  pub cause : DiskCause {T = ℕ} (M.report a) (M.report b) 0 (Err failed)
+  pub trust : Trusts (M.tells a) (M.tells b) (M.honest a) (M.honest b)
+  pub asked : M.tells b → (M.ledger b ≡ M.ledger a) ⊎ (M.ledger b ≡ asked_for (M.ledger a) path Old)
+  pub worn : M.honest b → Wears (M.now a) (M.now b)
+  pub time : M.honest b → Elapses (M.moment a) (M.moment b) (M.left_since a) (M.left_since b) (Before (M.now a) (M.now b))
+  pub says : LeavesDisk M false (is_unsaid status) (Utters (fault_text (Ends.Device failed.place))) b z
+  pub ledger : M.tells z → M.ledger z ≡ M.ledger b
+  pub ends : M.honest z → EndsWith (Ends.Device failed.place) (M.now b) (M.now z) status
+  pub for : IsStatusAs 4 status
+
+module _ {D : Type 0} {M : Ghosts D} {path : List ℕ} {failed : Failed} {a b z : D} {status : ℕ} (x : EndsUnfound M path failed a b z status) where
+  pub unfound_trust : Trusts (M.tells a) (M.tells z) (M.honest a) (M.honest z)
+  unfound_trust = trusts_on x.trust x.says.trust
+
+  pub unfound_counts : CountsFaults (M.report a) (M.report z) status
+  unfound_counts = counts_failed (M.report a) (M.report b) (M.report z) status x.cause.input x.cause.output x.says.spares x.cause.disk.failed x.for
+
+  pub unfound_reading : CountsReading (M.report a) (M.report z) status
+  unfound_reading = reading_of (M.report a) (M.report z) status unfound_counts
+
+  -- nothing is said of what was asked for
+  pub unfound_asks : M.tells z → AsksAtMost (mount_asks path) (M.ledger a) (M.ledger z)
+  unfound_asks t = by (x.asked (x.says.trust.tells t))
+    where
+      by : (M.ledger b ≡ M.ledger a) ⊎ (M.ledger b ≡ asked_for (M.ledger a) path Old) → AsksAtMost (mount_asks path) (M.ledger a) (M.ledger z)
+      by (inl same) = let is = x.ledger t ∙ same in record { input = ap (λ (l : Ledger). l.input) is; attaches = inr (ap (λ (l : Ledger). l.attaches) is) }
+      by (inr asked) = let is = x.ledger t ∙ asked in record { input = ap (λ (l : Ledger). l.input) is; attaches = inl (ap (λ (l : Ledger). l.attaches) is) }
+
+  pub unfound_outside : IsFalse (is_from_outside status) → ⊥
+  unfound_outside inside = failed_not status x.for inside
+
+  pub unfound_image : (script : Bool) (made : Option ℕ) → TellsFound script made (M.now a) (M.now z) status
+  unfound_image script made = tells_unfound script made (M.now a) (M.now z) status x.for
+
+  told : failed.place ≡ (M.report z).fault_place
+  told = x.cause.names ∙ sym x.cause.told ∙ sym x.says.spares.place
+
+  pub unfound_last : IsTrue (is_of_fault status) → M.honest z → SaysFault (M.report z).fault_place (M.now z) status
+  unfound_last of h = ends_fault (M.report z).fault_place (M.now b) (M.now z) status (Ends.Device failed.place) told (x.ends h) of
+
+  pub unfound_alone : M.honest z → SaysNoReply (M.now a) (M.now z) status
+  unfound_alone h = fault_alone (Ends.Device failed.place) (M.now a) (M.now b) (M.now z) status (x.worn (x.says.trust.honest h)).said (x.ends h)
+
+  -- over a sound disk
+  pub unfound_leaves : (request : Request) (input rest : List ℕ) (l : Layout) (windows : List WeakRun) (h : List Change) (f : ℕ) → M.honest z → (M.honest a → AreShort (M.now a).windows) → ((left : Moment) → M.honest a → M.left_since a (M.moment a) left → left ≡ M.now a)
+      → IsSoundDisk l windows h f (M.now a)
+      → LeavesRun request input rest l windows h f (M.left_since z) (M.moment a) (λ P. LeavesOnly M.moment M.left_since a z P) (M.report a) (M.report z) (M.now a) (M.now z) status
+  unfound_leaves request input rest l windows h f honest short only sound =
+      let back = x.says.trust.honest honest in
+      let first = x.trust.honest back in
+      let rose = x.cause.disk.failed in
+      let disk = x.says.spares.disk in
+      let output = x.cause.output in
+      ended_run M request input rest l windows h f a b z (Ends.Device failed.place) tt status sound (short first) (λ left was. only left first was) (x.time back) (x.worn back) x.says honest (x.ends honest)
+      (record { rose = omega (arith, rose, disk); told = told }) (omega (arith, output))
