@@ -1,15 +1,17 @@
 -- What `clap` is told of a command, argument by argument and command by command.
-use Rattle.std.proofs.Common.{◌≡◌, ◌<◌, ◌+◌, ◌||◌, ◌∙◌, ℕ, Bool, true, false, List, [], ◌∷◌, ◌++◌, length, take, map, Some, sym, ap, ap₂, subst}
+use Rattle.std.proofs.Common.{◌≡◌, ◌<◌, ◌+◌, ◌||◌, ◌∙◌, ℕ, Bool, true, false, List, [], ◌∷◌, ◌++◌, length, take, map, fold, Some, sym, ap, ap₂, subst}
 use Rattle.std.specs.Borrow.{Bor}
 use Rattle.std.specs.List.{slice_index_or}
 use Rattle.std.proofs.lemmas.List.{append_assoc, map_more}
+use Rattle.std.proofs.lemmas.List.Sums.{fold_more}
 use Rattle.clap.specs.Built.{AddsArg, AddsSubcommand}
 use Rattle.clap.specs.Simple.{App, Shape, app_of, new_rule, with_rule, with_subcommand}
 use Rattle.clap.specs.Walk.{Rule, Text, rule_of}
 use Rattle.clap.specs.declared.builder.arg.Arg.{Arg}
 use Rattle.clap.specs.declared.builder.command.Command.{Command}
 use Rattle.fsd_runs.specs.Words.{option, positional, subcommand}
-use Rattle.command_words.specs.CommandSet.{IsCommand}
+use Rattle.command_words.specs.declared.command_set.Row.{Row}
+use Rattle.command_words.specs.CommandSet.{IsCommand, with_row}
 
 -- ---- one more argument
 
@@ -35,5 +37,9 @@ module _ (old new : Command) (plain made : Arg) (adds : AddsArg old made new) (l
 
 -- ---- one more command
 
-pub with_next : (old sub new : Command) (a : App) (s : Shape) → AddsSubcommand old sub new → IsCommand sub s → app_of old ≡ a → app_of new ≡ with_subcommand a s
-with_next old sub new a s adds is above = adds.shape is.local ∙ ap₂ with_subcommand above (ap (λ (x : App). x.top) is.app)
+pub with_next : (old sub : Command) (s : Shape) → IsCommand sub s → (new : Command) → AddsSubcommand old sub new → app_of new ≡ with_subcommand (app_of old) s
+with_next old sub s is new adds = adds.shape is.local ∙ ap (λ (x : App). with_subcommand (app_of old) x.top) is.app
+
+pub next_row : (start before now : App) (rows : List Row) (i : ℕ) (d : Row) → i < length rows → before ≡ fold with_row start (take i rows) → now ≡ with_row before (slice_index_or rows i d)
+    → now ≡ fold with_row start (take (i + 1) rows)
+next_row start before now rows i d inside so_far is = is ∙ ap (λ (app : App). with_row app (slice_index_or rows i d)) so_far ∙ sym (fold_more with_row start rows i d inside)

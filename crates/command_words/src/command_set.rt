@@ -75,9 +75,21 @@ fn program_of<'a>(alloc: Global, rows: &[Row<'a>]) -> Result<Command<'a>, AllocE
 {
     let mut program = Command::new(alloc, "cfs");
     for row in rows {
-        program = program.subcommand(command_of(alloc, row)?)?;
+        program = with_row(alloc, program, row)?;
     }
     Ok(program)
+}
+
+// The program with one more command.
+fn with_row<'a>(
+    alloc: Global,
+    program: Command<'a>,
+    row: &Row<'a>,
+) -> Result<Command<'a>, AllocError>
+    ensures { IfOk result (λ c. app_of c ≡ with_row (app_of program.entry) row.now) }
+{
+    let command = command_of(alloc, row)?;
+    program.subcommand(command)
 }
 
 fn command_of<'a>(alloc: Global, row: &Row<'a>) -> Result<Command<'a>, AllocError>

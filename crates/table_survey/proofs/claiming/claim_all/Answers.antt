@@ -15,7 +15,7 @@ use Rattle.name_page.proofs.LookLaws.{reaches_still, reaches_walks, rest_reaches
 use Rattle.name_btree.specs.declared.fault.TreeFault.{TreeFault}
 use Rattle.name_btree.specs.declared.lookup.FoundEntry.{FoundEntry}
 use Rattle.name_btree.specs.Fault.{outer_of, IsAmong, IsOnWay}
-use Rattle.name_btree.specs.Lookup.{entry_of, StandsIn, IsLedTo}
+use Rattle.name_btree.specs.Lookup.{entry_of, StandsIn, IsInPlace, IsLedTo}
 use Rattle.name_btree.proofs.WithinLaws.{among_since}
 use Rattle.run_table.specs.Space.{contains}
 use Rattle.sector_set.specs.Area.{Area, IsOwn, area}
@@ -141,7 +141,8 @@ returns-in_err-claim-clause-fault g c =
     let start = c.args.map.now in
     let there : StandsIn s f = subst (λ (o : Option FoundEntry). IfSome o (StandsIn s)) c.in-Some.is look.there in
     let led : IsLedTo s f = subst (λ (o : Option FoundEntry). IfSome o (IsLedTo s)) c.in-Some.is look.way in
-    let way = shows_now (λ pages. IsOnWay pages f.page) s led in
+    let place = shows_now (λ pages. IsInPlace pages f.page) s led in
+    let way : IsOnWay s.images f.page = (place.0, place.1, place.2) in
     let late = subst (λ (o : Option FoundEntry). IfSome o (λ x. is_after (option_copied c.as_ref.result) x.entry.key ≡ true)) c.in-Some.is look.later in
     let later : is_after after f.entry.key ≡ true = subst (λ (a : Option Key). is_after a f.entry.key ≡ true) c.as_ref.ensures.value late in
     let p = err_from_is_err_and c.from_residual-in_err-claim.result c.from_residual-in_err-claim.ensures.1 in
