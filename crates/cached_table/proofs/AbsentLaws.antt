@@ -1,5 +1,5 @@
 -- Where nothing is found, pages that have what was reached have the leaf that lacks it, and a path reaches the leaf.
-use Rattle.std.proofs.Common.{◌≡◌, ◌∙◌, ◌⊎◌, inl, inr, ℕ, ◌+◌, ◌&&◌, Bool, true, false, cond, List, [], ◌∷◌, Option, Some, None, refl, sym, ap}
+use Rattle.std.proofs.Common.{◌≡◌, ◌∙◌, ◌⊎◌, inl, inr, ℕ, ◌+◌, ◌&&◌, Bool, true, false, cond, List, [], ◌∷◌, Option, Some, None, refl, sym, ap, subst}
 use Rattle.std.proofs.lemmas.Bool.{and_parts}
 use Rattle.std.specs.Borrow.{MutBor}
 use Rattle.std.specs.Prelude.{Err, Ok, OnErr, Result, length}
@@ -9,7 +9,7 @@ use Rattle.fsd_bytes.specs.Keys.{key_lt}
 use Rattle.fsd_formats.specs.declared.entry.Entry.{Entry}
 use Rattle.fsd_formats.specs.NamePage.{Leaf}
 use Rattle.fsd_table.specs.declared.child.Child.{Child}
-use Rattle.fsd_table.specs.Pages.{keys_fit, not_below, page_at}
+use Rattle.fsd_table.specs.Pages.{content_fits, keys_fit, not_below, page_at}
 use Rattle.fsd_table.specs.Table.{visit_of}
 use Rattle.fsd_files.specs.Answers.{entry_after as entry_behind}
 use Rattle.name_page.specs.Cut.{AtHigh, AtLow, after_cut, is_before}
@@ -19,10 +19,11 @@ use Rattle.name_page.specs.Looks.{Agrees}
 use Rattle.name_page.specs.Pages.{Step}
 use Rattle.name_page.proofs.SideLaws.{with_fits}
 use Rattle.name_page.proofs.LookLaws.{agrees_at}
-use Rattle.name_btree.specs.Lookup.{HasOtherLeft, IsLeafBy, IsReadLeaf, ShowsAbsent, ShowsNoVersion, ShowsNoneAfter}
+use Rattle.name_btree.specs.Lookup.{HasOtherLeft, HasRight, IsLeafBy, IsReadLeaf, ShowsAbsent, ShowsNext, ShowsNoVersion, ShowsNoneAfter}
 use Rattle.name_btree.proofs.DownLaws.{between}
 use Rattle.version_table.proofs.EditLaws.{with_is}
 use Rattle.volume_contract.specs.Absent.{LacksKey, LacksLater, Reaches}
+use Rattle.volume_contract.specs.Found.{BeginsWith, HasNext}
 use Rattle.cached_table.specs.Absent.{EndsOther, LacksName}
 use Rattle.sector_disk.specs.declared.machine.Machine.{Ghosts as MachineGhosts}
 use Rattle.page_cache.specs.declared.source.PageSource.{Ghosts as SourceGhosts}
@@ -62,6 +63,10 @@ module _ (s : Step) (pages : List (List ℕ)) (agree : Agrees pages s) where
   has_leaf : (leaf : Child) (entries : List Entry) → IsReadLeaf s leaf entries → page_at pages leaf.page ≡ Some (Leaf entries)
   has_leaf leaf entries read = agrees_at s pages leaf.page read.reached read.used agree ∙ read.has
 
+  -- and keeps within its bounds
+  leaf_fits : (leaf : Child) (entries : List Entry) → IsReadLeaf s leaf entries → content_fits leaf.low leaf.high (page_at pages leaf.page) ≡ true
+  leaf_fits leaf entries read = ap (content_fits leaf.low leaf.high) (has_leaf leaf entries read) ∙ read.fits
+
   ends_at : {before : Key → Bool} {leaf : Child} {entries : List Entry} → IsLeafBy s before leaf entries → AtLow before leaf.low × AtHigh before leaf.high
   ends_at {before} {leaf} at = between before pages at.above leaf (at.way pages agree)
 
@@ -73,6 +78,7 @@ module _ (s : Step) (pages : List (List ℕ)) (agree : Agrees pages s) where
         record {
           entries = x.entries;
           leaf = has_leaf x.leaf x.entries x.at.is_read;
+          fits = leaf_fits x.leaf x.entries x.at.is_read;
           between = fits key x.leaf.low x.leaf.high ends.0 ends.1;
           none = sym (with_is key x.entries) ∙ x.none;
         },
@@ -85,9 +91,35 @@ module _ (s : Step) (pages : List (List ℕ)) (agree : Agrees pages s) where
     record {
       entries = x.entries;
       leaf = has_leaf x.leaf x.entries x.at.is_read;
+      fits = leaf_fits x.leaf x.entries x.at.is_read;
       last = x.last;
       begins = begins_by after x.leaf.low (ends_at x.at).0;
       none = sym (behind_is after x.entries) ∙ x.none;
+    },
+  )
+
+  -- the leaf behind one begins with the entry
+  begins_with : (depth : ℕ) (leaf : Child) (e : Entry) → HasRight s leaf e → Reaches (BeginsWith e (visit_of pages depth leaf)) pages
+  begins_with depth leaf e x = (
+    visit_of pages x.depth x.right,
+    x.path pages agree,
+    record { rest = x.rest; leaf = has_leaf x.right _ x.is_read; fits = leaf_fits x.right _ x.is_read; beside = x.beside },
+  )
+
+  firsts : (depth : ℕ) (leaf : Child) (e : Entry) (o : Option Entry) → MatchOption o (HasRight s leaf e) (λ x. x ≡ e) → MatchOption o (Reaches (BeginsWith e (visit_of pages depth leaf)) pages) (λ x. x ≡ e)
+  firsts depth leaf e None right = begins_with depth leaf e right
+  firsts depth leaf e (Some x) same = same
+
+  pub has_next : (after : Option Key) (e : Entry) → ShowsNext s after e → Reaches (HasNext after e pages) pages
+  has_next after e x = (
+    visit_of pages (x.at.above + 1) x.leaf,
+    x.at.path pages agree,
+    record {
+      entries = x.entries;
+      leaf = has_leaf x.leaf x.entries x.at.is_read;
+      fits = leaf_fits x.leaf x.entries x.at.is_read;
+      begins = begins_by after x.leaf.low (ends_at x.at).0;
+      first = subst (λ (o : Option Entry). MatchOption o (Reaches (BeginsWith e (visit_of pages (x.at.above + 1) x.leaf)) pages) (λ y. y ≡ e)) (behind_is after x.entries) (firsts (x.at.above + 1) x.leaf e (entry_after after x.entries) x.first);
     },
   )
 
@@ -96,7 +128,7 @@ module _ (s : Step) (pages : List (List ℕ)) (agree : Agrees pages s) where
   ends_other name depth leaf x = (
     visit_of pages x.depth x.left,
     x.path pages agree,
-    record { rest = x.rest; last = x.last; leaf = has_leaf x.left _ x.is_read; beside = x.beside; other = x.other },
+    record { rest = x.rest; last = x.last; leaf = has_leaf x.left _ x.is_read; fits = leaf_fits x.left _ x.is_read; beside = x.beside; other = x.other },
   )
 
   others : (name : List ℕ) (depth : ℕ) (leaf : Child) (o : Option Entry) → MatchOption o ((leaf.low ≡ None) ⊎ HasOtherLeft s name leaf) (λ e. same_name e.key.name name ≡ false)
@@ -113,6 +145,7 @@ module _ (s : Step) (pages : List (List ℕ)) (agree : Agrees pages s) where
         record {
           entries = x.entries;
           leaf = has_leaf x.leaf x.entries x.at.is_read;
+          fits = leaf_fits x.leaf x.entries x.at.is_read;
           low = ends.0;
           high = ends.1;
           other = others name (x.at.above + 1) x.leaf (last_that (λ e. is_before (Named name) e.key) x.entries) x.other;

@@ -105,6 +105,13 @@ module _ {D E : Type 0} {M : MachineGhosts D} {S : SourceGhosts E} where
     absent_left is (Ok None) shown = λ pages have. is pages (agrees pages have) shown
     absent_left is (Ok (Some f)) shown = tt
 
+    -- and where it is, what it is
+    pub found_shown : {Shown : FoundEntry → Type 0} {Is : FoundEntry → List (List ℕ) → Type 0} → ((f : FoundEntry) (pages : List (List ℕ)) → Agrees pages (step_of b) → Shown f → Is f pages) → (r : Result (Option FoundEntry) TreeFault) → IfOk r (λ found. IfSome found Shown)
+        → IfOk r (λ found. IfSome found (λ f. (pages : List (List ℕ)) → HavePages cache' (length free.now) pages → Is f pages))
+    found_shown is (Err fault) shown = tt
+    found_shown is (Ok None) shown = tt
+    found_shown is (Ok (Some f)) shown = λ pages have. is f pages (agrees pages have) shown
+
     -- ---- what shows that a page breaks
 
     home_b : (step_of b).home_a ≡ home_a

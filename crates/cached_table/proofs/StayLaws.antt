@@ -77,7 +77,7 @@ module _ {D E : Type 0} {M : MachineGhosts D} {S : SourceGhosts E} where
         let visit = way pages agree in
         let content : visit.0.content ≡ Some (Leaf there.entries) =
         own_content pages visit.0 visit.1 ∙ ap (page_at pages) visit.2 ∙ agrees_at (step_of b) pages f.page there.reached there.used agree ∙ there.leaf in
-        (visit.0, visit.1, visit.2, subst (λ (x : Option Content). Contains (entries_of x) f.entry) (sym content) there.there)
+        (visit.0, visit.1, visit.2, subst (λ (x : Option Content). Contains (entries_of x) f.entry) (sym content) there.there, visit.3)
 
     -- a page that is dirty has its bytes
     pub kept_then : (page : ℕ) → page < length free.now → is_one_of cache.now.dirty page ≡ true → bytes_of b.cache.now page ≡ bytes_of cache.now page

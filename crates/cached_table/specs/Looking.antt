@@ -14,7 +14,7 @@ use Rattle.table_pages.specs.Bringing.{IsTrusted, given_by, home_in}
 use Rattle.table_pages.specs.Kept.{IsReady, images_of}
 use Rattle.table_pages.specs.Reads.{Fills, LosesFor, Stood, device_of}
 use Rattle.fsd_forest.specs.Met.{search_of}
-use Rattle.fsd_table.specs.Pages.{entries_of}
+use Rattle.fsd_table.specs.Pages.{content_fits, entries_of}
 use Rattle.fsd_table.specs.Table.{BreaksTable, Visit, visits}
 use Rattle.name_page.specs.Pages.{IsOuter, is_spare}
 use Rattle.name_btree.specs.declared.fault.TreeFault.{TreeFault}
@@ -104,9 +104,9 @@ module _ {D E : Type 0} (M : MachineGhosts D) (S : SourceGhosts E) (source : E) 
 
 -- ---- what is shown by the pages that were read
 
--- a path leads to the leaf at the page, which has the entry
+-- a path leads to the leaf at the page, which has the entry and keeps within its bounds
 abbrev pub LeadsTo : List (List ℕ) → FoundEntry → Type 0
-LeadsTo pages f = (visit : Visit) × Contains (visits pages) visit × (visit.page ≡ f.page) × Contains (entries_of visit.content) f.entry
+LeadsTo pages f = (visit : Visit) × Contains (visits pages) visit × (visit.page ≡ f.page) × Contains (entries_of visit.content) f.entry × (content_fits visit.low visit.high visit.content ≡ true)
 
 -- ---- what is told
 

@@ -10,6 +10,7 @@ ghost use Rattle.name_page.specs.Lookups.{entry_after, entry_with, highest_of, i
 ghost use Rattle.name_btree.specs.Fault.{outer_told};
 ghost use Rattle.name_btree.specs.Lookup.{entry_of};
 ghost use Rattle.volume_contract.specs.Absent.{LacksKey, LacksLater, Reaches};
+ghost use Rattle.volume_contract.specs.Found.{HasNext};
 ghost use Rattle.cached_table.specs.Absent.{LacksName};
 ghost use Rattle.cached_table.specs.Looking.{FaultsOver, HasAllUsed, HasEnoughIn, HasPathIn, HavePages, LeadsTo, LooksOnly, ShowsFault, images_by, refusal_in, told};
 
@@ -64,6 +65,7 @@ impl CachedTable {
         ensures later { IfOk result (λ found. IfSome found (λ f. is_after (option_copied after.entry) f.entry.key ≡ true)) }
         ensures way { IfOk result (λ found. IfSome found (λ f. (pages : List (List ℕ)) → HavePages self.new.cache (length self.old.free_pages) pages → LeadsTo pages f)) }
         ensures absent { IfOk result (λ found. IfNone found ((pages : List (List ℕ)) → HavePages self.new.cache (length self.old.free_pages) pages → Reaches (LacksLater (option_copied after.entry)) pages)) }
+        ensures next { IfOk result (λ found. IfSome found (λ f. (pages : List (List ℕ)) → HavePages self.new.cache (length self.old.free_pages) pages → Reaches (HasNext (option_copied after.entry) f.entry pages) pages)) }
         ensures found { IfOk result (λ found. IsTrusted M.Machine S.PageSource source.now m.old self.old.cache m.new → (height : ℕ) →
             let pages = images_by M.Machine S.PageSource source.now m.old self.old.cache (length self.old.free_pages) in IsTree pages height → entry_of found ≡ entry_after (option_copied after.entry) (table_of pages height)) }
         ensures fault { IfErr result (FaultsOver M.Machine S.PageSource source.now m.new self.new.cache self.old.free_pages home_a) }

@@ -7,7 +7,7 @@ use Rattle.fsd_formats.specs.declared.entry.Entry.{Entry}
 use Rattle.fsd_formats.specs.declared.page.Separator.{Separator}
 use Rattle.fsd_formats.specs.NamePage.{Leaf, Interior}
 use Rattle.fsd_table.specs.declared.child.Child.{Child}
-use Rattle.fsd_table.specs.Pages.{page_at, children}
+use Rattle.fsd_table.specs.Pages.{children, content_fits, page_at}
 use Rattle.fsd_table.specs.Table.{max_height, top, visit_of, BreaksTable}
 use Rattle.fsd_table.proofs.BreakLaws.{visited_top}
 use Rattle.name_page.specs.Cut.{is_before}
@@ -21,7 +21,7 @@ use Rattle.name_btree.specs.declared.descent.Way.{Way}
 use Rattle.name_btree.specs.declared.fault.TreeFault.{TreeFault}
 use Rattle.name_btree.specs.Descent.{way_to, LeadsDown}
 use Rattle.name_btree.specs.Fault.{HasCause, IsMisfit, IsOnWay, BarsPage, BarsTable, ShowsCause, ShowsMisfit}
-use Rattle.name_btree.specs.Lookup.{HasLeafBy, HoldsAt}
+use Rattle.name_btree.specs.Lookup.{HasLeafBy, HoldsAt, IsInPlace}
 use Rattle.name_btree.proofs.DescentLaws.{IsOnWay as Stands, way_begins, way_down, way_ends}
 use Rattle.name_btree.proofs.DownLaws.{leads_on}
 use Rattle.name_btree.proofs.FindLaws.{entry_found}
@@ -86,15 +86,16 @@ module _ (key : Key) (old s : Step) (above : ℕ) (c : Child) (looks : Looks old
       entry_found key pages (record { page = c.page; entries = entries; previous = is.previous; next = is.next })
       (way_ends (is_before (UpTo key)) pages top above (way c is.previous is.next) entries (at pages agrees) (on pages agrees)) height t
 
-  pub alone_led : Shows s (λ pages. IsOnWay pages c.page)
-  alone_led pages agrees = (visit_of pages (above + 1) c, (visited pages agrees (visited_top pages)).0, refl)
+  pub alone_led : Shows s (λ pages. content_fits c.low c.high (page_at pages c.page) ≡ true) → Shows s (λ pages. IsInPlace pages c.page)
+  alone_led fits pages agrees = (visit_of pages (above + 1) c, (visited pages agrees (visited_top pages)).0, refl, fits pages agrees)
 
-  pub alone_leaf : (entries : List Entry) → IsReached s c.page → is_spare s.spares c.page ≡ false → page_at s.images c.page ≡ Some (Leaf entries) → HasLeafBy s (is_before (UpTo key)) c.page entries
-  alone_leaf entries reached used has = (
+  pub alone_leaf : (entries : List Entry) → IsReached s c.page → is_spare s.spares c.page ≡ false → page_at s.images c.page ≡ Some (Leaf entries) → content_fits c.low c.high (Some (Leaf entries)) ≡ true
+      → HasLeafBy s (is_before (UpTo key)) c.page entries
+  alone_leaf entries reached used has fits = (
     c,
     refl,
     record {
-      is_read = record { reached = reached; used = used; has = has };
+      is_read = record { reached = reached; used = used; has = has; fits = fits };
       above = above;
       way = down;
       path = λ pages agrees. (visited pages agrees (visited_top pages)).0;

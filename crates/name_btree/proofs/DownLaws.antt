@@ -12,7 +12,7 @@ use Rattle.fsd_table.specs.Table.{top, IsVisited}
 use Rattle.fsd_table.proofs.BreakLaws.{visited_top}
 use Rattle.fsd_forest.specs.Ways.{end_of}
 use Rattle.name_page.specs.Cut.{is_before, AtLow, AtHigh}
-use Rattle.name_page.specs.declared.cut.Cut.TheVariants.{End}
+use Rattle.name_page.specs.declared.cut.Cut.TheVariants.{End, Start}
 use Rattle.name_page.specs.Lookups.{same_name}
 use Rattle.name_page.specs.Looks.{Looks, Shows}
 use Rattle.name_page.specs.Pages.{Step, is_spare, IsReached}
@@ -22,7 +22,7 @@ use Rattle.name_btree.specs.declared.lookup.FoundEntry.{FoundEntry}
 use Rattle.name_btree.specs.declared.descent.Neighbour.{Neighbour}
 use Rattle.name_btree.specs.declared.descent.Way.{Way}
 use Rattle.name_btree.specs.Descent.{way_to, GoesTo, HasNeighbours, IsNeighbour, LeadsDown}
-use Rattle.name_btree.specs.Lookup.{BeginsBehind, BeginsBeside, EndsBeside, HasOtherLeft, IsLastBeside, IsLeafBy, IsLedFrom, IsReadLeaf}
+use Rattle.name_btree.specs.Lookup.{BeginsBehind, BeginsBeside, EndsBeside, EndsUpTo, HasOtherLeft, HasRight, IsFirstBeside, IsLastBeside, IsLeafBy, IsLedFrom, IsReadLeaf}
 use Rattle.name_btree.proofs.MetLaws.{IsOf}
 use Rattle.name_btree.proofs.VisitedLaws.{found_beside}
 
@@ -105,16 +105,37 @@ ends before above lo hi previous next first low high (s ∷ separators) left rig
 
     by : EndsBetween lo hi go → (b : Bool) → EndsBetween lo hi (cond b go stop)
     by later true = later
-    by later false = (left, tt)
+    by later false = (left, refl)
+
+-- the child left of it ends up to the place
+ends_left : (before : Key → Bool) (above : ℕ) (previous next : Option Neighbour) (first : ℕ) (low high : Option Key) (separators : List Separator)
+    → IfSome previous (EndsUpTo before) → IfSome (way_to before above previous next first low high separators).previous (EndsUpTo before)
+ends_left before above previous next first low high [] left = left
+ends_left before above previous next first low high (s ∷ separators) left =
+    by (λ is. ends_left before above (Some (record { child = c; above = above })) next s.child (Some s.key) high separators (s.key, refl, is)) (before s.key) refl
+  where
+    c : Child
+    c = record { page = first; low = low; high = Some s.key }
+
+    go : Way
+    go = way_to before above (Some (record { child = c; above = above })) next s.child (Some s.key) high separators
+
+    stop : Way
+    stop = record { child = c; previous = previous; next = Some (record { child = record { page = s.child; low = Some s.key; high = end_of high separators }; above = above }) }
+
+    by : (before s.key ≡ true → IfSome go.previous (EndsUpTo before)) → (b : Bool) → before s.key ≡ b → IfSome (cond b go stop).previous (EndsUpTo before)
+    by later true is = later is
+    by later false is = left
 
 -- so many pages below page 0, where the way leads to the start
 pub record IsDownWay (s : Step) (before : Key → Bool) (above0 : ℕ) (start : Child) (above : ℕ) (w : Way) : Type 0 where
   pub way : Shows s (λ pages. LeadsDown before pages above0 start → LeadsDown before pages above w.child)
   pub low : BeginsBeside start.low w.previous w.child.low
   pub high : EndsBeside start.high w.next w.child.high
+  pub left : IfSome w.previous (EndsUpTo before)
 
 pub down_begins : (s : Step) (before : Key → Bool) (above : ℕ) (start : Child) → IsDownWay s before above start above (record { child = start; previous = None; next = None })
-down_begins s before above start = record { way = λ pages agrees h. h; low = refl; high = refl }
+down_begins s before above start = record { way = λ pages agrees h. h; low = refl; high = refl; left = tt }
 
 pub down_goes : (old s : Step) (before : Key → Bool) (above0 : ℕ) (start : Child) (above : ℕ) (w : Way) (first : ℕ) (separators : List Separator) → Looks old s
     → Shows s (λ pages. page_at pages w.child.page ≡ Some (Interior first separators)) → IsDownWay old before above0 start above w
@@ -125,6 +146,7 @@ down_goes old s before above0 start above w first separators looks at is =
       way = λ pages agrees h. leads_on before pages above (above + 1) w.child w.previous w.next first separators (at pages agrees) (is.way pages (agrees_before old s pages looks agrees) h);
       low = both.0;
       high = both.1;
+      left = ends_left before (above + 1) w.previous w.next first w.child.low w.child.high separators is.left;
     }
 
 -- ---- the leaf at its end
@@ -136,6 +158,7 @@ module _ (old s : Step) (before : Key → Bool) (above : ℕ) (start : Child) (f
     reached = subst (IsReached s) (sym led.page) reached;
     used = subst (λ (p : ℕ). is_spare s.spares p ≡ false) (sym led.page) (ap (λ (x : List Bool). is_spare x found.page) same ∙ used);
     has = subst (λ (p : ℕ). page_at s.images p ≡ Some (Leaf found.entries)) (sym led.page) leaf_is;
+    fits = led.fits;
   }
 
   -- from page 0
@@ -154,6 +177,7 @@ leaf_later old s before leaf entries looks is = record {
     reached = looks.reached leaf.page is.is_read.reached;
     used = ap (λ (x : List Bool). is_spare x leaf.page) looks.spares ∙ is.is_read.used;
     has = agrees_at old s.images leaf.page is.is_read.reached is.is_read.used (agrees_before old s s.images looks (agrees_now s)) ∙ is.is_read.has;
+    fits = is.is_read.fits;
   };
   above = is.above;
   way = λ pages agrees. is.way pages (agrees_before old s pages looks agrees);
@@ -164,6 +188,23 @@ leaf_later old s before leaf entries looks is = record {
 pub ends_last : (next : Option Neighbour) (high end : Option Key) → IfSome next (BeginsBehind (is_before End)) → EndsBeside high next end → end ≡ high
 ends_last None high end begins is = is
 ends_last (Some n) high end begins is = absurd (let no = begins.2 in cc)
+
+-- along the first children nothing stands left of the way
+pub begins_first : (previous : Option Neighbour) (low begin : Option Key) → IfSome previous (EndsUpTo (is_before Start)) → BeginsBeside low previous begin → begin ≡ low
+begins_first None low begin left is = is
+begins_first (Some n) low begin left is = absurd (let no = left.2 in cc)
+
+-- the leaf right of one at a place
+pub right_of : (mid s : Step) (c leaf : Child) (found : Found) (n : Neighbour) (first : Entry) → c ≡ top → Looks mid s → Shows mid (λ pages. HasNeighbours pages 0 c found) → found.next ≡ Some n
+    → EndsBeside c.high found.next leaf.high → IsFirstBeside s n first → HasRight s leaf first
+right_of mid s c leaf found n first is looks beside at high b = record {
+  right = b.leaf;
+  rest = b.rest;
+  is_read = b.is_read;
+  depth = b.depth;
+  path = λ pages agrees. b.path pages agrees (subst (λ (o : Option Neighbour). IfSome o (IsNeighbour pages)) at (found_beside pages c found is (beside pages (agrees_before mid s pages looks agrees))).1);
+  beside = b.low ∙ subst (λ (o : Option Neighbour). EndsBeside c.high o leaf.high) at high;
+}
 
 -- the leaf left of one at the place of a name
 pub other_left : (mid s : Step) (name : List ℕ) (c leaf : Child) (found : Found) (n : Neighbour) (last : Entry) → c ≡ top → Looks mid s → Shows mid (λ pages. HasNeighbours pages 0 c found) → found.previous ≡ Some n

@@ -37,7 +37,7 @@ use Rattle.name_btree.specs.declared.fault.TreeFault.{TreeFault}
 use Rattle.name_btree.specs.declared.lookup.FoundEntry.{FoundEntry}
 use Rattle.name_btree.specs.Calls.{without_page}
 use Rattle.name_btree.specs.Descent.{way_to, IsNeighbour, HasNeighbours}
-use Rattle.name_btree.specs.Lookup.{entry_of, BeginsBehind, IsBelow, IsLedBeside, IsLedTo, StandsIn}
+use Rattle.name_btree.specs.Lookup.{entry_of, BeginsBehind, HasInPlace, IsLedBeside, IsLedTo, StandsIn}
 use Rattle.name_btree.proofs.LastLaws.{last_at}
 use Rattle.name_btree.proofs.NextLaws.{after_is}
 use Rattle.name_btree.proofs.VisitedLaws.{found_beside}
@@ -80,7 +80,7 @@ good_entry s f h =
 -- ---- the way to the leaf
 
 -- below page 0
-pub led_to : (s : Step) (c : Child) (f : FoundEntry) → c ≡ top → Shows s (λ pages. IsBelow pages 0 c f.page) → IsLedTo s f
+pub led_to : (s : Step) (c : Child) (f : FoundEntry) → c ≡ top → Shows s (λ pages. HasInPlace pages 0 c f.page) → IsLedTo s f
 led_to s c f is below pages agrees = below pages agrees (subst (IsVisited pages 1) (sym is) (visited_top pages))
 
 -- below a child beside the way

@@ -72,7 +72,7 @@ nothing_right : (xs : List Entry) → AllByRecursion (λ e. is_before End e.key 
 nothing_right [] h = refl
 nothing_right (e ∷ xs) h = absurd (let no = h.0 in cc)
 
-head_of : (xs : List Entry) (e : Entry) → slice_get xs 0 ≡ Some e → (rest : List Entry) × (xs ≡ e ∷ rest)
+pub head_of : (xs : List Entry) (e : Entry) → slice_get xs 0 ≡ Some e → (rest : List Entry) × (xs ≡ e ∷ rest)
 head_of [] e h = absurd cc
 head_of (x ∷ xs) e h = (xs, let same : x ≡ e = cc in ap (λ (y : Entry). y ∷ xs) same)
 

@@ -1,13 +1,13 @@
 -- What a look-up finds.
-use Rattle.std.specs.Prelude.{◌≡◌, ℕ, ◌+◌, ◌⊎◌, Bool, false, List, [], ◌∷◌, ◌++◌, Option, Some, None, IfNone, option_map}
+use Rattle.std.specs.Prelude.{◌≡◌, ℕ, ◌+◌, ◌⊎◌, Bool, true, false, List, [], ◌∷◌, ◌++◌, Option, Some, None, IfSome, option_map}
 use Rattle.std.specs.Option.{MatchOption}
 use Rattle.std.specs.List.{Contains}
 use Rattle.fsd_bytes.specs.declared.key.Key.{Key}
 use Rattle.fsd_formats.specs.declared.entry.Entry.{Entry}
 use Rattle.fsd_formats.specs.NamePage.{Leaf}
 use Rattle.fsd_table.specs.declared.child.Child.{Child}
-use Rattle.fsd_table.specs.Pages.{page_at}
-use Rattle.fsd_table.specs.Table.{IsVisited}
+use Rattle.fsd_table.specs.Pages.{content_fits, page_at}
+use Rattle.fsd_table.specs.Table.{IsVisited, Visit, visits}
 use Rattle.fsd_table.specs.Tree.{table_of, IsTree}
 use Rattle.name_page.specs.Cut.{after_cut, is_before}
 use Rattle.name_page.specs.declared.cut.Cut.TheVariants.{Named, UpTo}
@@ -32,9 +32,13 @@ pub record StandsIn (s : Step) (f : FoundEntry) : Type 0 where
   pub leaf : page_at s.images f.page ≡ Some (Leaf entries)
   pub there : Contains entries f.entry
 
--- what was reached shows that a path from page 0 reaches the leaf
+-- a path from page 0 reaches the page, which keeps within the bounds that the path leaves to it
+abbrev pub IsInPlace : List (List ℕ) → (page : ℕ) → Type 0
+IsInPlace pages page = (visit : Visit) × Contains (visits pages) visit × (visit.page ≡ page) × (content_fits visit.low visit.high visit.content ≡ true)
+
+-- what was reached shows it of the leaf
 abbrev pub IsLedTo : Step → FoundEntry → Type 0
-IsLedTo s f = Shows s (λ pages. IsOnWay pages f.page)
+IsLedTo s f = Shows s (λ pages. IsInPlace pages f.page)
 
 -- what some entries have at a key is what the table has
 abbrev pub HoldsAt : Key → List (List ℕ) → List Entry → Type 0
@@ -46,17 +50,25 @@ HoldsAt key pages entries = (height : ℕ) → IsTree pages height → entry_wit
 abbrev pub IsBelow : List (List ℕ) → (above : ℕ) → Child → (page : ℕ) → Type 0
 IsBelow pages above c page = IsVisited pages (above + 1) c → IsOnWay pages page
 
+-- where one reaches the child, one reaches the page so
+abbrev pub HasInPlace : List (List ℕ) → (above : ℕ) → Child → (page : ℕ) → Type 0
+HasInPlace pages above c page = IsVisited pages (above + 1) c → IsInPlace pages page
+
 -- what was reached shows the same of a child beside the way
 abbrev pub IsLedBeside : Step → Neighbour → FoundEntry → Type 0
-IsLedBeside s n f = Shows s (λ pages. IsNeighbour pages n → IsOnWay pages f.page)
+IsLedBeside s n f = Shows s (λ pages. IsNeighbour pages n → IsInPlace pages f.page)
 
 -- the keys of the child are from one behind the place on
 abbrev pub BeginsBehind : (Key → Bool) → Neighbour → Type 0
 BeginsBehind before n = (k : Key) × (n.child.low ≡ Some k) × (before k ≡ false)
 
--- where nothing stands right of the way, the keys of its child end with those of the start
+-- the keys of the child left of the way end up to the place
+abbrev pub EndsUpTo : (Key → Bool) → Neighbour → Type 0
+EndsUpTo before n = (k : Key) × (n.child.high ≡ Some k) × (before k ≡ true)
+
+-- the keys of the way's child end where those of the child right of it begin, and where none is there, with those of the start
 abbrev pub EndsBeside : (high : Option Key) → Option Neighbour → Option Key → Type 0
-EndsBeside high next end = IfNone next (end ≡ high)
+EndsBeside high next end = MatchOption next (end ≡ high) (λ n. n.child.low ≡ end)
 
 -- they begin where those of the child left of the way end, and where none is there, with those of the start
 abbrev pub BeginsBeside : (low : Option Key) → Option Neighbour → Option Key → Type 0
@@ -70,12 +82,15 @@ pub record IsLedFrom (s : Step) (before : Key → Bool) (above : ℕ) (start : C
   pub path : Shows s (λ pages. IsVisited pages (above + 1) start → IsVisited pages (below + 1) leaf)
   pub low : BeginsBeside start.low found.previous leaf.low
   pub high : EndsBeside start.high found.next leaf.high
+  pub left : IfSome found.previous (EndsUpTo before)
+  pub fits : content_fits leaf.low leaf.high (Some (Leaf found.entries)) ≡ true
 
--- a leaf that was reached and isn't spare has these entries
+-- a leaf that was reached and isn't spare has these entries, and keeps within its bounds
 pub record IsReadLeaf (s : Step) (leaf : Child) (entries : List Entry) : Type 0 where
   pub reached : IsReached s leaf.page
   pub used : is_spare s.spares leaf.page ≡ false
   pub has : page_at s.images leaf.page ≡ Some (Leaf entries)
+  pub fits : content_fits leaf.low leaf.high (Some (Leaf entries)) ≡ true
 
 -- such a leaf below a child beside the way ends with the entry, and its keys end with those of the child
 pub record IsLastBeside (s : Step) (n : Neighbour) (last : Entry) : Type 0 where
@@ -85,6 +100,15 @@ pub record IsLastBeside (s : Step) (n : Neighbour) (last : Entry) : Type 0 where
   pub depth : ℕ
   pub path : Shows s (λ pages. IsNeighbour pages n → IsVisited pages depth leaf)
   pub high : leaf.high ≡ n.child.high
+
+-- such a leaf below a child beside the way begins with the entry, and its keys begin with those of the child
+pub record IsFirstBeside (s : Step) (n : Neighbour) (first : Entry) : Type 0 where
+  pub leaf : Child
+  pub rest : List Entry
+  pub is_read : IsReadLeaf s leaf (first ∷ rest)
+  pub depth : ℕ
+  pub path : Shows s (λ pages. IsNeighbour pages n → IsVisited pages depth leaf)
+  pub low : leaf.low ≡ n.child.low
 
 -- ---- where nothing is found
 
@@ -133,3 +157,23 @@ pub record ShowsNoVersion (s : Step) (name : List ℕ) : Type 0 where
   pub entries : List Entry
   pub at : IsLeafBy s (is_before (Named name)) leaf entries
   pub other : MatchOption (last_that (λ e. is_before (Named name) e.key) entries) ((leaf.low ≡ None) ⊎ HasOtherLeft s name leaf) (λ e. same_name e.key.name name ≡ false)
+
+-- ---- where the next is found
+
+-- a leaf that was read, whose keys begin where those of another end, begins with the entry; what was reached shows that a
+-- path from page 0 leads to it
+pub record HasRight (s : Step) (leaf : Child) (first : Entry) : Type 0 where
+  pub right : Child
+  pub rest : List Entry
+  pub is_read : IsReadLeaf s right (first ∷ rest)
+  pub depth : ℕ
+  pub path : Shows s (λ pages. IsVisited pages depth right)
+  pub beside : right.low ≡ leaf.high
+
+-- the entry is the first after the key, or of all, in the leaf at the place behind the key, or before all; where none is
+-- there, the leaf right of it begins with the entry
+pub record ShowsNext (s : Step) (after : Option Key) (e : Entry) : Type 0 where
+  pub leaf : Child
+  pub entries : List Entry
+  pub at : IsLeafBy s (is_before (after_cut after)) leaf entries
+  pub first : MatchOption (entry_after after entries) (HasRight s leaf e) (λ x. x ≡ e)

@@ -11,7 +11,7 @@ ghost use Rattle.name_page.specs.Cut.{is_before};
 ghost use Rattle.name_page.specs.declared.cut.Cut.TheVariants.{UpTo};
 ghost use Rattle.name_btree.specs.Descent.{way_to, IsPlace, HasNeighbours};
 ghost use Rattle.name_btree.specs.Fault.{outer_told, HasCause, BreaksBelow, BarsBelow, BarsTable, IsOnWay, ShowsCause, is_inner};
-ghost use Rattle.name_btree.specs.Lookup.{BeginsBehind, HasLeafBy, HoldsAt, IsBelow, IsLedFrom};
+ghost use Rattle.name_btree.specs.Lookup.{BeginsBehind, HasInPlace, HasLeafBy, HoldsAt, IsBelow, IsInPlace, IsLedFrom};
 ghost use Rattle.name_btree.specs.Replace.{IsLeafAt};
 ghost use Rattle.name_btree.specs.Path.{TakesNone, HasAll, HasMet, HasNone, Leads, LeadsBack, met_beside};
 ghost use Rattle.name_page.specs.Looks.{OnlyReaches, Shows};
@@ -138,7 +138,7 @@ pub(crate) fn leaf_below<T: Pages>(
     ensures reached { IfOk result (λ found. IsReached (T.step t.new) found.page) }
     ensures used { IfOk result (λ found. is_spare (T.step t.old).spares found.page ≡ false) }
     ensures leaf { IfOk result (λ found. page_at (T.step t.new).images found.page ≡ Some (Leaf found.entries)) }
-    ensures way { IfOk result (λ found. Shows (T.step t.new) (λ pages. IsBelow pages above start found.page)) }
+    ensures way { IfOk result (λ found. Shows (T.step t.new) (λ pages. HasInPlace pages above start found.page)) }
     ensures least { IfOk result (λ found. AllByRecursion (λ e. not_below start.low e.key ≡ true) found.entries) }
     ensures next { IfOk result (λ found. IfSome found.next (BeginsBehind (is_before cut.now))) }
     ensures at { IfOk result (λ found. Shows (T.step t.new) (λ pages. IsLeafAt cut.now pages start found)) }
@@ -191,7 +191,7 @@ pub(crate) fn leaf_at<T: Pages>(t: &mut T, key: &Key) -> Result<FoundLeaf, TreeF
     ensures reached { IfOk result (λ leaf. IsReached (T.step t.new) leaf.page) }
     ensures used { IfOk result (λ leaf. is_spare (T.step t.old).spares leaf.page ≡ false) }
     ensures leaf { IfOk result (λ leaf. page_at (T.step t.new).images leaf.page ≡ Some (Leaf leaf.entries)) }
-    ensures way { IfOk result (λ leaf. Shows (T.step t.new) (λ pages. IsOnWay pages leaf.page)) }
+    ensures way { IfOk result (λ leaf. Shows (T.step t.new) (λ pages. IsInPlace pages leaf.page)) }
     ensures holds { IfOk result (λ leaf. Shows (T.step t.new) (λ pages. HoldsAt key.now pages leaf.entries)) }
     ensures at { IfOk result (λ leaf. HasLeafBy (T.step t.new) (is_before (UpTo key.now)) leaf.page leaf.entries) }
     ensures fault { IfErr result (HasCause (T.step t.new) (BreaksTable (T.step t.new).images) (BarsTable (T.step t.new))) }

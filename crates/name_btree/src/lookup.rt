@@ -10,7 +10,7 @@ ghost use Rattle.name_btree.specs.Descent.{BeginsWith, EndsWith};
 ghost use Rattle.name_btree.specs.Fault.{outer_told, HasCause, BreaksBeside, BarsBeside, BarsTable, IsAmong, IsBeside, IsOnWay, ShowsCause};
 ghost use Rattle.name_btree.specs.Path.{TakesNone, HasAll, HasPath, HasWayTo, Leads, met_beside};
 ghost use Rattle.name_page.specs.Lookups.{entry_with, entry_after, highest_of, last_that, same_name, is_after};
-ghost use Rattle.name_btree.specs.Lookup.{entry_of, StandsIn, IsLastBeside, IsLedTo, IsLedBeside, ShowsAbsent, ShowsNoneAfter, ShowsNoVersion};
+ghost use Rattle.name_btree.specs.Lookup.{entry_of, StandsIn, IsFirstBeside, IsLastBeside, IsLedTo, IsLedBeside, ShowsAbsent, ShowsNext, ShowsNoneAfter, ShowsNoVersion};
 ghost use Rattle.name_page.specs.declared.pages.TheConstants.{MOST_REACHED};
 ghost use Rattle.name_page.specs.Looks.{OnlyReaches, Shows};
 ghost use Rattle.name_page.specs.Pages.{reaches};
@@ -127,6 +127,7 @@ fn first_below<T: Pages>(t: &mut T, next: Neighbour) -> Result<FoundEntry, TreeF
     ensures fits { IfOk result (λ first. FitsEntry first.entry) }
     ensures least { IfOk result (λ first. not_below next.child.low first.entry.key ≡ true) }
     ensures first { IfOk result (λ first. Shows (T.step t.new) (λ pages. BeginsWith pages next.child first.entry)) }
+    ensures beside { IfOk result (λ first. IsFirstBeside (T.step t.new) next first.entry) }
     ensures fault { IfErr result (HasCause (T.step t.new) (BreaksBeside (T.step t.new).images next) (BarsBeside (T.step t.new) next)) }
     ensures shown { IfErr result (ShowsCause (T.step t.new) (λ pages. BreaksBeside pages next) (λ pages. IsBeside pages next)) }
 {
@@ -188,6 +189,7 @@ pub fn next_after<T: Pages>(t: &mut T, after: Option<&Key>) -> Result<Option<Fou
     ensures entry { IfOk result (λ found. IfSome found (λ f. is_entry f.entry ≡ true)) }
     ensures fits { IfOk result (λ found. IfSome found (λ f. FitsEntry f.entry)) }
     ensures absent { IfOk result (λ found. IfNone found (ShowsNoneAfter (T.step t.new) (option_copied after.entry))) }
+    ensures next { IfOk result (λ found. IfSome found (λ f. ShowsNext (T.step t.new) (option_copied after.entry) f.entry)) }
     ensures later { IfOk result (λ found. IfSome found (λ f. is_after (option_copied after.entry) f.entry.key ≡ true)) }
     ensures found { IfOk result (λ found. T.trusted t.new → (height : ℕ) → IsTree (T.step t.old).images height
         → entry_of found ≡ entry_after (option_copied after.entry) (table_of (T.step t.old).images height)) }

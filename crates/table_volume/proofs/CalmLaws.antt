@@ -19,7 +19,7 @@ use Rattle.fsd_sound.specs.Lost.{AreHomes, LosesShown, LostIn}
 use Rattle.fsd_sound.specs.Shown.{all_pages, newest, records_by, shown_by}
 use Rattle.fsd_sound.proofs.EachLaws.{all_in_range, each_of_all}
 use Rattle.fsd_sound.specs.declared.fault.MountFault.{MountFault}
-use Rattle.fsd_sound.specs.declared.fault.MountFault.TheVariants.{Device, Lost, Memory, NoAnchor, NotVolume, Unsound, WornOut}
+use Rattle.fsd_sound.specs.declared.fault.MountFault.TheVariants.{Device, Lost, Memory, Unsound}
 use Rattle.group_commit.proofs.NewestLaws.{lost_home}
 use Rattle.log_thirds.specs.LogValue.{LogValue}
 use Rattle.mount_recover.specs.Lost.{StandAsShown}
@@ -47,12 +47,7 @@ module _ (sectors : ℕ) (l : Layout) (log : LogValue) (i : Image) (at : Moment)
       none : (o : Option (List ℕ)) → (IsSome o → ⊥) → o ≡ None
       none None out = refl
       none (Some x) out = absurd (out refl)
-  lost_shown (Device s) unread lost = tt
-  lost_shown Memory unread lost = tt
-  lost_shown NotVolume unread lost = tt
-  lost_shown NoAnchor unread lost = tt
-  lost_shown (Unsound s) unread lost = tt
-  lost_shown WornOut unread lost = tt
+  lost_shown other unread lost = tt
 
   module _ (knows : KnowsHomes l at) (calm : IsCalm at.windows) where
     at_home : (page : ℕ) → page < l.pages → newest l i (records_by l i is.anchor) page ≡ Some (unwrap_or (home_by l at.image page) [])
@@ -73,10 +68,7 @@ module _ (sectors : ℕ) (l : Layout) (log : LogValue) (i : Image) (at : Moment)
     no_table_shown (Unsound s) fails = (l, home_pages l at.image, shows, fails)
     no_table_shown (Device s) fails = tt
     no_table_shown Memory fails = tt
-    no_table_shown (Lost a b) fails = absurd fails
-    no_table_shown NotVolume fails = absurd fails
-    no_table_shown NoAnchor fails = absurd fails
-    no_table_shown WornOut fails = absurd fails
+    no_table_shown other fails = absurd fails
 
     module _ (planned : plan l.sectors l.third l.pages ≡ Ok l) where
       table_shown : (v : VolumeValue) → IsAssembled l log v → IsTableOf l (home_pages l at.image) (opened_of v) → MountsShown state Holds sectors i v
@@ -102,24 +94,16 @@ module _ (sectors : ℕ) (l : Layout) (planned : plan l.sectors l.third l.pages 
     where
       unread_calm : (f : MountFault) → IsUnread f → LosesShown sectors i f → MountsCalm state Holds sectors i (Err f)
       unread_calm (Unsound s) un loses = absurd un
-      unread_calm (Device s) un loses = tt
-      unread_calm Memory un loses = tt
       unread_calm (Lost a b) un loses = loses
-      unread_calm NotVolume un loses = tt
-      unread_calm NoAnchor un loses = tt
-      unread_calm WornOut un loses = tt
+      unread_calm other un loses = tt
   mounts_calm (Err fault) a lost (inr opens) = no_table_shown sectors l log i at is stand opens.0 calm fault opens.1
 
 -- ---- what fails before
 
 pub fails_calm : (sectors : ℕ) (i : Image) (fault : MountFault) → IsNotUnsound fault → LosesShown sectors i fault → MountsCalm state Holds sectors i (Err fault)
 fails_calm sectors i (Unsound s) sound loses = absurd sound
-fails_calm sectors i (Device s) sound loses = tt
-fails_calm sectors i Memory sound loses = tt
 fails_calm sectors i (Lost a b) sound loses = loses
-fails_calm sectors i NotVolume sound loses = tt
-fails_calm sectors i NoAnchor sound loses = tt
-fails_calm sectors i WornOut sound loses = tt
+fails_calm sectors i other sound loses = tt
 
 pub calm_handed : (sectors : ℕ) (i : Image) (r : Result VolumeValue MountFault) (fault : MountFault) → IsErrAnd r (λ told. told ≡ fault) → MountsCalm state Holds sectors i (Err fault) → MountsCalm state Holds sectors i r
 calm_handed sectors i (Ok v) fault is fails = absurd is

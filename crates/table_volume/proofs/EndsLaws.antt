@@ -13,7 +13,7 @@ use Rattle.fsd_sound.specs.Mounted.{SameData}
 use Rattle.fsd_sound.specs.Sound.{weak_of}
 use Rattle.fsd_sound.specs.Windows.{IsNamedSince}
 use Rattle.fsd_sound.specs.declared.fault.MountFault.{MountFault}
-use Rattle.fsd_sound.specs.declared.fault.MountFault.TheVariants.{Device, Lost, Memory, NoAnchor, NotVolume, Unsound, WornOut}
+use Rattle.fsd_sound.specs.declared.fault.MountFault.TheVariants.{Device, Memory, WornOut}
 use Rattle.fsd_sound.proofs.WritesLaws.{data_stays}
 use Rattle.log_thirds.specs.LogValue.{LogValue}
 use Rattle.mount_recover.specs.Finding.{IsExcuse}
@@ -44,10 +44,7 @@ excuses_of : (sectors : ℕ) (old : Moment) (fault : MountFault) → IsExcuse fa
 excuses_of sectors old WornOut excuse refused = at_last_epoch sectors old refused
 excuses_of sectors old (Device s) excuse refused = tt
 excuses_of sectors old Memory excuse refused = tt
-excuses_of sectors old NotVolume excuse refused = absurd excuse
-excuses_of sectors old NoAnchor excuse refused = absurd excuse
-excuses_of sectors old (Lost a b) excuse refused = absurd excuse
-excuses_of sectors old (Unsound s) excuse refused = absurd excuse
+excuses_of sectors old other excuse refused = absurd excuse
 
 module _ (sectors : ℕ) (l : Layout) (windows : List WeakRun) (h : List Change) (f : ℕ) (old : Moment) (begun : IsSoundAt sectors l windows h f old) where
   moment_before : (left : Moment) → Replays l windows (lists_now sectors l windows h f old begun) old left → IsUnturned old left → SoundBefore l windows h f old left

@@ -6,7 +6,7 @@ use Rattle.sector_disk.specs.declared.machine.LoadFault.TheVariants as load
 use Rattle.sector_disk.specs.Machine.{Moment, Wears}
 use Rattle.fsd_sound.specs.Lost.{AreHomes, LostIn}
 use Rattle.fsd_sound.specs.declared.fault.MountFault.{MountFault}
-use Rattle.fsd_sound.specs.declared.fault.MountFault.TheVariants.{Device, Lost, Memory, NoAnchor, NotVolume, Unsound, WornOut}
+use Rattle.fsd_sound.specs.declared.fault.MountFault.TheVariants.{Device, Lost}
 use Rattle.group_commit.proofs.NewestLaws.{lost_home}
 use Rattle.table_pages.specs.ImageLaws.{images_same}
 use Rattle.cached_table.specs.HomeLaws.{home_stays, homes_worn}
@@ -23,11 +23,7 @@ module _ (l : Layout) (old mid : Moment) (wears : Wears old mid) (knows : KnowsH
       let known = knows lost.copies.page lost.copies.within in
       absurd (lost_home l lost.copies.page mid.image (load.Lost a b) (record { copies = lost.copies.homes; first = lost.first; second = lost.second })
       (subst (λ (o : Option (List ℕ)). IsSome o) (sym (known.stays mid.image wears.image)) refl))
-  not_lost pages Memory unread lost = absurd unread
-  not_lost pages NotVolume unread lost = absurd unread
-  not_lost pages NoAnchor unread lost = absurd unread
-  not_lost pages (Unsound s) unread lost = absurd unread
-  not_lost pages WornOut unread lost = absurd unread
+  not_lost pages other unread lost = absurd unread
 
   pub unread_known : (r : Result VolumeValue MountFault) (fault : MountFault) → IsErrAnd r (λ told. told ≡ fault) → IsUnread fault → LostIn (AreHomes l) mid.image fault → OpensKnown l old r
   unread_known (Ok v) fault is unread lost = absurd is

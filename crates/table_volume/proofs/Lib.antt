@@ -1,10 +1,12 @@
 pub mod AssembleLaws
 pub mod CalmLaws
+mod DownLaws
 pub mod EndsLaws
 pub mod EpochLaws
 pub mod FreshLaws
 pub mod HealsLaws
 pub mod KnownLaws
+mod LookedLaws
 pub mod MountLaws
 pub mod RestLaws
 pub mod SettledLaws

@@ -19,7 +19,7 @@ use Rattle.fsd_sound.specs.Lost.{AreCopiesOn, AreHomes, LostIn}
 use Rattle.fsd_sound.specs.Mounting.{HasRoot}
 use Rattle.fsd_sound.specs.Roots.{root_of}
 use Rattle.fsd_sound.specs.declared.fault.MountFault.{MountFault}
-use Rattle.fsd_sound.specs.declared.fault.MountFault.TheVariants.{Device, Lost, Memory, NoAnchor, NotVolume, Unsound, WornOut}
+use Rattle.fsd_sound.specs.declared.fault.MountFault.TheVariants.{Device, Lost, Memory, Unsound}
 use Rattle.log_thirds.specs.LogValue.{LogValue}
 use Rattle.mount_recover.specs.Recover.{IsSettled, IsSettledIn}
 use Rattle.volume_contract.specs.Mount.{IsRefused}
@@ -90,9 +90,7 @@ module _ (sectors : ℕ) (l : Layout) (log : LogValue) (old : Moment) (in_epoch 
   refused_open Memory open_fault = record { seen = is.seen; from = is.from; why = tt }
   refused_open (Lost a b) open_fault = record { seen = is.seen; from = is.from; why = record { layout = l; anchor = is.settled.anchor; found = is.settled.found; epoch = omega (arith, is.settled.epoch, in_epoch) } }
   refused_open (Unsound s) open_fault = record { seen = is.seen; from = is.from; why = record { layout = l; anchor = is.settled.anchor; found = is.settled.found; epoch = omega (arith, is.settled.epoch, in_epoch) } }
-  refused_open NotVolume open_fault = absurd open_fault
-  refused_open NoAnchor open_fault = absurd open_fault
-  refused_open WornOut open_fault = absurd open_fault
+  refused_open other open_fault = absurd open_fault
 
 -- where nothing wears, what was seen is the image
 pub settled_in : (sectors : ℕ) (l : Layout) (log : LogValue) (old : Moment) → IsCalm old.windows → IsSettledIn sectors l log old → IsSettled sectors old.image l log
@@ -106,9 +104,4 @@ module _ (sectors : ℕ) (l : Layout) (log : LogValue) (old : Moment) (image : I
 
   pub home_lost : (fault : MountFault) → LostIn (AreHomes l) image fault → LostIn (AreCopiesOn sectors old) image fault
   home_lost (Lost a b) lost = lost_as (AreHomes l) a b (AreCopiesOn sectors old) image (λ homes. inr (inl (record { layout = l; root = root; homes = homes; calm = calm_root }))) lost
-  home_lost NotVolume lost = tt
-  home_lost (Device s) lost = tt
-  home_lost Memory lost = tt
-  home_lost NoAnchor lost = tt
-  home_lost (Unsound s) lost = tt
-  home_lost WornOut lost = tt
+  home_lost other lost = tt

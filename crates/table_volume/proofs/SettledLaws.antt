@@ -31,7 +31,7 @@ use Rattle.fsd_sound.specs.Sound.{EndIn, ShowsOne, ShowsPages, weak_of}
 use Rattle.fsd_sound.specs.Windows.{IsApart}
 use Rattle.fsd_sound.specs.Writes.{WritesAsMount}
 use Rattle.fsd_sound.specs.declared.fault.MountFault.{MountFault}
-use Rattle.fsd_sound.specs.declared.fault.MountFault.TheVariants.{Device, Lost, Memory, NoAnchor, NotVolume, Unsound, WornOut}
+use Rattle.fsd_sound.specs.declared.fault.MountFault.TheVariants.{Device, Memory, Unsound}
 use Rattle.fsd_sound.proofs.EachLaws.{each_size}
 use Rattle.fsd_sound.proofs.LaidLaws.{own_worn}
 use Rattle.fsd_sound.proofs.MountedLaws.{fresh_mounted as mounted_fresh, one_of}
@@ -236,10 +236,7 @@ module _ (sectors : ℕ) (l : Layout) (windows : List WeakRun) (h : List Change)
       excused (Device s) none = tt
       excused Memory none = tt
       excused (Unsound s) none = absurd (no_break s none)
-      excused (Lost a b) none = absurd none
-      excused NotVolume none = absurd none
-      excused NoAnchor none = absurd none
-      excused WornOut none = absurd none
+      excused other none = absurd none
 
       pub mounts_new : (r : Result VolumeValue MountFault) → IfOk r (IsAssembled l log) → OpensKnown l mid r → Mounts state Holds known_new new r
       mounts_new (Ok v) a opens = stands_new v a (subst (λ (ps : List (List ℕ)). IsTableOf l ps (opened_of v)) pages_home opens)

@@ -10,7 +10,7 @@ use Rattle.fsd_sound.specs.Homes.{home_of}
 use Rattle.fsd_sound.specs.Mounting.{HasRoot}
 use Rattle.fsd_sound.specs.Shown.{all_pages, each_of}
 use Rattle.fsd_sound.specs.declared.fault.MountFault.{MountFault}
-use Rattle.fsd_sound.specs.declared.fault.MountFault.TheVariants.{Device, Lost, Memory, NoAnchor, NotVolume, Unsound, WornOut}
+use Rattle.fsd_sound.specs.declared.fault.MountFault.TheVariants.{Unsound}
 use Rattle.fsd_sound.proofs.EachLaws.{all_in_range, each_at, each_of_all}
 use Rattle.mount_recover.specs.Recover.{IsNotUnsound}
 use Rattle.table_pages.specs.Kept.{images_of}
@@ -58,12 +58,7 @@ module _ (sectors : ℕ) (l : Layout) (old mid new : Moment) (root : HasRoot sec
     to = subst (λ (w : Windows). IsWorn (open_damage w) mid.image new.image) (sym wears.windows) wears.image;
     breaks = λ pages alike. breaks_alike l mid pages (subst (λ (w : Windows). ReadAlike l (open_damage w) mid.image pages) wears.windows alike) s opens;
   }
-  unsound_at (Device s) opens = tt
-  unsound_at Memory opens = tt
-  unsound_at (Lost a b) opens = tt
-  unsound_at NotVolume opens = tt
-  unsound_at NoAnchor opens = tt
-  unsound_at WornOut opens = tt
+  unsound_at other opens = tt
 
   pub opens_unsound : (r : Result VolumeValue MountFault) → (KnowsHomes l mid → OpensKnown l mid r) → IfErr r (UnsoundFor sectors old new)
   opens_unsound (Ok v) opens = tt
@@ -77,12 +72,7 @@ err_under H P (Err fault) each = each
 -- it fails for something else
 none_unsound : (sectors : ℕ) (old new : Moment) (fault : MountFault) → IsNotUnsound fault → UnsoundFor sectors old new fault
 none_unsound sectors old new (Unsound s) none = absurd none
-none_unsound sectors old new (Device s) none = tt
-none_unsound sectors old new Memory none = tt
-none_unsound sectors old new (Lost a b) none = tt
-none_unsound sectors old new NotVolume none = tt
-none_unsound sectors old new NoAnchor none = tt
-none_unsound sectors old new WornOut none = tt
+none_unsound sectors old new other none = tt
 
 pub fails_sound : (H : Type 0) (sectors : ℕ) (old new : Moment) (r : Result VolumeValue MountFault) (fault : MountFault) → IsErrAnd r (λ told. told ≡ fault) → IsNotUnsound fault → IfErr r (λ told. H → UnsoundFor sectors old new told)
 fails_sound H sectors old new (Ok v) fault is none = absurd is

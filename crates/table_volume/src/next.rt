@@ -9,6 +9,7 @@ ghost use Rattle.name_page.specs.Lookups.{is_after};
 ghost use Rattle.volume_contract.specs.Absent.{LacksLater, ShowsReached};
 ghost use Rattle.volume_contract.specs.Causes.{Causes, IsTaken};
 ghost use Rattle.volume_contract.specs.Ends.{IsLater, Looks, device_of};
+ghost use Rattle.volume_contract.specs.Found.{ShowsReachedNext};
 ghost use Rattle.volume_contract.specs.Order.{Follows, IsLookUp, is_idle, next_steps};
 ghost use Rattle.volume_contract.specs.State.{Known, Stands, volume_of};
 ghost use Rattle.cached_table.specs.Looking.{Finds};
@@ -44,6 +45,7 @@ impl Volume {
         ensures told { (e : Listed) → IsTrue (are_taken self.new e.runs) → IsTaken (state self.new) e }
         ensures causes { Causes M.Machine (resident self.old) (state self.old) (state self.new) m.old m.new result }
         ensures absent { IfOk result (λ found. IfNone found (ShowsReached M.Machine (resident self.old) (state self.old) (state self.new) m.old m.new (LacksLater (option_copied after.entry)))) }
+        ensures next { IfOk result (λ found. IfSome found (λ f. ShowsReachedNext M.Machine (resident self.old) (state self.old) (state self.new) m.old m.new (option_copied after.entry) f.entry)) }
         ensures met { IfOk result (λ found. IfSome found (λ f. Causes M.Machine (resident self.old) (state self.old) (state self.new) m.old m.new (met_entry self.new f.page f.entry))) }
     {
         let _whole = self.table.cache.dirty_list();
@@ -108,6 +110,7 @@ impl Volume {
         ensures stands { M.honest m.new → (k : Known) → Stands state Holds self.old k (M.now m.old) → Stands state Holds self.new k (M.now m.new) }
         ensures causes { Causes M.Machine (resident self.old) (state self.old) (state self.new) m.old m.new result }
         ensures absent { IfOk result (λ found. IfNone found (ShowsReached M.Machine (resident self.old) (state self.old) (state self.new) m.old m.new (LacksLater (option_map (λ key. key.now) after.entry)))) }
+        ensures found { IfOk result (λ found. IfSome found (ShowsReachedNext M.Machine (resident self.old) (state self.old) (state self.new) m.old m.new (option_map (λ key. key.now) after.entry))) }
         ensures done { M.honest m.new → (k : Known) → Stands state Holds self.old k (M.now m.old) → Looks (next_reply (volume_of k) (option_map (λ key. key.now) after.entry)) result }
     {
         self.is_up()?;

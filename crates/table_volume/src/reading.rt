@@ -1,6 +1,7 @@
 //! Bytes of versions.
 ghost use Rattle.std.specs.Prelude.{◌≡◌, ◌+◌, ◌^◌, ◌<◌, ◌≤◌, ℕ, All, Some, Err, IfOk, IfErr, IsTrue, length, true};
 ghost use Rattle.std.specs.FinMap.{find as file_of};
+ghost use Rattle.std.specs.List.{AllByRecursion};
 ghost use Rattle.volume_layout.specs.Layout.{is_data};
 ghost use Rattle.run_table.specs.RunTable.{sectors_of};
 ghost use Rattle.run_table.specs.Space.{contains};
@@ -13,10 +14,11 @@ ghost use Rattle.fsd_formats.specs.NamePage.{is_entry};
 ghost use Rattle.fsd_files.specs.Answers.{entry_of, entry_reply};
 ghost use Rattle.fsd_files.specs.Disk.{Sectors};
 ghost use Rattle.fsd_files.specs.Files.{File};
-ghost use Rattle.fsd_files.specs.Kept.{KeptIn};
+ghost use Rattle.fsd_files.specs.Kept.{IsWhole, KeptIn, range_sectors};
 ghost use Rattle.volume_contract.specs.Absent.{LacksKey, ShowsReached};
-ghost use Rattle.volume_contract.specs.Causes.{Causes};
-ghost use Rattle.volume_contract.specs.Ends.{Looks, Reads, device_of, found_one};
+ghost use Rattle.volume_contract.specs.Causes.{Causes, IsTaken};
+ghost use Rattle.volume_contract.specs.Ends.{Looks, Reads, count_in, device_of, found_one};
+ghost use Rattle.volume_contract.specs.Found.{HasEntry, HasRange};
 ghost use Rattle.volume_contract.specs.Order.{Follows, IsData, entry_steps, is_idle, read_steps};
 ghost use Rattle.volume_contract.specs.State.{Known, Stands, volume_of};
 ghost use Rattle.volume_state.specs.State.{Holds, resident, state};
@@ -41,6 +43,9 @@ impl Volume {
         ensures stands { M.honest m.new → (k : Known) → Stands state Holds self.old k (M.now m.old) → Stands state Holds self.new k (M.now m.new) }
         ensures causes { Causes M.Machine (resident self.old) (state self.old) (state self.new) m.old m.new result }
         ensures absent { result ≡ Err Why.NoSuch → ShowsReached M.Machine (resident self.old) (state self.old) (state self.new) m.old m.new (LacksKey key.now) }
+        ensures key { IfOk result (λ e. e.key ≡ key.now) }
+        ensures taken { IfOk result (IsTaken (state self.new)) }
+        ensures found { IfOk result (λ e. ShowsReached M.Machine (resident self.old) (state self.old) (state self.new) m.old m.new (HasEntry e)) }
         ensures done { M.honest m.new → (k : Known) → Stands state Holds self.old k (M.now m.old) → Looks (entry_reply (volume_of k) key.now) (found_one result) }
     {
         let _ = &self.layout;
@@ -71,6 +76,7 @@ impl Volume {
         ensures stands { M.honest m.new → (k : Known) → Stands state Holds self.old k (M.now m.old) → Stands state Holds self.new k (M.now m.new) }
         ensures causes { Causes M.Machine (resident self.old) (state self.old) (state self.new) m.old m.new result }
         ensures absent { result ≡ Err Why.NoSuch → ShowsReached M.Machine (resident self.old) (state self.old) (state self.new) m.old m.new (LacksKey key.now) }
+        ensures found { IfOk result (λ count. ShowsReached M.Machine (resident self.old) (state self.old) (state self.new) m.old m.new (HasRange (state self.new) (M.now m.old).image key.now from buf.old buf.new count)) }
         ensures done { M.honest m.new → (k : Known) → Stands state Holds self.old k (M.now m.old) →
             Reads (M.now m.old).image (M.now m.new).image (file_of key_cmp key.now (volume_of k).files) (entry_of key.now (volume_of k).entries) from buf.old buf.new result }
     {
@@ -89,6 +95,8 @@ fn read_version<M: Machine>(m: &mut M, e: &Entry, from: u32, buf: &mut [u8]) -> 
     ensures there { (s : ℕ) → result ≡ Err (Why.Damaged s) → M.honest m.new → IsTrue (contains (sectors_of e.now.runs) s) }
     ensures damaged { (s : ℕ) → result ≡ Err (Why.Damaged s) → M.honest m.new → sector_at (M.now m.new).image s ≡ Damaged }
     ensures most { IfOk result (λ count. count ≤ length buf.old) }
+    ensures count { IfOk result (λ n. n ≡ count_in e.now.length from (length buf.old)) }
+    ensures whole { IfOk result (λ n. M.honest m.new → AllByRecursion (IsWhole (M.now m.old).image) (range_sectors e.now.runs from n)) }
     ensures gives { M.honest m.new → (file : File) (hurt : Sectors) → e.now.length ≡ length file.bytes → KeptIn (M.now m.old).image hurt file.bytes e.now.runs →
         Reads (M.now m.old).image (M.now m.new).image (Some file) (Some e.now) from buf.old buf.new result }
 {

@@ -25,47 +25,15 @@ use Rattle.volume_changes.proofs.ReadLaws.{untaken_by}
 module _ (old new : State) (resident : ℕ → Option (List ℕ)) (before now : Moment) where
   pub cause_of : (why : Refusal) → ((a b : ℕ) → why ≡ Why.Lost a b → AreLost (AreCopies old new) now.image a b) → ((place : ℕ) → why ≡ Why.Unsound place → ShowsBreak old new resident before now place)
       → HasCause old new resident before now why
-  cause_of Why.NoSuch lost unsound = tt
-  cause_of (Why.TooLong n) lost unsound = tt
-  cause_of (Why.NoSpace need free) lost unsound = tt
-  cause_of (Why.TooFragmented need best) lost unsound = tt
-  cause_of (Why.NameTableFull free) lost unsound = tt
-  cause_of Why.VersionsUsedUp lost unsound = tt
-  cause_of (Why.KeepTooLarge n) lost unsound = tt
-  cause_of (Why.Damaged s) lost unsound = tt
-  cause_of (Why.Device s) lost unsound = tt
-  cause_of (Why.Down s) lost unsound = tt
-  cause_of Why.WornOut lost unsound = tt
-  cause_of Why.Memory lost unsound = tt
-  cause_of (Why.BadClient n) lost unsound = tt
-  cause_of (Why.Busy n) lost unsound = tt
-  cause_of (Why.Idle n) lost unsound = tt
-  cause_of (Why.Short declared got) lost unsound = tt
-  cause_of (Why.Long declared got) lost unsound = tt
   cause_of (Why.Lost a b) lost unsound = lost a b refl
   cause_of (Why.Unsound s) lost unsound = unsound s refl
+  cause_of other lost unsound = tt
 
   -- one of a version's data is neither
   pub data_cause : (why : Refusal) → IsData why → HasCause old new resident before now why
-  data_cause Why.NoSuch is = tt
-  data_cause (Why.TooLong n) is = tt
-  data_cause (Why.NoSpace need free) is = tt
-  data_cause (Why.TooFragmented need best) is = tt
-  data_cause (Why.NameTableFull free) is = tt
-  data_cause Why.VersionsUsedUp is = tt
-  data_cause (Why.KeepTooLarge n) is = tt
-  data_cause (Why.Damaged s) is = tt
-  data_cause (Why.Device s) is = tt
-  data_cause (Why.Down s) is = tt
-  data_cause Why.WornOut is = tt
-  data_cause Why.Memory is = tt
-  data_cause (Why.BadClient n) is = tt
-  data_cause (Why.Busy n) is = tt
-  data_cause (Why.Idle n) is = tt
-  data_cause (Why.Short declared got) is = tt
-  data_cause (Why.Long declared got) is = tt
   data_cause (Why.Lost a b) is = absurd is
   data_cause (Why.Unsound s) is = absurd is
+  data_cause other is = tt
 
 -- ---- results
 

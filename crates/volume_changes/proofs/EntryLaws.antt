@@ -80,25 +80,9 @@ key_met v key page e r same met = subst (λ (x : Result Entry Refusal). IfOk x (
 
 -- and a fault is the disk's, or a want of memory
 pub fault_looked_up : (reply : Reply) (e : Option Entry) (why : Refusal) → Finds e (Err why) → Looks reply (Err why)
-fault_looked_up reply e Why.NoSuch h = absurd h
-fault_looked_up reply e (Why.TooLong n) h = absurd h
-fault_looked_up reply e (Why.NoSpace need free) h = absurd h
-fault_looked_up reply e (Why.TooFragmented need best) h = absurd h
-fault_looked_up reply e (Why.NameTableFull free) h = absurd h
-fault_looked_up reply e Why.VersionsUsedUp h = absurd h
-fault_looked_up reply e (Why.KeepTooLarge n) h = absurd h
-fault_looked_up reply e (Why.Damaged s) h = absurd h
 fault_looked_up reply e (Why.Device s) h = tt
-fault_looked_up reply e (Why.Down s) h = absurd h
-fault_looked_up reply e (Why.Lost a b) h = absurd h
-fault_looked_up reply e (Why.Unsound s) h = absurd h
-fault_looked_up reply e Why.WornOut h = absurd h
 fault_looked_up reply e Why.Memory h = tt
-fault_looked_up reply e (Why.BadClient n) h = absurd h
-fault_looked_up reply e (Why.Busy n) h = absurd h
-fault_looked_up reply e (Why.Idle n) h = absurd h
-fault_looked_up reply e (Why.Short declared got) h = absurd h
-fault_looked_up reply e (Why.Long declared got) h = absurd h
+fault_looked_up reply e why h = absurd h
 
 -- ---- a page that is lost
 

@@ -14,6 +14,7 @@ pub mod EnteredLaws
 pub mod EnteredSpace
 pub mod EntryLaws
 pub mod FindLaws
+pub mod FoundLaws
 pub mod GivenUpLaws
 pub mod GoingLaws
 pub mod GoneLaws

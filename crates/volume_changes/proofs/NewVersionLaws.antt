@@ -49,7 +49,7 @@ has_wider : (a b : Sectors) (i : Image) (bytes : List ℕ) (s : ℕ) → Within 
 has_wider a b i bytes s within (inl is) = inl is
 has_wider a b i bytes s within (inr bad) = inr (within s bad.0, bad.1)
 
-zip_wider : (a b : Sectors) (i : Image) (bs : List (List ℕ)) (ss : List ℕ) → Within a b → AllZip (Has a i) bs ss → AllZip (Has b i) bs ss
+pub zip_wider : (a b : Sectors) (i : Image) (bs : List (List ℕ)) (ss : List ℕ) → Within a b → AllZip (Has a i) bs ss → AllZip (Has b i) bs ss
 zip_wider a b i [] [] within kept = tt
 zip_wider a b i [] (s ∷ ss) within kept = absurd kept
 zip_wider a b i (x ∷ bs) [] within kept = absurd kept

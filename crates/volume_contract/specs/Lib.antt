@@ -4,4 +4,5 @@ pub mod Ends
 pub mod Mount
 pub mod Causes
 pub mod Absent
+pub mod Found
 pub mod Logged

@@ -24,6 +24,7 @@ ghost use Rattle.fsd_sound.specs.Writes.{MountKeeps, force_writes};
 ghost use Rattle.volume_contract.specs.Order.{Follows, IsDevice, Keeps, is_idle, put_steps, delete_steps, keep_steps, entry_steps, next_steps, read_steps, force_steps};
 ghost use Rattle.volume_contract.specs.Ends.{Ends, EndsPut, EndsForce, Closes, Looks, IsLater, found_one, Reads, kept_key, device_of};
 ghost use Rattle.volume_contract.specs.Absent.{LacksKey, LacksLater, ShowsReached};
+ghost use Rattle.volume_contract.specs.Found.{HasEntry, HasRange, ShowsReachedNext};
 ghost use Rattle.volume_contract.specs.Causes.{Causes, IsTaken};
 ghost use Rattle.volume_contract.specs.Logged.{AllLogged, KeepsPages};
 ghost use Rattle.volume_contract.specs.Mount.{CountsMount, HealsAnchors, HealsHomes, IsFound, IsRefused, KeepsAll, UnsoundFor, MountsCalm, IsSoundAt, MountsSound};
@@ -161,6 +162,7 @@ pub trait Files<M: Machine>: Sized {
         ensures stands { M.honest m.new → (k : Known) → Stands state holds self.old k (M.now m.old) → Stands state holds self.new k (M.now m.new) }
         ensures causes { Causes M.Machine (resident self.old) (state self.old) (state self.new) m.old m.new result }
         ensures absent { result ≡ Err Why.NoSuch → ShowsReached M.Machine (resident self.old) (state self.old) (state self.new) m.old m.new (LacksKey key.now) }
+        ensures found { IfOk result (λ e. ShowsReached M.Machine (resident self.old) (state self.old) (state self.new) m.old m.new (HasEntry e)) }
         ensures done { M.honest m.new → (k : Known) → Stands state holds self.old k (M.now m.old) → Looks (entry_reply (volume_of k) key.now) (found_one result) };
 
     /// The entry of the version with the least later key, if there is one.
@@ -175,6 +177,7 @@ pub trait Files<M: Machine>: Sized {
         ensures stands { M.honest m.new → (k : Known) → Stands state holds self.old k (M.now m.old) → Stands state holds self.new k (M.now m.new) }
         ensures causes { Causes M.Machine (resident self.old) (state self.old) (state self.new) m.old m.new result }
         ensures absent { IfOk result (λ found. IfNone found (ShowsReached M.Machine (resident self.old) (state self.old) (state self.new) m.old m.new (LacksLater (option_map (λ key. key.now) after.entry)))) }
+        ensures found { IfOk result (λ found. IfSome found (ShowsReachedNext M.Machine (resident self.old) (state self.old) (state self.new) m.old m.new (option_map (λ key. key.now) after.entry))) }
         ensures done { M.honest m.new → (k : Known) → Stands state holds self.old k (M.now m.old) → Looks (next_reply (volume_of k) (option_map (λ key. key.now) after.entry)) result };
 
     /// Reads bytes of a version from a place on, as many as there are and the buffer has room for.
@@ -190,6 +193,7 @@ pub trait Files<M: Machine>: Sized {
         ensures stands { M.honest m.new → (k : Known) → Stands state holds self.old k (M.now m.old) → Stands state holds self.new k (M.now m.new) }
         ensures causes { Causes M.Machine (resident self.old) (state self.old) (state self.new) m.old m.new result }
         ensures absent { result ≡ Err Why.NoSuch → ShowsReached M.Machine (resident self.old) (state self.old) (state self.new) m.old m.new (LacksKey key.now) }
+        ensures found { IfOk result (λ count. ShowsReached M.Machine (resident self.old) (state self.old) (state self.new) m.old m.new (HasRange (state self.new) (M.now m.old).image key.now from buf.old buf.new count)) }
         ensures done { M.honest m.new → (k : Known) → Stands state holds self.old k (M.now m.old) →
             Reads (M.now m.old).image (M.now m.new).image (file_of key_cmp key.now (volume_of k).files) (entry_of key.now (volume_of k).entries) from buf.old buf.new result };
 

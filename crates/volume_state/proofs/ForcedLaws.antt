@@ -14,6 +14,7 @@ use Rattle.page_cache.specs.Cache.{CacheValue, Held, cleaned, held, is_one_of, p
 use Rattle.group_commit.specs.Cached.{ascending_of, held_stamped, stamped_for}
 use Rattle.group_commit.specs.Force.{log_forced}
 use Rattle.group_commit.specs.Room.{goes_before, log_before}
+use Rattle.group_commit.proofs.CachedLaws.{before_layout}
 use Rattle.group_commit.proofs.FrameLaws.{held_then}
 use Rattle.volume_state.specs.Volume.{IsWhole, VolumeValue}
 use Rattle.cached_table.specs.Surveying.{IsOfData}
@@ -21,24 +22,17 @@ use Rattle.volume_state.proofs.FreeLaws.{nothing}
 
 -- ---- the log
 
-before_layout : (log : LogValue) (b : Bool) → (cond b log (moved log)).layout ≡ log.layout
-before_layout log true = refl
-before_layout log false = refl
-
 before_epoch : (log : LogValue) (b : Bool) → (cond b log (moved log)).anchor.epoch ≡ log.anchor.epoch
 before_epoch log true = refl
 before_epoch log false = refl
 
 forced_layout : (log : LogValue) (xs : List ℕ) → (log_forced log xs).layout ≡ log.layout
 forced_layout log [] = refl
-forced_layout log (x ∷ xs) = before_layout log (goes_before log (length (x ∷ xs)))
+forced_layout log (x ∷ xs) = before_layout log (length (x ∷ xs))
 
 forced_epoch : (log : LogValue) (xs : List ℕ) → (log_forced log xs).anchor.epoch ≡ log.anchor.epoch
 forced_epoch log [] = refl
 forced_epoch log (x ∷ xs) = before_epoch log (goes_before log (length (x ∷ xs)))
-
-pub entered_layout : (log : LogValue) (n : ℕ) → (log_before log n).layout ≡ log.layout
-entered_layout log n = before_layout log (goes_before log n)
 
 pub entered_epoch : (log : LogValue) (n : ℕ) → (log_before log n).anchor.epoch ≡ log.anchor.epoch
 entered_epoch log n = before_epoch log (goes_before log n)
@@ -101,7 +95,7 @@ module _ (v : VolumeValue) (whole : IsWhole v) where
   module _ (log : LogValue) (cache : CacheValue) (place n : ℕ) (Q : Type 0) (log_is : (log ≡ v.log) ⊎ ((log ≡ log_before v.log n) × Q)) (cache_is : cache ≡ stamped_for v.log v.cache) where
     layout_then : (log ≡ v.log) ⊎ ((log ≡ log_before v.log n) × Q) → log.layout ≡ v.log.layout
     layout_then (inl same) = ap (λ (x : LogValue). x.layout) same
-    layout_then (inr entered) = ap (λ (x : LogValue). x.layout) entered.0 ∙ entered_layout v.log n
+    layout_then (inr entered) = ap (λ (x : LogValue). x.layout) entered.0 ∙ before_layout v.log n
 
     epoch_then : (log ≡ v.log) ⊎ ((log ≡ log_before v.log n) × Q) → log.anchor.epoch ≡ v.log.anchor.epoch
     epoch_then (inl same) = ap (λ (x : LogValue). x.anchor.epoch) same

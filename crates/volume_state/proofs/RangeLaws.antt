@@ -193,7 +193,7 @@ both_kept i hurt key (v ∷ s) (e ∷ entries) lists kept =
 -- ---- as the call began
 
 module _ (may : ℕ → Bool) (i mid j : Image) (worn : IsWorn may i mid) where
-  whole_before : (sectors : List ℕ) → AllByRecursion (IsSectorWhole mid) sectors → AllByRecursion (IsSectorWhole i) sectors
+  pub whole_before : (sectors : List ℕ) → AllByRecursion (IsSectorWhole mid) sectors → AllByRecursion (IsSectorWhole i) sectors
   whole_before [] all = tt
   whole_before (s ∷ sectors) all = ((all.0.0, worn_whole may i mid s all.0.0 worn all.0.1), whole_before sectors all.1)
 
@@ -204,25 +204,10 @@ module _ (may : ℕ → Bool) (i mid j : Image) (worn : IsWorn may i mid) where
 
   module _ (file : File) (e : Entry) (from : ℕ) (old new : List ℕ) where
     refused_before : (why : Refusal) → Reads mid j (Some file) (Some e) from old new (Err why) → Reads i j (Some file) (Some e) from old new (Err why)
-    refused_before Why.NoSuch h = absurd h
-    refused_before (Why.TooLong n) h = absurd h
-    refused_before (Why.NoSpace need free) h = absurd h
-    refused_before (Why.TooFragmented need best) h = absurd h
-    refused_before (Why.NameTableFull free) h = absurd h
-    refused_before Why.VersionsUsedUp h = absurd h
-    refused_before (Why.KeepTooLarge n) h = absurd h
     refused_before (Why.Damaged s) h = first_before (range_sectors e.runs from (count_in e.length from (length old))) s h
     refused_before (Why.Device s) h = tt
-    refused_before (Why.Down s) h = absurd h
-    refused_before (Why.Lost a b) h = absurd h
-    refused_before (Why.Unsound s) h = absurd h
-    refused_before Why.WornOut h = absurd h
     refused_before Why.Memory h = tt
-    refused_before (Why.BadClient n) h = absurd h
-    refused_before (Why.Busy n) h = absurd h
-    refused_before (Why.Idle n) h = absurd h
-    refused_before (Why.Short declared got) h = absurd h
-    refused_before (Why.Long declared got) h = absurd h
+    refused_before other h = absurd h
 
     reads_before : (r : Result ℕ Refusal) → Reads mid j (Some file) (Some e) from old new r → Reads i j (Some file) (Some e) from old new r
     reads_before (Ok n) gives = record { len = gives.len; count = gives.count; whole = whole_before (range_sectors e.runs from n) gives.whole; bytes = gives.bytes }
@@ -248,24 +233,9 @@ reads_found may i mid j worn hurt file o e from old new r found both so =
 -- a look-up is refused by the disk, for want of memory, or since there is none
 looks_cases : (P : Refusal → Type 0) (reply : Reply) → ((s : ℕ) → P (Why.Device s)) → P Why.Memory → (reply ≡ Refused Why.NoSuch → P Why.NoSuch) → (r : Refusal) → Looks reply (Err r) → P r
 looks_cases P reply device memory none Why.NoSuch h = none h
-looks_cases P reply device memory none (Why.TooLong n) h = absurd h
-looks_cases P reply device memory none (Why.NoSpace need free) h = absurd h
-looks_cases P reply device memory none (Why.TooFragmented need best) h = absurd h
-looks_cases P reply device memory none (Why.NameTableFull free) h = absurd h
-looks_cases P reply device memory none Why.VersionsUsedUp h = absurd h
-looks_cases P reply device memory none (Why.KeepTooLarge n) h = absurd h
-looks_cases P reply device memory none (Why.Damaged s) h = absurd h
 looks_cases P reply device memory none (Why.Device s) h = device s
-looks_cases P reply device memory none (Why.Down s) h = absurd h
-looks_cases P reply device memory none (Why.Lost a b) h = absurd h
-looks_cases P reply device memory none (Why.Unsound s) h = absurd h
-looks_cases P reply device memory none Why.WornOut h = absurd h
 looks_cases P reply device memory none Why.Memory h = memory
-looks_cases P reply device memory none (Why.BadClient n) h = absurd h
-looks_cases P reply device memory none (Why.Busy n) h = absurd h
-looks_cases P reply device memory none (Why.Idle n) h = absurd h
-looks_cases P reply device memory none (Why.Short declared got) h = absurd h
-looks_cases P reply device memory none (Why.Long declared got) h = absurd h
+looks_cases P reply device memory none other h = absurd h
 
 -- so is the read
 pub reads_refused : (i mid j : Image) (hurt : Sectors) (file : Option File) (o : Option Entry) (from : ℕ) (old new : List ℕ) (r : Refusal) → Looks (found_or o) (Err r) → AreBothKept mid hurt file o → Reads i j file o from old new (Err r)

@@ -4,7 +4,7 @@ use Rattle.std.proofs.lemmas.Result.{err_from_is_err_and}
 use Rattle.fsd_bytes.specs.declared.key.Key.{Key}
 use Rattle.fsd_formats.specs.declared.page.Separator.{Separator}
 use Rattle.fsd_formats.specs.NamePage.{Leaf, Interior}
-use Rattle.fsd_table.specs.Pages.{page_at}
+use Rattle.fsd_table.specs.Pages.{content_fits, page_at}
 use Rattle.name_page.specs.Cut.{is_before}
 use Rattle.name_page.specs.declared.cut.Cut.TheVariants.{UpTo}
 use Rattle.name_page.specs.declared.node.Node.{Node}
@@ -66,7 +66,12 @@ returns-in-Leaf-clause-calls g c = reaches_then g.T.Pages g.met.T.Pages.then c.a
 
 pub returns-in-Leaf-clause-way : goal.returns-in-Leaf-clause-way
 returns-in-Leaf-clause-way g c =
-    alone_led c.args.key.now (g.T.Pages.step c.loop.t) (g.T.Pages.step c.read_child.new.t) c.loop.counter c.loop.child c.in_ok-read_child.ensures.calls.looks c.loop.invariant.way
+    let s = g.T.Pages.step c.read_child.new.t in
+    let w = c.loop.child in
+    let e = c.in_ok-read_child.ensures in
+    let used : is_spare s.spares w.page ≡ false = ap (λ (x : List Bool). is_spare x w.page) e.calls.looks.spares ∙ e.used in
+    alone_led c.args.key.now (g.T.Pages.step c.loop.t) s c.loop.counter w e.calls.looks c.loop.invariant.way
+    (λ pages is. ap (content_fits w.low w.high) (agrees_at s pages w.page e.reached used is ∙ e.node) ∙ e.fits)
 
 pub returns-in-Leaf-clause-holds : goal.returns-in-Leaf-clause-holds
 returns-in-Leaf-clause-holds g c =
@@ -85,6 +90,7 @@ returns-in-Leaf-clause-at g c =
     let e = c.in_ok-read_child.ensures in
     let used : is_spare s.spares page ≡ false = ap (λ (x : List Bool). is_spare x page) e.calls.looks.spares ∙ e.used in
     alone_leaf c.args.key.now (g.T.Pages.step c.loop.t) s c.loop.counter c.loop.child e.calls.looks c.loop.invariant.way c.in-Leaf.entries e.reached used (e.node ∙ ap (λ (n : Node). Some (content_of n)) c.in-Leaf.is)
+    (subst (λ (n : Node). content_fits c.loop.child.low c.loop.child.high (Some (content_of n)) ≡ true) c.in-Leaf.is e.fits)
 
 pub returns-clause-fault : goal.returns-clause-fault
 returns-clause-fault g c =

@@ -93,7 +93,10 @@ pub returns-in-Leaf-clause-way : goal.returns-in-Leaf-clause-way
 returns-in-Leaf-clause-way g c = λ pages is v.
     let before = agrees_before (g.T.Pages.step c.loop-above.t) (g.T.Pages.step c.child_node.new.t) pages c.in_ok-child_node.ensures.calls.looks is in
     let d = c.loop-above.way.child in
-    (visit_of pages (c.loop-above.above + 1) d, (c.loop-above.invariant.visited pages before v).0, refl)
+    let s = g.T.Pages.step c.child_node.new.t in
+    let e = c.in_ok-child_node.ensures in
+    let used : is_spare s.spares d.page ≡ false = ap (λ (x : List Bool). is_spare x d.page) e.calls.looks.spares ∙ e.used in
+    (visit_of pages (c.loop-above.above + 1) d, (c.loop-above.invariant.visited pages before v).0, refl, ap (content_fits d.low d.high) (agrees_at s pages d.page e.reached used is ∙ e.node) ∙ e.fits)
 
 pub returns-in-Leaf-clause-least : goal.returns-in-Leaf-clause-least
 returns-in-Leaf-clause-least g c =
@@ -112,6 +115,7 @@ pub returns-in-Leaf-clause-from : goal.returns-in-Leaf-clause-from
 returns-in-Leaf-clause-from g c =
     let s = g.T.Pages.step c.child_node.new.t in
     let is = c.loop-above.invariant in
+    let w = c.loop-above.way in
     let old : (pages : List (List ℕ)) → Agrees pages s → Agrees pages (g.T.Pages.step c.loop-above.t) = λ pages agrees. agrees_before (g.T.Pages.step c.loop-above.t) s pages c.in_ok-child_node.ensures.calls.looks agrees in (
       c.loop-above.way.child,
       record {
@@ -121,6 +125,8 @@ returns-in-Leaf-clause-from g c =
         path = λ pages agrees v. (is.visited pages (old pages agrees) v).0;
         low = is.down.low;
         high = is.down.high;
+        left = is.down.left;
+        fits = subst (λ (n : Node). content_fits w.child.low w.child.high (Some (content_of n)) ≡ true) c.in-Leaf.is c.in_ok-child_node.ensures.fits;
       },
     )
 

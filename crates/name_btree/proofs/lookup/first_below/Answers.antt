@@ -1,10 +1,15 @@
-use Rattle.std.proofs.Common.{◌≡◌, ◌∙◌, Bool, List, false, true, length, ap, arith}
+use Rattle.std.proofs.Common.{◌≡◌, ◌∙◌, ◌+◌, Bool, List, false, true, length, ap, subst, arith}
 use Rattle.fsd_table.specs.Pages.{not_below}
 use Rattle.name_page.specs.Pages.{is_spare}
 use Rattle.name_page.proofs.LookLaws.{agrees_at}
 use Rattle.name_page.proofs.PutLaws.{each_at}
 use Rattle.name_btree.proofs.LookupLaws.{contains_at, stands_in}
-use Rattle.name_btree.proofs.NextLaws.{begins, empty_is, leaf_has_entries}
+use Rattle.name_btree.proofs.NextLaws.{begins, empty_is, head_of, leaf_has_entries}
+use Rattle.name_btree.proofs.DownLaws.{begins_first, leaf_read}
+use Rattle.name_page.specs.Cut.{is_before}
+use Rattle.name_page.specs.declared.cut.Cut.TheVariants.{Start}
+use Rattle.name_btree.specs.Lookup.{IsReadLeaf}
+use Rattle.fsd_table.specs.declared.child.Child.{Child}
 use Rattle.std.proofs.lemmas.Result.{err_from_is_err_and}
 use Rattle.name_btree.proofs.VisitedLaws.{root_above, neighbour_breaks, shown_beside}
 use Rattle.name_btree.proofs.lookup.first_below.Goals as goal
@@ -42,6 +47,26 @@ returns-clause-way g c = λ pages is there. c.in_ok-found.ensures.way pages is t
 
 pub returns-clause-least : goal.returns-clause-least
 returns-clause-least g c = each_at (λ e. not_below c.args.next.child.low e.key ≡ true) c.in_ok-found.found.entries 0 c.get.result c.get.ensures.there c.in_ok-found.ensures.least
+
+-- the leaf begins with it
+pub returns-clause-beside : goal.returns-clause-beside
+returns-clause-beside g c =
+    let old = g.T.Pages.step c.args.t.now in
+    let s = g.T.Pages.step c.leaf_below.new.t in
+    let n = c.args.next in
+    let found = c.in_ok-found.found in
+    let e = c.in_ok-found.ensures in
+    let leaf : Child = e.from.0 in
+    let led = e.from.1 in
+    let head = head_of found.entries c.get.result c.get.ensures.there in
+    record {
+      leaf = leaf;
+      rest = head.0;
+      is_read = subst (IsReadLeaf s leaf) head.1 (leaf_read old s (is_before Start) n.above n.child found e.reached e.used e.calls.looks.spares e.leaf leaf led);
+      depth = led.below + 1;
+      path = λ pages agrees is. led.path pages agrees is.1;
+      low = begins_first found.previous n.child.low leaf.low led.left led.low;
+    }
 
 -- ---- whatever the other pages have
 

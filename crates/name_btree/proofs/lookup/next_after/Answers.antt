@@ -3,10 +3,10 @@ use Rattle.std.specs.Prelude.{Err, IfSome}
 use Rattle.fsd_formats.specs.declared.entry.Entry.{Entry}
 use Rattle.fsd_formats.specs.NamePage.{FitsEntry}
 use Rattle.fsd_table.specs.Pages.{not_below}
-use Rattle.name_btree.specs.Lookup.{BeginsBehind, EndsBeside, IsLeafBy, IsLedBeside}
-use Rattle.name_btree.proofs.DownLaws.{leaf_by}
+use Rattle.name_btree.specs.Lookup.{BeginsBehind, EndsBeside, HasRight, IsFirstBeside, IsLeafBy, IsLedBeside}
+use Rattle.name_btree.proofs.DownLaws.{leaf_by, leaf_later, right_of}
 use Rattle.name_btree.proofs.LookupLaws.{find_contains, stands_in, good_entry, led_to, led_next, later_in_leaf, later_in_next}
-use Rattle.std.specs.Option.{option_copied}
+use Rattle.std.specs.Option.{MatchOption, option_copied}
 use Rattle.fsd_table.specs.declared.child.Child.{Child}
 use Rattle.fsd_table.specs.Table.{top}
 use Rattle.name_page.specs.Cut.{is_before}
@@ -82,6 +82,46 @@ returns-in-None-clause-absent g c =
       none = sym (cut_tests after cut c.cut_after-cut.ensures found.entries) ∙ sym c.first_behind.ensures.first ∙ c.in_default.is;
     }
 
+-- the first entry behind the key, in that leaf or the one right of it
+pub returns-in-Some-clause-next : goal.returns-in-Some-clause-next
+returns-in-Some-clause-next g c =
+    let s = g.T.Pages.step c.leaf_below.new.t in
+    let after = option_copied c.args.after in
+    let found = c.in_ok-found.found in
+    let cut = c.cut_after-cut.result in
+    let e = c.in_ok-found.ensures in
+    let leaf : Child = e.from.0 in
+    let at = leaf_by (g.T.Pages.step c.args.t.now) s (is_before cut) 0 c.top.result found e.reached e.used e.calls.looks.spares e.leaf leaf e.from.1 refl c.top.ensures in
+    let is = sym (cut_tests after cut c.cut_after-cut.ensures found.entries) ∙ sym c.first_behind.ensures.first ∙ c.in-Some.is in
+    record {
+      leaf = leaf;
+      entries = found.entries;
+      at = subst (λ (k : Cut). IsLeafBy s (is_before k) leaf found.entries) c.cut_after-cut.ensures at;
+      first = subst (λ (o : Option Entry). MatchOption o (HasRight s leaf c.in-Some.entry) (λ x. x ≡ c.in-Some.entry)) (sym is) refl;
+    }
+
+pub returns-in_ok-first_below-in-Some-next-clause-next : goal.returns-in_ok-first_below-in-Some-next-clause-next
+returns-in_ok-first_below-in-Some-next-clause-next g c =
+    let mid = g.T.Pages.step c.leaf_below.new.t in
+    let s = g.T.Pages.step c.first_below.new.t in
+    let after = option_copied c.args.after in
+    let found = c.in_ok-found.found in
+    let cut = c.cut_after-cut.result in
+    let e = c.in_ok-found.ensures in
+    let second = c.in_ok-first_below-in-Some-next.ensures in
+    let leaf : Child = e.from.0 in
+    let first : Entry = c.in_ok-first_below-in-Some-next.field-0.entry in
+    let at = leaf_by (g.T.Pages.step c.args.t.now) mid (is_before cut) 0 c.top.result found e.reached e.used e.calls.looks.spares e.leaf leaf e.from.1 refl c.top.ensures in
+    let is = sym (cut_tests after cut c.cut_after-cut.ensures found.entries) ∙ sym c.first_behind.ensures.first ∙ c.in_default.is in
+    let beside = subst (λ (n : Neighbour). IsFirstBeside s n first) c.in-Some-next.next-is second.beside in
+    record {
+      leaf = leaf;
+      entries = found.entries;
+      at = subst (λ (k : Cut). IsLeafBy s (is_before k) leaf found.entries) c.cut_after-cut.ensures (leaf_later mid s (is_before cut) leaf found.entries second.calls.looks at);
+      first = subst (λ (o : Option Entry). MatchOption o (HasRight s leaf first) (λ x. x ≡ first)) (sym is)
+          (right_of mid s c.top.result leaf found c.in-Some-next.next first c.top.ensures second.calls.looks e.beside c.in-Some-next.is e.from.1.high beside);
+    }
+
 pub returns-in-Some-clause-there : goal.returns-in-Some-clause-there
 returns-in-Some-clause-there g c =
     let e = c.in_ok-found.ensures in
@@ -145,6 +185,7 @@ returns-in_err-found g c =
       entry = tt;
       fits = tt;
       absent = tt;
+      next = tt;
       later = tt;
       found = tt;
       fault = breaks;
@@ -175,6 +216,7 @@ returns-in_err-first_below-in-Some-next g c =
       entry = tt;
       fits = tt;
       absent = tt;
+      next = tt;
       later = tt;
       found = tt;
       fault = breaks;

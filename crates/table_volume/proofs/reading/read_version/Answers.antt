@@ -57,3 +57,6 @@ returns-in_err-read_range-clause-there g c =
 pub returns-clause-gives : goal.returns-clause-gives
 returns-clause-gives g c = λ h file hurt len kept.
     reads_range (g.M.Machine.now c.args.m.now).image hurt file c.args.e.now c.args.from c.min-n.result c.args.buf.now c.read_range.new.buf (omega arith) (omega arith) len kept (c.in_ok-read_range.ensures.gives h)
+
+pub returns-clause-whole : goal.returns-clause-whole
+returns-clause-whole g c = λ h. (c.in_ok-read_range.ensures.gives h).whole

@@ -2,8 +2,8 @@ use Rattle.std.proofs.Common.{refl, rules}
 use Rattle.std.specs.Option.{option_copied}
 use Rattle.name_page.specs.Lookups.{entry_after}
 use Rattle.cached_table.proofs.LeftLaws.{left_as}
-use Rattle.cached_table.proofs.AbsentLaws.{lacks_later}
-use Rattle.cached_table.proofs.LookLaws.{absent_left, faults_left, found_left, leads_left, looks_left, pages_within, shown_left}
+use Rattle.cached_table.proofs.AbsentLaws.{has_next, lacks_later}
+use Rattle.cached_table.proofs.LookLaws.{absent_left, faults_left, found_left, found_shown, leads_left, looks_left, pages_within, shown_left}
 use Rattle.cached_table.proofs.StayLaws.{looks_stay}
 use Rattle.cached_table.proofs.table.CachedTable.next_after.Goals as goal
 
@@ -24,6 +24,9 @@ returns-clause-way g c = leads_left c.new-table.ensures.over c.new-table.ensures
 
 pub returns-clause-absent : goal.returns-clause-absent
 returns-clause-absent g c = absent_left c.new-table.ensures.over c.new-table.ensures.step (looks_stay _ _ c.next_after-found.ensures.calls.looks) c.next_after-found.ensures.calls.outside (left_as c.rest.ensures.left refl (search rules) refl) (λ pages agree shown. lacks_later _ pages agree (option_copied c.args.after) shown) c.next_after-found.result c.next_after-found.ensures.absent
+
+pub returns-clause-next : goal.returns-clause-next
+returns-clause-next g c = found_shown c.new-table.ensures.over c.new-table.ensures.step (looks_stay _ _ c.next_after-found.ensures.calls.looks) c.next_after-found.ensures.calls.outside (left_as c.rest.ensures.left refl (search rules) refl) (λ f pages agree shown. has_next _ pages agree (option_copied c.args.after) f.entry shown) c.next_after-found.result c.next_after-found.ensures.next
 
 pub returns-clause-shown : goal.returns-clause-shown
 returns-clause-shown g c = shown_left c.new-table.ensures.over c.new-table.ensures.step (looks_stay _ _ c.next_after-found.ensures.calls.looks) c.next_after-found.ensures.calls.outside (left_as c.rest.ensures.left (search rules) (search rules) refl) c.next_after-found.result c.next_after-found.ensures.fault c.next_after-found.ensures.shown

@@ -5,9 +5,34 @@ use Rattle.volume_contract.specs.State.{volume_of}
 use Rattle.volume_state.proofs.CloseLaws.{closes, ends_device}
 use Rattle.table_volume.proofs.volume.Volume.close.Goals as goal
 
-pub returns-in-Ok-clause-done : goal.returns-in-Ok-clause-done
-returns-in-Ok-clause-done g c honest k stands = closes k c.force.new.self (g.M.Machine.now c.force.new.m) (c.in-Ok.ensures.done honest k stands)
+pub force-requires : goal.force-requires
+force-requires g c = c.requires
 
-pub returns-clause-done : goal.returns-clause-done
-returns-clause-done g c honest k stands =
-    ends_device Forced (λ met. force_outcome (volume_of k)) IsForced k c.force.new.self (g.M.Machine.now c.force.new.m) c.in-Err.refusal (c.in-Err.ensures.done honest k stands)
+pub returns-in-Ok : goal.returns-in-Ok
+returns-in-Ok g c =
+    let forced = c.in-Ok.ensures in
+    record {
+      order = forced.order;
+      disk = forced.disk;
+      rest = forced.rest;
+      counted = forced.counted;
+      counted_err = tt;
+      idle = forced.idle;
+      causes = tt;
+      done = λ honest k stands. closes k c.force.new.self (g.M.Machine.now c.force.new.m) (forced.done honest k stands);
+    }
+
+pub returns : goal.returns
+returns g c =
+    let failed = c.in-Err.ensures in
+    record {
+      order = failed.order;
+      disk = failed.disk;
+      rest = failed.rest;
+      counted = failed.counted;
+      counted_err = failed.counted_err;
+      idle = failed.idle;
+      causes = failed.lost;
+      done = λ honest k stands.
+          ends_device Forced (λ met. force_outcome (volume_of k)) IsForced k c.force.new.self (g.M.Machine.now c.force.new.m) c.in-Err.refusal (failed.done honest k stands);
+    }

@@ -2,10 +2,13 @@ use Rattle.std.proofs.Common.{sym, ap, ◌∙◌}
 use Rattle.std.proofs.lemmas.Result.{err_from_is_err_and}
 use Rattle.fsd_files.specs.Answers.{entry_of as entry_in, entry_reply, found_or}
 use Rattle.name_btree.specs.Lookup.{entry_of}
+use Rattle.volume_contract.specs.Absent.{ShowsReached}
+use Rattle.volume_contract.specs.Found.{HasEntry}
 use Rattle.volume_state.specs.State.{resident, state}
 use Rattle.volume_changes.proofs.AbsentLaws.{none_found, not_handed, not_look_up, not_met}
 use Rattle.volume_changes.proofs.CauseLaws.{met_handed}
 use Rattle.volume_changes.proofs.EntryLaws.{entry_looked_up, fault_looked_up, key_met, taken_met}
+use Rattle.volume_changes.proofs.FoundLaws.{found_met}
 use Rattle.table_volume.proofs.volume.Volume.entry.Goals as goal
 
 pub returns-in-None-clause-done : goal.returns-in-None-clause-done
@@ -37,6 +40,11 @@ returns-in-Some-clause-key g c =
 
 pub returns-in-Some-clause-taken : goal.returns-in-Some-clause-taken
 returns-in-Some-clause-taken g c = taken_met c.find.new.self c.in-Some.found.page c.in-Some.found.entry c.met_entry.result c.in_ok-found.ensures.told c.met_entry.ensures
+
+pub returns-in-Some-clause-found : goal.returns-in-Some-clause-found
+returns-in-Some-clause-found g c =
+    let w = c.args.self.now in
+    found_met (λ e. ShowsReached g.M.Machine (resident w) (state w) (state c.find.new.self) c.args.m.now c.find.new.m (HasEntry e)) c.find.new.self _ c.in-Some.found c.in-Some.is c.in_ok-found.ensures.there c.met_entry.result c.met_entry.ensures
 
 -- ---- where there is none
 

@@ -1,4 +1,6 @@
-use Rattle.std.proofs.Common.{refl}
+use Rattle.std.proofs.Common.{◌≡◌, ◌∙◌, ℕ, ◌<◌, ap, subst, refl}
+use Rattle.std.specs.Prelude.{IfOk, IfSome}
+use Rattle.sector_disk.proofs.CallLaws.{reads_told}
 use Rattle.fsd_files.specs.Answers.{highest_entry}
 use Rattle.name_page.specs.Lookups.{highest_of}
 use Rattle.volume_state.specs.State.{resident, state}
@@ -8,45 +10,48 @@ use Rattle.volume_changes.proofs.ReadLaws.{shows_by, unsound_by}
 use Rattle.volume_changes.proofs.FindLaws.{finds_looked, stands_found}
 use Rattle.volume_changes.proofs.MemoryLaws.{enough_in, enough_left, enough_of_cache, told_memory}
 use Rattle.volume_state.proofs.TableLaws.{found_highest}
+use Rattle.group_commit.specs.contracts.newest.NewestPageSource.TheImpl as by_log
+use Rattle.volume_state.specs.Volume.{VolumeValue}
+use Rattle.table_volume.proofs.LookedLaws.{cache_alone, looked_cause, looked_ok, looked_place}
 use Rattle.table_volume.proofs.volume.Volume.find_highest.Goals as goal
 
-pub returns-clause-stands : goal.returns-clause-stands
-returns-clause-stands g c = stands_found g.M.Machine g.met.M.Machine.short c.args.m.now c.highest-found.new.m _ c.args.self.now c.self.view_is c.self.invariant c.dirty_list-whole.ensures.valid c.highest-found.new.self.cache c.over-source.result c.over-source.ensures c.highest-found.new.self.free_pages _ c.highest-found.ensures.looks c.highest-found.ensures.free
-
-pub returns-clause-found : goal.returns-clause-found
-returns-clause-found g c =
-    finds_looked g.M.Machine g.met.M.Machine.short c.args.m.now c.highest-found.new.m _ c.args.self.now c.self.view_is c.self.invariant c.dirty_list-whole.ensures.valid c.highest-found.new.self.cache c.over-source.result c.over-source.ensures
-    (highest_of c.args.name.now) (λ k. highest_entry c.args.name.now k.mounted.volume.entries) (λ k stands. found_highest _ k _ c.self.invariant stands c.args.name.now)
-    c.home_a-home_a.result c.highest-found.result c.told.result c.told.ensures c.highest-found.ensures.looks c.highest-found.ensures.fault c.highest-found.ensures.found
-
-pub returns-clause-taken : goal.returns-clause-taken
-returns-clause-taken g c = λ honest k stands e has. taken_there _ c.args.self.now c.self.view_is c.self.invariant k (g.M.Machine.now c.args.m.now) stands e has
-
-pub returns-clause-causes : goal.returns-clause-causes
-returns-clause-causes g c =
+pub returns : goal.returns
+returns g c =
     let M = g.M.Machine in
     let w = c.args.self.now in
+    let view = c.self.view_is in
+    let whole = c.self.invariant in
     let log = c.over-source.ensures in
+    let home_a = c.home_a-home_a.result in
+    let e = c.highest-found.ensures in
     let looks = c.highest-found.ensures.looks in
-    causes_by M (resident w) (state w) _ c.args.m.now c.highest-found.new.m c.told.result
-    (λ a b is h. lost_found M c.args.m.now c.highest-found.new.m _ w c.self.view_is c.self.invariant c.highest-found.new.self.cache c.over-source.result log c.home_a-home_a.result a b
-    _ c.highest-found.result c.told.result c.told.ensures looks is h)
-    (unsound_by M c.args.m.now c.highest-found.new.m _ w c.self.view_is c.self.invariant c.highest-found.new.self.cache c.over-source.result log _ c.home_a-home_a.result c.home_a-home_a.ensures.place
-    c.highest-found.result c.told.result c.told.ensures looks c.highest-found.ensures.shown)
-
-pub returns-clause-met : goal.returns-clause-met
-returns-clause-met g c =
-    let M = g.M.Machine in
-    let w = c.args.self.now in
-    met_left M c.args.m.now c.highest-found.new.m _ w c.self.view_is c.self.invariant c.highest-found.new.self.cache _ _ c.highest-found.new.self.free_pages refl c.told.result
-    (λ h. shows_by M c.args.m.now c.highest-found.new.m _ w c.self.view_is c.self.invariant c.highest-found.new.self.cache c.over-source.result c.over-source.ensures _ c.home_a-home_a.result
-    c.highest-found.result c.told.result c.told.ensures c.highest-found.ensures.looks h c.highest-found.ensures.way)
-
-pub returns-clause-memory : goal.returns-clause-memory
-returns-clause-memory g c =
-    λ has wants. c.highest-found.ensures.memory (enough_in _ c.args.self.now c.self.view_is c.self.invariant c.args.name.now has) (told_memory c.home_a-home_a.result c.highest-found.result c.told.result c.told.ensures wants)
-
-pub returns-clause-stays : goal.returns-clause-stays
-returns-clause-stays g c = λ has.
-    enough_of_cache _ c.args.self.now c.self.view_is c.self.invariant c.args.name.now c.highest-found.new.self.cache c.highest-found.new.self.free_pages c.highest-found.ensures.free
-    (enough_left _ _ _ _ c.highest-found.ensures.stays c.highest-found.ensures.all_stay (enough_in _ c.args.self.now c.self.view_is c.self.invariant c.args.name.now has))
+    let new = c.highest-found.new.self in
+    let r = c.highest-found.result in
+    let result = c.told.result in
+    let says = c.told.ensures in
+    record {
+      disk = reads_told (looked_place home_a r result says) looks.reads;
+      cache = cache_alone _ w view new.cache new.free_pages e.free;
+      dirty = looks.dirty ∙ ap (λ (x : VolumeValue). x.cache.dirty) view;
+      page = looked_ok home_a r result says (λ found. IfSome found (λ f. f.page < w.layout.pages))
+          (subst (λ (n : ℕ). IfOk r (λ found. IfSome found (λ f. f.page < n))) (whole.pages ∙ ap (λ (x : VolumeValue). x.layout.pages) view) e.page);
+      name = looked_ok home_a r result says (λ found. IfSome found (λ f. f.entry.key.name ≡ c.args.name.now)) e.name;
+      memory = λ has wants. e.memory (enough_in _ w view whole c.args.name.now has) (told_memory home_a r result says wants);
+      stays = λ has.
+          enough_of_cache _ w view whole c.args.name.now new.cache new.free_pages e.free
+          (enough_left _ _ _ _ e.stays e.all_stay (enough_in _ w view whole c.args.name.now has));
+      cause = looked_cause M by_log.ghosts c.over-source.result c.highest-found.new.m new.cache c.self.inside.table.free_pages home_a r result says e.fault;
+      stands = stands_found M g.met.M.Machine.short c.args.m.now c.highest-found.new.m _ w view whole c.dirty_list-whole.ensures.valid new.cache c.over-source.result log new.free_pages _ looks e.free;
+      found = finds_looked M g.met.M.Machine.short c.args.m.now c.highest-found.new.m _ w view whole c.dirty_list-whole.ensures.valid new.cache c.over-source.result log
+          (highest_of c.args.name.now) (λ k. highest_entry c.args.name.now k.mounted.volume.entries) (λ k stands. found_highest _ k _ whole stands c.args.name.now)
+          home_a r result says looks e.fault e.found;
+      taken = λ honest k stands e has. taken_there _ w view whole k (M.now c.args.m.now) stands e has;
+      causes = causes_by M (resident w) (state w) _ c.args.m.now c.highest-found.new.m result
+          (λ a b is h. lost_found M c.args.m.now c.highest-found.new.m _ w view whole new.cache c.over-source.result log home_a a b
+          _ r result says looks is h)
+          (unsound_by M c.args.m.now c.highest-found.new.m _ w view whole new.cache c.over-source.result log _ home_a c.home_a-home_a.ensures.place
+          r result says looks e.shown);
+      met = met_left M c.args.m.now c.highest-found.new.m _ w view whole new.cache _ _ new.free_pages refl result
+          (λ h. shows_by M c.args.m.now c.highest-found.new.m _ w view whole new.cache c.over-source.result log _ home_a
+          r result says looks h e.way);
+    }

@@ -1,53 +1,62 @@
-use Rattle.std.proofs.Common.{refl}
+use Rattle.std.proofs.Common.{◌≡◌, ◌∙◌, ℕ, ◌<◌, true, ap, subst, refl}
+use Rattle.std.specs.Prelude.{IfOk, IfSome}
+use Rattle.sector_disk.proofs.CallLaws.{reads_told}
 use Rattle.std.specs.Option.{option_copied}
 use Rattle.fsd_files.specs.Answers.{entry_after as entry_behind}
-use Rattle.name_page.specs.Lookups.{entry_after}
+use Rattle.name_page.specs.Lookups.{entry_after, is_after}
 use Rattle.volume_contract.specs.Absent.{LacksLater, Reaches}
+use Rattle.volume_contract.specs.Found.{HasNext}
 use Rattle.volume_state.specs.State.{resident, state}
 use Rattle.volume_changes.proofs.CauseLaws.{causes_by, met_left}
 use Rattle.volume_changes.proofs.EntryLaws.{lost_found, taken_there}
 use Rattle.volume_changes.proofs.ReadLaws.{absent_by, shows_by, unsound_by}
 use Rattle.volume_changes.proofs.FindLaws.{finds_looked, stands_found}
+use Rattle.volume_changes.proofs.FoundLaws.{found_by}
 use Rattle.volume_state.proofs.TableLaws.{found_behind}
 use Rattle.volume_state.proofs.TakenLaws.{taken_is_told}
+use Rattle.group_commit.specs.contracts.newest.NewestPageSource.TheImpl as by_log
+use Rattle.volume_state.specs.Volume.{VolumeValue}
+use Rattle.table_volume.proofs.LookedLaws.{cache_alone, looked_cause, looked_ok, looked_place}
 use Rattle.table_volume.proofs.volume.Volume.find_next.Goals as goal
 
-pub returns-clause-stands : goal.returns-clause-stands
-returns-clause-stands g c = stands_found g.M.Machine g.met.M.Machine.short c.args.m.now c.next_after-found.new.m _ c.args.self.now c.self.view_is c.self.invariant c.dirty_list-whole.ensures.valid c.next_after-found.new.self.cache c.over-source.result c.over-source.ensures c.next_after-found.new.self.free_pages _ c.next_after-found.ensures.looks c.next_after-found.ensures.free
-
-pub returns-clause-found : goal.returns-clause-found
-returns-clause-found g c =
-    finds_looked g.M.Machine g.met.M.Machine.short c.args.m.now c.next_after-found.new.m _ c.args.self.now c.self.view_is c.self.invariant c.dirty_list-whole.ensures.valid c.next_after-found.new.self.cache c.over-source.result c.over-source.ensures
-    (entry_after (option_copied c.args.after)) (λ k. entry_behind (option_copied c.args.after) k.mounted.volume.entries) (λ k stands. found_behind _ k _ c.self.invariant stands (option_copied c.args.after))
-    c.home_a-home_a.result c.next_after-found.result c.told.result c.told.ensures c.next_after-found.ensures.looks c.next_after-found.ensures.fault c.next_after-found.ensures.found
-
-pub returns-clause-taken : goal.returns-clause-taken
-returns-clause-taken g c = λ honest k stands e has. taken_there _ c.args.self.now c.self.view_is c.self.invariant k (g.M.Machine.now c.args.m.now) stands e has
-
-pub returns-clause-told : goal.returns-clause-told
-returns-clause-told g c = λ e taken. taken_is_told _ c.self.invariant e taken
-
-pub returns-clause-causes : goal.returns-clause-causes
-returns-clause-causes g c =
+pub returns : goal.returns
+returns g c =
     let M = g.M.Machine in
     let w = c.args.self.now in
+    let view = c.self.view_is in
+    let whole = c.self.invariant in
     let log = c.over-source.ensures in
+    let home_a = c.home_a-home_a.result in
+    let e = c.next_after-found.ensures in
     let looks = c.next_after-found.ensures.looks in
-    causes_by M (resident w) (state w) _ c.args.m.now c.next_after-found.new.m c.told.result
-    (λ a b is h. lost_found M c.args.m.now c.next_after-found.new.m _ w c.self.view_is c.self.invariant c.next_after-found.new.self.cache c.over-source.result log c.home_a-home_a.result a b
-    _ c.next_after-found.result c.told.result c.told.ensures looks is h)
-    (unsound_by M c.args.m.now c.next_after-found.new.m _ w c.self.view_is c.self.invariant c.next_after-found.new.self.cache c.over-source.result log _ c.home_a-home_a.result c.home_a-home_a.ensures.place
-    c.next_after-found.result c.told.result c.told.ensures looks c.next_after-found.ensures.shown)
-
-pub returns-clause-met : goal.returns-clause-met
-returns-clause-met g c =
-    let M = g.M.Machine in
-    let w = c.args.self.now in
-    met_left M c.args.m.now c.next_after-found.new.m _ w c.self.view_is c.self.invariant c.next_after-found.new.self.cache _ _ c.next_after-found.new.self.free_pages refl c.told.result
-    (λ h. shows_by M c.args.m.now c.next_after-found.new.m _ w c.self.view_is c.self.invariant c.next_after-found.new.self.cache c.over-source.result c.over-source.ensures _ c.home_a-home_a.result
-    c.next_after-found.result c.told.result c.told.ensures c.next_after-found.ensures.looks h c.next_after-found.ensures.way)
-
-pub returns-clause-absent : goal.returns-clause-absent
-returns-clause-absent g c =
-    absent_by g.M.Machine c.args.m.now c.next_after-found.new.m _ c.args.self.now c.self.view_is c.self.invariant c.next_after-found.new.self.cache c.over-source.result c.over-source.ensures _ c.home_a-home_a.result (Reaches (LacksLater (option_copied c.args.after)))
-    c.next_after-found.result c.told.result c.told.ensures c.next_after-found.ensures.looks c.next_after-found.ensures.absent
+    let new = c.next_after-found.new.self in
+    let r = c.next_after-found.result in
+    let result = c.told.result in
+    let says = c.told.ensures in
+    record {
+      disk = reads_told (looked_place home_a r result says) looks.reads;
+      cache = cache_alone _ w view new.cache new.free_pages e.free;
+      dirty = looks.dirty ∙ ap (λ (x : VolumeValue). x.cache.dirty) view;
+      page = looked_ok home_a r result says (λ found. IfSome found (λ f. f.page < w.layout.pages))
+          (subst (λ (n : ℕ). IfOk r (λ found. IfSome found (λ f. f.page < n))) (whole.pages ∙ ap (λ (x : VolumeValue). x.layout.pages) view) e.page);
+      later = looked_ok home_a r result says (λ found. IfSome found (λ f. is_after (option_copied c.args.after) f.entry.key ≡ true)) e.later;
+      cause = looked_cause M by_log.ghosts c.over-source.result c.next_after-found.new.m new.cache c.self.inside.table.free_pages home_a r result says e.fault;
+      stands = stands_found M g.met.M.Machine.short c.args.m.now c.next_after-found.new.m _ w view whole c.dirty_list-whole.ensures.valid new.cache c.over-source.result log new.free_pages _ looks e.free;
+      found = finds_looked M g.met.M.Machine.short c.args.m.now c.next_after-found.new.m _ w view whole c.dirty_list-whole.ensures.valid new.cache c.over-source.result log
+          (entry_after (option_copied c.args.after)) (λ k. entry_behind (option_copied c.args.after) k.mounted.volume.entries) (λ k stands. found_behind _ k _ whole stands (option_copied c.args.after))
+          home_a r result says looks e.fault e.found;
+      taken = λ honest k stands e has. taken_there _ w view whole k (M.now c.args.m.now) stands e has;
+      told = λ e taken. taken_is_told _ whole e taken;
+      causes = causes_by M (resident w) (state w) _ c.args.m.now c.next_after-found.new.m result
+          (λ a b is h. lost_found M c.args.m.now c.next_after-found.new.m _ w view whole new.cache c.over-source.result log home_a a b
+          _ r result says looks is h)
+          (unsound_by M c.args.m.now c.next_after-found.new.m _ w view whole new.cache c.over-source.result log _ home_a c.home_a-home_a.ensures.place
+          r result says looks e.shown);
+      absent = absent_by M c.args.m.now c.next_after-found.new.m _ w view whole new.cache c.over-source.result log _ home_a (Reaches (LacksLater (option_copied c.args.after)))
+          r result says looks e.absent;
+      met = met_left M c.args.m.now c.next_after-found.new.m _ w view whole new.cache _ _ new.free_pages refl result
+          (λ h. shows_by M c.args.m.now c.next_after-found.new.m _ w view whole new.cache c.over-source.result log _ home_a
+          r result says looks h e.way);
+      next = found_by M c.args.m.now c.next_after-found.new.m _ w view whole new.cache c.over-source.result log _ home_a
+          (λ f pages. Reaches (HasNext (option_copied c.args.after) f.entry pages) pages) r result says looks e.next;
+    }

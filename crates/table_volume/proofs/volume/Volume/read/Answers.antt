@@ -14,6 +14,7 @@ use Rattle.fsd_files.specs.Answers.{entry_of}
 use Rattle.volume_state.specs.State.{resident, state}
 use Rattle.volume_changes.proofs.AbsentLaws.{not_data, not_handed}
 use Rattle.volume_changes.proofs.CauseLaws.{data_causes, handed_cause}
+use Rattle.volume_changes.proofs.FoundLaws.{range_found}
 use Rattle.volume_state.proofs.RangeLaws.{all_below, both_kept, busy_read, data_read, handed, none_damaged, reads_found, reads_refused}
 use Rattle.volume_state.specs.WearLaws.{stands_worn}
 use Rattle.table_volume.proofs.volume.Volume.read.Goals as goal
@@ -91,3 +92,11 @@ returns-in_err-e-clause-absent g c = not_handed c.in_err-e.field-0.0 c.from_resi
 
 pub returns-clause-absent : goal.returns-clause-absent
 returns-clause-absent g c = not_data c.read_version.result c.read_version.ensures.cause
+
+pub returns-clause-found : goal.returns-clause-found
+returns-clause-found g c =
+    let w = c.args.self.now in
+    let e = c.in_ok-e.ensures in
+    let r = c.read_version.ensures in
+    range_found g.M.Machine (resident w) (state w) (state c.version.new.self) c.args.m.now c.version.new.m c.read_version.new.m c.args.key.now c.in_ok-e.e c.args.from c.args.buf.now c.read_version.new.buf
+    _ e.key e.taken e.found e.disk.worn r.disk c.read_version.result r.count r.whole r.gives

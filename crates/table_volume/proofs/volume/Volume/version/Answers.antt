@@ -1,72 +1,141 @@
-use Rattle.std.proofs.Common.{◌≡◌, ℕ, ◌+◌, ◌^◌, ◌≤◌, true, sym, ap, subst, ◌∙◌, arith}
+use Rattle.std.proofs.Common.{◌≡◌, inl, inr, ℕ, ◌+◌, ◌^◌, ◌≤◌, true, None, option_map, Result, Err, refl, sym, ap, subst, ◌∙◌, arith}
 use Rattle.std.proofs.lemmas.Result.{err_from_is_err_and}
 use Rattle.std.specs.Prelude.{All, IfOk, IfSome, IsTrue}
 use Rattle.volume_layout.specs.declared.layout.Layout.{Layout}
 use Rattle.volume_layout.specs.Layout.{is_data}
 use Rattle.volume_layout.proofs.RootLaws.{planned_bounds}
+use Rattle.sector_disk.specs.Calls.{device_in}
+use Rattle.sector_disk.proofs.CallLaws.{reads_none, reads_told}
 use Rattle.run_table.specs.RunTable.{sectors_of}
 use Rattle.run_table.specs.Space.{contains}
+use Rattle.fsd_bytes.specs.declared.refusal.Refusal.{Refusal}
+use Rattle.fsd_bytes.specs.declared.refusal.Refusal.TheVariants as Why
 use Rattle.fsd_formats.specs.declared.entry.Entry.{Entry}
 use Rattle.fsd_formats.specs.NamePage.{is_entry}
-use Rattle.fsd_files.specs.Answers.{found_or}
+use Rattle.fsd_files.specs.Answers.{entry_of as entry_in, entry_reply, found_or}
 use Rattle.name_btree.specs.Lookup.{entry_of}
+use Rattle.volume_contract.specs.Absent.{ShowsReached}
+use Rattle.volume_contract.specs.Causes.{HasCause}
+use Rattle.volume_contract.specs.Ends.{device_of}
+use Rattle.volume_contract.specs.Found.{HasEntry}
+use Rattle.volume_contract.specs.Order.{Follows, entry_steps}
+use Rattle.volume_contract.specs.State.{volume_of}
 use Rattle.volume_state.specs.State.{resident, state}
-use Rattle.volume_state.specs.Taken.{met_entry}
+use Rattle.volume_state.specs.Taken.{are_taken, down_fault}
 use Rattle.volume_state.specs.Volume.{VolumeValue}
-use Rattle.volume_changes.proofs.AbsentLaws.{none_found, not_handed, not_look_up, not_met}
+use Rattle.volume_changes.proofs.AbsentLaws.{none_found, not_down as down_is_told, not_look_up, not_met}
 use Rattle.volume_changes.proofs.CauseLaws.{met_handed}
-use Rattle.volume_changes.proofs.EntryLaws.{entry_looked_up}
+use Rattle.volume_changes.proofs.EditedLaws.{state_looked}
+use Rattle.volume_changes.proofs.EntryLaws.{entry_looked_up, fault_looked_up, key_met, taken_met}
+use Rattle.volume_changes.proofs.FoundLaws.{found_met}
+use Rattle.volume_changes.proofs.NextLaws.{up_by}
+use Rattle.volume_state.proofs.ForceEndLaws.{not_down}
+use Rattle.volume_state.proofs.ForceLeavesLaws.{down_tells_none}
 use Rattle.volume_state.proofs.RangeLaws.{met_good, taken_data, taken_runs}
+use Rattle.table_volume.proofs.DownLaws.{busy_entry, down_step, met_either, told_down}
 use Rattle.table_volume.proofs.volume.Volume.version.Goals as goal
 
-pub returns-in-None-clause-done : goal.returns-in-None-clause-done
-returns-in-None-clause-done g c = λ h k stands. ap found_or (sym (c.in_ok-found.ensures.found h k stands) ∙ ap entry_of c.in-None.is)
+pub returns-in_err-is_up : goal.returns-in_err-is_up
+returns-in_err-is_up g c =
+    let v = c.args.self.now in
+    let at = c.args.m.now in
+    let now = g.M.Machine.now c.args.m.now in
+    let why = c.in_err-is_up.field-0.0 in
+    let down : down_fault c.args.self.now.down ≡ Err c.in_err-is_up.field-0.0 = sym c.in_err-is_up.ensures in
+    let p = err_from_is_err_and c.from_residual.result c.from_residual.ensures.1 in
+    rw (p.1, p.2) (record {
+      order = inl (down_step v.down why down);
+      disk = reads_told (down_tells_none v.down why down) (reads_none at (g.met.M.Machine.only_now at));
+      state = refl;
+      idle = λ idle. refl;
+      good = tt;
+      runs = tt;
+      within = tt;
+      stands = λ h k stands. stands;
+      causes = λ h. told_down (HasCause (state v) (state v) (resident v) now now) (λ place. tt) v.down why down;
+      absent = λ same. absurd (down_is_told v.down why down (cc same));
+      key = tt;
+      taken = tt;
+      found = tt;
+      done = λ h k stands. absurd (not_down v k now why down stands);
+    })
 
-pub returns-in-Some-clause-done : goal.returns-in-Some-clause-done
-returns-in-Some-clause-done g c = λ h k stands.
-    entry_looked_up c.find.new.self k.mounted.volume c.args.key.now c.in-Some.found.page c.in-Some.found.entry c.met_entry.result (sym (c.in_ok-found.ensures.found h k stands) ∙ ap entry_of c.in-Some.is) (c.find.ensures.taken h k stands) c.met_entry.ensures
+pub returns-in_err-found : goal.returns-in_err-found
+returns-in_err-found g c =
+    let v = c.args.self.now in
+    let up = up_by c.args.self.now.down (sym c.in_ok-is_up.ensures) in
+    let why = c.in_err-found.field-0.0 in
+    let failed = c.in_err-found.ensures in
+    let p = err_from_is_err_and c.from_residual-in_err-found.result c.from_residual-in_err-found.ensures.1 in
+    rw (p.1, p.2) (record {
+      order = inr (ap (option_map Why.Down) up, inl failed.cause);
+      disk = failed.disk;
+      state = state_looked v c.find.new.self failed.cache failed.dirty;
+      idle = λ idle. absurd (busy_entry (state v) up idle);
+      good = tt;
+      runs = tt;
+      within = tt;
+      stands = failed.stands;
+      causes = failed.causes;
+      absent = λ same. absurd (not_look_up why failed.cause (cc same));
+      key = tt;
+      taken = tt;
+      found = tt;
+      done = λ h k stands. fault_looked_up (entry_reply (volume_of k) c.args.key.now) (entry_in c.args.key.now (volume_of k).entries) why (failed.found h k stands);
+    })
 
-pub returns-in-Some-clause-good : goal.returns-in-Some-clause-good
-returns-in-Some-clause-good g c =
-    let good = subst (λ o. IfSome o (λ f. is_entry f.entry ≡ true)) c.in-Some.is c.in_ok-found.ensures.entry in
-    subst (λ r. IfOk r (λ e. is_entry e ≡ true)) (sym c.met_entry.ensures) (met_good (λ (e : Entry). is_entry e ≡ true) c.find.new.self c.in-Some.found.page c.in-Some.found.entry (λ taken. good))
+pub returns-in-None : goal.returns-in-None
+returns-in-None g c =
+    let v = c.args.self.now in
+    let up = up_by c.args.self.now.down (sym c.in_ok-is_up.ensures) in
+    let found = c.in_ok-found.ensures in
+    record {
+      order = inr (ap (option_map Why.Down) up, inr (tt, inl refl));
+      disk = found.disk;
+      state = state_looked v c.find.new.self found.cache found.dirty;
+      idle = λ idle. absurd (busy_entry (state v) up idle);
+      good = tt;
+      runs = tt;
+      within = tt;
+      stands = found.stands;
+      causes = λ h. tt;
+      absent = λ told. none_found _ c.in-None.is found.absent;
+      key = tt;
+      taken = tt;
+      found = tt;
+      done = λ h k stands. ap found_or (sym (found.found h k stands) ∙ ap entry_of c.in-None.is);
+    }
 
-pub returns-in-Some-clause-runs : goal.returns-in-Some-clause-runs
-returns-in-Some-clause-runs g c =
+pub returns-in-Some : goal.returns-in-Some
+returns-in-Some g c =
+    let v = c.args.self.now in
+    let w = c.find.new.self in
+    let up = up_by c.args.self.now.down (sym c.in_ok-is_up.ensures) in
+    let found = c.in_ok-found.ensures in
+    let page = c.in-Some.found.page in
+    let entry = c.in-Some.found.entry in
+    let r = c.met_entry.result in
+    let met = c.met_entry.ensures in
+    let passes = ap (option_map Why.Down) up in
     let good = subst (λ o. IfSome o (λ f. is_entry f.entry ≡ true)) c.in-Some.is c.in_ok-found.ensures.entry in
     let bounds = planned_bounds c.self.inside.layout c.self.invariant.planned in
-    let most : c.find.new.self.layout.sectors ≤ 2 ^ 24 = omega (arith, bounds.sectors_most, ap (λ (v : VolumeValue). v.layout.sectors) c.self.view_is, ap (λ (v : VolumeValue). v.layout.sectors) c.find.ensures.cache) in
-    subst (λ r. IfOk r (λ e. All (λ run. run.start + run.length ≤ 2 ^ 32) e.runs)) (sym c.met_entry.ensures)
-    (met_good (λ (e : Entry). All (λ run. run.start + run.length ≤ 2 ^ 32) e.runs) c.find.new.self c.in-Some.found.page c.in-Some.found.entry (λ taken. taken_runs c.find.new.self c.in-Some.found.entry taken most good))
-
-pub returns-in-Some-clause-within : goal.returns-in-Some-clause-within
-returns-in-Some-clause-within g c =
-    let v = c.find.new.self in
-    let entry = c.in-Some.found.entry in
+    let most : c.find.new.self.layout.sectors ≤ 2 ^ 24 = omega (arith, bounds.sectors_most, ap (λ (v : VolumeValue). v.layout.sectors) c.self.view_is, ap (λ (v : VolumeValue). v.layout.sectors) c.in_ok-found.ensures.cache) in
     let P : Layout → Entry → Type 0 = λ l e. (s : ℕ) → IsTrue (contains (sectors_of e.runs) s) → IsTrue (is_data l s) in
-    subst (λ r. IfOk r (P c.args.self.now.layout)) (sym c.met_entry.ensures)
-    (subst (λ (l : Layout). IfOk (met_entry v c.in-Some.found.page entry) (P l)) (ap (λ (x : VolumeValue). x.layout) c.find.ensures.cache)
-    (met_good (P v.layout) v c.in-Some.found.page entry (taken_data v entry)))
-
-pub returns-in_err-found-clause-causes : goal.returns-in_err-found-clause-causes
-returns-in_err-found-clause-causes g c =
-    let p = err_from_is_err_and c.from_residual-in_err-found.result c.from_residual-in_err-found.ensures.1 in
-    rw (p.1, p.2) c.in_err-found.ensures.causes
-
-pub returns-in-Some-clause-causes : goal.returns-in-Some-clause-causes
-returns-in-Some-clause-causes g c =
-    let w = c.args.self.now in
-    let new = state c.find.new.self in
-    met_handed g.M.Machine (resident w) (state w) new c.args.m.now c.find.new.m c.find.new.self _ c.in-Some.found c.in-Some.is c.in_ok-found.ensures.met c.met_entry.result c.met_entry.ensures
-
--- ---- where there is none
-
-pub returns-in-None-clause-absent : goal.returns-in-None-clause-absent
-returns-in-None-clause-absent g c = λ told. none_found _ c.in-None.is c.in_ok-found.ensures.absent
-
-pub returns-in-Some-clause-absent : goal.returns-in-Some-clause-absent
-returns-in-Some-clause-absent g c = not_met c.find.new.self c.in-Some.found c.met_entry.result c.met_entry.ensures
-
-pub returns-in_err-found-clause-absent : goal.returns-in_err-found-clause-absent
-returns-in_err-found-clause-absent g c =
-    not_handed c.in_err-found.field-0.0 c.from_residual-in_err-found.result c.from_residual-in_err-found.ensures.1 (λ same. absurd (not_look_up c.in_err-found.field-0.0 c.in_err-found.ensures.cause same))
+    let so : (Q : Entry → Type 0) → (are_taken w entry.runs ≡ true → Q entry) → IfOk r Q = λ Q holds. subst (λ r. IfOk r Q) (sym met) (met_good Q w page entry holds) in
+    record {
+      order = met_either (λ (r : Result Entry Refusal). Follows (entry_steps (state v)) r) w page entry r met (passes, (tt, (tt, tt))) (inr (passes, inl tt));
+      disk = reads_told (met_either (λ (r : Result Entry Refusal). device_in device_of r ≡ None) w page entry r met refl refl) found.disk;
+      state = state_looked v w found.cache found.dirty;
+      idle = λ idle. absurd (busy_entry (state v) up idle);
+      good = so (λ (e : Entry). is_entry e ≡ true) (λ taken. good);
+      runs = so (λ (e : Entry). All (λ run. run.start + run.length ≤ 2 ^ 32) e.runs) (λ taken. taken_runs w entry taken most good);
+      within = subst (λ (l : Layout). IfOk r (P l)) (ap (λ (x : VolumeValue). x.layout) found.cache) (so (P w.layout) (taken_data w entry));
+      stands = found.stands;
+      causes = met_handed g.M.Machine (resident v) (state v) (state w) c.args.m.now c.find.new.m w _ c.in-Some.found c.in-Some.is found.met r met;
+      absent = not_met w c.in-Some.found r met;
+      key = key_met w c.args.key.now page entry r (rw c.in-Some.is at found.key) met;
+      taken = taken_met w page entry r found.told met;
+      found = found_met (λ e. ShowsReached g.M.Machine (resident v) (state v) (state w) c.args.m.now c.find.new.m (HasEntry e)) w _ c.in-Some.found c.in-Some.is found.there r met;
+      done = λ h k stands.
+          entry_looked_up w k.mounted.volume c.args.key.now page entry r (sym (found.found h k stands) ∙ ap entry_of c.in-Some.is) (found.taken h k stands) met;
+    }
