@@ -4,8 +4,6 @@
 mod longest;
 mod map;
 mod no_place;
-#[cfg(test)]
-mod tests;
 
 pub use map::Map;
 pub use no_place::NoPlace;

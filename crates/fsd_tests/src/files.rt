@@ -70,16 +70,17 @@ fn status_at(rt: &HostRuntime, length: usize) -> Result<u8, Fail> {
     Ok(run_on_files(rt, "cfs list fsd_tests_cut *")?)
 }
 
-// The default image has 1,064,960 bytes.
+// How many bytes a file has, and how a list on it ends. The default image has 1,064,960.
+const LENGTHS: [(usize, u8); 4] = [
+    (1_064_959, 3),
+    (1_064_960, 0),
+    (1_064_961, 0),
+    (1_065_479, 0),
+];
+
 #[test]
 fn a_file_has_as_many_sectors_as_whole_slots(rt: HostRuntime) -> Result<(), Fail> {
-    let rows = [
-        (1_064_959, 3),
-        (1_064_960, 0),
-        (1_064_961, 0),
-        (1_065_479, 0),
-    ];
-    for (length, status) in rows {
+    for (length, status) in LENGTHS {
         assert_eq!(rt; status_at(&rt, length)?, status, "{length}");
     }
     fs::remove_file(&rt, CUT)?;

@@ -63,19 +63,22 @@ fn record_at(m: &MemoryMachine, sector: usize) -> Option<u8> {
     }
 }
 
+// The first sector of a write, how many of its sectors stand when its second time is stopped, and the record that is
+// brought home.
+const STOPS: [(u32, u32, u8); 5] = [
+    (8, 0, 84),
+    (12, 0, 84),
+    (16, 0, 84),
+    (16, 4, 84),
+    (16, 5, 85),
+];
+
 // The 85th record is written at 16 again. Up to its page's end the old page stands.
 #[test]
 fn a_stop_leaves_the_old_page_or_the_new_one(rt: HostRuntime) -> Result<(), Fail> {
     let alloc = rt.alloc();
-    let stops = [
-        (stop_in(8, 2, 0), 84),
-        (stop_in(12, 2, 0), 84),
-        (stop_in(16, 2, 0), 84),
-        (stop_in(16, 2, 4), 84),
-        (stop_in(16, 2, 5), 85),
-    ];
-    for (stop, record) in stops {
-        let (m, forced) = come_round(alloc, 5, &[stop])?;
+    for (first, stand, record) in STOPS {
+        let (m, forced) = come_round(alloc, 5, &[stop_in(first, 2, stand)])?;
         assert!(rt; matches!(forced, Some(Err(_))));
         assert_eq!(rt; record_mounted(alloc, m)?, Some(record));
     }

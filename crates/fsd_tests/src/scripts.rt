@@ -5,6 +5,7 @@ use fsd_texts::{BadLine, Bytes, Cause, Command, Line};
 use script_text::{Maker, Reader, ScriptFault, say_line};
 use sector_disk::{Event, MemoryMachine};
 use std::alloc::{AllocError, Global};
+use std::process::Abort;
 use std::test::Fail;
 
 // A machine without an image that gives this input, in a run with these events.
@@ -40,41 +41,68 @@ fn read(
     Ok((20, None, false))
 }
 
-fn bad(line: u32, cause: Cause) -> Option<ScriptFault> {
-    Some(ScriptFault::Bad(BadLine { line, cause }))
+// An input gives so many commands and ends so, by takes of one byte, of three and of many.
+fn reads_so(
+    rt: &impl Abort,
+    alloc: Global,
+    input: &[u8],
+    count: u32,
+    end: Option<(u32, Cause)>,
+) -> Result<(), AllocError> {
+    let end = end.map(|(line, cause)| ScriptFault::Bad(BadLine { line, cause }));
+    for most in [1, 3, 4096] {
+        assert_eq!(rt; read(alloc, input, most)?, (count, end, true));
+    }
+    Ok(())
 }
+
+// A script, how many commands it gives, and the line that is bad, if one is.
+const SCRIPTS: [(&[u8], u32, Option<(u32, Cause)>); 11] = [
+    (b"", 0, None),
+    (
+        b"put a 3\nxyz\nput b 10\n12",
+        1,
+        Some((2, Cause::ShortBytes)),
+    ),
+    (
+        b"put a 1\n\n\nput a 0 7\n\ndelete a!1\nkeep a 2\nlist *\nget a!2\nforce\ntick\nstat\n",
+        9,
+        None,
+    ),
+    (b"stat\nforce", 1, Some((2, Cause::NoNewline))),
+    (b"\n", 0, Some((1, Cause::EmptyLine))),
+    (b"stat \n", 0, Some((1, Cause::WordCount))),
+    (b"put a! b\n", 0, Some((1, Cause::BadName))),
+    (b"put a 4294967296\n", 0, Some((1, Cause::BadNumber))),
+    (b"delete a!0\n", 0, Some((1, Cause::BadKey))),
+    (b"list a*b\n", 0, Some((1, Cause::BadPattern))),
+    (b"put a 1\nxy", 0, Some((1, Cause::NoNewlineAfterBytes))),
+];
 
 #[test]
 fn reads_each_script(rt: HostRuntime) -> Result<(), Fail> {
-    let alloc = rt.alloc();
-    let long = repeated::<129>(b'a');
-    let mut full = Vec::from_slice(alloc, &long[..128])?;
-    full.push(b'\n')?;
-    let rows = [
-        (b"".as_slice(), 0, None),
-        (b"put a 3\nxyz\nput b 10\n12", 1, bad(2, Cause::ShortBytes)),
-        (
-            b"put a 1\n\n\nput a 0 7\n\ndelete a!1\nkeep a 2\nlist *\nget a!2\nforce\ntick\nstat\n",
-            9,
-            None,
-        ),
-        (&long, 0, bad(1, Cause::LongLine)),
-        (&long[..128], 0, bad(1, Cause::NoNewline)),
-        (full.as_slice(), 0, bad(1, Cause::UnknownWord)),
-        (b"stat\nforce", 1, bad(2, Cause::NoNewline)),
-        (b"\n", 0, bad(1, Cause::EmptyLine)),
-        (b"stat \n", 0, bad(1, Cause::WordCount)),
-        (b"put a! b\n", 0, bad(1, Cause::BadName)),
-        (b"put a 4294967296\n", 0, bad(1, Cause::BadNumber)),
-        (b"delete a!0\n", 0, bad(1, Cause::BadKey)),
-        (b"list a*b\n", 0, bad(1, Cause::BadPattern)),
-        (b"put a 1\nxy", 0, bad(1, Cause::NoNewlineAfterBytes)),
-    ];
-    for (input, count, end) in rows {
-        for most in [1, 3, 4096] {
-            assert_eq!(rt; read(alloc, input, most)?, (count, end, true));
-        }
+    for (input, count, end) in SCRIPTS {
+        reads_so(&rt, rt.alloc(), input, count, end)?;
     }
+    Ok(())
+}
+
+#[test]
+fn reads_lines_of_128_bytes_at_most(rt: HostRuntime) -> Result<(), Fail> {
+    let alloc = rt.alloc();
+    let line = repeated::<128>(b'a');
+    let long = repeated::<129>(b'a');
+    let mut full = Vec::from_slice(alloc, &line)?;
+    full.push(b'\n')?;
+    reads_so(&rt, alloc, &long, 0, Some((1, Cause::LongLine)))?;
+    reads_so(&rt, alloc, &line, 0, Some((1, Cause::NoNewline)))?;
+    reads_so(
+        &rt,
+        alloc,
+        full.as_slice(),
+        0,
+        Some((1, Cause::UnknownWord)),
+    )?;
     Ok(())
 }
 

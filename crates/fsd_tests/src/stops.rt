@@ -1,6 +1,6 @@
 //! Runs that are stopped, or in which a call of the outside fails, and what the next run says.
 use crate::machines::{calm, formatted, run, stop_in};
-use sector_disk::Event;
+use sector_disk::{Event, MemoryMachine, Sector};
 use std::alloc::{AllocError, Global};
 use std::test::Fail;
 
@@ -31,60 +31,72 @@ fn goes_so(alloc: Global, row: &Stopped) -> Result<bool, AllocError> {
     Ok(first && m.said() == row.listed.as_bytes())
 }
 
+const STOPPED: [Stopped<'static>; 5] = [
+    // The record stands at 16..23: a header, a blank, the header's copy, the page and the end,
+    // and the copies of both.
+    Stopped {
+        event: Event::StopIn {
+            first: 16,
+            nth: 1,
+            stand: 4,
+        },
+        line: "cfs put v a",
+        input: b"x",
+        said: "",
+        status: 6,
+        listed: "listed 0\n",
+    },
+    Stopped {
+        event: Event::StopIn {
+            first: 16,
+            nth: 1,
+            stand: 5,
+        },
+        line: "cfs put v a",
+        input: b"x",
+        said: "",
+        status: 6,
+        listed: "a!1 1 2 2\nlisted 1\n",
+    },
+    Stopped {
+        event: Event::FailIn {
+            first: 16,
+            nth: 1,
+            stand: 2,
+        },
+        line: "cfs put v a",
+        input: b"x",
+        said: "fault device 16\n",
+        status: 4,
+        listed: "listed 0\n",
+    },
+    // The sectors of what was deleted are not free before the force.
+    Stopped {
+        event: Event::StopIn {
+            first: 23,
+            nth: 1,
+            stand: 0,
+        },
+        line: "cfs script v",
+        input: DELETES,
+        said: "made d!1 2\nforced\ndeleted d!1\nmade e!1 2\n",
+        status: 6,
+        listed: "d!1 1 2 2\nlisted 1\n",
+    },
+    Stopped {
+        event: Event::Pieces { most: 1 },
+        line: "cfs script v",
+        input: PUTS,
+        said: "made a!1 2\nmade b!1 2\nmade c!1 2\nforced\n",
+        status: 0,
+        listed: "a!1 1 2 2\nb!1 1 2 2\nc!1 1 2 2\nlisted 3\n",
+    },
+];
+
 #[test]
 fn the_next_run_lists_what_stands(rt: HostRuntime) -> Result<(), Fail> {
-    let alloc = rt.alloc();
-    let rows = [
-        // The record stands at 16..23: a header, a blank, the header's copy, the page and the end,
-        // and the copies of both.
-        Stopped {
-            event: stop_in(16, 1, 4),
-            line: "cfs put v a",
-            input: b"x",
-            said: "",
-            status: 6,
-            listed: "listed 0\n",
-        },
-        Stopped {
-            event: stop_in(16, 1, 5),
-            line: "cfs put v a",
-            input: b"x",
-            said: "",
-            status: 6,
-            listed: "a!1 1 2 2\nlisted 1\n",
-        },
-        Stopped {
-            event: Event::FailIn {
-                first: 16,
-                nth: 1,
-                stand: 2,
-            },
-            line: "cfs put v a",
-            input: b"x",
-            said: "fault device 16\n",
-            status: 4,
-            listed: "listed 0\n",
-        },
-        // The sectors of what was deleted are not free before the force.
-        Stopped {
-            event: stop_in(23, 1, 0),
-            line: "cfs script v",
-            input: DELETES,
-            said: "made d!1 2\nforced\ndeleted d!1\nmade e!1 2\n",
-            status: 6,
-            listed: "d!1 1 2 2\nlisted 1\n",
-        },
-        Stopped {
-            event: Event::Pieces { most: 1 },
-            line: "cfs script v",
-            input: PUTS,
-            said: "made a!1 2\nmade b!1 2\nmade c!1 2\nforced\n",
-            status: 0,
-            listed: "a!1 1 2 2\nb!1 1 2 2\nc!1 1 2 2\nlisted 3\n",
-        },
-    ];
-    for (i, row) in rows.iter().enumerate() {
-        assert!(rt; goes_so(alloc, row)?, "{i}");
+    for (i, row) in STOPPED.iter().enumerate() {
+        assert!(rt; goes_so(rt.alloc(), row)?, "{i}");
     }
     Ok(())
 }
@@ -112,6 +124,27 @@ fn keeps(alloc: Global) -> Result<Vec<u8>, AllocError> {
     Ok(script)
 }
 
+// The machine and the status of a list behind the script, in a run with this event.
+fn listed_behind(
+    alloc: Global,
+    image: &[Sector],
+    script: &[u8],
+    event: Event,
+) -> Result<(MemoryMachine, u8), AllocError> {
+    let m = calm(alloc, image.to_vec(alloc)?);
+    let (m, _) = run(alloc, m, &[event], "cfs script w", script)?;
+    run(alloc, m, &[], "cfs list w *", b"")
+}
+
+// The first sector of a write, how many of its sectors stand when its second time is stopped, and what is listed.
+const ROUNDS: [(u32, u32, &str); 5] = [
+    (8, 0, "x!1 0 1 83\nlisted 1\n"),
+    (12, 0, "x!1 0 1 83\nlisted 1\n"),
+    (16, 0, "x!1 0 1 83\nlisted 1\n"),
+    (16, 4, "x!1 0 1 83\nlisted 1\n"),
+    (16, 5, "x!1 0 1 84\nlisted 1\n"),
+];
+
 // A third of 200 sectors has 28 records of one page.
 // The 85th enters the first third again: the anchor goes to 8 and 12 before it.
 #[test]
@@ -119,17 +152,9 @@ fn the_log_comes_round(rt: HostRuntime) -> Result<(), Fail> {
     let alloc = rt.alloc();
     let script = keeps(alloc)?;
     let image = formatted(alloc, "cfs format w 721 200 16")?;
-    let rows = [
-        (stop_in(8, 2, 0), "x!1 0 1 83\nlisted 1\n"),
-        (stop_in(12, 2, 0), "x!1 0 1 83\nlisted 1\n"),
-        (stop_in(16, 2, 0), "x!1 0 1 83\nlisted 1\n"),
-        (stop_in(16, 2, 4), "x!1 0 1 83\nlisted 1\n"),
-        (stop_in(16, 2, 5), "x!1 0 1 84\nlisted 1\n"),
-    ];
-    for (event, listed) in rows {
-        let m = calm(alloc, image.to_vec(alloc)?);
-        let (m, _) = run(alloc, m, &[event], "cfs script w", script.as_slice())?;
-        let (m, status) = run(alloc, m, &[], "cfs list w *", b"")?;
+    for (first, stand, listed) in ROUNDS {
+        let event = stop_in(first, 2, stand);
+        let (m, status) = listed_behind(alloc, image.as_slice(), script.as_slice(), event)?;
         assert_eq!(rt; status, 0);
         assert_eq!(rt; m.said(), listed.as_bytes());
     }

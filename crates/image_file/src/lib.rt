@@ -32,6 +32,3 @@ mod slot;
 
 pub use file_machine::FileMachine;
 pub use slot::{SLOT_BYTES, read_slot, slot_of};
-
-#[cfg(test)]
-mod tests;

@@ -1,4 +1,3 @@
-pub mod EmptyLaws
 pub mod HeldLaws
 pub mod SoundLaws
 pub mod WaitLaws

@@ -4,7 +4,5 @@
 
 mod readers;
 mod shadow;
-#[cfg(test)]
-mod tests;
 
 pub use shadow::{Shadow, Waiting};

@@ -209,27 +209,3 @@ impl Shadow {
         self.removed.contains(s) || self.kept.contains(s) || self.unfinished.contains(s)
     }
 }
-
-#[cfg(test)]
-mod tests {
-    use super::*;
-    use std::test::Fail;
-
-    #[test]
-    #[tactic(auto, using(crate::proofs::EmptyLaws::first_is_held))]
-    fn nothing_waits_at_first(rt: HostRuntime) -> Result<(), Fail> {
-        let mut shadow = Shadow::new(rt.alloc(), 753, 817)?;
-        assert_eq!(rt; shadow.waiting(), Waiting { all: 0, removed: 0 });
-        assert!(rt; !shadow.waits(753) && !shadow.waits(816));
-        let none = Runs::new();
-        assert!(rt; shadow.agrees(&none));
-        let slot = shadow.hold(&none);
-        assert_eq!(rt; shadow.unhold(slot), None);
-        shadow.unfinished(&none);
-        shadow.ended(&none);
-        assert!(rt; shadow.agrees(&none));
-        shadow.freed(&none);
-        assert_eq!(rt; shadow.committed(), None);
-        Ok(())
-    }
-}

@@ -6,35 +6,47 @@ ghost use Rattle.name_page.specs.Lookups.{entry_with};
 ghost use Rattle.name_page.specs.Pages.{reaches};
 
 use crate::lookups::{key, leaf, separator};
-use crate::maps::{images, spare_pages};
+use crate::machines::repeated;
+use crate::maps::{Images, images, spare_pages};
 use crate::plain::entry;
 use arrayvec::ArrayVec;
 use fsd_bytes::{Key, Refusal};
 use name_btree::{TreeFault, find, insert, remove, replace_same_size};
 use name_page::{Entry, Pages, VecPages, write_interior};
 use std::alloc::{AllocError, Global};
+use std::process::Abort;
 use std::test::Fail;
 
-// A root, two leaves, an interior page, and twelve spare pages. The keys of the right child are from m!1 on.
-fn table(alloc: Global, left: u32, right: u32) -> Result<VecPages, AllocError> {
-    let mut root = [0; 512];
-    write_interior(0, left, &[separator(b'm', 1, right)], &mut root);
-    let low = leaf(1, key(b'a', 1), key(b'b', 2), key(b'b', 5));
-    let high = leaf(2, key(b'p', 1), key(b'q', 3), key(b'q', 4));
+// A page whose keys of the right child are from m!1 on.
+fn root(left: u32, right: u32) -> [u8; 512] {
+    let mut image = repeated(0);
+    write_interior(0, left, &[separator(b'm', 1, right)], &mut image);
+    image
+}
+
+// A page of five children.
+fn above() -> [u8; 512] {
     let ways = [
         separator(b'p', 1, 5),
         separator(b'q', 1, 6),
         separator(b'r', 1, 7),
         separator(b's', 1, 8),
     ];
-    let mut above = [0; 512];
-    write_interior(3, 4, &ways, &mut above);
-    let mut pages = vec![in alloc; [0; 512]; 16]?;
-    let mut spare = vec![in alloc; true; 16]?;
-    pages[0] = root;
+    let mut image = repeated(0);
+    write_interior(3, 4, &ways, &mut image);
+    image
+}
+
+// A root, two leaves, an interior page, and twelve spare pages.
+fn table(alloc: Global, left: u32, right: u32) -> Result<VecPages, AllocError> {
+    let low = leaf(1, key(b'a', 1), key(b'b', 2), key(b'b', 5));
+    let high = leaf(2, key(b'p', 1), key(b'q', 3), key(b'q', 4));
+    let mut pages = vec![in alloc; repeated(0); 16]?;
+    pages[0] = root(left, right);
     pages[1] = low;
     pages[2] = high;
-    pages[3] = above;
+    pages[3] = above();
+    let mut spare = vec![in alloc; true; 16]?;
     spare[0] = false;
     spare[1] = false;
     spare[2] = false;
@@ -85,45 +97,66 @@ fn replace(t: &mut VecPages, entry: &Entry) -> Result<(), TreeFault>
     }
 }
 
+// Puts version 9 of a name in, and takes this one out.
+fn put_over(t: &mut VecPages, last: u8, version: u32) -> Result<(), TreeFault> {
+    let Some(entry) = entry(&key(last, 9), 2, 0) else {
+        return Ok(());
+    };
+    let mut gone = ArrayVec::new();
+    gone.push(key(last, version));
+    put(t, &entry, &gone)
+}
+
+// A table has these pages, and so many that are spare.
+fn stays(
+    rt: &impl Abort,
+    alloc: Global,
+    t: &mut VecPages,
+    before: &Images,
+    spare: u32,
+) -> Result<(), AllocError> {
+    assert_eq!(rt; images(t, alloc)?, *before);
+    assert_eq!(rt; spare_pages(t), spare);
+    Ok(())
+}
+
 // A child that is page 0 again; two leaves in each other's place, of which a walk meets page 2 first; a leaf out of
 // order behind a spare page, which refuses the walk; a child past the table's end, so that page 0 is refused;
 // and an interior page beside a leaf.
+const BROKEN: [(u32, u32, u8, u32, TreeFault); 5] = [
+    (1, 0, b'q', 3, TreeFault::Broken(0)),
+    (2, 1, b'q', 3, TreeFault::Broken(2)),
+    (4, 1, b'q', 3, TreeFault::Pages(Refusal::Unsound(104))),
+    (1, 16, b'q', 3, TreeFault::Pages(Refusal::Unsound(100))),
+    (1, 3, b'a', 1, TreeFault::Broken(3)),
+];
+
 #[test]
 fn broken_tables_are_not_changed(rt: HostRuntime) -> Result<(), Fail> {
-    for (left, right, last, version, fault) in [
-        (1, 0, b'q', 3, TreeFault::Broken(0)),
-        (2, 1, b'q', 3, TreeFault::Broken(2)),
-        (4, 1, b'q', 3, TreeFault::Pages(Refusal::Unsound(104))),
-        (1, 16, b'q', 3, TreeFault::Pages(Refusal::Unsound(100))),
-        (1, 3, b'a', 1, TreeFault::Broken(3)),
-    ] {
+    for (left, right, last, version, fault) in BROKEN {
         let mut t = table(rt.alloc(), left, right)?;
         let before = images(&mut t, rt.alloc())?;
         let spare = spare_pages(&mut t);
         t.renew();
         assert_eq!(rt; remove(&mut t, &key(last, version)), Err(fault));
-        assert_eq!(rt; images(&mut t, rt.alloc())?, before);
-        assert_eq!(rt; spare_pages(&mut t), spare);
-        if let Some(entry) = entry(&key(last, 9), 2, 0) {
-            let mut gone = ArrayVec::new();
-            gone.push(key(last, version));
-            assert_eq!(rt; put(&mut t, &entry, &gone), Err(fault));
-        }
-        assert_eq!(rt; images(&mut t, rt.alloc())?, before);
-        assert_eq!(rt; spare_pages(&mut t), spare);
+        stays(&rt, rt.alloc(), &mut t, &before, spare)?;
+        assert_eq!(rt; put_over(&mut t, last, version), Err(fault));
+        stays(&rt, rt.alloc(), &mut t, &before, spare)?;
     }
     Ok(())
 }
 
 // The interior page beside a leaf is not met where an entry only comes, or is replaced.
+const NAMED: [(u32, u32, TreeFault); 4] = [
+    (1, 0, TreeFault::Broken(0)),
+    (2, 1, TreeFault::Broken(2)),
+    (4, 1, TreeFault::Pages(Refusal::Unsound(104))),
+    (1, 16, TreeFault::Pages(Refusal::Unsound(100))),
+];
+
 #[test]
 fn the_page_that_breaks_the_table_is_named(rt: HostRuntime) -> Result<(), Fail> {
-    for (left, right, fault) in [
-        (1, 0, TreeFault::Broken(0)),
-        (2, 1, TreeFault::Broken(2)),
-        (4, 1, TreeFault::Pages(Refusal::Unsound(104))),
-        (1, 16, TreeFault::Pages(Refusal::Unsound(100))),
-    ] {
+    for (left, right, fault) in NAMED {
         let mut t = table(rt.alloc(), left, right)?;
         if let Some(entry) = entry(&key(b'q', 3), 2, 0) {
             assert_eq!(rt; put(&mut t, &entry, &ArrayVec::new()), Err(fault));

@@ -143,31 +143,57 @@ fn same_pages(rt: &impl Abort, desk: &mut Desk, pages: &mut VecPages) -> Result<
     Ok(())
 }
 
-// A table grows until it is full, and shrinks again. In the end its pages stand at home.
+// The table grows until it is full.
+fn fill(
+    rt: &impl Abort,
+    alloc: Global,
+    desk: &mut Desk,
+    pages: &mut VecPages,
+    seed: &mut u64,
+) -> Result<(), Fail> {
+    let full = run(rt, desk, pages, seed, 3000, 14)?;
+    assert!(rt; full > 10);
+    assert!(rt; desk.free_count() < 40);
+    same_walk(rt, alloc, desk, pages)
+}
+
+// The table shrinks again.
+fn empty(
+    rt: &impl Abort,
+    alloc: Global,
+    desk: &mut Desk,
+    pages: &mut VecPages,
+    seed: &mut u64,
+) -> Result<(), Fail> {
+    shrink(rt, desk, pages, seed, 700)?;
+    run(rt, desk, pages, seed, 300, 2)?;
+    assert!(rt; desk.free_count() > 100);
+    same_walk(rt, alloc, desk, pages)
+}
+
+// Both tables, of one empty leaf.
+fn both(alloc: Global) -> Result<(Desk, VecPages), Fail> {
+    let desk = Desk::new(alloc)?;
+    let pages = in_memory(alloc, PAGES, desk.home_a())?;
+    Ok((desk, pages))
+}
+
+// A table grows and shrinks. In the end its pages stand at home.
 #[test]
 fn calls_answer_as_over_pages_in_memory(rt: HostRuntime) -> Result<(), Fail> {
     let alloc = rt.alloc();
-    let mut desk = Desk::new(alloc)?;
-    let mut pages = in_memory(alloc, PAGES, desk.home_a())?;
+    let (mut desk, mut pages) = both(alloc)?;
     let mut seed = 1;
-    let full = run(&rt, &mut desk, &mut pages, &mut seed, 3000, 14)?;
-    assert!(rt; full > 10);
-    assert!(rt; desk.free_count() < 40);
-    same_walk(&rt, alloc, &mut desk, &mut pages)?;
-    shrink(&rt, &mut desk, &mut pages, &mut seed, 700)?;
-    run(&rt, &mut desk, &mut pages, &mut seed, 300, 2)?;
-    assert!(rt; desk.free_count() > 100);
-    same_walk(&rt, alloc, &mut desk, &mut pages)?;
+    fill(&rt, alloc, &mut desk, &mut pages, &mut seed)?;
+    empty(&rt, alloc, &mut desk, &mut pages, &mut seed)?;
     same_pages(&rt, &mut desk, &mut pages)?;
     let mut desk = desk.again(alloc, &[])?;
-    same_pages(&rt, &mut desk, &mut pages)?;
-    Ok(())
+    same_pages(&rt, &mut desk, &mut pages)
 }
 
 // Both tables, grown by so many calls.
 fn grown(rt: &impl Abort, alloc: Global, calls: u32) -> Result<(Desk, VecPages), Fail> {
-    let mut desk = Desk::new(alloc)?;
-    let mut pages = in_memory(alloc, PAGES, desk.home_a())?;
+    let (mut desk, mut pages) = both(alloc)?;
     let mut seed = 7;
     run(rt, &mut desk, &mut pages, &mut seed, calls, 14)?;
     Ok((desk, pages))
@@ -192,6 +218,24 @@ fn failed_walk(
 }
 
 // The page whose read fails is the one that the walk has marked last.
+fn marks_last(
+    rt: &impl Abort,
+    alloc: Global,
+    desk: Desk,
+    pages: &mut VecPages,
+    call: u64,
+) -> Result<Desk, Fail> {
+    let home_a = desk.home_a();
+    let (earlier, _, before) = failed_walk(rt, alloc, desk, pages, call)?;
+    let (later, place, marks) = failed_walk(rt, alloc, earlier, pages, call.wrapping_add(1))?;
+    let page = place.wrapping_sub(home_a) as usize;
+    assert_eq!(rt;
+        (before.get(page), marks.get(page)),
+        (Some(&false), Some(&true))
+    );
+    Ok(later)
+}
+
 // The attach is the first call, and page 0 is read next.
 #[test]
 fn a_walk_tells_the_read_that_failed(rt: HostRuntime) -> Result<(), Fail> {
@@ -201,14 +245,7 @@ fn a_walk_tells_the_read_that_failed(rt: HostRuntime) -> Result<(), Fail> {
     let (mut desk, place, _) = failed_walk(&rt, alloc, desk, &mut pages, 2)?;
     assert_eq!(rt; place, home_a);
     for call in [20, 200, 400] {
-        let (earlier, _, before) = failed_walk(&rt, alloc, desk, &mut pages, call)?;
-        let (later, place, marks) = failed_walk(&rt, alloc, earlier, &mut pages, call + 1)?;
-        let page = place.wrapping_sub(home_a) as usize;
-        assert_eq!(rt;
-            (before.get(page), marks.get(page)),
-            (Some(&false), Some(&true))
-        );
-        desk = later;
+        desk = marks_last(&rt, alloc, desk, &mut pages, call)?;
     }
     Ok(())
 }

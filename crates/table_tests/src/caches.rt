@@ -7,6 +7,7 @@ use crate::desk::damaged;
 use page_cache::{Cache, Frame, PageSource};
 use sector_disk::{LoadFault, Machine, MemoryMachine};
 use std::alloc::Global;
+use std::process::Abort;
 use std::test::Fail;
 
 // Pages whose bytes are all the page's number.
@@ -77,6 +78,19 @@ fn fetched(cache: &mut Cache, m: &mut MemoryMachine, page: u32) -> Option<Frame>
     }
 }
 
+// Page 2 is pinned no more and none is dirty. The pages 0 and 1 are written.
+fn write_two(rt: &impl Abort, cache: &mut Cache)
+    requires { HasMarks cache.old }
+{
+    cache.unpin(2);
+    cache.cleaned();
+    assert_eq!(rt; cache.dirty_list().len(), 0);
+    cache.bytes_mut(0)[8] = 7;
+    let (one, other) = cache.two_mut(1, 0);
+    other[9] = one[0];
+    assert_eq!(rt; (other[8], other[9]), (7, 1));
+}
+
 #[test]
 fn the_least_recently_used_page_that_may_go_goes(rt: HostRuntime) -> Result<(), Fail> {
     let alloc = rt.alloc();
@@ -92,12 +106,6 @@ fn the_least_recently_used_page_that_may_go_goes(rt: HostRuntime) -> Result<(), 
     // 4 is used again, so 5 goes.
     assert_eq!(rt; fetched(&mut cache, &mut m, 4), Some(4));
     assert_eq!(rt; fetched(&mut cache, &mut m, 3), Some(5));
-    cache.unpin(2);
-    cache.cleaned();
-    assert_eq!(rt; cache.dirty_list().len(), 0);
-    cache.bytes_mut(0)[8] = 7;
-    let (one, other) = cache.two_mut(1, 0);
-    other[9] = one[0];
-    assert_eq!(rt; (other[8], other[9]), (7, 1));
+    write_two(&rt, &mut cache);
     Ok(())
 }

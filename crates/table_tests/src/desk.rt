@@ -5,6 +5,7 @@ ghost use Rattle.name_btree.specs.Walk.{AreMarksOf};
 ghost use Rattle.page_cache.specs.Cache.{pins_of};
 
 use crate::calls::{Answer, carry_out, image_of};
+use crate::formats::planned;
 use fsd_bytes::Refusal;
 use fsd_formats::Anchor;
 use group_commit::Newest;
@@ -72,7 +73,7 @@ pub(crate) struct Desk {
 impl Desk {
     /// A table of one empty leaf.
     pub(crate) fn new(alloc: Global) -> Result<Desk, Fail> {
-        let layout = Layout::plan(2048, 200, PAGES)?;
+        let layout = planned(2048, 200, PAGES)?;
         let mut m = damaged(alloc, 2048)?;
         attached(&mut m, &layout)?;
         format(&mut m, &layout)?;

@@ -1,6 +1,6 @@
 //! Tests of the name table: its tree over pages in memory, and over a small cache of pages that stand on a machine.
 //! Also of what it stands on: texts, fields and runs, where everything lies, the machine in memory, records and the log,
-//! frames, the cache and the free pages.
+//! frames, the cache and the free pages; and of the allocation map, the sectors that wait, versions and the real file.
 #![tactic(auto)]
 
 #[cfg(test)]
@@ -11,6 +11,8 @@ mod cached;
 mod caches;
 #[cfg(test)]
 mod calls;
+#[cfg(test)]
+mod choices;
 #[cfg(test)]
 mod desk;
 #[cfg(test)]
@@ -30,6 +32,14 @@ mod maps;
 #[cfg(test)]
 mod pages;
 #[cfg(test)]
+mod placing;
+#[cfg(test)]
 mod plain;
 #[cfg(test)]
 mod records;
+#[cfg(test)]
+mod slots;
+#[cfg(test)]
+mod versions;
+#[cfg(test)]
+mod waits;

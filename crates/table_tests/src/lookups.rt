@@ -60,25 +60,31 @@ fn table(alloc: Global, left: u32, right: u32) -> Result<VecPages, AllocError>
     Ok(VecPages::new(pages, vec![in alloc; false; 3]?, 100))
 }
 
+// The last byte of a name, a version, and whether it stands.
+const KEYS: [(u8, u32, bool); 4] = [
+    (b'a', 1, true),
+    (b'b', 5, true),
+    (b'b', 9, false),
+    (b'q', 3, true),
+];
+
 #[test]
 fn keys_are_found(rt: HostRuntime) -> Result<(), Fail> {
     let mut t = table(rt.alloc(), 1, 2)?;
-    for (last, version, stands) in [
-        (b'a', 1, true),
-        (b'b', 5, true),
-        (b'b', 9, false),
-        (b'q', 3, true),
-    ] {
+    for (last, version, stands) in KEYS {
         t.rest();
         assert_eq!(rt; find(&mut t, &key(last, version))?.is_some(), stands);
     }
     Ok(())
 }
 
+// The last byte of a name, and its highest version, or 0.
+const HIGHEST: [(u8, u32); 4] = [(b'a', 1), (b'b', 5), (b'c', 0), (b'q', 4)];
+
 #[test]
 fn highest_versions_are_found(rt: HostRuntime) -> Result<(), Fail> {
     let mut t = table(rt.alloc(), 1, 2)?;
-    for (last, version) in [(b'a', 1), (b'b', 5), (b'c', 0), (b'q', 4)] {
+    for (last, version) in HIGHEST {
         t.rest();
         let found = highest(&mut t, &name(last))?;
         assert_eq!(rt; found.map_or(0, |f| f.entry.key.version), version);
@@ -86,18 +92,20 @@ fn highest_versions_are_found(rt: HostRuntime) -> Result<(), Fail> {
     Ok(())
 }
 
+const IN_ORDER: [(u8, u32); 6] = [
+    (b'a', 1),
+    (b'b', 2),
+    (b'b', 5),
+    (b'p', 1),
+    (b'q', 3),
+    (b'q', 4),
+];
+
 #[test]
 fn entries_come_in_order(rt: HostRuntime) -> Result<(), Fail> {
     let mut t = table(rt.alloc(), 1, 2)?;
     let mut last = None;
-    for (letter, version) in [
-        (b'a', 1),
-        (b'b', 2),
-        (b'b', 5),
-        (b'p', 1),
-        (b'q', 3),
-        (b'q', 4),
-    ] {
+    for (letter, version) in IN_ORDER {
         t.rest();
         let found = next_after(&mut t, last.as_ref())?;
         last = found.map(|f| f.entry.key);
@@ -108,10 +116,13 @@ fn entries_come_in_order(rt: HostRuntime) -> Result<(), Fail> {
     Ok(())
 }
 
+// The last byte of a name, a version, and whether it stands to be replaced.
+const REPLACED: [(u8, u32, bool); 3] = [(b'b', 5, true), (b'b', 9, false), (b'q', 3, true)];
+
 #[test]
 fn entries_are_replaced(rt: HostRuntime) -> Result<(), Fail> {
     let mut t = table(rt.alloc(), 1, 2)?;
-    for (last, version, stands) in [(b'b', 5, true), (b'b', 9, false), (b'q', 3, true)] {
+    for (last, version, stands) in REPLACED {
         let Some(entry) = entry(&key(last, version), 7, 0) else {
             return Ok(());
         };
@@ -127,13 +138,16 @@ fn entries_are_replaced(rt: HostRuntime) -> Result<(), Fail> {
     Ok(())
 }
 
+// The children of a root, and what a look-up tells.
+const BROKEN: [(u32, u32, TreeFault); 3] = [
+    (2, 1, TreeFault::Broken(1)),
+    (1, 0, TreeFault::Broken(0)),
+    (1, 3, TreeFault::Pages(Refusal::Unsound(100))),
+];
+
 #[test]
 fn broken_tables_are_told(rt: HostRuntime) -> Result<(), Fail> {
-    for (left, right, fault) in [
-        (2, 1, TreeFault::Broken(1)),
-        (1, 0, TreeFault::Broken(0)),
-        (1, 3, TreeFault::Pages(Refusal::Unsound(100))),
-    ] {
+    for (left, right, fault) in BROKEN {
         let mut t = table(rt.alloc(), left, right)?;
         assert_eq!(rt; find(&mut t, &key(b'q', 3)).err(), Some(fault));
     }

@@ -28,87 +28,91 @@ fn tried<M: Machine>(m: &mut M) -> Result<(bool, bool), Failed>
     Ok((writes, takes))
 }
 
+// A machine of two sectors that may wear and three bytes of input, to which this happens.
+fn with_event(alloc: Global, event: Event) -> Result<MemoryMachine, AllocError> {
+    let image = vec![in alloc; HURT; 2]?;
+    let pairs = vec![in alloc; 1]?;
+    let events = vec![in alloc; event]?;
+    prove!(pairs.len() == 1);
+    MemoryMachine::new(alloc, image, pairs, events, [1, 2, 3].to_vec(alloc)?)
+}
+
+// What is to happen; whether the second write and then the `take` answer Ok, honesty, and what stands at the end.
+const EVENTS: [(Event, bool, bool, bool, [Sector; 2]); 9] = [
+    (Event::Pieces { most: 2 }, true, true, true, [NEW, NEW]),
+    (
+        Event::FailCall { call: 3, stand: 1 },
+        false,
+        true,
+        true,
+        [NEW, OLD],
+    ),
+    (
+        Event::FailCall { call: 5, stand: 0 },
+        true,
+        false,
+        true,
+        [NEW, NEW],
+    ),
+    (
+        Event::FailIn {
+            first: 0,
+            nth: 2,
+            stand: 1,
+        },
+        false,
+        true,
+        true,
+        [NEW, OLD],
+    ),
+    (Event::Stop { after: 3 }, false, false, true, [NEW, OLD]),
+    (
+        Event::StopIn {
+            first: 0,
+            nth: 2,
+            stand: 0,
+        },
+        false,
+        false,
+        true,
+        [OLD, OLD],
+    ),
+    (
+        Event::HurtAt {
+            sector: 1,
+            when: When::Call(3),
+        },
+        true,
+        true,
+        true,
+        [NEW, NEW],
+    ),
+    (
+        Event::HurtAt {
+            sector: 1,
+            when: When::Settle,
+        },
+        true,
+        true,
+        true,
+        [NEW, HURT],
+    ),
+    (
+        Event::HurtAt {
+            sector: 0,
+            when: When::Call(5),
+        },
+        true,
+        true,
+        false,
+        [HURT, NEW],
+    ),
+];
+
 #[test]
 fn events_come_where_they_say(rt: HostRuntime) -> Result<(), Fail> {
-    let alloc = rt.alloc();
-    let input = [1, 2, 3];
-    // What is to happen; whether the second write and then the `take` answer Ok, honesty, and what stands at the end.
-    let rows = [
-        (Event::Pieces { most: 2 }, true, true, true, [NEW, NEW]),
-        (
-            Event::FailCall { call: 3, stand: 1 },
-            false,
-            true,
-            true,
-            [NEW, OLD],
-        ),
-        (
-            Event::FailCall { call: 5, stand: 0 },
-            true,
-            false,
-            true,
-            [NEW, NEW],
-        ),
-        (
-            Event::FailIn {
-                first: 0,
-                nth: 2,
-                stand: 1,
-            },
-            false,
-            true,
-            true,
-            [NEW, OLD],
-        ),
-        (Event::Stop { after: 3 }, false, false, true, [NEW, OLD]),
-        (
-            Event::StopIn {
-                first: 0,
-                nth: 2,
-                stand: 0,
-            },
-            false,
-            false,
-            true,
-            [OLD, OLD],
-        ),
-        (
-            Event::HurtAt {
-                sector: 1,
-                when: When::Call(3),
-            },
-            true,
-            true,
-            true,
-            [NEW, NEW],
-        ),
-        (
-            Event::HurtAt {
-                sector: 1,
-                when: When::Settle,
-            },
-            true,
-            true,
-            true,
-            [NEW, HURT],
-        ),
-        (
-            Event::HurtAt {
-                sector: 0,
-                when: When::Call(5),
-            },
-            true,
-            true,
-            false,
-            [HURT, NEW],
-        ),
-    ];
-    for (event, writes, takes, honest, end) in rows {
-        let image = vec![in alloc; HURT; 2]?;
-        let pairs = vec![in alloc; 1]?;
-        let events = vec![in alloc; event]?;
-        prove!(pairs.len() == 1);
-        let mut m = MemoryMachine::new(alloc, image, pairs, events, input.to_vec(alloc)?)?;
+    for (event, writes, takes, honest, end) in EVENTS {
+        let mut m = with_event(rt.alloc(), event)?;
         let sectors = m.attach("v", Attach::Old)?;
         assert!(rt; sectors >= 2);
         assert_eq!(rt; tried(&mut m)?, (writes, takes));

@@ -41,7 +41,8 @@ impl Seen {
 /// The bytes of each page, if it may be reached.
 pub(crate) type Images = Vec<Option<[u8; 512]>>;
 
-fn count(times: &mut u32) {
+/// One more.
+pub(crate) fn count(times: &mut u32) {
     *times = times.wrapping_add(1);
 }
 
@@ -347,20 +348,23 @@ fn holds_what_the_map_holds(rt: HostRuntime) -> Result<(), Fail> {
     Ok(())
 }
 
+// The number of an entry that comes, and then the pages in use and the head of page 0.
+const PARTED: [(u32, u32, (u8, u16)); 8] = [
+    (1, 1, (1, 66)),
+    (2, 1, (1, 132)),
+    (3, 1, (1, 198)),
+    (4, 1, (1, 264)),
+    (5, 1, (1, 330)),
+    (6, 1, (1, 396)),
+    (7, 1, (1, 462)),
+    (8, 3, (2, 53)),
+];
+
 #[test]
 fn the_eighth_entry_parts_page_0(rt: HostRuntime) -> Result<(), Fail> {
     let alloc = rt.alloc();
     let mut beside = Beside::new(alloc)?;
-    for (i, pages, first) in [
-        (1, 1, (1, 66)),
-        (2, 1, (1, 132)),
-        (3, 1, (1, 198)),
-        (4, 1, (1, 264)),
-        (5, 1, (1, 330)),
-        (6, 1, (1, 396)),
-        (7, 1, (1, 462)),
-        (8, 3, (2, 53)),
-    ] {
+    for (i, pages, first) in PARTED {
         let key = Key {
             name: name(i),
             version: 1,

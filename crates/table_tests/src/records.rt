@@ -3,6 +3,7 @@ use crate::logs::image_in;
 use fsd_bytes::{u16_at, u32_at};
 use fsd_formats::Anchor;
 use log_record::{Judged, anchor_bytes, judge, lay, read_anchor};
+use std::process::Abort;
 
 // Room for seven sectors.
 fn room() -> [u8; 3584] {
@@ -16,8 +17,8 @@ fn laid() -> [u8; 3584] {
     out
 }
 
-// One of its sectors.
-fn sector(out: &[u8; 3584], k: usize) -> [u8; 512] {
+/// One of the sectors of a record.
+pub(crate) fn sector(out: &[u8; 3584], k: usize) -> [u8; 512] {
     let mut b = [0; 512];
     if k < 7 {
         b.copy_from_slice(&out[512 * k..512 * k + 512]);
@@ -31,23 +32,30 @@ fn judged(bytes: &[u8; 3584]) -> Judged {
     judge(&whole, bytes, 16, 2, 1)
 }
 
+// The header is of one page, which is 0.
+fn has_header(rt: &impl Abort, header: &[u8; 512]) {
+    assert_eq!(rt; (u32_at(header, 4), u32_at(header, 8)), (2, 1));
+    assert_eq!(rt; (u16_at(header, 12), u32_at(header, 32)), (1, 0));
+}
+
+// How each sector of a record begins.
+const BEGINNINGS: [(usize, u32); 7] = [
+    (0, 0x434c_4844),
+    (1, 0),
+    (2, 0x434c_4844),
+    (3, 0x434e_5047),
+    (4, 0x434c_454e),
+    (5, 0x434e_5047),
+    (6, 0x434c_454e),
+];
+
 #[test]
-fn records_and_anchors_lie_as_the_format_says(rt: HostRuntime) {
+fn records_lie_as_the_format_says(rt: HostRuntime) {
     let out = laid();
-    for (k, magic) in [
-        (0, 0x434c_4844),
-        (1, 0),
-        (2, 0x434c_4844),
-        (3, 0x434e_5047),
-        (4, 0x434c_454e),
-        (5, 0x434e_5047),
-        (6, 0x434c_454e),
-    ] {
+    for (k, magic) in BEGINNINGS {
         assert_eq!(rt; u32_at(&sector(&out, k), 0), magic);
     }
-    let header = sector(&out, 0);
-    assert_eq!(rt; (u32_at(&header, 4), u32_at(&header, 8)), (2, 1));
-    assert_eq!(rt; (u16_at(&header, 12), u32_at(&header, 32)), (1, 0));
+    has_header(&rt, &sector(&out, 0));
     match judged(&out) {
         Judged::Good(f) => {
             assert_eq!(rt; (f.n, f.header_copy, f.end_copy), (1, false, true));
@@ -56,7 +64,10 @@ fn records_and_anchors_lie_as_the_format_says(rt: HostRuntime) {
         }
         Judged::NotThere => assert!(rt; false),
     }
+}
 
+#[test]
+fn anchors_lie_as_the_format_says(rt: HostRuntime) {
     let anchor = Anchor {
         epoch: 1,
         third: 0,
