@@ -11,7 +11,7 @@ use Rattle.sector_disk.specs.Machine.{Before, Elapses, Finds, LeavesOnly, Moment
 use Rattle.sector_disk.proofs.Moments.{goes_on, leaves_more, started, then_on}
 use Rattle.sector_disk.proofs.Wear.{worn_trans}
 use Rattle.fsd_files.specs.Files.{Change}
-use Rattle.fsd_files.specs.Disk.{in_runs}
+use Rattle.fsd_files.specs.Disk.{Image, in_runs}
 use Rattle.fsd_sound.specs.Sound.{weak_of}
 use Rattle.fsd_sound.proofs.WindowLaws.{named_from}
 use Rattle.fsd_sound.proofs.MoreLaws.{wear_sound}
@@ -22,7 +22,7 @@ use Rattle.fsd_texts.specs.Text.{fault_text}
 use Rattle.fsd_runs.specs.declared.request.Request.{Request}
 use Rattle.fsd_runs.specs.declared.request.Request.TheVariants.{Put}
 use Rattle.fsd_runs.specs.Errands.{Cut, Turn}
-use Rattle.fsd_runs.specs.Leaves.{CutCause, IsBroken, IsOutside, IsReplied, IsSpent, IsUnsaid, LeavesMounted, LeavesRun, LeavesUnmounted, Left, LeftBefore, LeftSince, SaysFault}
+use Rattle.fsd_runs.specs.Leaves.{CutCause, IsBroken, IsOutside, IsReplied, IsSpent, IsUndone, IsUnsaid, LeavesMounted, LeavesRun, LeavesUnmounted, Left, LeftBefore, LeftSince, SaysFault}
 use Rattle.fsd_runs.specs.Runs.{Goes, IsCutAt, IsThrough, Run, errand_in, run_end, run_status, run_turns, said_in}
 use Rattle.volume_contract.specs.Mount.{IsSoundAt}
 use Rattle.volume_turns.specs.Status.{CountsNone}
@@ -122,19 +122,20 @@ module _ (l : Layout) (windows : List WeakRun) (h : List Change) (f : ℕ) (old 
       unsaid_on : IsUnsaid b c status → IsUnsaid a c status
       unsaid_on x = record { ends = x.ends; rose = rose_on a.output_faults b.output_faults c.output_faults same.output x.rose }
 
-      broken_on : (turns : List Turn) → IsBroken request b c turns at new status → IsBroken request a c turns old new status
+      broken_on : {Undone : ℕ → Image → Type 0} (turns : List Turn) → IsBroken request Undone b c turns at new status → IsBroken request Undone a c turns old new status
       broken_on turns x = record {
         why = x.why;
         outside = outside_on request a b c x.why same x.outside;
         ends = x.ends;
         says = record { whole = x.says.whole; more = x.says.more; said = x.says.said ∙ ap (λ (s : List ℕ). s ++ (said_in (take x.says.whole turns) ++ fault_text x.why)) found.said };
+        undone = x.undone;
       }
 
-      failed_on : (turns : List Turn) → IsUnsaid b c status ⊎ IsBroken request b c turns at new status → IsUnsaid a c status ⊎ IsBroken request a c turns old new status
+      failed_on : {Undone : ℕ → Image → Type 0} (turns : List Turn) → IsUnsaid b c status ⊎ IsBroken request Undone b c turns at new status → IsUnsaid a c status ⊎ IsBroken request Undone a c turns old new status
       failed_on turns (inl x) = inl (unsaid_on x)
       failed_on turns (inr x) = inr (broken_on turns x)
 
-      spent_or : (turns : List Turn) → IsSpent at new status ⊎ (IsUnsaid b c status ⊎ IsBroken request b c turns at new status) → IsSpent old new status ⊎ (IsUnsaid a c status ⊎ IsBroken request a c turns old new status)
+      spent_or : {Undone : ℕ → Image → Type 0} (turns : List Turn) → IsSpent at new status ⊎ (IsUnsaid b c status ⊎ IsBroken request Undone b c turns at new status) → IsSpent old new status ⊎ (IsUnsaid a c status ⊎ IsBroken request Undone a c turns old new status)
       spent_or turns (inl x) = inl (spent_on new status x)
       spent_or turns (inr x) = inr (failed_on turns x)
 
@@ -168,8 +169,8 @@ module _ {D : Type 0} (M : Ghosts D) (request : Request) (input rest : List ℕ)
     replied_on : IsReplied l windows m.next h m.count turns (run_status m.run) (run_end m.run) (M.now b) (M.now c) status → IsReplied l windows m.next h m.count turns (run_status m.run) (run_end m.run) (M.now a) (M.now c) status
     replied_on x = record { ends = x.ends; said = x.said ∙ ap (λ (s : List ℕ). s ++ said_in turns) found.said; settled = x.settled; sound = x.sound; tells = x.tells }
 
-    ends_on : (IsThrough m.run × IsReplied l windows m.next h m.count turns (run_status m.run) (run_end m.run) (M.now b) (M.now c) status) ⊎ (IsUnsaid (M.report b) (M.report c) status ⊎ IsBroken request (M.report b) (M.report c) turns (M.now b) (M.now c) status)
-        → (IsThrough run_is × IsReplied l windows m.next h m.count (run_turns run_is) (run_status run_is) (run_end run_is) (M.now a) (M.now c) status) ⊎ (IsUnsaid (M.report a) (M.report c) status ⊎ IsBroken request (M.report a) (M.report c) (run_turns run_is) (M.now a) (M.now c) status)
+    ends_on : (IsThrough m.run × IsReplied l windows m.next h m.count turns (run_status m.run) (run_end m.run) (M.now b) (M.now c) status) ⊎ (IsUnsaid (M.report b) (M.report c) status ⊎ IsBroken request (IsUndone l (windows ++ m.next ∷ []) (take m.count h) m.count turns) (M.report b) (M.report c) turns (M.now b) (M.now c) status)
+        → (IsThrough run_is × IsReplied l windows m.next h m.count (run_turns run_is) (run_status run_is) (run_end run_is) (M.now a) (M.now c) status) ⊎ (IsUnsaid (M.report a) (M.report c) status ⊎ IsBroken request (IsUndone l (windows ++ m.next ∷ []) (take m.count h) m.count (run_turns run_is)) (M.report a) (M.report c) (run_turns run_is) (M.now a) (M.now c) status)
     ends_on (inl (through, replied)) = inl (through, replied_on replied)
     ends_on (inr failed) = inr (failed_on l windows h f (M.now a) sound short (M.now b) found request (M.report a) (M.report b) (M.report c) same (M.now c) status turns failed)
 

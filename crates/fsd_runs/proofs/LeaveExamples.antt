@@ -64,7 +64,7 @@ none_of_generated = refl
 broken_off : turns_of (scripted (Word.Force ∷ Word.Stat ∷ [], Done)) (plain ∷ []) default ≡ forced_turn ∷ blank ∷ []
 broken_off = refl
 
-a_fault_may_follow : SaysNext (Some blank) (codes "fault dev")
+a_fault_may_follow : SaysNext (Unit {0}) (Some blank) (codes "fault dev")
 unfolding digits
 a_fault_may_follow = inr (Rattle.fsd_texts.specs.declared.fault.Fault.TheVariants.Device 7, 9, tt, refl)
 

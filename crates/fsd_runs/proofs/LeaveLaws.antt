@@ -6,6 +6,7 @@ use Rattle.std.proofs.lemmas.List.{length-take, take-append-le}
 use Rattle.volume_layout.specs.declared.layout.Layout.{Layout}
 use Rattle.sector_disk.specs.declared.sector.WeakRun.{WeakRun}
 use Rattle.sector_disk.specs.Image.{Windows}
+use Rattle.fsd_files.specs.Disk.{Image}
 use Rattle.sector_disk.specs.Machine.{Moment, Report}
 use Rattle.fsd_files.specs.Files.{Change}
 use Rattle.fsd_sound.specs.Sound.{IsPrefixOf}
@@ -48,14 +49,14 @@ left_stays l windows run h f n turns old left prefix ends (inr s) =
     }
 
 -- a run that neither says all nor has a fault counted says that memory was refused
-pub broken_by_memory : (request : Request) (before after : Report) (turns : List Turn) (old new : Moment) (result : ℕ) → NoneRose before after
-    → IsUnsaid before after result ⊎ IsBroken request before after turns old new result → (result ≡ 7) × SaysThen turns memory_text old new
-broken_by_memory request before after turns old new result none (inl unsaid) = absurd (none.output unsaid.rose)
-broken_by_memory request before after turns old new result none (inr broken) = by request broken.why broken.outside broken.ends broken.says
+pub broken_by_memory : (request : Request) (Undone : ℕ → Image → Type 0) (before after : Report) (turns : List Turn) (old new : Moment) (result : ℕ) → NoneRose before after
+    → IsUnsaid before after result ⊎ IsBroken request Undone before after turns old new result → (result ≡ 7) × (x : SaysThen turns memory_text old new) × Undone x.whole new.image
+broken_by_memory request Undone before after turns old new result none (inl unsaid) = absurd (none.output unsaid.rose)
+broken_by_memory request Undone before after turns old new result none (inr broken) = by request broken.why broken.outside broken.ends broken.says broken.undone
   where
-    by : (r : Request) (why : Fault) → IsOutside r before after why → result ≡ fault_status why → SaysThen turns (fault_text why) old new
-        → (result ≡ 7) × SaysThen turns memory_text old new
-    by r (Ends.Device s) outside ends says = absurd (none.disk outside.rose)
-    by r Ends.Memory outside ends says = (ends, says)
-    by (Asks.Put name keep) Ends.Input outside ends says = absurd (none.input outside)
-    by r why outside ends says = absurd outside
+    by : (r : Request) (why : Fault) → IsOutside r before after why → result ≡ fault_status why → (x : SaysThen turns (fault_text why) old new) → (why ≡ Ends.Memory → Undone x.whole new.image)
+        → (result ≡ 7) × (x : SaysThen turns memory_text old new) × Undone x.whole new.image
+    by r (Ends.Device s) outside ends says undone = absurd (none.disk outside.rose)
+    by r Ends.Memory outside ends says undone = (ends, says, undone refl)
+    by (Asks.Put name keep) Ends.Input outside ends says undone = absurd (none.input outside)
+    by r why outside ends says undone = absurd outside

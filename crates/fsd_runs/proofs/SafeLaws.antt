@@ -1,9 +1,10 @@
 -- A run over a sound disk never ends as one whose mount is refused for what the disk has.
-use Rattle.std.proofs.Common.{◌≡◌, ◌⊎◌, inl, inr, ℕ, Bool, true, false, cond, List, [], ◌∷◌, length, Some, None, sym, ◌∙◌, arith}
+use Rattle.std.proofs.Common.{◌≡◌, ◌⊎◌, inl, inr, ℕ, Bool, true, false, cond, List, [], ◌∷◌, ◌++◌, length, take, Some, None, sym, ◌∙◌, arith}
 use Rattle.std.specs.Prelude.{nat_lt}
 use Rattle.volume_layout.specs.declared.layout.Layout.{Layout}
 use Rattle.sector_disk.specs.declared.sector.WeakRun.{WeakRun}
 use Rattle.sector_disk.specs.Machine.{Moment, Report}
+use Rattle.fsd_files.specs.Disk.{Image}
 use Rattle.fsd_files.specs.Files.{Change}
 use Rattle.fsd_files.specs.Replies.{Reply}
 use Rattle.fsd_texts.specs.declared.command.Command.{Command}
@@ -16,7 +17,7 @@ use Rattle.fsd_texts.specs.Script.{max_input, script_in}
 use Rattle.fsd_runs.specs.declared.request.Request.{Request}
 use Rattle.fsd_runs.specs.declared.request.Request.TheVariants as Asks
 use Rattle.fsd_runs.specs.Errands.{Answered, Cut, Errand, IfMounts, MayCut, Turn, alone, blank, errand_of, fault_status, nothing_but, reply_status, script_ending}
-use Rattle.fsd_runs.specs.Leaves.{IsBroken, IsOutside, IsReplied, IsSpent, IsUnsaid, LeavesMounted, LeavesRun, LeavesUnmounted}
+use Rattle.fsd_runs.specs.Leaves.{IsBroken, IsOutside, IsReplied, IsUndone, IsSpent, IsUnsaid, LeavesMounted, LeavesRun, LeavesUnmounted, Unbegun}
 use Rattle.fsd_runs.specs.Runs.{IsThrough, answered, errand_in, run_end, run_status, run_turns}
 
 abbrev NotThree : ℕ → Type 0
@@ -72,9 +73,9 @@ in_otherwise request input (Some x) may otherwise done e = cut_otherwise request
 
 -- ---- the whole
 
-broken_otherwise : (request : Request) (before after : Report) (turns : List Turn) (old new : Moment) (result : ℕ) → IsUnsaid before after result ⊎ IsBroken request before after turns old new result → NotThree result
-broken_otherwise request before after turns old new result (inl unsaid) e = let six = unsaid.ends in absurd (omega (arith, e, six))
-broken_otherwise request before after turns old new result (inr broken) e = by request broken.why broken.outside (sym broken.ends ∙ e)
+broken_otherwise : (request : Request) (Undone : ℕ → Image → Type 0) (before after : Report) (turns : List Turn) (old new : Moment) (result : ℕ) → IsUnsaid before after result ⊎ IsBroken request Undone before after turns old new result → NotThree result
+broken_otherwise request Undone before after turns old new result (inl unsaid) e = let six = unsaid.ends in absurd (omega (arith, e, six))
+broken_otherwise request Undone before after turns old new result (inr broken) e = by request broken.why broken.outside (sym broken.ends ∙ e)
   where
     by : (r : Request) (why : Fault) → IsOutside r before after why → NotThree (fault_status why)
     by r (Ends.Device s) outside e = absurd (omega (arith, e))
@@ -86,17 +87,17 @@ module _ (request : Request) (input rest : List ℕ) (l : Layout) (windows : Lis
   unmounted_otherwise : LeavesUnmounted request l windows h f Only before after old new result → NotThree result
   unmounted_otherwise u e = by u.ends
     where
-      by : IsSpent old new result ⊎ (IsUnsaid before after result ⊎ IsBroken request before after (blank ∷ []) old new result) → ⊥
+      by : IsSpent old new result ⊎ (IsUnsaid before after result ⊎ IsBroken request Unbegun before after (blank ∷ []) old new result) → ⊥
       by (inl spent) = let nine = spent.ends in omega (arith, e, nine)
-      by (inr other) = broken_otherwise request before after (blank ∷ []) old new result other e
+      by (inr other) = broken_otherwise request Unbegun before after (blank ∷ []) old new result other e
 
   mounted_otherwise : EndsOtherwise (errand_of request input) → LeavesMounted request input rest l windows h f Past began Only before after old new result → NotThree result
   mounted_otherwise otherwise m e = by m.ends
     where
       by : (IsThrough m.run × IsReplied l windows m.next h m.count (run_turns m.run) (run_status m.run) (run_end m.run) old new result)
-          ⊎ (IsUnsaid before after result ⊎ IsBroken request before after (run_turns m.run) old new result) → ⊥
+          ⊎ (IsUnsaid before after result ⊎ IsBroken request (IsUndone l (windows ++ m.next ∷ []) (take m.count h) m.count (run_turns m.run)) before after (run_turns m.run) old new result) → ⊥
       by (inl through) = in_otherwise request input m.run.cut m.run.may otherwise (answered m.run.mets m.volume (errand_in request input m.run.cut).commands) (sym through.1.ends ∙ e)
-      by (inr other) = broken_otherwise request before after (run_turns m.run) old new result other e
+      by (inr other) = broken_otherwise request (IsUndone l (windows ++ m.next ∷ []) (take m.count h) m.count (run_turns m.run)) before after (run_turns m.run) old new result other e
 
   run_otherwise : EndsOtherwise (errand_of request input) → LeavesRun request input rest l windows h f Past began Only before after old new result → NotThree result
   run_otherwise otherwise (inl u) = unmounted_otherwise u

@@ -1,5 +1,5 @@
 -- What a stop at any moment of a run leaves, and how the run ends.
-use Rattle.std.specs.Prelude.{◌≡◌, ◌⊎◌, ◌<◌, ◌≤◌, ⊤, ℕ, suc, ◌+◌, List, [], ◌∷◌, ◌++◌, length, take, Option, Some, None, IsSome, slice_get}
+use Rattle.std.specs.Prelude.{◌≡◌, ◌⊎◌, ◌<◌, ◌≤◌, ⊤, ℕ, suc, ◌+◌, List, [], ◌∷◌, ◌++◌, length, take, Option, Some, None, IsSome, IsTrue, slice_get}
 use Rattle.std.specs.List.{last_or}
 use Rattle.volume_layout.specs.declared.layout.Layout.{Layout}
 use Rattle.sector_disk.specs.declared.sector.WeakRun.{WeakRun}
@@ -43,10 +43,10 @@ abbrev pub SaysFault : List ℕ → Type 0
 SaysFault part = (why : Fault) × (heard : ℕ) × MayEnd why × (part ≡ take heard (fault_text why))
 
 -- what may follow some whole turns: the beginning of the next one's text, or of a fault that ends the run there;
--- nothing behind the last turn
-abbrev pub SaysNext : Option Turn → List ℕ → Type 0
-SaysNext None part = part ≡ []
-SaysNext (Some turn) part = BeginsOnly turn.said part ⊎ SaysFault part
+-- nothing behind the last turn. Where a turn tells what is forced, this is so before the first byte of its text.
+abbrev pub SaysNext : (Forced : Type 0) → Option Turn → List ℕ → Type 0
+SaysNext Forced None part = part ≡ []
+SaysNext Forced (Some turn) part = (BeginsOnly turn.said part × (0 < length part → IsTrue turn.forces → Forced)) ⊎ SaysFault part
 
 -- ---- what a stop leaves
 
@@ -68,8 +68,8 @@ pub record LeftSince (l : Layout) (windows : List WeakRun) (run : WeakRun) (h : 
   pub whole : ℕ
   pub part : List ℕ
   pub said : left.said ≡ old.said ++ (said_in (take whole turns) ++ part)
-  pub next : SaysNext (slice_get turns whole) part
   pub forced : ℕ
+  pub next : SaysNext (forced_in (take (suc whole) turns) ≤ forced) (slice_get turns whole) part
   pub enough : forced_in (take whole turns) ≤ forced
   pub sound : IsSound l (windows ++ run ∷ []) (take n h ++ changes_in (take (suc whole) turns)) (n + forced) left.image
 
@@ -101,12 +101,25 @@ IsOutside request before after Ends.Memory = ⊤
 IsOutside (Put name keep) before after Ends.Input = Rose before.input_faults after.input_faults
 IsOutside request before after other = ⊥
 
+-- The turns that are said whole are all that was done: the image is sound for the changes that were found and theirs
+-- alone, not for those of the one under way, with those forced that are forced by what is said.
+pub record IsUndone (l : Layout) (windows : List WeakRun) (h : List Change) (n : ℕ) (turns : List Turn) (whole : ℕ) (i : Image) : Type 0 where
+  pub forced : ℕ
+  pub enough : forced_in (take whole turns) ≤ forced
+  pub sound : IsSound l windows (h ++ changes_in (take whole turns)) (n + forced) i
+
 -- A fault from outside has ended the run at once: its line is said behind some whole turns, and its status given.
-pub record IsBroken (request : Request) (before after : Report) (turns : List Turn) (old new : Moment) (result : ℕ) : Type 0 where
+-- Where memory was refused, what was under way has changed nothing.
+pub record IsBroken (request : Request) (Undone : (whole : ℕ) → Image → Type 0) (before after : Report) (turns : List Turn) (old new : Moment) (result : ℕ) : Type 0 where
   pub why : Fault
   pub outside : IsOutside request before after why
   pub ends : result ≡ fault_status why
   pub says : SaysThen turns (fault_text why) old new
+  pub undone : why ≡ Ends.Memory → Undone says.whole new.image
+
+-- so it is in front of the settling, where nothing was done
+abbrev pub Unbegun : (whole : ℕ) → Image → Type 0
+Unbegun whole i = whole ≡ 0
 
 -- the output failed, and nothing more is said
 pub record IsUnsaid (before after : Report) (result : ℕ) : Type 0 where
@@ -162,7 +175,7 @@ pub record IsSpent (old new : Moment) (result : ℕ) : Type 0 where
 pub record LeavesUnmounted (request : Request) (l : Layout) (windows : List WeakRun) (h : List Change) (f : ℕ) (Only : (Moment → Type 0) → Type 0) (before after : Report) (old new : Moment) (result : ℕ) : Type 0 where
   pub moments : Only (LeftBefore l windows h f old)
   pub exit : LeftBefore l windows h f old new
-  pub ends : IsSpent old new result ⊎ (IsUnsaid before after result ⊎ IsBroken request before after (blank ∷ []) old new result)
+  pub ends : IsSpent old new result ⊎ (IsUnsaid before after result ⊎ IsBroken request Unbegun before after (blank ∷ []) old new result)
 
 -- The mount's epoch is the next one behind that of the image, as its weak run may have worn.
 abbrev pub AreNext : Option Anchor → Option Anchor → Type 0
@@ -196,7 +209,7 @@ pub record LeavesMounted (request : Request) (input rest : List ℕ) (l : Layout
   pub moments : Only (Left l windows next h f count (run_turns run) old)
   pub later : (left : Moment) → Past at left → LeftSince l windows next h count (run_turns run) old left
   pub exit : LeftSince l windows next h count (run_turns run) old new
-  pub ends : (IsThrough run × IsReplied l windows next h count (run_turns run) (run_status run) (run_end run) old new result) ⊎ (IsUnsaid before after result ⊎ IsBroken request before after (run_turns run) old new result)
+  pub ends : (IsThrough run × IsReplied l windows next h count (run_turns run) (run_status run) (run_end run) old new result) ⊎ (IsUnsaid before after result ⊎ IsBroken request (IsUndone l (windows ++ next ∷ []) (take count h) count (run_turns run)) before after (run_turns run) old new result)
 
 -- A run over a sound image. The input is as it was, and rest what is left of it.
 -- Past is what a stop from a time on may have left, and began the time at which the run began.

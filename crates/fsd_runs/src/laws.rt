@@ -7,7 +7,7 @@ ghost use Rattle.sector_disk.specs.Machine.{Moment, Report};
 ghost use Rattle.fsd_sound.specs.Sound.{IsPrefixOf};
 ghost use Rattle.fsd_texts.specs.Text.{memory_text};
 ghost use Rattle.fsd_runs.specs.declared.request.Request.{Request};
-ghost use Rattle.fsd_runs.specs.Leaves.{IsBroken, IsUnsaid, Left, NoneRose, SaysThen, StaysSound};
+ghost use Rattle.fsd_runs.specs.Leaves.{IsBroken, IsUndone, IsUnsaid, Left, NoneRose, SaysThen, StaysSound};
 ghost use Rattle.fsd_files.specs.Answers.{Met};
 ghost use Rattle.fsd_files.specs.Disk.{Image};
 ghost use Rattle.fsd_files.specs.Files.{Change, step};
@@ -43,8 +43,9 @@ pub fn stops_leave_sound_disks()
         last_or None windows ≡ old.windows.present → Left l windows run h f n turns old left → StaysSound l h f left }
 {}
 
-/// Where no fault is counted, a run that does not say all says that memory was refused.
+/// Where no fault is counted, a run that does not say all says that memory was refused, and has changed nothing since
+/// what it has said whole.
 pub fn without_faults_memory_alone_is_refused()
-    ensures { (request : Request) (before after : Report) (turns : List Turn) (old new : Moment) (result : ℕ) → NoneRose before after →
-        IsUnsaid before after result ⊎ IsBroken request before after turns old new result → (result ≡ 7) × SaysThen turns memory_text old new }
+    ensures { (request : Request) (l : Layout) (windows : List WeakRun) (g : List Change) (n : ℕ) (before after : Report) (turns : List Turn) (old new : Moment) (result : ℕ) → NoneRose before after →
+        IsUnsaid before after result ⊎ IsBroken request (IsUndone l windows g n turns) before after turns old new result → (result ≡ 7) × (x : SaysThen turns memory_text old new) × IsUndone l windows g n turns x.whole new.image }
 {}

@@ -38,7 +38,8 @@ fn slots_in(bytes: u64) -> u32
 
 impl ImageFile {
     /// Finds the image at a path, or makes one of slots of zeros in the place of any file that is there, and tells its
-    /// number of sectors. A file that another opening has locked is not read or changed.
+    /// number of sectors. A file that another opening has locked is not read or changed, nor is one that has no room to
+    /// grow past its own bytes and to those of the new image.
     pub(crate) fn attach<R: Files<File = File>>(
         rt: &R,
         path: &str,
@@ -55,6 +56,8 @@ impl ImageFile {
             }
             Attach::New(sectors) => {
                 let image = ImageFile::open(rt, path, true)?;
+                let least = image.file.metadata()?.len().saturating_add(1);
+                image.file.set_len(start_of(sectors).max(least))?;
                 image.file.set_len(0)?;
                 image.file.set_len(start_of(sectors))?;
                 image.file.sync_all()?;

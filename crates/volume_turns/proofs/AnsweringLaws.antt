@@ -74,7 +74,7 @@ or_left false b out = refl
 -- ---- refusals
 
 -- where a fault ends the run nothing is said of it
-said_or_fault : (P : Answer → Type 0) (why : Refusal) → P (Said.Refused why) → IfOk (ended_by why) P
+pub said_or_fault : (P : Answer → Type 0) (why : Refusal) → P (Said.Refused why) → IfOk (ended_by why) P
 said_or_fault P (Why.Device s) said = tt
 said_or_fault P (Why.Down s) said = tt
 said_or_fault P (Why.Lost x y) said = tt

@@ -164,7 +164,7 @@ module _ {S D : Type 0} (state : S → State) (has : S → Mounted → List Plac
         mets = [];
         goes = λ t le. tt;
         moments = λ rest. started M.moment M.left_since a (M.now a) (InRun k rest (M.now a)) (only honest) (in_before k rest (M.now a) (M.now a) (record { sound = sound; windows = refl; said = refl }));
-        ends = (tt, said_nothing k (M.now a) (M.now a) (record { sound = sound; windows = refl; said = refl }));
+        ends = (tt, said_nothing k Ends.Memory (M.now a) (M.now a) (record { sound = sound; windows = refl; said = refl }));
       }
 
 -- ---- with the force behind them

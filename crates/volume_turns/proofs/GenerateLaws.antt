@@ -106,13 +106,13 @@ module _ {D : Type 0} (M : Ghosts D) (seed count : ℕ) (input rest : List ℕ) 
                 (eqb-true (length mets) (length commands) through) refl refl ended;
           }
 
-      pub all_broken : Said k turns (M.now a) (M.now p) → (why : Fault) → EndsAtOnce why → {T : Type 0} → Told {T = T} (M.report a) (M.report p) (Err (Stopped why)) → LeavesDisk M false (is_unsaid status) (Utters (fault_text why)) p b → EndsWith why (M.now p) (M.now b) status → Over
-      all_broken said why once told says ended = record {
+      pub all_broken : (why : Fault) → Said k why turns (M.now a) (M.now p) → EndsAtOnce why → {T : Type 0} → Told {T = T} (M.report a) (M.report p) (Err (Stopped why)) → LeavesDisk M false (is_unsaid status) (Utters (fault_text why)) p b → EndsWith why (M.now p) (M.now b) status → Over
+      all_broken why said once told says ended = record {
         cut = None;
         may = tt;
         ahead = tt;
         cause = tt;
-        finishes = finishes_broken M (Generate seed count) (M.report a) k turns (is_through false mets commands) (line_turn (generated_line (answered mets v commands)) ∷ []) a p b (leaves (line_turn (generated_line (answered mets v commands)) ∷ [])) said short ends why once told status says honest ended
+        finishes = finishes_broken M (Generate seed count) (M.report a) k turns (is_through false mets commands) (line_turn (generated_line (answered mets v commands)) ∷ []) a p b (leaves (line_turn (generated_line (answered mets v commands)) ∷ [])) why said short ends once told status says honest ended
             (errand_of (Generate seed count) input) (WornIf false) mets turns_all (on (WornIf false) later goes);
       }
 
@@ -161,13 +161,13 @@ module _ {D : Type 0} (M : Ghosts D) (seed count : ℕ) (input rest : List ℕ) 
                 (ended_as silent done_commands cut_short) (λ v i. IsWornOut v i) mets (turns_cut ∙ split) went (sym within) refl (sym (behind_cut mets v commands)) ended;
           }
 
-      pub cut_broken : Said k turns (M.now a) (M.now p) → (why : Fault) → EndsAtOnce why → {T : Type 0} → Told {T = T} (M.report a) (M.report p) (Err (Stopped why)) → LeavesDisk M false (is_unsaid status) (Utters (fault_text why)) p b → EndsWith why (M.now p) (M.now b) status → Over
-      cut_broken said why once told says ended = record {
+      pub cut_broken : (why : Fault) → Said k why turns (M.now a) (M.now p) → EndsAtOnce why → {T : Type 0} → Told {T = T} (M.report a) (M.report p) (Err (Stopped why)) → LeavesDisk M false (is_unsaid status) (Utters (fault_text why)) p b → EndsWith why (M.now p) (M.now b) status → Over
+      cut_broken why said once told says ended = record {
         cut = Some (length mets, Ends.WornOut);
         may = tt;
         ahead = worn;
         cause = tt;
-        finishes = finishes_broken M (Generate seed count) (M.report a) k turns true (last_line ∷ []) a p b (leaves (last_line ∷ [])) said short ends why once told status says honest ended (ended_as silent done_commands cut_short) (λ v i. IsWornOut v i) mets turns_cut went;
+        finishes = finishes_broken M (Generate seed count) (M.report a) k turns true (last_line ∷ []) a p b (leaves (last_line ∷ [])) why said short ends once told status says honest ended (ended_as silent done_commands cut_short) (λ v i. IsWornOut v i) mets turns_cut went;
       }
 
       pub cut_unsaid : {T : Type 0} → status ≡ 6 → Told {T = T} (M.report a) (M.report b) (Err Output) → LeavesOnly M.moment M.left_since a b (InRun k (turns ++ forced_turn ∷ last_line ∷ []) (M.now a)) → Over
@@ -204,8 +204,8 @@ module _ {D : Type 0} (M : Ghosts D) (seed count : ℕ) (input rest : List ℕ) 
   made_broken why g told says ended = by g.cut g.before g.goes g.moments g.ends
     where
       by : (cut : Bool) → CutsOff cut g.mets commands → MayGo g.mets cut → Leaves g.mets (is_through cut g.mets commands) → EndsGroup silent k cut g.mets commands (M.now a) (M.now p) (Err (Stopped why)) → Over
-      by false worn goes leaves e = all_broken g.mets goes leaves e.1 why e.0 told says ended
-      by true worn goes leaves e = cut_broken g.mets worn goes leaves e.1 why e.0 told says ended
+      by false worn goes leaves e = all_broken g.mets goes leaves why e.1 e.0 told says ended
+      by true worn goes leaves e = cut_broken g.mets worn goes leaves why e.1 e.0 told says ended
 
 -- the output has failed in the group
 pub made_unsaid : {D T : Type 0} (M : Ghosts D) (seed count : ℕ) (input rest : List ℕ) (k : Known) (a b : D) → M.honest b → AreShort (M.now b).windows → EndIn (M.now a).windows k.windows → IsGroup M silent k (M.now a) (made_up seed count) a b (Err Output) → Told {T = T} (M.report a) (M.report b) (Err Output)

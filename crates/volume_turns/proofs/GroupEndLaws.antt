@@ -1,5 +1,5 @@
 -- How a group that was done goes on to the last line of its run.
-use Rattle.std.proofs.Common.{◌≡◌, ◌⊎◌, inl, inr, ⊎_elim, ℕ, suc, ◌<◌, ◌≤◌, Bool, true, false, List, [], ◌∷◌, ◌++◌, length, map, take, Option, Some, refl, sym, ◌∙◌, ap, subst, arith, append_assoc, length-append}
+use Rattle.std.proofs.Common.{◌+◌, ◌≡◌, ◌⊎◌, inl, inr, ⊎_elim, ℕ, suc, ◌<◌, ◌≤◌, Bool, true, false, List, [], ◌∷◌, ◌++◌, length, map, take, Option, Some, refl, sym, ◌∙◌, ap, subst, arith, append_assoc, length-append}
 use Rattle.std.specs.Prelude.{◌==◌, if◌then◌else◌, Err, slice_get}
 use Rattle.std.proofs.lemmas.Bool.{cases_lt, eq-eqb}
 use Rattle.std.proofs.lemmas.List.{append-nil, take_all}
@@ -20,21 +20,22 @@ use Rattle.fsd_sound.proofs.MoreLaws.{wear_sound}
 use Rattle.fsd_sound.proofs.WindowLaws.{open_is_weak}
 use Rattle.fsd_texts.specs.declared.command.Command.{Command}
 use Rattle.fsd_texts.specs.declared.fault.Fault.{Fault}
+use Rattle.fsd_texts.specs.declared.fault.Fault.TheVariants as Ends
 use Rattle.fsd_texts.specs.declared.line.Line.{Line}
 use Rattle.fsd_texts.specs.Text.{fault_text, text}
 use Rattle.fsd_runs.specs.Commands.{answer}
 use Rattle.fsd_runs.specs.declared.request.Request.{Request}
 use Rattle.fsd_runs.specs.Errands.{Answered, answered_so, Ending, Errand, Turn, blank, forced_turn, line_turn}
 use Rattle.fsd_runs.specs.Leaves.{IsBroken, IsUnsaid, SaysNext}
-use Rattle.fsd_runs.specs.Runs.{Goes, answered, behind, changes_in, said_in, turns_begun, turns_of, turn_of}
+use Rattle.fsd_runs.specs.Runs.{forced_in, Goes, answered, behind, changes_in, said_in, turns_begun, turns_of, turn_of}
 use Rattle.volume_contract.specs.State.{Known, volume_of}
 use Rattle.volume_turns.specs.Group.{turns_behind}
 use Rattle.volume_turns.specs.declared.turns.End.TheVariants.{Fault as Stopped, Output}
 use Rattle.volume_turns.specs.Line.{EndsLast, EndsWith, is_unsaid}
 use Rattle.volume_turns.specs.Once.{IsDone}
-use Rattle.volume_turns.specs.Turns.{EndsAtOnce, InRun, Said, SaysAll, Told}
+use Rattle.volume_turns.specs.Turns.{EndsAtOnce, InRun, Said, SaysAll, Told, Undone}
 use Rattle.volume_turns.specs.Whole.{Finishes, Halted, SaysOut}
-use Rattle.volume_turns.proofs.HaltLaws.{broken_ends, broken_moments, said_halts, said_halts_whole, says_part}
+use Rattle.volume_turns.proofs.HaltLaws.{broken_ends, broken_moments, said_halts, said_halts_forced, said_halts_whole, says_part}
 use Rattle.volume_turns.proofs.TurnLaws.{forced_most, says_nothing}
 
 -- ---- the turns of a group and of its end
@@ -100,7 +101,7 @@ slice_last [] t = refl
 slice_last (u ∷ turns) t = slice_last turns t
 
 -- where all is said and forced
-pub said_done : (k : Known) (front : List Turn) (after : Volume) (old now : Moment) → IsDone k front after old now → Said k front old now
+pub said_done : (k : Known) (front : List Turn) (after : Volume) (old now : Moment) → IsDone k front after old now → Said k Ends.Input front old now
 said_done k front after old now d = record {
   windows = d.windows;
   whole = length front;
@@ -111,6 +112,7 @@ said_done k front after old now d = record {
   enough = λ any. let sum = length-append k.changes (changes_in front) in let few = forced_most (take (length front) front) in
       let same : length (changes_in (take (length front) front)) ≡ length (changes_in front) = ap (λ (x : List Turn). length (changes_in x)) (take_all (length front) front (omega arith)) in omega (arith, sum, few, same);
   sound = subst (λ (x : List Turn). IsSound k.mounted.volume.layout k.windows (k.changes ++ changes_in x) (length (k.changes ++ changes_in front)) now.image) (sym (take_all (suc (length front)) front (omega arith))) d.sound;
+  undone = λ is. absurd (cc is);
 }
 
 module _ (k : Known) (front : List Turn) (line : Line) (after : Volume) (old mid : Moment) (d : IsDone k front after old mid) (short : AreShort mid.windows) (ends : EndIn old.windows k.windows) where
@@ -120,12 +122,16 @@ module _ (k : Known) (front : List Turn) (line : Line) (after : Volume) (old mid
   abbrev turns : List Turn
   turns = front ++ t ∷ []
 
-  halted : Halted k turns old mid
-  halted = said_halts k front t [] refl old mid (said_done k front after old mid d)
+  halted : Halted k Ends.Input turns old mid
+  halted = said_halts k Ends.Input front t [] refl old mid (said_done k front after old mid d)
 
   whole_is : halted.whole ≡ length front
   unfolding halted said_done
-  whole_is = said_halts_whole k front t [] refl old mid (said_done k front after old mid d)
+  whole_is = said_halts_whole k Ends.Input front t [] refl old mid (said_done k front after old mid d)
+
+  forced_is : halted.forced ≡ length (k.changes ++ changes_in front)
+  unfolding halted said_done
+  forced_is = said_halts_forced k Ends.Input front t [] refl old mid (said_done k front after old mid d)
 
   ends_mid : EndIn mid.windows k.windows
   ends_mid = subst (λ (w : Windows). EndIn w k.windows) (sym d.windows) ends
@@ -150,7 +156,7 @@ module _ (k : Known) (front : List Turn) (line : Line) (after : Volume) (old mid
     whole = suc (length front);
     part = [];
     said = all_said left.said said ∙ ap (λ (x : List Turn). old.said ++ said_in x) (sym (every (suc (length front)) (omega arith))) ∙ ap (λ (x : List ℕ). old.said ++ x) (sym (append-nil (said_in (take (suc (length front)) turns))));
-    next = says_nothing (slice_get turns (suc (length front)));
+    next = says_nothing (length k.changes + forced_in (take (suc (suc (length front))) turns) ≤ length (k.changes ++ changes_in turns)) (slice_get turns (suc (length front)));
     forced = length (k.changes ++ changes_in turns);
     least = let sum = length-append k.changes (changes_in turns) in omega (arith, sum);
     enough = λ any. let sum = length-append k.changes (changes_in turns) in let few = forced_most (take (suc (length front)) turns) in
@@ -158,9 +164,19 @@ module _ (k : Known) (front : List Turn) (line : Line) (after : Volume) (old mid
     sound = subst (λ (x : List Turn). IsSound k.mounted.volume.layout k.windows (k.changes ++ changes_in x) (length (k.changes ++ changes_in turns)) left.image) (sym (every (suc (suc (length front))) (omega arith))) (worn left utters);
   }
 
+  all_forced : length k.changes + forced_in (take (suc halted.whole) turns) ≤ halted.forced
+  all_forced =
+      let is = forced_is in
+      let sum = length-append k.changes (changes_in front) in
+      let few = forced_most (take (suc halted.whole) turns) in
+      let same : length (changes_in (take (suc halted.whole) turns)) ≡ length (changes_in front) =
+      ap (λ (n : ℕ). length (changes_in (take (suc n) turns))) whole_is ∙ ap (λ (x : List Turn). length (changes_in x)) (every (suc (length front)) (omega arith)) ∙ ap (λ (h : List Change). length h) (changes_snoc front t refl) in
+      omega (arith, is, sum, few, same)
+
   in_some : (left : Moment) → Utters t.said mid left → (heard : ℕ) → left.said ≡ mid.said ++ take heard t.said → heard < length t.said → InRun k turns old left
   in_some left utters heard said short_of = says_part k turns old mid halted short ends (take heard t.said) left utters.image utters.windows said
-      (subst (λ (n : ℕ). SaysNext (slice_get turns n) (take heard t.said)) (sym whole_is) (subst (λ (o : Option Turn). SaysNext o (take heard t.said)) (sym (slice_last front t)) (inl (heard, short_of, refl))))
+      (subst (λ (n : ℕ). SaysNext (length k.changes + forced_in (take (suc halted.whole) turns) ≤ halted.forced) (slice_get turns n) (take heard t.said)) (sym whole_is)
+      (subst (λ (o : Option Turn). SaysNext (length k.changes + forced_in (take (suc halted.whole) turns) ≤ halted.forced) o (take heard t.said)) (sym (slice_last front t)) (inl ((heard, short_of, refl), λ some forces. all_forced))))
 
   pub on_last : (left : Moment) → Utters (text line) mid left → InRun k turns old left
   on_last left utters = ⊎_elim (λ few. in_some left utters utters.heard utters.said few) (λ long. in_all left utters (utters.said ∙ ap (λ (b : List ℕ). mid.said ++ b) (take_all utters.heard t.said long))) (cases_lt utters.heard (length t.said))
@@ -202,7 +218,7 @@ module _ {D : Type 0} (M : Ghosts D) (request : Request) (before : Report) (k : 
   }
     where
       by : ((status ≡ gives) × IsDone k (front ++ line_turn line ∷ []) after (M.now a) (M.now b)) ⊎ IsUnsaid before (M.report b) status
-          → SaysOut e k mets (M.now a) (M.now b) status ⊎ (IsUnsaid before (M.report b) status ⊎ IsBroken request before (M.report b) (turns_of e mets (volume_of k)) (M.now a) (M.now b) status)
+          → SaysOut e k mets (M.now a) (M.now b) status ⊎ (IsUnsaid before (M.report b) status ⊎ IsBroken request (Undone k (turns_of e mets (volume_of k))) before (M.report b) (turns_of e mets (volume_of k)) (M.now a) (M.now b) status)
       by (inl done) = inl (record {
         through = through;
         gives = done.0 ∙ gives_is;
@@ -211,22 +227,22 @@ module _ {D : Type 0} (M : Ghosts D) (request : Request) (before : Report) (k : 
       by (inr u) = inr (inl u)
 
 -- a fault has ended it at once
-halted_behind : (k : Known) (front : List Turn) (through : Bool) (more : List Turn) (old now : Moment) → Said k front old now → Halted k (front ++ turns_behind through more) old now
-halted_behind k front true more old now said = said_halts k front forced_turn more refl old now said
-halted_behind k front false more old now said = said_halts k front blank [] refl old now said
+halted_behind : (k : Known) (why : Fault) (front : List Turn) (through : Bool) (more : List Turn) (old now : Moment) → Said k why front old now → Halted k why (front ++ turns_behind through more) old now
+halted_behind k why front true more old now said = said_halts k why front forced_turn more refl old now said
+halted_behind k why front false more old now said = said_halts k why front blank [] refl old now said
 
-pub finishes_broken : {D T : Type 0} (M : Ghosts D) (request : Request) (before : Report) (k : Known) (front : List Turn) (through : Bool) (more : List Turn) (a m b : D) → LeavesOnly M.moment M.left_since a m (InRun k (front ++ turns_behind through more) (M.now a)) → Said k front (M.now a) (M.now m)
-    → AreShort (M.now m).windows → EndIn (M.now a).windows k.windows → (why : Fault) → EndsAtOnce why → Told {T = T} before (M.report m) (Err (Stopped why)) → (status : ℕ) → LeavesDisk M false (is_unsaid status) (Utters (fault_text why)) m b → M.honest b → EndsWith why (M.now m) (M.now b) status
+pub finishes_broken : {D T : Type 0} (M : Ghosts D) (request : Request) (before : Report) (k : Known) (front : List Turn) (through : Bool) (more : List Turn) (a m b : D) → LeavesOnly M.moment M.left_since a m (InRun k (front ++ turns_behind through more) (M.now a)) → (why : Fault) → Said k why front (M.now a) (M.now m)
+    → AreShort (M.now m).windows → EndIn (M.now a).windows k.windows → EndsAtOnce why → Told {T = T} before (M.report m) (Err (Stopped why)) → (status : ℕ) → LeavesDisk M false (is_unsaid status) (Utters (fault_text why)) m b → M.honest b → EndsWith why (M.now m) (M.now b) status
     → (e : Errand) (Last : Volume → Image → Type 0) (mets : List Met) → turns_of e mets (volume_of k) ≡ front ++ turns_behind through more
     → ((t : ℕ) → t ≤ M.moment a → Goes (in_runs k.windows) (M.left_since b t) Last e (M.now a).said (M.now a).image (volume_of k) mets e.commands) → Finishes M request e Last before k a b status
-finishes_broken M request before k front through more a m b moments said short ends why once told status says honest ended e Last mets is goes =
+finishes_broken M request before k front through more a m b moments why said short ends once told status says honest ended e Last mets is goes =
     let turns = front ++ turns_behind through more in
-    let halted = halted_behind k front through more (M.now a) (M.now m) said in
+    let halted = halted_behind k why front through more (M.now a) (M.now m) said in
     record {
       mets = mets;
       goes = goes;
-      moments = subst (λ (ts : List Turn). LeavesOnly M.moment M.left_since a b (InRun k ts (M.now a))) (sym is) (broken_moments M request before k turns a m b moments halted short ends why once told status says honest ended);
-      ends = inr (subst (λ (ts : List Turn). IsUnsaid before (M.report b) status ⊎ IsBroken request before (M.report b) ts (M.now a) (M.now b) status) (sym is) (broken_ends M request before k turns a m b moments halted short ends why once told status says honest ended));
+      moments = subst (λ (ts : List Turn). LeavesOnly M.moment M.left_since a b (InRun k ts (M.now a))) (sym is) (broken_moments M request before k turns a m b moments why halted short ends once told status says honest ended);
+      ends = inr (subst (λ (ts : List Turn). IsUnsaid before (M.report b) status ⊎ IsBroken request (Undone k ts) before (M.report b) ts (M.now a) (M.now b) status) (sym is) (broken_ends M request before k turns a m b moments why halted short ends once told status says honest ended));
     }
 
 -- the output has failed

@@ -18,6 +18,7 @@ use Rattle.fsd_sound.specs.Mounted.{Mounted, telling_of}
 use Rattle.fsd_sound.specs.Shown.{told}
 use Rattle.fsd_sound.specs.Sound.{IsSound, weak_of}
 use Rattle.fsd_texts.specs.declared.command.Command.{Command}
+use Rattle.fsd_texts.specs.declared.fault.Fault.{Fault}
 use Rattle.fsd_texts.specs.declared.fault.Fault.TheVariants as Ends
 use Rattle.fsd_runs.specs.Commands.{answer}
 use Rattle.fsd_runs.specs.Errands.{Errand, Turn, forced_turn}
@@ -83,13 +84,13 @@ module _ {S D : Type 0} (state : S → State) (has : S → Mounted → List Plac
                 (subst (λ (x : Volume). AllWorn (weak_of behind_it.after.windows) (λ j. told behind_it.after.mounted.volume.layout j ≡ Some (telling_of x)) (M.now b).image) behind_it.is c.lasts));
           }
 
-      said_all : InClose behind_it.after forced_turn.said (M.now m) (M.now b) → (M.now b).said ≡ (M.now m).said → Said k turns (M.now a) (M.now b)
-      said_all c same = said_close k behind_it.after turns forced_turn [] refl behind_it.layout behind_it.windows behind_it.changes behind_it.least behind_it.forced (M.now a) (M.now m) (M.now b) behind_it.open_windows behind_it.said c same
+      said_all : (why : Fault) → InClose behind_it.after forced_turn.said (M.now m) (M.now b) → (M.now b).said ≡ (M.now m).said → Said k why turns (M.now a) (M.now b)
+      said_all why c same = said_close k behind_it.after turns forced_turn [] refl behind_it.layout behind_it.windows behind_it.changes behind_it.least behind_it.forced (M.now a) (M.now m) (M.now b) behind_it.open_windows behind_it.said c why same
 
       ends_by : (r : Result Bool End) (cut : Bool) → IfOk r (λ x. x ≡ not cut) → is_through cut ran.mets commands ≡ true → EndsClosed behind_it.after forced_turn.said (M.now m) (M.now b) (unit_of r) → EndsGroup e k cut ran.mets commands (M.now a) (M.now b) r
       ends_by (Ok x) cut same through c = (same, through, done c)
       ends_by (Err Output) cut same through c = tt
-      ends_by (Err (Stopped fault)) cut same through c = (c.0, said_all c.2 c.1)
+      ends_by (Err (Stopped fault)) cut same through c = (c.0, said_all fault c.2 c.1)
 
       pub group_done : (cut : Bool) → IfOk result (λ x. x ≡ not cut) → CutsOff cut ran.mets commands → is_through cut ran.mets commands ≡ true → ((v : Volume) (i : Image) → Behind run v i → WornIf cut v i) → IsGroup M e k from commands a b result
       group_done cut same before through last = record {

@@ -21,7 +21,7 @@ use Rattle.fsd_runs.specs.Runs.{changes_in, forced_in, said_in}
 use Rattle.volume_contract.specs.State.{Known}
 use Rattle.volume_turns.specs.declared.turns.End.TheVariants.{Fault as Stopped}
 use Rattle.volume_turns.specs.Line.{EndsWith, is_unsaid}
-use Rattle.volume_turns.specs.Turns.{EndsAtOnce, InRun, Said, SaysAll, Told}
+use Rattle.volume_turns.specs.Turns.{EndsAtOnce, InRun, Said, SaysAll, Told, Undone}
 use Rattle.volume_turns.specs.Whole.{Halted}
 use Rattle.volume_turns.proofs.LineLaws.{at_once_ends, next_fault}
 
@@ -45,8 +45,8 @@ changes_within (u ∷ turns) t more none zero le = refl
 changes_within (u ∷ turns) t more none (suc n) le = ap (λ (x : List Change). u.changes ++ x) (changes_within turns t more none n (omega (arith, le)))
 
 -- turns said whole, with one more behind them that changes nothing
-pub said_halts : (k : Known) (turns : List Turn) (t : Turn) (more : List Turn) → t.changes ≡ [] → (old now : Moment) → Said k turns old now → Halted k (turns ++ t ∷ more) old now
-said_halts k turns t more none old now x =
+pub said_halts : (k : Known) (why : Fault) (turns : List Turn) (t : Turn) (more : List Turn) → t.changes ≡ [] → (old now : Moment) → Said k why turns old now → Halted k why (turns ++ t ∷ more) old now
+said_halts k why turns t more none old now x =
     let front = take_within turns (t ∷ more) x.whole x.most in
     record {
       windows = x.windows;
@@ -57,20 +57,30 @@ said_halts k turns t more none old now x =
       least = x.least;
       enough = subst (λ (ts : List Turn). IsTrue (list_any (λ u. u.forces) ts) → length k.changes + forced_in ts ≤ x.forced) (sym front) x.enough;
       sound = subst (λ (h : List Change). IsSound k.mounted.volume.layout k.windows (k.changes ++ h) x.forced now.image) (sym (changes_within turns t more none x.whole x.most)) x.sound;
+      undone = λ is. let u = x.undone is in record {
+        forced = u.forced;
+        least = u.least;
+        enough = subst (λ (ts : List Turn). IsTrue (list_any (λ y. y.forces) ts) → length k.changes + forced_in ts ≤ u.forced) (sym front) u.enough;
+        sound = subst (λ (ts : List Turn). IsSound k.mounted.volume.layout k.windows (k.changes ++ changes_in ts) u.forced now.image) (sym front) u.sound;
+      };
     }
 
-pub said_halts_whole : (k : Known) (turns : List Turn) (t : Turn) (more : List Turn) (none : t.changes ≡ []) (old now : Moment) (x : Said k turns old now) → (said_halts k turns t more none old now x).whole ≡ x.whole
+pub said_halts_whole : (k : Known) (why : Fault) (turns : List Turn) (t : Turn) (more : List Turn) (none : t.changes ≡ []) (old now : Moment) (x : Said k why turns old now) → (said_halts k why turns t more none old now x).whole ≡ x.whole
 unfolding said_halts
-said_halts_whole k turns t more none old now x = refl
+said_halts_whole k why turns t more none old now x = refl
+
+pub said_halts_forced : (k : Known) (why : Fault) (turns : List Turn) (t : Turn) (more : List Turn) (none : t.changes ≡ []) (old now : Moment) (x : Said k why turns old now) → (said_halts k why turns t more none old now x).forced ≡ x.forced
+unfolding said_halts
+said_halts_forced k why turns t more none old now x = refl
 
 -- ---- while a text is said there
 
-module _ (k : Known) (turns : List Turn) (old mid : Moment) (halted : Halted k turns old mid) (short : AreShort mid.windows) (ends : EndIn old.windows k.windows) where
+module _ (k : Known) (turns : List Turn) (old mid : Moment) {for : Fault} (halted : Halted k for turns old mid) (short : AreShort mid.windows) (ends : EndIn old.windows k.windows) where
   ends_mid : EndIn mid.windows k.windows
   ends_mid = subst (λ (w : Windows). EndIn w k.windows) (sym halted.windows) ends
 
   -- a part of what comes next
-  pub says_part : (part : List ℕ) (left : Moment) → IsWorn (open_damage mid.windows) mid.image left.image → left.windows ≡ mid.windows → left.said ≡ mid.said ++ part → SaysNext (slice_get turns halted.whole) part → InRun k turns old left
+  pub says_part : (part : List ℕ) (left : Moment) → IsWorn (open_damage mid.windows) mid.image left.image → left.windows ≡ mid.windows → left.said ≡ mid.said ++ part → SaysNext (length k.changes + forced_in (take (suc halted.whole) turns) ≤ halted.forced) (slice_get turns halted.whole) part → InRun k turns old left
   says_part part left worn windows said next = record {
     windows = windows ∙ halted.windows;
     whole = halted.whole;
@@ -87,12 +97,12 @@ module _ (k : Known) (turns : List Turn) (old mid : Moment) (halted : Halted k t
   says_fault : (why : Fault) → MayEnd why → (left : Moment) → Utters (fault_text why) mid left → InRun k turns old left
   says_fault why may left utters =
       let part = take utters.heard (fault_text why) in
-      says_part part left utters.image utters.windows utters.said (next_fault (slice_get turns halted.whole) halted.more part (why, utters.heard, may, refl))
+      says_part part left utters.image utters.windows utters.said (next_fault (length k.changes + forced_in (take (suc halted.whole) turns) ≤ halted.forced) (slice_get turns halted.whole) halted.more part (why, utters.heard, may, refl))
 
 -- ---- a fault that ends a run there
 
-module _ {D : Type 0} (M : Ghosts D) (request : Request) (before : Report) (k : Known) (turns : List Turn) (a m b : D) (moments : LeavesOnly M.moment M.left_since a m (InRun k turns (M.now a))) (halted : Halted k turns (M.now a) (M.now m))
-    (short : AreShort (M.now m).windows) (ends : EndIn (M.now a).windows k.windows) (why : Fault) (may : MayEnd why) (out : IsOutside request before (M.report b) why) (later : before.output_faults ≤ (M.report m).output_faults)
+module _ {D : Type 0} (M : Ghosts D) (request : Request) (before : Report) (k : Known) (turns : List Turn) (a m b : D) (moments : LeavesOnly M.moment M.left_since a m (InRun k turns (M.now a))) (why : Fault) (halted : Halted k why turns (M.now a) (M.now m))
+    (short : AreShort (M.now m).windows) (ends : EndIn (M.now a).windows k.windows) (may : MayEnd why) (out : IsOutside request before (M.report b) why) (later : before.output_faults ≤ (M.report m).output_faults)
     (status : ℕ) (says : LeavesDisk M false (is_unsaid status) (Utters (fault_text why)) m b) (honest : M.honest b) (ended : EndsWith why (M.now m) (M.now b) status) where
   pub stopped_moments : LeavesOnly M.moment M.left_since a b (InRun k turns (M.now a))
   stopped_moments = then_on M.moment M.left_since a m b (InRun k turns (M.now a)) moments
@@ -103,7 +113,7 @@ module _ {D : Type 0} (M : Ghosts D) (request : Request) (before : Report) (k : 
       let rose : Rose (M.report m).output_faults (M.report b).output_faults = subst (λ (x : Bool). Counts x (M.report m).output_faults (M.report b).output_faults) (eq-eqb status 6 six) says.spares.output in
       record { ends = six; rose = omega (arith, later, rose) }
 
-  broken : status ≡ fault_status why → SaysAll (fault_text why) (M.now m) (M.now b) → IsBroken request before (M.report b) turns (M.now a) (M.now b) status
+  broken : status ≡ fault_status why → SaysAll (fault_text why) (M.now m) (M.now b) → IsBroken request (Undone k turns) before (M.report b) turns (M.now a) (M.now b) status
   broken gives all = record {
     why = why;
     outside = out;
@@ -113,19 +123,25 @@ module _ {D : Type 0} (M : Ghosts D) (request : Request) (before : Report) (k : 
       more = halted.more;
       said = all.said ∙ ap (λ (x : List ℕ). x ++ fault_text why) halted.said ∙ append_assoc (M.now a).said (said_in (take halted.whole turns)) (fault_text why);
     };
+    undone = λ is. let u = halted.undone is in record {
+      forced = u.forced;
+      least = u.least;
+      enough = u.enough;
+      sound = wear_sound k.mounted.volume.layout k.windows (k.changes ++ changes_in (take halted.whole turns)) u.forced (M.now m).windows (M.now m).image (M.now b).image short (ends_mid k turns (M.now a) (M.now m) halted short ends) all.ages.image u.sound;
+    };
   }
 
-  by_end : EndsWith why (M.now m) (M.now b) status → IsUnsaid before (M.report b) status ⊎ IsBroken request before (M.report b) turns (M.now a) (M.now b) status
+  by_end : EndsWith why (M.now m) (M.now b) status → IsUnsaid before (M.report b) status ⊎ IsBroken request (Undone k turns) before (M.report b) turns (M.now a) (M.now b) status
   by_end (inl six) = inl (unsaid six)
   by_end (inr (gives, all)) = inr (broken gives all)
 
-  pub stopped_ends : IsUnsaid before (M.report b) status ⊎ IsBroken request before (M.report b) turns (M.now a) (M.now b) status
+  pub stopped_ends : IsUnsaid before (M.report b) status ⊎ IsBroken request (Undone k turns) before (M.report b) turns (M.now a) (M.now b) status
   stopped_ends = by_end ended
 
 -- ---- a fault that ends a run at once
 
-module _ {D T : Type 0} (M : Ghosts D) (request : Request) (before : Report) (k : Known) (turns : List Turn) (a m b : D) (moments : LeavesOnly M.moment M.left_since a m (InRun k turns (M.now a))) (halted : Halted k turns (M.now a) (M.now m))
-    (short : AreShort (M.now m).windows) (ends : EndIn (M.now a).windows k.windows) (why : Fault) (once : EndsAtOnce why) (told : Told {T = T} before (M.report m) (Err (Stopped why)))
+module _ {D T : Type 0} (M : Ghosts D) (request : Request) (before : Report) (k : Known) (turns : List Turn) (a m b : D) (moments : LeavesOnly M.moment M.left_since a m (InRun k turns (M.now a))) (why : Fault) (halted : Halted k why turns (M.now a) (M.now m))
+    (short : AreShort (M.now m).windows) (ends : EndIn (M.now a).windows k.windows) (once : EndsAtOnce why) (told : Told {T = T} before (M.report m) (Err (Stopped why)))
     (status : ℕ) (says : LeavesDisk M false (is_unsaid status) (Utters (fault_text why)) m b) (honest : M.honest b) (ended : EndsWith why (M.now m) (M.now b) status) where
   outside : (said : Fault) → EndsAtOnce said → said ≡ why → IsOutside request before (M.report b) said
   outside (Ends.Device s) at_once is =
@@ -135,7 +151,7 @@ module _ {D T : Type 0} (M : Ghosts D) (request : Request) (before : Report) (k 
   outside said at_once is = absurd at_once
 
   pub broken_moments : LeavesOnly M.moment M.left_since a b (InRun k turns (M.now a))
-  broken_moments = stopped_moments M request before k turns a m b moments halted short ends why (at_once_ends why once) (outside why once refl) told.later status says honest ended
+  broken_moments = stopped_moments M request before k turns a m b moments why halted short ends (at_once_ends why once) (outside why once refl) told.later status says honest ended
 
-  pub broken_ends : IsUnsaid before (M.report b) status ⊎ IsBroken request before (M.report b) turns (M.now a) (M.now b) status
-  broken_ends = stopped_ends M request before k turns a m b moments halted short ends why (at_once_ends why once) (outside why once refl) told.later status says honest ended
+  pub broken_ends : IsUnsaid before (M.report b) status ⊎ IsBroken request (Undone k turns) before (M.report b) turns (M.now a) (M.now b) status
+  broken_ends = stopped_ends M request before k turns a m b moments why halted short ends (at_once_ends why once) (outside why once refl) told.later status says honest ended

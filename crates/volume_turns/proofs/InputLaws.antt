@@ -13,7 +13,7 @@ use Rattle.sector_disk.proofs.Moments.{leaves_more}
 use Rattle.sector_disk.proofs.Wear.{AllWorn-here}
 use Rattle.fsd_bytes.specs.declared.refusal.Refusal.{Refusal}
 use Rattle.fsd_bytes.specs.declared.refusal.Refusal.TheVariants as Why
-use Rattle.fsd_files.specs.Disk.{in_runs}
+use Rattle.fsd_files.specs.Disk.{Image, in_runs}
 use Rattle.fsd_files.specs.Files.{Change}
 use Rattle.fsd_sound.specs.Mounted.{Mounted, telling_of}
 use Rattle.fsd_sound.specs.Shown.{told}
@@ -62,8 +62,8 @@ outside_put name keep c before after (Ends.Device s) o = o
 outside_put name keep c before after Ends.Memory o = tt
 outside_put name keep c before after why o = absurd o
 
-broken_put : (name : List ℕ) (keep : Option ℕ) (c : Command) (before after : Report) {turns : List Turn} {old new : Moment} {result : ℕ} → IsBroken (One c) before after turns old new result → IsBroken (Put name keep) before after turns old new result
-broken_put name keep c before after x = record { why = x.why; outside = outside_put name keep c before after x.why x.outside; ends = x.ends; says = x.says }
+broken_put : (name : List ℕ) (keep : Option ℕ) (c : Command) (before after : Report) {Over : ℕ → Image → Type 0} {turns : List Turn} {old new : Moment} {result : ℕ} → IsBroken (One c) Over before after turns old new result → IsBroken (Put name keep) Over before after turns old new result
+broken_put name keep c before after x = record { why = x.why; outside = outside_put name keep c before after x.why x.outside; ends = x.ends; says = x.says; undone = x.undone }
 
 module _ {D : Type 0} (M : Ghosts D) (name : List ℕ) (keep : Option ℕ) (input rest : List ℕ) (few : length input ≤ max_input) (before : Report) (k : Known) (a b : D) (status : ℕ) where
   abbrev c : Command
@@ -87,7 +87,7 @@ module _ {D : Type 0} (M : Ghosts D) (name : List ℕ) (keep : Option ℕ) (inpu
     });
   }
     where
-      over : {A B : Type 0} {turns : List Turn} {old new : Moment} → A ⊎ (B ⊎ IsBroken (One c) before (M.report b) turns old new status) → A ⊎ (B ⊎ IsBroken (Put name keep) before (M.report b) turns old new status)
+      over : {A B : Type 0} {Over : ℕ → Image → Type 0} {turns : List Turn} {old new : Moment} → A ⊎ (B ⊎ IsBroken (One c) Over before (M.report b) turns old new status) → A ⊎ (B ⊎ IsBroken (Put name keep) Over before (M.report b) turns old new status)
       over (inl x) = inl x
       over (inr (inl u)) = inr (inl u)
       over (inr (inr x)) = inr (inr (broken_put name keep c before (M.report b) x))
@@ -140,7 +140,7 @@ module _ {S D : Type 0} (state : S → State) (has : S → Mounted → List Plac
 
   pub refused_broken : (why : Refusal) → IsDevice why → Told {T = Unit {0}} (M.report a) (M.report m) (Err (Stopped (close_fault why))) → LeavesDisk M false (is_unsaid status) (Utters (fault_text (close_fault why))) m b → EndsWith (close_fault why) (M.now m) (M.now b) status → Over
   refused_broken why is told says ended =
-      let halted = said_halts k [] t [] refl (M.now a) (M.now m) (said_nothing k (M.now a) (M.now m) (let l = disk.exit back k stands in record { sound = l.sound; windows = l.windows; said = l.said })) in
+      let halted = said_halts k (close_fault why) [] t [] refl (M.now a) (M.now m) (said_nothing k (close_fault why) (M.now a) (M.now m) (let l = disk.exit back k stands in record { sound = l.sound; windows = l.windows; said = l.said })) in
       record {
         cut = None;
         may = tt;
@@ -149,7 +149,7 @@ module _ {S D : Type 0} (state : S → State) (has : S → Mounted → List Plac
         finishes = subst (λ (x : Errand). Finishes M (Put name keep) x (IsCutAt None) (M.report a) k a b status) (sym (asks_none name keep input many)) (record {
           mets = [];
           goes = λ t le. tt;
-          moments = broken_moments M (Put name keep) (M.report a) k (t ∷ []) a m b moments halted short stands.ends (close_fault why) (device_ends why is) told status says honest ended;
-          ends = inr (broken_ends M (Put name keep) (M.report a) k (t ∷ []) a m b moments halted short stands.ends (close_fault why) (device_ends why is) told status says honest ended);
+          moments = broken_moments M (Put name keep) (M.report a) k (t ∷ []) a m b moments (close_fault why) halted short stands.ends (device_ends why is) told status says honest ended;
+          ends = inr (broken_ends M (Put name keep) (M.report a) k (t ∷ []) a m b moments (close_fault why) halted short stands.ends (device_ends why is) told status says honest ended);
         });
       }

@@ -20,6 +20,7 @@ pub mod OrderLaws
 pub mod PutLaws
 pub mod QuietLaws
 pub mod ReadLaws
+pub mod ReasonLaws
 pub mod RunLaws
 pub mod SaidLaws
 pub mod SayLaws

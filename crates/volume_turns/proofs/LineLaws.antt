@@ -30,9 +30,9 @@ alone_length c [] v = refl
 alone_length c (met ∷ []) v = refl
 alone_length c (met ∷ other ∷ mets) v = refl
 
-pub next_fault : (o : Option Turn) → IsSome o → (part : List ℕ) → SaysFault part → SaysNext o part
-next_fault None some part fault = cc some
-next_fault (Some t) some part fault = inr fault
+pub next_fault : (Forced : Type 0) (o : Option Turn) → IsSome o → (part : List ℕ) → SaysFault part → SaysNext Forced o part
+next_fault Forced None some part fault = cc some
+next_fault Forced (Some t) some part fault = inr fault
 
 -- ---- faults
 

@@ -94,7 +94,7 @@ behind_front (b ∷ bs) rest ascend = ap (λ (o : Option Entry). entry_after (op
 
 -- ---- one entry more
 
-last_more : (front : List Entry) (o : Option Entry) (e : Entry) → last_or o (front ++ e ∷ []) ≡ Some e
+pub last_more : (front : List Entry) (o : Option Entry) (e : Entry) → last_or o (front ++ e ∷ []) ≡ Some e
 last_more [] o e = refl
 last_more (b ∷ bs) o e = last_more bs (Some b) e
 
@@ -102,7 +102,7 @@ by_bool : (b : Bool) (e : Entry) (xs ys : List Entry) → cond b (e ∷ (xs ++ y
 by_bool true e xs ys = refl
 by_bool false e xs ys = refl
 
-fitting_more : (pattern : Pattern) (front more : List Entry) → fitting pattern (front ++ more) ≡ fitting pattern front ++ fitting pattern more
+pub fitting_more : (pattern : Pattern) (front more : List Entry) → fitting pattern (front ++ more) ≡ fitting pattern front ++ fitting pattern more
 fitting_more pattern [] more = refl
 fitting_more pattern (b ∷ bs) more =
     ap (λ (x : List Entry). cond (fits pattern b.key.name) (b ∷ x) x) (fitting_more pattern bs more) ∙ by_bool (fits pattern b.key.name) b (fitting pattern bs) (fitting pattern more)

@@ -18,12 +18,12 @@ use Rattle.fsd_sound.proofs.MoreLaws.{sound_more}
 use Rattle.fsd_sound.proofs.MountedLaws.{fresh_mounted, mounted_tells}
 use Rattle.fsd_texts.specs.declared.fault.Fault.TheVariants as Ends
 use Rattle.fsd_runs.specs.Errands.{Turn}
-use Rattle.fsd_runs.specs.Leaves.{Left, LeftSince, SaysFault}
+use Rattle.fsd_runs.specs.Leaves.{IsUndone, Left, LeftSince, SaysFault}
 use Rattle.fsd_runs.specs.Runs.{Starts, changes_in, forced_in, said_in}
 use Rattle.volume_contract.specs.Mount.{SoundBefore, SoundSince, Settled}
 use Rattle.volume_contract.specs.State.{Known, volume_of, forced_of}
-use Rattle.volume_turns.specs.Turns.{InRun}
-use Rattle.volume_turns.proofs.TurnLaws.{newer_own, forced_none, says_nothing}
+use Rattle.volume_turns.specs.Turns.{InRun, Undone}
+use Rattle.volume_turns.proofs.TurnLaws.{newer_own, forced_none, next_as, says_nothing}
 
 -- the same, said of equals
 pub sound_to : (l l2 : Layout) (w w2 : List WeakRun) (h h2 : List Change) (f f2 : ℕ) (i : Image) → l ≡ l2 → w ≡ w2 → h ≡ h2 → f ≡ f2 → IsSound l w h f i → IsSound l2 w2 h2 f2 i
@@ -54,7 +54,7 @@ module _ (l : Layout) (windows : List WeakRun) (run : WeakRun) (h : List Change)
     whole = 0;
     part = [];
     said = x.said ∙ sym (append-nil old.said);
-    next = says_nothing (slice_get turns 0);
+    next = says_nothing (forced_in (take 1 turns) ≤ 0) (slice_get turns 0);
     forced = 0;
     enough = omega arith;
     sound = sound_to l l (windows ++ run ∷ []) (windows ++ run ∷ []) (take n h ++ changes_in (take 1 turns)) (take n h ++ changes_in (take 1 turns)) n (n + 0) left.image refl refl refl (omega arith)
@@ -67,7 +67,7 @@ module _ (l : Layout) (windows : List WeakRun) (run : WeakRun) (h : List Change)
     whole = r.whole;
     part = r.part;
     said = r.said ∙ ap (λ (x : List ℕ). x ++ (said_in (take r.whole turns) ++ r.part)) quiet;
-    next = r.next;
+    next = next_as (length k.changes + forced_in (take (suc r.whole) turns) ≤ r.forced) (forced_in (take (suc r.whole) turns) ≤ r.forced - n) (slice_get turns r.whole) r.part (λ u is forces x. let all = known_length in omega (arith, x, all)) r.next;
     forced = r.forced - n;
     enough = by (list_any (λ t. t.forces) (take r.whole turns)) refl;
     sound = sound_to k.mounted.volume.layout l k.windows (windows ++ run ∷ []) (k.changes ++ changes_in (take (suc r.whole) turns)) (take n h ++ changes_in (take (suc r.whole) turns)) r.forced (n + (r.forced - n)) left.image
@@ -77,6 +77,19 @@ module _ (l : Layout) (windows : List WeakRun) (run : WeakRun) (h : List Change)
       by : (b : Bool) → b ≡ list_any (λ t. t.forces) (take r.whole turns) → forced_in (take r.whole turns) ≤ r.forced - n
       by true is = let e = r.enough (sym is) in let all = known_length in omega (arith, e, all)
       by false is = let none = forced_none (take r.whole turns) (sym is) in omega (arith, none)
+
+  -- the turns said whole are all that was done
+  pub run_undone : (turns : List Turn) (whole : ℕ) (i : Image) → Undone k turns whole i → IsUndone l (windows ++ run ∷ []) (take n h) n turns whole i
+  run_undone turns whole i u = record {
+    forced = u.forced - n;
+    enough = by (list_any (λ t. t.forces) (take whole turns)) refl;
+    sound = sound_to k.mounted.volume.layout l k.windows (windows ++ run ∷ []) (k.changes ++ changes_in (take whole turns)) (take n h ++ changes_in (take whole turns)) u.forced (n + (u.forced - n)) i
+        s.layout s.known (ap (λ (x : List Change). x ++ changes_in (take whole turns)) s.changes) (let least = u.least in let known = known_forced in omega (arith, least, known)) u.sound;
+  }
+    where
+      by : (b : Bool) → b ≡ list_any (λ t. t.forces) (take whole turns) → forced_in (take whole turns) ≤ u.forced - n
+      by true is = let e = u.enough (sym is) in let all = known_length in omega (arith, e, all)
+      by false is = let none = forced_none (take whole turns) (sym is) in omega (arith, none)
 
   -- ---- the volume that it begins with
 

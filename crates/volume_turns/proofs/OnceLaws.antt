@@ -1,5 +1,5 @@
 -- One command by itself.
-use Rattle.std.proofs.Common.{◌≡◌, ℕ, zero, suc, ◌≤◌, Bool, false, List, [], ◌∷◌, ◌++◌, length, take, Option, Some, refl, sym, ◌∙◌, ap, subst, arith}
+use Rattle.std.proofs.Common.{◌+◌, ◌≡◌, ℕ, zero, suc, ◌≤◌, Bool, false, List, [], ◌∷◌, ◌++◌, length, take, Option, Some, refl, sym, ◌∙◌, ap, subst, arith}
 use Rattle.fsd_log.specs.Scan.{Placed}
 use Rattle.std.specs.Prelude.{Result, Ok, Err, OnOk, IfOk, IfErr}
 use Rattle.std.proofs.lemmas.List.{append-nil}
@@ -10,7 +10,7 @@ use Rattle.sector_disk.specs.declared.machine.Machine.{Ghosts}
 use Rattle.sector_disk.specs.declared.sector.WeakRun.{WeakRun}
 use Rattle.sector_disk.specs.Image.{AllWorn, open_damage, AreShort, Windows}
 use Rattle.sector_disk.specs.Machine.{Moment, LeavesOnly, Utters}
-use Rattle.sector_disk.proofs.Moments.{then_on, leaves_more}
+use Rattle.sector_disk.proofs.Moments.{started, then_on, leaves_more}
 use Rattle.sector_disk.proofs.Wear.{AllWorn-worn, worn_refl}
 use Rattle.fsd_files.specs.Files.{Change}
 use Rattle.fsd_files.specs.Replies.{Reply}
@@ -19,13 +19,14 @@ use Rattle.fsd_sound.specs.Mounted.{Mounted, telling_of}
 use Rattle.fsd_sound.specs.Shown.{told}
 use Rattle.fsd_sound.specs.Sound.{IsSound, EndIn, weak_of}
 use Rattle.fsd_sound.proofs.MoreLaws.{wear_sound}
+use Rattle.fsd_sound.proofs.MountedLaws.{mounted_sound, mounted_tells, mounted_reach}
 use Rattle.fsd_sound.proofs.WindowLaws.{open_is_weak}
 use Rattle.fsd_texts.specs.declared.command.Command.{Command}
 use Rattle.fsd_texts.specs.declared.fault.Fault.{Fault}
 use Rattle.fsd_texts.specs.declared.fault.Fault.TheVariants as Ends
 use Rattle.fsd_runs.specs.Commands.{answer, reply_alone}
 use Rattle.fsd_runs.specs.Errands.{Turn, alone, blank, reply_status}
-use Rattle.fsd_runs.specs.Runs.{changes_in}
+use Rattle.fsd_runs.specs.Runs.{forced_in, changes_in}
 use Rattle.volume_turns.specs.declared.turns.End.{End}
 use Rattle.volume_turns.specs.declared.turns.End.TheVariants.{Fault as Stopped, Output}
 use Rattle.sector_disk.specs.Calls.{Since, WritesDisk}
@@ -95,6 +96,21 @@ module _ {S D : Type 0} (state : S → State) (has : S → Mounted → List Plac
     close_said (Err Output) says unsaid = record { moments = both; ends = tt }
     close_said (Err (Stopped fault)) says unsaid = absurd unsaid
 
+-- what it would say was refused memory before it ended
+pub close_unbegun : {S D : Type 0} (state : S → State) (has : S → Mounted → List Placed → Type 0) (M : Ghosts D) (v : S) (a : D) (k : Known) (text : List ℕ) → ((left : Moment) → M.left_since a (M.moment a) left → left ≡ M.now a) → Stands state has v k (M.now a)
+    → ClosesAndSays M k text a a (Err (Stopped Ends.Memory))
+close_unbegun state has M v a k text only stands =
+    let here : InClose k text (M.now a) (M.now a) = record {
+      windows = refl;
+      forced = forced_of k;
+      least = omega arith;
+      sound = mounted_sound k.mounted k.windows k.changes (forced_of k) (M.now a).image stands.disk;
+      heard = 0;
+      said = sym (append-nil (M.now a).said);
+      all = λ some. absurd (omega (arith, some));
+    } in
+    record { moments = started M.moment M.left_since a (M.now a) (InClose k text (M.now a)) only here; ends = (tt, refl, here) }
+
 -- ---- one command
 
 module _ {S D : Type 0} (state : S → State) (has : S → Mounted → List Placed → Type 0) (M : Ghosts D)
@@ -109,10 +125,13 @@ module _ {S D : Type 0} (state : S → State) (has : S → Mounted → List Plac
   before : (turns : List Turn) → LeavesOnly M.moment M.left_since a m (InRun k turns (M.now a))
   before turns = before_it state has M wears short counts_now silent never command v w a m b k (M.now a) stood same stood fault disk layout honest since turns
 
+  spared : IsSound k.mounted.volume.layout k.windows k.changes (forced_of k) (M.now m).image
+  spared = (disk.exit honest k stood).sound
+
   -- it was not answered
   pub alone_fault : is_worn (state v) ≡ false → (why : Fault) → Does state has command v w k (M.now a) (M.now m) (Err why) → IsAlone M command k a m (Err (Stopped why))
-  alone_fault unworn (Ends.Device s) does = record { mets = []; goes = λ t le. tt; moments = before (blank ∷ []); ends = (tt, disk.quiet honest) }
-  alone_fault unworn Ends.Memory does = record { mets = []; goes = λ t le. tt; moments = before (blank ∷ []); ends = (tt, disk.quiet honest) }
+  alone_fault unworn (Ends.Device s) does = record { mets = []; goes = λ t le. tt; moments = before (blank ∷ []); ends = (tt, disk.quiet honest, λ is. spared) }
+  alone_fault unworn Ends.Memory does = record { mets = []; goes = λ t le. tt; moments = before (blank ∷ []); ends = (tt, disk.quiet honest, λ is. spared) }
   alone_fault unworn Ends.WornOut does = absurd (let worn = does.0.worn in cc (unworn, worn))
   alone_fault unworn why does = absurd does
 
@@ -142,7 +161,7 @@ module _ {S D : Type 0} (state : S → State) (has : S → Mounted → List Plac
         said = c.said ∙ ap (λ (x : List ℕ). x ++ take c.heard (reply_alone reply)) (disk.quiet honest) ∙ ap (λ (x : List ℕ). (M.now a).said ++ take c.heard x) text_is
 
         by : (heard : ℕ) → heard ≡ c.heard → InRun k (turn ∷ []) (M.now a) left
-        by zero none = in_part k after turn [] carried.layout carried.windows carried.changes c.forced least (M.now a) left windows c.sound [] (said ∙ ap (λ (h : ℕ). (M.now a).said ++ take h turn.said) (sym none)) (says_nothing (Some turn))
+        by zero none = in_part k after turn [] carried.layout carried.windows carried.changes c.forced least (M.now a) left windows c.sound [] (said ∙ ap (λ (h : ℕ). (M.now a).said ++ take h turn.said) (sym none)) (says_nothing (length k.changes + forced_in (turn ∷ []) ≤ c.forced) (Some turn))
         by (suc n) some = in_saying_at k after turn [] carried.layout carried.windows carried.changes c.forced least (M.now a) left windows c.sound (λ all. c.all (omega (arith, some))) c.heard said
 
     done : SaysClosed after (reply_alone reply) (M.now m) (M.now b) → IsDone k (turn ∷ []) (answer is.met (volume_of k) command).1 (M.now a) (M.now b)
@@ -163,15 +182,19 @@ module _ {S D : Type 0} (state : S → State) (has : S → Mounted → List Plac
     status_same : reply_status reply ≡ reply_status (answer is.met (volume_of k) command).0
     status_same = ap (λ (r : Reply). reply_status r) (sym (reply_is state has M wears short counts_now silent never command v w a m b k (M.now a) stood same stood fault disk layout honest since after reply is stands))
 
-    ended : (r : Result ℕ End) → IfOk r (λ status. status ≡ reply_status reply) → EndsClosed after (reply_alone reply) (M.now m) (M.now b) (unit_of r) → EndsAlone command k (is.met ∷ []) (M.now a) (M.now b) r
-    ended (Ok status) gives c = (refl, gives ∙ status_same, done c)
-    ended (Err Output) gives c = tt
-    ended (Err (Stopped why)) gives c = (c.0, c.1 ∙ disk.quiet honest)
+    ended : (r : Result ℕ End) → (r ≡ Err (Stopped Ends.Memory) → b ≡ m) → IfOk r (λ status. status ≡ reply_status reply) → EndsClosed after (reply_alone reply) (M.now m) (M.now b) (unit_of r) → EndsAlone command k (is.met ∷ []) (M.now a) (M.now b) r
+    ended (Ok status) undone gives c = (refl, gives ∙ status_same, done c)
+    ended (Err Output) undone gives c = tt
+    ended (Err (Stopped why)) undone gives c = (
+      c.0,
+      c.1 ∙ disk.quiet honest,
+      λ is. subst (λ (x : D). IsSound k.mounted.volume.layout k.windows k.changes (forced_of k) (M.now x).image) (sym (undone (ap (λ (w : Fault). Err (Stopped w)) is))) spared,
+    )
 
-    pub alone_answered : (r : Result ℕ End) → IfOk r (λ status. status ≡ reply_status reply) → ClosesAndSays M after (reply_alone reply) m b (unit_of r) → IsAlone M command k a b r
-    alone_answered r gives c = record {
+    pub alone_answered : (r : Result ℕ End) → (r ≡ Err (Stopped Ends.Memory) → b ≡ m) → IfOk r (λ status. status ≡ reply_status reply) → ClosesAndSays M after (reply_alone reply) m b (unit_of r) → IsAlone M command k a b r
+    alone_answered r undone gives c = record {
       mets = is.met ∷ [];
       goes = λ t le. ((M.now m).image, step_is state has M wears short counts_now silent never command v w a m b k (M.now a) stood same stood fault disk layout honest since after reply is stands t le, tt);
       moments = then_on M.moment M.left_since a m b (InRun k (turn ∷ []) (M.now a)) (before (turn ∷ [])) (leaves_more M.moment M.left_since m b (InClose after (reply_alone reply) (M.now m)) (InRun k (turn ∷ []) (M.now a)) on_close c.moments);
-      ends = ended r gives c.ends;
+      ends = ended r undone gives c.ends;
     }

@@ -19,13 +19,14 @@ use Rattle.volume_contract.specs.State.{Known, volume_of}
 use Rattle.volume_turns.specs.declared.turns.End.{End}
 use Rattle.volume_turns.specs.declared.turns.End.TheVariants.{Fault as Stopped, Output}
 use Rattle.volume_turns.specs.Line.{EndsWith, is_unsaid}
-use Rattle.volume_turns.specs.Once.{Anything, IsAlone}
+use Rattle.volume_turns.specs.Once.{Anything, IsAlone, Spares}
 use Rattle.volume_turns.specs.Turns.{InRun, Told}
 use Rattle.volume_turns.specs.Whole.{Halted, RunsOut}
 use Rattle.volume_turns.proofs.GroupEndLaws.{finishes_unsaid}
 use Rattle.volume_turns.proofs.GroupLaws.{goes_wider}
 use Rattle.volume_turns.proofs.HaltLaws.{broken_ends, broken_moments}
 use Rattle.volume_turns.proofs.LineLaws.{alone_length}
+use Rattle.volume_turns.proofs.TurnLaws.{none_done}
 
 first_of : (turns : List Turn) → length turns ≡ 1 → IsSome (slice_get turns 0)
 first_of [] one = cc one
@@ -36,8 +37,8 @@ pub some_one : (c : Command) (v : Volume) → IsSome (slice_get (turns_of (erran
 some_one c v = first_of (turns_of (alone c) [] v) (alone_length c [] v)
 
 -- where nothing of its one turn is said
-halted_one : (k : Known) (turns : List Turn) → length turns ≡ 1 → (old now : Moment) → now.said ≡ old.said → InRun k turns old now → Halted k turns old now
-halted_one k turns one old now quiet r =
+halted_one : (k : Known) (why : Fault) (turns : List Turn) → length turns ≡ 1 → (old now : Moment) → now.said ≡ old.said → Spares k why now.image → InRun k turns old now → Halted k why turns old now
+halted_one k why turns one old now quiet spares r =
     let same : take (suc r.whole) turns ≡ take 1 turns = take_all (suc r.whole) turns (omega (arith, one)) ∙ sym (take_all 1 turns (omega (arith, one))) in
     record {
       windows = r.windows;
@@ -48,6 +49,7 @@ halted_one k turns one old now quiet r =
       least = r.least;
       enough = λ any. absurd (cc any);
       sound = subst (λ (ts : List Turn). IsSound k.mounted.volume.layout k.windows (k.changes ++ changes_in ts) r.forced now.image) same r.sound;
+      undone = λ is. none_done k turns now.image (spares is);
     }
 
 module _ {D : Type 0} (M : Ghosts D) (c : Command) (rest : List ℕ) (k : Known) (a p b : D) (since : Since M p b) where
@@ -59,7 +61,7 @@ module _ {D : Type 0} (M : Ghosts D) (c : Command) (rest : List ℕ) (k : Known)
       → (status : ℕ) → LeavesDisk M false (is_unsaid status) (Utters (fault_text why)) p b → EndsWith why (M.now p) (M.now b) status → RunsOut M (One c) [] rest (M.report a) k a b status
   one_broken honest short ends here why one told status says ended =
       let turns = turns_of (alone c) one.mets (volume_of k) in
-      let halted = halted_one k turns (alone_length c one.mets (volume_of k)) (M.now a) (M.now p) one.ends.1 (one.moments.each (M.now p) here) in
+      let halted = halted_one k why turns (alone_length c one.mets (volume_of k)) (M.now a) (M.now p) one.ends.1 one.ends.2 (one.moments.each (M.now p) here) in
       record {
         cut = None;
         may = tt;
@@ -68,8 +70,8 @@ module _ {D : Type 0} (M : Ghosts D) (c : Command) (rest : List ℕ) (k : Known)
         finishes = record {
           mets = one.mets;
           goes = went one;
-          moments = broken_moments M (One c) (M.report a) k turns a p b one.moments halted short ends why one.ends.0 told status says honest ended;
-          ends = inr (broken_ends M (One c) (M.report a) k turns a p b one.moments halted short ends why one.ends.0 told status says honest ended);
+          moments = broken_moments M (One c) (M.report a) k turns a p b one.moments why halted short ends one.ends.0 told status says honest ended;
+          ends = inr (broken_ends M (One c) (M.report a) k turns a p b one.moments why halted short ends one.ends.0 told status says honest ended);
         };
       }
 

@@ -28,12 +28,12 @@ use Rattle.fsd_runs.specs.Runs.{Goes, IsCutAt, changes_in, errand_in, said_in, t
 use Rattle.volume_contract.specs.State.{State, Ages, Known, Stands, forced_of, is_worn, volume_of}
 use Rattle.volume_turns.specs.Line.{EndsWith, is_unsaid}
 use Rattle.volume_turns.specs.Steps.{StaysSound}
-use Rattle.volume_turns.specs.Turns.{InRun}
+use Rattle.volume_turns.specs.Turns.{InRun, Undone}
 use Rattle.volume_turns.specs.Whole.{Finishes, Halted, RunsOut, SaysOut}
 use Rattle.volume_turns.proofs.HaltLaws.{stopped_ends, stopped_moments}
 use Rattle.volume_turns.proofs.OneLaws.{some_one}
 use Rattle.volume_turns.proofs.ScriptLaws.{in_from}
-use Rattle.volume_turns.proofs.TurnLaws.{in_before, worn_state}
+use Rattle.volume_turns.proofs.TurnLaws.{in_before, none_done, worn_state}
 use Rattle.volume_turns.proofs.WholeLaws.{runs_on}
 
 -- ---- what a put asks for, by how long its input is
@@ -98,7 +98,7 @@ module _ {S D : Type 0} (state : S → State) (has : S → Mounted → List Plac
     )
 
     abbrev Over : Moment → List Met → Type 0
-    Over old mets = SaysOut e k mets old (M.now b) status ⊎ (IsUnsaid before (M.report b) status ⊎ IsBroken (Put name keep) before (M.report b) (turns_of e mets (volume_of k)) old (M.now b) status)
+    Over old mets = SaysOut e k mets old (M.now b) status ⊎ (IsUnsaid before (M.report b) status ⊎ IsBroken (Put name keep) (Undone k (turns_of e mets (volume_of k))) before (M.report b) (turns_of e mets (volume_of k)) old (M.now b) status)
 
     ends_from : (mets : List Met) → Over (M.now m) mets → Over (M.now a) mets
     ends_from mets (inl out) = inl (record {
@@ -122,6 +122,7 @@ module _ {S D : Type 0} (state : S → State) (has : S → Mounted → List Plac
         more = x.says.more;
         said = x.says.said ∙ ap (λ (y : List ℕ). y ++ (said_in (take x.says.whole (turns_of e mets (volume_of k))) ++ fault_text x.why)) worn.said;
       };
+      undone = x.undone;
     }))
 
     from_there : (cut : Cut) → MayCut (Put name keep) cut → Finishes M (Put name keep) (errand_in (Put name keep) input cut) (IsCutAt cut) before k m b status → RunsOut M (Put name keep) input rest before k a b status
@@ -161,7 +162,7 @@ module _ {S D : Type 0} (state : S → State) (has : S → Mounted → List Plac
     abbrev turns : List Turn
     turns = turns_of e [] (volume_of k)
 
-    halted : Halted k turns (M.now a) (M.now m)
+    halted : Halted k why turns (M.now a) (M.now m)
     halted = record {
       windows = worn.windows;
       whole = 0;
@@ -171,6 +172,7 @@ module _ {S D : Type 0} (state : S → State) (has : S → Mounted → List Plac
       least = omega arith;
       enough = λ any. absurd (cc any);
       sound = sound_more k.mounted.volume.layout k.windows k.changes (changes_in (take 1 turns)) (forced_of k) (M.now m).image (stays (M.now m) worn).sound;
+      undone = λ is. none_done k turns (M.now m).image (stays (M.now m) worn).sound;
     }
 
     short_there : AreShort (M.now m).windows
@@ -188,7 +190,7 @@ module _ {S D : Type 0} (state : S → State) (has : S → Mounted → List Plac
       finishes = record {
         mets = [];
         goes = λ t le. tt;
-        moments = stopped_moments M (Put name keep) (M.report a) k turns a m b (taking turns) halted short_there stands.ends why may out later status says honest ended;
-        ends = inr (stopped_ends M (Put name keep) (M.report a) k turns a m b (taking turns) halted short_there stands.ends why may out later status says honest ended);
+        moments = stopped_moments M (Put name keep) (M.report a) k turns a m b (taking turns) why halted short_there stands.ends may out later status says honest ended;
+        ends = inr (stopped_ends M (Put name keep) (M.report a) k turns a m b (taking turns) why halted short_there stands.ends may out later status says honest ended);
       };
     }

@@ -6,7 +6,7 @@ use Rattle.std.specs.List.{list_any}
 use Rattle.std.proofs.lemmas.List.{append-nil}
 use Rattle.sector_disk.specs.declared.machine.Machine.{Ghosts}
 use Rattle.sector_disk.specs.declared.sector.WeakRun.{WeakRun}
-use Rattle.sector_disk.specs.Image.{IsWorn, open_damage, AreShort}
+use Rattle.sector_disk.specs.Image.{IsWorn, open_damage, AreShort, Windows}
 use Rattle.sector_disk.specs.Machine.{Ledger, LeavesOnly, Moment, OnlyWrites, Report, UsesDisk, Utters, Wears}
 use Rattle.sector_disk.proofs.Moments.{started, then_on, leaves_more}
 use Rattle.fsd_files.specs.Answers.{Met, Outcome, entry_of}
@@ -15,7 +15,8 @@ use Rattle.fsd_files.specs.Files.{Change}
 use Rattle.fsd_files.specs.Replies.{Reply}
 use Rattle.fsd_files.specs.Volume.{Volume, HasReach}
 use Rattle.fsd_sound.specs.Mounted.{Mounted}
-use Rattle.fsd_sound.specs.Sound.{IsSound}
+use Rattle.fsd_sound.specs.Sound.{EndIn, IsSound}
+use Rattle.fsd_sound.proofs.MoreLaws.{wear_sound}
 use Rattle.fsd_sound.proofs.MountedLaws.{mounted_sound, mounted_tells, mounted_reach}
 use Rattle.fsd_texts.specs.declared.command.Command.{Command}
 use Rattle.fsd_texts.specs.declared.command.Command.TheVariants as Word
@@ -137,13 +138,18 @@ module _ {S D : Type 0} (state : S → State) (has : S → Mounted → List Plac
             let at = wears w after (M.now m) (M.now b) (short m honest) (record { image = worn.image; windows = worn.windows }) stands in
             mounted_sound after.mounted after.windows after.changes (forced_of after) (M.now b).image at.disk
 
+        -- what was done is on no disk yet
+        spared_after : Wears (M.now m) (M.now b) → IsSound k.mounted.volume.layout k.windows k.changes (forced_of k) (M.now b).image
+        spared_after worn = wear_sound k.mounted.volume.layout k.windows k.changes (forced_of k) (M.now m).windows (M.now m).image (M.now b).image (short m honest)
+            (subst (λ (w : Windows). EndIn w k.windows) (sym (disk.windows honest)) stood.ends) worn.image (disk.exit honest k stood).sound
+
         -- it was not said
         pub step_unsaid : (end : End) → Unsaid (M.now m) (M.now b) end → (more : List Command) → RunsFrom state has M e k from (command ∷ more) a b w (Err end)
         step_unsaid (Stopped Ends.Memory) unsaid more = record {
           mets = is.met ∷ [];
           goes = λ t le. ((M.now m).image, step_is t le, tt);
           moments = in_both;
-          ends = (tt, said_before k after turn [] behind_it.layout behind_it.windows behind_it.changes (forced_of after) behind_it.least (M.now a) (M.now b) (unsaid.windows ∙ disk.windows honest) (worn_after unsaid) (unsaid.said ∙ disk.quiet honest));
+          ends = (tt, said_before k after turn [] behind_it.layout behind_it.windows behind_it.changes (forced_of after) behind_it.least (M.now a) (M.now b) (unsaid.windows ∙ disk.windows honest) (worn_after unsaid) Ends.Memory (λ is. spared_after unsaid) (unsaid.said ∙ disk.quiet honest));
         }
         step_unsaid Output unsaid more = record { mets = is.met ∷ []; goes = λ t le. ((M.now m).image, step_is t le, tt); moments = in_both; ends = tt }
         step_unsaid (Stopped fault) unsaid more = absurd unsaid
@@ -160,13 +166,13 @@ module _ {S D : Type 0} (state : S → State) (has : S → Mounted → List Plac
       mets = [];
       goes = λ t le. tt;
       moments = before_it;
-      ends = (tt, said_nothing k (M.now a) (M.now m) (disk.exit honest k stood));
+      ends = (tt, said_nothing k (Ends.Device s) (M.now a) (M.now m) (disk.exit honest k stood));
     }
     step_fault Ends.Memory does more = record {
       mets = [];
       goes = λ t le. tt;
       moments = before_it;
-      ends = (tt, said_nothing k (M.now a) (M.now m) (disk.exit honest k stood));
+      ends = (tt, said_nothing k Ends.Memory (M.now a) (M.now m) (disk.exit honest k stood));
     }
     step_fault Ends.WornOut does more = record {
       mets = [];
@@ -292,14 +298,14 @@ module _ {S D : Type 0} (state : S → State) (has : S → Mounted → List Plac
         stands = x.stands;
       }
 
-      said_behind : Said ok.after (turns_begun e rest.mets (volume_of ok.after) commands) (M.now m) (M.now b) → Said k (this_turn ∷ turns) (M.now a) (M.now b)
-      said_behind x = said_more k ok.after this_turn turns ok.carries (M.now a) (M.now m) (M.now b) ok.open_windows ok.said (subst (λ (ts : List Turn). Said ok.after ts (M.now m) (M.now b)) same_turns x)
+      said_behind : (why : Fault) → Said ok.after why (turns_begun e rest.mets (volume_of ok.after) commands) (M.now m) (M.now b) → Said k why (this_turn ∷ turns) (M.now a) (M.now b)
+      said_behind why x = said_more k ok.after this_turn turns ok.carries (M.now a) (M.now m) (M.now b) ok.open_windows ok.said why (subst (λ (ts : List Turn). Said ok.after why ts (M.now m) (M.now b)) same_turns x)
 
       ends : (r : Result (Unit {0}) End) → EndsBy state has e ok.after rest.mets commands z (M.now m) (M.now b) r → EndsBy state has e k (ok.met ∷ rest.mets) (command ∷ commands) z (M.now a) (M.now b) r
       ends (Ok x) is = (ap (λ (n : ℕ). suc n) is.0, stands_behind is.1)
       ends (Err (Stopped Ends.WornOut)) is = (is.0, stands_behind is.1)
       ends (Err Output) is = tt
-      ends (Err (Stopped fault)) is = (is.0, said_behind is.1)
+      ends (Err (Stopped fault)) is = (is.0, said_behind fault is.1)
 
       pub from_both : RunsFrom state has M e k from (command ∷ commands) a b z result
       from_both = record { mets = ok.met ∷ rest.mets; goes = goes; moments = moments; ends = ends result rest.ends }

@@ -52,13 +52,13 @@ outside_in a p b (Ends.Device s) o = record { rose = o.rose; told = o.told }
 outside_in a p b Ends.Memory o = tt
 outside_in a p b why o = absurd o
 
-broken_in : (a p b : Report) {turns : List Turn} {old new : Moment} {status : ℕ} → IsBroken Script (but_input a p) b turns old new status → IsBroken Script a b turns old new status
-broken_in a p b x = record { why = x.why; outside = outside_in a p b x.why x.outside; ends = x.ends; says = x.says }
+broken_in : (a p b : Report) {Over : ℕ → Image → Type 0} {turns : List Turn} {old new : Moment} {status : ℕ} → IsBroken Script Over (but_input a p) b turns old new status → IsBroken Script Over a b turns old new status
+broken_in a p b x = record { why = x.why; outside = outside_in a p b x.why x.outside; ends = x.ends; says = x.says; undone = x.undone }
 
 pub finishes_in : {D : Type 0} (M : Ghosts D) (e : Errand) (Last : Volume → Image → Type 0) (x p : Report) (k : Known) (a b : D) (status : ℕ) → Finishes M Script e Last (but_input x p) k a b status → Finishes M Script e Last x k a b status
 finishes_in M e Last x p k a b status f = record { mets = f.mets; goes = f.goes; moments = f.moments; ends = ended f.ends }
   where
-    ended : {All : Type 0} {turns : List Turn} {old new : Moment} → All ⊎ (IsUnsaid (but_input x p) (M.report b) status ⊎ IsBroken Script (but_input x p) (M.report b) turns old new status) → All ⊎ (IsUnsaid x (M.report b) status ⊎ IsBroken Script x (M.report b) turns old new status)
+    ended : {All : Type 0} {Over : ℕ → Image → Type 0} {turns : List Turn} {old new : Moment} → All ⊎ (IsUnsaid (but_input x p) (M.report b) status ⊎ IsBroken Script Over (but_input x p) (M.report b) turns old new status) → All ⊎ (IsUnsaid x (M.report b) status ⊎ IsBroken Script Over x (M.report b) turns old new status)
     ended (inl out) = inl out
     ended (inr (inl u)) = inr (inl (record { ends = u.ends; rose = u.rose }))
     ended (inr (inr y)) = inr (inr (broken_in x p (M.report b) y))
@@ -118,10 +118,10 @@ module _ {D : Type 0} (M : Ghosts D) (before : Report) (k : Known) (a p b : D) (
           finishes_last M Script before k front line (behind mets v commands) gives a p b moments done short ends counted status says honest all_errand (WornIf false) mets turns_is (on (WornIf false) later goes)
           (eqb-true (length mets) (length commands) through) same refl ended
 
-      pub all_broken : Said k turns (M.now a) (M.now p) → (why : Fault) → EndsAtOnce why → {T : Type 0} → Told {T = T} before (M.report p) (Err (Stopped why)) → LeavesDisk M false (is_unsaid status) (Utters (fault_text why)) p b → EndsWith why (M.now p) (M.now b) status
+      pub all_broken : (why : Fault) → Said k why turns (M.now a) (M.now p) → EndsAtOnce why → {T : Type 0} → Told {T = T} before (M.report p) (Err (Stopped why)) → LeavesDisk M false (is_unsaid status) (Utters (fault_text why)) p b → EndsWith why (M.now p) (M.now b) status
           → Finishes M Script all_errand (WornIf false) before k a b status
-      all_broken said why once told says ended =
-          finishes_broken M Script before k turns (is_through false mets commands) more a p b (leaves more) said short ends why once told status says honest ended all_errand (WornIf false) mets turns_all (on (WornIf false) later goes)
+      all_broken why said once told says ended =
+          finishes_broken M Script before k turns (is_through false mets commands) more a p b (leaves more) why said short ends once told status says honest ended all_errand (WornIf false) mets turns_all (on (WornIf false) later goes)
 
       pub all_unsaid : {T : Type 0} → status ≡ 6 → Told {T = T} before (M.report b) (Err Output) → LeavesOnly M.moment M.left_since a b (InRun k (turns ++ turns_behind (is_through false mets commands) more) (M.now a)) → Finishes M Script all_errand (WornIf false) before k a b status
       all_unsaid six told moments = subst (λ (n : ℕ). Finishes M Script all_errand (WornIf false) before k a b n) (sym six)
@@ -181,11 +181,11 @@ module _ {D : Type 0} (M : Ghosts D) (before : Report) (k : Known) (a p b : D) (
                 (ended_as e done_commands cut_short) (λ v i. IsWornOut v i) mets (turns_cut ∙ split) went (sym within) refl (sym (behind_cut mets v commands)) ended;
           }
 
-      pub cut_broken : Said k turns (M.now a) (M.now p) → (why : Fault) → EndsAtOnce why → {T : Type 0} → Told {T = T} before (M.report p) (Err (Stopped why)) → LeavesDisk M false (is_unsaid status) (Utters (fault_text why)) p b → EndsWith why (M.now p) (M.now b) status → WornOff M e commands before k a b status
-      cut_broken said why once told says ended = record {
+      pub cut_broken : (why : Fault) → Said k why turns (M.now a) (M.now p) → EndsAtOnce why → {T : Type 0} → Told {T = T} before (M.report p) (Err (Stopped why)) → LeavesDisk M false (is_unsaid status) (Utters (fault_text why)) p b → EndsWith why (M.now p) (M.now b) status → WornOff M e commands before k a b status
+      cut_broken why said once told says ended = record {
         count = length mets;
         worn = worn;
-        finishes = finishes_broken M Script before k turns true (last_turn ∷ []) a p b (leaves (last_turn ∷ [])) said short ends why once told status says honest ended (ended_as e done_commands cut_short) (λ v i. IsWornOut v i) mets turns_cut went;
+        finishes = finishes_broken M Script before k turns true (last_turn ∷ []) a p b (leaves (last_turn ∷ [])) why said short ends once told status says honest ended (ended_as e done_commands cut_short) (λ v i. IsWornOut v i) mets turns_cut went;
       }
 
       pub cut_unsaid : {T : Type 0} → status ≡ 6 → Told {T = T} before (M.report b) (Err Output) → LeavesOnly M.moment M.left_since a b (InRun k (turns ++ forced_turn ∷ last_turn ∷ []) (M.now a)) → WornOff M e commands before k a b status
@@ -231,8 +231,8 @@ module _ {D : Type 0} (M : Ghosts D) (before : Report) (k : Known) (a p b : D) (
     group_fault why g told says ended = by g.cut g.before g.goes g.moments g.ends
       where
         by : (cut : Bool) → CutsOff cut g.mets commands → MayGo M before k a p b honest since short ends status e commands g.mets cut → Leaves M before k a p b honest since short ends status e commands g.mets (is_through cut g.mets commands) → EndsGroup e k cut g.mets commands (M.now a) (M.now p) (Err (Stopped why)) → Over more gives
-        by false worn goes leaves x = inl (all_broken M before k a p b honest since short ends status e commands g.mets (λ done. group_ending more gives) more refl goes leaves x.1 why x.0 told says ended)
-        by true worn goes leaves x = inr (cut_broken M before k a p b honest since short ends status e commands g.mets worn goes leaves x.1 why x.0 told says ended)
+        by false worn goes leaves x = inl (all_broken M before k a p b honest since short ends status e commands g.mets (λ done. group_ending more gives) more refl goes leaves why x.1 x.0 told says ended)
+        by true worn goes leaves x = inr (cut_broken M before k a p b honest since short ends status e commands g.mets worn goes leaves why x.1 x.0 told says ended)
 
     -- it was not cut off
     pub group_fault_all : (why : Fault) → (g : Group (Err (Stopped why))) → g.cut ≡ false → {T : Type 0} → Told {T = T} before (M.report p) (Err (Stopped why)) → LeavesDisk M false (is_unsaid status) (Utters (fault_text why)) p b → EndsWith why (M.now p) (M.now b) status
@@ -242,7 +242,7 @@ module _ {D : Type 0} (M : Ghosts D) (before : Report) (k : Known) (a p b : D) (
         by : (cut : Bool) → cut ≡ false → MayGo M before k a p b honest since short ends status e commands g.mets cut → Leaves M before k a p b honest since short ends status e commands g.mets (is_through cut g.mets commands) → EndsGroup e k cut g.mets commands (M.now a) (M.now p) (Err (Stopped why))
             → Finishes M Script (ended_in more gives) (WornIf false) before k a b status
         by true is goes leaves x = cc is
-        by false is goes leaves x = all_broken M before k a p b honest since short ends status e commands g.mets (λ done. group_ending more gives) more refl goes leaves x.1 why x.0 told says ended
+        by false is goes leaves x = all_broken M before k a p b honest since short ends status e commands g.mets (λ done. group_ending more gives) more refl goes leaves why x.1 x.0 told says ended
 
 -- and nothing follows the group
 module _ {D : Type 0} (M : Ghosts D) (before : Report) (k : Known) (a b : D) (honest : M.honest b) (short : AreShort (M.now b).windows) (ends : EndIn (M.now a).windows k.windows) (e : Errand) (commands : List Command) where

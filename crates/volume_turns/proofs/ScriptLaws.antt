@@ -14,6 +14,7 @@ use Rattle.fsd_sound.specs.Mounted.{Mounted}
 use Rattle.fsd_sound.proofs.MountedLaws.{mounted_sound}
 use Rattle.fsd_texts.specs.declared.command.Command.{Command}
 use Rattle.fsd_texts.specs.declared.end.End.{End as ScriptEnd}
+use Rattle.fsd_texts.specs.declared.fault.Fault.{Fault}
 use Rattle.fsd_texts.specs.declared.fault.Fault.TheVariants as Ends
 use Rattle.fsd_texts.specs.Script.{Script}
 use Rattle.fsd_runs.specs.Errands.{Errand, Turn}
@@ -51,8 +52,8 @@ module _ (k : Known) (old mid : Moment) (w : Wears old mid) where
     sound = x.sound;
   }
 
-  said_from : (turns : List Turn) (now : Moment) → Said k turns mid now → Said k turns old now
-  said_from turns now x = record {
+  said_from : (why : Fault) (turns : List Turn) (now : Moment) → Said k why turns mid now → Said k why turns old now
+  said_from why turns now x = record {
     windows = x.windows ∙ w.windows;
     whole = x.whole;
     most = x.most;
@@ -61,6 +62,7 @@ module _ (k : Known) (old mid : Moment) (w : Wears old mid) where
     least = x.least;
     enough = x.enough;
     sound = x.sound;
+    undone = x.undone;
   }
 
 ages_on : (from old mid : Moment) → Ages from old → Wears old mid → Ages from mid
@@ -120,7 +122,7 @@ module _ {S D : Type 0} (state : S → State) (has : S → Mounted → List Plac
         by (Ok x) is = (is.0, stands_so is.1)
         by (Err (Stopped Ends.WornOut)) is = (is.0, stands_so is.1)
         by (Err Output) is = tt
-        by (Err (Stopped why)) is = (is.0, said_from k (M.now a) (M.now m) w (turns_begun e r.mets (volume_of k) commands) (M.now b) is.1)
+        by (Err (Stopped why)) is = (is.0, said_from k (M.now a) (M.now m) w why (turns_begun e r.mets (volume_of k) commands) (M.now b) is.1)
 
   -- memory was refused for the next of them
   pub runs_refused : (commands : List Command) (v : S) (a : D) → (M.honest a → (left : Moment) → M.left_since a (M.moment a) left → left ≡ M.now a) → (M.honest a → (from : Moment) → Ages from (M.now a) → AreShort from.windows)
@@ -132,7 +134,7 @@ module _ {S D : Type 0} (state : S → State) (has : S → Mounted → List Plac
         mets = [];
         goes = λ t le. tt;
         moments = λ rest. started M.moment M.left_since a (M.now a) (InRun k rest (M.now a)) (only honest) (in_before k rest (M.now a) (M.now a) (record { sound = sound; windows = refl; said = refl }));
-        ends = (tt, said_nothing k (M.now a) (M.now a) (record { sound = sound; windows = refl; said = refl }));
+        ends = (tt, said_nothing k Ends.Memory (M.now a) (M.now a) (record { sound = sound; windows = refl; said = refl }));
       }
 
 -- ---- what is taken

@@ -10,7 +10,7 @@ use Rattle.sector_disk.specs.declared.sector.WeakRun.{WeakRun}
 use Rattle.sector_disk.specs.Machine.{Moment}
 use Rattle.fsd_log.specs.Scan.{Head, Walked, newer_of, is_newer, Placed}
 use Rattle.fsd_table.specs.Table.{Telling, told_in}
-use Rattle.fsd_files.specs.Disk.{in_runs}
+use Rattle.fsd_files.specs.Disk.{Image, in_runs}
 use Rattle.fsd_files.specs.Files.{Change, after}
 use Rattle.fsd_bytes.specs.declared.key.Serial.{Serial}
 use Rattle.fsd_sound.specs.Anchors.{anchor_of, anchor_at}
@@ -20,6 +20,7 @@ use Rattle.fsd_sound.specs.Sound.{IsSound, Tells, weak_of}
 use Rattle.sector_disk.proofs.Wear.{worn_refl}
 use Rattle.fsd_sound.proofs.MountedLaws.{mounted_sound}
 use Rattle.fsd_sound.proofs.MoreLaws.{sound_more}
+use Rattle.fsd_texts.specs.declared.fault.Fault.{Fault}
 use Rattle.fsd_texts.specs.declared.fault.Fault.TheVariants as Ends
 use Rattle.fsd_runs.specs.Errands.{Turn}
 use Rattle.fsd_runs.specs.Leaves.{SaysNext}
@@ -27,7 +28,7 @@ use Rattle.fsd_runs.specs.Runs.{IsWornOut, changes_in, forced_in, said_in, last_
 use Rattle.volume_contract.specs.State.{State, Known, volume_of, forced_of, Stands, is_worn}
 use Rattle.volume_turns.specs.Steps.{StaysSound}
 use Rattle.volume_turns.specs.Once.{InClose}
-use Rattle.volume_turns.specs.Turns.{Carries, InRun, Said}
+use Rattle.volume_turns.specs.Turns.{Carries, InRun, Said, Undone}
 
 -- ---- where a mount is worn out
 
@@ -96,9 +97,20 @@ module _ {S : Type 0} (state : S → State) (has : S → Mounted → List Placed
 
 -- ---- what may be said next
 
-pub says_nothing : (o : Option Turn) → SaysNext o []
-says_nothing None = refl
-says_nothing (Some t) = inr (Ends.Memory, 0, tt, refl)
+pub says_nothing : (Forced : Type 0) (o : Option Turn) → SaysNext Forced o []
+says_nothing Forced None = refl
+says_nothing Forced (Some t) = inr (Ends.Memory, 0, tt, refl)
+
+-- what is forced, said otherwise
+pub next_as : (F G : Type 0) (o : Option Turn) (part : List ℕ) → ((u : Turn) → o ≡ Some u → IsTrue u.forces → F → G) → SaysNext F o part → SaysNext G o part
+next_as F G None part so next = next
+next_as F G (Some u) part so (inl begins) = inl (begins.0, λ some forces. so u refl forces (begins.1 some forces))
+next_as F G (Some u) part so (inr fault) = inr fault
+
+any_at : (turns : List Turn) (n : ℕ) (u : Turn) → slice_get turns n ≡ Some u → IsTrue u.forces → IsTrue (list_any (λ x. x.forces) (take (suc n) turns))
+any_at [] n u is forces = absurd (cc is)
+any_at (t ∷ turns) zero u is forces = let same : t ≡ u = cc is in or_left t.forces (list_any (λ x. x.forces) (take zero turns)) (subst (λ (x : Turn). IsTrue x.forces) (sym same) forces)
+any_at (t ∷ turns) (suc n) u is forces = or_right t.forces (list_any (λ x. x.forces) (take (suc n) turns)) (any_at turns n u is forces)
 
 -- ---- moments of one command
 
@@ -109,7 +121,7 @@ in_before k turns old left stays = record {
   whole = 0;
   part = [];
   said = stays.said ∙ sym (append-nil old.said);
-  next = says_nothing (slice_get turns 0);
+  next = says_nothing (length k.changes + forced_in (take 1 turns) ≤ forced_of k) (slice_get turns 0);
   forced = forced_of k;
   least = omega arith;
   enough = λ any. absurd (cc any);
@@ -117,8 +129,17 @@ in_before k turns old left stays = record {
 }
 
 -- no turn was begun
-pub said_nothing : (k : Known) (old left : Moment) → StaysSound k old left → Said k [] old left
-said_nothing k old left stays = record {
+-- none of some turns was done
+pub none_done : (k : Known) (turns : List Turn) (i : Image) → IsSound k.mounted.volume.layout k.windows k.changes (forced_of k) i → Undone k turns 0 i
+none_done k turns i sound = record {
+  forced = forced_of k;
+  least = omega arith;
+  enough = λ any. absurd (cc any);
+  sound = subst (λ (h : List Change). IsSound k.mounted.volume.layout k.windows h (forced_of k) i) (sym (append-nil k.changes)) sound;
+}
+
+pub said_nothing : (k : Known) (why : Fault) (old left : Moment) → StaysSound k old left → Said k why [] old left
+said_nothing k why old left stays = record {
   windows = stays.windows;
   whole = 0;
   most = omega arith;
@@ -127,6 +148,7 @@ said_nothing k old left stays = record {
   least = omega arith;
   enough = λ any. absurd (cc any);
   sound = subst (λ (h : List Change). IsSound k.mounted.volume.layout k.windows h (forced_of k) left.image) (sym (append-nil k.changes)) stays.sound;
+  undone = λ is. none_done k [] left.image stays.sound;
 }
 
 one_turn : (t : Turn) (rest : List Turn) → changes_in (take 1 (t ∷ rest)) ≡ t.changes
@@ -148,7 +170,7 @@ module _ (k after : Known) (t : Turn) (rest : List Turn) (layout : after.mounted
       (subst (λ (l : Layout). IsSound l after.windows after.changes f left.image) layout sound))
 
   -- a part of it is said
-  pub in_part : (part : List ℕ) → left.said ≡ old.said ++ part → SaysNext (Some t) part → InRun k (t ∷ rest) old left
+  pub in_part : (part : List ℕ) → left.said ≡ old.said ++ part → SaysNext (length k.changes + forced_in (t ∷ []) ≤ f) (Some t) part → InRun k (t ∷ rest) old left
   in_part part said next = record {
     windows = windows;
     whole = 0;
@@ -162,8 +184,8 @@ module _ (k after : Known) (t : Turn) (rest : List Turn) (layout : after.mounted
   }
 
   -- nothing is said
-  pub said_before : left.said ≡ old.said → Said k (t ∷ rest) old left
-  said_before said = record {
+  pub said_before : (why : Fault) → (why ≡ Ends.Memory → IsSound k.mounted.volume.layout k.windows k.changes (forced_of k) left.image) → left.said ≡ old.said → Said k why (t ∷ rest) old left
+  said_before why stays said = record {
     windows = windows;
     whole = 0;
     most = omega arith;
@@ -172,7 +194,12 @@ module _ (k after : Known) (t : Turn) (rest : List Turn) (layout : after.mounted
     least = least;
     enough = λ any. absurd (cc any);
     sound = subst (λ (c : List Change). IsSound k.mounted.volume.layout k.windows (k.changes ++ c) f left.image) (sym (one_turn t rest)) sound_at;
+    undone = λ is. none_done k (t ∷ rest) left.image (stays is);
   }
+
+  -- that turn's changes and those before it are forced
+  forced_here : (IsTrue t.forces → f ≡ length after.changes) → IsTrue t.forces → length k.changes + forced_in (t ∷ []) ≤ f
+  forced_here all is = let one = forced_one t is in let every = all is in let sum = length-append k.changes t.changes in let long = ap (λ (h : List Change). length h) changes in omega (arith, one, every, sum, long)
 
   -- all of it is said
   pub in_whole : (IsTrue t.forces → f ≡ length after.changes) → left.said ≡ old.said ++ t.said → InRun k (t ∷ rest) old left
@@ -181,7 +208,7 @@ module _ (k after : Known) (t : Turn) (rest : List Turn) (layout : after.mounted
     whole = 1;
     part = [];
     said = said ∙ ap (λ (b : List ℕ). old.said ++ b) (sym (append-nil (t.said ++ []) ∙ append-nil t.said));
-    next = says_nothing (slice_get (t ∷ rest) 1);
+    next = says_nothing (length k.changes + forced_in (take 2 (t ∷ rest)) ≤ f) (slice_get (t ∷ rest) 1);
     forced = f;
     least = least;
     enough = λ any. let is = no_or t.forces any in let one = forced_one t is in let every = all is in let sum = length-append k.changes t.changes in let long = ap (λ (h : List Change). length h) changes in omega (arith, one, every, sum, long);
@@ -191,7 +218,7 @@ module _ (k after : Known) (t : Turn) (rest : List Turn) (layout : after.mounted
 
   -- while it is said
   pub in_saying_at : (IsTrue t.forces → f ≡ length after.changes) → (heard : ℕ) → left.said ≡ old.said ++ take heard t.said → InRun k (t ∷ rest) old left
-  in_saying_at all heard said = ⊎_elim (λ short. in_part (take heard t.said) said (inl (heard, short, refl))) (λ long. in_whole all (said ∙ ap (λ (b : List ℕ). old.said ++ b) (take_all heard t.said long))) (cases_lt heard (length t.said))
+  in_saying_at all heard said = ⊎_elim (λ short. in_part (take heard t.said) said (inl ((heard, short, refl), λ some. forced_here all))) (λ long. in_whole all (said ∙ ap (λ (b : List ℕ). old.said ++ b) (take_all heard t.said long))) (cases_lt heard (length t.said))
 
 pub in_saying : (k after : Known) (t : Turn) (rest : List Turn) → Carries k after t → (old left : Moment) → left.windows ≡ old.windows → IsSound after.mounted.volume.layout after.windows after.changes (forced_of after) left.image → (heard : ℕ)
     → left.said ≡ old.said ++ take heard t.said → InRun k (t ∷ rest) old left
@@ -232,7 +259,8 @@ module _ (k after : Known) (t : Turn) (turns : List Turn) (stood : Carries k aft
     whole = suc run.whole;
     part = run.part;
     said = run.said ∙ ap (λ (b : List ℕ). b ++ (said_in front ++ run.part)) said ∙ append_assoc old.said t.said (said_in front ++ run.part) ∙ ap (λ (b : List ℕ). old.said ++ b) (sym (append_assoc t.said (said_in front) run.part));
-    next = run.next;
+    next = next_as (length after.changes + forced_in (take (suc run.whole) turns) ≤ run.forced) (length k.changes + forced_in (t ∷ take (suc run.whole) turns) ≤ run.forced) (slice_get turns run.whole) run.part
+        (λ u is forces x. enough_from k after t stood (take (suc run.whole) turns) run.forced run.least (λ any. x) (or_right t.forces (list_any (λ y. y.forces) (take (suc run.whole) turns)) (any_at turns run.whole u is forces))) run.next;
     forced = run.forced;
     least = let a = stood.least in let b = run.least in omega (arith, a, b);
     enough = λ any. enough_from k after t stood front run.forced run.least run.enough any;
@@ -241,8 +269,18 @@ module _ (k after : Known) (t : Turn) (turns : List Turn) (stood : Carries k aft
         (subst (λ (l : Layout). IsSound l after.windows (after.changes ++ changes_in (take (suc run.whole) turns)) run.forced left.image) stood.layout run.sound));
   }
 
-module _ (k after : Known) (t : Turn) (turns : List Turn) (stood : Carries k after t) (old mid left : Moment) (windows : mid.windows ≡ old.windows) (said : mid.said ≡ old.said ++ t.said) (x : Said after turns mid left) where
-  pub said_more : Said k (t ∷ turns) old left
+module _ (k after : Known) (t : Turn) (turns : List Turn) (stood : Carries k after t) (old mid left : Moment) (windows : mid.windows ≡ old.windows) (said : mid.said ≡ old.said ++ t.said) (why : Fault) (x : Said after why turns mid left) where
+  undone_more : Undone after turns x.whole left.image → Undone k (t ∷ turns) (suc x.whole) left.image
+  undone_more u = record {
+    forced = u.forced;
+    least = let a = stood.least in let b = u.least in omega (arith, a, b);
+    enough = λ any. enough_from k after t stood (take x.whole turns) u.forced u.least u.enough any;
+    sound = subst (λ (h : List Change). IsSound k.mounted.volume.layout k.windows h u.forced left.image) (ap (λ (h : List Change). h ++ changes_in (take x.whole turns)) stood.changes ∙ append_assoc k.changes t.changes (changes_in (take x.whole turns)))
+        (subst (λ (w : List WeakRun). IsSound k.mounted.volume.layout w (after.changes ++ changes_in (take x.whole turns)) u.forced left.image) stood.windows
+        (subst (λ (l : Layout). IsSound l after.windows (after.changes ++ changes_in (take x.whole turns)) u.forced left.image) stood.layout u.sound));
+  }
+
+  pub said_more : Said k why (t ∷ turns) old left
   said_more = record {
     windows = x.windows ∙ windows;
     whole = suc x.whole;
@@ -254,6 +292,7 @@ module _ (k after : Known) (t : Turn) (turns : List Turn) (stood : Carries k aft
     sound = subst (λ (h : List Change). IsSound k.mounted.volume.layout k.windows h x.forced left.image) (ap (λ (h : List Change). h ++ changes_in (take (suc x.whole) turns)) stood.changes ∙ append_assoc k.changes t.changes (changes_in (take (suc x.whole) turns)))
         (subst (λ (w : List WeakRun). IsSound k.mounted.volume.layout w (after.changes ++ changes_in (take (suc x.whole) turns)) x.forced left.image) stood.windows
         (subst (λ (l : Layout). IsSound l after.windows (after.changes ++ changes_in (take (suc x.whole) turns)) x.forced left.image) stood.layout x.sound));
+    undone = λ is. undone_more (x.undone is);
   }
 
 -- ---- a turn behind all of these, which changes nothing
@@ -296,20 +335,29 @@ module _ (k after : Known) (turns : List Turn) (t : Turn) (more : List Turn) (no
       (subst (λ (w : List WeakRun). IsSound k.mounted.volume.layout w after.changes c.forced left.image) same
       (subst (λ (l : Layout). IsSound l after.windows after.changes c.forced left.image) layout c.sound))
 
-  part_behind : SaysNext (Some t) (take c.heard t.said) → InRun k (turns ++ t ∷ more) old left
+  part_behind : SaysNext (length k.changes + forced_in (take (suc (length turns)) (turns ++ t ∷ more)) ≤ c.forced) (Some t) (take c.heard t.said) → InRun k (turns ++ t ∷ more) old left
   part_behind next = record {
     windows = c.windows ∙ mid_windows;
     whole = length turns;
     part = take c.heard t.said;
     said = c.said ∙ ap (λ (x : List ℕ). x ++ take c.heard t.said) mid_said ∙ append_assoc old.said (said_in turns) (take c.heard t.said)
         ∙ ap (λ (x : List Turn). old.said ++ (said_in x ++ take c.heard t.said)) (sym (take_front turns (t ∷ more)));
-    next = subst (λ (o : Option Turn). SaysNext o (take c.heard t.said)) (sym (slice_at turns t more)) next;
+    next = subst (λ (o : Option Turn). SaysNext (length k.changes + forced_in (take (suc (length turns)) (turns ++ t ∷ more)) ≤ c.forced) o (take c.heard t.said)) (sym (slice_at turns t more)) next;
     forced = c.forced;
     least = let x = c.least in omega (arith, least, x);
     enough = λ any. subst (λ (x : List Turn). length k.changes + forced_in x ≤ c.forced) (sym (take_front turns (t ∷ more)))
         (let e = enough (subst (λ (x : List Turn). IsTrue (list_any (λ u. u.forces) x)) (take_front turns (t ∷ more)) any) in let x = c.least in omega (arith, e, x));
     sound = subst (λ (x : List Change). IsSound k.mounted.volume.layout k.windows (k.changes ++ x) c.forced left.image) (sym (changes_at turns t more none)) sound_behind;
   }
+
+  all_forced : 0 < c.heard → length k.changes + forced_in (take (suc (length turns)) (turns ++ t ∷ more)) ≤ c.forced
+  all_forced some =
+      let all = c.all some in
+      let sum = length-append k.changes (changes_in turns) in
+      let long_all = ap (λ (h : List Change). length h) changes in
+      let few = forced_most (take (suc (length turns)) (turns ++ t ∷ more)) in
+      let count = ap (λ (h : List Change). length h) (changes_at turns t more none) in
+      omega (arith, all, sum, long_all, few, count)
 
   whole_behind : (some : 0 < c.heard) → length t.said ≤ c.heard → InRun k (turns ++ t ∷ more) old left
   whole_behind some long = record {
@@ -318,32 +366,38 @@ module _ (k after : Known) (turns : List Turn) (t : Turn) (more : List Turn) (no
     part = [];
     said = c.said ∙ ap (λ (x : List ℕ). mid.said ++ x) (take_all c.heard t.said long) ∙ ap (λ (x : List ℕ). x ++ t.said) mid_said ∙ append_assoc old.said (said_in turns) t.said
         ∙ ap (λ (x : List ℕ). old.said ++ x) (sym (append-nil (said_in (take (suc (length turns)) (turns ++ t ∷ more))) ∙ said_past turns t more));
-    next = says_nothing (slice_get (turns ++ t ∷ more) (suc (length turns)));
+    next = says_nothing (length k.changes + forced_in (take (suc (suc (length turns))) (turns ++ t ∷ more)) ≤ c.forced) (slice_get (turns ++ t ∷ more) (suc (length turns)));
     forced = c.forced;
     least = let x = c.least in omega (arith, least, x);
-    enough = λ any.
-        let all = c.all some in
-        let sum = length-append k.changes (changes_in turns) in
-        let long_all = ap (λ (h : List Change). length h) changes in
-        let few = forced_most (take (suc (length turns)) (turns ++ t ∷ more)) in
-        let count = ap (λ (h : List Change). length h) (changes_at turns t more none) in
-        omega (arith, all, sum, long_all, few, count);
+    enough = λ any. all_forced some;
     sound = subst (λ (x : List Change). IsSound k.mounted.volume.layout k.windows x c.forced left.image) (append_assoc k.changes (changes_in turns) (changes_in (take 1 more)) ∙ ap (λ (x : List Change). k.changes ++ x) (sym (changes_past turns t more none)))
         (sound_more k.mounted.volume.layout k.windows (k.changes ++ changes_in turns) (changes_in (take 1 more)) c.forced left.image sound_behind);
   }
 
   -- they are said, and not that turn
-  pub said_close : left.said ≡ mid.said → Said k turns old left
-  said_close same = record {
+  every_forced : forced_of k ≤ c.forced
+  every_forced = let x = c.least in omega (arith, least, x)
+
+  every_enough : IsTrue (list_any (λ u. u.forces) (take (length turns) turns)) → length k.changes + forced_in (take (length turns) turns) ≤ c.forced
+  every_enough any = subst (λ (x : List Turn). length k.changes + forced_in x ≤ c.forced) (sym (take_all (length turns) turns (omega arith)))
+      (let e = enough (subst (λ (x : List Turn). IsTrue (list_any (λ u. u.forces) x)) (take_all (length turns) turns (omega arith)) any) in let x = c.least in omega (arith, e, x))
+
+  pub said_close : (why : Fault) → left.said ≡ mid.said → Said k why turns old left
+  said_close why same = record {
     windows = c.windows ∙ mid_windows;
     whole = length turns;
     most = omega arith;
     said = same ∙ mid_said ∙ ap (λ (x : List Turn). old.said ++ said_in x) (sym (take_all (length turns) turns (omega arith)));
     forced = c.forced;
-    least = let x = c.least in omega (arith, least, x);
-    enough = λ any. subst (λ (x : List Turn). length k.changes + forced_in x ≤ c.forced) (sym (take_all (length turns) turns (omega arith)))
-        (let e = enough (subst (λ (x : List Turn). IsTrue (list_any (λ u. u.forces) x)) (take_all (length turns) turns (omega arith)) any) in let x = c.least in omega (arith, e, x));
+    least = every_forced;
+    enough = every_enough;
     sound = subst (λ (x : List Turn). IsSound k.mounted.volume.layout k.windows (k.changes ++ changes_in x) c.forced left.image) (sym (take_all (suc (length turns)) turns (omega arith))) sound_behind;
+    undone = λ is. record {
+      forced = c.forced;
+      least = every_forced;
+      enough = every_enough;
+      sound = subst (λ (x : List Turn). IsSound k.mounted.volume.layout k.windows (k.changes ++ changes_in x) c.forced left.image) (sym (take_all (length turns) turns (omega arith))) sound_behind;
+    };
   }
 
   -- while the volume is closed, and that turn is said
@@ -351,5 +405,5 @@ module _ (k after : Known) (turns : List Turn) (t : Turn) (more : List Turn) (no
   in_close = by c.heard refl
     where
       by : (heard : ℕ) → heard ≡ c.heard → InRun k (turns ++ t ∷ more) old left
-      by zero is = part_behind (subst (λ (x : ℕ). SaysNext (Some t) (take x t.said)) is (says_nothing (Some t)))
-      by (suc n) is = ⊎_elim (λ short. part_behind (inl (c.heard, short, refl))) (λ long. whole_behind (omega (arith, is)) long) (cases_lt c.heard (length t.said))
+      by zero is = part_behind (subst (λ (x : ℕ). SaysNext (length k.changes + forced_in (take (suc (length turns)) (turns ++ t ∷ more)) ≤ c.forced) (Some t) (take x t.said)) is (says_nothing (length k.changes + forced_in (take (suc (length turns)) (turns ++ t ∷ more)) ≤ c.forced) (Some t)))
+      by (suc n) is = ⊎_elim (λ short. part_behind (inl ((c.heard, short, refl), λ heard forces. all_forced (omega (arith, is))))) (λ long. whole_behind (omega (arith, is)) long) (cases_lt c.heard (length t.said))

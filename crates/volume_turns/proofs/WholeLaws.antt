@@ -11,7 +11,7 @@ use Rattle.sector_disk.specs.Calls.{Counts, DiskFaults, LeavesDisk, Since}
 use Rattle.sector_disk.specs.Image.{AreShort, Windows}
 use Rattle.sector_disk.specs.Machine.{LeavesOnly, Moment, Report, Rose, UsesDisk, Utters}
 use Rattle.sector_disk.proofs.Moments.{leaves_more, started, then_on}
-use Rattle.fsd_files.specs.Disk.{in_runs}
+use Rattle.fsd_files.specs.Disk.{Image, in_runs}
 use Rattle.fsd_files.specs.Files.{Change}
 use Rattle.fsd_files.specs.Volume.{Volume}
 use Rattle.fsd_sound.specs.Mounted.{Mounted, telling_of}
@@ -31,25 +31,25 @@ use Rattle.fsd_texts.specs.Text.{fault_text}
 use Rattle.fsd_runs.specs.declared.request.Request.{Request}
 use Rattle.fsd_runs.specs.declared.request.Request.TheVariants.{Put}
 use Rattle.fsd_runs.specs.Errands.{Cut, Turn, blank, errand_of, fault_status}
-use Rattle.fsd_runs.specs.Leaves.{CutCause, IsBroken, IsOutside, IsReplied, IsSpent, IsUnsaid, Left, LeavesRun, LeftBefore, LeftSince}
+use Rattle.fsd_runs.specs.Leaves.{CutCause, IsBroken, IsOutside, IsReplied, IsSpent, IsUndone, IsUnsaid, Left, LeavesRun, LeftBefore, LeftSince, Unbegun}
 use Rattle.fsd_runs.specs.Runs.{Goes, IsCutAt, IsThrough, Run, changes_in, errand_in, run_end, run_status, run_turns, said_in, turns_of}
 use Rattle.volume_contract.specs.Mount.{EndsBefore, EndsSettled, Excuses, ExcusesOf, IsSoundAt, MountsSound, Settled, SoundBefore, SoundSince}
 use Rattle.volume_contract.specs.State.{State, Known, Stands, forced_of, volume_of}
 use Rattle.volume_turns.specs.declared.turns.End.TheVariants.{Fault as Stopped}
 use Rattle.volume_turns.specs.Line.{EndsWith, is_unsaid}
 use Rattle.volume_turns.specs.Once.{fault_of}
-use Rattle.volume_turns.specs.Turns.{EndsAtOnce, InRun, SaysAll, Told}
+use Rattle.volume_turns.specs.Turns.{EndsAtOnce, InRun, SaysAll, Told, Undone}
 use Rattle.volume_turns.specs.Whole.{Halted, RunsOut, SaysOut}
 use Rattle.volume_turns.proofs.HaltLaws.{broken_ends, broken_moments}
 use Rattle.volume_turns.proofs.LineLaws.{excused}
-use Rattle.volume_turns.proofs.MountLaws.{before_left, known_length, nothing_said, run_left, since_left, sound_to, starts}
+use Rattle.volume_turns.proofs.MountLaws.{before_left, known_length, nothing_said, run_left, run_undone, since_left, sound_to, starts}
 use Rattle.volume_turns.proofs.RunLaws.{told_fault}
-use Rattle.volume_turns.proofs.TurnLaws.{in_before}
+use Rattle.volume_turns.proofs.TurnLaws.{in_before, none_done}
 use Rattle.volume_turns.proofs.StatusLaws.{same_device}
 
 -- what was said before the mount is all that was said until it had settled
-broken_on_said : (a b : Report) (request : Request) (turns : List Turn) (old mid new : Moment) (status : ℕ) → mid.said ≡ old.said → IsBroken request a b turns mid new status → IsBroken request a b turns old new status
-broken_on_said a b request turns old mid new status quiet x = record {
+broken_on_said : (a b : Report) (request : Request) (Over Now : ℕ → Image → Type 0) (turns : List Turn) (old mid new : Moment) (status : ℕ) → mid.said ≡ old.said → ((whole : ℕ) (i : Image) → Over whole i → Now whole i) → IsBroken request Over a b turns mid new status → IsBroken request Now a b turns old new status
+broken_on_said a b request Over Now turns old mid new status quiet on x = record {
   why = x.why;
   outside = x.outside;
   ends = x.ends;
@@ -58,6 +58,7 @@ broken_on_said a b request turns old mid new status quiet x = record {
     more = x.says.more;
     said = x.says.said ∙ ap (λ (y : List ℕ). y ++ (said_in (take x.says.whole turns) ++ fault_text x.why)) quiet;
   };
+  undone = λ is. on x.says.whole new.image (x.undone is);
 }
 
 -- ---- what is counted, from before the mount on
@@ -72,8 +73,8 @@ module _ (a m b : Report) (uses : UsesDisk a m) (faults : DiskFaults None a m) w
   outside_on (Put name keep) Ends.Input o = subst (λ (n : ℕ). Rose n b.input_faults) uses.input o
   outside_on request why o = absurd o
 
-  pub broken_on : (request : Request) {turns : List Turn} {old new : Moment} {status : ℕ} → IsBroken request m b turns old new status → IsBroken request a b turns old new status
-  broken_on request x = record { why = x.why; outside = outside_on request x.why x.outside; ends = x.ends; says = x.says }
+  pub broken_on : (request : Request) {Over : ℕ → Image → Type 0} {turns : List Turn} {old new : Moment} {status : ℕ} → IsBroken request Over m b turns old new status → IsBroken request Over a b turns old new status
+  broken_on request x = record { why = x.why; outside = outside_on request x.why x.outside; ends = x.ends; says = x.says; undone = x.undone }
 
   pub cause_on : (cut : Cut) (input rest : List ℕ) → CutCause cut input rest m b → CutCause cut input rest a b
   cause_on None input rest cause = tt
@@ -95,7 +96,7 @@ runs_on M request input rest a m uses faults k c b status r = record {
   finishes = record { mets = r.finishes.mets; goes = r.finishes.goes; moments = r.finishes.moments; ends = ended r.finishes.ends };
 }
   where
-    ended : {All : Type 0} {turns : List Turn} {old new : Moment} → All ⊎ (IsUnsaid m (M.report b) status ⊎ IsBroken request m (M.report b) turns old new status) → All ⊎ (IsUnsaid a (M.report b) status ⊎ IsBroken request a (M.report b) turns old new status)
+    ended : {All : Type 0} {Over : ℕ → Image → Type 0} {turns : List Turn} {old new : Moment} → All ⊎ (IsUnsaid m (M.report b) status ⊎ IsBroken request Over m (M.report b) turns old new status) → All ⊎ (IsUnsaid a (M.report b) status ⊎ IsBroken request Over a (M.report b) turns old new status)
     ended (inl out) = inl out
     ended (inr (inl u)) = inr (inl (unsaid_on a m (M.report b) uses faults status u))
     ended (inr (inr x)) = inr (inr (broken_on a m (M.report b) uses faults request x))
@@ -139,13 +140,13 @@ module _ {D : Type 0} (M : Ghosts D) (request : Request) (input rest : List ℕ)
       }
 
   abbrev Over : Type 0
-  Over = IsUnsaid (M.report a) (M.report b) status ⊎ IsBroken request (M.report a) (M.report b) turns (M.now m) (M.now b) status
+  Over = IsUnsaid (M.report a) (M.report b) status ⊎ IsBroken request (Undone k turns) (M.report a) (M.report b) turns (M.now m) (M.now b) status
 
   ended : SaysOut (errand_in request input r.cut) k r.finishes.mets (M.now m) (M.now b) status ⊎ Over
-      → (IsThrough run_is × IsReplied l windows run h n (run_turns run_is) (run_status run_is) (run_end run_is) (M.now a) (M.now b) status) ⊎ (IsUnsaid (M.report a) (M.report b) status ⊎ IsBroken request (M.report a) (M.report b) (run_turns run_is) (M.now a) (M.now b) status)
+      → (IsThrough run_is × IsReplied l windows run h n (run_turns run_is) (run_status run_is) (run_end run_is) (M.now a) (M.now b) status) ⊎ (IsUnsaid (M.report a) (M.report b) status ⊎ IsBroken request (IsUndone l (windows ++ run ∷ []) (take n h) n (run_turns run_is)) (M.report a) (M.report b) (run_turns run_is) (M.now a) (M.now b) status)
   ended (inl out) = inl (out.through, replied out)
   ended (inr (inl u)) = inr (inl u)
-  ended (inr (inr x)) = inr (inr (broken_on_said (M.report a) (M.report b) request turns (M.now a) (M.now m) (M.now b) status quiet x))
+  ended (inr (inr x)) = inr (inr (broken_on_said (M.report a) (M.report b) request (Undone k turns) (IsUndone l (windows ++ run ∷ []) (take n h) n turns) turns (M.now a) (M.now m) (M.now b) status quiet (λ whole i u. run_undone l windows run h f n prefix k (M.now a) (M.now m) s quiet turns whole i u) x))
 
   pub mounted_run : LeavesRun request input rest l windows h f (M.left_since b) (M.moment a) (λ P. LeavesOnly M.moment M.left_since a b P) (M.report a) (M.report b) (M.now a) (M.now b) status
   mounted_run = inr (record {
@@ -198,12 +199,13 @@ module _ {S D : Type 0} (state : S → State) (has : S → Mounted → List Plac
       let later = told_is.later in
       record { ends = six; rose = omega (arith, later, rose) }
 
-  broken : IsOutside request (M.report a) (M.report b) why → status ≡ fault_status why → SaysAll (fault_text why) (M.now m) (M.now b) → IsBroken request (M.report a) (M.report b) (blank ∷ []) (M.now a) (M.now b) status
+  broken : IsOutside request (M.report a) (M.report b) why → status ≡ fault_status why → SaysAll (fault_text why) (M.now m) (M.now b) → IsBroken request Unbegun (M.report a) (M.report b) (blank ∷ []) (M.now a) (M.now b) status
   broken out gives all = record {
     why = why;
     outside = out;
     ends = gives;
     says = record { whole = 0; more = refl; said = all.said ∙ ap (λ (x : List ℕ). x ++ fault_text why) quiet };
+    undone = λ is. refl;
   }
 
   -- before it settled
@@ -224,7 +226,7 @@ module _ {S D : Type 0} (state : S → State) (has : S → Mounted → List Plac
     }
 
     by_fault : (x : MountFault) → ExcusesOf (M.now a).image x → why ≡ fault_of x → status ≡ fault_status why → SaysAll (fault_text why) (M.now m) (M.now b)
-        → IsSpent (M.now a) (M.now b) status ⊎ (IsUnsaid (M.report a) (M.report b) status ⊎ IsBroken request (M.report a) (M.report b) (blank ∷ []) (M.now a) (M.now b) status)
+        → IsSpent (M.now a) (M.now b) status ⊎ (IsUnsaid (M.report a) (M.report b) status ⊎ IsBroken request Unbegun (M.report a) (M.report b) (blank ∷ []) (M.now a) (M.now b) status)
     by_fault Refused.WornOut last is gives all = inl (record {
       anchor = last.anchor;
       taken = last.taken;
@@ -236,7 +238,7 @@ module _ {S D : Type 0} (state : S → State) (has : S → Mounted → List Plac
     by_fault Refused.Memory excuse is gives all = inr (inr (broken (outside why (subst EndsAtOnce (sym is) tt) refl) gives all))
     by_fault x excuse is gives all = absurd excuse
 
-    by_end : EndsWith why (M.now m) (M.now b) status → IsSpent (M.now a) (M.now b) status ⊎ (IsUnsaid (M.report a) (M.report b) status ⊎ IsBroken request (M.report a) (M.report b) (blank ∷ []) (M.now a) (M.now b) status)
+    by_end : EndsWith why (M.now m) (M.now b) status → IsSpent (M.now a) (M.now b) status ⊎ (IsUnsaid (M.report a) (M.report b) status ⊎ IsBroken request Unbegun (M.report a) (M.report b) (blank ∷ []) (M.now a) (M.now b) status)
     by_end (inl six) = inr (inl (unsaid six))
     by_end (inr (gives, all)) = by_fault fault u.why refl gives all
 
@@ -267,7 +269,7 @@ module _ {S D : Type 0} (state : S → State) (has : S → Mounted → List Plac
     moments : LeavesOnly M.moment M.left_since m m (InRun k all_turns (M.now m))
     moments = started M.moment M.left_since m (M.now m) (InRun k all_turns (M.now m)) only (in_before k all_turns (M.now m) (M.now m) (record { sound = sound; windows = refl; said = refl }))
 
-    halted : Halted k all_turns (M.now m) (M.now m)
+    halted : Halted k why all_turns (M.now m) (M.now m)
     halted = record {
       windows = refl;
       whole = 0;
@@ -277,6 +279,7 @@ module _ {S D : Type 0} (state : S → State) (has : S → Mounted → List Plac
       least = omega arith;
       enough = λ any. absurd (cc any);
       sound = sound_more k.mounted.volume.layout k.windows k.changes (changes_in (take 1 all_turns)) (forced_of k) (M.now m).image sound;
+      undone = λ is. none_done k all_turns (M.now m).image sound;
     }
 
     ends_k : EndIn (M.now m).windows k.windows
@@ -297,8 +300,8 @@ module _ {S D : Type 0} (state : S → State) (has : S → Mounted → List Plac
       finishes = record {
         mets = [];
         goes = λ t le. tt;
-        moments = broken_moments M request (M.report a) k all_turns m m b moments halted short ends_k why once told_is status says honest ended;
-        ends = inr (broken_ends M request (M.report a) k all_turns m m b moments halted short ends_k why once told_is status says honest ended);
+        moments = broken_moments M request (M.report a) k all_turns m m b moments why halted short ends_k once told_is status says honest ended;
+        ends = inr (broken_ends M request (M.report a) k all_turns m m b moments why halted short ends_k once told_is status says honest ended);
       };
     }
 

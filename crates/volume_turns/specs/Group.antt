@@ -38,7 +38,7 @@ turns_behind false more = blank ∷ []
 abbrev pub EndsGroup : Errand → Known → (cut : Bool) → List Met → List Command → (old new : Moment) → Result Bool End → Type 0
 EndsGroup e k cut mets commands old new (Ok all) =
     (all ≡ not cut) × IsTrue (is_through cut mets commands) × IsDone k (turns_begun e mets (volume_of k) commands ++ forced_turn ∷ []) (behind mets (volume_of k) commands) old new
-EndsGroup e k cut mets commands old new (Err (Stopped fault)) = EndsAtOnce fault × Said k (turns_begun e mets (volume_of k) commands) old new
+EndsGroup e k cut mets commands old new (Err (Stopped fault)) = EndsAtOnce fault × Said k fault (turns_begun e mets (volume_of k) commands) old new
 EndsGroup e k cut mets commands old new (Err Output) = ⊤
 
 -- Of a group from a moment on.

@@ -8,6 +8,7 @@ pub mod Line
 pub mod Listing
 pub mod Numbers
 pub mod Once
+pub mod Reasons
 pub mod Script
 pub mod Status
 pub mod Steps

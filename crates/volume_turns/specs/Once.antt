@@ -87,9 +87,13 @@ pub record IsDone (k : Known) (turns : List Turn) (after : Volume) (old new : Mo
 abbrev pub status_alone : Command → List Met → Volume → ℕ
 status_alone c mets v = (alone_ending (answered mets v (c ∷ []))).status
 
+-- where memory was refused, the disk is sound as it was
+abbrev pub Spares : Known → Fault → Image → Type 0
+Spares k why i = why ≡ Ends.Memory → IsSound k.mounted.volume.layout k.windows k.changes (forced_of k) i
+
 abbrev pub EndsAlone : Command → Known → List Met → (old new : Moment) → Result ℕ End → Type 0
 EndsAlone c k mets old new (Ok status) = (length mets ≡ 1) × (status ≡ status_alone c mets (volume_of k)) × IsDone k (turns_of (alone c) mets (volume_of k)) (behind mets (volume_of k) (c ∷ [])) old new
-EndsAlone c k mets old new (Err (Stopped fault)) = EndsAtOnce fault × (new.said ≡ old.said)
+EndsAlone c k mets old new (Err (Stopped fault)) = EndsAtOnce fault × (new.said ≡ old.said) × Spares k fault new.image
 EndsAlone c k mets old new (Err Output) = ⊤
 
 abbrev pub Anything : Volume → Image → Type 0

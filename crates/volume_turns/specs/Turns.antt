@@ -31,8 +31,8 @@ pub record InRun (k : Known) (turns : List Turn) (old left : Moment) : Type 0 wh
   pub whole : ℕ
   pub part : List ℕ
   pub said : left.said ≡ old.said ++ (said_in (take whole turns) ++ part)
-  pub next : SaysNext (slice_get turns whole) part
   pub forced : ℕ
+  pub next : SaysNext (length k.changes + forced_in (take (suc whole) turns) ≤ forced) (slice_get turns whole) part
   pub least : forced_of k ≤ forced
   pub enough : IsTrue (list_any (λ t. t.forces) (take whole turns)) → length k.changes + forced_in (take whole turns) ≤ forced
   pub sound : IsSound k.mounted.volume.layout k.windows (k.changes ++ changes_in (take (suc whole) turns)) forced left.image
@@ -87,9 +87,16 @@ abbrev pub WantsNone : End → Type 0
 WantsNone (Stopped fault) = IsWant fault → ⊥
 WantsNone Output = ⊤
 
+-- The disk is sound for the changes of so many turns alone.
+pub record Undone (k : Known) (turns : List Turn) (whole : ℕ) (i : Image) : Type 0 where
+  pub forced : ℕ
+  pub least : forced_of k ≤ forced
+  pub enough : IsTrue (list_any (λ t. t.forces) (take whole turns)) → length k.changes + forced_in (take whole turns) ≤ forced
+  pub sound : IsSound k.mounted.volume.layout k.windows (k.changes ++ changes_in (take whole turns)) forced i
+
 -- What was said is whole turns, and not all that were begun, or no more were. The disk is sound for the changes of
--- these and of the one behind them, where one was begun.
-pub record Said (k : Known) (turns : List Turn) (old now : Moment) : Type 0 where
+-- these and of the one behind them, where one was begun; for these alone, where memory was refused.
+pub record Said (k : Known) (why : Fault) (turns : List Turn) (old now : Moment) : Type 0 where
   pub windows : now.windows ≡ old.windows
   pub whole : ℕ
   pub most : whole ≤ length turns
@@ -98,6 +105,7 @@ pub record Said (k : Known) (turns : List Turn) (old now : Moment) : Type 0 wher
   pub least : forced_of k ≤ forced
   pub enough : IsTrue (list_any (λ t. t.forces) (take whole turns)) → length k.changes + forced_in (take whole turns) ≤ forced
   pub sound : IsSound k.mounted.volume.layout k.windows (k.changes ++ changes_in (take (suc whole) turns)) forced now.image
+  pub undone : why ≡ Ends.Memory → Undone k turns whole now.image
 
 abbrev pub turn_by : Errand → Known → Command → Met → Turn
 turn_by e k command met = turn_of e (answered_so command (answer met (volume_of k) command).0)
@@ -119,7 +127,7 @@ module _ {S : Type 0} (state : S → State) (has : S → Mounted → List Placed
   abbrev pub EndsBy : Errand → Known → List Met → List Command → S → (old now : Moment) → Result (Unit {0}) End → Type 0
   EndsBy e k mets commands s old now (Ok x) = (length mets ≡ length commands) × StandsBehind e k mets commands s old now
   EndsBy e k mets commands s old now (Err (Stopped Ends.WornOut)) = WearsOut (slice_get commands (length mets)) × StandsBehind e k mets commands s old now
-  EndsBy e k mets commands s old now (Err (Stopped fault)) = EndsAtOnce fault × Said k (turns_begun e mets (volume_of k) commands) old now
+  EndsBy e k mets commands s old now (Err (Stopped fault)) = EndsAtOnce fault × Said k fault (turns_begun e mets (volume_of k) commands) old now
   EndsBy e k mets commands s old now (Err Output) = ⊤
 
   -- The commands over the volume as it stood at a moment that has been worn since.

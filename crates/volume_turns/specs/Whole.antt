@@ -7,19 +7,21 @@ use Rattle.fsd_files.specs.Answers.{Met}
 use Rattle.fsd_files.specs.Disk.{Image, in_runs}
 use Rattle.fsd_files.specs.Volume.{Volume}
 use Rattle.fsd_sound.specs.Sound.{IsSound}
+use Rattle.fsd_texts.specs.declared.fault.Fault.{Fault}
+use Rattle.fsd_texts.specs.declared.fault.Fault.TheVariants as Ends
 use Rattle.fsd_runs.specs.declared.request.Request.{Request}
 use Rattle.fsd_runs.specs.Errands.{Cut, Errand, MayCut, Turn, errand_of}
 use Rattle.fsd_runs.specs.Leaves.{CutCause, IsBroken, IsUnsaid}
 use Rattle.fsd_runs.specs.Runs.{Goes, IsCutAt, IsCutBefore, answered, behind, changes_in, errand_in, forced_in, said_in, turns_of}
 use Rattle.volume_contract.specs.State.{Known, volume_of, forced_of}
 use Rattle.volume_turns.specs.Once.{IsDone}
-use Rattle.volume_turns.specs.Turns.{InRun}
+use Rattle.volume_turns.specs.Turns.{InRun, Undone}
 
 -- ---- between two turns
 
--- Some of the turns are said whole, and more are to come.
--- The disk is sound for their changes and those of the next one.
-pub record Halted (k : Known) (turns : List Turn) (old now : Moment) : Type 0 where
+-- Some of the turns are said whole, and more are to come, but for a fault. The disk is sound for their changes and those
+-- of the next one; for theirs alone, where memory was refused.
+pub record Halted (k : Known) (why : Fault) (turns : List Turn) (old now : Moment) : Type 0 where
   pub windows : now.windows ≡ old.windows
   pub whole : ℕ
   pub more : IsSome (slice_get turns whole)
@@ -28,6 +30,7 @@ pub record Halted (k : Known) (turns : List Turn) (old now : Moment) : Type 0 wh
   pub least : forced_of k ≤ forced
   pub enough : IsTrue (list_any (λ t. t.forces) (take whole turns)) → length k.changes + forced_in (take whole turns) ≤ forced
   pub sound : IsSound k.mounted.volume.layout k.windows (k.changes ++ changes_in (take (suc whole) turns)) forced now.image
+  pub undone : why ≡ Ends.Memory → Undone k turns whole now.image
 
 -- ---- to the end
 
@@ -43,7 +46,7 @@ pub record Finishes {D : Type 0} (M : Ghosts D) (request : Request) (e : Errand)
   pub mets : List Met
   pub goes : (t : ℕ) → t ≤ M.moment a → Goes (in_runs k.windows) (M.left_since b t) Last e (M.now a).said (M.now a).image (volume_of k) mets e.commands
   pub moments : LeavesOnly M.moment M.left_since a b (InRun k (turns_of e mets (volume_of k)) (M.now a))
-  pub ends : SaysOut e k mets (M.now a) (M.now b) status ⊎ (IsUnsaid before (M.report b) status ⊎ IsBroken request before (M.report b) (turns_of e mets (volume_of k)) (M.now a) (M.now b) status)
+  pub ends : SaysOut e k mets (M.now a) (M.now b) status ⊎ (IsUnsaid before (M.report b) status ⊎ IsBroken request (Undone k (turns_of e mets (volume_of k))) before (M.report b) (turns_of e mets (volume_of k)) (M.now a) (M.now b) status)
 
 -- A request over its mounted volume.
 pub record RunsOut {D : Type 0} (M : Ghosts D) (request : Request) (input rest : List ℕ) (before : Report) (k : Known) (a b : D) (status : ℕ) : Type 0 where

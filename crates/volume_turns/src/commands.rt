@@ -7,6 +7,7 @@ ghost use Rattle.fsd_runs.specs.Errands.{reply_status};
 ghost use Rattle.sector_disk.specs.Calls.{OnlyReads, WritesDisk};
 ghost use Rattle.volume_contract.specs.State.{Known, Stands, volume_of};
 ghost use Rattle.volume_turns.specs.Answering.{Answers};
+ghost use Rattle.volume_turns.specs.Reasons.{Because, HasWritten, most_written};
 ghost use Rattle.volume_turns.specs.Status.{IsStatusFrom};
 ghost use Rattle.volume_turns.specs.Steps.{Does, IsOfCall, Stays, device_by, reply_of};
 
@@ -34,6 +35,8 @@ pub(crate) fn put<M: Machine, V: Files<M>>(
     ensures fault { IfErr result IsOfCall }
     ensures status { IfOk result (λ a. reply_status (reply_of a) ≤ 1) }
     ensures answers { M.honest m.new → Answers (Word.Put name.now bytes.now keep) (V.state v.old) (V.state v.new) (M.now m.old) (M.now m.new) result }
+    ensures written { M.tells m.new → HasWritten (most_written (Word.Put name.now bytes.now keep) (V.state v.old)) (M.ledger m.old) (M.ledger m.new) result }
+    ensures because { M.honest m.new → IfOk result (λ a. Because V.state V.resident (Word.Put name.now bytes.now keep) (V.state v.old) (V.state v.new) (M.now m.old) (M.now m.new) (reply_of a)) }
     ensures done { M.honest m.new → (k : Known) → Stands V.state V.holds v.old k (M.now m.old) →
         Does V.state V.holds (Word.Put name.now bytes.now keep) v.old v.new k (M.now m.old) (M.now m.new) result }
 {
@@ -60,6 +63,8 @@ pub(crate) fn delete<M: Machine, V: Files<M>>(
     ensures fault { IfErr result IsOfCall }
     ensures status { IfOk result (λ a. reply_status (reply_of a) ≤ 1) }
     ensures answers { M.honest m.new → Answers (Word.Delete key.now) (V.state v.old) (V.state v.new) (M.now m.old) (M.now m.new) result }
+    ensures written { M.tells m.new → HasWritten (most_written (Word.Delete key.now) (V.state v.old)) (M.ledger m.old) (M.ledger m.new) result }
+    ensures because { M.honest m.new → IfOk result (λ a. Because V.state V.resident (Word.Delete key.now) (V.state v.old) (V.state v.new) (M.now m.old) (M.now m.new) (reply_of a)) }
     ensures done { M.honest m.new → (k : Known) → Stands V.state V.holds v.old k (M.now m.old) →
         Does V.state V.holds (Word.Delete key.now) v.old v.new k (M.now m.old) (M.now m.new) result }
 {
@@ -84,6 +89,8 @@ pub(crate) fn set_keep<M: Machine, V: Files<M>>(
     ensures fault { IfErr result IsOfCall }
     ensures status { IfOk result (λ a. reply_status (reply_of a) ≤ 1) }
     ensures answers { M.honest m.new → Answers (Word.Keep name.now keep) (V.state v.old) (V.state v.new) (M.now m.old) (M.now m.new) result }
+    ensures written { M.tells m.new → HasWritten (most_written (Word.Keep name.now keep) (V.state v.old)) (M.ledger m.old) (M.ledger m.new) result }
+    ensures because { M.honest m.new → IfOk result (λ a. Because V.state V.resident (Word.Keep name.now keep) (V.state v.old) (V.state v.new) (M.now m.old) (M.now m.new) (reply_of a)) }
     ensures done { M.honest m.new → (k : Known) → Stands V.state V.holds v.old k (M.now m.old) →
         Does V.state V.holds (Word.Keep name.now keep) v.old v.new k (M.now m.old) (M.now m.new) result }
 {
@@ -103,6 +110,8 @@ pub(crate) fn force<M: Machine, V: Files<M>>(v: &mut V, m: &mut M) -> Result<Ans
     ensures fault { IfErr result IsOfCall }
     ensures status { IfOk result (λ a. reply_status (reply_of a) ≡ 0) }
     ensures answers { M.honest m.new → Answers Word.Force (V.state v.old) (V.state v.new) (M.now m.old) (M.now m.new) result }
+    ensures written { M.tells m.new → HasWritten (most_written Word.Force (V.state v.old)) (M.ledger m.old) (M.ledger m.new) result }
+    ensures because { M.honest m.new → IfOk result (λ a. Because V.state V.resident Word.Force (V.state v.old) (V.state v.new) (M.now m.old) (M.now m.new) (reply_of a)) }
     ensures done { M.honest m.new → (k : Known) → Stands V.state V.holds v.old k (M.now m.old) →
         Does V.state V.holds Word.Force v.old v.new k (M.now m.old) (M.now m.new) result }
 {
@@ -122,6 +131,8 @@ pub(crate) fn tick<M: Machine, V: Files<M>>(v: &mut V, m: &mut M) -> Result<Answ
     ensures fault { IfErr result IsOfCall }
     ensures status { IfOk result (λ a. reply_status (reply_of a) ≡ 0) }
     ensures answers { M.honest m.new → Answers Word.Tick (V.state v.old) (V.state v.new) (M.now m.old) (M.now m.new) result }
+    ensures written { M.tells m.new → HasWritten (most_written Word.Tick (V.state v.old)) (M.ledger m.old) (M.ledger m.new) result }
+    ensures because { M.honest m.new → IfOk result (λ a. Because V.state V.resident Word.Tick (V.state v.old) (V.state v.new) (M.now m.old) (M.now m.new) (reply_of a)) }
     ensures done { M.honest m.new → (k : Known) → Stands V.state V.holds v.old k (M.now m.old) →
         Does V.state V.holds Word.Tick v.old v.new k (M.now m.old) (M.now m.new) result }
 {
@@ -146,6 +157,8 @@ pub(crate) fn get<M: Machine, V: Files<M>>(
     ensures fault { IfErr result IsOfCall }
     ensures status { IfOk result (λ a. IsStatusFrom (Word.Get key.now) (reply_status (reply_of a))) }
     ensures answers { M.honest m.new → Answers (Word.Get key.now) (V.state v.old) (V.state v.new) (M.now m.old) (M.now m.new) result }
+    ensures written { M.tells m.new → HasWritten (most_written (Word.Get key.now) (V.state v.old)) (M.ledger m.old) (M.ledger m.new) result }
+    ensures because { M.honest m.new → IfOk result (λ a. Because V.state V.resident (Word.Get key.now) (V.state v.old) (V.state v.new) (M.now m.old) (M.now m.new) (reply_of a)) }
     ensures done { M.honest m.new → (k : Known) → Stands V.state V.holds v.old k (M.now m.old) →
         Does V.state V.holds (Word.Get key.now) v.old v.new k (M.now m.old) (M.now m.new) result }
 {
@@ -171,6 +184,8 @@ fn read_whole<M: Machine, V: Files<M>>(
     ensures fault { IfErr result IsOfCall }
     ensures status { IfOk result (λ a. IsStatusFrom (Word.Get key.now) (reply_status (reply_of a))) }
     ensures answers { M.honest m.new → Answers (Word.Get key.now) (V.state v.old) (V.state v.new) (M.now m.old) (M.now m.new) result }
+    ensures written { M.tells m.new → HasWritten (most_written (Word.Get key.now) (V.state v.old)) (M.ledger m.old) (M.ledger m.new) result }
+    ensures because { M.honest m.new → IfOk result (λ a. Because V.state V.resident (Word.Get key.now) (V.state v.old) (V.state v.new) (M.now m.old) (M.now m.new) (reply_of a)) }
     ensures done { M.honest m.new → (k : Known) → Stands V.state V.holds v.old k (M.now m.old) → IfSome (entry_of key.now (volume_of k).entries) (λ e. e.length ≡ length) →
         Does V.state V.holds (Word.Get key.now) v.old v.new k (M.now m.old) (M.now m.new) result }
 {
@@ -201,6 +216,8 @@ pub(crate) fn answer<M: Machine, V: Files<M>>(
     ensures fault { IfErr result IsOfCall }
     ensures status { IfOk result (λ a. IsStatusFrom c.now (reply_status (reply_of a))) }
     ensures answers { M.honest m.new → Answers c.now (V.state v.old) (V.state v.new) (M.now m.old) (M.now m.new) result }
+    ensures written { M.tells m.new → HasWritten (most_written c.now (V.state v.old)) (M.ledger m.old) (M.ledger m.new) result }
+    ensures because { M.honest m.new → IfOk result (λ a. Because V.state V.resident c.now (V.state v.old) (V.state v.new) (M.now m.old) (M.now m.new) (reply_of a)) }
     ensures done { M.honest m.new → (k : Known) → Stands V.state V.holds v.old k (M.now m.old) →
         Does V.state V.holds c.now v.old v.new k (M.now m.old) (M.now m.new) result }
 {
@@ -223,6 +240,8 @@ fn count<M: Machine, V: Files<M>>(v: &mut V, m: &mut M) -> Result<Answer, Fault>
     ensures fault { IfErr result IsOfCall }
     ensures status { IfOk result (λ a. reply_status (reply_of a) ≡ 0) }
     ensures answers { M.honest m.new → Answers Word.Stat (V.state v.old) (V.state v.new) (M.now m.old) (M.now m.new) result }
+    ensures written { M.tells m.new → HasWritten (most_written Word.Stat (V.state v.old)) (M.ledger m.old) (M.ledger m.new) result }
+    ensures because { M.honest m.new → IfOk result (λ a. Because V.state V.resident Word.Stat (V.state v.old) (V.state v.new) (M.now m.old) (M.now m.new) (reply_of a)) }
     ensures done { M.honest m.new → (k : Known) → Stands V.state V.holds v.old k (M.now m.old) →
         Does V.state V.holds Word.Stat v.old v.new k (M.now m.old) (M.now m.new) result }
 {

@@ -79,3 +79,19 @@ pub(crate) fn say_one<M: Machine>(m: &mut M, line: &Line) -> Result<(), End>
         Err(_) => Err(End::Output),
     }
 }
+
+/// Says a text.
+pub(crate) fn say_bytes<M: Machine>(m: &mut M, text: &[u8]) -> Result<(), End>
+    ensures told { Told (M.report m.old) (M.report m.new) result }
+    ensures trust { Trusts (M.tells m.old) (M.tells m.new) (M.honest m.old) (M.honest m.new) }
+    ensures ledger { M.tells m.new → M.ledger m.new ≡ M.ledger m.old }
+    ensures output { IfErr result (λ end. end ≡ Output) }
+    ensures since { M.honest m.new → Since M.Machine m.old m.new }
+    ensures moments { M.honest m.new → LeavesOnly M.moment M.left_since m.old m.new (Utters text.now (M.now m.old)) }
+    ensures said { OnOk result (M.honest m.new → SaysAll text.now (M.now m.old) (M.now m.new)) }
+{
+    match m.say(text) {
+        Ok(()) => Ok(()),
+        Err(_) => Err(End::Output),
+    }
+}

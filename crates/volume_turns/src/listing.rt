@@ -1,13 +1,15 @@
 //! The list of the versions that fit a pattern.
-ghost use Rattle.std.specs.Prelude.{◌≡◌, ◌≤◌, ◌++◌, [], ◌∷◌, None, OnOk, IfOk, IfErr, MatchResult};
+ghost use Rattle.std.specs.Prelude.{◌≡◌, ◌≤◌, ◌++◌, [], ◌∷◌, None, OnOk, IfOk, IfErr, IfNone, MatchResult};
 ghost use Rattle.fsd_files.specs.Answers.{next_reply};
 ghost use Rattle.fsd_texts.specs.declared.command.Command.TheVariants as Word;
 ghost use Rattle.sector_disk.specs.Calls.{OnlyReads, WritesDisk, device_in};
+ghost use Rattle.volume_contract.specs.Absent.{LacksLater, ShowsReached};
 ghost use Rattle.volume_contract.specs.Ends.{Looks, device_of};
 ghost use Rattle.volume_contract.specs.Order.{Follows, IsLookUp, next_steps};
 ghost use Rattle.volume_contract.specs.State.{Known, Stands, volume_of};
 ghost use Rattle.volume_turns.specs.Answering.{Answers};
 ghost use Rattle.volume_turns.specs.Listing.{IsFromOutside, fitting};
+ghost use Rattle.volume_turns.specs.Reasons.{Because, HasWritten, ListsAll, most_written};
 ghost use Rattle.fsd_runs.specs.Errands.{reply_status};
 ghost use Rattle.volume_turns.specs.Steps.{Does, IsOfCall, IsRefusedOn, Stays, device_by, reply_of};
 
@@ -31,6 +33,7 @@ fn next_one<M: Machine, V: Files<M>>(
     ensures state { V.state v.new ≡ V.state v.old }
     ensures stands { M.honest m.new → (k : Known) → Stands V.state V.holds v.old k (M.now m.old) → Stands V.state V.holds v.new k (M.now m.new) }
     ensures told { IfErr result (λ why. M.honest m.new → IsRefusedOn (V.state v.old).layout (M.now m.new).image why) }
+    ensures absent { IfOk result (λ found. IfNone found (ShowsReached M.Machine (V.resident v.old) (V.state v.old) (V.state v.new) m.old m.new (LacksLater last.now))) }
     ensures done { M.honest m.new → (k : Known) → Stands V.state V.holds v.old k (M.now m.old) → Looks (next_reply (volume_of k) last.now) result }
 {
     match last {
@@ -67,6 +70,7 @@ fn collect<M: Machine, V: Files<M>>(
     ensures stands { M.honest m.new → (k : Known) → Stands V.state V.holds v.old k (M.now m.old) → Stands V.state V.holds v.new k (M.now m.new) }
     ensures done { M.honest m.new → (k : Known) → Stands V.state V.holds v.old k (M.now m.old) →
         MatchResult result (λ entries. entries.items ≡ fitting pattern.now (volume_of k).entries) IsFromOutside }
+    ensures because { M.honest m.new → IfOk result (λ entries. ListsAll V.state V.resident pattern.now (V.state v.old) (V.state v.new) (M.now m.old) (M.now m.new) entries.items) }
 {
     let mut entries = Vec::new(alloc);
     let mut last = None;
@@ -98,6 +102,8 @@ pub(crate) fn list<M: Machine, V: Files<M>>(
     ensures fault { IfErr result IsOfCall }
     ensures status { IfOk result (λ a. reply_status (reply_of a) ≡ 0) }
     ensures answers { M.honest m.new → Answers (Word.List pattern.now) (V.state v.old) (V.state v.new) (M.now m.old) (M.now m.new) result }
+    ensures written { M.tells m.new → HasWritten (most_written (Word.List pattern.now) (V.state v.old)) (M.ledger m.old) (M.ledger m.new) result }
+    ensures because { M.honest m.new → IfOk result (λ a. Because V.state V.resident (Word.List pattern.now) (V.state v.old) (V.state v.new) (M.now m.old) (M.now m.new) (reply_of a)) }
     ensures done { M.honest m.new → (k : Known) → Stands V.state V.holds v.old k (M.now m.old) →
         Does V.state V.holds (Word.List pattern.now) v.old v.new k (M.now m.old) (M.now m.new) result }
 {

@@ -1,5 +1,5 @@
 //! One command by itself over a mounted volume, to its reply.
-ghost use Rattle.std.specs.Prelude.{◌≡◌, ◌≤◌, None, IfErr, IfOk, false};
+ghost use Rattle.std.specs.Prelude.{◌≡◌, ◌≤◌, None, Err, IfErr, IfOk, false};
 ghost use Rattle.sector_disk.specs.Machine.{OnlyWrites, Trusts};
 ghost use Rattle.fsd_runs.specs.Commands.{reply_alone};
 ghost use Rattle.fsd_runs.specs.Errands.{reply_status};
@@ -9,11 +9,14 @@ ghost use Rattle.volume_turns.specs.Once.{ClosesAndSays, IsAlone, close_fault, f
 ghost use Rattle.volume_turns.specs.Status.{IsStatusFrom};
 ghost use Rattle.volume_contract.specs.State.{Known, Stands, is_worn, volume_of};
 ghost use Rattle.volume_turns.specs.Steps.{reply_of};
-ghost use Rattle.volume_turns.specs.Turns.{IsEndOfVolume, Told};
+ghost use Rattle.fsd_texts.specs.declared.fault.Fault.TheVariants as Ends;
+ghost use Rattle.volume_turns.specs.declared.turns.End.TheVariants.{Fault as Stopped};
+ghost use Rattle.volume_turns.specs.Turns.{IsEndOfVolume, Told, WantsNone};
 
 use crate::answer::Answer;
 use crate::commands;
-use crate::turns::{End, Says, say};
+use crate::line::say_bytes;
+use crate::turns::{End, Says};
 use fsd_bytes::Refusal;
 use fsd_sound::MountFault;
 use fsd_texts::{Command, Fault};
@@ -32,12 +35,11 @@ pub(crate) fn close_fault(why: Refusal) -> Fault
     }
 }
 
-// Ends the use of a volume, and says a reply.
-pub(crate) fn close_and_say<M: Machine, V: Files<M>, T: Says>(
-    alloc: Global,
+// Ends the use of a volume, and says a text. It wants no memory.
+pub(crate) fn close_and_say<M: Machine, V: Files<M>>(
     v: V,
     m: &mut M,
-    answer: &Answer,
+    text: &[u8],
 ) -> Result<(), End>
     requires room { (V.state v).layout.sectors ≤ (M.report m.old).sectors }
     ensures told { Told (M.report m.old) (M.report m.new) result }
@@ -46,11 +48,12 @@ pub(crate) fn close_and_say<M: Machine, V: Files<M>, T: Says>(
     ensures fault { IfErr result IsEndOfVolume }
     ensures since { M.honest m.new → Since M.Machine m.old m.new }
     ensures later { M.honest m.new → M.moment m.old ≤ M.moment m.new }
-    ensures closing { M.honest m.new → ClosesBy (V.state v) (T.errand.says (reply_of answer.now)) (M.now m.old) (M.now m.new) result }
-    ensures closes { M.honest m.new → (k : Known) → Stands V.state V.holds v k (M.now m.old) → ClosesAndSays M.Machine k (T.errand.says (reply_of answer.now)) m.old m.new result }
+    ensures closing { M.honest m.new → ClosesBy (V.state v) text.now (M.now m.old) (M.now m.new) result }
+    ensures wants { (V.state v).down ≡ None → IfErr result WantsNone }
+    ensures closes { M.honest m.new → (k : Known) → Stands V.state V.holds v k (M.now m.old) → ClosesAndSays M.Machine k text.now m.old m.new result }
 {
     match v.close(m) {
-        Ok(()) => say::<M, T>(alloc, m, answer),
+        Ok(()) => say_bytes(m, text),
         Err(why) => Err(End::Fault(close_fault(why))),
     }
 }
@@ -66,14 +69,17 @@ fn status_of(answer: &Answer) -> u8
     }
 }
 
-// Ends the use of a volume, says a reply, and gives its status.
-fn close_as<M: Machine, V: Files<M>, T: Says>(
+// Ends the use of a volume, says a reply, and gives its status. The reply's text is made first:
+// where memory is refused for it nothing is forced.
+fn close_as<M: Machine, V: Files<M> + Drop, T: Says>(
     alloc: Global,
     v: V,
     m: &mut M,
     answer: &Answer,
 ) -> Result<u8, End>
     requires room { (V.state v).layout.sectors ≤ (M.report m.old).sectors }
+    requires up { (V.state v).down ≡ None }
+    ensures undone { result ≡ Err (Stopped Ends.Memory) → m.new ≡ m.old }
     ensures status { IfOk result (λ status. status ≡ reply_status (reply_of answer.now)) }
     ensures told { Told (M.report m.old) (M.report m.new) result }
     ensures trust { Trusts (M.tells m.old) (M.tells m.new) (M.honest m.old) (M.honest m.new) }
@@ -84,7 +90,10 @@ fn close_as<M: Machine, V: Files<M>, T: Says>(
     ensures closing { M.honest m.new → ClosesBy (V.state v) (T.errand.says (reply_of answer.now)) (M.now m.old) (M.now m.new) (unit_of result) }
     ensures closes { M.honest m.new → (k : Known) → Stands V.state V.holds v k (M.now m.old) → ClosesAndSays M.Machine k (T.errand.says (reply_of answer.now)) m.old m.new (unit_of result) }
 {
-    match close_and_say::<M, V, T>(alloc, v, m, answer) {
+    let Ok(text) = T::text(alloc, answer) else {
+        return Err(End::Fault(Fault::Memory));
+    };
+    match close_and_say(v, m, text.as_slice()) {
         Ok(()) => Ok(status_of(answer)),
         Err(end) => Err(end),
     }

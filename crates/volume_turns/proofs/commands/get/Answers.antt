@@ -1,5 +1,5 @@
-use Rattle.std.proofs.Common.{ℕ, ◌∙◌, sym, ap, subst, Option}
-use Rattle.std.specs.Prelude.{IfErr, IfOk, IsTrue, Result}
+use Rattle.std.proofs.Common.{ℕ, ◌∙◌, refl, sym, ap, subst, Option}
+use Rattle.std.specs.Prelude.{Err, IfErr, IfOk, IsTrue, Result}
 use Rattle.fsd_files.specs.Answers.{entry_of}
 use Rattle.fsd_texts.specs.declared.command.Command.TheVariants as Word
 use Rattle.fsd_texts.specs.declared.fault.Fault.{Fault}
@@ -21,6 +21,10 @@ use Rattle.volume_turns.proofs.AnsweringLaws.{entry_refused, worn_first, worn_to
 use Rattle.volume_turns.proofs.ToldLaws.{told_of, told_so}
 use Rattle.volume_turns.proofs.WornLaws.{told_worn}
 use Rattle.volume_turns.proofs.NumberLaws.{goes_none}
+use Rattle.sector_disk.specs.Machine.{Ledger}
+use Rattle.fsd_bytes.specs.declared.refusal.Refusal.{Refusal}
+use Rattle.volume_turns.specs.Reasons.{BecauseRead, HasWritten}
+use Rattle.volume_turns.proofs.ReasonLaws.{ages_here, no_reason, read_since, reads_written}
 use Rattle.volume_turns.proofs.commands.get.Goals as goal
 
 pub returns-in-Ok-clause-disk : goal.returns-in-Ok-clause-disk
@@ -92,3 +96,29 @@ returns-in-Err-clause-answers g c h =
       told = told_so (g.V.Files.state c.args.v.now).layout (now c.entry.new.m).image c.in-Err.why c.ended_by.result c.ended_by.ensures.is
           (told_of (g.V.Files.state c.args.v.now) (g.V.Files.state c.entry.new.self) (g.V.Files.resident c.args.v.now) (now c.args.m.now) (now c.entry.new.m) (ap (λ (s : State). s.layout) c.in-Err.ensures.state) c.in-Err.why (c.in-Err.ensures.causes h));
     }
+
+-- ---- why it is answered so
+
+pub returns-in-Ok-clause-written : goal.returns-in-Ok-clause-written
+returns-in-Ok-clause-written g c t =
+    let M = g.M.Machine in
+    subst (λ (l : Ledger). HasWritten 0 l (M.ledger c.read_whole.new.m) c.read_whole.result) (c.in-Ok.ensures.disk.ledger (c.read_whole.ensures.disk.trust.tells t)) (c.read_whole.ensures.written t)
+
+pub returns-in-Ok-clause-because : goal.returns-in-Ok-clause-because
+returns-in-Ok-clause-because g c h =
+    let V = g.V.Files in
+    let now = g.M.Machine.now in
+    let worn = c.in-Ok.ensures.disk.worn (c.read_whole.ensures.disk.trust.honest h) in
+    read_since V.state V.resident c.args.key.now (V.state c.args.v.now) (V.state c.entry.new.self) (V.state c.read_whole.new.v) (now c.args.m.now) (now c.entry.new.m) (now c.read_whole.new.m) c.in-Ok.ensures.state (record { image = worn.image; windows = worn.windows }) c.read_whole.result (c.read_whole.ensures.because h)
+
+pub returns-in-Err-clause-written : goal.returns-in-Err-clause-written
+returns-in-Err-clause-written g c t =
+    let M = g.M.Machine in
+    reads_written (M.ledger c.args.m.now) (M.ledger c.entry.new.m) (c.in-Err.ensures.disk.ledger t) c.ended_by.result
+
+pub returns-in-Err-clause-because : goal.returns-in-Err-clause-because
+returns-in-Err-clause-because g c h =
+    let V = g.V.Files in
+    let a = g.M.Machine.now c.args.m.now in
+    no_reason (λ x. BecauseRead V.state V.resident c.args.key.now (V.state c.args.v.now) (V.state c.entry.new.self) a (g.M.Machine.now c.entry.new.m) (reply_of x)) c.in-Err.why c.ended_by.result c.ended_by.ensures.is
+    (λ none. record { by = c.args.v.now; same = refl; from = a; aged = ages_here a; shows = c.in-Err.ensures.absent (ap (λ (w : Refusal). Err w) none) h })

@@ -1,4 +1,4 @@
-use Rattle.std.proofs.Common.{inl, ◌≡◌, ◌≤◌, ℕ, List, ◌++◌, ◌∙◌, sym, ap, subst, Option, length, take, drop, arith}
+use Rattle.std.proofs.Common.{inl, ◌≡◌, ◌≤◌, ℕ, List, ◌++◌, ◌∙◌, refl, sym, ap, subst, Option, length, take, drop, arith}
 use Rattle.std.specs.Prelude.{Err, IfOk, Result, IfSome}
 use Rattle.std.proofs.lemmas.List.{take_at}
 use Rattle.fsd_bytes.specs.declared.key.Key.{Key}
@@ -23,6 +23,8 @@ use Rattle.volume_turns.proofs.AnsweringLaws.{data_inside, read_refused, worn_to
 use Rattle.volume_turns.proofs.ToldLaws.{read_told_so, told_of}
 use Rattle.volume_turns.proofs.WornLaws.{read_told_worn}
 use Rattle.volume_turns.proofs.NumberLaws.{goes_none}
+use Rattle.volume_turns.specs.Reasons.{BecauseRead}
+use Rattle.volume_turns.proofs.ReasonLaws.{ages_here, none_written, read_because, reads_written}
 use Rattle.volume_turns.proofs.commands.read_whole.Goals as goal
 
 pub returns-in-Ok-read-clause-done : goal.returns-in-Ok-read-clause-done
@@ -84,3 +86,30 @@ returns-in-Err-clause-answers g c h =
       told = read_told_so (g.V.Files.state c.args.v.now).layout (now c.read.new.m).image c.args.key.now c.in-Err.why c.read_ended_by.result c.read_ended_by.ensures.is
           (told_of (g.V.Files.state c.args.v.now) (g.V.Files.state c.read.new.self) (g.V.Files.resident c.args.v.now) (now c.args.m.now) (now c.read.new.m) (ap (λ (s : State). s.layout) e.state) c.in-Err.why (e.causes h));
     }
+
+-- ---- why it is answered so
+
+pub returns-in-Ok-read-clause-written : goal.returns-in-Ok-read-clause-written
+returns-in-Ok-read-clause-written g c t =
+    let M = g.M.Machine in
+    none_written (M.ledger c.args.m.now) (M.ledger c.read.new.m) (c.in-Ok-read.ensures.disk.ledger t)
+
+pub returns-in-Ok-read-clause-because : goal.returns-in-Ok-read-clause-because
+returns-in-Ok-read-clause-because g c h =
+    let V = g.V.Files in
+    let a = g.M.Machine.now c.args.m.now in
+    let items = take_at c.read.new.buf (drop (length c.read.new.buf) c.in-Ok.bytes.items) c.in-Ok.bytes.len (omega (arith, c.in-Ok.ensures.len, c.as_mut_slice.ensures.len, c.read.auto.buf)) in
+    subst (λ (b : List ℕ). BecauseRead V.state V.resident c.args.key.now (V.state c.args.v.now) (V.state c.read.new.self) a (g.M.Machine.now c.read.new.m) (Reply.Bytes c.copied.result b)) (sym items)
+    (c.as_mut_slice.result.now, c.in-Ok-read.field-0, record { by = c.args.v.now; same = refl; from = a; aged = ages_here a; shows = c.in-Ok-read.ensures.found h })
+
+pub returns-in-Err-clause-written : goal.returns-in-Err-clause-written
+returns-in-Err-clause-written g c t =
+    let M = g.M.Machine in
+    reads_written (M.ledger c.args.m.now) (M.ledger c.read.new.m) (c.in-Err.ensures.disk.ledger t) c.read_ended_by.result
+
+pub returns-in-Err-clause-because : goal.returns-in-Err-clause-because
+returns-in-Err-clause-because g c h =
+    let V = g.V.Files in
+    let a = g.M.Machine.now c.args.m.now in
+    read_because V.state V.resident c.args.key.now (V.state c.args.v.now) (V.state c.read.new.self) a (g.M.Machine.now c.read.new.m) c.in-Err.why c.read_ended_by.result c.read_ended_by.ensures.is
+    (λ none same. record { by = c.args.v.now; same = refl; from = a; aged = ages_here a; shows = c.in-Err.ensures.absent (ap (λ (w : Refusal). Err w) none) h })

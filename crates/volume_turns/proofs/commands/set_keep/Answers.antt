@@ -11,7 +11,7 @@ use Rattle.fsd_texts.specs.declared.fault.Fault.{Fault}
 use Rattle.volume_turns.specs.declared.answer.Answer.{Answer}
 use Rattle.sector_disk.specs.Calls.{WritesDisk}
 use Rattle.volume_contract.specs.Order.{Comes}
-use Rattle.volume_contract.specs.State.{forces_first, volume_of, is_worn}
+use Rattle.volume_contract.specs.State.{forces_first, volume_of, is_worn, change_len}
 use Rattle.fsd_sound.specs.Writes.{force_writes}
 use Rattle.volume_turns.specs.Steps.{Does, Stays, device_by, reply_of}
 use Rattle.sector_disk.proofs.CallLaws.{writes_more}
@@ -23,6 +23,7 @@ use Rattle.volume_turns.proofs.AnsweringLaws.{keep_refused}
 use Rattle.volume_turns.proofs.ToldLaws.{told_of, told_so}
 use Rattle.volume_turns.proofs.WornLaws.{told_worn}
 use Rattle.volume_turns.proofs.NumberLaws.{counted_goes, keep_goes}
+use Rattle.volume_turns.proofs.ReasonLaws.{no_reason, refused_written}
 use Rattle.volume_turns.proofs.commands.set_keep.Goals as goal
 
 pub returns-in-Ok-clause-disk : goal.returns-in-Ok-clause-disk
@@ -82,3 +83,13 @@ returns-in-Err-clause-answers g c h =
       told = told_so (g.V.Files.state c.args.v.now).layout (g.M.Machine.now c.set_keep.new.m).image c.in-Err.why c.ended_by.result c.ended_by.ensures.is
           (told_of (g.V.Files.state c.args.v.now) (g.V.Files.state c.set_keep.new.self) (g.V.Files.resident c.args.v.now) (g.M.Machine.now c.args.m.now) (g.M.Machine.now c.set_keep.new.m) c.in-Err.ensures.state.layout c.in-Err.why (c.in-Err.ensures.causes h));
     }
+
+-- ---- what is written
+
+pub returns-in-Err-clause-written : goal.returns-in-Err-clause-written
+returns-in-Err-clause-written g c t =
+    let s = g.V.Files.state c.args.v.now in
+    refused_written (change_len s) (g.M.Machine.ledger c.args.m.now) (g.M.Machine.ledger c.set_keep.new.m) c.in-Err.why c.ended_by.result c.ended_by.ensures.is (c.in-Err.ensures.counted t)
+
+pub returns-in-Err-clause-because : goal.returns-in-Err-clause-because
+returns-in-Err-clause-because g c h = no_reason (λ a. Unit {0}) c.in-Err.why c.ended_by.result c.ended_by.ensures.is tt

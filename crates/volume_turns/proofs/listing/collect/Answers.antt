@@ -1,4 +1,4 @@
-use Rattle.std.proofs.Common.{◌≡◌, List, Option, None, refl, sym, ◌∙◌, ap, subst, arith}
+use Rattle.std.proofs.Common.{◌≡◌, inl, inr, List, Option, None, refl, sym, ◌∙◌, ap, subst, arith}
 use Rattle.fsd_formats.specs.declared.entry.Entry.{Entry}
 use Rattle.fsd_files.specs.Answers.{entry_after}
 use Rattle.fsd_files.specs.Replies.{Found}
@@ -9,6 +9,11 @@ use Rattle.volume_turns.specs.Listing.{AreListed}
 use Rattle.volume_turns.specs.Steps.{IsRefusedOn}
 use Rattle.volume_turns.proofs.ListLaws.{files_in_order, listed_all, listed_counted, listed_more, listed_none, outside_only}
 use Rattle.volume_turns.proofs.OrderLaws.{next_refuses}
+use Rattle.std.specs.Prelude.{IfNone}
+use Rattle.fsd_bytes.specs.declared.key.Key.{Key}
+use Rattle.volume_contract.specs.Absent.{LacksLater, Reaches, ShowsReached}
+use Rattle.volume_contract.specs.Causes.{Shows}
+use Rattle.volume_turns.proofs.ReasonLaws.{HasMet, met_more, met_none}
 use Rattle.volume_turns.proofs.listing.collect.Goals as goal
 
 pub loop-init : goal.loop-init
@@ -16,6 +21,7 @@ loop-init g c = record {
   state = refl;
   disk = reads_none c.args.m.now (λ left h was. g.met.M.Machine.only_now c.args.m.now left h was);
   stands = λ h k stands. stands;
+  met = subst (λ (x : List Entry). HasMet c.args.pattern.now 0 None x) (sym c.new-entries.ensures.items) (met_none c.args.pattern.now);
   listed = λ h k stands. subst (λ (x : List Entry). AreListed c.args.pattern.now (volume_of k).entries 0 None x) (sym c.new-entries.ensures.items) (listed_none c.args.pattern.now (volume_of k).entries);
 }
 
@@ -35,6 +41,7 @@ loop-preserved g c =
       state = c.next_one.ensures.state ∙ was.state;
       disk = reads_then was.disk disk;
       stands = λ h k stands. c.next_one.ensures.stands h k (was.stands (disk.trust.honest h) k stands);
+      met = met_more c.args.pattern.now c.loop.counter c.loop.last c.loop.entries.items was.met c.in-Ok-Some.e c.in-Ok.key c.in-Ok.ensures.key c.take_fitting.new.entries.items c.in-Ok.ensures.ok;
       listed = λ h k stands.
           let back = disk.trust.honest h in
           let looks = subst (λ (o : Option Entry). Found (entry_after c.loop.last (volume_of k).entries) ≡ Found o) c.in-Ok-Some.field-0-is (c.in-Ok-Some.ensures.done h k (was.stands back k stands)) in
@@ -106,3 +113,34 @@ returns-clause-done g c h k stands =
     let ended = c.loop-test.false in
     listed_counted c.args.pattern.now (volume_of k).files (volume_of k).entries lists (files_in_order g.V.Files.state g.V.Files.holds c.args.v.now k (g.M.Machine.now c.args.m.now) stands)
     c.loop.counter c.loop.last c.loop.entries.items (c.loop.invariant.listed h k stands) (omega (arith, met, there, asked, most, ended))
+
+-- ---- why they are all
+
+pub returns-in-Ok-None-clause-because : goal.returns-in-Ok-None-clause-because
+returns-in-Ok-None-clause-because g c h =
+    let V = g.V.Files in
+    let now = g.M.Machine.now in
+    let was = c.loop.invariant in
+    let worn = was.disk.worn (c.in-Ok-None.ensures.disk.trust.honest h) in
+    let x = was.met in
+    let absent = subst (λ (o : Option Entry). IfNone o (ShowsReached g.M.Machine (V.resident c.loop.v) (V.state c.loop.v) (V.state c.next_one.new.v) c.loop.m c.next_one.new.m (LacksLater c.loop.last))) c.in-Ok-None.field-0-is c.in-Ok-None.ensures.absent in
+    record {
+      met = x.met;
+      fit = x.fit;
+      ends = inr (record {
+        by = c.loop.v;
+        same = was.state;
+        from = now c.loop.m;
+        aged = record { image = worn.image; windows = worn.windows };
+        shows = subst (λ (o : Option Key). Shows (V.state c.loop.v) (V.state c.next_one.new.v) (V.resident c.loop.v) (now c.loop.m) (now c.next_one.new.m) (Reaches (LacksLater o))) x.ends (absent h);
+      });
+    }
+
+pub returns-clause-because : goal.returns-clause-because
+returns-clause-because g c h =
+    let x = c.loop.invariant.met in
+    let asked = c.stat-end.ensures.versions in
+    let most = c.loop.auto.counter-end in
+    let ended = c.loop-test.false in
+    let many = x.many in
+    record { met = x.met; fit = x.fit; ends = inl (omega (arith, asked, most, ended, many)) }

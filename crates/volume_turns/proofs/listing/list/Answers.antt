@@ -22,6 +22,8 @@ use Rattle.volume_turns.proofs.AnsweringLaws.{worn_touches}
 use Rattle.volume_turns.proofs.ToldLaws.{told_so}
 use Rattle.volume_turns.proofs.WornLaws.{look_up_worn}
 use Rattle.volume_turns.proofs.NumberLaws.{goes_none}
+use Rattle.volume_turns.specs.Reasons.{BecauseListed}
+use Rattle.volume_turns.proofs.ReasonLaws.{no_reason, none_written, reads_written}
 use Rattle.volume_turns.proofs.listing.list.Goals as goal
 
 pub returns-in-Ok-clause-disk : goal.returns-in-Ok-clause-disk
@@ -84,3 +86,23 @@ returns-in-Err-clause-answers g c h =
       numbers = goes_none 1 (g.V.Files.state c.args.v.now) (g.V.Files.state c.collect.new.v) c.in-Err.ensures.state;
       told = told_so (g.V.Files.state c.args.v.now).layout (now c.collect.new.m).image c.in-Err.why c.ended_by.result c.ended_by.ensures.is (c.in-Err.ensures.told h);
     }
+
+-- ---- why it is answered so
+
+pub returns-in-Ok-clause-written : goal.returns-in-Ok-clause-written
+returns-in-Ok-clause-written g c t =
+    let M = g.M.Machine in
+    none_written (M.ledger c.args.m.now) (M.ledger c.collect.new.m) (c.in-Ok.ensures.disk.ledger t)
+
+pub returns-in-Err-clause-written : goal.returns-in-Err-clause-written
+returns-in-Err-clause-written g c t =
+    let M = g.M.Machine in
+    reads_written (M.ledger c.args.m.now) (M.ledger c.collect.new.m) (c.in-Err.ensures.disk.ledger t) c.ended_by.result
+
+pub returns-in-Ok-clause-because : goal.returns-in-Ok-clause-because
+returns-in-Ok-clause-because g c h = c.in-Ok.ensures.because h
+
+pub returns-in-Err-clause-because : goal.returns-in-Err-clause-because
+returns-in-Err-clause-because g c h =
+    let V = g.V.Files in
+    no_reason (λ x. BecauseListed V.state V.resident c.args.pattern.now (V.state c.args.v.now) (V.state c.collect.new.v) (g.M.Machine.now c.args.m.now) (g.M.Machine.now c.collect.new.m) (reply_of x)) c.in-Err.why c.ended_by.result c.ended_by.ensures.is tt

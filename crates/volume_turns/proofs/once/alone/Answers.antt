@@ -18,7 +18,7 @@ returns-in-Ok-clause-does g c h k none stands =
     let does = c.in-Ok.ensures.done back k stands in
     let reply = reply_of c.in-Ok.answer in
     alone_answered V.state V.holds M g.met.V.Files.wears (λ m x. g.met.M.Machine.short m x) g.met.M.Machine.counts_now c.args.c.now c.args.v c.answer.new.v c.args.m.now c.answer.new.m c.close_as.new.m k stands _ c.in-Ok.ensures.disk c.in-Ok.ensures.layout back
-    (c.close_as.ensures.since h) does.0 reply does.1 does.2 c.close_as.result c.close_as.ensures.status
+    (c.close_as.ensures.since h) does.0 reply does.1 does.2 c.close_as.result c.close_as.ensures.undone c.close_as.ensures.status
     (subst (λ (says : Reply → List ℕ). ClosesAndSays M does.0 (says reply) c.answer.new.m c.close_as.new.m (unit_of c.close_as.result)) c.requires.says (c.close_as.ensures.closes h does.0 does.2))
 
 pub returns-in-Err-clause-does : goal.returns-in-Err-clause-does

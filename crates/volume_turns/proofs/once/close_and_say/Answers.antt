@@ -5,14 +5,16 @@ use Rattle.fsd_sound.specs.Writes.{force_writes}
 use Rattle.fsd_texts.specs.declared.fault.Fault.{Fault}
 use Rattle.fsd_texts.specs.declared.fault.Fault.TheVariants as Ends
 use Rattle.volume_turns.specs.Once.{close_fault}
-use Rattle.volume_turns.specs.Steps.{IsToldOn, reply_of}
-use Rattle.volume_turns.specs.Turns.{SaysAll, Unsaid}
+use Rattle.volume_turns.specs.Steps.{IsToldOn}
+use Rattle.volume_turns.specs.Turns.{IsEndOfVolume, SaysAll, Unsaid, WantsNone}
 use Rattle.volume_turns.proofs.AnsweringLaws.{closed_by, closed_still, says_so}
 use Rattle.volume_turns.proofs.ApartLaws.{fault_is}
 use Rattle.volume_turns.proofs.CountLaws.{told_more}
 use Rattle.volume_turns.proofs.InputLaws.{close_of_call, device_close}
+use Rattle.volume_turns.proofs.LineLaws.{close_wants, output_ends}
 use Rattle.volume_turns.proofs.OnceLaws.{close_failed, close_said}
-use Rattle.volume_turns.proofs.RunLaws.{later_on, on_err_said, on_ok_said, since_on, told_done, told_fault, writes_on}
+use Rattle.volume_turns.proofs.OrderLaws.{force_loss}
+use Rattle.volume_turns.proofs.RunLaws.{later_on, on_ok_said, since_on, told_done, told_fault, writes_on}
 use Rattle.volume_turns.proofs.ToldLaws.{close_told, unsaid_told}
 use Rattle.volume_turns.proofs.WornLaws.{close_unworn, unsaid_unworn}
 use Rattle.volume_turns.proofs.once.close_and_say.Goals as goal
@@ -24,30 +26,31 @@ returns-in-Ok g c =
     let s = V.state c.args.v in
     let a = c.args.m.now in
     let m = c.close.new.m in
-    let b = c.say.new.m in
-    let text = g.T.Says.errand.says (reply_of c.args.answer.now) in
+    let b = c.say_bytes.new.m in
+    let text = c.args.text.now in
     let e = c.in-Ok.ensures in
     let disk = e.disk in
-    let say = c.say.ensures in
-    let result = c.say.result in
+    let say = c.say_bytes.ensures in
+    let result = c.say_bytes.result in
+    let unsaid = output_ends (Unsaid (M.now m) (M.now b)) tt result say.output in
     record {
       told = told_more (M.report a) (M.report m) (M.report b) tt result (told_done (M.report a) (M.report m) disk.uses disk.faults) say.told;
       trust = trusts_on disk.trust say.trust;
       ledger = λ t. writes_on (M.ledger a) (M.ledger m) (M.ledger b) (say.ledger t) (disk.ledger (say.trust.tells t));
-      fault = say.fault;
+      fault = output_ends IsEndOfVolume tt result say.output;
       since = since_on M a m b say.trust.honest disk.since (λ h. (disk.any_moment h).later) say.since;
       later = later_on M a m b say.trust.honest (λ h. (disk.any_moment h).later) (λ h. (say.moments h).later);
       closing = λ h.
           let back = say.trust.honest h in
           let run = say.moments h in
           let utters = run.each (M.now b) (g.met.M.Machine.counts_now b (M.moment m) h run.later) in
-          let unsaid = on_err_said (Unsaid (M.now m) (M.now b)) result h say.unsaid in
           closed_by s text (M.now a) (M.now m) (M.now b) result (disk.windows back) (disk.quiet back) (e.rest back) (closed_still M.now s a m e.idle) (record { image = utters.image; windows = utters.windows })
           (says_so text (M.now m) (M.now b) result (on_ok_said (SaysAll text (M.now m) (M.now b)) result h say.said) unsaid) (unsaid_unworn (M.now m) (M.now b) result unsaid)
           (unsaid_told s.layout (M.now b).image (M.now m) (M.now b) result unsaid);
+      wants = λ up. output_ends WantsNone tt result say.output;
       closes = λ h k stands. let back = say.trust.honest h in
           close_said V.state V.holds M c.args.v a m b k stands text (force_writes s.layout) _ disk back (e.done back k stands) (g.met.M.Machine.short m back) (say.moments h)
-          result (on_ok_said (SaysAll text (M.now m) (M.now b)) result h say.said) (on_err_said (Unsaid (M.now m) (M.now b)) result h say.unsaid);
+          result (on_ok_said (SaysAll text (M.now m) (M.now b)) result h say.said) unsaid;
     }
 
 pub returns-in-Err : goal.returns-in-Err
@@ -75,5 +78,6 @@ returns-in-Err g c =
         unworn = λ is. close_unworn refused (fault_is _ (close_fault refused) Ends.WornOut refl is);
         told = λ why is. subst (λ (w : Fault). IsToldOn s.layout (M.now m).image w) (fault_is _ (close_fault refused) why refl is) (close_told s s (V.resident c.args.v) (M.now a) (M.now m) refl refused (e.causes h));
       };
-      closes = λ h k stands. close_failed V.state V.holds M c.args.v a m m k stands (g.T.Says.errand.says (reply_of c.args.answer.now)) (force_writes s.layout) _ disk h refused (e.done h k stands);
+      wants = λ up. close_wants refused (force_loss s up _ refused e.order);
+      closes = λ h k stands. close_failed V.state V.holds M c.args.v a m m k stands c.args.text.now (force_writes s.layout) _ disk h refused (e.done h k stands);
     })

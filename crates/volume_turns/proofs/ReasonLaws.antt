@@ -1,0 +1,110 @@
+-- Why a command by itself is answered so, and how much it has written.
+use Rattle.std.proofs.Common.{◌≡◌, ◌⊎◌, inl, inr, ℕ, ◌+◌, ◌≤◌, List, ◌++◌, [], ◌∷◌, length, Option, Some, None, refl, sym, ◌∙◌, ap, subst, arith, length-append}
+use Rattle.std.specs.Prelude.{IfErr, IfOk, Result, Ok, Err, option_map}
+use Rattle.sector_disk.specs.Image.{IsWorn, Windows, open_damage}
+use Rattle.sector_disk.specs.Machine.{Ledger, Moment, OnlyWrites}
+use Rattle.sector_disk.proofs.Wear.{worn_refl, worn_trans}
+use Rattle.fsd_bytes.specs.declared.key.Key.{Key}
+use Rattle.fsd_bytes.specs.declared.pattern.Pattern.{Pattern}
+use Rattle.fsd_bytes.specs.declared.refusal.Refusal.{Refusal}
+use Rattle.fsd_bytes.specs.declared.refusal.Refusal.TheVariants as Why
+use Rattle.fsd_formats.specs.declared.entry.Entry.{Entry}
+use Rattle.fsd_table.specs.Table.{Visit}
+use Rattle.fsd_files.specs.Replies.{Reply}
+use Rattle.fsd_texts.specs.declared.fault.Fault.{Fault}
+use Rattle.volume_contract.specs.State.{Ages, State}
+use Rattle.volume_turns.specs.declared.answer.Answer.{Answer}
+use Rattle.volume_turns.specs.declared.answer.Answer.TheVariants as Said
+use Rattle.volume_turns.specs.Listing.{fitting, last_key}
+use Rattle.volume_turns.specs.Reasons.{BecauseRead, HasWritten, IsUpTo, ListsAll, Showed}
+use Rattle.volume_turns.specs.Steps.{ended_by, read_ended_by, reply_of}
+use Rattle.volume_turns.proofs.AnsweringLaws.{said_or_fault}
+use Rattle.volume_turns.proofs.ListLaws.{fitting_more, last_more}
+
+-- ---- what is written
+
+module _ (n : ℕ) (old new : Ledger) where
+  ended_up_to : (why : Refusal) → IsUpTo n old new → HasWritten n old new (ended_by why)
+  ended_up_to (Why.Device s) x = x
+  ended_up_to (Why.Down s) x = x
+  ended_up_to (Why.Lost a b) x = x
+  ended_up_to (Why.Unsound s) x = x
+  ended_up_to Why.WornOut x = x
+  ended_up_to Why.Memory x = x
+  ended_up_to why x = x
+
+  pub refused_written : (why : Refusal) (r : Result Answer Fault) → r ≡ ended_by why → IsUpTo n old new → HasWritten n old new r
+  refused_written why r is x = subst (λ (y : Result Answer Fault). HasWritten n old new y) (sym is) (ended_up_to why x)
+
+-- a command that only reads
+module _ (old new : Ledger) (same : new ≡ old) where
+  pub none_written : new.written ≡ old.written + 0
+  none_written = let is = ap (λ (x : Ledger). x.written) same in omega (arith, is)
+
+  pub reads_written : (r : Result Answer Fault) → HasWritten 0 old new r
+  reads_written (Ok (Said.Refused why)) = let is = none_written in (omega (arith, is), omega (arith, is))
+  reads_written (Ok answer) = none_written
+  reads_written (Err fault) = let is = none_written in (omega (arith, is), omega (arith, is))
+
+-- ---- why
+
+-- of no refusal of these
+pub no_reason : (P : Answer → Type 0) (why : Refusal) (r : Result Answer Fault) → r ≡ ended_by why → P (Said.Refused why) → IfOk r P
+no_reason P why r is said = subst (λ (x : Result Answer Fault). IfOk x P) (sym is) (said_or_fault P why said)
+
+pub ages_here : (a : Moment) → Ages a a
+ages_here a = record { image = worn_refl (open_damage a.windows) a.image; windows = refl }
+
+pub ages_then : (a b c : Moment) → Ages a b → Ages b c → Ages a c
+ages_then a b c x y = record {
+  image = worn_trans (open_damage a.windows) a.image b.image c.image x.image (subst (λ (w : Windows). IsWorn (open_damage w) b.image c.image) x.windows y.image);
+  windows = y.windows ∙ x.windows;
+}
+
+module _ {S : Type 0} (state : S → State) (resident : S → ℕ → Option (List ℕ)) where
+  pub showed_since : (s r t : State) (old mid new : Moment) (Is : Moment → Visit → Type 0) → r ≡ s → Ages old mid → Showed state resident r t mid new Is → Showed state resident s t old new Is
+  showed_since s r t old mid new Is same aged x = record { by = x.by; same = x.same ∙ same; from = x.from; aged = ages_then old mid x.from aged x.aged; shows = x.shows }
+
+  pub because_since : (key : Key) (s r t : State) (old mid new : Moment) → r ≡ s → Ages old mid → (reply : Reply) → BecauseRead state resident key r t mid new reply → BecauseRead state resident key s t old new reply
+  because_since key s r t old mid new same aged (Reply.Refused why) x = λ is. showed_since s r t old mid new _ same aged (x is)
+  because_since key s r t old mid new same aged (Reply.Bytes k bytes) x = (x.0, x.1, showed_since s r t old mid new _ same aged x.2)
+  because_since key s r t old mid new same aged reply x = tt
+
+  -- of a read that was refused
+  pub read_because : (key : Key) (s t : State) (old new : Moment) (why : Refusal) (r : Result Answer Fault) → r ≡ read_ended_by key why → (why ≡ Why.NoSuch → BecauseRead state resident key s t old new (Reply.Refused why))
+      → IfOk r (λ a. BecauseRead state resident key s t old new (reply_of a))
+  read_because key s t old new why r is none = subst (λ (x : Result Answer Fault). IfOk x (λ a. BecauseRead state resident key s t old new (reply_of a))) (sym is) (by why none)
+    where
+      by : (w : Refusal) → (w ≡ Why.NoSuch → BecauseRead state resident key s t old new (Reply.Refused w)) → IfOk (read_ended_by key w) (λ a. BecauseRead state resident key s t old new (reply_of a))
+      by (Why.Damaged n) so = tt
+      by (Why.Device n) so = tt
+      by (Why.Down n) so = tt
+      by (Why.Lost a b) so = tt
+      by (Why.Unsound n) so = tt
+      by Why.WornOut so = tt
+      by Why.Memory so = tt
+      by w so = λ x. so x x
+
+  pub read_since : (key : Key) (s r t : State) (old mid new : Moment) → r ≡ s → Ages old mid → (x : Result Answer Fault) → IfOk x (λ a. BecauseRead state resident key r t mid new (reply_of a)) → IfOk x (λ a. BecauseRead state resident key s t old new (reply_of a))
+  read_since key s r t old mid new same aged (Ok a) why = because_since key s r t old mid new same aged (reply_of a) why
+  read_since key s r t old mid new same aged (Err fault) why = tt
+
+-- ---- a list on its way
+
+-- so many were met, the last of them with this key, and those that fit are listed
+pub record HasMet (pattern : Pattern) (count : ℕ) (last : Option Key) (listed : List Entry) : Type 0 where
+  pub met : List Entry
+  pub many : length met ≡ count
+  pub ends : last ≡ last_key met
+  pub fit : listed ≡ fitting pattern met
+
+pub met_none : (pattern : Pattern) → HasMet pattern 0 None []
+met_none pattern = record { met = []; many = refl; ends = refl; fit = refl }
+
+pub met_more : (pattern : Pattern) (count : ℕ) (last : Option Key) (listed : List Entry) → HasMet pattern count last listed → (e : Entry) (key : Key) → key ≡ e.key → (now : List Entry) → now ≡ listed ++ fitting pattern (e ∷ []) → HasMet pattern (count + 1) (Some key) now
+met_more pattern count last listed x e key is now put = record {
+  met = x.met ++ e ∷ [];
+  many = let sum = length-append x.met (e ∷ []) in let many = x.many in omega (arith, sum, many);
+  ends = ap (λ (k : Key). Some k) is ∙ sym (ap (λ (o : Option Entry). option_map (λ y. y.key) o) (last_more x.met None e));
+  fit = put ∙ ap (λ (y : List Entry). y ++ fitting pattern (e ∷ [])) x.fit ∙ sym (fitting_more pattern x.met (e ∷ []));
+}

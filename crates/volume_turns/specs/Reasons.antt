@@ -1,0 +1,75 @@
+-- Why a command by itself is answered so, and how much it has written, whatever the image.
+use Rattle.std.specs.Prelude.{◌≡◌, ◌⊎◌, ⊤, ℕ, ◌+◌, ◌≤◌, List, length, Option, Result, Ok, Err}
+use Rattle.fsd_bytes.specs.declared.key.Key.{Key}
+use Rattle.fsd_bytes.specs.declared.pattern.Pattern.{Pattern}
+use Rattle.fsd_bytes.specs.declared.refusal.Refusal.TheVariants as Why
+use Rattle.fsd_formats.specs.declared.entry.Entry.{Entry}
+use Rattle.fsd_formats.specs.NamePage.{sectors_for}
+use Rattle.fsd_table.specs.Table.{Visit}
+use Rattle.fsd_files.specs.Replies.{Reply}
+use Rattle.fsd_texts.specs.declared.command.Command.{Command}
+use Rattle.fsd_texts.specs.declared.command.Command.TheVariants as Word
+use Rattle.fsd_texts.specs.declared.fault.Fault.{Fault}
+use Rattle.sector_disk.specs.Machine.{Ledger, Moment}
+use Rattle.volume_contract.specs.Absent.{LacksKey, LacksLater, Reaches}
+use Rattle.volume_contract.specs.Causes.{Shows}
+use Rattle.volume_contract.specs.Found.{HasRange}
+use Rattle.volume_contract.specs.State.{Ages, State, change_len, force_len, put_len}
+use Rattle.volume_turns.specs.declared.answer.Answer.{Answer}
+use Rattle.volume_turns.specs.declared.answer.Answer.TheVariants as Said
+use Rattle.volume_turns.specs.Listing.{fitting, last_key}
+
+-- ---- what is written
+
+-- how many sectors a command writes at most over a volume of this state, but for the force behind it
+abbrev pub most_written : Command → State → ℕ
+most_written (Word.Put name bytes keep) s = put_len s (sectors_for (length bytes))
+most_written (Word.Delete key) s = change_len s
+most_written (Word.Keep name keep) s = change_len s
+most_written Word.Force s = force_len s
+most_written Word.Tick s = force_len s
+most_written command s = 0
+
+abbrev pub IsUpTo : ℕ → Ledger → Ledger → Type 0
+IsUpTo n old new = (old.written ≤ new.written) × (new.written ≤ old.written + n)
+
+-- so many sectors are counted as written, where it is done, and no more where it is refused
+abbrev pub HasWritten : ℕ → Ledger → Ledger → Result Answer Fault → Type 0
+HasWritten n old new (Ok (Said.Refused why)) = IsUpTo n old new
+HasWritten n old new (Ok answer) = new.written ≡ old.written + n
+HasWritten n old new (Err fault) = IsUpTo n old new
+
+-- ---- what the pages that were read show
+
+module _ {S : Type 0} (state : S → State) (resident : S → ℕ → Option (List ℕ)) where
+  -- The pages that a call has read show this of one that is reached. The call began over a volume of this state, at a
+  -- moment to which the disk has only aged since.
+  pub record Showed (s t : State) (old new : Moment) (Is : Moment → Visit → Type 0) : Type 0 where
+    pub by : S
+    pub same : state by ≡ s
+    pub from : Moment
+    pub aged : Ages old from
+    pub shows : Shows (state by) t (resident by) from new (Reaches (Is from))
+
+  -- So many versions were met in the order of their keys, and those that fit are listed:
+  -- as many as the volume counts, or none was behind them.
+  pub record ListsAll (pattern : Pattern) (s t : State) (old new : Moment) (listed : List Entry) : Type 0 where
+    pub met : List Entry
+    pub fit : listed ≡ fitting pattern met
+    pub ends : (length met ≡ s.versions) ⊎ Showed s t old new (λ from. LacksLater (last_key met))
+
+  -- No version of the key is there: a leaf between whose bounds the key stands lacks it. Bytes are those that the entry's
+  -- sectors keep, which were whole.
+  abbrev pub BecauseRead : Key → (s t : State) → (old new : Moment) → Reply → Type 0
+  BecauseRead key s t old new (Reply.Refused why) = why ≡ Why.NoSuch → Showed s t old new (λ from. LacksKey key)
+  BecauseRead key s t old new (Reply.Bytes k bytes) = (room : List ℕ) × (n : ℕ) × Showed s t old new (λ from. HasRange t from.image key 0 room bytes n)
+  BecauseRead key s t old new reply = ⊤
+
+  abbrev pub BecauseListed : Pattern → (s t : State) → (old new : Moment) → Reply → Type 0
+  BecauseListed pattern s t old new (Reply.Listed entries) = ListsAll pattern s t old new entries
+  BecauseListed pattern s t old new reply = ⊤
+
+  abbrev pub Because : Command → (s t : State) → (old new : Moment) → Reply → Type 0
+  Because (Word.Get key) s t old new reply = BecauseRead key s t old new reply
+  Because (Word.List pattern) s t old new reply = BecauseListed pattern s t old new reply
+  Because command s t old new reply = ⊤
