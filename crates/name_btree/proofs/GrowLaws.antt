@@ -1,5 +1,5 @@
 -- A page that is given more than it had, and is parted where it is too much.
-use Rattle.std.proofs.Common.{◌≡◌, ℕ, zero, suc, ◌-◌, ◌<◌, ◌≤◌, ◌^◌, Bool, true, false, cond, ◌&&◌, ◌||◌, List, [], ◌∷◌, ◌++◌, length, take, drop, refl, sym, ap, subst, ◌∙◌, arith, Some, take-append-drop}
+use Rattle.std.proofs.Common.{◌≡◌, ◌+◌, ℕ, zero, suc, ◌-◌, ◌<◌, ◌≤◌, ◌^◌, Bool, true, false, cond, ◌&&◌, ◌||◌, List, [], ◌∷◌, ◌++◌, length, take, drop, refl, sym, ap, subst, ◌∙◌, arith, Some, take-append-drop}
 use Rattle.std.specs.Prelude.{◌==◌, slice_get, slice_index_or, nat_lt, nat_le}
 use Rattle.std.specs.List.{list_all, AllByRecursion}
 use Rattle.std.proofs.lemmas.Bool.{and_parts, or_parts, false_from_ne_true, eqb-true, eq-eqb}
@@ -173,28 +173,28 @@ pub record HasInteriors (a c : Step) (s0 s2 : List Sheet) (page first : ℕ) (se
   pub grown : IsGrown a c s0 s2 page (Parted left s)
   pub interiors : AreWaysOf (drafted s2 c.images) first separators left s
 
-pub ways_parted : (a b c : Step) (s0 s1 s2 : List Sheet) (page left right first p : ℕ) (separators some : List Separator) (y : Separator)
-    → some ≡ separators → length some ≡ 10 → slice_get some 4 ≡ Some y → IsParted a b c s0 s1 s2 page left right (Interior first (take 4 some)) (Interior y.child (drop 5 some))
+pub ways_parted : (a b c : Step) (s0 s1 s2 : List Sheet) (page left right first p i : ℕ) (separators some : List Separator) (y : Separator)
+    → some ≡ separators → length some ≡ 10 → 4 ≤ i → i ≤ 5 → slice_get some i ≡ Some y → IsParted a b c s0 s1 s2 page left right (Interior first (take i some)) (Interior y.child (drop (i + 1) some))
     → list_all (λ s. is_key s.key && nat_lt s.child p) separators ≡ true → AllByRecursion FitsSeparator separators → right < 2 ^ 32
     → HasInteriors a c s0 s2 page first separators left (record { key = y.key; child = right })
-ways_parted a b c s0 s1 s2 page left right first p separators some y whole ten at parted each fits small =
-    let h = halves some 4 (omega arith) (omega arith) in
-    let split : drop 4 some ≡ y ∷ drop 5 some = drop_at some 4 y at in
-    let parts : separators ≡ take 4 some ++ y ∷ drop 5 some = sym whole ∙ sym (take-append-drop 4 some) ∙ ap (λ (zs : List Separator). take 4 some ++ zs) split in
+ways_parted a b c s0 s1 s2 page left right first p i separators some y whole ten least most at parted each fits small =
+    let h = halves some i (omega arith) (omega arith) in
+    let split : drop i some ≡ y ∷ drop (i + 1) some = drop_at some i y at in
+    let parts : separators ≡ take i some ++ y ∷ drop (i + 1) some = sym whole ∙ sym (take-append-drop i some) ∙ ap (λ (zs : List Separator). take i some ++ zs) split in
     let good : Separator → Bool = λ s. is_key s.key && nat_lt s.child p in
-    let later = (and_parts (list_all good (take 4 some)) (list_all good (y ∷ drop 5 some)) (sym (list_all-append good (take 4 some) (y ∷ drop 5 some)) ∙ ap (list_all good) (sym parts) ∙ each)).1 in
-    let is = (and_parts (is_key y.key) (nat_lt y.child p) (and_parts (good y) (list_all good (drop 5 some)) later).0).0 in
-    let fit = (all_split FitsSeparator (take 4 some) (y ∷ drop 5 some) (subst (AllByRecursion FitsSeparator) parts fits)).1 in
+    let later = (and_parts (list_all good (take i some)) (list_all good (y ∷ drop (i + 1) some)) (sym (list_all-append good (take i some) (y ∷ drop (i + 1) some)) ∙ ap (list_all good) (sym parts) ∙ each)).1 in
+    let is = (and_parts (is_key y.key) (nat_lt y.child p) (and_parts (good y) (list_all good (drop (i + 1) some)) later).0).0 in
+    let fit = (all_split FitsSeparator (take i some) (y ∷ drop (i + 1) some) (subst (AllByRecursion FitsSeparator) parts fits)).1 in
     record {
-      grown = grown_parted a b c s0 s1 s2 page left right (Interior first (take 4 some)) (Interior y.child (drop 5 some)) y.key parted is (record { name = fit.0.name; version = fit.0.version; child = small });
+      grown = grown_parted a b c s0 s1 s2 page left right (Interior first (take i some)) (Interior y.child (drop (i + 1) some)) y.key parted is (record { name = fit.0.name; version = fit.0.version; child = small });
       interiors = record {
         x = h.x;
         xs = h.xs;
         y = y;
-        ys = drop 5 some;
+        ys = drop (i + 1) some;
         many = omega (arith, ap length whole, ten);
-        parts = parts ∙ ap (λ (zs : List Separator). zs ++ y ∷ drop 5 some) h.front_is;
-        front = front_has a b c s0 s1 s2 page left right (Interior first (take 4 some)) (Interior y.child (drop 5 some)) parted ∙ ap (λ (zs : List Separator). Some (Interior first zs)) h.front_is;
+        parts = parts ∙ ap (λ (zs : List Separator). zs ++ y ∷ drop (i + 1) some) h.front_is;
+        front = front_has a b c s0 s1 s2 page left right (Interior first (take i some)) (Interior y.child (drop (i + 1) some)) parted ∙ ap (λ (zs : List Separator). Some (Interior first zs)) h.front_is;
         behind = parted.behind.content;
         key = refl;
       };

@@ -11,8 +11,8 @@ ghost use Rattle.name_page.specs.Pages.{changes, is_spare, with_images, IsReache
 use crate::draft::{Draft, take_page};
 use fsd_formats::{Entry, Separator};
 use name_page::{
-    Entries, EntryList, PAGE_ROOM, Pages, SeparatorList, entries_with, leaf_cut, middle, text_with,
-    used,
+    Entries, EntryList, Fuller, PAGE_ROOM, Pages, SeparatorList, entries_with, fuller_with,
+    leaf_cut, middle, text_with, used,
 };
 
 /// What became of a page: it has all, or there are two with a separator between them.
@@ -43,7 +43,13 @@ fn front_page<T: Pages>(t: &mut T, page: u32) -> u32
 }
 
 // The page is to be a leaf of these entries, or two are where they are too many for one.
-fn grow_leaf<T: Pages>(t: &mut T, draft: &mut Draft, page: u32, entries: &EntryList) -> Grown
+fn grow_leaf<T: Pages>(
+    t: &mut T,
+    draft: &mut Draft,
+    page: u32,
+    entries: &EntryList,
+    fuller: Fuller,
+) -> Grown
     requires promised { most_parted page ≤ (T.step t.old).promised }
     requires more { most_parted page ≤ changes (T.step t.old) }
     requires room { length draft.old.sheets.items + 2 ≤ MOST_CHANGED }
@@ -62,11 +68,12 @@ fn grow_leaf<T: Pages>(t: &mut T, draft: &mut Draft, page: u32, entries: &EntryL
     ensures reached { (T.step t.new).reached ≡ (T.step t.old).reached }
 {
     let entries = entries.as_slice();
-    if used(entries) <= PAGE_ROOM {
+    let whole = used(entries);
+    if whole <= PAGE_ROOM {
         draft.put_leaf(t, page, entries);
         return Grown::Whole;
     }
-    let (front, behind) = entries.split_at(leaf_cut(entries));
+    let (front, behind) = entries.split_at(leaf_cut(entries, whole, fuller));
     let left = front_page(t, page);
     let right = take_page(t);
     draft.put_leaf(t, left, front);
@@ -106,7 +113,7 @@ fn grow_leaf_listed<T: Pages>(
     ensures reached { (T.step t.new).reached ≡ (T.step t.old).reached }
 {
     let list = entries_with(entries, entry);
-    grow_leaf(t, draft, page, &list)
+    grow_leaf(t, draft, page, &list, fuller_with(entries, &entry.key))
 }
 
 /// The page is to be a leaf of these entries and one more, or two are where they are too many for one.
@@ -145,7 +152,16 @@ pub(crate) fn grow_leaf_with<T: Pages>(
     grow_leaf_listed(t, draft, page, entries, entry)
 }
 
-/// The page is to lead to a first child, and behind each separator to another,
+// Where ten separators are parted, of which this one is new: it comes to the fewer, as the next ones do where keys come
+// in order.
+fn ways_cut(new: u32) -> usize
+    ensures least { 4 ≤ result }
+    ensures most { result ≤ 5 }
+{
+    if new < 5 { 4 } else { 5 }
+}
+
+/// The page is to lead to a first child, and behind each separator, of which this one is new, to another,
 /// or two are where they are too many for one.
 pub(crate) fn grow_ways<T: Pages>(
     t: &mut T,
@@ -153,6 +169,7 @@ pub(crate) fn grow_ways<T: Pages>(
     page: u32,
     first: u32,
     separators: &SeparatorList,
+    new: u32,
 ) -> Grown
     requires promised { most_parted page ≤ (T.step t.old).promised }
     requires more { most_parted page ≤ changes (T.step t.old) }
@@ -176,11 +193,12 @@ pub(crate) fn grow_ways<T: Pages>(
         draft.put_ways(t, page, first, separators);
         return Grown::Whole;
     }
-    let middle = middle(separators);
+    let cut = ways_cut(new);
+    let middle = middle(separators, cut);
     let left = front_page(t, page);
     let right = take_page(t);
-    draft.put_ways(t, left, first, &separators[..4]);
-    draft.put_ways(t, right, middle.child, &separators[5..]);
+    draft.put_ways(t, left, first, &separators[..cut]);
+    draft.put_ways(t, right, middle.child, &separators[cut + 1..]);
     let separator = Separator {
         key: middle.key,
         child: right,

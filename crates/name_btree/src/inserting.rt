@@ -185,7 +185,7 @@ fn grow_above<T: Pages>(
         Grown::Whole => Grown::Whole,
         Grown::Parted(_, separator) => {
             let separators = ways_with(ways, i, separator);
-            grow_ways(t, draft, above.page, ways.first(), &separators)
+            grow_ways(t, draft, above.page, ways.first(), &separators, i)
         }
     }
 }

@@ -25,8 +25,9 @@ use fsd_bytes::Key;
 use fsd_formats::{Entry, Separator};
 use fsd_table::Child;
 use name_page::{
-    EntryList, JoinedList, LEAST_USED, Node, PAGE_ROOM, Pages, SeparatorList, Ways, WideList,
-    joined, joined_ways, leaf_cut, listed, listed_ways, used, ways_replaced, ways_without,
+    EntryList, Fuller, JoinedList, LEAST_USED, Node, PAGE_ROOM, Pages, SeparatorList, Ways,
+    WideList, joined, joined_ways, leaf_cut, listed, listed_ways, used, ways_replaced,
+    ways_without,
 };
 
 /// What is left of a page: it has all of it, or it is too little for a page.
@@ -204,11 +205,12 @@ fn put_leaves<T: Pages>(
     ensures draft { IsDraft (T.step t.now) draft.new }
     ensures put { AreLeavesMended (T.step t.now) draft.old draft.new above.now.page ways.now.0 ways.now.1 pair list.now result }
 {
-    if used(list) <= PAGE_ROOM {
+    let whole = used(list);
+    if whole <= PAGE_ROOM {
         draft.put_leaf(t, pair.left, list);
         return join_pair(t, draft, above, ways, pair);
     }
-    let (front, behind) = list.split_at(leaf_cut(list));
+    let (front, behind) = list.split_at(leaf_cut(list, whole, Fuller::Neither));
     draft.put_leaf(t, pair.left, front);
     draft.put_leaf(t, pair.right, behind);
     share_pair(t, draft, above, ways, pair, behind[0].key.copied())

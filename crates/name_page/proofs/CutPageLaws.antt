@@ -15,6 +15,7 @@ use Rattle.fsd_table.specs.Pages.{entry_keys, separator_keys}
 use Rattle.fsd_table.proofs.BoundLaws.{ascend_tail, entry_keys_append, separator_keys_append}
 use Rattle.name_page.specs.Parting.{AreLeaves, AreInteriors, used_by}
 use Rattle.name_page.proofs.LeafLaws.{is_between_from}
+use Rattle.name_page.proofs.ListLaws.{drop_at}
 
 -- ---- keys in two parts
 
@@ -47,22 +48,23 @@ leaf_page page xs all asc least most =
 pub used_apart : (xs ys : List Entry) → used_by (xs ++ ys) ≡ used_by xs + used_by ys
 used_apart xs ys = ap length (flat_map-append entry_bytes xs ys) ∙ length-append (flat_map entry_bytes xs) (flat_map entry_bytes ys)
 
-leaves_of : (xs ys : List Entry) → list_all is_entry (xs ++ ys) ≡ true → are_ascending (entry_keys (xs ++ ys)) ≡ true → 488 < used_by (xs ++ ys) → used_by (xs ++ ys) ≤ 678 → 190 ≤ used_by xs → used_by xs ≤ 297
+leaves_of : (xs ys : List Entry) → list_all is_entry (xs ++ ys) ≡ true → are_ascending (entry_keys (xs ++ ys)) ≡ true → 488 < used_by (xs ++ ys) → used_by (xs ++ ys) ≤ 678 → 190 ≤ used_by xs → used_by xs ≤ 488 → used_by xs + 190 ≤ used_by (xs ++ ys)
     → AreLeaves xs ys
-leaves_of xs ys all asc many few least most page =
+leaves_of xs ys all asc many few least most left page =
     let sum = used_apart xs ys in
     let each = and_parts (list_all is_entry xs) (list_all is_entry ys) (sym (list_all-append is_entry xs ys) ∙ all) in
     let keys : are_ascending (entry_keys xs ++ entry_keys ys) ≡ true = ap are_ascending (sym (entry_keys_append xs ys)) ∙ asc in (
       leaf_page page xs each.0 (keys_front (entry_keys xs) (entry_keys ys) keys) (least_of page (used_by xs) least) (omega (arith, most)),
-      leaf_page page ys each.1 (keys_behind (entry_keys xs) (entry_keys ys) keys) (least_of page (used_by ys) (omega (arith, sum, many, most))) (omega (arith, sum, few, least)),
+      leaf_page page ys each.1 (keys_behind (entry_keys xs) (entry_keys ys) keys) (least_of page (used_by ys) (omega (arith, sum, left))) (omega (arith, sum, few, least)),
     )
 
 pub leaves_at : (entries : List Entry) (i : ℕ) → list_all is_entry entries ≡ true → are_ascending (entry_keys entries) ≡ true → 488 < used_by entries → used_by entries ≤ 678 → 190 ≤ used_by (take i entries)
-    → used_by (take i entries) ≤ 297 → AreLeaves (take i entries) (drop i entries)
-leaves_at entries i all asc many few least most =
+    → used_by (take i entries) ≤ 488 → used_by (take i entries) + 190 ≤ used_by entries → AreLeaves (take i entries) (drop i entries)
+leaves_at entries i all asc many few least most left =
     let whole : entries ≡ take i entries ++ drop i entries = sym (take-append-drop i entries) in
     leaves_of (take i entries) (drop i entries) (ap (list_all is_entry) (sym whole) ∙ all) (ap (λ (xs : List Entry). are_ascending (entry_keys xs)) (sym whole) ∙ asc)
     (subst (λ (n : ℕ). 488 < n) (ap used_by whole) many) (subst (λ (n : ℕ). n ≤ 678) (ap used_by whole) few) least most
+    (subst (λ (n : ℕ). used_by (take i entries) + 190 ≤ n) (ap used_by whole) left)
 
 -- some bytes are those of some entry
 pub cut_some : (entries : List Entry) (i : ℕ) → 190 ≤ used_by (take i entries) → 0 < i
@@ -88,32 +90,31 @@ an_interior page p first xs all asc low least most =
     (and_from (all_below p xs && are_ascending (separator_keys xs)) (nat_lt first p) (and_from (all_below p xs) (are_ascending (separator_keys xs)) all asc) low)
     (is_between_from (least_separators page) 9 (length xs) (least_ways page (length xs) least) most)
 
-interiors_of : (p first : ℕ) (xs : List Separator) (s : Separator) (ys : List Separator) → all_below p (xs ++ s ∷ ys) ≡ true → are_ascending (separator_keys (xs ++ s ∷ ys)) ≡ true → first < p → length xs ≡ 4 → length ys ≡ 5
+interiors_of : (p first : ℕ) (xs : List Separator) (s : Separator) (ys : List Separator) → all_below p (xs ++ s ∷ ys) ≡ true → are_ascending (separator_keys (xs ++ s ∷ ys)) ≡ true → first < p → 4 ≤ length xs → length xs ≤ 9 → 4 ≤ length ys → length ys ≤ 9
     → AreInteriors p first xs s.child ys
-interiors_of p first xs s ys all asc low front behind page =
+interiors_of p first xs s ys all asc low least most least_behind most_behind page =
     let each = and_parts (all_below p xs) (all_below p (s ∷ ys)) (sym (list_all-append (λ s. is_key s.key && nat_lt s.child p) xs (s ∷ ys)) ∙ all) in
     let later = and_parts (is_key s.key && nat_lt s.child p) (all_below p ys) each.1 in
     let keys : are_ascending (separator_keys xs ++ separator_keys (s ∷ ys)) ≡ true = ap are_ascending (sym (separator_keys_append xs (s ∷ ys))) ∙ asc in (
-      an_interior page p first xs each.0 (keys_front (separator_keys xs) (separator_keys (s ∷ ys)) keys) (le-leb (suc first) p (omega arith)) (omega (arith, front)) (omega (arith, front)),
+      an_interior page p first xs each.0 (keys_front (separator_keys xs) (separator_keys (s ∷ ys)) keys) (le-leb (suc first) p (omega arith)) least most,
       an_interior page p s.child ys later.1 (ascend_tail s.key (separator_keys ys) (keys_behind (separator_keys xs) (separator_keys (s ∷ ys)) keys)) (and_parts (is_key s.key) (nat_lt s.child p) later.0).1
-          (omega (arith, behind)) (omega (arith, behind)),
+          least_behind most_behind,
     )
 
-parts_at : (xs : List Separator) (i : ℕ) (s : Separator) → slice_get xs i ≡ Some s → xs ≡ take i xs ++ s ∷ drop (suc i) xs
-parts_at [] i s e = absurd cc
-parts_at (x ∷ xs) zero s e = let same : x ≡ s = cc in ap (λ (y : Separator). y ∷ xs) same
-parts_at (x ∷ xs) (suc i) s e = ap (λ (ys : List Separator). x ∷ ys) (parts_at xs i s e)
+parts_at : (xs : List Separator) (i : ℕ) (s : Separator) → slice_get xs i ≡ Some s → xs ≡ take i xs ++ s ∷ drop (i + 1) xs
+parts_at xs i s e = sym (take-append-drop i xs) ∙ ap (λ (ys : List Separator). take i xs ++ ys) (drop_at xs i s e)
 
-pub interiors_at : (p first : ℕ) (xs : List Separator) (s : Separator) → length xs ≡ 10 → slice_get xs 4 ≡ Some s → all_below p xs ≡ true → are_ascending (separator_keys xs) ≡ true → first < p
-    → AreInteriors p first (take 4 xs) s.child (drop 5 xs)
-interiors_at p first xs s ten at all asc low =
-    let whole = parts_at xs 4 s at in
-    let front : length (take 4 xs) ≡ 4 = length_front xs ten in
-    let behind : length (drop 5 xs) ≡ 5 = length_behind xs ten in
-    interiors_of p first (take 4 xs) s (drop 5 xs) (ap (all_below p) (sym whole) ∙ all) (ap (λ (ys : List Separator). are_ascending (separator_keys ys)) (sym whole) ∙ asc) low front behind
+pub interiors_at : (p first i : ℕ) (xs : List Separator) (s : Separator) → length xs ≡ 10 → 4 ≤ i → i ≤ 5 → slice_get xs i ≡ Some s → all_below p xs ≡ true → are_ascending (separator_keys xs) ≡ true → first < p
+    → AreInteriors p first (take i xs) s.child (drop (i + 1) xs)
+interiors_at p first i xs s ten least most at all asc low =
+    let whole = parts_at xs i s at in
+    let front : length (take i xs) ≡ i = length_front xs i ten most in
+    let behind : length (drop (i + 1) xs) + i + 1 ≡ 10 = length_behind xs i ten most in
+    interiors_of p first (take i xs) s (drop (i + 1) xs) (ap (all_below p) (sym whole) ∙ all) (ap (λ (ys : List Separator). are_ascending (separator_keys ys)) (sym whole) ∙ asc) low
+    (omega (arith, front, least)) (omega (arith, front, most)) (omega (arith, behind, most)) (omega (arith, behind, least))
   where
-    length_front : (xs : List Separator) → length xs ≡ 10 → length (take 4 xs) ≡ 4
-    length_front xs ten = grind (arith, length-take)
+    length_front : (xs : List Separator) (i : ℕ) → length xs ≡ 10 → i ≤ 5 → length (take i xs) ≡ i
+    length_front xs i ten most = grind (arith, length-take)
 
-    length_behind : (xs : List Separator) → length xs ≡ 10 → length (drop 5 xs) ≡ 5
-    length_behind xs ten = grind (arith, length-drop)
+    length_behind : (xs : List Separator) (i : ℕ) → length xs ≡ 10 → i ≤ 5 → length (drop (i + 1) xs) + i + 1 ≡ 10
+    length_behind xs i ten most = omega (arith, length-drop (i + 1) xs)

@@ -26,7 +26,7 @@ pub use fsd_formats::{Entry, Page, PageKind, Separator};
 pub use laws::pages_are_read;
 pub use node::{Entries, Node, Ways, node_in};
 pub use pages::{MOST_CHANGED, MOST_REACHED, Pages};
-pub use parting::{leaf_cut, middle};
+pub use parting::{Fuller, fuller_with, leaf_cut, middle};
 pub use reading::{first_child, leaf_entry, separator};
 pub use text::{LeafText, text_with, write_text};
 pub use vec_pages::VecPages;

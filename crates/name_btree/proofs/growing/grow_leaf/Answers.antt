@@ -32,8 +32,8 @@ put_leaf-requires g c =
       fits = subst (AllByRecursion FitsEntry) (sym value) c.requires.fits;
     }
 
-pub returns-then-used-le-PAGE_ROOM : goal.returns-then-used-le-PAGE_ROOM
-returns-then-used-le-PAGE_ROOM g c =
+pub returns-then-whole-le-PAGE_ROOM : goal.returns-then-whole-le-PAGE_ROOM
+returns-then-whole-le-PAGE_ROOM g c =
     let step = g.T.Pages.step c.args.t.now in
     let page = c.args.page in
     let old = c.args.draft.now.sheets.items in
@@ -60,6 +60,7 @@ leaf_cut-requires g c =
     record {
       entries = ap (list_all is_entry) value ∙ are.each;
       order = ap (λ (xs : List Entry). are_ascending (entry_keys xs)) value ∙ are.order;
+      used = c.used-whole.ensures;
       many = omega arith;
       few = omega (arith, are.most, ap used_by value);
     }

@@ -1,4 +1,4 @@
-use Rattle.std.proofs.Common.{◌≡◌, ◌∙◌, refl, sym, ap, subst, ℕ, List, Some, length, take, drop, ◌&&◌, ◌<◌, ◌≤◌, ◌^◌, arith}
+use Rattle.std.proofs.Common.{◌≡◌, ◌∙◌, refl, sym, ap, subst, ℕ, List, Some, length, take, drop, ◌&&◌, ◌<◌, ◌≤◌, ◌+◌, ◌^◌, arith}
 use Rattle.fsd_formats.specs.declared.page.Separator.{Separator}
 use Rattle.std.specs.Prelude.{nat_lt}
 use Rattle.std.specs.List.{list_all, AllByRecursion}
@@ -79,8 +79,8 @@ put_ways-requires-2 g c =
       sheets = sheets_over between last _ sheets takes (sheets_over step between _ sheets front.takes c.requires.sheets);
       reached = takes.reached left front.own;
       used = used_over between last _ left takes front.used;
-      accepted = ap (λ (n : ℕ). is_page left n (Interior c.args.first (take 4 some))) images ∙ is;
-      fits = all_front FitsSeparator some 4 (subst (AllByRecursion FitsSeparator) (sym value) c.requires.fits) _ refl;
+      accepted = ap (λ (n : ℕ). is_page left n (Interior c.args.first (take c.ways_cut-cut.result some))) images ∙ is;
+      fits = all_front FitsSeparator some c.ways_cut-cut.result (subst (AllByRecursion FitsSeparator) (sym value) c.requires.fits) _ refl;
     }
 
 pub put_ways-requires-3 : goal.put_ways-requires-3
@@ -103,8 +103,8 @@ put_ways-requires-3 g c =
       sheets = one.sheets;
       reached = takes.own.0;
       used = takes.taken.spares right ∙ taken_itself (is_spare (g.T.Pages.step c.front_page-left.new.t).spares right) right;
-      accepted = (λ i. is_page right (images i) (Interior middle.child (rest_of some 5 i))) ∙ is;
-      fits = all_back FitsSeparator some 5 (subst (AllByRecursion FitsSeparator) (sym value) c.requires.fits) _ (rest_of some 5);
+      accepted = (λ i. is_page right (images i) (Interior middle.child (rest_of some (c.ways_cut-cut.result + 1) i))) ∙ is;
+      fits = all_back FitsSeparator some (c.ways_cut-cut.result + 1) (subst (AllByRecursion FitsSeparator) (sym value) c.requires.fits) _ (rest_of some (c.ways_cut-cut.result + 1));
     }
 
 parted : (g : given.Over) (c : goal.After-put_ways-3 g) (pages : List (List ℕ)) → length pages ≡ length (g.T.Pages.step c.args.t.now).images
@@ -126,19 +126,19 @@ parted g c pages same =
     let s0 = c.args.draft.now.sheets.items in
     let s1 = c.put_ways-2.new.self.sheets.items in
     let s2 = c.put_ways-3.new.self.sheets.items in
-    let is : IsParted step between last s0 s1 s2 c.args.page left right (Interior c.args.first (take 4 some)) (Interior middle.child (drop 5 some)) = record {
+    let is : IsParted step between last s0 s1 s2 c.args.page left right (Interior c.args.first (take c.ways_cut-cut.result some)) (Interior middle.child (drop (c.ways_cut-cut.result + 1) some)) = record {
       front_takes = takes_over pages step0 between0 _ same c.front_page-left.ensures.takes;
       takes = takes_over pages between0 last0 _ same1 c.take_page-right.ensures.takes;
       own = reached_over pages between0 left same1 c.front_page-left.ensures.own;
       used = c.front_page-left.ensures.used;
       place = c.front_page-left.ensures.place;
-      front = drafted_over last0 pages same2 s0 s1 left (Interior c.args.first (take 4 some)) c.put_ways-2.ensures.sheets;
-      behind = drafted_over last0 pages same2 s1 s2 right (Interior middle.child (drop 5 some)) (subst (λ (zs : List Separator). IsDrafted last0 s1 s2 right (Interior middle.child zs)) (rest_of some 5) c.put_ways-3.ensures.sheets);
+      front = drafted_over last0 pages same2 s0 s1 left (Interior c.args.first (take c.ways_cut-cut.result some)) c.put_ways-2.ensures.sheets;
+      behind = drafted_over last0 pages same2 s1 s2 right (Interior middle.child (drop (c.ways_cut-cut.result + 1) some)) (subst (λ (zs : List Separator). IsDrafted last0 s1 s2 right (Interior middle.child zs)) (rest_of some (c.ways_cut-cut.result + 1)) c.put_ways-3.ensures.sheets);
     } in
     let small : right < 2 ^ 32 = omega arith in
     let ten : length some ≡ 10 = omega (arith, c.requires.separators.most, ap length c.as_slice-separators.ensures.value) in
-    ways_parted step between last s0 s1 s2 c.args.page left right c.args.first (length step0.images) c.args.separators.now.items some middle
-    c.as_slice-separators.ensures.value ten c.middle-middle.ensures.there is c.requires.separators.each c.requires.fits small
+    ways_parted step between last s0 s1 s2 c.args.page left right c.args.first (length step0.images) c.ways_cut-cut.result c.args.separators.now.items some middle
+    c.as_slice-separators.ensures.value ten c.ways_cut-cut.ensures.least c.ways_cut-cut.ensures.most c.middle-middle.ensures.there is c.requires.separators.each c.requires.fits small
 
 pub returns-clause-grown : goal.returns-clause-grown
 returns-clause-grown g c = λ pages same. (parted g c pages same).grown

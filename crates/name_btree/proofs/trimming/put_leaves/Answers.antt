@@ -44,8 +44,8 @@ join_pair-requires g c =
       pair = c.requires.pair;
     }
 
-pub returns-then-used-le-PAGE_ROOM : goal.returns-then-used-le-PAGE_ROOM
-returns-then-used-le-PAGE_ROOM g c = record {
+pub returns-then-whole-le-PAGE_ROOM : goal.returns-then-whole-le-PAGE_ROOM
+returns-then-whole-le-PAGE_ROOM g c = record {
   draft = c.join_pair.ensures.draft;
   put = inl (record {
     middle = c.put_leaf.new.self.sheets.items;
@@ -58,7 +58,7 @@ returns-then-used-le-PAGE_ROOM g c = record {
 -- ---- two leaves
 
 pub leaf_cut-requires : goal.leaf_cut-requires
-leaf_cut-requires g c = record { entries = c.requires.entries.each; order = c.requires.entries.ascend; many = omega arith; few = c.requires.most }
+leaf_cut-requires g c = record { entries = c.requires.entries.each; order = c.requires.entries.ascend; used = c.used-whole.ensures; many = omega arith; few = c.requires.most }
 
 pub put_leaf-requires-2 : goal.put_leaf-requires-2
 put_leaf-requires-2 g c =
