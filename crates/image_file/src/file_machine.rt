@@ -2,26 +2,21 @@
 ghost use Rattle.std.specs.Prelude.{◌≡◌, ◌*◌, ◌<◌, ◌≤◌, ◌^◌, length};
 ghost use Rattle.sector_disk.specs.Machine.{DeviceFault, UsesDisk, nothing, no_ledger};
 
-use crate::image::ImageFile;
-use crate::slot::{SLOT_BYTES, read_slot, slot_of};
-use sector_disk::{Attach, Failed, Machine, SECTOR_BYTES, Seen};
+use crate::disk::Disk;
+use sector_disk::{Attach, Failed, Machine, Seen};
 use std::fs::File;
-use std::io;
 use std::io::Read;
 use std::marker::Model;
 use std::rt::Files;
 
-// How many slots are given to the system at once.
-const SLOTS_AT_ONCE: usize = 8;
-
 /// The machine over a file of slots, standard input and standard output.
 ///
-/// Contracts see what it reports and no more. It answers for no content: `healing` and `settle` do nothing, as no run
-/// of sectors is weak by anything that it does.
+/// Contracts see what it reports and no more. It answers for no content: `healing` and `settle` only forget what was
+/// read ahead, as no run of sectors is weak by anything that it does.
 #[derive(Drop)]
 pub struct FileMachine<R: Files<File = File> + Input + Print + Drop> {
     rt: R,
-    image: Option<ImageFile>,
+    disk: Disk,
     sectors: u32,
     fault_place: u32,
     disk_faults: u64,
@@ -48,7 +43,7 @@ impl<R: Files<File = File> + Input + Print + Drop> FileMachine<R> {
     {
         FileMachine {
             rt,
-            image: None,
+            disk: Disk::new(),
             sectors: 0,
             fault_place: 0,
             disk_faults: 0,
@@ -67,41 +62,6 @@ impl<R: Files<File = File> + Input + Print + Drop> FileMachine<R> {
         self.disk_faults = self.disk_faults.saturating_add(1);
         Failed { place }
     }
-}
-
-// Reads a sector, where its slot is whole.
-fn read_at(image: &ImageFile, sector: u32) -> io::Result<Option<[u8; 512]>> {
-    let mut slot = [0; 520];
-    image.read(sector, &mut slot)?;
-    Ok(read_slot(sector, &slot))
-}
-
-// Writes the slots of sectors from one on, and has the system bring them to the disk.
-fn write_at(image: &ImageFile, sector: u32, bytes: &[u8]) -> io::Result<()> {
-    let mut first = sector;
-    for some in bytes.chunks(SECTOR_BYTES * SLOTS_AT_ONCE) {
-        first = write_slots(image, first, some)?;
-    }
-    image.sync()
-}
-
-// Writes the slots of a few sectors at once, and tells the sector behind them.
-fn write_slots(image: &ImageFile, first: u32, bytes: &[u8]) -> io::Result<u32>
-    requires { length bytes.now ≤ 4096 }
-{
-    let mut slots = [0; SLOT_BYTES * SLOTS_AT_ONCE];
-    let mut sector = first;
-    for (slot, b) in slots
-        .chunks_exact_mut(SLOT_BYTES)
-        .zip(bytes.chunks_exact(SECTOR_BYTES))
-    {
-        let mut whole = [0; 512];
-        whole.copy_from_slice(b);
-        slot.copy_from_slice(&slot_of(sector, &whole));
-        sector = sector.wrapping_add(1);
-    }
-    image.write(first, &slots[..bytes.len() / SECTOR_BYTES * SLOT_BYTES])?;
-    Ok(sector)
 }
 
 impl<R: Files<File = File> + Input + Print + Drop> Machine for FileMachine<R> {
@@ -132,10 +92,8 @@ impl<R: Files<File = File> + Input + Print + Drop> Machine for FileMachine<R> {
     ghost sized = { λ m never. absurd never };
 
     fn attach(&mut self, path: &str, how: Attach) -> Result<u32, Failed> {
-        self.image = None;
-        match ImageFile::attach(&self.rt, path, how) {
-            Ok((image, sectors)) => {
-                self.image = Some(image);
+        match self.disk.attach(&self.rt, path, how) {
+            Ok(sectors) => {
                 self.sectors = sectors;
                 Ok(sectors)
             }
@@ -144,34 +102,30 @@ impl<R: Files<File = File> + Input + Print + Drop> Machine for FileMachine<R> {
     }
 
     fn read(&mut self, sector: u32, buf: &mut [u8; 512]) -> Result<Seen, Failed> {
-        if let Some(image) = &self.image
-            && let Ok(seen) = read_at(image, sector)
-        {
-            return match seen {
-                Some(b) => {
-                    *buf = b;
-                    Ok(Seen::Whole)
-                }
-                None => Ok(Seen::Damaged),
-            };
+        match self.disk.read(self.sectors, sector) {
+            Ok(Some(b)) => {
+                *buf = b;
+                Ok(Seen::Whole)
+            }
+            Ok(None) => Ok(Seen::Damaged),
+            Err(_) => Err(self.disk_fault(sector)),
         }
-        Err(self.disk_fault(sector))
     }
 
     fn write(&mut self, sector: u32, bytes: &[u8]) -> Result<(), Failed> {
-        if let Some(image) = &self.image
-            && let Ok(()) = write_at(image, sector, bytes)
-        {
-            return Ok(());
+        match self.disk.write(sector, bytes) {
+            Ok(()) => Ok(()),
+            Err(_) => Err(self.disk_fault(sector)),
         }
-        Err(self.disk_fault(sector))
     }
 
     fn healing(&mut self) -> Result<(), Failed> {
+        self.disk.turn();
         Ok(())
     }
 
     fn settle(&mut self) -> Result<(), Failed> {
+        self.disk.turn();
         Ok(())
     }
 

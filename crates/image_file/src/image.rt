@@ -80,9 +80,9 @@ impl ImageFile {
         Ok(ImageFile { file })
     }
 
-    /// Reads the slot of a sector.
-    pub(crate) fn read(&self, sector: u32, slot: &mut [u8; SLOT_BYTES]) -> io::Result<()> {
-        self.file.read_exact_at(slot, start_of(sector))
+    /// Reads slots from that of a sector on.
+    pub(crate) fn read(&self, sector: u32, slots: &mut [u8]) -> io::Result<()> {
+        self.file.read_exact_at(slots, start_of(sector))
     }
 
     /// Writes slots from that of a sector on.

@@ -14,6 +14,11 @@
 //! the null device from then on, opened so that a read of it or a write to it still fails. That the image's file is
 //! none of them is proved of the number that it was opened under.
 //!
+//! **Read ahead.** A read of a sector whose slot is not in memory reads some slots at once, and more where it goes on
+//! behind others; reads of these ask the file no more, until they are written, or a window begins or ends (`attach`,
+//! `healing`, `settle`). A sector that has become damaged meanwhile is read as such later in the same window, so what an
+//! honest disk does is what an honest machine may do.
+//!
 //! **What is trusted.** `FileMachine` meets the contract of `Machine` and tells nothing of content: no contract can say
 //! what a file, a disk or a terminal gives or takes. That slots are spelled and read as they should be is proved; these
 //! are taken on trust, and tried on a real file by the tests:
@@ -26,9 +31,12 @@
 //! - the input's bytes come and the console's go in order.
 #![tactic(auto)]
 
+mod ahead;
+mod disk;
 mod file_machine;
 mod image;
 mod slot;
+mod stretch;
 
 pub use file_machine::FileMachine;
 pub use slot::{SLOT_BYTES, read_slot, slot_of};
