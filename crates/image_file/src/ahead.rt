@@ -10,12 +10,12 @@ use std::io;
 // Slots that are read at once where no stretch ends; else there are MOST_SLOTS of them.
 const FEW_SLOTS: u32 = 8;
 
-/// Two stretches: so two places of the file are read in turn.
+/// Two stretches, so that two places of the file may be read in turn.
 #[derive(Drop)]
 pub(crate) struct Ahead {
     one: Stretch,
     other: Stretch,
-    // the first was read last
+    // Whether `one` was read last.
     is_one: bool,
 }
 
@@ -39,7 +39,7 @@ impl Ahead {
         self.other.clear();
     }
 
-    /// Drops those that may be of so many sectors from one on.
+    /// Drops each stretch that has one of so many sectors.
     pub(crate) fn drop_at(&mut self, first: u32, count: usize)
         ensures { AreApart first count self.new }
     {
@@ -47,7 +47,7 @@ impl Ahead {
         self.other.drop_at(first, count);
     }
 
-    /// Reads the slot of a sector of an image with so many, with those behind it where it was not there.
+    /// Gives the slot of a sector of an image with so many; where it is not there, some are read from it on.
     pub(crate) fn read(
         &mut self,
         image: &ImageFile,

@@ -4,16 +4,13 @@ ghost use Rattle.sector_disk.specs.Machine.{GivesAsked};
 ghost use Rattle.image_file.specs.Ahead.{AreApart, HasNone};
 
 use crate::ahead::Ahead;
-use crate::image::ImageFile;
+use crate::image::{ImageFile, SLOTS_AT_ONCE};
 use crate::slot::{SLOT_BYTES, read_slot, slot_of};
 use sector_disk::{Attach, SECTOR_BYTES};
 use std::fs::File;
 use std::io;
 use std::io::ErrorKind;
 use std::rt::Files;
-
-// How many slots are given to the system at once.
-const SLOTS_AT_ONCE: usize = 8;
 
 /// The image that is attached, if one is, with what was read ahead of it.
 #[derive(Drop)]

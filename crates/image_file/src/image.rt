@@ -14,6 +14,12 @@ use std::rt::Files;
 
 const NULL_DEVICE: &str = "/dev/null";
 
+/// How many slots are given to the system at once.
+pub(crate) const SLOTS_AT_ONCE: usize = 8;
+
+// A format writes no more slots than these: 16 in front of the log, and both homes of 4096 pages.
+const MOST_FORMATTED: u32 = 8208;
+
 /// The open file of an image. It is locked for this opening alone, until it is dropped.
 #[derive(Drop)]
 pub(crate) struct ImageFile {
@@ -38,8 +44,9 @@ fn slots_in(bytes: u64) -> u32
 
 impl ImageFile {
     /// Finds the image at a path, or makes one of slots of zeros in the place of any file that is there, and tells its
-    /// number of sectors. A file that another opening has locked is not read or changed, nor is one that has no room to
-    /// grow past its own bytes and to those of the new image.
+    /// number of sectors. A file that another opening has locked is not read or changed. One that is there keeps its
+    /// bytes where it may not grow past them and to those of the new image, or where its file system has no room for
+    /// what a format writes beside them.
     pub(crate) fn attach<R: Files<File = File>>(
         rt: &R,
         path: &str,
@@ -56,11 +63,7 @@ impl ImageFile {
             }
             Attach::New(sectors) => {
                 let image = ImageFile::open(rt, path, true)?;
-                let least = image.file.metadata()?.len().saturating_add(1);
-                image.file.set_len(start_of(sectors).max(least))?;
-                image.file.set_len(0)?;
-                image.file.set_len(start_of(sectors))?;
-                image.file.sync_all()?;
+                image.renew(sectors)?;
                 Ok((image, sectors))
             }
         }
@@ -78,6 +81,35 @@ impl ImageFile {
         }
         file.try_lock()?;
         Ok(ImageFile { file })
+    }
+
+    // Makes it a file of so many slots of zeros. Where that has no room it keeps its bytes.
+    fn renew(&self, sectors: u32) -> io::Result<()> {
+        let old = self.file.metadata()?.len();
+        if let Err(error) = self.take_room(old, sectors) {
+            let _ = self.file.set_len(old);
+            return Err(error);
+        }
+        self.file.set_len(0)?;
+        self.file.set_len(start_of(sectors))?;
+        self.file.sync_all()
+    }
+
+    // Sees that a file of so many bytes may grow, and, where it has any, that there is room behind them for what a format
+    // of so many sectors writes. The room is free again once the file is emptied.
+    fn take_room(&self, old: u64, sectors: u32) -> io::Result<()> {
+        self.file
+            .set_len(start_of(sectors).max(old.saturating_add(1)))?;
+        if old == 0 {
+            return Ok(());
+        }
+        let zeros = [0; SLOT_BYTES * SLOTS_AT_ONCE];
+        let mut end = old;
+        for _ in 0..=sectors.min(MOST_FORMATTED) / SLOTS_AT_ONCE as u32 {
+            self.file.write_all_at(&zeros, end)?;
+            end = end.saturating_add(zeros.len() as u64);
+        }
+        self.sync()
     }
 
     /// Reads slots from that of a sector on.

@@ -10,6 +10,10 @@
 //! a byte; where another opening has it locked, the attach fails. The lock lasts until the machine attaches again or is
 //! dropped. A file system that has no such lock can keep no image.
 //!
+//! **A new image in the place of an old one.** The file grows first, and takes room behind its bytes for what a format
+//! writes; where either fails it is cut back, and has the old image. Only then is it emptied, and a call that fails
+//! behind that leaves no image.
+//!
 //! **Never standard input, output or error.** An attach first sees that these three are open. One that was closed is on
 //! the null device from then on, opened so that a read of it or a write to it still fails. That the image's file is
 //! none of them is proved of the number that it was opened under.
@@ -27,6 +31,7 @@
 //! - what the system has synced is on the disk, and a new file is found again under its name;
 //! - a write that fails or is stopped has put some first slots of it, and no more of them are damaged, a torn one among
 //!   them, than the open windows allow;
+//! - a file that grows, is written behind its end and cut back to its length has the bytes that it had;
 //! - a file that is opened gets a number that is free, and one that stays open keeps it;
 //! - the input's bytes come and the console's go in order.
 #![tactic(auto)]

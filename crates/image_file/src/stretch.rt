@@ -6,15 +6,15 @@ use crate::image::ImageFile;
 use crate::slot::SLOT_BYTES;
 
 /// Slots that there is room for.
-pub(crate) const MOST_SLOTS: u32 = 64;
+pub(crate) const MOST_SLOTS: u32 = 31;
 
-/// Adjacent slots as the file gave them, from that of the sector `first` on, so many:
-/// there is room for 64.
+/// Adjacent slots as the file gave them, from that of the sector `first` on, so many: there is room for 31, which is
+/// less than 16 KiB, since a machine lies on the stack.
 #[derive(Drop)]
 pub(crate) struct Stretch {
     first: u32,
     count: u32,
-    slots: [u8; 33280],
+    slots: [u8; 16120],
 }
 
 impl Stretch {
@@ -25,7 +25,7 @@ impl Stretch {
         Stretch {
             first: 0,
             count: 0,
-            slots: [0; 33280],
+            slots: [0; 16120],
         }
     }
 
@@ -49,7 +49,7 @@ impl Stretch {
 
     /// Has these slots in the place of those that it had, or none where the file doesn't give them.
     pub(crate) fn fill(&mut self, image: &ImageFile, first: u32, count: u32)
-        requires { count ≤ 64 }
+        requires { count ≤ 31 }
         ensures { (self.new.count ≡ 0) ⊎ ((self.new.first ≡ first) × (self.new.count ≡ count)) }
     {
         self.count = 0;
