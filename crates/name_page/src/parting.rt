@@ -1,10 +1,12 @@
 //! What is too much for one page, in two.
-ghost use Rattle.std.specs.Prelude.{◌≡◌, ◌<◌, ◌≤◌, ◌+◌, ◌&&◌, ℕ, Some, true, false, length, take, drop, nat_lt, slice_get};
+ghost use Rattle.std.specs.Prelude.{◌≡◌, ◌<◌, ◌≤◌, ◌+◌, ◌-◌, ◌&&◌, ℕ, Some, true, false, length, take, drop, nat_lt, slice_get};
 ghost use Rattle.std.specs.List.{flat_map, list_all};
 ghost use Rattle.fsd_bytes.specs.Keys.{is_key};
 ghost use Rattle.fsd_formats.specs.NamePage.{is_entry, are_ascending, entry_bytes, room};
 ghost use Rattle.fsd_table.specs.Pages.{entry_keys, separator_keys};
-ghost use Rattle.name_page.specs.Parting.{AreLeaves, AreInteriors};
+ghost use Rattle.fsd_formats.specs.declared.entry.Entry.{Entry};
+ghost use Rattle.name_page.specs.declared.parting.Fuller.TheVariants.{Neither};
+ghost use Rattle.name_page.specs.Parting.{AreLeaves, AreInteriors, fuller_by};
 ghost use Rattle.name_page.specs.declared.writing.TheConstants.{LEAST_USED, PAGE_ROOM};
 
 use crate::node::Entries;
@@ -22,7 +24,10 @@ pub enum Fuller {
 
 /// The part that is to be the fuller one, once an entry comes to those of a leaf: one that comes last begins the part
 /// that is to grow, as the next ones do where keys come in order.
-pub fn fuller_with(entries: &Entries, key: &Key) -> Fuller {
+pub fn fuller_with(entries: &Entries, key: &Key) -> Fuller
+    ensures ends { (first last : Entry) → slice_get entries.now 0 ≡ Some first → slice_get entries.now (length entries.now - 1) ≡ Some last → result ≡ fuller_by first last key.now }
+    ensures none { length entries.now ≡ 0 → result ≡ Neither }
+{
     let count = entries.len();
     if count == 0 {
         return Fuller::Neither;
