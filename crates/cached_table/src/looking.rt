@@ -62,6 +62,7 @@ impl CachedTable {
         ensures looks { LooksOnly M.Machine S.PageSource source.now (outer_told result) m.old m.new self.old.cache self.new.cache self.old.free_pages }
         ensures free { self.new.free_pages ≡ self.old.free_pages }
         ensures page { IfOk result (λ found. IfSome found (λ f. f.page < length self.old.free_pages)) }
+        ensures entry { IfOk result (λ found. IfSome found (λ f. is_entry f.entry ≡ true)) }
         ensures later { IfOk result (λ found. IfSome found (λ f. is_after (option_copied after.entry) f.entry.key ≡ true)) }
         ensures way { IfOk result (λ found. IfSome found (λ f. (pages : List (List ℕ)) → HavePages self.new.cache (length self.old.free_pages) pages → LeadsTo pages f)) }
         ensures absent { IfOk result (λ found. IfNone found ((pages : List (List ℕ)) → HavePages self.new.cache (length self.old.free_pages) pages → Reaches (LacksLater (option_copied after.entry)) pages)) }

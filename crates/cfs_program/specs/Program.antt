@@ -38,6 +38,7 @@ reply_statuses (Word.Put name bytes keep) = 0 ∷ 1 ∷ []
 reply_statuses (Word.Delete key) = 0 ∷ 1 ∷ []
 reply_statuses (Word.Keep name keep) = 0 ∷ 1 ∷ []
 reply_statuses (Word.Get key) = 0 ∷ 1 ∷ 8 ∷ []
+reply_statuses Word.Scrub = 0 ∷ 8 ∷ []
 reply_statuses command = 0 ∷ []
 
 -- where no call of the outside fails

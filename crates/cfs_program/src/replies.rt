@@ -1,7 +1,7 @@
 //! How replies are said.
 ghost use Rattle.std.specs.Prelude.{◌≡◌, ◌++◌, IfOk, length};
 ghost use Rattle.std.specs.List.{flat_map};
-ghost use Rattle.fsd_runs.specs.Commands.{reply_text, version_line};
+ghost use Rattle.fsd_runs.specs.Commands.{found_text, reply_text, version_line};
 ghost use Rattle.fsd_texts.specs.declared.line.Line.TheVariants as Lines;
 ghost use Rattle.fsd_texts.specs.Text.{newline, text};
 ghost use Rattle.volume_turns.specs.Steps.{reply_of};
@@ -75,6 +75,7 @@ fn text_of(alloc: Global, answer: &Answer) -> Result<Vec<u8>, AllocError>
         }
         Answer::Forced => line_text(alloc, &Line::Forced),
         Answer::Counts(stat) => line_text(alloc, &stat_line(stat)),
+        Answer::Scrubbed { found, healed } => scrub_text(alloc, found.as_slice(), *healed),
     }
 }
 
@@ -87,6 +88,29 @@ fn stat_line(stat: &Stat) -> Line
         pages: stat.pages_free,
         versions: stat.versions,
     }
+}
+
+// The damaged data sectors, a line for each, and the numbers of those healed and of these, which is one of 32 bits.
+fn scrub_text(alloc: Global, found: &[(Key, u32)], healed: u32) -> Result<Vec<u8>, AllocError>
+    ensures { IfOk result (λ said. said.items ≡ found_text found.now ++ text (Lines.Scrubbed healed (length found.now))) }
+{
+    let Ok(damaged) = u32::try_from(found.len()) else {
+        return Err(AllocError);
+    };
+    let mut said = damage_text(alloc, found)?;
+    say_line(&Line::Scrubbed { healed, damaged }, &mut said)?;
+    Vec::from_slice(alloc, said.as_slice())
+}
+
+fn damage_text(alloc: Global, found: &[(Key, u32)]) -> Result<Bytes, AllocError>
+    ensures { IfOk result (λ said. said ≡ found_text found.now) }
+{
+    let mut said = Bytes::new(alloc);
+    for x in found {
+        let key = x.0.copied();
+        say_line(&Line::Damaged { key, sector: x.1 }, &mut said)?;
+    }
+    Ok(said)
 }
 
 // The text of one line.

@@ -14,7 +14,7 @@ struct Row<'a> {
     options: &'a [&'a str],
 }
 
-const ROWS: [Row<'static>; 9] = [
+const ROWS: [Row<'static>; 10] = [
     Row {
         name: "format",
         positionals: &["image", "n", "t", "p"],
@@ -47,6 +47,11 @@ const ROWS: [Row<'static>; 9] = [
     },
     Row {
         name: "stat",
+        positionals: &["image"],
+        options: &[],
+    },
+    Row {
+        name: "scrub",
         positionals: &["image"],
         options: &[],
     },

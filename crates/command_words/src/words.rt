@@ -82,6 +82,7 @@ fn read_fields(name: &str, fields: &ArgMatches<'_>) -> Result<Request, Cause>
         "delete" => Ok(Request::One(Command::Delete(key_of(field(fields, "key"))?))),
         "keep" => read_keep(fields),
         "stat" => Ok(Request::One(Command::Stat)),
+        "scrub" => Ok(Request::One(Command::Scrub)),
         "script" => Ok(Request::Script),
         "generate" => read_generate(fields),
         _ => Ok(Request::Outside),

@@ -4,7 +4,9 @@ pub mod CountLaws
 pub mod FreshLaws
 pub mod HistoryLaws
 pub mod KeptLaws
+pub mod LeaderLaws
 pub mod ListingLaws
+pub mod ScrubLaws
 pub mod WaitExamples
 pub mod WaitLaws
 pub mod WearLaws

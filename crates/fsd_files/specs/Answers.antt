@@ -20,7 +20,7 @@ use Rattle.fsd_formats.specs.NamePage.{max_keep, max_length, sectors_for}
 use Rattle.fsd_files.specs.Disk.{Image, Sectors, Has}
 use Rattle.fsd_files.specs.Files.{File, Change, step, new_key, new_keep, gone_keys}
 use Rattle.fsd_files.specs.Kept.{FirstDamaged, IsWhole, KeptIn, range_sectors}
-use Rattle.fsd_files.specs.Replies.{Reply, Refused, Made, Deleted, Kept, Listed, Bytes, DamagedAt, Forced, Counts, Found}
+use Rattle.fsd_files.specs.Replies.{Reply, Refused, Made, Deleted, Kept, Listed, Bytes, DamagedAt, Forced, Counts, Scrubbed, Found}
 use Rattle.fsd_files.specs.Volume.{Volume, plans_of, free_runs, free_count, waiting_count, pages_free, place_for, forced, forced_for_place, forced_if, drawn, entries_at, entries_without}
 
 -- a reply, and the volume as it leaves it
@@ -31,11 +31,14 @@ abbrev pub refused : Volume → Refusal → Outcome
 refused v why = (Refused why, v)
 
 -- What a command meets that neither its words nor the volume determine: whether the volume forces by itself on the way,
--- how many pages the table has once a change is made, and the first damaged sector, if one of those that it reads is.
+-- how many pages the table has once a change is made, and the first damaged sector, if one of those that it reads is; of
+-- a scrub the data sectors that read damaged, and how many others it heals.
 pub record Met : Type 0 where
   pub forces : Bool
   pub reached : ℕ
   pub damaged : Option ℕ
+  pub found : List (Key × ℕ)
+  pub healed : ℕ
 
 -- ---- entries in the order of their keys
 
@@ -172,6 +175,10 @@ keep_outcome met v name keep =
 
 abbrev pub force_outcome : Volume → Outcome
 force_outcome v = (Forced, forced v)
+
+-- all is forced before a sector is looked at
+abbrev pub scrub_outcome : Met → Volume → Outcome
+scrub_outcome met v = (Scrubbed met.found met.healed, forced v)
 
 -- ---- what changes nothing
 

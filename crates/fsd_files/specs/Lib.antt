@@ -3,6 +3,7 @@ pub mod Disk
 pub mod Files
 pub mod Kept
 pub mod Replies
+pub mod Scrub
 pub mod Space
 pub mod Volume
 pub mod Waiting

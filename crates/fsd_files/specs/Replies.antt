@@ -15,5 +15,7 @@ pub data Reply : Type 0 where
   DamagedAt : Key → (sector : ℕ) → Reply
   Forced : Reply
   Counts : (free waiting pages versions : ℕ) → Reply
+  -- the data sectors that read damaged, each with its version's key, and how many others were healed
+  Scrubbed : (found : List (Key × ℕ)) → (healed : ℕ) → Reply
   -- one version's entry, or that no later one is there
   Found : Option Entry → Reply

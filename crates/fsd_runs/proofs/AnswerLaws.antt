@@ -21,6 +21,7 @@ use Rattle.fsd_files.specs.Disk.{Image}
 use Rattle.fsd_files.specs.Files.{Change, File, Files, step}
 use Rattle.fsd_files.specs.Kept.{range_sectors}
 use Rattle.fsd_files.specs.Replies.{Reply}
+use Rattle.fsd_files.specs.Scrub.{Picks, all_data}
 use Rattle.fsd_files.specs.Volume.{Volume, HasReach, forced, forced_if, forced_for_place, drawn, place_for}
 use Rattle.fsd_texts.specs.declared.command.Command.{Command}
 use Rattle.fsd_texts.specs.declared.command.Command.TheVariants as Word
@@ -119,6 +120,7 @@ does met v (Word.Get key) = still met v (Word.Get key) (answer met v (Word.Get k
 does met v Word.Force = still met v Word.Force (answer met v Word.Force) refl (same_forced true v)
 does met v Word.Tick = still met v Word.Tick (answer met v Word.Tick) refl (same_forced true v)
 does met v Word.Stat = still met v Word.Stat (answer met v Word.Stat) refl (same_itself v)
+does met v Word.Scrub = still met v Word.Scrub (answer met v Word.Scrub) refl (same_forced true v)
 
 -- ---- the files
 
@@ -155,6 +157,7 @@ pub forces_all : (met : Met) (v : Volume) (command : Command) → is_forced (ans
 forces_all met v Word.Force e = refl
 forces_all met v Word.Tick e = refl
 forces_all met v Word.Stat e = absurd cc
+forces_all met v Word.Scrub e = absurd cc
 forces_all met v (Word.List pattern) e = absurd cc
 forces_all met v (Word.Get key) e = absurd (by (find key_cmp key v.files) met.damaged e)
   where
@@ -269,16 +272,29 @@ finds_in i v key = by (entry_of key v.entries)
     by None = (None, tt)
     by (Some e) = finds i (range_sectors e.runs 0 e.length)
 
-may_find : (i : Image) (v : Volume) (command : Command) → (damaged : Option ℕ) × MayFind i i v command (record { forces = false; reached = 1; damaged = damaged })
-may_find i v (Word.Get key) = finds_in i v key
-may_find i v command = (None, tt)
+picks : (i : Image) (all : List (Key × ℕ)) → (found : List (Key × ℕ)) × Picks i i all found
+picks i [] = ([], refl)
+picks i (x ∷ all) = by (sector_at i x.1) refl (picks i all)
+  where
+    by : (s : Sector) → sector_at i x.1 ≡ s → (found : List (Key × ℕ)) × Picks i i all found → (found : List (Key × ℕ)) × Picks i i (x ∷ all) found
+    by Damaged is (found, rest) = (x ∷ found, inr (found, refl, is, rest))
+    by (Whole bytes) is (found, rest) = (found, inl ((bytes, is), rest))
+
+-- what it meets where no force comes by itself and the table has one page then
+abbrev met_with : Option ℕ → List (Key × ℕ) → Met
+met_with damaged found = record { forces = false; reached = 1; damaged = damaged; found = found; healed = 0 }
+
+may_find : (i : Image) (v : Volume) (command : Command) → (damaged : Option ℕ) × (found : List (Key × ℕ)) × MayFind i i v command (met_with damaged found)
+may_find i v (Word.Get key) = let at = finds_in i v key in (at.0, [], at.1)
+may_find i v Word.Scrub = let at = picks i (all_data v.entries) in (None, at.0, at.1)
+may_find i v command = (None, [], tt)
 
 pub some_answer : (i : Image) (v : Volume) (command : Command) → HasReach v → (met : Met) × MayMeet i i v command met
 some_answer i v command reach = by (may_find i v command)
   where
-    by : (damaged : Option ℕ) × MayFind i i v command (record { forces = false; reached = 1; damaged = damaged }) → (met : Met) × MayMeet i i v command met
-    by (damaged, find) =
-        let met : Met = record { forces = false; reached = 1; damaged = damaged } in
+    by : (damaged : Option ℕ) × (found : List (Key × ℕ)) × MayFind i i v command (met_with damaged found) → (met : Met) × MayMeet i i v command met
+    by (damaged, found, find) =
+        let met = met_with damaged found in
         (met, record { find = find; reach = reached met refl (does met v command) })
       where
         reached : (met : Met) → met.reached ≡ 1 → Does met v command (answer met v command) → HasReach (answer met v command).1

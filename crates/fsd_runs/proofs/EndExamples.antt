@@ -55,7 +55,7 @@ one_waits = refl
 -- ---- a force by itself
 
 abbrev forcing : Met
-forcing = record { forces = true; reached = 1; damaged = None }
+forcing = record { forces = true; reached = 1; damaged = None; found = []; healed = 0 }
 
 abbrev three : List Command
 three = Word.Put (codes "a") (codes "x") None ∷ Word.Delete (key_of (codes "a") 1) ∷ Word.Put (codes "b") (codes "y") None ∷ Word.Stat ∷ []
@@ -78,7 +78,7 @@ not_behind_one = refl
 -- ---- a damaged sector
 
 abbrev finds_922 : Met
-finds_922 = record { forces = false; reached = 1; damaged = Some 922 }
+finds_922 = record { forces = false; reached = 1; damaged = Some 922; found = []; healed = 0 }
 
 abbrev gets : Errand
 gets = scripted (Word.Put (codes "a") (codes "x") None ∷ Word.Get (key_of (codes "a") 1) ∷ Word.Stat ∷ [], Done)

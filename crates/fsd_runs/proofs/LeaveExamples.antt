@@ -198,7 +198,7 @@ put_and_get = record {
 -- ---- runs that can't
 
 -- a version that was just made is kept as the next command begins, so it can't be called damaged by an older image
-an_older_image_keeps_not : IsStep nowhere at_any [] mounted mounted after_put get_a (record { forces = false; reached = 1; damaged = Some 922 }) → ⊥
+an_older_image_keeps_not : IsStep nowhere at_any [] mounted mounted after_put get_a (record { forces = false; reached = 1; damaged = Some 922; found = []; healed = 0 }) → ⊥
 unfolding mounted
 an_older_image_keeps_not step = by step.kept.0.0
   where
@@ -217,5 +217,5 @@ other_pages_are_refused step =
     reached (Some t) = t.reached
 
 -- no table has more pages than its versions and one
-too_many_pages : IsStep nowhere at_any [] mounted with_a default put_a (record { forces = false; reached = 3; damaged = None }) → ⊥
+too_many_pages : IsStep nowhere at_any [] mounted with_a default put_a (record { forces = false; reached = 3; damaged = None; found = []; healed = 0 }) → ⊥
 too_many_pages step = let most = step.may.reach.most in omega (arith, most)

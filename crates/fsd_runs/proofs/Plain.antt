@@ -11,7 +11,7 @@ use Rattle.fsd_runs.specs.Errands.{Errand, scripted}
 use Rattle.fsd_runs.specs.Runs.{turns_of, said_in}
 
 abbrev pub plain : Met
-plain = record { forces = false; reached = 1; damaged = None }
+plain = record { forces = false; reached = 1; damaged = None; found = []; healed = 0 }
 
 -- right behind the first mount after a format
 abbrev pub fresh : (n t p : ℕ) → Volume

@@ -5,12 +5,14 @@ use Rattle.std.specs.Prelude.{replicate}
 use Rattle.fsd_bytes.specs.declared.refusal.Refusal.TheVariants.{TooLong, NoSpace}
 use Rattle.fsd_bytes.specs.Keys.{key_of}
 use Rattle.run_table.specs.RunTable.{run_of}
-use Rattle.fsd_files.specs.Answers.{no_place, size_fault}
+use Rattle.fsd_files.specs.Answers.{Met, no_place, size_fault}
 use Rattle.fsd_files.specs.Volume.{Volume, free_count}
 use Rattle.fsd_texts.specs.declared.command.Command.TheVariants as Word
 use Rattle.fsd_texts.specs.Text.{newline}
-use Rattle.fsd_runs.specs.Errands.{alone}
-use Rattle.fsd_runs.proofs.Plain.{behind, default, lines, says, script_says}
+use Rattle.fsd_runs.specs.Commands.{answer}
+use Rattle.fsd_runs.specs.Errands.{alone, reply_status}
+use Rattle.fsd_runs.specs.Runs.{said_in, turns_of}
+use Rattle.fsd_runs.proofs.Plain.{behind, default, lines, plain, says, script_says}
 
 fresh_count : free_count default ≡ 1127
 fresh_count = refl
@@ -75,6 +77,20 @@ keeps_and_lists = refl
 -- a get by itself says the bytes alone
 bytes_alone : says (alone (Word.Get (key_of (codes "a") 1))) (behind default (Word.Put (codes "a") (codes "hi") None ∷ [])) ≡ codes "hi"
 bytes_alone = refl
+
+-- a scrub by itself names the damaged data sectors by key, and counts what it has healed
+abbrev scrub_met : Met
+scrub_met = record plain { found = (key_of (codes "g") 1, 923) ∷ []; healed = 1 }
+
+scrub_says : said_in (turns_of (alone Word.Scrub) (scrub_met ∷ []) default) ≡ lines (codes "damaged g!1 923" ∷ codes "scrubbed healed 1 damaged 1" ∷ [])
+unfolding digits
+scrub_says = refl
+
+scrub_status : reply_status (answer scrub_met default Word.Scrub).0 ≡ 8
+scrub_status = refl
+
+scrub_well : reply_status (answer plain default Word.Scrub).0 ≡ 0
+scrub_well = refl
 
 -- ---- lines that are no commands
 

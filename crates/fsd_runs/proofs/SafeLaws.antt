@@ -30,6 +30,8 @@ EndsOtherwise e = (done : List Answered) → NotThree (e.ends done).status
 
 reply_otherwise : (reply : Reply) → NotThree (reply_status reply)
 reply_otherwise (Reply.Refused why) e = absurd (omega (arith, e))
+reply_otherwise (Reply.Scrubbed [] healed) e = absurd (omega (arith, e))
+reply_otherwise (Reply.Scrubbed (x ∷ found) healed) e = absurd (omega (arith, e))
 reply_otherwise reply e = absurd (omega (arith, e))
 
 alone_otherwise : (command : Command) → EndsOtherwise (alone command)

@@ -147,10 +147,11 @@ asks_for_help_with_all : request_of (codes "cfs" ∷ codes "get" ∷ codes "v" �
 unfolding clap_on_literals
 asks_for_help_with_all = refl
 
--- the words of later requests
-scrubs_not_yet : request_of (codes "cfs" ∷ codes "scrub" ∷ codes "v" ∷ []) ≡ Outside
+a_scrub : request_of (codes "cfs" ∷ codes "scrub" ∷ codes "v" ∷ []) ≡ One Word.Scrub
 unfolding clap_on_literals
-scrubs_not_yet = refl
+a_scrub = refl
+
+-- the words of later requests
 
 drills_not_yet : request_of (codes "cfs" ∷ codes "drill" ∷ []) ≡ Outside
 unfolding clap_on_literals

@@ -1,12 +1,14 @@
 -- Commands and replies: what a volume answers, what is said of it, and what it changed.
 use Rattle.std.specs.Prelude.{ℕ, Bool, true, false, not, List, [], ◌∷◌, ◌++◌, length, is_none, nat_lt, ⊤}
 use Rattle.std.specs.List.{flat_map}
+use Rattle.fsd_bytes.specs.declared.key.Key.{Key}
 use Rattle.fsd_formats.specs.declared.entry.Entry.{Entry}
 use Rattle.fsd_formats.specs.NamePage.{max_keep, sectors_for}
-use Rattle.fsd_files.specs.Answers.{Met, Outcome, put_outcome, delete_outcome, keep_outcome, force_outcome, stat_reply, list_reply, get_reply, keep_given, size_fault, FindsIn}
+use Rattle.fsd_files.specs.Answers.{Met, Outcome, put_outcome, delete_outcome, keep_outcome, force_outcome, scrub_outcome, stat_reply, list_reply, get_reply, keep_given, size_fault, FindsIn}
 use Rattle.fsd_files.specs.Disk.{Image}
 use Rattle.fsd_files.specs.Files.{Change}
-use Rattle.fsd_files.specs.Replies.{Reply, Refused, Made, Deleted, Kept, Listed, Bytes, DamagedAt, Forced, Counts, Found}
+use Rattle.fsd_files.specs.Replies.{Reply, Refused, Made, Deleted, Kept, Listed, Bytes, DamagedAt, Forced, Counts, Scrubbed, Found}
+use Rattle.fsd_files.specs.Scrub.{Picks, all_data}
 use Rattle.fsd_files.specs.Volume.{Volume, HasReach}
 use Rattle.fsd_texts.specs.declared.command.Command.{Command}
 use Rattle.fsd_texts.specs.declared.command.Command.TheVariants as Word
@@ -26,6 +28,7 @@ answer met v (Word.Get key) = (get_reply met v key, v)
 answer met v Word.Force = force_outcome v
 answer met v Word.Tick = force_outcome v
 answer met v Word.Stat = (stat_reply v, v)
+answer met v Word.Scrub = scrub_outcome met v
 
 -- A mount that is worn out refuses what would change something, where no refusal comes before this one.
 abbrev pub may_wear_out : Command → Bool
@@ -37,6 +40,7 @@ may_wear_out command = false
 -- what may read as damaged, between these images
 abbrev pub MayFind : Image → Image → Volume → Command → Met → Type 0
 MayFind i j v (Word.Get key) met = FindsIn i j v key met.damaged
+MayFind i j v Word.Scrub met = Picks i j (all_data v.entries) met.found
 MayFind i j v command met = ⊤
 
 -- What a command may meet: what it reads, and the pages of the table then.
@@ -56,6 +60,10 @@ changes_of command reply = []
 abbrev pub version_line : Entry → Line
 version_line e = Says.Version e.key e.length (sectors_for e.length) e.keep
 
+-- the damaged sectors that a scrub has found
+abbrev pub found_text : List (Key × ℕ) → List ℕ
+found_text found = flat_map (λ x. text (Says.Damaged x.0 x.1)) found
+
 -- what a script says of a reply
 abbrev pub reply_text : Reply → List ℕ
 reply_text (Refused why) = text (Says.Refused why)
@@ -67,6 +75,7 @@ reply_text (Bytes key bytes) = text (Says.Bytes key (length bytes)) ++ bytes ++ 
 reply_text (DamagedAt key s) = text (Says.Damaged key s)
 reply_text Forced = text Says.Forced
 reply_text (Counts free waiting pages versions) = text (Says.Stat free waiting pages versions)
+reply_text (Scrubbed found healed) = found_text found ++ text (Says.Scrubbed healed (length found))
 -- no command of a script is answered so
 reply_text (Found e) = []
 

@@ -1,7 +1,7 @@
 -- What a run does over the volume that it has mounted, by what the words ask for.
 use Rattle.std.specs.Prelude.{ℕ, Bool, true, false, List, [], ◌∷◌, length, take, Option, Some, None, sum_by, nat_lt, if◌then◌else◌}
 use Rattle.fsd_files.specs.Files.{Change}
-use Rattle.fsd_files.specs.Replies.{Reply, Refused, Made, Deleted, Kept, Bytes, DamagedAt, Forced}
+use Rattle.fsd_files.specs.Replies.{Reply, Refused, Made, Deleted, Kept, Bytes, DamagedAt, Forced, Scrubbed}
 use Rattle.fsd_texts.specs.declared.command.Command.{Command}
 use Rattle.fsd_texts.specs.declared.command.Command.TheVariants as Word
 use Rattle.fsd_texts.specs.declared.fault.Fault.{Fault}
@@ -73,6 +73,7 @@ fault_status Ends.WornOut = 9
 abbrev pub reply_status : Reply → ℕ
 reply_status (Refused why) = 1
 reply_status (DamagedAt key s) = 8
+reply_status (Scrubbed (x ∷ found) healed) = 8
 reply_status other = 0
 
 -- a fault, with nothing forced

@@ -39,6 +39,7 @@ cfs = record {
       ∷ subcommand (codes "delete") (image ∷ positional (codes "key") ∷ [])
       ∷ subcommand (codes "keep") (image ∷ positional (codes "name") ∷ positional (codes "k") ∷ [])
       ∷ subcommand (codes "stat") (image ∷ [])
+      ∷ subcommand (codes "scrub") (image ∷ [])
       ∷ subcommand (codes "script") (image ∷ [])
       ∷ subcommand (codes "generate") (image ∷ positional (codes "seed") ∷ positional (codes "count") ∷ [])
       ∷ [];
@@ -94,9 +95,10 @@ reads name rows =
     else (if same_bytes name (codes "delete") then (key_in (field (codes "key") rows) >>= λ key. Ok (One (Word.Delete key)))
     else (if same_bytes name (codes "keep") then reads_keep rows
     else (if same_bytes name (codes "stat") then Ok (One Word.Stat)
+    else (if same_bytes name (codes "scrub") then Ok (One Word.Scrub)
     else (if same_bytes name (codes "script") then Ok Script
     else (if same_bytes name (codes "generate") then reads_generate rows
-    else Ok Outside))))))))
+    else Ok Outside)))))))))
 
 -- ---- the words
 

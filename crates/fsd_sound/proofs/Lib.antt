@@ -1,5 +1,6 @@
 pub mod AlikeLaws
 pub mod AnchorFacts
+pub mod AnchorMendLaws
 pub mod BegunLaws
 pub mod ChoiceLaws
 pub mod CommuteLaws
@@ -13,6 +14,7 @@ pub mod FreshLaws
 pub mod FrontLaws
 pub mod HomedLaws
 pub mod LaidLaws
+pub mod LeaderLaws
 pub mod LogPlaces
 pub mod MendLaws
 pub mod MountedLaws
@@ -28,6 +30,8 @@ pub mod SoundLaws
 pub mod StillLaws
 pub mod TwiceLaws
 pub mod TwinLaws
+pub mod TwinMendLaws
 pub mod WindowLaws
 pub mod WritesLaws
+pub mod MendedMoments
 pub mod MoreLaws

@@ -43,7 +43,7 @@ module _ (l : Layout) (a : Anchor) (weak : Sectors) (i j : Image) (same : SameFr
     all_laid_same rs are.1 laid.1,
   )
 
-  own_same : a.third ≤ 2 → (records : List Placed) (head : Head) → HasOwnLog l a records head weak i → HasOwnLog l a records head weak j
+  pub own_same : a.third ≤ 2 → (records : List Placed) (head : Head) → HasOwnLog l a records head weak i → HasOwnLog l a records head weak j
   own_same low records head own =
       let are : AllByRecursion (IsRecord l a.third) records =
       subst (λ (w : Rattle.fsd_log.specs.Scan.Walked). AllByRecursion (IsRecord l a.third) w.records) own.log.scanned
@@ -188,7 +188,7 @@ all_data l (x ∷ xs) s all there =
       | inr more ↦ all_data l xs s parts.1 more
     ]
 
-data_behind : (l : Layout) (s : ℕ) → IsTrue (is_data l s) → map_start l ≤ s
+pub data_behind : (l : Layout) (s : ℕ) → IsTrue (is_data l s) → map_start l ≤ s
 data_behind l s is = let ge : data_start l ≤ s = leb-true (data_start l) s (and_parts (nat_le (data_start l) s) (nat_lt s l.sectors) is).0 in omega (arith, ge)
 
 pub describes_data : (l : Layout) (hurt : Sectors) (files : Files) (entries : List Entry) (i j : Image) → SameData l hurt i j → Describes l hurt i files entries → Describes l hurt j files entries

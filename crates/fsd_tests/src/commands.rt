@@ -105,6 +105,30 @@ fn scripts_say_each_reply(rt: HostRuntime) -> Result<(), Fail> {
     Ok(())
 }
 
+// The first command of a script, and why it is none.
+const BAD: [(&[u8], &str); 11] = [
+    (b" stat\n", "forced\nbad line 1: unknown word\n"),
+    (b"stat x\n", "forced\nbad line 1: word count\n"),
+    (b"put  a 1\n", "forced\nbad line 1: bad name\n"),
+    (b"put a 01\n", "forced\nbad line 1: bad number\n"),
+    (b"get a!0\n", "forced\nbad line 1: bad key\n"),
+    (b"list *a\n", "forced\nbad line 1: bad pattern\n"),
+    (&[b'a'; 129], "forced\nbad line 1: long line\n"),
+    (b"\n", "forced\nbad line 1: empty line\n"),
+    (b"stat", "forced\nbad line 1: no newline\n"),
+    (b"scrub\n", "forced\nbad line 1: unknown word\n"),
+    (b"scrub v\n", "forced\nbad line 1: unknown word\n"),
+];
+
+#[test]
+fn what_is_no_command_is_told(rt: HostRuntime) -> Result<(), Fail> {
+    for (script, said) in BAD {
+        let row = ("cfs script v", script, 2, said);
+        assert_eq!(rt; wrong_on(rt.alloc(), FORMAT, &[row])?, None, "{said}");
+    }
+    Ok(())
+}
+
 // The commands that the generator makes up of a seed are worked out by hand.
 const MADE_UP: [Row<'static>; 4] = [
     (

@@ -5,6 +5,8 @@
 #[cfg(test)]
 mod commands;
 #[cfg(test)]
+mod damage;
+#[cfg(test)]
 mod faults;
 #[cfg(test)]
 mod files;
@@ -14,6 +16,8 @@ mod forces;
 mod full;
 #[cfg(test)]
 mod generated;
+#[cfg(test)]
+mod healing;
 #[cfg(test)]
 mod homes;
 #[cfg(test)]
@@ -28,6 +32,8 @@ mod rounds;
 mod runs;
 #[cfg(test)]
 mod scripts;
+#[cfg(test)]
+mod scrubs;
 #[cfg(test)]
 mod stops;
 #[cfg(test)]

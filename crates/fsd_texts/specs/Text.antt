@@ -13,7 +13,7 @@ use Rattle.fsd_texts.specs.declared.bad_line.BadLine.{BadLine}
 use Rattle.fsd_texts.specs.declared.fault.Fault.{Fault}
 use Rattle.fsd_texts.specs.declared.fault.Fault.TheVariants as Ends
 use Rattle.fsd_texts.specs.declared.line.Line.{Line}
-use Rattle.fsd_texts.specs.declared.line.Line.TheVariants.{Usage, Bad, Formatted, Unplanned, Made, Deleted, Kept, Version, Listed, Bytes, Forced, Stat, Damaged, Generated, Refused, Ended}
+use Rattle.fsd_texts.specs.declared.line.Line.TheVariants.{Usage, Bad, Formatted, Unplanned, Made, Deleted, Kept, Version, Listed, Bytes, Forced, Stat, Damaged, Scrubbed, Generated, Refused, Ended}
 
 abbrev pub newline : List ℕ
 newline = 10 ∷ []
@@ -102,6 +102,7 @@ text (Bytes key len) = line (codes "bytes" ∷ key_text key ∷ number len ∷ [
 text Forced = codes "forced" ++ newline
 text (Stat free waiting pages versions) = line (codes "stat" ∷ codes "free" ∷ number free ∷ codes "waiting" ∷ number waiting ∷ codes "pages" ∷ number pages ∷ codes "versions" ∷ number versions ∷ [])
 text (Damaged key s) = line (codes "damaged" ∷ key_text key ∷ number s ∷ [])
+text (Scrubbed healed damaged) = line (codes "scrubbed" ∷ codes "healed" ∷ number healed ∷ codes "damaged" ∷ number damaged ∷ [])
 text (Generated c) =
     line (codes "generated" ∷ number c.count ∷ codes "made" ∷ number c.made ∷ codes "deleted" ∷ number c.deleted ∷ codes "kept" ∷ number c.kept
     ∷ codes "read" ∷ number c.read ∷ codes "bytes" ∷ number c.bytes ∷ codes "refused" ∷ number c.refused ∷ [])

@@ -22,4 +22,6 @@ pub enum Command {
     Force,
     Tick,
     Stat,
+    /// No line of a script asks for it.
+    Scrub,
 }

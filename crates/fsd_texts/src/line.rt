@@ -52,6 +52,11 @@ pub enum Line {
         key: Key,
         sector: u32,
     },
+    /// So many sectors were written for healing, and so many of the data were told as damaged.
+    Scrubbed {
+        healed: u32,
+        damaged: u32,
+    },
     /// So many commands were made up, and what came of them.
     Generated(Counts),
     Refused(Refusal),

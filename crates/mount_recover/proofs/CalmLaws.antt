@@ -35,10 +35,11 @@ use Rattle.log_thirds.specs.LogValue.{LogValue}
 use Rattle.log_thirds.specs.Copies.{copies_count}
 use Rattle.log_thirds.specs.Slots.{slot_of}
 use Rattle.log_thirds.proofs.RunLaws.{calm_runs}
-use Rattle.twin_home.specs.Heal.{MayReadDamaged, Mends, Heals, Healed, RootsIn}
+use Rattle.fsd_files.specs.Scrub.{ReadsDamaged}
+use Rattle.twin_home.specs.Heal.{Mends, Heals, Healed, RootsIn}
 use Rattle.fsd_sound.proofs.CommuteLaws.{with_same, with_other}
 use Rattle.fsd_sound.specs.declared.fault.MountFault.{MountFault}
-use Rattle.fsd_sound.specs.declared.fault.MountFault.TheVariants.{Device, Lost}
+use Rattle.fsd_sound.specs.declared.fault.MountFault.TheVariants.{Lost}
 use Rattle.mount_recover.specs.Finding.{IsExcuse, IsFound}
 use Rattle.mount_recover.specs.Lost.{StandAsShown}
 use Rattle.fsd_sound.specs.Lost.{LosesShown}
@@ -132,7 +133,7 @@ module _ (l : Layout) (page : ℕ) (lt : page < l.pages) (old new : Moment) (sti
             ∙ with_other (with_sector old.image (home_a l page) bytes) (home_b l page) (home_a l page) bytes (λ e. omega (arith, e, lt)) ∙ with_same old.image (home_a l page) bytes (omega (arith, long, lt)));
       }
 
-  may_damaged : (s : ℕ) → MayReadDamaged old s → sector_at old.image s ≡ Damaged
+  may_damaged : (s : ℕ) → ReadsDamaged old s → sector_at old.image s ≡ Damaged
   may_damaged s (inl hurt) = hurt
   may_damaged s (inr may) = absurd (cc (still s, may))
 

@@ -47,6 +47,7 @@ pub fn lay_line(line: &Line) -> LineText
             versions,
         } => stat_text(*free, *waiting, *pages, *versions),
         Line::Damaged { key, sector } => key_line("damaged ", key, *sector),
+        Line::Scrubbed { healed, damaged } => scrubbed_text(*healed, *damaged),
         Line::Generated(counts) => generated_text(counts),
         Line::Refused(why) => refused_text(*why),
         Line::Ended(fault) => ended_text(*fault),
@@ -102,6 +103,16 @@ fn stat_text(free: u32, waiting: u32, pages: u32, versions: u32) -> LineText
     put_counted(&mut text, " waiting ", u64::from(waiting));
     put_counted(&mut text, " pages ", u64::from(pages));
     put_counted(&mut text, " versions ", u64::from(versions));
+    put(&mut text, b"\n");
+    text
+}
+
+fn scrubbed_text(healed: u32, damaged: u32) -> LineText
+    ensures { result.items ≡ text (Says.Scrubbed healed damaged) }
+{
+    let mut text = words("scrubbed healed ");
+    put_counted(&mut text, "", u64::from(healed));
+    put_counted(&mut text, " damaged ", u64::from(damaged));
     put(&mut text, b"\n");
     text
 }

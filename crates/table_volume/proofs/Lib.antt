@@ -1,6 +1,10 @@
 pub mod AssembleLaws
 pub mod CalmLaws
 mod DownLaws
+mod HealingLaws
+mod LeadingLaws
+mod OpenLeaderLaws
+mod MetLaws
 pub mod EndsLaws
 pub mod EpochLaws
 pub mod FreshLaws

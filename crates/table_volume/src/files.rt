@@ -3,7 +3,7 @@ use crate::Volume;
 use fsd_bytes::{FileName, Key, Refusal};
 use fsd_formats::Entry;
 use fsd_sound::MountFault;
-use sector_disk::Machine;
+use sector_disk::{Machine, Seen};
 use std::alloc::Global;
 use volume_contract::{Files, Forced, Stat};
 
@@ -57,6 +57,18 @@ impl<M: Machine> Files<M> for Volume {
 
     fn force(&mut self, m: &mut M) -> Result<Forced, Refusal> {
         Volume::force(self, m)
+    }
+
+    fn heal(&mut self, m: &mut M) -> Result<u32, Refusal> {
+        Volume::heal(self, m)
+    }
+
+    fn heal_leader(&mut self, m: &mut M, e: &Entry) -> Result<bool, Refusal> {
+        Volume::heal_leader(self, m, e)
+    }
+
+    fn probe(&mut self, m: &mut M, e: &Entry, slice: u32) -> Result<Seen, Refusal> {
+        Volume::probe(self, m, e, slice)
     }
 
     fn stat(&self) -> Stat {

@@ -23,7 +23,7 @@ use sector_disk::{LoadFault, Machine};
 use volume_contract::Forced;
 
 // What is said of a force's fault.
-fn force_refusal(fault: LoadFault) -> Refusal
+pub(crate) fn force_refusal(fault: LoadFault) -> Refusal
     ensures { result ≡ force_refusal fault }
 {
     match fault {

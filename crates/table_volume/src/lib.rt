@@ -8,6 +8,7 @@ mod files;
 mod finding;
 mod forcing;
 mod freeing;
+mod healing;
 mod keeping;
 mod making;
 mod mounting;

@@ -4,12 +4,14 @@ ghost use Rattle.std.specs.Option.{option_copied};
 ghost use Rattle.fsd_bytes.specs.declared.refusal.Refusal.TheVariants as Why;
 ghost use Rattle.sector_disk.specs.Calls.{OnlyReads, device_in};
 ghost use Rattle.fsd_formats.specs.declared.entry.Entry.{Entry as Listed};
+ghost use Rattle.fsd_formats.specs.NamePage.{is_entry};
 ghost use Rattle.fsd_files.specs.Answers.{entry_after, highest_entry, next_reply};
 ghost use Rattle.name_page.specs.Lookups.{is_after};
 ghost use Rattle.volume_contract.specs.Absent.{LacksLater, ShowsReached};
 ghost use Rattle.volume_contract.specs.Causes.{Causes, IsTaken};
 ghost use Rattle.volume_contract.specs.Ends.{IsLater, Looks, device_of};
 ghost use Rattle.volume_contract.specs.Found.{ShowsReachedNext};
+ghost use Rattle.volume_contract.specs.Healing.{IsMet};
 ghost use Rattle.volume_contract.specs.Order.{Follows, IsLookUp, is_idle, next_steps};
 ghost use Rattle.volume_contract.specs.State.{Known, Stands, volume_of};
 ghost use Rattle.cached_table.specs.Looking.{Finds};
@@ -37,6 +39,7 @@ impl Volume {
         ensures cache { self.new ≡ record self.old { cache = self.new.cache } }
         ensures dirty { self.new.cache.dirty ≡ self.old.cache.dirty }
         ensures page { IfOk result (λ found. IfSome found (λ f. f.page < self.old.layout.pages)) }
+        ensures entry { IfOk result (λ found. IfSome found (λ f. is_entry f.entry ≡ true)) }
         ensures later { IfOk result (λ found. IfSome found (λ f. is_after (option_copied after.entry) f.entry.key ≡ true)) }
         ensures cause { IfErr result IsLookUp }
         ensures stands { M.honest m.new → (k : Known) → Stands state Holds self.old k (M.now m.old) → Stands state Holds self.new k (M.now m.new) }
@@ -106,13 +109,14 @@ impl Volume {
         ensures state { state self.new ≡ state self.old }
         ensures idle { IsTrue (is_idle (next_steps (state self.old))) → m.new ≡ m.old }
         ensures later { IfOk result (IsLater (option_map (λ key. key.now) after.entry)) }
-        ensures taken { IfOk result (λ found. IfSome found (IsTaken (state self.new))) }
+        ensures met { IfOk result (λ found. IfSome found (IsMet (state self.new))) }
         ensures stands { M.honest m.new → (k : Known) → Stands state Holds self.old k (M.now m.old) → Stands state Holds self.new k (M.now m.new) }
         ensures causes { Causes M.Machine (resident self.old) (state self.old) (state self.new) m.old m.new result }
         ensures absent { IfOk result (λ found. IfNone found (ShowsReached M.Machine (resident self.old) (state self.old) (state self.new) m.old m.new (LacksLater (option_map (λ key. key.now) after.entry)))) }
         ensures found { IfOk result (λ found. IfSome found (ShowsReachedNext M.Machine (resident self.old) (state self.old) (state self.new) m.old m.new (option_map (λ key. key.now) after.entry))) }
         ensures done { M.honest m.new → (k : Known) → Stands state Holds self.old k (M.now m.old) → Looks (next_reply (volume_of k) (option_map (λ key. key.now) after.entry)) result }
     {
+        let _ = &self.layout;
         self.is_up()?;
         let found = self.find_next(m, after)?;
         self.met_found(found)

@@ -11,8 +11,9 @@ use Rattle.sector_disk.specs.Image.{sector_at, stand, IsWorn, Windows, open_dama
 use Rattle.sector_disk.specs.Machine.{Moment, Wears, Holds}
 use Rattle.sector_disk.proofs.Holding.{holds_now, holds_wears, holds_on}
 use Rattle.sector_disk.proofs.Wear.{stand_worn, worn_damaged, worn_trans, worn_whole}
+use Rattle.fsd_files.specs.Scrub.{ReadsDamaged}
 use Rattle.twin_home.specs.Home.{WritesPart}
-use Rattle.twin_home.specs.Heal.{MayReadDamaged, ReadsCopy, ReadsBoth, Mends, Heals, Mended, SetsRoot, SetsRoots, RootsIn, NeedsRoot, RootsHealed, TellsCopies, WasWhole}
+use Rattle.twin_home.specs.Heal.{ReadsCopy, ReadsBoth, Mends, Heals, Mended, SetsRoot, SetsRoots, RootsIn, NeedsRoot, RootsHealed, TellsCopies, WasWhole}
 
 -- a moment that is only worn
 pub still : (old left : Moment) → Wears old left → Holds old old.image left
@@ -33,7 +34,7 @@ pub reads_damaged : (old new : Moment) (place : ℕ) (o : Option (List ℕ)) →
 reads_damaged old new place o is read = subst (λ (r : Option (List ℕ)). ReadsCopy place r old new) is read
 
 -- a sector that is damaged at the end might have read so
-pub hurt_before : (old new : Moment) (place : ℕ) → Wears old new → sector_at new.image place ≡ Damaged → MayReadDamaged old place
+pub hurt_before : (old new : Moment) (place : ℕ) → Wears old new → sector_at new.image place ≡ Damaged → ReadsDamaged old place
 hurt_before old new place wears hurt = ⊎_elim (λ same. inl (sym same ∙ hurt)) (λ worn. inr worn.0) (wears.image.each place)
 
 -- ---- the write, behind the reads
@@ -47,7 +48,7 @@ module _ (old mid : Moment) (wears : Wears old mid) (place twin : ℕ) (bytes : 
     part = record { stood = part.stood; within = part.within; holds = holds_on old mid left old.image place bytes part.stood (still old mid wears) part.holds };
   }
 
-  pub mended : (new : Moment) → MayReadDamaged old place → Holds mid (stand mid.image place bytes 1) new → Mended place twin old new
+  pub mended : (new : Moment) → ReadsDamaged old place → Holds mid (stand mid.image place bytes 1) new → Mended place twin old new
   mended new hurt done = record { hurt = hurt; bytes = bytes; long = long; whole = whole; stands = holds_on old mid new old.image place bytes 1 (still old mid wears) done }
 
 -- what is so of an Ok's value, and of any Ok, makes the rest

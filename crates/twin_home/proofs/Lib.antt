@@ -1,2 +1,3 @@
 pub mod WriteLaws
 mod HealLaws
+pub mod TwinsLaws

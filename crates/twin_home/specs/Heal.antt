@@ -1,15 +1,12 @@
 -- What healing one of two copies from the other leaves.
-use Rattle.std.specs.Prelude.{◌≡◌, ◌⊎◌, ⊤, ℕ, ◌+◌, ◌≤◌, List, length, Option, Some, None, IsTrue}
+use Rattle.std.specs.Prelude.{◌≡◌, ◌⊎◌, ⊤, ℕ, ◌+◌, ◌≤◌, List, length, Option, Some, None}
 use Rattle.sector_disk.specs.declared.sector.Sector.TheVariants.{Whole, Damaged}
 use Rattle.sector_disk.specs.declared.machine.LoadFault.{LoadFault}
 use Rattle.sector_disk.specs.declared.machine.LoadFault.TheVariants.{Device, Lost}
-use Rattle.sector_disk.specs.Image.{sector_at, stand, open_damage}
+use Rattle.sector_disk.specs.Image.{sector_at, stand}
 use Rattle.sector_disk.specs.Machine.{Moment, Holds}
+use Rattle.fsd_files.specs.Scrub.{ReadsDamaged}
 use Rattle.twin_home.specs.Home.{WritesPart}
-
--- a sector that reads damaged in a call: it was so, or an open window may have worn it
-abbrev pub MayReadDamaged : Moment → ℕ → Type 0
-MayReadDamaged old place = (sector_at old.image place ≡ Damaged) ⊎ IsTrue (open_damage old.windows place)
 
 -- what was read of a copy between two moments: the bytes that stood there, or that it is damaged
 abbrev pub ReadsCopy : (place : ℕ) → Option (List ℕ) → Moment → Moment → Type 0
@@ -34,7 +31,7 @@ Heals a b old left = Holds old old.image left ⊎ (Mends a b old left ⊎ Mends 
 
 -- A copy that read damaged stands as its twin did.
 pub record Mended (place twin : ℕ) (old new : Moment) : Type 0 where
-  pub hurt : MayReadDamaged old place
+  pub hurt : ReadsDamaged old place
   pub bytes : List ℕ
   pub long : length bytes ≡ 512
   pub whole : sector_at old.image twin ≡ Whole bytes
@@ -82,7 +79,7 @@ pub record RootsIn (bytes : List ℕ) (old left : Moment) : Type 0 where
 
 -- a root is written exactly where it reads damaged or differs
 abbrev pub NeedsRoot : ℕ → ℕ → List ℕ → Moment → Type 0
-NeedsRoot count place bytes old = ((count ≡ 0) × (sector_at old.image place ≡ Whole bytes)) ⊎ ((count ≡ 1) × (MayReadDamaged old place ⊎ ((other : List ℕ) × (sector_at old.image place ≡ Whole other) × (other ≡ bytes → ⊥))))
+NeedsRoot count place bytes old = ((count ≡ 0) × (sector_at old.image place ≡ Whole bytes)) ⊎ ((count ≡ 1) × (ReadsDamaged old place ⊎ ((other : List ℕ) × (sector_at old.image place ≡ Whole other) × (other ≡ bytes → ⊥))))
 
 -- A root was whole; each that reads damaged or differs is written, and no other sector.
 pub record RootsHealed (bytes : List ℕ) (count : ℕ) (old new : Moment) : Type 0 where

@@ -52,6 +52,7 @@ fn heal_copies<M: Machine>(m: &mut M, a: u32, b: u32) -> Result<u32, LoadFault>
 
     ensures writes { WritesDisk M.Machine (device_in load_failed_at result) (Heals a b) m.old m.new }
     ensures copies { IfErr result (TellsCopies a b) }
+    ensures few { IfOk result (λ count. count ≤ 1) }
     ensures counted { IfOk result (λ count. M.tells m.new → M.ledger m.new ≡ wrote (M.ledger m.old) count) }
     ensures most { M.tells m.new → (M.ledger m.new).written ≤ (M.ledger m.old).written + 1 }
     ensures done { IfOk result (λ count. M.honest m.new → Healed a b count (M.now m.old) (M.now m.new)) }
@@ -73,12 +74,29 @@ pub fn heal_page<M: Machine>(m: &mut M, l: &Layout, page: u32) -> Result<u32, Lo
 
     ensures writes { WritesDisk M.Machine (device_in load_failed_at result) (Heals (home_a l.now page) (home_b l.now page)) m.old m.new }
     ensures copies { IfErr result (TellsCopies (home_a l.now page) (home_b l.now page)) }
+    ensures few { IfOk result (λ count. count ≤ 1) }
     ensures counted { IfOk result (λ count. M.tells m.new → M.ledger m.new ≡ wrote (M.ledger m.old) count) }
     ensures most { M.tells m.new → (M.ledger m.new).written ≤ (M.ledger m.old).written + 1 }
     ensures done { IfOk result (λ count. M.honest m.new → Healed (home_a l.now page) (home_b l.now page) count (M.now m.old) (M.now m.new)) }
     ensures lost { IfErr result (λ fault. M.honest m.new → LostCause (AreCopies (home_a l.now page) (home_b l.now page)) (M.now m.new).image fault) }
 {
     heal_copies(m, l.home_a(page), l.home_b(page))
+}
+
+/// Writes the one of the two roots that alone is damaged from the other, and answers how many it wrote.
+/// The root is lost where both are damaged.
+pub fn heal_roots<M: Machine>(m: &mut M) -> Result<u32, LoadFault>
+    requires room { 4 < (M.report m.old).sectors }
+
+    ensures writes { WritesDisk M.Machine (device_in load_failed_at result) (Heals 0 4) m.old m.new }
+    ensures copies { IfErr result (TellsCopies 0 4) }
+    ensures few { IfOk result (λ count. count ≤ 1) }
+    ensures counted { IfOk result (λ count. M.tells m.new → M.ledger m.new ≡ wrote (M.ledger m.old) count) }
+    ensures most { M.tells m.new → (M.ledger m.new).written ≤ (M.ledger m.old).written + 1 }
+    ensures done { IfOk result (λ count. M.honest m.new → Healed 0 4 count (M.now m.old) (M.now m.new)) }
+    ensures lost { IfErr result (λ fault. M.honest m.new → LostCause (AreCopies 0 4) (M.now m.new).image fault) }
+{
+    heal_copies(m, 0, 4)
 }
 
 /// Writes the one of the two anchors that alone is damaged from the other, and answers how many it wrote.
@@ -88,6 +106,7 @@ pub fn heal_anchor<M: Machine>(m: &mut M) -> Result<u32, LoadFault>
 
     ensures writes { WritesDisk M.Machine (device_in load_failed_at result) (Heals 8 12) m.old m.new }
     ensures copies { IfErr result (TellsCopies 8 12) }
+    ensures few { IfOk result (λ count. count ≤ 1) }
     ensures counted { IfOk result (λ count. M.tells m.new → M.ledger m.new ≡ wrote (M.ledger m.old) count) }
     ensures most { M.tells m.new → (M.ledger m.new).written ≤ (M.ledger m.old).written + 1 }
     ensures done { IfOk result (λ count. M.honest m.new → Healed 8 12 count (M.now m.old) (M.now m.new)) }

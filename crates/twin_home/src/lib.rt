@@ -3,6 +3,8 @@
 
 mod heal;
 mod home;
+mod twins;
 
-pub use heal::{heal_anchor, heal_page, heal_root};
+pub use heal::{heal_anchor, heal_page, heal_root, heal_roots};
 pub use home::{read_home, write_a, write_b, write_home};
+pub use twins::{heal_pages, heal_twins};

@@ -3,3 +3,4 @@ pub mod PlaceLaws
 pub mod RangeLaws
 pub mod VersionLaws
 pub mod WritingLaws
+pub mod SingleLaws

@@ -1,2 +1,3 @@
 pub mod Reading
+pub mod Single
 pub mod Writing

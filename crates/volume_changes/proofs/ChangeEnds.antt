@@ -47,11 +47,11 @@ use Rattle.volume_state.proofs.TableLaws.{is_tree, not_spare, pages_read, unbrok
 
 -- the definitions refuse, since there is no such version
 pub answered_none : (outcome : Met → Outcome) (k : Known) (u : VolumeValue) (now : Moment) → length k.mounted.dirty ≤ 56
-    → outcome (record { forces = false; reached = 0; damaged = None }) ≡ (Refused Why.NoSuch, volume_of k) → Stands state Holds u k now → Answered state Holds outcome (Refused Why.NoSuch) [] k u now
+    → outcome (record { forces = false; reached = 0; damaged = None; found = []; healed = 0 }) ≡ (Refused Why.NoSuch, volume_of k) → Stands state Holds u k now → Answered state Holds outcome (Refused Why.NoSuch) [] k u now
 answered_none outcome k u now few is there = (
   k,
   record {
-    met = record { forces = false; reached = 0; damaged = None };
+    met = record { forces = false; reached = 0; damaged = None; found = []; healed = 0 };
     forces = sym (le-ltb 56 (length k.mounted.dirty) (omega (arith, few)));
     is = is;
     windows = refl;

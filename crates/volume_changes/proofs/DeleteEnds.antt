@@ -93,7 +93,7 @@ module _ {D : Type 0} (M : MachineGhosts D) (short : (m : D) → M.honest m → 
       | inr some ↦ (
         known_left M short m m' v whole cached c flags edits honest k stands few within key e there makes,
         record {
-          met = record { forces = false; reached = reached; damaged = None };
+          met = record { forces = false; reached = reached; damaged = None; found = []; healed = 0 };
           forces = sym (le-ltb 56 (length k.mounted.dirty) (omega (arith, room, ap (λ (d : List ℕ). length d) stands.fits.dirty)));
           is = ap (deleted (volume_of k) key reached) there;
           windows = refl;

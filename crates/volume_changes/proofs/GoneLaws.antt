@@ -74,7 +74,7 @@ module _ (hurt : Sectors) (i : Image) (v : Volume) (r : ℕ) (e : Entry) (spaced
       (subst (λ (plans : List (List Run)). Apart w.layout (plans_of w.entries ++ plans)) none changes.spaced.apart))
 
   abbrev met : Met
-  met = record { forces = false; reached = r; damaged = None }
+  met = record { forces = false; reached = r; damaged = None; found = []; healed = 0 }
 
   pub after_deleted : (key : Key) → entry_of key v.entries ≡ Some e → IsAfter (Change.Delete key) hurt i v (deleted v key r (Some e)).1
   after_deleted key there =

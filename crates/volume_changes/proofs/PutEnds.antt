@@ -162,7 +162,7 @@ module _ (v mid : VolumeValue) (name bytes : List ℕ) (keep : Option ℕ) (k : 
   outcome met = put_outcome met (volume_of k) name bytes keep
 
   abbrev met_with : ℕ → Met
-  met_with reached = record { forces = forces_by_itself k.mounted; reached = reached; damaged = None }
+  met_with reached = record { forces = forces_by_itself k.mounted; reached = reached; damaged = None; found = []; healed = 0 }
 
   -- the look-up says why no version is made
   unentered : (why : Refusal) → enter_fault (volume_of p.after) name ≡ Some why → Stands state Holds new p.after now → EndsRefused state Holds outcome k new now why

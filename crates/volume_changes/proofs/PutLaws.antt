@@ -100,7 +100,7 @@ module _ (v : VolumeValue) (name bytes : List ℕ) (keep : Option ℕ) (k : Know
 
   at_once : (new : VolumeValue) (now : Moment) (why : Refusal) → size_fault (keep_given keep) (length bytes) ≡ Some why → Stands state Holds new k now → Answered state Holds outcome (Refused why) [] k new now
   at_once new now why fault stands =
-      let met : Met = record { forces = forces_by_itself k.mounted; reached = 0; damaged = None } in
+      let met : Met = record { forces = forces_by_itself k.mounted; reached = 0; damaged = None; found = []; healed = 0 } in
       (k, record { met = met; forces = refl; is = ap (λ (o : Option Refusal). put_unless o met (volume_of k) name bytes keep) fault; windows = refl; changes = sym (append-nil k.changes) }, stands)
 
   size_refused : (new : VolumeValue) (now : Moment) (why : Refusal) → size_fault (keep_given keep) (length bytes) ≡ Some why → Stands state Holds new k now → EndsRefused state Holds outcome k new now why

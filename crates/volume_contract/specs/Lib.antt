@@ -6,3 +6,4 @@ pub mod Causes
 pub mod Absent
 pub mod Found
 pub mod Logged
+pub mod Healing

@@ -12,7 +12,7 @@ use Rattle.volume_contract.specs.State.{State, IsForced, IsDownAt, forces_first,
 
 -- A step of a call on its way to its answer: a test of what is in memory, or one of the table; a serial that is drawn;
 -- writes of the disk that begin in such sectors; a force, where one comes; a look-up; pages that are made resident;
--- the data of a version.
+-- the data of a version; copies that are healed from their twins; one sector that is read or written.
 pub data Step : Type 0 where
   Test : Option Refusal → Step
   Asks : Refusal → Step
@@ -22,6 +22,8 @@ pub data Step : Type 0 where
   LookUp : Step
   Fetch : Step
   Data : Step
+  Heal : Step
+  Single : Step
 
 -- ---- what a step may refuse
 
@@ -59,6 +61,8 @@ Refuses (Force comes) r = (comes ≡ true) × IsLoss r
 Refuses LookUp r = IsLookUp r
 Refuses Fetch r = IsFetch r
 Refuses Data r = IsData r
+Refuses Heal r = IsLoss r
+Refuses Single r = IsDevice r
 
 -- a test that refuses nothing; of any other step nothing is known here
 abbrev pub Passes : Step → Type 0
@@ -159,3 +163,10 @@ module _ (s : State) where
   -- a force comes only where a page waits
   abbrev pub force_steps : List Step
   force_steps = down ∷ Force (nat_lt 0 (length s.dirty)) ∷ []
+
+  abbrev pub heal_steps : List Step
+  heal_steps = down ∷ Heal ∷ []
+
+  -- of a version's leader, and of one of its data sectors
+  abbrev pub single_steps : List Step
+  single_steps = down ∷ Single ∷ []

@@ -1,12 +1,12 @@
 //! A volume as its callers see it.
-ghost use Rattle.std.specs.Prelude.{◌≡◌, ◌≤◌, ◌||◌, ℕ, List, Option, length, true, false, Some, Ok, Err, IfOk, IfSome, IfNone, IfErr, IsTrue, MatchResult, option_map};
+ghost use Rattle.std.specs.Prelude.{◌≡◌, ◌≤◌, ◌<◌, ◌==◌, ◌||◌, ℕ, List, Option, Contains, length, true, false, Some, Ok, Err, IfOk, IfSome, IfNone, IfErr, OnOk, IsTrue, MatchResult, option_map};
 ghost use Rattle.volume_layout.specs.declared.layout.Layout.{Layout as Plan};
 ghost use Rattle.volume_layout.specs.Layout.{is_data, plan};
 ghost use Rattle.sector_disk.specs.declared.sector.WeakRun.{WeakRun as Run};
 ghost use Rattle.sector_disk.specs.declared.sector.Sector.TheVariants.{Damaged};
-ghost use Rattle.sector_disk.specs.Image.{AreShort, IsCalm, sector_at};
+ghost use Rattle.sector_disk.specs.Image.{AreShort, IsCalm, open_damage, sector_at};
 ghost use Rattle.sector_disk.specs.Calls.{HealsDisk, OnlyReads, WritesDisk, device_in};
-ghost use Rattle.sector_disk.specs.Machine.{Moment, LeavesOnly};
+ghost use Rattle.sector_disk.specs.Machine.{Moment, LeavesOnly, wrote};
 ghost use Rattle.std.specs.FinMap.{find as file_of};
 ghost use Rattle.run_table.specs.RunTable.{total};
 ghost use Rattle.fsd_bytes.specs.declared.refusal.Refusal.TheVariants as Why;
@@ -16,16 +16,20 @@ ghost use Rattle.fsd_log.specs.Scan.{Placed};
 ghost use Rattle.fsd_files.specs.Disk.{Touches};
 ghost use Rattle.fsd_files.specs.Files.{Change};
 ghost use Rattle.fsd_files.specs.Replies.{Forced as IsForced, Deleted};
-ghost use Rattle.fsd_files.specs.Answers.{entry_of, entry_reply, next_reply, put_outcome, delete_outcome, keep_outcome, force_outcome};
+ghost use Rattle.fsd_files.specs.Answers.{entry_of, entry_reply, next_reply, put_outcome, delete_outcome, keep_outcome, force_outcome, HasLeader};
+ghost use Rattle.fsd_files.specs.Kept.{data_sectors};
+ghost use Rattle.fsd_files.specs.Scrub.{CountsTwins, leader_place, FindsLeader, Sees, leader_count, slice_place};
+ghost use Rattle.fsd_sound.specs.Sound.{is_twin};
 ghost use Rattle.fsd_sound.specs.Mounted.{Mounted, image_at};
 ghost use Rattle.fsd_sound.specs.Lost.{AreCopiesOn, LostIn};
 ghost use Rattle.volume_contract.specs.State.{State, Known, Ages, volume_of, Stands, IsNew, GoesOn, HasEnough, HasCounted, IsForced as HasForced, Counted, downs, Leaves, put_writes, force_len, change_len, put_len, forces_first, forces_for_place};
 ghost use Rattle.fsd_sound.specs.Writes.{MountKeeps, force_writes};
-ghost use Rattle.volume_contract.specs.Order.{Follows, IsDevice, Keeps, is_idle, put_steps, delete_steps, keep_steps, entry_steps, next_steps, read_steps, force_steps};
+ghost use Rattle.volume_contract.specs.Order.{Follows, IsDevice, Keeps, is_idle, put_steps, delete_steps, keep_steps, entry_steps, next_steps, read_steps, force_steps, heal_steps, single_steps};
 ghost use Rattle.volume_contract.specs.Ends.{Ends, EndsPut, EndsForce, Closes, Looks, IsLater, found_one, Reads, kept_key, device_of};
 ghost use Rattle.volume_contract.specs.Absent.{LacksKey, LacksLater, ShowsReached};
 ghost use Rattle.volume_contract.specs.Found.{HasEntry, HasRange, ShowsReachedNext};
 ghost use Rattle.volume_contract.specs.Causes.{Causes, IsTaken};
+ghost use Rattle.volume_contract.specs.Healing.{IsMet, LeavesWith, LosesTwins, StandsStill, TwinsStand};
 ghost use Rattle.volume_contract.specs.Logged.{AllLogged, KeepsPages};
 ghost use Rattle.volume_contract.specs.Mount.{CountsMount, HealsAnchors, HealsHomes, IsFound, IsRefused, KeepsAll, UnsoundFor, MountsCalm, IsSoundAt, MountsSound};
 ghost use Rattle.fsd_sound.specs.Mounting.{device_of_mount};
@@ -33,7 +37,7 @@ ghost use Rattle.fsd_sound.specs.Mounting.{device_of_mount};
 use fsd_bytes::{FileName, Key, Refusal};
 use fsd_formats::Entry;
 use fsd_sound::MountFault;
-use sector_disk::Machine;
+use sector_disk::{Machine, Seen};
 use std::alloc::Global;
 
 /// How many pages a force has committed.
@@ -53,6 +57,9 @@ pub struct Stat {
 }
 
 /// A mounted volume. A call of a volume that is down does nothing: it answers Down.
+///
+/// One that is let go without a close keeps what was forced. Where a `?` may let it go, a caller over any volume asks for
+/// `V: Files<M> + Drop`. docs/LIBRARY.md has a whole program.
 pub trait Files<M: Machine>: Sized {
     /// What it tells over any machine.
     ghost state: { Self → State };
@@ -165,7 +172,8 @@ pub trait Files<M: Machine>: Sized {
         ensures found { IfOk result (λ e. ShowsReached M.Machine (resident self.old) (state self.old) (state self.new) m.old m.new (HasEntry e)) }
         ensures done { M.honest m.new → (k : Known) → Stands state holds self.old k (M.now m.old) → Looks (entry_reply (volume_of k) key.now) (found_one result) };
 
-    /// The entry of the version with the least later key, if there is one.
+    /// The entry of the version with the least later key, if there is one. A walk is a `for` over
+    /// `0..stat().versions`; one that begins at a name asks for what comes after its version 0, which no version is.
     fn next_after(&mut self, m: &mut M, after: Option<&Key>) -> Result<Option<Entry>, Refusal>
         requires { (state self.old).layout.sectors ≤ (M.report m.old).sectors }
         ensures order { Follows (next_steps (state self.old)) result }
@@ -173,7 +181,7 @@ pub trait Files<M: Machine>: Sized {
         ensures state { state self.new ≡ state self.old }
         ensures idle { IsTrue (is_idle (next_steps (state self.old))) → m.new ≡ m.old }
         ensures later { IfOk result (IsLater (option_map (λ key. key.now) after.entry)) }
-        ensures taken { IfOk result (λ found. IfSome found (IsTaken (state self.new))) }
+        ensures met { IfOk result (λ found. IfSome found (IsMet (state self.new))) }
         ensures stands { M.honest m.new → (k : Known) → Stands state holds self.old k (M.now m.old) → Stands state holds self.new k (M.now m.new) }
         ensures causes { Causes M.Machine (resident self.old) (state self.old) (state self.new) m.old m.new result }
         ensures absent { IfOk result (λ found. IfNone found (ShowsReached M.Machine (resident self.old) (state self.old) (state self.new) m.old m.new (LacksLater (option_map (λ key. key.now) after.entry)))) }
@@ -233,6 +241,47 @@ pub trait Files<M: Machine>: Sized {
     {
         self.force(m)
     }
+
+    /// Writes each copy of the root, of the anchor and of the pages at home that alone is damaged, from its twin, and
+    /// answers how many sectors it wrote.
+    fn heal(&mut self, m: &mut M) -> Result<u32, Refusal>
+        requires { (state self.old).layout.sectors ≤ (M.report m.old).sectors }
+        ensures order { Follows (heal_steps (state self.old)) result }
+        ensures disk { WritesDisk M.Machine (device_in device_of result) (Leaves state holds self.old (is_twin (state self.old).layout)) m.old m.new }
+        ensures rest { M.honest m.new → Touches (is_twin (state self.old).layout) (M.now m.old) (M.now m.new) }
+        ensures counted { IfOk result (λ count. M.tells m.new → M.ledger m.new ≡ wrote (M.ledger m.old) count) }
+        ensures state { state self.new ≡ state self.old }
+        ensures idle { IsTrue (is_idle (heal_steps (state self.old))) → m.new ≡ m.old }
+        ensures healed { IfOk result (λ count. M.honest m.new → CountsTwins (state self.old).layout (M.now m.old) count) }
+        ensures mended { OnOk result (M.honest m.new → TwinsStand (state self.old).layout (M.now m.new)) }
+        ensures lost { IfErr result (λ why. M.honest m.new → LosesTwins (state self.old).layout (M.now m.new).image why) }
+        ensures done { M.honest m.new → (k : Known) → Stands state holds self.old k (M.now m.old) → StandsStill state holds k self.new (M.now m.new) result };
+
+    /// Writes the leader of a version, where it is damaged or differs from the version's entry, and answers whether it did.
+    fn heal_leader(&mut self, m: &mut M, e: &Entry) -> Result<bool, Refusal>
+        requires room { (state self.old).layout.sectors ≤ (M.report m.old).sectors }
+        requires met { IsMet (state self.old) e.now }
+        ensures order { Follows (single_steps (state self.old)) result }
+        ensures disk { WritesDisk M.Machine (device_in device_of result) (LeavesWith state holds self.old e.now (λ s. s == leader_place e.now)) m.old m.new }
+        ensures rest { M.honest m.new → Touches (λ s. s == leader_place e.now) (M.now m.old) (M.now m.new) }
+        ensures counted { IfOk result (λ written. M.tells m.new → M.ledger m.new ≡ wrote (M.ledger m.old) (leader_count written)) }
+        ensures state { state self.new ≡ state self.old }
+        ensures idle { IsTrue (is_idle (single_steps (state self.old))) → m.new ≡ m.old }
+        ensures healed { IfOk result (λ written. M.honest m.new → FindsLeader e.now (M.now m.old) written) }
+        ensures led { OnOk result (M.honest m.new → HasLeader (open_damage (M.now m.new).windows) (M.now m.new).image e.now) }
+        ensures done { M.honest m.new → (k : Known) → Stands state holds self.old k (M.now m.old) → Contains (volume_of k).entries e.now → StandsStill state holds k self.new (M.now m.new) result };
+
+    /// How one of the data sectors of a version reads.
+    fn probe(&mut self, m: &mut M, e: &Entry, slice: u32) -> Result<Seen, Refusal>
+        requires room { (state self.old).layout.sectors ≤ (M.report m.old).sectors }
+        requires met { IsMet (state self.old) e.now }
+        requires slice { slice < length (data_sectors e.now.runs) }
+        ensures order { Follows (single_steps (state self.old)) result }
+        ensures disk { OnlyReads M.Machine (device_in device_of result) m.old m.new }
+        ensures state { state self.new ≡ state self.old }
+        ensures idle { IsTrue (is_idle (single_steps (state self.old))) → m.new ≡ m.old }
+        ensures stands { M.honest m.new → (k : Known) → Stands state holds self.old k (M.now m.old) → Stands state holds self.new k (M.now m.new) }
+        ensures sees { IfOk result (λ seen. M.honest m.new → Sees (slice_place e.now slice) (M.now m.old).image (M.now m.new).image seen) };
 
     /// What it counts; a volume that is down counts too.
     fn stat(&self) -> Stat

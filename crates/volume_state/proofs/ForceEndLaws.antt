@@ -246,7 +246,7 @@ module _ (v w : VolumeValue) (k : Known) (old new : Moment) (was : IsWhole v) (w
 
     answers : Answers (λ met. force_outcome (volume_of k)) IsForced [] k after
     answers = record {
-      met = record { forces = forces_by_itself k.mounted; reached = 0; damaged = None };
+      met = record { forces = forces_by_itself k.mounted; reached = 0; damaged = None; found = []; healed = 0 };
       forces = refl;
       is = refl;
       windows = refl;

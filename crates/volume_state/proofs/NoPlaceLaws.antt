@@ -87,7 +87,7 @@ module _ (s : State) (name bytes : List ℕ) (keep : Option ℕ) (k : Known) (ne
   module _ (sizes : size_fault (keep_given keep) (length bytes) ≡ None) (fits : Fits s k.mounted) (none : place_in s need ≡ None) where
     answered : (why : Refusal) → no_place_in s (runs_at s need) need ≡ why → StandsFor need k new now → Answered state Holds outcome (Refused why) [] k new now
     answered why is p =
-        let met : Met = record { forces = forces_by_itself k.mounted; reached = 0; damaged = None } in
+        let met : Met = record { forces = forces_by_itself k.mounted; reached = 0; damaged = None; found = []; healed = 0 } in
         let there = forced_for_place need (volume_of k) in
         let out : outcome met ≡ refused there why =
         ap (λ (o : Option Refusal). put_unless o met (volume_of k) name bytes keep) sizes

@@ -1,6 +1,7 @@
 -- What one command by itself says and writes, whatever the image.
 use Rattle.std.proofs.Common.{◌≡◌, inl, inr, ℕ, Bool, true, false, cond, List, [], ◌∷◌, ◌++◌, length, Option, Some, None, refl, sym, ◌∙◌, ap, subst, arith}
 use Rattle.std.specs.Prelude.{◌<◌, ◌≤◌, ◌||◌, IfErr, IfOk, OnOk, IsFalse, IsTrue, Result, Ok, Err, is_none, nat_le, nat_lt, option_map}
+use Rattle.std.specs.List.{AllByRecursion}
 use Rattle.std.proofs.lemmas.Bool.{and_parts, ltb-true}
 use Rattle.volume_layout.specs.declared.layout.Layout.{Layout}
 use Rattle.volume_layout.specs.Layout.{data_start, is_data}
@@ -10,11 +11,10 @@ use Rattle.fsd_bytes.specs.declared.key.Key.{Key}
 use Rattle.fsd_bytes.specs.declared.refusal.Refusal.{Refusal}
 use Rattle.fsd_bytes.specs.declared.refusal.Refusal.TheVariants as Why
 use Rattle.fsd_formats.specs.NamePage.{max_keep, sectors_for}
-use Rattle.sector_disk.specs.declared.sector.Sector.{Sector}
-use Rattle.sector_disk.specs.Image.{IsWorn, Windows, open_damage, sector_at}
+use Rattle.sector_disk.specs.Image.{IsWorn, open_damage}
 use Rattle.sector_disk.specs.Machine.{Moment, Utters}
 use Rattle.fsd_files.specs.Answers.{keep_given, least_pages, size_fault}
-use Rattle.fsd_files.specs.Disk.{Image, SectorWorn, Sectors, Touches, nowhere}
+use Rattle.fsd_files.specs.Disk.{Image, Sectors, Touches, nowhere}
 use Rattle.fsd_files.specs.Replies.{Reply}
 use Rattle.fsd_sound.specs.Writes.{MountKeeps, force_writes}
 use Rattle.fsd_texts.specs.declared.command.Command.{Command}
@@ -27,6 +27,8 @@ use Rattle.fsd_runs.specs.Errands.{reply_status}
 use Rattle.volume_contract.specs.Mount.{IsFound}
 use Rattle.volume_contract.specs.Order.{Asks, Comes, Data, Force, IsData, IsDevice, IsDeviceIn, IsFetch, IsLookUp, IsLoss, LookUp, Refuses, Step, Test, down, force_steps, is_idle, no_place_in, place, runs_at, worn}
 use Rattle.volume_contract.specs.State.{Ages, State, in_place, is_worn, place_in, put_writes}
+use Rattle.scrub.specs.Scrub.{scrub_writes}
+use Rattle.scrub.proofs.LeadLaws.{touches_then, worn_touches}
 use Rattle.volume_turns.specs.declared.answer.Answer.{Answer}
 use Rattle.volume_turns.specs.declared.answer.Answer.TheVariants as Said
 use Rattle.volume_turns.specs.declared.turns.End.{End}
@@ -41,31 +43,21 @@ use Rattle.volume_turns.proofs.StatusLaws.{look_up_ends, loss_looks}
 
 -- ---- what is touched
 
-worn_then : (p : Bool) (x y z : Sector) → SectorWorn p x y → SectorWorn p y z → SectorWorn p x z
-worn_then p x y z first (inl same) = subst (λ (u : Sector). SectorWorn p x u) (sym same) first
-worn_then p x y z first (inr gone) = inr gone
-
-then_touches : (earlier later may : Sectors) (a b c : Moment) → ((s : ℕ) → IsFalse (may s) → IsFalse (earlier s)) → ((s : ℕ) → IsFalse (may s) → IsFalse (later s)) → b.windows ≡ a.windows → Touches earlier a b → Touches later b c → Touches may a c
-then_touches earlier later may a b c more_first more_then windows first second = record {
-  size = second.size ∙ first.size;
-  others = λ s out. worn_then (open_damage a.windows s) (sector_at a.image s) (sector_at b.image s) (sector_at c.image s) (first.others s (more_first s out))
-      (subst (λ (w : Windows). SectorWorn (open_damage w s) (sector_at b.image s) (sector_at c.image s)) windows (second.others s (more_then s out)));
-}
-
-pub worn_touches : (may : Sectors) (a b : Moment) → IsWorn (open_damage a.windows) a.image b.image → Touches may a b
-worn_touches may a b worn = record { size = worn.size; others = λ s out. worn.each s }
-
 then_worn : (may : Sectors) (a b c : Moment) → b.windows ≡ a.windows → Touches may a b → IsWorn (open_damage b.windows) b.image c.image → Touches may a c
-then_worn may a b c windows first worn = then_touches may may may a b c (λ s out. out) (λ s out. out) windows first (worn_touches may b c worn)
+then_worn may a b c windows first worn = touches_then may may may a b c (λ s out. out) (λ s out. out) windows first (worn_touches may b c worn)
 
 pub worn_first : (a b c : Moment) → b.windows ≡ a.windows → IsWorn (open_damage a.windows) a.image b.image → Touches nowhere b c → Touches nowhere a c
-worn_first a b c windows worn then = then_touches nowhere nowhere nowhere a b c (λ s out. out) (λ s out. out) windows (worn_touches nowhere a b worn) then
+worn_first a b c windows worn then = touches_then nowhere nowhere nowhere a b c (λ s out. out) (λ s out. out) windows (worn_touches nowhere a b worn) then
 
 touches_ages : (a b : Moment) → b.windows ≡ a.windows → Touches nowhere a b → Ages a b
 touches_ages a b windows t = record { image = record { size = t.size; each = λ s. t.others s refl }; windows = windows }
 
 stays_damaged : (a b : Moment) (s : ℕ) → Touches nowhere a b → HasDamaged a.image s → HasDamaged b.image s
 stays_damaged a b s t (within, gone) = (omega (arith, within, t.size), elim (t.others s refl) [ inl same ↦ same ∙ gone | inr worn ↦ worn.1 ])
+
+stay_damaged : (a b : Moment) → Touches nowhere a b → (found : List (Key × ℕ)) → AllByRecursion (λ x. HasDamaged a.image x.1) found → AllByRecursion (λ x. HasDamaged b.image x.1) found
+stay_damaged a b t [] damaged = tt
+stay_damaged a b t (x ∷ found) damaged = (stays_damaged a b x.1 t damaged.0, stay_damaged a b t found damaged.1)
 
 or_left : (a b : Bool) → IsFalse (a || b) → IsFalse a
 or_left true b out = cc out
@@ -271,23 +263,27 @@ closed_by s text a m b r windows same rest still ages says unworn told = record 
 -- what may be replied may be so still
 pub may_worn : (command : Command) (a b : Moment) (reply : Reply) → Touches nowhere a b → MayReply command a.image reply → MayReply command b.image reply
 may_worn (Word.Get key) a b (Reply.DamagedAt k n) quiet may = (may.0, stays_damaged a b n quiet may.1)
+may_worn Word.Scrub a b (Reply.Scrubbed found healed) quiet may = stay_damaged a b quiet found may
 may_worn command a b reply quiet may = may
 
 -- a sector that is told stays damaged
 may_later : (command : Command) (s t : State) (a b : Moment) (reply : Reply) → KeepsState command s t → s.dirty ≡ [] → (t.dirty ≡ [] → Touches nowhere a b) → MayReply command a.image reply → MayReply command b.image reply
 may_later (Word.Get key) s t a b (Reply.DamagedAt k n) still none quiet may = (may.0, stays_damaged a b n (quiet (ap (λ (x : State). x.dirty) still ∙ none)) may.1)
+may_later Word.Scrub s t a b (Reply.Scrubbed found healed) still none quiet may = stay_damaged a b (quiet (ap (λ (x : State). x.dirty) (still none) ∙ none)) found may
 may_later command s t a b reply still none quiet may = may
 
 alone_rest : (command : Command) (s t : State) (a m b : Moment) → m.windows ≡ a.windows → t.layout ≡ s.layout → KeepsState command s t → s.dirty ≡ [] → Touches (may_write command s) a m → Touches (force_writes t.layout) m b → (t.dirty ≡ [] → Touches nowhere m b)
     → Touches (may_write command s) a b
 alone_rest (Word.Put name bytes keep) s t a m b windows layout still none first closing quiet =
     let may = put_writes s (sectors_for (length bytes)) in
-    then_touches may (force_writes t.layout) may a m b (λ x out. out) (λ x out. subst (λ (l : Layout). IsFalse (force_writes l x)) (sym layout) (or_left (force_writes s.layout x) (in_place (place_in s (sectors_for (length bytes))) x) out)) windows first closing
-alone_rest (Word.List pattern) s t a m b windows layout still none first closing quiet = then_touches nowhere nowhere nowhere a m b (λ x out. out) (λ x out. out) windows first (quiet (ap (λ (x : State). x.dirty) still ∙ none))
-alone_rest (Word.Get key) s t a m b windows layout still none first closing quiet = then_touches nowhere nowhere nowhere a m b (λ x out. out) (λ x out. out) windows first (quiet (ap (λ (x : State). x.dirty) still ∙ none))
-alone_rest Word.Stat s t a m b windows layout still none first closing quiet = then_touches nowhere nowhere nowhere a m b (λ x out. out) (λ x out. out) windows first (quiet (ap (λ (x : State). x.dirty) still ∙ none))
+    touches_then may (force_writes t.layout) may a m b (λ x out. out) (λ x out. subst (λ (l : Layout). IsFalse (force_writes l x)) (sym layout) (or_left (force_writes s.layout x) (in_place (place_in s (sectors_for (length bytes))) x) out)) windows first closing
+alone_rest (Word.List pattern) s t a m b windows layout still none first closing quiet = touches_then nowhere nowhere nowhere a m b (λ x out. out) (λ x out. out) windows first (quiet (ap (λ (x : State). x.dirty) still ∙ none))
+alone_rest (Word.Get key) s t a m b windows layout still none first closing quiet = touches_then nowhere nowhere nowhere a m b (λ x out. out) (λ x out. out) windows first (quiet (ap (λ (x : State). x.dirty) still ∙ none))
+alone_rest Word.Stat s t a m b windows layout still none first closing quiet = touches_then nowhere nowhere nowhere a m b (λ x out. out) (λ x out. out) windows first (quiet (ap (λ (x : State). x.dirty) still ∙ none))
+alone_rest Word.Scrub s t a m b windows layout still none first closing quiet =
+    touches_then (scrub_writes s.layout) nowhere (scrub_writes s.layout) a m b (λ x out. out) (λ x out. refl) windows first (quiet (ap (λ (x : State). x.dirty) (still none) ∙ none))
 alone_rest command s t a m b windows layout still none first closing quiet =
-    then_touches (force_writes s.layout) (force_writes t.layout) (force_writes s.layout) a m b (λ x out. out) (λ x out. subst (λ (l : Layout). IsFalse (force_writes l x)) (sym layout) out) windows first closing
+    touches_then (force_writes s.layout) (force_writes t.layout) (force_writes s.layout) a m b (λ x out. out) (λ x out. subst (λ (l : Layout). IsFalse (force_writes l x)) (sym layout) out) windows first closing
 
 keeps_said : (text : List ℕ) (a b : Moment) (r : Result ℕ End) → SaysBy text a b (unit_of r) → KeepsSaid a b r
 keeps_said text a b (Ok status) says = tt
@@ -356,6 +352,7 @@ behind_mount (Word.Put name bytes keep) sectors s a m b found windows rest = tt
 behind_mount (Word.List pattern) sectors s a m b found windows rest = touches_ages m b windows rest
 behind_mount (Word.Get key) sectors s a m b found windows rest = touches_ages m b windows rest
 behind_mount Word.Stat sectors s a m b found windows rest = touches_ages m b windows rest
+behind_mount Word.Scrub sectors s a m b found windows rest = inr (record { seen = found.seen; from = found.from; layout = s.layout; anchor = found.anchor; found = found.found }, rest)
 behind_mount command sectors s a m b found windows rest = inr (record { seen = found.seen; from = found.from; layout = s.layout; anchor = found.anchor; found = found.found }, rest)
 
 behind_nothing : (command : Command) (sectors : ℕ) (a m b : Moment) → Ages m b → WritesBehind command sectors a m b
@@ -363,6 +360,7 @@ behind_nothing (Word.Put name bytes keep) sectors a m b ages = tt
 behind_nothing (Word.List pattern) sectors a m b ages = ages
 behind_nothing (Word.Get key) sectors a m b ages = ages
 behind_nothing Word.Stat sectors a m b ages = ages
+behind_nothing Word.Scrub sectors a m b ages = inl ages
 behind_nothing command sectors a m b ages = inl ages
 
 pub run_mounted : (command : Command) (sectors : ℕ) (s : State) (a m b : Moment) (status : ℕ) → IsFound sectors s a → m.said ≡ a.said → MountKeeps sectors a m → EndsOne command s m b status → RunsOne command sectors a b status

@@ -18,7 +18,8 @@ use Rattle.volume_turns.specs.Answering.{MayReply}
 use Rattle.volume_turns.specs.Each.{AreReplies, SaysBadLine, SaysBetween, SaysEach, SaysForced, SaysOnce}
 use Rattle.volume_turns.specs.Line.{EndsLast}
 use Rattle.volume_turns.specs.Turns.{Follows, SaysAll, SaysReplies}
-use Rattle.volume_turns.proofs.AnsweringLaws.{may_worn, worn_touches}
+use Rattle.scrub.proofs.LeadLaws.{worn_touches}
+use Rattle.volume_turns.proofs.AnsweringLaws.{may_worn}
 use Rattle.volume_turns.proofs.SaidLaws.{flat_then}
 
 -- ---- one command

@@ -29,6 +29,7 @@ pub mod ScriptGroupLaws
 pub mod ScriptLastLaws
 pub mod ScriptLaws
 pub mod ScriptRunLaws
+pub mod ScrubLaws
 pub mod StatusLaws
 pub mod StepLaws
 pub mod TakingLaws

@@ -68,20 +68,20 @@ forced_goes s t f = record {
 -- ---- a call that was refused
 
 -- how many serials these steps may draw, and how many records they may number
-abbrev draws_in : List Step → ℕ
+abbrev pub draws_in : List Step → ℕ
 draws_in [] = 0
 draws_in (Draw ∷ steps) = suc (draws_in steps)
 draws_in (step ∷ steps) = draws_in steps
 
-abbrev forces_in : List Step → ℕ
+abbrev pub forces_in : List Step → ℕ
 forces_in [] = 0
 forces_in (Force comes ∷ steps) = cond comes 1 0 + forces_in steps
 forces_in (step ∷ steps) = forces_in steps
 
 -- No more than that.
-record GoesBy (steps : List Step) (s t : State) : Type 0 where
-  serials : t.serial.count ≤ s.serial.count + draws_in steps
-  records : t.head.number ≤ s.head.number + forces_in steps
+pub record GoesBy (steps : List Step) (s t : State) : Type 0 where
+  pub serials : t.serial.count ≤ s.serial.count + draws_in steps
+  pub records : t.head.number ≤ s.head.number + forces_in steps
 
 room_same : (s : State) (first : ℕ) (b : Bool) → ((cond b (moved_on s first) s).serial.count ≡ s.serial.count) × ((cond b (moved_on s first) s).head.number ≡ s.head.number)
 room_same s first true = (refl, refl)
@@ -116,7 +116,7 @@ forces_then steps r s t on (inr x) =
     let more = on x.0 x.2 in
     record { serials = let a = more.serials in omega (arith, a, same); records = let a = more.records in let b = first.records in omega (arith, a, b) }
 
-keeps_goes : (steps : List Step) (r : Refusal) (s t : State) → Keeps steps r s t → GoesBy steps s t
+pub keeps_goes : (steps : List Step) (r : Refusal) (s t : State) → Keeps steps r s t → GoesBy steps s t
 keeps_goes [] r s t keeps = absurd keeps
 keeps_goes (Draw ∷ steps) r s t keeps =
     let more = keeps_goes steps r (with_drawn s) t keeps in
@@ -125,7 +125,7 @@ keeps_goes (Force true ∷ steps) r s t keeps = forces_then steps r s t (λ next
 keeps_goes (Force false ∷ steps) r s t keeps = let x = stays steps (Refuses (Force false) r) (Passes (Force false)) r s t (λ k. keeps_goes steps r s t k) keeps in record { serials = x.serials; records = let n = x.records in omega (arith, n) }
 keeps_goes (step ∷ steps) r s t keeps = let x = stays steps (Refuses step r) (Passes step) r s t (λ k. keeps_goes steps r s t k) keeps in record { serials = x.serials; records = x.records }
 
-one_force : (b : Bool) → cond b 1 0 + 0 ≤ 1
+pub one_force : (b : Bool) → cond b 1 0 + 0 ≤ 1
 one_force true = omega arith
 one_force false = omega arith
 
@@ -135,7 +135,7 @@ put_force true false = omega arith
 put_force false true = omega arith
 put_force false false = omega arith
 
-goes_by : (steps : List Step) (s t : State) → draws_in steps ≤ 1 → forces_in steps ≤ 1 → GoesBy steps s t → GoesUp 1 s t
+pub goes_by : (steps : List Step) (s t : State) → draws_in steps ≤ 1 → forces_in steps ≤ 1 → GoesBy steps s t → GoesUp 1 s t
 goes_by steps s t draws forces x = record { serials = let a = x.serials in omega (arith, a, draws); records = let a = x.records in omega (arith, a, forces) }
 
 module _ (s t : State) (r : Refusal) where

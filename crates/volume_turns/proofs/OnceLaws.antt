@@ -19,7 +19,7 @@ use Rattle.fsd_sound.specs.Mounted.{Mounted, telling_of}
 use Rattle.fsd_sound.specs.Shown.{told}
 use Rattle.fsd_sound.specs.Sound.{IsSound, EndIn, weak_of}
 use Rattle.fsd_sound.proofs.MoreLaws.{wear_sound}
-use Rattle.fsd_sound.proofs.MountedLaws.{mounted_sound, mounted_tells, mounted_reach}
+use Rattle.fsd_sound.proofs.MountedLaws.{mounted_sound}
 use Rattle.fsd_sound.proofs.WindowLaws.{open_is_weak}
 use Rattle.fsd_texts.specs.declared.command.Command.{Command}
 use Rattle.fsd_texts.specs.declared.fault.Fault.{Fault}

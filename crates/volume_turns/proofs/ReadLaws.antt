@@ -103,7 +103,7 @@ module _ {S : Type 0} (state : S → State) (has : S → Mounted → List Placed
 
   got_answered : (reply : Reply) → IsGot key file_at entry_at before.image now.image reply → IsAnswered (Word.Get key) (state old) k k before.image now.image reply
   got_answered reply is = record {
-    met = record { forces = false; reached = 0; damaged = is.damaged };
+    met = record { forces = false; reached = 0; damaged = is.damaged; found = []; healed = 0 };
     is = ap (λ (r : Reply). (r, volume_of k)) is.is;
     windows = refl;
     changes = sym (append-nil k.changes);
@@ -165,7 +165,7 @@ unfound_does state has key old new k before now Why.NoSuch stands looks =
     let file : find key_cmp key (volume_of k).files ≡ None = no_file key (volume_of k).files (volume_of k).entries stands.disk.described.lists none in (
       k,
       record {
-        met = record { forces = false; reached = 0; damaged = None };
+        met = record { forces = false; reached = 0; damaged = None; found = []; healed = 0 };
         is = ap (λ (f : Option File). (got key None f, volume_of k)) file;
         windows = refl;
         changes = sym (append-nil k.changes);

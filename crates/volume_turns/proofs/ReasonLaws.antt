@@ -1,8 +1,8 @@
 -- Why a command by itself is answered so, and how much it has written.
-use Rattle.std.proofs.Common.{◌≡◌, ◌⊎◌, inl, inr, ℕ, ◌+◌, ◌≤◌, List, ◌++◌, [], ◌∷◌, length, Option, Some, None, refl, sym, ◌∙◌, ap, subst, arith, length-append}
-use Rattle.std.specs.Prelude.{IfErr, IfOk, Result, Ok, Err, option_map}
+use Rattle.std.proofs.Common.{◌≡◌, ℕ, ◌+◌, List, ◌++◌, [], ◌∷◌, length, Option, Some, None, refl, sym, ◌∙◌, ap, subst, arith, length-append}
+use Rattle.std.specs.Prelude.{IfOk, Result, Ok, Err, option_map}
 use Rattle.sector_disk.specs.Image.{IsWorn, Windows, open_damage}
-use Rattle.sector_disk.specs.Machine.{Ledger, Moment, OnlyWrites}
+use Rattle.sector_disk.specs.Machine.{Ledger, Moment}
 use Rattle.sector_disk.proofs.Wear.{worn_refl, worn_trans}
 use Rattle.fsd_bytes.specs.declared.key.Key.{Key}
 use Rattle.fsd_bytes.specs.declared.pattern.Pattern.{Pattern}
@@ -15,11 +15,13 @@ use Rattle.fsd_texts.specs.declared.fault.Fault.{Fault}
 use Rattle.volume_contract.specs.State.{Ages, State}
 use Rattle.volume_turns.specs.declared.answer.Answer.{Answer}
 use Rattle.volume_turns.specs.declared.answer.Answer.TheVariants as Said
-use Rattle.volume_turns.specs.Listing.{fitting, last_key}
-use Rattle.volume_turns.specs.Reasons.{BecauseRead, HasWritten, IsUpTo, ListsAll, Showed}
+use Rattle.scrub.specs.Walk.{last_key}
+use Rattle.volume_turns.specs.Listing.{fitting}
+use Rattle.volume_turns.specs.Reasons.{BecauseRead, HasScrubbed, HasWritten, IsUpTo, Showed}
 use Rattle.volume_turns.specs.Steps.{ended_by, read_ended_by, reply_of}
 use Rattle.volume_turns.proofs.AnsweringLaws.{said_or_fault}
-use Rattle.volume_turns.proofs.ListLaws.{fitting_more, last_more}
+use Rattle.scrub.proofs.WalkLaws.{last_more}
+use Rattle.volume_turns.proofs.ListLaws.{fitting_more}
 
 -- ---- what is written
 
@@ -45,6 +47,19 @@ module _ (old new : Ledger) (same : new ≡ old) where
   reads_written (Ok (Said.Refused why)) = let is = none_written in (omega (arith, is), omega (arith, is))
   reads_written (Ok answer) = none_written
   reads_written (Err fault) = let is = none_written in (omega (arith, is), omega (arith, is))
+
+-- of a scrub that a fault has ended nothing is told
+pub nothing_told : (s : State) (old new : Ledger) (why : Refusal) (r : Result Answer Fault) → r ≡ ended_by why → HasScrubbed s old new r
+nothing_told s old new why r is = subst (λ (x : Result Answer Fault). HasScrubbed s old new x) (sym is) (by why)
+  where
+    by : (w : Refusal) → HasScrubbed s old new (ended_by w)
+    by (Why.Device n) = tt
+    by (Why.Down n) = tt
+    by (Why.Lost a b) = tt
+    by (Why.Unsound n) = tt
+    by Why.WornOut = tt
+    by Why.Memory = tt
+    by w = tt
 
 -- ---- why
 

@@ -2,18 +2,22 @@
 use Rattle.std.proofs.Common.{◌≡◌, ℕ, suc, ◌+◌, ◌≤◌, Bool, List, [], ◌∷◌, ◌++◌, length, take, Option, None, refl, sym, ◌∙◌, ap, subst, arith, append_assoc, length-append}
 use Rattle.fsd_log.specs.Scan.{Placed}
 use Rattle.std.specs.Prelude.{IsTrue, Result, Ok, Err, OnOk, IfErr}
-use Rattle.std.specs.List.{list_any}
+use Rattle.std.specs.List.{AllByRecursion, list_any}
 use Rattle.std.proofs.lemmas.List.{append-nil}
 use Rattle.sector_disk.specs.declared.machine.Machine.{Ghosts}
 use Rattle.sector_disk.specs.declared.sector.WeakRun.{WeakRun}
 use Rattle.sector_disk.specs.Image.{IsWorn, open_damage, AreShort, Windows}
 use Rattle.sector_disk.specs.Machine.{Ledger, LeavesOnly, Moment, OnlyWrites, Report, UsesDisk, Utters, Wears}
+use Rattle.sector_disk.proofs.Wear.{worn_whole}
 use Rattle.sector_disk.proofs.Moments.{started, then_on, leaves_more}
 use Rattle.fsd_files.specs.Answers.{Met, Outcome, entry_of}
 use Rattle.fsd_files.specs.Disk.{Image, Sectors, in_runs}
 use Rattle.fsd_files.specs.Files.{Change}
 use Rattle.fsd_files.specs.Replies.{Reply}
+use Rattle.fsd_files.specs.Scrub.{Picks, all_data}
 use Rattle.fsd_files.specs.Volume.{Volume, HasReach}
+use Rattle.fsd_files.proofs.ScrubLaws.{picks_longer}
+use Rattle.fsd_bytes.specs.declared.key.Key.{Key}
 use Rattle.fsd_sound.specs.Mounted.{Mounted}
 use Rattle.fsd_sound.specs.Sound.{EndIn, IsSound}
 use Rattle.fsd_sound.proofs.MoreLaws.{wear_sound}
@@ -35,9 +39,17 @@ use Rattle.volume_turns.specs.Turns.{Carries, Follows, InRun, RunsFrom, Runs, St
 use Rattle.volume_turns.proofs.ReadLaws.{some_earlier}
 use Rattle.volume_turns.proofs.TurnLaws.{in_before, in_saying, in_behind, enough_from, said_before, said_more, said_nothing, worn_state, state_worn}
 
+anything : (xs : List (Key × ℕ)) → AllByRecursion (λ x. Unit {0}) xs
+anything [] = tt
+anything (x ∷ xs) = (tt, anything xs)
+
+picks_earlier : (may : ℕ → Bool) (i j k : Image) → IsWorn may i j → (all found : List (Key × ℕ)) → Picks j k all found → Picks i k all found
+picks_earlier may i j k worn all found picks = picks_longer (λ s. Unit {0}) i j k k (λ s any whole. (whole.0, worn_whole may i j s whole.0 worn whole.1)) (λ s any hurt. hurt) all found (anything all) picks
+
 -- what is found, from an earlier image on
 find_earlier : (may : ℕ → Bool) (i j k : Image) → IsWorn may i j → (v : Volume) (command : Command) (met : Met) → MayFind j k v command met → MayFind i k v command met
 find_earlier may i j k worn v (Word.Get key) met find = some_earlier may i j worn k (entry_of key v.entries) met.damaged find
+find_earlier may i j k worn v Word.Scrub met find = picks_earlier may i j k worn (all_data v.entries) met.found find
 find_earlier may i j k worn v command met find = tt
 
 module _ {S D : Type 0} (state : S → State) (has : S → Mounted → List Placed → Type 0) (M : Ghosts D)

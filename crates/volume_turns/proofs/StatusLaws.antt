@@ -14,7 +14,7 @@ use Rattle.fsd_sound.specs.declared.fault.MountFault.{MountFault}
 use Rattle.fsd_sound.specs.declared.fault.MountFault.TheVariants as Refused
 use Rattle.fsd_sound.specs.Mounting.{device_of_mount}
 use Rattle.fsd_texts.specs.declared.command.Command.{Command}
-use Rattle.fsd_texts.specs.declared.command.Command.TheVariants.{Get, Put}
+use Rattle.fsd_texts.specs.declared.command.Command.TheVariants.{Get, Put, Scrub}
 use Rattle.fsd_texts.specs.declared.fault.Fault.{Fault}
 use Rattle.fsd_texts.specs.declared.fault.Fault.TheVariants as Ends
 use Rattle.fsd_texts.specs.Script.{max_input}
@@ -144,6 +144,8 @@ worn_is_script status is = line_or IsScriptStatus 9 status (inr (inr (inr (inl (
 pub from_not : (n : ℕ) (command : Command) (status : ℕ) → 1 < n → (n ≡ 8 → ⊥) → IsStatusFrom command status → status ≡ n → ⊥
 from_not n (Get key) status more other (inl low) at = omega (arith, more, low, at)
 from_not n (Get key) status more other (inr eight) at = other (sym at ∙ eight)
+from_not n Scrub status more other (inl none) at = omega (arith, more, none, at)
+from_not n Scrub status more other (inr eight) at = other (sym at ∙ eight)
 from_not n command status more other low at = omega (arith, more, low, at)
 
 -- ---- what is counted

@@ -19,7 +19,7 @@ use Rattle.fsd_sound.specs.Mounted.{Mounted}
 use Rattle.volume_contract.specs.Ends.{EndsRefused, EndsForce, Answers, device_of}
 use Rattle.volume_contract.specs.declared.files.Forced.{Forced}
 use Rattle.volume_contract.specs.State.{State, Fits, Known, volume_of, forced_of, Stands, Leaves, is_worn}
-use Rattle.volume_turns.specs.Listing.{IsFromOutside}
+use Rattle.scrub.specs.Walk.{IsFromOutside}
 use Rattle.volume_turns.specs.Steps.{Does, IsAnswered, IsRefusedWorn, Stays, device_by, ended_by, read_ended_by}
 
 -- the fault that is told is the one that was counted

@@ -1,72 +1,42 @@
 -- What a call of a volume tells of the image.
-use Rattle.std.proofs.Common.{◌≡◌, inl, inr, ℕ, ◌<◌, Bool, List, [], Option, Some, None, refl, sym, ◌∙◌, ap, subst, arith}
-use Rattle.std.specs.Prelude.{IfErr, IfSome, Result, Ok, Err, map}
-use Rattle.std.specs.List.{range_with_len}
-use Rattle.std.specs.Option.{unwrap_or}
-use Rattle.std.proofs.lemmas.List.FromFn.{get_or-map-range_with_len, length-map-range_with_len}
+use Rattle.std.proofs.Common.{◌≡◌, inl, inr, ℕ, Bool, List, Option, sym, ◌∙◌, ap, subst}
+use Rattle.std.specs.Prelude.{IfErr, Result, Ok, Err}
 use Rattle.volume_layout.specs.declared.layout.Layout.{Layout}
-use Rattle.volume_layout.specs.Layout.{home_a}
 use Rattle.fsd_bytes.specs.declared.key.Key.{Key}
 use Rattle.fsd_bytes.specs.declared.refusal.Refusal.{Refusal}
 use Rattle.fsd_bytes.specs.declared.refusal.Refusal.TheVariants as Why
 use Rattle.sector_disk.specs.declared.machine.Machine.{Ghosts}
 use Rattle.sector_disk.specs.declared.sector.Sector.TheVariants.{Damaged}
-use Rattle.sector_disk.specs.Damage.{AreLost}
 use Rattle.sector_disk.specs.Image.{IsWorn, sector_at}
 use Rattle.sector_disk.specs.Machine.{Moment}
 use Rattle.fsd_files.specs.Disk.{Image}
-use Rattle.fsd_sound.specs.Mounted.{image_at}
 use Rattle.fsd_texts.specs.declared.fault.Fault.{Fault}
 use Rattle.fsd_texts.specs.declared.fault.Fault.TheVariants as Ends
-use Rattle.volume_contract.specs.Causes.{AreCopies, AreCopiesOf, Causes, HasCause, HaveRead, IsRead, ShowsBreak}
+use Rattle.volume_contract.specs.Causes.{Causes, HasCause}
 use Rattle.volume_contract.specs.State.{State}
+use Rattle.scrub.specs.Telling.{TellsOn}
+use Rattle.scrub.proofs.ToldLaws.{told_by}
 use Rattle.volume_turns.specs.declared.answer.Answer.{Answer}
 use Rattle.volume_turns.specs.declared.turns.End.{End}
 use Rattle.volume_turns.specs.declared.turns.End.TheVariants.{Fault as Stopped, Output}
 use Rattle.volume_turns.specs.Once.{close_fault}
-use Rattle.volume_turns.specs.Steps.{AreOfPage, IsRefusedOn, IsToldOn, ended_by, read_ended_by}
+use Rattle.volume_turns.specs.Steps.{IsRefusedOn, IsToldOn, ended_by, read_ended_by}
 use Rattle.volume_turns.specs.Turns.{IsEndOn, Unsaid}
 
 -- ---- by its cause
 
-of_copies : (s : State) (page a b : ℕ) → page < s.layout.pages → AreCopiesOf s page a b → AreOfPage s.layout a b
-of_copies s page a b within (inl slot) = inl slot.in_record
-of_copies s page a b within (inr home) = inr (record { page = page; within = within; homes = home.1 })
+-- so it is of a refusal
+pub refused_told : (l : Layout) (i : Image) (why : Refusal) → TellsOn l i why → IsRefusedOn l i why
+refused_told l i (Why.Lost a b) told = told
+refused_told l i (Why.Unsound s) told = told
+refused_told l i why told = tt
 
 module _ (old new : State) (resident : ℕ → Option (List ℕ)) (before now : Moment) (same : new.layout ≡ old.layout) where
-  of_page : (a b : ℕ) → AreCopies old new a b → AreOfPage old.layout a b
-  of_page a b c = elim c.copies [
-    | inl was ↦ of_copies old c.page a b c.within was
-    | inr is ↦ subst (λ (l : Layout). AreOfPage l a b) same (of_copies new c.page a b (subst (λ (l : Layout). c.page < l.pages) (sym same) c.within) is)
-  ]
-
-  told_lost : (a b : ℕ) → AreLost (AreCopies old new) now.image a b → AreLost (AreOfPage old.layout) now.image a b
-  told_lost a b lost = record { copies = of_page a b lost.copies; first = lost.first; second = lost.second }
-
-  -- some pages are as they were read, and a page of them breaks the table
-  told_unsound : (s : ℕ) → ShowsBreak old new resident before now s → (page : ℕ) × (page < old.layout.pages) × (s ≡ home_a old.layout page)
-  told_unsound s shows = let breaks = shows.is pages have in (breaks.visit.page, breaks.within, breaks.home)
-    where
-      bytes_at : ℕ → List ℕ
-      bytes_at page = unwrap_or (shows.read page) []
-
-      pages : List (List ℕ)
-      pages = map bytes_at (range_with_len 0 old.layout.pages)
-
-      read_at : (page : ℕ) (o : Option (List ℕ)) → shows.read page ≡ o → IfSome o (IsRead old new resident before now page) → IfSome o (λ bytes. image_at pages page ≡ bytes)
-      read_at page None is read = tt
-      read_at page (Some bytes) is read = get_or-map-range_with_len bytes_at 0 old.layout.pages page page [] read.within (omega arith) ∙ ap (λ (o : Option (List ℕ)). unwrap_or o []) is
-
-      have : HaveRead old shows.read pages
-      have = record { size = length-map-range_with_len bytes_at 0 old.layout.pages; same = λ page. read_at page (shows.read page) refl (shows.are_read page) }
-
   pub told_of : (why : Refusal) → HasCause old new resident before now why → IsRefusedOn old.layout now.image why
-  told_of (Why.Lost a b) cause = told_lost a b cause
-  told_of (Why.Unsound s) cause = told_unsound s cause
-  told_of why cause = tt
+  told_of why cause = refused_told old.layout now.image why (told_by old new resident before now same why cause)
 
   pub close_told : (why : Refusal) → HasCause old new resident before now why → IsToldOn old.layout now.image (close_fault why)
-  close_told (Why.Lost a b) cause = told_lost a b cause
+  close_told (Why.Lost a b) cause = told_by old new resident before now same (Why.Lost a b) cause
   close_told (Why.Device s) cause = tt
   close_told why cause = tt
 

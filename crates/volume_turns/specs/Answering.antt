@@ -1,6 +1,7 @@
 -- What one command by itself says and writes, whatever the image:
 -- one reply, or the line of the fault that has ended it.
 use Rattle.std.specs.Prelude.{◌≡◌, ◌⊎◌, ⊤, ℕ, ◌<◌, ◌≤◌, List, [], ◌++◌, length, Option, Some, None, Result, Ok, Err, IfErr, IfOk, IsTrue}
+use Rattle.std.specs.List.{AllByRecursion}
 use Rattle.fsd_bytes.specs.declared.refusal.Refusal.{Refusal}
 use Rattle.fsd_bytes.specs.declared.refusal.Refusal.TheVariants as Why
 use Rattle.fsd_formats.specs.NamePage.{max_keep, sectors_for}
@@ -19,6 +20,7 @@ use Rattle.fsd_texts.specs.Text.{fault_text}
 use Rattle.fsd_runs.specs.Commands.{reply_alone}
 use Rattle.fsd_runs.specs.Errands.{fault_status, reply_status}
 use Rattle.volume_contract.specs.State.{Ages, State, is_worn, put_writes}
+use Rattle.scrub.specs.Scrub.{scrub_writes}
 use Rattle.volume_turns.specs.declared.answer.Answer.{Answer}
 use Rattle.volume_turns.specs.declared.turns.End.{End}
 use Rattle.volume_turns.specs.declared.turns.End.TheVariants.{Fault as Stopped, Output}
@@ -66,6 +68,7 @@ MayReply (Word.List pattern) i (Reply.Listed entries) = ⊤
 MayReply Word.Force i Reply.Forced = ⊤
 MayReply Word.Tick i Reply.Forced = ⊤
 MayReply Word.Stat i (Reply.Counts free waiting pages versions) = ⊤
+MayReply Word.Scrub i (Reply.Scrubbed found healed) = AllByRecursion (λ x. HasDamaged i x.1) found
 MayReply command i reply = ⊥
 
 -- ---- what is written
@@ -76,13 +79,15 @@ may_write (Word.Put name bytes keep) s = put_writes s (sectors_for (length bytes
 may_write (Word.List pattern) s = nowhere
 may_write (Word.Get key) s = nowhere
 may_write Word.Stat s = nowhere
+may_write Word.Scrub s = scrub_writes s.layout
 may_write command s = force_writes s.layout
 
--- a command that only reads leaves the volume's state
+-- a command that only reads leaves the volume's state, and so does a scrub where no page waits
 abbrev pub KeepsState : Command → State → State → Type 0
 KeepsState (Word.List pattern) s t = t ≡ s
 KeepsState (Word.Get key) s t = t ≡ s
 KeepsState Word.Stat s t = t ≡ s
+KeepsState Word.Scrub s t = s.dirty ≡ [] → t ≡ s
 KeepsState command s t = ⊤
 
 -- ---- one command, step by step
@@ -155,13 +160,14 @@ pub record EndsOne (command : Command) (s : State) (old new : Moment) (status : 
 
 -- ---- from the mount on
 
--- What is written behind the mount: nothing by a command that only reads;
--- by another that is no put, only where a force writes.
+-- What is written behind the mount: nothing by a command that only reads; by another that is no put, only where a force
+-- writes, and by a scrub also roots and in the data area.
 abbrev pub WritesBehind : Command → (sectors : ℕ) → (old mounted new : Moment) → Type 0
 WritesBehind (Word.Put name bytes keep) sectors old mounted new = ⊤
 WritesBehind (Word.List pattern) sectors old mounted new = Ages mounted new
 WritesBehind (Word.Get key) sectors old mounted new = Ages mounted new
 WritesBehind Word.Stat sectors old mounted new = Ages mounted new
+WritesBehind Word.Scrub sectors old mounted new = Ages mounted new ⊎ ((volume : HasVolume sectors old) × Touches (scrub_writes volume.layout) mounted new)
 WritesBehind command sectors old mounted new = Ages mounted new ⊎ ((volume : HasVolume sectors old) × Touches (force_writes volume.layout) mounted new)
 
 -- A mount writes only where it may, and the command behind it.

@@ -15,20 +15,27 @@ use Rattle.volume_contract.specs.Absent.{LacksKey, LacksLater, Reaches}
 use Rattle.volume_contract.specs.Causes.{Shows}
 use Rattle.volume_contract.specs.Found.{HasRange}
 use Rattle.volume_contract.specs.State.{Ages, State, change_len, force_len, put_len}
+use Rattle.scrub.specs.Looking.{AreDamaged}
+use Rattle.scrub.specs.Scrub.{WritesHealed}
 use Rattle.volume_turns.specs.declared.answer.Answer.{Answer}
 use Rattle.volume_turns.specs.declared.answer.Answer.TheVariants as Said
-use Rattle.volume_turns.specs.Listing.{fitting, last_key}
+use Rattle.scrub.specs.Walk.{last_key}
+use Rattle.volume_turns.specs.Listing.{fitting}
 
 -- ---- what is written
 
--- how many sectors a command writes at most over a volume of this state, but for the force behind it
+-- how many sectors a command writes at most over a volume of this state, but for the force behind it, and for what a
+-- scrub heals
 abbrev pub most_written : Command → State → ℕ
 most_written (Word.Put name bytes keep) s = put_len s (sectors_for (length bytes))
 most_written (Word.Delete key) s = change_len s
 most_written (Word.Keep name keep) s = change_len s
 most_written Word.Force s = force_len s
 most_written Word.Tick s = force_len s
-most_written command s = 0
+most_written Word.Scrub s = force_len s
+most_written (Word.List pattern) s = 0
+most_written (Word.Get key) s = 0
+most_written Word.Stat s = 0
 
 abbrev pub IsUpTo : ℕ → Ledger → Ledger → Type 0
 IsUpTo n old new = (old.written ≤ new.written) × (new.written ≤ old.written + n)
@@ -38,6 +45,23 @@ abbrev pub HasWritten : ℕ → Ledger → Ledger → Result Answer Fault → Ty
 HasWritten n old new (Ok (Said.Refused why)) = IsUpTo n old new
 HasWritten n old new (Ok answer) = new.written ≡ old.written + n
 HasWritten n old new (Err fault) = IsUpTo n old new
+
+-- beside these a scrub that is done has written the sectors that it tells as healed, no more of them than a number can
+-- tell; of one that a fault has ended nothing is told
+abbrev pub HasScrubbed : State → Ledger → Ledger → Result Answer Fault → Type 0
+HasScrubbed s old new (Ok (Said.Scrubbed found healed)) = WritesHealed (most_written Word.Scrub s) old new healed
+HasScrubbed s old new result = ⊤
+
+abbrev pub HasWrittenBy : Command → State → Ledger → Ledger → Result Answer Fault → Type 0
+HasWrittenBy Word.Scrub s old new result = HasScrubbed s old new result
+HasWrittenBy command s old new result = HasWritten (most_written command s) old new result
+
+-- ---- what a scrub has found
+
+-- each is a data sector, which is damaged in the image
+abbrev pub BecauseScrubbed : State → Moment → Reply → Type 0
+BecauseScrubbed s new (Reply.Scrubbed found healed) = AreDamaged s.layout new.image found
+BecauseScrubbed s new reply = ⊤
 
 -- ---- what the pages that were read show
 
@@ -72,4 +96,5 @@ module _ {S : Type 0} (state : S → State) (resident : S → ℕ → Option (Li
   abbrev pub Because : Command → (s t : State) → (old new : Moment) → Reply → Type 0
   Because (Word.Get key) s t old new reply = BecauseRead key s t old new reply
   Because (Word.List pattern) s t old new reply = BecauseListed pattern s t old new reply
+  Because Word.Scrub s t old new reply = BecauseScrubbed s new reply
   Because command s t old new reply = ⊤

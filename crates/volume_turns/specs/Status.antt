@@ -3,7 +3,7 @@ use Rattle.std.specs.Prelude.{◌≡◌, ◌⊎◌, ◌≤◌, ◌==◌, ◌||�
 use Rattle.std.specs.List.{list_any}
 use Rattle.sector_disk.specs.Machine.{Report, Rose}
 use Rattle.fsd_texts.specs.declared.command.Command.{Command}
-use Rattle.fsd_texts.specs.declared.command.Command.TheVariants.{Delete, Get, Keep, Put}
+use Rattle.fsd_texts.specs.declared.command.Command.TheVariants.{Delete, Get, Keep, Put, Scrub}
 use Rattle.fsd_texts.specs.declared.fault.Fault.{Fault}
 use Rattle.fsd_runs.specs.Errands.{fault_status}
 use Rattle.volume_turns.specs.Steps.{IsOfVolume}
@@ -19,12 +19,13 @@ abbrev pub IsStatusBroken : ℕ → Type 0
 IsStatusBroken status = IsStatusOfFault status ⊎ (status ≡ 6)
 
 -- the status of a reply to this command: a change is made or refused; so a version is read, or a sector of it is
--- damaged; of what is told, and of a force, nothing is refused
+-- damaged; of what is told, and of a force, nothing is refused; a scrub has found damaged sectors, or none
 abbrev pub IsStatusFrom : Command → ℕ → Type 0
 IsStatusFrom (Put name bytes keep) status = status ≤ 1
 IsStatusFrom (Delete key) status = status ≤ 1
 IsStatusFrom (Keep name keep) status = status ≤ 1
 IsStatusFrom (Get key) status = (status ≤ 1) ⊎ (status ≡ 8)
+IsStatusFrom Scrub status = (status ≡ 0) ⊎ (status ≡ 8)
 IsStatusFrom command status = status ≡ 0
 
 -- one command ends with the status of its reply, or of a fault, or its output failed

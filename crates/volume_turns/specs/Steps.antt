@@ -1,8 +1,6 @@
 -- One command over a mounted volume: what it answers, and what it leaves.
-use Rattle.std.specs.Prelude.{◌≡◌, ◌⊎◌, ◌<◌, ⊤, ℕ, List, ◌++◌, Option, Some, None, Result, Ok, Err, IfErr, IsTrue, IsFalse}
+use Rattle.std.specs.Prelude.{◌≡◌, ⊤, ℕ, List, ◌++◌, Option, Some, None, Result, Ok, Err, IfErr, IsTrue, IsFalse}
 use Rattle.volume_layout.specs.declared.layout.Layout.{Layout}
-use Rattle.volume_layout.specs.Layout.{home_a}
-use Rattle.fsd_log.specs.Places.{LieInRecord}
 use Rattle.fsd_log.specs.Scan.{Placed}
 use Rattle.fsd_bytes.specs.declared.key.Key.{Key}
 use Rattle.fsd_bytes.specs.declared.refusal.Refusal.{Refusal}
@@ -16,9 +14,9 @@ use Rattle.fsd_texts.specs.declared.fault.Fault.TheVariants as Ends
 use Rattle.fsd_runs.specs.Commands.{answer, changes_of, MayFind, may_wear_out}
 use Rattle.sector_disk.specs.Damage.{AreLost}
 use Rattle.sector_disk.specs.Machine.{Moment}
-use Rattle.fsd_sound.specs.Lost.{AreHomes}
 use Rattle.fsd_sound.specs.Mounted.{Mounted}
 use Rattle.fsd_sound.specs.Sound.{IsSound}
+use Rattle.scrub.specs.Telling.{IsHomeOfPage, StandTwice}
 use Rattle.volume_turns.specs.declared.answer.Answer.{Answer}
 use Rattle.volume_turns.specs.declared.answer.Answer.TheVariants as Said
 use Rattle.volume_contract.specs.State.{State, Known, volume_of, forced_of, Stands, is_worn}
@@ -35,6 +33,7 @@ reply_of (Said.Damaged key s) = Reply.DamagedAt key s
 reply_of Said.Forced = Reply.Forced
 reply_of (Said.Listed entries) = Reply.Listed entries.items
 reply_of (Said.Counts s) = Reply.Counts s.free s.waiting s.pages_free s.versions
+reply_of (Said.Scrubbed found healed) = Reply.Scrubbed found.items healed
 
 -- a refusal ends the run, or is said
 abbrev pub ended_by : Refusal → Result Answer Fault
@@ -68,15 +67,11 @@ IsOfImage (Ends.Lost a b) = ⊤
 IsOfImage (Ends.Unsound s) = ⊤
 IsOfImage fault = ⊥
 
--- the sectors are a page's own and its copy in a record in the log, or its homes
-abbrev pub AreOfPage : Layout → (a b : ℕ) → Type 0
-AreOfPage l a b = LieInRecord l a b ⊎ AreHomes l a b
-
--- It is so by this layout, in this image: the two copies of a page that are told as lost are both damaged, and it is
--- the home of a page of the table that is told as unsound.
+-- It is so by this layout, in this image: the two copies that are told as lost are both damaged, and it is the home of a
+-- page of the table that is told as unsound.
 abbrev pub IsToldOn : Layout → Image → Fault → Type 0
-IsToldOn l i (Ends.Lost a b) = AreLost (AreOfPage l) i a b
-IsToldOn l i (Ends.Unsound s) = (page : ℕ) × (page < l.pages) × (s ≡ home_a l page)
+IsToldOn l i (Ends.Lost a b) = AreLost (StandTwice l) i a b
+IsToldOn l i (Ends.Unsound s) = IsHomeOfPage l s
 IsToldOn l i fault = ⊤
 
 -- so it is of a refusal that ends the run

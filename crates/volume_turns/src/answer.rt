@@ -20,6 +20,8 @@ pub enum Answer {
     Damaged { key: Key, sector: u32 },
     Forced,
     Counts(Stat),
+    /// The data sectors that read damaged, each with its version's key, and how many others were healed.
+    Scrubbed { found: Vec<(Key, u32)>, healed: u32 },
 }
 
 // A refusal is said, or ends the run.

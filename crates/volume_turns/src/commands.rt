@@ -7,7 +7,7 @@ ghost use Rattle.fsd_runs.specs.Errands.{reply_status};
 ghost use Rattle.sector_disk.specs.Calls.{OnlyReads, WritesDisk};
 ghost use Rattle.volume_contract.specs.State.{Known, Stands, volume_of};
 ghost use Rattle.volume_turns.specs.Answering.{Answers};
-ghost use Rattle.volume_turns.specs.Reasons.{Because, HasWritten, most_written};
+ghost use Rattle.volume_turns.specs.Reasons.{Because, HasWritten, HasWrittenBy, most_written};
 ghost use Rattle.volume_turns.specs.Status.{IsStatusFrom};
 ghost use Rattle.volume_turns.specs.Steps.{Does, IsOfCall, Stays, device_by, reply_of};
 
@@ -15,6 +15,7 @@ use crate::answer::{Answer, ended_by, read_ended_by};
 use crate::listing::list;
 use fsd_bytes::{FileName, Key};
 use fsd_texts::{Command, Fault};
+use scrub::scrub;
 use sector_disk::Machine;
 use std::alloc::Global;
 use volume_contract::Files;
@@ -216,7 +217,7 @@ pub(crate) fn answer<M: Machine, V: Files<M>>(
     ensures fault { IfErr result IsOfCall }
     ensures status { IfOk result (λ a. IsStatusFrom c.now (reply_status (reply_of a))) }
     ensures answers { M.honest m.new → Answers c.now (V.state v.old) (V.state v.new) (M.now m.old) (M.now m.new) result }
-    ensures written { M.tells m.new → HasWritten (most_written c.now (V.state v.old)) (M.ledger m.old) (M.ledger m.new) result }
+    ensures written { M.tells m.new → HasWrittenBy c.now (V.state v.old) (M.ledger m.old) (M.ledger m.new) result }
     ensures because { M.honest m.new → IfOk result (λ a. Because V.state V.resident c.now (V.state v.old) (V.state v.new) (M.now m.old) (M.now m.new) (reply_of a)) }
     ensures done { M.honest m.new → (k : Known) → Stands V.state V.holds v.old k (M.now m.old) →
         Does V.state V.holds c.now v.old v.new k (M.now m.old) (M.now m.new) result }
@@ -230,6 +231,32 @@ pub(crate) fn answer<M: Machine, V: Files<M>>(
         Command::Tick => tick(v, m),
         Command::List(pattern) => list(alloc, v, m, pattern),
         Command::Stat => count(v, m),
+        Command::Scrub => scrub_all(alloc, v, m),
+    }
+}
+
+// Scrubs the volume.
+fn scrub_all<M: Machine, V: Files<M>>(alloc: Global, v: &mut V, m: &mut M) -> Result<Answer, Fault>
+    requires room { (V.state v.old).layout.sectors ≤ (M.report m.old).sectors }
+    requires up { (V.state v.old).down ≡ None }
+    ensures layout { (V.state v.new).layout ≡ (V.state v.old).layout }
+    ensures up { OnOk result ((V.state v.new).down ≡ None) }
+    ensures disk { WritesDisk M.Machine (device_by result) (Stays V.state V.holds v.old) m.old m.new }
+    ensures fault { IfErr result IsOfCall }
+    ensures status { IfOk result (λ a. IsStatusFrom Word.Scrub (reply_status (reply_of a))) }
+    ensures answers { M.honest m.new → Answers Word.Scrub (V.state v.old) (V.state v.new) (M.now m.old) (M.now m.new) result }
+    ensures written { M.tells m.new → HasWrittenBy Word.Scrub (V.state v.old) (M.ledger m.old) (M.ledger m.new) result }
+    ensures because { M.honest m.new → IfOk result (λ a. Because V.state V.resident Word.Scrub (V.state v.old) (V.state v.new) (M.now m.old) (M.now m.new) (reply_of a)) }
+    ensures done { M.honest m.new → (k : Known) → Stands V.state V.holds v.old k (M.now m.old) →
+        Does V.state V.holds Word.Scrub v.old v.new k (M.now m.old) (M.now m.new) result }
+{
+    let mut found = Vec::new(alloc);
+    match scrub(v, m, &mut found) {
+        Ok(healed) => Ok(Answer::Scrubbed {
+            found,
+            healed: healed.sectors,
+        }),
+        Err(why) => ended_by(why),
     }
 }
 

@@ -65,6 +65,7 @@ fn status_of(answer: &Answer) -> u8
     match answer {
         Answer::Refused(_) => 1,
         Answer::Damaged { .. } => 8,
+        Answer::Scrubbed { found, .. } if found.len() > 0 => 8,
         _ => 0,
     }
 }

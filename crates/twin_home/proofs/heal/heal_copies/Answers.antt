@@ -1,5 +1,5 @@
 use Rattle.std.proofs.Common.{inl, inr, ap, refl, sym, ◌∙◌, arith}
-use Rattle.std.proofs.lemmas.Result.{err_from_is_err_and}
+use Rattle.std.proofs.lemmas.Result.{IfOk-weaker, err_from_is_err_and}
 use Rattle.sector_disk.specs.Machine.{Ledger, wrote}
 use Rattle.sector_disk.proofs.CallLaws.{reads_as_writes, reads_then_writes}
 use Rattle.twin_home.specs.Heal.{AreCopies}
@@ -14,6 +14,7 @@ returns-in_err-read_both g c =
     rw (p.1, p.2) (record {
       writes = reads_as_writes reads (λ h left worn. still_heals a b (g.M.Machine.now c.args.m.now) left worn);
       copies = tt;
+      few = tt;
       counted = tt;
       most = λ t. omega (arith, ap (λ (x : Ledger). x.written) (reads.ledger t));
       done = tt;
@@ -33,6 +34,7 @@ returns-in-Some-None g c =
           let whole = reads_whole old mid a c.in_ok-read_both.field-0.0 bytes c.in-Some-None.is-0 (both.read (trust.honest h)).first in
           inr (inr (mends old mid (both.reads.worn (trust.honest h)) b a bytes set.long whole left part)));
       copies = device_copies a b c.set_copy.result set.device;
+      few = IfOk-weaker c.set_copy.result _ _ (λ count one. omega (arith, one)) set.one;
       counted = if_ok_both _ _ _ c.set_copy.result set.one set.counted (λ count one counted t. counted t ∙ λ i. wrote (both.reads.ledger (trust.tells t) i) (sym one i));
       most = λ t. omega (arith, set.most t, ap (λ (x : Ledger). x.written) (both.reads.ledger (trust.tells t)));
       done = if_ok_both _ _ _ c.set_copy.result set.one set.done
@@ -58,6 +60,7 @@ returns-in-None-Some g c =
           let whole = reads_whole old mid b c.in_ok-read_both.field-0.1 bytes c.in-None-Some.is-1 (both.read (trust.honest h)).second in
           inr (inl (mends old mid (both.reads.worn (trust.honest h)) a b bytes set.long whole left part)));
       copies = device_copies a b c.set_copy-in-None-Some.result set.device;
+      few = IfOk-weaker c.set_copy-in-None-Some.result _ _ (λ count one. omega (arith, one)) set.one;
       counted = if_ok_both _ _ _ c.set_copy-in-None-Some.result set.one set.counted (λ count one counted t. counted t ∙ λ i. wrote (both.reads.ledger (trust.tells t) i) (sym one i));
       most = λ t. omega (arith, set.most t, ap (λ (x : Ledger). x.written) (both.reads.ledger (trust.tells t)));
       done = if_ok_both _ _ _ c.set_copy-in-None-Some.result set.one set.done
@@ -79,6 +82,7 @@ returns-in-None-None g c =
     record {
       writes = reads_as_writes both.reads (λ h left worn. still_heals a b old left worn);
       copies = (refl, refl);
+      few = tt;
       counted = tt;
       most = λ t. omega (arith, ap (λ (x : Ledger). x.written) (both.reads.ledger t));
       done = tt;

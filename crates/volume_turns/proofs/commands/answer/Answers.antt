@@ -26,3 +26,6 @@ returns-in-Stat-clause-status g c = rw c.in-Stat.is c.count.ensures.status
 
 pub returns-in-Stat-clause-answers : goal.returns-in-Stat-clause-answers
 returns-in-Stat-clause-answers g c = rw c.in-Stat.is c.count.ensures.answers
+
+pub returns-in-Scrub : goal.returns-in-Scrub
+returns-in-Scrub g c = rw c.in-Scrub.is c.scrub_all.ensures

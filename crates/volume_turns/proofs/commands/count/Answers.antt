@@ -1,4 +1,4 @@
-use Rattle.std.proofs.Common.{None, false, inl, refl, sym, ap}
+use Rattle.std.proofs.Common.{[], None, false, inl, refl, sym, ap}
 use Rattle.std.proofs.lemmas.List.{append-nil}
 use Rattle.sector_disk.proofs.CallLaws.{writes_none}
 use Rattle.sector_disk.proofs.Holding.{wears_none}
@@ -22,7 +22,7 @@ returns-clause-done g c h k stands =
     let e = c.stat.ensures in (
       k,
       record {
-        met = record { forces = false; reached = 0; damaged = None };
+        met = record { forces = false; reached = 0; damaged = None; found = []; healed = 0 };
         is = ap (λ (r : Reply). (r, volume_of k)) (counts_are (g.V.Files.state c.args.v.now) k.mounted stands.fits said.free said.waiting said.pages_free said.versions e.free e.waiting e.pages_free e.versions);
         windows = refl;
         changes = sym (append-nil k.changes);

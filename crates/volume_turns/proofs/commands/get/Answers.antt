@@ -17,7 +17,8 @@ use Rattle.volume_turns.proofs.StatusLaws.{refused_get}
 use Rattle.fsd_files.specs.Disk.{nowhere}
 use Rattle.volume_turns.specs.Answering.{MayReply}
 use Rattle.volume_turns.specs.Numbers.{GoesUp}
-use Rattle.volume_turns.proofs.AnsweringLaws.{entry_refused, worn_first, worn_touches}
+use Rattle.scrub.proofs.LeadLaws.{worn_touches}
+use Rattle.volume_turns.proofs.AnsweringLaws.{entry_refused, worn_first}
 use Rattle.volume_turns.proofs.ToldLaws.{told_of, told_so}
 use Rattle.volume_turns.proofs.WornLaws.{told_worn}
 use Rattle.volume_turns.proofs.NumberLaws.{goes_none}

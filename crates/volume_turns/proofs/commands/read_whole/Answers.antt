@@ -19,7 +19,8 @@ use Rattle.fsd_bytes.specs.declared.refusal.Refusal.{Refusal}
 use Rattle.fsd_bytes.specs.declared.refusal.Refusal.TheVariants as Why
 use Rattle.fsd_files.specs.Disk.{nowhere}
 use Rattle.volume_turns.specs.Answering.{HasDamaged, MayReply}
-use Rattle.volume_turns.proofs.AnsweringLaws.{data_inside, read_refused, worn_touches}
+use Rattle.scrub.proofs.LeadLaws.{worn_touches}
+use Rattle.volume_turns.proofs.AnsweringLaws.{data_inside, read_refused}
 use Rattle.volume_turns.proofs.ToldLaws.{read_told_so, told_of}
 use Rattle.volume_turns.proofs.WornLaws.{read_told_worn}
 use Rattle.volume_turns.proofs.NumberLaws.{goes_none}

@@ -7,7 +7,9 @@ use Rattle.sector_disk.proofs.CallLaws.{reads_none, reads_then}
 use Rattle.volume_contract.specs.State.{State, volume_of}
 use Rattle.volume_turns.specs.Listing.{AreListed}
 use Rattle.volume_turns.specs.Steps.{IsRefusedOn}
-use Rattle.volume_turns.proofs.ListLaws.{files_in_order, listed_all, listed_counted, listed_more, listed_none, outside_only}
+use Rattle.scrub.proofs.WalkLaws.{files_in_order}
+use Rattle.scrub.proofs.LookedLaws.{outside_only}
+use Rattle.volume_turns.proofs.ListLaws.{listed_all, listed_counted, listed_more, listed_none}
 use Rattle.volume_turns.proofs.OrderLaws.{next_refuses}
 use Rattle.std.specs.Prelude.{IfNone}
 use Rattle.fsd_bytes.specs.declared.key.Key.{Key}

@@ -1,4 +1,4 @@
-use Rattle.std.proofs.Common.{◌≡◌, ℕ, List, ◌∙◌, refl, sym, ap, subst, Option, None, false}
+use Rattle.std.proofs.Common.{◌≡◌, ℕ, List, [], ◌∙◌, refl, sym, ap, subst, Option, None, false}
 use Rattle.std.specs.Prelude.{Result}
 use Rattle.std.proofs.lemmas.List.{append-nil}
 use Rattle.fsd_bytes.specs.declared.refusal.Refusal.TheVariants as Why
@@ -18,7 +18,7 @@ use Rattle.volume_turns.specs.Steps.{reply_of}
 use Rattle.volume_turns.proofs.StatusLaws.{look_up_ends}
 use Rattle.fsd_files.specs.Disk.{nowhere}
 use Rattle.volume_turns.specs.Answering.{MayReply}
-use Rattle.volume_turns.proofs.AnsweringLaws.{worn_touches}
+use Rattle.scrub.proofs.LeadLaws.{worn_touches}
 use Rattle.volume_turns.proofs.ToldLaws.{told_so}
 use Rattle.volume_turns.proofs.WornLaws.{look_up_worn}
 use Rattle.volume_turns.proofs.NumberLaws.{goes_none}
@@ -38,7 +38,7 @@ pub returns-in-Ok-clause-done : goal.returns-in-Ok-clause-done
 returns-in-Ok-clause-done g c h k stands = (
   k,
   record {
-    met = record { forces = false; reached = 0; damaged = None };
+    met = record { forces = false; reached = 0; damaged = None; found = []; healed = 0 };
     is = ap (λ (x : List Entry). (Reply.Listed x, volume_of k)) (sym (c.in-Ok.ensures.done h k stands));
     windows = refl;
     changes = sym (append-nil k.changes);

@@ -2,6 +2,7 @@ use Rattle.std.proofs.Common.{◌≡◌, ◌∙◌, ℕ, ◌<◌, true, ap, subs
 use Rattle.std.specs.Prelude.{IfOk, IfSome}
 use Rattle.sector_disk.proofs.CallLaws.{reads_told}
 use Rattle.std.specs.Option.{option_copied}
+use Rattle.fsd_formats.specs.NamePage.{is_entry}
 use Rattle.fsd_files.specs.Answers.{entry_after as entry_behind}
 use Rattle.name_page.specs.Lookups.{entry_after, is_after}
 use Rattle.volume_contract.specs.Absent.{LacksLater, Reaches}
@@ -39,6 +40,7 @@ returns g c =
       dirty = looks.dirty ∙ ap (λ (x : VolumeValue). x.cache.dirty) view;
       page = looked_ok home_a r result says (λ found. IfSome found (λ f. f.page < w.layout.pages))
           (subst (λ (n : ℕ). IfOk r (λ found. IfSome found (λ f. f.page < n))) (whole.pages ∙ ap (λ (x : VolumeValue). x.layout.pages) view) e.page);
+      entry = looked_ok home_a r result says (λ found. IfSome found (λ f. is_entry f.entry ≡ true)) e.entry;
       later = looked_ok home_a r result says (λ found. IfSome found (λ f. is_after (option_copied c.args.after) f.entry.key ≡ true)) e.later;
       cause = looked_cause M by_log.ghosts c.over-source.result c.next_after-found.new.m new.cache c.self.inside.table.free_pages home_a r result says e.fault;
       stands = stands_found M g.met.M.Machine.short c.args.m.now c.next_after-found.new.m _ w view whole c.dirty_list-whole.ensures.valid new.cache c.over-source.result log new.free_pages _ looks e.free;

@@ -1,18 +1,22 @@
-use Rattle.std.proofs.Common.{sym, subst}
+use Rattle.std.proofs.Common.{◌≤◌, ◌^◌, ap, arith, sym, subst}
 use Rattle.std.specs.Prelude.{IfNone, IfOk, IfSome}
 use Rattle.std.specs.Option.{option_copied}
 use Rattle.fsd_formats.specs.declared.entry.Entry.{Entry}
 use Rattle.fsd_files.specs.Answers.{next_reply}
 use Rattle.volume_contract.specs.Absent.{LacksLater, ShowsReached}
-use Rattle.volume_contract.specs.Causes.{Causes, IsTaken}
+use Rattle.volume_contract.specs.Causes.{Causes}
 use Rattle.volume_contract.specs.Ends.{IsLater, Looks}
 use Rattle.volume_contract.specs.Found.{ShowsReachedNext}
+use Rattle.volume_contract.specs.Healing.{IsMet}
 use Rattle.volume_contract.specs.Order.{Follows, next_steps}
 use Rattle.volume_state.specs.State.{resident, state}
+use Rattle.volume_state.specs.Volume.{VolumeValue}
+use Rattle.volume_layout.proofs.RootLaws.{planned_bounds}
+use Rattle.table_volume.proofs.MetLaws.{found_is_met}
 use Rattle.volume_changes.proofs.AbsentLaws.{none_met}
 use Rattle.volume_changes.proofs.CauseLaws.{met_one}
 use Rattle.volume_changes.proofs.FoundLaws.{one_met}
-use Rattle.volume_changes.proofs.NextLaws.{met_done, met_later, met_order, met_taken, up_by}
+use Rattle.volume_changes.proofs.NextLaws.{met_done, met_later, met_order, up_by}
 use Rattle.table_volume.proofs.volume.Volume.next_after.Goals as goal
 
 pub returns-clause-order : goal.returns-clause-order
@@ -32,8 +36,13 @@ returns-clause-causes g c =
     subst (λ r. Causes g.M.Machine (resident w) (state w) (state c.find_next.new.self) c.args.m.now c.find_next.new.m r) (sym c.met_found.ensures)
     (met_one g.M.Machine (resident w) (state w) (state c.find_next.new.self) c.args.m.now c.find_next.new.m c.find_next.new.self c.in_ok-found.found c.in_ok-found.ensures.met)
 
-pub returns-clause-taken : goal.returns-clause-taken
-returns-clause-taken g c = subst (λ r. IfOk r (λ found. IfSome found (IsTaken (state c.find_next.new.self)))) (sym c.met_found.ensures) (met_taken c.find_next.new.self c.in_ok-found.found c.in_ok-found.ensures.told)
+pub returns-clause-met : goal.returns-clause-met
+returns-clause-met g c =
+    let w = c.find_next.new.self in
+    let found = c.in_ok-found.ensures in
+    let bounds = planned_bounds c.self.inside.layout c.self.invariant.planned in
+    let most : c.find_next.new.self.layout.sectors ≤ 2 ^ 24 = omega (arith, bounds.sectors_most, ap (λ (v : VolumeValue). v.layout.sectors) c.self.view_is, ap (λ (v : VolumeValue). v.layout.sectors) c.in_ok-found.ensures.cache) in
+    subst (λ r. IfOk r (λ found. IfSome found (IsMet (state c.find_next.new.self)))) (sym c.met_found.ensures) (found_is_met w most found.told c.in_ok-found.found found.entry)
 
 pub returns-clause-absent : goal.returns-clause-absent
 returns-clause-absent g c =

@@ -1,0 +1,193 @@
+//! Scrubs of a volume of twelve versions, of which each has its leader and one sector of data from 657 on: each sector
+//! is damaged, alone and with the one behind it. The roots stand at 0 and 4, the anchors at 8 and 12, and the homes at
+//! 616 to 632 and at 636 to 652. As `rt test` builds them they take seconds.
+use crate::damage::set;
+use crate::machines::{calm, formatted, run, weak};
+use sector_disk::{Event, MemoryMachine, Sector, When};
+use std::alloc::{AllocError, Global};
+use std::test::Fail;
+
+const FORMAT: &str = "cfs format w 721 200 16";
+
+// The versions, and where the leader and the data of each stand.
+const VERSIONS: [(&str, u32, u32); 12] = [
+    ("a!1", 657, 658),
+    ("b!1", 659, 660),
+    ("c!1", 661, 662),
+    ("d!1", 663, 664),
+    ("e!1", 665, 666),
+    ("f!1", 667, 668),
+    ("g!1", 669, 670),
+    ("h!1", 671, 672),
+    ("i!1", 673, 674),
+    ("j!1", 675, 676),
+    ("k!1", 677, 678),
+    ("l!1", 679, 680),
+];
+
+const PUTS: &[u8] =
+    b"put a 1\nx\nput b 1\nx\nput c 1\nx\nput d 1\nx\nput e 1\nx\nput f 1\nx\nput g 1\nx\nput h 1\nx\n\
+    put i 1\nx\nput j 1\nx\nput k 1\nx\nput l 1\nx\n";
+
+const GETS: &[u8] =
+    b"get a!1\nget b!1\nget c!1\nget d!1\nget e!1\nget f!1\nget g!1\nget h!1\nget i!1\nget j!1\n\
+    get k!1\nget l!1\n";
+
+// What a scrub says where these sectors were damaged and so many leaders are to be healed.
+fn scrub_says(alloc: Global, hurt: &[u32], healed: u32) -> Result<Vec<u8>, AllocError> {
+    let mut said = Vec::new(alloc);
+    let mut damaged = 0u32;
+    for (key, _, data) in VERSIONS {
+        if hurt.contains(&data) {
+            damaged = damaged.saturating_add(1);
+            let line = format!(in alloc; "damaged {key} {data}\n")?;
+            said.extend_from_slice(line.as_bytes())?;
+        }
+    }
+    let last = format!(in alloc; "scrubbed healed {healed} damaged {damaged}\n")?;
+    said.extend_from_slice(last.as_bytes())?;
+    Ok(said)
+}
+
+// What the gets say.
+fn gets_say(alloc: Global, hurt: &[u32]) -> Result<Vec<u8>, AllocError> {
+    let mut said = Vec::new(alloc);
+    for (key, _, data) in VERSIONS {
+        if hurt.contains(&data) {
+            let line = format!(in alloc; "damaged {key} {data}\n")?;
+            said.extend_from_slice(line.as_bytes())?;
+        } else {
+            let lines = format!(in alloc; "bytes {key} 1\nx\n")?;
+            said.extend_from_slice(lines.as_bytes())?;
+        }
+    }
+    said.extend_from_slice(b"forced\n")?;
+    Ok(said)
+}
+
+fn leaders_in(hurt: &[u32]) -> u32 {
+    let mut count = 0u32;
+    for (_, leader, _) in VERSIONS {
+        if hurt.contains(&leader) {
+            count = count.saturating_add(1);
+        }
+    }
+    count
+}
+
+fn is_whole(image: &[Sector], sector: u32) -> bool {
+    matches!(image.get(sector as usize), Some(Sector::Whole(_)))
+}
+
+// Whether what stands twice outside the log and all leaders are whole.
+fn all_stand(image: &[Sector]) -> bool {
+    let front = [0, 4, 8, 12].iter().all(|sector| is_whole(image, *sector));
+    let homes = (616..632u32).all(|sector| is_whole(image, sector));
+    let copies = (636..652u32).all(|sector| is_whole(image, sector));
+    let leaders = VERSIONS
+        .iter()
+        .all(|(_, leader, _)| is_whole(image, *leader));
+    front && homes && copies && leaders
+}
+
+// Whether a scrub heals so many of an image with such damage, then nothing, and the gets say what they ought to.
+fn scrubs_well(
+    alloc: Global,
+    m: MemoryMachine,
+    hurt: &[u32],
+    healed: u32,
+) -> Result<bool, AllocError> {
+    let (m, _) = run(alloc, m, &[], "cfs scrub w", b"")?;
+    let first = m.said() == scrub_says(alloc, hurt, healed)?.as_slice() && all_stand(m.image());
+    let (m, again) = run(alloc, m, &[], "cfs scrub w", b"")?;
+    let none = scrub_says(alloc, hurt, 0)?;
+    let status = if none.as_slice().starts_with(b"damaged ") {
+        8
+    } else {
+        0
+    };
+    let second = m.said() == none.as_slice() && again == status;
+    let (m, _) = run(alloc, m, &[], "cfs script w", GETS)?;
+    Ok(first && second && m.said() == gets_say(alloc, hurt)?.as_slice() && m.honest())
+}
+
+fn twelve(alloc: Global) -> Result<Vec<Sector>, AllocError> {
+    let m = calm(alloc, formatted(alloc, FORMAT)?);
+    let (m, _) = run(alloc, m, &[], "cfs script w", PUTS)?;
+    m.image().to_vec(alloc)
+}
+
+// The first of these sectors with whose damage, alone or with that of the next one, a scrub goes wrong.
+fn first_wrong_in(alloc: Global, from: u32, to: u32) -> Result<Option<u32>, AllocError> {
+    let image = twelve(alloc)?;
+    for sector in from..to {
+        for hurt in [[sector, sector], [sector, sector.saturating_add(1)]] {
+            let mut damaged = image.to_vec(alloc)?;
+            set(damaged.as_mut_slice(), &hurt, Sector::Damaged);
+            if !scrubs_well(alloc, calm(alloc, damaged), &hurt, leaders_in(&hurt))? {
+                return Ok(Some(sector));
+            }
+        }
+    }
+    Ok(None)
+}
+
+// The front, and the log, whose record stands at 16.
+#[test]
+fn the_front_and_the_log_are_scrubbed(rt: HostRuntime) -> Result<(), Fail> {
+    assert_eq!(rt; first_wrong_in(rt.alloc(), 0, 40)?, None);
+    Ok(())
+}
+
+// The homes and the data, with the last sectors of the log before them.
+#[test]
+fn the_homes_and_the_data_are_scrubbed(rt: HostRuntime) -> Result<(), Fail> {
+    assert_eq!(rt; first_wrong_in(rt.alloc(), 610, 721)?, None);
+    Ok(())
+}
+
+// A scrub on which a pair of sectors wears stops after so many sectors, and is made again.
+fn wrong_stop(alloc: Global, image: &[Sector], pair: [u32; 2]) -> Result<Option<u64>, AllocError> {
+    let worn = pair.map(|sector| Event::HurtAt {
+        sector,
+        when: When::Call(2),
+    });
+    for after in 0..8u64 {
+        let m = weak(alloc, image, [pair[0]; 3])?;
+        let (m, _) = run(
+            alloc,
+            m,
+            &[worn[0], worn[1], Event::Stop { after }],
+            "cfs scrub w",
+            b"",
+        )?;
+        let (m, _) = run(alloc, m, &[], "cfs scrub w", b"")?;
+        if !all_stand(m.image()) || !scrubs_well(alloc, m, &pair, 0)? {
+            return Ok(Some(after));
+        }
+    }
+    Ok(None)
+}
+
+// Roots, anchors, a page of the record, homes, and leaders with the data behind them.
+const PAIRS: [[u32; 2]; 8] = [
+    [0, 1],
+    [3, 4],
+    [8, 9],
+    [19, 20],
+    [616, 617],
+    [636, 637],
+    [657, 658],
+    [678, 679],
+];
+
+#[test]
+fn a_scrub_that_is_stopped_is_made_again(rt: HostRuntime) -> Result<(), Fail> {
+    let alloc = rt.alloc();
+    let image = twelve(alloc)?;
+    for pair in PAIRS {
+        let wrong = wrong_stop(alloc, image.as_slice(), pair)?;
+        assert_eq!(rt; wrong, None, "{}", pair[0]);
+    }
+    Ok(())
+}

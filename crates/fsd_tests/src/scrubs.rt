@@ -1,0 +1,82 @@
+//! Scrubs on which a pair of sectors wears, in a volume whose log begins at 16, whose homes begin at 784 and 852, and
+//! whose data begins at 921.
+use crate::machines::{formatted, run, weak};
+use sector_disk::{Event, Sector, When};
+use std::alloc::{AllocError, Global};
+use std::test::Fail;
+
+const FORMAT: &str = "cfs format v 2048 256 64";
+
+// How many sectors a scrub healed and how many it told as damaged, where it did one of these.
+fn told(said: &[u8]) -> Option<(u32, u32)> {
+    match said {
+        b"scrubbed healed 0 damaged 0\n" => Some((0, 0)),
+        b"scrubbed healed 1 damaged 0\n" => Some((1, 0)),
+        b"damaged a!1 922\nscrubbed healed 0 damaged 1\n" => Some((0, 1)),
+        _ => None,
+    }
+}
+
+// A scrub of this volume on which the sector is damaged just before this call, and then a get. What the scrub told, or nothing where
+// a run went wrong; and whether the sector is whole at the end.
+fn scrubbed(
+    alloc: Global,
+    image: &[Sector],
+    sector: u32,
+    call: u64,
+) -> Result<(Option<(u32, u32)>, bool), AllocError> {
+    let hurt = Event::HurtAt {
+        sector,
+        when: When::Call(call),
+    };
+    let m = weak(alloc, image, [sector; 3])?;
+    let (m, status) = run(alloc, m, &[hurt], "cfs scrub v", b"")?;
+    let saw = told(m.said());
+    let whole = matches!(m.image().get(sector as usize), Some(Sector::Whole(_)));
+    let (m, after) = run(alloc, m, &[], "cfs get v a!1", b"")?;
+    let right = match saw {
+        Some((_, 0)) => status == 0,
+        _ => status == 8,
+    };
+    let reads = (after == 0 && m.said() == b"x".as_slice()) || (after == 8 && sector == 922);
+    if right && reads && m.honest() {
+        Ok((saw, whole))
+    } else {
+        Ok((None, whole))
+    }
+}
+
+// Each kind of sector that a scrub heals is healed where it is damaged in front of it, and a data sector is told.
+#[test]
+fn what_wears_in_a_scrub_is_healed(rt: HostRuntime) -> Result<(), Fail> {
+    let alloc = rt.alloc();
+    let empty = formatted(alloc, FORMAT)?;
+    // One version, with its leader at 921 and its data at 922.
+    let (m, _) = run(
+        alloc,
+        weak(alloc, empty.as_slice(), [0; 3])?,
+        &[],
+        "cfs put v a",
+        b"x",
+    )?;
+    let image = m.image().to_vec(alloc)?;
+    for (sector, most) in [(4, 1), (8, 1), (784, 1), (915, 1), (921, 1), (922, 0)] {
+        let mut healed = 0;
+        let mut damaged = 0;
+        for step in 12..30u64 {
+            let (saw, whole) = scrubbed(alloc, image.as_slice(), sector, 16 * step)?;
+            let Some((h, d)) = saw else {
+                assert!(rt; false, "{sector} {step}");
+                return Ok(());
+            };
+            if h == 1 {
+                assert!(rt; whole, "{sector} {step}");
+            }
+            healed = healed.max(h);
+            damaged = damaged.max(d);
+        }
+        assert!(rt; healed == most, "{sector} healed");
+        assert!(rt; damaged == 1 - most, "{sector} damaged");
+    }
+    Ok(())
+}

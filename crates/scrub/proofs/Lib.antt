@@ -1,0 +1,9 @@
+pub mod PlaceLaws
+pub mod ApartLaws
+pub mod ToldLaws
+pub mod WalkLaws
+pub mod LookLaws
+pub mod LookedLaws
+pub mod LeadLaws
+pub mod WholeLaws
+pub mod KeptLaws

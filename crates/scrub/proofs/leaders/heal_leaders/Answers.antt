@@ -1,0 +1,209 @@
+use Rattle.std.proofs.Common.{◌≡◌, ℕ, ◌+◌, Option, None, refl, sym, ap, ◌∙◌, subst, arith}
+use Rattle.std.specs.Prelude.{IfSome, IsTrue}
+use Rattle.volume_layout.specs.declared.layout.Layout.{Layout}
+use Rattle.volume_layout.specs.Layout.{is_data}
+use Rattle.fsd_formats.specs.declared.entry.Entry.{Entry}
+use Rattle.fsd_files.specs.Answers.{entry_after}
+use Rattle.fsd_files.specs.Replies.{Found}
+use Rattle.fsd_files.specs.Scrub.{leader_place}
+use Rattle.sector_disk.specs.Machine.{Wears, wrote}
+use Rattle.sector_disk.proofs.CallLaws.{reads_as_writes, writes_none, writes_then}
+use Rattle.sector_disk.proofs.Wear.{worn_refl}
+use Rattle.volume_contract.specs.Healing.{IsMet}
+use Rattle.volume_contract.specs.State.{State, volume_of}
+use Rattle.scrub.specs.Leading.{LeavesLed}
+use Rattle.scrub.specs.Telling.{TellsOn}
+use Rattle.scrub.proofs.KeptLaws.{wrote_nothing, wrote_then}
+use Rattle.scrub.proofs.ToldLaws.{single_told}
+use Rattle.scrub.proofs.LeadLaws.{few_more, led_all, led_counted, led_here, led_in, led_leaves, led_more, led_none, led_wears, rest_more, still_ends, worn_touches}
+use Rattle.scrub.proofs.PlaceLaws.{leader_there}
+use Rattle.scrub.proofs.leaders.heal_leaders.Goals as goal
+
+pub loop-init : goal.loop-init
+loop-init g c =
+    let V = g.V.Files in
+    let v = c.args.v.now in
+    let at = c.args.m.now in
+    let now = g.M.Machine.now at in
+    record {
+      state = refl;
+      disk = writes_none at (λ left h is. g.met.M.Machine.only_now at left h is) (LeavesLed V.state V.holds v) (λ h. led_here V.state V.holds v now);
+      rest = λ h. worn_touches (is_data (V.state v).layout) now now (worn_refl _ now.image);
+      counted = λ t. wrote_nothing (g.M.Machine.ledger at);
+      few = omega arith;
+      led = λ h k stands. led_none V.state V.holds k v now stands;
+    }
+
+pub returns-in-Ok-None-clause-disk : goal.returns-in-Ok-None-clause-disk
+returns-in-Ok-None-clause-disk g c =
+    let V = g.V.Files in
+    let M = g.M.Machine in
+    let was = c.loop.invariant in
+    let next = c.in-Ok-None.ensures in
+    let a = M.now c.args.m.now in
+    let b = M.now c.loop.m in
+    writes_then {fault = None} {R = LeavesLed V.state V.holds c.args.v.now} was.disk (reads_as_writes {R = Wears} next.disk (λ h left worn. worn)) (λ h left x. x)
+    (λ h left worn k stands.
+    let back = next.disk.trust.honest h in
+    let led = was.led back k stands in
+    led_wears V.state V.holds k c.loop.v c.loop.counter c.loop.last c.loop.count a b led (was.disk.quiet back) left worn
+    (g.met.V.Files.wears c.loop.v k b left (g.met.M.Machine.short c.loop.m back) (record { image = worn.image; windows = worn.windows }) led.stands))
+
+pub returns-in-Err-clause-disk : goal.returns-in-Err-clause-disk
+returns-in-Err-clause-disk g c =
+    let V = g.V.Files in
+    let M = g.M.Machine in
+    let was = c.loop.invariant in
+    let next = c.in-Err.ensures in
+    let a = M.now c.args.m.now in
+    let b = M.now c.loop.m in
+    writes_then {R = LeavesLed V.state V.holds c.args.v.now} was.disk (reads_as_writes {R = Wears} next.disk (λ h left worn. worn)) (λ h left x. x)
+    (λ h left worn k stands.
+    let back = next.disk.trust.honest h in
+    let led = was.led back k stands in
+    led_wears V.state V.holds k c.loop.v c.loop.counter c.loop.last c.loop.count a b led (was.disk.quiet back) left worn
+    (g.met.V.Files.wears c.loop.v k b left (g.met.M.Machine.short c.loop.m back) (record { image = worn.image; windows = worn.windows }) led.stands))
+
+pub returns-in-Ok-None-clause-done : goal.returns-in-Ok-None-clause-done
+returns-in-Ok-None-clause-done g c = λ h k stands.
+    let V = g.V.Files in
+    let M = g.M.Machine in
+    let was = c.loop.invariant in
+    let next = c.in-Ok-None.ensures in
+    let back = next.disk.trust.honest h in
+    let led = was.led back k stands in
+    let looks = subst (λ (o : Option Entry). Found (entry_after c.loop.last (volume_of k).entries) ≡ Found o) c.in-Ok-None.field-0-is (next.done h k led.stands) in
+    led_all V.state V.holds k c.loop.v c.loop.counter c.loop.last c.loop.count (M.now c.args.m.now) (M.now c.loop.m) led looks c.next_one.new.v (M.now c.next_one.new.m) (next.disk.worn h) (next.stands h k led.stands)
+
+pub returns-in-Err-heal_leader-clause-disk : goal.returns-in-Err-heal_leader-clause-disk
+returns-in-Err-heal_leader-clause-disk g c =
+    let V = g.V.Files in
+    let M = g.M.Machine in
+    let was = c.loop.invariant in
+    let next = c.in-Ok-Some.ensures in
+    let call = c.in-Err-heal_leader.ensures in
+    let a = M.now c.args.m.now in
+    let b = M.now c.loop.m in
+    let mid = M.now c.next_one.new.m in
+    let met : IsMet (V.state c.next_one.new.v) c.in-Ok-Some.e = subst (λ (o : Option Entry). IfSome o (IsMet (V.state c.next_one.new.v))) c.in-Ok-Some.field-0-is next.met in
+    let front = writes_then {fault = None} {R = LeavesLed V.state V.holds c.args.v.now} was.disk (reads_as_writes {R = Wears} next.disk (λ h left worn. worn)) (λ h left x. x)
+    (λ h left worn k stands.
+    let back = next.disk.trust.honest h in
+    let led = was.led back k stands in
+    led_wears V.state V.holds k c.loop.v c.loop.counter c.loop.last c.loop.count a b led (was.disk.quiet back) left worn
+    (g.met.V.Files.wears c.loop.v k b left (g.met.M.Machine.short c.loop.m back) (record { image = worn.image; windows = worn.windows }) led.stands)) in
+    writes_then {R = LeavesLed V.state V.holds c.args.v.now} front call.disk (λ h left x. x)
+    (λ h left leaves k stands.
+    let back = call.disk.trust.honest h in
+    let there = next.disk.trust.honest back in
+    let led = was.led there k stands in
+    let looks = subst (λ (o : Option Entry). Found (entry_after c.loop.last (volume_of k).entries) ≡ Found o) c.in-Ok-Some.field-0-is (next.done back k led.stands) in
+    led_leaves V.state V.holds k c.loop.v c.loop.counter c.loop.last c.loop.count a b led c.in-Ok-Some.e looks met.entry mid (next.disk.worn back) (was.disk.quiet there) left
+    (leaves k (next.stands back k led.stands) (led_in V.state V.holds k c.loop.v c.loop.counter c.loop.last c.loop.count a b led c.in-Ok-Some.e looks met.entry mid (next.disk.worn back))))
+
+pub returns-in-Err-heal_leader-clause-rest : goal.returns-in-Err-heal_leader-clause-rest
+returns-in-Err-heal_leader-clause-rest g c = λ h.
+    let V = g.V.Files in
+    let M = g.M.Machine in
+    let was = c.loop.invariant in
+    let next = c.in-Ok-Some.ensures in
+    let call = c.in-Err-heal_leader.ensures in
+    let back = call.disk.trust.honest h in
+    let there = next.disk.trust.honest back in
+    let met : IsMet (V.state c.next_one.new.v) c.in-Ok-Some.e = subst (λ (o : Option Entry). IfSome o (IsMet (V.state c.next_one.new.v))) c.in-Ok-Some.field-0-is next.met in
+    rest_more (V.state c.args.v.now).layout (leader_place c.in-Ok-Some.e)
+    (subst (λ (s : State). IsTrue (is_data s.layout (leader_place c.in-Ok-Some.e))) (next.state ∙ was.state) (met.within (leader_place c.in-Ok-Some.e) (leader_there c.in-Ok-Some.e met.entry)))
+    (M.now c.args.m.now) (M.now c.loop.m) (M.now c.next_one.new.m) (M.now c.heal_leader.new.m) (was.disk.windows there) (was.rest there) (next.disk.worn back) (call.rest h)
+
+pub returns-in-Err-heal_leader-clause-done : goal.returns-in-Err-heal_leader-clause-done
+returns-in-Err-heal_leader-clause-done g c = λ h k stands.
+    let V = g.V.Files in
+    let M = g.M.Machine in
+    let was = c.loop.invariant in
+    let next = c.in-Ok-Some.ensures in
+    let call = c.in-Err-heal_leader.ensures in
+    let back = call.disk.trust.honest h in
+    let there = next.disk.trust.honest back in
+    let led = was.led there k stands in
+    let met : IsMet (V.state c.next_one.new.v) c.in-Ok-Some.e = subst (λ (o : Option Entry). IfSome o (IsMet (V.state c.next_one.new.v))) c.in-Ok-Some.field-0-is next.met in
+    let looks = subst (λ (o : Option Entry). Found (entry_after c.loop.last (volume_of k).entries) ≡ Found o) c.in-Ok-Some.field-0-is (next.done back k led.stands) in
+    still_ends V.state V.holds k c.heal_leader.new.self (M.now c.args.m.now) (M.now c.heal_leader.new.m) c.in-Err-heal_leader.why
+    (call.done h k (next.stands back k led.stands) (led_in V.state V.holds k c.loop.v c.loop.counter c.loop.last c.loop.count (M.now c.args.m.now) (M.now c.loop.m) led c.in-Ok-Some.e looks met.entry (M.now c.next_one.new.m) (next.disk.worn back)))
+
+pub loop-preserved : goal.loop-preserved
+loop-preserved g c =
+    let V = g.V.Files in
+    let M = g.M.Machine in
+    let was = c.loop.invariant in
+    let next = c.in-Ok-Some.ensures in
+    let call = c.in-Ok.ensures in
+    let a = M.now c.args.m.now in
+    let b = M.now c.loop.m in
+    let mid = M.now c.next_one.new.m in
+    let end = M.now c.heal_leader.new.m in
+    let e = c.in-Ok-Some.e in
+    let state = next.state ∙ was.state in
+    let met : IsMet (V.state c.next_one.new.v) c.in-Ok-Some.e = subst (λ (o : Option Entry). IfSome o (IsMet (V.state c.next_one.new.v))) c.in-Ok-Some.field-0-is next.met in
+    let inside = met.within (leader_place c.in-Ok-Some.e) (leader_there c.in-Ok-Some.e met.entry) in
+    let front = writes_then {fault = None} {R = LeavesLed V.state V.holds c.args.v.now} was.disk (reads_as_writes {R = Wears} next.disk (λ h left worn. worn)) (λ h left x. x)
+    (λ h left worn k stands.
+    let back = next.disk.trust.honest h in
+    let led = was.led back k stands in
+    led_wears V.state V.holds k c.loop.v c.loop.counter c.loop.last c.loop.count a b led (was.disk.quiet back) left worn
+    (g.met.V.Files.wears c.loop.v k b left (g.met.M.Machine.short c.loop.m back) (record { image = worn.image; windows = worn.windows }) led.stands)) in
+    record {
+      state = call.state ∙ state;
+      disk = writes_then {fault = None} {R = LeavesLed V.state V.holds c.args.v.now} front call.disk (λ h left x. x)
+          (λ h left leaves k stands.
+          let back = call.disk.trust.honest h in
+          let there = next.disk.trust.honest back in
+          let led = was.led there k stands in
+          let looks = subst (λ (o : Option Entry). Found (entry_after c.loop.last (volume_of k).entries) ≡ Found o) c.in-Ok-Some.field-0-is (next.done back k led.stands) in
+          led_leaves V.state V.holds k c.loop.v c.loop.counter c.loop.last c.loop.count a b led c.in-Ok-Some.e looks met.entry mid (next.disk.worn back) (was.disk.quiet there) left
+          (leaves k (next.stands back k led.stands) (led_in V.state V.holds k c.loop.v c.loop.counter c.loop.last c.loop.count a b led c.in-Ok-Some.e looks met.entry mid (next.disk.worn back))));
+      rest = λ h.
+          let back = call.disk.trust.honest h in
+          let there = next.disk.trust.honest back in
+          rest_more (V.state c.args.v.now).layout (leader_place c.in-Ok-Some.e) (subst (λ (s : State). IsTrue (is_data s.layout (leader_place c.in-Ok-Some.e))) state inside)
+          a b mid end (was.disk.windows there) (was.rest there) (next.disk.worn back) (call.rest h);
+      counted = λ t.
+          let told = call.disk.trust.tells t in
+          wrote_then (M.ledger c.args.m.now) (M.ledger c.next_one.new.m) (M.ledger c.heal_leader.new.m) c.loop.count c.count_of-count.result
+          (next.disk.ledger told ∙ was.counted (next.disk.trust.tells told)) (call.counted t ∙ ap (λ (n : ℕ). wrote (M.ledger c.next_one.new.m) n) (sym c.count_of-count.ensures));
+      few = few_more c.loop.count c.loop.counter c.count_of-count.result c.in-Ok.written c.count_of-count.ensures was.few;
+      led = λ h k stands.
+          let back = call.disk.trust.honest h in
+          let there = next.disk.trust.honest back in
+          let led = was.led there k stands in
+          let looks = subst (λ (o : Option Entry). Found (entry_after c.loop.last (volume_of k).entries) ≡ Found o) c.in-Ok-Some.field-0-is (next.done back k led.stands) in
+          led_more V.state V.holds k c.loop.v c.loop.counter c.loop.last c.loop.count a b led c.in-Ok-Some.e looks met.entry mid (next.disk.worn back)
+          (subst (λ (l : Layout). IsTrue (is_data l (leader_place c.in-Ok-Some.e))) (ap (λ (s : State). s.layout) next.state ∙ sym led.stands.fits.layout) inside)
+          c.heal_leader.new.self end (call.disk.windows h) (call.rest h)
+          (call.done h k (next.stands back k led.stands) (led_in V.state V.holds k c.loop.v c.loop.counter c.loop.last c.loop.count a b led c.in-Ok-Some.e looks met.entry mid (next.disk.worn back)))
+          (call.led h) c.in-Ok.written (call.healed h) (c.loop.count + c.count_of-count.result) (ap (λ (n : ℕ). c.loop.count + n) c.count_of-count.ensures);
+    }
+
+pub returns-clause-done : goal.returns-clause-done
+returns-clause-done g c = λ h k stands.
+    let V = g.V.Files in
+    let M = g.M.Machine in
+    let was = c.loop.invariant in
+    let asked = c.stat-end.ensures.versions in
+    let same = ap (λ (s : State). s.versions) was.state in
+    let most = c.loop.auto.counter-end in
+    let ended = c.loop-test.false in
+    led_counted V.state V.holds k c.loop.v c.loop.counter c.loop.last c.loop.count (M.now c.args.m.now) (M.now c.loop.m) (was.led h k stands) c.stat-end.result.versions (omega (arith, asked, same)) (omega (arith, most, ended))
+
+-- ---- what is written and told
+
+pub returns-in-Ok-None-clause-counted : goal.returns-in-Ok-None-clause-counted
+returns-in-Ok-None-clause-counted g c = λ t. let next = c.in-Ok-None.ensures in next.disk.ledger t ∙ c.loop.invariant.counted (next.disk.trust.tells t)
+
+pub returns-in-Err-clause-told : goal.returns-in-Err-clause-told
+returns-in-Err-clause-told g c = λ h. subst (λ (s : State). TellsOn s.layout (g.M.Machine.now c.next_one.new.m).image c.in-Err.why) c.loop.invariant.state (c.in-Err.ensures.told h)
+
+pub returns-in-Err-heal_leader-clause-told : goal.returns-in-Err-heal_leader-clause-told
+returns-in-Err-heal_leader-clause-told g c = λ h.
+    let V = g.V.Files in
+    let same = c.in-Ok-Some.ensures.state ∙ c.loop.invariant.state in
+    single_told (V.state c.args.v.now).layout (g.M.Machine.now c.heal_leader.new.m).image (V.state c.next_one.new.v) (ap (λ (s : State). s.down) same ∙ c.requires.up) c.in-Err-heal_leader.why c.in-Err-heal_leader.ensures.order

@@ -1,0 +1,98 @@
+use Rattle.std.proofs.Common.{None, subst}
+use Rattle.sector_disk.specs.Machine.{Wears}
+use Rattle.sector_disk.proofs.CallLaws.{reads_as_writes, writes_then}
+use Rattle.volume_contract.specs.State.{State}
+use Rattle.scrub.specs.Telling.{TellsOn}
+use Rattle.scrub.specs.Scrub.{LeavesScrubbed}
+use Rattle.scrub.proofs.KeptLaws.{healed_read}
+use Rattle.scrub.proofs.WholeLaws.{found_since, healed_worn, looking_ends, reads_leave, some_since, twins_then, unlooked_ends}
+use Rattle.scrub.proofs.LeadLaws.{worn_touches}
+use Rattle.volume_layout.specs.Layout.{is_data}
+use Rattle.scrub.proofs.whole.heal_and_look.Goals as goal
+
+pub returns-in-Ok-look-clause-disk : goal.returns-in-Ok-look-clause-disk
+returns-in-Ok-look-clause-disk g c =
+    let V = g.V.Files in
+    let M = g.M.Machine in
+    let a = M.now c.args.m.now in
+    let b = M.now c.heal_all.new.m in
+    let heal = c.in-Ok.ensures in
+    let call = c.in-Ok-look.ensures in
+    writes_then {fault = None} {R = LeavesScrubbed V.state V.holds c.args.v.now} heal.disk (reads_as_writes {R = Wears} call.disk (λ h left worn. worn)) (λ h left x. x)
+    (λ h left worn k stands.
+    let back = call.disk.trust.honest h in
+    let is = heal.done back k stands in
+    reads_leave k (V.state c.args.v.now).layout stands.fits.layout a b (heal.disk.windows back) (heal.disk.quiet back) left V.state V.holds c.heal_all.new.v is.touches worn
+    (g.met.V.Files.wears c.heal_all.new.v k b left (g.met.M.Machine.short c.heal_all.new.m back) (record { image = worn.image; windows = worn.windows }) is.stands))
+
+pub returns-in-Ok-look-clause-done : goal.returns-in-Ok-look-clause-done
+returns-in-Ok-look-clause-done g c = λ h k stands.
+    let V = g.V.Files in
+    let M = g.M.Machine in
+    let a = M.now c.args.m.now in
+    let b = M.now c.heal_all.new.m in
+    let end = M.now c.look.new.m in
+    let heal = c.in-Ok.ensures in
+    let call = c.in-Ok-look.ensures in
+    let back = call.disk.trust.honest h in
+    let is = heal.done back k stands in
+    record {
+      healed_so = healed_worn V.state V.holds k c.heal_all.new.v c.look.new.v a b end c.in-Ok.healed.sectors (heal.disk.windows back) is (call.disk.worn h) (call.stands h k is.stands);
+      finds = found_since V.state V.holds k a b is.touches end.image stands.disk.described.apart c.look.new.found.items (call.done h k is.stands);
+    }
+
+pub returns-in-Err-look-clause-disk : goal.returns-in-Err-look-clause-disk
+returns-in-Err-look-clause-disk g c =
+    let V = g.V.Files in
+    let M = g.M.Machine in
+    let a = M.now c.args.m.now in
+    let b = M.now c.heal_all.new.m in
+    let heal = c.in-Ok.ensures in
+    let call = c.in-Err-look.ensures in
+    writes_then {R = LeavesScrubbed V.state V.holds c.args.v.now} heal.disk (reads_as_writes {R = Wears} call.disk (λ h left worn. worn)) (λ h left x. x)
+    (λ h left worn k stands.
+    let back = call.disk.trust.honest h in
+    let is = heal.done back k stands in
+    reads_leave k (V.state c.args.v.now).layout stands.fits.layout a b (heal.disk.windows back) (heal.disk.quiet back) left V.state V.holds c.heal_all.new.v is.touches worn
+    (g.met.V.Files.wears c.heal_all.new.v k b left (g.met.M.Machine.short c.heal_all.new.m back) (record { image = worn.image; windows = worn.windows }) is.stands))
+
+pub returns-in-Err-look-clause-done : goal.returns-in-Err-look-clause-done
+returns-in-Err-look-clause-done g c = λ h k stands.
+    let V = g.V.Files in
+    let M = g.M.Machine in
+    let a = M.now c.args.m.now in
+    let b = M.now c.heal_all.new.m in
+    let end = M.now c.look.new.m in
+    let heal = c.in-Ok.ensures in
+    let call = c.in-Err-look.ensures in
+    let back = call.disk.trust.honest h in
+    let is = heal.done back k stands in
+    looking_ends V.state V.holds k c.look.new.v a end c.look.new.found.items c.in-Err-look.why (call.outside h k is.stands)
+    (record { stands = call.stands h k is.stands; finds = some_since V.state V.holds k a b is.touches end.image stands.disk.described.apart c.look.new.found.items (call.done h k is.stands) })
+
+pub returns-in-Err-clause-done : goal.returns-in-Err-clause-done
+returns-in-Err-clause-done g c = λ h k stands.
+    let V = g.V.Files in
+    let M = g.M.Machine in
+    unlooked_ends V.state V.holds k c.heal_all.new.v (M.now c.args.m.now) (M.now c.heal_all.new.m) c.args.found.now.items c.requires.none c.in-Err.why (c.in-Err.ensures.done h k stands)
+
+-- ---- what is written and told
+
+pub returns-in-Ok-look-clause-counted : goal.returns-in-Ok-look-clause-counted
+returns-in-Ok-look-clause-counted g c = λ t.
+    let M = g.M.Machine in
+    let disk = c.in-Ok-look.ensures.disk in
+    healed_read (M.ledger c.args.m.now) (M.ledger c.heal_all.new.m) (M.ledger c.look.new.m) 0 c.in-Ok.healed.sectors (disk.ledger t) (c.in-Ok.ensures.counted (disk.trust.tells t))
+
+pub returns-in-Err-look-clause-told : goal.returns-in-Err-look-clause-told
+returns-in-Err-look-clause-told g c = λ h. subst (λ (s : State). TellsOn s.layout (g.M.Machine.now c.look.new.m).image c.in-Err-look.why) c.in-Ok.ensures.state (c.in-Err-look.ensures.told h)
+
+pub returns-in-Ok-look-clause-mended : goal.returns-in-Ok-look-clause-mended
+returns-in-Ok-look-clause-mended g c = λ h.
+    let M = g.M.Machine in
+    let l = (g.V.Files.state c.args.v.now).layout in
+    let a = M.now c.heal_all.new.m in
+    let b = M.now c.look.new.m in
+    let call = c.in-Ok-look.ensures in
+    let worn = call.disk.worn h in
+    twins_then l a b worn.windows (worn_touches (is_data l) a b worn.image) (c.in-Ok.ensures.mended (call.disk.trust.honest h))

@@ -1,0 +1,5 @@
+pub mod Telling
+pub mod Walk
+pub mod Looking
+pub mod Leading
+pub mod Scrub

@@ -1,0 +1,10 @@
+//! Scrubs over the contract of a volume alone: what stands twice is healed, leaders are written where they are damaged
+//! or differ from their entries, and damaged data sectors are told.
+#![tactic(auto)]
+
+mod data;
+mod leaders;
+mod walk;
+mod whole;
+
+pub use whole::{Healed, scrub};

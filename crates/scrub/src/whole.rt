@@ -1,0 +1,104 @@
+//! A whole scrub.
+ghost use Rattle.std.specs.Prelude.{◌≡◌, ◌≤◌, [], None, IfErr, IfOk, IsTrue, MatchResult, OnOk};
+ghost use Rattle.sector_disk.specs.Calls.{WritesDisk, device_in};
+ghost use Rattle.fsd_files.specs.Disk.{Touches};
+ghost use Rattle.volume_contract.specs.Ends.{device_of};
+ghost use Rattle.volume_contract.specs.Order.{Follows, IsLookUp, Keeps, is_idle};
+ghost use Rattle.volume_contract.specs.State.{IsForced, Known, Stands, force_len};
+ghost use Rattle.volume_contract.specs.Healing.{TwinsStand};
+ghost use Rattle.scrub.specs.Looking.{AreDamaged};
+ghost use Rattle.scrub.specs.Scrub.{EndsHealed, EndsLooked, EndsScrub, LeavesScrubbed, WritesHealed, scrub_steps, scrub_writes};
+ghost use Rattle.scrub.specs.Telling.{TellsOn};
+
+use crate::data::look;
+use crate::leaders::heal_leaders;
+use fsd_bytes::{Key, Refusal};
+use sector_disk::Machine;
+use volume_contract::Files;
+
+/// How many sectors a scrub has written for healing.
+#[derive(Clone, Copy, Debug, PartialEq, Eq)]
+pub struct Healed {
+    pub sectors: u32,
+}
+
+// Heals what stands twice, and the leaders of all versions.
+fn heal_all<M: Machine, V: Files<M>>(v: &mut V, m: &mut M) -> Result<Healed, Refusal>
+    requires room { (V.state v.old).layout.sectors ≤ (M.report m.old).sectors }
+    requires up { (V.state v.old).down ≡ None }
+    ensures refusal { IfErr result IsLookUp }
+    ensures disk { WritesDisk M.Machine (device_in device_of result) (LeavesScrubbed V.state V.holds v.old) m.old m.new }
+    ensures rest { M.honest m.new → Touches (scrub_writes (V.state v.old).layout) (M.now m.old) (M.now m.new) }
+    ensures counted { IfOk result (λ healed. M.tells m.new → WritesHealed 0 (M.ledger m.old) (M.ledger m.new) healed.sectors) }
+    ensures state { V.state v.new ≡ V.state v.old }
+    ensures told { IfErr result (λ why. M.honest m.new → TellsOn (V.state v.old).layout (M.now m.new).image why) }
+    ensures mended { OnOk result (M.honest m.new → TwinsStand (V.state v.old).layout (M.now m.new)) }
+    ensures done { M.honest m.new → (k : Known) → Stands V.state V.holds v.old k (M.now m.old) → EndsHealed V.state V.holds k v.new (M.now m.old) (M.now m.new) result }
+{
+    match v.heal(m) {
+        Ok(twins) => match heal_leaders(v, m) {
+            Ok(leaders) => Ok(Healed {
+                sectors: twins.saturating_add(leaders),
+            }),
+            Err(why) => Err(why),
+        },
+        Err(why) => Err(why),
+    }
+}
+
+// The same, and then lists the damaged data sectors.
+fn heal_and_look<M: Machine, V: Files<M>>(
+    v: &mut V,
+    m: &mut M,
+    found: &mut Vec<(Key, u32)>,
+) -> Result<Healed, Refusal>
+    requires room { (V.state v.old).layout.sectors ≤ (M.report m.old).sectors }
+    requires up { (V.state v.old).down ≡ None }
+    requires none { found.old.items ≡ [] }
+    ensures refusal { IfErr result IsLookUp }
+    ensures disk { WritesDisk M.Machine (device_in device_of result) (LeavesScrubbed V.state V.holds v.old) m.old m.new }
+    ensures rest { M.honest m.new → Touches (scrub_writes (V.state v.old).layout) (M.now m.old) (M.now m.new) }
+    ensures counted { IfOk result (λ healed. M.tells m.new → WritesHealed 0 (M.ledger m.old) (M.ledger m.new) healed.sectors) }
+    ensures state { V.state v.new ≡ V.state v.old }
+    ensures told { IfErr result (λ why. M.honest m.new → TellsOn (V.state v.old).layout (M.now m.new).image why) }
+    ensures mended { OnOk result (M.honest m.new → TwinsStand (V.state v.old).layout (M.now m.new)) }
+    ensures damaged { M.honest m.new → AreDamaged (V.state v.old).layout (M.now m.new).image found.new.items }
+    ensures done { M.honest m.new → (k : Known) → Stands V.state V.holds v.old k (M.now m.old) → EndsLooked V.state V.holds k v.new (M.now m.old) (M.now m.new) found.new.items result }
+{
+    match heal_all(v, m) {
+        Ok(healed) => match look(v, m, found) {
+            Ok(()) => Ok(healed),
+            Err(why) => Err(why),
+        },
+        Err(why) => Err(why),
+    }
+}
+
+/// Forces all changes; heals the copies of the root, of the anchor and of the name pages at home, and the leaders of all
+/// versions; and lists the damaged data sectors by key and then by place in the file. Where it is refused, `found` has
+/// the first ones of that list, and what was forced and healed stands.
+pub fn scrub<M: Machine, V: Files<M>>(
+    v: &mut V,
+    m: &mut M,
+    found: &mut Vec<(Key, u32)>,
+) -> Result<Healed, Refusal>
+    requires { (V.state v.old).layout.sectors ≤ (M.report m.old).sectors }
+    ensures order { Follows (scrub_steps (V.state v.old)) result }
+    ensures disk { WritesDisk M.Machine (device_in device_of result) (LeavesScrubbed V.state V.holds v.old) m.old m.new }
+    ensures rest { M.honest m.new → Touches (scrub_writes (V.state v.old).layout) (M.now m.old) (M.now m.new) }
+    ensures counted { IfOk result (λ healed. M.tells m.new → WritesHealed (force_len (V.state v.old)) (M.ledger m.old) (M.ledger m.new) healed.sectors) }
+    ensures layout { (V.state v.new).layout ≡ (V.state v.old).layout }
+    ensures kept { MatchResult result (λ x. IsForced (V.state v.old) (V.state v.new)) (λ why. Keeps (scrub_steps (V.state v.old)) why (V.state v.old) (V.state v.new)) }
+    ensures told { IfErr result (λ why. M.honest m.new → TellsOn (V.state v.old).layout (M.now m.new).image why) }
+    ensures mended { OnOk result (M.honest m.new → TwinsStand (V.state v.old).layout (M.now m.new)) }
+    ensures up { OnOk result ((V.state v.new).down ≡ None) }
+    ensures idle { IsTrue (is_idle (scrub_steps (V.state v.old))) → m.new ≡ m.old }
+    ensures damaged { M.honest m.new → AreDamaged (V.state v.old).layout (M.now m.new).image found.new.items }
+    ensures done { M.honest m.new → (k : Known) → Stands V.state V.holds v.old k (M.now m.old) → EndsScrub V.state V.holds k v.new (M.now m.old) (M.now m.new) found.new.items result }
+{
+    found.clear();
+    match v.force(m) {
+        Ok(_) => heal_and_look(v, m, found),
+        Err(why) => Err(why),
+    }
+}

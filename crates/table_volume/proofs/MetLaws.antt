@@ -1,0 +1,39 @@
+-- What is known of an entry that was met.
+use Rattle.std.proofs.Common.{◌≡◌, ◌^◌, ◌≤◌, Bool, true, false, cond, Option, None, Some, Ok, Err, refl}
+use Rattle.std.specs.Prelude.{IfOk, IfSome, IsTrue}
+use Rattle.std.specs.List.{list_all}
+use Rattle.std.proofs.lemmas.Bool.{and_parts}
+use Rattle.volume_layout.specs.Layout.{home_a}
+use Rattle.run_table.specs.RunTable.{sectors_of}
+use Rattle.run_table.specs.Space.{all_differ}
+use Rattle.fsd_bytes.specs.declared.refusal.Refusal.TheVariants as Why
+use Rattle.fsd_formats.specs.declared.entry.Entry.{Entry}
+use Rattle.fsd_formats.specs.NamePage.{is_entry}
+use Rattle.name_btree.specs.declared.lookup.FoundEntry.{FoundEntry}
+use Rattle.volume_contract.specs.Causes.{IsTaken}
+use Rattle.volume_contract.specs.Ends.{found_one}
+use Rattle.volume_contract.specs.Healing.{IsMet}
+use Rattle.volume_changes.specs.Meeting.{met_found}
+use Rattle.volume_state.specs.State.{state}
+use Rattle.volume_state.specs.Taken.{are_taken, is_taken}
+use Rattle.volume_state.specs.Volume.{VolumeValue}
+use Rattle.volume_state.proofs.RangeLaws.{taken_data, taken_runs}
+
+module _ (v : VolumeValue) (most : v.layout.sectors ≤ 2 ^ 24) (told : (e : Entry) → IsTrue (are_taken v e.runs) → IsTaken (state v) e) where
+  is_met : (e : Entry) → is_entry e ≡ true → are_taken v e.runs ≡ true → IsMet (state v) e
+  is_met e good taken = record {
+    entry = good;
+    runs = taken_runs v e taken most good;
+    within = taken_data v e taken;
+    differ = (and_parts (all_differ (sectors_of e.runs)) (list_all (is_taken v) (sectors_of e.runs)) taken).0;
+    taken = told e taken;
+  }
+
+  -- what was found is met where it is told
+  pub found_is_met : (found : Option FoundEntry) → IfSome found (λ f. is_entry f.entry ≡ true) → IfOk (met_found v found) (λ o. IfSome o (IsMet (state v)))
+  found_is_met None good = tt
+  found_is_met (Some f) good = by (are_taken v f.entry.runs) refl
+    where
+      by : (b : Bool) → are_taken v f.entry.runs ≡ b → IfOk (found_one (cond b (Ok f.entry) (Err (Why.Unsound (home_a v.layout f.page))))) (λ o. IfSome o (IsMet (state v)))
+      by true taken = is_met f.entry good taken
+      by false untaken = tt
