@@ -2,6 +2,7 @@ pub mod AnswerLaws
 pub mod EndExamples
 pub mod LeaveExamples
 pub mod LeaveLaws
+pub mod OtherLaws
 pub mod PlaceExamples
 pub mod Plain
 pub mod RunExamples

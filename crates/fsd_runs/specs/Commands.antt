@@ -35,13 +35,24 @@ abbrev pub may_wear_out : Command → Bool
 may_wear_out (Word.Put name bytes keep) = is_none (size_fault (keep_given keep) (length bytes))
 may_wear_out (Word.Delete key) = true
 may_wear_out (Word.Keep name keep) = not (nat_lt max_keep keep)
-may_wear_out command = false
+may_wear_out (Word.List pattern) = false
+may_wear_out (Word.Get key) = false
+may_wear_out Word.Force = false
+may_wear_out Word.Tick = false
+may_wear_out Word.Stat = false
+may_wear_out Word.Scrub = false
 
 -- what may read as damaged, between these images
 abbrev pub MayFind : Image → Image → Volume → Command → Met → Type 0
+MayFind i j v (Word.Put name bytes keep) met = ⊤
+MayFind i j v (Word.Delete key) met = ⊤
+MayFind i j v (Word.Keep name keep) met = ⊤
+MayFind i j v (Word.List pattern) met = ⊤
 MayFind i j v (Word.Get key) met = FindsIn i j v key met.damaged
+MayFind i j v Word.Force met = ⊤
+MayFind i j v Word.Tick met = ⊤
+MayFind i j v Word.Stat met = ⊤
 MayFind i j v Word.Scrub met = Picks i j (all_data v.entries) met.found
-MayFind i j v command met = ⊤
 
 -- What a command may meet: what it reads, and the pages of the table then.
 pub record MayMeet (i j : Image) (v : Volume) (command : Command) (met : Met) : Type 0 where
@@ -51,9 +62,17 @@ pub record MayMeet (i j : Image) (v : Volume) (command : Command) (met : Met) : 
 -- the change that was accepted, if one was
 abbrev pub changes_of : Command → Reply → List Change
 changes_of (Word.Put name bytes keep) (Made key sectors) = Change.Put name keep bytes ∷ []
+changes_of (Word.Put name bytes keep) reply = []
 changes_of (Word.Delete key) (Deleted k) = Change.Delete key ∷ []
+changes_of (Word.Delete key) reply = []
 changes_of (Word.Keep name keep) (Kept key k) = Change.SetKeep name keep ∷ []
-changes_of command reply = []
+changes_of (Word.Keep name keep) reply = []
+changes_of (Word.List pattern) reply = []
+changes_of (Word.Get key) reply = []
+changes_of Word.Force reply = []
+changes_of Word.Tick reply = []
+changes_of Word.Stat reply = []
+changes_of Word.Scrub reply = []
 
 -- ---- texts
 

@@ -138,11 +138,22 @@ is_refused (Refused why) = 1
 is_refused (DamagedAt key s) = 1
 is_refused other = 0
 
+abbrev pub bytes_read : Reply → ℕ
+bytes_read (Bytes key bytes) = length bytes
+bytes_read other = 0
+
 -- the bytes of a version that was made or read
 abbrev pub bytes_moved : Command → Reply → ℕ
 bytes_moved (Word.Put name bytes keep) (Made key sectors) = length bytes
-bytes_moved c (Bytes key bytes) = length bytes
-bytes_moved c other = 0
+bytes_moved (Word.Put name bytes keep) reply = bytes_read reply
+bytes_moved (Word.Delete key) reply = bytes_read reply
+bytes_moved (Word.Keep name keep) reply = bytes_read reply
+bytes_moved (Word.List pattern) reply = bytes_read reply
+bytes_moved (Word.Get key) reply = bytes_read reply
+bytes_moved Word.Force reply = bytes_read reply
+bytes_moved Word.Tick reply = bytes_read reply
+bytes_moved Word.Stat reply = bytes_read reply
+bytes_moved Word.Scrub reply = bytes_read reply
 
 -- of so many replies it is so
 abbrev pub replies_with : (Reply → ℕ) → List Answered → ℕ

@@ -29,6 +29,7 @@ subcommand name rules = record (new_shape name) { rules = rules }
 abbrev pub image : Rule
 image = positional (codes "image")
 
+-- in the order of the rows that the program tells `clap`: the contract of its `command_set` says that the two are one
 abbrev pub cfs : App
 cfs = record {
   top = record (new_shape (codes "cfs")) { is_leaf = false };

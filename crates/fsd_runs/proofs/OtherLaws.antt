@@ -1,0 +1,172 @@
+-- No line of a script asks for a scrub, and no command that is made up is one.
+use Rattle.std.proofs.Common.{◌≡◌, ℕ, zero, suc, ◌+◌, ◌%◌, Bool, true, false, List, [], ◌∷◌, length, take, drop, Option, None, Some, Result, Ok, Err}
+use Rattle.std.specs.Prelude.{◌&&◌, ◌==◌, IfOk, codes, nat_le, nat_lt, slice_index, if◌then◌else◌}
+use Rattle.std.specs.List.{AllByRecursion}
+use Rattle.fsd_texts.specs.declared.asking.Asking.{Asking}
+use Rattle.fsd_texts.specs.declared.asking.Asking.TheVariants.{Plainly, Put}
+use Rattle.fsd_bytes.specs.Bytes.{same_bytes}
+use Rattle.fsd_bytes.specs.Keys.{key_of}
+use Rattle.fsd_texts.specs.declared.bad_line.Cause.{Cause}
+use Rattle.fsd_texts.specs.declared.bad_line.Cause.TheVariants.{NoNewlineAfterBytes, ShortBytes, UnknownWord}
+use Rattle.fsd_texts.specs.declared.command.Command.{Command}
+use Rattle.fsd_texts.specs.declared.command.Command.TheVariants as Word
+use Rattle.fsd_texts.specs.declared.end.End.TheVariants.{TooLong}
+use Rattle.fsd_texts.specs.Generator.{amount_of, command_of_draw, command_of_kind, draw_of, kind_of, made_bytes, made_from, made_name, name_number, next_state}
+use Rattle.fsd_texts.specs.Script.{◌>>=◌, Script, asked_by, asks, asks_alone, asks_keep, asks_put, command_at, commands_from, key_in, line_at, max_line, name_in, needs_more, number_in, pattern_in, script_from, then_more, whole_command, with_field, with_no_field, words_of}
+
+-- another command than a scrub
+abbrev pub IsOther : Command → Type 0
+IsOther command = command ≡ Word.Scrub → ⊥
+
+abbrev pub AreOthers : List Command → Type 0
+AreOthers commands = AllByRecursion IsOther commands
+
+-- ---- what is read, if anything is
+
+then_read : {A B : Type 0} (P : B → Type 0) (f : A → Result B Cause) → ((x : A) → IfOk (f x) P) → (read : Result A Cause) → IfOk (read >>= f) P
+then_read P f each (Ok x) = each x
+then_read P f each (Err cause) = tt
+
+-- the first of these that is so, or the last
+abbrev first_of : {A : Type 0} → List (Bool × A) → A → A
+first_of [] last = last
+first_of (x ∷ cases) last = if x.0 then x.1 else first_of cases last
+
+pick : {A : Type 0} (P : A → Type 0) (b : Bool) (x y : A) → P x → P y → P (if b then x else y)
+pick P true x y one other = one
+pick P false x y one other = other
+
+each_first : {A : Type 0} (P : A → Type 0) (cases : List (Bool × A)) (last : A) → AllByRecursion (λ x. P x.1) cases → P last → P (first_of cases last)
+each_first P [] last each other = other
+each_first P (x ∷ cases) last each other = pick P x.0 x.1 (first_of cases last) each.0 (each_first P cases last each.1 other)
+
+-- ---- what a line asks for
+
+abbrev AsksOther : Asking → Type 0
+AsksOther (Plainly command) = IsOther command
+AsksOther (Put name len keep) = Unit {0}
+
+abbrev kept_for : List ℕ → ℕ → ℕ → Result Asking Cause
+kept_for n l k = Ok (Put n l (Some k))
+
+abbrev put_for : List ℕ → ℕ → Result Asking Cause
+put_for n l = Ok (Put n l None)
+
+put_asks : (fields : List (List ℕ)) → IfOk (asks_put fields) AsksOther
+put_asks (name ∷ len ∷ []) = then_read AsksOther (λ n. number_in len >>= λ l. put_for n l) (λ n. then_read AsksOther (λ l. put_for n l) (λ l. tt) (number_in len)) (name_in name)
+put_asks (name ∷ len ∷ keep ∷ []) =
+    then_read AsksOther (λ n. number_in len >>= λ l. (number_in keep >>= λ k. kept_for n l k))
+    (λ n. then_read AsksOther (λ l. number_in keep >>= λ k. kept_for n l k) (λ l. then_read AsksOther (λ k. kept_for n l k) (λ k. tt) (number_in keep)) (number_in len)) (name_in name)
+put_asks other = tt
+
+abbrev keep_for : List ℕ → ℕ → Result Asking Cause
+keep_for n k = Ok (Plainly (Word.Keep n k))
+
+keep_asks : (fields : List (List ℕ)) → IfOk (asks_keep fields) AsksOther
+keep_asks (name ∷ keep ∷ []) = then_read AsksOther (λ n. number_in keep >>= λ k. keep_for n k) (λ n. then_read AsksOther (λ k. keep_for n k) (λ k is. cc is) (number_in keep)) (name_in name)
+keep_asks other = tt
+
+no_field : (command : Command) → IsOther command → (fields : List (List ℕ)) → IfOk (with_no_field command fields) AsksOther
+no_field command other [] = other
+no_field command other (w ∷ fields) = tt
+
+abbrev plainly : {A : Type 0} → (A → Command) → A → Result Asking Cause
+plainly make x = Ok (Plainly (make x))
+
+one_field : {A : Type 0} (read : List ℕ → Result A Cause) (make : A → Command) → ((x : A) → IsOther (make x)) → (fields : List (List ℕ)) → IfOk (with_field read make fields) AsksOther
+one_field read make other (w ∷ []) = then_read AsksOther (plainly make) other (read w)
+one_field read make other fields = tt
+
+abbrev ReadsOther : Result Asking Cause → Type 0
+ReadsOther read = IfOk read AsksOther
+
+abbrev is_word : List ℕ → List ℕ → Result Asking Cause → Bool × Result Asking Cause
+is_word word other read = (same_bytes word other, read)
+
+alone_asks : (word : List ℕ) (fields : List (List ℕ)) → IfOk (asks_alone word fields) AsksOther
+alone_asks word fields =
+    each_first ReadsOther (is_word word (codes "force") (with_no_field Word.Force fields) ∷ is_word word (codes "tick") (with_no_field Word.Tick fields) ∷ is_word word (codes "stat") (with_no_field Word.Stat fields) ∷ []) (Err UnknownWord)
+    (no_field Word.Force (λ is. cc is) fields, (no_field Word.Tick (λ is. cc is) fields, (no_field Word.Stat (λ is. cc is) fields, tt))) tt
+
+word_asks : (word : List ℕ) (fields : List (List ℕ)) → IfOk (asks word fields) AsksOther
+word_asks word fields =
+    each_first ReadsOther
+    (is_word word (codes "put") (asks_put fields) ∷ is_word word (codes "delete") (with_field key_in Word.Delete fields) ∷ is_word word (codes "keep") (asks_keep fields) ∷ is_word word (codes "list") (with_field pattern_in Word.List fields) ∷ is_word word (codes "get") (with_field key_in Word.Get fields) ∷ [])
+    (asks_alone word fields)
+    (put_asks fields, (one_field key_in Word.Delete (λ key is. cc is) fields, (keep_asks fields, (one_field pattern_in Word.List (λ pattern is. cc is) fields, (one_field key_in Word.Get (λ key is. cc is) fields, tt))))) (alone_asks word fields)
+
+line_asks : (words : List (List ℕ)) → IfOk (asked_by words) AsksOther
+line_asks [] = tt
+line_asks ([] ∷ []) = tt
+line_asks ([] ∷ (field ∷ fields)) = word_asks [] (field ∷ fields)
+line_asks ((b ∷ word) ∷ fields) = word_asks (b ∷ word) fields
+
+-- ---- the command that begins the bytes
+
+abbrev GivesOther : Command × List ℕ → Type 0
+GivesOther x = IsOther x.0
+
+abbrev CommandRead : Type 0
+CommandRead = Result (Command × List ℕ) Cause
+
+abbrev ReadsWhole : CommandRead → Type 0
+ReadsWhole read = IfOk read GivesOther
+
+abbrev short_of : ℕ → List ℕ → Bool × CommandRead
+short_of len rest = (nat_le (length rest) len, Err ShortBytes)
+
+abbrev put_of : List ℕ → ℕ → Option ℕ → List ℕ → Bool × CommandRead
+put_of name len keep rest = (slice_index rest len == 10, Ok (Word.Put name (take len rest) keep, drop (len + 1) rest))
+
+whole_other : (asking : Asking) (rest : List ℕ) → AsksOther asking → IfOk (whole_command asking rest) GivesOther
+whole_other (Plainly command) rest other = other
+whole_other (Put name len keep) rest other =
+    each_first ReadsWhole (short_of len rest ∷ put_of name len keep rest ∷ []) (Err NoNewlineAfterBytes) (tt, ((λ is. cc is), tt)) tt
+
+asked_other : (read : Result Asking Cause) (rest : List ℕ) → IfOk read AsksOther → IfOk (read >>= λ asking. whole_command asking rest) GivesOther
+asked_other (Ok asking) rest other = whole_other asking rest other
+asked_other (Err cause) rest other = tt
+
+abbrev behind_line : List ℕ × List ℕ → Result (Command × List ℕ) Cause
+behind_line line = asked_by (words_of line.0) >>= λ asking. whole_command asking line.1
+
+command_other : (bytes : List ℕ) → IfOk (command_at bytes) GivesOther
+command_other bytes = then_read GivesOther behind_line (λ line. asked_other (asked_by (words_of line.0)) line.1 (line_asks (words_of line.0))) (line_at max_line bytes)
+
+-- ---- a script
+
+more_others : (ordinal : ℕ) (more : List ℕ → Script) → ((rest : List ℕ) → AreOthers (more rest).0) → (read : Result (Command × List ℕ) Cause) → IfOk read GivesOther → AreOthers (then_more ordinal more read).0
+more_others ordinal more others (Err cause) other = tt
+more_others ordinal more others (Ok x) other = (other, others x.1)
+
+from_others : (most ordinal : ℕ) (bytes : List ℕ) → AreOthers (commands_from most ordinal bytes).0
+from_others most ordinal [] = tt
+from_others zero ordinal (b ∷ bytes) = tt
+from_others (suc most) ordinal (b ∷ bytes) = more_others ordinal (λ rest. commands_from most (ordinal + 1) rest) (λ rest. from_others most (ordinal + 1) rest) (command_at (b ∷ bytes)) (command_other (b ∷ bytes))
+
+cut_others : (long : Bool) (s : Script) → AreOthers s.0 → AreOthers (if long then (s.0, TooLong) else s).0
+cut_others true s others = others
+cut_others false s others = others
+
+pub script_others : (most ordinal : ℕ) (input : List ℕ) → AreOthers (script_from most ordinal input).0
+script_others most ordinal input =
+    let s = commands_from (length (take most input)) ordinal (take most input) in
+    cut_others (nat_lt most (length input) && needs_more s.1) s (from_others (length (take most input)) ordinal (take most input))
+
+-- ---- commands that are made up
+
+abbrev case_of : Bool → Command → Bool × Command
+case_of is command = (is, command)
+
+kind_other : (kind i q u : ℕ) → IsOther (command_of_kind kind i q u)
+kind_other kind i q u =
+    each_first IsOther
+    (case_of (nat_lt kind 4) (Word.Put (made_name q) (made_bytes i q (u % 3000)) None) ∷ case_of (kind == 4) (Word.Delete (key_of (made_name q) (1 + u % 8))) ∷ case_of (kind == 5) (Word.Keep (made_name q) (u % 4)) ∷ case_of (kind == 6) (Word.Get (key_of (made_name q) (1 + u % 8))) ∷ [])
+    Word.Force ((λ is. cc is), ((λ is. cc is), ((λ is. cc is), ((λ is. cc is), tt)))) (λ is. cc is)
+
+draw_other : (i r : ℕ) → IsOther (command_of_draw i r)
+draw_other i r = kind_other (kind_of r) i (name_number r) (amount_of r)
+
+pub made_others : (count i x : ℕ) → AreOthers (made_from count i x)
+made_others zero i x = tt
+made_others (suc count) i x = (draw_other i (draw_of (next_state x)), made_others count (i + 1) (next_state x))
