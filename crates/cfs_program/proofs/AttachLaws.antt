@@ -73,8 +73,8 @@ module _ {D : Type 0} {M : Ghosts D} {path : List ℕ} {sectors : ℕ} {a b z : 
   pub found_later : M.honest z → M.moment a ≤ M.moment b
   found_later h = (x.time (x.runs.honest h)).later
 
-  pub found_image : (script : Bool) (made : Option ℕ) (status : ℕ) → M.honest z → TellsImage script made sectors (M.now b) (M.now z) status → TellsFound script made (M.now a) (M.now z) status
-  found_image script made status h tells = let back = x.runs.honest h in tells_found script made (M.now a) (M.now b) (M.now z) sectors status (x.found back) (x.size back) tells
+  pub found_image : (script : Bool) (AreCopies : Layout → ℕ → ℕ → Type 0) (made : Option ℕ) (status : ℕ) → M.honest z → TellsImage script AreCopies made sectors (M.now b) (M.now z) status → TellsFound script AreCopies made (M.now a) (M.now z) status
+  found_image script AreCopies made status h tells = let back = x.runs.honest h in tells_found script AreCopies made (M.now a) (M.now b) (M.now z) sectors status (x.found back) (x.size back) tells
 
   -- where it takes the input
   pub found_fails : M.tells z → FailsInput (M.ledger b).input (M.report b) (M.report z) → FailsInput (M.ledger a).input (M.report a) (M.report z)
@@ -130,8 +130,8 @@ module _ {D : Type 0} {M : Ghosts D} {path : List ℕ} {failed : Failed} {a b z 
   pub unfound_outside : IsFalse (is_from_outside status) → ⊥
   unfound_outside inside = failed_not status x.for inside
 
-  pub unfound_image : (script : Bool) (made : Option ℕ) → TellsFound script made (M.now a) (M.now z) status
-  unfound_image script made = tells_unfound script made (M.now a) (M.now z) status x.for
+  pub unfound_image : (script : Bool) (AreCopies : Layout → ℕ → ℕ → Type 0) (made : Option ℕ) → TellsFound script AreCopies made (M.now a) (M.now z) status
+  unfound_image script AreCopies made = tells_unfound script AreCopies made (M.now a) (M.now z) status x.for
 
   told : failed.place ≡ (M.report z).fault_place
   told = x.cause.names ∙ sym x.cause.told ∙ sym x.says.spares.place

@@ -1,6 +1,7 @@
 -- What a run tells of the image that its attach found, and of its input.
 use Rattle.std.proofs.Common.{◌≡◌, inl, inr, ℕ, ◌<◌, ◌^◌, ◌-◌, min, Bool, Option, List, length, refl, ◌∙◌, subst, arith}
 use Rattle.std.specs.Prelude.{IsFalse, IsTrue}
+use Rattle.volume_layout.specs.declared.layout.Layout.{Layout}
 use Rattle.sector_disk.specs.Image.{IsWorn, Windows, open_damage}
 use Rattle.sector_disk.proofs.Wear.{worn_trans}
 use Rattle.fsd_texts.specs.declared.command.Command.{Command}
@@ -18,8 +19,8 @@ use Rattle.cfs_program.specs.Opening.{TellsFound, WritesFound, is_from_outside}
 
 -- ---- behind the attach
 
-pub tells_found : (script : Bool) (made : Option ℕ) (old at new : Moment) (sectors status : ℕ) → Finds old at → sectors ≡ min (length at.image) (2 ^ 32 - 1) → TellsImage script made sectors at new status → TellsFound script made old new status
-tells_found script made old at new sectors status found size tells = record {
+pub tells_found : (script : Bool) (AreCopies : Layout → ℕ → ℕ → Type 0) (made : Option ℕ) (old at new : Moment) (sectors status : ℕ) → Finds old at → sectors ≡ min (length at.image) (2 ^ 32 - 1) → TellsImage script AreCopies made sectors at new status → TellsFound script AreCopies made old new status
+tells_found script AreCopies made old at new sectors status found size tells = record {
   mounted = λ any. record { at = at; found = found; sectors = sectors; size = size; holds = tells.mounted any };
   refused = λ three. record { at = at; found = found; sectors = sectors; size = size; holds = tells.refused three };
   spent = λ nine. record { at = at; found = found; sectors = sectors; size = size; holds = tells.spent nine };
@@ -49,8 +50,8 @@ not_mounted gives result (inl is) other any = let at : IsTrue (is_of_mounted giv
 not_mounted gives result (inr six) other any = let at : IsTrue (is_of_mounted 6) = subst (λ (n : ℕ). IsTrue (is_of_mounted n)) six any in cc at
 
 -- the attach failed
-pub tells_unfound : (script : Bool) (made : Option ℕ) (old new : Moment) (status : ℕ) → IsStatusAs 4 status → TellsFound script made old new status
-tells_unfound script made old new status is = record {
+pub tells_unfound : (script : Bool) (AreCopies : Layout → ℕ → ℕ → Type 0) (made : Option ℕ) (old new : Moment) (status : ℕ) → IsStatusAs 4 status → TellsFound script AreCopies made old new status
+tells_unfound script AreCopies made old new status is = record {
   mounted = λ any. absurd (not_mounted 4 status is refl any);
   refused = λ three. absurd (not_as 3 4 status (λ e. omega (arith, e)) (λ e. omega (arith, e)) is three);
   spent = λ nine. absurd (not_as 9 4 status (λ e. omega (arith, e)) (λ e. omega (arith, e)) is nine);

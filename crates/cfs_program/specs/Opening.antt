@@ -48,11 +48,11 @@ pub record AsFound (P : ℕ → Moment → Type 0) (old : Moment) : Type 0 where
   pub size : sectors ≡ min (length at.image) (2 ^ 32 - 1)
   pub holds : P sectors at
 
--- What a run tells of the image that its attach found, by its status, whether it is a script,
--- and how many commands it makes up, if it does.
-pub record TellsFound (script : Bool) (made : Option ℕ) (old new : Moment) (status : ℕ) : Type 0 where
+-- What a run tells of the image that its attach found, by its status, whether it is a script, what its calls may tell
+-- as lost, and how many commands it makes up, if it does.
+pub record TellsFound (script : Bool) (AreCopies : Layout → ℕ → ℕ → Type 0) (made : Option ℕ) (old new : Moment) (status : ℕ) : Type 0 where
   pub mounted : IsTrue (is_of_mounted status) → AsFound HasVolume old
-  pub refused : status ≡ 3 → AsFound (λ sectors at. SaysCause script sectors at new) old
+  pub refused : status ≡ 3 → AsFound (λ sectors at. SaysCause script AreCopies sectors at new) old
   pub spent : status ≡ 9 → AsFound (HasSpent made) old
 
 -- nothing is written, or no more than a mount and the command write

@@ -24,10 +24,12 @@ use Rattle.fsd_runs.specs.Errands.{IfMounts}
 use Rattle.fsd_runs.specs.Leaves.{LeavesRun, NoneRose}
 use Rattle.cfs_program.specs.Formatting.{IsMadeBy, SaysFormat, SparesUnplanned, format_status, plan_asks}
 use Rattle.volume_contract.specs.State.{Ages}
+use Rattle.scrub.specs.Telling.{AreOfPage}
 use Rattle.volume_turns.specs.Answering.{SaysOne}
 use Rattle.volume_turns.specs.Causes.{FailsInput, HasSpent, HasVolume, SaysCause, SaysFault, SaysMade, SaysOfInput, is_of_fault, is_of_mounted}
 use Rattle.volume_turns.specs.Each.{SaysBadLine, SaysForced}
 use Rattle.volume_turns.specs.Status.{CountsInput, CountsNone, is_unfailed, is_quiet}
+use Rattle.volume_turns.specs.Steps.{MayLose}
 use Rattle.cfs_program.specs.Opening.{AsFound, AsksOrNot, IsSoundDisk, WritesFound, is_from_outside, mount_asks}
 
 -- ---- statuses
@@ -37,9 +39,12 @@ abbrev pub reply_statuses : Command → List ℕ
 reply_statuses (Word.Put name bytes keep) = 0 ∷ 1 ∷ []
 reply_statuses (Word.Delete key) = 0 ∷ 1 ∷ []
 reply_statuses (Word.Keep name keep) = 0 ∷ 1 ∷ []
+reply_statuses (Word.List pattern) = 0 ∷ []
 reply_statuses (Word.Get key) = 0 ∷ 1 ∷ 8 ∷ []
+reply_statuses Word.Force = 0 ∷ []
+reply_statuses Word.Tick = 0 ∷ []
+reply_statuses Word.Stat = 0 ∷ []
 reply_statuses Word.Scrub = 0 ∷ 8 ∷ []
-reply_statuses command = 0 ∷ []
 
 -- where no call of the outside fails
 abbrev pub complete_statuses : Request → List ℕ
@@ -141,6 +146,11 @@ abbrev pub is_script : Request → Bool
 is_script Script = true
 is_script request = false
 
+-- the sectors that a call of a run may tell as lost
+abbrev pub RunMayLose : Request → Layout → (a b : ℕ) → Type 0
+RunMayLose (One command) = MayLose command
+RunMayLose request = AreOfPage
+
 -- how many commands it makes up, if it does
 abbrev pub made_for : Request → Option ℕ
 made_for (Generate seed count) = Some count
@@ -217,7 +227,7 @@ pub record Ran {D : Type 0} (M : Ghosts D) (request : Request) (path : List ℕ)
   pub one : M.honest b → SaysAlone request (M.ledger a).input (M.now a) (M.now b) result
   pub rest : M.honest b → WritesAlone request (M.now a) (M.now b)
   pub mounted : IsTrue (is_of_mounted result) → M.honest b → IfMounts request (AsFound HasVolume (M.now a))
-  pub refused : result ≡ 3 → M.honest b → AsFound (λ sectors at. SaysCause (is_script request) sectors at (M.now b)) (M.now a)
+  pub refused : result ≡ 3 → M.honest b → AsFound (λ sectors at. SaysCause (is_script request) (RunMayLose request) sectors at (M.now b)) (M.now a)
   pub last : IsTrue (is_of_fault result) → M.honest b → IfMounts request (SaysFault (M.report b).fault_place (M.now b) result)
   pub spent : result ≡ 9 → M.honest b → AsFound (HasSpent (made_for request)) (M.now a)
   pub all : result ≡ 0 → M.honest b → SaysToEnd request (M.left_since b (M.moment a)) (M.ledger a).input (M.now a).said (M.now b)

@@ -6,6 +6,7 @@ ghost use Rattle.volume_layout.specs.declared.layout.Layout.{Layout as Plan};
 ghost use Rattle.fsd_files.specs.Files.{Change};
 ghost use Rattle.fsd_runs.specs.Leaves.{LeavesRun};
 ghost use Rattle.fsd_runs.specs.declared.request.Request.TheVariants.{Generate};
+ghost use Rattle.scrub.specs.Telling.{AreOfPage};
 ghost use Rattle.volume_turns.specs.Causes.{SaysFault, SaysMade, is_of_fault};
 ghost use Rattle.volume_turns.specs.Status.{IsMadeStatus};
 ghost use Rattle.cfs_program.specs.Formatting.{AsksAll, AsksAtMost, CountsFaults};
@@ -31,7 +32,7 @@ pub fn run_made_up<M: Machine, V: Files<M> + Drop>(
     ensures asks { M.tells m.new → AsksAtMost (mount_asks path.now) (M.ledger m.old) (M.ledger m.new) }
     ensures asked { IsFalse (is_from_outside result) → M.tells m.new → AsksAll (mount_asks path.now) (M.ledger m.old) (M.ledger m.new) }
     ensures trust { Trusts (M.tells m.old) (M.tells m.new) (M.honest m.old) (M.honest m.new) }
-    ensures image { M.honest m.new → TellsFound false (Some count) (M.now m.old) (M.now m.new) result }
+    ensures image { M.honest m.new → TellsFound false AreOfPage (Some count) (M.now m.old) (M.now m.new) result }
     ensures all { result ≡ 0 → M.honest m.new → SaysMade count (M.now m.old).said (M.now m.new) }
     ensures last { IsTrue (is_of_fault result) → M.honest m.new → SaysFault (M.report m.new).fault_place (M.now m.new) result }
     ensures leaves { M.honest m.new → (rest : List ℕ) (l : Plan) (windows : List WeakRun) (h : List Change) (f : ℕ) → IsSoundDisk l windows h f (M.now m.old) →

@@ -9,6 +9,7 @@ ghost use Rattle.fsd_runs.specs.declared.request.Request.TheVariants.{One};
 ghost use Rattle.volume_turns.specs.Answering.{SaysOne};
 ghost use Rattle.volume_turns.specs.Causes.{SaysFault, is_of_fault};
 ghost use Rattle.volume_turns.specs.Status.{IsOneStatus};
+ghost use Rattle.volume_turns.specs.Steps.{MayLose};
 ghost use Rattle.cfs_program.specs.Formatting.{AsksAll, AsksAtMost, CountsFaults};
 ghost use Rattle.cfs_program.specs.Opening.{IsSoundDisk, TellsFound, WritesFound, is_from_outside, mount_asks};
 
@@ -32,7 +33,7 @@ pub fn run_command<M: Machine, V: Files<M> + Drop>(
     ensures asks { M.tells m.new → AsksAtMost (mount_asks path.now) (M.ledger m.old) (M.ledger m.new) }
     ensures asked { IsFalse (is_from_outside result) → M.tells m.new → AsksAll (mount_asks path.now) (M.ledger m.old) (M.ledger m.new) }
     ensures trust { Trusts (M.tells m.old) (M.tells m.new) (M.honest m.old) (M.honest m.new) }
-    ensures image { M.honest m.new → TellsFound false None (M.now m.old) (M.now m.new) result }
+    ensures image { M.honest m.new → TellsFound false (MayLose c.now) None (M.now m.old) (M.now m.new) result }
     ensures one { M.honest m.new → SaysOne c.now (M.now m.old) (M.now m.new) result }
     ensures rest { M.honest m.new → WritesFound c.now (M.now m.old) (M.now m.new) }
     ensures last { IsTrue (is_of_fault result) → M.honest m.new → SaysFault (M.report m.new).fault_place (M.now m.new) result }

@@ -8,6 +8,7 @@ ghost use Rattle.fsd_texts.specs.Script.{max_input};
 ghost use Rattle.fsd_runs.specs.Leaves.{LeavesRun};
 ghost use Rattle.fsd_runs.specs.declared.request.Request.TheVariants.{Put};
 ghost use Rattle.fsd_texts.specs.declared.command.Command.TheVariants as Word;
+ghost use Rattle.scrub.specs.Telling.{AreOfPage};
 ghost use Rattle.volume_turns.specs.Answering.{SaysOne};
 ghost use Rattle.volume_turns.specs.Causes.{FailsInput, SaysFault, SaysOfInput, is_of_fault};
 ghost use Rattle.volume_turns.specs.Status.{IsPutStatus};
@@ -39,7 +40,7 @@ pub fn run_input<M: Machine, V: Files<M> + Drop>(
     ensures whole { result ≤ 1 → M.tells m.new → (M.ledger m.new).input ≡ [] }
     ensures few { result ≤ 1 → M.tells m.new → length (M.ledger m.old).input ≤ max_input }
     ensures trust { Trusts (M.tells m.old) (M.tells m.new) (M.honest m.old) (M.honest m.new) }
-    ensures image { M.honest m.new → TellsFound false None (M.now m.old) (M.now m.new) result }
+    ensures image { M.honest m.new → TellsFound false AreOfPage None (M.now m.old) (M.now m.new) result }
     ensures one { M.honest m.new → SaysOne (Word.Put name.now (M.ledger m.old).input keep) (M.now m.old) (M.now m.new) result }
     ensures last { IsTrue (is_of_fault result) → M.honest m.new → SaysFault (M.report m.new).fault_place (M.now m.new) result }
     ensures leaves { M.honest m.new → (l : Plan) (windows : List WeakRun) (h : List Change) (f : ℕ) → IsSoundDisk l windows h f (M.now m.old) →

@@ -9,6 +9,7 @@ ghost use Rattle.fsd_texts.specs.declared.end.End.TheVariants.{Done};
 ghost use Rattle.fsd_runs.specs.Commands.{reply_text};
 ghost use Rattle.fsd_runs.specs.Leaves.{LeavesRun};
 ghost use Rattle.fsd_runs.specs.declared.request.Request.TheVariants.{Script};
+ghost use Rattle.scrub.specs.Telling.{AreOfPage};
 ghost use Rattle.volume_turns.specs.Causes.{FailsInput, SaysFault, SaysOfInput, is_of_fault};
 ghost use Rattle.volume_turns.specs.Each.{SaysBadLine, SaysForced};
 ghost use Rattle.volume_turns.specs.Status.{IsScriptStatus};
@@ -34,7 +35,7 @@ pub fn run_commands<M: Machine, V: Files<M> + Drop>(alloc: Global, m: &mut M, pa
     ensures spelled { result ≡ 0 → M.tells m.new → (script_in (M.ledger m.old).input).1 ≡ Done }
     ensures bad { result ≡ 2 → M.honest m.new → SaysBadLine (M.left_since m.new (M.moment m.old)) (M.ledger m.old).input (M.now m.old).said (M.now m.new) }
     ensures trust { Trusts (M.tells m.old) (M.tells m.new) (M.honest m.old) (M.honest m.new) }
-    ensures image { M.honest m.new → TellsFound true None (M.now m.old) (M.now m.new) result }
+    ensures image { M.honest m.new → TellsFound true AreOfPage None (M.now m.old) (M.now m.new) result }
     ensures all { result ≡ 0 → M.honest m.new → SaysForced reply_text (M.left_since m.new (M.moment m.old)) (script_in (M.ledger m.old).input).0 (M.now m.old).said (M.now m.new).said }
     ensures last { IsTrue (is_of_fault result) → M.honest m.new → SaysFault (M.report m.new).fault_place (M.now m.new) result }
     ensures leaves { M.honest m.new → (l : Plan) (windows : List WeakRun) (h : List Change) (f : ℕ) → IsSoundDisk l windows h f (M.now m.old) →

@@ -14,6 +14,8 @@ struct Row<'a> {
     options: &'a [&'a str],
 }
 
+// Their order is that of the definition `cfs`, and so it is in any build that is proved: the contract of `command_set`
+// says that the two are one.
 const ROWS: [Row<'static>; 10] = [
     Row {
         name: "format",

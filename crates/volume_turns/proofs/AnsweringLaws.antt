@@ -28,6 +28,7 @@ use Rattle.volume_contract.specs.Mount.{IsFound}
 use Rattle.volume_contract.specs.Order.{Asks, Comes, Data, Force, IsData, IsDevice, IsDeviceIn, IsFetch, IsLookUp, IsLoss, LookUp, Refuses, Step, Test, down, force_steps, is_idle, no_place_in, place, runs_at, worn}
 use Rattle.volume_contract.specs.State.{Ages, State, in_place, is_worn, place_in, put_writes}
 use Rattle.scrub.specs.Scrub.{scrub_writes}
+use Rattle.scrub.specs.Telling.{AreOfPage}
 use Rattle.scrub.proofs.LeadLaws.{touches_then, worn_touches}
 use Rattle.volume_turns.specs.declared.answer.Answer.{Answer}
 use Rattle.volume_turns.specs.declared.answer.Answer.TheVariants as Said
@@ -36,10 +37,11 @@ use Rattle.volume_turns.specs.declared.turns.End.TheVariants.{Fault as Stopped, 
 use Rattle.volume_turns.specs.Answering.{Answers, AnswersAlone, ClosesBy, EndsOne, HasDamaged, KeepsState, LacksRoom, MayReply, RefusesPut, RunsOne, SaysBy, SaysNoReply, SaysOne, SaysReply, WritesBehind, may_write}
 use Rattle.volume_turns.specs.Once.{unit_of}
 use Rattle.volume_turns.specs.Line.{EndsWith}
-use Rattle.volume_turns.specs.Steps.{IsToldOn, ended_by, read_ended_by, reply_of}
+use Rattle.volume_turns.specs.Steps.{IsToldOn, MayLose, ended_by, read_ended_by, reply_of}
 use Rattle.volume_turns.specs.Turns.{KeepsSaid, SaysAll, Unsaid}
 use Rattle.volume_turns.proofs.OrderLaws.{delete_all, edit_rest, few_best, keep_small, put_rest, starts_up, steps_of}
 use Rattle.volume_turns.proofs.StatusLaws.{look_up_ends, loss_looks}
+use Rattle.volume_turns.proofs.ToldLaws.{told_may}
 
 -- ---- what is touched
 
@@ -248,7 +250,7 @@ pub closed_still : {D : Type 0} (now : D → Moment) (s : State) (a m : D) → (
 closed_still {D = D} now s a m idle none = subst (λ (x : D). Touches nowhere (now a) (now x)) (sym (idle (idle_by s none))) (record { size = refl; others = λ n out. inl refl })
 
 -- a text behind a volume that was closed
-pub closed_by : {T : Type 0} (s : State) (text : List ℕ) (a m b : Moment) (r : Result T End) → m.windows ≡ a.windows → m.said ≡ a.said → Touches (force_writes s.layout) a m → (s.dirty ≡ [] → Touches nowhere a m) → Ages m b → SaysBy text m b r → (r ≡ Err (Stopped Ends.WornOut) → ⊥) → ((why : Fault) → r ≡ Err (Stopped why) → IsToldOn s.layout b.image why) → ClosesBy s text a b r
+pub closed_by : {T : Type 0} (s : State) (text : List ℕ) (a m b : Moment) (r : Result T End) → m.windows ≡ a.windows → m.said ≡ a.said → Touches (force_writes s.layout) a m → (s.dirty ≡ [] → Touches nowhere a m) → Ages m b → SaysBy text m b r → (r ≡ Err (Stopped Ends.WornOut) → ⊥) → ((why : Fault) → r ≡ Err (Stopped why) → IsToldOn AreOfPage s.layout b.image why) → ClosesBy s text a b r
 closed_by s text a m b r windows same rest still ages says unworn told = record {
   windows = ages.windows ∙ windows;
   says = said_by text a m b same r says;
@@ -304,7 +306,7 @@ module _ (command : Command) (s t : State) (a m : Moment) (windows : m.windows �
         replies = λ none. replied command (reply_of x) a b (may_later command s t m b (reply_of x) answers.still none closes.still answers.replies) r gives says;
         rest = λ none. alone_rest command s t a m b windows layout answers.still none answers.rest closes.rest closes.still;
         worn = λ is. absurd (closes.unworn (ap (λ (x : Result ℕ End). unit_of x) is));
-        told = λ why is. subst (λ (l : Layout). IsToldOn l b.image why) layout (closes.told why (ap (λ (x : Result ℕ End). unit_of x) is));
+        told = λ why is. told_may command s.layout b.image why (subst (λ (l : Layout). IsToldOn AreOfPage l b.image why) layout (closes.told why (ap (λ (x : Result ℕ End). unit_of x) is)));
       }
 
   pub alone_ended : (why : Fault) → Answers command s t a m (Err why) → AnswersAlone command s a m (Err (Stopped why))
@@ -314,7 +316,7 @@ module _ (command : Command) (s t : State) (a m : Moment) (windows : m.windows �
     replies = λ none. tt;
     rest = λ none. answers.rest;
     worn = λ is. let e : why ≡ Ends.WornOut = cc is in answers.worn (ap (λ (w : Fault). Err w) e);
-    told = λ other is. let e : why ≡ other = cc is in subst (λ (w : Fault). IsToldOn s.layout m.image w) e answers.told;
+    told = λ other is. let e : why ≡ other = cc is in subst (λ (w : Fault). IsToldOn (MayLose command) s.layout m.image w) e answers.told;
   }
 
 -- ---- to the last line

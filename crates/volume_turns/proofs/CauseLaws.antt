@@ -66,11 +66,11 @@ image_of_call Ends.WornOut of three = absurd (omega (arith, three))
 image_of_call why of three = absurd of
 
 -- what is lost as it is told stays so to its line
-pub call_says : (script : Bool) (layout : Layout) (before : List ℕ) (why : Fault) → IsOfCall why → (old new : Moment) (status : ℕ) → StandsBefore script before old.said → IsWorn (open_damage old.windows) old.image new.image → IsToldOn layout old.image why
-    → EndsWith why old new status → status ≡ 3 → SaysOfCall script layout before new
-call_says script layout before why of old new status behind worn told ended three =
+pub call_says : (script : Bool) (AreCopies : Layout → ℕ → ℕ → Type 0) (layout : Layout) (before : List ℕ) (why : Fault) → IsOfCall why → (old new : Moment) (status : ℕ) → StandsBefore script before old.said → IsWorn (open_damage old.windows) old.image new.image → IsToldOn AreCopies layout old.image why
+    → EndsWith why old new status → status ≡ 3 → SaysOfCall script AreCopies layout before new
+call_says script AreCopies layout before why of old new status behind worn told ended three =
     let says = of_fault script before why old new status behind ended three in
-    record { why = why; of = image_of_call why of says.status; told = told_since layout (open_damage old.windows) old.image new.image worn why told; says = says }
+    record { why = why; of = image_of_call why of says.status; told = told_since AreCopies layout (open_damage old.windows) old.image new.image worn why told; says = says }
 
 -- ---- a mount
 
@@ -78,8 +78,8 @@ has_volume : (sectors : ℕ) (s : State) (old : Moment) → IsFound sectors s ol
 has_volume sectors s old f = record { seen = f.seen; from = f.from; layout = s.layout; anchor = f.anchor; found = f.found }
 
 -- what was said of it as the mount ended was said before
-pub call_since : (script : Bool) (layout : Layout) (before now : List ℕ) (new : Moment) → now ≡ before → SaysOfCall script layout now new → SaysOfCall script layout before new
-call_since script layout before now new same says = subst (λ (x : List ℕ). SaysOfCall script layout x new) same says
+pub call_since : (script : Bool) (AreCopies : Layout → ℕ → ℕ → Type 0) (layout : Layout) (before now : List ℕ) (new : Moment) → now ≡ before → SaysOfCall script AreCopies layout now new → SaysOfCall script AreCopies layout before new
+call_since script AreCopies layout before now new same says = subst (λ (x : List ℕ). SaysOfCall script AreCopies layout x new) same says
 
 -- the numbers of a mount are used up by so many commands that are made up
 abbrev pub MaySpend : Option ℕ → Type 0
@@ -90,14 +90,14 @@ spent_mounted : (made : Option ℕ) (sectors : ℕ) (old : Moment) → HasVolume
 spent_mounted (Some count) sectors old volume may = inl (volume, may)
 spent_mounted None sectors old volume may = absurd may
 
-pub tells_mounted : (script : Bool) (made : Option ℕ) (sectors : ℕ) (s : State) (old new : Moment) (status : ℕ) (now : List ℕ) → now ≡ old.said → IsFound sectors s old → (status ≡ 3 → SaysOfCall script s.layout now new) → (status ≡ 9 → MaySpend made)
-    → TellsImage script made sectors old new status
+pub tells_mounted : (script : Bool) (AreCopies : Layout → ℕ → ℕ → Type 0) (made : Option ℕ) (sectors : ℕ) (s : State) (old new : Moment) (status : ℕ) (now : List ℕ) → now ≡ old.said → IsFound sectors s old → (status ≡ 3 → SaysOfCall script AreCopies s.layout now new) → (status ≡ 9 → MaySpend made)
+    → TellsImage script AreCopies made sectors old new status
 unfolding has_volume
-tells_mounted script made sectors s old new status now same f says may =
+tells_mounted script AreCopies made sectors s old new status now same f says may =
     let volume = has_volume sectors s old f in
     record {
       mounted = λ any. volume;
-      refused = λ three. let x = call_since script s.layout old.said now new same (says three) in record { why = x.why; says = x.says; cause = inr (record { mounted = volume; of = x.of; told = x.told }) };
+      refused = λ three. let x = call_since script AreCopies s.layout old.said now new same (says three) in record { why = x.why; says = x.says; cause = inr (record { mounted = volume; of = x.of; told = x.told }) };
       spent = λ nine. spent_mounted made sectors old volume (may nine);
     }
 
@@ -120,9 +120,9 @@ spent_refused : (made : Option ℕ) (sectors : ℕ) (old : Moment) → IsRefused
 spent_refused (Some count) sectors old refused = inr refused
 spent_refused None sectors old refused = refused
 
-pub tells_refused : (script : Bool) (made : Option ℕ) (sectors : ℕ) (fault : MountFault) (why : Fault) (old ended new : Moment) (status : ℕ) → why ≡ fault_of fault → IsRefused sectors fault old → LostIn (AreCopiesOn sectors old) ended.image fault → UnsoundFor sectors old ended fault
-    → KeepsAll fault old ended → MountKeeps sectors old ended → ended.said ≡ old.said → Utters (fault_text why) ended new → EndsWith why ended new status → IsStatusFor why status → TellsImage script made sectors old new status
-tells_refused script made sectors fault why old ended new status is refused lost unsound kept rest same utters ends for = record {
+pub tells_refused : (script : Bool) (AreCopies : Layout → ℕ → ℕ → Type 0) (made : Option ℕ) (sectors : ℕ) (fault : MountFault) (why : Fault) (old ended new : Moment) (status : ℕ) → why ≡ fault_of fault → IsRefused sectors fault old → LostIn (AreCopiesOn sectors old) ended.image fault → UnsoundFor sectors old ended fault
+    → KeepsAll fault old ended → MountKeeps sectors old ended → ended.said ≡ old.said → Utters (fault_text why) ended new → EndsWith why ended new status → IsStatusFor why status → TellsImage script AreCopies made sectors old new status
+tells_refused script AreCopies made sectors fault why old ended new status is refused lost unsound kept rest same utters ends for = record {
   mounted = λ any. absurd (refused_not fault status (subst (λ (w : Fault). IsStatusFor w status) is for) any);
   refused = λ three. record {
     why = why;

@@ -17,6 +17,7 @@ pub mod NumberLaws
 pub mod OnceLaws
 pub mod OneLaws
 pub mod OrderLaws
+pub mod OtherLaws
 pub mod PutLaws
 pub mod QuietLaws
 pub mod ReadLaws

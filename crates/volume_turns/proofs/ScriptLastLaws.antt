@@ -21,6 +21,7 @@ use Rattle.fsd_runs.specs.Commands.{reply_text}
 use Rattle.fsd_runs.specs.declared.request.Request.TheVariants.{Script}
 use Rattle.fsd_runs.specs.Errands.{Errand, fault_status, is_forced, line_turn}
 use Rattle.volume_contract.specs.State.{Known}
+use Rattle.scrub.specs.Telling.{AreOfPage}
 use Rattle.volume_turns.specs.declared.script.Stop.{Stop}
 use Rattle.volume_turns.specs.declared.script.Stop.TheVariants.{Ended, Input, WornOut}
 use Rattle.volume_turns.specs.declared.turns.End.{End}
@@ -144,9 +145,9 @@ module _ {D : Type 0} (M : Ghosts D) (a p b : D) (status : ℕ) where
   script_last (Err Output) heard x h of = absurd (fault_not 6 status refl of x.0)
 
   -- one of the image
-  pub script_call : (l : Layout) (ended : Result Stop End) → IfErr ended IsEndOfVolume → BreaksWhole reply_text (M.now a) (M.now p) ended → IfErr ended (λ end. M.honest p → IsEndOn l (M.now p).image end) → M.honest p → So ended → ending_status ended ≡ 3 → status ≡ 3 → M.honest b
-      → SaysOfCall true l (M.now a).said (M.now b)
-  script_call l (Err (Stopped why)) of whole on back x is three h = call_says true l (M.now a).said why of (M.now p) (M.now b) status whole (x.says.exit h).image (on back) (x.ends h) three
+  pub script_call : (l : Layout) (ended : Result Stop End) → IfErr ended IsEndOfVolume → BreaksWhole reply_text (M.now a) (M.now p) ended → IfErr ended (λ end. M.honest p → IsEndOn AreOfPage l (M.now p).image end) → M.honest p → So ended → ending_status ended ≡ 3 → status ≡ 3 → M.honest b
+      → SaysOfCall true AreOfPage l (M.now a).said (M.now b)
+  script_call l (Err (Stopped why)) of whole on back x is three h = call_says true AreOfPage l (M.now a).said why of (M.now p) (M.now b) status whole (x.says.exit h).image (on back) (x.ends h) three
   script_call l (Ok (Ended Done)) of whole on back x is three h = absurd (omega (arith, is))
   script_call l ended of whole on back x is three h = absurd (omega (arith, is))
 

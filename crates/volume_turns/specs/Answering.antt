@@ -21,12 +21,13 @@ use Rattle.fsd_runs.specs.Commands.{reply_alone}
 use Rattle.fsd_runs.specs.Errands.{fault_status, reply_status}
 use Rattle.volume_contract.specs.State.{Ages, State, is_worn, put_writes}
 use Rattle.scrub.specs.Scrub.{scrub_writes}
+use Rattle.scrub.specs.Telling.{AreOfPage}
 use Rattle.volume_turns.specs.declared.answer.Answer.{Answer}
 use Rattle.volume_turns.specs.declared.turns.End.{End}
 use Rattle.volume_turns.specs.declared.turns.End.TheVariants.{Fault as Stopped, Output}
 use Rattle.volume_turns.specs.Causes.{HasVolume}
 use Rattle.volume_turns.specs.Numbers.{GoesUp}
-use Rattle.volume_turns.specs.Steps.{IsToldOn, reply_of}
+use Rattle.volume_turns.specs.Steps.{IsToldOn, MayLose, reply_of}
 use Rattle.volume_turns.specs.Turns.{KeepsSaid}
 
 -- ---- refusals
@@ -57,38 +58,53 @@ HasDamaged i s = (s < length i) × (sector_at i s ≡ Damaged)
 abbrev pub MayReply : Command → Image → Reply → Type 0
 MayReply (Word.Put name bytes keep) i (Reply.Made key sectors) = (key.name ≡ name) × (sectors ≡ sectors_for (length bytes)) × (size_fault (keep_given keep) (length bytes) ≡ None)
 MayReply (Word.Put name bytes keep) i (Reply.Refused why) = RefusesPut keep (length bytes) why
+MayReply (Word.Put name bytes keep) i reply = ⊥
 MayReply (Word.Delete key) i (Reply.Deleted k) = k ≡ key
 MayReply (Word.Delete key) i (Reply.Refused why) = why ≡ Why.NoSuch
+MayReply (Word.Delete key) i reply = ⊥
 MayReply (Word.Keep name keep) i (Reply.Kept key k) = (key.name ≡ name) × (k ≡ keep) × (keep ≤ max_keep)
 MayReply (Word.Keep name keep) i (Reply.Refused why) = RefusesKeep keep why
+MayReply (Word.Keep name keep) i reply = ⊥
 MayReply (Word.Get key) i (Reply.Bytes k bytes) = k ≡ key
 MayReply (Word.Get key) i (Reply.DamagedAt k s) = (k ≡ key) × HasDamaged i s
 MayReply (Word.Get key) i (Reply.Refused why) = why ≡ Why.NoSuch
+MayReply (Word.Get key) i reply = ⊥
 MayReply (Word.List pattern) i (Reply.Listed entries) = ⊤
+MayReply (Word.List pattern) i reply = ⊥
 MayReply Word.Force i Reply.Forced = ⊤
+MayReply Word.Force i reply = ⊥
 MayReply Word.Tick i Reply.Forced = ⊤
+MayReply Word.Tick i reply = ⊥
 MayReply Word.Stat i (Reply.Counts free waiting pages versions) = ⊤
+MayReply Word.Stat i reply = ⊥
 MayReply Word.Scrub i (Reply.Scrubbed found healed) = AllByRecursion (λ x. HasDamaged i x.1) found
-MayReply command i reply = ⊥
+MayReply Word.Scrub i reply = ⊥
 
 -- ---- what is written
 
 -- where a command writes over a volume of this state
 abbrev pub may_write : Command → State → Sectors
 may_write (Word.Put name bytes keep) s = put_writes s (sectors_for (length bytes))
+may_write (Word.Delete key) s = force_writes s.layout
+may_write (Word.Keep name keep) s = force_writes s.layout
 may_write (Word.List pattern) s = nowhere
 may_write (Word.Get key) s = nowhere
+may_write Word.Force s = force_writes s.layout
+may_write Word.Tick s = force_writes s.layout
 may_write Word.Stat s = nowhere
 may_write Word.Scrub s = scrub_writes s.layout
-may_write command s = force_writes s.layout
 
 -- a command that only reads leaves the volume's state, and so does a scrub where no page waits
 abbrev pub KeepsState : Command → State → State → Type 0
+KeepsState (Word.Put name bytes keep) s t = ⊤
+KeepsState (Word.Delete key) s t = ⊤
+KeepsState (Word.Keep name keep) s t = ⊤
 KeepsState (Word.List pattern) s t = t ≡ s
 KeepsState (Word.Get key) s t = t ≡ s
+KeepsState Word.Force s t = ⊤
+KeepsState Word.Tick s t = ⊤
 KeepsState Word.Stat s t = t ≡ s
 KeepsState Word.Scrub s t = s.dirty ≡ [] → t ≡ s
-KeepsState command s t = ⊤
 
 -- ---- one command, step by step
 
@@ -100,7 +116,7 @@ pub record Answers (command : Command) (s t : State) (old new : Moment) (result 
   -- a mount is told as worn out only where it is
   pub worn : result ≡ Err Ends.WornOut → IsTrue (is_worn s)
   pub numbers : GoesUp 1 s t
-  pub told : IfErr result (IsToldOn s.layout new.image)
+  pub told : IfErr result (IsToldOn (MayLose command) s.layout new.image)
 
 -- a text is said, and nothing in front of a fault
 abbrev pub SaysBy : {T : Type 0} → (text : List ℕ) → (old new : Moment) → Result T End → Type 0
@@ -117,7 +133,7 @@ pub record ClosesBy {T : Type 0} (s : State) (text : List ℕ) (old new : Moment
   pub still : s.dirty ≡ [] → Touches nowhere old new
   -- nor is it told as worn out
   pub unworn : result ≡ Err (Stopped Ends.WornOut) → ⊥
-  pub told : (why : Fault) → result ≡ Err (Stopped why) → IsToldOn s.layout new.image why
+  pub told : (why : Fault) → result ≡ Err (Stopped why) → IsToldOn AreOfPage s.layout new.image why
 
 -- One reply is all that is said, and the status is its own.
 pub record SaysReply (command : Command) (old new : Moment) (status : ℕ) : Type 0 where
@@ -134,7 +150,7 @@ pub record AnswersAlone (command : Command) (s : State) (old new : Moment) (resu
   pub replies : s.dirty ≡ [] → IfOk result (SaysReply command old new)
   pub rest : s.dirty ≡ [] → Touches (may_write command s) old new
   pub worn : result ≡ Err (Stopped Ends.WornOut) → IsTrue (is_worn s)
-  pub told : (why : Fault) → result ≡ Err (Stopped why) → IsToldOn s.layout new.image why
+  pub told : (why : Fault) → result ≡ Err (Stopped why) → IsToldOn (MayLose command) s.layout new.image why
 
 -- ---- to the last line
 
@@ -160,15 +176,22 @@ pub record EndsOne (command : Command) (s : State) (old new : Moment) (status : 
 
 -- ---- from the mount on
 
+-- nothing is written behind the mount, or only where a force writes
+abbrev pub WritesForce : (sectors : ℕ) → (old mounted new : Moment) → Type 0
+WritesForce sectors old mounted new = Ages mounted new ⊎ ((volume : HasVolume sectors old) × Touches (force_writes volume.layout) mounted new)
+
 -- What is written behind the mount: nothing by a command that only reads; by another that is no put, only where a force
 -- writes, and by a scrub also roots and in the data area.
 abbrev pub WritesBehind : Command → (sectors : ℕ) → (old mounted new : Moment) → Type 0
 WritesBehind (Word.Put name bytes keep) sectors old mounted new = ⊤
+WritesBehind (Word.Delete key) sectors old mounted new = WritesForce sectors old mounted new
+WritesBehind (Word.Keep name keep) sectors old mounted new = WritesForce sectors old mounted new
 WritesBehind (Word.List pattern) sectors old mounted new = Ages mounted new
 WritesBehind (Word.Get key) sectors old mounted new = Ages mounted new
+WritesBehind Word.Force sectors old mounted new = WritesForce sectors old mounted new
+WritesBehind Word.Tick sectors old mounted new = WritesForce sectors old mounted new
 WritesBehind Word.Stat sectors old mounted new = Ages mounted new
 WritesBehind Word.Scrub sectors old mounted new = Ages mounted new ⊎ ((volume : HasVolume sectors old) × Touches (scrub_writes volume.layout) mounted new)
-WritesBehind command sectors old mounted new = Ages mounted new ⊎ ((volume : HasVolume sectors old) × Touches (force_writes volume.layout) mounted new)
 
 -- A mount writes only where it may, and the command behind it.
 pub record WritesOne (command : Command) (sectors : ℕ) (old new : Moment) : Type 0 where

@@ -57,11 +57,12 @@ pub record IsMountRefused (sectors : ℕ) (why : Fault) (old new : Moment) : Typ
   pub rest : MountKeeps sectors old ended
   pub said : new.said ≡ old.said ++ fault_text why
 
--- The image was mounted, and a call of the volume told this of it, which is so by its layout as the run ended.
-pub record IsCallRefused (sectors : ℕ) (why : Fault) (old new : Moment) : Type 0 where
+-- The image was mounted, and a call of the volume told this of it, which is so by its layout as the run ended;
+-- what is told as lost is two such copies.
+pub record IsCallRefused (AreCopies : Layout → ℕ → ℕ → Type 0) (sectors : ℕ) (why : Fault) (old new : Moment) : Type 0 where
   pub mounted : HasVolume sectors old
   pub of : IsOfImage why
-  pub told : IsToldOn mounted.layout new.image why
+  pub told : IsToldOn AreCopies mounted.layout new.image why
 
 -- what a run has said in front of its last line: whole replies, where it is a script, and else nothing
 abbrev pub StandsBefore : (script : Bool) → (said front : List ℕ) → Type 0
@@ -76,10 +77,10 @@ pub record SaysOfImage (script : Bool) (before : List ℕ) (why : Fault) (new : 
   pub said : new.said ≡ front ++ fault_text why
 
 -- A fault of the image is said last, and has its cause.
-pub record SaysCause (script : Bool) (sectors : ℕ) (old new : Moment) : Type 0 where
+pub record SaysCause (script : Bool) (AreCopies : Layout → ℕ → ℕ → Type 0) (sectors : ℕ) (old new : Moment) : Type 0 where
   pub why : Fault
   pub says : SaysOfImage script old.said why new
-  pub cause : IsMountRefused sectors why old new ⊎ IsCallRefused sectors why old new
+  pub cause : IsMountRefused sectors why old new ⊎ IsCallRefused AreCopies sectors why old new
 
 -- The mount was refused for an epoch that was seen to be the last one; where so many commands are made up that they may
 -- use up the numbers of a mount, it may have been mounted.
@@ -89,18 +90,18 @@ HasSpent None sectors old = IsRefused sectors WornOut old
 
 -- ---- all of these
 
--- What a run tells of the image that it found, by its status, whether it is a script,
+-- What a run tells of the image that it found, by its status, whether it is a script, what its calls may tell as lost,
 -- and how many commands it makes up, if it does.
-pub record TellsImage (script : Bool) (made : Option ℕ) (sectors : ℕ) (old new : Moment) (status : ℕ) : Type 0 where
+pub record TellsImage (script : Bool) (AreCopies : Layout → ℕ → ℕ → Type 0) (made : Option ℕ) (sectors : ℕ) (old new : Moment) (status : ℕ) : Type 0 where
   pub mounted : IsTrue (is_of_mounted status) → HasVolume sectors old
-  pub refused : status ≡ 3 → SaysCause script sectors old new
+  pub refused : status ≡ 3 → SaysCause script AreCopies sectors old new
   pub spent : status ≡ 9 → HasSpent made sectors old
 
 -- Over a mounted volume of this layout: status 3 is that of a fault that a call told, and what it tells is so.
-pub record SaysOfCall (script : Bool) (layout : Layout) (before : List ℕ) (new : Moment) : Type 0 where
+pub record SaysOfCall (script : Bool) (AreCopies : Layout → ℕ → ℕ → Type 0) (layout : Layout) (before : List ℕ) (new : Moment) : Type 0 where
   pub why : Fault
   pub of : IsOfImage why
-  pub told : IsToldOn layout new.image why
+  pub told : IsToldOn AreCopies layout new.image why
   pub says : SaysOfImage script before why new
 
 -- ---- the fault that is said

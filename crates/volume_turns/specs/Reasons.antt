@@ -53,8 +53,15 @@ HasScrubbed s old new (Ok (Said.Scrubbed found healed)) = WritesHealed (most_wri
 HasScrubbed s old new result = ⊤
 
 abbrev pub HasWrittenBy : Command → State → Ledger → Ledger → Result Answer Fault → Type 0
+HasWrittenBy (Word.Put name bytes keep) s old new result = HasWritten (most_written (Word.Put name bytes keep) s) old new result
+HasWrittenBy (Word.Delete key) s old new result = HasWritten (most_written (Word.Delete key) s) old new result
+HasWrittenBy (Word.Keep name keep) s old new result = HasWritten (most_written (Word.Keep name keep) s) old new result
+HasWrittenBy (Word.List pattern) s old new result = HasWritten (most_written (Word.List pattern) s) old new result
+HasWrittenBy (Word.Get key) s old new result = HasWritten (most_written (Word.Get key) s) old new result
+HasWrittenBy Word.Force s old new result = HasWritten (most_written Word.Force s) old new result
+HasWrittenBy Word.Tick s old new result = HasWritten (most_written Word.Tick s) old new result
+HasWrittenBy Word.Stat s old new result = HasWritten (most_written Word.Stat s) old new result
 HasWrittenBy Word.Scrub s old new result = HasScrubbed s old new result
-HasWrittenBy command s old new result = HasWritten (most_written command s) old new result
 
 -- ---- what a scrub has found
 
@@ -94,7 +101,12 @@ module _ {S : Type 0} (state : S → State) (resident : S → ℕ → Option (Li
   BecauseListed pattern s t old new reply = ⊤
 
   abbrev pub Because : Command → (s t : State) → (old new : Moment) → Reply → Type 0
-  Because (Word.Get key) s t old new reply = BecauseRead key s t old new reply
+  Because (Word.Put name bytes keep) s t old new reply = ⊤
+  Because (Word.Delete key) s t old new reply = ⊤
+  Because (Word.Keep name keep) s t old new reply = ⊤
   Because (Word.List pattern) s t old new reply = BecauseListed pattern s t old new reply
+  Because (Word.Get key) s t old new reply = BecauseRead key s t old new reply
+  Because Word.Force s t old new reply = ⊤
+  Because Word.Tick s t old new reply = ⊤
+  Because Word.Stat s t old new reply = ⊤
   Because Word.Scrub s t old new reply = BecauseScrubbed s new reply
-  Because command s t old new reply = ⊤

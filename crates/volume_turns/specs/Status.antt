@@ -3,7 +3,7 @@ use Rattle.std.specs.Prelude.{◌≡◌, ◌⊎◌, ◌≤◌, ◌==◌, ◌||�
 use Rattle.std.specs.List.{list_any}
 use Rattle.sector_disk.specs.Machine.{Report, Rose}
 use Rattle.fsd_texts.specs.declared.command.Command.{Command}
-use Rattle.fsd_texts.specs.declared.command.Command.TheVariants.{Delete, Get, Keep, Put, Scrub}
+use Rattle.fsd_texts.specs.declared.command.Command.TheVariants.{Delete, Force, Get, Keep, List, Put, Scrub, Stat, Tick}
 use Rattle.fsd_texts.specs.declared.fault.Fault.{Fault}
 use Rattle.fsd_runs.specs.Errands.{fault_status}
 use Rattle.volume_turns.specs.Steps.{IsOfVolume}
@@ -24,9 +24,12 @@ abbrev pub IsStatusFrom : Command → ℕ → Type 0
 IsStatusFrom (Put name bytes keep) status = status ≤ 1
 IsStatusFrom (Delete key) status = status ≤ 1
 IsStatusFrom (Keep name keep) status = status ≤ 1
+IsStatusFrom (List pattern) status = status ≡ 0
 IsStatusFrom (Get key) status = (status ≤ 1) ⊎ (status ≡ 8)
+IsStatusFrom Force status = status ≡ 0
+IsStatusFrom Tick status = status ≡ 0
+IsStatusFrom Stat status = status ≡ 0
 IsStatusFrom Scrub status = (status ≡ 0) ⊎ (status ≡ 8)
-IsStatusFrom command status = status ≡ 0
 
 -- one command ends with the status of its reply, or of a fault, or its output failed
 abbrev pub IsOneStatus : Command → ℕ → Type 0

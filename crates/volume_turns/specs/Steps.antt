@@ -9,6 +9,7 @@ use Rattle.fsd_files.specs.Answers.{Met}
 use Rattle.fsd_files.specs.Disk.{Image}
 use Rattle.fsd_files.specs.Replies.{Reply}
 use Rattle.fsd_texts.specs.declared.command.Command.{Command}
+use Rattle.fsd_texts.specs.declared.command.Command.TheVariants as Word
 use Rattle.fsd_texts.specs.declared.fault.Fault.{Fault}
 use Rattle.fsd_texts.specs.declared.fault.Fault.TheVariants as Ends
 use Rattle.fsd_runs.specs.Commands.{answer, changes_of, MayFind, may_wear_out}
@@ -16,7 +17,7 @@ use Rattle.sector_disk.specs.Damage.{AreLost}
 use Rattle.sector_disk.specs.Machine.{Moment}
 use Rattle.fsd_sound.specs.Mounted.{Mounted}
 use Rattle.fsd_sound.specs.Sound.{IsSound}
-use Rattle.scrub.specs.Telling.{IsHomeOfPage, StandTwice}
+use Rattle.scrub.specs.Telling.{AreOfPage, IsHomeOfPage, StandTwice}
 use Rattle.volume_turns.specs.declared.answer.Answer.{Answer}
 use Rattle.volume_turns.specs.declared.answer.Answer.TheVariants as Said
 use Rattle.volume_contract.specs.State.{State, Known, volume_of, forced_of, Stands, is_worn}
@@ -67,16 +68,29 @@ IsOfImage (Ends.Lost a b) = ⊤
 IsOfImage (Ends.Unsound s) = ⊤
 IsOfImage fault = ⊥
 
--- It is so by this layout, in this image: the two copies that are told as lost are both damaged, and it is the home of a
--- page of the table that is told as unsound.
-abbrev pub IsToldOn : Layout → Image → Fault → Type 0
-IsToldOn l i (Ends.Lost a b) = AreLost (StandTwice l) i a b
-IsToldOn l i (Ends.Unsound s) = IsHomeOfPage l s
-IsToldOn l i fault = ⊤
+-- the sectors that a command may tell as lost: two copies of one page, and a scrub also those of the root and of the
+-- anchor
+abbrev pub MayLose : Command → Layout → (a b : ℕ) → Type 0
+MayLose (Word.Put name bytes keep) = AreOfPage
+MayLose (Word.Delete key) = AreOfPage
+MayLose (Word.Keep name keep) = AreOfPage
+MayLose (Word.List pattern) = AreOfPage
+MayLose (Word.Get key) = AreOfPage
+MayLose Word.Force = AreOfPage
+MayLose Word.Tick = AreOfPage
+MayLose Word.Stat = AreOfPage
+MayLose Word.Scrub = StandTwice
+
+-- It is so by this layout, in this image: the two sectors that are told as lost are such copies and both damaged, and it
+-- is the home of a page of the table that is told as unsound.
+abbrev pub IsToldOn : (AreCopies : Layout → ℕ → ℕ → Type 0) → Layout → Image → Fault → Type 0
+IsToldOn AreCopies l i (Ends.Lost a b) = AreLost (AreCopies l) i a b
+IsToldOn AreCopies l i (Ends.Unsound s) = IsHomeOfPage l s
+IsToldOn AreCopies l i fault = ⊤
 
 -- so it is of a refusal that ends the run
-abbrev pub IsRefusedOn : Layout → Image → Refusal → Type 0
-IsRefusedOn l i why = IfErr (ended_by why) (IsToldOn l i)
+abbrev pub IsRefusedOn : (AreCopies : Layout → ℕ → ℕ → Type 0) → Layout → Image → Refusal → Type 0
+IsRefusedOn AreCopies l i why = IfErr (ended_by why) (IsToldOn AreCopies l i)
 
 -- the place of the call of the disk that failed
 abbrev pub device_told : Fault → Option ℕ

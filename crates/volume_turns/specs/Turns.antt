@@ -72,9 +72,9 @@ IsEndOfVolume (Stopped fault) = IsOfCall fault
 IsEndOfVolume Output = ⊤
 
 -- what it tells of the image is so by this layout
-abbrev pub IsEndOn : Layout → Image → End → Type 0
-IsEndOn l i (Stopped why) = IsToldOn l i why
-IsEndOn l i Output = ⊤
+abbrev pub IsEndOn : (AreCopies : Layout → ℕ → ℕ → Type 0) → Layout → Image → End → Type 0
+IsEndOn AreCopies l i (Stopped why) = IsToldOn AreCopies l i why
+IsEndOn AreCopies l i Output = ⊤
 
 -- memory is wanted, or the next numbers of a mount
 abbrev pub IsWant : Fault → Type 0

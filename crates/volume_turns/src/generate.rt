@@ -13,11 +13,13 @@ ghost use Rattle.fsd_runs.specs.Leaves.{LeavesRun};
 ghost use Rattle.fsd_runs.specs.declared.request.Request.TheVariants.{Generate};
 ghost use Rattle.volume_contract.specs.Mount.{IsSoundAt};
 ghost use Rattle.volume_contract.specs.State.{Known, Stands};
+ghost use Rattle.scrub.specs.Telling.{AreOfPage};
 ghost use Rattle.volume_turns.specs.Causes.{SaysFault, SaysMade, SaysOfCall, TellsImage, is_of_fault};
 ghost use Rattle.volume_turns.specs.Generate.{CountedGroup, Draws, RunsCounted, StepsCounted};
 ghost use Rattle.volume_turns.specs.Numbers.{GoesUp, MayWear};
 ghost use Rattle.volume_turns.specs.Once.{ClosesAndSays, unit_of};
 ghost use Rattle.volume_turns.specs.Status.{CountsRun, IsMadeStatus};
+ghost use Rattle.volume_turns.specs.Steps.{MayLose};
 ghost use Rattle.volume_turns.specs.Tally.{nothing};
 ghost use Rattle.volume_turns.specs.Turns.{IsEndOfVolume, IsEndOn, KeepsSaid, Told, WantsNone};
 ghost use Rattle.volume_turns.specs.Whole.{RunsOut};
@@ -49,7 +51,7 @@ fn do_counted<M: Machine, V: Files<M>>(
     ensures told { Told (M.report m.old) (M.report m.new) result }
     ensures ledger { M.tells m.new → OnlyWrites (M.ledger m.old) (M.ledger m.new) }
     ensures fault { IfErr result IsEndOfVolume }
-    ensures image { IfErr result (λ end. M.honest m.new → IsEndOn (V.state v.old).layout (M.now m.new).image end) }
+    ensures image { IfErr result (λ end. M.honest m.new → IsEndOn (MayLose c.now) (V.state v.old).layout (M.now m.new).image end) }
     ensures grows { M.honest m.new → GoesUp 1 (V.state v.old) (V.state v.new) }
     ensures used { result ≡ Err (Stopped Ends.WornOut) → M.honest m.new → MayWear 1 (V.state v.old) }
     ensures trust { Trusts (M.tells m.old) (M.tells m.new) (M.honest m.old) (M.honest m.new) }
@@ -84,7 +86,7 @@ fn draw<M: Machine, V: Files<M>>(
     ensures told { Told (M.report m.old) (M.report m.new) result }
     ensures ledger { M.tells m.new → OnlyWrites (M.ledger m.old) (M.ledger m.new) }
     ensures fault { IfErr result IsEndOfVolume }
-    ensures image { IfErr result (λ end. M.honest m.new → IsEndOn (V.state v.old).layout (M.now m.new).image end) }
+    ensures image { IfErr result (λ end. M.honest m.new → IsEndOn AreOfPage (V.state v.old).layout (M.now m.new).image end) }
     ensures grows { M.honest m.new → GoesUp 1 (V.state v.old) (V.state v.new) }
     ensures used { result ≡ Err (Stopped Ends.WornOut) → M.honest m.new → MayWear 1 (V.state v.old) }
     ensures trust { Trusts (M.tells m.old) (M.tells m.new) (M.honest m.old) (M.honest m.new) }
@@ -118,7 +120,7 @@ fn make_up<M: Machine, V: Files<M>>(
     ensures told { Told (M.report m.old) (M.report m.new) result }
     ensures ledger { M.tells m.new → OnlyWrites (M.ledger m.old) (M.ledger m.new) }
     ensures fault { IfErr result IsEndOfVolume }
-    ensures image { IfErr result (λ end. M.honest m.new → IsEndOn (V.state v.old).layout (M.now m.new).image end) }
+    ensures image { IfErr result (λ end. M.honest m.new → IsEndOn AreOfPage (V.state v.old).layout (M.now m.new).image end) }
     ensures used { result ≡ Err (Stopped Ends.WornOut) → M.honest m.new → MayWear count (V.state v.old) }
     ensures counts { IfOk result (λ t. t.count ≡ count) }
     ensures trust { Trusts (M.tells m.old) (M.tells m.new) (M.honest m.old) (M.honest m.new) }
@@ -145,7 +147,7 @@ pub(crate) fn close_forced<M: Machine, V: Files<M>>(v: V, m: &mut M) -> Result<(
     ensures told { Told (M.report m.old) (M.report m.new) result }
     ensures ledger { M.tells m.new → OnlyWrites (M.ledger m.old) (M.ledger m.new) }
     ensures fault { IfErr result IsEndOfVolume }
-    ensures image { IfErr result (λ end. M.honest m.new → IsEndOn (V.state v).layout (M.now m.new).image end) }
+    ensures image { IfErr result (λ end. M.honest m.new → IsEndOn AreOfPage (V.state v).layout (M.now m.new).image end) }
     ensures unworn { result ≡ Err (Stopped Ends.WornOut) → ⊥ }
     ensures says { OnOk result (M.honest m.new → (M.now m.new).said ≡ (M.now m.old).said ++ forced_turn.said) }
     ensures trust { Trusts (M.tells m.old) (M.tells m.new) (M.honest m.old) (M.honest m.new) }
@@ -171,7 +173,7 @@ fn force_behind<M: Machine, V: Files<M>>(
     ensures told { Told (M.report m.old) (M.report m.new) result }
     ensures ledger { M.tells m.new → OnlyWrites (M.ledger m.old) (M.ledger m.new) }
     ensures fault { IfErr result IsEndOfVolume }
-    ensures image { IfErr result (λ end. M.honest m.new → IsEndOn (V.state v).layout (M.now m.new).image end) }
+    ensures image { IfErr result (λ end. M.honest m.new → IsEndOn AreOfPage (V.state v).layout (M.now m.new).image end) }
     ensures unworn { result ≡ Err (Stopped Ends.WornOut) → ⊥ }
     ensures says { OnOk result (M.honest m.new → (M.now m.new).said ≡ (M.now m.old).said ++ forced_turn.said) }
     ensures trust { Trusts (M.tells m.old) (M.tells m.new) (M.honest m.old) (M.honest m.new) }
@@ -201,7 +203,7 @@ fn make_group<M: Machine, V: Files<M> + Drop>(
     ensures told { Told (M.report m.old) (M.report m.new) result }
     ensures ledger { M.tells m.new → OnlyWrites (M.ledger m.old) (M.ledger m.new) }
     ensures fault { IfErr result IsEndOfVolume }
-    ensures image { IfErr result (λ end. M.honest m.new → IsEndOn (V.state v).layout (M.now m.new).image end) }
+    ensures image { IfErr result (λ end. M.honest m.new → IsEndOn AreOfPage (V.state v).layout (M.now m.new).image end) }
     ensures used { result ≡ Ok None → M.honest m.new → MayWear count (V.state v) }
     ensures unworn { result ≡ Err (Stopped Ends.WornOut) → ⊥ }
     ensures counts { IfOk result (λ o. IfSome o (λ t. t.count ≡ count)) }
@@ -240,7 +242,7 @@ fn generate_on<M: Machine, V: Files<M> + Drop>(
     ensures counts { CountsRun (M.report m.old) (M.report m.new) result }
     ensures trust { Trusts (M.tells m.old) (M.tells m.new) (M.honest m.old) (M.honest m.new) }
     ensures since { M.honest m.new → Since M.Machine m.old m.new }
-    ensures says { result ≡ 3 → M.honest m.new → SaysOfCall false (V.state v).layout (M.now m.old).said (M.now m.new) }
+    ensures says { result ≡ 3 → M.honest m.new → SaysOfCall false AreOfPage (V.state v).layout (M.now m.old).said (M.now m.new) }
     ensures last { IsTrue (is_of_fault result) → M.honest m.new → SaysFault (M.report m.new).fault_place (M.now m.new) result }
     ensures spent { result ≡ 9 → M.honest m.new → MayWear count (V.state v) }
     ensures all { result ≡ 0 → M.honest m.new → SaysMade count (M.now m.old).said (M.now m.new) }
@@ -268,7 +270,7 @@ pub fn run_generate<M: Machine, V: Files<M> + Drop>(
     ensures status { IsMadeStatus result }
     ensures counts { CountsRun (M.report m.old) (M.report m.new) result }
     ensures trust { Trusts (M.tells m.old) (M.tells m.new) (M.honest m.old) (M.honest m.new) }
-    ensures image { M.honest m.new → TellsImage false (Some count) sectors (M.now m.old) (M.now m.new) result }
+    ensures image { M.honest m.new → TellsImage false AreOfPage (Some count) sectors (M.now m.old) (M.now m.new) result }
     ensures last { IsTrue (is_of_fault result) → M.honest m.new → SaysFault (M.report m.new).fault_place (M.now m.new) result }
     ensures all { result ≡ 0 → M.honest m.new → SaysMade count (M.now m.old).said (M.now m.new) }
     ensures leaves { M.honest m.new → (input rest : List ℕ) (l : Plan) (windows : List WeakRun) (h : List Change) (f : ℕ) → IsSoundAt sectors l windows h f (M.now m.old) →

@@ -12,6 +12,7 @@ ghost use Rattle.fsd_runs.specs.Leaves.{LeavesRun};
 ghost use Rattle.fsd_runs.specs.declared.request.Request.TheVariants.{Put};
 ghost use Rattle.volume_contract.specs.Mount.{IsSoundAt};
 ghost use Rattle.volume_contract.specs.State.{Known, Stands, is_worn, volume_of};
+ghost use Rattle.scrub.specs.Telling.{AreOfPage};
 ghost use Rattle.volume_turns.specs.Answering.{SaysNoReply, SaysOne};
 ghost use Rattle.volume_turns.specs.Causes.{FailsInput, SaysFault, SaysOfCall, SaysOfInput, TellsImage, is_of_fault};
 ghost use Rattle.volume_turns.specs.Status.{CountsRun, CountsTaking, IsPutStatus};
@@ -38,7 +39,7 @@ fn refuse_input<M: Machine, V: Files<M>>(v: V, m: &mut M) -> u8
     ensures counts { CountsRun (M.report m.old) (M.report m.new) result }
     ensures trust { Trusts (M.tells m.old) (M.tells m.new) (M.honest m.old) (M.honest m.new) }
     ensures since { M.honest m.new → Since M.Machine m.old m.new }
-    ensures says { result ≡ 3 → M.honest m.new → SaysOfCall false (V.state v).layout (M.now m.old).said (M.now m.new) }
+    ensures says { result ≡ 3 → M.honest m.new → SaysOfCall false AreOfPage (V.state v).layout (M.now m.old).said (M.now m.new) }
     ensures last { IsTrue (is_of_fault result) → M.honest m.new → SaysFault (M.report m.new).fault_place (M.now m.new) result }
     ensures fault { M.honest m.new → SaysNoReply (M.now m.old) (M.now m.new) result }
     ensures long { result ≡ 5 → M.honest m.new → (input : List ℕ) (old new : Report) → max_input < length input → SaysOfInput input old new (M.now m.new) }
@@ -73,7 +74,7 @@ fn put_on<M: Machine, V: Files<M> + Drop, T: Says>(
     ensures few { result ≤ 1 → M.tells m.new → length (M.ledger m.old).input ≤ max_input }
     ensures trust { Trusts (M.tells m.old) (M.tells m.new) (M.honest m.old) (M.honest m.new) }
     ensures since { M.honest m.new → Since M.Machine m.old m.new }
-    ensures says { result ≡ 3 → M.honest m.new → SaysOfCall false (V.state v).layout (M.now m.old).said (M.now m.new) }
+    ensures says { result ≡ 3 → M.honest m.new → SaysOfCall false AreOfPage (V.state v).layout (M.now m.old).said (M.now m.new) }
     ensures unspent { result ≡ 9 → M.honest m.new → ⊥ }
     ensures last { IsTrue (is_of_fault result) → M.honest m.new → SaysFault (M.report m.new).fault_place (M.now m.new) result }
     ensures one { M.honest m.new → (V.state v).dirty ≡ [] → SaysOne (Word.Put name (M.ledger m.old).input keep) (M.now m.old) (M.now m.new) result }
@@ -107,7 +108,7 @@ pub fn run_put<M: Machine, V: Files<M> + Drop, T: Says>(
     ensures whole { result ≤ 1 → M.tells m.new → (M.ledger m.new).input ≡ [] }
     ensures few { result ≤ 1 → M.tells m.new → length (M.ledger m.old).input ≤ max_input }
     ensures trust { Trusts (M.tells m.old) (M.tells m.new) (M.honest m.old) (M.honest m.new) }
-    ensures image { M.honest m.new → TellsImage false None sectors (M.now m.old) (M.now m.new) result }
+    ensures image { M.honest m.new → TellsImage false AreOfPage None sectors (M.now m.old) (M.now m.new) result }
     ensures last { IsTrue (is_of_fault result) → M.honest m.new → SaysFault (M.report m.new).fault_place (M.now m.new) result }
     ensures one { M.honest m.new → SaysOne (Word.Put name (M.ledger m.old).input keep) (M.now m.old) (M.now m.new) result }
     ensures leaves { M.honest m.new → (l : Plan) (windows : List WeakRun) (h : List Change) (f : ℕ) → IsSoundAt sectors l windows h f (M.now m.old) →

@@ -8,6 +8,7 @@ ghost use Rattle.volume_contract.specs.Ends.{Looks, device_of};
 ghost use Rattle.volume_contract.specs.Order.{Follows, IsLookUp, next_steps};
 ghost use Rattle.volume_contract.specs.State.{Known, Stands, volume_of};
 ghost use Rattle.volume_turns.specs.Answering.{Answers};
+ghost use Rattle.scrub.specs.Telling.{AreOfPage};
 ghost use Rattle.scrub.specs.Walk.{IsFromOutside};
 ghost use Rattle.volume_turns.specs.Listing.{fitting};
 ghost use Rattle.volume_turns.specs.Reasons.{Because, HasWritten, ListsAll, most_written};
@@ -33,7 +34,7 @@ fn next_one<M: Machine, V: Files<M>>(
     ensures disk { OnlyReads M.Machine (device_in device_of result) m.old m.new }
     ensures state { V.state v.new ≡ V.state v.old }
     ensures stands { M.honest m.new → (k : Known) → Stands V.state V.holds v.old k (M.now m.old) → Stands V.state V.holds v.new k (M.now m.new) }
-    ensures told { IfErr result (λ why. M.honest m.new → IsRefusedOn (V.state v.old).layout (M.now m.new).image why) }
+    ensures told { IfErr result (λ why. M.honest m.new → IsRefusedOn AreOfPage (V.state v.old).layout (M.now m.new).image why) }
     ensures absent { IfOk result (λ found. IfNone found (ShowsReached M.Machine (V.resident v.old) (V.state v.old) (V.state v.new) m.old m.new (LacksLater last.now))) }
     ensures done { M.honest m.new → (k : Known) → Stands V.state V.holds v.old k (M.now m.old) → Looks (next_reply (volume_of k) last.now) result }
 {
@@ -66,7 +67,7 @@ fn collect<M: Machine, V: Files<M>>(
     requires up { (V.state v.old).down ≡ None }
     ensures state { V.state v.new ≡ V.state v.old }
     ensures refusal { IfErr result IsLookUp }
-    ensures told { IfErr result (λ why. M.honest m.new → IsRefusedOn (V.state v.old).layout (M.now m.new).image why) }
+    ensures told { IfErr result (λ why. M.honest m.new → IsRefusedOn AreOfPage (V.state v.old).layout (M.now m.new).image why) }
     ensures disk { OnlyReads M.Machine (device_in device_of result) m.old m.new }
     ensures stands { M.honest m.new → (k : Known) → Stands V.state V.holds v.old k (M.now m.old) → Stands V.state V.holds v.new k (M.now m.new) }
     ensures done { M.honest m.new → (k : Known) → Stands V.state V.holds v.old k (M.now m.old) →

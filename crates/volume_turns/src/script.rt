@@ -8,6 +8,7 @@ ghost use Rattle.fsd_files.specs.Files.{Change};
 ghost use Rattle.fsd_runs.specs.Leaves.{LeavesRun};
 ghost use Rattle.fsd_runs.specs.declared.request.Request.TheVariants.{Script};
 ghost use Rattle.volume_contract.specs.Mount.{IsSoundAt};
+ghost use Rattle.scrub.specs.Telling.{AreOfPage};
 ghost use Rattle.volume_turns.specs.Whole.{RunsOut};
 ghost use Rattle.fsd_files.specs.Answers.{Met};
 ghost use Rattle.fsd_files.specs.Volume.{Volume};
@@ -66,7 +67,7 @@ fn read_on<M: Machine, V: Files<M>, T: Says>(
     ensures heard { Heard (M.report m.old) (M.report m.new) result }
     ensures attaches { M.tells m.new → (M.ledger m.new).attaches ≡ (M.ledger m.old).attaches }
     ensures fault { IfErr result IsEndOfVolume }
-    ensures image { IfErr result (λ end. M.honest m.new → IsEndOn (V.state v.old).layout (M.now m.new).image end) }
+    ensures image { IfErr result (λ end. M.honest m.new → IsEndOn AreOfPage (V.state v.old).layout (M.now m.new).image end) }
     ensures grows { M.honest m.new → GoesUp 1 (V.state v.old) (V.state v.new) }
     ensures used { result ≡ Err (Stopped Ends.WornOut) → M.honest m.new → MayWear 1 (V.state v.old) }
     ensures rose { IfOk result (RoseBy (M.report m.old) (M.report m.new)) }
@@ -107,7 +108,7 @@ fn read_all<M: Machine, V: Files<M>, T: Says>(
     ensures heard { Heard (M.report m.old) (M.report m.new) result }
     ensures attaches { M.tells m.new → (M.ledger m.new).attaches ≡ (M.ledger m.old).attaches }
     ensures fault { IfErr result IsEndOfVolume }
-    ensures image { IfErr result (λ end. M.honest m.new → IsEndOn (V.state v.old).layout (M.now m.new).image end) }
+    ensures image { IfErr result (λ end. M.honest m.new → IsEndOn AreOfPage (V.state v.old).layout (M.now m.new).image end) }
     ensures used { result ≡ Err (Stopped Ends.WornOut) → M.honest m.new → MayWear (max_input + 1) (V.state v.old) }
     ensures rose { IfOk result (λ stop. RoseBy (M.report m.old) (M.report m.new) (Some stop)) }
     ensures quiet { OnErr result ((M.report m.new).input_faults ≡ (M.report m.old).input_faults) }
@@ -141,7 +142,7 @@ fn group_read<M: Machine, V: Files<M> + Drop, T: Says>(
     ensures heard { Heard (M.report m.old) (M.report m.new) result }
     ensures attaches { M.tells m.new → (M.ledger m.new).attaches ≡ (M.ledger m.old).attaches }
     ensures fault { IfErr result IsEndOfVolume }
-    ensures image { IfErr result (λ end. M.honest m.new → IsEndOn (V.state v).layout (M.now m.new).image end) }
+    ensures image { IfErr result (λ end. M.honest m.new → IsEndOn AreOfPage (V.state v).layout (M.now m.new).image end) }
     ensures used { result ≡ Ok WornOut → M.honest m.new → MayWear (max_input + 1) (V.state v) }
     ensures unworn { result ≡ Err (Stopped Ends.WornOut) → ⊥ }
     ensures says { (end : EndOf) → result ≡ Ok (Ended end) → M.honest m.new → (t : ℕ) → t ≤ M.moment m.old →
@@ -175,7 +176,7 @@ fn force_read<M: Machine, V: Files<M>>(v: V, m: &mut M, stop: Stop) -> Result<St
     ensures told { Told (M.report m.old) (M.report m.new) result }
     ensures ledger { M.tells m.new → OnlyWrites (M.ledger m.old) (M.ledger m.new) }
     ensures fault { IfErr result IsEndOfVolume }
-    ensures image { IfErr result (λ end. M.honest m.new → IsEndOn (V.state v).layout (M.now m.new).image end) }
+    ensures image { IfErr result (λ end. M.honest m.new → IsEndOn AreOfPage (V.state v).layout (M.now m.new).image end) }
     ensures unworn { result ≡ Err (Stopped Ends.WornOut) → ⊥ }
     ensures says { OnOk result (M.honest m.new → (M.now m.new).said ≡ (M.now m.old).said ++ forced_turn.said) }
     ensures trust { Trusts (M.tells m.old) (M.tells m.new) (M.honest m.old) (M.honest m.new) }
@@ -251,7 +252,7 @@ fn script_on<M: Machine, V: Files<M> + Drop, T: Says>(alloc: Global, v: V, m: &m
     ensures bad { result ≡ 2 → M.honest m.new → (t : ℕ) → t ≤ M.moment m.old → SaysBadLine (M.left_since m.new t) (M.ledger m.old).input (M.now m.old).said (M.now m.new) }
     ensures trust { Trusts (M.tells m.old) (M.tells m.new) (M.honest m.old) (M.honest m.new) }
     ensures since { M.honest m.new → Since M.Machine m.old m.new }
-    ensures says { result ≡ 3 → M.honest m.new → SaysOfCall true (V.state v).layout (M.now m.old).said (M.now m.new) }
+    ensures says { result ≡ 3 → M.honest m.new → SaysOfCall true AreOfPage (V.state v).layout (M.now m.old).said (M.now m.new) }
     ensures last { IsTrue (is_of_fault result) → M.honest m.new → SaysFault (M.report m.new).fault_place (M.now m.new) result }
     ensures spent { result ≡ 9 → M.honest m.new → MayWear (max_input + 1) (V.state v) }
     ensures all { result ≡ 0 → M.honest m.new → (t : ℕ) → t ≤ M.moment m.old →
@@ -282,7 +283,7 @@ pub fn run_script<M: Machine, V: Files<M> + Drop, T: Says>(
     ensures spelled { result ≡ 0 → M.tells m.new → (script_in (M.ledger m.old).input).1 ≡ Done }
     ensures bad { result ≡ 2 → M.honest m.new → (t : ℕ) → t ≤ M.moment m.old → SaysBadLine (M.left_since m.new t) (M.ledger m.old).input (M.now m.old).said (M.now m.new) }
     ensures trust { Trusts (M.tells m.old) (M.tells m.new) (M.honest m.old) (M.honest m.new) }
-    ensures image { M.honest m.new → TellsImage true None sectors (M.now m.old) (M.now m.new) result }
+    ensures image { M.honest m.new → TellsImage true AreOfPage None sectors (M.now m.old) (M.now m.new) result }
     ensures last { IsTrue (is_of_fault result) → M.honest m.new → SaysFault (M.report m.new).fault_place (M.now m.new) result }
     ensures all { result ≡ 0 → M.honest m.new → (t : ℕ) → t ≤ M.moment m.old →
         SaysForced reply_text (M.left_since m.new t) (script_in (M.ledger m.old).input).0 (M.now m.old).said (M.now m.new).said }

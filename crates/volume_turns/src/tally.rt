@@ -2,7 +2,7 @@
 ghost use Rattle.std.specs.Prelude.{◌≡◌, ◌<◌, ◌≤◌, ◌^◌, ◌-◌, IfErr, IfOk};
 ghost use Rattle.fsd_texts.specs.declared.fault.Fault.TheVariants as Ends;
 ghost use Rattle.fsd_texts.specs.declared.line.Line.TheVariants as Says;
-ghost use Rattle.fsd_runs.specs.Errands.{answered_so, bytes_moved, is_deleted, is_kept, is_made, is_read, is_refused};
+ghost use Rattle.fsd_runs.specs.Errands.{answered_so, bytes_moved, bytes_read, is_deleted, is_kept, is_made, is_read, is_refused};
 ghost use Rattle.volume_turns.specs.Steps.{reply_of};
 ghost use Rattle.volume_turns.specs.Tally.{counted, nothing};
 
@@ -124,16 +124,25 @@ fn is_refused(answer: &Answer) -> u32
     }
 }
 
+// The bytes of a version that was read.
+fn bytes_read(answer: &Answer) -> u64
+    ensures { result ≡ bytes_read (reply_of answer.now) }
+{
+    match answer {
+        Answer::Bytes { bytes, .. } => bytes.len() as u64,
+        _ => 0,
+    }
+}
+
 // The bytes of a version that was made or read.
 fn bytes_moved(c: &Command, answer: &Answer) -> u64
     ensures { result ≡ bytes_moved c.now (reply_of answer.now) }
 {
-    match answer {
-        Answer::Made { .. } => match c {
-            Command::Put { bytes, .. } => bytes.as_slice().len() as u64,
-            _ => 0,
+    match c {
+        Command::Put { bytes, .. } => match answer {
+            Answer::Made { .. } => bytes.as_slice().len() as u64,
+            _ => bytes_read(answer),
         },
-        Answer::Bytes { bytes, .. } => bytes.len() as u64,
-        _ => 0,
+        _ => bytes_read(answer),
     }
 }

@@ -11,7 +11,7 @@ ghost use Rattle.fsd_texts.specs.declared.fault.Fault.TheVariants as Ends;
 ghost use Rattle.volume_turns.specs.Each.{SaysOnce};
 ghost use Rattle.volume_turns.specs.Group.{is_worn_end};
 ghost use Rattle.volume_turns.specs.Numbers.{GoesUp, MayWear};
-ghost use Rattle.volume_turns.specs.Steps.{reply_of};
+ghost use Rattle.volume_turns.specs.Steps.{MayLose, reply_of};
 ghost use Rattle.volume_turns.specs.declared.turns.End.TheVariants.{Fault as Stopped};
 ghost use Rattle.volume_turns.specs.Turns.{IsEndOfVolume, IsEndOn, Steps, SaysAll, SaysWhole, Told, Unsaid};
 
@@ -89,7 +89,7 @@ pub(crate) fn step<M: Machine, V: Files<M>, T: Says>(
     ensures once { OnOk result (M.honest m.new → SaysOnce T.errand.says c.now (M.now m.old) (M.now m.new)) }
     ensures ledger { M.tells m.new → OnlyWrites (M.ledger m.old) (M.ledger m.new) }
     ensures fault { IfErr result IsEndOfVolume }
-    ensures image { IfErr result (λ end. M.honest m.new → IsEndOn (V.state v.old).layout (M.now m.new).image end) }
+    ensures image { IfErr result (λ end. M.honest m.new → IsEndOn (MayLose c.now) (V.state v.old).layout (M.now m.new).image end) }
     ensures grows { M.honest m.new → GoesUp 1 (V.state v.old) (V.state v.new) }
     ensures used { result ≡ Err (Stopped Ends.WornOut) → M.honest m.new → MayWear 1 (V.state v.old) }
 {

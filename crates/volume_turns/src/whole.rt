@@ -12,6 +12,7 @@ ghost use Rattle.volume_contract.specs.Mount.{IsSoundAt};
 ghost use Rattle.volume_turns.specs.Answering.{EndsOne, RunsOne};
 ghost use Rattle.volume_turns.specs.Causes.{SaysFault, SaysOfCall, TellsImage, is_of_fault};
 ghost use Rattle.volume_turns.specs.Status.{CountsRun, IsOneStatus};
+ghost use Rattle.volume_turns.specs.Steps.{MayLose};
 ghost use Rattle.volume_contract.specs.State.{Known, Stands, is_worn, volume_of};
 ghost use Rattle.volume_turns.specs.Whole.{RunsOut};
 
@@ -39,7 +40,7 @@ pub(crate) fn one_on<M: Machine, V: Files<M> + Drop, T: Says>(
     ensures status { IsOneStatus c.now result }
     ensures counts { CountsRun (M.report m.old) (M.report m.new) result }
     ensures since { M.honest m.new → Since M.Machine m.old m.new }
-    ensures says { result ≡ 3 → M.honest m.new → SaysOfCall false (V.state v).layout (M.now m.old).said (M.now m.new) }
+    ensures says { result ≡ 3 → M.honest m.new → SaysOfCall false (MayLose c.now) (V.state v).layout (M.now m.old).said (M.now m.new) }
     ensures unspent { result ≡ 9 → M.honest m.new → ⊥ }
     ensures last { IsTrue (is_of_fault result) → M.honest m.new → SaysFault (M.report m.new).fault_place (M.now m.new) result }
     ensures one { M.honest m.new → (V.state v).dirty ≡ [] → EndsOne c.now (V.state v) (M.now m.old) (M.now m.new) result }
@@ -66,7 +67,7 @@ pub fn run_one<M: Machine, V: Files<M> + Drop, T: Says>(
     ensures status { IsOneStatus c.now result }
     ensures counts { CountsRun (M.report m.old) (M.report m.new) result }
     ensures trust { Trusts (M.tells m.old) (M.tells m.new) (M.honest m.old) (M.honest m.new) }
-    ensures image { M.honest m.new → TellsImage false None sectors (M.now m.old) (M.now m.new) result }
+    ensures image { M.honest m.new → TellsImage false (MayLose c.now) None sectors (M.now m.old) (M.now m.new) result }
     ensures last { IsTrue (is_of_fault result) → M.honest m.new → SaysFault (M.report m.new).fault_place (M.now m.new) result }
     ensures one { M.honest m.new → RunsOne c.now sectors (M.now m.old) (M.now m.new) result }
     ensures leaves { M.honest m.new → (rest : List ℕ) (l : Plan) (windows : List WeakRun) (h : List Change) (f : ℕ) → IsSoundAt sectors l windows h f (M.now m.old) →

@@ -2,6 +2,7 @@ use Rattle.std.proofs.Common.{ℕ, List, Some, false, subst, inr, arith, []}
 use Rattle.fsd_runs.specs.declared.request.Request.TheVariants.{Generate}
 use Rattle.volume_turns.specs.Causes.{SaysMade}
 use Rattle.volume_turns.proofs.StatusLaws.{not_as}
+use Rattle.scrub.specs.Telling.{AreOfPage}
 use Rattle.cfs_program.proofs.AttachLaws.{EndsUnfound, RunsFound, found_asked, found_asks, found_counts, found_image, found_leaves, found_said, found_trust, unfound_asks, unfound_counts, unfound_image, unfound_last, unfound_leaves, unfound_outside, unfound_trust}
 use Rattle.cfs_program.proofs.EndedLaws.{failed_status}
 use Rattle.cfs_program.proofs.making.run_made_up.Goals as goal
@@ -22,7 +23,7 @@ returns-in-Ok g c =
       asks = λ t. found_asks x t (does.ledger t);
       asked = λ inside t. found_asked x t (does.ledger t);
       trust = found_trust x;
-      image = λ h. found_image x false (Some c.args.count) status h (does.image h);
+      image = λ h. found_image x false AreOfPage (Some c.args.count) status h (does.image h);
       all = λ zero h. subst (λ (before : List ℕ). SaysMade c.args.count before (M.now z)) (found_said x h) (does.all zero h);
       last = does.last;
       leaves = λ h rest l windows changes f sound.
@@ -46,7 +47,7 @@ returns-in-Err g c =
       asks = unfound_asks x;
       asked = λ inside t. absurd (unfound_outside x inside);
       trust = unfound_trust x;
-      image = λ h. unfound_image x false (Some c.args.count);
+      image = λ h. unfound_image x false AreOfPage (Some c.args.count);
       all = λ zero h. absurd (not_as 0 4 status (λ e. omega (arith, e)) (λ e. omega (arith, e)) line.status zero);
       last = unfound_last x;
       leaves = λ h rest l windows changes f sound. unfound_leaves x (Generate c.args.seed c.args.count) [] rest l windows changes f h (g.met.M.Machine.short a) (λ left h was. g.met.M.Machine.only_now a left h was) sound;

@@ -3,6 +3,7 @@ use Rattle.fsd_texts.specs.declared.fault.Fault.TheVariants as Ends
 use Rattle.fsd_texts.specs.declared.line.Line.TheVariants as Lines
 use Rattle.fsd_runs.specs.declared.request.Request.TheVariants.{One}
 use Rattle.volume_turns.proofs.AnsweringLaws.{one_since}
+use Rattle.volume_turns.specs.Steps.{MayLose}
 use Rattle.cfs_program.proofs.AttachLaws.{EndsUnfound, RunsFound, found_asked, found_asks, found_counts, found_image, found_leaves, found_said, found_trust, unfound_alone, unfound_asks, unfound_counts, unfound_image, unfound_last, unfound_leaves, unfound_outside, unfound_trust}
 use Rattle.cfs_program.proofs.EndedLaws.{failed_status}
 use Rattle.cfs_program.proofs.FoundLaws.{untouched_unfound, writes_found}
@@ -24,7 +25,7 @@ returns-in-Ok g c =
       asks = λ t. found_asks x t (does.ledger t);
       asked = λ inside t. found_asked x t (does.ledger t);
       trust = found_trust x;
-      image = λ h. found_image x false None status h (does.image h);
+      image = λ h. found_image x false (MayLose c.args.c.now) None status h (does.image h);
       one = λ h. one_since c.args.c.now (M.now a) (M.now b) (M.now z) status (found_said x h) (does.one h).says;
       rest = λ h. let back = does.trust.honest h in writes_found c.args.c.now (M.now a) (M.now b) (M.now z) c.in-Ok.sectors (e.attached back) (e.size back) (does.one h).rest;
       last = does.last;
@@ -49,7 +50,7 @@ returns-in-Err g c =
       asks = unfound_asks x;
       asked = λ inside t. absurd (unfound_outside x inside);
       trust = unfound_trust x;
-      image = λ h. unfound_image x false None;
+      image = λ h. unfound_image x false (MayLose c.args.c.now) None;
       one = λ h. inr (unfound_alone x h);
       rest = λ h. inl (untouched_unfound (Lines.Ended (Ends.Device c.in-Err.failed.place)) (M.now a) (M.now b) (M.now z) (e.failed (line.says.trust.honest h)) (line.says.exit h));
       last = unfound_last x;

@@ -7,6 +7,7 @@ use Rattle.fsd_runs.specs.Leaves.{LeavesRun}
 use Rattle.volume_turns.specs.Answering.{SaysOne}
 use Rattle.volume_turns.proofs.AnsweringLaws.{one_since}
 use Rattle.volume_turns.proofs.StatusLaws.{as_not_low, not_as}
+use Rattle.scrub.specs.Telling.{AreOfPage}
 use Rattle.cfs_program.proofs.AttachLaws.{EndsUnfound, RunsFound, found_attaches, found_fails, found_image, found_input, found_leaves, found_reading, found_said, found_says_input, found_trust, unfound_alone, unfound_asks, unfound_image, unfound_last, unfound_leaves, unfound_outside, unfound_reading, unfound_trust}
 use Rattle.cfs_program.proofs.EndedLaws.{failed_status}
 use Rattle.cfs_program.proofs.putting.run_input.Goals as goal
@@ -31,7 +32,7 @@ returns-in-Ok g c =
       whole = does.whole;
       few = λ low t. subst (λ (input : List ℕ). length input ≤ max_input) (found_input x t) (does.few low t);
       trust = found_trust x;
-      image = λ h. found_image x false None status h (does.image h);
+      image = λ h. found_image x false AreOfPage None status h (does.image h);
       one = λ h.
           subst (λ (input : List ℕ). SaysOne (Word.Put c.args.name.now input c.args.keep) (M.now a) (M.now z) status) (found_input x (g.met.M.Machine.honest_tells z h))
           (subst (λ (name : List ℕ). SaysOne (Word.Put name (M.ledger b).input c.args.keep) (M.now a) (M.now z) status) c.copied.ensures
@@ -64,7 +65,7 @@ returns-in-Err g c =
       whole = λ low t. absurd (as_not_low 4 status (omega arith) line.status low);
       few = λ low t. absurd (as_not_low 4 status (omega arith) line.status low);
       trust = unfound_trust x;
-      image = λ h. unfound_image x false None;
+      image = λ h. unfound_image x false AreOfPage None;
       one = λ h. inr (unfound_alone x h);
       last = unfound_last x;
       leaves = λ h l windows changes f sound. unfound_leaves x (Put c.args.name.now c.args.keep) (M.ledger a).input (M.ledger z).input l windows changes f h (g.met.M.Machine.short a) (λ left h was. g.met.M.Machine.only_now a left h was) sound;

@@ -8,6 +8,7 @@ use Rattle.fsd_runs.specs.Leaves.{LeavesRun}
 use Rattle.fsd_runs.proofs.AnswerLaws.{forces_all}
 use Rattle.volume_turns.specs.Each.{SaysBadLine, SaysForced}
 use Rattle.volume_turns.proofs.StatusLaws.{not_as}
+use Rattle.scrub.specs.Telling.{AreOfPage}
 use Rattle.cfs_program.proofs.AttachLaws.{EndsUnfound, RunsFound, found_attaches, found_fails, found_image, found_input, found_later, found_leaves, found_reading, found_said, found_says_input, found_trust, unfound_asks, unfound_image, unfound_last, unfound_leaves, unfound_outside, unfound_reading, unfound_trust}
 use Rattle.cfs_program.proofs.EndedLaws.{failed_status}
 use Rattle.cfs_program.proofs.scripting.run_commands.Goals as goal
@@ -38,7 +39,7 @@ returns-in-Ok g c =
           subst (λ (before : List ℕ). SaysBadLine (M.left_since z (M.moment a)) (M.ledger a).input before (M.now z)) (found_said x h)
           (subst (λ (input : List ℕ). SaysBadLine (M.left_since z (M.moment a)) input (M.now b).said (M.now z)) (found_input x (g.met.M.Machine.honest_tells z h)) (does.bad two h (M.moment a) (found_later x h)));
       trust = found_trust x;
-      image = λ h. found_image x true None status h (does.image h);
+      image = λ h. found_image x true AreOfPage None status h (does.image h);
       all = λ zero h.
           subst (λ (before : List ℕ). SaysForced reply_text (M.left_since z (M.moment a)) (script_in (M.ledger a).input).0 before (M.now z).said) (found_said x h)
           (subst (λ (input : List ℕ). SaysForced reply_text (M.left_since z (M.moment a)) (script_in input).0 (M.now b).said (M.now z).said) (found_input x (g.met.M.Machine.honest_tells z h)) (does.all zero h (M.moment a) (found_later x h)));
@@ -70,7 +71,7 @@ returns-in-Err g c =
       spelled = λ zero t. absurd (not_as 0 4 status (λ e. omega (arith, e)) (λ e. omega (arith, e)) line.status zero);
       bad = λ two h. absurd (not_as 2 4 status (λ e. omega (arith, e)) (λ e. omega (arith, e)) line.status two);
       trust = unfound_trust x;
-      image = λ h. unfound_image x true None;
+      image = λ h. unfound_image x true AreOfPage None;
       all = λ zero h. absurd (not_as 0 4 status (λ e. omega (arith, e)) (λ e. omega (arith, e)) line.status zero);
       last = unfound_last x;
       leaves = λ h l windows changes f sound. unfound_leaves x Script (M.ledger a).input (M.ledger z).input l windows changes f h (g.met.M.Machine.short a) (λ left h was. g.met.M.Machine.only_now a left h was) sound;

@@ -4,6 +4,7 @@ use Rattle.fsd_files.specs.Answers.{force_outcome}
 use Rattle.fsd_files.specs.Replies.{Reply}
 use Rattle.fsd_texts.specs.declared.command.Command.TheVariants as Word
 use Rattle.fsd_texts.specs.declared.fault.Fault.{Fault}
+use Rattle.scrub.specs.Telling.{AreOfPage}
 use Rattle.volume_turns.specs.declared.answer.Answer.{Answer}
 use Rattle.sector_disk.specs.Calls.{WritesDisk}
 use Rattle.volume_contract.specs.Order.{force_steps}
@@ -64,7 +65,7 @@ returns-in-Err-clause-answers g c h = record {
   still = tt;
   worn = let s = g.V.Files.state c.args.v.now in told_worn s (force_steps s) c.in-Err.why c.ended_by.result c.ended_by.ensures.is c.in-Err.ensures.order (λ comes. absurd (force_worn s c.requires.up _ comes));
   numbers = let s = g.V.Files.state c.args.v.now in let t = g.V.Files.state c.force.new.self in force_goes s t c.in-Err.why c.in-Err.ensures.kept;
-  told = told_so (g.V.Files.state c.args.v.now).layout (g.M.Machine.now c.force.new.m).image c.in-Err.why c.ended_by.result c.ended_by.ensures.is
+  told = told_so AreOfPage (g.V.Files.state c.args.v.now).layout (g.M.Machine.now c.force.new.m).image c.in-Err.why c.ended_by.result c.ended_by.ensures.is
       (told_of (g.V.Files.state c.args.v.now) (g.V.Files.state c.force.new.self) (g.V.Files.resident c.args.v.now) (g.M.Machine.now c.args.m.now) (g.M.Machine.now c.force.new.m) c.in-Err.ensures.state.layout c.in-Err.why (c.in-Err.ensures.causes h));
 }
 

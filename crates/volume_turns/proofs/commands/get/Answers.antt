@@ -4,6 +4,7 @@ use Rattle.fsd_files.specs.Answers.{entry_of}
 use Rattle.fsd_texts.specs.declared.command.Command.TheVariants as Word
 use Rattle.fsd_texts.specs.declared.fault.Fault.{Fault}
 use Rattle.sector_disk.specs.Image.{open_damage}
+use Rattle.scrub.specs.Telling.{AreOfPage}
 use Rattle.volume_turns.specs.declared.answer.Answer.{Answer}
 use Rattle.sector_disk.specs.Calls.{WritesDisk}
 use Rattle.volume_contract.specs.Order.{entry_steps}
@@ -81,7 +82,7 @@ returns-in-Ok-clause-answers g c h =
       still = does.still ∙ c.in-Ok.ensures.state;
       worn = λ is. subst (λ (s : State). IsTrue (is_worn s)) c.in-Ok.ensures.state (does.worn is);
       numbers = subst (λ (s : State). GoesUp 1 s (g.V.Files.state c.read_whole.new.v)) c.in-Ok.ensures.state does.numbers;
-      told = subst (λ (s : State). IfErr c.read_whole.result (IsToldOn s.layout (now c.read_whole.new.m).image)) c.in-Ok.ensures.state does.told;
+      told = subst (λ (s : State). IfErr c.read_whole.result (IsToldOn AreOfPage s.layout (now c.read_whole.new.m).image)) c.in-Ok.ensures.state does.told;
     }
 
 pub returns-in-Err-clause-answers : goal.returns-in-Err-clause-answers
@@ -94,7 +95,7 @@ returns-in-Err-clause-answers g c h =
       still = c.in-Err.ensures.state;
       worn = let s = g.V.Files.state c.args.v.now in told_worn s (entry_steps s) c.in-Err.why c.ended_by.result c.ended_by.ensures.is c.in-Err.ensures.order (λ comes. absurd (entry_worn s c.requires.up comes));
       numbers = goes_none 1 (g.V.Files.state c.args.v.now) (g.V.Files.state c.entry.new.self) c.in-Err.ensures.state;
-      told = told_so (g.V.Files.state c.args.v.now).layout (now c.entry.new.m).image c.in-Err.why c.ended_by.result c.ended_by.ensures.is
+      told = told_so AreOfPage (g.V.Files.state c.args.v.now).layout (now c.entry.new.m).image c.in-Err.why c.ended_by.result c.ended_by.ensures.is
           (told_of (g.V.Files.state c.args.v.now) (g.V.Files.state c.entry.new.self) (g.V.Files.resident c.args.v.now) (now c.args.m.now) (now c.entry.new.m) (ap (λ (s : State). s.layout) c.in-Err.ensures.state) c.in-Err.why (c.in-Err.ensures.causes h));
     }
 

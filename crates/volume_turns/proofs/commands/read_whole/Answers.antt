@@ -6,6 +6,7 @@ use Rattle.fsd_files.specs.Answers.{entry_of}
 use Rattle.fsd_files.specs.Replies.{Reply}
 use Rattle.fsd_texts.specs.declared.command.Command.TheVariants as Word
 use Rattle.fsd_texts.specs.declared.fault.Fault.{Fault}
+use Rattle.scrub.specs.Telling.{AreOfPage}
 use Rattle.volume_turns.specs.declared.answer.Answer.{Answer}
 use Rattle.sector_disk.specs.Calls.{OnlyReads}
 use Rattle.volume_contract.specs.Order.{read_steps}
@@ -84,7 +85,7 @@ returns-in-Err-clause-answers g c h =
       still = e.state;
       worn = let s = g.V.Files.state c.args.v.now in read_told_worn s (read_steps s) c.args.key.now c.in-Err.why c.read_ended_by.result c.read_ended_by.ensures.is e.order (λ comes. read_worn s c.requires.up comes);
       numbers = goes_none 1 s (g.V.Files.state c.read.new.self) e.state;
-      told = read_told_so (g.V.Files.state c.args.v.now).layout (now c.read.new.m).image c.args.key.now c.in-Err.why c.read_ended_by.result c.read_ended_by.ensures.is
+      told = read_told_so AreOfPage (g.V.Files.state c.args.v.now).layout (now c.read.new.m).image c.args.key.now c.in-Err.why c.read_ended_by.result c.read_ended_by.ensures.is
           (told_of (g.V.Files.state c.args.v.now) (g.V.Files.state c.read.new.self) (g.V.Files.resident c.args.v.now) (now c.args.m.now) (now c.read.new.m) (ap (λ (s : State). s.layout) e.state) c.in-Err.why (e.causes h));
     }
 

@@ -9,6 +9,7 @@ use Rattle.fsd_texts.specs.declared.fault.Fault.{Fault}
 use Rattle.sector_disk.specs.Calls.{WritesDisk}
 use Rattle.sector_disk.proofs.CallLaws.{writes_more}
 use Rattle.volume_contract.specs.Order.{IsLookUp}
+use Rattle.scrub.specs.Telling.{StandTwice}
 use Rattle.volume_turns.specs.declared.answer.Answer.{Answer}
 use Rattle.volume_turns.specs.Answering.{MayReply}
 use Rattle.volume_turns.specs.Reasons.{BecauseScrubbed}
@@ -94,7 +95,7 @@ returns-in-Err-clause-answers g c h =
       still = scrub_still c.in-Err.why s t e.kept;
       worn = look_up_worn s c.in-Err.why c.ended_by.result c.ended_by.ensures.is refuses;
       numbers = scrub_goes c.in-Err.why s t e.kept;
-      told = told_so s.layout image c.in-Err.why c.ended_by.result c.ended_by.ensures.is (refused_told s.layout image c.in-Err.why (e.told h));
+      told = told_so StandTwice s.layout image c.in-Err.why c.ended_by.result c.ended_by.ensures.is (refused_told s.layout image c.in-Err.why (e.told h));
     }
 
 pub returns-in-Err-clause-done : goal.returns-in-Err-clause-done

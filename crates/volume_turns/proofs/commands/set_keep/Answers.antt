@@ -8,6 +8,7 @@ use Rattle.fsd_files.specs.Files.{Change}
 use Rattle.fsd_files.specs.Replies.{Reply}
 use Rattle.fsd_texts.specs.declared.command.Command.TheVariants as Word
 use Rattle.fsd_texts.specs.declared.fault.Fault.{Fault}
+use Rattle.scrub.specs.Telling.{AreOfPage}
 use Rattle.volume_turns.specs.declared.answer.Answer.{Answer}
 use Rattle.sector_disk.specs.Calls.{WritesDisk}
 use Rattle.volume_contract.specs.Order.{Comes}
@@ -80,7 +81,7 @@ returns-in-Err-clause-answers g c h =
       still = tt;
       worn = told_worn s (steps_of s size rest) c.in-Err.why c.ended_by.result c.ended_by.ensures.is c.in-Err.ensures.order (λ comes. (worn_by s c.requires.up size rest (keep_never c.args.keep) (edit_never s) comes).1);
       numbers = let s = g.V.Files.state c.args.v.now in let t = g.V.Files.state c.set_keep.new.self in keep_goes s t c.in-Err.why c.args.keep c.in-Err.ensures.kept;
-      told = told_so (g.V.Files.state c.args.v.now).layout (g.M.Machine.now c.set_keep.new.m).image c.in-Err.why c.ended_by.result c.ended_by.ensures.is
+      told = told_so AreOfPage (g.V.Files.state c.args.v.now).layout (g.M.Machine.now c.set_keep.new.m).image c.in-Err.why c.ended_by.result c.ended_by.ensures.is
           (told_of (g.V.Files.state c.args.v.now) (g.V.Files.state c.set_keep.new.self) (g.V.Files.resident c.args.v.now) (g.M.Machine.now c.args.m.now) (g.M.Machine.now c.set_keep.new.m) c.in-Err.ensures.state.layout c.in-Err.why (c.in-Err.ensures.causes h));
     }
 

@@ -4,6 +4,7 @@ use Rattle.sector_disk.proofs.Holding.{trusts_on}
 use Rattle.fsd_sound.specs.Writes.{force_writes}
 use Rattle.fsd_texts.specs.declared.fault.Fault.TheVariants as Ends
 use Rattle.fsd_runs.specs.Errands.{forced_turn}
+use Rattle.scrub.specs.Telling.{AreOfPage}
 use Rattle.volume_turns.specs.Once.{close_fault}
 use Rattle.volume_turns.specs.Turns.{IsEndOfVolume, IsEndOn, SaysAll, Unsaid, WantsNone}
 use Rattle.volume_turns.proofs.AnsweringLaws.{says_so}
@@ -36,7 +37,7 @@ returns-in-Ok g c =
       told = told_more (M.report a) (M.report m) (M.report b) tt result (told_done (M.report a) (M.report m) disk.uses disk.faults) say.told;
       ledger = λ t. writes_on (M.ledger a) (M.ledger m) (M.ledger b) (say.ledger t) (disk.ledger (say.trust.tells t));
       fault = output_ends IsEndOfVolume tt result say.output;
-      image = output_ends (λ end. M.honest b → IsEndOn (V.state c.args.v).layout (M.now b).image end) (λ h. tt) result say.output;
+      image = output_ends (λ end. M.honest b → IsEndOn AreOfPage (V.state c.args.v).layout (M.now b).image end) (λ h. tt) result say.output;
       unworn = output_unworn result say.output;
       says = said_forced (M.honest b) (M.honest m) (M.now a) (M.now m) (M.now b) say.trust.honest disk.quiet result say.said;
       trust = trusts_on disk.trust say.trust;

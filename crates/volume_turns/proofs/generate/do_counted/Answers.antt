@@ -3,7 +3,7 @@ use Rattle.std.specs.Prelude.{Err}
 use Rattle.fsd_texts.specs.declared.fault.Fault.TheVariants as Ends
 use Rattle.sector_disk.specs.Image.{AreShort, Windows}
 use Rattle.fsd_texts.specs.declared.fault.Fault.{Fault}
-use Rattle.volume_turns.specs.Steps.{IsOfCall, IsToldOn, reply_of}
+use Rattle.volume_turns.specs.Steps.{IsOfCall, IsToldOn, MayLose, reply_of}
 use Rattle.volume_turns.proofs.NumberLaws.{worn_may}
 use Rattle.volume_turns.proofs.CountLaws.{counted_fault, counted_none, counted_step}
 use Rattle.volume_turns.proofs.generate.do_counted.Goals as goal
@@ -65,7 +65,7 @@ returns-clause-quiet g c h = c.in-Err.ensures.disk.quiet h
 -- ---- what is told of the image
 
 pub returns-in-Ok-clause-image : goal.returns-in-Ok-clause-image
-returns-in-Ok-clause-image g c h = subst (λ (w : Fault). IsToldOn (g.V.Files.state c.args.v.now).layout (g.M.Machine.now c.answer.new.m).image w) (sym c.in-Err-count.ensures.err) tt
+returns-in-Ok-clause-image g c h = subst (λ (w : Fault). IsToldOn (MayLose c.args.c.now) (g.V.Files.state c.args.v.now).layout (g.M.Machine.now c.answer.new.m).image w) (sym c.in-Err-count.ensures.err) tt
 
 pub returns-clause-image : goal.returns-clause-image
 returns-clause-image g c h = (c.in-Err.ensures.answers h).told

@@ -8,6 +8,8 @@ use Rattle.fsd_texts.specs.declared.fault.Fault.TheVariants as Ends
 use Rattle.volume_turns.specs.declared.turns.End.TheVariants.{Fault as Stopped}
 use Rattle.volume_turns.proofs.CountLaws.{counted_refused}
 use Rattle.volume_turns.proofs.NumberLaws.{ended, goes_none}
+use Rattle.volume_turns.proofs.OtherLaws.{made_other}
+use Rattle.volume_turns.proofs.ToldLaws.{end_of_page}
 use Rattle.volume_turns.proofs.generate.draw.Goals as goal
 
 pub returns-in-Ok-Some-clause-draws : goal.returns-in-Ok-Some-clause-draws
@@ -27,7 +29,10 @@ returns-clause-draws g c =
 -- ---- what is told of the image
 
 pub returns-in-Ok-Some-clause-image : goal.returns-in-Ok-Some-clause-image
-returns-in-Ok-Some-clause-image g c h = c.in-Err-do_counted.ensures.image h
+returns-in-Ok-Some-clause-image g c h =
+    let made : made_left c.args.maker.now ≡ c.in-Ok-Some.c ∷ made_left c.next_command.new.self = subst (λ (o : Option Word). MakesNext (Ok o) c.args.maker.now c.next_command.new.self) c.in-Ok-Some.field-0-is c.in-Ok-Some.ensures in
+    let other = made_other c.args.maker.now c.next_command.new.self c.in-Ok-Some.c made in
+    end_of_page c.in-Ok-Some.c other (g.V.Files.state c.args.v.now).layout (g.M.Machine.now c.do_counted.new.m).image c.in-Err-do_counted.end (c.in-Err-do_counted.ensures.image h)
 
 pub returns-clause-image : goal.returns-clause-image
 returns-clause-image g c h = tt

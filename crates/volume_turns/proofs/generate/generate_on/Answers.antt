@@ -5,6 +5,7 @@ use Rattle.sector_disk.proofs.Holding.{trusts_on}
 use Rattle.fsd_texts.specs.declared.counts.Counts.{Counts}
 use Rattle.fsd_texts.specs.declared.fault.Fault.{Fault}
 use Rattle.fsd_texts.specs.declared.fault.Fault.TheVariants as Ends
+use Rattle.scrub.specs.Telling.{AreOfPage}
 use Rattle.volume_turns.specs.declared.turns.End.{End}
 use Rattle.volume_turns.specs.declared.turns.End.TheVariants.{Fault as Stopped}
 use Rattle.volume_turns.proofs.CauseLaws.{call_says}
@@ -96,7 +97,7 @@ returns-in-Err-Fault g c =
       status = fault_is_made came.why status (call_of_volume came.why at.fault) line.status;
       counts = fault_counts (M.report a) (M.report p) (M.report b) status line.says.spares came.why at.told line.status;
       says = λ three h. let back = line.says.trust.honest h in
-          call_says false (g.V.Files.state c.args.v).layout (M.now a).said came.why at.fault (M.now p) (M.now b) status (at.quiet back) (line.says.exit h).image (at.image back) (line.ends h) three;
+          call_says false AreOfPage (g.V.Files.state c.args.v).layout (M.now a).said came.why at.fault (M.now p) (M.now b) status (at.quiet back) (line.says.exit h).image (at.image back) (line.ends h) three;
       last = λ of h. ends_fault (M.report b).fault_place (M.now p) (M.now b) status came.why (told_place came.why (M.report a) (M.report p) (M.report b) at.told.disk line.says.spares.place) (line.ends h) of;
       spent = λ nine h. absurd (came.ensures.unworn (ap ended (came.field-0-is ∙ ap (λ (w : Fault). Stopped w) (status_worn came.why status line.status nine))));
       all = λ zero h. absurd (fault_not_zero came.why status line.status zero);

@@ -8,6 +8,7 @@ use Rattle.fsd_texts.specs.declared.command.Command.{Command as Word}
 use Rattle.fsd_texts.specs.declared.counts.Counts.{Counts}
 use Rattle.fsd_texts.specs.declared.fault.Fault.TheVariants as Ends
 use Rattle.script_text.specs.Making.{Making, made_left}
+use Rattle.scrub.specs.Telling.{AreOfPage}
 use Rattle.volume_turns.specs.Generate.{Draws, RunsCounted}
 use Rattle.volume_turns.specs.Tally.{nothing}
 use Rattle.volume_turns.specs.Turns.{Follows, IsEndOn}
@@ -129,7 +130,7 @@ returns-in-Err g c =
       quiet = λ h. does.quiet h ∙ was.quiet (does.trust.honest h);
       told = told_end (M.report a) (M.report b) c.in-Err.end (told_more (M.report a) (M.report m) (M.report b) tt (Err c.in-Err.end) was.told does.told);
       fault = does.fault;
-      image = λ h. subst (λ (x : Layout). IsEndOn x (M.now b).image c.in-Err.end) was.layout (does.image h);
+      image = λ h. subst (λ (x : Layout). IsEndOn AreOfPage x (M.now b).image c.in-Err.end) was.layout (does.image h);
       used = λ is h.
           let below = c.loop-test.true in
           may_before l.counter c.args.count (V.state c.args.v.now) (V.state l.v) (omega (arith, below)) (was.numbers (does.trust.honest h)) (does.used (ap ended (err_is _ c.in-Err.end (Stopped Ends.WornOut) refl is)) h);

@@ -1,5 +1,6 @@
 use Rattle.std.proofs.Common.{ℕ, List, false, Some, subst}
 use Rattle.fsd_runs.specs.declared.request.Request.TheVariants.{Generate}
+use Rattle.scrub.specs.Telling.{AreOfPage}
 use Rattle.volume_turns.specs.Causes.{SaysMade}
 use Rattle.volume_turns.proofs.BehindLaws.{RefusedBy, RunsOver, over_counts, over_image, over_leaves, over_said, over_trust, over_writes, refused_counts, refused_image, refused_last, refused_leaves, refused_of, refused_trust, refused_writes}
 use Rattle.volume_turns.proofs.GenerateLaws.{some_turn}
@@ -18,7 +19,7 @@ returns-in-Ok g c =
       status = does.status;
       counts = over_counts x does.counts;
       trust = over_trust x;
-      image = λ h. over_image x false (Some c.args.count) c.generate_on.result h (λ three. does.says three h) (λ nine. new_may c.args.count (g.V.Files.state c.in-Ok.v) e.fresh (does.spent nine h));
+      image = λ h. over_image x false AreOfPage (Some c.args.count) c.generate_on.result h (λ three. does.says three h) (λ nine. new_may c.args.count (g.V.Files.state c.in-Ok.v) e.fresh (does.spent nine h));
       last = does.last;
       all = λ zero h. subst (λ (before : List ℕ). SaysMade c.args.count before (M.now c.generate_on.new.m)) (over_said x h) (does.all zero h);
       leaves = λ h input rest l windows changes f at.
@@ -40,7 +41,7 @@ returns-in-Err g c =
       status = fault_is_made why status (refused_of x) line.status;
       counts = refused_counts x;
       trust = refused_trust x;
-      image = refused_image x false (Some c.args.count);
+      image = refused_image x false AreOfPage (Some c.args.count);
       last = refused_last x;
       all = λ zero h. absurd (fault_not_zero why status line.status zero);
       leaves = λ h input rest l windows changes f at.

@@ -5,6 +5,7 @@ use Rattle.fsd_texts.specs.declared.command.Command.TheVariants as Word
 use Rattle.fsd_texts.specs.declared.fault.Fault.TheVariants as Ends
 use Rattle.fsd_texts.specs.Script.{max_input}
 use Rattle.fsd_runs.specs.declared.request.Request.TheVariants.{Put}
+use Rattle.scrub.specs.Telling.{AreOfPage}
 use Rattle.volume_turns.specs.Answering.{SaysOne}
 use Rattle.volume_turns.specs.Whole.{RunsOut}
 use Rattle.volume_turns.proofs.AnsweringLaws.{fault_alone, no_reply_since, one_since}
@@ -41,7 +42,7 @@ returns-in-Ok g c =
       few = λ low t. subst (λ (x : List ℕ). length x ≤ max_input) (came.whole (does.trust.tells t)) came.few;
       trust = trusts_on read.trust does.trust;
       since = since_on M a m b does.trust.honest read.since (λ h. (read.any_moment h).later) does.since;
-      says = λ three h. call_since false layout (M.now a).said (M.now m).said (M.now b) (read.exit (does.trust.honest h)).said (does.says three h);
+      says = λ three h. call_since false AreOfPage layout (M.now a).said (M.now m).said (M.now b) (read.exit (does.trust.honest h)).said (does.says three h);
       unspent = does.unspent;
       last = does.last;
       one = λ h none. let back = does.trust.honest h in
@@ -78,7 +79,7 @@ returns-in-Err-TooLong g c =
       few = λ low t. absurd (does.unmade low);
       trust = trusts_on read.trust does.trust;
       since = since_on M a m b does.trust.honest read.since (λ h. (read.any_moment h).later) does.since;
-      says = λ three h. call_since false layout (M.now a).said (M.now m).said (M.now b) (read.exit (does.trust.honest h)).said (does.says three h);
+      says = λ three h. call_since false AreOfPage layout (M.now a).said (M.now m).said (M.now b) (read.exit (does.trust.honest h)).said (does.says three h);
       unspent = λ nine h. does.unspent nine;
       last = does.last;
       one = λ h none. inr (no_reply_since (M.now a) (M.now m) (M.now b) status (read.exit (does.trust.honest h)).said (does.fault h));

@@ -3,6 +3,7 @@ use Rattle.sector_disk.specs.Calls.{DiskFaults}
 use Rattle.sector_disk.proofs.Holding.{trusts_on}
 use Rattle.fsd_sound.specs.Writes.{force_writes}
 use Rattle.fsd_texts.specs.declared.fault.Fault.TheVariants as Ends
+use Rattle.scrub.specs.Telling.{AreOfPage}
 use Rattle.volume_turns.specs.Once.{close_fault}
 use Rattle.volume_turns.proofs.AnsweringLaws.{fault_alone}
 use Rattle.volume_turns.proofs.CauseLaws.{call_says, says_input}
@@ -64,7 +65,7 @@ returns-in-Err g c =
       trust = trusts_on disk.trust line.says.trust;
       since = since_on M a m b line.says.trust.honest disk.since (λ h. (disk.any_moment h).later) line.says.since;
       says = λ three h. let back = line.says.trust.honest h in
-          call_says false s.layout (M.now a).said why (close_of_call refused) (M.now m) (M.now b) status (disk.quiet back) (line.says.exit h).image (close_told s s (V.resident c.args.v) (M.now a) (M.now m) refl refused (e.causes back)) (line.ends h) three;
+          call_says false AreOfPage s.layout (M.now a).said why (close_of_call refused) (M.now m) (M.now b) status (disk.quiet back) (line.says.exit h).image (close_told s s (V.resident c.args.v) (M.now a) (M.now m) refl refused (e.causes back)) (line.ends h) three;
       last = λ of h. ends_fault (M.report b).fault_place (M.now m) (M.now b) status why (told_place why (M.report a) (M.report m) (M.report b) told.disk line.says.spares.place) (line.ends h) of;
       fault = λ h. fault_alone why (M.now a) (M.now m) (M.now b) status (disk.quiet (line.says.trust.honest h)) (line.ends h);
       long = λ five h input old new many. absurd (fault_not_five why status (call_of_volume why (close_of_call refused)) line.status five);

@@ -2,6 +2,7 @@ use Rattle.std.proofs.Common.{inr, ◌≤◌, length, ℕ, List, false, None, su
 use Rattle.fsd_texts.specs.Script.{max_input}
 use Rattle.fsd_texts.specs.declared.command.Command.TheVariants as Word
 use Rattle.fsd_runs.specs.declared.request.Request.TheVariants.{Put}
+use Rattle.scrub.specs.Telling.{AreOfPage}
 use Rattle.volume_turns.specs.Answering.{SaysOne}
 use Rattle.volume_turns.specs.Whole.{RunsOut}
 use Rattle.volume_turns.proofs.AnsweringLaws.{one_since}
@@ -25,7 +26,7 @@ returns-in-Ok g c =
       whole = does.whole;
       few = λ low t. subst (λ (input : List ℕ). length input ≤ max_input) (over_input x t) (does.few low t);
       trust = over_trust x;
-      image = λ h. over_image x false None c.put_on.result h (λ three. does.says three h) (λ nine. does.unspent nine h);
+      image = λ h. over_image x false AreOfPage None c.put_on.result h (λ three. does.says three h) (λ nine. does.unspent nine h);
       last = does.last;
       one = λ h.
           subst (λ (input : List ℕ). SaysOne (Word.Put c.args.name input c.args.keep) (M.now c.args.m.now) (M.now c.put_on.new.m) c.put_on.result) (over_input x (g.met.M.Machine.honest_tells c.put_on.new.m h))
@@ -53,7 +54,7 @@ returns-in-Err g c =
       whole = λ low t. absurd (fault_not_low why status line.status low);
       few = λ low t. absurd (fault_not_low why status line.status low);
       trust = refused_trust x;
-      image = refused_image x false None;
+      image = refused_image x false AreOfPage None;
       last = refused_last x;
       one = λ h. inr (refused_alone x h);
       leaves = λ h l windows changes f at.

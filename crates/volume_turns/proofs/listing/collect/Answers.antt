@@ -5,6 +5,7 @@ use Rattle.fsd_files.specs.Replies.{Found}
 use Rattle.fsd_files.proofs.ListingLaws.{lists_length}
 use Rattle.sector_disk.proofs.CallLaws.{reads_none, reads_then}
 use Rattle.volume_contract.specs.State.{State, volume_of}
+use Rattle.scrub.specs.Telling.{AreOfPage}
 use Rattle.volume_turns.specs.Listing.{AreListed}
 use Rattle.volume_turns.specs.Steps.{IsRefusedOn}
 use Rattle.scrub.proofs.WalkLaws.{files_in_order}
@@ -84,7 +85,7 @@ pub returns-in-Err-clause-refusal : goal.returns-in-Err-clause-refusal
 returns-in-Err-clause-refusal g c = next_refuses (g.V.Files.state c.loop.v) (ap (λ (s : State). s.down) c.loop.invariant.state ∙ c.requires.up) c.in-Err.why c.in-Err.ensures.order
 
 pub returns-in-Err-clause-told : goal.returns-in-Err-clause-told
-returns-in-Err-clause-told g c h = subst (λ (s : State). IsRefusedOn s.layout (g.M.Machine.now c.next_one.new.m).image c.in-Err.why) c.loop.invariant.state (c.in-Err.ensures.told h)
+returns-in-Err-clause-told g c h = subst (λ (s : State). IsRefusedOn AreOfPage s.layout (g.M.Machine.now c.next_one.new.m).image c.in-Err.why) c.loop.invariant.state (c.in-Err.ensures.told h)
 
 pub returns-in-Err-clause-disk : goal.returns-in-Err-clause-disk
 returns-in-Err-clause-disk g c = reads_then c.loop.invariant.disk c.in-Err.ensures.disk

@@ -10,6 +10,7 @@ use Rattle.sector_disk.specs.Calls.{WritesDisk}
 use Rattle.sector_disk.proofs.CallLaws.{reads_as_writes}
 use Rattle.volume_contract.specs.Order.{IsLookUp}
 use Rattle.volume_contract.specs.State.{volume_of}
+use Rattle.scrub.specs.Telling.{AreOfPage}
 use Rattle.volume_turns.specs.declared.answer.Answer.{Answer}
 use Rattle.volume_turns.specs.Steps.{Does, Stays, device_by}
 use Rattle.volume_turns.proofs.StepLaws.{outside_does, same_device, wear_stays}
@@ -84,7 +85,7 @@ returns-in-Err-clause-answers g c h =
       still = c.in-Err.ensures.state;
       worn = look_up_worn (g.V.Files.state c.args.v.now) c.in-Err.why c.ended_by.result c.ended_by.ensures.is c.in-Err.ensures.refusal;
       numbers = goes_none 1 (g.V.Files.state c.args.v.now) (g.V.Files.state c.collect.new.v) c.in-Err.ensures.state;
-      told = told_so (g.V.Files.state c.args.v.now).layout (now c.collect.new.m).image c.in-Err.why c.ended_by.result c.ended_by.ensures.is (c.in-Err.ensures.told h);
+      told = told_so AreOfPage (g.V.Files.state c.args.v.now).layout (now c.collect.new.m).image c.in-Err.why c.ended_by.result c.ended_by.ensures.is (c.in-Err.ensures.told h);
     }
 
 -- ---- why it is answered so

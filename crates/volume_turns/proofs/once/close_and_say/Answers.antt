@@ -4,6 +4,7 @@ use Rattle.sector_disk.proofs.Holding.{trusts_on}
 use Rattle.fsd_sound.specs.Writes.{force_writes}
 use Rattle.fsd_texts.specs.declared.fault.Fault.{Fault}
 use Rattle.fsd_texts.specs.declared.fault.Fault.TheVariants as Ends
+use Rattle.scrub.specs.Telling.{AreOfPage}
 use Rattle.volume_turns.specs.Once.{close_fault}
 use Rattle.volume_turns.specs.Steps.{IsToldOn}
 use Rattle.volume_turns.specs.Turns.{IsEndOfVolume, SaysAll, Unsaid, WantsNone}
@@ -46,7 +47,7 @@ returns-in-Ok g c =
           let utters = run.each (M.now b) (g.met.M.Machine.counts_now b (M.moment m) h run.later) in
           closed_by s text (M.now a) (M.now m) (M.now b) result (disk.windows back) (disk.quiet back) (e.rest back) (closed_still M.now s a m e.idle) (record { image = utters.image; windows = utters.windows })
           (says_so text (M.now m) (M.now b) result (on_ok_said (SaysAll text (M.now m) (M.now b)) result h say.said) unsaid) (unsaid_unworn (M.now m) (M.now b) result unsaid)
-          (unsaid_told s.layout (M.now b).image (M.now m) (M.now b) result unsaid);
+          (unsaid_told AreOfPage s.layout (M.now b).image (M.now m) (M.now b) result unsaid);
       wants = λ up. output_ends WantsNone tt result say.output;
       closes = λ h k stands. let back = say.trust.honest h in
           close_said V.state V.holds M c.args.v a m b k stands text (force_writes s.layout) _ disk back (e.done back k stands) (g.met.M.Machine.short m back) (say.moments h)
@@ -76,7 +77,7 @@ returns-in-Err g c =
         rest = e.rest h;
         still = closed_still M.now s a m e.idle;
         unworn = λ is. close_unworn refused (fault_is _ (close_fault refused) Ends.WornOut refl is);
-        told = λ why is. subst (λ (w : Fault). IsToldOn s.layout (M.now m).image w) (fault_is _ (close_fault refused) why refl is) (close_told s s (V.resident c.args.v) (M.now a) (M.now m) refl refused (e.causes h));
+        told = λ why is. subst (λ (w : Fault). IsToldOn AreOfPage s.layout (M.now m).image w) (fault_is _ (close_fault refused) why refl is) (close_told s s (V.resident c.args.v) (M.now a) (M.now m) refl refused (e.causes h));
       };
       wants = λ up. close_wants refused (force_loss s up _ refused e.order);
       closes = λ h k stands. close_failed V.state V.holds M c.args.v a m m k stands c.args.text.now (force_writes s.layout) _ disk h refused (e.done h k stands);

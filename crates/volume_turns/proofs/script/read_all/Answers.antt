@@ -6,6 +6,7 @@ use Rattle.fsd_texts.specs.Script.{max_input}
 use Rattle.fsd_texts.specs.declared.end.End.TheVariants.{Done}
 use Rattle.fsd_texts.specs.declared.fault.Fault.TheVariants as Ends
 use Rattle.script_text.specs.Reading.{Reading, fresh}
+use Rattle.scrub.specs.Telling.{AreOfPage}
 use Rattle.volume_turns.specs.Script.{DoneSo, GoesOn, Reads, RoseBy, WholeRead}
 use Rattle.volume_turns.specs.Turns.{Follows, IsEndOn}
 use Rattle.volume_turns.specs.declared.script.Stop.{Stop}
@@ -113,7 +114,7 @@ returns-in-Err g c =
       up = tt;
       heard = heard_end (M.report a) (M.report b) c.in-Err.end (heard_then (M.report a) (M.report m) (M.report b) tt (Err c.in-Err.end) was.heard does.heard);
       fault = does.fault;
-      image = λ h. subst (λ (x : Layout). IsEndOn x (M.now b).image c.in-Err.end) was.layout (does.image h);
+      image = λ h. subst (λ (x : Layout). IsEndOn AreOfPage x (M.now b).image c.in-Err.end) was.layout (does.image h);
       used = λ is h.
           let few = was.few in
           may_before l.reader.given (max_input + 1) (V.state c.args.v.now) (V.state l.v) (omega (arith, few)) (was.numbers (does.trust.honest h)) (does.used (ap ended (err_is _ c.in-Err.end (Stopped Ends.WornOut) refl is)) h);

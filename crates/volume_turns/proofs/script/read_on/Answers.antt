@@ -14,7 +14,9 @@ use Rattle.volume_turns.proofs.ApartLaws.{bad_done, err_is, input_done, long_don
 use Rattle.volume_turns.proofs.ScriptLaws.{ended_so, moves_spells, none_done, none_read, one_done, one_stops}
 use Rattle.volume_turns.proofs.CauseLaws.{none_left}
 use Rattle.volume_turns.proofs.NumberLaws.{ended, goes_none}
+use Rattle.volume_turns.proofs.OtherLaws.{read_other}
 use Rattle.volume_turns.proofs.SaidLaws.{no_replies, replies_then, whole_then}
+use Rattle.volume_turns.proofs.ToldLaws.{end_of_page}
 use Rattle.volume_turns.proofs.script.read_on.Goals as goal
 
 pub returns-in-Ok-clause-reads : goal.returns-in-Ok-clause-reads
@@ -195,7 +197,14 @@ returns-clause-whole_replies g c h = no_replies g.T.Says.errand.says (g.M.Machin
 -- ---- what is told of the image
 
 pub returns-in-Ok-Some-clause-image : goal.returns-in-Ok-Some-clause-image
-returns-in-Ok-Some-clause-image g c h = c.in-Err.ensures.image h
+returns-in-Ok-Some-clause-image g c h =
+    let M = g.M.Machine in
+    let a = c.args.m.now in
+    let m = c.next_command.new.m in
+    let tells = g.met.M.Machine.honest_tells m (c.step.ensures.trust.honest h) in
+    let script = subst (λ (o : Option Word). Answers (Ok o) (script_left c.args.reader.now (M.ledger a).input) (script_left c.next_command.new.self (M.ledger m).input)) c.in-Ok-Some.field-0-is (c.in-Ok-Some.ensures.script tells) in
+    let other = read_other c.args.reader.now c.next_command.new.self (M.ledger a).input (M.ledger m).input c.in-Ok-Some.c script in
+    end_of_page c.in-Ok-Some.c other (g.V.Files.state c.args.v.now).layout (M.now c.step.new.m).image c.in-Err.end (c.in-Err.ensures.image h)
 
 pub returns-clause-image : goal.returns-clause-image
 returns-clause-image g c h = tt

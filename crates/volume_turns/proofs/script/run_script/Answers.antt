@@ -3,6 +3,7 @@ use Rattle.fsd_texts.specs.declared.end.End.TheVariants.{Done}
 use Rattle.fsd_texts.specs.Script.{max_input, script_in}
 use Rattle.fsd_runs.specs.Commands.{reply_text}
 use Rattle.fsd_runs.specs.declared.request.Request.TheVariants.{Script}
+use Rattle.scrub.specs.Telling.{AreOfPage}
 use Rattle.volume_turns.specs.Each.{SaysBadLine, SaysForced}
 use Rattle.volume_turns.specs.Whole.{RunsOut}
 use Rattle.volume_turns.proofs.BehindLaws.{RefusedBy, RunsOver, over_attaches, over_fails, over_image, over_input, over_leaves, over_said, over_says_input, over_taking, over_trust, refused_image, refused_last, refused_leaves, refused_of, refused_taking, refused_trust, refused_writes}
@@ -31,7 +32,7 @@ returns-in-Ok g c =
           subst (λ (before : List ℕ). SaysBadLine (M.left_since b t) (M.ledger c.args.m.now).input before (M.now b)) (over_said x h)
           (subst (λ (input : List ℕ). SaysBadLine (M.left_since b t) input (M.now m).said (M.now b)) (over_input x (g.met.M.Machine.honest_tells b h)) (does.bad two h t (omega (arith, le, reached))));
       trust = over_trust x;
-      image = λ h. over_image x true None c.script_on.result h (λ three. does.says three h) (λ nine. let many = new_may (max_input + 1) (g.V.Files.state c.in-Ok.v) e.fresh (does.spent nine h) in omega (arith, many));
+      image = λ h. over_image x true AreOfPage None c.script_on.result h (λ three. does.says three h) (λ nine. let many = new_may (max_input + 1) (g.V.Files.state c.in-Ok.v) e.fresh (does.spent nine h) in omega (arith, many));
       last = does.last;
       all = λ zero h t le. let reached = e.disk.later (does.trust.honest h) in
           subst (λ (before : List ℕ). SaysForced reply_text (M.left_since b t) (script_in (M.ledger c.args.m.now).input).0 before (M.now b).said) (over_said x h)
@@ -60,7 +61,7 @@ returns-in-Err g c =
       spelled = λ zero t. absurd (fault_not_zero why status line.status zero);
       bad = λ two h t le. absurd (fault_not_bad why status line.status two);
       trust = refused_trust x;
-      image = refused_image x true None;
+      image = refused_image x true AreOfPage None;
       last = refused_last x;
       all = λ zero h t le. absurd (fault_not_zero why status line.status zero);
       leaves = λ h l windows changes f at.

@@ -3,7 +3,7 @@ use Rattle.std.specs.Prelude.{Err}
 use Rattle.fsd_texts.specs.declared.fault.Fault.{Fault}
 use Rattle.fsd_texts.specs.declared.fault.Fault.TheVariants as Ends
 use Rattle.sector_disk.specs.Image.{AreShort, Windows}
-use Rattle.volume_turns.specs.Steps.{reply_of}
+use Rattle.volume_turns.specs.Steps.{MayLose, reply_of}
 use Rattle.volume_turns.specs.Turns.{SaysAll, Unsaid}
 use Rattle.volume_turns.proofs.RunLaws.{step_said, step_fault, told_fault, on_ok_said, on_err_said}
 use Rattle.volume_turns.proofs.AnsweringLaws.{says_so}
@@ -73,7 +73,7 @@ pub returns-in-Ok-clause-image : goal.returns-in-Ok-clause-image
 returns-in-Ok-clause-image g c =
     let M = g.M.Machine in
     let b = c.say.new.m in
-    unsaid_on (g.V.Files.state c.args.v.now).layout (M.now b).image (M.honest b) (M.now c.answer.new.m) (M.now b) c.say.result c.say.ensures.unsaid
+    unsaid_on (MayLose c.args.c.now) (g.V.Files.state c.args.v.now).layout (M.now b).image (M.honest b) (M.now c.answer.new.m) (M.now b) c.say.result c.say.ensures.unsaid
 
 pub returns-in-Err-clause-image : goal.returns-in-Err-clause-image
 returns-in-Err-clause-image g c h = (c.in-Err.ensures.answers h).told

@@ -2,6 +2,7 @@ use Rattle.std.proofs.Common.{false, inl, inr, Err, refl, ap, arith}
 use Rattle.sector_disk.proofs.Holding.{trusts_on}
 use Rattle.fsd_texts.specs.declared.fault.Fault.{Fault}
 use Rattle.volume_turns.specs.declared.turns.End.TheVariants.{Fault as Stopped}
+use Rattle.volume_turns.specs.Steps.{MayLose}
 use Rattle.volume_turns.proofs.AnsweringLaws.{one_failed, one_replied, one_unheard}
 use Rattle.volume_turns.proofs.CauseLaws.{call_says}
 use Rattle.volume_turns.proofs.LastLaws.{ends_fault, fault_not, reply_not, told_place}
@@ -55,7 +56,7 @@ returns-in-Err-Fault g c =
       counts = fault_counts (M.report a) (M.report p) (M.report b) status line.says.spares came.why does.told line.status;
       since = since_on M a p b line.says.trust.honest does.since does.later line.says.since;
       says = λ three h. let ended = does.answers (line.says.trust.honest h) in
-          call_says false s.layout (M.now a).said came.why does.fault (M.now p) (M.now b) status ended.quiet (line.says.exit h).image (ended.told came.why refl) (line.ends h) three;
+          call_says false (MayLose c.args.c.now) s.layout (M.now a).said came.why does.fault (M.now p) (M.now b) status ended.quiet (line.says.exit h).image (ended.told came.why refl) (line.ends h) three;
       unspent = λ nine h.
           let worn = (does.answers (line.says.trust.honest h)).worn (ap (λ (w : Fault). Err (Stopped w)) (status_worn came.why status line.status nine)) in
           cc (worn, c.requires.unworn);

@@ -1,5 +1,6 @@
 use Rattle.std.proofs.Common.{false, None, []}
 use Rattle.fsd_runs.specs.declared.request.Request.TheVariants.{One}
+use Rattle.volume_turns.specs.Steps.{MayLose}
 use Rattle.volume_turns.proofs.OneLaws.{some_one}
 use Rattle.volume_turns.proofs.BehindLaws.{RefusedBy, RunsOver, over_counts, over_image, over_leaves, over_one, over_trust, over_writes, refused_counts, refused_image, refused_last, refused_leaves, refused_of, refused_one, refused_trust, refused_writes}
 use Rattle.volume_turns.proofs.StatusLaws.{fault_is_one}
@@ -16,7 +17,7 @@ returns-in-Ok g c =
       status = does.status;
       counts = over_counts x does.counts;
       trust = over_trust x;
-      image = λ h. over_image x false None c.one_on.result h (λ three. does.says three h) (λ nine. does.unspent nine h);
+      image = λ h. over_image x false (MayLose c.args.c.now) None c.one_on.result h (λ three. does.says three h) (λ nine. does.unspent nine h);
       last = does.last;
       one = λ h. over_one x c.args.c.now c.one_on.result h (does.one h e.fresh.dirty);
       leaves = λ h rest l windows changes f at.
@@ -38,7 +39,7 @@ returns-in-Err g c =
       status = fault_is_one c.args.c.now why status (refused_of x) line.status;
       counts = refused_counts x;
       trust = refused_trust x;
-      image = refused_image x false None;
+      image = refused_image x false (MayLose c.args.c.now) None;
       last = refused_last x;
       one = refused_one x c.args.c.now;
       leaves = λ h rest l windows changes f at.
