@@ -33,11 +33,15 @@ const GETS: &[u8] =
     b"get a!1\nget b!1\nget c!1\nget d!1\nget e!1\nget f!1\nget g!1\nget h!1\nget i!1\nget j!1\n\
     get k!1\nget l!1\n";
 
-// What a scrub says where these sectors were damaged and so many leaders are to be healed.
-fn scrub_says(alloc: Global, hurt: &[u32], healed: u32) -> Result<Vec<u8>, AllocError> {
+// What a scrub says where these sectors were damaged, and their leaders too or no more.
+fn scrub_says(alloc: Global, hurt: &[u32], leaders: bool) -> Result<Vec<u8>, AllocError> {
     let mut said = Vec::new(alloc);
+    let mut healed = 0u32;
     let mut damaged = 0u32;
-    for (key, _, data) in VERSIONS {
+    for (key, leader, data) in VERSIONS {
+        if leaders && hurt.contains(&leader) {
+            healed = healed.saturating_add(1);
+        }
         if hurt.contains(&data) {
             damaged = damaged.saturating_add(1);
             let line = format!(in alloc; "damaged {key} {data}\n")?;
@@ -65,42 +69,34 @@ fn gets_say(alloc: Global, hurt: &[u32]) -> Result<Vec<u8>, AllocError> {
     Ok(said)
 }
 
-fn leaders_in(hurt: &[u32]) -> u32 {
-    let mut count = 0u32;
-    for (_, leader, _) in VERSIONS {
-        if hurt.contains(&leader) {
-            count = count.saturating_add(1);
+// What stands twice outside the log, and the leaders.
+fn is_kept(sector: usize) -> bool {
+    matches!(sector, 0 | 4 | 8 | 12 | 616..=631 | 636..=651)
+        || matches!(sector, 657..=679) && sector % 2 == 1
+}
+
+// Whether all of these are whole.
+fn all_stand(image: &[Sector]) -> bool {
+    for (sector, reads) in image.iter().enumerate() {
+        if is_kept(sector) && matches!(reads, Sector::Damaged) {
+            return false;
         }
     }
-    count
+    true
 }
 
-fn is_whole(image: &[Sector], sector: u32) -> bool {
-    matches!(image.get(sector as usize), Some(Sector::Whole(_)))
-}
-
-// Whether what stands twice outside the log and all leaders are whole.
-fn all_stand(image: &[Sector]) -> bool {
-    let front = [0, 4, 8, 12].iter().all(|sector| is_whole(image, *sector));
-    let homes = (616..632u32).all(|sector| is_whole(image, sector));
-    let copies = (636..652u32).all(|sector| is_whole(image, sector));
-    let leaders = VERSIONS
-        .iter()
-        .all(|(_, leader, _)| is_whole(image, *leader));
-    front && homes && copies && leaders
-}
-
-// Whether a scrub heals so many of an image with such damage, then nothing, and the gets say what they ought to.
+// Whether a scrub of an image with such damage heals the leaders that are hurt, if they still are, and the next none,
+// and the gets say what they ought to.
 fn scrubs_well(
     alloc: Global,
     m: MemoryMachine,
     hurt: &[u32],
-    healed: u32,
+    leaders: bool,
 ) -> Result<bool, AllocError> {
     let (m, _) = run(alloc, m, &[], "cfs scrub w", b"")?;
-    let first = m.said() == scrub_says(alloc, hurt, healed)?.as_slice() && all_stand(m.image());
+    let first = m.said() == scrub_says(alloc, hurt, leaders)?.as_slice() && all_stand(m.image());
     let (m, again) = run(alloc, m, &[], "cfs scrub w", b"")?;
-    let none = scrub_says(alloc, hurt, 0)?;
+    let none = scrub_says(alloc, hurt, false)?;
     let status = if none.as_slice().starts_with(b"damaged ") {
         8
     } else {
@@ -118,13 +114,14 @@ fn twelve(alloc: Global) -> Result<Vec<Sector>, AllocError> {
 }
 
 // The first of these sectors with whose damage, alone or with that of the next one, a scrub goes wrong.
-fn first_wrong_in(alloc: Global, from: u32, to: u32) -> Result<Option<u32>, AllocError> {
+fn first_wrong_in(alloc: Global, part: (u32, u32)) -> Result<Option<u32>, AllocError> {
+    let (from, to) = part;
     let image = twelve(alloc)?;
     for sector in from..to {
         for hurt in [[sector, sector], [sector, sector.saturating_add(1)]] {
             let mut damaged = image.to_vec(alloc)?;
             set(damaged.as_mut_slice(), &hurt, Sector::Damaged);
-            if !scrubs_well(alloc, calm(alloc, damaged), &hurt, leaders_in(&hurt))? {
+            if !scrubs_well(alloc, calm(alloc, damaged), &hurt, true)? {
                 return Ok(Some(sector));
             }
         }
@@ -132,17 +129,27 @@ fn first_wrong_in(alloc: Global, from: u32, to: u32) -> Result<Option<u32>, Allo
     Ok(None)
 }
 
-// The front, and the log, whose record stands at 16.
+// The volume in three parts, by the first sector of each and the one behind its last.
+const PARTS: [(u32, u32); 3] = [(0, 240), (240, 480), (480, 721)];
+
+// The front, and the first third of the log, whose record stands at 16.
 #[test]
-fn the_front_and_the_log_are_scrubbed(rt: HostRuntime) -> Result<(), Fail> {
-    assert_eq!(rt; first_wrong_in(rt.alloc(), 0, 40)?, None);
+fn the_front_and_the_first_records_are_scrubbed(rt: HostRuntime) -> Result<(), Fail> {
+    assert_eq!(rt; first_wrong_in(rt.alloc(), PARTS[0])?, None);
     Ok(())
 }
 
-// The homes and the data, with the last sectors of the log before them.
+// The log behind them.
+#[test]
+fn the_log_is_scrubbed(rt: HostRuntime) -> Result<(), Fail> {
+    assert_eq!(rt; first_wrong_in(rt.alloc(), PARTS[1])?, None);
+    Ok(())
+}
+
+// The last sectors of the log, the homes and the data.
 #[test]
 fn the_homes_and_the_data_are_scrubbed(rt: HostRuntime) -> Result<(), Fail> {
-    assert_eq!(rt; first_wrong_in(rt.alloc(), 610, 721)?, None);
+    assert_eq!(rt; first_wrong_in(rt.alloc(), PARTS[2])?, None);
     Ok(())
 }
 
@@ -162,7 +169,7 @@ fn wrong_stop(alloc: Global, image: &[Sector], pair: [u32; 2]) -> Result<Option<
             b"",
         )?;
         let (m, _) = run(alloc, m, &[], "cfs scrub w", b"")?;
-        if !all_stand(m.image()) || !scrubs_well(alloc, m, &pair, 0)? {
+        if !all_stand(m.image()) || !scrubs_well(alloc, m, &pair, false)? {
             return Ok(Some(after));
         }
     }
