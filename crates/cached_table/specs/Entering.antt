@@ -1,5 +1,5 @@
 -- The versions that go where one is entered, and why none is.
-use Rattle.std.specs.Prelude.{◌≡◌, ◌⊎◌, ⊤, ℕ, ◌<◌, ◌≤◌, Bool, List, [], ◌∷◌, ◌++◌, Contains, Some, IsFalse, length, count_by}
+use Rattle.std.specs.Prelude.{◌≡◌, ◌⊎◌, ⊤, ℕ, ◌<◌, ◌≤◌, Bool, List, [], ◌∷◌, ◌++◌, All, Contains, Some, IsFalse, length, count_by}
 use Rattle.std.specs.List.{list_any}
 use Rattle.fsd_bytes.specs.Keys.{max_u32}
 use Rattle.fsd_bytes.specs.declared.key.Key.{Key}
@@ -11,6 +11,7 @@ use Rattle.sector_set.specs.Area.{Area, AreOut, together}
 use Rattle.sector_set.specs.Meet.{meets}
 use Rattle.sector_disk.specs.Machine.{Moment}
 use Rattle.sector_disk.specs.declared.machine.Machine.{Ghosts as MachineGhosts}
+use Rattle.shadow_frees.specs.Readers.{Agrees}
 use Rattle.shadow_frees.specs.Waits.{AreIdle, Waits}
 use Rattle.fsd_formats.specs.declared.entry.Entry.{Entry}
 use Rattle.fsd_table.specs.Table.{BreaksTable}
@@ -34,9 +35,10 @@ use Rattle.cached_table.specs.Looking.{BarsPages, Had, HavePages, LeadsTo, Shows
 
 -- ---- the versions that go
 
--- the sectors are of the data area, each named once, and neither free nor waiting
+-- the sectors are of the data area, each named once, and neither free nor waiting;
+-- and each reader holds these very runs, or none of their sectors
 abbrev pub AreTaken : Area → Waits → List Run → Type 0
-AreTaken map w runs = AreOut map runs × AreIdle w runs
+AreTaken map w runs = AreOut map runs × AreIdle w runs × All (Agrees runs) w.held
 
 -- whether one of these versions has one of these sectors
 abbrev pub share : List Leaving → List Run → Bool
@@ -52,10 +54,10 @@ abbrev pub with_gone : Area → List Leaving → Area
 with_gone a [] = a
 with_gone a (g ∷ gone) = with_gone (together a g.entry.runs) gone
 
--- one after another they don't wait before they go
+-- one after another they don't wait before they go, and each reader holds such a one whole or not at all
 abbrev pub AreIdleInTurn : Waits → List Leaving → Type 0
 AreIdleInTurn w [] = ⊤
-AreIdleInTurn w (g ∷ gone) = AreIdle w g.entry.runs × AreIdleInTurn (record w { removed = together w.removed g.entry.runs }) gone
+AreIdleInTurn w (g ∷ gone) = (AreIdle w g.entry.runs × All (Agrees g.entry.runs) w.held) × AreIdleInTurn (record w { removed = together w.removed g.entry.runs }) gone
 
 -- ---- why none is entered
 

@@ -51,11 +51,12 @@ fn plan_refusal(fault: VersionFault, home_a: u32) -> Refusal
     }
 }
 
-// Whether the sectors are of the data area, each named once, and neither free nor waiting.
+// Whether the sectors are of the data area, each named once, and neither free nor waiting, and each reader holds these
+// very runs, or none of their sectors.
 fn are_taken(map: &Map, shadow: &Shadow, runs: &Runs) -> bool
     ensures { IsTrue result ↔ AreTaken map.now shadow.now runs.now }
 {
-    map.are_taken(runs) && shadow.are_idle(runs)
+    map.are_taken(runs) && shadow.are_idle(runs) && shadow.agrees(runs)
 }
 
 // Whether one of these versions has one of these sectors.

@@ -1,7 +1,9 @@
 pub mod Answers
+pub mod Desk
 pub mod Disk
 pub mod Files
 pub mod Kept
+pub mod Pieces
 pub mod Replies
 pub mod Scrub
 pub mod Space

@@ -17,5 +17,13 @@ pub data Reply : Type 0 where
   Counts : (free waiting pages versions : ℕ) → Reply
   -- the data sectors that read damaged, each with its version's key, and how many others were healed
   Scrubbed : (found : List (Key × ℕ)) → (healed : ℕ) → Reply
+  -- of a client: it has begun a version, has so many bytes of it, or has given it up; it has opened one of so many bytes,
+  -- has these next ones of it, or is done with it
+  Begun : (client : ℕ) → Reply
+  Took : (client sum : ℕ) → Reply
+  Dropped : (client : ℕ) → Reply
+  Opened : (client length : ℕ) → Reply
+  Given : (client : ℕ) → List ℕ → Reply
+  Done : (client : ℕ) → Reply
   -- one version's entry, or that no later one is there
   Found : Option Entry → Reply

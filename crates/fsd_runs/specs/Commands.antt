@@ -96,7 +96,7 @@ reply_text Forced = text Says.Forced
 reply_text (Counts free waiting pages versions) = text (Says.Stat free waiting pages versions)
 reply_text (Scrubbed found healed) = found_text found ++ text (Says.Scrubbed healed (length found))
 -- no command of a script is answered so
-reply_text (Found e) = []
+reply_text other = []
 
 -- what a command by itself says: a get the bytes alone
 abbrev pub reply_alone : Reply → List ℕ

@@ -24,7 +24,7 @@ module _ (hurt : Sectors) (i j : Image) where
   slices_worn (x ∷ slices) [] agree is = absurd is
   slices_worn (x ∷ slices) (s ∷ sectors) agree is = (wrote_worn x s (agree s (first_there s sectors)) is.0, slices_worn slices sectors (λ t h. agree t (rest_there s t sectors h)) is.1)
 
-  drafts_worn : (all : List (List (Option (List ℕ)))) (drafts : List (List Run)) → AgreeWorn hurt (flat_map sectors_of drafts) i j
+  pub drafts_worn : (all : List (List (Option (List ℕ)))) (drafts : List (List Run)) → AgreeWorn hurt (flat_map sectors_of drafts) i j
       → AllZip (λ slices runs. AllZip (Wrote hurt i) slices (data_sectors runs)) all drafts → AllZip (λ slices runs. AllZip (Wrote hurt j) slices (data_sectors runs)) all drafts
   drafts_worn [] [] agree is = tt
   drafts_worn [] (d ∷ drafts) agree is = absurd is

@@ -58,7 +58,12 @@ module _ (l : Layout) where
       kept = none_of_data;
       unfinished = none_of_data;
       apart = λ s there. none_wait s;
-      unread = record { kept = none_of_area; unfinished = none_of_area; held = refl };
+      once = record {
+        removed = λ s there. ap (λ (xs : List ℕ). contains xs s || contains xs s) none_of_area;
+        kept = λ s there. ap (λ (xs : List ℕ). contains xs s) none_of_area;
+        readers = λ s there. absurd (let none : contains (no_area l).sectors s ≡ false = ap (λ (xs : List ℕ). contains xs s) none_of_area in cc (there, none));
+        slots = refl;
+      };
       log = layout;
       epoch = refl;
       pages = opened.pages;

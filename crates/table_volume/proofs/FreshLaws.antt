@@ -83,6 +83,7 @@ module _ (l : Layout) (planned : plan l.sectors l.third l.pages ≡ Ok l) (log :
         waiting = none_waits_there ∙ sym new.waiting;
         waits = sym new.waits;
         held = refl;
+        unfinished = nothing (data_start l) l.sectors ∙ sym (none_of_area l);
         pages_free = omega (arith, count_of_flags v.free_pages, t.spare);
         versions = count ∙ t.versions;
         up = refl;
@@ -98,13 +99,12 @@ module _ (l : Layout) (planned : plan l.sectors l.third l.pages ≡ Ok l) (log :
     inside = t.inside;
     map = same_free;
     removed = λ s. ap (λ (xs : List ℕ). contains xs s) (none_of_area l);
+    kept = λ s. ap (λ (xs : List ℕ). contains xs s) (none_of_area l);
+    unfinished = λ s. ap (λ (xs : List ℕ). contains xs s) (none_of_area l);
     free_pages = t.free_pages;
     log = a.fresh.layout;
     fits = a.fits;
     indexed = a.fresh.indexed;
-    drafts = refl;
-    slices = refl;
-    bytes = refl;
   }
 
   pub fresh_holds : Holds v (fresh_mounted l log pages t.telling files) []

@@ -1,27 +1,30 @@
 -- A volume stands over what a call leaves that heals.
 use Rattle.std.proofs.Common.{◌≡◌, ◌≢◌, ◌⊎◌, inl, inr, ⊎_elim, ℕ, zero, suc, ◌+◌, ◌<◌, ◌≤◌, List, Result, Ok, Err, refl, sym, ap, subst, ◌∙◌, arith}
-use Rattle.std.specs.Prelude.{IfErr, IfOk, OnOk, IsFalse, IsTrue}
-use Rattle.std.proofs.lemmas.Bool.{both_ways}
+use Rattle.std.specs.Prelude.{IfErr, IfOk, OnOk, IsFalse, IsTrue, nat_le, nat_lt}
+use Rattle.std.proofs.lemmas.Bool.{and_parts, both_ways, leb-true, or_left}
 use Rattle.volume_layout.specs.declared.layout.Layout.{Layout}
-use Rattle.volume_layout.specs.Layout.{InLog, home_a, home_b}
+use Rattle.volume_layout.specs.Layout.{InLog, data_start, home_a, home_b}
 use Rattle.fsd_bytes.specs.declared.refusal.Refusal.{Refusal}
 use Rattle.sector_disk.specs.declared.machine.LoadFault.{LoadFault}
 use Rattle.sector_disk.specs.declared.machine.LoadFault.TheVariants as fault
 use Rattle.sector_disk.specs.declared.sector.Sector.TheVariants.{Damaged}
 use Rattle.sector_disk.specs.Calls.{device_in, load_failed_at}
 use Rattle.sector_disk.specs.Damage.{AreLost, LostCause}
-use Rattle.sector_disk.specs.Image.{AreShort, sector_at, stand}
+use Rattle.sector_disk.specs.Image.{AreShort, open_damage, sector_at, stand}
 use Rattle.sector_disk.specs.Machine.{Holds as HoldsImage, Moment}
 use Rattle.sector_disk.proofs.Calm.{stand_one}
 use Rattle.sector_disk.proofs.Wear.{stand_other}
 use Rattle.fsd_log.specs.Scan.{Walked}
 use Rattle.fsd_files.specs.Disk.{Image, Sectors, Touches}
+use Rattle.fsd_files.specs.Volume.{is_in}
+use Rattle.fsd_files.proofs.WaitLaws.{open_in_area}
 use Rattle.fsd_sound.specs.Mounted.{IsMounted}
 use Rattle.fsd_sound.specs.Shown.{records_by}
 use Rattle.fsd_sound.specs.Sound.{is_twin, weak_of}
 use Rattle.fsd_sound.specs.Windows.{IsNarrow}
 use Rattle.fsd_sound.proofs.LogPlaces.{SameLog, same_scan}
 use Rattle.fsd_sound.proofs.MountedLaws.{mounted_sound}
+use Rattle.fsd_sound.proofs.OpenLaws.{drafts_worn}
 use Rattle.fsd_sound.proofs.TwinLaws.{twin_a, twin_b}
 use Rattle.fsd_sound.proofs.TwinMendLaws.{ArePair, twin_mounted}
 use Rattle.fsd_sound.proofs.WindowLaws.{apart_narrow, short_apart}
@@ -31,7 +34,7 @@ use Rattle.twin_home.specs.Twins.{AreTwins, HealsPages, HealsTwins, TwinsStand}
 use Rattle.twin_home.proofs.TwinsLaws.{IsNoHome, Stays, heals_length, heals_said, heals_stay, heals_windows, pages_length, pages_said, pages_stay, pages_windows, stays_on}
 use Rattle.volume_contract.specs.Ends.{device_of}
 use Rattle.volume_contract.specs.Healing.{StandsStill, TwinsStand as AllStand}
-use Rattle.volume_contract.specs.State.{Known, Leaves, ListsPages, Stands, forced_of}
+use Rattle.volume_contract.specs.State.{Known, Leaves, ListsPages, StandWritten, Stands, forced_of}
 use Rattle.volume_state.specs.Forcing.{force_refusal}
 use Rattle.volume_state.specs.State.{Holds, state}
 use Rattle.volume_state.specs.Volume.{VolumeValue}
@@ -45,16 +48,18 @@ module _ (v : VolumeValue) (k : Known) (old : Moment) (stands : Stands state Hol
   records_same j same = ap (λ (w : Walked). w.records) (sym (same_scan k.mounted.volume.layout old.image j same k.mounted.anchor stands.disk.third))
 
   -- it stands there, and so it does as that is worn
-  pub stands_written : AreShort old.windows → (j : Image) → SameLog k.mounted.volume.layout old.image j → IsMounted k.mounted k.windows k.changes (forced_of k) j
+  pub stands_written : AreShort old.windows → (j : Image) → SameLog k.mounted.volume.layout old.image j → IsMounted k.mounted k.windows k.changes (forced_of k) j → StandWritten (open_damage old.windows) j k.mounted.slices k.mounted.volume.drafts
       → (left : Moment) → HoldsImage old j left → Stands state Holds v k left
-  stands_written short j same disk left holds =
+  stands_written short j same disk written left holds =
       let mid : Moment = record { image = j; windows = old.windows; said = old.said } in
       let here : Stands state Holds v k mid = record {
         fits = stands.fits;
+        opened = stands.opened;
         holds = subst (Holds v k.mounted) (records_same j same) stands.holds;
         lists = subst (ListsPages (state v) k.mounted.pages) (records_same j same) stands.lists;
         ends = stands.ends;
         disk = disk;
+        written = written;
       } in
       stands_worn v k mid left short (record { image = holds.worn; windows = holds.windows }) here
 
@@ -80,13 +85,29 @@ module _ (v : VolumeValue) (k : Known) (old : Moment) (stands : Stands state Hol
       (twin_mounted k.mounted k.windows (narrow short) k.changes (forced_of k) old.image stands.disk s t pair mends.bytes mends.whole)
   mended_mounted short s t (suc (suc n)) once pair left mends = absurd (omega (arith, once))
 
+  -- no creation lies in a copy
+  pair_before : (s t p : ℕ) → ArePair k.mounted.volume.layout s t → data_start k.mounted.volume.layout ≤ p → p ≡ s → ⊥
+  pair_before s t p (inl (inl r)) from e = omega (arith, r.0, from, e)
+  pair_before s t p (inl (inr r)) from e = omega (arith, r.0, from, e)
+  pair_before s t p (inr (inl (inl a))) from e = omega (arith, a.0, from, e)
+  pair_before s t p (inr (inl (inr a))) from e = omega (arith, a.0, from, e)
+  pair_before s t p (inr (inr (page, lt, inl o))) from e = omega (arith, o.0, lt, from, e)
+  pair_before s t p (inr (inr (page, lt, inr o))) from e = omega (arith, o.0, lt, from, e)
+
+  mended_written : (s t stood : ℕ) → stood ≤ 1 → ArePair k.mounted.volume.layout s t → (bytes : List ℕ) → StandWritten (open_damage old.windows) (stand old.image s bytes stood) k.mounted.slices k.mounted.volume.drafts
+  mended_written s t stood once pair bytes =
+      drafts_worn (open_damage old.windows) old.image (stand old.image s bytes stood) k.mounted.slices k.mounted.volume.drafts (λ p there.
+      let area = open_in_area k.mounted.volume stands.disk.spaced p (or_left (is_in k.mounted.volume.drafts p) (is_in k.mounted.volume.held p) there) in
+      let from = leb-true (data_start k.mounted.volume.layout) p (and_parts (nat_le (data_start k.mounted.volume.layout) p) (nat_lt p k.mounted.volume.layout.sectors) area).0 in
+      inl (stand_other old.image s bytes stood p (beside p s stood (pair_before s t p pair from) once))) stands.written
+
   stands_mended : AreShort old.windows → (s t : ℕ) → ArePair k.mounted.volume.layout s t → (left : Moment) → Mends s t old left → Stands state Holds v k left
   stands_mended short s t pair left mends =
       stands_written short (stand old.image s mends.bytes mends.part.stood) (copy_log s t pair mends.bytes mends.part.stood mends.part.within)
-      (mended_mounted short s t mends.part.stood mends.part.within pair left mends) left mends.part.holds
+      (mended_mounted short s t mends.part.stood mends.part.within pair left mends) (mended_written s t mends.part.stood mends.part.within pair mends.bytes) left mends.part.holds
 
   pub stands_healed : AreShort old.windows → (a b : ℕ) → ArePair k.mounted.volume.layout a b → ArePair k.mounted.volume.layout b a → (left : Moment) → Heals a b old left → Stands state Holds v k left
-  stands_healed short a b pair turned left (inl holds) = stands_written short old.image (λ p within. refl) stands.disk left holds
+  stands_healed short a b pair turned left (inl holds) = stands_written short old.image (λ p within. refl) stands.disk stands.written left holds
   stands_healed short a b pair turned left (inr (inl mends)) = stands_mended short a b pair left mends
   stands_healed short a b pair turned left (inr (inr mends)) = stands_mended short b a turned left mends
 
@@ -94,7 +115,7 @@ module _ (v : VolumeValue) (k : Known) (old : Moment) (stands : Stands state Hol
 
 module _ (v : VolumeValue) (k : Known) where
   stands_paged : (count : ℕ) → count ≤ k.mounted.volume.layout.pages → (old left : Moment) → AreShort old.windows → Stands state Holds v k old → HealsPages k.mounted.volume.layout count old left → Stands state Holds v k left
-  stands_paged zero le old left short stands holds = stands_written v k old stands short old.image (λ p within. refl) stands.disk left holds
+  stands_paged zero le old left short stands holds = stands_written v k old stands short old.image (λ p within. refl) stands.disk stands.written left holds
   stands_paged (suc page) le old left short stands (mid, before, here) =
       let lt : page < k.mounted.volume.layout.pages = omega (arith, le) in
       stands_healed v k mid (stands_paged page (omega (arith, le)) old mid short stands before)

@@ -32,7 +32,7 @@ use Rattle.volume_state.specs.State.{Holds, state}
 use Rattle.volume_state.specs.Volume.{VolumeValue}
 use Rattle.volume_state.proofs.RangeLaws.{all_below}
 use Rattle.table_volume.proofs.HealingLaws.{stands_written}
-use Rattle.table_volume.proofs.OpenLeaderLaws.{open_stands}
+use Rattle.table_volume.proofs.OpenLeaderLaws.{drafts_stand, open_stands}
 
 -- ---- the leader's place
 
@@ -86,6 +86,9 @@ module _ (v : VolumeValue) (k : Known) (old : Moment) (short : AreShort old.wind
       stands.disk.spaced has (first_there_of (sectors_of e.runs) (leader_inside e good)) is_led
       (data_differs k.mounted.volume.layout k.mounted.volume.entries stands.disk.described.apart (leader_place e) (λ planned. is_led)) stands.disk.open_ones)
       stands.disk)
+      (drafts_stand k.mounted (open_damage old.windows) old.image j (leader_place e)
+      (λ t differs. stand_other old.image (leader_place e) bytes writes.stood t (beside t (leader_place e) writes.stood differs writes.within))
+      stands.disk.spaced is_led stands.written)
       left writes.holds
 
 -- ---- what is written

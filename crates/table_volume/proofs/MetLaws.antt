@@ -1,6 +1,6 @@
 -- What is known of an entry that was met.
 use Rattle.std.proofs.Common.{◌≡◌, ◌^◌, ◌≤◌, Bool, true, false, cond, Option, None, Some, Ok, Err, refl}
-use Rattle.std.specs.Prelude.{IfOk, IfSome, IsTrue}
+use Rattle.std.specs.Prelude.{◌&&◌, IfOk, IfSome, IsTrue, not}
 use Rattle.std.specs.List.{list_all}
 use Rattle.std.proofs.lemmas.Bool.{and_parts}
 use Rattle.volume_layout.specs.Layout.{home_a}
@@ -10,9 +10,10 @@ use Rattle.fsd_bytes.specs.declared.refusal.Refusal.TheVariants as Why
 use Rattle.fsd_formats.specs.declared.entry.Entry.{Entry}
 use Rattle.fsd_formats.specs.NamePage.{is_entry}
 use Rattle.name_btree.specs.declared.lookup.FoundEntry.{FoundEntry}
-use Rattle.volume_contract.specs.Causes.{IsTaken}
+use Rattle.volume_contract.specs.Causes.{IsTaken, meets_held}
 use Rattle.volume_contract.specs.Ends.{found_one}
 use Rattle.volume_contract.specs.Healing.{IsMet}
+use Rattle.volume_contract.specs.State.{held_runs}
 use Rattle.volume_changes.specs.Meeting.{met_found}
 use Rattle.volume_state.specs.State.{state}
 use Rattle.volume_state.specs.Taken.{are_taken, is_taken}
@@ -25,9 +26,12 @@ module _ (v : VolumeValue) (most : v.layout.sectors ≤ 2 ^ 24) (told : (e : Ent
     entry = good;
     runs = taken_runs v e taken most good;
     within = taken_data v e taken;
-    differ = (and_parts (all_differ (sectors_of e.runs)) (list_all (is_taken v) (sectors_of e.runs)) taken).0;
+    differ = (and_parts (all_differ (sectors_of e.runs)) (list_all (is_taken v) (sectors_of e.runs)) apart).0;
     taken = told e taken;
   }
+    where
+      apart : all_differ (sectors_of e.runs) && list_all (is_taken v) (sectors_of e.runs) ≡ true
+      apart = (and_parts (all_differ (sectors_of e.runs) && list_all (is_taken v) (sectors_of e.runs)) (not (meets_held (held_runs v.shadow.held) e.runs)) taken).0
 
   -- what was found is met where it is told
   pub found_is_met : (found : Option FoundEntry) → IfSome found (λ f. is_entry f.entry ≡ true) → IfOk (met_found v found) (λ o. IfSome o (IsMet (state v)))

@@ -74,7 +74,8 @@ module _ (l : Layout) (log : LogValue) (v : VolumeValue) (a : IsAssembled l log 
     dirty = a.opened.dirty;
     waiting = where_same (waits (assembled l log (opened_of v)).shadow) (λ s. false) (data_start l) l.sectors (λ s from to. none_wait l s) ∙ nothing (data_start l) l.sectors;
     waits = ap (λ (xs : List ℕ). not (length xs == 0)) (none_of_area l);
-    held = refl;
+    unfinished = none_of_area l;
+    readers = refl;
     freed = ap runs_of freed;
     up = refl;
   }

@@ -20,6 +20,7 @@ use Rattle.fsd_files.specs.Waiting.{IsSpaced, are_same_or_apart, is_leader}
 use Rattle.fsd_files.proofs.CountLaws.{contains_occurs, differ_occurs, occurs, occurs-append, used, used-cons}
 use Rattle.fsd_files.proofs.KeptLaws.{behind_there, has_on}
 use Rattle.fsd_sound.specs.Mounted.{HasOpen, Mounted, Wrote}
+use Rattle.volume_contract.specs.State.{StandWritten}
 
 -- ---- sectors beside the one that is written
 
@@ -105,14 +106,9 @@ held_beside s e here beside held is = elim (or_cases (same_runs held e.runs) (no
 
 -- ---- both
 
-pub open_stands : (m : Mounted) (hurt : Sectors) (i j : Image) (e : Entry) (s : ℕ) → ((t : ℕ) → t ≢ s → sector_at j t ≡ sector_at i t)
-    → IsSpaced m.volume → Contains m.volume.entries e → IsTrue (contains (sectors_of e.runs) s) → IsTrue (is_leader m.volume.entries s) → AllByRecursion (λ e. IsBeside s e.runs) m.volume.entries → HasOpen hurt i m → HasOpen hurt j m
-open_stands m hurt i j e s same spaced has here leads beside stands = record {
-  drafts = drafts_same i j s same hurt m.slices m.volume.drafts (none_used s m.volume.drafts none) stands.drafts;
-  held = held_same i j s same hurt m.bytes m.volume.held
-      (all_more (λ r. IsTrue (list_all (λ x. are_same_or_apart r x.runs) m.volume.entries)) (IsBeside s) m.volume.held by_version
-      (all_pass (λ r. list_all (λ x. are_same_or_apart r x.runs) m.volume.entries) m.volume.held spaced.held)) stands.held;
-}
+-- no creation lies in a leader
+beside_drafts : (m : Mounted) (s : ℕ) → IsSpaced m.volume → IsTrue (is_leader m.volume.entries s) → AllByRecursion (IsBeside s) m.volume.drafts
+beside_drafts m s spaced leads = none_used s m.volume.drafts none
   where
     none : used s m.volume.drafts ≡ 0
     none =
@@ -120,6 +116,19 @@ open_stands m hurt i j e s same spaced has here leads beside stands = record {
         let once = differ_occurs (flat_map sectors_of (plans ++ m.volume.drafts)) (and_parts (all_differ (flat_map sectors_of (plans ++ m.volume.drafts))) _ spaced.apart).0 s in
         omega (arith, once, used_both s plans m.volume.drafts, used_led s m.volume.entries leads)
 
+pub drafts_stand : (m : Mounted) (weak : Sectors) (i j : Image) (s : ℕ) → ((t : ℕ) → t ≢ s → sector_at j t ≡ sector_at i t) → IsSpaced m.volume → IsTrue (is_leader m.volume.entries s)
+    → StandWritten weak i m.slices m.volume.drafts → StandWritten weak j m.slices m.volume.drafts
+drafts_stand m weak i j s same spaced leads written = drafts_same i j s same weak m.slices m.volume.drafts (beside_drafts m s spaced leads) written
+
+pub open_stands : (m : Mounted) (hurt : Sectors) (i j : Image) (e : Entry) (s : ℕ) → ((t : ℕ) → t ≢ s → sector_at j t ≡ sector_at i t)
+    → IsSpaced m.volume → Contains m.volume.entries e → IsTrue (contains (sectors_of e.runs) s) → IsTrue (is_leader m.volume.entries s) → AllByRecursion (λ e. IsBeside s e.runs) m.volume.entries → HasOpen hurt i m → HasOpen hurt j m
+open_stands m hurt i j e s same spaced has here leads beside stands = record {
+  drafts = drafts_stand m hurt i j s same spaced leads stands.drafts;
+  held = held_same i j s same hurt m.bytes m.volume.held
+      (all_more (λ r. IsTrue (list_all (λ x. are_same_or_apart r x.runs) m.volume.entries)) (IsBeside s) m.volume.held by_version
+      (all_pass (λ r. list_all (λ x. are_same_or_apart r x.runs) m.volume.entries) m.volume.held spaced.held)) stands.held;
+}
+  where
     own : IsBeside s e.runs
     own = All-contains (λ (x : Entry). IsBeside s x.runs) m.volume.entries e (All-from_recursion (λ (x : Entry). IsBeside s x.runs) m.volume.entries beside) has
 

@@ -42,7 +42,7 @@ use Rattle.mount_recover.specs.Recover.{IsFreshLog, IsSettledIn}
 use Rattle.mount_recover.specs.Replay.{IsReplayed}
 use Rattle.table_pages.specs.ImageLaws.{image_at as page_at, image_count}
 use Rattle.volume_contract.specs.Mount.{BreaksAt, Excuses, IsSoundAt, Mounts, Settled, SoundSince}
-use Rattle.volume_contract.specs.State.{Fits, Known, Stands}
+use Rattle.volume_contract.specs.State.{Fits, Known, Stands, none_open}
 use Rattle.cached_table.specs.HomeLaws.{in_homes}
 use Rattle.cached_table.specs.Homes.{KnowsHomes, home_by}
 use Rattle.table_volume.specs.Mounting.{IsAssembled, OpensKnown, fresh_mounted, opened_of}
@@ -197,12 +197,13 @@ module _ (sectors : ℕ) (l : Layout) (windows : List WeakRun) (h : List Change)
       }
 
       abbrev pub known_new : Known
-      known_new = record { mounted = mounted_new; windows = later; changes = take count h }
+      known_new = record { mounted = mounted_new; opened = none_open; windows = later; changes = take count h }
 
       pub settled_new : Settled l windows run h count known_new old new
       settled_new = record {
         settled = wears.windows ∙ done.after.settled;
         known = refl;
+        opened = refl;
         changes = refl;
         layout = refl;
         first = refl;
@@ -220,10 +221,12 @@ module _ (sectors : ℕ) (l : Layout) (windows : List WeakRun) (h : List Change)
           (subst (λ (x : Telling). Holds v (fresh_mounted l log pages x (after (take count h))) []) telling (fresh_holds l begun.planned log v a pages t (after (take count h)) as_many)) in
           record {
             fits = subst (λ (x : Telling). Fits (state v) (fresh_mounted l log pages x (after (take count h)))) telling (fresh_fits l begun.planned log v a pages t (after (take count h)) as_many);
+            opened = record { drafts = refl; slices = refl; places = ap (λ (x : VolumeValue). x.shadow.held) a.is; bytes = refl };
             holds = holds;
             lists = lists_of v mounted_new (records_by l new.image mounted_new.anchor) holds;
             ends = record { last = ends_later.last ∙ sym (ap (λ (w : Windows). w.present) wears.windows); some = subst (λ (w : Windows). IsSome w.present) (sym wears.windows) ends_later.some };
             disk = subst (λ (n : ℕ). IsMounted mounted_new later (take count h) n new.image) (let none : length (take count h) ≡ length (take count h) - 0 = omega arith in none) (mounted_fresh mounted_new later (take count h) new.image fresh_new);
+            written = tt;
           }
         where
           some_same : (x y : Telling) → Some x ≡ Some y → x ≡ y

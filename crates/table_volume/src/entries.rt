@@ -18,11 +18,12 @@ impl Volume {
         }
     }
 
-    // Whether the sectors of runs are of the data area, each named once, and neither free nor waiting.
+    // Whether the sectors of runs are of the data area, each named once, and neither free nor waiting, and each reader
+    // holds these very runs, or none of their sectors.
     fn are_taken(&self, runs: &Runs) -> bool
         ensures { result ≡ are_taken self.now runs.now }
     {
-        self.map.are_taken(runs) && self.shadow.are_idle(runs)
+        self.map.are_taken(runs) && self.shadow.are_idle(runs) && self.shadow.agrees(runs)
     }
 
     /// An entry that was met in a leaf, which is the table's only where its sectors are taken.

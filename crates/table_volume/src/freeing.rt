@@ -1,8 +1,8 @@
 //! What a force makes free.
-ghost use Rattle.std.specs.Prelude.{◌≡◌, ◌<◌, ◌||◌, ◌∷◌, [], ℕ, None, replicate, IsFalse, IsTrue, if◌then◌else◌};
+ghost use Rattle.std.specs.Prelude.{◌≡◌, ◌<◌, ◌||◌, ◌∷◌, [], ℕ, IsFalse, IsTrue, if◌then◌else◌};
 ghost use Rattle.run_table.specs.Space.{contains};
 ghost use Rattle.sector_set.specs.Area.{AreOut, IsOwn, area, together};
-ghost use Rattle.shadow_frees.specs.Readers.{unheld};
+ghost use Rattle.shadow_frees.specs.Readers.{unheld, with_held};
 ghost use Rattle.shadow_frees.specs.Waits.{run_between};
 ghost use Rattle.cached_table.specs.Entering.{AreIdleInTurn, with_gone};
 
@@ -33,7 +33,7 @@ pub(crate) fn free_committed(map: &mut Map, shadow: &mut Shadow)
     requires apart { (s : ℕ) → IsTrue (contains map.old.sectors s) → IsFalse (contains shadow.old.removed.sectors s) }
     ensures map { map.new ≡ area map.old.from map.old.to (λ s. contains map.old.sectors s || contains (unheld shadow.old.held shadow.old.removed).sectors s) }
     ensures removed { shadow.new.removed ≡ record { from = map.old.from; to = map.old.to; sectors = [] } }
-    ensures kept { shadow.old.held ≡ replicate 8 None → shadow.old.kept.sectors ≡ [] → shadow.new.kept ≡ shadow.old.kept }
+    ensures kept { shadow.new.kept ≡ with_held shadow.old.held shadow.old.kept shadow.old.removed }
     ensures unfinished { shadow.new.unfinished ≡ shadow.old.unfinished }
     ensures held { shadow.new.held ≡ shadow.old.held }
 {
@@ -42,10 +42,9 @@ pub(crate) fn free_committed(map: &mut Map, shadow: &mut Shadow)
     }
 }
 
-// The sectors of versions that go wait for a force, where no reader holds one.
+// The sectors of versions that go wait for a force.
 fn free_gone(shadow: &mut Shadow, gone: &[Leaving])
-    requires idle { AreIdleInTurn shadow.old gone.now }
-    requires unheld { shadow.old.held ≡ replicate 8 None }
+    requires { AreIdleInTurn shadow.old gone.now }
     ensures removed { shadow.new.removed ≡ with_gone shadow.old.removed gone.now }
     ensures kept { shadow.new.kept ≡ shadow.old.kept }
     ensures unfinished { shadow.new.unfinished ≡ shadow.old.unfinished }
@@ -58,8 +57,7 @@ fn free_gone(shadow: &mut Shadow, gone: &[Leaving])
 
 /// The sectors of versions that went wait for a force, if a page waits for one.
 pub(crate) fn free_gone_if(waits: bool, shadow: &mut Shadow, gone: &[Leaving])
-    requires idle { AreIdleInTurn shadow.old gone.now }
-    requires unheld { shadow.old.held ≡ replicate 8 None }
+    requires { AreIdleInTurn shadow.old gone.now }
     ensures removed { shadow.new.removed ≡ (if waits then with_gone shadow.old.removed gone.now else shadow.old.removed) }
     ensures kept { shadow.new.kept ≡ shadow.old.kept }
     ensures unfinished { shadow.new.unfinished ≡ shadow.old.unfinished }

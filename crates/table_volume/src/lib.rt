@@ -1,6 +1,7 @@
 //! A volume whose files stand in a name table of many pages, which are read through a cache.
 #![tactic(auto)]
 
+mod completing;
 mod counting;
 mod deleting;
 mod entries;
@@ -9,10 +10,12 @@ mod finding;
 mod forcing;
 mod freeing;
 mod healing;
+mod holding;
 mod keeping;
 mod making;
 mod mounting;
 mod next;
+mod pieces;
 mod placing;
 mod putting;
 mod reading;

@@ -19,8 +19,8 @@ use fsd_formats::Entry;
 use group_commit::Newest;
 use sector_disk::Machine;
 
-// So many versions once one has come and some have gone.
-fn versions_with_one(versions: u32, gone: usize) -> u32
+/// So many versions once one has come and some have gone.
+pub(crate) fn versions_with_one(versions: u32, gone: usize) -> u32
     requires { gone ≤ 2 }
     ensures { result ≡ min (versions - gone + 1) 4294967295 }
 {

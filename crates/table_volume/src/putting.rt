@@ -29,8 +29,8 @@ use version_data::write_version;
 // From here on no record and no serial is numbered by this mount.
 const FIRST_WORN: u32 = 4_294_967_280;
 
-// The key of a name's first version.
-fn first_key(name: &FileName) -> Key
+/// The key of a name's first version.
+pub(crate) fn first_key(name: &FileName) -> Key
     ensures { IsTrue (is_key result) }
 {
     let _ = name.as_bytes();
@@ -63,8 +63,8 @@ impl Volume {
         self.serial.count >= FIRST_WORN || self.log.next_number() >= FIRST_WORN
     }
 
-    // That a put of these sizes may begin.
-    fn may_put(&self, keep: Option<u32>, length: usize) -> Result<(), Refusal>
+    /// That a put of these sizes may begin.
+    pub(crate) fn may_put(&self, keep: Option<u32>, length: usize) -> Result<(), Refusal>
         ensures { Follows (test_steps (state self.now) keep length) result }
     {
         self.is_up()?;
@@ -93,8 +93,8 @@ impl Volume {
         }
     }
 
-    // The next serial is drawn.
-    fn draw(&mut self)
+    /// The next serial is drawn.
+    pub(crate) fn draw(&mut self)
         requires { self.old.serial.count + 1 < 2 ^ 32 }
         ensures { self.new ≡ drawn_volume self.old }
     {

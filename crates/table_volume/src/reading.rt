@@ -22,6 +22,7 @@ ghost use Rattle.volume_contract.specs.Found.{HasEntry, HasRange};
 ghost use Rattle.volume_contract.specs.Order.{Follows, IsData, entry_steps, is_idle, read_steps};
 ghost use Rattle.volume_contract.specs.State.{Known, Stands, volume_of};
 ghost use Rattle.volume_state.specs.State.{Holds, resident, state};
+ghost use Rattle.volume_state.specs.Taken.{are_taken};
 
 use crate::Volume;
 use fsd_bytes::{Key, Refusal};
@@ -30,8 +31,8 @@ use sector_disk::Machine;
 use version_data::read_range;
 
 impl Volume {
-    // The entry of a version, whose sectors are of the data.
-    fn version<M: Machine>(&mut self, m: &mut M, key: &Key) -> Result<Entry, Refusal>
+    /// The entry of a version, whose sectors are taken.
+    pub(crate) fn version<M: Machine>(&mut self, m: &mut M, key: &Key) -> Result<Entry, Refusal>
         requires { (state self.old).layout.sectors ≤ (M.report m.old).sectors }
         ensures order { Follows (entry_steps (state self.old)) result }
         ensures disk { OnlyReads M.Machine (device_in device_of result) m.old m.new }
@@ -45,6 +46,7 @@ impl Volume {
         ensures absent { result ≡ Err Why.NoSuch → ShowsReached M.Machine (resident self.old) (state self.old) (state self.new) m.old m.new (LacksKey key.now) }
         ensures key { IfOk result (λ e. e.key ≡ key.now) }
         ensures taken { IfOk result (IsTaken (state self.new)) }
+        ensures here { IfOk result (λ e. IsTrue (are_taken self.new e.runs)) }
         ensures found { IfOk result (λ e. ShowsReached M.Machine (resident self.old) (state self.old) (state self.new) m.old m.new (HasEntry e)) }
         ensures done { M.honest m.new → (k : Known) → Stands state Holds self.old k (M.now m.old) → Looks (entry_reply (volume_of k) key.now) (found_one result) }
     {
@@ -85,8 +87,13 @@ impl Volume {
     }
 }
 
-// Reads bytes of a version from a place on, as many as there are and the buffer has room for, and answers how many.
-fn read_version<M: Machine>(m: &mut M, e: &Entry, from: u32, buf: &mut [u8]) -> Result<u32, Refusal>
+/// Reads bytes of a version from a place on, as many as there are and the buffer has room for, and answers how many.
+pub(crate) fn read_version<M: Machine>(
+    m: &mut M,
+    e: &Entry,
+    from: u32,
+    buf: &mut [u8],
+) -> Result<u32, Refusal>
     requires good { is_entry e.now ≡ true }
     requires runs { All (λ r. r.start + r.length ≤ 2 ^ 32) e.now.runs }
     requires within { All (λ s. s < (M.report m.old).sectors) (sectors_of e.now.runs) }

@@ -27,7 +27,7 @@ holds_then f old mid new a monotone first second = record {
 pub monotone_lay : (first : ℕ) (sector : ℕ → Sector) (k : ℕ) → Monotone (λ image. lay image first sector k)
 monotone_lay first sector k = record { worn = λ may a b worn. lay_worn may a b first sector k worn }
 
-monotone_stand : (first : ℕ) (bytes : List ℕ) (n : ℕ) → Monotone (λ image. stand image first bytes n)
+pub monotone_stand : (first : ℕ) (bytes : List ℕ) (n : ℕ) → Monotone (λ image. stand image first bytes n)
 monotone_stand first bytes n = record { worn = λ may a b worn. stand_worn may a b first bytes n worn }
 
 -- ---- slices

@@ -4,3 +4,4 @@ pub mod RangeLaws
 pub mod VersionLaws
 pub mod WritingLaws
 pub mod SingleLaws
+pub mod SliceLaws

@@ -134,7 +134,7 @@ first_taken i j (suc n) [] k s lt in_ys is damaged before = absurd (omega arith)
 first_taken i j (suc n) (y ∷ ys) zero s lt in_ys is damaged before = inl (is, damaged)
 first_taken i j (suc n) (y ∷ ys) (suc k) s lt in_ys is damaged before = inr (before 0 (omega arith), first_taken i j n ys k s (omega arith) (omega arith) is damaged (λ h low. before (suc h) (omega arith)))
 
-place_in_range : (runs : List Run) (first j : ℕ) → slice_index_or (drop first (data_sectors runs)) j 0 ≡ slice_place runs (first + j)
+pub place_in_range : (runs : List Run) (first j : ℕ) → slice_index_or (drop first (data_sectors runs)) j 0 ≡ slice_place runs (first + j)
 place_in_range runs first j = get_or-drop first (data_sectors runs) j 0 ∙ data_place runs (first + j)
 
 range_whole : (i : Image) (runs : List Run) (from n : ℕ) → WholeTo i runs from (from + n) → AllByRecursion (IsWhole i) (range_sectors runs from n)

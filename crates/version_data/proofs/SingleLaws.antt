@@ -1,21 +1,21 @@
 -- One sector of a version, read and written.
-use Rattle.std.proofs.Common.{◌≡◌, true, inl, inr, ℕ, zero, suc, ◌+◌, ◌-◌, ◌<◌, ◌≤◌, ◌/◌, List, [], ◌∷◌, length, drop, Option, Some, None, refl, sym, ap, ◌∙◌, subst, arith}
+use Rattle.std.proofs.Common.{◌≡◌, true, inl, inr, ℕ, suc, ◌+◌, ◌-◌, ◌<◌, ◌≤◌, List, [], ◌∷◌, length, drop, Option, Some, None, refl, sym, ap, ◌∙◌, subst, arith}
 use Rattle.std.proofs.lemmas.List.{take_all}
-use Rattle.std.specs.Prelude.{IsTrue, IfSome, IsSome, slice_get, slice_index_or}
+use Rattle.std.specs.Prelude.{IfSome, slice_get}
 use Rattle.fsd_formats.specs.declared.entry.Entry.{Entry}
 use Rattle.fsd_formats.specs.Leader.{leader_bytes, leader_of}
 use Rattle.fsd_formats.specs.NamePage.{is_entry}
 use Rattle.run_table.specs.RunTable.{sectors_of}
-use Rattle.sector_disk.specs.declared.sector.Sector.TheVariants.{Whole, Damaged}
+use Rattle.sector_disk.specs.declared.sector.Sector.TheVariants.{Whole}
 use Rattle.sector_disk.specs.Calls.{as_sector}
-use Rattle.sector_disk.specs.Image.{IsWorn, open_damage, sector_at, slice_of, stand, Windows}
+use Rattle.sector_disk.specs.Image.{open_damage, sector_at, slice_of, stand, Windows}
 use Rattle.sector_disk.specs.Machine.{Holds, Moment, Tears, Wears}
-use Rattle.sector_disk.proofs.Holding.{holds_tears, holds_now, holds_wears}
-use Rattle.sector_disk.proofs.Wear.{stand_in, worn_damaged, worn_whole}
+use Rattle.sector_disk.proofs.Holding.{holds_tears}
+use Rattle.sector_disk.proofs.Wear.{stand_in, worn_whole}
 use Rattle.fsd_files.specs.Answers.{HasLeader}
-use Rattle.fsd_files.specs.Disk.{Has, Image}
+use Rattle.fsd_files.specs.Disk.{Has}
 use Rattle.fsd_files.specs.Kept.{IsWhole, data_sectors}
-use Rattle.fsd_files.specs.Scrub.{NeedsLeader, ReadsDamaged, StandsLed, leader_place, slice_place}
+use Rattle.fsd_files.specs.Scrub.{NeedsLeader, StandsLed, leader_place, slice_place}
 use Rattle.version_data.specs.Single.{WritesLeader}
 use Rattle.version_data.proofs.PlaceLaws.{entry_count, entry_length, index_is}
 

@@ -31,7 +31,7 @@ holds_run old mid new e bytes leader before r lies is so_far next =
     let laid = lay_behind old.image (place_of e) content before r.start r.length (λ j lt. index_is (sectors_of e.runs) (before + j) (r.start + j) (lies.each j lt)) in
     subst (λ (i : Image). Holds old i new) laid more
 
-zip_from : (weak : Sectors) (i : Image) (bytes : List ℕ) (k n : ℕ) (ys : List ℕ) → length ys ≡ n → ((h : ℕ) → h < n → Has weak i (slice_of bytes (k + h)) (slice_index_or ys h 0)) → AllZip (Has weak i) (slices_from k n bytes) ys
+pub zip_from : (weak : Sectors) (i : Image) (bytes : List ℕ) (k n : ℕ) (ys : List ℕ) → length ys ≡ n → ((h : ℕ) → h < n → Has weak i (slice_of bytes (k + h)) (slice_index_or ys h 0)) → AllZip (Has weak i) (slices_from k n bytes) ys
 zip_from weak i bytes k zero [] size each = tt
 zip_from weak i bytes k zero (y ∷ ys) size each = absurd (omega arith)
 zip_from weak i bytes k (suc n) [] size each = absurd (omega arith)
@@ -41,7 +41,7 @@ zip_from weak i bytes k (suc n) (y ∷ ys) size each =
       zip_from weak i bytes (k + 1) n ys (omega arith) (λ h lt. let next : k + suc h ≡ k + 1 + h = omega arith in subst (λ (m : ℕ). Has weak i (slice_of bytes m) (slice_index_or ys h 0)) next (each (suc h) (omega arith))),
     )
 
-at_first : (P : ℕ → Type 0) (xs : List ℕ) → P (slice_index_or xs 0 0) → IfSome (slice_get xs 0) P
+pub at_first : (P : ℕ → Type 0) (xs : List ℕ) → P (slice_index_or xs 0 0) → IfSome (slice_get xs 0) P
 at_first P [] p = tt
 at_first P (x ∷ xs) p = p
 

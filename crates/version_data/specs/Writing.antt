@@ -1,10 +1,12 @@
 -- The sectors of a version as they are written.
-use Rattle.std.specs.Prelude.{◌≡◌, ℕ, zero, suc, List, slice_index_or}
+use Rattle.std.specs.Prelude.{◌≡◌, ℕ, zero, suc, ◌+◌, ◌-◌, List, take, drop, slice_index_or}
+use Rattle.run_table.specs.declared.run.Run.{Run}
 use Rattle.run_table.specs.RunTable.{sectors_of}
 use Rattle.fsd_formats.specs.declared.entry.Entry.{Entry}
 use Rattle.fsd_formats.specs.Leader.{leader_of, leader_bytes}
 use Rattle.fsd_files.specs.Disk.{Image, Sectors, Touches}
-use Rattle.fsd_files.specs.Kept.{slice_of}
+use Rattle.fsd_formats.specs.NamePage.{sectors_for}
+use Rattle.fsd_files.specs.Kept.{data_sectors, slice_of}
 use Rattle.sector_disk.specs.Image.{with_sector}
 use Rattle.sector_disk.specs.Machine.{Moment}
 
@@ -27,6 +29,14 @@ part_of leader bytes (suc k) = slice_of bytes k
 abbrev pub lay_at : Image → (place : ℕ → ℕ) → (bytes : ℕ → List ℕ) → ℕ → Image
 lay_at image place bytes zero = image
 lay_at image place bytes (suc k) = with_sector (lay_at image place bytes k) (place k) (bytes k)
+
+-- the data sectors of the slices that so many bytes are, from one of the version's slices on
+abbrev pub slices_at : List Run → (first len : ℕ) → List ℕ
+slices_at runs first len = take (sectors_for len - 1) (drop first (data_sectors runs))
+
+-- the image with so many of these slices
+abbrev pub with_slices : Image → List Run → (first : ℕ) → List ℕ → ℕ → Image
+with_slices image runs first bytes count = lay_at image (λ k. slice_index_or (sectors_of runs) (first + k + 1) 0) (slice_of bytes) count
 
 -- where a sector of the entry's lies, by its number
 abbrev pub place_of : Entry → ℕ → ℕ

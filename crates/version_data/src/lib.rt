@@ -4,9 +4,11 @@
 mod fault;
 mod reading;
 mod single;
+mod slices;
 mod writing;
 
 pub use fault::DataFault;
 pub use reading::read_range;
 pub use single::{heal_leader, read_slice};
+pub use slices::{write_leader, write_slices};
 pub use writing::write_version;

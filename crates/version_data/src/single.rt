@@ -1,5 +1,5 @@
 //! One sector of a version: its leader, or one of its data.
-ghost use Rattle.std.specs.Prelude.{◌≡◌, ◌↔◌, Some, ◌+◌, ◌^◌, ◌<◌, ◌≤◌, All, length, true, IfOk, OnErr, OnOk};
+ghost use Rattle.std.specs.Prelude.{◌≡◌, ◌↔◌, Some, ◌+◌, ◌^◌, ◌<◌, ◌≤◌, All, length, true, IfErr, IfOk, OnErr, OnOk};
 ghost use Rattle.run_table.specs.RunTable.{sectors_of};
 ghost use Rattle.fsd_formats.specs.NamePage.{is_entry};
 ghost use Rattle.fsd_files.specs.Answers.{HasLeader};
@@ -56,12 +56,14 @@ pub fn heal_leader<M: Machine>(m: &mut M, entry: &Entry) -> Result<bool, Failed>
     Ok(true)
 }
 
-// Writes one sector.
-fn write_one<M: Machine>(m: &mut M, place: u32, b: &[u8; 512]) -> Result<(), Failed>
+/// Writes one sector.
+pub(crate) fn write_one<M: Machine>(m: &mut M, place: u32, b: &[u8; 512]) -> Result<(), Failed>
     requires { place < (M.report m.old).sectors }
 
     ensures writes { WritesDisk M.Machine (device_in failed_at result) (Tears place b.now) m.old m.new }
+    ensures place { IfErr result (λ failed. failed.place ≡ place) }
     ensures counted { OnOk result (M.tells m.new → M.ledger m.new ≡ wrote (M.ledger m.old) 1) }
+    ensures counted_err { OnErr result (M.tells m.new → M.ledger m.new ≡ M.ledger m.old) }
     ensures long { length b.now ≡ 512 }
     ensures done { OnOk result (M.honest m.new → Holds (M.now m.old) (stand (M.now m.old).image place b.now 1) (M.now m.new)) }
 {

@@ -100,8 +100,8 @@ fn part_at(leader: &[u8; 512], bytes: &[u8], k: u32) -> [u8; 512]
     }
 }
 
-// A slice of the bytes, filled up with zeros.
-fn slice_at(bytes: &[u8], k: u32) -> [u8; 512]
+/// A slice of the bytes, filled up with zeros.
+pub(crate) fn slice_at(bytes: &[u8], k: u32) -> [u8; 512]
     ensures { result ≡ slice_of_version bytes.now k }
 {
     let mut b = [0; 512];

@@ -150,13 +150,15 @@ module _ (s : State) (tests : List (Option Refusal)) (through : Through (tests_o
       change_goes (Ok x) edited = record {
         layout = ap (λ (y : State). y.layout) edited.is ∙ forces.state.layout;
         epoch = ap (λ (y : State). y.serial.epoch) edited.is ∙ forces.state.epoch;
-        held = ap (λ (y : State). y.held) edited.is ∙ forces.state.held;
+        readers = ap (λ (y : State). y.readers) edited.is ∙ forces.state.readers;
+        unfinished = ap (λ (y : State). y.unfinished) edited.is ∙ forces.state.unfinished;
         down = inl (ap (λ (y : State). y.down) edited.is ∙ still_down);
       }
       change_goes (Err why) same = record {
         layout = ap (λ (y : State). y.layout) same ∙ forces.state.layout;
         epoch = ap (λ (y : State). y.serial.epoch) same ∙ forces.state.epoch;
-        held = ap (λ (y : State). y.held) same ∙ forces.state.held;
+        readers = ap (λ (y : State). y.readers) same ∙ forces.state.readers;
+        unfinished = ap (λ (y : State). y.unfinished) same ∙ forces.state.unfinished;
         down = inl (ap (λ (y : State). y.down) same ∙ still_down);
       }
 
@@ -221,6 +223,7 @@ unchanged k u now p = record {
     | inl same ↦ inl (inl same)
     | inr went ↦ inr (inl went)
   ];
+  opened = p.opened;
   windows = p.windows;
   changes = p.changes;
 }
@@ -237,6 +240,7 @@ module _ {T : Type 0} (outcome : Volume → Met → Outcome) (says : T → Reply
       met = record a.1.met { forces = forces_by_itself k.mounted };
       forces = refl;
       is = sym (same a.1.met (forces_by_itself k.mounted) (volume_of p.after) (a.1.forces ∙ none_more) p.volume) ∙ a.1.is;
+      opened = a.1.opened ∙ p.opened;
       windows = a.1.windows ∙ p.windows;
       changes = a.1.changes ∙ ap (λ (h : List Change). h ++ made) p.changes;
     },

@@ -54,6 +54,7 @@ answered_none outcome k u now few is there = (
     met = record { forces = false; reached = 0; damaged = None; found = []; healed = 0 };
     forces = sym (le-ltb 56 (length k.mounted.dirty) (omega (arith, few)));
     is = is;
+    opened = refl;
     windows = refl;
     changes = sym (append-nil k.changes);
   },

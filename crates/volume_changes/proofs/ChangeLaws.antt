@@ -5,6 +5,7 @@ use Rattle.std.specs.List.{AllZip}
 use Rattle.volume_layout.specs.declared.layout.Layout.{Layout}
 use Rattle.run_table.specs.declared.run.Run.{Run}
 use Rattle.run_table.specs.Space.{contains}
+use Rattle.sector_disk.specs.Image.{open_damage}
 use Rattle.sector_disk.specs.Machine.{Moment}
 use Rattle.fsd_table.specs.Table.{Telling, told_in}
 use Rattle.fsd_table.specs.Tree.{pages_of, table_of}
@@ -19,12 +20,12 @@ use Rattle.fsd_sound.specs.Shown.{records_by}
 use Rattle.fsd_sound.proofs.MountedLaws.{change_mounted}
 use Rattle.log_thirds.specs.Append.{IsIndexed}
 use Rattle.log_thirds.specs.LogValue.{FitsLayout, LogValue}
-use Rattle.volume_contract.specs.State.{Fits, Known, Stands, forced_of, volume_of}
+use Rattle.volume_contract.specs.State.{Fits, HasOpened, Known, StandWritten, Stands, forced_of, volume_of}
 use Rattle.volume_changes.specs.Changing.{HasSpace, IsAfter, IsSameVolume, MakesPages, known_after}
-use Rattle.volume_state.specs.State.{Holds, held_runs, state}
+use Rattle.volume_state.specs.State.{Holds, state}
 use Rattle.volume_state.specs.Volume.{IsWhole, VolumeValue}
 use Rattle.volume_state.proofs.FlagLaws.{free_flags, reached_is}
-use Rattle.volume_state.proofs.SpaceLaws.{same_free, same_freed, same_held, same_waiting, same_waits}
+use Rattle.volume_state.proofs.SpaceLaws.{same_free, same_freed, same_unfinished, same_waiting, same_waits}
 use Rattle.volume_state.proofs.TableLaws.{as_many}
 use Rattle.volume_state.proofs.ListLaws.{lists_of}
 
@@ -35,12 +36,6 @@ module _ (v w : VolumeValue) (k : Known) (now : Moment) (c : Change) (volume : V
   module _ (same : IsSameVolume v w) (changed : IsAfter c (in_runs k.windows) now.image (volume_of k) volume) (makes : MakesPages v.cache w.cache w.free_pages k.mounted.pages pages height) (entries : table_of pages height ≡ volume.entries) (reached : volume.reached ≡ length (pages_of pages height)) (space : HasSpace w volume) where
     same_layout : volume.layout ≡ w.layout
     same_layout = changed.changes.layout ∙ stands.fits.layout ∙ sym same.layout
-
-    none_held : volume.held ≡ []
-    none_held = changed.held ∙ stands.fits.held ∙ ap held_runs was.unread.held
-
-    none_drafted : volume.drafts ≡ []
-    none_drafted = changed.drafts ∙ stands.holds.drafts
 
     -- ---- the pages
 
@@ -69,14 +64,24 @@ module _ (v w : VolumeValue) (k : Known) (now : Moment) (c : Change) (volume : V
       anchor = stands.fits.anchor ∙ ap (λ (log : LogValue). log.anchor) (sym same.log);
       head = stands.fits.head ∙ ap (λ (log : LogValue). log.head) (sym same.log);
       dirty = refl;
-      free = same_free w volume whole same_layout space.map space.removed none_held none_drafted changed.changes.spaced;
-      freed = same_freed w volume whole same_layout space.map space.removed none_held none_drafted changed.changes.spaced;
-      waiting = same_waiting w volume whole same_layout space.map space.removed none_held none_drafted changed.changes.spaced;
-      waits = same_waits w volume whole same_layout space.map space.removed none_held none_drafted changed.changes.spaced;
-      held = same_held w volume whole same_layout space.map space.removed none_held none_drafted changed.changes.spaced;
+      free = same_free w volume whole same_layout space.map space.removed space.kept space.unfinished space.held changed.changes.spaced;
+      freed = same_freed w volume whole same_layout space.map space.removed space.kept space.unfinished space.held changed.changes.spaced;
+      waiting = same_waiting w volume whole same_layout space.map space.removed space.kept space.unfinished space.held changed.changes.spaced;
+      waits = same_waits w volume whole same_layout space.map space.removed space.kept space.unfinished space.held changed.changes.spaced;
+      held = space.held;
+      unfinished = same_unfinished w volume whole same_layout space.map space.removed space.kept space.unfinished space.held changed.changes.spaced;
       pages_free = pages_free;
       versions = space.versions;
       up = same.down ∙ stands.fits.up;
+    }
+
+    -- what is open stays
+    opened : HasOpened (state w) k.opened next.mounted
+    opened = record {
+      drafts = changed.drafts ∙ stands.opened.drafts;
+      slices = stands.opened.slices;
+      places = same.readers ∙ stands.opened.places;
+      bytes = stands.opened.bytes;
     }
 
     holds : Holds w next.mounted (records_by volume.layout now.image k.mounted.anchor)
@@ -86,14 +91,13 @@ module _ (v w : VolumeValue) (k : Known) (now : Moment) (c : Change) (volume : V
       inside = λ page bytes there. omega (arith, makes.inside page bytes there, whole.pages);
       map = space.map;
       removed = space.removed;
+      kept = space.kept;
+      unfinished = space.unfinished;
       free_pages = λ page lt. makes.free page (omega (arith, lt, whole.pages, size)) ∙ ap not (sym (reached_is pages height page makes.tree));
       log = whole.log;
       fits = subst FitsLayout (sym same.log) stands.holds.fits;
       indexed = subst (λ (log : LogValue). IsIndexed log (records_by volume.layout now.image k.mounted.anchor)) (sym same.log)
           (subst (λ (l : Layout). IsIndexed v.log (records_by l now.image k.mounted.anchor)) (sym changed.changes.layout) stands.holds.indexed);
-      drafts = none_drafted;
-      slices = stands.holds.slices;
-      bytes = stands.holds.bytes;
     }
 
     -- ---- the disk
@@ -123,9 +127,11 @@ module _ (v w : VolumeValue) (k : Known) (now : Moment) (c : Change) (volume : V
     pub stands_changed : Stands state Holds w next now
     stands_changed = record {
       fits = fits;
+      opened = opened;
       holds = holds;
       lists = lists_of w next.mounted (records_by volume.layout now.image k.mounted.anchor) holds;
       ends = stands.ends;
       disk = subst (λ (f : ℕ). IsMounted next.mounted k.windows (k.changes ++ c ∷ []) f now.image) (sym as_forced)
           (change_mounted k.mounted next.mounted k.windows k.changes (forced_of k) now.image c stands.disk changes_to);
+      written = subst (λ (plans : List (List Run)). StandWritten (open_damage now.windows) now.image k.mounted.slices plans) (sym changed.drafts) stands.written;
     }

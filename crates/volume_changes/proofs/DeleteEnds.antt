@@ -96,10 +96,11 @@ module _ {D : Type 0} (M : MachineGhosts D) (short : (m : D) → M.honest m → 
           met = record { forces = false; reached = reached; damaged = None; found = []; healed = 0 };
           forces = sym (le-ltb 56 (length k.mounted.dirty) (omega (arith, room, ap (λ (d : List ℕ). length d) stands.fits.dirty)));
           is = ap (deleted (volume_of k) key reached) there;
+          opened = refl;
           windows = refl;
           changes = refl;
         },
-        stands_deleted M short m m' v whole cached c flags edits honest k stands few within key e there makes w n some.2 some.1.removed whole_left,
+        stands_deleted M short m m' v whole cached c flags edits honest k stands few within key e there makes w n some.2 some.1.removed some.1.kept some.1.unfinished some.1.held whole_left,
       )
     ]
 

@@ -20,13 +20,13 @@ use Rattle.fsd_files.proofs.ListingLaws.{lists_length}
 use Rattle.page_cache.specs.Cache.{CacheValue, IsCache, is_one_of}
 use Rattle.fsd_sound.specs.Mounted.{most_changed}
 use Rattle.group_commit.specs.contracts.newest.NewestPageSource.TheImpl as by_log
-use Rattle.volume_contract.specs.State.{Known, Stands, volume_of}
+use Rattle.volume_contract.specs.State.{Known, Stands, held_runs, volume_of}
 use Rattle.volume_changes.specs.Changing.{known_after}
 use Rattle.cached_table.specs.Editing.{EditsOnly, EditsTable}
-use Rattle.volume_state.specs.State.{Holds, held_runs, state}
+use Rattle.volume_state.specs.State.{Holds, state}
 use Rattle.volume_state.specs.Volume.{IsWhole, VolumeValue}
 use Rattle.volume_changes.proofs.ChangeLaws.{stands_changed}
-use Rattle.volume_changes.proofs.GoneLaws.{after_deleted, deleted_free, deleted_waits, one_at}
+use Rattle.volume_changes.proofs.GoneLaws.{after_deleted, deleted_free, deleted_kept, deleted_waits, one_at}
 use Rattle.volume_changes.proofs.MadeLaws.{has_table, pages_made, pages_now, worn}
 use Rattle.volume_state.proofs.TableLaws.{is_tree}
 
@@ -68,7 +68,7 @@ module _ {D : Type 0} (M : MachineGhosts D) (short : (m : D) → M.honest m → 
   pub one_less : length volume_left.files + 1 ≡ v.versions
   one_less =
       let now = worn M short m m' v whole cached c flags None edits honest k stands in
-      let after = after_deleted (in_runs k.windows) (M.now m').image (volume_of k) reached_left e now.disk.spaced now.holds.drafts now.disk.described key there in
+      let after = after_deleted (in_runs k.windows) (M.now m').image (volume_of k) reached_left e now.disk.spaced now.disk.described key there in
       let parts = split_count (λ x. list_any (same_key x.key) (key ∷ [])) (volume_of k).entries in
       omega (
         arith,
@@ -79,7 +79,8 @@ module _ {D : Type 0} (M : MachineGhosts D) (short : (m : D) → M.honest m → 
         stands.fits.versions,
       )
 
-  module _ (waits : Waits) (versions : ℕ) (fewer : versions + 1 ≡ v.versions) (goes : waits.removed ≡ together v.shadow.removed e.runs) where
+  module _ (waits : Waits) (versions : ℕ) (fewer : versions + 1 ≡ v.versions) (goes : waits.removed ≡ together v.shadow.removed e.runs)
+      (kept : waits.kept ≡ v.shadow.kept) (unfinished : waits.unfinished ≡ v.shadow.unfinished) (held : waits.held ≡ v.shadow.held) where
     abbrev left : VolumeValue
     left = record v { shadow = waits; cache = c; free_pages = flags; versions = versions }
 
@@ -88,14 +89,16 @@ module _ {D : Type 0} (M : MachineGhosts D) (short : (m : D) → M.honest m → 
     stands_deleted left_whole =
         let now = worn M short m m' v whole cached c flags None edits honest k stands in
         let made = pages_made M short m m' v whole cached c flags None edits honest k stands few within (entries_without (key ∷ [])) makes in
-        let held = stands.fits.held ∙ ap held_runs whole.unread.held in
         stands_changed v left k (M.now m') (Change.Delete key) volume_left pages_left _ whole left_whole now
-        (record { layout = refl; log = refl; down = refl })
-        (after_deleted (in_runs k.windows) (M.now m').image (volume_of k) reached_left e now.disk.spaced now.holds.drafts now.disk.described key there)
+        (record { layout = refl; log = refl; readers = held; down = refl })
+        (after_deleted (in_runs k.windows) (M.now m').image (volume_of k) reached_left e now.disk.spaced now.disk.described key there)
         made.0 made.1 refl
         (record {
-          map = λ s. now.holds.map s ∙ sym (deleted_free (volume_of k) key reached_left e now.disk.spaced held now.holds.drafts s);
-          removed = λ s. ap (λ (a : Area). contains a.sectors s) goes ∙ deleted_waits (volume_of k) key reached_left e now.disk.spaced held now.holds.drafts v.layout v.shadow.removed now.fits.layout whole.removed alone now.holds.removed s;
+          map = λ s. now.holds.map s ∙ sym (deleted_free (volume_of k) key reached_left e now.disk.spaced s);
+          removed = λ s. ap (λ (a : Area). contains a.sectors s) goes ∙ deleted_waits (volume_of k) key reached_left e now.disk.spaced v.layout v.shadow.removed now.fits.layout whole.removed alone now.holds.removed s;
+          kept = λ s. ap (λ (a : Area). contains a.sectors s) kept ∙ now.holds.kept s ∙ sym (deleted_kept (volume_of k) key reached_left e now.disk.spaced s);
+          unfinished = λ s. ap (λ (a : Area). contains a.sectors s) unfinished ∙ now.holds.unfinished s;
+          held = now.fits.held ∙ ap held_runs (sym held);
           serial = now.fits.serial;
           versions = omega (arith, one_less, fewer);
         })

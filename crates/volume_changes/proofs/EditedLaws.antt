@@ -27,7 +27,7 @@ use Rattle.cached_table.specs.Editing.{EditsOnly, StaysIn}
 use Rattle.volume_changes.specs.Ending.{Edits, GivesUp, IsEdited, edit_refusal, edit_steps, kept_told, look_steps, version_refusal}
 use Rattle.run_table.specs.declared.run.Run.{Run}
 use Rattle.shadow_frees.specs.Waits.{Waits}
-use Rattle.volume_state.specs.State.{held_runs, resident, state}
+use Rattle.volume_state.specs.State.{resident, state}
 use Rattle.volume_state.specs.Volume.{IsWhole, VolumeValue}
 use Rattle.volume_changes.proofs.CauseLaws.{cause_of, causes_by}
 use Rattle.volume_changes.proofs.EntryLaws.{copies_told}
@@ -158,12 +158,16 @@ module _ (v w : VolumeValue) (is : v ≡ w) (c : CacheValue) (flags : List Bool)
 module _ (v w : VolumeValue) (is : v ≡ w) (c : CacheValue) (flags : List Bool) where
   pub out_edited : (dirty : List ℕ) (runs : List Run) (wait : Waits) (n : ℕ) → GivesUp dirty runs v.shadow v.versions wait n → IsEdited (state w) (state (record v { shadow = wait; cache = c; free_pages = flags; versions = n }))
   out_edited dirty runs wait n gives =
+      let unfinished : wait.unfinished ≡ v.shadow.unfinished = elim gives [
+        | inl none ↦ ap (λ (x : Waits). x.unfinished) none.1
+        | inr some ↦ some.1.unfinished
+      ] in
       let held : wait.held ≡ v.shadow.held = elim gives [
         | inl none ↦ ap (λ (x : Waits). x.held) none.1
         | inr some ↦ some.1.held
       ] in
       let left : State = state (record v { shadow = wait; cache = c; free_pages = flags; versions = n }) in
-      subst (λ (x : VolumeValue). IsEdited (state x) left) is (record { is = λ i. record left { held = held_runs (held i) } })
+      subst (λ (x : VolumeValue). IsEdited (state x) left) is (record { is = λ i. record left { readers = held i; unfinished = (unfinished i).sectors } })
 
   module _ {D : Type 0} (M : MachineGhosts D) (m m' : D) (log : LogValue) (f : TreeFault) {T : Type 0} (r : Result T Refusal) (told : r ≡ Err (edit_refusal f)) where
     pub out_follows : Follows edit_steps r

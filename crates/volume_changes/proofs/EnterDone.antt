@@ -157,7 +157,8 @@ module _ {D : Type 0} (M : MachineGhosts D) (short : (m : D) → M.honest m → 
       )
 
   module _ (free : Area) (shadow : Waits) (versions : ℕ) (counts : versions ≡ min (v.versions - length plan.gone.items + 1) 4294967295) (taken : free ≡ without v.map draft.runs)
-      (none : Bool) (is_none : none ≡ (length c.dirty == 0)) (removed : shadow.removed ≡ with_if (not none) v.shadow.removed plan.gone.items) where
+      (none : Bool) (is_none : none ≡ (length c.dirty == 0)) (removed : shadow.removed ≡ with_if (not none) v.shadow.removed plan.gone.items)
+      (kept : shadow.kept ≡ v.shadow.kept) (unfinished : shadow.unfinished ≡ v.shadow.unfinished) (held : shadow.held ≡ v.shadow.held) where
     goes : shadow.removed ≡ with_gone v.shadow.removed plan.gone.items
     goes = removed ∙ ap (λ (b : Bool). with_if b v.shadow.removed plan.gone.items) (some_wait none c.dirty not_dry is_none)
 
@@ -170,10 +171,11 @@ module _ {D : Type 0} (M : MachineGhosts D) (short : (m : D) → M.honest m → 
       key_is = key_here;
       reached = (volume_of known).reached;
       volume = refl;
+      opened = refl;
       windows = refl;
       changes = refl;
       stands = stands_entered M short m m' v whole cached c flags edits_here honest k here few within name bytes given draft plan plan_here long makes_here place_here written
-          free shadow versions (omega (arith, counts, counted, no_more, narrow, some)) taken goes made_whole;
+          free shadow versions (omega (arith, counts, counted, no_more, narrow, some)) taken goes kept unfinished held made_whole;
       entered = ap (λ (x : Key). entry_of x (volume_of known).entries) key_here
           ∙ entry_entered M short m m' v whole cached c flags edits_here honest k here few within name bytes given draft plan plan_here long makes_here place_here written;
       written = written;

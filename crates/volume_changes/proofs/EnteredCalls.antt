@@ -17,7 +17,8 @@ use Rattle.volume_contract.specs.Ends.{device_of}
 use Rattle.volume_contract.specs.Order.{Comes, Through}
 use Rattle.cached_table.specs.Entering.{AreIdleInTurn, AreInTurn, NoneFor}
 use Rattle.volume_changes.specs.Entered.{Enters, enter_steps}
-use Rattle.volume_state.specs.State.{held_runs, state}
+use Rattle.volume_state.specs.State.{state}
+use Rattle.volume_contract.specs.State.{held_runs}
 use Rattle.volume_state.specs.Volume.{IsWhole, VolumeValue}
 use Rattle.volume_state.proofs.CountLaws.{count_of_flags}
 use Rattle.volume_changes.proofs.GoingLaws.{idle_in_turn}
@@ -55,8 +56,8 @@ module _ (v w : VolumeValue) (is : v ≡ w) where
   enter_comes M m m' log name c flags why none = refuses_comes (state w) _ _ _ _ (count_by (λ spare. spare) v.free_pages) free_told why none
 
   -- what stays
-  pub enters_told : (free : Area) (shadow : Waits) (c : CacheValue) (flags : List Bool) (versions : ℕ) → shadow.held ≡ v.shadow.held
+  pub enters_told : (free : Area) (shadow : Waits) (c : CacheValue) (flags : List Bool) (versions : ℕ) → shadow.held ≡ v.shadow.held → shadow.unfinished ≡ v.shadow.unfinished
       → Enters (state w) (state (record v { map = free; shadow = shadow; cache = c; free_pages = flags; versions = versions }))
-  enters_told free shadow c flags versions held =
+  enters_told free shadow c flags versions held unfinished =
       subst (λ (x : VolumeValue). Enters (state x) (state (record v { map = free; shadow = shadow; cache = c; free_pages = flags; versions = versions }))) is
-      (record { layout = refl; serial = refl; anchor = refl; head = refl; slots = refl; held = ap held_runs held; down = refl })
+      (record { layout = refl; serial = refl; anchor = refl; head = refl; slots = refl; readers = held; unfinished = ap (λ (a : Area). a.sectors) unfinished; down = refl })

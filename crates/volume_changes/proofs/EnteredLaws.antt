@@ -3,7 +3,7 @@ use Rattle.std.proofs.Common.{◌≡◌, inl, inr, ℕ, ◌+◌, ◌-◌, ◌<�
 use Rattle.std.specs.Prelude.{T}
 use Rattle.std.specs.List.{AllByRecursion, list_any}
 use Rattle.std.specs.FinMap.{is_sorted}
-use Rattle.std.proofs.lemmas.Bool.{cases_lt}
+use Rattle.std.proofs.lemmas.Bool.{both_ways, cases_lt, false_from_ne_true, or_right}
 use Rattle.std.proofs.lemmas.List.{ext_get_or}
 use Rattle.volume_layout.specs.declared.layout.Layout.{Layout}
 use Rattle.volume_layout.specs.Layout.{data_start}
@@ -27,11 +27,12 @@ use Rattle.fsd_files.specs.Answers.{HasVersion, entry_of, entry_put, new_entry, 
 use Rattle.fsd_files.specs.Disk.{in_runs}
 use Rattle.fsd_files.specs.Files.{Change, Files, gone_keys, new_key}
 use Rattle.fsd_files.specs.Kept.{Lists}
-use Rattle.fsd_files.specs.Volume.{Volume, entries_at, entries_without, is_free}
+use Rattle.fsd_files.specs.Volume.{Volume, entries_at, entries_without, is_free, is_in}
 use Rattle.fsd_files.specs.Waiting.{Changes}
 use Rattle.fsd_files.proofs.ChangeLaws.{IsAbsent}
 use Rattle.fsd_files.proofs.FreshLaws.{new_key_is_new}
 use Rattle.fsd_files.proofs.HistoryLaws.{after_in_order}
+use Rattle.fsd_files.proofs.WaitLaws.{open_taken}
 use Rattle.page_cache.specs.Cache.{CacheValue, IsCache, is_one_of}
 use Rattle.fsd_sound.specs.Mounted.{most_changed}
 use Rattle.group_commit.specs.contracts.newest.NewestPageSource.TheImpl as by_log
@@ -41,16 +42,16 @@ use Rattle.version_table.specs.Met.{entries_left}
 use Rattle.version_table.specs.Plan.{IsPlan, keys_left, planned_entry, with_planned}
 use Rattle.version_table.specs.Versions.{next_key}
 use Rattle.version_table.proofs.PlanLaws.{each_found, each_kept, each_mapped, keeps_agree, keys_agree, new_stays, next_is_new}
-use Rattle.volume_contract.specs.State.{Known, Stands, volume_of}
+use Rattle.volume_contract.specs.State.{Known, Stands, held_runs, volume_of}
 use Rattle.volume_changes.specs.Changing.{IsAfter, known_after}
 use Rattle.cached_table.specs.Editing.{EditsOnly, EditsTable}
 use Rattle.cached_table.specs.Entering.{with_gone}
 use Rattle.volume_state.specs.Placing.{IsPlace}
-use Rattle.volume_state.specs.State.{Holds, held_runs, state}
+use Rattle.volume_state.specs.State.{Holds, state}
 use Rattle.volume_state.specs.Volume.{IsWhole, VolumeValue}
 use Rattle.cached_table.specs.Surveying.{IsOfData}
 use Rattle.volume_changes.proofs.ChangeLaws.{stands_changed}
-use Rattle.volume_changes.proofs.EnteredSpace.{made_count, made_free, made_there, made_waits}
+use Rattle.volume_changes.proofs.EnteredSpace.{made_count, made_free, made_kept, made_there, made_waits}
 use Rattle.volume_changes.proofs.LeavingLaws.{gone_leave}
 use Rattle.volume_changes.proofs.MadeLaws.{has_table, pages_made, pages_now, worn}
 use Rattle.volume_changes.proofs.NewVersionLaws.{place_free, version_changed, version_described, written_kept}
@@ -160,19 +161,21 @@ module _ {D : Type 0} (M : MachineGhosts D) (short : (m : D) → M.honest m → 
   after = record {
     changes = changed;
     files = refl;
-    described = version_described (volume_of k) name bytes given draft.runs draft.serial reached_entered lists (in_runs k.windows) (M.now m').image now.holds.drafts changed now.disk.described.kept
+    described = version_described (volume_of k) name bytes given draft.runs draft.serial reached_entered lists (in_runs k.windows) (M.now m').image changed now.disk.described.kept
         (written_kept (M.now m') k.windows bytes draft now.ends written);
     held = refl;
     drafts = refl;
   }
 
-  no_reader : (volume_of k).held ≡ []
-  no_reader = stands.fits.held ∙ ap held_runs whole.unread.held
+  -- no reader holds a sector that is taken
+  unheld : (s : ℕ) → contains (sectors_of draft.runs) s ≡ true → is_in (volume_of k).held s ≡ false
+  unheld s there = false_from_ne_true (is_in (volume_of k).held s) (λ is.
+      both_ways (is_free (volume_of k) s) (open_taken (volume_of k) s (or_right (is_in (volume_of k).drafts s) (is_in (volume_of k).held s) is)) (sym (now.holds.map s) ∙ place.free.inside s there))
 
   -- as many versions as are told
   pub count_entered : length volume_entered.files + length plan.gone.items ≡ v.versions + 1
   count_entered =
-      made_count (volume_of k) name bytes given draft.runs draft.serial reached_entered no_reader now.holds.drafts
+      made_count (volume_of k) name bytes given draft.runs draft.serial reached_entered
       (stays (volume_of k) name bytes given draft reached_entered ascend sorted lists plan planned long) (absent (volume_of k) name bytes given draft reached_entered ascend sorted lists plan planned long)
       plan.gone.items (gone_are (volume_of k) name bytes given draft reached_entered ascend sorted lists plan planned long) lists after.described.lists
       ∙ ap (λ (n : ℕ). n + 1) stands.fits.versions
@@ -180,7 +183,7 @@ module _ {D : Type 0} (M : MachineGhosts D) (short : (m : D) → M.honest m → 
   -- its entry is found by its key
   pub entry_entered : entry_of (new_key name (volume_of k).files) volume_entered.entries ≡ Some (new_entry (volume_of k) name bytes given draft.runs draft.serial)
   entry_entered =
-      made_there (volume_of k) name bytes given draft.runs draft.serial reached_entered no_reader now.holds.drafts
+      made_there (volume_of k) name bytes given draft.runs draft.serial reached_entered
       (stays (volume_of k) name bytes given draft reached_entered ascend sorted lists plan planned long) (absent (volume_of k) name bytes given draft reached_entered ascend sorted lists plan planned long)
 
   -- so some page has changed, and waits for a force
@@ -199,7 +202,8 @@ module _ {D : Type 0} (M : MachineGhosts D) (short : (m : D) → M.honest m → 
       ap (λ (x : Key). entry_of x (volume_of k).entries) (keys_agree name (volume_of k).files (volume_of k).entries lists) ∙ next_is_new name (volume_of k).entries ascend in
       absurd (let both : None ≡ Some (new_entry (volume_of k) name bytes given draft.runs draft.serial) = sym fresh ∙ ap (entry_of (new_key name (volume_of k).files)) entries ∙ entry_entered in cc both)
 
-  module _ (free : Area) (waits : Waits) (versions : ℕ) (count : versions + length plan.gone.items ≡ v.versions + 1) (taken : free ≡ without v.map draft.runs) (goes : waits.removed ≡ with_gone v.shadow.removed plan.gone.items) where
+  module _ (free : Area) (waits : Waits) (versions : ℕ) (count : versions + length plan.gone.items ≡ v.versions + 1) (taken : free ≡ without v.map draft.runs) (goes : waits.removed ≡ with_gone v.shadow.removed plan.gone.items)
+      (kept : waits.kept ≡ v.shadow.kept) (unfinished : waits.unfinished ≡ v.shadow.unfinished) (held : waits.held ≡ v.shadow.held) where
     abbrev pub entered : VolumeValue
     entered = record v { map = free; shadow = waits; cache = c; free_pages = flags; versions = versions }
 
@@ -208,15 +212,20 @@ module _ {D : Type 0} (M : MachineGhosts D) (short : (m : D) → M.honest m → 
     stands_entered entered_whole =
         let made = pages_made M short m m' v whole cached c flags None edits honest k stands few within (with_planned plan (planned_entry plan draft.serial draft.length draft.runs)) makes in
         stands_changed v entered k (M.now m') (Change.Put name given bytes) volume_entered pages_entered _ whole entered_whole now
-        (record { layout = refl; log = refl; down = refl }) after made.0
+        (record { layout = refl; log = refl; readers = held; down = refl }) after made.0
         (made.1 ∙ entries_made (volume_of k) name bytes given draft reached_entered ascend sorted lists plan planned long) refl
         (record {
           map = λ s. ap (λ (a : Area). contains a.sectors s) taken ∙ taken_map v.layout v.map (volume_of k) draft.runs whole.map now.holds.map s
-              ∙ sym (made_free (volume_of k) name bytes given draft.runs draft.serial reached_entered no_reader now.holds.drafts
+              ∙ sym (made_free (volume_of k) name bytes given draft.runs draft.serial reached_entered
               (stays (volume_of k) name bytes given draft reached_entered ascend sorted lists plan planned long) (absent (volume_of k) name bytes given draft reached_entered ascend sorted lists plan planned long) s);
           removed = λ s. ap (λ (a : Area). contains a.sectors s) goes
               ∙ made_waits (volume_of k) name bytes given draft.runs draft.serial reached_entered v.layout v.shadow.removed plan.gone.items changed now.fits.layout whole.removed
               (gone_are (volume_of k) name bytes given draft reached_entered ascend sorted lists plan planned long) now.holds.removed s;
+          kept = λ s. ap (λ (a : Area). contains a.sectors s) kept ∙ now.holds.kept s
+              ∙ sym (made_kept (volume_of k) name bytes given draft.runs draft.serial reached_entered
+              (stays (volume_of k) name bytes given draft reached_entered ascend sorted lists plan planned long) (absent (volume_of k) name bytes given draft reached_entered ascend sorted lists plan planned long) unheld s);
+          unfinished = λ s. ap (λ (a : Area). contains a.sectors s) unfinished ∙ now.holds.unfinished s;
+          held = now.fits.held ∙ ap held_runs (sym held);
           serial = now.fits.serial;
           versions = omega (arith, count_entered, count);
         })

@@ -24,7 +24,7 @@ use Rattle.fsd_files.specs.Answers.{entry_of, entry_put, gone_sectors, new_entry
 use Rattle.fsd_files.specs.Files.{gone_keys}
 use Rattle.fsd_files.specs.Kept.{Lists}
 use Rattle.fsd_files.specs.Volume.{Volume, entries_at, entries_without, in_version, is_free, is_in, plans_of}
-use Rattle.fsd_files.specs.Waiting.{Changes}
+use Rattle.fsd_files.specs.Waiting.{Changes, is_kept_alone}
 use Rattle.fsd_files.proofs.ChangeLaws.{IsAbsent, same_key_turned}
 use Rattle.fsd_files.proofs.ListingLaws.{lists_length}
 use Rattle.fsd_table.proofs.KeyLaws.{keys_total}
@@ -137,7 +137,7 @@ module _ (v : Volume) (name bytes : List ℕ) (given : Option ℕ) (runs : List 
   abbrev new : Entry
   new = new_entry v name bytes given runs serial
 
-  module _ (held : v.held ≡ []) (drafts : v.drafts ≡ []) (stays : list_any (same_key new.key) out ≡ false) (absent : IsAbsent new.key v.entries) where
+  module _ (stays : list_any (same_key new.key) out ≡ false) (absent : IsAbsent new.key v.entries) where
     -- what was free and is not taken
     pub made_free : (s : ℕ) → is_free made s ≡ (is_free v s && not (contains (sectors_of runs) s))
     made_free s =
@@ -151,24 +151,46 @@ module _ (v : Volume) (name bytes : List ℕ) (given : Option ℕ) (runs : List 
         let split : in_version v s ≡ (t || g) = split_in (λ x. list_any (same_key x.key) out) s v.entries in
         let put : in_version made s ≡ (t || n) = in_put out new stays s v.entries absent in
         let went : contains made.removed s ≡ (d || g) = list_any-append (λ u. u == s) v.removed (gone_sectors out v.entries) in
-        let none_held : h ≡ false = ap (λ (plans : List (List Run)). is_in plans s) held in
-        let none_drafted : o ≡ false = ap (λ (plans : List (List Run)). is_in plans s) drafts in
         (λ i. a && not (put i) && not (not (put i) && (went i || h || o)))
-        ∙ same a t g n d h o none_held none_drafted
+        ∙ same a t g n d h o
         ∙ (λ i. (a && not (sym split i) && not (not (sym split i) && (d || h || o))) && not n)
       where
-        same : (a t g n d h o : Bool) → h ≡ false → o ≡ false → (a && not (t || n) && not (not (t || n) && ((d || g) || h || o))) ≡ ((a && not (t || g) && not (not (t || g) && (d || h || o))) && not n)
-        same a t g n d true o x y = absurd (cc x)
-        same a t g n d false true x y = absurd (cc y)
-        same false t g n d false false x y = refl
-        same true true g n d false false x y = refl
-        same true false true true d false false x y = refl
-        same true false true false true false false x y = refl
-        same true false true false false false false x y = refl
-        same true false false true true false false x y = refl
-        same true false false true false false false x y = refl
-        same true false false false true false false x y = refl
-        same true false false false false false false x y = refl
+        same : (a t g n d h o : Bool) → (a && not (t || n) && not (not (t || n) && ((d || g) || h || o))) ≡ ((a && not (t || g) && not (not (t || g) && (d || h || o))) && not n)
+        same false t g n d h o = refl
+        same true true g n d h o = refl
+        same true false true true d h o = refl
+        same true false true false true h o = refl
+        same true false true false false h o = refl
+        same true false false true true h o = refl
+        same true false false true false true o = refl
+        same true false false true false false true = refl
+        same true false false true false false false = refl
+        same true false false false true h o = refl
+        same true false false false false true o = refl
+        same true false false false false false true = refl
+        same true false false false false false false = refl
+
+    -- what a reader alone keeps stays so, where nothing that is taken is held
+    pub made_kept : ((s : ℕ) → contains (sectors_of runs) s ≡ true → is_in v.held s ≡ false) → (s : ℕ) → is_kept_alone made s ≡ is_kept_alone v s
+    made_kept unheld s =
+        let t : Bool = is_in (plans_of (entries_without out v.entries)) s in
+        let g : Bool = contains (gone_sectors out v.entries) s in
+        let n : Bool = contains (sectors_of runs) s in
+        let d : Bool = contains v.removed s in
+        let h : Bool = is_in v.held s in
+        let split : in_version v s ≡ (t || g) = split_in (λ x. list_any (same_key x.key) out) s v.entries in
+        let put : in_version made s ≡ (t || n) = in_put out new stays s v.entries absent in
+        let went : contains made.removed s ≡ (d || g) = list_any-append (λ u. u == s) v.removed (gone_sectors out v.entries) in
+        (λ i. h && not (put i) && not (went i)) ∙ same h t g n d (unheld s) ∙ ap (λ (b : Bool). h && not b && not d) (sym split)
+      where
+        same : (h t g n d : Bool) → (n ≡ true → h ≡ false) → (h && not (t || n) && not (d || g)) ≡ (h && not (t || g) && not d)
+        same false t g n d free = refl
+        same true true g n d free = refl
+        same true false g true d free = absurd (cc (free refl))
+        same true false true false true free = refl
+        same true false true false false free = refl
+        same true false false false true free = refl
+        same true false false false false free = refl
 
     -- its entry is found
     pub made_there : entry_of new.key made.entries ≡ Some new

@@ -53,7 +53,7 @@ entry_contained key (x ∷ entries) e is = by (entry_contained key entries e) (s
 pub taken_there : (v w : VolumeValue) → v ≡ w → IsWhole v → (k : Known) (now : Moment) → Stands state Holds w k now → (e : Entry) → Contains k.mounted.volume.entries e → IsTrue (are_taken v e.runs)
 taken_there v w is whole k now stands e has =
     let here : Stands state Holds v k now = subst (λ (x : VolumeValue). Stands state Holds x k now) (sym is) stands in
-    entries_taken v k.mounted _ whole here.fits.layout here.holds here.disk.spaced here.disk.described.apart e has
+    entries_taken v k.mounted _ whole here.fits.layout here.holds here.fits.held here.disk.spaced here.disk.described.apart e has
 
 -- and are told so
 pub taken_met : (v : VolumeValue) (page : ℕ) (e : Entry) (r : Result Entry Refusal) → ((x : Entry) → IsTrue (are_taken v x.runs) → IsTaken (state v) x) → r ≡ met_entry v page e → IfOk r (IsTaken (state v))

@@ -1,30 +1,29 @@
 -- A volume is whole once the sectors of a version that was taken out of its table wait.
 use Rattle.std.proofs.Common.{◌≡◌, inl, inr, ℕ, ◌≤◌, true, false, ◌||◌, List, length, sym, ap, subst, ◌∙◌, arith}
 use Rattle.std.specs.Prelude.{All, IsFalse, IsTrue}
-use Rattle.std.specs.List.{AllByRecursion}
-use Rattle.std.proofs.lemmas.List.Elements.{All-from_recursion}
-use Rattle.std.proofs.lemmas.Bool.{both_ways, cases_lt, false_from_ne_true, or_from, or_parts}
+use Rattle.std.proofs.lemmas.Bool.{both_ways, cases_lt, false_from_ne_true, or_cases, or_from, or_parts}
 use Rattle.run_table.specs.declared.run.Run.{Run}
 use Rattle.run_table.specs.RunTable.{sectors_of}
 use Rattle.run_table.specs.Space.{contains, where_free}
 use Rattle.sector_set.specs.Area.{Area, area, together}
+use Rattle.sector_set.proofs.AreaLaws.{free_passes}
 use Rattle.sector_set.proofs.FreeLaws.{contains_where, contains_where_outside}
-use Rattle.shadow_frees.specs.Readers.{Agrees}
+use Rattle.shadow_frees.specs.Readers.{Agrees, Slots, is_held}
 use Rattle.shadow_frees.specs.Waits.{AreIdle, Waits, waits}
 use Rattle.volume_changes.specs.Ending.{GivesUp, Waited}
 use Rattle.volume_state.specs.Taken.{are_taken}
-use Rattle.volume_state.specs.Volume.{IsWhole, VolumeValue}
+use Rattle.volume_state.specs.Volume.{IsWhole, VolumeValue, WaitsOnce}
 use Rattle.cached_table.specs.Surveying.{IsOfData}
 use Rattle.volume_state.proofs.ForcedLaws.{own_of}
 use Rattle.volume_state.proofs.TakenLaws.{taken_is_out}
 
 module _ (v : VolumeValue) (whole : IsWhole v) (runs : List Run) (taken : are_taken v runs ≡ true) where
-  -- the sectors don't wait, and no reader holds some of them
+  -- the sectors don't wait, and no reader holds some of them beside others
   pub idle_runs : AreIdle v.shadow runs
   idle_runs = (taken_is_out v whole runs taken).1
 
   pub agree_runs : All (Agrees runs) v.shadow.held
-  agree_runs = All-from_recursion (Agrees runs) v.shadow.held (subst (AllByRecursion (Agrees runs)) (sym whole.unread.held) (tt, (tt, (tt, (tt, (tt, (tt, (tt, (tt, tt)))))))))
+  agree_runs = (taken_is_out v whole runs taken).2
 
   module _ (w : Waits) (n : ℕ) (gives : GivesUp v.cache.dirty runs v.shadow v.versions w n) where
     -- what waits now waited before, or is of the version
@@ -47,6 +46,19 @@ module _ (v : VolumeValue) (whole : IsWhole v) (runs : List Run) (taken : are_ta
           ]
         ]
 
+    -- none of the version's waits already
+    once_waited : Waited runs v.shadow w → WaitsOnce w
+    once_waited is = record {
+      removed = λ s there. (λ i. contains (is.kept i).sectors s || contains (is.unfinished i).sectors s) ∙ elim (or_cases (contains v.shadow.removed.sectors s) (contains (sectors_of runs) s)
+          (free_passes v.shadow.removed.from v.shadow.removed.to (λ t. contains v.shadow.removed.sectors t || contains (sectors_of runs) t) s (ap (λ (a : Area). contains a.sectors s) (sym is.removed) ∙ there))) [
+            | inl was ↦ whole.once.removed s was
+            | inr mine ↦ or_from (contains v.shadow.kept.sectors s) (contains v.shadow.unfinished.sectors s) (idle_runs.1.outside s mine) (idle_runs.2.outside s mine)
+          ];
+      kept = λ s there. ap (λ (a : Area). contains a.sectors s) is.unfinished ∙ whole.once.kept s (ap (λ (a : Area). contains a.sectors s) (sym is.kept) ∙ there);
+      readers = λ s there. ap (λ (slots : Slots). is_held slots s) is.held ∙ whole.once.readers s (ap (λ (a : Area). contains a.sectors s) (sym is.kept) ∙ there);
+      slots = ap (λ (slots : Slots). length slots) is.held ∙ whole.once.slots;
+    }
+
     whole_waited : 1 ≤ length v.cache.dirty → Waited runs v.shadow w → IsWhole (record v { shadow = w; versions = n })
     whole_waited some is = record {
       planned = whole.planned;
@@ -59,7 +71,7 @@ module _ (v : VolumeValue) (whole : IsWhole v) (runs : List Run) (taken : are_ta
       kept = subst (IsOfData v.layout) (sym is.kept) whole.kept;
       unfinished = subst (IsOfData v.layout) (sym is.unfinished) whole.unfinished;
       apart = still_apart is;
-      unread = record { kept = ap (λ (a : Area). a.sectors) is.kept ∙ whole.unread.kept; unfinished = ap (λ (a : Area). a.sectors) is.unfinished ∙ whole.unread.unfinished; held = is.held ∙ whole.unread.held };
+      once = once_waited is;
       log = whole.log;
       epoch = whole.epoch;
       pages = whole.pages;

@@ -28,8 +28,6 @@ pub record FreesGone (first : Waits) (all : List Leaving) (now : Waits) (left : 
   pub unfinished : now.unfinished ≡ first.unfinished
   pub held : now.held ≡ first.held
 
--- ---- a test of one more
-
 -- ---- taken in turn, so idle in turn
 
 -- a sector of a version that shares none with these is in none of them
@@ -66,11 +64,9 @@ idle_in_turn map w seen (g ∷ gone) turn =
       outside = λ s here. let at = idle.0.within s here in gone_at w.removed seen s at.0 at.1 ∙ (λ i. idle.0.outside s here i || none_shared seen g.entry.runs s turn.0.1 here i);
       differ = idle.0.differ;
     } in (
-      (out, idle.1, idle.2),
+      ((out, idle.1, idle.2), turn.0.0.2),
       subst (λ (a : Area). AreIdleInTurn (record w { removed = a }) gone) (sym (gone_more w.removed seen g)) (idle_in_turn map w (seen ++ g ∷ []) gone turn.1),
     )
-
--- ---- no slot is held
 
 -- ---- those of a volume's versions
 

@@ -1,11 +1,11 @@
 -- What goes with one version, and what a volume is once it has gone or has another keep.
 use Rattle.std.proofs.Common.{◌≡◌, inl, inr, ℕ, ◌<◌, ◌≤◌, Bool, true, false, cond, not, ◌&&◌, ◌||◌, List, [], ◌∷◌, ◌++◌, filter, Option, Some, None, refl, sym, ap, subst, ◌∙◌, arith}
 use Rattle.std.specs.Prelude.{nat_le, nat_lt, ◌==◌}
-use Rattle.std.specs.List.{AllByRecursion, flat_map, list_any}
+use Rattle.std.specs.List.{AllByRecursion, flat_map, list_all, list_any}
 use Rattle.std.specs.Ordering.{is_eq, ordering_reverse}
 use Rattle.std.specs.declared.cmp.Ordering.{Ordering}
 use Rattle.std.specs.declared.cmp.Ordering.TheVariants.{Less, Equal, Greater}
-use Rattle.std.proofs.lemmas.Bool.{and_parts, cases_lt, false_from_ne_true, leb-true, ltb-true, or_left}
+use Rattle.std.proofs.lemmas.Bool.{and_from, and_parts, cases_lt, false_from_ne_true, leb-true, ltb-true, or_left}
 use Rattle.std.proofs.lemmas.List.{append-nil}
 use Rattle.std.proofs.lemmas.List.Folds.{list_any-append}
 use Rattle.volume_layout.specs.declared.layout.Layout.{Layout}
@@ -15,7 +15,8 @@ use Rattle.fsd_bytes.specs.declared.refusal.Refusal.TheVariants.{KeepTooLarge}
 use Rattle.fsd_bytes.specs.Keys.{key_cmp, key_lt, same_key}
 use Rattle.run_table.specs.declared.run.Run.{Run}
 use Rattle.run_table.specs.RunTable.{sectors_of}
-use Rattle.run_table.specs.Space.{contains}
+use Rattle.run_table.specs.Space.{all_differ, contains}
+use Rattle.run_table.proofs.SectorLaws.{all_from}
 use Rattle.sector_set.specs.Area.{Area, together}
 use Rattle.sector_set.proofs.FreeLaws.{contains_where, contains_where_outside}
 use Rattle.fsd_formats.specs.declared.entry.Entry.{Entry}
@@ -28,14 +29,16 @@ use Rattle.fsd_files.specs.Files.{Change}
 use Rattle.fsd_files.specs.Kept.{Describes, Lists}
 use Rattle.fsd_files.specs.Space.{Apart}
 use Rattle.fsd_files.specs.Volume.{Volume, entries_at, in_version, is_free, is_in, plans_of}
-use Rattle.fsd_files.specs.Waiting.{Changes, IsSpaced}
+use Rattle.fsd_files.specs.Waiting.{Changes, IsSpaced, is_kept_alone}
 use Rattle.fsd_files.proofs.ChangeKept.{delete_kept, keep_kept}
-use Rattle.fsd_files.proofs.ChangeLaws.{delete_changes, keep_changes, same_plans}
+use Rattle.fsd_files.proofs.ChangeLaws.{delete_changes, keep_changes, same_plans, used-append}
+use Rattle.fsd_files.proofs.CountLaws.{contains_occurs, differ_occurs, occurs_contains, occurs_differ}
 use Rattle.fsd_files.proofs.ListingLaws.{alike_is, deletes_listed, keeps_listed, IsListed}
 use Rattle.fsd_formats.specs.NamePage.{max_keep}
 use Rattle.name_page.proofs.PutLaws.{ascend_head}
 use Rattle.volume_changes.specs.Changing.{IsAfter}
 use Rattle.cached_table.specs.Surveying.{IsOfData}
+use Rattle.volume_state.proofs.TakenLaws.{all_of}
 
 -- ---- the entry with a key
 
@@ -60,18 +63,28 @@ one_at key (x ∷ xs) e asc there = by (key_cmp x.key key) refl there (λ more. 
         let same : x ≡ e = cc found in
         ap (λ (ys : List Entry). x ∷ ys) none ∙ ap (λ (y : Entry). y ∷ []) same
 
+-- ---- some of the plans
+
+-- plans that are apart with others are so without them
+pub apart_front : (l : Layout) (plans more : List (List Run)) → Apart l (plans ++ more) → Apart l plans
+apart_front l plans more apart =
+    let all : List ℕ = flat_map sectors_of (plans ++ more) in
+    let front : List ℕ = flat_map sectors_of plans in
+    let parts = and_parts (all_differ all) (list_all (is_data l) all) apart in
+    and_from (all_differ front) (list_all (is_data l) front)
+    (occurs_differ front (λ s. let once = differ_occurs all parts.0 s in omega (arith, once, used-append s plans more)))
+    (all_from (is_data l) front (λ s there. all_of (is_data l) all parts.1 s (occurs_contains s all (let some = contains_occurs s front there in omega (arith, some, used-append s plans more)))))
+
 -- ---- one change more
 
 -- the volume with another keep of a name's highest version, unless that is too large
 abbrev kept_unless : Volume → List ℕ → (keep r : ℕ) → Bool → Volume
 kept_unless v name keep r b = (cond b (refused v (KeepTooLarge keep)) (keep_set v name keep r (highest_entry name v.entries))).1
 
-module _ (hurt : Sectors) (i : Image) (v : Volume) (r : ℕ) (e : Entry) (spaced : IsSpaced v) (drafts : v.drafts ≡ []) (described : Describes v.layout hurt i v.files v.entries) where
-  -- where no creation is unfinished, the versions of a volume are apart
-  alone : (w : Volume) → Changes v w → w.drafts ≡ [] → Apart v.layout (plans_of w.entries)
-  alone w changes none = subst (λ (l : Layout). Apart l (plans_of w.entries)) changes.layout
-      (subst (λ (plans : List (List Run)). Apart w.layout plans) (append-nil (plans_of w.entries))
-      (subst (λ (plans : List (List Run)). Apart w.layout (plans_of w.entries ++ plans)) none changes.spaced.apart))
+module _ (hurt : Sectors) (i : Image) (v : Volume) (r : ℕ) (e : Entry) (spaced : IsSpaced v) (described : Describes v.layout hurt i v.files v.entries) where
+  -- the versions of a volume are apart
+  alone : (w : Volume) → Changes v w → Apart v.layout (plans_of w.entries)
+  alone w changes = subst (λ (l : Layout). Apart l (plans_of w.entries)) changes.layout (apart_front w.layout (plans_of w.entries) w.drafts changes.spaced.apart)
 
   abbrev met : Met
   met = record { forces = false; reached = r; damaged = None; found = []; healed = 0 }
@@ -84,7 +97,7 @@ module _ (hurt : Sectors) (i : Image) (v : Volume) (r : ℕ) (e : Entry) (spaced
         files = refl;
         described = record {
           lists = subst (λ (o : Option Entry). Lists (deleted v key r o).1.files (deleted v key r o).1.entries) there (deletes_listed met v key described.lists);
-          apart = alone (deleted v key r (Some e)).1 changes drafts;
+          apart = alone (deleted v key r (Some e)).1 changes;
           kept = delete_kept hurt i v key r e described.lists described.kept;
         };
         held = refl;
@@ -99,7 +112,7 @@ module _ (hurt : Sectors) (i : Image) (v : Volume) (r : ℕ) (e : Entry) (spaced
         files = refl;
         described = record {
           lists = subst (λ (o : Option Entry). Lists (keep_set v name keep r o).1.files (keep_set v name keep r o).1.entries) there (listed (nat_lt max_keep keep) small (keeps_listed met v name keep described.lists));
-          apart = alone (keep_set v name keep r (Some e)).1 changes drafts;
+          apart = alone (keep_set v name keep r (Some e)).1 changes;
           kept = keep_kept hurt i v name keep r e described.lists there described.kept;
         };
         held = refl;
@@ -138,7 +151,7 @@ split_in p s (z ∷ entries) = both z entries ∙ by (p z) (split_in p s entries
     by true rest = front (contains (sectors_of z.runs) s) (is_in (plans_of entries) s) (is_in (plans_of stay) s) (is_in (plans_of go) s) rest ∙ ap (λ (x : Bool). is_in (plans_of stay) s || x) (sym (both z go))
     by false rest = back (contains (sectors_of z.runs) s) (is_in (plans_of entries) s) (is_in (plans_of stay) s) (is_in (plans_of go) s) rest ∙ ap (λ (x : Bool). x || is_in (plans_of go) s) (sym (both z stay))
 
-module _ (v : Volume) (key : Key) (r : ℕ) (e : Entry) (spaced : IsSpaced v) (held : v.held ≡ []) (drafts : v.drafts ≡ []) where
+module _ (v : Volume) (key : Key) (r : ℕ) (e : Entry) (spaced : IsSpaced v) where
   abbrev without_it : Volume
   without_it = (deleted v key r (Some e)).1
 
@@ -153,21 +166,36 @@ module _ (v : Volume) (key : Key) (r : ℕ) (e : Entry) (spaced : IsSpaced v) (h
       let o : Bool = is_in v.drafts s in
       let split : in_version v s ≡ (c || g) = split_in (λ x. list_any (same_key x.key) (key ∷ [])) s v.entries in
       let went : contains without_it.removed s ≡ (d || g) = list_any-append (λ t. t == s) v.removed (gone_sectors (key ∷ []) v.entries) in
-      let none_held : h ≡ false = ap (λ (plans : List (List Run)). is_in plans s) held in
-      let none_drafted : o ≡ false = ap (λ (plans : List (List Run)). is_in plans s) drafts in
       ap (λ (w : Bool). a && not c && not (not c && (w || h || o))) went
-      ∙ same a c d g h o none_held none_drafted
+      ∙ same a c d g h o
       ∙ ap (λ (b : Bool). a && not b && not (not b && (d || h || o))) (sym split)
     where
-      same : (a c d g h o : Bool) → h ≡ false → o ≡ false → (a && not c && not (not c && ((d || g) || h || o))) ≡ (a && not (c || g) && not (not (c || g) && (d || h || o)))
-      same a c d g true o x y = absurd (cc x)
-      same a c d g false true x y = absurd (cc y)
-      same false c d g false false x y = refl
-      same true true d g false false x y = refl
-      same true false true true false false x y = refl
-      same true false true false false false x y = refl
-      same true false false true false false x y = refl
-      same true false false false false false x y = refl
+      same : (a c d g h o : Bool) → (a && not c && not (not c && ((d || g) || h || o))) ≡ (a && not (c || g) && not (not (c || g) && (d || h || o)))
+      same false c d g h o = refl
+      same true true d g h o = refl
+      same true false true true h o = refl
+      same true false false true h o = refl
+      same true false true false h o = refl
+      same true false false false h o = refl
+
+  -- what a reader alone keeps stays so: what went waits for the force first
+  pub deleted_kept : (s : ℕ) → is_kept_alone without_it s ≡ is_kept_alone v s
+  deleted_kept s =
+      let c : Bool = in_version without_it s in
+      let d : Bool = contains v.removed s in
+      let g : Bool = contains (gone_sectors (key ∷ []) v.entries) s in
+      let h : Bool = is_in v.held s in
+      let split : in_version v s ≡ (c || g) = split_in (λ x. list_any (same_key x.key) (key ∷ [])) s v.entries in
+      let went : contains without_it.removed s ≡ (d || g) = list_any-append (λ t. t == s) v.removed (gone_sectors (key ∷ []) v.entries) in
+      ap (λ (w : Bool). h && not c && not w) went ∙ same h c d g ∙ ap (λ (b : Bool). h && not b && not d) (sym split)
+    where
+      same : (h c d g : Bool) → (h && not c && not (d || g)) ≡ (h && not (c || g) && not d)
+      same false c d g = refl
+      same true true d g = refl
+      same true false true true = refl
+      same true false true false = refl
+      same true false false true = refl
+      same true false false false = refl
 
   -- the sectors that wait then
   pub deleted_waits : (l : Layout) (old : Area) → v.layout ≡ l → IsOfData l old → entries_at (key ∷ []) v.entries ≡ e ∷ [] → ((s : ℕ) → contains old.sectors s ≡ contains v.removed s)
@@ -204,3 +232,6 @@ module _ (v : Volume) (key : Key) (r : ℕ) (e : Entry) (spaced : IsSpaced v) (h
 module _ (v : Volume) (name : List ℕ) (keep r : ℕ) (e : Entry) where
   pub kept_free : (s : ℕ) → is_free (keep_set v name keep r (Some e)).1 s ≡ is_free v s
   kept_free s = ap (λ (plans : List (List Run)). is_data v.layout s && not (is_in plans s) && not (not (is_in plans s) && (contains v.removed s || is_in v.held s || is_in v.drafts s))) (same_plans e.key keep v.entries)
+
+  pub kept_alone : (s : ℕ) → is_kept_alone (keep_set v name keep r (Some e)).1 s ≡ is_kept_alone v s
+  kept_alone s = ap (λ (plans : List (List Run)). is_in v.held s && not (is_in plans s) && not (contains v.removed s)) (same_plans e.key keep v.entries)

@@ -107,6 +107,7 @@ module _ {D : Type 0} (M : MachineGhosts D) (short : (m : D) → M.honest m → 
           forces = sym (le-ltb 56 (length k.mounted.dirty) (omega (arith, room, ap (λ (d : List ℕ). length d) stands.fits.dirty)));
           is = ap (λ (b : Bool). cond b (refused (volume_of k) (KeepTooLarge keep)) (keep_set (volume_of k) name keep reached (highest_entry name (volume_of k).entries))) small
               ∙ ap (keep_set (volume_of k) name keep reached) there ∙ ap (λ (x : Key). (Kept x keep, volume_of after)) set.key_is;
+          opened = refl;
           windows = refl;
           changes = refl;
         },

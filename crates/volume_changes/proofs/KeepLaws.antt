@@ -20,7 +20,7 @@ use Rattle.cached_table.specs.Editing.{EditsOnly, EditsTable}
 use Rattle.volume_state.specs.State.{Holds, state}
 use Rattle.volume_state.specs.Volume.{IsWhole, VolumeValue}
 use Rattle.volume_changes.proofs.ChangeLaws.{stands_changed}
-use Rattle.volume_changes.proofs.GoneLaws.{after_kept, kept_free}
+use Rattle.volume_changes.proofs.GoneLaws.{after_kept, kept_alone, kept_free}
 use Rattle.volume_changes.proofs.MadeLaws.{has_table, pages_made, pages_now, worn}
 
 -- another keep leaves as many entries
@@ -52,12 +52,15 @@ module _ {D : Type 0} (M : MachineGhosts D) (short : (m : D) → M.honest m → 
   stands_kept left_whole =
       let now = worn M short m m' v whole cached c flags None edits honest k stands in
       let made = pages_made M short m m' v whole cached c flags None edits honest k stands few within (entries_with_keep e.key keep) makes in
-      let after = after_kept (in_runs k.windows) (M.now m').image (volume_of k) reached_kept e now.disk.spaced now.holds.drafts now.disk.described name keep small there in
+      let after = after_kept (in_runs k.windows) (M.now m').image (volume_of k) reached_kept e now.disk.spaced now.disk.described name keep small there in
       stands_changed v left k (M.now m') (Change.SetKeep name keep) volume_kept pages_kept _ whole left_whole now
-      (record { layout = refl; log = refl; down = refl }) after made.0 made.1 refl
+      (record { layout = refl; log = refl; readers = refl; down = refl }) after made.0 made.1 refl
       (record {
         map = λ s. now.holds.map s ∙ sym (kept_free (volume_of k) name keep reached_kept e s);
         removed = now.holds.removed;
+        kept = λ s. now.holds.kept s ∙ sym (kept_alone (volume_of k) name keep reached_kept e s);
+        unfinished = now.holds.unfinished;
+        held = now.fits.held;
         serial = now.fits.serial;
         versions = omega (
           arith,

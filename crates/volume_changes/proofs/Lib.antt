@@ -4,11 +4,13 @@ pub mod BehindLaws
 pub mod CauseLaws
 pub mod ChangeEnds
 pub mod ChangeLaws
+pub mod CompleteLaws
 pub mod DeleteEnds
 pub mod DeleteLaws
 pub mod EditedLaws
 pub mod EnterDone
 pub mod EnterEnds
+pub mod EnterLaws
 pub mod EnteredCalls
 pub mod EnteredLaws
 pub mod EnteredSpace
@@ -18,6 +20,7 @@ pub mod FoundLaws
 pub mod GivenUpLaws
 pub mod GoingLaws
 pub mod GoneLaws
+pub mod HoldLaws
 pub mod KeepEnds
 pub mod KeepLaws
 pub mod LeavingLaws
@@ -29,6 +32,9 @@ pub mod NewVersionLaws
 pub mod NextLaws
 pub mod PutEnds
 pub mod PutLaws
+pub mod ReadHeldLaws
 pub mod ReadLaws
+pub mod ReserveLaws
+pub mod SliceEnds
 pub mod TestedLaws
 pub mod WholeLaws

@@ -1,6 +1,6 @@
 -- What a volume is, and in which order it refuses, where a version is entered.
-use Rattle.std.proofs.Common.{◌≡◌, inl, inr, ℕ, ◌<◌, ◌≤◌, Bool, true, false, cond, not, ◌&&◌, ◌||◌, List, [], ◌∷◌, length, None, Some, refl, sym, ap, subst, ◌∙◌, arith}
-use Rattle.std.proofs.lemmas.Bool.{and_parts, both_ways, false_from_ne_true, le-ltb, lt-ltb, or_from, or_parts}
+use Rattle.std.proofs.Common.{◌≡◌, inl, inr, ℕ, ◌<◌, ◌≤◌, Bool, true, false, cond, not, ◌&&◌, ◌||◌, List, [], ◌∷◌, ◌++◌, length, None, Some, refl, sym, ap, subst, ◌∙◌, arith}
+use Rattle.std.proofs.lemmas.Bool.{and_parts, both_ways, false_from_ne_true, le-ltb, lt-ltb, or_cases, or_from, or_parts}
 use Rattle.volume_layout.specs.declared.layout.Layout.{Layout}
 use Rattle.volume_layout.specs.Layout.{data_start}
 use Rattle.run_table.specs.declared.run.Run.{Run}
@@ -9,6 +9,7 @@ use Rattle.run_table.specs.Space.{contains, where_free}
 use Rattle.sector_set.specs.Area.{Area, area, together, without}
 use Rattle.sector_set.proofs.AreaLaws.{free_passes, free_within}
 use Rattle.sector_set.proofs.FreeLaws.{contains_where, where_same}
+use Rattle.shadow_frees.specs.Readers.{Slots, is_held}
 use Rattle.shadow_frees.specs.Waits.{Waits, waits}
 use Rattle.fsd_bytes.specs.declared.refusal.Refusal.{Refusal}
 use Rattle.fsd_bytes.specs.declared.refusal.Refusal.TheVariants as Why
@@ -20,7 +21,7 @@ use Rattle.volume_contract.specs.Order.{Comes, Through}
 use Rattle.volume_contract.specs.State.{State}
 use Rattle.cached_table.specs.Entering.{AreInTurn, RefusesFor, with_gone}
 use Rattle.volume_changes.specs.Entered.{enter_steps}
-use Rattle.volume_state.specs.Volume.{IsWhole, VolumeValue}
+use Rattle.volume_state.specs.Volume.{IsWhole, VolumeValue, WaitsOnce}
 use Rattle.cached_table.specs.Surveying.{IsOfData}
 use Rattle.volume_changes.proofs.EnteredSpace.{gone_at, in_first}
 
@@ -71,6 +72,18 @@ gone_taken map w seen (g ∷ gone) s turn free =
     (false_from_ne_true (contains (sectors_of g.entry.runs) s) (λ here. both_ways (contains map.sectors s) (turn.0.0.0.outside s here) free))
     (gone_taken map w _ gone s turn.1 free)
 
+-- what goes waits nowhere else
+gone_once : (map : Area) (w : Waits) (removed : Area) (seen gone : List Leaving) (s : ℕ) → (contains removed.sectors s ≡ true → (contains w.kept.sectors s || contains w.unfinished.sectors s) ≡ false) → AreInTurn map w seen gone
+    → contains (with_gone removed gone).sectors s ≡ true → (contains w.kept.sectors s || contains w.unfinished.sectors s) ≡ false
+gone_once map w removed seen [] s were turn there = were there
+gone_once map w removed seen (g ∷ gone) s were turn there = gone_once map w (together removed g.entry.runs) (seen ++ g ∷ []) gone s more turn.1 there
+  where
+    more : contains (together removed g.entry.runs).sectors s ≡ true → (contains w.kept.sectors s || contains w.unfinished.sectors s) ≡ false
+    more is = elim (or_cases (contains removed.sectors s) (contains (sectors_of g.entry.runs) s) (free_passes removed.from removed.to (λ t. contains removed.sectors t || contains (sectors_of g.entry.runs) t) s is)) [
+      | inl was ↦ were was
+      | inr mine ↦ or_from (contains w.kept.sectors s) (contains w.unfinished.sectors s) (turn.0.0.1.1.outside s mine) (turn.0.0.1.2.outside s mine)
+    ]
+
 -- the sectors that wait, with those of versions that went, if a page waits
 abbrev pub with_if : Bool → Area → List Leaving → Area
 with_if b removed gone = cond b (with_gone removed gone) removed
@@ -102,6 +115,19 @@ module _ (v : VolumeValue) (whole : IsWhole v) (c : CacheValue) (flags : List Bo
       by false none low high old = none
       by true none low high old = gone_at v.shadow.removed gone s low high ∙ or_from (contains v.shadow.removed.sectors s) (is_in (plans_of (entries_left gone)) s) none (gone_taken v.map v.shadow [] gone s turn old)
 
+  -- what goes does not wait already
+  once_entered : WaitsOnce w
+  once_entered = record {
+    removed = λ s there. (λ i. contains (kept i).sectors s || contains (unfinished i).sectors s) ∙ by b s (ap (λ (m : Area). contains m.sectors s) (sym removed) ∙ there);
+    kept = λ s there. ap (λ (m : Area). contains m.sectors s) unfinished ∙ whole.once.kept s (ap (λ (m : Area). contains m.sectors s) (sym kept) ∙ there);
+    readers = λ s there. ap (λ (slots : Slots). is_held slots s) held ∙ whole.once.readers s (ap (λ (m : Area). contains m.sectors s) (sym kept) ∙ there);
+    slots = ap (λ (slots : Slots). length slots) held ∙ whole.once.slots;
+  }
+    where
+      by : (x : Bool) (s : ℕ) → contains (with_if x v.shadow.removed gone).sectors s ≡ true → (contains v.shadow.kept.sectors s || contains v.shadow.unfinished.sectors s) ≡ false
+      by false s there = whole.once.removed s there
+      by true s there = gone_once v.map v.shadow v.shadow.removed [] gone s (whole.once.removed s) turn there
+
   -- it is whole once the version's sectors are taken, and what goes waits
   pub whole_entered : IsWhole (record v { map = free; shadow = w; cache = c; free_pages = flags; versions = versions })
   whole_entered = record {
@@ -111,11 +137,7 @@ module _ (v : VolumeValue) (whole : IsWhole v) (c : CacheValue) (flags : List Bo
     kept = subst (IsOfData v.layout) (sym kept) whole.kept;
     unfinished = subst (IsOfData v.layout) (sym unfinished) whole.unfinished;
     apart = apart;
-    unread = record {
-      kept = ap (λ (m : Area). m.sectors) kept ∙ whole.unread.kept;
-      unfinished = ap (λ (m : Area). m.sectors) unfinished ∙ whole.unread.unfinished;
-      held = held ∙ whole.unread.held;
-    };
+    once = once_entered;
     log = whole.log;
     epoch = whole.epoch;
     pages = edited.pages;

@@ -30,6 +30,7 @@ use Rattle.fsd_sound.specs.Mounted.{Mounted}
 use Rattle.fsd_sound.specs.Sound.{EndIn}
 use Rattle.fsd_sound.proofs.SoundLaws.{weak_within_hurt}
 use Rattle.fsd_sound.proofs.WindowLaws.{fewer}
+use Rattle.volume_changes.proofs.GoneLaws.{apart_front}
 use Rattle.volume_state.specs.Placing.{IsPlace}
 use Rattle.volume_state.specs.State.{Holds}
 use Rattle.volume_state.specs.Volume.{VolumeValue}
@@ -77,11 +78,10 @@ module _ (v : Volume) (name bytes : List ℕ) (given : Option ℕ) (runs : List 
   version_changed spaced sorted free = version_changes v name bytes given runs serial r (new_key_is_new name v.files v.entries sorted lists) free spaced
 
   -- its entries describe its files on the disk
-  pub version_described : (hurt : Sectors) (i : Image) → v.drafts ≡ [] → Changes v made → Kept i v.files v.entries hurt → KeptIn i hurt bytes runs → Describes v.layout hurt i made.files made.entries
-  version_described hurt i none changes kept new = record {
+  pub version_described : (hurt : Sectors) (i : Image) → Changes v made → Kept i v.files v.entries hurt → KeptIn i hurt bytes runs → Describes v.layout hurt i made.files made.entries
+  version_described hurt i changes kept new = record {
     lists = version_listed;
     apart = subst (λ (l : Layout). Apart l (plans_of made.entries)) changes.layout
-        (subst (λ (plans : List (List Run)). Apart made.layout plans) (append-nil (plans_of made.entries))
-        (subst (λ (plans : List (List Run)). Apart made.layout (plans_of made.entries ++ plans)) none changes.spaced.apart));
+        (apart_front made.layout (plans_of made.entries) made.drafts changes.spaced.apart);
     kept = version_kept hurt i v name bytes given runs serial r lists kept new;
   }

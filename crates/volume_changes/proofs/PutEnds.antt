@@ -65,6 +65,14 @@ length_small keep len fits = by (nat_lt max_keep keep) (nat_lt max_length len) r
 
 -- ---- what it is as its look-up begins
 
+-- a look-up that refuses leaves it as it was
+pub enter_keeps : (m : State) (why : Refusal) → Comes (enter_steps m) why → Keeps (enter_steps m) why m m
+enter_keeps m why (inl look) = inl (look, refl)
+enter_keeps m why (inr (looked, inl most)) = inr (looked, inl (most, refl))
+enter_keeps m why (inr (looked, inr (fewer, inl full))) = inr (looked, inr (fewer, inl (full, refl)))
+enter_keeps m why (inr (looked, inr (fewer, inr (room, inl fetch)))) = inr (looked, inr (fewer, inr (room, inl (fetch, refl))))
+enter_keeps m why (inr (looked, inr (fewer, inr (room, inr (fetched, none))))) = absurd none
+
 module _ (s m : State) (keep : Option ℕ) (len : ℕ) (tests : Through (test_steps s keep len)) (e : Entry) (prepares : Prepares (sectors_for len) s m (Ok e)) where
   still_down : m.down ≡ s.down
   still_down = elim prepares.state.down [
@@ -81,13 +89,6 @@ module _ (s m : State) (keep : Option ℕ) (len : ℕ) (tests : Through (test_st
 
   -- ---- the version is entered, or it is as it was
 
-  enter_keeps : (why : Refusal) → Comes (enter_steps m) why → Keeps (enter_steps m) why m m
-  enter_keeps why (inl look) = inl (look, refl)
-  enter_keeps why (inr (looked, inl most)) = inr (looked, inl (most, refl))
-  enter_keeps why (inr (looked, inr (fewer, inl full))) = inr (looked, inr (fewer, inl (full, refl)))
-  enter_keeps why (inr (looked, inr (fewer, inr (room, inl fetch)))) = inr (looked, inr (fewer, inr (room, inl (fetch, refl))))
-  enter_keeps why (inr (looked, inr (fewer, inr (room, inr (fetched, none))))) = absurd none
-
   module _ (t : State) where
     abbrev Entered : Result Key Refusal → Type 0
     Entered r = MatchResult r (λ key. Enters m t) (λ why. t ≡ m)
@@ -102,19 +103,21 @@ module _ (s m : State) (keep : Option ℕ) (len : ℕ) (tests : Through (test_st
           log = logged_still m t (record { anchor = enters.anchor; head = enters.head; slots = enters.slots }) (forces_for_place s (sectors_for len) || forces_first s) s counts.log;
         }
     put_counts (Err why) comes same =
-        put_kept s keep len tests m prepares.kept.went t why (subst (λ (x : State). Keeps (enter_steps m) why m x) (sym same) (enter_keeps why comes))
+        put_kept s keep len tests m prepares.kept.went t why (subst (λ (x : State). Keeps (enter_steps m) why m x) (sym same) (enter_keeps m why comes))
 
     pub put_goes : (r : Result Key Refusal) → Entered r → GoesOn (downs r) s t
     put_goes (Ok key) enters = record {
       layout = enters.layout ∙ prepares.state.layout;
       epoch = ap (λ (x : Serial). x.epoch) enters.serial ∙ prepares.state.epoch;
-      held = enters.held ∙ prepares.state.held;
+      readers = enters.readers ∙ prepares.state.readers;
+      unfinished = enters.unfinished ∙ prepares.state.unfinished;
       down = inl (enters.down ∙ still_down);
     }
     put_goes (Err why) same = record {
       layout = ap (λ (x : State). x.layout) same ∙ prepares.state.layout;
       epoch = ap (λ (x : State). x.serial.epoch) same ∙ prepares.state.epoch;
-      held = ap (λ (x : State). x.held) same ∙ prepares.state.held;
+      readers = ap (λ (x : State). x.readers) same ∙ prepares.state.readers;
+      unfinished = ap (λ (x : State). x.unfinished) same ∙ prepares.state.unfinished;
       down = inl (ap (λ (x : State). x.down) same ∙ still_down);
     }
 
@@ -172,12 +175,12 @@ module _ (v mid : VolumeValue) (name bytes : List ℕ) (keep : Option ℕ) (k : 
       by true c is =
           let same : Why.VersionsUsedUp ≡ why = cc is in
           subst (λ (r : Refusal). EndsRefused state Holds outcome k new now r) same
-          (ends_unentered v name bytes keep k e.runs sizes fits has.place (met_with 0) refl p.after p.volume new now Why.VersionsUsedUp p.windows p.changes (fault ∙ ap (λ (r : Refusal). Some r) (sym same)) stands)
+          (ends_unentered v name bytes keep k e.runs sizes fits has.place (met_with 0) refl p.after p.volume new now Why.VersionsUsedUp p.opened p.windows p.changes (fault ∙ ap (λ (r : Refusal). Some r) (sym same)) stands)
       by false true is =
           let full : Refusal = Why.NameTableFull (pages_free (volume_of p.after)) in
           let same : full ≡ why = cc is in
           subst (λ (r : Refusal). EndsRefused state Holds outcome k new now r) same
-          (ends_unentered v name bytes keep k e.runs sizes fits has.place (met_with 0) refl p.after p.volume new now full p.windows p.changes (fault ∙ ap (λ (r : Refusal). Some r) (sym same)) stands)
+          (ends_unentered v name bytes keep k e.runs sizes fits has.place (met_with 0) refl p.after p.volume new now full p.opened p.windows p.changes (fault ∙ ap (λ (r : Refusal). Some r) (sym same)) stands)
       by false false is = absurd (cc is)
 
   refused : (why : Refusal) → EndsEnter name keep bytes e p.after new now (Err why) → EndsRefused state Holds outcome k new now why
@@ -195,6 +198,7 @@ module _ (v mid : VolumeValue) (name bytes : List ℕ) (keep : Option ℕ) (k : 
           forces = refl;
           is = outcome_made v name bytes keep k e.runs sizes fits has.place (met_with ends.reached) refl p.after p.volume key e.serial has.serial ends.none ends.key_is count
               ∙ ap (λ (w : Volume). (made_key (length bytes) key, w)) (sym ends.volume);
+          opened = ends.opened ∙ p.opened;
           windows = ends.windows ∙ p.windows;
           changes = ends.changes ∙ ap (λ (h : List Change). h ++ Change.Put name keep bytes ∷ []) p.changes;
         };

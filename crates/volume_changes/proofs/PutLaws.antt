@@ -38,7 +38,7 @@ module _ (s : State) (keep : Option ℕ) (len : ℕ) where
 
   -- ---- a test refuses
 
-  tests_keep : (why : Refusal) → Comes (test_steps s keep len) why → Keeps (test_steps s keep len) why s s
+  pub tests_keep : (why : Refusal) → Comes (test_steps s keep len) why → Keeps (test_steps s keep len) why s s
   tests_keep why (inl down) = inl (down, refl)
   tests_keep why (inr (up, inl size)) = inr (up, inl (size, refl))
   tests_keep why (inr (up, inr (fits, inl worn))) = inr (up, inr (fits, inl (worn, refl)))
@@ -101,7 +101,7 @@ module _ (v : VolumeValue) (name bytes : List ℕ) (keep : Option ℕ) (k : Know
   at_once : (new : VolumeValue) (now : Moment) (why : Refusal) → size_fault (keep_given keep) (length bytes) ≡ Some why → Stands state Holds new k now → Answered state Holds outcome (Refused why) [] k new now
   at_once new now why fault stands =
       let met : Met = record { forces = forces_by_itself k.mounted; reached = 0; damaged = None; found = []; healed = 0 } in
-      (k, record { met = met; forces = refl; is = ap (λ (o : Option Refusal). put_unless o met (volume_of k) name bytes keep) fault; windows = refl; changes = sym (append-nil k.changes) }, stands)
+      (k, record { met = met; forces = refl; is = ap (λ (o : Option Refusal). put_unless o met (volume_of k) name bytes keep) fault; opened = refl; windows = refl; changes = sym (append-nil k.changes) }, stands)
 
   size_refused : (new : VolumeValue) (now : Moment) (why : Refusal) → size_fault (keep_given keep) (length bytes) ≡ Some why → Stands state Holds new k now → EndsRefused state Holds outcome k new now why
   size_refused new now why fault stands = by (nat_lt max_keep (keep_given keep)) (nat_lt max_length (length bytes)) refl refl fault
@@ -144,7 +144,7 @@ module _ (v : VolumeValue) (name bytes : List ℕ) (keep : Option ℕ) (k : Know
       by c d = again c _
 
   pub unchanged_ready : (need : ℕ) (new : VolumeValue) (now : Moment) → (p : StandsReady need k new now) → Unchanged k p.after
-  unchanged_ready need new now p = record { volume = as_ready need (forces_by_itself k.mounted) (volume_of p.after) p.volume; windows = p.windows; changes = p.changes }
+  unchanged_ready need new now p = record { volume = as_ready need (forces_by_itself k.mounted) (volume_of p.after) p.volume; opened = p.opened; windows = p.windows; changes = p.changes }
 
   -- the definitions come to the same look-up
   module _ (runs : List Run) (sizes : size_fault (keep_given keep) (length bytes) ≡ None) (fits : Fits (state v) k.mounted) (place : place_in (state v) (sectors_for (length bytes)) ≡ Some runs) (met : Met) (forces : met.forces ≡ forces_by_itself k.mounted) (after : Known)
@@ -159,14 +159,15 @@ module _ (v : VolumeValue) (name bytes : List ℕ) (keep : Option ℕ) (k : Know
         ∙ ap (λ (w : Volume). entered_unless (enter_fault w name) w name bytes keep runs at.serial met.reached) there
 
     -- the look-up says why none is made
-    pub ends_unentered : (new : VolumeValue) (now : Moment) (why : Refusal) → after.windows ≡ k.windows → after.changes ≡ k.changes → enter_fault (volume_of after) name ≡ Some why → Stands state Holds new after now
+    pub ends_unentered : (new : VolumeValue) (now : Moment) (why : Refusal) → after.opened ≡ k.opened → after.windows ≡ k.windows → after.changes ≡ k.changes → enter_fault (volume_of after) name ≡ Some why → Stands state Holds new after now
         → Answered state Holds outcome (Refused why) [] k new now
-    ends_unentered new now why windows changes fault stands = (
+    ends_unentered new now why opened windows changes fault stands = (
       after,
       record {
         met = met;
         forces = forces;
         is = outcome_is ∙ ap (λ (o : Option Refusal). entered_unless o (volume_of after) name bytes keep runs (forced_for_place (sectors_for (length bytes)) (volume_of k)).serial met.reached) fault;
+        opened = opened;
         windows = windows;
         changes = changes ∙ sym (append-nil k.changes);
       },

@@ -92,6 +92,7 @@ keep_test_ends v k now name keep why stands comes =
         met = record { forces = forces_by_itself k.mounted; reached = 0; damaged = None; found = []; healed = 0 };
         forces = refl;
         is = ap (λ (b : Bool). cond b (refused (volume_of k) (Why.KeepTooLarge keep)) (keep_set (forced_if (forces_by_itself k.mounted) (volume_of k)) name keep 0 (highest_entry name (forced_if (forces_by_itself k.mounted) (volume_of k)).entries))) large;
+        opened = refl;
         windows = refl;
         changes = sym (append-nil k.changes);
       },

@@ -33,7 +33,7 @@ module _ {D E : Type 0} (M : MachineGhosts D) (S : SourceGhosts E) (source : E) 
     kept = whole.kept;
     unfinished = whole.unfinished;
     apart = whole.apart;
-    unread = whole.unread;
+    once = whole.once;
     log = whole.log;
     epoch = whole.epoch;
     pages = edits.size ∙ whole.pages;

@@ -6,10 +6,10 @@ use Rattle.fsd_table.specs.Tree.{IsTree, pages_of}
 use Rattle.fsd_files.specs.Disk.{Image, Sectors}
 use Rattle.fsd_files.specs.Files.{Change, step}
 use Rattle.fsd_files.specs.Kept.{Describes}
-use Rattle.fsd_files.specs.Volume.{Volume, is_free}
-use Rattle.fsd_files.specs.Waiting.{Changes}
+use Rattle.fsd_files.specs.Volume.{Volume, is_free, is_in}
+use Rattle.fsd_files.specs.Waiting.{Changes, is_kept_alone}
 use Rattle.fsd_sound.specs.Mounted.{AgreeOutside, Mounted, image_at, most_changed}
-use Rattle.volume_contract.specs.State.{Known}
+use Rattle.volume_contract.specs.State.{Known, held_runs}
 use Rattle.volume_state.specs.Volume.{VolumeValue}
 
 -- The volume after one change more, which keeps the versions of the disk: nothing that was held or unfinished differs.
@@ -31,17 +31,22 @@ pub record MakesPages (old new : CacheValue) (flags : List Bool) (pages now : Li
   pub few : length new.dirty ≤ length old.dirty + most_changed
   pub clean : AgreeOutside new.dirty pages now
 
--- Its free sectors and those that wait for a force are the volume's, and so are its serial and its count of versions.
+-- Its free sectors and those that wait are the volume's, and so are what readers hold, its serial and its count of
+-- versions.
 pub record HasSpace (v : VolumeValue) (m : Volume) : Type 0 where
   pub map : (s : ℕ) → contains v.map.sectors s ≡ is_free m s
   pub removed : (s : ℕ) → contains v.shadow.removed.sectors s ≡ contains m.removed s
+  pub kept : (s : ℕ) → contains v.shadow.kept.sectors s ≡ is_kept_alone m s
+  pub unfinished : (s : ℕ) → contains v.shadow.unfinished.sectors s ≡ is_in m.drafts s
+  pub held : m.held ≡ held_runs v.shadow.held
   pub serial : m.serial ≡ v.serial
   pub versions : length m.files ≡ v.versions
 
--- the same volume, with its log where it was
+-- the same volume, with its log where it was and what readers hold
 pub record IsSameVolume (old new : VolumeValue) : Type 0 where
   pub layout : new.layout ≡ old.layout
   pub log : new.log ≡ old.log
+  pub readers : new.shadow.held ≡ old.shadow.held
   pub down : new.down ≡ old.down
 
 -- what stands after one change more, with these pages in memory

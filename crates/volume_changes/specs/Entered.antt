@@ -24,7 +24,8 @@ pub record Enters (old new : State) : Type 0 where
   pub anchor : new.anchor ≡ old.anchor
   pub head : new.head ≡ old.head
   pub slots : new.slots ≡ old.slots
-  pub held : new.held ≡ old.held
+  pub readers : new.readers ≡ old.readers
+  pub unfinished : new.unfinished ≡ old.unfinished
   pub down : new.down ≡ old.down
 
 -- It stands with the version of this key, made of the draft, whose bytes and leader stand as they did.
@@ -34,6 +35,7 @@ pub record StandsEntered (name : List ℕ) (given : Option ℕ) (bytes : List �
   pub key_is : key ≡ new_key name (volume_of k).files
   pub reached : ℕ
   pub volume : volume_of after ≡ with_version (volume_of k) name bytes given draft.runs draft.serial reached
+  pub opened : after.opened ≡ k.opened
   pub windows : after.windows ≡ k.windows
   pub changes : after.changes ≡ k.changes ++ Change.Put name given bytes ∷ []
   pub stands : Stands state Holds new after now

@@ -1,4 +1,5 @@
 pub mod Changing
+pub mod Completed
 pub mod Ending
 pub mod Entered
 pub mod Meeting

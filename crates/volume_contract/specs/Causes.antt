@@ -21,7 +21,7 @@ use Rattle.fsd_files.specs.Volume.{is_in}
 use Rattle.fsd_sound.specs.Homes.{AreHomesOf}
 use Rattle.fsd_sound.specs.Mounted.{image_at}
 use Rattle.log_thirds.specs.Images.{AreOfSlot, LiesAt}
-use Rattle.volume_contract.specs.State.{State}
+use Rattle.volume_contract.specs.State.{State, held_of}
 
 -- ---- what is lost
 
@@ -69,7 +69,7 @@ meets_held held runs = list_any (λ other. not (same_runs other runs) && list_an
 
 -- the entry has a sector that is free or waits, or one of a held version whose runs are not the very same
 abbrev pub HasUntaken : State → Entry → Type 0
-HasUntaken s e = IsTrue (list_any (λ t. is_in (s.free ∷ []) t || contains s.waiting t) (sectors_of e.runs) || meets_held s.held e.runs)
+HasUntaken s e = IsTrue (list_any (λ t. is_in (s.free ∷ []) t || contains s.waiting t) (sectors_of e.runs) || meets_held (held_of s) e.runs)
 
 -- none of its sectors is free or waits, or is one of a held version whose runs are not the very same
 abbrev pub IsTaken : State → Entry → Type 0

@@ -41,6 +41,7 @@ pub record Answers (outcome : Met → Outcome) (reply : Reply) (made : List Chan
   pub met : Met
   pub forces : met.forces ≡ forces_by_itself k.mounted
   pub is : outcome met ≡ (reply, volume_of after)
+  pub opened : after.opened ≡ k.opened
   pub windows : after.windows ≡ k.windows
   pub changes : after.changes ≡ k.changes ++ made
 
@@ -51,6 +52,7 @@ IsAsBefore v w = ((w ≡ v) ⊎ (w ≡ drawn v)) ⊎ ((w ≡ forced v) ⊎ (w �
 -- Nothing is changed.
 pub record Unchanged (k after : Known) : Type 0 where
   pub volume : IsAsBefore (volume_of k) (volume_of after)
+  pub opened : after.opened ≡ k.opened
   pub windows : after.windows ≡ k.windows
   pub changes : after.changes ≡ k.changes
 

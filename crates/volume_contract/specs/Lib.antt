@@ -7,3 +7,4 @@ pub mod Absent
 pub mod Found
 pub mod Logged
 pub mod Healing
+pub mod Pieces

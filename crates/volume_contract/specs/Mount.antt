@@ -25,7 +25,7 @@ use Rattle.fsd_sound.specs.Writes.{WritesAsMount}
 use Rattle.fsd_sound.specs.Windows.{IsNamedSince}
 use Rattle.fsd_sound.specs.Mounting.{HasNextEpoch, HasRoot, IsVolume, RefusedFor, last_epoch}
 use Rattle.fsd_runs.specs.Leaves.{RaisesEpoch}
-use Rattle.volume_contract.specs.State.{Fits, Known, ListsPages, Stands, State}
+use Rattle.volume_contract.specs.State.{Fits, Known, ListsPages, Stands, State, none_open}
 
 -- ---- over any machine
 
@@ -150,6 +150,7 @@ pub record SoundSince (l : Layout) (windows : List WeakRun) (run : WeakRun) (h :
 pub record Settled (l : Layout) (windows : List WeakRun) (run : WeakRun) (h : List Change) (n : ℕ) (k : Known) (old new : Moment) : Type 0 where
   pub settled : new.windows ≡ record { present = Some run; next = None }
   pub known : k.windows ≡ windows ++ run ∷ []
+  pub opened : k.opened ≡ none_open
   pub changes : k.changes ≡ take n h
   pub layout : k.mounted.volume.layout ≡ l
   pub first : k.mounted.volume.serial.count ≡ 1

@@ -128,6 +128,9 @@ module _ (s : State) where
   abbrev pub no_place_in : List Run → ℕ → Refusal
   no_place_in runs need = if nat_lt (total runs) need then Why.NoSpace need (total runs) else Why.TooFragmented need (best runs)
 
+  abbrev pub length_size : ℕ → Step
+  length_size len = Test (size_fault 0 len)
+
   abbrev pub place : ℕ → Step
   place need = Test (if is_none (place_in s need) then Some (no_place_in (runs_at need) need) else None)
 
@@ -159,6 +162,22 @@ module _ (s : State) where
 
   abbrev pub read_steps : List Step
   read_steps = down ∷ LookUp ∷ Asks Why.NoSuch ∷ Data ∷ []
+
+  -- ---- creations in pieces, and versions that are held
+
+  abbrev pub reserve_steps : ℕ → List Step
+  reserve_steps len = let need = sectors_for len in down ∷ length_size len ∷ worn ∷ Force (forces_for_place s need) ∷ place need ∷ Draw ∷ []
+
+  -- the sectors of the slices
+  abbrev pub slices_steps : Sectors → List Step
+  slices_steps may = down ∷ Disk may ∷ []
+
+  -- the leader's sector
+  abbrev pub enter_steps : Option ℕ → Sectors → List Step
+  enter_steps keep leader = down ∷ keep_size (keep_given keep) ∷ worn ∷ Disk leader ∷ by_itself ∷ LookUp ∷ Asks Why.VersionsUsedUp ∷ table_full ∷ Fetch ∷ []
+
+  abbrev pub held_steps : List Step
+  held_steps = down ∷ Data ∷ []
 
   -- a force comes only where a page waits
   abbrev pub force_steps : List Step

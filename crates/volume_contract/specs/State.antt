@@ -1,7 +1,7 @@
 -- A volume as its caller knows it: what it tells over any machine,
 -- and what it is where the machine kept to its promise.
-use Rattle.std.specs.Prelude.{◌≡◌, ◌⊎◌, ℕ, suc, ◌+◌, ◌-◌, ◌*◌, ◌<◌, ◌≤◌, Bool, false, not, ◌&&◌, ◌||◌, List, [], length, Option, Some, None, IsSome, Result, Ok, Err, IsTrue, is_none, nat_le, nat_lt, ◌==◌, if◌then◌else◌, count_by, filter, map, replicate, slice_index_or, option_and_then, IsFalse}
-use Rattle.std.specs.List.{list_any, AllByRecursion}
+use Rattle.std.specs.Prelude.{◌≡◌, ◌⊎◌, ℕ, suc, ◌+◌, ◌-◌, ◌*◌, ◌<◌, ◌≤◌, Bool, false, not, ◌&&◌, ◌||◌, List, [], length, Option, Some, None, IsSome, Result, Ok, Err, IsTrue, is_none, option_map, nat_le, nat_lt, ◌==◌, if◌then◌else◌, count_by, filter, map, replicate, slice_index_or, option_and_then, ◌∷◌, IsFalse}
+use Rattle.std.specs.List.{list_any, AllByRecursion, AllZip}
 use Rattle.fsd_bytes.specs.declared.key.Serial.{Serial}
 use Rattle.fsd_bytes.specs.declared.refusal.Refusal.{Refusal}
 use Rattle.fsd_bytes.specs.declared.refusal.Refusal.TheVariants as Why
@@ -19,11 +19,12 @@ use Rattle.sector_disk.specs.Machine.{Moment, Ledger}
 use Rattle.fsd_log.specs.Scan.{Head, Placed, place_of, spot_for, start}
 use Rattle.fsd_forest.specs.Met.{search_of}
 use Rattle.fsd_table.specs.Table.{visits}
-use Rattle.fsd_files.specs.Disk.{Sectors, Touches}
+use Rattle.fsd_files.specs.Disk.{Image, Sectors, Touches}
 use Rattle.fsd_files.specs.Files.{Change}
+use Rattle.fsd_files.specs.Kept.{data_sectors}
 use Rattle.fsd_files.specs.Volume.{Volume, forced, free_runs, is_in, pages_free, waits}
 use Rattle.fsd_sound.specs.Anchors.{fresh_anchor}
-use Rattle.fsd_sound.specs.Mounted.{Mounted, IsMounted, most_waiting}
+use Rattle.fsd_sound.specs.Mounted.{Mounted, IsMounted, Wrote, most_waiting}
 use Rattle.fsd_sound.specs.Shown.{records_by}
 use Rattle.fsd_sound.specs.Sound.{EndIn, IsSound}
 use Rattle.fsd_sound.specs.Writes.{force_writes}
@@ -35,10 +36,16 @@ use Rattle.fsd_runs.specs.Runs.{last_count}
 
 -- ---- over any machine
 
+-- the runs of the versions that are held, in the order of their places
+abbrev pub held_runs : List (Option (List Run)) → List (List Run)
+held_runs [] = []
+held_runs (None ∷ places) = held_runs places
+held_runs (Some runs ∷ places) = runs ∷ held_runs places
+
 -- The layout, the serial that the next creation draws, the log's anchor and end, the slot of each page's last image in
 -- it, the pages that wait for a force, the free runs now and once a force has ended, the sectors that wait, whether
--- some of them wait for a force, the runs of the versions that readers hold, the free name pages, the number of
--- versions, and the place of the force that failed.
+-- some of them wait for a force, those of unfinished creations, at eight places the runs of the version that a reader
+-- holds by it, the free name pages, the number of versions, and the place of the force that failed.
 pub record State : Type 0 where
   pub layout : Layout
   pub serial : Serial
@@ -50,10 +57,23 @@ pub record State : Type 0 where
   pub freed : List Run
   pub waiting : List ℕ
   pub waits : Bool
-  pub held : List (List Run)
+  pub unfinished : List ℕ
+  pub readers : List (Option (List Run))
   pub free_pages : List ℕ
   pub versions : ℕ
   pub down : Option ℕ
+
+-- the runs of the versions that readers hold
+abbrev pub held_of : State → List (List Run)
+held_of s = held_runs s.readers
+
+-- so many readers may hold a version each
+abbrev pub most_readers : ℕ
+most_readers = 8
+
+-- nobody holds a version
+abbrev pub no_readers : {X : Type 0} → List (Option X)
+no_readers = replicate most_readers None
 
 -- serials or record numbers are used up
 abbrev pub is_worn : State → Bool
@@ -76,7 +96,8 @@ pub record IsNew (s : State) : Type 0 where
   pub dirty : s.dirty ≡ []
   pub waiting : s.waiting ≡ []
   pub waits : s.waits ≡ false
-  pub held : s.held ≡ []
+  pub unfinished : s.unfinished ≡ []
+  pub readers : s.readers ≡ no_readers
   pub freed : s.freed ≡ s.free
   pub up : s.down ≡ None
 
@@ -94,7 +115,8 @@ downs (Err why) = downs_for why
 pub record GoesOn (place : Option ℕ) (old new : State) : Type 0 where
   pub layout : new.layout ≡ old.layout
   pub epoch : new.serial.epoch ≡ old.serial.epoch
-  pub held : new.held ≡ old.held
+  pub unfinished : new.unfinished ≡ old.unfinished
+  pub readers : new.readers ≡ old.readers
   pub down : (new.down ≡ old.down) ⊎ (IsSome place × (new.down ≡ place))
 
 -- what the grammar accepts a page in memory for
@@ -154,9 +176,10 @@ pub record LogsRecord (s new : State) : Type 0 where
   pub table : length new.slots ≡ length s.slots
   pub slots : (page : ℕ) → page < length s.slots → slice_index_or new.slots page None ≡ (if contains s.dirty page then Some (record_slot s page) else slice_index_or s.slots page None)
 
--- a force has ended, with its log here: nothing waits for one, what did is free, and only what readers hold waits on
+-- a force has ended, with its log here: nothing waits for one, what did is free, and only what readers hold and
+-- unfinished creations have waits on
 abbrev pub forced_state : State → (anchor : Anchor) → (head : Head) → (slots : List (Option Slot)) → State
-forced_state s anchor head slots = record s { anchor = anchor; head = head; slots = slots; dirty = []; free = s.freed; waiting = filter (is_in s.held) s.waiting; waits = false }
+forced_state s anchor head slots = record s { anchor = anchor; head = head; slots = slots; dirty = []; free = s.freed; waiting = filter (λ t. is_in (held_of s) t || contains s.unfinished t) s.waiting; waits = false }
 
 -- A force has ended: it has numbered and logged one record, and none where no page waited.
 pub record IsForced (old new : State) : Type 0 where
@@ -212,9 +235,34 @@ Counted (Err why) n old new = (old.written ≤ new.written) × (new.written ≤ 
 
 -- ---- over an honest machine
 
--- What stands: the volume with what it has in memory, the windows so far, and the changes so far.
+-- An unfinished creation: its runs, and what was written in each of its data sectors, if anything was.
+pub record Written : Type 0 where
+  pub runs : List Run
+  pub slices : List (Option (List ℕ))
+
+-- A version that a reader holds: its runs and its bytes.
+pub record Reading : Type 0 where
+  pub runs : List Run
+  pub bytes : List ℕ
+
+-- What clients of a volume have open: creations, the last that was begun first, and at eight places versions.
+pub record Opened : Type 0 where
+  pub drafts : List Written
+  pub readers : List (Option Reading)
+
+-- nothing
+abbrev pub none_open : Opened
+none_open = record { drafts = []; readers = no_readers }
+
+abbrev pub readings : List (Option Reading) → List Reading
+readings [] = []
+readings (None ∷ places) = readings places
+readings (Some x ∷ places) = x ∷ readings places
+
+-- What stands: the volume with what it has in memory, what is open, the windows so far, and the changes so far.
 pub record Known : Type 0 where
   pub mounted : Mounted
+  pub opened : Opened
   pub windows : List WeakRun
   pub changes : List Change
 
@@ -236,10 +284,18 @@ pub record Fits (s : State) (m : Mounted) : Type 0 where
   pub freed : free_runs (forced m.volume) ≡ s.freed
   pub waiting : where_free (waits m.volume) (data_start m.volume.layout) m.volume.layout.sectors ≡ s.waiting
   pub waits : not (length m.volume.removed == 0) ≡ s.waits
-  pub held : m.volume.held ≡ s.held
+  pub unfinished : where_free (is_in m.volume.drafts) (data_start m.volume.layout) m.volume.layout.sectors ≡ s.unfinished
+  pub held : m.volume.held ≡ held_of s
   pub pages_free : pages_free m.volume ≡ length s.free_pages
   pub versions : length m.volume.files ≡ s.versions
   pub up : s.down ≡ None
+
+-- What it has open is this, and so are what was written and what the versions have.
+pub record HasOpened (s : State) (o : Opened) (m : Mounted) : Type 0 where
+  pub drafts : m.volume.drafts ≡ map (λ x. x.runs) o.drafts
+  pub slices : m.slices ≡ map (λ x. x.slices) o.drafts
+  pub places : s.readers ≡ map (λ place. option_map (λ x. x.runs) place) o.readers
+  pub bytes : m.bytes ≡ map (λ x. x.bytes) (readings o.readers)
 
 -- What it tells of pages is of these, and of the log's records: each page's slot in the last record that has it, and
 -- the free name pages, which no path reaches.
@@ -248,14 +304,20 @@ pub record ListsPages (s : State) (pages : List (List ℕ)) (records : List Plac
   pub slots : AreSlots s.layout s.anchor.third records s.slots
   pub free_pages : (page : ℕ) → page < s.layout.pages → contains s.free_pages page ≡ not (list_any (λ visit. visit.page == page) (visits pages))
 
+-- what is written of unfinished creations stands in their sectors, but for damage in these
+abbrev pub StandWritten : Sectors → Image → List (List (Option (List ℕ))) → List (List Run) → Type 0
+StandWritten weak i slices drafts = AllZip (λ written runs. AllZip (Wrote weak i) written (data_sectors runs)) slices drafts
+
 -- The volume is mounted on the disk of this moment, and what it has in memory is of it and of
--- the records that the disk's log has.
+-- the records that the disk's log has. What is written of its creations may be damaged in the open window alone.
 pub record Stands {S : Type 0} (state : S → State) (has : S → Mounted → List Placed → Type 0) (s : S) (k : Known) (now : Moment) : Type 0 where
   pub fits : Fits (state s) k.mounted
+  pub opened : HasOpened (state s) k.opened k.mounted
   pub holds : has s k.mounted (records_by k.mounted.volume.layout now.image k.mounted.anchor)
   pub lists : ListsPages (state s) k.mounted.pages (records_by k.mounted.volume.layout now.image k.mounted.anchor)
   pub ends : EndIn now.windows k.windows
   pub disk : IsMounted k.mounted k.windows k.changes (forced_of k) now.image
+  pub written : StandWritten (open_damage now.windows) now.image k.mounted.slices k.mounted.volume.drafts
 
 -- The disk is worn since, in the same windows; what is said may differ.
 pub record Ages (old new : Moment) : Type 0 where

@@ -1,5 +1,6 @@
 //! A volume as its callers see it.
-ghost use Rattle.std.specs.Prelude.{◌≡◌, ◌≤◌, ◌<◌, ◌==◌, ◌||◌, ℕ, List, Option, Contains, length, true, false, Some, Ok, Err, IfOk, IfSome, IfNone, IfErr, OnOk, IsTrue, MatchResult, option_map};
+ghost use Rattle.std.specs.Prelude.{◌≡◌, ◌≤◌, ◌<◌, ◌+◌, ◌==◌, ◌||◌, ℕ, List, Option, Contains, length, true, false, Some, Ok, Err, IfOk, IfSome, IfNone, IfErr, OnOk, IsTrue, MatchResult, is_none, option_map, slice_index_or};
+ghost use Rattle.std.specs.List.{list_any};
 ghost use Rattle.volume_layout.specs.declared.layout.Layout.{Layout as Plan};
 ghost use Rattle.volume_layout.specs.Layout.{is_data, plan};
 ghost use Rattle.sector_disk.specs.declared.sector.WeakRun.{WeakRun as Run};
@@ -22,10 +23,11 @@ ghost use Rattle.fsd_files.specs.Scrub.{CountsTwins, leader_place, FindsLeader, 
 ghost use Rattle.fsd_sound.specs.Sound.{is_twin};
 ghost use Rattle.fsd_sound.specs.Mounted.{Mounted, image_at};
 ghost use Rattle.fsd_sound.specs.Lost.{AreCopiesOn, LostIn};
-ghost use Rattle.volume_contract.specs.State.{State, Known, Ages, volume_of, Stands, IsNew, GoesOn, HasEnough, HasCounted, IsForced as HasForced, Counted, downs, Leaves, put_writes, force_len, change_len, put_len, forces_first, forces_for_place};
+ghost use Rattle.volume_contract.specs.State.{State, Known, Ages, volume_of, Stands, IsNew, GoesOn, HasEnough, HasCounted, IsForced as HasForced, Counted, Reading, downs, downs_for, Leaves, put_writes, force_len, change_len, put_len, forces_first, forces_for_place};
 ghost use Rattle.fsd_sound.specs.Writes.{MountKeeps, force_writes};
-ghost use Rattle.volume_contract.specs.Order.{Follows, IsDevice, Keeps, is_idle, put_steps, delete_steps, keep_steps, entry_steps, next_steps, read_steps, force_steps, heal_steps, single_steps};
-ghost use Rattle.volume_contract.specs.Ends.{Ends, EndsPut, EndsForce, Closes, Looks, IsLater, found_one, Reads, kept_key, device_of};
+ghost use Rattle.volume_contract.specs.Order.{Follows, IsDevice, Keeps, is_idle, put_steps, delete_steps, keep_steps, entry_steps, next_steps, read_steps, reserve_steps, slices_steps, enter_steps, held_steps, force_steps, heal_steps, single_steps};
+ghost use Rattle.volume_contract.specs.Pieces.{IsDraft, IsHeld, Reserves, GivesBack, Enters as EntersState, HoldsAt, Unholds, FitsDraft, reserve_len, slice_count, in_slices, in_leader, slices_in, slices_if, read_at, ended, with_opened, told, EndsReserve, EndsSlices, EndsEnter, EndsHold, ReadsHeld};
+ghost use Rattle.volume_contract.specs.Ends.{Ends, EndsPut, EndsForce, Closes, Looks, IsLater, count_in, found_one, Reads, kept_key, device_of};
 ghost use Rattle.volume_contract.specs.Absent.{LacksKey, LacksLater, ShowsReached};
 ghost use Rattle.volume_contract.specs.Found.{HasEntry, HasRange, ShowsReachedNext};
 ghost use Rattle.volume_contract.specs.Causes.{Causes, IsTaken};
@@ -34,6 +36,7 @@ ghost use Rattle.volume_contract.specs.Logged.{AllLogged, KeepsPages};
 ghost use Rattle.volume_contract.specs.Mount.{CountsMount, HealsAnchors, HealsHomes, IsFound, IsRefused, KeepsAll, UnsoundFor, MountsCalm, IsSoundAt, MountsSound};
 ghost use Rattle.fsd_sound.specs.Mounting.{device_of_mount};
 
+use crate::token::{Draft, Held};
 use fsd_bytes::{FileName, Key, Refusal};
 use fsd_formats::Entry;
 use fsd_sound::MountFault;
@@ -204,6 +207,119 @@ pub trait Files<M: Machine>: Sized {
         ensures found { IfOk result (λ count. ShowsReached M.Machine (resident self.old) (state self.old) (state self.new) m.old m.new (HasRange (state self.new) (M.now m.old).image key.now from buf.old buf.new count)) }
         ensures done { M.honest m.new → (k : Known) → Stands state holds self.old k (M.now m.old) →
             Reads (M.now m.old).image (M.now m.new).image (file_of key_cmp key.now (volume_of k).files) (entry_of key.now (volume_of k).entries) from buf.old buf.new result };
+
+    /// Begins a version of so many bytes: its sectors are taken and its serial is drawn. It takes no memory.
+    fn reserve(&mut self, m: &mut M, length: u64) -> Result<Draft, Refusal>
+        requires { (state self.old).layout.sectors ≤ (M.report m.old).sectors }
+        ensures order { Follows (reserve_steps (state self.old) length) result }
+        ensures disk { WritesDisk M.Machine (device_in device_of result) (Leaves state holds self.old (force_writes (state self.old).layout)) m.old m.new }
+        ensures rest { M.honest m.new → Touches (force_writes (state self.old).layout) (M.now m.old) (M.now m.new) }
+        ensures counted { M.tells m.new → Counted result (reserve_len (state self.old) (sectors_for length)) (M.ledger m.old) (M.ledger m.new) }
+        ensures draft { IfOk result (λ d. (d.length ≡ length) × IsDraft (state self.new) d) }
+        ensures state { IfErr result (λ why. GoesOn (downs result) (state self.old) (state self.new)) }
+        ensures idle { IsTrue (is_idle (reserve_steps (state self.old) length)) → m.new ≡ m.old }
+        ensures kept { MatchResult result (λ d. Reserves (sectors_for length) (state self.old) (state self.new) d) (λ why. Keeps (reserve_steps (state self.old) length) why (state self.old) (state self.new)) }
+        ensures causes { Causes M.Machine (resident self.old) (state self.old) (state self.new) m.old m.new result }
+        ensures done { M.honest m.new → (k : Known) → Stands state holds self.old k (M.now m.old) → EndsReserve state holds length k self.new (M.now m.new) result };
+
+    /// Writes bytes of a version that was begun, from one of its slices on: whole slices, or up to its end. It takes no
+    /// memory. Where the disk fails, what the slices have is not known.
+    fn write_slices(
+        &mut self,
+        m: &mut M,
+        draft: &Draft,
+        first: u32,
+        bytes: &[u8],
+    ) -> Result<(), Refusal>
+        requires room { (state self.old).layout.sectors ≤ (M.report m.old).sectors }
+        requires draft { IsDraft (state self.old) draft.now }
+        requires fits { FitsDraft draft.now.length first (length bytes.now) }
+        ensures order { Follows (slices_steps (state self.old) (in_slices draft.now.runs first (length bytes.now))) result }
+        ensures disk { WritesDisk M.Machine (device_in device_of result) (Leaves state holds self.old (in_slices draft.now.runs first (length bytes.now))) m.old m.new }
+        ensures rest { M.honest m.new → Touches (in_slices draft.now.runs first (length bytes.now)) (M.now m.old) (M.now m.new) }
+        ensures counted { M.tells m.new → Counted result (slice_count (length bytes.now)) (M.ledger m.old) (M.ledger m.new) }
+        ensures state { state self.new ≡ state self.old }
+        ensures idle { IsTrue (is_idle (slices_steps (state self.old) (in_slices draft.now.runs first (length bytes.now)))) → m.new ≡ m.old }
+        ensures done { M.honest m.new → (k : Known) → Stands state holds self.old k (M.now m.old) →
+            (before : List (Option (List ℕ))) → slices_in k.opened.drafts draft.now.runs ≡ Some before →
+            EndsSlices state holds draft.now first bytes.now before k self.new (M.now m.new) result };
+
+    /// Makes a version of a creation whose slices are all written, its leader first; or hands it back.
+    fn enter(
+        &mut self,
+        m: &mut M,
+        name: &FileName,
+        keep: Option<u32>,
+        draft: Draft,
+    ) -> Result<Key, (Draft, Refusal)>
+        requires room { (state self.old).layout.sectors ≤ (M.report m.old).sectors }
+        requires draft { IsDraft (state self.old) draft }
+        ensures order { Follows (enter_steps (state self.old) keep (in_leader draft.runs)) (told result) }
+        ensures disk { WritesDisk M.Machine (device_in device_of (told result)) (Leaves state holds self.old (λ t. force_writes (state self.old).layout t || in_leader draft.runs t)) m.old m.new }
+        ensures rest { M.honest m.new → Touches (λ t. force_writes (state self.old).layout t || in_leader draft.runs t) (M.now m.old) (M.now m.new) }
+        ensures counted { M.tells m.new → Counted (told result) (1 + change_len (state self.old)) (M.ledger m.old) (M.ledger m.new) }
+        ensures state { MatchResult result (λ key. EntersState draft.runs (state self.old) (state self.new)) (λ p. GoesOn (downs_for p.1) (state self.old) (state self.new)) }
+        ensures back { IfErr result (λ p. p.0 ≡ draft) }
+        ensures idle { IsTrue (is_idle (enter_steps (state self.old) keep (in_leader draft.runs))) → m.new ≡ m.old }
+        ensures name { IfOk result (λ key. key.name ≡ name.now) }
+        ensures kept { let s = state self.old in
+            MatchResult result (λ key. HasCounted false (forces_first s) s (state self.new)) (λ p. Keeps (enter_steps s keep (in_leader draft.runs)) p.1 s (state self.new)) }
+        ensures causes { Causes M.Machine (resident self.old) (state self.old) (state self.new) m.old m.new (told result) }
+        ensures done { M.honest m.new → (k : Known) → Stands state holds self.old k (M.now m.old) →
+            (bytes : List ℕ) → length bytes ≡ draft.length → slices_in k.opened.drafts draft.runs ≡ Some (slices_if true bytes) →
+            EndsEnter state holds draft name.now bytes keep k self.new (M.now m.new) (told result) };
+
+    /// Gives a creation up: its sectors are free at once. It takes no memory, and a volume that is down does it too.
+    fn abandon(&mut self, draft: Draft)
+        requires { IsDraft (state self.old) draft }
+        ensures state { GivesBack draft.runs (state self.old) (state self.new) }
+        ensures done { (k : Known) (now : Moment) (before : List (Option (List ℕ))) → slices_in k.opened.drafts draft.runs ≡ Some before →
+            Stands state holds self.old k now → Stands state holds self.new (with_opened k (ended k.opened draft.runs)) now };
+
+    /// Holds a version for a reader, who gets its bytes whatever becomes of it. Fewer than eight are held.
+    fn hold(&mut self, m: &mut M, key: &Key) -> Result<Held, Refusal>
+        requires room { (state self.old).layout.sectors ≤ (M.report m.old).sectors }
+        requires place { IsTrue (list_any is_none (state self.old).readers) }
+        ensures order { Follows (entry_steps (state self.old)) result }
+        ensures disk { OnlyReads M.Machine (device_in device_of result) m.old m.new }
+        ensures state { MatchResult result (λ h. HoldsAt h (state self.old) (state self.new)) (λ why. state self.new ≡ state self.old) }
+        ensures held { IfOk result (IsHeld (state self.new)) }
+        ensures idle { IsTrue (is_idle (entry_steps (state self.old))) → m.new ≡ m.old }
+        ensures key { IfOk result (λ h. h.entry.key ≡ key.now) }
+        ensures taken { IfOk result (λ h. IsTaken (state self.old) h.entry) }
+        ensures causes { Causes M.Machine (resident self.old) (state self.old) (state self.new) m.old m.new result }
+        ensures absent { result ≡ Err Why.NoSuch → ShowsReached M.Machine (resident self.old) (state self.old) (state self.new) m.old m.new (LacksKey key.now) }
+        ensures found { IfOk result (λ h. ShowsReached M.Machine (resident self.old) (state self.old) (state self.new) m.old m.new (HasEntry h.entry)) }
+        ensures done { M.honest m.new → (k : Known) → Stands state holds self.old k (M.now m.old) → EndsHold state holds key.now k self.new (M.now m.new) result };
+
+    /// Reads bytes of a version that is held, from a place on, as many as there are and the buffer has room for. It takes
+    /// no memory.
+    fn read_held(
+        &mut self,
+        m: &mut M,
+        held: &Held,
+        from: u32,
+        buf: &mut [u8],
+    ) -> Result<u32, Refusal>
+        requires room { (state self.old).layout.sectors ≤ (M.report m.old).sectors }
+        requires held { IsHeld (state self.old) held.now }
+        ensures order { Follows (held_steps (state self.old)) result }
+        ensures disk { OnlyReads M.Machine (device_in device_of result) m.old m.new }
+        ensures state { state self.new ≡ state self.old }
+        ensures idle { IsTrue (is_idle (held_steps (state self.old))) → m.new ≡ m.old }
+        ensures count { IfOk result (λ n. n ≡ count_in held.now.entry.length from (length buf.old)) }
+        ensures damaged { (s : ℕ) → result ≡ Err (Why.Damaged s) → M.honest m.new → sector_at (M.now m.new).image s ≡ Damaged }
+        ensures stands { M.honest m.new → (k : Known) → Stands state holds self.old k (M.now m.old) → Stands state holds self.new k (M.now m.new) }
+        ensures done { M.honest m.new → (k : Known) → Stands state holds self.old k (M.now m.old) →
+            (reading : Reading) → slice_index_or k.opened.readers held.now.place None ≡ Some reading → held.now.entry.length ≡ length reading.bytes →
+            ReadsHeld (M.now m.old).image (M.now m.new).image held.now reading.bytes from buf.old buf.new result };
+
+    /// A reader gives its version up: sectors that it alone kept are free. It takes no memory, and a volume that is down does
+    /// it too.
+    fn unhold(&mut self, held: Held)
+        requires { IsHeld (state self.old) held }
+        ensures state { Unholds held.place (state self.old) (state self.new) }
+        ensures done { (k : Known) (now : Moment) → Stands state holds self.old k now → Stands state holds self.new (with_opened k (read_at k.opened held.place None)) now };
 
     /// Commits all changes since the last force, where there were any. It takes no memory.
     fn force(&mut self, m: &mut M) -> Result<Forced, Refusal>

@@ -2,5 +2,7 @@
 #![tactic(auto)]
 
 mod files;
+mod token;
 
 pub use files::{Files, Forced, Stat};
+pub use token::{Draft, Held};

@@ -98,25 +98,27 @@ module _ (v : VolumeValue) (k : Known) (now : Moment) (whole : IsWhole v) (stand
         waiting = stands.fits.waiting;
         waits = stands.fits.waits;
         held = stands.fits.held;
+        unfinished = stands.fits.unfinished;
         pages_free = stands.fits.pages_free;
         versions = stands.fits.versions;
         up = stands.fits.up;
       };
+      opened = record { drafts = stands.opened.drafts; slices = stands.opened.slices; places = stands.opened.places; bytes = stands.opened.bytes };
       holds = record {
         planned = stands.holds.planned;
         pages = pages_there;
         inside = inside_there;
         map = stands.holds.map;
         removed = stands.holds.removed;
+        kept = stands.holds.kept;
+        unfinished = stands.holds.unfinished;
         free_pages = stands.holds.free_pages;
         log = stands.holds.log;
         fits = stands.holds.fits;
         indexed = stands.holds.indexed;
-        drafts = stands.holds.drafts;
-        slices = stands.holds.slices;
-        bytes = stands.holds.bytes;
       };
       lists = record { table = stands.lists.table; slots = stands.lists.slots; free_pages = stands.lists.free_pages };
       ends = stands.ends;
       disk = stands.disk;
+      written = stands.written;
     }

@@ -2,32 +2,34 @@
 use Rattle.std.proofs.Common.{◌≡◌, inl, inr, ℕ, ◌-◌, ◌<◌, ◌≤◌, Bool, true, false, not, ◌&&◌, ◌||◌, nat_le, nat_lt, List, [], length, option_map, Option, Some, None, Ok, Err, refl, sym, ap, subst, ◌∙◌, arith}
 use Rattle.std.specs.Prelude.{◌==◌, slice_index_or}
 use Rattle.std.specs.List.{list_any}
-use Rattle.std.proofs.lemmas.Bool.{cases_lt, lt-leb, le-ltb}
+use Rattle.std.proofs.lemmas.Bool.{cases_lt, lt-leb, le-ltb, or_left}
 use Rattle.std.proofs.lemmas.List.{append-nil}
 use Rattle.volume_layout.specs.declared.layout.Layout.{Layout}
-use Rattle.volume_layout.specs.Layout.{data_start}
+use Rattle.volume_layout.specs.Layout.{data_start, map_start}
+use Rattle.run_table.specs.declared.run.Run.{Run}
 use Rattle.run_table.specs.Space.{contains, where_free}
 use Rattle.sector_set.specs.Area.{Area, area}
 use Rattle.sector_set.proofs.FreeLaws.{contains_where, contains_where_outside}
-use Rattle.shadow_frees.specs.Readers.{unheld}
+use Rattle.shadow_frees.specs.Readers.{is_held, unheld, with_held}
 use Rattle.shadow_frees.specs.Waits.{Waits}
 use Rattle.fsd_bytes.specs.declared.key.Serial.{Serial}
 use Rattle.fsd_bytes.specs.declared.refusal.Refusal.{Refusal}
 use Rattle.sector_disk.specs.declared.machine.LoadFault.{LoadFault}
 use Rattle.sector_disk.specs.declared.machine.LoadFault.TheVariants as fault
 use Rattle.sector_disk.specs.Damage.{IsDevice as IsDiskFault}
-use Rattle.sector_disk.specs.Image.{Windows}
+use Rattle.sector_disk.specs.Image.{Windows, open_damage}
 use Rattle.sector_disk.specs.Machine.{Moment}
 use Rattle.fsd_table.specs.Table.{Visit, visits}
 use Rattle.fsd_files.specs.Answers.{Met, Outcome, force_outcome}
 use Rattle.fsd_files.specs.Replies.{Reply, Forced as IsForced}
-use Rattle.fsd_files.specs.Volume.{Volume, forced, is_free}
-use Rattle.fsd_files.specs.Waiting.{IsSpaced}
-use Rattle.fsd_files.proofs.WaitLaws.{forced_is_spaced}
+use Rattle.fsd_files.specs.Volume.{Volume, forced, in_version, is_free, is_in}
+use Rattle.fsd_files.specs.Waiting.{IsSpaced, is_kept_alone}
+use Rattle.fsd_files.proofs.WaitLaws.{forced_is_spaced, open_in_area}
 use Rattle.fsd_sound.specs.Mounted.{IsMounted, IsSameEpoch, StandsOver, forces_by_itself, image_at, with_forced}
 use Rattle.fsd_sound.specs.Shown.{records_by}
 use Rattle.fsd_sound.specs.Sound.{EndIn}
-use Rattle.fsd_sound.proofs.MountedLaws.{force_mounted}
+use Rattle.fsd_sound.proofs.MountedLaws.{data_behind, force_mounted}
+use Rattle.fsd_sound.proofs.OpenLaws.{drafts_worn}
 use Rattle.log_thirds.specs.Append.{IsIndexed, stamp_now}
 use Rattle.log_thirds.specs.LogValue.{FitsLayout, LogValue}
 use Rattle.page_cache.specs.Cache.{CacheValue, Held, IsCache, bytes_of, cleaned, held, is_one_of}
@@ -38,14 +40,14 @@ use Rattle.group_commit.proofs.CachedLaws.{idle_cache, idle_done}
 use Rattle.group_commit.proofs.CleanLaws.{agrees_then}
 use Rattle.group_commit.proofs.FrameLaws.{held_then}
 use Rattle.volume_contract.specs.Ends.{Answered, Answers, EndsForce}
-use Rattle.volume_contract.specs.State.{Fits, Known, Stands, forced_of, volume_of}
+use Rattle.volume_contract.specs.State.{Fits, Known, StandWritten, Stands, forced_of, held_runs, volume_of}
 use Rattle.volume_state.specs.Forcing.{force_refusal, place_of}
-use Rattle.volume_state.specs.State.{Holds, freed_sectors, held_runs, spare_pages, state}
+use Rattle.volume_state.specs.State.{Holds, freed_sectors, spare_pages, state}
 use Rattle.volume_state.specs.Taken.{down_fault}
 use Rattle.volume_state.specs.Volume.{IsWhole, VolumeValue}
 use Rattle.volume_state.proofs.ForceMomentLaws.{agrees, knows, now, over_waiting, same_data, told_now, visits_now, waiting}
 use Rattle.volume_state.proofs.KeptLaws.{free_same}
-use Rattle.volume_state.proofs.SpaceLaws.{freed_is, same_free, same_freed, same_held, same_waiting, same_waits}
+use Rattle.volume_state.proofs.SpaceLaws.{freed_is, held_is, kept_then, same_free, same_freed, same_unfinished, same_waiting, same_waits}
 use Rattle.volume_state.proofs.ListLaws.{lists_of}
 
 -- ---- the volume behind a force
@@ -59,8 +61,15 @@ pub record IsForcedTo (v w : VolumeValue) : Type 0 where
   pub down : w.down ≡ v.down
   pub map : w.map.sectors ≡ freed_sectors v
   pub removed : w.shadow.removed.sectors ≡ []
+  pub kept : (s : ℕ) → contains w.shadow.kept.sectors s ≡ (contains v.shadow.kept.sectors s || contains v.shadow.removed.sectors s && is_held v.shadow.held s)
+  pub unfinished : w.shadow.unfinished ≡ v.shadow.unfinished
+  pub held : w.shadow.held ≡ v.shadow.held
   pub log : w.log ≡ log_forced v.log (ascending_of v.cache.dirty)
   pub cache : w.cache ≡ cleaned (stamped_for v.log v.cache)
+
+none_went : (k h : Bool) {r : Bool} → r ≡ false → k ≡ (k || r && h)
+none_went true h is = refl
+none_went false h is = ap (λ (b : Bool). b && h) (sym is)
 
 -- where no page waits it is the volume itself
 pub itself_forced : (v : VolumeValue) → IsWhole v → IsCache v.cache → v.cache.dirty ≡ [] → IsForcedTo v v
@@ -72,15 +81,19 @@ itself_forced v whole valid none = record {
   down = refl;
   map = free_same v whole (whole.still none);
   removed = whole.still none;
+  kept = λ s. none_went (contains v.shadow.kept.sectors s) (is_held v.shadow.held s) (ap (λ (xs : List ℕ). contains xs s) (whole.still none));
+  unfinished = refl;
+  held = refl;
   log = ap (λ (dirty : List ℕ). log_forced v.log (ascending_of dirty)) (sym none);
   cache = idle_cache v.cache valid [] (sym (ap ascending_of none)) refl v.log;
 }
 
-pub forced_to : (v : VolumeValue) (map : Area) (w : Waits) (log : LogValue) (cache : CacheValue)
+pub forced_to : (v : VolumeValue) → IsWhole v → (map : Area) (w : Waits) (log : LogValue) (cache : CacheValue)
     → map ≡ area v.map.from v.map.to (λ s. contains v.map.sectors s || contains (unheld v.shadow.held v.shadow.removed).sectors s)
-    → w.removed ≡ record { from = v.map.from; to = v.map.to; sectors = [] } → log ≡ log_forced v.log (ascending_of v.cache.dirty) → cache ≡ cleaned (stamped_for v.log v.cache)
+    → w.removed ≡ record { from = v.map.from; to = v.map.to; sectors = [] } → w.kept ≡ with_held v.shadow.held v.shadow.kept v.shadow.removed → w.unfinished ≡ v.shadow.unfinished → w.held ≡ v.shadow.held
+    → log ≡ log_forced v.log (ascending_of v.cache.dirty) → cache ≡ cleaned (stamped_for v.log v.cache)
     → IsForcedTo v (record v { map = map; shadow = w; log = log; cache = cache })
-forced_to v map w log cache map_is removed log_is cache_is = record {
+forced_to v whole map w log cache map_is removed kept unfinished held log_is cache_is = record {
   layout = refl;
   free_pages = refl;
   serial = refl;
@@ -88,6 +101,9 @@ forced_to v map w log cache map_is removed log_is cache_is = record {
   down = refl;
   map = ap (λ (a : Area). a.sectors) map_is;
   removed = ap (λ (a : Area). a.sectors) removed;
+  kept = kept_then v.layout v.shadow.held v.shadow.kept v.shadow.removed w.kept whole.kept whole.removed kept;
+  unfinished = unfinished;
+  held = held;
   log = log_is;
   cache = cache_is;
 }
@@ -130,9 +146,6 @@ module _ (v w : VolumeValue) (k : Known) (old new : Moment) (was : IsWhole v) (w
   same_layout : volume.layout ≡ w.layout
   same_layout = stands.fits.layout ∙ sym to.layout
 
-  none_held : k.mounted.volume.held ≡ []
-  none_held = stands.fits.held ∙ ap held_runs was.unread.held
-
   spaced : IsSpaced volume
   spaced = forced_is_spaced k.mounted.volume stands.disk.spaced
 
@@ -147,7 +160,7 @@ module _ (v w : VolumeValue) (k : Known) (old new : Moment) (was : IsWhole v) (w
     | inr from ↦ elim (cases_lt s v.layout.sectors) [
       | inl within ↦
           contains_where free_then v.map.from v.map.to s (omega (arith, from, ap (λ (a : Area). a.from) was.map)) (omega (arith, within, ap (λ (a : Area). a.to) was.map))
-          ∙ sym (freed_is v k.mounted.volume was stands.fits.layout stands.holds.map stands.holds.removed none_held stands.holds.drafts stands.disk.spaced s from within)
+          ∙ sym (freed_is v k.mounted.volume was stands.fits.layout stands.holds.map stands.holds.removed stands.holds.kept stands.holds.unfinished stands.fits.held stands.disk.spaced s from within)
       | inr past ↦ out (λ from to. omega (arith, past, to))
     ]
   ]
@@ -161,6 +174,29 @@ module _ (v w : VolumeValue) (k : Known) (old new : Moment) (was : IsWhole v) (w
   removed : (s : ℕ) → contains w.shadow.removed.sectors s ≡ contains volume.removed s
   removed s = ap (λ (xs : List ℕ). contains xs s) to.removed
 
+  -- what a reader alone keeps: what one kept, and what went and one holds
+  kept : (s : ℕ) → contains w.shadow.kept.sectors s ≡ is_kept_alone volume s
+  kept s =
+      to.kept s ∙ (λ i. stands.holds.kept s i || stands.holds.removed s i && held_there i)
+      ∙ tests (is_in k.mounted.volume.held s) (in_version k.mounted.volume s) (contains k.mounted.volume.removed s) (stands.disk.spaced.removed s)
+    where
+      held_there : is_held v.shadow.held s ≡ is_in k.mounted.volume.held s
+      held_there = sym (ap (λ (plans : List (List Run)). is_in plans s) stands.fits.held ∙ held_is v.shadow.held s)
+
+      tests : (h i r : Bool) → (r ≡ true → i ≡ false) → (h && not i && not r || r && h) ≡ (h && not i && not false)
+      tests h true true went = absurd (cc (went refl))
+      tests true false true went = refl
+      tests false false true went = refl
+      tests true true false went = refl
+      tests true false false went = refl
+      tests false i false went = refl
+
+  unfinished : (s : ℕ) → contains w.shadow.unfinished.sectors s ≡ is_in volume.drafts s
+  unfinished s = ap (λ (a : Area). contains a.sectors s) to.unfinished ∙ stands.holds.unfinished s
+
+  held_then_too : volume.held ≡ held_runs w.shadow.held
+  held_then_too = stands.fits.held ∙ ap held_runs (sym to.held)
+
   -- ---- what it tells
 
   pages_free : volume.layout.pages - volume.reached ≡ length (spare_pages w)
@@ -173,11 +209,12 @@ module _ (v w : VolumeValue) (k : Known) (old new : Moment) (was : IsWhole v) (w
     anchor = refl;
     head = refl;
     dirty = sym (ap (λ (c : CacheValue). c.dirty) to.cache);
-    free = same_free w volume whole same_layout map removed none_held stands.holds.drafts spaced;
-    freed = same_freed w volume whole same_layout map removed none_held stands.holds.drafts spaced;
-    waiting = same_waiting w volume whole same_layout map removed none_held stands.holds.drafts spaced;
-    waits = same_waits w volume whole same_layout map removed none_held stands.holds.drafts spaced;
-    held = same_held w volume whole same_layout map removed none_held stands.holds.drafts spaced;
+    free = same_free w volume whole same_layout map removed kept unfinished held_then_too spaced;
+    freed = same_freed w volume whole same_layout map removed kept unfinished held_then_too spaced;
+    waiting = same_waiting w volume whole same_layout map removed kept unfinished held_then_too spaced;
+    waits = same_waits w volume whole same_layout map removed kept unfinished held_then_too spaced;
+    held = held_then_too;
+    unfinished = same_unfinished w volume whole same_layout map removed kept unfinished held_then_too spaced;
     pages_free = pages_free;
     versions = stands.fits.versions ∙ sym to.versions;
     up = to.down ∙ stands.fits.up;
@@ -212,13 +249,12 @@ module _ (v w : VolumeValue) (k : Known) (old new : Moment) (was : IsWhole v) (w
     inside = inside;
     map = map;
     removed = removed;
+    kept = kept;
+    unfinished = unfinished;
     free_pages = free_pages;
     log = whole.log;
     fits = fits;
     indexed = subst (λ (l : Layout). IsIndexed w.log (records_by l new.image w.log.anchor)) log_layout known;
-    drafts = stands.holds.drafts;
-    slices = stands.holds.slices;
-    bytes = stands.holds.bytes;
   }
 
   -- ---- the disk
@@ -233,15 +269,24 @@ module _ (v w : VolumeValue) (k : Known) (old new : Moment) (was : IsWhole v) (w
     over_then : StandsOver volume.layout w.log.anchor w.log.head done.records (now v k old was valid stands) (now v k old was valid stands) [] k.windows new.image
     over_then = subst (λ (l : Layout). StandsOver l w.log.anchor w.log.head done.records (now v k old was valid stands) (now v k old was valid stands) [] k.windows new.image) log_layout done.stands
 
+    -- creations lie where a force writes nothing
+    drafts_behind : (s : ℕ) → is_in k.mounted.volume.drafts s ≡ true → map_start v.log.layout ≤ s
+    drafts_behind s there =
+        subst (λ (l : Layout). map_start l ≤ s) (stands.fits.layout ∙ sym was.log)
+        (data_behind k.mounted.volume.layout s (open_in_area k.mounted.volume stands.disk.spaced s (or_left (is_in k.mounted.volume.drafts s) (is_in k.mounted.volume.held s) there)))
+
     pub stands_forced : Stands state Holds w after new
     stands_forced = record {
       fits = fits_then;
+      opened = record { drafts = stands.opened.drafts; slices = stands.opened.slices; places = to.held ∙ stands.opened.places; bytes = stands.opened.bytes };
       holds = holds_then known;
       lists = lists_of w after.mounted (records_by volume.layout new.image w.log.anchor) (holds_then known);
       ends = subst (λ (x : Windows). EndIn x k.windows) (sym windows) stands.ends;
       disk = subst (λ (n : ℕ). IsMounted after.mounted k.windows k.changes n new.image) (let all : length k.changes ≡ length k.changes - 0 = omega arith in all)
           (force_mounted k.mounted k.windows k.changes (forced_of k) old.image new.image (now v k old was valid stands) w.log.anchor w.log.head done.records stands.disk
           (same_data v k old was valid stands new keeps) (told_now v k old was valid stands) same_epoch over_then);
+      written = subst (λ (x : Windows). StandWritten (open_damage x) new.image k.mounted.slices volume.drafts) (sym windows)
+          (drafts_worn (open_damage old.windows) old.image new.image k.mounted.slices k.mounted.volume.drafts (λ s there. keeps s (drafts_behind s there)) stands.written);
     }
 
     answers : Answers (λ met. force_outcome (volume_of k)) IsForced [] k after
@@ -249,6 +294,7 @@ module _ (v w : VolumeValue) (k : Known) (old new : Moment) (was : IsWhole v) (w
       met = record { forces = forces_by_itself k.mounted; reached = 0; damaged = None; found = []; healed = 0 };
       forces = refl;
       is = refl;
+      opened = refl;
       windows = refl;
       changes = sym (append-nil k.changes);
     }

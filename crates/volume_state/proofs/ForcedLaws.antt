@@ -1,11 +1,13 @@
 -- A volume is whole behind a force.
-use Rattle.std.proofs.Common.{◌≡◌, ◌⊎◌, inl, inr, ℕ, Bool, true, false, cond, ◌||◌, List, [], ◌∷◌, length, option_map, Option, Some, None, replicate, refl, sym, ap, subst, ◌∙◌}
+use Rattle.std.proofs.Common.{◌≡◌, ◌⊎◌, inl, inr, ℕ, Bool, true, false, cond, not, ◌&&◌, ◌||◌, List, [], ◌∷◌, length, option_map, Option, Some, None, refl, sym, ap, subst, ◌∙◌}
 use Rattle.std.specs.Option.{option_map_or}
+use Rattle.std.proofs.lemmas.Bool.{and_parts, both_ways, false_from_ne_true, not-true, or_cases, or_from, or_parts}
 use Rattle.volume_layout.specs.Layout.{data_start}
 use Rattle.run_table.specs.Space.{contains, where_free}
 use Rattle.sector_set.specs.Area.{Area, area}
+use Rattle.sector_set.proofs.AreaLaws.{free_passes}
 use Rattle.sector_set.proofs.FreeLaws.{contains_where, where_same}
-use Rattle.shadow_frees.specs.Readers.{unheld}
+use Rattle.shadow_frees.specs.Readers.{Slots, is_held, unheld, with_held}
 use Rattle.shadow_frees.specs.Waits.{Waits, waits}
 use Rattle.log_thirds.specs.LogValue.{LogValue}
 use Rattle.log_thirds.specs.Append.{stamp_now}
@@ -16,7 +18,7 @@ use Rattle.group_commit.specs.Force.{log_forced}
 use Rattle.group_commit.specs.Room.{goes_before, log_before}
 use Rattle.group_commit.proofs.CachedLaws.{before_layout}
 use Rattle.group_commit.proofs.FrameLaws.{held_then}
-use Rattle.volume_state.specs.Volume.{IsWhole, VolumeValue}
+use Rattle.volume_state.specs.Volume.{IsWhole, VolumeValue, WaitsOnce}
 use Rattle.cached_table.specs.Surveying.{IsOfData}
 use Rattle.volume_state.proofs.FreeLaws.{nothing}
 
@@ -62,13 +64,63 @@ module _ (v : VolumeValue) (whole : IsWhole v) where
   module _ (map : Area) (w : Waits) (log : LogValue) (cache : CacheValue)
       (map_is : map ≡ area v.map.from v.map.to (λ s. contains v.map.sectors s || contains (unheld v.shadow.held v.shadow.removed).sectors s))
       (removed : w.removed ≡ record { from = v.map.from; to = v.map.to; sectors = [] })
-      (kept : v.shadow.held ≡ replicate 8 None → v.shadow.kept.sectors ≡ [] → w.kept ≡ v.shadow.kept) (unfinished : w.unfinished ≡ v.shadow.unfinished) (held : w.held ≡ v.shadow.held)
+      (kept : w.kept ≡ with_held v.shadow.held v.shadow.kept v.shadow.removed) (unfinished : w.unfinished ≡ v.shadow.unfinished) (held : w.held ≡ v.shadow.held)
       (log_is : log ≡ log_forced v.log (ascending_of v.cache.dirty)) (cache_is : cache ≡ cleaned (stamped_for v.log v.cache)) where
-    kept_is : w.kept ≡ v.shadow.kept
-    kept_is = kept whole.unread.held whole.unread.kept
+    abbrev was_kept : ℕ → Bool
+    was_kept s = contains v.shadow.kept.sectors s || contains v.shadow.removed.sectors s && is_held v.shadow.held s
 
-    none_waits : (s : ℕ) → waits w s ≡ false
-    none_waits s = λ i. contains (removed i).sectors s || (contains ((ap (λ (a : Area). a.sectors) kept_is ∙ whole.unread.kept) i) s || contains ((ap (λ (a : Area). a.sectors) unfinished ∙ whole.unread.unfinished) i) s)
+    -- what is kept now was kept, or a reader holds it
+    kept_passes : (s : ℕ) → contains w.kept.sectors s ≡ true → was_kept s ≡ true
+    kept_passes s there = free_passes v.shadow.kept.from v.shadow.kept.to was_kept s (ap (λ (a : Area). contains a.sectors s) (sym kept) ∙ there)
+
+    none_removed : (s : ℕ) → contains w.removed.sectors s ≡ false
+    none_removed s = ap (λ (a : Area). contains a.sectors s) removed
+
+    same_unfinished : (s : ℕ) → contains w.unfinished.sectors s ≡ contains v.shadow.unfinished.sectors s
+    same_unfinished s = ap (λ (a : Area). contains a.sectors s) unfinished
+
+    kept_out : (s : ℕ) → contains w.kept.sectors s ≡ true → contains v.shadow.unfinished.sectors s ≡ false
+    kept_out s there = elim (or_cases (contains v.shadow.kept.sectors s) (contains v.shadow.removed.sectors s && is_held v.shadow.held s) (kept_passes s there)) [
+      | inl so ↦ whole.once.kept s so
+      | inr went ↦ (or_parts (contains v.shadow.kept.sectors s) (contains v.shadow.unfinished.sectors s) (whole.once.removed s (and_parts (contains v.shadow.removed.sectors s) (is_held v.shadow.held s) went).0)).1
+    ]
+
+    kept_read : (s : ℕ) → contains w.kept.sectors s ≡ true → is_held w.held s ≡ true
+    kept_read s there = ap (λ (slots : Slots). is_held slots s) held ∙ elim (or_cases (contains v.shadow.kept.sectors s) (contains v.shadow.removed.sectors s && is_held v.shadow.held s) (kept_passes s there)) [
+      | inl so ↦ whole.once.readers s so
+      | inr went ↦ (and_parts (contains v.shadow.removed.sectors s) (is_held v.shadow.held s) went).1
+    ]
+
+    pub once_then : WaitsOnce w
+    once_then = record {
+      removed = λ s there. absurd (both_ways (contains w.removed.sectors s) (none_removed s) there);
+      kept = λ s there. same_unfinished s ∙ kept_out s there;
+      readers = kept_read;
+      slots = ap (λ (slots : Slots). length slots) held ∙ whole.once.slots;
+    }
+
+    -- a sector that is free now was free, or went and nobody holds it
+    apart_then : (s : ℕ) → contains map.sectors s ≡ true → waits w s ≡ false
+    apart_then s is = or_from (contains w.removed.sectors s) (contains w.kept.sectors s || contains w.unfinished.sectors s) (none_removed s)
+        (elim (or_cases (contains v.map.sectors s) (contains (unheld v.shadow.held v.shadow.removed).sectors s)
+        (free_passes v.map.from v.map.to (λ t. contains v.map.sectors t || contains (unheld v.shadow.held v.shadow.removed).sectors t) s (ap (λ (a : Area). contains a.sectors s) (sym map_is) ∙ is))) [
+          | inl was ↦
+              let none = or_parts (contains v.shadow.removed.sectors s) (contains v.shadow.kept.sectors s || contains v.shadow.unfinished.sectors s) (whole.apart s was) in
+              let rest = or_parts (contains v.shadow.kept.sectors s) (contains v.shadow.unfinished.sectors s) none.1 in
+              or_from (contains w.kept.sectors s) (contains w.unfinished.sectors s)
+              (false_from_ne_true (contains w.kept.sectors s) (λ there. both_ways (was_kept s) (or_from (contains v.shadow.kept.sectors s) _ rest.0 (ap (λ (b : Bool). b && is_held v.shadow.held s) none.0)) (kept_passes s there)))
+              (same_unfinished s ∙ rest.1)
+          | inr went ↦
+              let parts = and_parts (contains v.shadow.removed.sectors s) (not (is_held v.shadow.held s)) (free_passes v.shadow.removed.from v.shadow.removed.to (λ t. contains v.shadow.removed.sectors t && not (is_held v.shadow.held t)) s went) in
+              let rest = or_parts (contains v.shadow.kept.sectors s) (contains v.shadow.unfinished.sectors s) (whole.once.removed s parts.0) in
+              or_from (contains w.kept.sectors s) (contains w.unfinished.sectors s)
+              (false_from_ne_true (contains w.kept.sectors s) (λ there. both_ways (was_kept s) (or_from (contains v.shadow.kept.sectors s) _ rest.0 (both_false (contains v.shadow.removed.sectors s) (is_held v.shadow.held s) (not-true (is_held v.shadow.held s) parts.1))) (kept_passes s there)))
+              (same_unfinished s ∙ rest.1)
+        ])
+      where
+        both_false : (a b : Bool) → b ≡ false → (a && b) ≡ false
+        both_false true b none = none
+        both_false false b none = refl
 
     pub whole_forced : IsWhole (record v { map = map; shadow = w; log = log; cache = cache })
     whole_forced = record {
@@ -77,10 +129,12 @@ module _ (v : VolumeValue) (whole : IsWhole v) where
           (own_of (λ s. contains v.map.sectors s || contains (unheld v.shadow.held v.shadow.removed).sectors s) v.map.from v.map.to
           ∙ (λ i. area (from_is i) (to_is i) (contains (where_free (λ s. contains v.map.sectors s || contains (unheld v.shadow.held v.shadow.removed).sectors s) v.map.from v.map.to))));
       removed = subst (IsOfData v.layout) (sym removed) (λ i. record { from = from_is i; to = to_is i; sectors = sym (nothing (data_start v.layout) v.layout.sectors) i });
-      kept = subst (IsOfData v.layout) (sym kept_is) whole.kept;
+      kept = subst (IsOfData v.layout) (sym kept)
+          (own_of was_kept v.shadow.kept.from v.shadow.kept.to
+          ∙ (λ i. area (ap (λ (a : Area). a.from) whole.kept i) (ap (λ (a : Area). a.to) whole.kept i) (contains (where_free was_kept v.shadow.kept.from v.shadow.kept.to))));
       unfinished = subst (IsOfData v.layout) (sym unfinished) whole.unfinished;
-      apart = λ s is. none_waits s;
-      unread = record { kept = ap (λ (a : Area). a.sectors) kept_is ∙ whole.unread.kept; unfinished = ap (λ (a : Area). a.sectors) unfinished ∙ whole.unread.unfinished; held = held ∙ whole.unread.held };
+      apart = apart_then;
+      once = once_then;
       log = ap (λ (x : LogValue). x.layout) log_is ∙ forced_layout v.log (ascending_of v.cache.dirty) ∙ whole.log;
       epoch = whole.epoch ∙ sym (ap (λ (x : LogValue). x.anchor.epoch) log_is ∙ forced_epoch v.log (ascending_of v.cache.dirty));
       pages = whole.pages;
@@ -109,7 +163,7 @@ module _ (v : VolumeValue) (whole : IsWhole v) where
       kept = whole.kept;
       unfinished = whole.unfinished;
       apart = whole.apart;
-      unread = whole.unread;
+      once = whole.once;
       log = layout_then log_is ∙ whole.log;
       epoch = whole.epoch ∙ sym (epoch_then log_is);
       pages = whole.pages;

@@ -1,7 +1,7 @@
 -- What waited for a force becomes free, run by run.
-use Rattle.std.proofs.Common.{◌≡◌, inl, inr, ℕ, ◌<◌, ◌≤◌, Bool, true, false, not, ◌&&◌, ◌||◌, List, [], ◌∷◌, refl, sym, ap, ◌∙◌, arith, replicate, None}
+use Rattle.std.proofs.Common.{◌≡◌, inl, inr, ℕ, ◌<◌, ◌≤◌, Bool, true, false, not, ◌&&◌, ◌||◌, List, [], ◌∷◌, refl, sym, ap, ◌∙◌, arith}
 use Rattle.std.specs.Prelude.{IsTrue, IsFalse}
-use Rattle.std.proofs.lemmas.Bool.{cases_lt, and_parts}
+use Rattle.std.proofs.lemmas.Bool.{cases_lt, and_parts, not-true}
 use Rattle.run_table.specs.declared.run.Run.{Run}
 use Rattle.run_table.specs.RunTable.{sectors_of}
 use Rattle.run_table.specs.Space.{contains, where_free}
@@ -23,7 +23,7 @@ pub record Frees (map0 : Area) (w0 : Waits) (map : Area) (w : Waits) : Type 0 wh
   pub last : w.removed.to ≡ map0.to
   pub held : w.held ≡ w0.held
   pub unfinished : w.unfinished ≡ w0.unfinished
-  pub kept : w0.held ≡ replicate 8 None → w0.kept.sectors ≡ [] → w.kept ≡ w0.kept
+  pub kept : with_held w.held w.kept w.removed ≡ with_held w0.held w0.kept w0.removed
   pub apart : (s : ℕ) → contains map.sectors s ≡ true → contains w.removed.sectors s ≡ false
   pub same : (s : ℕ) → (contains map.sectors s || contains (unheld w.held w.removed).sectors s) ≡ (contains map0.sectors s || contains (unheld w0.held w0.removed).sectors s)
 
@@ -36,7 +36,7 @@ frees_first map w own from to apart = record {
   last = to;
   held = refl;
   unfinished = refl;
-  kept = λ free none. refl;
+  kept = refl;
   apart = apart;
   same = λ s. refl;
 }
@@ -61,17 +61,24 @@ step_tests false true false false in_a = refl
 step_tests false false true false in_a = refl
 step_tests false false false false in_a = refl
 
--- ---- where no reader holds a version
+-- ---- nothing
 
 pub nothing : (from to : ℕ) → where_free (λ s. false) from to ≡ []
 nothing from to = nil_from_length (where_free (λ s. false) from to) (none_where from to)
 
-pub still_kept : (kept removed : Area) → kept.sectors ≡ [] → with_held (replicate 8 None) kept removed ≡ kept
-still_kept kept removed none =
-    let same : where_free (λ s. contains kept.sectors s || contains removed.sectors s && is_held (replicate 8 None) s) kept.from kept.to ≡ where_free (λ s. false) kept.from kept.to =
-    where_same (λ s. contains kept.sectors s || contains removed.sectors s && is_held (replicate 8 None) s) (λ s. false) kept.from kept.to
-    (λ s low high. ap (λ (xs : List ℕ). contains xs s || (contains removed.sectors s && false)) none ∙ and-false (contains removed.sectors s)) in
-    λ i. record { from = kept.from; to = kept.to; sectors = (same ∙ nothing kept.from kept.to ∙ sym none) i }
+-- what is kept for readers stays, where nothing that waits for a force is held
+pub kept_again : (slots : Slots) (kept removed left : Area) → ((s : ℕ) → contains left.sectors s ≡ true → is_held slots s ≡ false) → with_held slots (with_held slots kept removed) left ≡ with_held slots kept removed
+kept_again slots kept removed left loose =
+    let f : ℕ → Bool = λ s. contains kept.sectors s || contains removed.sectors s && is_held slots s in
+    let same : where_free (λ s. contains (where_free f kept.from kept.to) s || contains left.sectors s && is_held slots s) kept.from kept.to ≡ where_free f kept.from kept.to =
+    where_same (λ s. contains (where_free f kept.from kept.to) s || contains left.sectors s && is_held slots s) f kept.from kept.to
+    (λ s low high. no_more (contains (where_free f kept.from kept.to) s) (contains left.sectors s) (is_held slots s) (loose s) ∙ contains_where f kept.from kept.to s low high) in
+    λ i. record { from = kept.from; to = kept.to; sectors = same i }
+  where
+    no_more : (a b c : Bool) → (b ≡ true → c ≡ false) → (a || b && c) ≡ a
+    no_more true b c none = refl
+    no_more false true c none = none refl
+    no_more false false c none = refl
 
 -- ---- a run more
 
@@ -191,8 +198,15 @@ module _ (map0 : Area) (w0 : Waits) (map : Area) (w : Waits) (so : Frees map0 w0
         (λ low high. in_removed_now s low high ∙ apart_tests s (contains map.sectors s) (contains (sectors_of runs) s) (contains w.removed.sectors s) (is_held w.held s) (so.apart s) (sym (within_next s low high) ∙ is))
         (λ out. absurd (let e = gone_next s out in cc (is, e)))
 
-    kept_still : w.held ≡ replicate 8 None → w.kept.sectors ≡ [] → with_held w.held w.kept w.removed ≡ w.kept
-    kept_still free none = ap (λ (slots : Slots). with_held slots w.kept w.removed) free ∙ still_kept w.kept w.removed none
+    -- what is left to free is held by nobody
+    left_loose : (s : ℕ) → contains v.removed.sectors s ≡ true → is_held w.held s ≡ false
+    left_loose s is =
+        let there : contains (without (unheld w.held w.removed) runs).sectors s ≡ true = ap (λ (a : Area). contains a.sectors s) (sym removed) ∙ is in
+        let passed : contains (unheld w.held w.removed).sectors s ≡ true = (and_parts (contains (unheld w.held w.removed).sectors s) (not (contains (sectors_of runs) s)) (free_passes w.removed.from w.removed.to left s there)).0 in
+        not-true (is_held w.held s) (and_parts (contains w.removed.sectors s) (not (is_held w.held s)) (free_passes w.removed.from w.removed.to (λ t. contains w.removed.sectors t && not (is_held w.held t)) s passed)).1
+
+    kept_still : with_held v.held v.kept v.removed ≡ with_held w.held w.kept w.removed
+    kept_still = (λ i. with_held (held i) (kept i) v.removed) ∙ kept_again w.held w.kept w.removed v.removed left_loose
 
     pub frees_next : Frees map0 w0 (together map runs) v
     frees_next = record {
@@ -203,7 +217,7 @@ module _ (map0 : Area) (w0 : Waits) (map : Area) (w : Waits) (so : Frees map0 w0
       last = ap (λ (a : Area). a.to) removed ∙ so.last;
       held = held ∙ so.held;
       unfinished = unfinished ∙ so.unfinished;
-      kept = λ free none. kept ∙ kept_still (so.held ∙ free) (ap (λ (a : Area). a.sectors) (so.kept free none) ∙ none) ∙ so.kept free none;
+      kept = kept_still ∙ so.kept;
       apart = apart_next;
       same = λ s. same_next s ∙ so.same s;
     }
@@ -216,7 +230,5 @@ module _ (map0 : Area) (w0 : Waits) (map : Area) (w : Waits) (so : Frees map0 w0
   pub none_left : (v : Area) → v ≡ unheld w.held w.removed → v ≡ record { from = map0.from; to = map0.to; sectors = [] }
   none_left v is = is ∙ (λ i. record { from = so.first i; to = so.last i; sectors = none i })
 
-  pub kept_all : (v : Area) → v ≡ with_held w.held w.kept w.removed → w0.held ≡ replicate 8 None → w0.kept.sectors ≡ [] → v ≡ w0.kept
-  kept_all v is free empty =
-      is ∙ ap (λ (slots : Slots). with_held slots w.kept w.removed) (so.held ∙ free)
-      ∙ still_kept w.kept w.removed (ap (λ (a : Area). a.sectors) (so.kept free empty) ∙ empty) ∙ so.kept free empty
+  pub kept_all : (v : Area) → v ≡ with_held w.held w.kept w.removed → v ≡ with_held w0.held w0.kept w0.removed
+  kept_all v is = is ∙ so.kept

@@ -1,5 +1,5 @@
 -- What a force makes of what a volume tells.
-use Rattle.std.proofs.Common.{◌≡◌, ◌⊎◌, inl, inr, ℕ, suc, ◌≤◌, Bool, true, false, cond, not, ◌&&◌, ◌||◌, ◌==◌, List, [], ◌∷◌, length, option_map, Some, None, replicate, nat_lt, refl, sym, ap, subst, ◌∙◌, arith, if◌then◌else◌}
+use Rattle.std.proofs.Common.{◌≡◌, ◌⊎◌, inl, inr, ℕ, suc, ◌<◌, ◌≤◌, Bool, true, false, cond, not, ◌&&◌, ◌||◌, ◌==◌, List, [], ◌∷◌, length, option_map, Some, None, nat_lt, refl, sym, ap, subst, ◌∙◌, arith, if◌then◌else◌}
 use Rattle.std.proofs.lemmas.Bool.{eqb-true, lt-ltb}
 use Rattle.std.specs.Prelude.{filter}
 use Rattle.fsd_bytes.specs.declared.refusal.Refusal.{Refusal}
@@ -8,9 +8,9 @@ use Rattle.sector_disk.specs.declared.machine.LoadFault.{LoadFault}
 use Rattle.sector_disk.specs.declared.machine.LoadFault.TheVariants as fault
 use Rattle.run_table.specs.Space.{contains, runs_of, where_free}
 use Rattle.sector_set.specs.Area.{Area, area}
-use Rattle.sector_set.proofs.FreeLaws.{where_same}
-use Rattle.shadow_frees.specs.Readers.{Slots, is_held, unheld}
-use Rattle.shadow_frees.specs.Waits.{Waits, waiting_sectors}
+use Rattle.sector_set.proofs.FreeLaws.{contains_where, where_same}
+use Rattle.shadow_frees.specs.Readers.{is_held, unheld, with_held}
+use Rattle.shadow_frees.specs.Waits.{Waits, waiting_sectors, waits}
 use Rattle.fsd_files.specs.Volume.{is_in}
 use Rattle.log_thirds.specs.LogValue.{LogValue}
 use Rattle.log_thirds.specs.Moving.{moved}
@@ -20,14 +20,15 @@ use Rattle.group_commit.specs.Force.{log_forced}
 use Rattle.group_commit.specs.Room.{goes_before, log_before}
 use Rattle.group_commit.proofs.CachedLaws.{forced_some}
 use Rattle.group_commit.proofs.OrderLaws.{length_ascending}
-use Rattle.volume_contract.specs.State.{State, IsDownAt, IsForced}
+use Rattle.volume_contract.specs.State.{IsDownAt, IsForced, State, held_of}
 use Rattle.volume_contract.specs.Order.{Force, IsDownBy, Keeps, force_steps}
 use Rattle.volume_state.specs.Forcing.{force_refusal, place_of}
-use Rattle.volume_state.specs.State.{freed_sectors, held_runs, state}
-use Rattle.volume_state.specs.Volume.{IsUnread, IsWhole, VolumeValue}
+use Rattle.volume_state.specs.State.{freed_sectors, state}
+use Rattle.volume_state.specs.Volume.{IsWhole, VolumeValue}
 use Rattle.volume_state.proofs.ForcedLaws.{from_is, to_is, whole_down, whole_forced}
 use Rattle.volume_state.proofs.FreeLaws.{nothing}
 use Rattle.volume_state.proofs.LogLaws.{Tells, failed_log, forced_logs}
+use Rattle.volume_state.proofs.SpaceLaws.{held_is}
 
 -- ---- refusals
 
@@ -77,17 +78,49 @@ free_same v whole none =
     ∙ where_same (contains v.map.sectors) (λ s. contains v.map.sectors s || contains (unheld v.shadow.held v.shadow.removed).sectors s) v.map.from v.map.to
     (λ s low high. sym (or_false (contains v.map.sectors s)) ∙ ap (λ (xs : List ℕ). contains v.map.sectors s || contains xs s) (sym (none_unheld v.shadow none)))
 
--- behind a force nothing waits, since no reader holds a version
-none_waiting : (w : Waits) → IsUnread w → w.removed.sectors ≡ [] → waiting_sectors w ≡ []
-none_waiting w unread none =
-    (λ i. where_free (λ s. contains (none i) s || (contains (unread.kept i) s || contains (unread.unfinished i) s)) w.removed.from w.removed.to) ∙ nothing w.removed.from w.removed.to
+-- ---- what waits
 
-none_held : (xs : List ℕ) → filter (is_in []) xs ≡ []
-none_held [] = refl
-none_held (x ∷ xs) = none_held xs
+-- those of a list that pass two tests
+filter_twice : (f g : ℕ → Bool) (xs : List ℕ) → filter f (filter g xs) ≡ filter (λ t. g t && f t) xs
+filter_twice f g [] = refl
+filter_twice f g (x ∷ xs) = by (g x) (filter_twice f g xs)
+  where
+    by : (a : Bool) → filter f (filter g xs) ≡ filter (λ t. g t && f t) xs
+        → filter f (cond a (x ∷ filter g xs) (filter g xs)) ≡ cond (a && f x) (x ∷ filter (λ t. g t && f t) xs) (filter (λ t. g t && f t) xs)
+    by true rest = ap (λ (ys : List ℕ). cond (f x) (x ∷ ys) ys) rest
+    by false rest = rest
 
-waiting_then : (w : Waits) → IsUnread w → (xs : List ℕ) → filter (is_in (held_runs w.held)) xs ≡ []
-waiting_then w unread xs = ap (λ (held : Slots). filter (is_in (held_runs held)) xs) unread.held ∙ none_held xs
+-- a reader holds the sector, or an unfinished creation has it
+abbrev is_open : VolumeValue → ℕ → Bool
+is_open v t = is_in (held_of (state v)) t || contains (state v).unfinished t
+
+-- behind a force only what is open waits
+pub waiting_then : (v : VolumeValue) (w : Waits) → IsWhole v → w.removed.from ≡ v.shadow.removed.from → w.removed.to ≡ v.shadow.removed.to → w.removed.sectors ≡ []
+    → ((s : ℕ) → v.shadow.removed.from ≤ s → s < v.shadow.removed.to → contains w.kept.sectors s ≡ (contains v.shadow.kept.sectors s || contains v.shadow.removed.sectors s && is_held v.shadow.held s)) → w.unfinished ≡ v.shadow.unfinished
+    → waiting_sectors w ≡ filter (is_open v) (waiting_sectors v.shadow)
+waiting_then v w whole from to none kept unfinished =
+    (λ i. where_free (waits w) (from i) (to i))
+    ∙ where_same (waits w) (λ t. waits v.shadow t && is_open v t) v.shadow.removed.from v.shadow.removed.to each
+    ∙ sym (filter_twice (is_open v) (waits v.shadow) _)
+  where
+    tests : (r k u h : Bool) → (k ≡ true → h ≡ true) → (false || ((k || r && h) || u)) ≡ ((r || (k || u)) && (h || u))
+    tests true true u true read = refl
+    tests true false u true read = refl
+    tests true true u false read = absurd (cc (read refl))
+    tests true false true false read = refl
+    tests true false false false read = refl
+    tests false true u true read = refl
+    tests false true u false read = absurd (cc (read refl))
+    tests false false true true read = refl
+    tests false false true false read = refl
+    tests false false false true read = refl
+    tests false false false false read = refl
+
+    each : (s : ℕ) → v.shadow.removed.from ≤ s → s < v.shadow.removed.to → waits w s ≡ (waits v.shadow s && is_open v s)
+    each s low high =
+        (λ i. contains (none i) s || (kept s low high i || contains (unfinished i).sectors s))
+        ∙ tests (contains v.shadow.removed.sectors s) (contains v.shadow.kept.sectors s) (contains v.shadow.unfinished.sectors s) (is_held v.shadow.held s) (whole.once.readers s)
+        ∙ ap (λ (b : Bool). waits v.shadow s && (b || contains v.shadow.unfinished.sectors s)) (sym (held_is v.shadow.held s))
 
 -- ---- the state then
 
@@ -103,18 +136,22 @@ module _ (v : VolumeValue) (whole : IsWhole v) where
         is = λ i. record (state v) {
           dirty = none i;
           free = runs_of (free_same v whole still i);
-          waiting = (none_waiting v.shadow whole.unread still ∙ sym (waiting_then v.shadow whole.unread (waiting_sectors v.shadow))) i;
+          waiting = waiting_then v v.shadow whole refl refl still (λ s low high. none_went (contains v.shadow.kept.sectors s) (is_held v.shadow.held s) (ap (λ (xs : List ℕ). contains xs s) still)) refl i;
           waits = not (length (still i) == 0);
         };
         number = ap (λ (xs : List ℕ). if length xs == 0 then v.log.head.number else suc v.log.head.number) (sym none);
         idle = λ e. refl;
         logs = λ some. absurd (omega (arith, some, ap length none));
       }
+    where
+      none_went : (k h : Bool) {r : Bool} → r ≡ false → k ≡ (k || r && h)
+      none_went true h is = refl
+      none_went false h is = ap (λ (b : Bool). b && h) (sym is)
 
   module _ (map : Area) (w : Waits) (log : LogValue) (cache : CacheValue)
       (map_is : map ≡ area v.map.from v.map.to (λ s. contains v.map.sectors s || contains (unheld v.shadow.held v.shadow.removed).sectors s))
       (removed : w.removed ≡ record { from = v.map.from; to = v.map.to; sectors = [] })
-      (kept : v.shadow.held ≡ replicate 8 None → v.shadow.kept.sectors ≡ [] → w.kept ≡ v.shadow.kept) (unfinished : w.unfinished ≡ v.shadow.unfinished) (held : w.held ≡ v.shadow.held)
+      (kept : w.kept ≡ with_held v.shadow.held v.shadow.kept v.shadow.removed) (unfinished : w.unfinished ≡ v.shadow.unfinished) (held : w.held ≡ v.shadow.held)
       (log_is : log ≡ log_forced v.log (ascending_of v.cache.dirty)) (cache_is : cache ≡ cleaned (stamped_for v.log v.cache)) where
     abbrev pub value_then : VolumeValue
     value_then = record v { map = map; shadow = w; log = log; cache = cache }
@@ -128,10 +165,13 @@ module _ (v : VolumeValue) (whole : IsWhole v) where
     freed_is : freed_sectors value_then ≡ freed_sectors v
     freed_is = sym (free_same value_then (whole_forced v whole map w log cache map_is removed kept unfinished held log_is cache_is) none) ∙ free_is
 
-    waiting_is : waiting_sectors w ≡ filter (is_in (held_runs v.shadow.held)) (waiting_sectors v.shadow)
+    waiting_is : waiting_sectors w ≡ filter (is_open v) (waiting_sectors v.shadow)
     waiting_is =
-        none_waiting w (whole_forced v whole map w log cache map_is removed kept unfinished held log_is cache_is).unread none
-        ∙ sym (waiting_then v.shadow whole.unread (waiting_sectors v.shadow))
+        waiting_then v w whole (ap (λ (a : Area). a.from) removed ∙ ap (λ (a : Area). a.from) whole.map ∙ sym (ap (λ (a : Area). a.from) whole.removed)) (ap (λ (a : Area). a.to) removed ∙ ap (λ (a : Area). a.to) whole.map ∙ sym (ap (λ (a : Area). a.to) whole.removed)) none
+        (λ s low high. ap (λ (a : Area). contains a.sectors s) kept
+        ∙ contains_where (λ t. contains v.shadow.kept.sectors t || contains v.shadow.removed.sectors t && is_held v.shadow.held t) v.shadow.kept.from v.shadow.kept.to s
+        (omega (arith, low, ap (λ (a : Area). a.from) whole.kept, ap (λ (a : Area). a.from) whole.removed)) (omega (arith, high, ap (λ (a : Area). a.to) whole.kept, ap (λ (a : Area). a.to) whole.removed)))
+        unfinished
 
     pub is_forced : IsCache v.cache → 1 ≤ length v.cache.dirty → IsForced (state v) (state value_then)
     is_forced valid some = record {
@@ -141,7 +181,8 @@ module _ (v : VolumeValue) (whole : IsWhole v) where
         freed = runs_of (freed_is i);
         waiting = waiting_is i;
         waits = not (length (none i) == 0);
-        held = held_runs (held i);
+        readers = held i;
+        unfinished = (unfinished i).sectors;
       };
       number = ap (λ (x : LogValue). x.head.number) log_is
           ∙ forced_number v.log (ascending_of v.cache.dirty) (omega (arith, some, length_ascending v.cache.dirty valid.once))

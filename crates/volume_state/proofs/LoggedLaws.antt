@@ -2,7 +2,7 @@
 use Rattle.std.proofs.Common.{◌≡◌, ◌⊎◌, inl, inr, ℕ, Bool, true, false, not, ◌&&◌, ◌||◌, List, [], ◌∷◌, length, option_map, Option, Some, None, refl, sym, ap, subst, ◌∙◌, arith}
 use Rattle.std.specs.Prelude.{IsSome, IsTrue, slice_index_or}
 use Rattle.std.specs.List.{flat_map, list_any}
-use Rattle.std.proofs.lemmas.Bool.{and_parts, both_ways, or_cases, or_left, or_right}
+use Rattle.std.proofs.lemmas.Bool.{and_parts, or_cases, or_left, or_right}
 use Rattle.run_table.specs.declared.run.Run.{Run}
 use Rattle.run_table.specs.RunTable.{sectors_of}
 use Rattle.run_table.specs.Space.{contains, runs_of, where_free}
@@ -16,6 +16,8 @@ use Rattle.fsd_files.specs.Volume.{is_in}
 use Rattle.fsd_files.proofs.CountLaws.{contains_occurs, occurs_contains, runs_same, used, used-cons}
 use Rattle.fsd_files.proofs.KeptLaws.{has_on}
 use Rattle.volume_layout.specs.declared.layout.Layout.{Layout}
+use Rattle.volume_layout.specs.Layout.{data_start}
+use Rattle.sector_set.specs.Area.{Area}
 use Rattle.log_thirds.specs.Images.{AreOfSlot}
 use Rattle.log_thirds.specs.LogValue.{LogValue}
 use Rattle.log_thirds.specs.Append.{stamp_now}
@@ -27,7 +29,8 @@ use Rattle.group_commit.proofs.ImageLaws.{all_at}
 use Rattle.volume_contract.specs.Causes.{HasUntaken, meets_held}
 use Rattle.volume_contract.specs.Logged.{AllLogged, StandsForced}
 use Rattle.volume_state.specs.Behind.{IsBehind, StandsInLog}
-use Rattle.volume_state.specs.State.{freed_sectors, held_runs, resident, state}
+use Rattle.volume_state.specs.State.{freed_sectors, resident, state}
+use Rattle.volume_contract.specs.State.{held_of, held_runs}
 use Rattle.volume_state.specs.Volume.{IsWhole, VolumeValue}
 use Rattle.volume_state.proofs.ForceEndLaws.{IsForcedTo}
 use Rattle.volume_state.proofs.ForcedLaws.{from_is, to_is}
@@ -58,8 +61,17 @@ clean_bytes log c page clean =
 module _ (v w : VolumeValue) (was : IsWhole v) (whole : IsWhole w) (to : IsForcedTo v w) where
   -- ---- sectors
 
-  none_waits : (t : ℕ) → waits w.shadow t ≡ false
-  none_waits t = λ i. contains (to.removed i) t || (contains (whole.unread.kept i) t || contains (whole.unread.unfinished i) t)
+  -- what waits now waited
+  waits_still : (t : ℕ) → waits w.shadow t ≡ true → waits v.shadow t ≡ true
+  waits_still t waiting =
+      by (contains v.shadow.removed.sectors t) (contains v.shadow.kept.sectors t) (contains v.shadow.unfinished.sectors t) (is_held v.shadow.held t)
+      (sym (λ i. contains (to.removed i) t || (to.kept t i || contains (to.unfinished i).sectors t)) ∙ waiting)
+    where
+      by : (r k u h : Bool) → (false || ((k || r && h) || u)) ≡ true → (r || (k || u)) ≡ true
+      by true k u h is = refl
+      by false true u h is = refl
+      by false false true h is = refl
+      by false false false h is = is
 
   waited : (t : ℕ) → contains (unheld v.shadow.held v.shadow.removed).sectors t ≡ true → waits v.shadow t ≡ true
   waited t there =
@@ -80,19 +92,23 @@ module _ (v w : VolumeValue) (was : IsWhole v) (whole : IsWhole w) (to : IsForce
   told_before : (t : ℕ) → (is_in (runs_of w.map.sectors ∷ []) t || contains (waiting_sectors w.shadow) t) ≡ true → (is_in (runs_of v.map.sectors ∷ []) t || contains (waiting_sectors v.shadow) t) ≡ true
   told_before t told = elim (or_cases (is_in (runs_of w.map.sectors ∷ []) t) (contains (waiting_sectors w.shadow) t) told) [
     | inl free ↦ freed_before t (in_runs w.map.sectors t free)
-    | inr waiting ↦ absurd (both_ways (waits w.shadow t) (none_waits t) (free_passes w.shadow.removed.from w.shadow.removed.to (waits w.shadow) t waiting))
+    | inr waiting ↦
+        let bounds = free_within w.shadow.removed.from w.shadow.removed.to (waits w.shadow) t waiting in
+        free_or_waits v was t
+        (omega (arith, bounds.0, ap (λ (a : Area). a.from) whole.removed, ap data_start to.layout)) (omega (arith, bounds.1, ap (λ (a : Area). a.to) whole.removed, ap (λ (l : Layout). l.sectors) to.layout))
+        (or_right (contains v.map.sectors t) (waits v.shadow t) (waits_still t (free_passes w.shadow.removed.from w.shadow.removed.to (waits w.shadow) t waiting)))
   ]
 
   same_held : held_runs v.shadow.held ≡ held_runs w.shadow.held
-  same_held = ap held_runs (was.unread.held ∙ sym whole.unread.held)
+  same_held = ap held_runs (sym to.held)
 
   untaken_before : (e : Entry) → HasUntaken (state w) e → HasUntaken (state v) e
   untaken_before e untaken =
       let then : ℕ → Bool = λ t. is_in ((state v).free ∷ []) t || contains (state v).waiting t in
       let now : ℕ → Bool = λ t. is_in ((state w).free ∷ []) t || contains (state w).waiting t in
-      elim (or_cases (list_any now (sectors_of e.runs)) (meets_held (state w).held e.runs) untaken) [
-        | inl some ↦ or_left (list_any then (sectors_of e.runs)) (meets_held (state v).held e.runs) (any_weaker now then told_before (sectors_of e.runs) some)
-        | inr meets ↦ or_right (list_any then (sectors_of e.runs)) (meets_held (state v).held e.runs) (ap (λ (held : List (List Run)). meets_held held e.runs) same_held ∙ meets)
+      elim (or_cases (list_any now (sectors_of e.runs)) (meets_held (held_of (state w)) e.runs) untaken) [
+        | inl some ↦ or_left (list_any then (sectors_of e.runs)) (meets_held (held_of (state v)) e.runs) (any_weaker now then told_before (sectors_of e.runs) some)
+        | inr meets ↦ or_right (list_any then (sectors_of e.runs)) (meets_held (held_of (state v)) e.runs) (ap (λ (held : List (List Run)). meets_held held e.runs) same_held ∙ meets)
       ]
 
   -- ---- pages

@@ -59,7 +59,7 @@ device_loss : (may : Sectors) (why : Refusal) → IsDeviceIn may why → IsLoss 
 device_loss may (Why.Device s) within = tt
 device_loss may why within = absurd within
 
-no_place_cases : (s : State) (need : ℕ) (why : Refusal) → (o : Option (List Run)) → cond (is_none o) (Some (no_place_in s (runs_at s need) need)) None ≡ Some why → (o ≡ None) × (no_place_in s (runs_at s need) need ≡ why)
+pub no_place_cases : (s : State) (need : ℕ) (why : Refusal) → (o : Option (List Run)) → cond (is_none o) (Some (no_place_in s (runs_at s need) need)) None ≡ Some why → (o ≡ None) × (no_place_in s (runs_at s need) need ≡ why)
 no_place_cases s need why None e = (refl, cc e)
 no_place_cases s need why (Some runs) e = absurd (cc e)
 
@@ -93,7 +93,7 @@ module _ (s : State) (name bytes : List ℕ) (keep : Option ℕ) (k : Known) (ne
         ap (λ (o : Option Refusal). put_unless o met (volume_of k) name bytes keep) sizes
         ∙ ap (λ (o : Option (List Run)). put_at met there name bytes keep need o) (place_is s k.mounted need fits ∙ none)
         ∙ ap (λ (r : Refusal). refused there r) (no_place_is s k.mounted need fits ∙ is) in
-        (p.after, record { met = met; forces = refl; is = out ∙ ap (λ (v : Volume). refused v why) (sym p.volume); windows = p.windows; changes = p.changes ∙ sym (append-nil k.changes) }, p.stands)
+        (p.after, record { met = met; forces = refl; is = out ∙ ap (λ (v : Volume). refused v why) (sym p.volume); opened = p.opened; windows = p.windows; changes = p.changes ∙ sym (append-nil k.changes) }, p.stands)
 
     without : (why : Refusal) → no_place_in s (runs_at s need) need ≡ why → EndsPrepare need bytes k new now (Err why) → EndsRefused state Holds outcome k new now why
     without why is ends = subst (λ (r : Refusal). EndsRefused state Holds outcome k new now r) is (by (nat_lt (total runs) need) refl (subst (λ (r : Refusal). EndsPrepare need bytes k new now (Err r)) (sym is) ends))

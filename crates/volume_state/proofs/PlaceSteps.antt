@@ -66,13 +66,14 @@ place_none s need why e = by (pick s.free need) refl e
     by None is e = (is, cc)
 
 pub stays : (s : State) → GoesOn None s s
-stays s = record { layout = refl; epoch = refl; held = refl; down = inl refl }
+stays s = record { layout = refl; epoch = refl; unfinished = refl; readers = refl; down = inl refl }
 
 goes_more : (place : Option ℕ) (s t : State) → GoesOn None s t → GoesOn place s t
 goes_more place s t goes = record {
   layout = goes.layout;
   epoch = goes.epoch;
-  held = goes.held;
+  readers = goes.readers;
+  unfinished = goes.unfinished;
   down = elim goes.down [
     | inl same ↦ inl same
     | inr gone ↦ absurd (cc gone.0)
@@ -171,13 +172,14 @@ forced_is s m need b fits is =
     ∙ ap (λ (c : Bool). cond c (forced m.volume) m.volume) is
 
 pub stands_once : (v : VolumeValue) (need : ℕ) (k : Known) (now : Moment) → forces_for_place (state v) need ≡ false → Stands state Holds v k now → StandsFor need k v now
-stands_once v need k now idle stands = record { after = k; volume = sym (forced_is (state v) k.mounted need false stands.fits idle); windows = refl; changes = refl; stands = stands }
+stands_once v need k now idle stands = record { after = k; volume = sym (forced_is (state v) k.mounted need false stands.fits idle); opened = refl; windows = refl; changes = refl; stands = stands }
 
 pub stands_behind : (v w : VolumeValue) (need : ℕ) (k : Known) (old now : Moment) → forces_for_place (state v) need ≡ true → Stands state Holds v k old
     → Answered state Holds (λ met. force_outcome (volume_of k)) Forced [] k w now → StandsFor need k w now
 stands_behind v w need k old now forces stands (after, answers, there) = record {
   after = after;
   volume = sym (ap (λ (o : Outcome). o.1) answers.is) ∙ sym (forced_is (state v) k.mounted need true stands.fits forces);
+  opened = answers.opened;
   windows = answers.windows;
   changes = answers.changes ∙ append-nil k.changes;
   stands = there;

@@ -64,6 +64,7 @@ pub ends_not : (v : VolumeValue) (k : Known) (now : Moment) → forces_first (st
 ends_not v k now few stands = record {
   after = k;
   volume = sym (ap (λ (b : Bool). forced_if b (volume_of k)) (by_itself_is v k now stands ∙ few));
+  opened = refl;
   windows = refl;
   changes = refl;
   stands = stands;
@@ -78,6 +79,7 @@ ends_forced v w k old now many stands (after, answers, there) =
     record {
       after = after;
       volume = sym (ap (λ (o : Outcome). o.1) answers.is) ∙ sym both;
+      opened = answers.opened;
       windows = answers.windows;
       changes = answers.changes ∙ append-nil k.changes;
       stands = there;
@@ -193,7 +195,7 @@ as_before need v = by (is_none (place_for v need) && not (length v.removed == 0)
 pub ends_stored : (need : ℕ) (bytes : List ℕ) (k : Known) (new : VolumeValue) (now : Moment) (why : Refusal) → EndsStore need bytes k new now (Err why) → EndsPrepare need bytes k new now (Err why)
 ends_stored need bytes k new now (Why.Device s) (inl down) = inl down
 ends_stored need bytes k new now (Why.Device s) (inr p) =
-    inr (p.after, record { volume = subst (λ (w : Volume). IsAsBefore (volume_of k) w) (sym p.volume) (as_before need (volume_of k)); windows = p.windows; changes = p.changes }, p.stands)
+    inr (p.after, record { volume = subst (λ (w : Volume). IsAsBefore (volume_of k) w) (sym p.volume) (as_before need (volume_of k)); opened = p.opened; windows = p.windows; changes = p.changes }, p.stands)
 ends_stored need bytes k new now (Why.Lost a b) none = none
 ends_stored need bytes k new now why stands = stands
 
@@ -221,6 +223,7 @@ ends_ready v m w need bytes k old mid now e stands stores p f version =
       record {
         after = f.after;
         volume = f.volume ∙ ap (λ (x : Volume). forced_if (forces_by_itself p.after.mounted) x) p.volume ∙ ap (λ (c : Bool). forced_if c at) then ∙ once ∙ ap (λ (c : Bool). forced_if c at) (sym (by_itself_is v k old stands));
+        opened = f.opened ∙ p.opened;
         windows = f.windows ∙ p.windows;
         changes = f.changes ∙ p.changes;
         stands = f.stands;

@@ -1,5 +1,5 @@
 -- What a read of a version answers.
-use Rattle.std.proofs.Common.{◌≡◌, inl, inr, ℕ, zero, suc, ◌+◌, ◌-◌, ◌/◌, ◌^◌, ◌==◌, ◌<◌, ◌≤◌, Bool, true, false, cond, List, [], ◌∷◌, length, take, drop, Option, Some, None, Result, Ok, Err, refl, sym, ap, subst, ◌∙◌, arith}
+use Rattle.std.proofs.Common.{◌≡◌, inl, inr, ℕ, zero, suc, ◌+◌, ◌-◌, ◌/◌, ◌^◌, ◌==◌, ◌<◌, ◌≤◌, Bool, true, false, cond, not, ◌&&◌, List, [], ◌∷◌, length, take, drop, Option, Some, None, Result, Ok, Err, refl, sym, ap, subst, ◌∙◌, arith}
 use Rattle.std.specs.Prelude.{⊤, All, IfErr, IfOk, IsErrAnd, IsTrue, nat_le, nat_lt, option_map, slice_index_or}
 use Rattle.std.specs.FinMap.{find}
 use Rattle.std.specs.List.{AllByRecursion, list_all, range_with_len}
@@ -32,9 +32,10 @@ use Rattle.version_data.specs.declared.fault.DataFault.{DataFault}
 use Rattle.version_data.specs.declared.fault.DataFault.TheVariants.{Device, Damaged}
 use Rattle.version_data.specs.Reading.{GivesRange, NamesFirst, data_failed_at, refusal_of}
 use Rattle.version_data.proofs.PlaceLaws.{entry_lengths, index_there}
+use Rattle.volume_contract.specs.Causes.{meets_held}
 use Rattle.volume_contract.specs.Ends.{Gives, Looks, Reads, count_in, device_of}
 use Rattle.volume_contract.specs.Order.{Comes, Follows, IsData, Step, Through, entry_steps, is_idle, read_steps}
-use Rattle.volume_contract.specs.State.{State}
+use Rattle.volume_contract.specs.State.{State, held_runs}
 use Rattle.volume_state.specs.Taken.{are_taken, is_taken, met_entry}
 use Rattle.volume_state.specs.Volume.{VolumeValue}
 
@@ -66,18 +67,23 @@ data_below l s within = ltb-true s l.sectors (and_parts (nat_le (data_start l) s
 pub all_below : (l : Layout) (xs : List ℕ) → ((s : ℕ) → IsTrue (contains xs s) → IsTrue (is_data l s)) → All (λ s. s < l.sectors) xs
 all_below l xs within k d lt = let s = slice_index_or xs k d in data_below l s (within s (index_there xs k d lt))
 
+-- runs of the data area have numbers
+pub data_runs : (l : Layout) (e : Entry) → ((s : ℕ) → IsTrue (contains (sectors_of e.runs) s) → IsTrue (is_data l s)) → l.sectors ≤ 2 ^ 24 → is_entry e ≡ true → All (λ r. r.start + r.length ≤ 2 ^ 32) e.runs
+data_runs l e within most good k d lt =
+    let each = entry_lengths e good k d lt in
+    let start = (slice_index_or e.runs k d).start + 0 in
+    let first = data_below l start (within start (run_there e.runs k 0 d lt (omega (arith, each.0)))) in
+    omega (arith, first, each.1, most)
+
 module _ (v : VolumeValue) (e : Entry) (taken : are_taken v e.runs ≡ true) where
   pub taken_data : (s : ℕ) → IsTrue (contains (sectors_of e.runs) s) → IsTrue (is_data v.layout s)
   taken_data s there =
-      let all = (and_parts (all_differ (sectors_of e.runs)) (list_all (is_taken v) (sectors_of e.runs)) taken).1 in
+      let both = (and_parts (all_differ (sectors_of e.runs) && list_all (is_taken v) (sectors_of e.runs)) (not (meets_held (held_runs v.shadow.held) e.runs)) taken).0 in
+      let all = (and_parts (all_differ (sectors_of e.runs)) (list_all (is_taken v) (sectors_of e.runs)) both).1 in
       (and_parts (is_data v.layout s) _ (all_in (is_taken v) (sectors_of e.runs) s all there)).0
 
   pub taken_runs : v.layout.sectors ≤ 2 ^ 24 → is_entry e ≡ true → All (λ r. r.start + r.length ≤ 2 ^ 32) e.runs
-  taken_runs most good k d lt =
-      let each = entry_lengths e good k d lt in
-      let start = (slice_index_or e.runs k d).start + 0 in
-      let first = data_below v.layout start (taken_data start (run_there e.runs k 0 d lt (omega (arith, each.0)))) in
-      omega (arith, first, each.1, most)
+  taken_runs most good = data_runs v.layout e taken_data most good
 
 -- ---- the steps
 

@@ -86,7 +86,8 @@ pub goes_then : (place : Option ℕ) (a b c : State) → GoesOn None a b → Goe
 goes_then place a b c first second = record {
   layout = second.layout ∙ first.layout;
   epoch = second.epoch ∙ first.epoch;
-  held = second.held ∙ first.held;
+  readers = second.readers ∙ first.readers;
+  unfinished = second.unfinished ∙ first.unfinished;
   down = elim first.down [
     | inl same ↦ elim second.down [
       | inl still ↦ inl (still ∙ same)

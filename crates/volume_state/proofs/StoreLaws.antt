@@ -57,7 +57,8 @@ module _ (s : State) (need : ℕ) where
     goes p = record {
       layout = places.state.layout;
       epoch = places.state.epoch;
-      held = places.state.held;
+      readers = places.state.readers;
+      unfinished = places.state.unfinished;
       down = elim places.state.down [
         | inl same ↦ inl same
         | inr gone ↦ absurd (cc gone.0)
@@ -200,7 +201,7 @@ pub on_drawn : (need : ℕ) (k : Known) (w : VolumeValue) (now : Moment) → (p 
 on_drawn need k w now p = on_forced need k p.after (ap (λ (x : Volume). x.layout) p.volume) (ap (λ (x : Volume). x.unforced) p.volume) p.windows p.changes
 
 pub drawn_stands : (need : ℕ) (k : Known) (m w : VolumeValue) (now new : Moment) → (p : StandsFor need k m now) → Stands state Holds w (drawn_known p.after) new → StandsDrawn need k w new
-drawn_stands need k m w now new p stands = record { after = drawn_known p.after; volume = ap drawn p.volume; windows = p.windows; changes = p.changes; stands = stands }
+drawn_stands need k m w now new p stands = record { after = drawn_known p.after; volume = ap drawn p.volume; opened = p.opened; windows = p.windows; changes = p.changes; stands = stands }
 
 pub ends_failed : (need : ℕ) (bytes : List ℕ) (within : Sectors) (k : Known) (new : VolumeValue) (now : Moment) (why : Refusal) → IsDeviceIn within why → StandsDrawn need k new now → EndsStore need bytes k new now (Err why)
 ends_failed need bytes within k new now (Why.Device s) fails stands = inr stands

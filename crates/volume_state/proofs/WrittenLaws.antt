@@ -1,7 +1,7 @@
 -- A volume that stands still stands where its free sectors are written, and once its next serial is drawn.
 use Rattle.std.proofs.Common.{◌≡◌, inl, ℕ, zero, suc, Bool, true, false, cond, nat_le, nat_lt, List, [], ◌∷◌, length, refl, sym, ap, subst, ◌∙◌, arith}
 use Rattle.std.specs.Prelude.{◌⊎◌, IsTrue}
-use Rattle.std.proofs.lemmas.Bool.{and_from, both_ways, le-leb, lt-ltb}
+use Rattle.std.proofs.lemmas.Bool.{and_from, both_ways, le-leb, lt-ltb, or_left}
 use Rattle.volume_layout.specs.Layout.{data_start, is_data}
 use Rattle.fsd_bytes.specs.declared.key.Serial.{Serial}
 use Rattle.run_table.specs.Space.{contains}
@@ -13,9 +13,12 @@ use Rattle.sector_disk.specs.Image.{AreShort, IsWorn, open_damage, sector_at}
 use Rattle.sector_disk.specs.Machine.{Moment}
 use Rattle.fsd_log.specs.Scan.{Walked}
 use Rattle.fsd_files.specs.Disk.{Image, Sectors}
+use Rattle.fsd_files.specs.Volume.{is_in}
+use Rattle.fsd_files.proofs.WaitLaws.{open_taken}
 use Rattle.fsd_sound.specs.Mounted.{IsMounted, SameTaken}
 use Rattle.fsd_sound.specs.Shown.{records_by}
 use Rattle.fsd_sound.proofs.MountedLaws.{drawn_mounted, mounted_sound, still_mounted, still_records}
+use Rattle.fsd_sound.proofs.OpenLaws.{drafts_worn}
 use Rattle.version_data.specs.Writing.{WritesIn}
 use Rattle.volume_contract.specs.State.{Known, Leaves, LeavesSound, ListsPages, Stands, forced_of}
 use Rattle.volume_state.specs.Placing.{drawn_known, drawn_volume}
@@ -83,10 +86,13 @@ module _ (v : VolumeValue) (k : Known) (old left : Moment) (may : Sectors) (free
   stands_between : Stands state Holds v k (record { image = between; windows = old.windows; said = old.said })
   stands_between = record {
     fits = stands.fits;
+    opened = stands.opened;
     holds = subst (Holds v k.mounted) same_records stands.holds;
     lists = subst (ListsPages (state v) k.mounted.pages) same_records stands.lists;
     ends = stands.ends;
     disk = mounted;
+    written = drafts_worn (open_damage old.windows) old.image between k.mounted.slices k.mounted.volume.drafts
+        (λ s there. inl (taken_same s (open_taken k.mounted.volume s (or_left (is_in k.mounted.volume.drafts s) (is_in k.mounted.volume.held s) there)))) stands.written;
   }
 
   wears : IsWorn (open_damage old.windows) between left.image
@@ -147,27 +153,29 @@ stands_drawn v k now stands = record {
     waiting = stands.fits.waiting;
     waits = stands.fits.waits;
     held = stands.fits.held;
+    unfinished = stands.fits.unfinished;
     pages_free = stands.fits.pages_free;
     versions = stands.fits.versions;
     up = stands.fits.up;
   };
+  opened = record { drafts = stands.opened.drafts; slices = stands.opened.slices; places = stands.opened.places; bytes = stands.opened.bytes };
   holds = record {
     planned = stands.holds.planned;
     pages = stands.holds.pages;
     inside = stands.holds.inside;
     map = stands.holds.map;
     removed = stands.holds.removed;
+    kept = stands.holds.kept;
+    unfinished = stands.holds.unfinished;
     free_pages = stands.holds.free_pages;
     log = stands.holds.log;
     fits = stands.holds.fits;
     indexed = stands.holds.indexed;
-    drafts = stands.holds.drafts;
-    slices = stands.holds.slices;
-    bytes = stands.holds.bytes;
   };
   lists = record { table = stands.lists.table; slots = stands.lists.slots; free_pages = stands.lists.free_pages };
   ends = stands.ends;
   disk = drawn_mounted k.mounted k.windows k.changes (forced_of k) now.image stands.disk;
+  written = stands.written;
 }
 
 -- ---- nothing is written

@@ -77,6 +77,7 @@ drawn_known k = record k { mounted = record k.mounted { volume = drawn (volume_o
 pub record StandsFor (need : ℕ) (k : Known) (new : VolumeValue) (now : Moment) : Type 0 where
   pub after : Known
   pub volume : volume_of after ≡ forced_for_place need (volume_of k)
+  pub opened : after.opened ≡ k.opened
   pub windows : after.windows ≡ k.windows
   pub changes : after.changes ≡ k.changes
   pub stands : Stands state Holds new after now
@@ -115,6 +116,7 @@ pub record Stores (need : ℕ) (old new : State) (result : Result Entry Refusal)
 pub record StandsDrawn (need : ℕ) (k : Known) (new : VolumeValue) (now : Moment) : Type 0 where
   pub after : Known
   pub volume : volume_of after ≡ drawn (forced_for_place need (volume_of k))
+  pub opened : after.opened ≡ k.opened
   pub windows : after.windows ≡ k.windows
   pub changes : after.changes ≡ k.changes
   pub stands : Stands state Holds new after now

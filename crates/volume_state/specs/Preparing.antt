@@ -28,6 +28,7 @@ pub record Forces (old new : State) (result : Result (Unit {0}) Refusal) : Type 
 pub record StandsForced (k : Known) (new : VolumeValue) (now : Moment) : Type 0 where
   pub after : Known
   pub volume : volume_of after ≡ forced_if (forces_by_itself k.mounted) (volume_of k)
+  pub opened : after.opened ≡ k.opened
   pub windows : after.windows ≡ k.windows
   pub changes : after.changes ≡ k.changes
   pub stands : Stands state Holds new after now
@@ -61,6 +62,7 @@ pub record Prepares (need : ℕ) (old new : State) (result : Result Entry Refusa
 pub record StandsReady (need : ℕ) (k : Known) (new : VolumeValue) (now : Moment) : Type 0 where
   pub after : Known
   pub volume : volume_of after ≡ forced_if (forces_by_itself k.mounted) (drawn (forced_for_place need (volume_of k)))
+  pub opened : after.opened ≡ k.opened
   pub windows : after.windows ≡ k.windows
   pub changes : after.changes ≡ k.changes
   pub stands : Stands state Holds new after now

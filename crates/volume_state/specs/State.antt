@@ -3,11 +3,12 @@ use Rattle.std.specs.Prelude.{◌≡◌, ℕ, ◌<◌, false, not, ◌||◌, ◌
 use Rattle.volume_layout.specs.Layout.{plan}
 use Rattle.run_table.specs.declared.run.Run.{Run}
 use Rattle.run_table.specs.Space.{contains, where_free, runs_of}
-use Rattle.shadow_frees.specs.Readers.{Slots, unheld}
+use Rattle.shadow_frees.specs.Readers.{unheld}
 use Rattle.shadow_frees.specs.Waits.{waiting_sectors}
 use Rattle.page_cache.specs.Cache.{bytes_of}
 use Rattle.fsd_log.specs.Scan.{Placed}
-use Rattle.fsd_files.specs.Volume.{is_free}
+use Rattle.fsd_files.specs.Volume.{is_free, is_in}
+use Rattle.fsd_files.specs.Waiting.{is_kept_alone}
 use Rattle.fsd_sound.specs.Mounted.{Mounted, image_at}
 use Rattle.log_thirds.specs.Append.{IsIndexed}
 use Rattle.log_thirds.specs.LogValue.{FitsLayout}
@@ -16,12 +17,6 @@ use Rattle.volume_state.specs.Volume.{VolumeValue}
 use Rattle.cached_table.specs.Opening.{is_reached}
 
 -- ---- over any machine
-
--- the runs of the versions that readers hold
-abbrev pub held_runs : Slots → List (List Run)
-held_runs [] = []
-held_runs (None ∷ slots) = held_runs slots
-held_runs (Some runs ∷ slots) = runs ∷ held_runs slots
 
 module _ (v : VolumeValue) where
   -- the sectors that are free once a force has ended: what waited for it and nobody holds is free then
@@ -44,7 +39,8 @@ module _ (v : VolumeValue) where
     freed = runs_of freed_sectors;
     waiting = waiting_sectors v.shadow;
     waits = not (length v.shadow.removed.sectors == 0);
-    held = held_runs v.shadow.held;
+    unfinished = v.shadow.unfinished.sectors;
+    readers = v.shadow.held;
     free_pages = spare_pages;
     versions = v.versions;
     down = v.down;
@@ -60,18 +56,17 @@ module _ (v : VolumeValue) where
 
 -- ---- over an honest machine
 
--- What it has in memory is of this volume, whose log has these records: pages, free and waiting sectors, free name
--- pages, and where each page's last image lies. No creation is open.
+-- What it has in memory is of this volume, whose log has these records: pages, free sectors, those that wait for a force,
+-- for a reader alone, and for an unfinished creation, free name pages, and where each page's last image lies.
 pub record Holds (v : VolumeValue) (m : Mounted) (records : List Placed) : Type 0 where
   pub planned : plan v.layout.sectors v.layout.third v.layout.pages ≡ Ok v.layout
   pub pages : (page : ℕ) (bytes : List ℕ) → resident v page ≡ Some bytes → image_at m.pages page ≡ bytes
   pub inside : (page : ℕ) (bytes : List ℕ) → resident v page ≡ Some bytes → page < v.layout.pages
   pub map : (s : ℕ) → contains v.map.sectors s ≡ is_free m.volume s
   pub removed : (s : ℕ) → contains v.shadow.removed.sectors s ≡ contains m.volume.removed s
+  pub kept : (s : ℕ) → contains v.shadow.kept.sectors s ≡ is_kept_alone m.volume s
+  pub unfinished : (s : ℕ) → contains v.shadow.unfinished.sectors s ≡ is_in m.volume.drafts s
   pub free_pages : (page : ℕ) → page < v.layout.pages → slice_index_or v.free_pages page false ≡ not (is_reached m.pages page)
   pub log : v.log.layout ≡ v.layout
   pub fits : FitsLayout v.log
   pub indexed : IsIndexed v.log records
-  pub drafts : m.volume.drafts ≡ []
-  pub slices : m.slices ≡ []
-  pub bytes : m.bytes ≡ []

@@ -9,15 +9,17 @@ use Rattle.fsd_bytes.specs.declared.refusal.Refusal.{Refusal}
 use Rattle.fsd_bytes.specs.declared.refusal.Refusal.TheVariants as Why
 use Rattle.fsd_formats.specs.declared.entry.Entry.{Entry}
 use Rattle.shadow_frees.specs.Waits.{waits}
+use Rattle.volume_contract.specs.Causes.{meets_held}
+use Rattle.volume_contract.specs.State.{held_runs}
 use Rattle.volume_state.specs.Volume.{VolumeValue}
 
 -- the sector lies in the data area, and is neither free nor waiting
 abbrev pub is_taken : VolumeValue → ℕ → Bool
 is_taken v s = is_data v.layout s && not (contains v.map.sectors s || waits v.shadow s)
 
--- so are the sectors of the runs, and each is named once
+-- so are the sectors of the runs, each is named once, and each reader holds these very runs, or none of their sectors
 abbrev pub are_taken : VolumeValue → List Run → Bool
-are_taken v runs = all_differ (sectors_of runs) && list_all (is_taken v) (sectors_of runs)
+are_taken v runs = all_differ (sectors_of runs) && list_all (is_taken v) (sectors_of runs) && not (meets_held (held_runs v.shadow.held) runs)
 
 -- an entry that was met in the leaf at this page is one of the table only where its sectors are taken
 abbrev pub met_entry : VolumeValue → (page : ℕ) → Entry → Result Entry Refusal

@@ -1,10 +1,11 @@
 -- A volume by its parts, and what holds of them over any machine.
-use Rattle.std.specs.Prelude.{◌≡◌, ◌⊎◌, ℕ, ◌<◌, ◌-◌, ◌^◌, Bool, List, [], Option, None, Ok, length, replicate, IsTrue, IsFalse}
+use Rattle.std.specs.Prelude.{◌≡◌, ◌⊎◌, ℕ, ◌<◌, ◌-◌, ◌^◌, Bool, ◌||◌, List, [], Option, None, Ok, length, IsTrue, IsFalse}
 use Rattle.volume_layout.specs.declared.layout.Layout.{Layout}
 use Rattle.volume_layout.specs.Layout.{plan}
 use Rattle.run_table.specs.Space.{contains}
 use Rattle.fsd_bytes.specs.declared.key.Serial.{Serial}
 use Rattle.sector_set.specs.Area.{Area}
+use Rattle.shadow_frees.specs.Readers.{is_held}
 use Rattle.shadow_frees.specs.Waits.{Waits, waits}
 use Rattle.group_commit.specs.Cached.{AreWaiting}
 use Rattle.log_thirds.specs.LogValue.{LogValue}
@@ -25,14 +26,15 @@ pub record VolumeValue : Type 0 where
   pub versions : ℕ
   pub down : Option ℕ
 
--- no reader holds a version, and no creation is unfinished
-pub record IsUnread (w : Waits) : Type 0 where
-  pub kept : w.kept.sectors ≡ []
-  pub unfinished : w.unfinished.sectors ≡ []
-  pub held : w.held ≡ replicate 8 None
+-- No sector waits twice, what is kept is kept for a reader, and eight readers at most hold a version each.
+pub record WaitsOnce (w : Waits) : Type 0 where
+  pub removed : (s : ℕ) → IsTrue (contains w.removed.sectors s) → IsFalse (contains w.kept.sectors s || contains w.unfinished.sectors s)
+  pub kept : (s : ℕ) → IsTrue (contains w.kept.sectors s) → IsFalse (contains w.unfinished.sectors s)
+  pub readers : (s : ℕ) → IsTrue (contains w.kept.sectors s) → IsTrue (is_held w.held s)
+  pub slots : length w.held ≡ 8
 
--- The layout is one that is planned. The map and the shadow are of the data area, and no free sector waits; the log is
--- the layout's, in the epoch of the serials; each name page is free or not, and none is pinned. Where it is not down,
+-- The layout is one that is planned. The map and the shadow are of the data area, no free sector waits, and none waits
+-- twice; the log is the layout's, in the epoch of the serials; each name page is free or not, and none is pinned. Where it is not down,
 -- each dirty page is an image of itself, and the next record can be numbered;
 -- where none is dirty no sector waits for a force.
 pub record IsWhole (v : VolumeValue) : Type 0 where
@@ -42,7 +44,7 @@ pub record IsWhole (v : VolumeValue) : Type 0 where
   pub kept : IsOfData v.layout v.shadow.kept
   pub unfinished : IsOfData v.layout v.shadow.unfinished
   pub apart : (s : ℕ) → IsTrue (contains v.map.sectors s) → IsFalse (waits v.shadow s)
-  pub unread : IsUnread v.shadow
+  pub once : WaitsOnce v.shadow
   pub log : v.log.layout ≡ v.layout
   pub epoch : v.serial.epoch ≡ v.log.anchor.epoch
   pub pages : length v.free_pages ≡ v.layout.pages

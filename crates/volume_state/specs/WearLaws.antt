@@ -3,7 +3,7 @@
 use Rattle.std.proofs.Common.{◌≡◌, ◌^◌, ◌<◌, ◌≤◌, sym, ap, subst, ◌∙◌, arith}
 use Rattle.volume_layout.specs.declared.layout.Layout.{Layout}
 use Rattle.volume_layout.proofs.RootLaws.{planned_bounds}
-use Rattle.sector_disk.specs.Image.{AreShort, IsWorn, Windows}
+use Rattle.sector_disk.specs.Image.{AreShort, IsWorn, Windows, open_damage}
 use Rattle.sector_disk.specs.Machine.{Moment}
 use Rattle.fsd_formats.specs.declared.anchor.Anchor.{Anchor}
 use Rattle.fsd_log.specs.Scan.{Walked}
@@ -13,8 +13,9 @@ use Rattle.fsd_sound.specs.Sound.{EndIn, weak_of}
 use Rattle.fsd_sound.specs.Windows.{IsApart}
 use Rattle.fsd_sound.proofs.LaidLaws.{own_worn}
 use Rattle.fsd_sound.proofs.MountedWearLaws.{mounted_still}
+use Rattle.fsd_sound.proofs.OpenLaws.{drafts_worn}
 use Rattle.fsd_sound.proofs.WindowLaws.{open_is_weak, short_apart}
-use Rattle.volume_contract.specs.State.{Known, Ages, ListsPages, Stands, forced_of}
+use Rattle.volume_contract.specs.State.{Known, Ages, ListsPages, StandWritten, Stands, forced_of}
 use Rattle.volume_state.specs.State.{Holds, state}
 use Rattle.volume_state.specs.Volume.{VolumeValue}
 
@@ -41,8 +42,11 @@ module _ (v : VolumeValue) (k : Known) (old new : Moment) (short : AreShort old.
   pub stands_worn : Stands state Holds v k new
   stands_worn = record {
     fits = stands.fits;
+    opened = stands.opened;
     holds = subst (Holds v k.mounted) same_records stands.holds;
     lists = subst (ListsPages (state v) k.mounted.pages) same_records stands.lists;
     ends = subst (λ (w : Windows). EndIn w k.windows) (sym ages.windows) stands.ends;
     disk = mounted_still k.mounted k.windows k.changes (forced_of k) old.image new.image small apart worn stands.disk;
+    written = subst (λ (w : Windows). StandWritten (open_damage w) new.image k.mounted.slices k.mounted.volume.drafts) (sym ages.windows)
+        (drafts_worn (open_damage old.windows) old.image new.image k.mounted.slices k.mounted.volume.drafts (λ s there. ages.image.each s) stands.written);
   }

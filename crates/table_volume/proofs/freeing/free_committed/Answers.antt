@@ -17,5 +17,5 @@ loop-start-preserved c =
     c.in-Some.ensures.left c.in-Some.ensures.held c.in-Some.ensures.unfinished c.in-Some.ensures.kept)
 
 pub returns-clause-kept : goal.returns-clause-kept
-returns-clause-kept c free empty =
-    kept_all c.args.map.now c.args.shadow.now c.loop-start.map c.loop-start.shadow c.loop-start.invariant (search rules) c.committed.new.self.kept c.in_default.ensures.kept free empty
+returns-clause-kept c =
+    kept_all c.args.map.now c.args.shadow.now c.loop-start.map c.loop-start.shadow c.loop-start.invariant (search rules) c.committed.new.self.kept c.in_default.ensures.kept

@@ -1,17 +1,15 @@
-use Rattle.std.proofs.Common.{◌≡◌, ◌∙◌, ℕ, ◌+◌, ◌<◌, ◌≤◌, List, length, Option, None, Some, refl, sym, ap, subst, arith}
+use Rattle.std.proofs.Common.{◌≡◌, ◌∙◌, ℕ, ◌≤◌, List, None, Some, sym, ap, subst, arith}
 use Rattle.std.specs.Prelude.{All}
 use Rattle.std.proofs.lemmas.Result.{err_from_is_err_and}
 use Rattle.run_table.specs.declared.run.Run.{Run}
 use Rattle.run_table.specs.RunTable.{sectors_of}
-use Rattle.fsd_formats.specs.declared.entry.Leader.{Leader}
 use Rattle.fsd_formats.specs.Leader.{leader_bytes, leader_of}
-use Rattle.fsd_files.specs.Scrub.{leader_place}
 use Rattle.sector_disk.specs.Calls.{as_sector}
 use Rattle.sector_disk.specs.Image.{sector_at}
-use Rattle.sector_disk.proofs.CallLaws.{reads_as_writes, reads_then_writes}
+use Rattle.sector_disk.proofs.CallLaws.{reads_then_writes}
 use Rattle.version_data.specs.Single.{WritesLeader}
 use Rattle.version_data.proofs.PlaceLaws.{entry_lengths, in_all, is_there}
-use Rattle.version_data.proofs.SingleLaws.{leader_at, leader_inside, led_now, needed, stood, torn_leader, unwritten}
+use Rattle.version_data.proofs.SingleLaws.{leader_at, leader_inside, led_now, needed, torn_leader, unwritten}
 use Rattle.version_data.proofs.single.heal_leader.Goals as goal
 
 pub unwrap-place-requires : goal.unwrap-place-requires

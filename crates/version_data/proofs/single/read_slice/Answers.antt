@@ -1,9 +1,8 @@
-use Rattle.std.proofs.Common.{◌≡◌, ◌∙◌, ℕ, ◌+◌, List, Option, Some, sym, ap, subst, arith}
+use Rattle.std.proofs.Common.{◌≡◌, ◌∙◌, ℕ, ◌+◌, sym, ap, subst, arith}
 use Rattle.sector_disk.specs.Calls.{as_sector}
 use Rattle.sector_disk.specs.Image.{sector_at}
 use Rattle.sector_disk.specs.declared.sector.Sector.TheVariants.{Damaged}
 use Rattle.fsd_files.specs.Kept.{IsWhole}
-use Rattle.fsd_files.specs.Scrub.{slice_place}
 use Rattle.version_data.proofs.PlaceLaws.{in_all, is_there}
 use Rattle.version_data.proofs.SingleLaws.{few_slices, slice_inside, slice_is, was_whole}
 use Rattle.run_table.specs.RunTable.{sectors_of}

@@ -27,8 +27,8 @@ enter-done-requires-clause-runs g c =
 pub take-requires : goal.take-requires
 take-requires g c = subst (λ (x : VolumeValue). AreIn x.map c.args.draft.runs) (sym c.self.view_is) c.requires.place.free
 
-pub free_gone_if-requires-clause-idle : goal.free_gone_if-requires-clause-idle
-free_gone_if-requires-clause-idle g c = idle_gone _ _ _ _ c.as_slice.ensures.value c.in_ok-plan.ensures.taken
+pub free_gone_if-requires : goal.free_gone_if-requires
+free_gone_if-requires g c = idle_gone _ _ _ _ c.as_slice.ensures.value c.in_ok-plan.ensures.taken
 
 -- ---- none is entered
 
@@ -82,7 +82,7 @@ pub returns-clause-order : goal.returns-clause-order
 returns-clause-order g c = through_entered _ c.args.self.now c.self.view_is c.in_ok-plan.ensures.full
 
 pub returns-clause-enters : goal.returns-clause-enters
-returns-clause-enters g c = enters_told _ c.args.self.now c.self.view_is c.take.new.self c.free_gone_if.new.shadow c.enter-done.new.self.cache c.enter-done.new.self.free_pages c.versions_with_one-self-inside.result c.free_gone_if.ensures.held
+returns-clause-enters g c = enters_told _ c.args.self.now c.self.view_is c.take.new.self c.free_gone_if.new.shadow c.enter-done.new.self.cache c.enter-done.new.self.free_pages c.versions_with_one-self-inside.result c.free_gone_if.ensures.held c.free_gone_if.ensures.unfinished
 
 pub returns-clause-done : goal.returns-clause-done
 returns-clause-done g c = λ honest bytes k stands long written.
@@ -98,4 +98,4 @@ returns-clause-done g c = λ honest bytes k stands long written.
     c.args.name.now c.args.keep c.args.draft plan.plan (search rules) (search rules) (subst (λ (x : VolumeValue). length x.cache.dirty ≤ 56) (sym c.self.view_is) c.requires.few) plan.ensures.edits done.ensures.changes (done.ensures.waiting were)
     plan.ensures.planned plan.ensures.full plan.ensures.made (subst (λ (x : VolumeValue). IsPlace x.map (sectors_for c.args.draft.length) c.args.draft.runs) (sym c.self.view_is) c.requires.place) honest k stands bytes long
     (version_worn (g.M.Machine.now c.args.m.now) (g.M.Machine.now done.new.m) bytes c.args.draft (plan.ensures.edits.reads.worn honest) written)
-    c.take.new.self c.free_gone_if.new.shadow c.versions_with_one-self-inside.result (c.versions_with_one-self-inside.ensures ∙ ap (λ (n : ℕ). min (c.self.inside.versions - n + 1) 4294967295) c.len.ensures.value) c.take.ensures c.is_empty-waits.result none removed whole
+    c.take.new.self c.free_gone_if.new.shadow c.versions_with_one-self-inside.result (c.versions_with_one-self-inside.ensures ∙ ap (λ (n : ℕ). min (c.self.inside.versions - n + 1) 4294967295) c.len.ensures.value) c.take.ensures c.is_empty-waits.result none removed frees.kept frees.unfinished frees.held whole

@@ -3,6 +3,7 @@ use Rattle.std.specs.Prelude.{IsSome}
 use Rattle.std.proofs.lemmas.Bool.{lt-ltb}
 use Rattle.std.proofs.lemmas.Result.{err_from_is_err_and}
 use Rattle.std.proofs.lemmas.List.{nil_from_length}
+use Rattle.sector_set.specs.Area.{Area}
 use Rattle.sector_disk.specs.Calls.{WritesDisk}
 use Rattle.sector_disk.proofs.CallLaws.{writes_none, writes_told, writes_more}
 use Rattle.sector_disk.specs.declared.machine.LoadFault.{LoadFault}
@@ -13,7 +14,7 @@ use Rattle.group_commit.specs.Cached.{AreWaiting}
 use Rattle.volume_contract.specs.Ends.{device_of, Answered}
 use Rattle.fsd_sound.specs.Writes.{force_writes}
 use Rattle.volume_contract.specs.Causes.{HasCause}
-use Rattle.volume_contract.specs.State.{GoesOn, IsForced as HasForced, Leaves, Stands, State, downs_for, force_len, volume_of}
+use Rattle.volume_contract.specs.State.{GoesOn, IsForced as HasForced, Leaves, Stands, State, downs_for, force_len, held_runs, volume_of}
 use Rattle.fsd_files.specs.Answers.{force_outcome}
 use Rattle.fsd_files.specs.Disk.{Touches}
 use Rattle.fsd_files.specs.Replies.{Forced as IsForced}
@@ -23,7 +24,7 @@ use Rattle.volume_contract.specs.Logged.{AllLogged, KeepsPages}
 use Rattle.volume_contract.specs.Order.{Comes, Force, IsLoss, Keeps, Test, Through, force_steps, is_idle}
 use Rattle.volume_state.specs.Behind.{IsBehind}
 use Rattle.volume_state.specs.Forcing.{force_refusal as refusal_of, place_of}
-use Rattle.volume_state.specs.State.{Holds, held_runs, resident, state}
+use Rattle.volume_state.specs.State.{Holds, resident, state}
 use Rattle.volume_state.specs.Volume.{VolumeValue}
 use Rattle.volume_state.specs.Taken.{down_fault}
 use Rattle.volume_changes.proofs.BehindLaws.{behind_itself}
@@ -76,7 +77,7 @@ returns-in_err-is_up g c =
       counted = λ tells. (omega arith, omega arith);
       counted_err = λ tells never. refl;
       pages = tt;
-      state = record { layout = refl; epoch = refl; held = refl; down = inl refl };
+      state = record { layout = refl; epoch = refl; unfinished = refl; readers = refl; down = inl refl };
       idle = λ idle. refl;
       kept = inl (refused, refl);
       pages_kept = tt;
@@ -106,7 +107,7 @@ returns-then-len-eq0 g c =
       counted = λ tells. let len : force_len (state w) ≡ 0 = ap (λ (dirty : List ℕ). force_len (record (state w) { dirty = dirty })) nil_now in omega (arith, len);
       counted_err = tt;
       pages = ap length (sym nil_now);
-      state = record { layout = refl; epoch = refl; held = refl; down = inl refl };
+      state = record { layout = refl; epoch = refl; unfinished = refl; readers = refl; down = inl refl };
       idle = λ idle. refl;
       kept = subst (λ (x : VolumeValue). HasForced (state x) (state x)) c.self.view_is (idle_forced v c.self.invariant nil);
       pages_kept = λ page x is. is;
@@ -170,7 +171,7 @@ returns-in-Ok g c =
     let some : 1 ≤ length c.self.inside.table.cache.dirty = search rules in
     let up : c.self.inside.down ≡ None = subst (λ (x : VolumeValue). x.down ≡ None) (sym c.self.view_is) (up_by c.args.self.now.down (sym c.in_ok-is_up.ensures)) in
     let whole = whole_forced v c.self.invariant w.map w.shadow w.log w.cache freed.map freed.removed freed.kept freed.unfinished freed.held forced.log forced.cache in
-    let to = forced_to v w.map w.shadow w.log w.cache freed.map freed.removed forced.log forced.cache in
+    let to = forced_to v c.self.invariant w.map w.shadow w.log w.cache freed.map freed.removed freed.kept freed.unfinished freed.held forced.log forced.cache in
     record {
       order = subst (λ (x : VolumeValue). Through (force_steps (state x))) c.self.view_is (ap (option_map Why.Down) up, (tt, tt));
       disk = subst (λ (x : VolumeValue). WritesDisk M None (Leaves state Holds x (force_writes x.layout)) c.args.m.now c.force_cached.new.m) c.self.view_is
@@ -179,7 +180,7 @@ returns-in-Ok g c =
       counted = λ tells. forced.counted tells ∙ ap (λ n. (M.ledger c.args.m.now).written + n) (forced_count v c.args.self.now c.self.view_is c.self.invariant some);
       counted_err = tt;
       pages = forced.pages ∙ ap (λ (x : VolumeValue). length x.cache.dirty) c.self.view_is;
-      state = subst (λ (x : VolumeValue). GoesOn None (state x) (state w)) c.self.view_is (record { layout = refl; epoch = refl; held = ap held_runs freed.held; down = inl refl });
+      state = subst (λ (x : VolumeValue). GoesOn None (state x) (state w)) c.self.view_is (record { layout = refl; epoch = refl; readers = freed.held; unfinished = ap (λ (a : Area). a.sectors) freed.unfinished; down = inl refl });
       idle = subst (λ (x : VolumeValue). is_idle (force_steps (state x)) ≡ true → c.force_cached.new.m ≡ c.args.m.now) c.self.view_is (λ idle. absurd (busy (state v) up some idle));
       kept = subst (λ (x : VolumeValue). HasForced (state x) (state w)) c.self.view_is
           (is_forced v c.self.invariant w.map w.shadow w.log w.cache freed.map freed.removed freed.kept freed.unfinished freed.held forced.log forced.cache valid some);
@@ -226,7 +227,7 @@ returns-in-Err g c =
       counted = λ tells. failed_counted v c.args.self.now c.self.view_is c.self.invariant some (M.ledger c.args.m.now) (M.ledger c.force_cached.new.m) (failed.counted_err tells);
       counted_err = λ tells never. failed_none v c.args.self.now c.self.view_is c.self.invariant (M.ledger c.args.m.now) (M.ledger c.force_cached.new.m) (failed.counted_err tells) never;
       pages = tt;
-      state = subst (λ (x : VolumeValue). GoesOn (downs_for why) (state x) (state w)) c.self.view_is (record { layout = refl; epoch = refl; held = refl; down = inr (subst IsSome downs_is refl, downs_is) });
+      state = subst (λ (x : VolumeValue). GoesOn (downs_for why) (state x) (state w)) c.self.view_is (record { layout = refl; epoch = refl; unfinished = refl; readers = refl; down = inr (subst IsSome downs_is refl, downs_is) });
       idle = subst (λ (x : VolumeValue). is_idle (force_steps (state x)) ≡ true → c.force_cached.new.m ≡ c.args.m.now) c.self.view_is (λ idle. absurd (busy (state v) up some idle));
       kept = subst (λ (x : VolumeValue). Keeps (force_steps (state x)) why (state x) (state w)) c.self.view_is
           (kept_down v c.self.invariant w.log w.cache c.place_of.result why f c.place_of.ensures told failed.cache_err _ failed.log_err up some);

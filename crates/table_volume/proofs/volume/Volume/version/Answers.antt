@@ -56,6 +56,7 @@ returns-in_err-is_up g c =
       absent = λ same. absurd (down_is_told v.down why down (cc same));
       key = tt;
       taken = tt;
+      here = tt;
       found = tt;
       done = λ h k stands. absurd (not_down v k now why down stands);
     })
@@ -80,6 +81,7 @@ returns-in_err-found g c =
       absent = λ same. absurd (not_look_up why failed.cause (cc same));
       key = tt;
       taken = tt;
+      here = tt;
       found = tt;
       done = λ h k stands. fault_looked_up (entry_reply (volume_of k) c.args.key.now) (entry_in c.args.key.now (volume_of k).entries) why (failed.found h k stands);
     })
@@ -102,6 +104,7 @@ returns-in-None g c =
       absent = λ told. none_found _ c.in-None.is found.absent;
       key = tt;
       taken = tt;
+      here = tt;
       found = tt;
       done = λ h k stands. ap found_or (sym (found.found h k stands) ∙ ap entry_of c.in-None.is);
     }
@@ -135,6 +138,7 @@ returns-in-Some g c =
       absent = not_met w c.in-Some.found r met;
       key = key_met w c.args.key.now page entry r (rw c.in-Some.is at found.key) met;
       taken = taken_met w page entry r found.told met;
+      here = so (λ (e : Entry). are_taken w e.runs ≡ true) (λ taken. taken);
       found = found_met (λ e. ShowsReached g.M.Machine (resident v) (state v) (state w) c.args.m.now c.find.new.m (HasEntry e)) w _ c.in-Some.found c.in-Some.is found.there r met;
       done = λ h k stands.
           entry_looked_up w k.mounted.volume c.args.key.now page entry r (sym (found.found h k stands) ∙ ap entry_of c.in-Some.is) (found.taken h k stands) met;

@@ -1,0 +1,61 @@
+use Rattle.std.proofs.Common.{◌≡◌, ◌∙◌, Err, None, Some, ap, length, set, subst, sym, true}
+use Rattle.std.specs.Prelude.{is_none, slice_index_or}
+use Rattle.std.specs.List.{list_any}
+use Rattle.fsd_bytes.specs.declared.refusal.Refusal.{Refusal}
+use Rattle.volume_contract.specs.Absent.{Reaches}
+use Rattle.volume_contract.specs.Causes.{IsTaken}
+use Rattle.volume_contract.specs.Found.{HasEntry}
+use Rattle.volume_contract.specs.Pieces.{EndsHold}
+use Rattle.volume_contract.specs.State.{State}
+use Rattle.volume_state.specs.State.{Holds, resident, state}
+use Rattle.volume_state.proofs.RangeLaws.{handed}
+use Rattle.volume_changes.proofs.AbsentLaws.{not_handed}
+use Rattle.volume_changes.proofs.CauseLaws.{handed_cause}
+use Rattle.volume_changes.proofs.HoldLaws.{hold_done, hold_refused, hold_token, shows_held}
+use Rattle.table_volume.proofs.files.VolumeFiles.hold.Goals as goal
+
+pub held_at-place-requires-clause-place : goal.held_at-place-requires-clause-place
+held_at-place-requires-clause-place g c = subst (λ (s : State). list_any is_none s.readers ≡ true) (sym c.in_ok-entry.ensures.state) c.requires.place
+
+pub returns-clause-state : goal.returns-clause-state
+returns-clause-state g c =
+    let e = c.held_at-place.ensures in
+    record {
+      is = e.state ∙ ap (λ (s : State). record s { readers = set s.readers c.held_at-place.result (Some c.in_ok-entry.entry.runs) }) c.in_ok-entry.ensures.state;
+      empty = ap (λ (s : State). slice_index_or s.readers c.held_at-place.result None) (sym c.in_ok-entry.ensures.state) ∙ e.empty;
+    }
+
+pub returns-clause-held : goal.returns-clause-held
+returns-clause-held g c =
+    let same : (state c.held_at-place.new.self).layout ≡ (state c.args.self.now).layout = ap (λ (s : State). s.layout) c.held_at-place.ensures.state ∙ ap (λ (s : State). s.layout) c.in_ok-entry.ensures.state in
+    hold_token _ _ (state c.args.self.now).layout same c.in_ok-entry.ensures.good c.in_ok-entry.ensures.within c.held_at-place.ensures.inside c.held_at-place.ensures.there
+
+pub returns-clause-taken : goal.returns-clause-taken
+returns-clause-taken g c = subst (λ (s : State). IsTaken s c.in_ok-entry.entry) c.in_ok-entry.ensures.state c.in_ok-entry.ensures.taken
+
+pub returns-clause-found : goal.returns-clause-found
+returns-clause-found g c = λ honest.
+    let M = g.M.Machine in
+    let s = state c.args.self.now in
+    shows_held s (state c.version.new.self) (state c.held_at-place.new.self) (resident c.args.self.now) (M.now c.args.m.now) (M.now c.version.new.m) (Reaches (HasEntry c.in_ok-entry.entry)) _ c.held_at-place.ensures.state (c.in_ok-entry.ensures.found honest)
+
+pub returns-clause-done : goal.returns-clause-done
+returns-clause-done g c = λ h k stands.
+    let there = c.in_ok-entry.ensures.stands h k stands in
+    hold_done c.args.key.now k c.version.new.self c.held_at-place.new.self (g.M.Machine.now c.version.new.m) _ (c.in_ok-entry.ensures.done h k stands) there (λ bytes has kept. c.held_at-place.ensures.stands k (g.M.Machine.now c.version.new.m) bytes has kept there)
+
+-- ---- the look-up is refused
+
+pub returns-in_err-entry-clause-done : goal.returns-in_err-entry-clause-done
+returns-in_err-entry-clause-done g c = λ h k stands.
+    let now = g.M.Machine.now c.version.new.m in
+    let why = c.in_err-entry.field-0.0 in
+    handed (EndsHold state Holds c.args.key.now k c.version.new.self now) c.from_residual.result why c.from_residual.ensures.1
+    (hold_refused c.args.key.now k c.version.new.self now why (c.in_err-entry.ensures.done h k stands) (c.in_err-entry.ensures.stands h k stands))
+
+pub returns-in_err-entry-clause-causes : goal.returns-in_err-entry-clause-causes
+returns-in_err-entry-clause-causes g c =
+    handed_cause g.M.Machine (resident c.args.self.now) (state c.args.self.now) (state c.version.new.self) c.args.m.now c.version.new.m c.in_err-entry.field-0.0 c.from_residual.result c.from_residual.ensures.1 c.in_err-entry.ensures.causes
+
+pub returns-in_err-entry-clause-absent : goal.returns-in_err-entry-clause-absent
+returns-in_err-entry-clause-absent g c = not_handed c.in_err-entry.field-0.0 c.from_residual.result c.from_residual.ensures.1 (λ same. c.in_err-entry.ensures.absent (ap (λ (x : Refusal). Err x) same))

@@ -1,0 +1,74 @@
+use Rattle.std.proofs.Common.{◌≡◌, ◌∙◌, ◌≤◌, ◌^◌, inl, option_map, refl, sym, ap, arith}
+use Rattle.std.proofs.lemmas.Result.{err_from_is_err_and}
+use Rattle.volume_layout.proofs.RootLaws.{planned_bounds}
+use Rattle.run_table.specs.RunTable.{sectors_of}
+use Rattle.fsd_bytes.specs.declared.refusal.Refusal.{Refusal}
+use Rattle.fsd_bytes.specs.declared.refusal.Refusal.TheVariants as Why
+use Rattle.fsd_files.specs.Disk.{in_runs}
+use Rattle.sector_disk.proofs.CallLaws.{reads_none, reads_told}
+use Rattle.volume_state.specs.State.{state}
+use Rattle.volume_state.specs.Volume.{VolumeValue}
+use Rattle.volume_state.specs.WearLaws.{stands_worn}
+use Rattle.volume_state.proofs.ForceEndLaws.{not_down}
+use Rattle.volume_state.proofs.ForceLeavesLaws.{down_tells_none}
+use Rattle.volume_state.proofs.RangeLaws.{all_below, data_runs}
+use Rattle.volume_changes.proofs.NextLaws.{up_by}
+use Rattle.volume_changes.proofs.ReadHeldLaws.{busy_held, held_follows, held_kept}
+use Rattle.table_volume.proofs.DownLaws.{down_step, told_down}
+use Rattle.table_volume.proofs.files.VolumeFiles.read_held.Goals as goal
+
+-- ---- it is down
+
+pub returns-in_err-is_up : goal.returns-in_err-is_up
+returns-in_err-is_up g c =
+    let v = c.args.self.now in
+    let at = c.args.m.now in
+    let now = g.M.Machine.now c.args.m.now in
+    let why = c.in_err-is_up.field-0.0 in
+    let down = sym c.in_err-is_up.ensures in
+    let p = err_from_is_err_and c.from_residual.result c.from_residual.ensures.1 in
+    rw (p.1, p.2) (record {
+      order = inl (down_step v.down why down);
+      disk = reads_told (down_tells_none v.down why down) (reads_none at (g.met.M.Machine.only_now at));
+      state = refl;
+      idle = λ idle. refl;
+      count = tt;
+      damaged = λ s is h. absurd (told_down (λ (r : Refusal). r ≡ Why.Damaged s → ⊥) (λ place e. absurd (cc e)) v.down why down (cc is));
+      stands = λ h k stands. stands;
+      done = λ h k stands reading there len. absurd (not_down v k now why down stands);
+    })
+
+-- ---- it is read
+
+pub read_version-requires-clause-good : goal.read_version-requires-clause-good
+read_version-requires-clause-good g c = c.requires.held.entry
+
+pub read_version-requires-clause-runs : goal.read_version-requires-clause-runs
+read_version-requires-clause-runs g c =
+    let bounds = planned_bounds c.self.inside.layout c.self.invariant.planned in
+    let most : c.args.self.now.layout.sectors ≤ 2 ^ 24 = omega (arith, bounds.sectors_most, ap (λ (v : VolumeValue). v.layout.sectors) c.self.view_is) in
+    data_runs c.args.self.now.layout c.args.held.now.entry c.requires.held.within most c.requires.held.entry
+
+pub read_version-requires-clause-within : goal.read_version-requires-clause-within
+read_version-requires-clause-within g c k d lt =
+    let below = all_below c.args.self.now.layout (sectors_of c.args.held.now.entry.runs) c.requires.held.within k d lt in
+    omega (arith, below, c.requires.room)
+
+pub returns-clause-order : goal.returns-clause-order
+returns-clause-order g c =
+    held_follows (state c.args.self.now) c.read_version.result (ap (option_map Why.Down) (up_by c.args.self.now.down (sym c.in_ok-is_up.ensures))) c.read_version.ensures.cause
+
+pub returns-clause-idle : goal.returns-clause-idle
+returns-clause-idle g c = λ idle. absurd (busy_held (state c.args.self.now) (ap (option_map Why.Down) (up_by c.args.self.now.down (sym c.in_ok-is_up.ensures))) idle)
+
+pub returns-clause-stands : goal.returns-clause-stands
+returns-clause-stands g c = λ h k stands.
+    let M = g.M.Machine in
+    let disk = c.read_version.ensures.disk in
+    let wears = disk.worn h in
+    stands_worn c.args.self.now k (M.now c.args.m.now) (M.now c.read_version.new.m) (g.met.M.Machine.short c.args.m.now (disk.trust.honest h)) (record { image = wears.image; windows = wears.windows }) stands
+
+pub returns-clause-done : goal.returns-clause-done
+returns-clause-done g c = λ h k stands reading there len.
+    c.read_version.ensures.gives h (record { bytes = reading.bytes; keep = c.args.held.now.entry.keep }) (in_runs k.windows) len
+    (held_kept c.args.self.now k (g.M.Machine.now c.args.m.now) c.args.held.now reading stands c.requires.held.runs there)
