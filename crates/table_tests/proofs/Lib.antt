@@ -1,4 +1,3 @@
 mod AbsentLaws
 mod CacheLaws
 mod OnesLaws
-mod TableLaws

@@ -1,13 +1,13 @@
 //! Calls of the tree, over any pages.
-ghost use Rattle.std.specs.Prelude.{◌≡◌, ◌<◌, ◌≤◌, length, true};
+ghost use Rattle.std.specs.Prelude.{◌≡◌, ◌≤◌, true};
 ghost use Rattle.fsd_formats.specs.NamePage.{is_entry, FitsEntry};
 ghost use Rattle.name_btree.specs.Calls.{IsFormed};
 ghost use Rattle.name_btree.specs.Fault.{outer_told};
 ghost use Rattle.name_page.specs.declared.pages.TheConstants.{MOST_CHANGED, MOST_REACHED};
-ghost use Rattle.name_page.specs.Pages.{changes, outer_in, reaches};
+ghost use Rattle.name_page.specs.Pages.{changes, reaches};
 
 use arrayvec::ArrayVec;
-use fsd_bytes::{Key, Refusal};
+use fsd_bytes::Key;
 use name_btree::{
     Call, FoundEntry, TreeFault, find, highest, insert, next_after, remove, replace_same_size,
 };
@@ -76,14 +76,4 @@ pub(crate) fn carry_out<T: Pages>(t: &mut T, call: &Call) -> Answer
         }
         Call::Replace(entry) => replace(t, entry),
     }
-}
-
-/// The bytes of a page that may be reached.
-pub(crate) fn image_of<T: Pages>(t: &mut T, page: u32) -> Result<[u8; 512], Refusal>
-    requires more { 0 < reaches (T.step t.old) }
-    requires within { page < length (T.step t.old).images }
-    ensures { T.outside (outer_in result) t.old t.new }
-{
-    t.reach(page)?;
-    Ok(*t.look(page))
 }

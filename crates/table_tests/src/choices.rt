@@ -132,3 +132,24 @@ fn the_lowest_run_that_fits_or_the_longest_are_chosen(rt: HostRuntime) -> Result
     all_go(&rt, &map, &LONGEST_FIRST);
     Ok(())
 }
+
+// Takes runs that are free, and gives them back. How many sectors are free between.
+fn free_between(rt: &impl Abort, map: &mut Map, runs: &Runs) -> u32 {
+    assert!(rt; map.are_free(runs));
+    map.take(runs);
+    let free = map.free_count();
+    assert!(rt; map.are_taken(runs));
+    map.release(runs);
+    free
+}
+
+#[test]
+fn what_is_chosen_is_taken_and_given_back(rt: HostRuntime) -> Result<(), Fail> {
+    let mut map = map_of(rt.alloc(), 100, 110, &TAKEN)?;
+    if let Ok(runs) = choice(&map, 4) {
+        assert_eq!(rt; free_between(&rt, &mut map, &runs), 4);
+    }
+    assert_eq!(rt; map.free_count(), 8);
+    all_go(&rt, &map, &LONGEST_FIRST);
+    Ok(())
+}

@@ -1,17 +1,16 @@
 //! `Desk`.
-ghost use Rattle.std.specs.Prelude.{◌≡◌, ◌<◌, ◌≤◌, ℕ, [], OnOk, length};
+ghost use Rattle.std.specs.Prelude.{◌≡◌, ◌≤◌, ℕ, OnOk, length};
 ghost use Rattle.name_btree.specs.Calls.{IsFormed};
-ghost use Rattle.name_btree.specs.Walk.{AreMarksOf};
 ghost use Rattle.page_cache.specs.Cache.{pins_of};
 
-use crate::calls::{Answer, carry_out, image_of};
+use crate::calls::{Answer, carry_out};
 use crate::formats::planned;
 use fsd_bytes::Refusal;
 use fsd_formats::Anchor;
 use group_commit::Newest;
 use log_record::anchor_bytes;
 use log_thirds::Log;
-use name_btree::{Call, TreeFault, walk};
+use name_btree::Call;
 use name_page::{Pages, write_free, write_leaf};
 use page_cache::Cache;
 use sector_disk::{Attach, Event, Failed, Machine, MemoryMachine, Sector};
@@ -133,43 +132,6 @@ impl Desk {
         Ok(answer)
     }
 
-    /// Marks the pages that page 0 leads to, and counts their entries.
-    pub(crate) fn walk(&mut self, marks: &mut [bool]) -> Result<u32, TreeFault>
-        requires whole { length marks.old ≡ length self.old.free }
-        requires clear { AreMarksOf [] marks.old }
-    {
-        let home_a = self.home_a();
-        let source = Newest::over(&self.log, &self.layout);
-        let mut table = Table::new(
-            &mut self.m,
-            &mut self.cache,
-            &source,
-            home_a,
-            &mut self.free,
-        );
-        let walked = walk(&mut table, marks);
-        table.rest();
-        walked
-    }
-
-    /// The bytes of a page.
-    pub(crate) fn image(&mut self, page: u32) -> Result<[u8; 512], Refusal>
-        requires { page < length self.old.free }
-    {
-        let home_a = self.home_a();
-        let source = Newest::over(&self.log, &self.layout);
-        let mut table = Table::new(
-            &mut self.m,
-            &mut self.cache,
-            &source,
-            home_a,
-            &mut self.free,
-        );
-        let image = image_of(&mut table, page);
-        table.rest();
-        image
-    }
-
     /// What is answered where so many spare pages are asked for.
     pub(crate) fn spare(&mut self, count: u32) -> Result<(), Refusal> {
         let home_a = self.home_a();
@@ -189,18 +151,6 @@ impl Desk {
     /// The sector of page 0.
     pub(crate) fn home_a(&self) -> u32 {
         16 + 3 * self.layout.third()
-    }
-
-    /// How many pages are free.
-    pub(crate) fn free_count(&self) -> u32 {
-        self.free.count()
-    }
-
-    /// How many pages the table has.
-    pub(crate) fn count(&self) -> u32
-        ensures { result ≡ length self.now.free }
-    {
-        self.free.pages()
     }
 }
 

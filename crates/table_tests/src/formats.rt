@@ -1,5 +1,5 @@
 //! Texts and fields, runs of sectors, and where everything lies, as the formats say.
-ghost use Rattle.std.specs.Prelude.{◌≡◌};
+ghost use Rattle.std.specs.Prelude.{◌≡◌, [], ◌∷◌};
 
 use crate::machines::repeated;
 use fsd_bytes::{
@@ -80,27 +80,46 @@ const SECTORS: [(u32, Option<u32>); 4] = [
     (3, None),
 ];
 
+// Two runs.
+fn two_runs(first: Run, second: Run) -> Runs
+    ensures { result ≡ first ∷ second ∷ [] }
+{
+    let mut runs = Runs::new();
+    runs.push(first);
+    runs.push(second);
+    runs
+}
+
+const FIRST: Run = Run {
+    start: 921,
+    length: 2,
+};
+
+const SECOND: Run = Run {
+    start: 930,
+    length: 1,
+};
+
 #[test]
 fn runs_are_laid_end_to_end(rt: HostRuntime) {
-    let mut runs = Runs::new();
-    runs.push(Run {
-        start: 921,
-        length: 2,
-    });
-    runs.push(Run {
-        start: 930,
-        length: 1,
-    });
+    let runs = two_runs(FIRST, SECOND);
     assert_eq!(rt; (runs.total(), runs.is_full()), (3, false));
     for (i, sector) in SECTORS {
         assert_eq!(rt; runs.sector(i), sector);
     }
+}
+
+// The same runs as they are spelled.
+const SPELLED: [u8; 12] = *b"\0\0\x03\x99\0\x02\0\0\x03\xa2\0\x01";
+
+#[test]
+fn runs_are_read_as_they_are_spelled(rt: HostRuntime) {
+    let runs = two_runs(FIRST, SECOND);
     let mut bytes = [0; 12];
     runs.put_bytes(&mut bytes);
-    assert_eq!(rt; bytes, *b"\0\0\x03\x99\0\x02\0\0\x03\xa2\0\x01");
-    assert_eq!(rt; Runs::read_bytes(&bytes), Some(runs.copied()));
-    assert_eq!(rt; Runs::read_bytes(&bytes[..11]), None);
-    assert_eq!(rt; runs.as_slice().len(), 2);
+    assert_eq!(rt; bytes, SPELLED);
+    assert_eq!(rt; Runs::read_bytes(&SPELLED), Some(runs));
+    assert_eq!(rt; Runs::read_bytes(&SPELLED[..11]), None);
 }
 
 /// A volume of so many sectors, sectors of a third and pages, as it is planned.

@@ -1,4 +1,4 @@
-//! Tests of the name table: its tree over pages in memory, and over a small cache of pages that stand on a machine.
+//! Tests of the name table: its tree over pages in memory, and over a small cache of pages whose machine fails.
 //! Also of what it stands on: texts, fields and runs, where everything lies, the machine in memory, records and the log,
 //! frames, the cache and the free pages; and of the allocation map, the sectors that wait, versions and the real file.
 #![tactic(auto)]
@@ -16,6 +16,8 @@ mod choices;
 #[cfg(test)]
 mod desk;
 #[cfg(test)]
+mod draws;
+#[cfg(test)]
 mod formats;
 #[cfg(test)]
 mod frames;
@@ -31,8 +33,6 @@ mod machines;
 mod maps;
 #[cfg(test)]
 mod pages;
-#[cfg(test)]
-mod placing;
 #[cfg(test)]
 mod plain;
 #[cfg(test)]

@@ -1,5 +1,5 @@
 //! The log on a machine in memory: what a scan finds, and what moves on.
-ghost use Rattle.std.specs.Prelude.{◌≡◌, ◌<◌, ◌≤◌, IfOk};
+ghost use Rattle.std.specs.Prelude.{◌≡◌, ◌+◌, ◌<◌, ◌≤◌, IfOk};
 
 use crate::desk::{attached, damaged};
 use crate::formats::planned;
@@ -152,19 +152,24 @@ fn a_record_is_found_with_its_page(rt: HostRuntime) -> Result<(), Fail> {
     Ok(())
 }
 
+// The record of this number, which has this page alone, stands from this sector on.
+fn lay_record<M: Machine>(m: &mut M, sector: u32, number: u32, page: u32) -> Result<(), Failed>
+    requires { sector + 7 ≤ (M.report m.old).sectors }
+    ensures { (M.report m.new).sectors ≡ (M.report m.old).sectors }
+{
+    let mut out = repeated::<3584>(0);
+    lay(2, number, &[page], &image_in(page, number), &mut out);
+    m.write(sector, &out)
+}
+
 // A record in each third: of page 5, of page 6, and of page 7.
 fn lay_records<M: Machine>(m: &mut M) -> Result<(), Failed>
     requires { 721 ≤ (M.report m.old).sectors }
     ensures { (M.report m.new).sectors ≡ (M.report m.old).sectors }
 {
-    let mut out = repeated::<3584>(0);
-    lay(2, 1, &[5], &image_in(5, 1), &mut out);
-    m.write(16, &out)?;
-    lay(2, 2, &[6], &image_in(6, 2), &mut out);
-    m.write(216, &out)?;
-    lay(2, 3, &[7], &image_in(7, 3), &mut out);
-    m.write(416, &out)?;
-    Ok(())
+    lay_record(m, 16, 1, 5)?;
+    lay_record(m, 216, 2, 6)?;
+    lay_record(m, 416, 3, 7)
 }
 
 // Moves the anchor on, where a record of 96 pages would enter the first third.
@@ -200,9 +205,28 @@ fn read_anchors<M: Machine>(rt: &impl Abort, m: &mut M) -> Result<(), Failed>
 // The log has let go of page 5.
 fn has_moved(rt: &impl Abort, log: &Log) {
     assert_eq!(rt; (log.epoch(), log.next_number()), (2, 4));
-    assert_eq!(rt; log.room(96), Place::NextThird);
     assert_eq!(rt; log.pages_of_third(0, 0), None);
     assert_eq!(rt; log.pages_of_third(1, 0), Some(6));
+    assert_eq!(rt; log.pages_of_third(2, 0), Some(7));
+}
+
+// The log that is scanned before the anchor moves has page 5.
+fn move_scanned(
+    rt: &impl Abort,
+    alloc: Global,
+    m: &mut MemoryMachine,
+    layout: &Layout,
+) -> Result<(), Fail>
+    requires { layout.now.sectors ≤ (⟦<MemoryMachine as Machine>⟧.report m.old).sectors }
+    ensures { (⟦<MemoryMachine as Machine>⟧.report m.new).sectors ≡ (⟦<MemoryMachine as Machine>⟧.report m.old).sectors }
+{
+    let mut log = Log::scan(alloc, m, layout)?;
+    assert_eq!(rt; log.pages_of_third(0, 0), Some(5));
+    assert_eq!(rt; log.room(96), Place::FirstThird(0));
+    assert!(rt; move_on(m, &mut log));
+    assert_eq!(rt; log.room(96), Place::NextThird);
+    has_moved(rt, &log);
+    Ok(())
 }
 
 #[test]
@@ -212,16 +236,8 @@ fn the_anchor_moves_on_by_a_third(rt: HostRuntime) -> Result<(), Fail> {
     assert!(rt; layout.sectors() == 721);
     let mut m = begun(alloc, &layout)?;
     lay_records(&mut m)?;
-    let mut log = Log::scan(alloc, &mut m, &layout)?;
-    assert_eq!(rt; log.next_number(), 4);
-    assert_eq!(rt; log.pages_of_third(0, 0), Some(5));
-    assert_eq!(rt; log.room(96), Place::FirstThird(0));
-    assert!(rt; move_on(&mut m, &mut log));
+    move_scanned(&rt, alloc, &mut m, &layout)?;
     read_anchors(&rt, &mut m)?;
-    has_moved(&rt, &log);
-    let found = Log::scan(alloc, &mut m, &layout)?;
-    assert_eq!(rt; (found.epoch(), found.next_number()), (2, 4));
-    assert_eq!(rt; found.pages_of_third(0, 0), None);
-    assert_eq!(rt; found.pages_of_third(2, 0), Some(7));
+    has_moved(&rt, &Log::scan(alloc, &mut m, &layout)?);
     Ok(())
 }

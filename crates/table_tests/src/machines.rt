@@ -1,5 +1,5 @@
 //! The machine in memory: each kind of event, and each call, once.
-ghost use Rattle.std.specs.Prelude.{◌≡◌, ◌≤◌};
+ghost use Rattle.std.specs.Prelude.{◌≡◌, ◌<◌, ◌≤◌};
 
 use sector_disk::{Attach, Event, Failed, Machine, MemoryMachine, Sector, Seen, WeakRun, When};
 use std::alloc::{AllocError, Global};
@@ -34,7 +34,7 @@ fn with_event(alloc: Global, event: Event) -> Result<MemoryMachine, AllocError> 
     let pairs = vec![in alloc; 1]?;
     let events = vec![in alloc; event]?;
     prove!(pairs.len() == 1);
-    MemoryMachine::new(alloc, image, pairs, events, [1, 2, 3].to_vec(alloc)?)
+    MemoryMachine::new(alloc, image, pairs, events, INPUT.to_vec(alloc)?)
 }
 
 // What is to happen; whether the second write and then the `take` answer Ok, honesty, and what stands at the end.
@@ -124,23 +124,36 @@ fn events_come_where_they_say(rt: HostRuntime) -> Result<(), Fail> {
 
 // Sector 1 lies in the first two runs, and sector 0 in the second alone, which is the present one after `settle`.
 // The third run is too long.
-fn with_three_runs(alloc: Global) -> Result<MemoryMachine, AllocError> {
-    let image = vec![in alloc; HURT; 4]?;
-    let mut runs = Vec::new(alloc);
-    runs.push(WeakRun { first: 1, count: 2 })?;
-    runs.push(WeakRun { first: 0, count: 2 })?;
-    runs.push(WeakRun { first: 0, count: 3 })?;
-    let mut events = Vec::new(alloc);
-    events.push(Event::HurtAt {
+const RUNS: [WeakRun; 3] = [
+    WeakRun { first: 1, count: 2 },
+    WeakRun { first: 0, count: 2 },
+    WeakRun { first: 0, count: 3 },
+];
+
+const IN_RUNS: [Event; 3] = [
+    Event::HurtAt {
         sector: 1,
         when: When::Settle,
-    })?;
-    events.push(Event::HurtAt {
+    },
+    Event::HurtAt {
         sector: 0,
         when: When::Call(5),
-    })?;
-    events.push(Event::Pieces { most: 2 })?;
-    let input = [1, 2, 3].to_vec(alloc)?;
+    },
+    Event::Pieces { most: 2 },
+];
+
+const INPUT: [u8; 3] = [1, 2, 3];
+
+// A machine of four sectors with these runs, to which this happens.
+fn with_runs(
+    alloc: Global,
+    runs: &[WeakRun],
+    events: &[Event],
+) -> Result<MemoryMachine, AllocError> {
+    let image = vec![in alloc; HURT; 4]?;
+    let runs = runs.to_vec(alloc)?;
+    let events = events.to_vec(alloc)?;
+    let input = INPUT.to_vec(alloc)?;
     Ok(MemoryMachine::with_runs(alloc, image, runs, events, input))
 }
 
@@ -154,47 +167,65 @@ fn turned<M: Machine>(m: &mut M) -> Result<(), Failed>
     m.settle()
 }
 
+// What a read of this sector sees, and the byte that all bytes are then, which were zero.
+fn sees<M: Machine>(m: &mut M, sector: u32, seen: Seen, byte: u8) -> Result<bool, Failed>
+    requires { sector < (M.report m.old).sectors }
+    ensures { (M.report m.new).sectors ≡ (M.report m.old).sectors }
+{
+    let mut buf = repeated(0);
+    let sees = m.read(sector, &mut buf)?;
+    Ok(sees == seen && buf == repeated(byte))
+}
+
+const TWO_HURT: [Sector; 4] = [HURT, HURT, OLD, OLD];
+
 // The first two sectors are hurt, and the others have what was written.
 fn hurts_two(rt: &impl Abort, m: &mut MemoryMachine) -> Result<(), Failed> {
     let sectors = m.attach("v", Attach::Old)?;
     assert!(rt; sectors >= 4);
     turned(m)?;
-    let mut buf = [0; 512];
-    assert_eq!(rt; m.read(0, &mut buf), Ok(Seen::Damaged));
-    assert_eq!(rt; buf, [0; 512]);
-    assert_eq!(rt; m.read(2, &mut buf), Ok(Seen::Whole));
-    assert_eq!(rt; buf, [7; 512]);
-    assert_eq!(rt; m.image(), [HURT, HURT, OLD, OLD].as_slice());
+    assert!(rt; sees(m, 0, Seen::Damaged, 0)?);
+    assert!(rt; sees(m, 2, Seen::Whole, 7)?);
     Ok(())
 }
 
-// The input comes in pieces of two bytes, and what is said is kept.
+// The input comes in pieces of two bytes.
+const PIECES: [(usize, u8); 3] = [(2, 1), (1, 3), (0, 3)];
+
+// What is said is kept.
 fn takes_and_says(rt: &impl Abort, m: &mut MemoryMachine) -> Result<(), Failed> {
     let mut piece = [0; 8];
-    assert_eq!(rt; m.take(&mut piece), Ok(2));
-    assert_eq!(rt; m.take(&mut piece), Ok(1));
-    assert_eq!(rt; piece[0], 3);
-    assert_eq!(rt; m.take(&mut piece), Ok(0));
-    m.say(b"bye")?;
+    for (length, first) in PIECES {
+        assert_eq!(rt; m.take(&mut piece), Ok(length));
+        assert_eq!(rt; piece[0], first);
+    }
+    m.say(b"bye")
+}
+
+#[test]
+fn windows_close(rt: HostRuntime) -> Result<(), Fail> {
+    let mut m = with_runs(rt.alloc(), &RUNS, &IN_RUNS)?;
+    hurts_two(&rt, &mut m)?;
+    assert_eq!(rt; m.image(), TWO_HURT.as_slice());
+    takes_and_says(&rt, &mut m)?;
     assert_eq!(rt; m.said(), b"bye".as_slice());
     assert!(rt; m.honest());
     Ok(())
 }
 
+// The second call fails, and an image is not made before.
+const SECOND_FAILS: [Event; 1] = [Event::FailCall { call: 2, stand: 0 }];
+
 #[test]
-fn windows_close_and_another_run_goes_on(rt: HostRuntime) -> Result<(), Fail> {
+fn another_run_goes_on(rt: HostRuntime) -> Result<(), Fail> {
     let alloc = rt.alloc();
-    let mut m = with_three_runs(alloc)?;
+    let mut m = with_runs(alloc, &RUNS, &IN_RUNS)?;
     hurts_two(&rt, &mut m)?;
-    takes_and_says(&rt, &mut m)?;
-    let mut m = m.again(
-        vec![in alloc; Event::FailCall { call: 2, stand: 0 }]?,
-        Vec::new(alloc),
-    );
-    assert_eq!(rt; m.said(), b"".as_slice());
+    let mut m = m.again(SECOND_FAILS.to_vec(alloc)?, Vec::new(alloc));
     m.healing()?;
     assert!(rt; !m.honest());
     assert_eq!(rt; m.say(b"x"), Err(Failed { place: 0 }));
+    assert_eq!(rt; m.said(), b"".as_slice());
     assert_eq!(rt; m.attach("w", Attach::New(1)), Ok(1));
     assert_eq!(rt; m.image(), [HURT].as_slice());
     assert_eq!(rt; m.starved(), 0);

@@ -4,7 +4,6 @@ ghost use Rattle.std.specs.List.{AllByRecursion};
 ghost use Rattle.run_table.specs.RunTable.{are_runs, total, FitsRun};
 ghost use Rattle.fsd_formats.specs.NamePage.{is_entry, sectors_for, FitsEntry};
 
-use arrayvec::ArrayVec;
 use fsd_bytes::{FileName, Key, Serial};
 use name_page::Entry;
 use run_table::{Run, Runs};
@@ -96,26 +95,4 @@ pub(crate) fn highest_in(map: &Versions, name: &FileName) -> Option<Entry> {
         }
     }
     highest
-}
-
-/// How many versions a name has.
-pub(crate) fn count_in(map: &Versions, name: &FileName) -> u32 {
-    let mut count = 0u32;
-    for key in map.keys() {
-        if key.name.cmp(name).is_eq() {
-            count = count.wrapping_add(1);
-        }
-    }
-    count
-}
-
-/// The oldest versions of a name, so many and two at most.
-pub(crate) fn oldest_in(map: &Versions, name: &FileName, many: u32) -> ArrayVec<Key, 2> {
-    let mut oldest = ArrayVec::new();
-    for key in map.keys() {
-        if oldest.len() < 2 && oldest.len() < many as usize && key.name.cmp(name).is_eq() {
-            oldest.push(key.copied());
-        }
-    }
-    oldest
 }
