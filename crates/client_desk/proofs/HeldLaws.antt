@@ -1,4 +1,4 @@
--- What a volume lists as held is what the clients of its desk read.
+-- A volume holds what the clients of its desk read.
 use Rattle.std.proofs.Common.{◌≡◌, ℕ, suc, zero, Bool, true, false, List, [], ◌∷◌, refl, sym, ap, subst, ◌∙◌, inl, inr, Option, Some, None}
 use Rattle.std.specs.Prelude.{map, option_map, slice_index_or}
 use Rattle.std.proofs.lemmas.Bool.{or_cases, or_left, or_right}
@@ -12,12 +12,13 @@ use Rattle.fsd_log.specs.Scan.{Placed}
 use Rattle.fsd_files.specs.Desk.{Answered, Open, Nothing, Writes, Reads, Session}
 use Rattle.fsd_files.specs.Replies.{Reply}
 use Rattle.fsd_files.specs.Volume.{is_in}
+use Rattle.fsd_runs.specs.Sessions.{HoldsRead, read_by}
 use Rattle.fsd_sound.specs.Mounted.{Mounted}
 use Rattle.volume_contract.specs.State.{Known, Reading as Held, State, readings, volume_of}
 use Rattle.client_desk.specs.declared.client.Client.{Client}
 use Rattle.client_desk.specs.declared.client.Client.TheVariants.{Idle, Writing, Reading}
 use Rattle.client_desk.specs.Clients.{IsDesk, ReadsAt, client_at}
-use Rattle.client_desk.specs.Ends.{AnswersHeld, ListsRead, Serves, Sits, open_at, read_by}
+use Rattle.client_desk.specs.Ends.{AnswersHeld, Serves, Sits, open_at, session_of}
 use Rattle.client_desk.proofs.SitsLaws.{AnswersBy, held_is}
 
 -- ---- at the places
@@ -73,12 +74,12 @@ by_client (Reads a r b p ∷ opens) t there =
       | inr later ↦ one_more (Reads a r b p) opens t (by_client opens t later)
     ]
 
-abbrev runs_read : Open → List Run
-runs_read Nothing = []
-runs_read (Writes a l r s b) = []
-runs_read (Reads a r b p) = r
+abbrev read_runs : Open → List Run
+read_runs Nothing = []
+read_runs (Writes a l r s b) = []
+read_runs (Reads a r b p) = r
 
-client_by : (opens : List Open) (i t : ℕ) → contains (sectors_of (runs_read (open_at opens i))) t ≡ true → is_in (read_by opens) t ≡ true
+client_by : (opens : List Open) (i t : ℕ) → contains (sectors_of (read_runs (open_at opens i))) t ≡ true → is_in (read_by opens) t ≡ true
 client_by [] i t has = absurd (cc has)
 client_by (Nothing ∷ opens) zero t has = absurd (cc has)
 client_by (Nothing ∷ opens) (suc i) t has = client_by opens i t has
@@ -95,8 +96,8 @@ same_tests false true to from = from refl
 same_tests false false to from = refl
 
 module _ {S : Type 0} (state : S → State) (has : S → Mounted → List Placed → Type 0) where
-  pub lists_read : (v : S) (desk : List Client) (k : Known) (opens : List Open) (now : Moment) → IsDesk (state v) desk → Sits state has v desk k opens now → ListsRead (volume_of k).held opens
-  lists_read v desk k opens now of sits t =
+  pub holds_read : (v : S) (desk : List Client) (k : Known) (opens : List Open) (now : Moment) → IsDesk (state v) desk → Sits state has v desk k opens now → HoldsRead (session_of k opens)
+  holds_read v desk k opens now of sits t =
       ap (λ (xs : List (List Run)). is_in xs t) (held_is state has v k now sits.stands)
       ∙ same_tests (is_in (map (λ x. x.runs) (readings k.opened.readers)) t) (is_in (read_by opens) t) to from
     where
@@ -108,7 +109,7 @@ module _ {S : Type 0} (state : S → State) (has : S → Mounted → List Placed
       there (z ∷ places) zero x is = ap (λ (place : Option Held). option_map (λ y. y.runs) place) is
       there (z ∷ places) (suc p) x is = there places p x is
 
-      served : (c : Client) (y : Open) (place : ℕ) (x : Held) → Serves k.opened c y → ReadsAt c place → slice_index_or k.opened.readers place None ≡ Some x → runs_read y ≡ x.runs
+      served : (c : Client) (y : Open) (place : ℕ) (x : Held) → Serves k.opened c y → ReadsAt c place → slice_index_or k.opened.readers place None ≡ Some x → read_runs y ≡ x.runs
       served Idle y place x serves own is = absurd own
       served (Writing w) y place x serves own is = absurd own
       served (Reading r) Nothing place x serves own is = absurd serves
@@ -140,5 +141,6 @@ module _ {S : Type 0} (state : S → State) (has : S → Mounted → List Placed
   answers_held outcome reply k opens v desk now of by = record {
     held = by.held;
     answers = by.answers;
-    lists = subst (λ (xs : List (List Run)). ListsRead xs by.answers.left) (sym by.is) (lists_read v desk by.answers.after by.answers.left now of by.answers.sits);
+    is = by.is;
+    hold = holds_read v desk by.answers.after by.answers.left now of by.answers.sits;
   }

@@ -332,6 +332,16 @@ client_device c why of = elim of [
   ]
 ]
 
+-- nor is a sector told as damaged
+pub client_whole : (c s : ℕ) (why : Refusal) → IsOfClient c why → why ≡ Why.Damaged s → ⊥
+client_whole c s why of is = elim of [
+  | inl e ↦ absurd (cc (sym e ∙ is))
+  | inr other ↦ elim other [
+    | inl e ↦ absurd (cc (sym e ∙ is))
+    | inr e ↦ absurd (cc (sym e ∙ is))
+  ]
+]
+
 -- ---- lists
 
 pub set_twice : {A : Type 0} (xs : List A) (i : ℕ) (a b : A) → set (set xs i a) i b ≡ set xs i b

@@ -1,5 +1,5 @@
 -- What a desk has in memory of its clients, over any machine.
-use Rattle.std.specs.Prelude.{◌≡◌, ◌⊎◌, ⊤, ℕ, ◌+◌, ◌-◌, ◌*◌, ◌/◌, min, ◌≤◌, ◌||◌, Bool, nat_lt, ◌==◌, List, [], ◌∷◌, ◌++◌, length, take, drop, Option, Some, None, IsSome, IsTrue, IsFalse, Result, Ok, Err, if◌then◌else◌, get_or, set, replicate, slice_index_or}
+use Rattle.std.specs.Prelude.{◌≡◌, ◌⊎◌, ⊤, ℕ, ◌+◌, ◌-◌, ◌*◌, ◌/◌, min, ◌≤◌, ◌||◌, Bool, nat_lt, ◌==◌, List, [], ◌∷◌, ◌++◌, length, take, drop, Option, Some, None, IsSome, IsTrue, IsFalse, false, Result, Ok, Err, if◌then◌else◌, get_or, set, replicate, slice_index_or}
 use Rattle.run_table.specs.declared.run.Run.{Run}
 use Rattle.run_table.specs.RunTable.{sectors_of}
 use Rattle.run_table.specs.Space.{contains}
@@ -12,7 +12,7 @@ use Rattle.fsd_files.specs.Disk.{Sectors}
 use Rattle.fsd_files.specs.Kept.{data_sectors}
 use Rattle.volume_contract.specs.Order.{Keeps, Step, Test, reserve_steps, slices_steps, enter_steps, entry_steps, held_steps}
 use Rattle.volume_contract.specs.Pieces.{IsDraft, IsHeld, Enters, GivesBack, HoldsAt, Reserves, Unholds, in_leader}
-use Rattle.volume_contract.specs.State.{State, most_readers, no_readers}
+use Rattle.volume_contract.specs.State.{HasCounted, State, forces_first, most_readers, no_readers}
 use Rattle.client_desk.specs.declared.client.Creation.{Creation}
 use Rattle.client_desk.specs.declared.client.Reader.{Reader}
 use Rattle.client_desk.specs.declared.client.Client.{Client}
@@ -104,6 +104,11 @@ abbrev pub GivesUp : Client → State → State → Type 0
 GivesUp Idle old new = new ≡ old
 GivesUp (Writing w) old new = GivesBack w.draft.runs old new
 GivesUp (Reading r) old new = Unholds r.held.place old new
+
+-- the version that the client writes has this name
+abbrev pub IsNamed : Client → List ℕ → Type 0
+IsNamed (Writing w) name = w.name ≡ name
+IsNamed other name = ⊥
 
 abbrev pub IsReader : Client → Type 0
 IsReader (Reading r) = ⊤
@@ -277,6 +282,13 @@ pub record WritesMore (i count total : ℕ) (clients after : List Client) (old n
   pub grows : Grows count before creation
   pub got : total ≡ creation.got
   pub volume : new ≡ old
+
+-- A version is made of the client's creation, which is over, and the client has nothing open any more. No serial is
+-- drawn, and a record is numbered where a force came first.
+pub record MakesVersion (i : ℕ) (clients after : List Client) (old new : State) : Type 0 where
+  pub desk : after ≡ set clients i Idle
+  pub volume : EntersFor (client_at clients i) old new
+  pub counted : HasCounted false (forces_first old) old new
 
 -- The client reads the version of this key, which has so many bytes, from its first on.
 pub record StartsReading (i : ℕ) (key : Key) (len : ℕ) (clients after : List Client) (old new : State) : Type 0 where

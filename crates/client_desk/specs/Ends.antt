@@ -15,10 +15,10 @@ use Rattle.fsd_files.specs.Desk.{Answered, Open, Nothing, Writes, Reads, Session
 use Rattle.fsd_files.specs.Disk.{Image, Sectors}
 use Rattle.fsd_files.specs.Files.{Change}
 use Rattle.fsd_files.specs.Kept.{range_sectors}
-use Rattle.fsd_files.specs.Volume.{is_in}
 use Rattle.fsd_files.specs.Replies.{Reply, Refused, Made, Begun, Took, Dropped, Opened as HasOpened, Given, Done, DamagedAt}
 use Rattle.fsd_sound.specs.Mounted.{Mounted, forces_by_itself}
 use Rattle.fsd_files.specs.Pieces.{enter_outcome}
+use Rattle.fsd_runs.specs.Sessions.{HoldsRead}
 use Rattle.volume_contract.specs.Ends.{EndsPut, EndsRefused, Unchanged}
 use Rattle.volume_contract.specs.Pieces.{ended, read_at, slice_count, slices_if, slices_in, with_opened, wrote}
 use Rattle.volume_contract.specs.State.{Known, LeavesSound, Opened, Stands, State, volume_of}
@@ -83,16 +83,6 @@ given_up k (Reading r) = with_opened k (read_at k.opened r.held.place None)
 
 abbrev pub session_of : Known → List Open → Session
 session_of k clients = record { volume = volume_of k; clients = clients }
-
--- the runs of the versions that clients read
-abbrev pub read_by : List Open → List (List Run)
-read_by [] = []
-read_by (Reads key runs bytes place ∷ clients) = runs ∷ read_by clients
-read_by (other ∷ clients) = read_by clients
-
--- what is listed as held has the sectors that clients read, and no others
-abbrev pub ListsRead : List (List Run) → List Open → Type 0
-ListsRead held clients = (t : ℕ) → is_in held t ≡ is_in (read_by clients) t
 
 module _ {S : Type 0} (state : S → State) (has : S → Mounted → List Placed → Type 0) where
   -- The volume stands, its desk has this open, and each creation is one that a client writes.
@@ -208,11 +198,12 @@ module _ {S : Type 0} (state : S → State) (has : S → Mounted → List Placed
   EndsDrop c k clients v desk now (Ok x) = Answers (λ s. drop_outcome s c) (Dropped c) [] k clients v desk now
   EndsDrop c k clients v desk now (Err why) = Answers (λ s. drop_outcome s c) (Refused why) [] k clients v desk now
 
-  -- It answers so by what the volume lists as held then: what its clients read then, and no more.
+  -- It answers so by what the volume lists as held then, which holds what its clients read then.
   pub record AnswersHeld (outcome : List (List Run) → Session → Answered) (reply : Reply) (k : Known) (clients : List Open) (v : S) (desk : List Client) (now : Moment) : Type 0 where
     pub held : List (List Run)
     pub answers : Answers (outcome held) reply [] k clients v desk now
-    pub lists : ListsRead held answers.left
+    pub is : held ≡ (volume_of answers.after).held
+    pub hold : HoldsRead (session_of answers.after answers.left)
 
   abbrev pub EndsOpen : (c : ℕ) → Key → Known → List Open → S → List Client → Moment → Result ℕ Refusal → Type 0
   EndsOpen c key k clients v desk now (Ok len) = AnswersHeld (λ held s. open_outcome held s c key) (HasOpened c len) k clients v desk now

@@ -308,6 +308,7 @@ pub trait Files<M: Machine>: Sized {
         ensures state { state self.new ≡ state self.old }
         ensures idle { IsTrue (is_idle (held_steps (state self.old))) → m.new ≡ m.old }
         ensures count { IfOk result (λ n. n ≡ count_in held.now.entry.length from (length buf.old)) }
+        ensures within { (s : ℕ) → result ≡ Err (Why.Damaged s) → M.honest m.new → IsTrue (is_data (state self.old).layout s) }
         ensures damaged { (s : ℕ) → result ≡ Err (Why.Damaged s) → M.honest m.new → sector_at (M.now m.new).image s ≡ Damaged }
         ensures stands { M.honest m.new → (k : Known) → Stands state holds self.old k (M.now m.old) → Stands state holds self.new k (M.now m.new) }
         ensures done { M.honest m.new → (k : Known) → Stands state holds self.old k (M.now m.old) →

@@ -1,3 +1,5 @@
+use Rattle.fsd_files.specs.Disk.{Touches}
+use Rattle.client_desk.specs.Clients.{IsNamed}
 use Rattle.std.proofs.Common.{◌||◌, None, Result, Ok, Err, sym, subst}
 use Rattle.sector_disk.specs.Calls.{WritesDisk}
 use Rattle.fsd_bytes.specs.declared.key.Key.{Key}
@@ -5,6 +7,7 @@ use Rattle.fsd_bytes.specs.declared.refusal.Refusal.{Refusal}
 use Rattle.fsd_files.specs.Desk.{Writes}
 use Rattle.fsd_sound.specs.Writes.{force_writes}
 use Rattle.volume_contract.specs.Ends.{device_of}
+use Rattle.volume_contract.specs.Order.{Keeps, enter_steps}
 use Rattle.volume_contract.specs.State.{Leaves}
 use Rattle.client_desk.specs.declared.client.Client.{Client}
 use Rattle.client_desk.specs.Clients.{IsWholeOne, in_first}
@@ -41,3 +44,26 @@ returns-in-Err-clause-done g c h k stands name len runs serial bytes serves =
     let all = whole_written k.opened w name len runs serial bytes writing (subst (λ (x : Client). IsWholeOne x) c.in-Writing.is c.requires.whole) in
     let r : Result Key Refusal = Err c.in-Err.why in
     entered_as V.state V.holds k.opened w name len runs serial bytes k c.enter.new.self (g.M.Machine.now c.enter.new.m) r writing (c.in-Err.ensures.done h k stands bytes all.0 all.1)
+
+pub returns-in-Ok-clause-kept : goal.returns-in-Ok-clause-kept
+returns-in-Ok-clause-kept g c = c.in-Ok.ensures.kept
+
+pub returns-in-Err-clause-kept : goal.returns-in-Err-clause-kept
+returns-in-Err-clause-kept g c =
+    let s = g.V.Files.state c.args.v.now in
+    subst (λ (x : Client). Keeps (enter_steps s None (in_first x)) c.in-Err.why s (g.V.Files.state c.enter.new.self)) (sym c.in-Writing.is) c.in-Err.ensures.kept
+
+pub returns-in-Ok-clause-rest : goal.returns-in-Ok-clause-rest
+returns-in-Ok-clause-rest g c h =
+    let V = g.V.Files in
+    let M = g.M.Machine in
+    subst (λ (x : Client). Touches (λ t. force_writes (V.state c.args.v.now).layout t || in_first x t) (M.now c.args.m.now) (M.now c.enter.new.m)) (sym c.in-Writing.is) (c.in-Ok.ensures.rest h)
+
+pub returns-in-Ok-clause-name : goal.returns-in-Ok-clause-name
+returns-in-Ok-clause-name g c = subst (λ (x : Client). IsNamed x c.in-Ok.key.name) (sym c.in-Writing.is) (sym c.in-Ok.ensures.name)
+
+pub returns-in-Err-clause-rest : goal.returns-in-Err-clause-rest
+returns-in-Err-clause-rest g c h =
+    let V = g.V.Files in
+    let M = g.M.Machine in
+    subst (λ (x : Client). Touches (λ t. force_writes (V.state c.args.v.now).layout t || in_first x t) (M.now c.args.m.now) (M.now c.enter.new.m)) (sym c.in-Writing.is) (c.in-Err.ensures.rest h)

@@ -1,4 +1,4 @@
-use Rattle.std.proofs.Common.{subst}
+use Rattle.std.proofs.Common.{rules, subst}
 use Rattle.fsd_files.specs.Desk.{Reads}
 use Rattle.client_desk.specs.declared.client.Client.{Client}
 use Rattle.client_desk.specs.Ends.{Serves}
@@ -24,3 +24,12 @@ returns-in-Err-clause-done g c h k stands key runs bytes place serves =
           (c.in-Err.ensures.done h k stands (record { runs = runs; bytes = bytes }) reading.there reading.long),
       c.in-Err.ensures.stands h k stands,
     )
+
+pub returns-in-Ok-clause-client : goal.returns-in-Ok-clause-client
+returns-in-Ok-clause-client g c = search rules
+
+pub returns-in-Err-clause-damaged : goal.returns-in-Err-clause-damaged
+returns-in-Err-clause-damaged g c s is h = c.in-Err.ensures.damaged s is h
+
+pub returns-in-Err-clause-within : goal.returns-in-Err-clause-within
+returns-in-Err-clause-within g c s is h = c.in-Err.ensures.within s is h

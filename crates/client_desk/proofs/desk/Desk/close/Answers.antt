@@ -1,16 +1,18 @@
-use Rattle.std.proofs.Common.{◌≡◌, ◌-◌, ◌||◌, ℕ, List, set, None, Result, Err, refl, arith, sym, ap, subst, ◌∙◌}
-use Rattle.std.specs.Prelude.{MatchResult}
+use Rattle.std.proofs.Common.{◌≡◌, ◌-◌, ◌||◌, ℕ, List, set, None, Result, Err, false, inl, inr, refl, arith, sym, ap, subst, ◌∙◌}
+use Rattle.std.specs.Prelude.{IfOk, MatchResult}
 use Rattle.std.proofs.lemmas.List.{set-get_or}
 use Rattle.sector_disk.specs.Calls.{WritesDisk, device_in}
 use Rattle.sector_disk.proofs.CallLaws.{writes_none, writes_told}
+use Rattle.fsd_files.specs.Disk.{Touches}
 use Rattle.fsd_sound.specs.Writes.{force_writes}
 use Rattle.volume_contract.specs.Ends.{device_of}
 use Rattle.fsd_bytes.specs.declared.key.Key.{Key}
 use Rattle.fsd_bytes.specs.declared.refusal.Refusal.{Refusal}
-use Rattle.volume_contract.specs.State.{GoesOn, Leaves, downs_for}
+use Rattle.volume_contract.specs.Order.{Keeps, enter_steps}
+use Rattle.volume_contract.specs.State.{GoesOn, HasCounted, Leaves, downs_for, forces_first}
 use Rattle.client_desk.specs.declared.client.Client.{Client}
 use Rattle.client_desk.specs.declared.client.Client.TheVariants.{Idle}
-use Rattle.client_desk.specs.Clients.{EntersFor, IsDesk, IsWholeOne, client_at, in_first}
+use Rattle.client_desk.specs.Clients.{client_at, EntersFor, fault_in, in_first, IsDesk, IsNamed, IsWholeOne, too_short}
 use Rattle.client_desk.specs.Ends.{Closes, EndsClose, EndsEntering}
 use Rattle.client_desk.proofs.CreationLaws.{close_done, close_failed, close_refused, close_short, leaves_as_was, serves_so, short_device, writes_as, writes_so}
 use Rattle.client_desk.proofs.DeskLaws.{desk_enters, desk_same, found_writing}
@@ -65,13 +67,66 @@ returns-in-Err-closed-clause-desk g c =
     (subst (λ (y : List Client). IsDesk (V.state w) y) (sym self)
     (desk_same s (V.state w) desk (record { layout = goes.layout; unfinished = goes.unfinished; readers = goes.readers }) c.requires.desk))
 
-pub returns-in-Err-closed-clause-kept : goal.returns-in-Err-closed-clause-kept
-returns-in-Err-closed-clause-kept g c =
+-- ---- what it keeps
+
+pub returns-in-Err-clause-kept : goal.returns-in-Err-clause-kept
+returns-in-Err-clause-kept g c = record { desk = refl; volume = inl (ap (λ (r : Result ℕ Refusal). fault_in r) (sym c.in-Err.ensures.is), refl) }
+
+pub returns-in-Some-clause-kept : goal.returns-in-Some-clause-kept
+returns-in-Some-clause-kept g c =
+    let desk = c.args.self.now in
+    let at = found_writing desk c.args.c c.in-Ok.place (sym c.in-Ok.ensures.is) in
+    record {
+      desk = refl;
+      volume = inr (
+        ap (λ (r : Result ℕ Refusal). fault_in r) (sym c.in-Ok.ensures.is),
+        inl (ap (λ (n : ℕ). too_short (client_at desk n)) (sym at.place) ∙ sym c.in-Some.ensures.is, refl),
+      );
+    }
+
+pub returns-in-Ok-closed-clause-kept : goal.returns-in-Ok-closed-clause-kept
+returns-in-Ok-closed-clause-kept g c =
+    let V = g.V.Files in
     let desk = c.args.self.now in
     let i = c.in-Ok.place in
     let x = c.close_of-client.result.0 in
-    let back = subst (λ (r : Result Key Refusal). MatchResult r (λ key. x ≡ Idle) (λ why. x ≡ c.take.result)) c.in-Err-closed.is c.close_of-client.ensures.client in
-    clients_are desk c.take.new.self c.set.new.self i x c.set.ensures.clients c.take.ensures.clients ∙ ap (λ (z : Client). set desk i z) (back ∙ c.take.ensures.client) ∙ set-get_or desk i Idle
+    let w = c.close_of-client.new.v in
+    let s = V.state c.args.v.now in
+    let at = found_writing desk c.args.c i (sym c.in-Ok.ensures.is) in
+    let idle = subst (λ (r : Result Key Refusal). MatchResult r (λ key. x ≡ Idle) (λ why. x ≡ c.take.result)) c.in-Ok-closed.is c.close_of-client.ensures.client in
+    let enters = subst (λ (r : Result Key Refusal). MatchResult r (λ key. EntersFor c.take.result s (V.state w)) (λ why. GoesOn (downs_for why) s (V.state w))) c.in-Ok-closed.is c.close_of-client.ensures.state in
+    let counted = subst (λ (r : Result Key Refusal). MatchResult r (λ key. HasCounted false (forces_first s) s (V.state w)) (λ why. Keeps (enter_steps s None (in_first c.take.result)) why s (V.state w))) c.in-Ok-closed.is c.close_of-client.ensures.kept in
+    record {
+      desk = clients_are desk c.take.new.self c.set.new.self i x c.set.ensures.clients c.take.ensures.clients ∙ ap (λ (z : Client). set desk i z) idle ∙ ap (λ (n : ℕ). set desk n Idle) at.place;
+      volume = subst (λ (u : V-of g). EntersFor (client_at desk (c.args.c - 1)) s (V.state u)) (sym c.set.ensures.volume) (subst (λ (z : Client). EntersFor z s (V.state w)) (c.take.ensures.client ∙ ap (λ (n : ℕ). client_at desk n) at.place) enters);
+      counted = subst (λ (u : V-of g). HasCounted false (forces_first s) s (V.state u)) (sym c.set.ensures.volume) counted;
+    }
+
+pub returns-in-Err-closed-clause-kept : goal.returns-in-Err-closed-clause-kept
+returns-in-Err-closed-clause-kept g c =
+    let V = g.V.Files in
+    let desk = c.args.self.now in
+    let i = c.in-Ok.place in
+    let x = c.close_of-client.result.0 in
+    let w = c.close_of-client.new.v in
+    let s = V.state c.args.v.now in
+    let why = c.in-Err-closed.why in
+    let at = found_writing desk c.args.c i (sym c.in-Ok.ensures.is) in
+    let back = subst (λ (r : Result Key Refusal). MatchResult r (λ key. x ≡ Idle) (λ z. x ≡ c.take.result)) c.in-Err-closed.is c.close_of-client.ensures.client in
+    let keeps = subst (λ (r : Result Key Refusal). MatchResult r (λ key. HasCounted false (forces_first s) s (V.state w)) (λ z. Keeps (enter_steps s None (in_first c.take.result)) z s (V.state w))) c.in-Err-closed.is c.close_of-client.ensures.kept in
+    record {
+      desk = clients_are desk c.take.new.self c.set.new.self i x c.set.ensures.clients c.take.ensures.clients ∙ ap (λ (z : Client). set desk i z) (back ∙ c.take.ensures.client) ∙ set-get_or desk i Idle;
+      volume = inr (
+        ap (λ (r : Result ℕ Refusal). fault_in r) (sym c.in-Ok.ensures.is),
+        inr (
+          ap (λ (n : ℕ). too_short (client_at desk n)) (sym at.place) ∙ sym c.in-None.ensures.is,
+          subst (λ (u : V-of g). Keeps (enter_steps s None (in_first (client_at desk (c.args.c - 1)))) why s (V.state u)) (sym c.set.ensures.volume)
+              (subst (λ (z : Client). Keeps (enter_steps s None (in_first z)) why s (V.state w)) (c.take.ensures.client ∙ ap (λ (n : ℕ). client_at desk n) at.place) keeps),
+        ),
+      );
+    }
+
+-- ---- what it answers
 
 pub returns-in-Ok-closed-clause-done : goal.returns-in-Ok-closed-clause-done
 returns-in-Ok-closed-clause-done g c h k clients sits =
@@ -166,3 +221,34 @@ returns-in-Err-closed-clause-disk g c =
     subst (λ (z : Client). WritesDisk M (device_of c.in-Err-closed.why) (Leaves V.state V.holds v (λ t. force_writes (V.state v).layout t || in_first z t)) c.args.m.now c.close_of-client.new.m)
     (c.take.ensures.client ∙ ap (λ (n : ℕ). client_at desk n) at.place)
     (subst (λ (r : Result Key Refusal). WritesDisk M (device_in device_of r) (Leaves V.state V.holds v (λ t. force_writes (V.state v).layout t || in_first c.take.result t)) c.args.m.now c.close_of-client.new.m) c.in-Err-closed.is c.close_of-client.ensures.disk)
+
+pub returns-in-Err-clause-rest : goal.returns-in-Err-clause-rest
+returns-in-Err-clause-rest g c h = record { size = refl; others = λ s out. inl refl }
+
+pub returns-in-Some-clause-rest : goal.returns-in-Some-clause-rest
+returns-in-Some-clause-rest g c h = record { size = refl; others = λ s out. inl refl }
+
+pub returns-in-Ok-closed-clause-rest : goal.returns-in-Ok-closed-clause-rest
+returns-in-Ok-closed-clause-rest g c h =
+    let V = g.V.Files in
+    let M = g.M.Machine in
+    let desk = c.args.self.now in
+    let at = found_writing desk c.args.c c.in-Ok.place (sym c.in-Ok.ensures.is) in
+    subst (λ (z : Client). Touches (λ t. force_writes (V.state c.args.v.now).layout t || in_first z t) (M.now c.args.m.now) (M.now c.close_of-client.new.m))
+    (c.take.ensures.client ∙ ap (λ (n : ℕ). client_at desk n) at.place) (c.close_of-client.ensures.rest h)
+
+pub returns-in-Err-closed-clause-rest : goal.returns-in-Err-closed-clause-rest
+returns-in-Err-closed-clause-rest g c h =
+    let V = g.V.Files in
+    let M = g.M.Machine in
+    let desk = c.args.self.now in
+    let at = found_writing desk c.args.c c.in-Ok.place (sym c.in-Ok.ensures.is) in
+    subst (λ (z : Client). Touches (λ t. force_writes (V.state c.args.v.now).layout t || in_first z t) (M.now c.args.m.now) (M.now c.close_of-client.new.m))
+    (c.take.ensures.client ∙ ap (λ (n : ℕ). client_at desk n) at.place) (c.close_of-client.ensures.rest h)
+
+pub returns-in-Ok-closed-clause-name : goal.returns-in-Ok-closed-clause-name
+returns-in-Ok-closed-clause-name g c =
+    let desk = c.args.self.now in
+    let at = found_writing desk c.args.c c.in-Ok.place (sym c.in-Ok.ensures.is) in
+    subst (λ (z : Client). IsNamed z c.in-Ok-closed.key.name) (c.take.ensures.client ∙ ap (λ (n : ℕ). client_at desk n) at.place)
+    (subst (λ (r : Result Key Refusal). IfOk r (λ (key : Key). IsNamed c.take.result key.name)) c.in-Ok-closed.is c.close_of-client.ensures.name)

@@ -10,7 +10,7 @@ use Rattle.client_desk.specs.declared.client.Client.TheVariants.{Idle, Reading}
 use Rattle.client_desk.specs.Clients.{CountsTo, GoesTo, IsDesk, client_at}
 use Rattle.client_desk.specs.Ends.{EndsNext, Gives, ReadsOn, Serves, open_at}
 use Rattle.client_desk.proofs.DeskLaws.{desk_goes, found_reading}
-use Rattle.client_desk.proofs.SitsLaws.{clients_are, data_fault, next_failed, next_given, next_refused, reads_of}
+use Rattle.client_desk.proofs.SitsLaws.{client_whole, clients_are, data_fault, next_failed, next_given, next_refused, reading_fault, reads_of}
 use Rattle.client_desk.proofs.desk.Desk.next.Given as given
 use Rattle.client_desk.proofs.desk.Desk.next.Goals as goal
 
@@ -123,3 +123,17 @@ returns-in-Ok-given-clause-kept g c =
       desk = clients_are desk c.take.new.self c.set.new.self i x c.set.ensures.clients c.take.ensures.clients ∙ ap (λ (z : Client). set desk i z) goes.0
           ∙ ap (λ (m : ℕ). set desk m (Reading (record at.is.0 { place = at.is.0.place + n }))) at.place;
     }
+
+-- ---- what is told as damaged
+
+pub returns-in-Err-clause-damaged : goal.returns-in-Err-clause-damaged
+returns-in-Err-clause-damaged g c s is h = absurd (client_whole c.args.c s c.in-Err.why (reading_fault c.args.self.now c.args.c c.in-Err.why (sym c.in-Err.ensures.is)) (cc is))
+
+pub returns-in-Err-clause-within : goal.returns-in-Err-clause-within
+returns-in-Err-clause-within g c s is h = absurd (client_whole c.args.c s c.in-Err.why (reading_fault c.args.self.now c.args.c c.in-Err.why (sym c.in-Err.ensures.is)) (cc is))
+
+pub returns-in-Err-given-clause-within : goal.returns-in-Err-given-clause-within
+returns-in-Err-given-clause-within g c s is h = c.next_of-client.ensures.within s (c.in-Err-given.is ∙ is) h
+
+pub returns-in-Err-given-clause-damaged : goal.returns-in-Err-given-clause-damaged
+returns-in-Err-given-clause-damaged g c s is h = c.next_of-client.ensures.damaged s (c.in-Err-given.is ∙ is) h

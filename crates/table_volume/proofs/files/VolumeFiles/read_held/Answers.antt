@@ -33,6 +33,7 @@ returns-in_err-is_up g c =
       state = refl;
       idle = λ idle. refl;
       count = tt;
+      within = λ s is h. absurd (told_down (λ (r : Refusal). r ≡ Why.Damaged s → ⊥) (λ place e. absurd (cc e)) v.down why down (cc is));
       damaged = λ s is h. absurd (told_down (λ (r : Refusal). r ≡ Why.Damaged s → ⊥) (λ place e. absurd (cc e)) v.down why down (cc is));
       stands = λ h k stands. stands;
       done = λ h k stands reading there len. absurd (not_down v k now why down stands);
@@ -60,6 +61,9 @@ returns-clause-order g c =
 
 pub returns-clause-idle : goal.returns-clause-idle
 returns-clause-idle g c = λ idle. absurd (busy_held (state c.args.self.now) (ap (option_map Why.Down) (up_by c.args.self.now.down (sym c.in_ok-is_up.ensures))) idle)
+
+pub returns-clause-within : goal.returns-clause-within
+returns-clause-within g c s is h = c.requires.held.within s (c.read_version.ensures.there s is h)
 
 pub returns-clause-stands : goal.returns-clause-stands
 returns-clause-stands g c = λ h k stands.
