@@ -8,6 +8,8 @@ mod downs;
 #[cfg(test)]
 mod draws;
 #[cfg(test)]
+mod example;
+#[cfg(test)]
 mod filling;
 #[cfg(test)]
 mod lists;

@@ -1,5 +1,5 @@
 //! A mounted volume together with the machine under it, and its calls.
-ghost use Rattle.std.specs.Prelude.{◌≡◌, ◌≤◌, IfOk};
+ghost use Rattle.std.specs.Prelude.{◌≡◌, ◌≤◌, IfOk, length};
 ghost use Rattle.sector_disk.specs.Memory.{memory_report};
 ghost use Rattle.volume_state.specs.State.{state};
 
@@ -13,6 +13,7 @@ use std::mem::replace;
 use std::test::Fail;
 use table_volume::Volume;
 use volume_contract::{Files, Forced, Stat};
+use volume_example::Fault;
 
 /// A mounted volume, and the machine in memory that has its image.
 #[derive(Drop)]
@@ -67,8 +68,8 @@ impl Mounted {
         (m, closed)
     }
 
-    // The machine, as a stop leaves it.
-    fn stopped(self) -> MemoryMachine {
+    /// The machine, as a stop leaves it.
+    pub(crate) fn stopped(self) -> MemoryMachine {
         let Mounted { m, v: _ } = self;
         m
     }
@@ -117,6 +118,28 @@ impl Mounted {
     /// Reads bytes of a version from a place on, and tells how many.
     pub(crate) fn read(&mut self, key: &Key, from: u32, buf: &mut [u8]) -> Result<u32, Refusal> {
         self.v.read(&mut self.m, key, from, buf)
+    }
+
+    /// Makes a version with these bytes, and reads it back into a buffer of as many.
+    pub(crate) fn put_and_read(
+        &mut self,
+        name: &FileName,
+        bytes: &[u8],
+        buf: &mut [u8],
+    ) -> Result<Key, Fault>
+        requires { length buf.old ≡ length bytes.now }
+    {
+        volume_example::put_and_read(&mut self.v, &mut self.m, name, bytes, buf)
+    }
+
+    /// Makes a version with these bytes, and forces it.
+    pub(crate) fn put_and_force(&mut self, name: &FileName, bytes: &[u8]) -> Result<Key, Fault> {
+        volume_example::put_and_force(&mut self.v, &mut self.m, name, bytes)
+    }
+
+    /// How many versions a walk meets.
+    pub(crate) fn count(&mut self) -> Result<u32, Refusal> {
+        volume_example::count(&mut self.v, &mut self.m)
     }
 
     /// Commits what waits.

@@ -1,0 +1,10 @@
+//! Why a version isn't there, or is and no more was done.
+
+use fsd_bytes::{Key, Refusal};
+
+/// The put was refused, or the version of this key is made and the call behind the put was refused.
+#[derive(Debug, Drop)]
+pub enum Fault {
+    Put(Refusal),
+    Behind { key: Key, why: Refusal },
+}

@@ -1,0 +1,34 @@
+//! A version that is there for good.
+ghost use Rattle.std.specs.Prelude.{◌≡◌, ◌≤◌, ℕ, None, Some};
+ghost use Rattle.fsd_files.specs.Files.{Change};
+ghost use Rattle.sector_disk.specs.Calls.{WritesDisk, device_in};
+ghost use Rattle.volume_contract.specs.State.{Known, Stands};
+ghost use Rattle.volume_example.specs.Forcing.{EndsForced, IsRefusedDown};
+ghost use Rattle.volume_example.specs.Stops.{LeavesOneMore, failed_at};
+
+use crate::fault::Fault;
+use fsd_bytes::{FileName, Key};
+use sector_disk::Machine;
+use volume_contract::Files;
+
+/// Makes a version with these bytes, and brings it to the disk with all that waited.
+pub fn put_and_force<M: Machine, V: Files<M>>(
+    v: &mut V,
+    m: &mut M,
+    name: &FileName,
+    bytes: &[u8],
+) -> Result<Key, Fault>
+    requires { (V.state v.old).layout.sectors ≤ (M.report m.old).sectors }
+    ensures layout { (V.state v.new).layout ≡ (V.state v.old).layout }
+    ensures disk { WritesDisk M.Machine (device_in failed_at result) (LeavesOneMore V.state V.holds v.old (Change.Put name.now None bytes.now)) m.old m.new }
+    ensures down { (place : ℕ) → (V.state v.old).down ≡ Some place → IsRefusedDown place result }
+    ensures done { M.honest m.new → (k : Known) → Stands V.state V.holds v.old k (M.now m.old) → EndsForced V.state V.holds name.now bytes.now k v.new (M.now m.new) result }
+{
+    match v.put(m, name, None, bytes) {
+        Ok(key) => match v.force(m) {
+            Ok(_) => Ok(key),
+            Err(why) => Err(Fault::Behind { key, why }),
+        },
+        Err(why) => Err(Fault::Put(why)),
+    }
+}
