@@ -26,7 +26,7 @@ fn run<M: Machine>(alloc: Global, words: io::Result<Vec<String>>, m: &mut M) -> 
     ensures no_words { IfErr words (λ error. Ran M.Machine Outside [] m.old m.new result) }
 {
     match words {
-        Ok(words) => run_words::<M, Volume>(alloc, words.as_slice(), m),
+        Ok(words) => run_words::<M, Volume, Volume>(alloc, words.as_slice(), m),
         Err(error) if error.kind() == io::ErrorKind::OutOfMemory => run_out_of_memory(m),
         Err(_) => run_outside(m),
     }

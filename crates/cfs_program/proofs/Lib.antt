@@ -2,8 +2,11 @@ mod AmongLaws
 mod AnchorLaws
 mod AttachLaws
 mod CountsLaws
+mod DrillExamples
+mod DrillLaws
 mod EndedLaws
 mod FormatLaws
 mod FoundLaws
+mod LifeLaws
 mod OpeningLaws
 mod ProgramLaws

@@ -18,7 +18,7 @@ use Rattle.fsd_texts.specs.declared.line.Line.{Line}
 use Rattle.fsd_texts.specs.declared.line.Line.TheVariants as Lines
 use Rattle.fsd_texts.specs.Text.{fault_text, text}
 use Rattle.fsd_runs.specs.declared.request.Request.{Request}
-use Rattle.fsd_runs.specs.declared.request.Request.TheVariants.{Outside, BadField, Format, Put, One, Script, Generate}
+use Rattle.fsd_runs.specs.declared.request.Request.TheVariants.{Outside, BadField, Format, Put, One, Script, Generate, Drill}
 use Rattle.fsd_runs.specs.Errands.{IfMounts}
 use Rattle.volume_contract.specs.State.{Ages}
 use Rattle.volume_turns.specs.Answering.{SaysNoReply}
@@ -74,6 +74,7 @@ module _ {D : Type 0} (M : Ghosts D) (path : List ℕ) (a b : D) (line : Line) (
   ran_line (One command) is = absurd (cc is)
   ran_line Script is = absurd (cc is)
   ran_line (Generate seed count) is = absurd (cc is)
+  ran_line Drill is = absurd (cc is)
   ran_line request is = record {
     status = line_status result status;
     complete = λ none. line_complete result status (λ six. none.output (output_rose (M.report a) (M.report b) result says.spares six));
@@ -150,6 +151,7 @@ spares_image : (request : Request) (old new : Moment) → Ages old new → Spare
 spares_image Outside old new still = still
 spares_image (BadField cause) old new still = still
 spares_image (Format n t p) old new still = spares_plan (plan n t p) old new still
+spares_image Drill old new still = still
 spares_image request old new still = tt
 
 if_mounts : (request : Request) (P : Type 0) → P → IfMounts request P

@@ -1,3 +1,4 @@
+pub mod Drill
 pub mod Formatting
 pub mod Opening
 pub mod Program

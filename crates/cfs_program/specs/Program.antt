@@ -18,10 +18,11 @@ use Rattle.fsd_texts.specs.Script.{max_input, script_in}
 use Rattle.fsd_texts.specs.Text.{text}
 use Rattle.fsd_texts.specs.declared.bad_line.Cause.{Cause}
 use Rattle.fsd_runs.specs.declared.request.Request.{Request}
-use Rattle.fsd_runs.specs.declared.request.Request.TheVariants.{Outside, BadField, Format, Put, One, Script, Generate}
+use Rattle.fsd_runs.specs.declared.request.Request.TheVariants.{Outside, BadField, Format, Put, One, Script, Generate, Drill}
 use Rattle.fsd_runs.specs.Commands.{reply_text}
 use Rattle.fsd_runs.specs.Errands.{IfMounts}
 use Rattle.fsd_runs.specs.Leaves.{LeavesRun, NoneRose}
+use Rattle.cfs_program.specs.Drill.{SaysDrill}
 use Rattle.cfs_program.specs.Formatting.{IsMadeBy, SaysFormat, SparesUnplanned, format_status, plan_asks}
 use Rattle.volume_contract.specs.State.{Ages}
 use Rattle.scrub.specs.Telling.{AreOfPage}
@@ -55,6 +56,7 @@ complete_statuses (Put name keep) = 0 ∷ 1 ∷ 3 ∷ 5 ∷ 7 ∷ 9 ∷ []
 complete_statuses (One command) = reply_statuses command ++ 3 ∷ 7 ∷ 9 ∷ []
 complete_statuses Script = 0 ∷ 2 ∷ 3 ∷ 5 ∷ 7 ∷ 9 ∷ []
 complete_statuses (Generate seed count) = 0 ∷ 3 ∷ 7 ∷ 9 ∷ []
+complete_statuses Drill = 0 ∷ 7 ∷ []
 
 abbrev pub plan_faults : Result Layout LayoutFault → List ℕ
 plan_faults (Ok l) = 4 ∷ 6 ∷ []
@@ -67,6 +69,7 @@ fault_statuses (BadField cause) = 6 ∷ []
 fault_statuses (Format n t p) = plan_faults (plan n t p)
 fault_statuses (Put name keep) = 4 ∷ 5 ∷ 6 ∷ []
 fault_statuses Script = 4 ∷ 5 ∷ 6 ∷ []
+fault_statuses Drill = 6 ∷ []
 fault_statuses request = 4 ∷ 6 ∷ []
 
 abbrev pub is_one_of : List ℕ → ℕ → Bool
@@ -79,6 +82,7 @@ abbrev pub asks_of : Request → List ℕ → List Asked
 asks_of Outside path = []
 asks_of (BadField cause) path = []
 asks_of (Format n t p) path = plan_asks (plan n t p) path
+asks_of Drill path = []
 asks_of request path = mount_asks path
 
 -- only a put and a script take input
@@ -139,6 +143,7 @@ abbrev pub SaysAnswer : Request → (place : ℕ) → (old new : Moment) → ℕ
 SaysAnswer Outside place old new result = SaysLine Says.Usage 2 old new result
 SaysAnswer (BadField cause) place old new result = SaysLine (field_line cause) 2 old new result
 SaysAnswer (Format n t p) place old new result = SaysFormat (plan n t p) place old new result
+SaysAnswer Drill place old new result = SaysDrill old new result
 SaysAnswer request place old new result = ⊤
 
 -- a script says replies before its last line
@@ -189,6 +194,7 @@ abbrev pub SparesImage : Request → (old new : Moment) → Type 0
 SparesImage Outside old new = Ages old new
 SparesImage (BadField cause) old new = Ages old new
 SparesImage (Format n t p) old new = SparesUnplanned (plan n t p) old new
+SparesImage Drill old new = Ages old new
 SparesImage request old new = ⊤
 
 -- ---- a sound disk

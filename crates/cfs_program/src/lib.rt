@@ -1,7 +1,9 @@
 //! All that the program does, over any volume and a machine that is handed in.
 #![tactic(auto)]
 
+mod drilling;
 mod formatting;
+mod lives;
 mod making;
 mod opening;
 mod putting;
@@ -10,6 +12,7 @@ mod run;
 mod scripting;
 mod words;
 
+pub use drilling::run_drill;
 pub use formatting::run_format;
 pub use making::run_made_up;
 pub use opening::run_command;

@@ -76,6 +76,24 @@ fn text_of(alloc: Global, answer: &Answer) -> Result<Vec<u8>, AllocError>
         Answer::Forced => line_text(alloc, &Line::Forced),
         Answer::Counts(stat) => line_text(alloc, &stat_line(stat)),
         Answer::Scrubbed { found, healed } => scrub_text(alloc, found.as_slice(), *healed),
+        Answer::Begun(client) => line_text(alloc, &Line::Begun(*client)),
+        Answer::Took { client, sum } => line_text(
+            alloc,
+            &Line::Took {
+                client: *client,
+                sum: *sum,
+            },
+        ),
+        Answer::Dropped(client) => line_text(alloc, &Line::Dropped(*client)),
+        Answer::Opened { client, length } => line_text(
+            alloc,
+            &Line::Opened {
+                client: *client,
+                length: *length,
+            },
+        ),
+        Answer::Given { client, bytes } => given_text(alloc, *client, bytes.as_slice()),
+        Answer::Done(client) => line_text(alloc, &Line::Done(*client)),
     }
 }
 
@@ -164,8 +182,25 @@ fn bytes_text(alloc: Global, key: &Key, bytes: &[u8]) -> Result<Vec<u8>, AllocEr
         return Err(AllocError);
     };
     let key = key.copied();
+    text_before(alloc, &Line::Bytes { key, length }, bytes)
+}
+
+// So it is of the next bytes that a client has.
+fn given_text(alloc: Global, client: u32, bytes: &[u8]) -> Result<Vec<u8>, AllocError>
+    ensures { IfOk result (λ said. said.items ≡ text (Lines.Given client (length bytes.now)) ++ bytes.now ++ newline) }
+{
+    let Ok(length) = u32::try_from(bytes.len()) else {
+        return Err(AllocError);
+    };
+    text_before(alloc, &Line::Given { client, length }, bytes)
+}
+
+// A line, and behind it bytes and a newline.
+fn text_before(alloc: Global, line: &Line, bytes: &[u8]) -> Result<Vec<u8>, AllocError>
+    ensures { IfOk result (λ said. said.items ≡ text line.now ++ bytes.now ++ newline) }
+{
     let mut said = Bytes::new(alloc);
-    say_line(&Line::Bytes { key, length }, &mut said)?;
+    say_line(line, &mut said)?;
     said.append(bytes)?;
     said.append(b"\n")?;
     Vec::from_slice(alloc, said.as_slice())

@@ -4,6 +4,7 @@ ghost use Rattle.fsd_runs.specs.declared.request.Request.{Request as Asked};
 ghost use Rattle.fsd_runs.specs.declared.request.Request.TheVariants.{Outside};
 ghost use Rattle.cfs_program.specs.Program.{Ran, field_line};
 
+use crate::drilling::run_drill;
 use crate::formatting::run_format;
 use crate::making::run_made_up;
 use crate::opening::run_command;
@@ -11,13 +12,14 @@ use crate::putting::run_input;
 use crate::scripting::run_commands;
 use fsd_runs::Request;
 use fsd_texts::{BadLine, Cause, Fault, Line};
-use sector_disk::Machine;
+use sector_disk::{Machine, MemoryMachine};
 use std::alloc::Global;
 use volume_contract::Files;
 use volume_turns::last_line;
 
-/// Does what is asked for of the image at a path, says the reply, and gives the exit status.
-pub fn run_request<M: Machine, V: Files<M> + Drop>(
+/// Does what is asked for of the image at a path, says the reply, and gives the exit status. A drill plays its lives
+/// with volumes of the second type.
+pub fn run_request<M: Machine, V: Files<M> + Drop, W: Files<MemoryMachine> + Drop>(
     alloc: Global,
     m: &mut M,
     request: &Request,
@@ -37,6 +39,7 @@ pub fn run_request<M: Machine, V: Files<M> + Drop>(
         Request::Put { name, keep } => run_input::<M, V>(alloc, m, path, name, *keep),
         Request::Script => run_commands::<M, V>(alloc, m, path),
         Request::Generate { seed, count } => run_made_up::<M, V>(alloc, m, path, *seed, *count),
+        Request::Drill => run_drill::<M, W>(alloc, m),
     }
 }
 

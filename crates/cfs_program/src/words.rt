@@ -6,17 +6,21 @@ ghost use Rattle.cfs_program.specs.Program.{Ran};
 
 use crate::run::{run_out_of_memory, run_request};
 use command_words::read_words;
-use sector_disk::Machine;
+use sector_disk::{Machine, MemoryMachine};
 use std::alloc::Global;
 use volume_contract::Files;
 
 /// Does what the words ask for, of the image that they name, says the reply, and gives the exit status.
-/// The first word is the program's name.
-pub fn run_words<M: Machine, V: Files<M> + Drop>(alloc: Global, words: &[String], m: &mut M) -> u8
+/// The first word is the program's name. A drill plays its lives with volumes of the second type.
+pub fn run_words<M: Machine, V: Files<M> + Drop, W: Files<MemoryMachine> + Drop>(
+    alloc: Global,
+    words: &[String],
+    m: &mut M,
+) -> u8
     ensures { Ran M.Machine (request_of (map string_bytes words.now)) (path_of (map string_bytes words.now)) m.old m.new result }
 {
     match read_words(alloc, words) {
-        Ok(asked) => run_request::<M, V>(alloc, m, &asked.request, asked.image),
+        Ok(asked) => run_request::<M, V, W>(alloc, m, &asked.request, asked.image),
         Err(_) => run_out_of_memory(m),
     }
 }

@@ -16,7 +16,7 @@ struct Row<'a> {
 
 // Their order is that of the definition `cfs`, and so it is in any build that is proved: the contract of `command_set`
 // says that the two are one.
-const ROWS: [Row<'static>; 10] = [
+const ROWS: [Row<'static>; 11] = [
     Row {
         name: "format",
         positionals: &["image", "n", "t", "p"],
@@ -65,6 +65,11 @@ const ROWS: [Row<'static>; 10] = [
     Row {
         name: "generate",
         positionals: &["image", "seed", "count"],
+        options: &[],
+    },
+    Row {
+        name: "drill",
+        positionals: &[],
         options: &[],
     },
 ];

@@ -19,7 +19,7 @@ use std::alloc::{AllocError, Global};
 #[derive(Debug, Drop)]
 pub struct Asked<'a> {
     pub request: Request,
-    /// The path of the image, empty where the words are outside the command set.
+    /// The path of the image, empty where the words name none.
     pub image: &'a str,
 }
 
@@ -85,6 +85,7 @@ fn read_fields(name: &str, fields: &ArgMatches<'_>) -> Result<Request, Cause>
         "scrub" => Ok(Request::One(Command::Scrub)),
         "script" => Ok(Request::Script),
         "generate" => read_generate(fields),
+        "drill" => Ok(Request::Drill),
         _ => Ok(Request::Outside),
     }
 }

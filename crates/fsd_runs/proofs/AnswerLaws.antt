@@ -1,4 +1,4 @@
--- What the answers of a run do to the files, to the pages of the table and to what is forced; and that each command has one.
+-- What the answers of a volume do to its files, to the pages of its table, to what it holds and to what is forced.
 use Rattle.std.proofs.Common.{◌≡◌, ◌⊎◌, inl, inr, ℕ, suc, ◌+◌, ◌≤◌, Bool, true, false, cond, List, [], ◌∷◌, length, Option, Some, None, refl, sym, ap, ◌∙◌, arith}
 use Rattle.std.specs.Prelude.{IfSome, is_none, not, nat_le, nat_lt, ◌&&◌, ◌||◌, ◌==◌, fold}
 use Rattle.std.specs.List.{list_any}
@@ -25,40 +25,42 @@ use Rattle.fsd_files.specs.Scrub.{Picks, all_data}
 use Rattle.fsd_files.specs.Volume.{Volume, HasReach, forced, forced_if, forced_for_place, drawn, place_for}
 use Rattle.fsd_texts.specs.declared.command.Command.{Command}
 use Rattle.fsd_texts.specs.declared.command.Command.TheVariants as Word
-use Rattle.fsd_runs.specs.Commands.{answer, changes_of, MayFind, MayMeet}
+use Rattle.fsd_runs.specs.Commands.{answer, changes_of, MayFind}
 use Rattle.fsd_runs.specs.Errands.{Turn, Errand, answered_so, is_forced}
 use Rattle.fsd_runs.specs.Runs.{behind, turn_of, changes_in, forced_in, turns_begun}
 
 -- ---- one answer: nothing is changed, or the change is made
 
--- the files and the pages are as before, and no more is unforced
-record IsSame (v w : Volume) : Type 0 where
-  files : w.files ≡ v.files
-  reached : w.reached ≡ v.reached
-  unforced : w.unforced ≤ v.unforced
+-- the files, the pages and what is held are as before, and no more is unforced
+pub record IsSame (v w : Volume) : Type 0 where
+  pub files : w.files ≡ v.files
+  pub reached : w.reached ≡ v.reached
+  pub held : w.held ≡ v.held
+  pub unforced : w.unforced ≤ v.unforced
 
-same_itself : (v : Volume) → IsSame v v
-same_itself v = record { files = refl; reached = refl; unforced = omega arith }
+pub same_itself : (v : Volume) → IsSame v v
+same_itself v = record { files = refl; reached = refl; held = refl; unforced = omega arith }
 
 same_then : (u v w : Volume) → IsSame u v → IsSame v w → IsSame u w
-same_then u v w a b = record { files = b.files ∙ a.files; reached = b.reached ∙ a.reached; unforced = omega (arith, a.unforced, b.unforced) }
+same_then u v w a b = record { files = b.files ∙ a.files; reached = b.reached ∙ a.reached; held = b.held ∙ a.held; unforced = omega (arith, a.unforced, b.unforced) }
 
-same_forced : (b : Bool) (v : Volume) → IsSame v (cond b (forced v) v)
-same_forced true v = record { files = refl; reached = refl; unforced = omega arith }
+pub same_forced : (b : Bool) (v : Volume) → IsSame v (cond b (forced v) v)
+same_forced true v = record { files = refl; reached = refl; held = refl; unforced = omega arith }
 same_forced false v = same_itself v
 
-record Refuses (v : Volume) (command : Command) (out : Outcome) : Type 0 where
-  none : changes_of command out.0 ≡ []
-  same : IsSame v out.1
+pub record Refuses (v : Volume) (command : Command) (out : Outcome) : Type 0 where
+  pub none : changes_of command out.0 ≡ []
+  pub same : IsSame v out.1
 
-record Changes (met : Met) (v : Volume) (command : Command) (out : Outcome) : Type 0 where
-  change : Change
-  is : changes_of command out.0 ≡ change ∷ []
-  files : out.1.files ≡ step v.files change
-  reached : out.1.reached ≡ met.reached
-  unforced : out.1.unforced ≤ suc v.unforced
+pub record Changes (met : Met) (v : Volume) (command : Command) (out : Outcome) : Type 0 where
+  pub change : Change
+  pub is : changes_of command out.0 ≡ change ∷ []
+  pub files : out.1.files ≡ step v.files change
+  pub reached : out.1.reached ≡ met.reached
+  pub held : out.1.held ≡ v.held
+  pub unforced : out.1.unforced ≤ suc v.unforced
 
-abbrev Does : Met → Volume → Command → Outcome → Type 0
+abbrev pub Does : Met → Volume → Command → Outcome → Type 0
 Does met v command out = Refuses v command out ⊎ Changes met v command out
 
 -- from a volume that is the same
@@ -69,13 +71,14 @@ does_from met u v command out same (inr c) = inr (record {
   is = c.is;
   files = c.files ∙ ap (λ (s : Files). step s c.change) same.files;
   reached = c.reached;
+  held = c.held ∙ same.held;
   unforced = omega (arith, c.unforced, same.unforced);
 })
 
 put_enters : (met : Met) (v : Volume) (name bytes : List ℕ) (given : Option ℕ) (runs : List Run) (serial : Serial) (o : Option Refusal)
     → Does met v (Word.Put name bytes given) (entered_unless o v name bytes given runs serial met.reached)
 put_enters met v name bytes given runs serial (Some why) = inl (record { none = refl; same = same_itself v })
-put_enters met v name bytes given runs serial None = inr (record { change = Change.Put name given bytes; is = refl; files = refl; reached = refl; unforced = omega arith })
+put_enters met v name bytes given runs serial None = inr (record { change = Change.Put name given bytes; is = refl; files = refl; reached = refl; held = refl; unforced = omega arith })
 
 put_entered : (met : Met) (v : Volume) (name bytes : List ℕ) (given : Option ℕ) (runs : List Run) (serial : Serial) → Does met v (Word.Put name bytes given) (entered met v name bytes given runs serial)
 put_entered met v name bytes given runs serial =
@@ -85,7 +88,7 @@ put_entered met v name bytes given runs serial =
 put_placed : (met : Met) (v : Volume) (name bytes : List ℕ) (given : Option ℕ) (need : ℕ) (o : Option (List Run)) → Does met v (Word.Put name bytes given) (put_at met v name bytes given need o)
 put_placed met v name bytes given need None = inl (record { none = refl; same = same_itself v })
 put_placed met v name bytes given need (Some runs) =
-    does_from met v (drawn v) (Word.Put name bytes given) (put_at met v name bytes given need (Some runs)) (record { files = refl; reached = refl; unforced = omega arith }) (put_entered met (drawn v) name bytes given runs v.serial)
+    does_from met v (drawn v) (Word.Put name bytes given) (put_at met v name bytes given need (Some runs)) (record { files = refl; reached = refl; held = refl; unforced = omega arith }) (put_entered met (drawn v) name bytes given runs v.serial)
 
 put_does : (met : Met) (v : Volume) (name bytes : List ℕ) (given : Option ℕ) (o : Option Refusal) → Does met v (Word.Put name bytes given) (put_unless o met v name bytes given)
 put_does met v name bytes given (Some why) = inl (record { none = refl; same = same_itself v })
@@ -96,11 +99,11 @@ put_does met v name bytes given None =
 
 delete_does : (met : Met) (v : Volume) (key : Key) (o : Option Entry) → Does met v (Word.Delete key) (deleted v key met.reached o)
 delete_does met v key None = inl (record { none = refl; same = same_itself v })
-delete_does met v key (Some e) = inr (record { change = Change.Delete key; is = refl; files = refl; reached = refl; unforced = omega arith })
+delete_does met v key (Some e) = inr (record { change = Change.Delete key; is = refl; files = refl; reached = refl; held = refl; unforced = omega arith })
 
 keep_does : (met : Met) (v : Volume) (name : List ℕ) (keep : ℕ) (o : Option Entry) → Does met v (Word.Keep name keep) (keep_set v name keep met.reached o)
 keep_does met v name keep None = inl (record { none = refl; same = same_itself v })
-keep_does met v name keep (Some e) = inr (record { change = Change.SetKeep name keep; is = refl; files = refl; reached = refl; unforced = omega arith })
+keep_does met v name keep (Some e) = inr (record { change = Change.SetKeep name keep; is = refl; files = refl; reached = refl; held = refl; unforced = omega arith })
 
 keep_tried : (met : Met) (v at : Volume) (name : List ℕ) (keep : ℕ) (b : Bool) → IsSame v at → Does met v (Word.Keep name keep) (cond b (refused v (KeepTooLarge keep)) (keep_set at name keep met.reached (highest_entry name at.entries)))
 keep_tried met v at name keep true same = inl (record { none = refl; same = same_itself v })
@@ -109,7 +112,7 @@ keep_tried met v at name keep false same = does_from met v at (Word.Keep name ke
 still : (met : Met) (v : Volume) (command : Command) (out : Outcome) → changes_of command out.0 ≡ [] → IsSame v out.1 → Does met v command out
 still met v command out none same = inl (record { none = none; same = same })
 
-does : (met : Met) (v : Volume) (command : Command) → Does met v command (answer met v command)
+pub does : (met : Met) (v : Volume) (command : Command) → Does met v command (answer met v command)
 does met v (Word.Put name bytes given) = put_does met v name bytes given (size_fault (keep_given given) (length bytes))
 does met v (Word.Delete key) =
     let at = forced_if met.forces v in
@@ -121,36 +124,6 @@ does met v Word.Force = still met v Word.Force (answer met v Word.Force) refl (s
 does met v Word.Tick = still met v Word.Tick (answer met v Word.Tick) refl (same_forced true v)
 does met v Word.Stat = still met v Word.Stat (answer met v Word.Stat) refl (same_itself v)
 does met v Word.Scrub = still met v Word.Scrub (answer met v Word.Scrub) refl (same_forced true v)
-
--- ---- the files
-
-pub command_follows : (met : Met) (v : Volume) (command : Command) → (answer met v command).1.files ≡ fold step v.files (changes_of command (answer met v command).0)
-command_follows met v command = by (does met v command)
-  where
-    by : Does met v command (answer met v command) → (answer met v command).1.files ≡ fold step v.files (changes_of command (answer met v command).0)
-    by (inl r) = r.same.files ∙ ap (λ (h : List Change). fold step v.files h) (sym r.none)
-    by (inr c) = c.files ∙ ap (λ (h : List Change). fold step v.files h) (sym c.is)
-
-pub run_follows : (e : Errand) (mets : List Met) (v : Volume) (commands : List Command) → (behind mets v commands).files ≡ fold step v.files (changes_in (turns_begun e mets v commands))
-run_follows e [] v commands = refl
-run_follows e (met ∷ mets) v [] = refl
-run_follows e (met ∷ mets) v (command ∷ commands) =
-    let out = answer met v command in
-    run_follows e mets out.1 commands
-    ∙ ap (λ (s : Files). fold step s (changes_in (turns_begun e mets out.1 commands))) (command_follows met v command)
-    ∙ sym (fold_both v.files (changes_of command out.0) (changes_in (turns_begun e mets out.1 commands)))
-
--- ---- what is forced
-
-abbrev any_forces : List Turn → Bool
-any_forces turns = list_any (λ t. t.forces) turns
-
-pub command_grows : (met : Met) (v : Volume) (command : Command) → (answer met v command).1.unforced ≤ length (changes_of command (answer met v command).0) + v.unforced
-command_grows met v command = by (does met v command)
-  where
-    by : Does met v command (answer met v command) → (answer met v command).1.unforced ≤ length (changes_of command (answer met v command).0) + v.unforced
-    by (inl r) = omega (arith, r.same.unforced)
-    by (inr c) = let one : length (changes_of command (answer met v command).0) ≡ 1 = ap length c.is in omega (arith, c.unforced, one)
 
 -- a command that is answered by this is a force
 pub forces_all : (met : Met) (v : Volume) (command : Command) → is_forced (answer met v command).0 ≡ true → (answer met v command).1.unforced ≡ 0
@@ -190,73 +163,9 @@ forces_all met v (Word.Put name bytes given) e = absurd (by (size_fault (keep_gi
     by (Some why) e = cc
     by None e = at_place (forced_for_place (sectors_for (length bytes)) v) (sectors_for (length bytes)) (place_for (forced_for_place (sectors_for (length bytes)) v) (sectors_for (length bytes))) e
 
--- Behind the commands no more is unforced than was made since the last `forced`.
-record Counts (all : ℕ) (before now : ℕ) (turns : List Turn) : Type 0 where
-  grown : now ≤ all + before
-  told : any_forces turns ≡ true → forced_in turns + now ≤ all
-  none : any_forces turns ≡ false → forced_in turns ≡ 0
+-- ---- each command meets something
 
-counts_step : (t : Turn) (more : List Turn) (before mid now : ℕ) → mid ≤ length t.changes + before → (t.forces ≡ true → mid ≡ 0) → Counts (length (changes_in more)) mid now more
-    → Counts (length (changes_in (t ∷ more))) before now (t ∷ more)
-counts_step t more before mid now grows resets rest = by t.forces refl (any_forces more) refl
-  where
-    long : length (changes_in (t ∷ more)) ≡ length t.changes + length (changes_in more)
-    long = length-append t.changes (changes_in more)
-
-    grown : now ≤ length (changes_in (t ∷ more)) + before
-    grown = omega (arith, long, grows, rest.grown)
-
-    any_is : (b c : Bool) → t.forces ≡ b → any_forces more ≡ c → any_forces (t ∷ more) ≡ (b || c)
-    any_is b c is others = ap (λ (x : Bool). x || any_forces more) is ∙ ap (λ (x : Bool). b || x) others
-
-    forced_is : (b : Bool) → any_forces (t ∷ more) ≡ b → forced_in (t ∷ more) ≡ cond b (length t.changes + forced_in more) 0
-    forced_is b is = ap (λ (x : Bool). cond x (length t.changes + forced_in more) 0) is
-
-    by : (b : Bool) → t.forces ≡ b → (c : Bool) → any_forces more ≡ c → Counts (length (changes_in (t ∷ more))) before now (t ∷ more)
-    by b is true others = record {
-      grown = grown;
-      told = λ any. let there = rest.told others in let sum = forced_is true any in omega (arith, long, there, sum);
-      none = λ any. absurd (let bad : (b || true) ≡ false = sym (any_is b true is others) ∙ any in no b bad);
-    }
-      where
-        no : (b : Bool) → (b || true) ≡ false → ⊥
-        no true e = cc
-        no false e = cc
-    by true is false others = record {
-      grown = grown;
-      told = λ any. let none = rest.none others in let sum = forced_is true any in let small = rest.grown in let gone = resets is in omega (arith, long, none, sum, small, gone);
-      none = λ any. absurd (let bad : (true || false) ≡ false = sym (any_is true false is others) ∙ any in cc);
-    }
-    by false is false others = record {
-      grown = grown;
-      told = λ any. absurd (let bad : (false || false) ≡ true = sym (any_is false false is others) ∙ any in cc);
-      none = λ any. forced_is false any;
-    }
-
-counts : (e : Errand) → ((r : Reply) → e.forces r ≡ is_forced r) → (mets : List Met) (v : Volume) (commands : List Command)
-    → Counts (length (changes_in (turns_begun e mets v commands))) v.unforced (behind mets v commands).unforced (turns_begun e mets v commands)
-counts e same [] v commands = record { grown = omega arith; told = λ t. absurd cc; none = λ t. refl }
-counts e same (met ∷ mets) v [] = record { grown = omega arith; told = λ t. absurd cc; none = λ t. refl }
-counts e same (met ∷ mets) v (command ∷ commands) =
-    let out = answer met v command in
-    counts_step (turn_of e (answered_so command out.0)) (turns_begun e mets out.1 commands) v.unforced out.1.unforced (behind mets out.1 commands).unforced
-    (command_grows met v command) (λ t. forces_all met v command (sym (same out.0) ∙ t)) (counts e same mets out.1 commands)
-
--- what the replies of a script tell as forced is forced
-pub told_is_forced : (e : Errand) → ((r : Reply) → e.forces r ≡ is_forced r) → (mets : List Met) (v : Volume) (commands : List Command)
-    → forced_in (turns_begun e mets v commands) + (behind mets v commands).unforced ≤ length (changes_in (turns_begun e mets v commands)) + v.unforced
-told_is_forced e same mets v commands = by (any_forces (turns_begun e mets v commands)) refl
-  where
-    c : Counts (length (changes_in (turns_begun e mets v commands))) v.unforced (behind mets v commands).unforced (turns_begun e mets v commands)
-    c = counts e same mets v commands
-
-    by : (b : Bool) → any_forces (turns_begun e mets v commands) ≡ b → forced_in (turns_begun e mets v commands) + (behind mets v commands).unforced ≤ length (changes_in (turns_begun e mets v commands)) + v.unforced
-    by true any = let told = c.told any in omega (arith, told)
-    by false any = let none = c.none any in let grown = c.grown in omega (arith, none, grown)
-
--- ---- each command has an answer
-
-finds : (i : Image) (sectors : List ℕ) → (damaged : Option ℕ) × Finds i i sectors damaged
+pub finds : (i : Image) (sectors : List ℕ) → (damaged : Option ℕ) × Finds i i sectors damaged
 finds i [] = (None, tt)
 finds i (s ∷ sectors) = by (sector_at i s) refl (finds i sectors)
   where
@@ -281,27 +190,10 @@ picks i (x ∷ all) = by (sector_at i x.1) refl (picks i all)
     by (Whole bytes) is (found, rest) = (found, inl ((bytes, is), rest))
 
 -- what it meets where no force comes by itself and the table has one page then
-abbrev met_with : Option ℕ → List (Key × ℕ) → Met
+abbrev pub met_with : Option ℕ → List (Key × ℕ) → Met
 met_with damaged found = record { forces = false; reached = 1; damaged = damaged; found = found; healed = 0 }
 
-may_find : (i : Image) (v : Volume) (command : Command) → (damaged : Option ℕ) × (found : List (Key × ℕ)) × MayFind i i v command (met_with damaged found)
+pub may_find : (i : Image) (v : Volume) (command : Command) → (damaged : Option ℕ) × (found : List (Key × ℕ)) × MayFind i i v command (met_with damaged found)
 may_find i v (Word.Get key) = let at = finds_in i v key in (at.0, [], at.1)
 may_find i v Word.Scrub = let at = picks i (all_data v.entries) in (None, at.0, at.1)
 may_find i v command = (None, [], tt)
-
-pub some_answer : (i : Image) (v : Volume) (command : Command) → HasReach v → (met : Met) × MayMeet i i v command met
-some_answer i v command reach = by (may_find i v command)
-  where
-    by : (damaged : Option ℕ) × (found : List (Key × ℕ)) × MayFind i i v command (met_with damaged found) → (met : Met) × MayMeet i i v command met
-    by (damaged, found, find) =
-        let met = met_with damaged found in
-        (met, record { find = find; reach = reached met refl (does met v command) })
-      where
-        reached : (met : Met) → met.reached ≡ 1 → Does met v command (answer met v command) → HasReach (answer met v command).1
-        reached met one (inl r) =
-            let same = r.same.reached in
-            let files = ap length r.same.files in
-            let root = reach.root in
-            let most = reach.most in
-            record { root = omega (arith, same, root); most = omega (arith, same, files, most) }
-        reached met one (inr c) = let is = c.reached in record { root = omega (arith, is, one); most = omega (arith, is, one) }

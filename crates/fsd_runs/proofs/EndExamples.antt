@@ -9,18 +9,20 @@ use Rattle.fsd_files.specs.Disk.{Image, Sectors}
 use Rattle.fsd_files.specs.Replies.{Made}
 use Rattle.fsd_files.specs.Volume.{Volume}
 use Rattle.sector_disk.specs.Machine.{Moment}
-use Rattle.fsd_texts.specs.declared.command.Command.{Command}
+use Rattle.fsd_texts.specs.declared.script_command.ScriptCommand.{ScriptCommand}
+use Rattle.fsd_texts.specs.declared.script_command.ScriptCommand.TheVariants.{Plain}
 use Rattle.fsd_texts.specs.declared.command.Command.TheVariants as Word
 use Rattle.fsd_texts.specs.declared.fault.Fault.TheVariants as Ends
 use Rattle.fsd_texts.specs.declared.end.End.TheVariants.{Done}
 use Rattle.fsd_texts.specs.Script.{script_in, script_of}
 use Rattle.fsd_runs.specs.Commands.{may_wear_out}
 use Rattle.fsd_runs.specs.Errands.{Errand, Turn, alone, blank, cut_off, forced_turn, scripted}
-use Rattle.fsd_runs.specs.Runs.{IsCutBefore, IsStep, answered, last_count, said_in, turns_of}
-use Rattle.fsd_runs.proofs.Plain.{behind, default, fresh, lines, plain, plainly, says}
+use Rattle.fsd_runs.specs.Runs.{IsCutBefore, IsStep, answered, last_count, said_in}
+use Rattle.fsd_runs.specs.Sessions.{Meeting, session_over}
+use Rattle.fsd_runs.proofs.Plain.{behind, default, fresh, lines, meets, plain, plainly, says, turns_on}
 
 abbrev status : Errand → List Met → Volume → ℕ
-status e mets v = (e.ends (answered mets v e.commands)).status
+status e mets v = (e.ends (answered (map (λ met. meets met) mets) (session_over v) e.commands)).status
 
 abbrev puts_a_b_c : List ℕ
 puts_a_b_c = lines (codes "put a 0" ∷ codes "" ∷ codes "put b 0" ∷ codes "" ∷ codes "put c 0" ∷ codes "" ∷ [])
@@ -57,11 +59,11 @@ one_waits = refl
 abbrev forcing : Met
 forcing = record { forces = true; reached = 1; damaged = None; found = []; healed = 0 }
 
-abbrev three : List Command
-three = Word.Put (codes "a") (codes "x") None ∷ Word.Delete (key_of (codes "a") 1) ∷ Word.Put (codes "b") (codes "y") None ∷ Word.Stat ∷ []
+abbrev three : List ScriptCommand
+three = map (λ c. Plain c) (Word.Put (codes "a") (codes "x") None ∷ Word.Delete (key_of (codes "a") 1) ∷ Word.Put (codes "b") (codes "y") None ∷ Word.Stat ∷ [])
 
 abbrev said_with : List Met → List ℕ
-said_with mets = said_in (turns_of (scripted (three, Done)) mets default)
+said_with mets = said_in (turns_on (scripted (three, Done)) mets default)
 
 -- it comes behind the pick, so b!1 lies behind what waits, which is free then
 forced_behind_the_pick : said_with (plain ∷ plain ∷ forcing ∷ plain ∷ [])
@@ -81,10 +83,10 @@ abbrev finds_922 : Met
 finds_922 = record { forces = false; reached = 1; damaged = Some 922; found = []; healed = 0 }
 
 abbrev gets : Errand
-gets = scripted (Word.Put (codes "a") (codes "x") None ∷ Word.Get (key_of (codes "a") 1) ∷ Word.Stat ∷ [], Done)
+gets = scripted (map (λ c. Plain c) (Word.Put (codes "a") (codes "x") None ∷ Word.Get (key_of (codes "a") 1) ∷ Word.Stat ∷ []), Done)
 
 -- a script says it and goes on
-damaged_in_a_script : said_in (turns_of gets (plain ∷ finds_922 ∷ plain ∷ []) default) ≡ lines (codes "made a!1 2" ∷ codes "damaged a!1 922" ∷ codes "stat free 1125 waiting 0 pages 63 versions 1" ∷ codes "forced" ∷ [])
+damaged_in_a_script : said_in (turns_on gets (plain ∷ finds_922 ∷ plain ∷ []) default) ≡ lines (codes "made a!1 2" ∷ codes "damaged a!1 922" ∷ codes "stat free 1125 waiting 0 pages 63 versions 1" ∷ codes "forced" ∷ [])
 unfolding digits
 damaged_in_a_script = refl
 
@@ -99,7 +101,7 @@ status_alone = refl
 abbrev worn : Errand
 worn = cut_off (Some (1, Ends.WornOut)) (scripted (three, Done))
 
-says_worn_out : said_in (turns_of worn (plain ∷ []) default) ≡ lines (codes "made a!1 2" ∷ codes "forced" ∷ codes "fault worn out" ∷ [])
+says_worn_out : said_in (turns_on worn (plain ∷ []) default) ≡ lines (codes "made a!1 2" ∷ codes "forced" ∷ codes "fault worn out" ∷ [])
 unfolding digits
 says_worn_out = refl
 
@@ -107,13 +109,13 @@ status_worn_out : status worn (plain ∷ []) default ≡ 9
 status_worn_out = refl
 
 -- the second command would change something, the fourth would not, and there is no fifth
-before_a_delete : IsCutBefore (Some (1, Ends.WornOut)) three
+before_a_delete : IsCutBefore (Some (1, Ends.WornOut)) (session_over default) three
 before_a_delete = refl
 
-not_before_a_stat : IsCutBefore (Some (3, Ends.WornOut)) three → ⊥
+not_before_a_stat : IsCutBefore (Some (3, Ends.WornOut)) (session_over default) three → ⊥
 not_before_a_stat is = absurd (cc is)
 
-not_at_the_end : IsCutBefore (Some (4, Ends.WornOut)) three → ⊥
+not_at_the_end : IsCutBefore (Some (4, Ends.WornOut)) (session_over default) three → ⊥
 not_at_the_end is = is
 
 -- what is refused before that is no place for it
@@ -124,14 +126,14 @@ not_before_a_long_one = refl
 abbrev used_up : Volume
 used_up = record default { serial = record { epoch = 2; count = last_count } }
 
-makes_nothing : (hurt : Sectors) (Passed : Moment → Type 0) (said : List ℕ) (i j : Image) (met : Met) → IsStep hurt Passed said i j used_up (Word.Put (codes "a") [] None) met → ⊥
-makes_nothing hurt Passed said i j met step = step.unworn refl (inl (omega arith))
+makes_nothing : (hurt : Sectors) (Passed : Moment → Type 0) (said : List ℕ) (i j : Image) (x : Meeting) → IsStep hurt Passed said i j (session_over used_up) (Plain (Word.Put (codes "a") [] None)) x → ⊥
+makes_nothing hurt Passed said i j x step = step.unworn refl (inl (omega arith))
 
 -- an input that fails behind two commands
 abbrev cut_short : Errand
 cut_short = cut_off (Some (2, Ends.Input)) (scripted (script_in puts_a_b_c))
 
-says_input : said_in (turns_of cut_short (plain ∷ plain ∷ []) default) ≡ lines (codes "made a!1 1" ∷ codes "made b!1 1" ∷ codes "forced" ∷ codes "fault input" ∷ [])
+says_input : said_in (turns_on cut_short (plain ∷ plain ∷ []) default) ≡ lines (codes "made a!1 1" ∷ codes "made b!1 1" ∷ codes "forced" ∷ codes "fault input" ∷ [])
 unfolding digits
 says_input = refl
 
@@ -142,12 +144,12 @@ two_taken = refl
 -- ---- a run that ends at once
 
 -- a script whose mount fails in the walk has no whole turn, also where it has no command
-walk_fails : turns_of (scripted (three, Done)) [] default ≡ blank ∷ []
+walk_fails : turns_on (scripted (three, Done)) [] default ≡ blank ∷ []
 walk_fails = refl
 
-walk_fails_with_no_command : turns_of (scripted ([], Done)) [] default ≡ forced_turn ∷ []
+walk_fails_with_no_command : turns_on (scripted ([], Done)) [] default ≡ forced_turn ∷ []
 walk_fails_with_no_command = refl
 
 -- of one change all is forced once it is said, and nothing before
-alone_is_forced : map (λ (t : Turn). t.forces) (turns_of (alone (Word.Put (codes "a") [] None)) (plain ∷ []) default) ≡ true ∷ []
+alone_is_forced : map (λ (t : Turn). t.forces) (turns_on (alone (Word.Put (codes "a") [] None)) (plain ∷ []) default) ≡ true ∷ []
 alone_is_forced = refl

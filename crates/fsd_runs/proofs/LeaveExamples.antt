@@ -32,6 +32,7 @@ use Rattle.fsd_sound.specs.Anchors.{anchor_of}
 use Rattle.fsd_formats.specs.declared.anchor.Anchor.{Anchor}
 use Rattle.fsd_texts.specs.declared.command.Command.{Command}
 use Rattle.fsd_texts.specs.declared.command.Command.TheVariants as Word
+use Rattle.fsd_texts.specs.declared.script_command.ScriptCommand.TheVariants.{Plain}
 use Rattle.fsd_texts.specs.declared.end.End.TheVariants.{Done}
 use Rattle.fsd_texts.specs.Script.{script_in}
 use Rattle.fsd_texts.specs.Script.{Script as Spelled}
@@ -39,8 +40,9 @@ use Rattle.fsd_runs.specs.Commands.{answer, reply_text}
 use Rattle.fsd_runs.specs.declared.request.Request.TheVariants.{Script}
 use Rattle.fsd_runs.specs.Errands.{Turn, blank, forced_turn, generated, scripted}
 use Rattle.fsd_runs.specs.Leaves.{SaysNext}
-use Rattle.fsd_runs.specs.Runs.{Run, Goes, IsCutAt, IsStep, IsWornOut, Stood, forced_in, last_count, turns_of}
-use Rattle.fsd_runs.proofs.Plain.{default, lines, plain}
+use Rattle.fsd_runs.specs.Runs.{Run, Goes, IsCutAt, IsStep, IsWornOut, Stood, forced_in, last_count}
+use Rattle.fsd_runs.specs.Sessions.{session_over}
+use Rattle.fsd_runs.proofs.Plain.{default, lines, meets, plain, turns_on}
 
 -- ---- how much is forced
 
@@ -55,13 +57,13 @@ none_of_one : forced_in (made (codes "a") ∷ []) ≡ 0
 none_of_one = refl
 
 -- nothing is known to be forced before the last lines of commands that are made up
-none_of_generated : forced_in (map (λ t. record { said = t.said; changes = Change.Put [] None [] ∷ []; forces = t.forces }) (turns_of (generated 3 2) (plain ∷ []) default)) ≡ 0
+none_of_generated : forced_in (map (λ t. record { said = t.said; changes = Change.Put [] None [] ∷ []; forces = t.forces }) (turns_on (generated 3 2) (plain ∷ []) default)) ≡ 0
 none_of_generated = refl
 
 -- ---- a run that is broken off
 
 -- behind the commands that were begun a fault's line may stand, and no other
-broken_off : turns_of (scripted (Word.Force ∷ Word.Stat ∷ [], Done)) (plain ∷ []) default ≡ forced_turn ∷ blank ∷ []
+broken_off : turns_on (scripted (map (λ c. Plain c) (Word.Force ∷ Word.Stat ∷ []), Done)) (plain ∷ []) default ≡ forced_turn ∷ blank ∷ []
 broken_off = refl
 
 a_fault_may_follow : SaysNext (Unit {0}) (Some blank) (codes "fault dev")
@@ -144,13 +146,13 @@ not_worn_out (inr log) = by log.anchor (sym log.taken ∙ anchor_is) log.full
     by : (a : Anchor) → Some a ≡ Some fresh_anchor → (last_count ≤ (scan_by l mounted a).head.number) → ⊥
     by a is full = at_head (scan_by l mounted a).head (ap (λ (x : Anchor). (scan_by l mounted x).head) (same a is) ∙ head_is) full
 
-put_step : (said : List ℕ) → IsStep (in_runs window) at_any said mounted with_a default put_a plain
+put_step : (said : List ℕ) → IsStep (in_runs window) at_any said mounted with_a (session_over default) (Plain put_a) (meets plain)
 put_step said = record {
   kept = tt;
   tells = λ e. mounted_tells;
   unworn = λ may. not_worn_out;
   exit = stood said with_a;
-  may = record { find = tt; reach = record { root = omega arith; most = omega arith } };
+  may = record { find = tt; reach = record { root = omega arith; most = omega arith }; hold = λ t. refl };
 }
 
 abbrev after_put : Volume
@@ -164,17 +166,17 @@ a_is_found : FindsIn with_a with_a after_put (key_of (codes "a") 1) None
 unfolding with_a mounted
 a_is_found = ((sector (codes "x"), refl), tt)
 
-get_step : (said : List ℕ) → IsStep (in_runs window) at_any said with_a with_a after_put get_a plain
+get_step : (said : List ℕ) → IsStep (in_runs window) at_any said with_a with_a (session_over after_put) (Plain get_a) (meets plain)
 get_step said = record {
   kept = a_is_kept;
   tells = λ e. absurd (omega (arith, e));
   unworn = λ may. absurd (cc may);
   exit = stood said with_a;
-  may = record { find = a_is_found; reach = record { root = omega arith; most = omega arith } };
+  may = record { find = a_is_found; reach = record { root = omega arith; most = omega arith }; hold = λ t. refl };
 }
 
 abbrev spelled : Spelled
-spelled = (put_a ∷ get_a ∷ [], Done)
+spelled = (Plain put_a ∷ Plain get_a ∷ [], Done)
 
 input_is : script_in input ≡ spelled
 input_is = refl
@@ -182,7 +184,7 @@ input_is = refl
 said_of_put : List ℕ
 said_of_put = reply_text (answer plain default put_a).0
 
-two_steps : Goes (in_runs window) at_any (IsCutAt None) (scripted spelled) [] mounted default (plain ∷ plain ∷ []) (put_a ∷ get_a ∷ [])
+two_steps : Goes (in_runs window) at_any (IsCutAt None) (scripted spelled) [] mounted (session_over default) (meets plain ∷ meets plain ∷ []) (Plain put_a ∷ Plain get_a ∷ [])
 unfolding said_of_put
 two_steps = (with_a, put_step [], (with_a, get_step said_of_put, tt))
 
@@ -191,14 +193,14 @@ put_and_get = record {
   cut = None;
   may = tt;
   before = tt;
-  mets = plain ∷ plain ∷ [];
-  goes = subst (λ (s : Spelled). Goes (in_runs window) at_any (IsCutAt None) (scripted s) [] mounted default (plain ∷ plain ∷ []) (scripted s).commands) (sym input_is) two_steps;
+  mets = meets plain ∷ meets plain ∷ [];
+  goes = subst (λ (s : Spelled). Goes (in_runs window) at_any (IsCutAt None) (scripted s) [] mounted (session_over default) (meets plain ∷ meets plain ∷ []) (scripted s).commands) (sym input_is) two_steps;
 }
 
 -- ---- runs that can't
 
 -- a version that was just made is kept as the next command begins, so it can't be called damaged by an older image
-an_older_image_keeps_not : IsStep nowhere at_any [] mounted mounted after_put get_a (record { forces = false; reached = 1; damaged = Some 922; found = []; healed = 0 }) → ⊥
+an_older_image_keeps_not : IsStep nowhere at_any [] mounted mounted (session_over after_put) (Plain get_a) (meets (record { forces = false; reached = 1; damaged = Some 922; found = []; healed = 0 })) → ⊥
 unfolding mounted
 an_older_image_keeps_not step = by step.kept.0.0
   where
@@ -207,7 +209,7 @@ an_older_image_keeps_not step = by step.kept.0.0
     by (inr none) = cc
 
 -- where nothing is unforced, the pages are those of the disk's own table
-other_pages_are_refused : IsStep nowhere at_any [] mounted mounted (record default { reached = 2 }) Word.Stat plain → ⊥
+other_pages_are_refused : IsStep nowhere at_any [] mounted mounted (session_over (record default { reached = 2 })) (Plain Word.Stat) (meets plain) → ⊥
 other_pages_are_refused step =
     let bad : 1 ≡ 2 = ap reached (sym mounted_tells ∙ step.tells refl) in
     omega (arith, bad)
@@ -217,5 +219,5 @@ other_pages_are_refused step =
     reached (Some t) = t.reached
 
 -- no table has more pages than its versions and one
-too_many_pages : IsStep nowhere at_any [] mounted with_a default put_a (record { forces = false; reached = 3; damaged = None; found = []; healed = 0 }) → ⊥
+too_many_pages : IsStep nowhere at_any [] mounted with_a (session_over default) (Plain put_a) (meets (record { forces = false; reached = 3; damaged = None; found = []; healed = 0 })) → ⊥
 too_many_pages step = let most = step.may.reach.most in omega (arith, most)

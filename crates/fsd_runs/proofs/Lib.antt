@@ -6,5 +6,8 @@ pub mod OtherLaws
 pub mod PlaceExamples
 pub mod Plain
 pub mod RunExamples
+pub mod RunLaws
 pub mod SafeLaws
+pub mod SessionExamples
+pub mod SessionLaws
 pub mod WordExamples

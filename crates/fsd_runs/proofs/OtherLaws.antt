@@ -3,16 +3,20 @@ use Rattle.std.proofs.Common.{◌≡◌, ℕ, zero, suc, ◌+◌, ◌%◌, Bool,
 use Rattle.std.specs.Prelude.{◌&&◌, ◌==◌, IfOk, codes, nat_le, nat_lt, slice_index, if◌then◌else◌}
 use Rattle.std.specs.List.{AllByRecursion}
 use Rattle.fsd_texts.specs.declared.asking.Asking.{Asking}
-use Rattle.fsd_texts.specs.declared.asking.Asking.TheVariants.{Plainly, Put}
+use Rattle.fsd_texts.specs.declared.asking.Asking.TheVariants.{OfClient, Piece, Plainly, Put}
 use Rattle.fsd_bytes.specs.Bytes.{same_bytes}
 use Rattle.fsd_bytes.specs.Keys.{key_of}
 use Rattle.fsd_texts.specs.declared.bad_line.Cause.{Cause}
 use Rattle.fsd_texts.specs.declared.bad_line.Cause.TheVariants.{NoNewlineAfterBytes, ShortBytes, UnknownWord}
+use Rattle.fsd_texts.specs.declared.call.Call.{Call}
+use Rattle.fsd_texts.specs.declared.call.Call.TheVariants as Calls
 use Rattle.fsd_texts.specs.declared.command.Command.{Command}
 use Rattle.fsd_texts.specs.declared.command.Command.TheVariants as Word
 use Rattle.fsd_texts.specs.declared.end.End.TheVariants.{TooLong}
+use Rattle.fsd_texts.specs.declared.script_command.ScriptCommand.{ScriptCommand}
+use Rattle.fsd_texts.specs.declared.script_command.ScriptCommand.TheVariants as Asked
 use Rattle.fsd_texts.specs.Generator.{amount_of, command_of_draw, command_of_kind, draw_of, kind_of, made_bytes, made_from, made_name, name_number, next_state}
-use Rattle.fsd_texts.specs.Script.{◌>>=◌, Script, asked_by, asks, asks_alone, asks_keep, asks_put, command_at, commands_from, key_in, line_at, max_line, name_in, needs_more, number_in, pattern_in, script_from, then_more, whole_command, with_field, with_no_field, words_of}
+use Rattle.fsd_texts.specs.Script.{◌>>=◌, Script, asked_by, asks, asks_alone, asks_begin, asks_client, asks_keep, asks_piece, asks_put, call_with_field, call_with_none, command_at, commands_from, key_in, line_at, max_line, name_in, needs_more, number_in, pattern_in, script_from, then_more, whole_command, with_bytes, with_field, with_no_field, words_of}
 
 -- another command than a scrub
 abbrev pub IsOther : Command → Type 0
@@ -20,6 +24,14 @@ IsOther command = command ≡ Word.Scrub → ⊥
 
 abbrev pub AreOthers : List Command → Type 0
 AreOthers commands = AllByRecursion IsOther commands
+
+-- so it is of a script's command
+abbrev pub IsOtherIn : ScriptCommand → Type 0
+IsOtherIn (Asked.Plain command) = IsOther command
+IsOtherIn (Asked.OfClient client call) = Unit {0}
+
+abbrev pub AreOthersIn : List ScriptCommand → Type 0
+AreOthersIn commands = AllByRecursion IsOtherIn commands
 
 -- ---- what is read, if anything is
 
@@ -45,6 +57,8 @@ each_first P (x ∷ cases) last each other = pick P x.0 x.1 (first_of cases last
 abbrev AsksOther : Asking → Type 0
 AsksOther (Plainly command) = IsOther command
 AsksOther (Put name len keep) = Unit {0}
+AsksOther (OfClient client call) = Unit {0}
+AsksOther (Piece client len) = Unit {0}
 
 abbrev kept_for : List ℕ → ℕ → ℕ → Result Asking Cause
 kept_for n l k = Ok (Put n l (Some k))
@@ -83,10 +97,44 @@ ReadsOther read = IfOk read AsksOther
 abbrev is_word : List ℕ → List ℕ → Result Asking Cause → Bool × Result Asking Cause
 is_word word other read = (same_bytes word other, read)
 
+-- of a client
+
+abbrev call_for : ℕ → Call → Result Asking Cause
+call_for c call = Ok (OfClient c call)
+
+begin_asks : (fields : List (List ℕ)) → IfOk (asks_begin fields) AsksOther
+begin_asks (client ∷ name ∷ len ∷ []) =
+    then_read AsksOther (λ c. name_in name >>= λ n. (number_in len >>= λ l. call_for c (Calls.Begin n l)))
+    (λ c. then_read AsksOther (λ n. number_in len >>= λ l. call_for c (Calls.Begin n l)) (λ n. then_read AsksOther (λ l. call_for c (Calls.Begin n l)) (λ l. tt) (number_in len)) (name_in name)) (number_in client)
+begin_asks other = tt
+
+abbrev piece_for : ℕ → ℕ → Result Asking Cause
+piece_for c l = Ok (Piece c l)
+
+piece_asks : (fields : List (List ℕ)) → IfOk (asks_piece fields) AsksOther
+piece_asks (client ∷ len ∷ []) = then_read AsksOther (λ c. number_in len >>= λ l. piece_for c l) (λ c. then_read AsksOther (λ l. piece_for c l) (λ l. tt) (number_in len)) (number_in client)
+piece_asks other = tt
+
+call_field : {A : Type 0} (read : List ℕ → Result A Cause) (make : A → Call) (fields : List (List ℕ)) → IfOk (call_with_field read make fields) AsksOther
+call_field read make (client ∷ w ∷ []) = then_read AsksOther (λ c. read w >>= λ x. call_for c (make x)) (λ c. then_read AsksOther (λ x. call_for c (make x)) (λ x. tt) (read w)) (number_in client)
+call_field read make other = tt
+
+call_none : (call : Call) (fields : List (List ℕ)) → IfOk (call_with_none call fields) AsksOther
+call_none call (client ∷ []) = then_read AsksOther (λ c. call_for c call) (λ c. tt) (number_in client)
+call_none call other = tt
+
+client_asks : (word : List ℕ) (fields : List (List ℕ)) → IfOk (asks_client word fields) AsksOther
+client_asks word fields =
+    each_first ReadsOther
+    (is_word word (codes "begin") (asks_begin fields) ∷ is_word word (codes "piece") (asks_piece fields) ∷ is_word word (codes "close") (call_with_none Calls.Close fields) ∷ is_word word (codes "drop") (call_with_none Calls.Drop fields)
+    ∷ is_word word (codes "open") (call_with_field key_in Calls.Open fields) ∷ is_word word (codes "next") (call_with_field number_in Calls.Next fields) ∷ is_word word (codes "done") (call_with_none Calls.Done fields) ∷ [])
+    (Err UnknownWord)
+    (begin_asks fields, (piece_asks fields, (call_none Calls.Close fields, (call_none Calls.Drop fields, (call_field key_in Calls.Open fields, (call_field number_in Calls.Next fields, (call_none Calls.Done fields, tt))))))) tt
+
 alone_asks : (word : List ℕ) (fields : List (List ℕ)) → IfOk (asks_alone word fields) AsksOther
 alone_asks word fields =
-    each_first ReadsOther (is_word word (codes "force") (with_no_field Word.Force fields) ∷ is_word word (codes "tick") (with_no_field Word.Tick fields) ∷ is_word word (codes "stat") (with_no_field Word.Stat fields) ∷ []) (Err UnknownWord)
-    (no_field Word.Force (λ is. cc is) fields, (no_field Word.Tick (λ is. cc is) fields, (no_field Word.Stat (λ is. cc is) fields, tt))) tt
+    each_first ReadsOther (is_word word (codes "force") (with_no_field Word.Force fields) ∷ is_word word (codes "tick") (with_no_field Word.Tick fields) ∷ is_word word (codes "stat") (with_no_field Word.Stat fields) ∷ []) (asks_client word fields)
+    (no_field Word.Force (λ is. cc is) fields, (no_field Word.Tick (λ is. cc is) fields, (no_field Word.Stat (λ is. cc is) fields, tt))) (client_asks word fields)
 
 word_asks : (word : List ℕ) (fields : List (List ℕ)) → IfOk (asks word fields) AsksOther
 word_asks word fields =
@@ -103,11 +151,11 @@ line_asks ((b ∷ word) ∷ fields) = word_asks (b ∷ word) fields
 
 -- ---- the command that begins the bytes
 
-abbrev GivesOther : Command × List ℕ → Type 0
-GivesOther x = IsOther x.0
+abbrev GivesOther : ScriptCommand × List ℕ → Type 0
+GivesOther x = IsOtherIn x.0
 
 abbrev CommandRead : Type 0
-CommandRead = Result (Command × List ℕ) Cause
+CommandRead = Result (ScriptCommand × List ℕ) Cause
 
 abbrev ReadsWhole : CommandRead → Type 0
 ReadsWhole read = IfOk read GivesOther
@@ -115,19 +163,23 @@ ReadsWhole read = IfOk read GivesOther
 abbrev short_of : ℕ → List ℕ → Bool × CommandRead
 short_of len rest = (nat_le (length rest) len, Err ShortBytes)
 
-abbrev put_of : List ℕ → ℕ → Option ℕ → List ℕ → Bool × CommandRead
-put_of name len keep rest = (slice_index rest len == 10, Ok (Word.Put name (take len rest) keep, drop (len + 1) rest))
+abbrev bytes_of : (List ℕ → ScriptCommand) → ℕ → List ℕ → Bool × CommandRead
+bytes_of make len rest = (slice_index rest len == 10, Ok (make (take len rest), drop (len + 1) rest))
+
+bytes_other : (make : List ℕ → ScriptCommand) → ((bytes : List ℕ) → IsOtherIn (make bytes)) → (len : ℕ) (rest : List ℕ) → IfOk (with_bytes make len rest) GivesOther
+bytes_other make other len rest = each_first ReadsWhole (short_of len rest ∷ bytes_of make len rest ∷ []) (Err NoNewlineAfterBytes) (tt, (other (take len rest), tt)) tt
 
 whole_other : (asking : Asking) (rest : List ℕ) → AsksOther asking → IfOk (whole_command asking rest) GivesOther
 whole_other (Plainly command) rest other = other
-whole_other (Put name len keep) rest other =
-    each_first ReadsWhole (short_of len rest ∷ put_of name len keep rest ∷ []) (Err NoNewlineAfterBytes) (tt, ((λ is. cc is), tt)) tt
+whole_other (Put name len keep) rest other = bytes_other (λ bytes. Asked.Plain (Word.Put name bytes keep)) (λ bytes is. cc is) len rest
+whole_other (OfClient client call) rest other = tt
+whole_other (Piece client len) rest other = bytes_other (λ bytes. Asked.OfClient client (Calls.Piece bytes)) (λ bytes. tt) len rest
 
 asked_other : (read : Result Asking Cause) (rest : List ℕ) → IfOk read AsksOther → IfOk (read >>= λ asking. whole_command asking rest) GivesOther
 asked_other (Ok asking) rest other = whole_other asking rest other
 asked_other (Err cause) rest other = tt
 
-abbrev behind_line : List ℕ × List ℕ → Result (Command × List ℕ) Cause
+abbrev behind_line : List ℕ × List ℕ → Result (ScriptCommand × List ℕ) Cause
 behind_line line = asked_by (words_of line.0) >>= λ asking. whole_command asking line.1
 
 command_other : (bytes : List ℕ) → IfOk (command_at bytes) GivesOther
@@ -135,20 +187,20 @@ command_other bytes = then_read GivesOther behind_line (λ line. asked_other (as
 
 -- ---- a script
 
-more_others : (ordinal : ℕ) (more : List ℕ → Script) → ((rest : List ℕ) → AreOthers (more rest).0) → (read : Result (Command × List ℕ) Cause) → IfOk read GivesOther → AreOthers (then_more ordinal more read).0
+more_others : (ordinal : ℕ) (more : List ℕ → Script) → ((rest : List ℕ) → AreOthersIn (more rest).0) → (read : Result (ScriptCommand × List ℕ) Cause) → IfOk read GivesOther → AreOthersIn (then_more ordinal more read).0
 more_others ordinal more others (Err cause) other = tt
 more_others ordinal more others (Ok x) other = (other, others x.1)
 
-from_others : (most ordinal : ℕ) (bytes : List ℕ) → AreOthers (commands_from most ordinal bytes).0
+from_others : (most ordinal : ℕ) (bytes : List ℕ) → AreOthersIn (commands_from most ordinal bytes).0
 from_others most ordinal [] = tt
 from_others zero ordinal (b ∷ bytes) = tt
 from_others (suc most) ordinal (b ∷ bytes) = more_others ordinal (λ rest. commands_from most (ordinal + 1) rest) (λ rest. from_others most (ordinal + 1) rest) (command_at (b ∷ bytes)) (command_other (b ∷ bytes))
 
-cut_others : (long : Bool) (s : Script) → AreOthers s.0 → AreOthers (if long then (s.0, TooLong) else s).0
+cut_others : (long : Bool) (s : Script) → AreOthersIn s.0 → AreOthersIn (if long then (s.0, TooLong) else s).0
 cut_others true s others = others
 cut_others false s others = others
 
-pub script_others : (most ordinal : ℕ) (input : List ℕ) → AreOthers (script_from most ordinal input).0
+pub script_others : (most ordinal : ℕ) (input : List ℕ) → AreOthersIn (script_from most ordinal input).0
 script_others most ordinal input =
     let s = commands_from (length (take most input)) ordinal (take most input) in
     cut_others (nat_lt most (length input) && needs_more s.1) s (from_others (length (take most input)) ordinal (take most input))

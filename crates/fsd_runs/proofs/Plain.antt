@@ -1,5 +1,5 @@
 -- Volumes and runs for worked examples: nothing is damaged, no force comes by itself, and the table has one page.
-use Rattle.std.proofs.Common.{ℕ, List, [], ◌∷◌, ◌++◌, None}
+use Rattle.std.proofs.Common.{ℕ, List, [], ◌∷◌, ◌++◌, map, None}
 use Rattle.std.specs.Prelude.{false, length, replicate}
 use Rattle.fsd_files.specs.Answers.{Met}
 use Rattle.fsd_files.specs.Volume.{Volume}
@@ -7,11 +7,16 @@ use Rattle.fsd_texts.specs.declared.command.Command.{Command}
 use Rattle.fsd_texts.specs.Script.{script_in}
 use Rattle.fsd_texts.specs.Text.{newline}
 use Rattle.fsd_runs.specs.Commands.{answer}
-use Rattle.fsd_runs.specs.Errands.{Errand, scripted}
+use Rattle.fsd_runs.specs.Errands.{Errand, Turn, scripted}
 use Rattle.fsd_runs.specs.Runs.{turns_of, said_in}
+use Rattle.fsd_runs.specs.Sessions.{Meeting, session_over}
 
 abbrev pub plain : Met
 plain = record { forces = false; reached = 1; damaged = None; found = []; healed = 0 }
+
+-- where no client reads
+abbrev pub meets : Met → Meeting
+meets met = record { met = met; held = [] }
 
 -- right behind the first mount after a format
 abbrev pub fresh : (n t p : ℕ) → Volume
@@ -33,9 +38,13 @@ default = fresh 2048 256 64
 abbrev pub plainly : Errand → List Met
 plainly e = replicate (length e.commands) plain
 
+-- its turns over a volume
+abbrev pub turns_on : Errand → List Met → Volume → List Turn
+turns_on e mets v = turns_of e (map (λ met. meets met) mets) (session_over v)
+
 -- all that an errand says
 abbrev pub says : Errand → Volume → List ℕ
-says e v = said_in (turns_of e (plainly e) v)
+says e v = said_in (turns_on e (plainly e) v)
 
 abbrev pub script_says : Volume → List ℕ → List ℕ
 script_says v input = says (scripted (script_in input)) v

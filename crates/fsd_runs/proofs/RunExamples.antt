@@ -11,8 +11,8 @@ use Rattle.fsd_texts.specs.declared.command.Command.TheVariants as Word
 use Rattle.fsd_texts.specs.Text.{newline}
 use Rattle.fsd_runs.specs.Commands.{answer}
 use Rattle.fsd_runs.specs.Errands.{alone, reply_status}
-use Rattle.fsd_runs.specs.Runs.{said_in, turns_of}
-use Rattle.fsd_runs.proofs.Plain.{behind, default, lines, plain, says, script_says}
+use Rattle.fsd_runs.specs.Runs.{said_in}
+use Rattle.fsd_runs.proofs.Plain.{behind, default, lines, plain, says, script_says, turns_on}
 
 fresh_count : free_count default ≡ 1127
 fresh_count = refl
@@ -82,7 +82,7 @@ bytes_alone = refl
 abbrev scrub_met : Met
 scrub_met = record plain { found = (key_of (codes "g") 1, 923) ∷ []; healed = 1 }
 
-scrub_says : said_in (turns_of (alone Word.Scrub) (scrub_met ∷ []) default) ≡ lines (codes "damaged g!1 923" ∷ codes "scrubbed healed 1 damaged 1" ∷ [])
+scrub_says : said_in (turns_on (alone Word.Scrub) (scrub_met ∷ []) default) ≡ lines (codes "damaged g!1 923" ∷ codes "scrubbed healed 1 damaged 1" ∷ [])
 unfolding digits
 scrub_says = refl
 
@@ -97,11 +97,6 @@ scrub_well = refl
 bad_unknown_word : script_says default (codes " stat" ++ newline) ≡ lines (codes "forced" ∷ codes "bad line 1: unknown word" ∷ [])
 unfolding digits
 bad_unknown_word = refl
-
--- the words of clients are not there yet
-bad_client_word : script_says default (codes "close 1" ++ newline) ≡ lines (codes "forced" ∷ codes "bad line 1: unknown word" ∷ [])
-unfolding digits
-bad_client_word = refl
 
 bad_word_count : script_says default (codes "stat x" ++ newline) ≡ lines (codes "forced" ∷ codes "bad line 1: word count" ∷ [])
 unfolding digits

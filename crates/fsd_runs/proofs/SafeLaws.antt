@@ -19,6 +19,7 @@ use Rattle.fsd_runs.specs.declared.request.Request.TheVariants as Asks
 use Rattle.fsd_runs.specs.Errands.{Answered, Cut, Errand, IfMounts, MayCut, Turn, alone, blank, errand_of, fault_status, nothing_but, reply_status, script_ending}
 use Rattle.fsd_runs.specs.Leaves.{IsBroken, IsOutside, IsReplied, IsUndone, IsSpent, IsUnsaid, LeavesMounted, LeavesRun, LeavesUnmounted, Unbegun}
 use Rattle.fsd_runs.specs.Runs.{IsThrough, answered, errand_in, run_end, run_status, run_turns}
+use Rattle.fsd_runs.specs.Sessions.{session_over}
 
 abbrev NotThree : ℕ → Type 0
 NotThree status = status ≡ 3 → ⊥
@@ -98,7 +99,7 @@ module _ (request : Request) (input rest : List ℕ) (l : Layout) (windows : Lis
     where
       by : (IsThrough m.run × IsReplied l windows m.next h m.count (run_turns m.run) (run_status m.run) (run_end m.run) old new result)
           ⊎ (IsUnsaid before after result ⊎ IsBroken request (IsUndone l (windows ++ m.next ∷ []) (take m.count h) m.count (run_turns m.run)) before after (run_turns m.run) old new result) → ⊥
-      by (inl through) = in_otherwise request input m.run.cut m.run.may otherwise (answered m.run.mets m.volume (errand_in request input m.run.cut).commands) (sym through.1.ends ∙ e)
+      by (inl through) = in_otherwise request input m.run.cut m.run.may otherwise (answered m.run.mets (session_over m.volume) (errand_in request input m.run.cut).commands) (sym through.1.ends ∙ e)
       by (inr other) = broken_otherwise request (IsUndone l (windows ++ m.next ∷ []) (take m.count h) m.count (run_turns m.run)) before after (run_turns m.run) old new result other e
 
   run_otherwise : EndsOtherwise (errand_of request input) → LeavesRun request input rest l windows h f Past began Only before after old new result → NotThree result

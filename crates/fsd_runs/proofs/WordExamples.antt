@@ -5,7 +5,7 @@ use Rattle.fsd_bytes.specs.Keys.{key_of}
 use Rattle.fsd_bytes.specs.declared.pattern.Pattern.TheVariants.{Prefix}
 use Rattle.fsd_texts.specs.declared.bad_line.Cause.TheVariants.{BadNumber, BadName, BadKey}
 use Rattle.fsd_texts.specs.declared.command.Command.TheVariants as Word
-use Rattle.fsd_runs.specs.declared.request.Request.TheVariants.{Outside, BadField, Format, Put, One, Script, Generate}
+use Rattle.fsd_runs.specs.declared.request.Request.TheVariants.{Outside, BadField, Format, Put, One, Script, Generate, Drill}
 use Rattle.fsd_runs.specs.Words.{request_of, path_of}
 
 formats : request_of (codes "cfs" ∷ codes "format" ∷ codes "v" ∷ codes "2048" ∷ codes "256" ∷ codes "64" ∷ []) ≡ Format 2048 256 64
@@ -151,8 +151,15 @@ a_scrub : request_of (codes "cfs" ∷ codes "scrub" ∷ codes "v" ∷ []) ≡ On
 unfolding clap_on_literals
 a_scrub = refl
 
--- the words of later requests
-
-drills_not_yet : request_of (codes "cfs" ∷ codes "drill" ∷ []) ≡ Outside
+-- a drill names no image
+drills : request_of (codes "cfs" ∷ codes "drill" ∷ []) ≡ Drill
 unfolding clap_on_literals
-drills_not_yet = refl
+drills = refl
+
+drills_on_none : path_of (codes "cfs" ∷ codes "drill" ∷ []) ≡ []
+unfolding clap_on_literals
+drills_on_none = refl
+
+drills_alone : request_of (codes "cfs" ∷ codes "drill" ∷ codes "v" ∷ []) ≡ Outside
+unfolding clap_on_literals
+drills_alone = refl

@@ -7,9 +7,9 @@ use Rattle.fsd_formats.specs.NamePage.{max_keep, sectors_for}
 use Rattle.fsd_files.specs.Answers.{Met, Outcome, put_outcome, delete_outcome, keep_outcome, force_outcome, scrub_outcome, stat_reply, list_reply, get_reply, keep_given, size_fault, FindsIn}
 use Rattle.fsd_files.specs.Disk.{Image}
 use Rattle.fsd_files.specs.Files.{Change}
-use Rattle.fsd_files.specs.Replies.{Reply, Refused, Made, Deleted, Kept, Listed, Bytes, DamagedAt, Forced, Counts, Scrubbed, Found}
+use Rattle.fsd_files.specs.Replies.{Reply, Refused, Made, Deleted, Kept, Listed, Bytes, DamagedAt, Forced, Counts, Scrubbed, Begun, Took, Dropped, Opened, Given, Done, Found}
 use Rattle.fsd_files.specs.Scrub.{Picks, all_data}
-use Rattle.fsd_files.specs.Volume.{Volume, HasReach}
+use Rattle.fsd_files.specs.Volume.{Volume}
 use Rattle.fsd_texts.specs.declared.command.Command.{Command}
 use Rattle.fsd_texts.specs.declared.command.Command.TheVariants as Word
 use Rattle.fsd_texts.specs.declared.line.Line.{Line}
@@ -54,11 +54,6 @@ MayFind i j v Word.Tick met = ⊤
 MayFind i j v Word.Stat met = ⊤
 MayFind i j v Word.Scrub met = Picks i j (all_data v.entries) met.found
 
--- What a command may meet: what it reads, and the pages of the table then.
-pub record MayMeet (i j : Image) (v : Volume) (command : Command) (met : Met) : Type 0 where
-  pub find : MayFind i j v command met
-  pub reach : HasReach (answer met v command).1
-
 -- the change that was accepted, if one was
 abbrev pub changes_of : Command → Reply → List Change
 changes_of (Word.Put name bytes keep) (Made key sectors) = Change.Put name keep bytes ∷ []
@@ -95,8 +90,14 @@ reply_text (DamagedAt key s) = text (Says.Damaged key s)
 reply_text Forced = text Says.Forced
 reply_text (Counts free waiting pages versions) = text (Says.Stat free waiting pages versions)
 reply_text (Scrubbed found healed) = found_text found ++ text (Says.Scrubbed healed (length found))
+reply_text (Begun client) = text (Says.Begun client)
+reply_text (Took client sum) = text (Says.Took client sum)
+reply_text (Dropped client) = text (Says.Dropped client)
+reply_text (Opened client len) = text (Says.Opened client len)
+reply_text (Given client bytes) = text (Says.Given client (length bytes)) ++ bytes ++ newline
+reply_text (Done client) = text (Says.Done client)
 -- no command of a script is answered so
-reply_text other = []
+reply_text (Found entry) = []
 
 -- what a command by itself says: a get the bytes alone
 abbrev pub reply_alone : Reply → List ℕ

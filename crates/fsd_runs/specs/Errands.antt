@@ -1,9 +1,12 @@
 -- What a run does over the volume that it has mounted, by what the words ask for.
-use Rattle.std.specs.Prelude.{ℕ, Bool, true, false, List, [], ◌∷◌, length, take, Option, Some, None, sum_by, nat_lt, if◌then◌else◌}
+use Rattle.std.specs.Prelude.{ℕ, Bool, true, false, List, [], ◌∷◌, length, map, take, Option, Some, None, sum_by, nat_lt, if◌then◌else◌}
+use Rattle.fsd_files.specs.Desk.{Session}
 use Rattle.fsd_files.specs.Files.{Change}
 use Rattle.fsd_files.specs.Replies.{Reply, Refused, Made, Deleted, Kept, Bytes, DamagedAt, Forced, Scrubbed}
 use Rattle.fsd_texts.specs.declared.command.Command.{Command}
 use Rattle.fsd_texts.specs.declared.command.Command.TheVariants as Word
+use Rattle.fsd_texts.specs.declared.script_command.ScriptCommand.{ScriptCommand}
+use Rattle.fsd_texts.specs.declared.script_command.ScriptCommand.TheVariants.{Plain}
 use Rattle.fsd_texts.specs.declared.fault.Fault.{Fault}
 use Rattle.fsd_texts.specs.declared.fault.Fault.TheVariants as Ends
 use Rattle.fsd_texts.specs.declared.line.Line.{Line}
@@ -16,17 +19,18 @@ use Rattle.fsd_texts.specs.Script.{Script as Spelled}
 use Rattle.fsd_texts.specs.Generator.{made_up}
 use Rattle.fsd_runs.specs.declared.request.Request.{Request}
 use Rattle.fsd_runs.specs.declared.request.Request.TheVariants.{Put, One, Script, Generate}
-use Rattle.fsd_runs.specs.Commands.{changes_of, reply_text, reply_alone}
+use Rattle.fsd_runs.specs.Commands.{reply_text, reply_alone}
+use Rattle.fsd_runs.specs.Sessions.{changes_in_session}
 
 -- a command, its reply, and the changes that were accepted with it
 pub record Answered : Type 0 where
-  pub command : Command
+  pub command : ScriptCommand
   pub reply : Reply
   pub changes : List Change
 
--- where the command and its reply tell the changes
-abbrev pub answered_so : Command → Reply → Answered
-answered_so command reply = record { command = command; reply = reply; changes = changes_of command reply }
+-- where the session, the command and its reply tell the changes
+abbrev pub answered_so : Session → ScriptCommand → Reply → Answered
+answered_so s command reply = record { command = command; reply = reply; changes = changes_in_session s command reply }
 
 -- One step of a run: what is said, what it has changed, and whether all changes so far are forced once that is said.
 pub record Turn : Type 0 where
@@ -41,7 +45,7 @@ pub record Ending : Type 0 where
 
 -- Commands one after another, what is said of each reply, whether all is forced by then, and how the run ends.
 pub record Errand : Type 0 where
-  pub commands : List Command
+  pub commands : List ScriptCommand
   pub says : Reply → List ℕ
   pub forces : Reply → Bool
   pub ends : List Answered → Ending
@@ -100,7 +104,7 @@ alone_ending (p ∷ done) = record { turns = []; status = reply_status p.reply }
 
 -- the change is made and forced before its reply is said
 abbrev pub alone : Command → Errand
-alone command = record { commands = command ∷ []; says = reply_alone; forces = λ reply. true; ends = alone_ending }
+alone command = record { commands = Plain command ∷ []; says = reply_alone; forces = λ reply. true; ends = alone_ending }
 
 abbrev pub nothing_but : Fault → Errand
 nothing_but why = record { commands = []; says = reply_alone; forces = λ reply. true; ends = λ done. fault_ending why }
@@ -155,6 +159,11 @@ bytes_moved Word.Tick reply = bytes_read reply
 bytes_moved Word.Stat reply = bytes_read reply
 bytes_moved Word.Scrub reply = bytes_read reply
 
+-- of a script's command
+abbrev pub moved_in : ScriptCommand → Reply → ℕ
+moved_in (Plain command) reply = bytes_moved command reply
+moved_in other reply = bytes_read reply
+
 -- of so many replies it is so
 abbrev pub replies_with : (Reply → ℕ) → List Answered → ℕ
 replies_with f done = sum_by (λ p. f p.reply) done
@@ -166,14 +175,14 @@ generated_line done = Says.Generated (record {
   deleted = replies_with is_deleted done;
   kept = replies_with is_kept done;
   read = replies_with is_read done;
-  bytes = sum_by (λ p. bytes_moved p.command p.reply) done;
+  bytes = sum_by (λ p. moved_in p.command p.reply) done;
   refused = replies_with is_refused done;
 })
 
 -- nothing is said of a reply
 abbrev pub generated : (seed count : ℕ) → Errand
 generated seed count = record {
-  commands = made_up seed count;
+  commands = map (λ command. Plain command) (made_up seed count);
   says = λ reply. [];
   forces = λ reply. false;
   ends = λ done. group_ending (line_turn (generated_line done) ∷ []) 0;

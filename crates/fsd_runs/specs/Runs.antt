@@ -5,6 +5,7 @@ use Rattle.volume_layout.specs.declared.layout.Layout.{Layout}
 use Rattle.sector_disk.specs.declared.sector.WeakRun.{WeakRun}
 use Rattle.sector_disk.specs.Machine.{Moment}
 use Rattle.fsd_files.specs.Answers.{Met}
+use Rattle.fsd_files.specs.Desk.{Session}
 use Rattle.fsd_files.specs.Disk.{Image, Sectors, in_runs}
 use Rattle.fsd_files.specs.Files.{Change, after}
 use Rattle.fsd_files.specs.Kept.{Describes, Kept}
@@ -15,9 +16,12 @@ use Rattle.fsd_sound.specs.Shown.{scan_by, told}
 use Rattle.fsd_formats.specs.declared.anchor.Anchor.{Anchor}
 use Rattle.fsd_texts.specs.declared.fault.Fault.TheVariants as Ends
 use Rattle.fsd_texts.specs.declared.command.Command.{Command}
+use Rattle.fsd_texts.specs.declared.script_command.ScriptCommand.{ScriptCommand}
+use Rattle.fsd_texts.specs.declared.script_command.ScriptCommand.TheVariants.{Plain}
 use Rattle.fsd_runs.specs.declared.request.Request.{Request}
-use Rattle.fsd_runs.specs.Commands.{answer, MayMeet, may_wear_out}
+use Rattle.fsd_runs.specs.Commands.{answer, changes_of}
 use Rattle.fsd_runs.specs.Errands.{Answered, Cut, Errand, MayCut, Turn, answered_so, blank, cut_off, errand_of}
+use Rattle.fsd_runs.specs.Sessions.{Meeting, MayMeet, answer_in, finished, may_wear_out_in, session_over}
 
 -- ---- the volume that a run begins with
 
@@ -38,16 +42,27 @@ pub record Starts (l : Layout) (windows : List WeakRun) (h : List Change) (v : V
 -- ---- replies
 
 -- the commands that were begun, in order, and their replies: one for each of these
-abbrev pub answered : List Met → Volume → List Command → List Answered
-answered (met ∷ mets) v (command ∷ commands) =
-    let out = answer met v command in
-    answered_so command out.0 ∷ answered mets out.1 commands
-answered mets v commands = []
+abbrev pub answered : List Meeting → Session → List ScriptCommand → List Answered
+answered (x ∷ xs) s (command ∷ commands) =
+    let out = answer_in x s command in
+    answered_so s command out.0 ∷ answered xs out.1 commands
+answered xs s commands = []
 
--- the volume behind them
-abbrev pub behind : List Met → Volume → List Command → Volume
-behind (met ∷ mets) v (command ∷ commands) = behind mets (answer met v command).1 commands
-behind mets v commands = v
+-- the session behind them
+abbrev pub behind : List Meeting → Session → List ScriptCommand → Session
+behind (x ∷ xs) s (command ∷ commands) = behind xs (answer_in x s command).1 commands
+behind xs s commands = s
+
+-- so it is of commands of the volume alone
+abbrev pub volume_answered : List Met → Volume → List Command → List Answered
+volume_answered (met ∷ mets) v (command ∷ commands) =
+    let out = answer met v command in
+    record { command = Plain command; reply = out.0; changes = changes_of command out.0 } ∷ volume_answered mets out.1 commands
+volume_answered mets v commands = []
+
+abbrev pub volume_behind : List Met → Volume → List Command → Volume
+volume_behind (met ∷ mets) v (command ∷ commands) = volume_behind mets (answer met v command).1 commands
+volume_behind mets v commands = v
 
 -- ---- turns
 
@@ -59,11 +74,11 @@ abbrev pub turns_with : Errand → List Answered → List Turn
 turns_with e done = map (turn_of e) done ++ (if length done == length e.commands then (e.ends done).turns else blank ∷ [])
 
 -- of those alone
-abbrev pub turns_begun : Errand → List Met → Volume → List Command → List Turn
-turns_begun e mets v commands = map (turn_of e) (answered mets v commands)
+abbrev pub turns_begun : Errand → List Meeting → Session → List ScriptCommand → List Turn
+turns_begun e xs s commands = map (turn_of e) (answered xs s commands)
 
-abbrev pub turns_of : Errand → List Met → Volume → List Turn
-turns_of e mets v = turns_with e (answered mets v e.commands)
+abbrev pub turns_of : Errand → List Meeting → Session → List Turn
+turns_of e xs s = turns_with e (answered xs s e.commands)
 
 abbrev pub changes_in : List Turn → List Change
 changes_in turns = flat_map (λ t. t.changes) turns
@@ -104,32 +119,32 @@ pub record Stood (Passed : Moment → Type 0) (said : List ℕ) (i : Image) : Ty
 -- One command, from the image i on to the image j of its exit, before its reply is said: all versions are kept as it
 -- begins; where no change is unforced the disk's own table is the volume's; the mount isn't worn out, where that would
 -- refuse it; and it meets what it may.
-pub record IsStep (hurt : Sectors) (Passed : Moment → Type 0) (said : List ℕ) (i j : Image) (v : Volume) (command : Command) (met : Met) : Type 0 where
-  pub kept : Kept i v.files v.entries hurt
-  pub tells : v.unforced ≡ 0 → told v.layout i ≡ Some (telling_of v)
-  pub unworn : IsTrue (may_wear_out command) → IsWornOut v i → ⊥
+pub record IsStep (hurt : Sectors) (Passed : Moment → Type 0) (said : List ℕ) (i j : Image) (s : Session) (command : ScriptCommand) (x : Meeting) : Type 0 where
+  pub kept : Kept i s.volume.files s.volume.entries hurt
+  pub tells : s.volume.unforced ≡ 0 → told s.volume.layout i ≡ Some (telling_of s.volume)
+  pub unworn : IsTrue (may_wear_out_in s command) → IsWornOut s.volume i → ⊥
   pub exit : Stood Passed said j
-  pub may : MayMeet i j v command met
+  pub may : MayMeet i j s command x
 
 -- The commands are begun one after another, one for each of what they meet, and each is answered over images of the
 -- run. Last is what has to be so behind them.
-abbrev pub Goes : Sectors → (Moment → Type 0) → (Volume → Image → Type 0) → Errand → (said : List ℕ) → Image → Volume → List Met → List Command → Type 0
-Goes hurt Passed Last e said i v [] commands = Last v i
-Goes hurt Passed Last e said i v (met ∷ mets) [] = ⊥
-Goes hurt Passed Last e said i v (met ∷ mets) (command ∷ commands) =
-    (j : Image) × IsStep hurt Passed said i j v command met
-    × Goes hurt Passed Last e (said ++ e.says (answer met v command).0) j (answer met v command).1 mets commands
+abbrev pub Goes : Sectors → (Moment → Type 0) → (Volume → Image → Type 0) → Errand → (said : List ℕ) → Image → Session → List Meeting → List ScriptCommand → Type 0
+Goes hurt Passed Last e said i s [] commands = Last s.volume i
+Goes hurt Passed Last e said i s (x ∷ xs) [] = ⊥
+Goes hurt Passed Last e said i s (x ∷ xs) (command ∷ commands) =
+    (j : Image) × IsStep hurt Passed said i j s command x
+    × Goes hurt Passed Last e (said ++ e.says (answer_in x s command).0) j (answer_in x s command).1 xs commands
 
 -- ---- a run
 
 -- a group is cut off by a mount that is worn out only in front of a command that this refuses
-abbrev pub WearsOut : Option Command → Type 0
-WearsOut None = ⊥
-WearsOut (Some command) = IsTrue (may_wear_out command)
+abbrev pub WearsOut : Session → Option ScriptCommand → Type 0
+WearsOut s None = ⊥
+WearsOut s (Some command) = IsTrue (may_wear_out_in s command)
 
-abbrev pub IsCutBefore : Cut → List Command → Type 0
-IsCutBefore (Some (k, Ends.WornOut)) commands = WearsOut (slice_get commands k)
-IsCutBefore cut commands = ⊤
+abbrev pub IsCutBefore : Cut → Session → List ScriptCommand → Type 0
+IsCutBefore (Some (k, Ends.WornOut)) s commands = WearsOut s (slice_get commands k)
+IsCutBefore cut s commands = ⊤
 
 -- and only where it is so
 abbrev pub IsCutAt : Cut → Volume → Image → Type 0
@@ -144,20 +159,20 @@ errand_in request input cut = cut_off cut (errand_of request input)
 pub record Run (request : Request) (input : List ℕ) (windows : List WeakRun) (Passed : Moment → Type 0) (base : List ℕ) (v : Volume) (i : Image) : Type 0 where
   pub cut : Cut
   pub may : MayCut request cut
-  pub before : IsCutBefore cut (errand_of request input).commands
-  pub mets : List Met
-  pub goes : Goes (in_runs windows) Passed (IsCutAt cut) (errand_in request input cut) base i v mets (errand_in request input cut).commands
+  pub mets : List Meeting
+  pub before : IsCutBefore cut (behind mets (session_over v) (errand_in request input cut).commands) (errand_of request input).commands
+  pub goes : Goes (in_runs windows) Passed (IsCutAt cut) (errand_in request input cut) base i (session_over v) mets (errand_in request input cut).commands
 
 module _ {request : Request} {input : List ℕ} {windows : List WeakRun} {Passed : Moment → Type 0} {base : List ℕ} {v : Volume} {i : Image} (r : Run request input windows Passed base v i) where
   abbrev pub run_turns : List Turn
-  run_turns = turns_of (errand_in request input r.cut) r.mets v
+  run_turns = turns_of (errand_in request input r.cut) r.mets (session_over v)
 
   abbrev pub run_status : ℕ
-  run_status = ((errand_in request input r.cut).ends (answered r.mets v (errand_in request input r.cut).commands)).status
+  run_status = ((errand_in request input r.cut).ends (answered r.mets (session_over v) (errand_in request input r.cut).commands)).status
 
-  -- the volume behind the commands that were begun
+  -- the volume behind the commands that were begun: what clients have open is dropped, or done
   abbrev pub run_end : Volume
-  run_end = behind r.mets v (errand_in request input r.cut).commands
+  run_end = (finished (behind r.mets (session_over v) (errand_in request input r.cut).commands)).volume
 
   -- all commands were begun
   abbrev pub IsThrough : Type 0

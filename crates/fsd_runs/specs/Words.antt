@@ -11,7 +11,7 @@ use Rattle.fsd_texts.specs.declared.bad_line.Cause.TheVariants.{BadNumber}
 use Rattle.fsd_texts.specs.declared.command.Command.TheVariants as Word
 use Rattle.fsd_texts.specs.Script.{◌>>=◌, number_in, name_in, key_in, pattern_in}
 use Rattle.fsd_runs.specs.declared.request.Request.{Request}
-use Rattle.fsd_runs.specs.declared.request.Request.TheVariants.{Outside, BadField, Format, Put, One, Script, Generate}
+use Rattle.fsd_runs.specs.declared.request.Request.TheVariants.{Outside, BadField, Format, Put, One, Script, Generate, Drill}
 
 -- ---- the command set
 
@@ -43,6 +43,7 @@ cfs = record {
       ∷ subcommand (codes "scrub") (image ∷ [])
       ∷ subcommand (codes "script") (image ∷ [])
       ∷ subcommand (codes "generate") (image ∷ positional (codes "seed") ∷ positional (codes "count") ∷ [])
+      ∷ subcommand (codes "drill") []
       ∷ [];
 }
 
@@ -99,7 +100,8 @@ reads name rows =
     else (if same_bytes name (codes "scrub") then Ok (One Word.Scrub)
     else (if same_bytes name (codes "script") then Ok Script
     else (if same_bytes name (codes "generate") then reads_generate rows
-    else Ok Outside)))))))))
+    else (if same_bytes name (codes "drill") then Ok Drill
+    else Ok Outside))))))))))
 
 -- ---- the words
 

@@ -8,32 +8,42 @@ ghost use Rattle.fsd_sound.specs.Sound.{IsPrefixOf};
 ghost use Rattle.fsd_texts.specs.Text.{memory_text};
 ghost use Rattle.fsd_runs.specs.declared.request.Request.{Request};
 ghost use Rattle.fsd_runs.specs.Leaves.{IsBroken, IsUndone, IsUnsaid, Left, NoneRose, SaysThen, StaysSound};
-ghost use Rattle.fsd_files.specs.Answers.{Met};
 ghost use Rattle.fsd_files.specs.Disk.{Image};
 ghost use Rattle.fsd_files.specs.Files.{Change, step};
-ghost use Rattle.fsd_files.specs.Volume.{Volume, HasReach};
+ghost use Rattle.fsd_files.specs.Desk.{Session};
+ghost use Rattle.fsd_files.specs.Volume.{HasReach};
 ghost use Rattle.fsd_texts.specs.declared.command.Command.{Command};
+ghost use Rattle.fsd_texts.specs.declared.script_command.ScriptCommand.{ScriptCommand};
+ghost use Rattle.fsd_texts.specs.declared.script_command.ScriptCommand.TheVariants.{Plain};
 ghost use Rattle.fsd_texts.specs.Script.{Script};
-ghost use Rattle.fsd_runs.specs.Commands.{answer, changes_of, MayMeet};
 ghost use Rattle.fsd_runs.specs.Errands.{Errand, Turn, scripted};
-ghost use Rattle.fsd_runs.specs.Runs.{answered, behind, changes_in, forced_in, turn_of};
+ghost use Rattle.fsd_runs.specs.Runs.{answered, behind, changes_in, forced_in, turn_of, volume_answered, volume_behind};
+ghost use Rattle.fsd_runs.specs.Sessions.{HoldsRead, MayMeet, Meeting, answer_in, changes_in_session};
 
 /// What commands do to the files is the changes that their replies accept, in order.
 pub fn replies_tell_the_changes()
-    ensures command { (met : Met) (v : Volume) (c : Command) → (answer met v c).1.files ≡ fold step v.files (changes_of c (answer met v c).0) }
-    ensures run { (e : Errand) (mets : List Met) (v : Volume) (commands : List Command) →
-        (behind mets v commands).files ≡ fold step v.files (changes_in (map (turn_of e) (answered mets v commands))) }
+    ensures command { (x : Meeting) (s : Session) (c : ScriptCommand) → (answer_in x s c).1.volume.files ≡ fold step s.volume.files (changes_in_session s c (answer_in x s c).0) }
+    ensures run { (e : Errand) (xs : List Meeting) (s : Session) (commands : List ScriptCommand) →
+        (behind xs s commands).volume.files ≡ fold step s.volume.files (changes_in (map (turn_of e) (answered xs s commands))) }
+{}
+
+/// Commands of a volume alone go as it answers them one after another, whatever clients have open, and leave these.
+pub fn a_volume_answers_alone()
+    ensures answered { (xs : List Meeting) (s : Session) (commands : List Command) →
+        answered xs s (map (λ c. Plain c) commands) ≡ volume_answered (map (λ x. x.met) xs) s.volume commands }
+    ensures behind { (xs : List Meeting) (s : Session) (commands : List Command) →
+        behind xs s (map (λ c. Plain c) commands) ≡ record s { volume = volume_behind (map (λ x. x.met) xs) s.volume commands } }
 {}
 
 /// What the lines of a script tell as forced is forced: of all changes, those before the last `forced` wait no more.
 pub fn forced_lines_tell_what_is_forced()
-    ensures { (s : Script) (mets : List Met) (v : Volume) (commands : List Command) → let turns = map (turn_of (scripted s)) (answered mets v commands) in
-        forced_in turns + (behind mets v commands).unforced ≤ length (changes_in turns) + v.unforced }
+    ensures { (script : Script) (xs : List Meeting) (s : Session) (commands : List ScriptCommand) → let turns = map (turn_of (scripted script)) (answered xs s commands) in
+        forced_in turns + (behind xs s commands).volume.unforced ≤ length (changes_in turns) + s.volume.unforced }
 {}
 
 /// Each command has an answer, whatever the disk.
 pub fn each_command_has_an_answer()
-    ensures { (i : Image) (v : Volume) (c : Command) → HasReach v → (met : Met) × MayMeet i i v c met }
+    ensures { (i : Image) (s : Session) (c : ScriptCommand) → HasReach s.volume → HoldsRead s → (x : Meeting) × MayMeet i i s c x }
 {}
 
 /// Whatever a stop leaves of a run over a sound disk is a sound disk again, in the windows that the machine has then,

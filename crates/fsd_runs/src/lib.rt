@@ -6,7 +6,7 @@ mod laws;
 mod request;
 
 pub use laws::{
-    each_command_has_an_answer, forced_lines_tell_what_is_forced, replies_tell_the_changes,
-    stops_leave_sound_disks, without_faults_memory_alone_is_refused,
+    a_volume_answers_alone, each_command_has_an_answer, forced_lines_tell_what_is_forced,
+    replies_tell_the_changes, stops_leave_sound_disks, without_faults_memory_alone_is_refused,
 };
 pub use request::Request;

@@ -27,4 +27,6 @@ pub enum Request {
         seed: u64,
         count: u32,
     },
+    /// Lives of volumes in memory. It names no image.
+    Drill,
 }

@@ -8,9 +8,13 @@ use Rattle.fsd_bytes.specs.Keys.{max_u32, read_number, read_name, read_key, read
 use Rattle.fsd_texts.specs.declared.bad_line.Cause.{Cause}
 use Rattle.fsd_texts.specs.declared.bad_line.Cause.TheVariants.{LongLine, NoNewline, EmptyLine, UnknownWord, WordCount, BadNumber, BadName, BadKey, BadPattern, ShortBytes, NoNewlineAfterBytes}
 use Rattle.fsd_texts.specs.declared.asking.Asking.{Asking}
-use Rattle.fsd_texts.specs.declared.asking.Asking.TheVariants.{Plainly, Put}
+use Rattle.fsd_texts.specs.declared.asking.Asking.TheVariants.{Plainly, Put, OfClient, Piece}
+use Rattle.fsd_texts.specs.declared.call.Call.{Call}
+use Rattle.fsd_texts.specs.declared.call.Call.TheVariants as Calls
 use Rattle.fsd_texts.specs.declared.command.Command.{Command}
 use Rattle.fsd_texts.specs.declared.command.Command.TheVariants as Word
+use Rattle.fsd_texts.specs.declared.script_command.ScriptCommand.{ScriptCommand}
+use Rattle.fsd_texts.specs.declared.script_command.ScriptCommand.TheVariants as Asked
 use Rattle.fsd_texts.specs.declared.end.End.{End}
 use Rattle.fsd_texts.specs.declared.end.End.TheVariants.{Done, Bad, TooLong}
 
@@ -78,13 +82,52 @@ abbrev pub with_field : {A : Type 0} → (List ℕ → Result A Cause) → (A �
 with_field read make (w ∷ []) = read w >>= λ x. Ok (Plainly (make x))
 with_field read make other = Err WordCount
 
+-- of a client, whose number is the first field
+
+abbrev pub asks_begin : List (List ℕ) → Result Asking Cause
+asks_begin (client ∷ name ∷ len ∷ []) = do
+  c ← number_in client
+  n ← name_in name
+  l ← number_in len
+  Ok (OfClient c (Calls.Begin n l))
+asks_begin other = Err WordCount
+
+abbrev pub asks_piece : List (List ℕ) → Result Asking Cause
+asks_piece (client ∷ len ∷ []) = do
+  c ← number_in client
+  l ← number_in len
+  Ok (Piece c l)
+asks_piece other = Err WordCount
+
+abbrev pub call_with_field : {A : Type 0} → (List ℕ → Result A Cause) → (A → Call) → List (List ℕ) → Result Asking Cause
+call_with_field read make (client ∷ w ∷ []) = do
+  c ← number_in client
+  x ← read w
+  Ok (OfClient c (make x))
+call_with_field read make other = Err WordCount
+
+abbrev pub call_with_none : Call → List (List ℕ) → Result Asking Cause
+call_with_none call (client ∷ []) = number_in client >>= λ c. Ok (OfClient c call)
+call_with_none call other = Err WordCount
+
+abbrev pub asks_client : List ℕ → List (List ℕ) → Result Asking Cause
+asks_client word fields =
+    if same_bytes word (codes "begin") then asks_begin fields
+    else (if same_bytes word (codes "piece") then asks_piece fields
+    else (if same_bytes word (codes "close") then call_with_none Calls.Close fields
+    else (if same_bytes word (codes "drop") then call_with_none Calls.Drop fields
+    else (if same_bytes word (codes "open") then call_with_field key_in Calls.Open fields
+    else (if same_bytes word (codes "next") then call_with_field number_in Calls.Next fields
+    else (if same_bytes word (codes "done") then call_with_none Calls.Done fields
+    else Err UnknownWord))))))
+
 -- by a word that stands alone
 abbrev pub asks_alone : List ℕ → List (List ℕ) → Result Asking Cause
 asks_alone word fields =
     if same_bytes word (codes "force") then with_no_field Word.Force fields
     else (if same_bytes word (codes "tick") then with_no_field Word.Tick fields
     else (if same_bytes word (codes "stat") then with_no_field Word.Stat fields
-    else Err UnknownWord))
+    else asks_client word fields))
 
 -- by the first word, and the others
 abbrev pub asks : List ℕ → List (List ℕ) → Result Asking Cause
@@ -104,14 +147,20 @@ asked_by (word ∷ fields) = asks word fields
 
 -- ---- the bytes behind a line
 
-abbrev pub whole_command : Asking → List ℕ → Result (Command × List ℕ) Cause
-whole_command (Plainly command) rest = Ok (command, rest)
-whole_command (Put name len keep) rest =
+-- so many bytes and a newline, and the command that they make with their line
+abbrev pub with_bytes : (List ℕ → ScriptCommand) → (len : ℕ) → List ℕ → Result (ScriptCommand × List ℕ) Cause
+with_bytes make len rest =
     if nat_le (length rest) len then Err ShortBytes
-    else (if slice_index rest len == 10 then Ok (Word.Put name (take len rest) keep, drop (len + 1) rest) else Err NoNewlineAfterBytes)
+    else (if slice_index rest len == 10 then Ok (make (take len rest), drop (len + 1) rest) else Err NoNewlineAfterBytes)
+
+abbrev pub whole_command : Asking → List ℕ → Result (ScriptCommand × List ℕ) Cause
+whole_command (Plainly command) rest = Ok (Asked.Plain command, rest)
+whole_command (Put name len keep) rest = with_bytes (λ bytes. Asked.Plain (Word.Put name bytes keep)) len rest
+whole_command (OfClient client call) rest = Ok (Asked.OfClient client call, rest)
+whole_command (Piece client len) rest = with_bytes (λ bytes. Asked.OfClient client (Calls.Piece bytes)) len rest
 
 -- the command that begins the bytes, and what follows it; or why none does
-abbrev pub command_at : List ℕ → Result (Command × List ℕ) Cause
+abbrev pub command_at : List ℕ → Result (ScriptCommand × List ℕ) Cause
 command_at bytes = do
   line ← line_at max_line bytes
   asking ← asked_by (words_of line.0)
@@ -121,10 +170,10 @@ command_at bytes = do
 
 -- the commands, and how they end
 abbrev pub Script : Type 0
-Script = List Command × End
+Script = List ScriptCommand × End
 
 -- one command, and those behind it
-abbrev pub then_more : (ordinal : ℕ) → (List ℕ → Script) → Result (Command × List ℕ) Cause → Script
+abbrev pub then_more : (ordinal : ℕ) → (List ℕ → Script) → Result (ScriptCommand × List ℕ) Cause → Script
 then_more ordinal more (Err cause) = ([], Bad (record { line = ordinal; cause = cause }))
 then_more ordinal more (Ok x) = (x.0 ∷ (more x.1).0, (more x.1).1)
 

@@ -13,7 +13,7 @@ use Rattle.fsd_texts.specs.declared.bad_line.BadLine.{BadLine}
 use Rattle.fsd_texts.specs.declared.fault.Fault.{Fault}
 use Rattle.fsd_texts.specs.declared.fault.Fault.TheVariants as Ends
 use Rattle.fsd_texts.specs.declared.line.Line.{Line}
-use Rattle.fsd_texts.specs.declared.line.Line.TheVariants.{Usage, Bad, Formatted, Unplanned, Made, Deleted, Kept, Version, Listed, Bytes, Forced, Stat, Damaged, Scrubbed, Generated, Refused, Ended}
+use Rattle.fsd_texts.specs.declared.line.Line.TheVariants.{Usage, Bad, Formatted, Unplanned, Made, Deleted, Kept, Version, Listed, Bytes, Forced, Stat, Damaged, Scrubbed, Generated, Life, Begun, Took, Dropped, Opened, Given, Done, Refused, Ended}
 
 abbrev pub newline : List ℕ
 newline = 10 ∷ []
@@ -106,6 +106,13 @@ text (Scrubbed healed damaged) = line (codes "scrubbed" ∷ codes "healed" ∷ n
 text (Generated c) =
     line (codes "generated" ∷ number c.count ∷ codes "made" ∷ number c.made ∷ codes "deleted" ∷ number c.deleted ∷ codes "kept" ∷ number c.kept
     ∷ codes "read" ∷ number c.read ∷ codes "bytes" ∷ number c.bytes ∷ codes "refused" ∷ number c.refused ∷ [])
+text (Life life) = line (codes "life" ∷ number life ∷ [])
+text (Begun client) = line (codes "begun" ∷ number client ∷ [])
+text (Took client sum) = line (codes "took" ∷ number client ∷ number sum ∷ [])
+text (Dropped client) = line (codes "dropped" ∷ number client ∷ [])
+text (Opened client len) = line (codes "opened" ∷ number client ∷ number len ∷ [])
+text (Given client len) = line (codes "next" ∷ number client ∷ number len ∷ [])
+text (Done client) = line (codes "done" ∷ number client ∷ [])
 text (Refused why) = refused_line (refusal_words why)
 text (Ended fault) = fault_text fault
 

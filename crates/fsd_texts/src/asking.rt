@@ -1,4 +1,5 @@
 //! What one line of a script asks for.
+use crate::call::Call;
 use crate::command::Command;
 use fsd_bytes::FileName;
 
@@ -10,5 +11,13 @@ pub enum Asking {
         name: FileName,
         length: u32,
         keep: Option<u32>,
+    },
+    OfClient {
+        client: u32,
+        call: Call,
+    },
+    Piece {
+        client: u32,
+        length: u32,
     },
 }

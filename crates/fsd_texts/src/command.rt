@@ -1,8 +1,8 @@
-//! The commands of a script.
+//! The commands of a volume.
 use crate::bytes::Bytes;
 use fsd_bytes::{FileName, Key, Pattern};
 
-/// What a script may ask.
+/// What may be asked of a volume.
 #[derive(Debug, Drop)]
 pub enum Command {
     /// A new version of these bytes.

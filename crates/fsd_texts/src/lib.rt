@@ -4,17 +4,21 @@
 mod asking;
 mod bad_line;
 mod bytes;
+mod call;
 mod command;
 mod counts;
 mod end;
 mod fault;
 mod line;
+mod script_command;
 
 pub use asking::Asking;
 pub use bad_line::{BadLine, Cause};
 pub use bytes::Bytes;
+pub use call::Call;
 pub use command::Command;
 pub use counts::Counts;
 pub use end::End;
 pub use fault::Fault;
 pub use line::Line;
+pub use script_command::ScriptCommand;

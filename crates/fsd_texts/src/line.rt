@@ -59,6 +59,29 @@ pub enum Line {
     },
     /// So many commands were made up, and what came of them.
     Generated(Counts),
+    /// What is said behind it is of this life of a drill.
+    Life(u32),
+    /// A client has begun a version.
+    Begun(u32),
+    /// It has so many bytes of it.
+    Took {
+        client: u32,
+        sum: u32,
+    },
+    /// It has given it up.
+    Dropped(u32),
+    /// A client has opened a version of so many bytes.
+    Opened {
+        client: u32,
+        length: u32,
+    },
+    /// So many next bytes of it follow.
+    Given {
+        client: u32,
+        length: u32,
+    },
+    /// It is done with it.
+    Done(u32),
     Refused(Refusal),
     Ended(Fault),
 }

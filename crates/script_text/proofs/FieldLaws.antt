@@ -1,7 +1,9 @@
 -- What words ask for, by how many they are.
-use Rattle.std.proofs.Common.{◌≡◌, ℕ, List, [], ◌∷◌, length, map, Err, refl}
+use Rattle.std.proofs.Common.{◌≡◌, ℕ, List, [], ◌∷◌, length, map, Result, Err, refl}
+use Rattle.fsd_texts.specs.declared.bad_line.Cause.{Cause}
 use Rattle.fsd_texts.specs.declared.bad_line.Cause.TheVariants.{WordCount}
-use Rattle.fsd_texts.specs.Script.{asks_keep, asks_put}
+use Rattle.fsd_texts.specs.declared.call.Call.{Call}
+use Rattle.fsd_texts.specs.Script.{asks_begin, asks_keep, asks_piece, asks_put, call_with_field}
 
 module _ {A : Type 0} (f : A → List ℕ) where
   pub other_put : (xs : List A) → (length xs ≡ 2 → ⊥) → (length xs ≡ 3 → ⊥) → Err WordCount ≡ asks_put (map f xs)
@@ -16,3 +18,22 @@ module _ {A : Type 0} (f : A → List ℕ) where
   other_keep (a ∷ []) two = refl
   other_keep (a ∷ b ∷ []) two = absurd (two refl)
   other_keep (a ∷ b ∷ c ∷ xs) two = refl
+
+  pub other_begin : (xs : List A) → (length xs ≡ 3 → ⊥) → Err WordCount ≡ asks_begin (map f xs)
+  other_begin [] three = refl
+  other_begin (a ∷ []) three = refl
+  other_begin (a ∷ b ∷ []) three = refl
+  other_begin (a ∷ b ∷ c ∷ []) three = absurd (three refl)
+  other_begin (a ∷ b ∷ c ∷ d ∷ xs) three = refl
+
+  pub other_piece : (xs : List A) → (length xs ≡ 2 → ⊥) → Err WordCount ≡ asks_piece (map f xs)
+  other_piece [] two = refl
+  other_piece (a ∷ []) two = refl
+  other_piece (a ∷ b ∷ []) two = absurd (two refl)
+  other_piece (a ∷ b ∷ c ∷ xs) two = refl
+
+  pub other_call : {B : Type 0} (read : List ℕ → Result B Cause) (make : B → Call) (xs : List A) → (length xs ≡ 2 → ⊥) → Err WordCount ≡ call_with_field read make (map f xs)
+  other_call read make [] two = refl
+  other_call read make (a ∷ []) two = refl
+  other_call read make (a ∷ b ∷ []) two = absurd (two refl)
+  other_call read make (a ∷ b ∷ c ∷ xs) two = refl

@@ -6,7 +6,7 @@ use Rattle.std.proofs.lemmas.Bool.Decides.{nat_tests}
 use Rattle.std.proofs.lemmas.List.{take_all}
 use Rattle.std.specs.Prelude.{nat_lt, ◌&&◌}
 use Rattle.fsd_texts.specs.declared.bad_line.Cause.{Cause}
-use Rattle.fsd_texts.specs.declared.command.Command.{Command}
+use Rattle.fsd_texts.specs.declared.script_command.ScriptCommand.{ScriptCommand}
 use Rattle.fsd_texts.specs.declared.end.End.{End}
 use Rattle.fsd_texts.specs.declared.end.End.TheVariants.{Done, Bad, TooLong}
 use Rattle.fsd_texts.specs.Script.{Script, command_at, commands_from, ends_early, needs_more, script_from, then_more}
@@ -14,7 +14,7 @@ use Rattle.script_text.proofs.MoreLaws.{command_more, command_shrinks, early, wi
 
 -- ---- fuel that is enough
 
-same_steps : (ordinal : ℕ) (f g : List ℕ → Script) (read : Result (Command × List ℕ) Cause) → ((command : Command) (rest : List ℕ) → read ≡ Ok (command, rest) → f rest ≡ g rest) → then_more ordinal f read ≡ then_more ordinal g read
+same_steps : (ordinal : ℕ) (f g : List ℕ → Script) (read : Result (ScriptCommand × List ℕ) Cause) → ((command : ScriptCommand) (rest : List ℕ) → read ≡ Ok (command, rest) → f rest ≡ g rest) → then_more ordinal f read ≡ then_more ordinal g read
 same_steps ordinal f g (Ok x) same = let e : f x.1 ≡ g x.1 = same x.0 x.1 refl in rw e refl
 same_steps ordinal f g (Err cause) same = refl
 
@@ -33,7 +33,7 @@ enough (suc m) (suc n) ordinal (b ∷ bytes) p q =
 abbrev all_from : (ordinal : ℕ) → List ℕ → Script
 all_from ordinal bytes = commands_from (length bytes) ordinal bytes
 
-gives : (ordinal : ℕ) (bytes : List ℕ) (command : Command) (rest : List ℕ) → command_at bytes ≡ Ok (command, rest) → all_from ordinal bytes ≡ (command ∷ (all_from (ordinal + 1) rest).0, (all_from (ordinal + 1) rest).1)
+gives : (ordinal : ℕ) (bytes : List ℕ) (command : ScriptCommand) (rest : List ℕ) → command_at bytes ≡ Ok (command, rest) → all_from ordinal bytes ≡ (command ∷ (all_from (ordinal + 1) rest).0, (all_from (ordinal + 1) rest).1)
 gives ordinal [] command rest read = absurd cc
 gives ordinal (b ∷ bytes) command rest read =
     let less : length rest < suc (length bytes) = command_shrinks (b ∷ bytes) command rest read in
@@ -46,20 +46,20 @@ fails ordinal (b ∷ bytes) cause some read = rw read refl
 
 -- ---- the script of an input, of which some first bytes wait
 
-abbrev pub script : List Command → End → Script
+abbrev pub script : List ScriptCommand → End → Script
 script commands end = (commands, end)
 
-abbrev pub after : Command → Script → Script
+abbrev pub after : ScriptCommand → Script → Script
 after command s = (command ∷ s.0, s.1)
 
 abbrev pub cut : Bool → Script → Script
 cut over s = cond (over && needs_more s.1) (script s.0 TooLong) s
 
-by_need : (need : Bool) (command : Command) (s : Script) → cond need (script (command ∷ s.0) TooLong) (after command s) ≡ after command (cond need (script s.0 TooLong) s)
+by_need : (need : Bool) (command : ScriptCommand) (s : Script) → cond need (script (command ∷ s.0) TooLong) (after command s) ≡ after command (cond need (script s.0 TooLong) s)
 by_need true command s = refl
 by_need false command s = refl
 
-cut_after : (over more_over : Bool) (command : Command) (s : Script) → over ≡ more_over → cut over (after command s) ≡ after command (cut more_over s)
+cut_after : (over more_over : Bool) (command : ScriptCommand) (s : Script) → over ≡ more_over → cut over (after command s) ≡ after command (cut more_over s)
 cut_after over true command s same = ap (λ (b : Bool). cut b (after command s)) same ∙ by_need (needs_more s.1) command s
 cut_after over false command s same = ap (λ (b : Bool). cut b (after command s)) same
 
@@ -88,7 +88,7 @@ wants_more ordinal [] cause read short = refl
 wants_more ordinal (b ∷ bytes) cause read short = ap (cut true) (fails ordinal (b ∷ bytes) cause (omega arith) read) ∙ ap (λ (need : Bool). cond need (script [] TooLong) (script [] (Bad (record { line = ordinal; cause = cause })))) short
 
 module _ (most ordinal : ℕ) (waiting : List ℕ) (fits : length waiting ≤ most) where
-  pub from_gives : (input : List ℕ) (command : Command) (used : ℕ) → used ≤ length waiting → command_at waiting ≡ Ok (command, drop used waiting)
+  pub from_gives : (input : List ℕ) (command : ScriptCommand) (used : ℕ) → used ≤ length waiting → command_at waiting ≡ Ok (command, drop used waiting)
       → script_from most ordinal (waiting ++ input) ≡ after command (script_from (most - used) (ordinal + 1) (drop used waiting ++ input))
   from_gives input command used within read =
       let x : List ℕ = take (most - length waiting) input in

@@ -4,7 +4,7 @@ use Rattle.std.specs.Prelude.{IfSome, is_none, is_some}
 use Rattle.std.specs.Result.{IsErrAnd}
 use Rattle.std.proofs.Math.Seq.{take-add}
 use Rattle.sector_disk.specs.Machine.{Ledger, took}
-use Rattle.fsd_texts.specs.declared.command.Command.{Command}
+use Rattle.fsd_texts.specs.declared.script_command.ScriptCommand.{ScriptCommand}
 use Rattle.fsd_texts.specs.declared.end.End.{End}
 use Rattle.fsd_texts.specs.Script.{Script, max_input, script_from}
 use Rattle.script_text.specs.declared.fault.BodyFault.{BodyFault}
@@ -19,7 +19,7 @@ use Rattle.script_text.proofs.ReaderLaws.{IsOpen, room_fits, script_open}
 
 -- ---- a command is given
 
-pub gives_next : (r new : Reading) (command : Command) (input : List ℕ) → IsOpen r → Gives r command new → script_left r input ≡ after command (script_left new input)
+pub gives_next : (r new : Reading) (command : ScriptCommand) (input : List ℕ) → IsOpen r → Gives r command new → script_left r input ≡ after command (script_left new input)
 gives_next r new command input h given =
     let shorter : Reading = record { waiting = drop given.used r.waiting; taken = r.taken; given = r.given + 1; end = r.end } in
     let less : length (drop given.used r.waiting) ≡ length r.waiting - given.used = length-drop given.used r.waiting in
@@ -59,7 +59,7 @@ grows_then a b c x y z open_still first second =
 waits_more : (a b : Reading) (x y : Ledger) (grows : Grows a b x y) → length b.waiting ≡ length a.waiting + grows.count
 waits_more a b x y grows = ap length grows.waiting ∙ length-append a.waiting (take grows.count x.input) ∙ ap (λ (n : ℕ). length a.waiting + n) (length-take-le grows.count x.input grows.some)
 
-pub moves_from : (a b c : Reading) (command : Command) (x y : Ledger) → IsOpen b → Grows a b x y → Gives b command c → Moves (Ok (Some command)) a c x y
+pub moves_from : (a b c : Reading) (command : ScriptCommand) (x y : Ledger) → IsOpen b → Grows a b x y → Gives b command c → Moves (Ok (Some command)) a c x y
 moves_from a b c command x y h grows given = record {
   count = grows.count;
   some = grows.some;
@@ -74,7 +74,7 @@ moves_from a b c command x y h grows given = record {
 }
 
 abbrev pub Answer : Type 0
-Answer = Result (Option Command) ScriptFault
+Answer = Result (Option ScriptCommand) ScriptFault
 
 pub moves_still : (result : Answer) (a b c : Reading) (x y : Ledger) → Grows a b x y → c ≡ b → ((s t : Script) → (b.end ≡ None → s ≡ t) → Ahead result s t) → Moves result a c x y
 moves_still result a b c x y grows same ahead_of = record {

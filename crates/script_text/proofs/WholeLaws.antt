@@ -3,7 +3,7 @@ use Rattle.std.proofs.Common.{◌≡◌, Bool, true, false, cond, ℕ, zero, suc
 use Rattle.std.specs.Prelude.{nat_lt, ◌&&◌}
 use Rattle.std.proofs.lemmas.Bool.{lt-ltb}
 use Rattle.fsd_texts.specs.declared.bad_line.Cause.{Cause}
-use Rattle.fsd_texts.specs.declared.command.Command.{Command}
+use Rattle.fsd_texts.specs.declared.script_command.ScriptCommand.{ScriptCommand}
 use Rattle.fsd_texts.specs.declared.end.End.{End}
 use Rattle.fsd_texts.specs.declared.end.End.TheVariants.{Done, Bad, TooLong}
 use Rattle.fsd_texts.specs.Script.{Script, command_at, commands_from, ends_early, needs_more, script_from, then_more}
@@ -15,16 +15,16 @@ use Rattle.script_text.proofs.ReaderLaws.{script_open}
 
 -- ---- one command more
 
-pub given_more : (whole left now : Script) (given : List Command) (command : Command) → whole ≡ script (given ++ left.0) left.1 → left ≡ after command now → whole ≡ script ((given ++ command ∷ []) ++ now.0) now.1
+pub given_more : (whole left now : Script) (given : List ScriptCommand) (command : ScriptCommand) → whole ≡ script (given ++ left.0) left.1 → left ≡ after command now → whole ≡ script ((given ++ command ∷ []) ++ now.0) now.1
 given_more whole left now given command is step =
-    is ∙ ap (λ (s : Script). script (given ++ s.0) s.1) step ∙ ap (λ (cs : List Command). script cs now.1) (sym (append_assoc given (command ∷ []) now.0))
+    is ∙ ap (λ (s : Script). script (given ++ s.0) s.1) step ∙ ap (λ (cs : List ScriptCommand). script cs now.1) (sym (append_assoc given (command ∷ []) now.0))
 
 -- ---- all is read where it is done
 
 count_of : Script → ℕ
 count_of s = length s.0
 
-some_given : (over : Bool) (command : Command) (commands : List Command) (end other : End) → cond over (script (command ∷ commands) other) (script (command ∷ commands) end) ≡ script [] Done → ⊥
+some_given : (over : Bool) (command : ScriptCommand) (commands : List ScriptCommand) (end other : End) → cond over (script (command ∷ commands) other) (script (command ∷ commands) end) ≡ script [] Done → ⊥
 unfolding count_of
 some_given true command commands end other is = omega (arith, ap count_of is)
 some_given false command commands end other is = omega (arith, ap count_of is)
@@ -33,7 +33,7 @@ bad_end : (over : Bool) (bad : _) → cond over (script [] TooLong) (script [] (
 bad_end true bad is = let e : TooLong ≡ Done = ap (λ (s : Script). s.1) is in absurd cc
 bad_end false bad is = let e : Bad bad ≡ Done = ap (λ (s : Script). s.1) is in absurd cc
 
-not_done : (over : Bool) (ordinal : ℕ) (more : List ℕ → Script) (read : Result (Command × List ℕ) Cause) → cut over (then_more ordinal more read) ≡ script [] Done → ⊥
+not_done : (over : Bool) (ordinal : ℕ) (more : List ℕ → Script) (read : Result (ScriptCommand × List ℕ) Cause) → cut over (then_more ordinal more read) ≡ script [] Done → ⊥
 not_done over ordinal more (Ok x) is = some_given (over && needs_more (more x.1).1) x.0 (more x.1).0 (more x.1).1 TooLong is
 not_done over ordinal more (Err cause) is = bad_end (over && ends_early cause) (record { line = ordinal; cause = cause }) is
 
@@ -55,7 +55,7 @@ all_is_read r input still is = both_empty r.waiting input (none_left (room_of r)
 
 -- ---- where bytes are short, they give no command
 
-same_early : (read : Result (Command × List ℕ) Cause) (more : List ℕ) → early (with_more read more) ≡ early read
+same_early : (read : Result (ScriptCommand × List ℕ) Cause) (more : List ℕ) → early (with_more read more) ≡ early read
 same_early (Ok x) more = refl
 same_early (Err cause) more = refl
 
@@ -63,7 +63,7 @@ early_front : (front more : List ℕ) (was : Bool) → early (command_at front) 
 early_front front more true is short = is
 early_front front more false is short = let e : early (command_at (front ++ more)) ≡ false = ap early (command_more front more is) ∙ same_early (command_at front) more ∙ is in absurd cc
 
-nothing_given : (ordinal : ℕ) (more : List ℕ → Script) (read : Result (Command × List ℕ) Cause) → early read ≡ true → (then_more ordinal more read).0 ≡ []
+nothing_given : (ordinal : ℕ) (more : List ℕ → Script) (read : Result (ScriptCommand × List ℕ) Cause) → early read ≡ true → (then_more ordinal more read).0 ≡ []
 nothing_given ordinal more (Ok x) short = absurd cc
 nothing_given ordinal more (Err cause) short = refl
 

@@ -3,7 +3,7 @@ use Rattle.std.specs.Prelude.{◌≡◌, ℕ, ◌≤◌, List, length, take, dro
 use Rattle.fsd_texts.specs.declared.asking.Asking.{Asking}
 use Rattle.fsd_texts.specs.declared.bad_line.Cause.{Cause}
 use Rattle.fsd_texts.specs.declared.bad_line.Cause.TheVariants.{ShortBytes, NoNewlineAfterBytes}
-use Rattle.fsd_texts.specs.declared.command.Command.{Command}
+use Rattle.fsd_texts.specs.declared.script_command.ScriptCommand.{ScriptCommand}
 use Rattle.fsd_texts.specs.Script.{command_at, whole_command}
 use Rattle.script_text.specs.declared.fault.BodyFault.{BodyFault}
 use Rattle.script_text.specs.declared.fault.BodyFault.TheVariants.{Bad, Memory}
@@ -15,21 +15,21 @@ Finds (Err (Bad cause)) read = read ≡ Err cause
 Finds (Err Memory) read = Unit {0}
 
 -- a command that takes so many first bytes
-pub record Takes (read : Result (Command × List ℕ) Cause) (bytes : List ℕ) (command : Command) (used : ℕ) : Type 0 where
+pub record Takes (read : Result (ScriptCommand × List ℕ) Cause) (bytes : List ℕ) (command : ScriptCommand) (used : ℕ) : Type 0 where
   pub found : read ≡ Ok (command, drop used bytes)
   pub within : used ≤ length bytes
 
-abbrev pub TakesFirst : Result (Command × List ℕ) Cause → List ℕ → Result (Command × ℕ) BodyFault → Type 0
+abbrev pub TakesFirst : Result (ScriptCommand × List ℕ) Cause → List ℕ → Result (ScriptCommand × ℕ) BodyFault → Type 0
 TakesFirst read bytes (Ok x) = Takes read bytes x.0 x.1
 TakesFirst read bytes (Err (Bad cause)) = read ≡ Err cause
 TakesFirst read bytes (Err Memory) = Unit {0}
 
 -- the command that bytes begin with, by how many of them it takes, or why they begin with none
-abbrev pub BeginsWith : List ℕ → Result (Command × ℕ) BodyFault → Type 0
+abbrev pub BeginsWith : List ℕ → Result (ScriptCommand × ℕ) BodyFault → Type 0
 BeginsWith bytes result = TakesFirst (command_at bytes) bytes result
 
 -- the same of the bytes behind a line
-abbrev pub Behind : Asking → List ℕ → Result (Command × ℕ) BodyFault → Type 0
+abbrev pub Behind : Asking → List ℕ → Result (ScriptCommand × ℕ) BodyFault → Type 0
 Behind asking rest result = TakesFirst (whole_command asking rest) rest result
 
 -- so many bytes and a newline, or why not

@@ -1,7 +1,7 @@
 -- What a reader of a script has taken and given, and what is still to come of the script.
 use Rattle.std.specs.Prelude.{◌≡◌, ℕ, ◌+◌, ◌-◌, ◌<◌, ◌≤◌, ◌==◌, if◌then◌else◌, List, [], ◌∷◌, ◌++◌, length, drop, true, nat_lt, Option, Some, None, Result, Ok, Err}
 use Rattle.fsd_texts.specs.declared.bad_line.Cause.{Cause}
-use Rattle.fsd_texts.specs.declared.command.Command.{Command}
+use Rattle.fsd_texts.specs.declared.script_command.ScriptCommand.{ScriptCommand}
 use Rattle.fsd_texts.specs.declared.end.End.{End}
 use Rattle.fsd_texts.specs.declared.end.End.TheVariants as Ends
 use Rattle.fsd_texts.specs.Script.{Script, command_at, ends_early, max_input, script_from}
@@ -43,14 +43,14 @@ pub record IsShort (bytes : List ℕ) : Type 0 where
 -- ---- answers
 
 -- what is answered where the script has ended
-abbrev pub answer_of : End → Result (Option Command) ScriptFault
+abbrev pub answer_of : End → Result (Option ScriptCommand) ScriptFault
 answer_of Ends.Done = Ok None
 answer_of (Ends.Bad bad) = Err (Bad bad)
 answer_of Ends.TooLong = Err TooLong
 
 -- An answer, of the script that was to come and of the one that is to come now: its first command, or that it has ended
 -- and how, or that the input or memory failed.
-abbrev pub Answers : Result (Option Command) ScriptFault → Script → Script → Type 0
+abbrev pub Answers : Result (Option ScriptCommand) ScriptFault → Script → Script → Type 0
 Answers (Ok (Some command)) before now = before ≡ (command ∷ now.0, now.1)
 Answers (Ok None) before now = (before ≡ ([], Ends.Done)) × (now ≡ before)
 Answers (Err (Bad bad)) before now = (before ≡ ([], Ends.Bad bad)) × (now ≡ before)
@@ -59,19 +59,19 @@ Answers (Err Input) before now = now ≡ before
 Answers (Err Memory) before now = now ≡ before
 
 -- An answer where the script has not ended: the first command of what was to come, or nothing of it.
-abbrev pub Ahead : Result (Option Command) ScriptFault → Script → Script → Type 0
+abbrev pub Ahead : Result (Option ScriptCommand) ScriptFault → Script → Script → Type 0
 Ahead (Ok (Some command)) before now = before ≡ (command ∷ now.0, now.1)
 Ahead (Err Input) before now = before ≡ now
 Ahead (Err Memory) before now = before ≡ now
 Ahead ended before now = Unit {0}
 
 -- Where the input fails no whole command waits.
-abbrev pub NoneWaits : Result (Option Command) ScriptFault → List ℕ → Type 0
+abbrev pub NoneWaits : Result (Option ScriptCommand) ScriptFault → List ℕ → Type 0
 NoneWaits (Err Input) waiting = IsShort waiting
 NoneWaits other waiting = Unit {0}
 
 -- the end that is known with an answer, and the commands given with it
-abbrev pub end_with : Result (Option Command) ScriptFault → Option End
+abbrev pub end_with : Result (Option ScriptCommand) ScriptFault → Option End
 end_with (Ok (Some command)) = None
 end_with (Ok None) = Some Ends.Done
 end_with (Err (Bad bad)) = Some (Ends.Bad bad)
@@ -79,20 +79,20 @@ end_with (Err TooLong) = Some Ends.TooLong
 end_with (Err Input) = None
 end_with (Err Memory) = None
 
-abbrev pub count_with : Result (Option Command) ScriptFault → ℕ
+abbrev pub count_with : Result (Option ScriptCommand) ScriptFault → ℕ
 count_with (Ok (Some command)) = 1
 count_with other = 0
 
 -- ---- one step of a reader that has not ended
 
 -- the bytes that wait begin with a command, which is given
-pub record Gives (old : Reading) (command : Command) (new : Reading) : Type 0 where
+pub record Gives (old : Reading) (command : ScriptCommand) (new : Reading) : Type 0 where
   pub used : ℕ
   pub within : used ≤ length old.waiting
   pub read : command_at old.waiting ≡ Ok (command, drop used old.waiting)
   pub new_is : new ≡ record { waiting = drop used old.waiting; taken = old.taken; given = old.given + 1; end = old.end }
 
-abbrev pub GivesFirst : Reading → Result Command BodyFault → Reading → Type 0
+abbrev pub GivesFirst : Reading → Result ScriptCommand BodyFault → Reading → Type 0
 GivesFirst old (Ok command) new = Gives old command new
 GivesFirst old (Err (Stops.Bad cause)) new = (command_at old.waiting ≡ Err cause) × (new ≡ old)
 GivesFirst old (Err Stops.Memory) new = new ≡ old

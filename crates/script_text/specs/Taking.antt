@@ -1,6 +1,6 @@
 -- What reading a script takes of the input, and what it leaves alone.
 use Rattle.std.specs.Prelude.{◌≡◌, ℕ, ◌+◌, ◌<◌, ◌≤◌, Bool, true, false, List, [], ◌++◌, length, take, drop, Option, None, Result, Ok, Err}
-use Rattle.fsd_texts.specs.declared.command.Command.{Command}
+use Rattle.fsd_texts.specs.declared.script_command.ScriptCommand.{ScriptCommand}
 use Rattle.sector_disk.specs.Machine.{Ledger, took}
 use Rattle.script_text.specs.declared.fault.ScriptFault.{ScriptFault}
 use Rattle.script_text.specs.declared.fault.ScriptFault.TheVariants.{Input, Memory}
@@ -38,7 +38,7 @@ pub record Grows (old new : Reading) (before now : Ledger) : Type 0 where
 -- So many bytes are taken off the input's front, none where a command waits whole, and stand behind those that waited.
 -- Of all these, a command that is given takes so many first ones away, and any other answer none. Unless the script has
 -- ended, the answer is the same whatever else would follow the bytes that are taken.
-pub record Moves (result : Result (Option Command) ScriptFault) (old new : Reading) (before now : Ledger) : Type 0 where
+pub record Moves (result : Result (Option ScriptCommand) ScriptFault) (old new : Reading) (before now : Ledger) : Type 0 where
   pub count : ℕ
   pub some : count ≤ length before.input
   pub left : now ≡ took before count

@@ -4,11 +4,11 @@ ghost use Rattle.script_text.specs.Front.{BeginsWith, Behind, bytes_in};
 
 use crate::fault::BodyFault;
 use crate::line::{asking_of, line_of};
-use fsd_texts::{Asking, Bytes, Cause, Command};
+use fsd_texts::{Asking, Bytes, Call, Cause, Command, ScriptCommand};
 use std::alloc::Global;
 
 /// The command that the bytes begin with, and how many of them it takes.
-pub(crate) fn command_of(alloc: Global, body: &[u8]) -> Result<(Command, usize), BodyFault>
+pub(crate) fn command_of(alloc: Global, body: &[u8]) -> Result<(ScriptCommand, usize), BodyFault>
     ensures begins { BeginsWith body.now result }
     ensures some { IfOk result (λ x. 0 < x.1) }
 {
@@ -20,15 +20,27 @@ pub(crate) fn command_of(alloc: Global, body: &[u8]) -> Result<(Command, usize),
 }
 
 // The command that is asked for, and how many of the bytes behind its line it takes.
-fn whole_command(alloc: Global, asking: Asking, rest: &[u8]) -> Result<(Command, usize), BodyFault>
+fn whole_command(
+    alloc: Global,
+    asking: Asking,
+    rest: &[u8],
+) -> Result<(ScriptCommand, usize), BodyFault>
     ensures { Behind asking rest.now result }
 {
     match asking {
-        Asking::Plainly(command) => Ok((command, 0)),
+        Asking::Plainly(command) => Ok((ScriptCommand::Plain(command), 0)),
         Asking::Put { name, length, keep } => {
             let length = length as usize;
             let bytes = Bytes::copied(alloc, bytes_of(rest, length)?)?;
-            Ok((Command::Put { name, bytes, keep }, length + 1))
+            let command = Command::Put { name, bytes, keep };
+            Ok((ScriptCommand::Plain(command), length + 1))
+        }
+        Asking::OfClient { client, call } => Ok((ScriptCommand::OfClient { client, call }, 0)),
+        Asking::Piece { client, length } => {
+            let length = length as usize;
+            let bytes = Bytes::copied(alloc, bytes_of(rest, length)?)?;
+            let call = Call::Piece(bytes);
+            Ok((ScriptCommand::OfClient { client, call }, length + 1))
         }
     }
 }

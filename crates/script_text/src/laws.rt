@@ -1,6 +1,6 @@
 //! Laws of readers.
 ghost use Rattle.std.specs.Prelude.{◌≡◌, ◌++◌, ◌∷◌, [], List, ℕ, None};
-ghost use Rattle.fsd_texts.specs.declared.command.Command.{Command};
+ghost use Rattle.fsd_texts.specs.declared.script_command.ScriptCommand.{ScriptCommand};
 ghost use Rattle.fsd_texts.specs.declared.end.End.TheVariants.{Done};
 ghost use Rattle.fsd_texts.specs.Script.{Script, script_in};
 ghost use Rattle.script_text.specs.Reading.{IsShort, Reading, fresh, script_left};
@@ -10,7 +10,7 @@ ghost use Rattle.script_text.specs.Reading.{IsShort, Reading, fresh, script_left
 /// the input fails, what was taken gives no other command.
 pub fn scripts_are_read_whole()
     ensures first { (input : List ℕ) → script_left fresh input ≡ script_in input }
-    ensures next { (whole left now : Script) (given : List Command) (command : Command) → whole ≡ (given ++ left.0, left.1) → left ≡ (command ∷ now.0, now.1) → whole ≡ ((given ++ command ∷ []) ++ now.0, now.1) }
+    ensures next { (whole left now : Script) (given : List ScriptCommand) (command : ScriptCommand) → whole ≡ (given ++ left.0, left.1) → left ≡ (command ∷ now.0, now.1) → whole ≡ ((given ++ command ∷ []) ++ now.0, now.1) }
     ensures end { (r : Reading) (input : List ℕ) → r.end ≡ None → script_left r input ≡ ([], Done) → (r.waiting ≡ []) × (input ≡ []) }
     ensures cut { (r : Reading) → r.end ≡ None → IsShort r.waiting → (script_left r []).0 ≡ [] }
 {}

@@ -1,6 +1,7 @@
 //! The text of scripts: commands read from the input, and the lines that are said.
 #![tactic(auto)]
 
+mod client;
 mod command;
 mod fault;
 mod field;

@@ -1,9 +1,10 @@
 //! One line of a script, and what it asks for.
 ghost use Rattle.std.specs.Prelude.{◌≡◌, ◌<◌, ◌+◌, ◌∷◌, [], MatchResult, IfOk, Ok, Err, length, map, drop, ◌==◌, position};
 ghost use Rattle.fsd_texts.specs.declared.command.Command.TheVariants as Word;
-ghost use Rattle.fsd_texts.specs.Script.{asked_by, asks, asks_alone, asks_keep, asks_put, key_in, line_at, max_line, pattern_in, with_field, words_of};
+ghost use Rattle.fsd_texts.specs.Script.{asked_by, asks, asks_alone, asks_keep, asks_put, key_in, line_at, max_line, pattern_in, with_field, with_no_field, words_of};
 ghost use Rattle.script_text.specs.Front.{Finds};
 
+use crate::client::of_client;
 use crate::fault::BodyFault;
 use crate::field::{key_of, name_of, number_of, pattern_of};
 use fsd_texts::{Asking, Cause, Command};
@@ -145,19 +146,25 @@ fn get_of(fields: &[&[u8]]) -> Result<Asking, Cause>
     }
 }
 
-// What a word asks for that has no fields.
+// What a word asks for that has no fields, or a client behind it.
 fn alone(word: &[u8], fields: &[&[u8]]) -> Result<Asking, Cause>
     ensures { result ≡ asks_alone word.now (map (λ w. w.now) fields.now) }
 {
-    let command = if word == b"force".as_slice() {
-        Command::Force
+    if word == b"force".as_slice() {
+        none_of(Command::Force, fields)
     } else if word == b"tick".as_slice() {
-        Command::Tick
+        none_of(Command::Tick, fields)
     } else if word == b"stat".as_slice() {
-        Command::Stat
+        none_of(Command::Stat, fields)
     } else {
-        return Err(Cause::UnknownWord);
-    };
+        of_client(word, fields)
+    }
+}
+
+// A command of which nothing more is told.
+fn none_of(command: Command, fields: &[&[u8]]) -> Result<Asking, Cause>
+    ensures { result ≡ with_no_field command (map (λ w. w.now) fields.now) }
+{
     if fields.is_empty() {
         Ok(Asking::Plainly(command))
     } else {

@@ -8,7 +8,7 @@ ghost use Rattle.script_text.specs.Taking.{Comes, Grows, IsUntaken, Moves, input
 
 use crate::command::command_of;
 use crate::fault::{BodyFault, ScriptFault};
-use fsd_texts::{BadLine, Cause, Command, End};
+use fsd_texts::{BadLine, Cause, End, ScriptCommand};
 use sector_disk::Machine;
 use std::alloc::Global;
 use std::marker::Model;
@@ -62,7 +62,7 @@ impl Reader {
         &mut self,
         alloc: Global,
         m: &mut M,
-    ) -> Result<Option<Command>, ScriptFault>
+    ) -> Result<Option<ScriptCommand>, ScriptFault>
         ensures script { M.tells m.new → Answers result (script_left self.old (M.ledger m.old).input) (script_left self.new (M.ledger m.new).input) }
         ensures end { self.new.end ≡ end_with result }
         ensures given { self.new.given ≡ self.old.given + count_with result }
@@ -86,7 +86,7 @@ impl Reader {
     }
 
     // The command that the waiting bytes begin with, which is given.
-    fn front(&mut self, alloc: Global) -> Result<Command, BodyFault>
+    fn front(&mut self, alloc: Global) -> Result<ScriptCommand, BodyFault>
         requires { self.old.end ≡ None }
         ensures { GivesFirst self.old result self.new }
     {
@@ -215,7 +215,7 @@ fn needs_more(cause: Cause) -> bool
 }
 
 // What is answered where the script has ended.
-fn answer(end: Option<End>) -> Result<Option<Command>, ScriptFault>
+fn answer(end: Option<End>) -> Result<Option<ScriptCommand>, ScriptFault>
     ensures { IfSome end (λ end. result ≡ answer_of end) }
 {
     match end {

@@ -49,6 +49,15 @@ pub fn lay_line(line: &Line) -> LineText
         Line::Damaged { key, sector } => key_line("damaged ", key, *sector),
         Line::Scrubbed { healed, damaged } => scrubbed_text(*healed, *damaged),
         Line::Generated(counts) => generated_text(counts),
+        Line::Life(life) => numbered("life ", u64::from(*life)),
+        Line::Begun(client) => numbered("begun ", u64::from(*client)),
+        Line::Took { client, sum } => paired("took ", u64::from(*client), u64::from(*sum)),
+        Line::Dropped(client) => numbered("dropped ", u64::from(*client)),
+        Line::Opened { client, length } => {
+            paired("opened ", u64::from(*client), u64::from(*length))
+        }
+        Line::Given { client, length } => paired("next ", u64::from(*client), u64::from(*length)),
+        Line::Done(client) => numbered("done ", u64::from(*client)),
         Line::Refused(why) => refused_text(*why),
         Line::Ended(fault) => ended_text(*fault),
     }

@@ -276,6 +276,7 @@ module _ (k after : Known) (forces : IsForcedFrom k after) where
 pub forced_from : (k after : Known) (reply : Reply) → Answers (λ met. force_outcome (volume_of k)) reply [] k after → IsForcedFrom k after
 forced_from k after reply answers = record {
   volume = sym (ap (λ (o : Outcome). o.1) answers.is);
+  opened = answers.opened;
   windows = answers.windows;
   changes = answers.changes ∙ append-nil k.changes;
 }

@@ -38,9 +38,15 @@ pub record WritesHealed (others : ℕ) (old new : Ledger) (told : ℕ) : Type 0 
   pub tells : told ≡ min healed (2 ^ 32 - 1)
   pub written : new.written ≡ old.written + (others + healed)
 
--- all changes are forced
+-- What clients have open stays: the sectors of unfinished creations, and the versions that are held.
+pub record KeepsOpen (old new : State) : Type 0 where
+  pub unfinished : new.unfinished ≡ old.unfinished
+  pub readers : new.readers ≡ old.readers
+
+-- all changes are forced, and what is open stays
 pub record IsForcedFrom (k after : Known) : Type 0 where
   pub volume : volume_of after ≡ forced (volume_of k)
+  pub opened : after.opened ≡ k.opened
   pub windows : after.windows ≡ k.windows
   pub changes : after.changes ≡ k.changes
 

@@ -7,7 +7,7 @@ ghost use Rattle.volume_contract.specs.Order.{Follows, IsLookUp, Keeps, is_idle}
 ghost use Rattle.volume_contract.specs.State.{IsForced, Known, Stands, force_len};
 ghost use Rattle.volume_contract.specs.Healing.{TwinsStand};
 ghost use Rattle.scrub.specs.Looking.{AreDamaged};
-ghost use Rattle.scrub.specs.Scrub.{EndsHealed, EndsLooked, EndsScrub, LeavesScrubbed, WritesHealed, scrub_steps, scrub_writes};
+ghost use Rattle.scrub.specs.Scrub.{EndsHealed, EndsLooked, EndsScrub, KeepsOpen, LeavesScrubbed, WritesHealed, scrub_steps, scrub_writes};
 ghost use Rattle.scrub.specs.Telling.{TellsOn};
 
 use crate::data::look;
@@ -88,6 +88,7 @@ pub fn scrub<M: Machine, V: Files<M>>(
     ensures rest { M.honest m.new → Touches (scrub_writes (V.state v.old).layout) (M.now m.old) (M.now m.new) }
     ensures counted { IfOk result (λ healed. M.tells m.new → WritesHealed (force_len (V.state v.old)) (M.ledger m.old) (M.ledger m.new) healed.sectors) }
     ensures layout { (V.state v.new).layout ≡ (V.state v.old).layout }
+    ensures open { KeepsOpen (V.state v.old) (V.state v.new) }
     ensures kept { MatchResult result (λ x. IsForced (V.state v.old) (V.state v.new)) (λ why. Keeps (scrub_steps (V.state v.old)) why (V.state v.old) (V.state v.new)) }
     ensures told { IfErr result (λ why. M.honest m.new → TellsOn (V.state v.old).layout (M.now m.new).image why) }
     ensures mended { OnOk result (M.honest m.new → TwinsStand (V.state v.old).layout (M.now m.new)) }

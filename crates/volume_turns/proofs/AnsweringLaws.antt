@@ -54,7 +54,7 @@ worn_first a b c windows worn then = touches_then nowhere nowhere nowhere a b c 
 touches_ages : (a b : Moment) → b.windows ≡ a.windows → Touches nowhere a b → Ages a b
 touches_ages a b windows t = record { image = record { size = t.size; each = λ s. t.others s refl }; windows = windows }
 
-stays_damaged : (a b : Moment) (s : ℕ) → Touches nowhere a b → HasDamaged a.image s → HasDamaged b.image s
+pub stays_damaged : (a b : Moment) (s : ℕ) → Touches nowhere a b → HasDamaged a.image s → HasDamaged b.image s
 stays_damaged a b s t (within, gone) = (omega (arith, within, t.size), elim (t.others s refl) [ inl same ↦ same ∙ gone | inr worn ↦ worn.1 ])
 
 stay_damaged : (a b : Moment) → Touches nowhere a b → (found : List (Key × ℕ)) → AllByRecursion (λ x. HasDamaged a.image x.1) found → AllByRecursion (λ x. HasDamaged b.image x.1) found
@@ -78,11 +78,11 @@ said_or_fault P Why.Memory said = tt
 said_or_fault P why said = said
 
 -- each step that refuses so has this
-abbrev Each : Refusal → Type 0 → List Step → Type 0
+abbrev pub Each : Refusal → Type 0 → List Step → Type 0
 Each why P [] = Unit {0}
 Each why P (step ∷ steps) = (Refuses step why → P) × Each why P steps
 
-each : (why : Refusal) (P : Type 0) (steps : List Step) → Each why P steps → Comes steps why → P
+pub each : (why : Refusal) (P : Type 0) (steps : List Step) → Each why P steps → Comes steps why → P
 each why P [] all comes = absurd comes
 each why P (step ∷ steps) all (inl here) = all.0 here
 each why P (step ∷ steps) all (inr later) = each why P steps all.1 later.1

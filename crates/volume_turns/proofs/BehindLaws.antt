@@ -10,7 +10,7 @@ use Rattle.sector_disk.specs.Machine.{Ledger, LeavesOnly, Moment, OnlyWrites, Tr
 use Rattle.sector_disk.proofs.CallLaws.{only_writes_then}
 use Rattle.sector_disk.proofs.Holding.{trusts_on}
 use Rattle.fsd_files.specs.Files.{Change}
-use Rattle.fsd_files.specs.Volume.{Volume}
+use Rattle.fsd_files.specs.Desk.{Session}
 use Rattle.fsd_log.specs.Scan.{Placed}
 use Rattle.fsd_sound.specs.Lost.{AreCopiesOn, LostIn}
 use Rattle.fsd_sound.specs.Mounted.{Mounted}
@@ -25,7 +25,7 @@ use Rattle.fsd_runs.specs.Errands.{errand_of}
 use Rattle.fsd_runs.specs.Leaves.{LeavesRun}
 use Rattle.fsd_runs.specs.Runs.{turns_of}
 use Rattle.volume_contract.specs.Mount.{IsFound, IsRefused, IsSoundAt, KeepsAll, MountsSound, UnsoundFor}
-use Rattle.volume_contract.specs.State.{IsNew, Known, Stands, State, volume_of}
+use Rattle.volume_contract.specs.State.{IsNew, Known, Stands, State, none_open, volume_of}
 use Rattle.volume_turns.specs.Answering.{EndsOne, RunsOne, SaysNoReply}
 use Rattle.volume_turns.specs.Causes.{FailsInput, SaysFault, SaysOfCall, SaysOfInput, TellsImage, is_of_fault}
 use Rattle.volume_turns.specs.Line.{EndsWith, IsStatusFor, is_unsaid}
@@ -89,7 +89,7 @@ module _ {S D : Type 0} {state : S → State} {M : Ghosts D} {sectors : ℕ} {v 
   -- over a sound disk
   pub over_leaves : (has : S → Mounted → List Placed → Type 0) (request : Request) (input rest : List ℕ) (l : Layout) (windows : List WeakRun) (h : List Change) (f status : ℕ) → M.honest b → (M.honest b → Since M m b)
       → ((y : D) (t : ℕ) → M.honest y → t ≤ M.moment y → M.left_since y t (M.now y)) → MountsSound state has l windows h f (M.left_since m) (M.moment a) (λ P. LeavesOnly M.moment M.left_since a m P) (M.now a) (M.now m) (Ok v)
-      → ((k : Known) → (volume_of k).unforced ≡ 0 → Stands state has v k (M.now m) → RunsOut M request input rest (M.report m) k m b status)
+      → ((k : Known) → (volume_of k).unforced ≡ 0 → k.opened ≡ none_open → Stands state has v k (M.now m) → RunsOut M request input rest (M.report m) k m b status)
       → LeavesRun request input rest l windows h f (M.left_since b) (M.moment a) (λ P. LeavesOnly M.moment M.left_since a b P) (M.report a) (M.report b) (M.now a) (M.now b) status
   over_leaves has request input rest l windows h f status honest since counts_now sound runs =
       joined_run state has M request input rest l windows h f a m b v (over_said honest) x.disk.uses x.disk.faults (since honest) (counts_now m (M.moment m) (x.trust.honest honest) (omega arith)) (counts_now b (M.moment m) honest) status sound runs
@@ -144,7 +144,7 @@ module _ {D : Type 0} {M : Ghosts D} {sectors : ℕ} {fault : MountFault} {why :
   -- over a sound disk
   pub refused_leaves : {S : Type 0} (state : S → State) (has : S → Mounted → List Placed → Type 0) (request : Request) (input rest : List ℕ) (l : Layout) (windows : List WeakRun) (h : List Change) (f : ℕ) → M.honest b → (M.honest m → AreShort (M.now m).windows)
       → ((y : D) (t : ℕ) → M.honest y → t ≤ M.moment y → M.left_since y t (M.now y)) → ((left : Moment) → M.honest m → M.left_since m (M.moment m) left → left ≡ M.now m) → IsSoundAt sectors l windows h f (M.now a)
-      → MountsSound state has l windows h f (M.left_since m) (M.moment a) (λ P. LeavesOnly M.moment M.left_since a m P) (M.now a) (M.now m) (Err fault) → ((v : Volume) → IsSome (slice_get (turns_of (errand_of request input) [] v) 0))
+      → MountsSound state has l windows h f (M.left_since m) (M.moment a) (λ P. LeavesOnly M.moment M.left_since a m P) (M.now a) (M.now m) (Err fault) → ((s : Session) → IsSome (slice_get (turns_of (errand_of request input) [] s) 0))
       → LeavesRun request input rest l windows h f (M.left_since b) (M.moment a) (λ P. LeavesOnly M.moment M.left_since a b P) (M.report a) (M.report b) (M.now a) (M.now b) status
   refused_leaves state has request input rest l windows h f honest short counts_now only at sound some =
       let back = x.says.trust.honest honest in

@@ -10,7 +10,7 @@ use Rattle.fsd_sound.specs.Writes.{MountKeeps}
 use Rattle.fsd_sound.specs.declared.fault.MountFault.{MountFault}
 use Rattle.fsd_sound.specs.declared.fault.MountFault.TheVariants as Refused
 use Rattle.fsd_texts.specs.declared.bad_line.Cause.{Cause}
-use Rattle.fsd_texts.specs.declared.command.Command.{Command}
+use Rattle.fsd_texts.specs.declared.script_command.ScriptCommand.{ScriptCommand}
 use Rattle.fsd_texts.specs.declared.end.End.{End as ScriptEnd}
 use Rattle.fsd_texts.specs.declared.end.End.TheVariants.{Done, TooLong}
 use Rattle.fsd_texts.specs.declared.fault.Fault.{Fault}
@@ -30,6 +30,7 @@ use Rattle.volume_turns.specs.declared.turns.End.{End}
 use Rattle.volume_turns.specs.Causes.{HasSpent, HasVolume, IsOfInput, SaysOfCall, SaysOfImage, SaysOfInput, StandsBefore, TellsImage, is_of_mounted}
 use Rattle.volume_turns.specs.Each.{SaysBetween}
 use Rattle.volume_turns.specs.Line.{EndsWith, IsStatusFor}
+use Rattle.client_desk.specs.declared.client.Client.{Client}
 use Rattle.volume_turns.specs.Once.{fault_of}
 use Rattle.volume_turns.specs.Script.{Reads, WholeRead}
 use Rattle.volume_turns.proofs.SaidLaws.{no_replies}
@@ -149,7 +150,7 @@ input_since a m b old mid now counted same x = record { why = x.why; cause = of_
 
 -- ---- an input that is too long
 
-then_end : (ordinal : ℕ) (more : List ℕ → Script) → ((rest : List ℕ) → (more rest).1 ≡ TooLong → ⊥) → (read : Result (Command × List ℕ) Cause) → (then_more ordinal more read).1 ≡ TooLong → ⊥
+then_end : (ordinal : ℕ) (more : List ℕ → Script) → ((rest : List ℕ) → (more rest).1 ≡ TooLong → ⊥) → (read : Result (ScriptCommand × List ℕ) Cause) → (then_more ordinal more read).1 ≡ TooLong → ⊥
 then_end ordinal more other (Err cause) is = cc is
 then_end ordinal more other (Ok x) is = other x.1 is
 
@@ -178,18 +179,18 @@ pub worn_apart : (end : ScriptEnd) (result : Result Stop End) → IfOk result (�
 worn_apart end result same is = let e : WornOut ≡ Ended end = passes_on WornOut end result same is in cc e
 
 -- what is read to its end does not stop for a worn-out mount
-pub read_not_worn : {S D : Type 0} (state : S → State) (has : S → Mounted → List Placed → Type 0) (M : Ghosts D) (e : Errand) (old : S) (a : D) (new : S) (b : D) (stop : Stop) → stop ≡ WornOut → WholeRead state has M e old a new b (Ok stop) → ⊥
+pub read_not_worn : {S D : Type 0} (state : S → State) (has : S → Mounted → List Placed → Type 0) (M : Ghosts D) (e : Errand) (old : S × List Client) (a : D) (new : S × List Client) (b : D) (stop : Stop) → stop ≡ WornOut → WholeRead state has M e old a new b (Ok stop) → ⊥
 read_not_worn state has M e old a new b stop is whole =
     let at : WholeRead state has M e old a new b (Ok WornOut) = subst (λ (s : Stop). WholeRead state has M e old a new b (Ok s)) is whole in
     at.reads
 
-pub read_ends : {S D : Type 0} (state : S → State) (has : S → Mounted → List Placed → Type 0) (M : Ghosts D) (e : Errand) (old : S) (a : D) (new : S) (b : D) (stop : Stop) (end : ScriptEnd) → WholeRead state has M e old a new b (Ok stop) → stop ≡ Ended end → (script_in (M.ledger a).input).1 ≡ end
+pub read_ends : {S D : Type 0} (state : S → State) (has : S → Mounted → List Placed → Type 0) (M : Ghosts D) (e : Errand) (old : S × List Client) (a : D) (new : S × List Client) (b : D) (stop : Stop) (end : ScriptEnd) → WholeRead state has M e old a new b (Ok stop) → stop ≡ Ended end → (script_in (M.ledger a).input).1 ≡ end
 read_ends state has M e old a new b stop end x is =
     let all : WholeRead state has M e old a new b (Ok (Ended end)) = subst (λ (s : Stop). WholeRead state has M e old a new b (Ok s)) is x in
     all.reads.0
 
 -- for each of its commands a reply is said
-pub read_says : {S D : Type 0} (state : S → State) (has : S → Mounted → List Placed → Type 0) (M : Ghosts D) (e : Errand) (last : Reading) (old : S) (a : D) (new : S) (b : D) (stop : Stop) (end : ScriptEnd) → Reads state has M e fresh last old a new b (Ok (Some stop)) → stop ≡ Ended end → SaysBetween M e.says (script_in (M.ledger a).input).0 a b
+pub read_says : {S D : Type 0} (state : S → State) (has : S → Mounted → List Placed → Type 0) (M : Ghosts D) (e : Errand) (last : Reading) (old : S × List Client) (a : D) (new : S × List Client) (b : D) (stop : Stop) (end : ScriptEnd) → Reads state has M e fresh last old a new b (Ok (Some stop)) → stop ≡ Ended end → SaysBetween M e.says (script_in (M.ledger a).input).0 a b
 read_says state has M e last old a new b stop end x is =
     let all : Reads state has M e fresh last old a new b (Ok (Some (Ended end))) = subst (λ (s : Stop). Reads state has M e fresh last old a new b (Ok (Some s))) is x in
     all.2

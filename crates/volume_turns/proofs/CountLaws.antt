@@ -12,51 +12,54 @@ use Rattle.sector_disk.specs.Machine.{LeavesOnly, Moment, Report, Utters}
 use Rattle.sector_disk.proofs.CallLaws.{faults_then}
 use Rattle.sector_disk.proofs.Moments.{started}
 use Rattle.sector_disk.proofs.Wear.{worn_refl}
-use Rattle.fsd_files.specs.Answers.{Met}
+use Rattle.fsd_files.specs.Desk.{Session, no_clients}
 use Rattle.fsd_files.specs.Replies.{Reply}
-use Rattle.fsd_files.specs.Volume.{Volume}
 use Rattle.fsd_sound.specs.Mounted.{Mounted}
 use Rattle.fsd_sound.proofs.MountedLaws.{mounted_sound}
 use Rattle.fsd_texts.specs.declared.command.Command.{Command}
+use Rattle.fsd_texts.specs.declared.script_command.ScriptCommand.{ScriptCommand}
+use Rattle.fsd_texts.specs.declared.script_command.ScriptCommand.TheVariants.{Plain}
 use Rattle.fsd_texts.specs.declared.counts.Counts.{Counts}
 use Rattle.fsd_texts.specs.declared.fault.Fault.{Fault}
 use Rattle.fsd_texts.specs.declared.fault.Fault.TheVariants as Ends
 use Rattle.fsd_texts.specs.declared.line.Line.TheVariants as Says
 use Rattle.fsd_texts.specs.Generator.{made_from, next_state}
-use Rattle.fsd_runs.specs.Commands.{answer}
-use Rattle.fsd_runs.specs.Errands.{Answered, answered_so, bytes_moved, forced_turn, generated_line, is_deleted, is_kept, is_made, is_read, is_refused}
+use Rattle.fsd_runs.specs.Sessions.{Meeting, answer_in, session_over}
+use Rattle.fsd_runs.specs.Errands.{Answered, moved_in, forced_turn, generated_line, is_deleted, is_kept, is_made, is_read, is_refused}
 use Rattle.fsd_runs.specs.Runs.{answered}
+use Rattle.client_desk.specs.Clients.{no_desk}
 use Rattle.volume_contract.specs.State.{State, Ages, Known, Stands, forced_of, volume_of}
 use Rattle.volume_turns.specs.declared.turns.End.{End}
 use Rattle.volume_turns.specs.declared.turns.End.TheVariants.{Fault as Stopped, Output}
-use Rattle.volume_turns.specs.Generate.{CountedGroup, CountedRun, CountedStep, RunsCounted, StepsCounted, silent}
+use Rattle.volume_turns.specs.Generate.{CountedGroup, CountedRun, CountedStep, RunsCounted, StepsCounted, all_plain, silent}
 use Rattle.volume_turns.specs.Group.{is_worn_end}
 use Rattle.volume_turns.specs.Once.{ClosesAndSays, unit_of}
-use Rattle.volume_turns.specs.Steps.{Does, IsAnswered, Stays}
+use Rattle.volume_turns.specs.Seats.{DoesIn, IsAnsweredIn, Seated, SitsAt, StaysIn, known_of, seated, session_in}
 use Rattle.volume_turns.specs.Tally.{all_counted, counted, nothing}
 use Rattle.volume_turns.specs.Turns.{Follows, InRun, Told, Unheard, device_end, Runs, RunsFrom, SaysAll, Steps}
 use Rattle.volume_turns.proofs.GroupLaws.{group_all, group_all_mets, group_stop, group_worn}
 use Rattle.volume_turns.proofs.RunLaws.{from_both, from_both_mets, reply_is, runs_nil, runs_nil_mets, step_fault, step_ok, step_ok_met, step_unsaid}
+use Rattle.volume_turns.proofs.SeatLaws.{seat_wears}
 use Rattle.volume_turns.proofs.TurnLaws.{in_before, said_nothing}
 
 -- ---- counts
 
 -- a field that grows by something with each
-field_is : (f : Counts → ℕ) (g : Answered → ℕ) → ((t : Counts) (p : Answered) → f (counted t p) ≡ f t + g p) → (t : Counts) (done : List Answered) → f (all_counted t done) ≡ f t + sum_by g done
+field_is : (f : Counts → ℕ) (g : Answered → ℕ) → ((t : Counts) (p : Answered) → f (counted t p.command p.reply) ≡ f t + g p) → (t : Counts) (done : List Answered) → f (all_counted t done) ≡ f t + sum_by g done
 field_is f g grows t [] = omega arith
 field_is f g grows t (p ∷ done) =
-    let rest = field_is f g grows (counted t p) done in
+    let rest = field_is f g grows (counted t p.command p.reply) done in
     let one = grows t p in
     let sum = sum_by-cons g p done in
     omega (arith, rest, one, sum)
 
 -- from none on
-sum_is : (f : Counts → ℕ) (g : Answered → ℕ) → ((t : Counts) (p : Answered) → f (counted t p) ≡ f t + g p) → f nothing ≡ 0 → (done : List Answered) → f (all_counted nothing done) ≡ sum_by g done
+sum_is : (f : Counts → ℕ) (g : Answered → ℕ) → ((t : Counts) (p : Answered) → f (counted t p.command p.reply) ≡ f t + g p) → f nothing ≡ 0 → (done : List Answered) → f (all_counted nothing done) ≡ sum_by g done
 sum_is f g grows none done = let all = field_is f g grows nothing done in omega (arith, all, none)
 
 count_is : (t : Counts) (done : List Answered) → (all_counted t done).count ≡ t.count + length done
 count_is t [] = omega arith
-count_is t (p ∷ done) = let rest = count_is (counted t p) done in omega (arith, rest)
+count_is t (p ∷ done) = let rest = count_is (counted t p.command p.reply) done in omega (arith, rest)
 
 pub line_is : (done : List Answered) → Says.Generated (all_counted nothing done) ≡ generated_line done
 line_is done =
@@ -65,7 +68,7 @@ line_is done =
     let deleted = sum_is (λ x. x.deleted) (λ p. is_deleted p.reply) (λ t p. refl) refl done in
     let kept = sum_is (λ x. x.kept) (λ p. is_kept p.reply) (λ t p. refl) refl done in
     let read = sum_is (λ x. x.read) (λ p. is_read p.reply) (λ t p. refl) refl done in
-    let bytes = sum_is (λ x. x.bytes) (λ p. bytes_moved p.command p.reply) (λ t p. refl) refl done in
+    let bytes = sum_is (λ x. x.bytes) (λ p. moved_in p.command p.reply) (λ t p. refl) refl done in
     let refused = sum_is (λ x. x.refused) (λ p. is_refused p.reply) (λ t p. refl) refl done in
     let count : t.count ≡ length done = let all = count_is nothing done in omega (arith, all) in
     λ i. Says.Generated (record { count = count i; made = made i; deleted = deleted i; kept = kept i; read = read i; bytes = bytes i; refused = refused i })
@@ -80,8 +83,8 @@ pub none_left : (commands : List Command) → length commands ≡ 0 → commands
 none_left [] none = refl
 none_left (c ∷ commands) none = cc none
 
-pub never : (met : Met) (v : Volume) (c : Command) → IsTrue (silent.forces (answer met v c).0) → (answer met v c).1.unforced ≡ 0
-never met v c is = cc is
+pub never : (x : Meeting) (s : Session) (c : ScriptCommand) → IsTrue (silent.forces (answer_in x s c).0) → (answer_in x s c).1.volume.unforced ≡ 0
+never x s c is = cc is
 
 -- ---- one command, and nothing said
 
@@ -89,36 +92,39 @@ module _ {S D : Type 0} (state : S → State) (has : S → Mounted → List Plac
     (wears : (s : S) (k : Known) (old new : Moment) → AreShort old.windows → Ages old new → Stands state has s k old → Stands state has s k new)
     (short : (m : D) → M.honest m → AreShort (M.now m).windows)
     (counts_now : (m : D) (t : ℕ) → M.honest m → t ≤ M.moment m → M.left_since m t (M.now m))
-    (command : Command) (v w : S) (a m : D) (k : Known) (from : Moment) (stood_from : Stands state has v k from) (aged : Ages from (M.now a)) (stood : Stands state has v k (M.now a))
-    (fault : Option ℕ) (disk : WritesDisk M fault (Stays state has v) a m) (layout : (state w).layout ≡ (state v).layout) (honest : M.honest m) where
+    (command : Command) (v w : S) (a m : D) (k : Seated) (from : Moment) (stood_from : SitsAt state has (v, no_desk) k from) (aged : Ages from (M.now a)) (stood : SitsAt state has (v, no_desk) k (M.now a))
+    (fault : Option ℕ) (disk : WritesDisk M fault (StaysIn state has (v, no_desk)) a m) (layout : (state w).layout ≡ (state v).layout) (honest : M.honest m) where
+  abbrev plain : ScriptCommand
+  plain = Plain command
+
   still : Since M m m
   still t left le was = was
 
-  module _ (only : (left : Moment) → M.left_since m (M.moment m) left → left ≡ M.now m) (after : Known) (reply : Reply) (is : IsAnswered command (state v) k after (M.now a).image (M.now m).image reply) (stands : Stands state has w after (M.now m)) where
+  module _ (only : (left : Moment) → M.left_since m (M.moment m) left → left ≡ M.now m) (after : Seated) (reply : Reply) (is : IsAnsweredIn plain (state v) k after (M.now a).image (M.now m).image reply) (stands : SitsAt state has (w, no_desk) after (M.now m)) where
     run : LeavesOnly M.moment M.left_since m m (Utters (silent.says reply) (M.now m))
     run = started M.moment M.left_since m (M.now m) (Utters (silent.says reply) (M.now m)) only (record { image = worn_refl (open_damage (M.now m).windows) (M.now m).image; windows = refl; heard = 0; said = sym (append-nil (M.now m).said) })
 
     says : SaysAll (silent.says reply) (M.now m) (M.now m)
     says = record { ages = record { image = worn_refl (open_damage (M.now m).windows) (M.now m).image; windows = refl }; said = sym (append-nil (M.now m).said) }
 
-    met_is : (step_ok state has M wears short counts_now silent never command v w a m m k from stood_from aged stood fault disk layout honest still after reply is stands run says).met ≡ is.met
-    met_is = step_ok_met state has M wears short counts_now silent never command v w a m m k from stood_from aged stood fault disk layout honest still after reply is stands run says
+    met_is : (step_ok state has M wears short counts_now silent never plain (v, no_desk) (w, no_desk) a m m k from stood_from aged stood fault disk layout honest still after reply is stands run says).met ≡ is.met
+    met_is = step_ok_met state has M wears short counts_now silent never plain (v, no_desk) (w, no_desk) a m m k from stood_from aged stood fault disk layout honest still after reply is stands run says
 
-    pub counted_step : (t u : Counts) → u ≡ counted t (answered_so command reply) → CountedStep state has M k from command a m w t u
+    pub counted_step : (t u : Counts) → u ≡ counted t plain reply → CountedStep state has M k from command a m w t u
     counted_step t u counts = record {
-      step = step_ok state has M wears short counts_now silent never command v w a m m k from stood_from aged stood fault disk layout honest still after reply is stands run says;
-      counts = counts ∙ ap (λ (r : Reply). counted t (answered_so command r)) (sym (reply_is state has M wears short counts_now silent never command v w a m m k from stood_from aged stood fault disk layout honest still after reply is stands))
-          ∙ ap (λ (x : Met). counted t (answered_so command (answer x (volume_of k) command).0)) (sym met_is);
+      step = step_ok state has M wears short counts_now silent never plain (v, no_desk) (w, no_desk) a m m k from stood_from aged stood fault disk layout honest still after reply is stands run says;
+      counts = counts ∙ ap (λ (r : Reply). counted t plain r) (sym (reply_is state has M wears short counts_now silent never plain (v, no_desk) (w, no_desk) a m m k from stood_from aged stood fault disk layout honest still after reply is stands))
+          ∙ ap (λ (x : Meeting). counted t plain (answer_in x (session_in k) plain).0) (sym met_is);
     }
 
     -- its bytes have no sum
-    pub counted_none : (why : Fault) → why ≡ Ends.Memory → (more : List Command) → RunsFrom state has M silent k from (command ∷ more) a m w (Err (Stopped why))
-    counted_none why is_memory more = subst (λ (x : Fault). RunsFrom state has M silent k from (command ∷ more) a m w (Err (Stopped x))) (sym is_memory)
-        (step_unsaid state has M wears short counts_now silent never command v w a m m k from stood_from aged stood fault disk layout honest still after reply is stands run (Stopped Ends.Memory)
+    pub counted_none : (why : Fault) → why ≡ Ends.Memory → (more : List ScriptCommand) → RunsFrom state has M silent k from (plain ∷ more) a m (w, no_desk) (Err (Stopped why))
+    counted_none why is_memory more = subst (λ (x : Fault). RunsFrom state has M silent k from (plain ∷ more) a m (w, no_desk) (Err (Stopped x))) (sym is_memory)
+        (step_unsaid state has M wears short counts_now silent never plain (v, no_desk) (w, no_desk) a m m k from stood_from aged stood fault disk layout honest still after reply is stands run (Stopped Ends.Memory)
         (record { image = worn_refl (open_damage (M.now m).windows) (M.now m).image; windows = refl; said = refl }) more)
 
-  pub counted_fault : (why : Fault) → Does state has command v w k (M.now a) (M.now m) (Err why) → (more : List Command) → RunsFrom state has M silent k from (command ∷ more) a m w (Err (Stopped why))
-  counted_fault why does more = step_fault state has M wears short counts_now silent never command v w a m m k from stood_from aged stood fault disk layout honest still why does more
+  pub counted_fault : (why : Fault) → DoesIn state has plain (v, no_desk) (w, no_desk) k (M.now a) (M.now m) (Err why) → (more : List ScriptCommand) → RunsFrom state has M silent k from (plain ∷ more) a m (w, no_desk) (Err (Stopped why))
+  counted_fault why does more = step_fault state has M wears short counts_now silent never plain (v, no_desk) (w, no_desk) a m m k from stood_from aged stood fault disk layout honest still why does more
 
 -- ---- one after another
 
@@ -126,8 +132,8 @@ module _ {S D : Type 0} (state : S → State) (has : S → Mounted → List Plac
   pub counted_nil : (v : S) (a : D) → ((s : S) (k : Known) (old new : Moment) → AreShort old.windows → Ages old new → Stands state has s k old → Stands state has s k new)
       → (M.honest a → (left : Moment) → M.left_since a (M.moment a) left → left ≡ M.now a) → (M.honest a → (from : Moment) → Ages from (M.now a) → AreShort from.windows) → (t : Counts) → RunsCounted state has M [] v a v a t (Ok t)
   counted_nil v a wears only short t honest k from stood aged = record {
-    ran = runs_nil state has M silent v a wears only short honest k from stood aged;
-    counts = ap (λ (mets : List Met). all_counted t (answered mets (volume_of k) [])) (sym (runs_nil_mets state has M silent v a wears only short honest k from stood aged));
+    ran = runs_nil state has M silent (v, no_desk) a wears only short honest k from stood aged;
+    counts = ap (λ (mets : List Meeting). all_counted t (answered mets (session_in k) [])) (sym (runs_nil_mets state has M silent (v, no_desk) a wears only short honest k from stood aged));
   }
 
   pub counted_then : (command : Command) (commands : List Command) (v w z : S) (a m b : D) (t u : Counts) (result : Result Counts End) → Follows M m b → (M.honest m → M.moment a ≤ M.moment m)
@@ -135,62 +141,62 @@ module _ {S D : Type 0} (state : S → State) (has : S → Mounted → List Plac
   counted_then command commands v w z a m b t u result follows later steps runs honest k from stood aged =
       let one : CountedStep state has M k from command a m w t u = steps (follows.honest honest) k from stood aged in
       let rest : CountedRun state has M one.step.after one.step.mid commands m b z u result = runs honest one.step.after one.step.mid one.step.stands one.step.ages in
-      let took : Runs state has M silent commands w m z b (unit_of result) = λ h x f s g. (runs h x f s g).ran in
-      let step : Steps state has M silent command v a w m (Ok tt) = λ h x f s g. (steps h x f s g).step in
+      let took : Runs state has M silent (all_plain commands) (w, no_desk) m (z, no_desk) b (unit_of result) = λ h x f s g. (runs h x f s g).ran in
+      let step : Steps state has M silent (Plain command) (v, no_desk) a (w, no_desk) m (Ok tt) = λ h x f s g. (steps h x f s g).step in
       record {
-        ran = from_both state has M silent command commands v w z a m b (unit_of result) follows later step took honest k from stood aged;
-        counts = subst (λ (mets : List Met). IfOk result (λ x. x ≡ all_counted t (answered mets (volume_of k) (command ∷ commands)))) (sym (from_both_mets state has M silent command commands v w z a m b (unit_of result) follows later step took honest k from stood aged))
+        ran = from_both state has M silent (Plain command) (all_plain commands) (v, no_desk) (w, no_desk) (z, no_desk) a m b (unit_of result) follows later step took honest k from stood aged;
+        counts = subst (λ (mets : List Meeting). IfOk result (λ x. x ≡ all_counted t (answered mets (session_in k) (all_plain (command ∷ commands))))) (sym (from_both_mets state has M silent (Plain command) (all_plain commands) (v, no_desk) (w, no_desk) (z, no_desk) a m b (unit_of result) follows later step took honest k from stood aged))
             (on result one rest rest.counts);
       }
     where
       on : (r : Result Counts End) (one : CountedStep state has M k from command a m w t u) (rest : CountedRun state has M one.step.after one.step.mid commands m b z u result)
-          → IfOk r (λ x. x ≡ all_counted u (answered rest.ran.mets (volume_of one.step.after) commands))
-          → IfOk r (λ x. x ≡ all_counted t (answered (one.step.met ∷ rest.ran.mets) (volume_of k) (command ∷ commands)))
-      on (Ok x) one rest is = is ∙ ap (λ (y : Volume). all_counted u (answered rest.ran.mets y commands)) one.step.is
-          ∙ ap (λ (y : Counts). all_counted y (answered rest.ran.mets (answer one.step.met (volume_of k) command).1 commands)) one.counts
+          → IfOk r (λ x. x ≡ all_counted u (answered rest.ran.mets (session_in one.step.after) (all_plain commands)))
+          → IfOk r (λ x. x ≡ all_counted t (answered (one.step.met ∷ rest.ran.mets) (session_in k) (all_plain (command ∷ commands))))
+      on (Ok x) one rest is = is ∙ ap (λ (y : Session). all_counted u (answered rest.ran.mets y (all_plain commands))) one.step.is
+          ∙ ap (λ (y : Counts). all_counted y (answered rest.ran.mets (answer_in one.step.met (session_in k) (Plain command)).1 (all_plain commands))) one.counts
       on (Err end) one rest is = tt
 
   -- one that ends them
-  pub counted_stop : (commands : List Command) (v z : S) (a b : D) (t : Counts) (end : End) → Runs state has M silent commands v a z b (Err end) → RunsCounted state has M commands v a z b t (Err end)
+  pub counted_stop : (commands : List Command) (v z : S) (a b : D) (t : Counts) (end : End) → Runs state has M silent (all_plain commands) (v, no_desk) a (z, no_desk) b (Err end) → RunsCounted state has M commands v a z b t (Err end)
   counted_stop commands v z a b t end runs honest k from stood aged = record { ran = runs honest k from stood aged; counts = tt }
 
   -- memory was refused for the next of them
   pub counted_refused : (commands : List Command) (v : S) (a : D) → ((s : S) (k : Known) (old new : Moment) → AreShort old.windows → Ages old new → Stands state has s k old → Stands state has s k new)
-      → (M.honest a → (left : Moment) → M.left_since a (M.moment a) left → left ≡ M.now a) → (M.honest a → (from : Moment) → Ages from (M.now a) → AreShort from.windows) → Runs state has M silent commands v a v a (Err (Stopped Ends.Memory))
+      → (M.honest a → (left : Moment) → M.left_since a (M.moment a) left → left ≡ M.now a) → (M.honest a → (from : Moment) → Ages from (M.now a) → AreShort from.windows) → Runs state has M silent (all_plain commands) (v, no_desk) a (v, no_desk) a (Err (Stopped Ends.Memory))
   counted_refused commands v a wears only short honest k from stood aged =
-      let now = wears v k from (M.now a) (short honest from aged) aged stood in
-      let sound = mounted_sound k.mounted k.windows k.changes (forced_of k) (M.now a).image now.disk in
+      let now = seat_wears state has wears (v, no_desk) k from (M.now a) (short honest from aged) aged stood in
+      let sound = mounted_sound k.mounted k.windows k.changes (forced_of (known_of k)) (M.now a).image now.stands.disk in
       record {
         mets = [];
         goes = λ t le. tt;
-        moments = λ rest. started M.moment M.left_since a (M.now a) (InRun k rest (M.now a)) (only honest) (in_before k rest (M.now a) (M.now a) (record { sound = sound; windows = refl; said = refl }));
-        ends = (tt, said_nothing k Ends.Memory (M.now a) (M.now a) (record { sound = sound; windows = refl; said = refl }));
+        moments = λ rest. started M.moment M.left_since a (M.now a) (InRun (known_of k) rest (M.now a)) (only honest) (in_before (known_of k) rest (M.now a) (M.now a) (record { sound = sound; windows = refl; said = refl }));
+        ends = (tt, said_nothing (known_of k) Ends.Memory (M.now a) (M.now a) (record { sound = sound; windows = refl; said = refl }));
       }
 
 -- ---- with the force behind them
 
 module _ {S D : Type 0} (state : S → State) (has : S → Mounted → List Placed → Type 0) (M : Ghosts D) (k : Known) (commands : List Command) (a m b : D) (w : S) (since : Since M m b) (later : M.moment a ≤ M.moment m) where
   abbrev Closing : Result (Option Counts) End → Type 0
-  Closing result = (x : Known) → Stands state has w x (M.now m) → ClosesAndSays M x forced_turn.said m b (unit_of result)
+  Closing result = (x : Seated) → SitsAt state has (w, no_desk) x (M.now m) → ClosesAndSays M (known_of x) forced_turn.said m b (unit_of result)
 
   some_same : (t u : Counts) → Some t ≡ Some u → t ≡ u
   some_same t u is = cc is
 
-  pub counted_all : (tally : Counts) → CountedRun state has M k (M.now a) commands a m w nothing (Ok tally) → (result : Result (Option Counts) End) → IfOk result (λ x. x ≡ Some tally) → Closing result → CountedGroup M k commands a b result
+  pub counted_all : (tally : Counts) → CountedRun state has M (seated k no_clients) (M.now a) commands a m w nothing (Ok tally) → (result : Result (Option Counts) End) → IfOk result (λ x. x ≡ Some tally) → Closing result → CountedGroup M k commands a b result
   counted_all tally run (Ok None) same closes = absurd (cc same)
   counted_all tally run (Ok (Some t)) same closes = record {
-    group = group_all state has M silent k (M.now a) commands a m b w since later run.ran (Ok true) refl closes;
-    counts = some_same t tally same ∙ run.counts ∙ ap (λ (mets : List Met). all_counted nothing (answered mets (volume_of k) commands)) (sym (group_all_mets state has M silent k (M.now a) commands a m b w since later run.ran (Ok true) refl closes));
+    group = group_all state has M silent k (M.now a) (all_plain commands) a m b (w, no_desk) since later run.ran (Ok true) refl closes;
+    counts = some_same t tally same ∙ run.counts ∙ ap (λ (mets : List Meeting). all_counted nothing (answered mets (session_over (volume_of k)) (all_plain commands))) (sym (group_all_mets state has M silent k (M.now a) (all_plain commands) a m b (w, no_desk) since later run.ran (Ok true) refl closes));
   }
-  counted_all tally run (Err end) same closes = record { group = group_all state has M silent k (M.now a) commands a m b w since later run.ran (Err end) tt closes; counts = tt }
+  counted_all tally run (Err end) same closes = record { group = group_all state has M silent k (M.now a) (all_plain commands) a m b (w, no_desk) since later run.ran (Err end) tt closes; counts = tt }
 
-  pub counted_worn : (end : End) → is_worn_end end ≡ true → RunsFrom state has M silent k (M.now a) commands a m w (Err end) → (result : Result (Option Counts) End) → IfOk result (λ x. x ≡ None) → Closing result → CountedGroup M k commands a b result
+  pub counted_worn : (end : End) → is_worn_end end ≡ true → RunsFrom state has M silent (seated k no_clients) (M.now a) (all_plain commands) a m (w, no_desk) (Err end) → (result : Result (Option Counts) End) → IfOk result (λ x. x ≡ None) → Closing result → CountedGroup M k commands a b result
   counted_worn end worn ran (Ok (Some t)) same closes = absurd (cc same)
-  counted_worn end worn ran (Ok None) same closes = record { group = group_worn state has M silent k (M.now a) commands a m b w since later end worn ran (Ok false) refl closes; counts = tt }
-  counted_worn end worn ran (Err other) same closes = record { group = group_worn state has M silent k (M.now a) commands a m b w since later end worn ran (Err other) tt closes; counts = tt }
+  counted_worn end worn ran (Ok None) same closes = record { group = group_worn state has M silent k (M.now a) (all_plain commands) a m b (w, no_desk) since later end worn ran (Ok false) refl closes; counts = tt }
+  counted_worn end worn ran (Err other) same closes = record { group = group_worn state has M silent k (M.now a) (all_plain commands) a m b (w, no_desk) since later end worn ran (Err other) tt closes; counts = tt }
 
-  pub counted_broken : (end : End) → is_worn_end end ≡ false → RunsFrom state has M silent k (M.now a) commands a m w (Err end) → CountedGroup M k commands a m (Err end)
-  counted_broken end other ran = record { group = group_stop state has M silent k (M.now a) commands a m w end other ran; counts = tt }
+  pub counted_broken : (end : End) → is_worn_end end ≡ false → RunsFrom state has M silent (seated k no_clients) (M.now a) (all_plain commands) a m (w, no_desk) (Err end) → CountedGroup M k commands a m (Err end)
+  counted_broken end other ran = record { group = group_stop state has M silent k (M.now a) (all_plain commands) a m (w, no_desk) end other ran; counts = tt }
 
 -- ---- what is counted of faults
 

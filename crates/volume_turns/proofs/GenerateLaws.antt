@@ -7,11 +7,11 @@ use Rattle.sector_disk.specs.declared.machine.Machine.{Ghosts}
 use Rattle.sector_disk.specs.Calls.{LeavesDisk, Since}
 use Rattle.sector_disk.specs.Image.{AreShort}
 use Rattle.sector_disk.specs.Machine.{LeavesOnly, Utters}
-use Rattle.fsd_files.specs.Answers.{Met}
+use Rattle.fsd_files.specs.Desk.{Session}
 use Rattle.fsd_files.specs.Disk.{Image, in_runs}
 use Rattle.fsd_files.specs.Volume.{Volume}
 use Rattle.fsd_sound.specs.Sound.{EndIn}
-use Rattle.fsd_texts.specs.declared.command.Command.{Command}
+use Rattle.fsd_texts.specs.declared.script_command.ScriptCommand.{ScriptCommand}
 use Rattle.fsd_texts.specs.declared.counts.Counts.{Counts}
 use Rattle.fsd_texts.specs.declared.fault.Fault.{Fault}
 use Rattle.fsd_texts.specs.declared.fault.Fault.TheVariants as Ends
@@ -20,35 +20,36 @@ use Rattle.fsd_texts.specs.declared.line.Line.TheVariants as Says
 use Rattle.fsd_texts.specs.Generator.{made_up}
 use Rattle.fsd_runs.specs.declared.request.Request.TheVariants.{Generate}
 use Rattle.fsd_runs.specs.Errands.{Answered, Ending, Turn, blank, cut_ending, errand_of, forced_turn, generated_line, group_ending, line_turn}
-use Rattle.fsd_runs.specs.Runs.{Goes, IsWornOut, answered, behind, turns_begun, turns_of}
+use Rattle.fsd_runs.specs.Sessions.{Meeting, session_over}
+use Rattle.fsd_runs.specs.Runs.{Goes, IsWornOut, WearsOut, answered, behind, turns_begun, turns_of}
 use Rattle.volume_contract.specs.State.{Known, volume_of}
 use Rattle.volume_turns.specs.declared.turns.End.{End}
 use Rattle.volume_turns.specs.declared.turns.End.TheVariants.{Fault as Stopped, Output}
-use Rattle.volume_turns.specs.Generate.{silent}
+use Rattle.volume_turns.specs.Generate.{all_plain, silent}
 use Rattle.volume_turns.specs.Group.{CutsOff, EndsGroup, IsGroup, WornIf, is_through, turns_behind}
 use Rattle.volume_turns.specs.Line.{EndsLast, EndsWith, is_unsaid}
 use Rattle.volume_turns.specs.Once.{IsDone}
 use Rattle.volume_turns.specs.Tally.{all_counted, nothing}
 use Rattle.volume_turns.specs.Turns.{EndsAtOnce, InRun, Said, Told}
-use Rattle.volume_turns.specs.Whole.{RunsOut}
+use Rattle.volume_turns.specs.Whole.{Always, RunsOut}
 use Rattle.volume_turns.proofs.CountLaws.{line_is}
 use Rattle.volume_turns.proofs.GroupEndLaws.{answered_cut, behind_cut, ended_as, finishes_broken, finishes_last, finishes_unsaid, goes_cut, goes_length, goes_within, turns_are}
 use Rattle.volume_turns.proofs.GroupLaws.{goes_wider}
 
 -- the run has turns to say, whatever the volume
-pub some_turn : (seed count : ℕ) (input : List ℕ) (v : Volume) → IsSome (slice_get (turns_of (errand_of (Generate seed count) input) [] v) 0)
-some_turn seed count input v = by (0 == length (made_up seed count))
+pub some_turn : (seed count : ℕ) (input : List ℕ) (s : Session) → IsSome (slice_get (turns_of (errand_of (Generate seed count) input) [] s) 0)
+some_turn seed count input s = by (0 == length (all_plain (made_up seed count)))
   where
     by : (b : Bool) → IsSome (slice_get (if b then (group_ending (line_turn (generated_line []) ∷ []) 0).turns else blank ∷ []) 0)
     by true = refl
     by false = refl
 
 module _ {D : Type 0} (M : Ghosts D) (seed count : ℕ) (input rest : List ℕ) (k : Known) (a p b : D) (honest : M.honest b) (since : Since M p b) (short : AreShort (M.now p).windows) (ends : EndIn (M.now a).windows k.windows) (status : ℕ) where
-  abbrev commands : List Command
-  commands = made_up seed count
+  abbrev commands : List ScriptCommand
+  commands = all_plain (made_up seed count)
 
-  abbrev v : Volume
-  v = volume_of k
+  abbrev v : Session
+  v = session_over (volume_of k)
 
   abbrev Over : Type 0
   Over = RunsOut M (Generate seed count) input rest (M.report a) k a b status
@@ -60,7 +61,7 @@ module _ {D : Type 0} (M : Ghosts D) (seed count : ℕ) (input rest : List ℕ) 
   abbrev cut_short : List Answered → Ending
   cut_short done = cut_ending Ends.WornOut
 
-  module _ (mets : List Met) where
+  module _ (mets : List Meeting) where
     abbrev turns : List Turn
     turns = turns_begun silent mets v commands
 
@@ -88,7 +89,7 @@ module _ {D : Type 0} (M : Ghosts D) (seed count : ℕ) (input rest : List ℕ) 
       turns_all : turns_of (errand_of (Generate seed count) input) mets v ≡ turns ++ turns_behind (is_through false mets commands) (line_turn (generated_line (answered mets v commands)) ∷ [])
       turns_all = turns_are silent v mets commands commands refl ending (line_turn (generated_line (answered mets v commands)) ∷ []) refl (is_through false mets commands) (ap (λ (n : ℕ). n == length commands) (sym known))
 
-      pub all_said : IsTrue (is_through false mets commands) → IsDone k front (behind mets v commands) (M.now a) (M.now p) → (line : Line) → line ≡ generated_line (answered mets v commands) → (M.report a).output_faults ≤ (M.report p).output_faults
+      pub all_said : IsTrue (is_through false mets commands) → IsDone k front (behind mets v commands).volume (M.now a) (M.now p) → (line : Line) → line ≡ generated_line (answered mets v commands) → (M.report a).output_faults ≤ (M.report p).output_faults
           → LeavesDisk M false (is_unsaid status) (Utters (text line)) p b → EndsLast line 0 (M.now p) (M.now b) status → Over
       all_said through done line is counted says ended =
           let t = line_turn line in
@@ -100,9 +101,8 @@ module _ {D : Type 0} (M : Ghosts D) (seed count : ℕ) (input rest : List ℕ) 
           record {
             cut = None;
             may = tt;
-            ahead = tt;
             cause = tt;
-            finishes = finishes_last M (Generate seed count) (M.report a) k front line (behind mets v commands) 0 a p b moments done short ends counted status says honest (errand_of (Generate seed count) input) (WornIf false) mets turns_is (on (WornIf false) later goes)
+            finishes = finishes_last M (Generate seed count) (M.report a) k front line (behind mets v commands).volume 0 a p b moments done short ends counted status says honest (errand_of (Generate seed count) input) Always (WornIf false) mets tt turns_is (on (WornIf false) later goes)
                 (eqb-true (length mets) (length commands) through) refl refl ended;
           }
 
@@ -110,28 +110,32 @@ module _ {D : Type 0} (M : Ghosts D) (seed count : ℕ) (input rest : List ℕ) 
       all_broken why said once told says ended = record {
         cut = None;
         may = tt;
-        ahead = tt;
         cause = tt;
         finishes = finishes_broken M (Generate seed count) (M.report a) k turns (is_through false mets commands) (line_turn (generated_line (answered mets v commands)) ∷ []) a p b (leaves (line_turn (generated_line (answered mets v commands)) ∷ [])) why said short ends once told status says honest ended
-            (errand_of (Generate seed count) input) (WornIf false) mets turns_all (on (WornIf false) later goes);
+            (errand_of (Generate seed count) input) Always (WornIf false) mets tt turns_all (on (WornIf false) later goes);
       }
 
       pub all_unsaid : {T : Type 0} → status ≡ 6 → Told {T = T} (M.report a) (M.report b) (Err Output) → LeavesOnly M.moment M.left_since a b (InRun k (turns ++ turns_behind (is_through false mets commands) (line_turn (generated_line (answered mets v commands)) ∷ [])) (M.now a)) → Over
       all_unsaid six told moments = subst (λ (n : ℕ). RunsOut M (Generate seed count) input rest (M.report a) k a b n) (sym six) (record {
         cut = None;
         may = tt;
-        ahead = tt;
         cause = tt;
-        finishes = finishes_unsaid M (Generate seed count) (M.report a) k (turns ++ turns_behind (is_through false mets commands) (line_turn (generated_line (answered mets v commands)) ∷ [])) a b moments told (errand_of (Generate seed count) input) (WornIf false) mets turns_all (on (WornIf false) later goes);
+        finishes = finishes_unsaid M (Generate seed count) (M.report a) k (turns ++ turns_behind (is_through false mets commands) (line_turn (generated_line (answered mets v commands)) ∷ [])) a b moments told (errand_of (Generate seed count) input) Always (WornIf false) mets tt turns_all (on (WornIf false) later goes);
       })
 
     -- it was cut off
-    module _ (worn : CutsOff true mets commands) (goes : MayGo true) (leaves : Leaves true) where
+    module _ (worn : CutsOff true mets v commands) (goes : MayGo true) (leaves : Leaves true) where
       later_cut : M.moment a ≤ M.moment p
       later_cut = (leaves []).later
 
-      abbrev done_commands : List Command
+      abbrev done_commands : List ScriptCommand
       done_commands = take (length mets) commands
+
+      abbrev Worn : Session → Type 0
+      Worn s = WearsOut s (slice_get commands (length mets))
+
+      worn_behind : Worn (behind mets v done_commands)
+      worn_behind = subst Worn (sym (behind_cut mets v commands)) worn
 
       abbrev last_line : Turn
       last_line = line_turn (Says.Ended Ends.WornOut)
@@ -148,35 +152,32 @@ module _ {D : Type 0} (M : Ghosts D) (seed count : ℕ) (input rest : List ℕ) 
       went : (t : ℕ) → t ≤ M.moment a → Goes (in_runs k.windows) (M.left_since b t) (λ v i. IsWornOut v i) silent (M.now a).said (M.now a).image v mets done_commands
       went t le = goes_cut (in_runs k.windows) (M.left_since b t) silent (WornIf true) (λ v i. IsWornOut v i) (λ v i is. is) (M.now a).said (M.now a).image v mets commands (on (WornIf true) later_cut goes t le)
 
-      pub cut_said : IsDone k front (behind mets v commands) (M.now a) (M.now p) → (M.report a).output_faults ≤ (M.report p).output_faults
+      pub cut_said : IsDone k front (behind mets v commands).volume (M.now a) (M.now p) → (M.report a).output_faults ≤ (M.report p).output_faults
           → LeavesDisk M false (is_unsaid status) (Utters (fault_text Ends.WornOut)) p b → EndsLast (Says.Ended Ends.WornOut) 9 (M.now p) (M.now b) status → Over
       cut_said done counted says ended =
           let split : turns ++ forced_turn ∷ last_line ∷ [] ≡ front ++ last_line ∷ [] = sym (append_assoc turns (forced_turn ∷ []) (last_line ∷ [])) in
           record {
             cut = Some (length mets, Ends.WornOut);
             may = tt;
-            ahead = worn;
             cause = tt;
-            finishes = finishes_last M (Generate seed count) (M.report a) k front (Says.Ended Ends.WornOut) (behind mets v commands) 9 a p b (subst (λ (x : List Turn). LeavesOnly M.moment M.left_since a p (InRun k x (M.now a))) split (leaves (last_line ∷ []))) done short ends counted status says honest
-                (ended_as silent done_commands cut_short) (λ v i. IsWornOut v i) mets (turns_cut ∙ split) went (sym within) refl (sym (behind_cut mets v commands)) ended;
+            finishes = finishes_last M (Generate seed count) (M.report a) k front (Says.Ended Ends.WornOut) (behind mets v commands).volume 9 a p b (subst (λ (x : List Turn). LeavesOnly M.moment M.left_since a p (InRun k x (M.now a))) split (leaves (last_line ∷ []))) done short ends counted status says honest
+                (ended_as silent done_commands cut_short) Worn (λ v i. IsWornOut v i) mets worn_behind (turns_cut ∙ split) went (sym within) refl (ap (λ (x : Session). x.volume) (sym (behind_cut mets v commands))) ended;
           }
 
       pub cut_broken : (why : Fault) → Said k why turns (M.now a) (M.now p) → EndsAtOnce why → {T : Type 0} → Told {T = T} (M.report a) (M.report p) (Err (Stopped why)) → LeavesDisk M false (is_unsaid status) (Utters (fault_text why)) p b → EndsWith why (M.now p) (M.now b) status → Over
       cut_broken why said once told says ended = record {
         cut = Some (length mets, Ends.WornOut);
         may = tt;
-        ahead = worn;
         cause = tt;
-        finishes = finishes_broken M (Generate seed count) (M.report a) k turns true (last_line ∷ []) a p b (leaves (last_line ∷ [])) why said short ends once told status says honest ended (ended_as silent done_commands cut_short) (λ v i. IsWornOut v i) mets turns_cut went;
+        finishes = finishes_broken M (Generate seed count) (M.report a) k turns true (last_line ∷ []) a p b (leaves (last_line ∷ [])) why said short ends once told status says honest ended (ended_as silent done_commands cut_short) Worn (λ v i. IsWornOut v i) mets worn_behind turns_cut went;
       }
 
       pub cut_unsaid : {T : Type 0} → status ≡ 6 → Told {T = T} (M.report a) (M.report b) (Err Output) → LeavesOnly M.moment M.left_since a b (InRun k (turns ++ forced_turn ∷ last_line ∷ []) (M.now a)) → Over
       cut_unsaid six told moments = subst (λ (n : ℕ). RunsOut M (Generate seed count) input rest (M.report a) k a b n) (sym six) (record {
         cut = Some (length mets, Ends.WornOut);
         may = tt;
-        ahead = worn;
         cause = tt;
-        finishes = finishes_unsaid M (Generate seed count) (M.report a) k (turns ++ forced_turn ∷ last_line ∷ []) a b moments told (ended_as silent done_commands cut_short) (λ v i. IsWornOut v i) mets turns_cut went;
+        finishes = finishes_unsaid M (Generate seed count) (M.report a) k (turns ++ forced_turn ∷ last_line ∷ []) a b moments told (ended_as silent done_commands cut_short) Worn (λ v i. IsWornOut v i) mets worn_behind turns_cut went;
       })
 
   -- ---- by how the group ended
@@ -196,23 +197,23 @@ module _ {D : Type 0} (M : Ghosts D) (seed count : ℕ) (input rest : List ℕ) 
       → LeavesDisk M false (is_unsaid status) (Utters (fault_text Ends.WornOut)) p b → EndsLast (Says.Ended Ends.WornOut) 9 (M.now p) (M.now b) status → Over
   made_worn g counted says ended = by g.cut g.before g.goes g.moments g.ends
     where
-      by : (cut : Bool) → CutsOff cut g.mets commands → MayGo g.mets cut → Leaves g.mets (is_through cut g.mets commands) → EndsGroup silent k cut g.mets commands (M.now a) (M.now p) (Ok false) → Over
+      by : (cut : Bool) → CutsOff cut g.mets v commands → MayGo g.mets cut → Leaves g.mets (is_through cut g.mets commands) → EndsGroup silent k cut g.mets commands (M.now a) (M.now p) (Ok false) → Over
       by false worn goes leaves e = cc e.0
       by true worn goes leaves e = cut_said g.mets worn goes leaves e.2 counted says ended
 
   pub made_broken : (why : Fault) → Group (Err (Stopped why)) → {T : Type 0} → Told {T = T} (M.report a) (M.report p) (Err (Stopped why)) → LeavesDisk M false (is_unsaid status) (Utters (fault_text why)) p b → EndsWith why (M.now p) (M.now b) status → Over
   made_broken why g told says ended = by g.cut g.before g.goes g.moments g.ends
     where
-      by : (cut : Bool) → CutsOff cut g.mets commands → MayGo g.mets cut → Leaves g.mets (is_through cut g.mets commands) → EndsGroup silent k cut g.mets commands (M.now a) (M.now p) (Err (Stopped why)) → Over
+      by : (cut : Bool) → CutsOff cut g.mets v commands → MayGo g.mets cut → Leaves g.mets (is_through cut g.mets commands) → EndsGroup silent k cut g.mets commands (M.now a) (M.now p) (Err (Stopped why)) → Over
       by false worn goes leaves e = all_broken g.mets goes leaves why e.1 e.0 told says ended
       by true worn goes leaves e = cut_broken g.mets worn goes leaves why e.1 e.0 told says ended
 
 -- the output has failed in the group
-pub made_unsaid : {D T : Type 0} (M : Ghosts D) (seed count : ℕ) (input rest : List ℕ) (k : Known) (a b : D) → M.honest b → AreShort (M.now b).windows → EndIn (M.now a).windows k.windows → IsGroup M silent k (M.now a) (made_up seed count) a b (Err Output) → Told {T = T} (M.report a) (M.report b) (Err Output)
+pub made_unsaid : {D T : Type 0} (M : Ghosts D) (seed count : ℕ) (input rest : List ℕ) (k : Known) (a b : D) → M.honest b → AreShort (M.now b).windows → EndIn (M.now a).windows k.windows → IsGroup M silent k (M.now a) (all_plain (made_up seed count)) a b (Err Output) → Told {T = T} (M.report a) (M.report b) (Err Output)
     → RunsOut M (Generate seed count) input rest (M.report a) k a b 6
 made_unsaid M seed count input rest k a b honest short ends g told = by g.cut g.before g.goes g.moments
   where
-    by : (cut : Bool) → CutsOff cut g.mets (made_up seed count) → ((t : ℕ) → t ≤ M.moment a → Goes (in_runs k.windows) (M.left_since b t) (WornIf cut) silent (M.now a).said (M.now a).image (volume_of k) g.mets (made_up seed count))
-        → ((more : List Turn) → LeavesOnly M.moment M.left_since a b (InRun k (turns_begun silent g.mets (volume_of k) (made_up seed count) ++ turns_behind (is_through cut g.mets (made_up seed count)) more) (M.now a))) → RunsOut M (Generate seed count) input rest (M.report a) k a b 6
-    by false worn goes leaves = all_unsaid M seed count input rest k a b b honest (λ t left le was. was) short ends 6 g.mets goes leaves refl told (leaves (line_turn (generated_line (answered g.mets (volume_of k) (made_up seed count))) ∷ []))
+    by : (cut : Bool) → CutsOff cut g.mets (session_over (volume_of k)) (all_plain (made_up seed count)) → ((t : ℕ) → t ≤ M.moment a → Goes (in_runs k.windows) (M.left_since b t) (WornIf cut) silent (M.now a).said (M.now a).image (session_over (volume_of k)) g.mets (all_plain (made_up seed count)))
+        → ((more : List Turn) → LeavesOnly M.moment M.left_since a b (InRun k (turns_begun silent g.mets (session_over (volume_of k)) (all_plain (made_up seed count)) ++ turns_behind (is_through cut g.mets (all_plain (made_up seed count))) more) (M.now a))) → RunsOut M (Generate seed count) input rest (M.report a) k a b 6
+    by false worn goes leaves = all_unsaid M seed count input rest k a b b honest (λ t left le was. was) short ends 6 g.mets goes leaves refl told (leaves (line_turn (generated_line (answered g.mets (session_over (volume_of k)) (all_plain (made_up seed count)))) ∷ []))
     by true worn goes leaves = cut_unsaid M seed count input rest k a b b honest (λ t left le was. was) short ends 6 g.mets worn goes leaves refl told (leaves (line_turn (Says.Ended Ends.WornOut) ∷ []))

@@ -9,7 +9,7 @@ use Rattle.sector_disk.specs.Image.{AreShort, Windows}
 use Rattle.sector_disk.specs.Machine.{LeavesOnly, Moment, Report, Rose, Utters}
 use Rattle.sector_disk.proofs.Moments.{leaves_more, then_on}
 use Rattle.sector_disk.proofs.Wear.{AllWorn-worn}
-use Rattle.fsd_files.specs.Answers.{Met}
+use Rattle.fsd_files.specs.Desk.{Session}
 use Rattle.fsd_files.specs.Disk.{Image, Sectors, in_runs}
 use Rattle.fsd_files.specs.Files.{Change}
 use Rattle.fsd_files.specs.Volume.{Volume}
@@ -18,12 +18,12 @@ use Rattle.fsd_sound.specs.Shown.{told}
 use Rattle.fsd_sound.specs.Sound.{EndIn, IsSound, weak_of}
 use Rattle.fsd_sound.proofs.MoreLaws.{wear_sound}
 use Rattle.fsd_sound.proofs.WindowLaws.{open_is_weak}
-use Rattle.fsd_texts.specs.declared.command.Command.{Command}
+use Rattle.fsd_texts.specs.declared.script_command.ScriptCommand.{ScriptCommand}
 use Rattle.fsd_texts.specs.declared.fault.Fault.{Fault}
 use Rattle.fsd_texts.specs.declared.fault.Fault.TheVariants as Ends
 use Rattle.fsd_texts.specs.declared.line.Line.{Line}
 use Rattle.fsd_texts.specs.Text.{fault_text, text}
-use Rattle.fsd_runs.specs.Commands.{answer}
+use Rattle.fsd_runs.specs.Sessions.{Meeting, answer_in, session_over}
 use Rattle.fsd_runs.specs.declared.request.Request.{Request}
 use Rattle.fsd_runs.specs.Errands.{Answered, answered_so, Ending, Errand, Turn, blank, forced_turn, line_turn}
 use Rattle.fsd_runs.specs.Leaves.{IsBroken, IsUnsaid, SaysNext}
@@ -41,47 +41,47 @@ use Rattle.volume_turns.proofs.TurnLaws.{forced_most, says_nothing}
 -- ---- the turns of a group and of its end
 
 -- the errand of a group, ended so
-abbrev pub ended_as : Errand → List Command → (List Answered → Ending) → Errand
+abbrev pub ended_as : Errand → List ScriptCommand → (List Answered → Ending) → Errand
 ended_as e commands ends = record { commands = commands; says = e.says; forces = e.forces; ends = ends }
 
-pub turns_are : (e : Errand) (v : Volume) (mets : List Met) (commands done : List Command) → answered mets v done ≡ answered mets v commands → (ends : List Answered → Ending) (more : List Turn) → (ends (answered mets v done)).turns ≡ forced_turn ∷ more
-    → (through : Bool) → through ≡ (length (answered mets v done) == length done) → turns_of (ended_as e done ends) mets v ≡ turns_begun e mets v commands ++ turns_behind through more
-turns_are e v mets commands done same ends more is through all =
-    ap (λ (xs : List Answered). map (turn_of e) xs ++ (if length (answered mets v done) == length done then (ends (answered mets v done)).turns else blank ∷ [])) same
-    ∙ ap (λ (xs : List Turn). turns_begun e mets v commands ++ xs) (by through all)
+pub turns_are : (e : Errand) (s : Session) (mets : List Meeting) (commands done : List ScriptCommand) → answered mets s done ≡ answered mets s commands → (ends : List Answered → Ending) (more : List Turn) → (ends (answered mets s done)).turns ≡ forced_turn ∷ more
+    → (through : Bool) → through ≡ (length (answered mets s done) == length done) → turns_of (ended_as e done ends) mets s ≡ turns_begun e mets s commands ++ turns_behind through more
+turns_are e s mets commands done same ends more is through all =
+    ap (λ (xs : List Answered). map (turn_of e) xs ++ (if length (answered mets s done) == length done then (ends (answered mets s done)).turns else blank ∷ [])) same
+    ∙ ap (λ (xs : List Turn). turns_begun e mets s commands ++ xs) (by through all)
   where
-    by : (b : Bool) → b ≡ (length (answered mets v done) == length done) → (if length (answered mets v done) == length done then (ends (answered mets v done)).turns else blank ∷ []) ≡ turns_behind b more
-    by true t = ap (λ (c : Bool). if c then (ends (answered mets v done)).turns else blank ∷ []) (sym t) ∙ is
-    by false t = ap (λ (c : Bool). if c then (ends (answered mets v done)).turns else blank ∷ []) (sym t)
+    by : (b : Bool) → b ≡ (length (answered mets s done) == length done) → (if length (answered mets s done) == length done then (ends (answered mets s done)).turns else blank ∷ []) ≡ turns_behind b more
+    by true t = ap (λ (c : Bool). if c then (ends (answered mets s done)).turns else blank ∷ []) (sym t) ∙ is
+    by false t = ap (λ (c : Bool). if c then (ends (answered mets s done)).turns else blank ∷ []) (sym t)
 
 -- ---- commands that were cut off
 
-pub answered_cut : (mets : List Met) (v : Volume) (commands : List Command) → answered mets v (take (length mets) commands) ≡ answered mets v commands
-answered_cut [] v commands = refl
-answered_cut (met ∷ mets) v [] = refl
-answered_cut (met ∷ mets) v (c ∷ commands) = ap (λ (xs : List Answered). answered_so c (answer met v c).0 ∷ xs) (answered_cut mets (answer met v c).1 commands)
+pub answered_cut : (mets : List Meeting) (s : Session) (commands : List ScriptCommand) → answered mets s (take (length mets) commands) ≡ answered mets s commands
+answered_cut [] s commands = refl
+answered_cut (met ∷ mets) s [] = refl
+answered_cut (met ∷ mets) s (c ∷ commands) = ap (λ (xs : List Answered). answered_so s c (answer_in met s c).0 ∷ xs) (answered_cut mets (answer_in met s c).1 commands)
 
-pub behind_cut : (mets : List Met) (v : Volume) (commands : List Command) → behind mets v (take (length mets) commands) ≡ behind mets v commands
-behind_cut [] v commands = refl
-behind_cut (met ∷ mets) v [] = refl
-behind_cut (met ∷ mets) v (c ∷ commands) = behind_cut mets (answer met v c).1 commands
+pub behind_cut : (mets : List Meeting) (s : Session) (commands : List ScriptCommand) → behind mets s (take (length mets) commands) ≡ behind mets s commands
+behind_cut [] s commands = refl
+behind_cut (met ∷ mets) s [] = refl
+behind_cut (met ∷ mets) s (c ∷ commands) = behind_cut mets (answer_in met s c).1 commands
 
 module _ (H : Sectors) (P : Moment → Type 0) (e : Errand) where
-  pub goes_length : (L : Volume → Image → Type 0) (said : List ℕ) (i : Image) (v : Volume) (mets : List Met) (commands : List Command) → Goes H P L e said i v mets commands → length (answered mets v commands) ≡ length mets
-  goes_length L said i v [] commands goes = refl
-  goes_length L said i v (met ∷ mets) [] goes = absurd goes
-  goes_length L said i v (met ∷ mets) (c ∷ commands) goes = ap (λ (n : ℕ). suc n) (goes_length L (said ++ e.says (answer met v c).0) goes.0 (answer met v c).1 mets commands goes.2)
+  pub goes_length : (L : Volume → Image → Type 0) (said : List ℕ) (i : Image) (s : Session) (mets : List Meeting) (commands : List ScriptCommand) → Goes H P L e said i s mets commands → length (answered mets s commands) ≡ length mets
+  goes_length L said i s [] commands goes = refl
+  goes_length L said i s (met ∷ mets) [] goes = absurd goes
+  goes_length L said i s (met ∷ mets) (c ∷ commands) goes = ap (λ (n : ℕ). suc n) (goes_length L (said ++ e.says (answer_in met s c).0) goes.0 (answer_in met s c).1 mets commands goes.2)
 
   -- as far as they were begun
-  pub goes_cut : (L N : Volume → Image → Type 0) → ((v : Volume) (i : Image) → L v i → N v i) → (said : List ℕ) (i : Image) (v : Volume) (mets : List Met) (commands : List Command) → Goes H P L e said i v mets commands → Goes H P N e said i v mets (take (length mets) commands)
-  goes_cut L N last said i v [] commands goes = last v i goes
-  goes_cut L N last said i v (met ∷ mets) [] goes = absurd goes
-  goes_cut L N last said i v (met ∷ mets) (c ∷ commands) goes = (goes.0, goes.1, goes_cut L N last (said ++ e.says (answer met v c).0) goes.0 (answer met v c).1 mets commands goes.2)
+  pub goes_cut : (L N : Volume → Image → Type 0) → ((v : Volume) (i : Image) → L v i → N v i) → (said : List ℕ) (i : Image) (s : Session) (mets : List Meeting) (commands : List ScriptCommand) → Goes H P L e said i s mets commands → Goes H P N e said i s mets (take (length mets) commands)
+  goes_cut L N last said i s [] commands goes = last s.volume i goes
+  goes_cut L N last said i s (met ∷ mets) [] goes = absurd goes
+  goes_cut L N last said i s (met ∷ mets) (c ∷ commands) goes = (goes.0, goes.1, goes_cut L N last (said ++ e.says (answer_in met s c).0) goes.0 (answer_in met s c).1 mets commands goes.2)
 
-  pub goes_within : (L : Volume → Image → Type 0) (said : List ℕ) (i : Image) (v : Volume) (mets : List Met) (commands : List Command) → Goes H P L e said i v mets commands → length (take (length mets) commands) ≡ length mets
-  goes_within L said i v [] commands goes = refl
-  goes_within L said i v (met ∷ mets) [] goes = absurd goes
-  goes_within L said i v (met ∷ mets) (c ∷ commands) goes = ap (λ (n : ℕ). suc n) (goes_within L (said ++ e.says (answer met v c).0) goes.0 (answer met v c).1 mets commands goes.2)
+  pub goes_within : (L : Volume → Image → Type 0) (said : List ℕ) (i : Image) (s : Session) (mets : List Meeting) (commands : List ScriptCommand) → Goes H P L e said i s mets commands → length (take (length mets) commands) ≡ length mets
+  goes_within L said i s [] commands goes = refl
+  goes_within L said i s (met ∷ mets) [] goes = absurd goes
+  goes_within L said i s (met ∷ mets) (c ∷ commands) goes = ap (λ (n : ℕ). suc n) (goes_within L (said ++ e.says (answer_in met s c).0) goes.0 (answer_in met s c).1 mets commands goes.2)
 
 -- ---- a last line
 
@@ -207,22 +207,23 @@ module _ {D : Type 0} (M : Ghosts D) (request : Request) (before : Report) (k : 
   last_ends (inr said) = inl (said.0, done_last k front line after (M.now a) (M.now m) d short ends (M.now b) said.1)
 
   -- the errand is done, and its last line is said
-  pub finishes_last : (e : Errand) (Last : Volume → Image → Type 0) (mets : List Met) → turns_of e mets (volume_of k) ≡ front ++ line_turn line ∷ []
-      → ((t : ℕ) → t ≤ M.moment a → Goes (in_runs k.windows) (M.left_since b t) Last e (M.now a).said (M.now a).image (volume_of k) mets e.commands)
-      → length mets ≡ length e.commands → gives ≡ (e.ends (answered mets (volume_of k) e.commands)).status → after ≡ behind mets (volume_of k) e.commands → EndsLast line gives (M.now m) (M.now b) status → Finishes M request e Last before k a b status
-  finishes_last e Last mets is goes through gives_is after_is ended = record {
+  pub finishes_last : (e : Errand) (Ahead : Session → Type 0) (Last : Volume → Image → Type 0) (mets : List Meeting) → Ahead (behind mets (session_over (volume_of k)) e.commands) → turns_of e mets (session_over (volume_of k)) ≡ front ++ line_turn line ∷ []
+      → ((t : ℕ) → t ≤ M.moment a → Goes (in_runs k.windows) (M.left_since b t) Last e (M.now a).said (M.now a).image (session_over (volume_of k)) mets e.commands)
+      → length mets ≡ length e.commands → gives ≡ (e.ends (answered mets (session_over (volume_of k)) e.commands)).status → after ≡ (behind mets (session_over (volume_of k)) e.commands).volume → EndsLast line gives (M.now m) (M.now b) status → Finishes M request e Ahead Last before k a b status
+  finishes_last e Ahead Last mets ahead is goes through gives_is after_is ended = record {
     mets = mets;
+    ahead = ahead;
     goes = goes;
     moments = subst (λ (ts : List Turn). LeavesOnly M.moment M.left_since a b (InRun k ts (M.now a))) (sym is) last_moments;
     ends = by (last_ends ended);
   }
     where
       by : ((status ≡ gives) × IsDone k (front ++ line_turn line ∷ []) after (M.now a) (M.now b)) ⊎ IsUnsaid before (M.report b) status
-          → SaysOut e k mets (M.now a) (M.now b) status ⊎ (IsUnsaid before (M.report b) status ⊎ IsBroken request (Undone k (turns_of e mets (volume_of k))) before (M.report b) (turns_of e mets (volume_of k)) (M.now a) (M.now b) status)
+          → SaysOut e k mets (M.now a) (M.now b) status ⊎ (IsUnsaid before (M.report b) status ⊎ IsBroken request (Undone k (turns_of e mets (session_over (volume_of k)))) before (M.report b) (turns_of e mets (session_over (volume_of k))) (M.now a) (M.now b) status)
       by (inl done) = inl (record {
         through = through;
         gives = done.0 ∙ gives_is;
-        done = subst (λ (ts : List Turn). IsDone k ts (behind mets (volume_of k) e.commands) (M.now a) (M.now b)) (sym is) (subst (λ (v : Volume). IsDone k (front ++ line_turn line ∷ []) v (M.now a) (M.now b)) after_is done.1);
+        done = subst (λ (ts : List Turn). IsDone k ts (behind mets (session_over (volume_of k)) e.commands).volume (M.now a) (M.now b)) (sym is) (subst (λ (v : Volume). IsDone k (front ++ line_turn line ∷ []) v (M.now a) (M.now b)) after_is done.1);
       })
       by (inr u) = inr (inl u)
 
@@ -233,13 +234,14 @@ halted_behind k why front false more old now said = said_halts k why front blank
 
 pub finishes_broken : {D T : Type 0} (M : Ghosts D) (request : Request) (before : Report) (k : Known) (front : List Turn) (through : Bool) (more : List Turn) (a m b : D) → LeavesOnly M.moment M.left_since a m (InRun k (front ++ turns_behind through more) (M.now a)) → (why : Fault) → Said k why front (M.now a) (M.now m)
     → AreShort (M.now m).windows → EndIn (M.now a).windows k.windows → EndsAtOnce why → Told {T = T} before (M.report m) (Err (Stopped why)) → (status : ℕ) → LeavesDisk M false (is_unsaid status) (Utters (fault_text why)) m b → M.honest b → EndsWith why (M.now m) (M.now b) status
-    → (e : Errand) (Last : Volume → Image → Type 0) (mets : List Met) → turns_of e mets (volume_of k) ≡ front ++ turns_behind through more
-    → ((t : ℕ) → t ≤ M.moment a → Goes (in_runs k.windows) (M.left_since b t) Last e (M.now a).said (M.now a).image (volume_of k) mets e.commands) → Finishes M request e Last before k a b status
-finishes_broken M request before k front through more a m b moments why said short ends once told status says honest ended e Last mets is goes =
+    → (e : Errand) (Ahead : Session → Type 0) (Last : Volume → Image → Type 0) (mets : List Meeting) → Ahead (behind mets (session_over (volume_of k)) e.commands) → turns_of e mets (session_over (volume_of k)) ≡ front ++ turns_behind through more
+    → ((t : ℕ) → t ≤ M.moment a → Goes (in_runs k.windows) (M.left_since b t) Last e (M.now a).said (M.now a).image (session_over (volume_of k)) mets e.commands) → Finishes M request e Ahead Last before k a b status
+finishes_broken M request before k front through more a m b moments why said short ends once told status says honest ended e Ahead Last mets ahead is goes =
     let turns = front ++ turns_behind through more in
     let halted = halted_behind k why front through more (M.now a) (M.now m) said in
     record {
       mets = mets;
+      ahead = ahead;
       goes = goes;
       moments = subst (λ (ts : List Turn). LeavesOnly M.moment M.left_since a b (InRun k ts (M.now a))) (sym is) (broken_moments M request before k turns a m b moments why halted short ends once told status says honest ended);
       ends = inr (subst (λ (ts : List Turn). IsUnsaid before (M.report b) status ⊎ IsBroken request (Undone k ts) before (M.report b) ts (M.now a) (M.now b) status) (sym is) (broken_ends M request before k turns a m b moments why halted short ends once told status says honest ended));
@@ -247,10 +249,11 @@ finishes_broken M request before k front through more a m b moments why said sho
 
 -- the output has failed
 pub finishes_unsaid : {D T : Type 0} (M : Ghosts D) (request : Request) (before : Report) (k : Known) (said : List Turn) (a b : D) → LeavesOnly M.moment M.left_since a b (InRun k said (M.now a)) → Told {T = T} before (M.report b) (Err Output)
-    → (e : Errand) (Last : Volume → Image → Type 0) (mets : List Met) → turns_of e mets (volume_of k) ≡ said
-    → ((t : ℕ) → t ≤ M.moment a → Goes (in_runs k.windows) (M.left_since b t) Last e (M.now a).said (M.now a).image (volume_of k) mets e.commands) → Finishes M request e Last before k a b 6
-finishes_unsaid M request before k said a b moments told e Last mets is goes = record {
+    → (e : Errand) (Ahead : Session → Type 0) (Last : Volume → Image → Type 0) (mets : List Meeting) → Ahead (behind mets (session_over (volume_of k)) e.commands) → turns_of e mets (session_over (volume_of k)) ≡ said
+    → ((t : ℕ) → t ≤ M.moment a → Goes (in_runs k.windows) (M.left_since b t) Last e (M.now a).said (M.now a).image (session_over (volume_of k)) mets e.commands) → Finishes M request e Ahead Last before k a b 6
+finishes_unsaid M request before k said a b moments told e Ahead Last mets ahead is goes = record {
   mets = mets;
+  ahead = ahead;
   goes = goes;
   moments = subst (λ (ts : List Turn). LeavesOnly M.moment M.left_since a b (InRun k ts (M.now a))) (sym is) moments;
   ends = inr (inl (record { ends = refl; rose = told.output }));

@@ -10,17 +10,17 @@ use Rattle.sector_disk.specs.declared.sector.WeakRun.{WeakRun}
 use Rattle.sector_disk.specs.Image.{AllWorn}
 use Rattle.sector_disk.specs.Machine.{Moment, LeavesOnly}
 use Rattle.sector_disk.proofs.Moments.{then_on, leaves_more}
-use Rattle.fsd_files.specs.Answers.{Met}
+use Rattle.fsd_files.specs.Desk.{Session, no_clients}
 use Rattle.fsd_files.specs.Disk.{Image, Sectors, in_runs}
 use Rattle.fsd_files.specs.Files.{Change}
 use Rattle.fsd_files.specs.Volume.{Volume}
 use Rattle.fsd_sound.specs.Mounted.{Mounted, telling_of}
 use Rattle.fsd_sound.specs.Shown.{told}
 use Rattle.fsd_sound.specs.Sound.{IsSound, weak_of}
-use Rattle.fsd_texts.specs.declared.command.Command.{Command}
+use Rattle.fsd_texts.specs.declared.script_command.ScriptCommand.{ScriptCommand}
 use Rattle.fsd_texts.specs.declared.fault.Fault.{Fault}
 use Rattle.fsd_texts.specs.declared.fault.Fault.TheVariants as Ends
-use Rattle.fsd_runs.specs.Commands.{answer}
+use Rattle.fsd_runs.specs.Sessions.{Meeting, answer_in, session_over}
 use Rattle.fsd_runs.specs.Errands.{Errand, Turn, forced_turn}
 use Rattle.fsd_runs.specs.Runs.{Goes, behind, changes_in, said_in, turns_begun}
 use Rattle.volume_turns.specs.declared.turns.End.{End}
@@ -28,7 +28,9 @@ use Rattle.volume_turns.specs.declared.turns.End.TheVariants.{Fault as Stopped, 
 use Rattle.sector_disk.specs.Calls.{Since}
 use Rattle.volume_turns.specs.Group.{IsGroup, CutsOff, EndsGroup, WornIf, is_through, is_worn_end, turns_behind}
 use Rattle.volume_turns.specs.Once.{ClosesAndSays, EndsClosed, InClose, IsDone, SaysClosed, unit_of}
-use Rattle.volume_contract.specs.State.{State, Known, volume_of, Stands}
+use Rattle.client_desk.specs.declared.client.Client.{Client}
+use Rattle.volume_contract.specs.State.{State, Known, volume_of}
+use Rattle.volume_turns.specs.Seats.{Seated, SitsAt, known_of, seated}
 use Rattle.volume_turns.specs.Turns.{Behind, InRun, RunsFrom, Said, StandsBehind}
 use Rattle.volume_turns.proofs.TurnLaws.{in_close, said_close}
 
@@ -42,10 +44,10 @@ changes_last [] = refl
 changes_last (u ∷ turns) = ap (λ (x : List Change). u.changes ++ x) (changes_last turns)
 
 module _ (H : Sectors) (P Q : Moment → Type 0) (wider : (c : Moment) → P c → Q c) (L N : Volume → Image → Type 0) (last : (v : Volume) (i : Image) → L v i → N v i) (e : Errand) where
-  pub goes_wider : (said : List ℕ) (i : Image) (v : Volume) (mets : List Met) (commands : List Command) → Goes H P L e said i v mets commands → Goes H Q N e said i v mets commands
-  goes_wider said i v [] commands goes = last v i goes
-  goes_wider said i v (met ∷ mets) [] goes = absurd goes
-  goes_wider said i v (met ∷ mets) (command ∷ commands) goes = (
+  pub goes_wider : (said : List ℕ) (i : Image) (s : Session) (mets : List Meeting) (commands : List ScriptCommand) → Goes H P L e said i s mets commands → Goes H Q N e said i s mets commands
+  goes_wider said i s [] commands goes = last s.volume i goes
+  goes_wider said i s (met ∷ mets) [] goes = absurd goes
+  goes_wider said i s (met ∷ mets) (command ∷ commands) goes = (
     goes.0,
     record {
       kept = goes.1.kept;
@@ -54,22 +56,22 @@ module _ (H : Sectors) (P Q : Moment → Type 0) (wider : (c : Moment) → P c �
       exit = record { moment = goes.1.exit.moment; passed = wider goes.1.exit.moment goes.1.exit.passed; image = goes.1.exit.image; so_far = goes.1.exit.so_far };
       may = goes.1.may;
     },
-    goes_wider (said ++ e.says (answer met v command).0) goes.0 (answer met v command).1 mets commands goes.2,
+    goes_wider (said ++ e.says (answer_in met s command).0) goes.0 (answer_in met s command).1 mets commands goes.2,
   )
 
-module _ {S D : Type 0} (state : S → State) (has : S → Mounted → List Placed → Type 0) (M : Ghosts D) (e : Errand) (k : Known) (from : Moment) (commands : List Command) (a m b : D) (w : S)
+module _ {S D : Type 0} (state : S → State) (has : S → Mounted → List Placed → Type 0) (M : Ghosts D) (e : Errand) (k : Known) (from : Moment) (commands : List ScriptCommand) (a m b : D) (w : S × List Client)
     (since : Since M m b) (later : M.moment a ≤ M.moment m) where
-  module _ (run : Result (Unit {0}) End) (ran : RunsFrom state has M e k from commands a m w run) where
+  module _ (run : Result (Unit {0}) End) (ran : RunsFrom state has M e (seated k no_clients) from commands a m w run) where
     abbrev turns : List Turn
-    turns = turns_begun e ran.mets (volume_of k) commands
+    turns = turns_begun e ran.mets (session_over (volume_of k)) commands
 
-    module _ (behind_it : StandsBehind state has e k ran.mets commands w (M.now a) (M.now m)) (result : Result Bool End) (at_text : ClosesAndSays M behind_it.after forced_turn.said m b (unit_of result)) where
+    module _ (behind_it : StandsBehind state has e (seated k no_clients) ran.mets commands w (M.now a) (M.now m)) (result : Result Bool End) (at_text : ClosesAndSays M (known_of behind_it.after) forced_turn.said m b (unit_of result)) where
       both : (more : List Turn) → LeavesOnly M.moment M.left_since a b (InRun k (turns ++ forced_turn ∷ more) (M.now a))
       both more = then_on M.moment M.left_since a m b (InRun k (turns ++ forced_turn ∷ more) (M.now a)) (ran.moments (forced_turn ∷ more))
-          (leaves_more M.moment M.left_since m b (InClose behind_it.after forced_turn.said (M.now m)) (InRun k (turns ++ forced_turn ∷ more) (M.now a))
-          (λ left c. in_close k behind_it.after turns forced_turn more refl behind_it.layout behind_it.windows behind_it.changes behind_it.least behind_it.forced (M.now a) (M.now m) left behind_it.open_windows behind_it.said c) at_text.moments)
+          (leaves_more M.moment M.left_since m b (InClose (known_of behind_it.after) forced_turn.said (M.now m)) (InRun k (turns ++ forced_turn ∷ more) (M.now a))
+          (λ left c. in_close k (known_of behind_it.after) turns forced_turn more refl behind_it.layout behind_it.windows behind_it.changes behind_it.least behind_it.forced (M.now a) (M.now m) left behind_it.open_windows behind_it.said c) at_text.moments)
 
-      done : SaysClosed behind_it.after forced_turn.said (M.now m) (M.now b) → IsDone k (turns ++ forced_turn ∷ []) (behind ran.mets (volume_of k) commands) (M.now a) (M.now b)
+      done : SaysClosed (known_of behind_it.after) forced_turn.said (M.now m) (M.now b) → IsDone k (turns ++ forced_turn ∷ []) (behind ran.mets (session_over (volume_of k)) commands).volume (M.now a) (M.now b)
       done c =
           let all : behind_it.after.changes ≡ k.changes ++ changes_in (turns ++ forced_turn ∷ []) = behind_it.changes ∙ ap (λ (h : List Change). k.changes ++ h) (sym (changes_last turns)) in
           record {
@@ -78,26 +80,26 @@ module _ {S D : Type 0} (state : S → State) (has : S → Mounted → List Plac
             sound = subst (λ (h : List Change). IsSound k.mounted.volume.layout k.windows h (length h) (M.now b).image) all
                 (subst (λ (x : List WeakRun). IsSound k.mounted.volume.layout x behind_it.after.changes (length behind_it.after.changes) (M.now b).image) behind_it.windows
                 (subst (λ (l : Layout). IsSound l behind_it.after.windows behind_it.after.changes (length behind_it.after.changes) (M.now b).image) behind_it.layout c.sound));
-            tells = subst (λ (l : Layout). told l (M.now b).image ≡ Some (telling_of (behind ran.mets (volume_of k) commands))) behind_it.layout (c.tells ∙ ap (λ (x : Volume). Some (telling_of x)) behind_it.is);
-            lasts = subst (λ (x : List WeakRun). AllWorn (weak_of x) (λ j. told k.mounted.volume.layout j ≡ Some (telling_of (behind ran.mets (volume_of k) commands))) (M.now b).image) behind_it.windows
-                (subst (λ (l : Layout). AllWorn (weak_of behind_it.after.windows) (λ j. told l j ≡ Some (telling_of (behind ran.mets (volume_of k) commands))) (M.now b).image) behind_it.layout
-                (subst (λ (x : Volume). AllWorn (weak_of behind_it.after.windows) (λ j. told behind_it.after.mounted.volume.layout j ≡ Some (telling_of x)) (M.now b).image) behind_it.is c.lasts));
+            tells = subst (λ (l : Layout). told l (M.now b).image ≡ Some (telling_of (behind ran.mets (session_over (volume_of k)) commands).volume)) behind_it.layout (c.tells ∙ ap (λ (x : Session). Some (telling_of x.volume)) behind_it.is);
+            lasts = subst (λ (x : List WeakRun). AllWorn (weak_of x) (λ j. told k.mounted.volume.layout j ≡ Some (telling_of (behind ran.mets (session_over (volume_of k)) commands).volume)) (M.now b).image) behind_it.windows
+                (subst (λ (l : Layout). AllWorn (weak_of behind_it.after.windows) (λ j. told l j ≡ Some (telling_of (behind ran.mets (session_over (volume_of k)) commands).volume)) (M.now b).image) behind_it.layout
+                (subst (λ (x : Session). AllWorn (weak_of behind_it.after.windows) (λ j. told behind_it.after.mounted.volume.layout j ≡ Some (telling_of x.volume)) (M.now b).image) behind_it.is c.lasts));
           }
 
-      said_all : (why : Fault) → InClose behind_it.after forced_turn.said (M.now m) (M.now b) → (M.now b).said ≡ (M.now m).said → Said k why turns (M.now a) (M.now b)
-      said_all why c same = said_close k behind_it.after turns forced_turn [] refl behind_it.layout behind_it.windows behind_it.changes behind_it.least behind_it.forced (M.now a) (M.now m) (M.now b) behind_it.open_windows behind_it.said c why same
+      said_all : (why : Fault) → InClose (known_of behind_it.after) forced_turn.said (M.now m) (M.now b) → (M.now b).said ≡ (M.now m).said → Said k why turns (M.now a) (M.now b)
+      said_all why c same = said_close k (known_of behind_it.after) turns forced_turn [] refl behind_it.layout behind_it.windows behind_it.changes behind_it.least behind_it.forced (M.now a) (M.now m) (M.now b) behind_it.open_windows behind_it.said c why same
 
-      ends_by : (r : Result Bool End) (cut : Bool) → IfOk r (λ x. x ≡ not cut) → is_through cut ran.mets commands ≡ true → EndsClosed behind_it.after forced_turn.said (M.now m) (M.now b) (unit_of r) → EndsGroup e k cut ran.mets commands (M.now a) (M.now b) r
+      ends_by : (r : Result Bool End) (cut : Bool) → IfOk r (λ x. x ≡ not cut) → is_through cut ran.mets commands ≡ true → EndsClosed (known_of behind_it.after) forced_turn.said (M.now m) (M.now b) (unit_of r) → EndsGroup e k cut ran.mets commands (M.now a) (M.now b) r
       ends_by (Ok x) cut same through c = (same, through, done c)
       ends_by (Err Output) cut same through c = tt
       ends_by (Err (Stopped fault)) cut same through c = (c.0, said_all fault c.2 c.1)
 
-      pub group_done : (cut : Bool) → IfOk result (λ x. x ≡ not cut) → CutsOff cut ran.mets commands → is_through cut ran.mets commands ≡ true → ((v : Volume) (i : Image) → Behind run v i → WornIf cut v i) → IsGroup M e k from commands a b result
+      pub group_done : (cut : Bool) → IfOk result (λ x. x ≡ not cut) → CutsOff cut ran.mets (session_over (volume_of k)) commands → is_through cut ran.mets commands ≡ true → ((v : Volume) (i : Image) → Behind run v i → WornIf cut v i) → IsGroup M e k from commands a b result
       group_done cut same before through last = record {
         mets = ran.mets;
         cut = cut;
         before = before;
-        goes = λ t le. goes_wider (in_runs k.windows) (M.left_since m t) (M.left_since b t) (λ c was. since t c (omega (arith, le, later)) was) (Behind run) (WornIf cut) last e (M.now a).said from.image (volume_of k) ran.mets commands (ran.goes t le);
+        goes = λ t le. goes_wider (in_runs k.windows) (M.left_since m t) (M.left_since b t) (λ c was. since t c (omega (arith, le, later)) was) (Behind run) (WornIf cut) last e (M.now a).said from.image (session_over (volume_of k)) ran.mets commands (ran.goes t le);
         moments = λ more. subst (λ (x : Bool). LeavesOnly M.moment M.left_since a b (InRun k (turns ++ turns_behind x more) (M.now a))) (sym through) (both more);
         ends = ends_by result cut same through at_text.ends;
       }
@@ -107,44 +109,44 @@ worn_is (Stopped Ends.WornOut) is = refl
 worn_is (Stopped fault) is = cc is
 worn_is Output is = cc is
 
-module _ {S D : Type 0} (state : S → State) (has : S → Mounted → List Placed → Type 0) (M : Ghosts D) (e : Errand) (k : Known) (from : Moment) (commands : List Command) where
+module _ {S D : Type 0} (state : S → State) (has : S → Mounted → List Placed → Type 0) (M : Ghosts D) (e : Errand) (k : Known) (from : Moment) (commands : List ScriptCommand) where
   -- all were done
-  pub group_all : (a m b : D) (w : S) → Since M m b → M.moment a ≤ M.moment m → RunsFrom state has M e k from commands a m w (Ok tt) → (result : Result Bool End) → IfOk result (λ x. x ≡ true)
-      → ((x : Known) → Stands state has w x (M.now m) → ClosesAndSays M x forced_turn.said m b (unit_of result)) → IsGroup M e k from commands a b result
+  pub group_all : (a m b : D) (w : S × List Client) → Since M m b → M.moment a ≤ M.moment m → RunsFrom state has M e (seated k no_clients) from commands a m w (Ok tt) → (result : Result Bool End) → IfOk result (λ x. x ≡ true)
+      → ((x : Seated) → SitsAt state has w x (M.now m) → ClosesAndSays M (known_of x) forced_turn.said m b (unit_of result)) → IsGroup M e k from commands a b result
   group_all a m b w since later ran result same closes =
       group_done state has M e k from commands a m b w since later (Ok tt) ran ran.ends.1 result (closes ran.ends.1.after ran.ends.1.stands) false same tt (eq-eqb (length ran.mets) (length commands) ran.ends.0) (λ v i is. tt)
 
-  pub group_all_mets : (a m b : D) (w : S) (since : Since M m b) (later : M.moment a ≤ M.moment m) (ran : RunsFrom state has M e k from commands a m w (Ok tt)) (result : Result Bool End) (same : IfOk result (λ x. x ≡ true))
-      (closes : (x : Known) → Stands state has w x (M.now m) → ClosesAndSays M x forced_turn.said m b (unit_of result)) → (group_all a m b w since later ran result same closes).mets ≡ ran.mets
+  pub group_all_mets : (a m b : D) (w : S × List Client) (since : Since M m b) (later : M.moment a ≤ M.moment m) (ran : RunsFrom state has M e (seated k no_clients) from commands a m w (Ok tt)) (result : Result Bool End) (same : IfOk result (λ x. x ≡ true))
+      (closes : (x : Seated) → SitsAt state has w x (M.now m) → ClosesAndSays M (known_of x) forced_turn.said m b (unit_of result)) → (group_all a m b w since later ran result same closes).mets ≡ ran.mets
   unfolding group_all group_done
   group_all_mets a m b w since later ran result same closes = refl
 
-  pub group_all_cut : (a m b : D) (w : S) (since : Since M m b) (later : M.moment a ≤ M.moment m) (ran : RunsFrom state has M e k from commands a m w (Ok tt)) (result : Result Bool End) (same : IfOk result (λ x. x ≡ true))
-      (closes : (x : Known) → Stands state has w x (M.now m) → ClosesAndSays M x forced_turn.said m b (unit_of result)) → (group_all a m b w since later ran result same closes).cut ≡ false
+  pub group_all_cut : (a m b : D) (w : S × List Client) (since : Since M m b) (later : M.moment a ≤ M.moment m) (ran : RunsFrom state has M e (seated k no_clients) from commands a m w (Ok tt)) (result : Result Bool End) (same : IfOk result (λ x. x ≡ true))
+      (closes : (x : Seated) → SitsAt state has w x (M.now m) → ClosesAndSays M (known_of x) forced_turn.said m b (unit_of result)) → (group_all a m b w since later ran result same closes).cut ≡ false
   unfolding group_all group_done
   group_all_cut a m b w since later ran result same closes = refl
 
   -- it was cut off
-  pub group_worn : (a m b : D) (w : S) → Since M m b → M.moment a ≤ M.moment m → (end : End) → is_worn_end end ≡ true → RunsFrom state has M e k from commands a m w (Err end) → (result : Result Bool End) → IfOk result (λ x. x ≡ false)
-      → ((x : Known) → Stands state has w x (M.now m) → ClosesAndSays M x forced_turn.said m b (unit_of result)) → IsGroup M e k from commands a b result
-  group_worn a m b w since later end worn given result same closes = by (subst (λ (x : End). RunsFrom state has M e k from commands a m w (Err x)) (worn_is end worn) given)
+  pub group_worn : (a m b : D) (w : S × List Client) → Since M m b → M.moment a ≤ M.moment m → (end : End) → is_worn_end end ≡ true → RunsFrom state has M e (seated k no_clients) from commands a m w (Err end) → (result : Result Bool End) → IfOk result (λ x. x ≡ false)
+      → ((x : Seated) → SitsAt state has w x (M.now m) → ClosesAndSays M (known_of x) forced_turn.said m b (unit_of result)) → IsGroup M e k from commands a b result
+  group_worn a m b w since later end worn given result same closes = by (subst (λ (x : End). RunsFrom state has M e (seated k no_clients) from commands a m w (Err x)) (worn_is end worn) given)
     where
-      by : RunsFrom state has M e k from commands a m w (Err (Stopped Ends.WornOut)) → IsGroup M e k from commands a b result
+      by : RunsFrom state has M e (seated k no_clients) from commands a m w (Err (Stopped Ends.WornOut)) → IsGroup M e k from commands a b result
       by ran = group_done state has M e k from commands a m b w since later (Err (Stopped Ends.WornOut)) ran ran.ends.1 result (closes ran.ends.1.after ran.ends.1.stands) true same ran.ends.0 refl (λ v i is. is)
 
   -- it was broken off
-  module _ (a m : D) (w : S) (end : End) (ran : RunsFrom state has M e k from commands a m w (Err end)) where
+  module _ (a m : D) (w : S × List Client) (end : End) (ran : RunsFrom state has M e (seated k no_clients) from commands a m w (Err end)) where
     stops : ((v : Volume) (i : Image) → Behind (Err end) v i → ⊤) → EndsGroup e k false ran.mets commands (M.now a) (M.now m) (Err end) → IsGroup M e k from commands a m (Err end)
     stops last ends = record {
       mets = ran.mets;
       cut = false;
       before = tt;
-      goes = λ t le. goes_wider (in_runs k.windows) (M.left_since m t) (M.left_since m t) (λ c was. was) (Behind (Err end)) (WornIf false) last e (M.now a).said from.image (volume_of k) ran.mets commands (ran.goes t le);
+      goes = λ t le. goes_wider (in_runs k.windows) (M.left_since m t) (M.left_since m t) (λ c was. was) (Behind (Err end)) (WornIf false) last e (M.now a).said from.image (session_over (volume_of k)) ran.mets commands (ran.goes t le);
       moments = λ more. ran.moments (turns_behind (is_through false ran.mets commands) more);
       ends = ends;
     }
 
-  pub group_stop : (a m : D) (w : S) (end : End) → is_worn_end end ≡ false → RunsFrom state has M e k from commands a m w (Err end) → IsGroup M e k from commands a m (Err end)
+  pub group_stop : (a m : D) (w : S × List Client) (end : End) → is_worn_end end ≡ false → RunsFrom state has M e (seated k no_clients) from commands a m w (Err end) → IsGroup M e k from commands a m (Err end)
   group_stop a m w (Stopped Ends.WornOut) other ran = cc other
   group_stop a m w (Stopped why) other ran = stops a m w (Stopped why) ran (λ v i is. tt) ran.ends
   group_stop a m w Output other ran = stops a m w Output ran (λ v i is. tt) tt

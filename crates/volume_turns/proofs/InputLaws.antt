@@ -27,6 +27,7 @@ use Rattle.fsd_texts.specs.Script.{max_input}
 use Rattle.fsd_runs.specs.declared.request.Request.TheVariants.{One, Put}
 use Rattle.fsd_runs.specs.Errands.{Cut, Errand, MayCut, Turn, alone, errand_of, line_turn, nothing_but}
 use Rattle.fsd_runs.specs.Leaves.{IsBroken, IsOutside}
+use Rattle.fsd_runs.specs.Sessions.{session_over}
 use Rattle.fsd_runs.specs.Runs.{IsCutAt, errand_in}
 use Rattle.volume_contract.specs.Ends.{Closes, device_of}
 use Rattle.volume_contract.specs.Order.{IsDevice}
@@ -36,7 +37,7 @@ use Rattle.volume_turns.specs.Line.{EndsLast, EndsWith, is_unsaid}
 use Rattle.volume_turns.specs.Once.{InClose, IsDone, close_fault}
 use Rattle.volume_turns.specs.Steps.{IsOfCall, device_told}
 use Rattle.volume_turns.specs.Turns.{InRun, Told}
-use Rattle.volume_turns.specs.Whole.{Finishes, RunsOut}
+use Rattle.volume_turns.specs.Whole.{Always, Finishes, RunsOut}
 use Rattle.volume_turns.proofs.GroupEndLaws.{finishes_last}
 use Rattle.volume_turns.proofs.GroupLaws.{goes_wider}
 use Rattle.volume_turns.proofs.HaltLaws.{broken_ends, broken_moments, said_halts}
@@ -77,11 +78,11 @@ module _ {D : Type 0} (M : Ghosts D) (name : List ℕ) (keep : Option ℕ) (inpu
   put_out r = record {
     cut = None;
     may = tt;
-    ahead = tt;
     cause = tt;
-    finishes = subst (λ (x : Errand). Finishes M (Put name keep) x (IsCutAt None) before k a b status) (sym (same_errand r.cut r.may)) (record {
+    finishes = subst (λ (x : Errand). Finishes M (Put name keep) x Always (IsCutAt None) before k a b status) (sym (same_errand r.cut r.may)) (record {
       mets = r.finishes.mets;
-      goes = λ t le. goes_wider (in_runs k.windows) (M.left_since b t) (M.left_since b t) (λ m was. was) (IsCutAt r.cut) (IsCutAt None) (λ v i is. tt) (errand_in (One c) [] r.cut) (M.now a).said (M.now a).image (volume_of k) r.finishes.mets (errand_in (One c) [] r.cut).commands (r.finishes.goes t le);
+      ahead = tt;
+      goes = λ t le. goes_wider (in_runs k.windows) (M.left_since b t) (M.left_since b t) (λ m was. was) (IsCutAt r.cut) (IsCutAt None) (λ v i is. tt) (errand_in (One c) [] r.cut) (M.now a).said (M.now a).image (session_over (volume_of k)) r.finishes.mets (errand_in (One c) [] r.cut).commands (r.finishes.goes t le);
       moments = r.finishes.moments;
       ends = over r.finishes.ends;
     });
@@ -123,10 +124,9 @@ module _ {S D : Type 0} (state : S → State) (has : S → Mounted → List Plac
   refused_input closes says ended = record {
     cut = None;
     may = tt;
-    ahead = tt;
     cause = tt;
-    finishes = subst (λ (x : Errand). Finishes M (Put name keep) x (IsCutAt None) (M.report a) k a b status) (sym (asks_none name keep input many))
-        (finishes_last M (Put name keep) (M.report a) k [] (Says.Ended Ends.InputTooLong) (volume_of k) 5 a m b moments done short stands.ends (let same = disk.uses.output in omega (arith, same)) status says honest none (IsCutAt None) [] refl (λ t le. tt) refl refl refl ended);
+    finishes = subst (λ (x : Errand). Finishes M (Put name keep) x Always (IsCutAt None) (M.report a) k a b status) (sym (asks_none name keep input many))
+        (finishes_last M (Put name keep) (M.report a) k [] (Says.Ended Ends.InputTooLong) (volume_of k) 5 a m b moments done short stands.ends (let same = disk.uses.output in omega (arith, same)) status says honest none Always (IsCutAt None) [] tt refl (λ t le. tt) refl refl refl ended);
   }
     where
       done : IsDone k [] (volume_of k) (M.now a) (M.now m)
@@ -144,10 +144,10 @@ module _ {S D : Type 0} (state : S → State) (has : S → Mounted → List Plac
       record {
         cut = None;
         may = tt;
-        ahead = tt;
         cause = tt;
-        finishes = subst (λ (x : Errand). Finishes M (Put name keep) x (IsCutAt None) (M.report a) k a b status) (sym (asks_none name keep input many)) (record {
+        finishes = subst (λ (x : Errand). Finishes M (Put name keep) x Always (IsCutAt None) (M.report a) k a b status) (sym (asks_none name keep input many)) (record {
           mets = [];
+          ahead = tt;
           goes = λ t le. tt;
           moments = broken_moments M (Put name keep) (M.report a) k (t ∷ []) a m b moments (close_fault why) halted short stands.ends (device_ends why is) told status says honest ended;
           ends = inr (broken_ends M (Put name keep) (M.report a) k (t ∷ []) a m b moments (close_fault why) halted short stands.ends (device_ends why is) told status says honest ended);

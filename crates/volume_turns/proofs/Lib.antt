@@ -1,6 +1,12 @@
 pub mod AnsweringLaws
 pub mod ApartLaws
 pub mod BehindLaws
+pub mod CallEndLaws
+pub mod CallKeepLaws
+pub mod CallLaws
+pub mod CallOrderLaws
+pub mod CallReadLaws
+pub mod CallWornLaws
 pub mod CauseLaws
 pub mod CountLaws
 pub mod EachLaws
@@ -31,6 +37,7 @@ pub mod ScriptLastLaws
 pub mod ScriptLaws
 pub mod ScriptRunLaws
 pub mod ScrubLaws
+pub mod SeatLaws
 pub mod StatusLaws
 pub mod StepLaws
 pub mod TakingLaws

@@ -4,9 +4,9 @@ use Rattle.std.specs.Prelude.{IfErr, IsSome, Result, Ok, Err}
 use Rattle.fsd_bytes.specs.declared.refusal.Refusal.{Refusal}
 use Rattle.fsd_bytes.specs.declared.refusal.Refusal.TheVariants as Why
 use Rattle.sector_disk.specs.Machine.{Report}
-use Rattle.fsd_files.specs.Answers.{Met}
 use Rattle.fsd_files.specs.Disk.{Image}
-use Rattle.fsd_files.specs.Volume.{Volume}
+use Rattle.fsd_files.specs.Desk.{Session}
+use Rattle.fsd_runs.specs.Sessions.{Meeting}
 use Rattle.fsd_sound.specs.declared.fault.MountFault.{MountFault}
 use Rattle.fsd_sound.specs.declared.fault.MountFault.TheVariants as Refused
 use Rattle.fsd_texts.specs.declared.command.Command.{Command}
@@ -25,10 +25,10 @@ use Rattle.volume_turns.specs.Turns.{EndsAtOnce, WantsNone}
 
 -- ---- the turns of one command
 
-pub alone_length : (c : Command) (mets : List Met) (v : Volume) → length (turns_of (alone c) mets v) ≡ 1
-alone_length c [] v = refl
-alone_length c (met ∷ []) v = refl
-alone_length c (met ∷ other ∷ mets) v = refl
+pub alone_length : (c : Command) (mets : List Meeting) (s : Session) → length (turns_of (alone c) mets s) ≡ 1
+alone_length c [] s = refl
+alone_length c (met ∷ []) s = refl
+alone_length c (met ∷ other ∷ mets) s = refl
 
 pub next_fault : (Forced : Type 0) (o : Option Turn) → IsSome o → (part : List ℕ) → SaysFault part → SaysNext Forced o part
 next_fault Forced None some part fault = cc some

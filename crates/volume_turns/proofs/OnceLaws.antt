@@ -10,11 +10,12 @@ use Rattle.sector_disk.specs.declared.machine.Machine.{Ghosts}
 use Rattle.sector_disk.specs.declared.sector.WeakRun.{WeakRun}
 use Rattle.sector_disk.specs.Image.{AllWorn, open_damage, AreShort, Windows}
 use Rattle.sector_disk.specs.Machine.{Moment, LeavesOnly, Utters}
+use Rattle.sector_disk.proofs.CallLaws.{writes_more}
 use Rattle.sector_disk.proofs.Moments.{started, then_on, leaves_more}
 use Rattle.sector_disk.proofs.Wear.{AllWorn-worn, worn_refl}
+use Rattle.fsd_files.specs.Desk.{Session, no_clients}
 use Rattle.fsd_files.specs.Files.{Change}
 use Rattle.fsd_files.specs.Replies.{Reply}
-use Rattle.fsd_files.specs.Volume.{Volume}
 use Rattle.fsd_sound.specs.Mounted.{Mounted, telling_of}
 use Rattle.fsd_sound.specs.Shown.{told}
 use Rattle.fsd_sound.specs.Sound.{IsSound, EndIn, weak_of}
@@ -24,20 +25,27 @@ use Rattle.fsd_sound.proofs.WindowLaws.{open_is_weak}
 use Rattle.fsd_texts.specs.declared.command.Command.{Command}
 use Rattle.fsd_texts.specs.declared.fault.Fault.{Fault}
 use Rattle.fsd_texts.specs.declared.fault.Fault.TheVariants as Ends
-use Rattle.fsd_runs.specs.Commands.{answer, reply_alone}
+use Rattle.fsd_texts.specs.declared.script_command.ScriptCommand.{ScriptCommand}
+use Rattle.fsd_texts.specs.declared.script_command.ScriptCommand.TheVariants.{Plain}
+use Rattle.fsd_runs.specs.Commands.{reply_alone}
+use Rattle.fsd_runs.specs.Sessions.{answer_in}
 use Rattle.fsd_runs.specs.Errands.{Turn, alone, blank, reply_status}
 use Rattle.fsd_runs.specs.Runs.{forced_in, changes_in}
 use Rattle.volume_turns.specs.declared.turns.End.{End}
 use Rattle.volume_turns.specs.declared.turns.End.TheVariants.{Fault as Stopped, Output}
 use Rattle.sector_disk.specs.Calls.{Since, WritesDisk}
+use Rattle.client_desk.specs.Clients.{no_desk}
+use Rattle.client_desk.proofs.FinishLaws.{sits_fresh}
 use Rattle.volume_contract.specs.Ends.{Closes}
 use Rattle.volume_turns.specs.Once.{close_fault, InClose, SaysClosed, EndsClosed, ClosesAndSays, IsDone, EndsAlone, IsAlone, unit_of}
 use Rattle.volume_contract.specs.Order.{IsDevice}
-use Rattle.volume_contract.specs.State.{State, Ages, Known, volume_of, forced_of, Stands, Leaves, is_worn}
+use Rattle.volume_contract.specs.State.{State, Ages, Known, volume_of, forced_of, Stands, Leaves, is_worn, none_open}
+use Rattle.volume_turns.specs.Seats.{IsAnsweredIn, Seated, SitsAt, StaysIn, seated, session_in}
 use Rattle.volume_turns.specs.Steps.{Does, IsAnswered, Stays}
 use Rattle.volume_turns.specs.Turns.{Carries, InRun, EndsAtOnce, SaysAll, Unsaid, turn_by}
 use Rattle.volume_turns.proofs.TurnLaws.{in_part, in_saying_at, says_nothing}
-use Rattle.volume_turns.proofs.RunLaws.{before_it, behind_it, step_is, volume_is, reply_is}
+use Rattle.volume_turns.proofs.RunLaws.{before_it, behind_it, step_is, session_is, reply_is}
+use Rattle.volume_turns.proofs.SeatLaws.{none_holds, plain_answered, seat_on, stays_in}
 use Rattle.volume_turns.specs.Generate.{silent}
 use Rattle.volume_turns.proofs.CountLaws.{never}
 
@@ -117,13 +125,25 @@ module _ {S D : Type 0} (state : S → State) (has : S → Mounted → List Plac
     (wears : (s : S) (k : Known) (old new : Moment) → AreShort old.windows → Ages old new → Stands state has s k old → Stands state has s k new)
     (short : (m : D) → M.honest m → AreShort (M.now m).windows)
     (counts_now : (m : D) (t : ℕ) → M.honest m → t ≤ M.moment m → M.left_since m t (M.now m))
-    (command : Command) (v w : S) (a m b : D) (k : Known) (stood : Stands state has v k (M.now a))
+    (command : Command) (v w : S) (a m b : D) (k : Known) (none : k.opened ≡ none_open) (stood : Stands state has v k (M.now a))
     (fault : Option ℕ) (disk : WritesDisk M fault (Stays state has v) a m) (layout : (state w).layout ≡ (state v).layout) (honest : M.honest m) (since : Since M m b) where
   same : Ages (M.now a) (M.now a)
   same = record { image = worn_refl (open_damage (M.now a).windows) (M.now a).image; windows = refl }
 
+  abbrev plain : ScriptCommand
+  plain = Plain command
+
+  abbrev idle : Seated
+  idle = seated k no_clients
+
+  sits : SitsAt state has (v, no_desk) idle (M.now a)
+  sits = sits_fresh state has k v (M.now a) none stood
+
+  desk_disk : WritesDisk M fault (StaysIn state has (v, no_desk)) a m
+  desk_disk = writes_more disk (λ h left stays. stays_in state has (v, no_desk) (M.now a) left stays)
+
   before : (turns : List Turn) → LeavesOnly M.moment M.left_since a m (InRun k turns (M.now a))
-  before turns = before_it state has M wears short counts_now silent never command v w a m b k (M.now a) stood same stood fault disk layout honest since turns
+  before turns = before_it state has M wears short counts_now silent never plain (v, no_desk) (w, no_desk) a m b idle (M.now a) sits same sits fault desk_disk layout honest since turns
 
   spared : IsSound k.mounted.volume.layout k.windows k.changes (forced_of k) (M.now m).image
   spared = (disk.exit honest k stood).sound
@@ -136,17 +156,29 @@ module _ {S D : Type 0} (state : S → State) (has : S → Mounted → List Plac
   alone_fault unworn why does = absurd does
 
   module _ (after : Known) (reply : Reply) (is : IsAnswered command (state v) k after (M.now a).image (M.now m).image reply) (stands : Stands state has w after (M.now m)) where
-    abbrev turn : Turn
-    turn = turn_by (alone command) k command is.met
+    abbrev later : Seated
+    later = seated after no_clients
 
-    carried : Carries k after (turn_by silent k command is.met)
-    carried = behind_it state has M wears short counts_now silent never command v w a m b k (M.now a) stood same stood fault disk layout honest since after reply is stands
+    is_in : IsAnsweredIn plain (state v) idle later (M.now a).image (M.now m).image reply
+    is_in = plain_answered state has command v w no_desk idle (M.now a) (M.now m) sits (λ x same_open there. none_holds state has w (M.now m) x (same_open ∙ none) there) after reply is stands
+
+    later_sits : SitsAt state has (w, no_desk) later (M.now m)
+    later_sits = seat_on state has v w no_desk idle after (M.now a) (M.now m) sits is.opened stands
+
+    abbrev turn : Turn
+    turn = turn_by (alone command) (session_in idle) plain is_in.met
+
+    carried : Carries k after (turn_by silent (session_in idle) plain is_in.met)
+    carried = behind_it state has M wears short counts_now silent never plain (v, no_desk) (w, no_desk) a m b idle (M.now a) sits same sits fault desk_disk layout honest since later reply is_in later_sits
 
     text_is : reply_alone reply ≡ turn.said
-    text_is = ap (λ (r : Reply). reply_alone r) (sym (reply_is state has M wears short counts_now silent never command v w a m b k (M.now a) stood same stood fault disk layout honest since after reply is stands))
+    text_is = ap (λ (r : Reply). reply_alone r) (sym (reply_is state has M wears short counts_now silent never plain (v, no_desk) (w, no_desk) a m b idle (M.now a) sits same sits fault desk_disk layout honest since later reply is_in later_sits))
 
-    volume_same : volume_of after ≡ (answer is.met (volume_of k) command).1
-    volume_same = volume_is state has M wears short counts_now silent never command v w a m b k (M.now a) stood same stood fault disk layout honest since after reply is stands
+    abbrev out : Session
+    out = (answer_in is_in.met (session_in idle) plain).1
+
+    session_same : session_in later ≡ out
+    session_same = session_is state has M wears short counts_now silent never plain (v, no_desk) (w, no_desk) a m b idle (M.now a) sits same sits fault desk_disk layout honest since later reply is_in later_sits
 
     on_close : (left : Moment) → InClose after (reply_alone reply) (M.now m) left → InRun k (turn ∷ []) (M.now a) left
     on_close left c = by c.heard refl
@@ -164,7 +196,7 @@ module _ {S D : Type 0} (state : S → State) (has : S → Mounted → List Plac
         by zero none = in_part k after turn [] carried.layout carried.windows carried.changes c.forced least (M.now a) left windows c.sound [] (said ∙ ap (λ (h : ℕ). (M.now a).said ++ take h turn.said) (sym none)) (says_nothing (length k.changes + forced_in (turn ∷ []) ≤ c.forced) (Some turn))
         by (suc n) some = in_saying_at k after turn [] carried.layout carried.windows carried.changes c.forced least (M.now a) left windows c.sound (λ all. c.all (omega (arith, some))) c.heard said
 
-    done : SaysClosed after (reply_alone reply) (M.now m) (M.now b) → IsDone k (turn ∷ []) (answer is.met (volume_of k) command).1 (M.now a) (M.now b)
+    done : SaysClosed after (reply_alone reply) (M.now m) (M.now b) → IsDone k (turn ∷ []) out.volume (M.now a) (M.now b)
     done c =
         let all : after.changes ≡ k.changes ++ changes_in (turn ∷ []) = carried.changes ∙ ap (λ (h : List Change). k.changes ++ h) (sym (append-nil turn.changes)) in
         record {
@@ -173,16 +205,16 @@ module _ {S D : Type 0} (state : S → State) (has : S → Mounted → List Plac
           sound = subst (λ (h : List Change). IsSound k.mounted.volume.layout k.windows h (length h) (M.now b).image) all
               (subst (λ (x : List WeakRun). IsSound k.mounted.volume.layout x after.changes (length after.changes) (M.now b).image) carried.windows
               (subst (λ (l : Layout). IsSound l after.windows after.changes (length after.changes) (M.now b).image) carried.layout c.sound));
-          tells = subst (λ (l : Layout). told l (M.now b).image ≡ Some (telling_of (answer is.met (volume_of k) command).1)) carried.layout (c.tells ∙ ap (λ (x : Volume). Some (telling_of x)) volume_same);
-          lasts = subst (λ (x : List WeakRun). AllWorn (weak_of x) (λ j. told k.mounted.volume.layout j ≡ Some (telling_of (answer is.met (volume_of k) command).1)) (M.now b).image) carried.windows
-              (subst (λ (l : Layout). AllWorn (weak_of after.windows) (λ j. told l j ≡ Some (telling_of (answer is.met (volume_of k) command).1)) (M.now b).image) carried.layout
-              (subst (λ (x : Volume). AllWorn (weak_of after.windows) (λ j. told after.mounted.volume.layout j ≡ Some (telling_of x)) (M.now b).image) volume_same c.lasts));
+          tells = subst (λ (l : Layout). told l (M.now b).image ≡ Some (telling_of out.volume)) carried.layout (c.tells ∙ ap (λ (x : Session). Some (telling_of x.volume)) session_same);
+          lasts = subst (λ (x : List WeakRun). AllWorn (weak_of x) (λ j. told k.mounted.volume.layout j ≡ Some (telling_of out.volume)) (M.now b).image) carried.windows
+              (subst (λ (l : Layout). AllWorn (weak_of after.windows) (λ j. told l j ≡ Some (telling_of out.volume)) (M.now b).image) carried.layout
+              (subst (λ (x : Session). AllWorn (weak_of after.windows) (λ j. told after.mounted.volume.layout j ≡ Some (telling_of x.volume)) (M.now b).image) session_same c.lasts));
         }
 
-    status_same : reply_status reply ≡ reply_status (answer is.met (volume_of k) command).0
-    status_same = ap (λ (r : Reply). reply_status r) (sym (reply_is state has M wears short counts_now silent never command v w a m b k (M.now a) stood same stood fault disk layout honest since after reply is stands))
+    status_same : reply_status reply ≡ reply_status (answer_in is_in.met (session_in idle) plain).0
+    status_same = ap (λ (r : Reply). reply_status r) (sym (reply_is state has M wears short counts_now silent never plain (v, no_desk) (w, no_desk) a m b idle (M.now a) sits same sits fault desk_disk layout honest since later reply is_in later_sits))
 
-    ended : (r : Result ℕ End) → (r ≡ Err (Stopped Ends.Memory) → b ≡ m) → IfOk r (λ status. status ≡ reply_status reply) → EndsClosed after (reply_alone reply) (M.now m) (M.now b) (unit_of r) → EndsAlone command k (is.met ∷ []) (M.now a) (M.now b) r
+    ended : (r : Result ℕ End) → (r ≡ Err (Stopped Ends.Memory) → b ≡ m) → IfOk r (λ status. status ≡ reply_status reply) → EndsClosed after (reply_alone reply) (M.now m) (M.now b) (unit_of r) → EndsAlone command k (is_in.met ∷ []) (M.now a) (M.now b) r
     ended (Ok status) undone gives c = (refl, gives ∙ status_same, done c)
     ended (Err Output) undone gives c = tt
     ended (Err (Stopped why)) undone gives c = (
@@ -193,8 +225,8 @@ module _ {S D : Type 0} (state : S → State) (has : S → Mounted → List Plac
 
     pub alone_answered : (r : Result ℕ End) → (r ≡ Err (Stopped Ends.Memory) → b ≡ m) → IfOk r (λ status. status ≡ reply_status reply) → ClosesAndSays M after (reply_alone reply) m b (unit_of r) → IsAlone M command k a b r
     alone_answered r undone gives c = record {
-      mets = is.met ∷ [];
-      goes = λ t le. ((M.now m).image, step_is state has M wears short counts_now silent never command v w a m b k (M.now a) stood same stood fault disk layout honest since after reply is stands t le, tt);
+      mets = is_in.met ∷ [];
+      goes = λ t le. ((M.now m).image, step_is state has M wears short counts_now silent never plain (v, no_desk) (w, no_desk) a m b idle (M.now a) sits same sits fault desk_disk layout honest since later reply is_in later_sits t le, tt);
       moments = then_on M.moment M.left_since a m b (InRun k (turn ∷ []) (M.now a)) (before (turn ∷ [])) (leaves_more M.moment M.left_since m b (InClose after (reply_alone reply) (M.now m)) (InRun k (turn ∷ []) (M.now a)) on_close c.moments);
       ends = ended r undone gives c.ends;
     }

@@ -8,12 +8,14 @@ use Rattle.sector_disk.specs.Calls.{LeavesDisk, Since}
 use Rattle.sector_disk.specs.Image.{AreShort}
 use Rattle.sector_disk.specs.Machine.{Moment, Utters}
 use Rattle.fsd_files.specs.Disk.{in_runs}
-use Rattle.fsd_files.specs.Volume.{Volume}
+use Rattle.fsd_files.specs.Desk.{Session}
 use Rattle.fsd_sound.specs.Sound.{EndIn, IsSound}
 use Rattle.fsd_texts.specs.declared.command.Command.{Command}
 use Rattle.fsd_texts.specs.declared.fault.Fault.{Fault}
+use Rattle.fsd_texts.specs.declared.script_command.ScriptCommand.TheVariants.{Plain}
 use Rattle.fsd_runs.specs.declared.request.Request.TheVariants.{One}
 use Rattle.fsd_runs.specs.Errands.{Turn, alone, errand_of}
+use Rattle.fsd_runs.specs.Sessions.{session_over}
 use Rattle.fsd_runs.specs.Runs.{Goes, IsCutAt, changes_in, turns_of}
 use Rattle.volume_contract.specs.State.{Known, volume_of}
 use Rattle.volume_turns.specs.declared.turns.End.{End}
@@ -21,7 +23,7 @@ use Rattle.volume_turns.specs.declared.turns.End.TheVariants.{Fault as Stopped, 
 use Rattle.volume_turns.specs.Line.{EndsWith, is_unsaid}
 use Rattle.volume_turns.specs.Once.{Anything, IsAlone, Spares}
 use Rattle.volume_turns.specs.Turns.{InRun, Told}
-use Rattle.volume_turns.specs.Whole.{Halted, RunsOut}
+use Rattle.volume_turns.specs.Whole.{Always, Halted, RunsOut}
 use Rattle.volume_turns.proofs.GroupEndLaws.{finishes_unsaid}
 use Rattle.volume_turns.proofs.GroupLaws.{goes_wider}
 use Rattle.volume_turns.proofs.HaltLaws.{broken_ends, broken_moments}
@@ -33,8 +35,8 @@ first_of [] one = cc one
 first_of (t ∷ turns) one = refl
 
 -- the run has a turn to say, whatever the volume
-pub some_one : (c : Command) (v : Volume) → IsSome (slice_get (turns_of (errand_of (One c) []) [] v) 0)
-some_one c v = first_of (turns_of (alone c) [] v) (alone_length c [] v)
+pub some_one : (c : Command) (s : Session) → IsSome (slice_get (turns_of (errand_of (One c) []) [] s) 0)
+some_one c s = first_of (turns_of (alone c) [] s) (alone_length c [] s)
 
 -- where nothing of its one turn is said
 halted_one : (k : Known) (why : Fault) (turns : List Turn) → length turns ≡ 1 → (old now : Moment) → now.said ≡ old.said → Spares k why now.image → InRun k turns old now → Halted k why turns old now
@@ -53,22 +55,22 @@ halted_one k why turns one old now quiet spares r =
     }
 
 module _ {D : Type 0} (M : Ghosts D) (c : Command) (rest : List ℕ) (k : Known) (a p b : D) (since : Since M p b) where
-  went : {r : Result ℕ End} → (one : IsAlone M c k a p r) → (t : ℕ) → t ≤ M.moment a → Goes (in_runs k.windows) (M.left_since b t) (IsCutAt None) (alone c) (M.now a).said (M.now a).image (volume_of k) one.mets (c ∷ [])
+  went : {r : Result ℕ End} → (one : IsAlone M c k a p r) → (t : ℕ) → t ≤ M.moment a → Goes (in_runs k.windows) (M.left_since b t) (IsCutAt None) (alone c) (M.now a).said (M.now a).image (session_over (volume_of k)) one.mets (Plain c ∷ [])
   went one t le = let later = one.moments.later in
-      goes_wider (in_runs k.windows) (M.left_since p t) (M.left_since b t) (λ x was. since t x (omega (arith, le, later)) was) Anything (IsCutAt None) (λ v i is. tt) (alone c) (M.now a).said (M.now a).image (volume_of k) one.mets (c ∷ []) (one.goes t le)
+      goes_wider (in_runs k.windows) (M.left_since p t) (M.left_since b t) (λ x was. since t x (omega (arith, le, later)) was) Anything (IsCutAt None) (λ v i is. tt) (alone c) (M.now a).said (M.now a).image (session_over (volume_of k)) one.mets (Plain c ∷ []) (one.goes t le)
 
   pub one_broken : M.honest b → AreShort (M.now p).windows → EndIn (M.now a).windows k.windows → M.left_since p (M.moment a) (M.now p) → (why : Fault) → IsAlone M c k a p (Err (Stopped why)) → {T : Type 0} → Told {T = T} (M.report a) (M.report p) (Err (Stopped why))
       → (status : ℕ) → LeavesDisk M false (is_unsaid status) (Utters (fault_text why)) p b → EndsWith why (M.now p) (M.now b) status → RunsOut M (One c) [] rest (M.report a) k a b status
   one_broken honest short ends here why one told status says ended =
-      let turns = turns_of (alone c) one.mets (volume_of k) in
-      let halted = halted_one k why turns (alone_length c one.mets (volume_of k)) (M.now a) (M.now p) one.ends.1 one.ends.2 (one.moments.each (M.now p) here) in
+      let turns = turns_of (alone c) one.mets (session_over (volume_of k)) in
+      let halted = halted_one k why turns (alone_length c one.mets (session_over (volume_of k))) (M.now a) (M.now p) one.ends.1 one.ends.2 (one.moments.each (M.now p) here) in
       record {
         cut = None;
         may = tt;
-        ahead = tt;
         cause = tt;
         finishes = record {
           mets = one.mets;
+          ahead = tt;
           goes = went one;
           moments = broken_moments M (One c) (M.report a) k turns a p b one.moments why halted short ends one.ends.0 told status says honest ended;
           ends = inr (broken_ends M (One c) (M.report a) k turns a p b one.moments why halted short ends one.ends.0 told status says honest ended);
@@ -83,10 +85,10 @@ module _ {D : Type 0} (M : Ghosts D) (c : Command) (rest : List ℕ) (k : Known)
   one_said status one = record {
     cut = None;
     may = tt;
-    ahead = tt;
     cause = tt;
     finishes = record {
       mets = one.mets;
+      ahead = tt;
       goes = went M c rest k a b b still one;
       moments = one.moments;
       ends = inl (record { through = one.ends.0; gives = one.ends.1; done = one.ends.2 });
@@ -97,7 +99,6 @@ module _ {D : Type 0} (M : Ghosts D) (c : Command) (rest : List ℕ) (k : Known)
   one_unsaid one told = record {
     cut = None;
     may = tt;
-    ahead = tt;
     cause = tt;
-    finishes = finishes_unsaid M (One c) (M.report a) k (turns_of (alone c) one.mets (volume_of k)) a b one.moments told (alone c) (IsCutAt None) one.mets refl (went M c rest k a b b still one);
+    finishes = finishes_unsaid M (One c) (M.report a) k (turns_of (alone c) one.mets (session_over (volume_of k))) a b one.moments told (alone c) Always (IsCutAt None) one.mets tt refl (went M c rest k a b b still one);
   }

@@ -17,11 +17,11 @@ use Rattle.volume_contract.specs.Order.{Step, Test, Asks, Draw, Disk, Force, Loo
 abbrev worn_test : Bool → Option Refusal
 worn_test b = cond b (Some Why.WornOut) None
 
-passes_worn : (b : Bool) → worn_test b ≡ None → IsFalse b
+pub passes_worn : (b : Bool) → worn_test b ≡ None → IsFalse b
 passes_worn true is = cc
 passes_worn false is = refl
 
-refuses_worn : (b : Bool) (why : Refusal) → worn_test b ≡ Some why → (why ≡ Why.WornOut) × IsTrue b
+pub refuses_worn : (b : Bool) (why : Refusal) → worn_test b ≡ Some why → (why ≡ Why.WornOut) × IsTrue b
 refuses_worn true why is = (cc, refl)
 refuses_worn false why is = absurd (cc (is))
 

@@ -2,21 +2,22 @@
 use Rattle.std.proofs.Common.{◌≡◌, ℕ, ◌+◌, List, ◌∷◌, ◌++◌, Option, Some, None, Ok, subst}
 use Rattle.fsd_texts.specs.declared.command.Command.{Command}
 use Rattle.fsd_texts.specs.declared.end.End.{End}
+use Rattle.fsd_texts.specs.declared.script_command.ScriptCommand.{ScriptCommand}
 use Rattle.fsd_texts.specs.Script.{Script, script_from}
-use Rattle.fsd_runs.proofs.OtherLaws.{AreOthers, IsOther, made_others, script_others}
+use Rattle.fsd_runs.proofs.OtherLaws.{AreOthers, AreOthersIn, IsOther, IsOtherIn, made_others, script_others}
 use Rattle.script_text.specs.Making.{Making, made_left}
 use Rattle.script_text.specs.Reading.{Answers, Reading, room_of, script_left, unless_ended}
 
-unless_others : (end : Option End) (s : Script) → AreOthers s.0 → AreOthers (unless_ended end s).0
+unless_others : (end : Option End) (s : Script) → AreOthersIn s.0 → AreOthersIn (unless_ended end s).0
 unless_others None s others = others
 unless_others (Some end) s others = tt
 
-left_others : (r : Reading) (input : List ℕ) → AreOthers (script_left r input).0
+left_others : (r : Reading) (input : List ℕ) → AreOthersIn (script_left r input).0
 left_others r input = unless_others r.end (script_from (room_of r) (r.given + 1) (r.waiting ++ input)) (script_others (room_of r) (r.given + 1) (r.waiting ++ input))
 
-pub read_other : (r s : Reading) (before now : List ℕ) (command : Command) → Answers (Ok (Some command)) (script_left r before) (script_left s now) → IsOther command
+pub read_other : (r s : Reading) (before now : List ℕ) (command : ScriptCommand) → Answers (Ok (Some command)) (script_left r before) (script_left s now) → IsOtherIn command
 read_other r s before now command is =
-    let all : AreOthers (command ∷ (script_left s now).0) = subst (λ (x : Script). AreOthers x.0) is (left_others r before) in
+    let all : AreOthersIn (command ∷ (script_left s now).0) = subst (λ (x : Script). AreOthersIn x.0) is (left_others r before) in
     all.0
 
 pub made_other : (old new : Making) (command : Command) → made_left old ≡ command ∷ made_left new → IsOther command

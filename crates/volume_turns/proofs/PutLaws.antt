@@ -10,21 +10,21 @@ use Rattle.sector_disk.specs.Machine.{LeavesOnly, Moment, Report, UsesDisk, Wear
 use Rattle.sector_disk.proofs.Moments.{leaves_more, then_on}
 use Rattle.fsd_files.specs.Answers.{Met}
 use Rattle.fsd_files.specs.Disk.{Image, in_runs}
-use Rattle.fsd_files.specs.Volume.{Volume}
+use Rattle.fsd_files.specs.Desk.{Session}
 use Rattle.fsd_sound.specs.Mounted.{Mounted}
 use Rattle.fsd_sound.proofs.MoreLaws.{sound_more}
 use Rattle.fsd_sound.proofs.MountedLaws.{mounted_sound, mounted_tells}
-use Rattle.fsd_texts.specs.declared.command.Command.{Command}
+use Rattle.fsd_texts.specs.declared.script_command.ScriptCommand.{ScriptCommand}
 use Rattle.fsd_texts.specs.declared.command.Command.TheVariants as Word
 use Rattle.fsd_texts.specs.declared.fault.Fault.{Fault}
 use Rattle.fsd_texts.specs.declared.fault.Fault.TheVariants as Ends
 use Rattle.fsd_texts.specs.Script.{max_input}
 use Rattle.fsd_texts.specs.Text.{fault_text}
 use Rattle.fsd_runs.specs.declared.request.Request.TheVariants.{Put}
-use Rattle.fsd_runs.specs.Commands.{MayFind}
+use Rattle.fsd_runs.specs.Sessions.{MayFindIn, Meeting, session_over}
 use Rattle.fsd_runs.specs.Errands.{Cut, Errand, MayCut, Turn, alone, errand_of, nothing_but}
 use Rattle.fsd_runs.specs.Leaves.{IsBroken, IsOutside, IsUnsaid, MayEnd}
-use Rattle.fsd_runs.specs.Runs.{Goes, IsCutAt, changes_in, errand_in, said_in, turns_of}
+use Rattle.fsd_runs.specs.Runs.{Goes, IsCutAt, IsCutBefore, changes_in, errand_in, said_in, turns_of}
 use Rattle.volume_contract.specs.State.{State, Ages, Known, Stands, forced_of, is_worn, volume_of}
 use Rattle.volume_turns.specs.Line.{EndsWith, is_unsaid}
 use Rattle.volume_turns.specs.Steps.{StaysSound}
@@ -42,18 +42,18 @@ abbrev asked : Bool → (name input : List ℕ) → Option ℕ → Errand
 asked long name input keep = if long then nothing_but Ends.InputTooLong else alone (Word.Put name input keep)
 
 -- the run has a turn to say, whatever the volume
-pub some_put : (name : List ℕ) (keep : Option ℕ) (input : List ℕ) (v : Volume) → IsSome (slice_get (turns_of (errand_of (Put name keep) input) [] v) 0)
-some_put name keep input v = by (nat_lt max_input (length input))
+pub some_put : (name : List ℕ) (keep : Option ℕ) (input : List ℕ) (s : Session) → IsSome (slice_get (turns_of (errand_of (Put name keep) input) [] s) 0)
+some_put name keep input s = by (nat_lt max_input (length input))
   where
-    by : (long : Bool) → IsSome (slice_get (turns_of (asked long name input keep) [] v) 0)
+    by : (long : Bool) → IsSome (slice_get (turns_of (asked long name input keep) [] s) 0)
     by true = refl
-    by false = some_one (Word.Put name input keep) v
+    by false = some_one (Word.Put name input keep) s
 
 -- its command reads no data of a version
-put_finds : (name : List ℕ) (keep : Option ℕ) (input : List ℕ) (i j : Image) (v : Volume) (met : Met) → IfSome (slice_get (errand_of (Put name keep) input).commands 0) (λ c. MayFind i j v c met)
-put_finds name keep input i j v met = by (nat_lt max_input (length input))
+put_finds : (name : List ℕ) (keep : Option ℕ) (input : List ℕ) (i j : Image) (s : Session) (met : Met) → IfSome (slice_get (errand_of (Put name keep) input).commands 0) (λ c. MayFindIn i j s c met)
+put_finds name keep input i j s met = by (nat_lt max_input (length input))
   where
-    by : (long : Bool) → IfSome (slice_get (asked long name input keep).commands 0) (λ c. MayFind i j v c met)
+    by : (long : Bool) → IfSome (slice_get (asked long name input keep).commands 0) (λ c. MayFindIn i j s c met)
     by true = tt
     by false = tt
 
@@ -81,8 +81,8 @@ module _ {S D : Type 0} (state : S → State) (has : S → Mounted → List Plac
 
   -- the run goes on from there
   module _ (unworn : is_worn (state v) ≡ false) (before : Report) where
-    goes_from : (P : Moment → Type 0) (x : Errand) (said : List ℕ) (mets : List Met) (commands : List Command) → ((i j : Image) (u : Volume) (met : Met) → IfSome (slice_get commands 0) (λ c. MayFind i j u c met))
-        → Goes (in_runs k.windows) P (IsCutAt None) x said (M.now m).image (volume_of k) mets commands → Goes (in_runs k.windows) P (IsCutAt None) x said (M.now a).image (volume_of k) mets commands
+    goes_from : (P : Moment → Type 0) (x : Errand) (said : List ℕ) (mets : List Meeting) (commands : List ScriptCommand) → ((i j : Image) (u : Session) (met : Met) → IfSome (slice_get commands 0) (λ c. MayFindIn i j u c met))
+        → Goes (in_runs k.windows) P (IsCutAt None) x said (M.now m).image (session_over (volume_of k)) mets commands → Goes (in_runs k.windows) P (IsCutAt None) x said (M.now a).image (session_over (volume_of k)) mets commands
     goes_from P x said [] commands finds goes = tt
     goes_from P x said (met ∷ mets) [] finds goes = absurd goes
     goes_from P x said (met ∷ mets) (c ∷ commands) finds goes = (
@@ -92,21 +92,21 @@ module _ {S D : Type 0} (state : S → State) (has : S → Mounted → List Plac
         tells = mounted_tells k.mounted k.windows k.changes (forced_of k) (M.now a).image stands.disk;
         unworn = λ may full. let so = worn_state state has v k (M.now a) stands full in cc (so, unworn);
         exit = goes.1.exit;
-        may = record { find = finds (M.now a).image goes.0 (volume_of k) met; reach = goes.1.may.reach };
+        may = record { find = finds (M.now a).image goes.0 (session_over (volume_of k)) met.met; reach = goes.1.may.reach; hold = goes.1.may.hold };
       },
       goes.2,
     )
 
-    abbrev Over : Moment → List Met → Type 0
-    Over old mets = SaysOut e k mets old (M.now b) status ⊎ (IsUnsaid before (M.report b) status ⊎ IsBroken (Put name keep) (Undone k (turns_of e mets (volume_of k))) before (M.report b) (turns_of e mets (volume_of k)) old (M.now b) status)
+    abbrev Over : Moment → List Meeting → Type 0
+    Over old mets = SaysOut e k mets old (M.now b) status ⊎ (IsUnsaid before (M.report b) status ⊎ IsBroken (Put name keep) (Undone k (turns_of e mets (session_over (volume_of k)))) before (M.report b) (turns_of e mets (session_over (volume_of k))) old (M.now b) status)
 
-    ends_from : (mets : List Met) → Over (M.now m) mets → Over (M.now a) mets
+    ends_from : (mets : List Meeting) → Over (M.now m) mets → Over (M.now a) mets
     ends_from mets (inl out) = inl (record {
       through = out.through;
       gives = out.gives;
       done = record {
         windows = out.done.windows ∙ worn.windows;
-        said = out.done.said ∙ ap (λ (x : List ℕ). x ++ said_in (turns_of e mets (volume_of k))) worn.said;
+        said = out.done.said ∙ ap (λ (x : List ℕ). x ++ said_in (turns_of e mets (session_over (volume_of k)))) worn.said;
         sound = out.done.sound;
         tells = out.done.tells;
         lasts = out.done.lasts;
@@ -120,26 +120,26 @@ module _ {S D : Type 0} (state : S → State) (has : S → Mounted → List Plac
       says = record {
         whole = x.says.whole;
         more = x.says.more;
-        said = x.says.said ∙ ap (λ (y : List ℕ). y ++ (said_in (take x.says.whole (turns_of e mets (volume_of k))) ++ fault_text x.why)) worn.said;
+        said = x.says.said ∙ ap (λ (y : List ℕ). y ++ (said_in (take x.says.whole (turns_of e mets (session_over (volume_of k)))) ++ fault_text x.why)) worn.said;
       };
       undone = x.undone;
     }))
 
-    from_there : (cut : Cut) → MayCut (Put name keep) cut → Finishes M (Put name keep) (errand_in (Put name keep) input cut) (IsCutAt cut) before k m b status → RunsOut M (Put name keep) input rest before k a b status
+    from_there : (cut : Cut) → MayCut (Put name keep) cut → Finishes M (Put name keep) (errand_in (Put name keep) input cut) (λ s. IsCutBefore cut s (errand_of (Put name keep) input).commands) (IsCutAt cut) before k m b status → RunsOut M (Put name keep) input rest before k a b status
     from_there (Some (n, why)) may f = absurd may
     from_there None may f = record {
       cut = None;
       may = tt;
-      ahead = tt;
       cause = tt;
       finishes = record {
         mets = f.mets;
+        ahead = tt;
         goes = λ t le. let later = (read.any_moment back).later in
-            subst (λ (x : List ℕ). Goes (in_runs k.windows) (M.left_since b t) (IsCutAt None) e x (M.now a).image (volume_of k) f.mets e.commands) worn.said
+            subst (λ (x : List ℕ). Goes (in_runs k.windows) (M.left_since b t) (IsCutAt None) e x (M.now a).image (session_over (volume_of k)) f.mets e.commands) worn.said
             (goes_from (M.left_since b t) e (M.now m).said f.mets e.commands (put_finds name keep input) (f.goes t (omega (arith, le, later))));
-        moments = then_on M.moment M.left_since a m b (InRun k (turns_of e f.mets (volume_of k)) (M.now a)) (taking (turns_of e f.mets (volume_of k)))
-            (leaves_more M.moment M.left_since m b (InRun k (turns_of e f.mets (volume_of k)) (M.now m)) (InRun k (turns_of e f.mets (volume_of k)) (M.now a))
-            (λ left x. in_from k (M.now a) (M.now m) worn (turns_of e f.mets (volume_of k)) left x) f.moments);
+        moments = then_on M.moment M.left_since a m b (InRun k (turns_of e f.mets (session_over (volume_of k))) (M.now a)) (taking (turns_of e f.mets (session_over (volume_of k))))
+            (leaves_more M.moment M.left_since m b (InRun k (turns_of e f.mets (session_over (volume_of k))) (M.now m)) (InRun k (turns_of e f.mets (session_over (volume_of k))) (M.now a))
+            (λ left x. in_from k (M.now a) (M.now m) worn (turns_of e f.mets (session_over (volume_of k))) left x) f.moments);
         ends = ends_from f.mets f.ends;
       };
     }
@@ -160,13 +160,13 @@ module _ {S D : Type 0} (state : S → State) (has : S → Mounted → List Plac
   module _ (why : Fault) (may : MayEnd why) (out : IsOutside (Put name keep) (M.report a) (M.report b) why) (says : LeavesDisk M false (is_unsaid status) (Utters (fault_text why)) m b) (honest : M.honest b)
       (ended : EndsWith why (M.now m) (M.now b) status) where
     abbrev turns : List Turn
-    turns = turns_of e [] (volume_of k)
+    turns = turns_of e [] (session_over (volume_of k))
 
     halted : Halted k why turns (M.now a) (M.now m)
     halted = record {
       windows = worn.windows;
       whole = 0;
-      more = some_put name keep input (volume_of k);
+      more = some_put name keep input (session_over (volume_of k));
       said = worn.said ∙ sym (append-nil (M.now a).said);
       forced = forced_of k;
       least = omega arith;
@@ -185,10 +185,10 @@ module _ {S D : Type 0} (state : S → State) (has : S → Mounted → List Plac
     taken_ended = record {
       cut = None;
       may = tt;
-      ahead = tt;
       cause = tt;
       finishes = record {
         mets = [];
+        ahead = tt;
         goes = λ t le. tt;
         moments = stopped_moments M (Put name keep) (M.report a) k turns a m b (taking turns) why halted short_there stands.ends may out later status says honest ended;
         ends = inr (stopped_ends M (Put name keep) (M.report a) k turns a m b (taking turns) why halted short_there stands.ends may out later status says honest ended);

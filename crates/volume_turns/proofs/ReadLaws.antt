@@ -43,7 +43,7 @@ module _ (may : ℕ → Bool) (i j : Image) (worn : IsWorn may i j) where
   first_earlier k (t ∷ sectors) s (inl here) = inl here
   first_earlier k (t ∷ sectors) s (inr later) = inr (whole_earlier t later.0, first_earlier k sectors s later.1)
 
-  finds_earlier : (k : Image) (sectors : List ℕ) (damaged : Option ℕ) → Finds j k sectors damaged → Finds i k sectors damaged
+  pub finds_earlier : (k : Image) (sectors : List ℕ) (damaged : Option ℕ) → Finds j k sectors damaged → Finds i k sectors damaged
   finds_earlier k sectors None finds = all_earlier sectors finds
   finds_earlier k sectors (Some s) finds = first_earlier k sectors s finds
 
@@ -105,6 +105,7 @@ module _ {S : Type 0} (state : S → State) (has : S → Mounted → List Placed
   got_answered reply is = record {
     met = record { forces = false; reached = 0; damaged = is.damaged; found = []; healed = 0 };
     is = ap (λ (r : Reply). (r, volume_of k)) is.is;
+    opened = refl;
     windows = refl;
     changes = sym (append-nil k.changes);
     find = is.finds;
@@ -133,6 +134,7 @@ module _ {S : Type 0} (state : S → State) (has : S → Mounted → List Placed
   answered_earlier after reply is = record {
     met = is.met;
     is = is.is;
+    opened = is.opened;
     windows = is.windows;
     changes = is.changes;
     find = some_earlier may before.image at.image worn now.image (entry_of key (volume_of k).entries) is.met.damaged is.find;
@@ -167,6 +169,7 @@ unfound_does state has key old new k before now Why.NoSuch stands looks =
       record {
         met = record { forces = false; reached = 0; damaged = None; found = []; healed = 0 };
         is = ap (λ (f : Option File). (got key None f, volume_of k)) file;
+        opened = refl;
         windows = refl;
         changes = sym (append-nil k.changes);
         find = subst (λ (o : Option Entry). IfSome o (λ x. Finds before.image now.image (range_sectors x.runs 0 x.length) None)) (sym none) tt;

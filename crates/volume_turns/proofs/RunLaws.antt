@@ -1,7 +1,7 @@
 -- A command and its reply, and the commands behind it.
 use Rattle.std.proofs.Common.{◌≡◌, ℕ, suc, ◌+◌, ◌≤◌, Bool, List, [], ◌∷◌, ◌++◌, length, take, Option, None, refl, sym, ◌∙◌, ap, subst, arith, append_assoc, length-append}
 use Rattle.fsd_log.specs.Scan.{Placed}
-use Rattle.std.specs.Prelude.{IsTrue, Result, Ok, Err, OnOk, IfErr}
+use Rattle.std.specs.Prelude.{IsTrue, Result, Ok, Err, OnOk, IfErr, slice_get}
 use Rattle.std.specs.List.{AllByRecursion, list_any}
 use Rattle.std.proofs.lemmas.List.{append-nil}
 use Rattle.sector_disk.specs.declared.machine.Machine.{Ghosts}
@@ -10,14 +10,17 @@ use Rattle.sector_disk.specs.Image.{IsWorn, open_damage, AreShort, Windows}
 use Rattle.sector_disk.specs.Machine.{Ledger, LeavesOnly, Moment, OnlyWrites, Report, UsesDisk, Utters, Wears}
 use Rattle.sector_disk.proofs.Wear.{worn_whole}
 use Rattle.sector_disk.proofs.Moments.{started, then_on, leaves_more}
-use Rattle.fsd_files.specs.Answers.{Met, Outcome, entry_of}
+use Rattle.fsd_files.specs.Answers.{Met, entry_of}
+use Rattle.fsd_files.specs.Desk.{Open, Nothing, Writes, Reads, Session, next_count, opened_by}
 use Rattle.fsd_files.specs.Disk.{Image, Sectors, in_runs}
 use Rattle.fsd_files.specs.Files.{Change}
+use Rattle.fsd_files.specs.Kept.{range_sectors}
 use Rattle.fsd_files.specs.Replies.{Reply}
 use Rattle.fsd_files.specs.Scrub.{Picks, all_data}
 use Rattle.fsd_files.specs.Volume.{Volume, HasReach}
 use Rattle.fsd_files.proofs.ScrubLaws.{picks_longer}
 use Rattle.fsd_bytes.specs.declared.key.Key.{Key}
+use Rattle.fsd_bytes.specs.declared.refusal.Refusal.{Refusal}
 use Rattle.fsd_sound.specs.Mounted.{Mounted}
 use Rattle.fsd_sound.specs.Sound.{EndIn, IsSound}
 use Rattle.fsd_sound.proofs.MoreLaws.{wear_sound}
@@ -26,17 +29,25 @@ use Rattle.fsd_texts.specs.declared.command.Command.{Command}
 use Rattle.fsd_texts.specs.declared.command.Command.TheVariants as Word
 use Rattle.fsd_texts.specs.declared.fault.Fault.{Fault}
 use Rattle.fsd_texts.specs.declared.fault.Fault.TheVariants as Ends
-use Rattle.fsd_runs.specs.Commands.{answer, changes_of, MayFind}
+use Rattle.fsd_texts.specs.declared.call.Call.{Call}
+use Rattle.fsd_texts.specs.declared.call.Call.TheVariants as Calls
+use Rattle.fsd_texts.specs.declared.script_command.ScriptCommand.{ScriptCommand}
+use Rattle.fsd_texts.specs.declared.script_command.ScriptCommand.TheVariants.{Plain, OfClient}
+use Rattle.fsd_runs.specs.Commands.{MayFind}
 use Rattle.fsd_runs.specs.Errands.{Errand, Turn}
-use Rattle.fsd_runs.specs.Runs.{Goes, IsStep, Stood, behind, changes_in, forced_in, said_in, turns_begun}
-use Rattle.fsd_runs.proofs.AnswerLaws.{command_grows}
+use Rattle.fsd_runs.specs.Runs.{Goes, IsStep, Stood, behind, changes_in, forced_in, said_in, turns_begun, WearsOut}
+use Rattle.fsd_runs.specs.Sessions.{CallMayFind, FindsNext, HoldsRead, MayFindIn, Meeting, answer_in, changes_in_session}
+use Rattle.fsd_runs.proofs.SessionLaws.{command_grows}
+use Rattle.client_desk.specs.declared.client.Client.{Client}
 use Rattle.volume_turns.specs.declared.turns.End.{End}
 use Rattle.volume_turns.specs.declared.turns.End.TheVariants.{Fault as Stopped, Output}
 use Rattle.sector_disk.specs.Calls.{DiskFaults, Since, WritesDisk}
-use Rattle.volume_contract.specs.State.{State, Ages, Known, volume_of, forced_of, Stands}
-use Rattle.volume_turns.specs.Steps.{Does, IsAnswered, Stays, device_told}
+use Rattle.volume_contract.specs.State.{State, Ages, Known, forced_of, Stands}
+use Rattle.volume_turns.specs.Seats.{DoesIn, IsAnsweredIn, Seated, SitsAt, StaysIn, known_of, session_in}
+use Rattle.volume_turns.specs.Steps.{device_told}
 use Rattle.volume_turns.specs.Turns.{Carries, Follows, InRun, RunsFrom, Runs, Steps, StepsBy, StepsOk, StandsBehind, EndsBy, Said, SaysAll, Unsaid, Behind, Told, turn_by}
-use Rattle.volume_turns.proofs.ReadLaws.{some_earlier}
+use Rattle.volume_turns.proofs.ReadLaws.{finds_earlier, some_earlier}
+use Rattle.volume_turns.proofs.SeatLaws.{seat_wears}
 use Rattle.volume_turns.proofs.TurnLaws.{in_before, in_saying, in_behind, enough_from, said_before, said_more, said_nothing, worn_state, state_worn}
 
 anything : (xs : List (Key × ℕ)) → AllByRecursion (λ x. Unit {0}) xs
@@ -52,46 +63,60 @@ find_earlier may i j k worn v (Word.Get key) met find = some_earlier may i j wor
 find_earlier may i j k worn v Word.Scrub met find = picks_earlier may i j k worn (all_data v.entries) met.found find
 find_earlier may i j k worn v command met find = tt
 
+next_earlier : (may : ℕ → Bool) (i j k : Image) → IsWorn may i j → (r : Result Open Refusal) (len : ℕ) (damaged : Option ℕ) → FindsNext j k r len damaged → FindsNext i k r len damaged
+next_earlier may i j k worn (Ok (Reads key runs bytes place)) len damaged find = finds_earlier may i j worn k (range_sectors runs place (next_count bytes place len)) damaged find
+next_earlier may i j k worn (Ok Nothing) len damaged find = tt
+next_earlier may i j k worn (Ok (Writes name long runs serial bytes)) len damaged find = tt
+next_earlier may i j k worn (Err why) len damaged find = tt
+
+call_earlier : (may : ℕ → Bool) (i j k : Image) → IsWorn may i j → (clients : List Open) (c : ℕ) (call : Call) (met : Met) → CallMayFind j k clients c call met → CallMayFind i k clients c call met
+call_earlier may i j k worn clients c (Calls.Next len) met find = next_earlier may i j k worn (opened_by clients c) len met.damaged find
+call_earlier may i j k worn clients c call met find = tt
+
+earlier_in : (may : ℕ → Bool) (i j k : Image) → IsWorn may i j → (s : Session) (command : ScriptCommand) (met : Met) → MayFindIn j k s command met → MayFindIn i k s command met
+earlier_in may i j k worn s (Plain command) met find = find_earlier may i j k worn s.volume command met find
+earlier_in may i j k worn s (OfClient c call) met find = call_earlier may i j k worn s.clients c call met find
+
 module _ {S D : Type 0} (state : S → State) (has : S → Mounted → List Placed → Type 0) (M : Ghosts D)
     (wears : (s : S) (k : Known) (old new : Moment) → AreShort old.windows → Ages old new → Stands state has s k old → Stands state has s k new)
     (short : (m : D) → M.honest m → AreShort (M.now m).windows)
     (counts_now : (m : D) (t : ℕ) → M.honest m → t ≤ M.moment m → M.left_since m t (M.now m)) (e : Errand)
-    (forced : (met : Met) (v : Volume) (c : Command) → IsTrue (e.forces (answer met v c).0) → (answer met v c).1.unforced ≡ 0) where
+    (forced : (x : Meeting) (s : Session) (c : ScriptCommand) → IsTrue (e.forces (answer_in x s c).0) → (answer_in x s c).1.volume.unforced ≡ 0) where
   -- ---- one command, from its answer on
 
-  module _ (command : Command) (v w : S) (a m b : D) (k : Known) (from : Moment) (stood_from : Stands state has v k from) (aged : Ages from (M.now a)) (stood : Stands state has v k (M.now a))
-      (fault : Option ℕ) (disk : WritesDisk M fault (Stays state has v) a m) (layout : (state w).layout ≡ (state v).layout) (honest : M.honest m) (since : Since M m b) where
-    pub before_it : (turns : List Turn) → LeavesOnly M.moment M.left_since a m (InRun k turns (M.now a))
-    before_it turns = leaves_more M.moment M.left_since a m (Stays state has v (M.now a)) (InRun k turns (M.now a)) (λ left stays. in_before k turns (M.now a) left (stays k stood)) (disk.any_moment honest)
+  module _ (command : ScriptCommand) (v w : S × List Client) (a m b : D) (k : Seated) (from : Moment) (stood_from : SitsAt state has v k from) (aged : Ages from (M.now a)) (stood : SitsAt state has v k (M.now a))
+      (fault : Option ℕ) (disk : WritesDisk M fault (StaysIn state has v) a m) (layout : (state w.0).layout ≡ (state v.0).layout) (honest : M.honest m) (since : Since M m b) where
+    pub before_it : (turns : List Turn) → LeavesOnly M.moment M.left_since a m (InRun (known_of k) turns (M.now a))
+    before_it turns = leaves_more M.moment M.left_since a m (StaysIn state has v (M.now a)) (InRun (known_of k) turns (M.now a)) (λ left stays. in_before (known_of k) turns (M.now a) left (stays k stood)) (disk.any_moment honest)
 
-    module _ (after : Known) (reply : Reply) (is : IsAnswered command (state v) k after (M.now a).image (M.now m).image reply) (stands : Stands state has w after (M.now m)) where
-      abbrev out : Outcome
-      out = answer is.met (volume_of k) command
+    module _ (after : Seated) (reply : Reply) (is : IsAnsweredIn command (state v.0) k after (M.now a).image (M.now m).image reply) (stands : SitsAt state has w after (M.now m)) where
+      abbrev out : Reply × Session
+      out = answer_in is.met (session_in k) command
 
       abbrev turn : Turn
-      turn = turn_by e k command is.met
+      turn = turn_by e (session_in k) command is.met
 
       pub reply_is : out.0 ≡ reply
-      reply_is = ap (λ (o : Outcome). o.0) is.is
+      reply_is = ap (λ (o : Reply × Session). o.0) is.is
 
-      pub volume_is : volume_of after ≡ out.1
-      volume_is = sym (ap (λ (o : Outcome). o.1) is.is)
+      pub session_is : session_in after ≡ out.1
+      session_is = sym (ap (λ (o : Reply × Session). o.1) is.is)
 
       pub changes_is : after.changes ≡ k.changes ++ turn.changes
-      changes_is = is.changes ∙ ap (λ (r : Reply). k.changes ++ changes_of command r) (sym reply_is)
+      changes_is = is.changes ∙ ap (λ (r : Reply). k.changes ++ changes_in_session (session_in k) command r) (sym reply_is)
 
-      pub behind_it : Carries k after turn
+      pub behind_it : Carries (known_of k) (known_of after) turn
       behind_it =
-          let more = command_grows is.met (volume_of k) command in
-          let same : (volume_of after).unforced ≡ out.1.unforced = ap (λ (x : Volume). x.unforced) volume_is in
+          let more = command_grows is.met (session_in k) command in
+          let same : after.mounted.volume.unforced ≡ out.1.volume.unforced = ap (λ (x : Session). x.volume.unforced) session_is in
           let sum = length-append k.changes turn.changes in
           let long : length after.changes ≡ length (k.changes ++ turn.changes) = ap (λ (h : List Change). length h) changes_is in
           record {
-            layout = stands.fits.layout ∙ layout ∙ sym stood.fits.layout;
+            layout = stands.stands.fits.layout ∙ layout ∙ sym stood.stands.fits.layout;
             windows = is.windows;
             changes = changes_is;
             least = omega (arith, more, same, sum, long);
-            all = λ all. let none = forced is.met (volume_of k) command all in omega (arith, none, same);
+            all = λ all. let none = forced is.met (session_in k) command all in omega (arith, none, same);
           }
 
       passed : (t : ℕ) → t ≤ M.moment a → Stood (M.left_since b t) (M.now a).said (M.now m).image
@@ -100,15 +125,16 @@ module _ {S D : Type 0} (state : S → State) (has : S → Mounted → List Plac
           let on : t ≤ M.moment m = omega (arith, le, later) in
           record { moment = M.now m; passed = since t (M.now m) on (counts_now m t honest on); image = refl; so_far = disk.quiet honest }
 
-      pub step_is : (t : ℕ) → t ≤ M.moment a → IsStep (in_runs k.windows) (M.left_since b t) (M.now a).said from.image (M.now m).image (volume_of k) command is.met
+      pub step_is : (t : ℕ) → t ≤ M.moment a → IsStep (in_runs k.windows) (M.left_since b t) (M.now a).said from.image (M.now m).image (session_in k) command is.met
       step_is t le = record {
-        kept = stood_from.disk.described.kept;
-        tells = mounted_tells k.mounted k.windows k.changes (forced_of k) from.image stood_from.disk;
-        unworn = λ may worn. let so = worn_state state has v k from stood_from worn in let not_so = is.unworn may in cc (so, not_so);
+        kept = stood_from.stands.disk.described.kept;
+        tells = mounted_tells k.mounted k.windows k.changes (forced_of (known_of k)) from.image stood_from.stands.disk;
+        unworn = λ may worn. let so = worn_state state has v.0 (known_of k) from stood_from.stands worn in let not_so = is.unworn may in cc (so, not_so);
         exit = passed t le;
         may = record {
-          find = find_earlier (open_damage from.windows) from.image (M.now a).image (M.now m).image aged.image (volume_of k) command is.met is.find;
-          reach = subst (λ (x : Volume). HasReach x) volume_is (mounted_reach after.mounted after.windows after.changes (forced_of after) (M.now m).image stands.disk);
+          find = earlier_in (open_damage from.windows) from.image (M.now a).image (M.now m).image aged.image (session_in k) command is.met.met is.find;
+          reach = subst (λ (x : Session). HasReach x.volume) session_is (mounted_reach after.mounted after.windows after.changes (forced_of (known_of after)) (M.now m).image stands.stands.disk);
+          hold = subst (λ (x : Session). HoldsRead x) session_is is.hold;
         };
       }
 
@@ -117,14 +143,14 @@ module _ {S D : Type 0} (state : S → State) (has : S → Mounted → List Plac
         said_is : e.says reply ≡ turn.said
         said_is = ap (λ (r : Reply). e.says r) (sym reply_is)
 
-        saying : (rest : List Turn) (left : Moment) → Utters (e.says reply) (M.now m) left → InRun k (turn ∷ rest) (M.now a) left
+        saying : (rest : List Turn) (left : Moment) → Utters (e.says reply) (M.now m) left → InRun (known_of k) (turn ∷ rest) (M.now a) left
         saying rest left utters =
-            let at = wears w after (M.now m) left (short m honest) (record { image = utters.image; windows = utters.windows }) stands in
-            in_saying k after turn rest behind_it (M.now a) left (utters.windows ∙ disk.windows honest) (mounted_sound after.mounted after.windows after.changes (forced_of after) left.image at.disk) utters.heard
+            let at = seat_wears state has wears w after (M.now m) left (short m honest) (record { image = utters.image; windows = utters.windows }) stands in
+            in_saying (known_of k) (known_of after) turn rest behind_it (M.now a) left (utters.windows ∙ disk.windows honest) (mounted_sound after.mounted after.windows after.changes (forced_of (known_of after)) left.image at.stands.disk) utters.heard
             (utters.said ∙ ap (λ (x : List ℕ). x ++ take utters.heard (e.says reply)) (disk.quiet honest) ∙ ap (λ (x : List ℕ). (M.now a).said ++ take utters.heard x) said_is)
 
-        pub in_both : (rest : List Turn) → LeavesOnly M.moment M.left_since a b (InRun k (turn ∷ rest) (M.now a))
-        in_both rest = then_on M.moment M.left_since a m b (InRun k (turn ∷ rest) (M.now a)) (before_it (turn ∷ rest)) (leaves_more M.moment M.left_since m b (Utters (e.says reply) (M.now m)) (InRun k (turn ∷ rest) (M.now a)) (saying rest) run)
+        pub in_both : (rest : List Turn) → LeavesOnly M.moment M.left_since a b (InRun (known_of k) (turn ∷ rest) (M.now a))
+        in_both rest = then_on M.moment M.left_since a m b (InRun (known_of k) (turn ∷ rest) (M.now a)) (before_it (turn ∷ rest)) (leaves_more M.moment M.left_since m b (Utters (e.says reply) (M.now m)) (InRun (known_of k) (turn ∷ rest) (M.now a)) (saying rest) run)
 
         pub step_ok : SaysAll (e.says reply) (M.now m) (M.now b) → StepsOk state has M e k from command a b w
         step_ok says = record {
@@ -132,7 +158,7 @@ module _ {S D : Type 0} (state : S → State) (has : S → Mounted → List Plac
           after = after;
           mid = M.now m;
           step = step_is;
-          is = volume_is;
+          is = session_is;
           carries = behind_it;
           stands = stands;
           ages = says.ages;
@@ -145,23 +171,23 @@ module _ {S D : Type 0} (state : S → State) (has : S → Mounted → List Plac
         unfolding step_ok
         step_ok_met says = refl
 
-        worn_after : Wears (M.now m) (M.now b) → IsSound after.mounted.volume.layout after.windows after.changes (forced_of after) (M.now b).image
+        worn_after : Wears (M.now m) (M.now b) → IsSound after.mounted.volume.layout after.windows after.changes (forced_of (known_of after)) (M.now b).image
         worn_after worn =
-            let at = wears w after (M.now m) (M.now b) (short m honest) (record { image = worn.image; windows = worn.windows }) stands in
-            mounted_sound after.mounted after.windows after.changes (forced_of after) (M.now b).image at.disk
+            let at = seat_wears state has wears w after (M.now m) (M.now b) (short m honest) (record { image = worn.image; windows = worn.windows }) stands in
+            mounted_sound after.mounted after.windows after.changes (forced_of (known_of after)) (M.now b).image at.stands.disk
 
         -- what was done is on no disk yet
-        spared_after : Wears (M.now m) (M.now b) → IsSound k.mounted.volume.layout k.windows k.changes (forced_of k) (M.now b).image
-        spared_after worn = wear_sound k.mounted.volume.layout k.windows k.changes (forced_of k) (M.now m).windows (M.now m).image (M.now b).image (short m honest)
-            (subst (λ (w : Windows). EndIn w k.windows) (sym (disk.windows honest)) stood.ends) worn.image (disk.exit honest k stood).sound
+        spared_after : Wears (M.now m) (M.now b) → IsSound k.mounted.volume.layout k.windows k.changes (forced_of (known_of k)) (M.now b).image
+        spared_after worn = wear_sound k.mounted.volume.layout k.windows k.changes (forced_of (known_of k)) (M.now m).windows (M.now m).image (M.now b).image (short m honest)
+            (subst (λ (w : Windows). EndIn w k.windows) (sym (disk.windows honest)) stood.stands.ends) worn.image (disk.exit honest k stood).sound
 
         -- it was not said
-        pub step_unsaid : (end : End) → Unsaid (M.now m) (M.now b) end → (more : List Command) → RunsFrom state has M e k from (command ∷ more) a b w (Err end)
+        pub step_unsaid : (end : End) → Unsaid (M.now m) (M.now b) end → (more : List ScriptCommand) → RunsFrom state has M e k from (command ∷ more) a b w (Err end)
         step_unsaid (Stopped Ends.Memory) unsaid more = record {
           mets = is.met ∷ [];
           goes = λ t le. ((M.now m).image, step_is t le, tt);
           moments = in_both;
-          ends = (tt, said_before k after turn [] behind_it.layout behind_it.windows behind_it.changes (forced_of after) behind_it.least (M.now a) (M.now b) (unsaid.windows ∙ disk.windows honest) (worn_after unsaid) Ends.Memory (λ is. spared_after unsaid) (unsaid.said ∙ disk.quiet honest));
+          ends = (tt, said_before (known_of k) (known_of after) turn [] behind_it.layout behind_it.windows behind_it.changes (forced_of (known_of after)) behind_it.least (M.now a) (M.now b) (unsaid.windows ∙ disk.windows honest) (worn_after unsaid) Ends.Memory (λ is. spared_after unsaid) (unsaid.said ∙ disk.quiet honest));
         }
         step_unsaid Output unsaid more = record { mets = is.met ∷ []; goes = λ t le. ((M.now m).image, step_is t le, tt); moments = in_both; ends = tt }
         step_unsaid (Stopped fault) unsaid more = absurd unsaid
@@ -173,22 +199,22 @@ module _ {S D : Type 0} (state : S → State) (has : S → Mounted → List Plac
       step_said run (Err end) said unsaid = step_unsaid run end unsaid
 
     -- it was not answered
-    pub step_fault : (why : Fault) → Does state has command v w k (M.now a) (M.now m) (Err why) → (more : List Command) → RunsFrom state has M e k from (command ∷ more) a m w (Err (Stopped why))
+    pub step_fault : (why : Fault) → DoesIn state has command v w k (M.now a) (M.now m) (Err why) → (more : List ScriptCommand) → RunsFrom state has M e k from (command ∷ more) a m w (Err (Stopped why))
     step_fault (Ends.Device s) does more = record {
       mets = [];
       goes = λ t le. tt;
       moments = before_it;
-      ends = (tt, said_nothing k (Ends.Device s) (M.now a) (M.now m) (disk.exit honest k stood));
+      ends = (tt, said_nothing (known_of k) (Ends.Device s) (M.now a) (M.now m) (disk.exit honest k stood));
     }
     step_fault Ends.Memory does more = record {
       mets = [];
       goes = λ t le. tt;
       moments = before_it;
-      ends = (tt, said_nothing k Ends.Memory (M.now a) (M.now m) (disk.exit honest k stood));
+      ends = (tt, said_nothing (known_of k) Ends.Memory (M.now a) (M.now m) (disk.exit honest k stood));
     }
     step_fault Ends.WornOut does more = record {
       mets = [];
-      goes = λ t le. state_worn state has v k from stood_from does.0.worn;
+      goes = λ t le. state_worn state has v.0 (known_of k) from stood_from.stands does.0.worn;
       moments = before_it;
       ends = (
         does.0.may,
@@ -211,8 +237,8 @@ module _ {S D : Type 0} (state : S → State) (has : S → Mounted → List Plac
 -- ---- commands one after another
 
 module _ {H : Sectors} {P Q : Moment → Type 0} (wider : (c : Moment) → P c → Q c) where
-  step_wider : (said : List ℕ) (i j : Image) (v : Volume) (command : Command) (met : Met) → IsStep H P said i j v command met → IsStep H Q said i j v command met
-  step_wider said i j v command met step = record {
+  step_wider : (said : List ℕ) (i j : Image) (s : Session) (command : ScriptCommand) (x : Meeting) → IsStep H P said i j s command x → IsStep H Q said i j s command x
+  step_wider said i j s command x step = record {
     kept = step.kept;
     tells = step.tells;
     unworn = step.unworn;
@@ -238,26 +264,26 @@ follows_then M a b c x y = record {
 }
 
 module _ {S D : Type 0} (state : S → State) (has : S → Mounted → List Placed → Type 0) (M : Ghosts D) (e : Errand) where
-  pub runs_nil : (v : S) (a : D) → ((s : S) (k : Known) (old new : Moment) → AreShort old.windows → Ages old new → Stands state has s k old → Stands state has s k new)
+  pub runs_nil : (v : S × List Client) (a : D) → ((s : S) (k : Known) (old new : Moment) → AreShort old.windows → Ages old new → Stands state has s k old → Stands state has s k new)
       → (M.honest a → (left : Moment) → M.left_since a (M.moment a) left → left ≡ M.now a) → (M.honest a → (from : Moment) → Ages from (M.now a) → AreShort from.windows) → Runs state has M e [] v a v a (Ok tt)
   runs_nil v a wears only short honest k from stood aged =
-      let now = wears v k from (M.now a) (short honest from aged) aged stood in
+      let now = seat_wears state has wears v k from (M.now a) (short honest from aged) aged stood in
       record {
         mets = [];
         goes = λ t le. tt;
-        moments = λ rest. started M.moment M.left_since a (M.now a) (InRun k rest (M.now a)) (only honest)
-            (in_before k rest (M.now a) (M.now a) (record { sound = mounted_sound k.mounted k.windows k.changes (forced_of k) (M.now a).image now.disk; windows = refl; said = refl }));
+        moments = λ rest. started M.moment M.left_since a (M.now a) (InRun (known_of k) rest (M.now a)) (only honest)
+            (in_before (known_of k) rest (M.now a) (M.now a) (record { sound = mounted_sound k.mounted k.windows k.changes (forced_of (known_of k)) (M.now a).image now.stands.disk; windows = refl; said = refl }));
         ends = (refl, record { after = k; is = refl; windows = refl; changes = sym (append-nil k.changes); said = sym (append-nil (M.now a).said); open_windows = refl; layout = refl; least = omega arith; forced = λ any. absurd (cc any); stands = now });
       }
 
-  pub runs_nil_mets : (v : S) (a : D) (wears : (s : S) (k : Known) (old new : Moment) → AreShort old.windows → Ages old new → Stands state has s k old → Stands state has s k new) (only : M.honest a → (left : Moment) → M.left_since a (M.moment a) left → left ≡ M.now a)
-      (short : M.honest a → (from : Moment) → Ages from (M.now a) → AreShort from.windows) (honest : M.honest a) (k : Known) (from : Moment) (stood : Stands state has v k from) (aged : Ages from (M.now a)) → (runs_nil v a wears only short honest k from stood aged).mets ≡ []
+  pub runs_nil_mets : (v : S × List Client) (a : D) (wears : (s : S) (k : Known) (old new : Moment) → AreShort old.windows → Ages old new → Stands state has s k old → Stands state has s k new) (only : M.honest a → (left : Moment) → M.left_since a (M.moment a) left → left ≡ M.now a)
+      (short : M.honest a → (from : Moment) → Ages from (M.now a) → AreShort from.windows) (honest : M.honest a) (k : Seated) (from : Moment) (stood : SitsAt state has v k from) (aged : Ages from (M.now a)) → (runs_nil v a wears only short honest k from stood aged).mets ≡ []
   unfolding runs_nil
   runs_nil_mets v a wears only short honest k from stood aged = refl
 
-  module _ (command : Command) (commands : List Command) (v w z : S) (a m b : D) (result : Result (Unit {0}) End) (follows : Follows M m b) (later : M.honest m → M.moment a ≤ M.moment m)
+  module _ (command : ScriptCommand) (commands : List ScriptCommand) (v w z : S × List Client) (a m b : D) (result : Result (Unit {0}) End) (follows : Follows M m b) (later : M.honest m → M.moment a ≤ M.moment m)
       (steps : Steps state has M e command v a w m (Ok tt)) (runs : Runs state has M e commands w m z b result) where
-    module _ (honest : M.honest b) (k : Known) (from : Moment) (stood : Stands state has v k from) (aged : Ages from (M.now a)) where
+    module _ (honest : M.honest b) (k : Seated) (from : Moment) (stood : SitsAt state has v k from) (aged : Ages from (M.now a)) where
       ok : StepsOk state has M e k from command a m w
       ok = steps (follows.honest honest) k from stood aged
 
@@ -265,57 +291,57 @@ module _ {S D : Type 0} (state : S → State) (has : S → Mounted → List Plac
       rest = runs honest ok.after ok.mid ok.stands ok.ages
 
       abbrev this_turn : Turn
-      this_turn = turn_by e k command ok.met
+      this_turn = turn_by e (session_in k) command ok.met
 
-      abbrev next_volume : Volume
-      next_volume = (answer ok.met (volume_of k) command).1
+      abbrev next : Session
+      next = (answer_in ok.met (session_in k) command).1
 
       -- the turns behind it
       abbrev turns : List Turn
-      turns = turns_begun e rest.mets next_volume commands
+      turns = turns_begun e rest.mets next commands
 
-      same_turns : turns_begun e rest.mets (volume_of ok.after) commands ≡ turns
-      same_turns = ap (λ (x : Volume). turns_begun e rest.mets x commands) ok.is
+      same_turns : turns_begun e rest.mets (session_in ok.after) commands ≡ turns
+      same_turns = ap (λ (x : Session). turns_begun e rest.mets x commands) ok.is
 
-      goes : (t : ℕ) → t ≤ M.moment a → Goes (in_runs k.windows) (M.left_since b t) (Behind result) e (M.now a).said from.image (volume_of k) (ok.met ∷ rest.mets) (command ∷ commands)
+      goes : (t : ℕ) → t ≤ M.moment a → Goes (in_runs k.windows) (M.left_since b t) (Behind result) e (M.now a).said from.image (session_in k) (ok.met ∷ rest.mets) (command ∷ commands)
       goes t le =
           let at_m = later (follows.honest honest) in
           let on : t ≤ M.moment m = omega (arith, le, at_m) in (
             ok.mid.image,
-            step_wider (λ c was. follows.since honest t c on was) (M.now a).said from.image ok.mid.image (volume_of k) command ok.met (ok.step t le),
-            subst (λ (x : Volume). Goes (in_runs k.windows) (M.left_since b t) (Behind result) e ((M.now a).said ++ this_turn.said) ok.mid.image x rest.mets commands) ok.is
-                (subst (λ (x : List ℕ). Goes (in_runs k.windows) (M.left_since b t) (Behind result) e x ok.mid.image (volume_of ok.after) rest.mets commands) ok.said
-                (subst (λ (x : List WeakRun). Goes (in_runs x) (M.left_since b t) (Behind result) e (M.now m).said ok.mid.image (volume_of ok.after) rest.mets commands) ok.carries.windows (rest.goes t on))),
+            step_wider (λ c was. follows.since honest t c on was) (M.now a).said from.image ok.mid.image (session_in k) command ok.met (ok.step t le),
+            subst (λ (x : Session). Goes (in_runs k.windows) (M.left_since b t) (Behind result) e ((M.now a).said ++ this_turn.said) ok.mid.image x rest.mets commands) ok.is
+                (subst (λ (x : List ℕ). Goes (in_runs k.windows) (M.left_since b t) (Behind result) e x ok.mid.image (session_in ok.after) rest.mets commands) ok.said
+                (subst (λ (x : List WeakRun). Goes (in_runs x) (M.left_since b t) (Behind result) e (M.now m).said ok.mid.image (session_in ok.after) rest.mets commands) ok.carries.windows (rest.goes t on))),
           )
 
-      moments : (more : List Turn) → LeavesOnly M.moment M.left_since a b (InRun k (this_turn ∷ (turns ++ more)) (M.now a))
-      moments more = then_on M.moment M.left_since a m b (InRun k (this_turn ∷ (turns ++ more)) (M.now a)) (ok.moments (turns ++ more))
-          (leaves_more M.moment M.left_since m b (InRun ok.after (turns ++ more) (M.now m)) (InRun k (this_turn ∷ (turns ++ more)) (M.now a))
-          (λ left run. in_behind k ok.after this_turn (turns ++ more) ok.carries (M.now a) (M.now m) left ok.open_windows ok.said run)
-          (subst (λ (ts : List Turn). LeavesOnly M.moment M.left_since m b (InRun ok.after (ts ++ more) (M.now m))) same_turns (rest.moments more)))
+      moments : (more : List Turn) → LeavesOnly M.moment M.left_since a b (InRun (known_of k) (this_turn ∷ (turns ++ more)) (M.now a))
+      moments more = then_on M.moment M.left_since a m b (InRun (known_of k) (this_turn ∷ (turns ++ more)) (M.now a)) (ok.moments (turns ++ more))
+          (leaves_more M.moment M.left_since m b (InRun (known_of ok.after) (turns ++ more) (M.now m)) (InRun (known_of k) (this_turn ∷ (turns ++ more)) (M.now a))
+          (λ left run. in_behind (known_of k) (known_of ok.after) this_turn (turns ++ more) ok.carries (M.now a) (M.now m) left ok.open_windows ok.said run)
+          (subst (λ (ts : List Turn). LeavesOnly M.moment M.left_since m b (InRun (known_of ok.after) (ts ++ more) (M.now m))) same_turns (rest.moments more)))
 
       stands_behind : StandsBehind state has e ok.after rest.mets commands z (M.now m) (M.now b) → StandsBehind state has e k (ok.met ∷ rest.mets) (command ∷ commands) z (M.now a) (M.now b)
       stands_behind x = record {
         after = x.after;
-        is = x.is ∙ ap (λ (y : Volume). behind rest.mets y commands) ok.is;
+        is = x.is ∙ ap (λ (y : Session). behind rest.mets y commands) ok.is;
         windows = x.windows ∙ ok.carries.windows;
-        changes = x.changes ∙ ap (λ (h : List Change). h ++ changes_in (turns_begun e rest.mets (volume_of ok.after) commands)) ok.carries.changes
-            ∙ append_assoc k.changes this_turn.changes (changes_in (turns_begun e rest.mets (volume_of ok.after) commands)) ∙ ap (λ (ts : List Turn). k.changes ++ (this_turn.changes ++ changes_in ts)) same_turns;
-        said = x.said ∙ ap (λ (y : List ℕ). y ++ said_in (turns_begun e rest.mets (volume_of ok.after) commands)) ok.said
-            ∙ append_assoc (M.now a).said this_turn.said (said_in (turns_begun e rest.mets (volume_of ok.after) commands)) ∙ ap (λ (ts : List Turn). (M.now a).said ++ (this_turn.said ++ said_in ts)) same_turns;
+        changes = x.changes ∙ ap (λ (h : List Change). h ++ changes_in (turns_begun e rest.mets (session_in ok.after) commands)) ok.carries.changes
+            ∙ append_assoc k.changes this_turn.changes (changes_in (turns_begun e rest.mets (session_in ok.after) commands)) ∙ ap (λ (ts : List Turn). k.changes ++ (this_turn.changes ++ changes_in ts)) same_turns;
+        said = x.said ∙ ap (λ (y : List ℕ). y ++ said_in (turns_begun e rest.mets (session_in ok.after) commands)) ok.said
+            ∙ append_assoc (M.now a).said this_turn.said (said_in (turns_begun e rest.mets (session_in ok.after) commands)) ∙ ap (λ (ts : List Turn). (M.now a).said ++ (this_turn.said ++ said_in ts)) same_turns;
         open_windows = x.open_windows ∙ ok.open_windows;
         layout = x.layout ∙ ok.carries.layout;
         least = let p = ok.carries.least in let q = x.least in omega (arith, p, q);
-        forced = λ any. enough_from k ok.after this_turn ok.carries turns (forced_of x.after) x.least (subst (λ (ts : List Turn). IsTrue (list_any (λ u. u.forces) ts) → length ok.after.changes + forced_in ts ≤ forced_of x.after) same_turns x.forced) any;
+        forced = λ any. enough_from (known_of k) (known_of ok.after) this_turn ok.carries turns (forced_of (known_of x.after)) x.least (subst (λ (ts : List Turn). IsTrue (list_any (λ u. u.forces) ts) → length ok.after.changes + forced_in ts ≤ forced_of (known_of x.after)) same_turns x.forced) any;
         stands = x.stands;
       }
 
-      said_behind : (why : Fault) → Said ok.after why (turns_begun e rest.mets (volume_of ok.after) commands) (M.now m) (M.now b) → Said k why (this_turn ∷ turns) (M.now a) (M.now b)
-      said_behind why x = said_more k ok.after this_turn turns ok.carries (M.now a) (M.now m) (M.now b) ok.open_windows ok.said why (subst (λ (ts : List Turn). Said ok.after why ts (M.now m) (M.now b)) same_turns x)
+      said_behind : (why : Fault) → Said (known_of ok.after) why (turns_begun e rest.mets (session_in ok.after) commands) (M.now m) (M.now b) → Said (known_of k) why (this_turn ∷ turns) (M.now a) (M.now b)
+      said_behind why x = said_more (known_of k) (known_of ok.after) this_turn turns ok.carries (M.now a) (M.now m) (M.now b) ok.open_windows ok.said why (subst (λ (ts : List Turn). Said (known_of ok.after) why ts (M.now m) (M.now b)) same_turns x)
 
       ends : (r : Result (Unit {0}) End) → EndsBy state has e ok.after rest.mets commands z (M.now m) (M.now b) r → EndsBy state has e k (ok.met ∷ rest.mets) (command ∷ commands) z (M.now a) (M.now b) r
       ends (Ok x) is = (ap (λ (n : ℕ). suc n) is.0, stands_behind is.1)
-      ends (Err (Stopped Ends.WornOut)) is = (is.0, stands_behind is.1)
+      ends (Err (Stopped Ends.WornOut)) is = (subst (λ (x : Session). WearsOut (behind rest.mets x commands) (slice_get commands (length rest.mets))) ok.is is.0, stands_behind is.1)
       ends (Err Output) is = tt
       ends (Err (Stopped fault)) is = (is.0, said_behind fault is.1)
 
@@ -330,7 +356,7 @@ module _ {S D : Type 0} (state : S → State) (has : S → Mounted → List Plac
     runs_then honest k from stood aged = from_both honest k from stood aged
 
   -- one that ends the run
-  pub runs_stop : (command : Command) (commands : List Command) (v z : S) (a b : D) (end : End) → Steps state has M e command v a z b (Err end) → Runs state has M e (command ∷ commands) v a z b (Err end)
+  pub runs_stop : (command : ScriptCommand) (commands : List ScriptCommand) (v z : S × List Client) (a b : D) (end : End) → Steps state has M e command v a z b (Err end) → Runs state has M e (command ∷ commands) v a z b (Err end)
   runs_stop command commands v z a b end steps honest k from stood aged = steps honest k from stood aged commands
 
 -- ---- counts

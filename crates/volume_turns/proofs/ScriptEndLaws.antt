@@ -7,11 +7,11 @@ use Rattle.sector_disk.specs.declared.machine.Machine.{Ghosts}
 use Rattle.sector_disk.specs.Calls.{DiskFaults, LeavesDisk, Since}
 use Rattle.sector_disk.specs.Image.{AreShort}
 use Rattle.sector_disk.specs.Machine.{LeavesOnly, Moment, Report, Utters}
-use Rattle.fsd_files.specs.Answers.{Met}
+use Rattle.fsd_files.specs.Desk.{Session}
 use Rattle.fsd_files.specs.Disk.{Image, in_runs}
 use Rattle.fsd_files.specs.Volume.{Volume}
 use Rattle.fsd_sound.specs.Sound.{EndIn}
-use Rattle.fsd_texts.specs.declared.command.Command.{Command}
+use Rattle.fsd_texts.specs.declared.script_command.ScriptCommand.{ScriptCommand}
 use Rattle.fsd_texts.specs.declared.fault.Fault.{Fault}
 use Rattle.fsd_texts.specs.declared.fault.Fault.TheVariants as Ends
 use Rattle.fsd_texts.specs.declared.line.Line.{Line}
@@ -19,6 +19,7 @@ use Rattle.fsd_texts.specs.declared.line.Line.TheVariants as Says
 use Rattle.fsd_runs.specs.declared.request.Request.TheVariants.{Script}
 use Rattle.fsd_runs.specs.Errands.{Answered, Ending, Errand, Turn, cut_ending, forced_turn, group_ending, line_turn}
 use Rattle.fsd_runs.specs.Leaves.{IsBroken, IsOutside, IsUnsaid}
+use Rattle.fsd_runs.specs.Sessions.{Meeting, session_over}
 use Rattle.fsd_runs.specs.Runs.{Goes, IsWornOut, WearsOut, answered, behind, turns_begun, turns_of}
 use Rattle.volume_contract.specs.State.{Known, volume_of}
 use Rattle.volume_turns.specs.declared.turns.End.{End}
@@ -28,7 +29,7 @@ use Rattle.volume_turns.specs.Line.{EndsLast, EndsWith, is_unsaid}
 use Rattle.volume_turns.specs.Once.{IsDone}
 use Rattle.volume_turns.specs.Script.{Heard}
 use Rattle.volume_turns.specs.Turns.{EndsAtOnce, InRun, Said, Told, device_end}
-use Rattle.volume_turns.specs.Whole.{Finishes}
+use Rattle.volume_turns.specs.Whole.{Always, Finishes}
 use Rattle.volume_turns.proofs.GroupEndLaws.{answered_cut, behind_cut, ended_as, finishes_broken, finishes_last, finishes_unsaid, goes_cut, goes_length, goes_within, turns_are}
 use Rattle.volume_turns.proofs.GroupLaws.{goes_wider}
 
@@ -55,8 +56,8 @@ outside_in a p b why o = absurd o
 broken_in : (a p b : Report) {Over : ℕ → Image → Type 0} {turns : List Turn} {old new : Moment} {status : ℕ} → IsBroken Script Over (but_input a p) b turns old new status → IsBroken Script Over a b turns old new status
 broken_in a p b x = record { why = x.why; outside = outside_in a p b x.why x.outside; ends = x.ends; says = x.says; undone = x.undone }
 
-pub finishes_in : {D : Type 0} (M : Ghosts D) (e : Errand) (Last : Volume → Image → Type 0) (x p : Report) (k : Known) (a b : D) (status : ℕ) → Finishes M Script e Last (but_input x p) k a b status → Finishes M Script e Last x k a b status
-finishes_in M e Last x p k a b status f = record { mets = f.mets; goes = f.goes; moments = f.moments; ends = ended f.ends }
+pub finishes_in : {D : Type 0} (M : Ghosts D) (e : Errand) (Ahead : Session → Type 0) (Last : Volume → Image → Type 0) (x p : Report) (k : Known) (a b : D) (status : ℕ) → Finishes M Script e Ahead Last (but_input x p) k a b status → Finishes M Script e Ahead Last x k a b status
+finishes_in M e Ahead Last x p k a b status f = record { mets = f.mets; ahead = f.ahead; goes = f.goes; moments = f.moments; ends = ended f.ends }
   where
     ended : {All : Type 0} {Over : ℕ → Image → Type 0} {turns : List Turn} {old new : Moment} → All ⊎ (IsUnsaid (but_input x p) (M.report b) status ⊎ IsBroken Script Over (but_input x p) (M.report b) turns old new status) → All ⊎ (IsUnsaid x (M.report b) status ⊎ IsBroken Script Over x (M.report b) turns old new status)
     ended (inl out) = inl out
@@ -66,16 +67,15 @@ finishes_in M e Last x p k a b status f = record { mets = f.mets; goes = f.goes;
 -- ---- a group, and how its errand ends
 
 -- The errand was cut off by a mount that is worn out, behind so many commands.
-pub record WornOff {D : Type 0} (M : Ghosts D) (e : Errand) (commands : List Command) (before : Report) (k : Known) (a b : D) (status : ℕ) : Type 0 where
+pub record WornOff {D : Type 0} (M : Ghosts D) (e : Errand) (commands : List ScriptCommand) (before : Report) (k : Known) (a b : D) (status : ℕ) : Type 0 where
   pub count : ℕ
-  pub worn : WearsOut (slice_get commands count)
-  pub finishes : Finishes M Script (ended_as e (take count commands) (λ done. cut_ending Ends.WornOut)) (λ v i. IsWornOut v i) before k a b status
+  pub finishes : Finishes M Script (ended_as e (take count commands) (λ done. cut_ending Ends.WornOut)) (λ s. WearsOut s (slice_get commands count)) (λ v i. IsWornOut v i) before k a b status
 
-module _ {D : Type 0} (M : Ghosts D) (before : Report) (k : Known) (a p b : D) (honest : M.honest b) (since : Since M p b) (short : AreShort (M.now p).windows) (ends : EndIn (M.now a).windows k.windows) (status : ℕ) (e : Errand) (commands : List Command) where
-  abbrev v : Volume
-  v = volume_of k
+module _ {D : Type 0} (M : Ghosts D) (before : Report) (k : Known) (a p b : D) (honest : M.honest b) (since : Since M p b) (short : AreShort (M.now p).windows) (ends : EndIn (M.now a).windows k.windows) (status : ℕ) (e : Errand) (commands : List ScriptCommand) where
+  abbrev v : Session
+  v = session_over (volume_of k)
 
-  module _ (mets : List Met) where
+  module _ (mets : List Meeting) where
     abbrev turns : List Turn
     turns = turns_begun e mets v commands
 
@@ -106,8 +106,8 @@ module _ {D : Type 0} (M : Ghosts D) (before : Report) (k : Known) (a p b : D) (
       turns_all : turns_of all_errand mets v ≡ turns ++ turns_behind (is_through false mets commands) more
       turns_all = turns_are e v mets commands commands refl ending more is (is_through false mets commands) (ap (λ (n : ℕ). n == length commands) (sym known))
 
-      pub all_said : IsTrue (is_through false mets commands) → IsDone k front (behind mets v commands) (M.now a) (M.now p) → (line : Line) → more ≡ line_turn line ∷ [] → (gives : ℕ) → gives ≡ (ending (answered mets v commands)).status → before.output_faults ≤ (M.report p).output_faults
-          → LeavesDisk M false (is_unsaid status) (Utters (text line)) p b → EndsLast line gives (M.now p) (M.now b) status → Finishes M Script all_errand (WornIf false) before k a b status
+      pub all_said : IsTrue (is_through false mets commands) → IsDone k front (behind mets v commands).volume (M.now a) (M.now p) → (line : Line) → more ≡ line_turn line ∷ [] → (gives : ℕ) → gives ≡ (ending (answered mets v commands)).status → before.output_faults ≤ (M.report p).output_faults
+          → LeavesDisk M false (is_unsaid status) (Utters (text line)) p b → EndsLast line gives (M.now p) (M.now b) status → Finishes M Script all_errand Always (WornIf false) before k a b status
       all_said through done line one gives same counted says ended =
           let t = line_turn line in
           let split : turns ++ forced_turn ∷ t ∷ [] ≡ front ++ t ∷ [] = sym (append_assoc turns (forced_turn ∷ []) (t ∷ [])) in
@@ -115,42 +115,49 @@ module _ {D : Type 0} (M : Ghosts D) (before : Report) (k : Known) (a p b : D) (
           turns_all ∙ ap (λ (x : Bool). turns ++ turns_behind x more) through ∙ ap (λ (x : List Turn). turns ++ forced_turn ∷ x) one ∙ split in
           let moments : LeavesOnly M.moment M.left_since a p (InRun k (front ++ t ∷ []) (M.now a)) =
           subst (λ (x : List Turn). LeavesOnly M.moment M.left_since a p (InRun k x (M.now a))) split (subst (λ (x : Bool). LeavesOnly M.moment M.left_since a p (InRun k (turns ++ turns_behind x (t ∷ [])) (M.now a))) through (leaves (t ∷ []))) in
-          finishes_last M Script before k front line (behind mets v commands) gives a p b moments done short ends counted status says honest all_errand (WornIf false) mets turns_is (on (WornIf false) later goes)
+          finishes_last M Script before k front line (behind mets v commands).volume gives a p b moments done short ends counted status says honest all_errand Always (WornIf false) mets tt turns_is (on (WornIf false) later goes)
           (eqb-true (length mets) (length commands) through) same refl ended
 
       pub all_broken : (why : Fault) → Said k why turns (M.now a) (M.now p) → EndsAtOnce why → {T : Type 0} → Told {T = T} before (M.report p) (Err (Stopped why)) → LeavesDisk M false (is_unsaid status) (Utters (fault_text why)) p b → EndsWith why (M.now p) (M.now b) status
-          → Finishes M Script all_errand (WornIf false) before k a b status
+          → Finishes M Script all_errand Always (WornIf false) before k a b status
       all_broken why said once told says ended =
-          finishes_broken M Script before k turns (is_through false mets commands) more a p b (leaves more) why said short ends once told status says honest ended all_errand (WornIf false) mets turns_all (on (WornIf false) later goes)
+          finishes_broken M Script before k turns (is_through false mets commands) more a p b (leaves more) why said short ends once told status says honest ended all_errand Always (WornIf false) mets tt turns_all (on (WornIf false) later goes)
 
-      pub all_unsaid : {T : Type 0} → status ≡ 6 → Told {T = T} before (M.report b) (Err Output) → LeavesOnly M.moment M.left_since a b (InRun k (turns ++ turns_behind (is_through false mets commands) more) (M.now a)) → Finishes M Script all_errand (WornIf false) before k a b status
-      all_unsaid six told moments = subst (λ (n : ℕ). Finishes M Script all_errand (WornIf false) before k a b n) (sym six)
-          (finishes_unsaid M Script before k (turns ++ turns_behind (is_through false mets commands) more) a b moments told all_errand (WornIf false) mets turns_all (on (WornIf false) later goes))
+      pub all_unsaid : {T : Type 0} → status ≡ 6 → Told {T = T} before (M.report b) (Err Output) → LeavesOnly M.moment M.left_since a b (InRun k (turns ++ turns_behind (is_through false mets commands) more) (M.now a)) → Finishes M Script all_errand Always (WornIf false) before k a b status
+      all_unsaid six told moments = subst (λ (n : ℕ). Finishes M Script all_errand Always (WornIf false) before k a b n) (sym six)
+          (finishes_unsaid M Script before k (turns ++ turns_behind (is_through false mets commands) more) a b moments told all_errand Always (WornIf false) mets tt turns_all (on (WornIf false) later goes))
 
       -- and nothing is said behind the force
       pub all_quiet : more ≡ [] → IsTrue (is_through false mets commands) → status ≡ (ending (answered mets v commands)).status → LeavesOnly M.moment M.left_since a b (InRun k (turns ++ turns_behind (is_through false mets commands) []) (M.now a))
-          → IsDone k front (behind mets v commands) (M.now a) (M.now b) → Finishes M Script all_errand (WornIf false) before k a b status
+          → IsDone k front (behind mets v commands).volume (M.now a) (M.now b) → Finishes M Script all_errand Always (WornIf false) before k a b status
       all_quiet none through gives moments done =
           let turns_none : turns_of all_errand mets v ≡ turns ++ turns_behind (is_through false mets commands) [] = turns_all ∙ ap (λ (x : List Turn). turns ++ turns_behind (is_through false mets commands) x) none in
           let turns_is : turns_of all_errand mets v ≡ front = turns_none ∙ ap (λ (x : Bool). turns ++ turns_behind x []) through in
           record {
             mets = mets;
+            ahead = tt;
             goes = on (WornIf false) later goes;
             moments = subst (λ (x : List Turn). LeavesOnly M.moment M.left_since a b (InRun k x (M.now a))) (sym turns_none) moments;
             ends = inl (record {
               through = eqb-true (length mets) (length commands) through;
               gives = gives;
-              done = subst (λ (x : List Turn). IsDone k x (behind mets v commands) (M.now a) (M.now b)) (sym turns_is) done;
+              done = subst (λ (x : List Turn). IsDone k x (behind mets v commands).volume (M.now a) (M.now b)) (sym turns_is) done;
             });
           }
 
     -- it was cut off
-    module _ (worn : CutsOff true mets commands) (goes : MayGo true) (leaves : Leaves true) where
+    module _ (worn : CutsOff true mets v commands) (goes : MayGo true) (leaves : Leaves true) where
       later_cut : M.moment a ≤ M.moment p
       later_cut = (leaves []).later
 
-      abbrev done_commands : List Command
+      abbrev done_commands : List ScriptCommand
       done_commands = take (length mets) commands
+
+      abbrev Worn : Session → Type 0
+      Worn s = WearsOut s (slice_get commands (length mets))
+
+      worn_behind : Worn (behind mets v done_commands)
+      worn_behind = subst Worn (sym (behind_cut mets v commands)) worn
 
       abbrev cut_short : List Answered → Ending
       cut_short done = cut_ending Ends.WornOut
@@ -170,34 +177,31 @@ module _ {D : Type 0} (M : Ghosts D) (before : Report) (k : Known) (a p b : D) (
       went : (t : ℕ) → t ≤ M.moment a → Goes (in_runs k.windows) (M.left_since b t) (λ v i. IsWornOut v i) e (M.now a).said (M.now a).image v mets done_commands
       went t le = goes_cut (in_runs k.windows) (M.left_since b t) e (WornIf true) (λ v i. IsWornOut v i) (λ v i is. is) (M.now a).said (M.now a).image v mets commands (on (WornIf true) later_cut goes t le)
 
-      pub cut_said : IsDone k front (behind mets v commands) (M.now a) (M.now p) → before.output_faults ≤ (M.report p).output_faults
+      pub cut_said : IsDone k front (behind mets v commands).volume (M.now a) (M.now p) → before.output_faults ≤ (M.report p).output_faults
           → LeavesDisk M false (is_unsaid status) (Utters (fault_text Ends.WornOut)) p b → EndsLast (Says.Ended Ends.WornOut) 9 (M.now p) (M.now b) status → WornOff M e commands before k a b status
       cut_said done counted says ended =
           let split : turns ++ forced_turn ∷ last_turn ∷ [] ≡ front ++ last_turn ∷ [] = sym (append_assoc turns (forced_turn ∷ []) (last_turn ∷ [])) in
           record {
             count = length mets;
-            worn = worn;
-            finishes = finishes_last M Script before k front (Says.Ended Ends.WornOut) (behind mets v commands) 9 a p b (subst (λ (x : List Turn). LeavesOnly M.moment M.left_since a p (InRun k x (M.now a))) split (leaves (last_turn ∷ []))) done short ends counted status says honest
-                (ended_as e done_commands cut_short) (λ v i. IsWornOut v i) mets (turns_cut ∙ split) went (sym within) refl (sym (behind_cut mets v commands)) ended;
+            finishes = finishes_last M Script before k front (Says.Ended Ends.WornOut) (behind mets v commands).volume 9 a p b (subst (λ (x : List Turn). LeavesOnly M.moment M.left_since a p (InRun k x (M.now a))) split (leaves (last_turn ∷ []))) done short ends counted status says honest
+                (ended_as e done_commands cut_short) Worn (λ v i. IsWornOut v i) mets worn_behind (turns_cut ∙ split) went (sym within) refl (ap (λ (x : Session). x.volume) (sym (behind_cut mets v commands))) ended;
           }
 
       pub cut_broken : (why : Fault) → Said k why turns (M.now a) (M.now p) → EndsAtOnce why → {T : Type 0} → Told {T = T} before (M.report p) (Err (Stopped why)) → LeavesDisk M false (is_unsaid status) (Utters (fault_text why)) p b → EndsWith why (M.now p) (M.now b) status → WornOff M e commands before k a b status
       cut_broken why said once told says ended = record {
         count = length mets;
-        worn = worn;
-        finishes = finishes_broken M Script before k turns true (last_turn ∷ []) a p b (leaves (last_turn ∷ [])) why said short ends once told status says honest ended (ended_as e done_commands cut_short) (λ v i. IsWornOut v i) mets turns_cut went;
+        finishes = finishes_broken M Script before k turns true (last_turn ∷ []) a p b (leaves (last_turn ∷ [])) why said short ends once told status says honest ended (ended_as e done_commands cut_short) Worn (λ v i. IsWornOut v i) mets worn_behind turns_cut went;
       }
 
       pub cut_unsaid : {T : Type 0} → status ≡ 6 → Told {T = T} before (M.report b) (Err Output) → LeavesOnly M.moment M.left_since a b (InRun k (turns ++ forced_turn ∷ last_turn ∷ []) (M.now a)) → WornOff M e commands before k a b status
       cut_unsaid six told moments = subst (λ (n : ℕ). WornOff M e commands before k a b n) (sym six) (record {
         count = length mets;
-        worn = worn;
-        finishes = finishes_unsaid M Script before k (turns ++ forced_turn ∷ last_turn ∷ []) a b moments told (ended_as e done_commands cut_short) (λ v i. IsWornOut v i) mets turns_cut went;
+        finishes = finishes_unsaid M Script before k (turns ++ forced_turn ∷ last_turn ∷ []) a b moments told (ended_as e done_commands cut_short) Worn (λ v i. IsWornOut v i) mets worn_behind turns_cut went;
       })
 
 -- ---- by how the group ended
 
-module _ {D : Type 0} (M : Ghosts D) (before : Report) (k : Known) (a p b : D) (honest : M.honest b) (since : Since M p b) (short : AreShort (M.now p).windows) (ends : EndIn (M.now a).windows k.windows) (status : ℕ) (e : Errand) (commands : List Command) where
+module _ {D : Type 0} (M : Ghosts D) (before : Report) (k : Known) (a p b : D) (honest : M.honest b) (since : Since M p b) (short : AreShort (M.now p).windows) (ends : EndIn (M.now a).windows k.windows) (status : ℕ) (e : Errand) (commands : List ScriptCommand) where
   abbrev Group : Result Bool End → Type 0
   Group result = IsGroup M e k (M.now a) commands a p result
 
@@ -206,11 +210,11 @@ module _ {D : Type 0} (M : Ghosts D) (before : Report) (k : Known) (a p b : D) (
   ended_in more gives = ended_as e commands (λ done. group_ending more gives)
 
   pub group_said : Group (Ok true) → (line : Line) (gives : ℕ) → before.output_faults ≤ (M.report p).output_faults → LeavesDisk M false (is_unsaid status) (Utters (text line)) p b → EndsLast line gives (M.now p) (M.now b) status
-      → Finishes M Script (ended_in (line_turn line ∷ []) gives) (WornIf false) before k a b status
+      → Finishes M Script (ended_in (line_turn line ∷ []) gives) Always (WornIf false) before k a b status
   group_said g line gives counted says ended = by g.cut g.goes g.moments g.ends
     where
       by : (cut : Bool) → MayGo M before k a p b honest since short ends status e commands g.mets cut → Leaves M before k a p b honest since short ends status e commands g.mets (is_through cut g.mets commands) → EndsGroup e k cut g.mets commands (M.now a) (M.now p) (Ok true)
-          → Finishes M Script (ended_in (line_turn line ∷ []) gives) (WornIf false) before k a b status
+          → Finishes M Script (ended_in (line_turn line ∷ []) gives) Always (WornIf false) before k a b status
       by true goes leaves x = cc x.0
       by false goes leaves x = all_said M before k a p b honest since short ends status e commands g.mets (λ done. group_ending (line_turn line ∷ []) gives) (line_turn line ∷ []) refl goes leaves x.1 x.2 line refl gives refl counted says ended
 
@@ -218,57 +222,57 @@ module _ {D : Type 0} (M : Ghosts D) (before : Report) (k : Known) (a p b : D) (
       → WornOff M e commands before k a b status
   group_worn_said g counted says ended = by g.cut g.before g.goes g.moments g.ends
     where
-      by : (cut : Bool) → CutsOff cut g.mets commands → MayGo M before k a p b honest since short ends status e commands g.mets cut → Leaves M before k a p b honest since short ends status e commands g.mets (is_through cut g.mets commands) → EndsGroup e k cut g.mets commands (M.now a) (M.now p) (Ok false)
+      by : (cut : Bool) → CutsOff cut g.mets (session_over (volume_of k)) commands → MayGo M before k a p b honest since short ends status e commands g.mets cut → Leaves M before k a p b honest since short ends status e commands g.mets (is_through cut g.mets commands) → EndsGroup e k cut g.mets commands (M.now a) (M.now p) (Ok false)
           → WornOff M e commands before k a b status
       by false worn goes leaves x = cc x.0
       by true worn goes leaves x = cut_said M before k a p b honest since short ends status e commands g.mets worn goes leaves x.2 counted says ended
 
   abbrev Over : List Turn → ℕ → Type 0
-  Over more gives = Finishes M Script (ended_in more gives) (WornIf false) before k a b status ⊎ WornOff M e commands before k a b status
+  Over more gives = Finishes M Script (ended_in more gives) Always (WornIf false) before k a b status ⊎ WornOff M e commands before k a b status
 
   module _ (more : List Turn) (gives : ℕ) where
     pub group_fault : (why : Fault) → (g : Group (Err (Stopped why))) → {T : Type 0} → Told {T = T} before (M.report p) (Err (Stopped why)) → LeavesDisk M false (is_unsaid status) (Utters (fault_text why)) p b → EndsWith why (M.now p) (M.now b) status → Over more gives
     group_fault why g told says ended = by g.cut g.before g.goes g.moments g.ends
       where
-        by : (cut : Bool) → CutsOff cut g.mets commands → MayGo M before k a p b honest since short ends status e commands g.mets cut → Leaves M before k a p b honest since short ends status e commands g.mets (is_through cut g.mets commands) → EndsGroup e k cut g.mets commands (M.now a) (M.now p) (Err (Stopped why)) → Over more gives
+        by : (cut : Bool) → CutsOff cut g.mets (session_over (volume_of k)) commands → MayGo M before k a p b honest since short ends status e commands g.mets cut → Leaves M before k a p b honest since short ends status e commands g.mets (is_through cut g.mets commands) → EndsGroup e k cut g.mets commands (M.now a) (M.now p) (Err (Stopped why)) → Over more gives
         by false worn goes leaves x = inl (all_broken M before k a p b honest since short ends status e commands g.mets (λ done. group_ending more gives) more refl goes leaves why x.1 x.0 told says ended)
         by true worn goes leaves x = inr (cut_broken M before k a p b honest since short ends status e commands g.mets worn goes leaves why x.1 x.0 told says ended)
 
     -- it was not cut off
     pub group_fault_all : (why : Fault) → (g : Group (Err (Stopped why))) → g.cut ≡ false → {T : Type 0} → Told {T = T} before (M.report p) (Err (Stopped why)) → LeavesDisk M false (is_unsaid status) (Utters (fault_text why)) p b → EndsWith why (M.now p) (M.now b) status
-        → Finishes M Script (ended_in more gives) (WornIf false) before k a b status
+        → Finishes M Script (ended_in more gives) Always (WornIf false) before k a b status
     group_fault_all why g uncut told says ended = by g.cut uncut g.goes g.moments g.ends
       where
         by : (cut : Bool) → cut ≡ false → MayGo M before k a p b honest since short ends status e commands g.mets cut → Leaves M before k a p b honest since short ends status e commands g.mets (is_through cut g.mets commands) → EndsGroup e k cut g.mets commands (M.now a) (M.now p) (Err (Stopped why))
-            → Finishes M Script (ended_in more gives) (WornIf false) before k a b status
+            → Finishes M Script (ended_in more gives) Always (WornIf false) before k a b status
         by true is goes leaves x = cc is
         by false is goes leaves x = all_broken M before k a p b honest since short ends status e commands g.mets (λ done. group_ending more gives) more refl goes leaves why x.1 x.0 told says ended
 
 -- and nothing follows the group
-module _ {D : Type 0} (M : Ghosts D) (before : Report) (k : Known) (a b : D) (honest : M.honest b) (short : AreShort (M.now b).windows) (ends : EndIn (M.now a).windows k.windows) (e : Errand) (commands : List Command) where
+module _ {D : Type 0} (M : Ghosts D) (before : Report) (k : Known) (a b : D) (honest : M.honest b) (short : AreShort (M.now b).windows) (ends : EndIn (M.now a).windows k.windows) (e : Errand) (commands : List ScriptCommand) where
   still : Since M b b
   still t left le was = was
 
-  pub group_quiet : IsGroup M e k (M.now a) commands a b (Ok true) → Finishes M Script (ended_as e commands (λ done. group_ending [] 0)) (WornIf false) before k a b 0
+  pub group_quiet : IsGroup M e k (M.now a) commands a b (Ok true) → Finishes M Script (ended_as e commands (λ done. group_ending [] 0)) Always (WornIf false) before k a b 0
   group_quiet g = by g.cut g.goes g.moments g.ends
     where
       by : (cut : Bool) → MayGo M before k a b b honest still short ends 0 e commands g.mets cut → Leaves M before k a b b honest still short ends 0 e commands g.mets (is_through cut g.mets commands) → EndsGroup e k cut g.mets commands (M.now a) (M.now b) (Ok true)
-          → Finishes M Script (ended_as e commands (λ done. group_ending [] 0)) (WornIf false) before k a b 0
+          → Finishes M Script (ended_as e commands (λ done. group_ending [] 0)) Always (WornIf false) before k a b 0
       by true goes leaves x = cc x.0
       by false goes leaves x = all_quiet M before k a b b honest still short ends 0 e commands g.mets (λ done. group_ending [] 0) [] refl goes leaves refl x.1 refl (leaves []) x.2
 
   module _ (more : List Turn) (gives : ℕ) {T : Type 0} (told : Told {T = T} before (M.report b) (Err Output)) where
-    pub group_unsaid : IsGroup M e k (M.now a) commands a b (Err Output) → Finishes M Script (ended_as e commands (λ done. group_ending more gives)) (WornIf false) before k a b 6 ⊎ WornOff M e commands before k a b 6
+    pub group_unsaid : IsGroup M e k (M.now a) commands a b (Err Output) → Finishes M Script (ended_as e commands (λ done. group_ending more gives)) Always (WornIf false) before k a b 6 ⊎ WornOff M e commands before k a b 6
     group_unsaid g = by g.cut g.before g.goes g.moments
       where
-        by : (cut : Bool) → CutsOff cut g.mets commands → MayGo M before k a b b honest still short ends 6 e commands g.mets cut → Leaves M before k a b b honest still short ends 6 e commands g.mets (is_through cut g.mets commands)
-            → Finishes M Script (ended_as e commands (λ done. group_ending more gives)) (WornIf false) before k a b 6 ⊎ WornOff M e commands before k a b 6
+        by : (cut : Bool) → CutsOff cut g.mets (session_over (volume_of k)) commands → MayGo M before k a b b honest still short ends 6 e commands g.mets cut → Leaves M before k a b b honest still short ends 6 e commands g.mets (is_through cut g.mets commands)
+            → Finishes M Script (ended_as e commands (λ done. group_ending more gives)) Always (WornIf false) before k a b 6 ⊎ WornOff M e commands before k a b 6
         by false worn goes leaves = inl (all_unsaid M before k a b b honest still short ends 6 e commands g.mets (λ done. group_ending more gives) more refl goes leaves refl told (leaves more))
         by true worn goes leaves = inr (cut_unsaid M before k a b b honest still short ends 6 e commands g.mets worn goes leaves refl told (leaves (line_turn (Says.Ended Ends.WornOut) ∷ [])))
 
-    pub group_unsaid_all : (g : IsGroup M e k (M.now a) commands a b (Err Output)) → g.cut ≡ false → Finishes M Script (ended_as e commands (λ done. group_ending more gives)) (WornIf false) before k a b 6
+    pub group_unsaid_all : (g : IsGroup M e k (M.now a) commands a b (Err Output)) → g.cut ≡ false → Finishes M Script (ended_as e commands (λ done. group_ending more gives)) Always (WornIf false) before k a b 6
     group_unsaid_all g uncut = by g.cut uncut g.goes g.moments
       where
-        by : (cut : Bool) → cut ≡ false → MayGo M before k a b b honest still short ends 6 e commands g.mets cut → Leaves M before k a b b honest still short ends 6 e commands g.mets (is_through cut g.mets commands) → Finishes M Script (ended_as e commands (λ done. group_ending more gives)) (WornIf false) before k a b 6
+        by : (cut : Bool) → cut ≡ false → MayGo M before k a b b honest still short ends 6 e commands g.mets cut → Leaves M before k a b b honest still short ends 6 e commands g.mets (is_through cut g.mets commands) → Finishes M Script (ended_as e commands (λ done. group_ending more gives)) Always (WornIf false) before k a b 6
         by true is goes leaves = cc is
         by false is goes leaves = all_unsaid M before k a b b honest still short ends 6 e commands g.mets (λ done. group_ending more gives) more refl goes leaves refl told (leaves more)

@@ -12,7 +12,7 @@ use Rattle.sector_disk.proofs.Wear.{worn_trans}
 use Rattle.fsd_files.specs.Disk.{in_runs}
 use Rattle.fsd_sound.specs.Mounted.{Mounted}
 use Rattle.fsd_sound.proofs.MountedLaws.{mounted_sound}
-use Rattle.fsd_texts.specs.declared.command.Command.{Command}
+use Rattle.fsd_texts.specs.declared.script_command.ScriptCommand.{ScriptCommand}
 use Rattle.fsd_texts.specs.declared.end.End.{End as ScriptEnd}
 use Rattle.fsd_texts.specs.declared.fault.Fault.{Fault}
 use Rattle.fsd_texts.specs.declared.fault.Fault.TheVariants as Ends
@@ -22,17 +22,20 @@ use Rattle.fsd_runs.specs.Runs.{Goes, said_in, turns_begun}
 use Rattle.script_text.specs.declared.fault.ScriptFault.{ScriptFault}
 use Rattle.script_text.specs.Reading.{Ahead, Reading, script_left}
 use Rattle.script_text.specs.Taking.{Moves}
-use Rattle.volume_contract.specs.State.{State, Ages, Known, Stands, forced_of, volume_of}
+use Rattle.client_desk.specs.declared.client.Client.{Client}
+use Rattle.volume_contract.specs.State.{State, Ages, Known, Stands, forced_of}
 use Rattle.volume_turns.specs.declared.turns.End.{End}
 use Rattle.volume_turns.specs.declared.turns.End.TheVariants.{Fault as Stopped, Output}
 use Rattle.volume_turns.specs.declared.script.Stop.{Stop}
 use Rattle.volume_turns.specs.declared.script.Stop.TheVariants.{Ended, Input, WornOut}
 use Rattle.volume_turns.specs.Each.{SaysBetween, SaysOnce}
 use Rattle.volume_turns.specs.Script.{DoneSo, Heard, Reads, RoseBy, Spells}
+use Rattle.volume_turns.specs.Seats.{Seated, SitsAt, known_of, session_in}
 use Rattle.volume_turns.specs.Steps.{StaysSound}
 use Rattle.volume_turns.specs.Turns.{Behind, EndsBy, Follows, InRun, Runs, RunsFrom, Said, SaysReplies, StandsBehind, Steps, Told, device_end}
 use Rattle.volume_turns.proofs.EachLaws.{between_none, between_one, between_replies, between_then}
 use Rattle.volume_turns.proofs.RunLaws.{follows_then, runs_nil, runs_stop, runs_then}
+use Rattle.volume_turns.proofs.SeatLaws.{seat_wears}
 use Rattle.volume_turns.proofs.TurnLaws.{in_before, said_nothing}
 use Rattle.volume_turns.proofs.CountLaws.{unheard_on}
 
@@ -73,25 +76,25 @@ ages_on from old mid aged w = record {
 
 module _ {S D : Type 0} (state : S → State) (has : S → Mounted → List Placed → Type 0) (M : Ghosts D) (e : Errand)
     (wears : (s : S) (k : Known) (old new : Moment) → AreShort old.windows → Ages old new → Stands state has s k old → Stands state has s k new) where
-  module _ (v : S) (k : Known) (from : Moment) (short : AreShort from.windows) (stood : Stands state has v k from) where
-    stays_so : (old left : Moment) → Ages from old → Wears old left → StaysSound k old left
+  module _ (v : S × List Client) (k : Seated) (from : Moment) (short : AreShort from.windows) (stood : SitsAt state has v k from) where
+    stays_so : (old left : Moment) → Ages from old → Wears old left → StaysSound (known_of k) old left
     stays_so old left aged w =
-        let now = wears v k from left short (ages_on from old left aged w) stood in
-        record { sound = mounted_sound k.mounted k.windows k.changes (forced_of k) left.image now.disk; windows = w.windows; said = w.said }
+        let now = seat_wears state has wears v k from left short (ages_on from old left aged w) stood in
+        record { sound = mounted_sound k.mounted k.windows k.changes (forced_of (known_of k)) left.image now.stands.disk; windows = w.windows; said = w.said }
 
-  module _ (v : S) (a m : D) (worn : M.honest m → Wears (M.now a) (M.now m)) (read : M.honest m → LeavesOnly M.moment M.left_since a m (Wears (M.now a)))
+  module _ (v : S × List Client) (a m : D) (worn : M.honest m → Wears (M.now a) (M.now m)) (read : M.honest m → LeavesOnly M.moment M.left_since a m (Wears (M.now a)))
       (short : M.honest m → (from : Moment) → Ages from (M.now a) → AreShort from.windows) where
     -- the same commands, from before the read on
-    pub runs_read : (commands : List Command) (z : S) (b : D) (result : Result (Unit {0}) End) → Follows M m b → Runs state has M e commands v m z b result → Runs state has M e commands v a z b result
+    pub runs_read : (commands : List ScriptCommand) (z : S × List Client) (b : D) (result : Result (Unit {0}) End) → Follows M m b → Runs state has M e commands v m z b result → Runs state has M e commands v a z b result
     runs_read commands z b result follows runs honest k from stood aged = record {
       mets = r.mets;
       goes = λ t le. let later = (read back).later in
-          subst (λ (x : List ℕ). Goes (in_runs k.windows) (M.left_since b t) (Behind result) e x from.image (volume_of k) r.mets commands) w.said (r.goes t (omega (arith, le, later)));
-      moments = λ rest. then_on M.moment M.left_since a m b (InRun k (turns_begun e r.mets (volume_of k) commands ++ rest) (M.now a))
-          (leaves_more M.moment M.left_since a m (Wears (M.now a)) (InRun k (turns_begun e r.mets (volume_of k) commands ++ rest) (M.now a))
-          (λ left x. in_before k (turns_begun e r.mets (volume_of k) commands ++ rest) (M.now a) left (stays_so v k from (short back from aged) stood (M.now a) left aged x)) (read back))
-          (leaves_more M.moment M.left_since m b (InRun k (turns_begun e r.mets (volume_of k) commands ++ rest) (M.now m)) (InRun k (turns_begun e r.mets (volume_of k) commands ++ rest) (M.now a))
-          (λ left x. in_from k (M.now a) (M.now m) w (turns_begun e r.mets (volume_of k) commands ++ rest) left x) (r.moments rest));
+          subst (λ (x : List ℕ). Goes (in_runs k.windows) (M.left_since b t) (Behind result) e x from.image (session_in k) r.mets commands) w.said (r.goes t (omega (arith, le, later)));
+      moments = λ rest. then_on M.moment M.left_since a m b (InRun (known_of k) (turns_begun e r.mets (session_in k) commands ++ rest) (M.now a))
+          (leaves_more M.moment M.left_since a m (Wears (M.now a)) (InRun (known_of k) (turns_begun e r.mets (session_in k) commands ++ rest) (M.now a))
+          (λ left x. in_before (known_of k) (turns_begun e r.mets (session_in k) commands ++ rest) (M.now a) left (stays_so v k from (short back from aged) stood (M.now a) left aged x)) (read back))
+          (leaves_more M.moment M.left_since m b (InRun (known_of k) (turns_begun e r.mets (session_in k) commands ++ rest) (M.now m)) (InRun (known_of k) (turns_begun e r.mets (session_in k) commands ++ rest) (M.now a))
+          (λ left x. in_from (known_of k) (M.now a) (M.now m) w (turns_begun e r.mets (session_in k) commands ++ rest) left x) (r.moments rest));
       ends = by result r.ends;
     }
       where
@@ -110,7 +113,7 @@ module _ {S D : Type 0} (state : S → State) (has : S → Mounted → List Plac
           is = x.is;
           windows = x.windows;
           changes = x.changes;
-          said = x.said ∙ ap (λ (y : List ℕ). y ++ said_in (turns_begun e r.mets (volume_of k) commands)) w.said;
+          said = x.said ∙ ap (λ (y : List ℕ). y ++ said_in (turns_begun e r.mets (session_in k) commands)) w.said;
           open_windows = x.open_windows ∙ w.windows;
           layout = x.layout;
           least = x.least;
@@ -122,25 +125,25 @@ module _ {S D : Type 0} (state : S → State) (has : S → Mounted → List Plac
         by (Ok x) is = (is.0, stands_so is.1)
         by (Err (Stopped Ends.WornOut)) is = (is.0, stands_so is.1)
         by (Err Output) is = tt
-        by (Err (Stopped why)) is = (is.0, said_from k (M.now a) (M.now m) w why (turns_begun e r.mets (volume_of k) commands) (M.now b) is.1)
+        by (Err (Stopped why)) is = (is.0, said_from (known_of k) (M.now a) (M.now m) w why (turns_begun e r.mets (session_in k) commands) (M.now b) is.1)
 
   -- memory was refused for the next of them
-  pub runs_refused : (commands : List Command) (v : S) (a : D) → (M.honest a → (left : Moment) → M.left_since a (M.moment a) left → left ≡ M.now a) → (M.honest a → (from : Moment) → Ages from (M.now a) → AreShort from.windows)
+  pub runs_refused : (commands : List ScriptCommand) (v : S × List Client) (a : D) → (M.honest a → (left : Moment) → M.left_since a (M.moment a) left → left ≡ M.now a) → (M.honest a → (from : Moment) → Ages from (M.now a) → AreShort from.windows)
       → Runs state has M e commands v a v a (Err (Stopped Ends.Memory))
   runs_refused commands v a only short honest k from stood aged =
-      let now = wears v k from (M.now a) (short honest from aged) aged stood in
-      let sound = mounted_sound k.mounted k.windows k.changes (forced_of k) (M.now a).image now.disk in
+      let now = seat_wears state has wears v k from (M.now a) (short honest from aged) aged stood in
+      let sound = mounted_sound k.mounted k.windows k.changes (forced_of (known_of k)) (M.now a).image now.stands.disk in
       record {
         mets = [];
         goes = λ t le. tt;
-        moments = λ rest. started M.moment M.left_since a (M.now a) (InRun k rest (M.now a)) (only honest) (in_before k rest (M.now a) (M.now a) (record { sound = sound; windows = refl; said = refl }));
-        ends = (tt, said_nothing k Ends.Memory (M.now a) (M.now a) (record { sound = sound; windows = refl; said = refl }));
+        moments = λ rest. started M.moment M.left_since a (M.now a) (InRun (known_of k) rest (M.now a)) (only honest) (in_before (known_of k) rest (M.now a) (M.now a) (record { sound = sound; windows = refl; said = refl }));
+        ends = (tt, said_nothing (known_of k) Ends.Memory (M.now a) (M.now a) (record { sound = sound; windows = refl; said = refl }));
       }
 
 -- ---- what is taken
 
 -- a call of the reader, and what the ledger still has
-pub moves_spells : (result : Result (Option Command) ScriptFault) (old new : Reading) (before now : Ledger) (left : List ℕ) (commands : List Command) → left ≡ now.input → (m : Moves result old new before now)
+pub moves_spells : (result : Result (Option ScriptCommand) ScriptFault) (old new : Reading) (before now : Ledger) (left : List ℕ) (commands : List ScriptCommand) → left ≡ now.input → (m : Moves result old new before now)
     → ((rest : List ℕ) → Ahead result (script_left old (take m.count before.input ++ rest)) (script_left new rest) → script_left old (take m.count before.input ++ rest) ≡ (commands ++ (script_left new rest).0, (script_left new rest).1))
     → Spells before.input left old new commands
 moves_spells result old new before now left commands same m spells = record {
@@ -150,14 +153,14 @@ moves_spells result old new before now left commands same m spells = record {
   spells = λ rest. spells rest (m.ahead rest);
 }
 
-pub spells_then : (a b c : List ℕ) (r s t : Reading) (first more : List Command) → Spells a b r s first → Spells b c s t more → Spells a c r t (first ++ more)
+pub spells_then : (a b c : List ℕ) (r s t : Reading) (first more : List ScriptCommand) → Spells a b r s first → Spells b c s t more → Spells a c r t (first ++ more)
 spells_then a b c r s t first more x y = record {
   bytes = x.bytes ++ y.bytes;
   all = x.all ∙ ap (λ (z : List ℕ). x.bytes ++ z) y.all ∙ sym (append_assoc x.bytes y.bytes c);
   count = let p = x.count in let q = y.count in let sum = length-append x.bytes y.bytes in omega (arith, p, q, sum);
   spells = λ rest. ap (λ (z : List ℕ). script_left r z) (append_assoc x.bytes y.bytes rest) ∙ x.spells (y.bytes ++ rest)
       ∙ ap (λ (z : Script). (first ++ z.0, z.1)) (y.spells rest)
-      ∙ ap (λ (z : List Command). (z, (script_left t rest).1)) (sym (append_assoc first more (script_left t rest).0));
+      ∙ ap (λ (z : List ScriptCommand). (z, (script_left t rest).1)) (sym (append_assoc first more (script_left t rest).0));
 }
 
 -- nothing yet
@@ -165,18 +168,18 @@ pub spells_none : (a : List ℕ) (r : Reading) → Spells a a r r []
 spells_none a r = record { bytes = []; all = refl; count = omega arith; spells = λ rest. refl }
 
 -- what is to come of the input that is there
-pub spells_here : (a b : List ℕ) (r s : Reading) (first : List Command) → Spells a b r s first → script_left r a ≡ (first ++ (script_left s b).0, (script_left s b).1)
+pub spells_here : (a b : List ℕ) (r s : Reading) (first : List ScriptCommand) → Spells a b r s first → script_left r a ≡ (first ++ (script_left s b).0, (script_left s b).1)
 spells_here a b r s first x = ap (λ (z : List ℕ). script_left r z) x.all ∙ x.spells b
 
 -- ---- one after another
 
 module _ {S D : Type 0} (state : S → State) (has : S → Mounted → List Placed → Type 0) (M : Ghosts D) (e : Errand) where
-  pub reads_then : (r s t : Reading) (v w z : S) (a m b : D) (result : Result (Option Stop) End) → (M.honest m → M.moment a ≤ M.moment m) → Follows M m b → DoneSo state has M e r s v a w m → Reads state has M e s t w m z b result → Reads state has M e r t v a z b result
+  pub reads_then : (r s t : Reading) (v w z : S × List Client) (a m b : D) (result : Result (Option Stop) End) → (M.honest m → M.moment a ≤ M.moment m) → Follows M m b → DoneSo state has M e r s v a w m → Reads state has M e s t w m z b result → Reads state has M e r t v a z b result
   reads_then r s t v w z a m b (Ok None) later follows x y = record {
     done = x.done ++ y.done;
     taken = spells_then _ _ _ r s t x.done y.done x.taken y.taken;
     says = between_then M e.says x.done y.done a m b later follows x.says y.says;
-    leads = λ more u c result on runs. subst (λ (cs : List Command). Runs state has M e cs v a u c result) (sym (append_assoc x.done y.done more)) (x.leads (y.done ++ more) u c result (follows_then M m b c follows on) (y.leads more u c result on runs));
+    leads = λ more u c result on runs. subst (λ (cs : List ScriptCommand). Runs state has M e cs v a u c result) (sym (append_assoc x.done y.done more)) (x.leads (y.done ++ more) u c result (follows_then M m b c follows on) (y.leads more u c result on runs));
   }
   reads_then r s t v w z a m b (Ok (Some (Ended end))) later follows x y =
       let here = spells_here (M.ledger a).input (M.ledger m).input r s x.done x.taken in (
@@ -196,11 +199,11 @@ module _ {S D : Type 0} (state : S → State) (has : S → Mounted → List Plac
       let here = spells_here (M.ledger a).input (M.ledger m).input r s x.done x.taken in
       subst (λ (q : Script). Runs state has M e q.0 v a z b (Err end)) (sym here) (x.leads (script_left s (M.ledger m).input).0 z b (Err end) follows y)
 
-  pub done_none : (r : Reading) (v : S) (a : D) → DoneSo state has M e r r v a v a
+  pub done_none : (r : Reading) (v : S × List Client) (a : D) → DoneSo state has M e r r v a v a
   done_none r v a = record { done = []; taken = spells_none (M.ledger a).input r; says = between_none M e.says a a (λ h. refl); leads = λ more z c result follows runs. runs }
 
   -- replies were said, each whole
-  pub done_replies : (r s : Reading) (old : S) (a : D) (new : S) (b : D) → DoneSo state has M e r s old a new b → M.honest b → SaysReplies e.says (M.now a).said (M.now b).said
+  pub done_replies : (r s : Reading) (old : S × List Client) (a : D) (new : S × List Client) (b : D) → DoneSo state has M e r s old a new b → M.honest b → SaysReplies e.says (M.now a).said (M.now b).said
   done_replies r s old a new b x honest = between_replies M e.says x.done a b x.says honest
 
 -- ---- one more
@@ -208,20 +211,20 @@ module _ {S D : Type 0} (state : S → State) (has : S → Mounted → List Plac
 module _ {S D : Type 0} (state : S → State) (has : S → Mounted → List Placed → Type 0) (M : Ghosts D) (e : Errand)
     (wears : (s : S) (k : Known) (old new : Moment) → AreShort old.windows → Ages old new → Stands state has s k old → Stands state has s k new)
     (short : (m : D) → M.honest m → AreShort (M.now m).windows) (only : (m : D) (left : Moment) → M.honest m → M.left_since m (M.moment m) left → left ≡ M.now m)
-    (v : S) (a m : D) (trust : M.honest m → M.honest a) (worn : M.honest m → Wears (M.now a) (M.now m)) (read : M.honest m → LeavesOnly M.moment M.left_since a m (Wears (M.now a))) where
+    (v : S × List Client) (a m : D) (trust : M.honest m → M.honest a) (worn : M.honest m → Wears (M.now a) (M.now m)) (read : M.honest m → LeavesOnly M.moment M.left_since a m (Wears (M.now a))) where
   here : Follows M m m
   here = record { honest = λ h. h; since = λ h t left le was. was; later = λ h. omega arith }
 
-  first : (commands : List Command) (z : S) (b : D) (result : Result (Unit {0}) End) → Follows M m b → Runs state has M e commands v m z b result → Runs state has M e commands v a z b result
+  first : (commands : List ScriptCommand) (z : S × List Client) (b : D) (result : Result (Unit {0}) End) → Follows M m b → Runs state has M e commands v m z b result → Runs state has M e commands v a z b result
   first = runs_read state has M e wears v a m worn read (λ h from aged. subst (λ (w : Windows). AreShort w) aged.windows (short a (trust h)))
 
   pub none_done : Runs state has M e [] v a v m (Ok tt)
   none_done = first [] v m (Ok tt) here (runs_nil state has M e v m wears (λ h left was. only m left h was) (λ h from aged. subst (λ (w : Windows). AreShort w) aged.windows (short m h)))
 
-  pub none_read : (commands : List Command) → Runs state has M e commands v a v m (Err (Stopped Ends.Memory))
+  pub none_read : (commands : List ScriptCommand) → Runs state has M e commands v a v m (Err (Stopped Ends.Memory))
   none_read commands = first commands v m (Err (Stopped Ends.Memory)) here (runs_refused state has M e wears commands v m (λ h left was. only m left h was) (λ h from aged. subst (λ (w : Windows). AreShort w) aged.windows (short m h)))
 
-  module _ (r s : Reading) (command : Command) (w : S) (b : D) (step : Follows M m b) where
+  module _ (r s : Reading) (command : ScriptCommand) (w : S × List Client) (b : D) (step : Follows M m b) where
     pub one_done : Spells (M.ledger a).input (M.ledger b).input r s (command ∷ []) → (M.honest b → M.moment m ≤ M.moment b) → Steps state has M e command v m w b (Ok tt)
         → ((t : ℕ) → M.honest b → t ≤ M.moment b → M.left_since b t (M.now b)) → (M.honest b → SaysOnce e.says command (M.now m) (M.now b)) → DoneSo state has M e r s v a w b
     one_done taken later steps counts once = record {

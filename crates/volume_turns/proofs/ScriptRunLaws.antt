@@ -4,8 +4,8 @@ use Rattle.std.specs.Prelude.{◌==◌, if◌then◌else◌, IsSome, slice_get}
 use Rattle.sector_disk.specs.declared.machine.Machine.{Ghosts}
 use Rattle.sector_disk.specs.Machine.{Report, Rose}
 use Rattle.fsd_files.specs.Replies.{Reply}
-use Rattle.fsd_files.specs.Volume.{Volume}
-use Rattle.fsd_texts.specs.declared.command.Command.{Command}
+use Rattle.fsd_files.specs.Desk.{Session}
+use Rattle.fsd_texts.specs.declared.script_command.ScriptCommand.{ScriptCommand}
 use Rattle.fsd_texts.specs.declared.fault.Fault.TheVariants as Ends
 use Rattle.fsd_texts.specs.declared.line.Line.TheVariants as Says
 use Rattle.fsd_texts.specs.declared.end.End.{End as ScriptEnd}
@@ -14,16 +14,16 @@ use Rattle.fsd_texts.specs.Script.{script_in, script_of}
 use Rattle.fsd_runs.specs.Commands.{reply_text}
 use Rattle.fsd_runs.specs.declared.request.Request.TheVariants.{Script}
 use Rattle.fsd_runs.specs.Errands.{Answered, Ending, Errand, Turn, blank, cut_ending, errand_of, group_ending, is_forced, line_turn, script_ending, scripted}
-use Rattle.fsd_runs.specs.Runs.{IsWornOut, turns_of}
+use Rattle.fsd_runs.specs.Runs.{IsWornOut, WearsOut, turns_of}
 use Rattle.volume_contract.specs.State.{Known}
 use Rattle.volume_turns.specs.Group.{WornIf}
-use Rattle.volume_turns.specs.Whole.{Finishes, RunsOut}
+use Rattle.volume_turns.specs.Whole.{Always, Finishes, RunsOut}
 use Rattle.volume_turns.proofs.GroupEndLaws.{ended_as}
 use Rattle.volume_turns.proofs.ScriptEndLaws.{WornOff, but_input, finishes_in}
 
 -- the run has turns to say, whatever the volume
-pub some_forced : (input : List ℕ) (v : Volume) → IsSome (slice_get (turns_of (errand_of Script input) [] v) 0)
-some_forced input v = by (0 == length (script_in input).0) (script_in input).1
+pub some_forced : (input : List ℕ) (s : Session) → IsSome (slice_get (turns_of (errand_of Script input) [] s) 0)
+some_forced input s = by (0 == length (script_in input).0) (script_in input).1
   where
     by : (b : Bool) (end : ScriptEnd) → IsSome (slice_get (if b then (script_ending end).turns else blank ∷ []) 0)
     by true Done = refl
@@ -35,7 +35,7 @@ abbrev spoken : Errand
 spoken = scripted ([], Done)
 
 module _ (e : Errand) (says : e.says ≡ reply_text) (forces : e.forces ≡ is_forced) where
-  as_spoken : (commands : List Command) (ends : List Answered → Ending) → ended_as e commands ends ≡ ended_as spoken commands ends
+  as_spoken : (commands : List ScriptCommand) (ends : List Answered → Ending) → ended_as e commands ends ≡ ended_as spoken commands ends
   as_spoken commands ends =
       ap (λ (s : Reply → List ℕ). record { commands = commands; says = s; forces = e.forces; ends = ends }) says
       ∙ ap (λ (f : Reply → Bool). record { commands = commands; says = reply_text; forces = f; ends = ends }) forces
@@ -44,43 +44,40 @@ module _ (e : Errand) (says : e.says ≡ reply_text) (forces : e.forces ≡ is_f
     abbrev Over : Type 0
     Over = RunsOut M Script input rest x k a b status
 
-    pub runs_all : Finishes M Script (ended_as e (script_in input).0 (λ done. script_ending (script_in input).1)) (WornIf false) (but_input x p) k a b status → Over
+    pub runs_all : Finishes M Script (ended_as e (script_in input).0 (λ done. script_ending (script_in input).1)) Always (WornIf false) (but_input x p) k a b status → Over
     runs_all f = record {
       cut = None;
       may = tt;
-      ahead = tt;
       cause = tt;
-      finishes = subst (λ (y : Errand). Finishes M Script y (WornIf false) x k a b status) (as_spoken (script_in input).0 (λ done. script_ending (script_in input).1)) (finishes_in M _ (WornIf false) x p k a b status f);
+      finishes = subst (λ (y : Errand). Finishes M Script y Always (WornIf false) x k a b status) (as_spoken (script_in input).0 (λ done. script_ending (script_in input).1)) (finishes_in M _ Always (WornIf false) x p k a b status f);
     }
 
-    pub runs_ended : (end : ScriptEnd) → (script_in input).1 ≡ end → Finishes M Script (ended_as e (script_in input).0 (λ done. script_ending end)) (WornIf false) (but_input x p) k a b status → Over
-    runs_ended end is f = runs_all (subst (λ (y : ScriptEnd). Finishes M Script (ended_as e (script_in input).0 (λ done. script_ending y)) (WornIf false) (but_input x p) k a b status) (sym is) f)
+    pub runs_ended : (end : ScriptEnd) → (script_in input).1 ≡ end → Finishes M Script (ended_as e (script_in input).0 (λ done. script_ending end)) Always (WornIf false) (but_input x p) k a b status → Over
+    runs_ended end is f = runs_all (subst (λ (y : ScriptEnd). Finishes M Script (ended_as e (script_in input).0 (λ done. script_ending y)) Always (WornIf false) (but_input x p) k a b status) (sym is) f)
 
     pub runs_worn : WornOff M e (script_in input).0 (but_input x p) k a b status → Over
     runs_worn w = record {
       cut = Some (w.count, Ends.WornOut);
       may = tt;
-      ahead = w.worn;
       cause = tt;
-      finishes = subst (λ (y : Errand). Finishes M Script y (λ v i. IsWornOut v i) x k a b status) (as_spoken (take w.count (script_in input).0) (λ done. cut_ending Ends.WornOut)) (finishes_in M _ (λ v i. IsWornOut v i) x p k a b status w.finishes);
+      finishes = subst (λ (y : Errand). Finishes M Script y (λ s. WearsOut s (slice_get (script_in input).0 w.count)) (λ v i. IsWornOut v i) x k a b status) (as_spoken (take w.count (script_in input).0) (λ done. cut_ending Ends.WornOut)) (finishes_in M _ (λ s. WearsOut s (slice_get (script_in input).0 w.count)) (λ v i. IsWornOut v i) x p k a b status w.finishes);
     }
 
-    pub runs_failed : (done : List Command) → take (length done) (script_in input).0 ≡ done → Rose x.input_faults (M.report b).input_faults → (taken : List ℕ) → input ≡ taken ++ rest → length (script_of taken).0 ≡ length done
-        → Finishes M Script (ended_as e done (λ d. cut_ending Ends.Input)) (WornIf false) (but_input x p) k a b status → Over
+    pub runs_failed : (done : List ScriptCommand) → take (length done) (script_in input).0 ≡ done → Rose x.input_faults (M.report b).input_faults → (taken : List ℕ) → input ≡ taken ++ rest → length (script_of taken).0 ≡ length done
+        → Finishes M Script (ended_as e done (λ d. cut_ending Ends.Input)) Always (WornIf false) (but_input x p) k a b status → Over
     runs_failed done front rose taken all whole f = record {
       cut = Some (length done, Ends.Input);
       may = tt;
-      ahead = tt;
       cause = record { rose = rose; taken = taken; all = all; commands = whole };
-      finishes = subst (λ (cs : List Command). Finishes M Script (ended_as spoken cs (λ d. cut_ending Ends.Input)) (WornIf false) x k a b status) (sym front)
-          (subst (λ (y : Errand). Finishes M Script y (WornIf false) x k a b status) (as_spoken done (λ d. cut_ending Ends.Input)) (finishes_in M _ (WornIf false) x p k a b status f));
+      finishes = subst (λ (cs : List ScriptCommand). Finishes M Script (ended_as spoken cs (λ d. cut_ending Ends.Input)) Always (WornIf false) x k a b status) (sym front)
+          (subst (λ (y : Errand). Finishes M Script y Always (WornIf false) x k a b status) (as_spoken done (λ d. cut_ending Ends.Input)) (finishes_in M _ Always (WornIf false) x p k a b status f));
     }
 
     -- by how the script ends, whatever it is
-    pub runs_either : ((more : List Turn) (gives : ℕ) → Finishes M Script (ended_as e (script_in input).0 (λ done. group_ending more gives)) (WornIf false) (but_input x p) k a b status ⊎ WornOff M e (script_in input).0 (but_input x p) k a b status) → Over
+    pub runs_either : ((more : List Turn) (gives : ℕ) → Finishes M Script (ended_as e (script_in input).0 (λ done. group_ending more gives)) Always (WornIf false) (but_input x p) k a b status ⊎ WornOff M e (script_in input).0 (but_input x p) k a b status) → Over
     runs_either over = by (script_in input).1 refl
       where
-        from : (end : ScriptEnd) → (script_in input).1 ≡ end → Finishes M Script (ended_as e (script_in input).0 (λ done. script_ending end)) (WornIf false) (but_input x p) k a b status ⊎ WornOff M e (script_in input).0 (but_input x p) k a b status → Over
+        from : (end : ScriptEnd) → (script_in input).1 ≡ end → Finishes M Script (ended_as e (script_in input).0 (λ done. script_ending end)) Always (WornIf false) (but_input x p) k a b status ⊎ WornOff M e (script_in input).0 (but_input x p) k a b status → Over
         from end is (inl f) = runs_ended end is f
         from end is (inr w) = runs_worn w
 

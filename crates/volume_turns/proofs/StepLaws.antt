@@ -47,6 +47,7 @@ module _ {S : Type 0} (state : S → State) (has : S → Mounted → List Placed
     answered_does reply made is after answers unworn = record {
       met = answers.met;
       is = same answers.met ∙ answers.is;
+      opened = answers.opened;
       windows = answers.windows;
       changes = answers.changes ∙ ap (λ (c : List Change). k.changes ++ c) is;
       find = find answers.met;

@@ -15,6 +15,9 @@ use Rattle.fsd_texts.specs.declared.command.Command.{Command}
 use Rattle.fsd_texts.specs.declared.command.Command.TheVariants as Word
 use Rattle.fsd_texts.specs.declared.fault.Fault.{Fault}
 use Rattle.fsd_texts.specs.declared.fault.Fault.TheVariants as Ends
+use Rattle.fsd_texts.specs.declared.script_command.ScriptCommand.{ScriptCommand}
+use Rattle.fsd_texts.specs.declared.script_command.ScriptCommand.TheVariants.{Plain, OfClient}
+use Rattle.fsd_runs.proofs.OtherLaws.{IsOtherIn}
 use Rattle.volume_contract.specs.Causes.{Causes, HasCause}
 use Rattle.volume_contract.specs.State.{State}
 use Rattle.scrub.specs.Telling.{AreOfPage, StandTwice, TellsOn}
@@ -22,6 +25,7 @@ use Rattle.scrub.proofs.ToldLaws.{page_twice, told_lost, told_unsound}
 use Rattle.volume_turns.specs.declared.answer.Answer.{Answer}
 use Rattle.volume_turns.specs.declared.turns.End.{End}
 use Rattle.volume_turns.specs.declared.turns.End.TheVariants.{Fault as Stopped, Output}
+use Rattle.volume_turns.specs.Calls.{MayLoseIn}
 use Rattle.volume_turns.specs.Once.{close_fault}
 use Rattle.volume_turns.specs.Steps.{IsRefusedOn, IsToldOn, MayLose, ended_by, read_ended_by}
 use Rattle.volume_turns.specs.Turns.{IsEndOn, Unsaid}
@@ -103,6 +107,11 @@ told_may command l i = told_as AreOfPage (MayLose command) l i (page_may command
 pub end_of_page : (command : Command) → (command ≡ Word.Scrub → ⊥) → (l : Layout) (i : Image) (end : End) → IsEndOn (MayLose command) l i end → IsEndOn AreOfPage l i end
 end_of_page command other l i (Stopped why) told = told_as (MayLose command) AreOfPage l i (may_page command other l) why told
 end_of_page command other l i Output told = tt
+
+-- so it is of a script's command
+pub end_of_page_in : (command : ScriptCommand) → IsOtherIn command → (l : Layout) (i : Image) (end : End) → IsEndOn (MayLoseIn command) l i end → IsEndOn AreOfPage l i end
+end_of_page_in (Plain command) other l i end told = end_of_page command other l i end told
+end_of_page_in (OfClient c call) other l i end told = told
 
 -- ---- since
 

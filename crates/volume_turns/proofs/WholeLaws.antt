@@ -12,8 +12,8 @@ use Rattle.sector_disk.specs.Image.{AreShort, Windows}
 use Rattle.sector_disk.specs.Machine.{LeavesOnly, Moment, Report, Rose, UsesDisk, Utters}
 use Rattle.sector_disk.proofs.Moments.{leaves_more, started, then_on}
 use Rattle.fsd_files.specs.Disk.{Image, in_runs}
+use Rattle.fsd_files.specs.Desk.{Session}
 use Rattle.fsd_files.specs.Files.{Change}
-use Rattle.fsd_files.specs.Volume.{Volume}
 use Rattle.fsd_sound.specs.Mounted.{Mounted, telling_of}
 use Rattle.fsd_sound.specs.Mounting.{device_of_mount}
 use Rattle.fsd_sound.specs.Shown.{told}
@@ -32,9 +32,10 @@ use Rattle.fsd_runs.specs.declared.request.Request.{Request}
 use Rattle.fsd_runs.specs.declared.request.Request.TheVariants.{Put}
 use Rattle.fsd_runs.specs.Errands.{Cut, Turn, blank, errand_of, fault_status}
 use Rattle.fsd_runs.specs.Leaves.{CutCause, IsBroken, IsOutside, IsReplied, IsSpent, IsUndone, IsUnsaid, Left, LeavesRun, LeftBefore, LeftSince, Unbegun}
+use Rattle.fsd_runs.specs.Sessions.{session_over}
 use Rattle.fsd_runs.specs.Runs.{Goes, IsCutAt, IsThrough, Run, changes_in, errand_in, run_end, run_status, run_turns, said_in, turns_of}
 use Rattle.volume_contract.specs.Mount.{EndsBefore, EndsSettled, Excuses, ExcusesOf, IsSoundAt, MountsSound, Settled, SoundBefore, SoundSince}
-use Rattle.volume_contract.specs.State.{State, Known, Stands, forced_of, volume_of}
+use Rattle.volume_contract.specs.State.{State, Known, Stands, forced_of, none_open, volume_of}
 use Rattle.volume_turns.specs.declared.turns.End.TheVariants.{Fault as Stopped}
 use Rattle.volume_turns.specs.Line.{EndsWith, is_unsaid}
 use Rattle.volume_turns.specs.Once.{fault_of}
@@ -91,9 +92,8 @@ pub runs_on : {D : Type 0} (M : Ghosts D) (request : Request) (input rest : List
 runs_on M request input rest a m uses faults k c b status r = record {
   cut = r.cut;
   may = r.may;
-  ahead = r.ahead;
   cause = cause_on a m (M.report b) uses faults r.cut input rest r.cause;
-  finishes = record { mets = r.finishes.mets; goes = r.finishes.goes; moments = r.finishes.moments; ends = ended r.finishes.ends };
+  finishes = record { mets = r.finishes.mets; ahead = r.finishes.ahead; goes = r.finishes.goes; moments = r.finishes.moments; ends = ended r.finishes.ends };
 }
   where
     ended : {All : Type 0} {Over : ℕ → Image → Type 0} {turns : List Turn} {old new : Moment} → All ⊎ (IsUnsaid m (M.report b) status ⊎ IsBroken request Over m (M.report b) turns old new status) → All ⊎ (IsUnsaid a (M.report b) status ⊎ IsBroken request Over a (M.report b) turns old new status)
@@ -107,7 +107,7 @@ module _ {D : Type 0} (M : Ghosts D) (request : Request) (input rest : List ℕ)
     (mount : LeavesOnly M.moment M.left_since a m (λ left. SoundBefore l windows h f (M.now a) left ⊎ SoundSince l windows run h n (M.now a) left))
     (named : IsNamedSince (M.left_since m) (M.moment a) (Some run)) (since : Since M m b) (here : M.left_since m (M.moment m) (M.now m)) (now : M.left_since b (M.moment m) (M.now b)) (status : ℕ) (r : RunsOut M request input rest (M.report a) k m b status) where
   abbrev turns : List Turn
-  turns = turns_of (errand_in request input r.cut) r.finishes.mets (volume_of k)
+  turns = turns_of (errand_in request input r.cut) r.finishes.mets (session_over (volume_of k))
 
   on : (left : Moment) → InRun k turns (M.now m) left → LeftSince l windows run h n turns (M.now a) left
   on left x = run_left l windows run h f n prefix k (M.now a) (M.now m) s quiet turns left x
@@ -120,10 +120,10 @@ module _ {D : Type 0} (M : Ghosts D) (request : Request) (input rest : List ℕ)
   run_is = record {
     cut = r.cut;
     may = r.may;
-    before = r.ahead;
     mets = r.finishes.mets;
-    goes = subst (λ (x : List ℕ). Goes (in_runs (windows ++ run ∷ [])) (M.left_since b (M.moment m)) (IsCutAt r.cut) (errand_in request input r.cut) x (M.now m).image (volume_of k) r.finishes.mets (errand_in request input r.cut).commands) quiet
-        (subst (λ (x : List WeakRun). Goes (in_runs x) (M.left_since b (M.moment m)) (IsCutAt r.cut) (errand_in request input r.cut) (M.now m).said (M.now m).image (volume_of k) r.finishes.mets (errand_in request input r.cut).commands) s.known (r.finishes.goes (M.moment m) (omega arith)));
+    before = r.finishes.ahead;
+    goes = subst (λ (x : List ℕ). Goes (in_runs (windows ++ run ∷ [])) (M.left_since b (M.moment m)) (IsCutAt r.cut) (errand_in request input r.cut) x (M.now m).image (session_over (volume_of k)) r.finishes.mets (errand_in request input r.cut).commands) quiet
+        (subst (λ (x : List WeakRun). Goes (in_runs x) (M.left_since b (M.moment m)) (IsCutAt r.cut) (errand_in request input r.cut) (M.now m).said (M.now m).image (session_over (volume_of k)) r.finishes.mets (errand_in request input r.cut).commands) s.known (r.finishes.goes (M.moment m) (omega arith)));
   }
 
   replied : SaysOut (errand_in request input r.cut) k r.finishes.mets (M.now m) (M.now b) status → IsReplied l windows run h n turns (run_status run_is) (run_end run_is) (M.now a) (M.now b) status
@@ -252,13 +252,13 @@ module _ {S D : Type 0} (state : S → State) (has : S → Mounted → List Plac
 
   -- behind that, while its table was walked
   module _ (here : M.left_since m (M.moment m) (M.now m)) (now : M.left_since b (M.moment m) (M.now b)) (only : (left : Moment) → M.left_since m (M.moment m) left → left ≡ M.now m)
-      (some : (v : Volume) → IsSome (slice_get (turns_of (errand_of request input) [] v) 0))
+      (some : (s : Session) → IsSome (slice_get (turns_of (errand_of request input) [] s) 0))
       (e : EndsSettled state has l windows h f (M.left_since m) (M.moment a) (λ P. LeavesOnly M.moment M.left_since a m P) (M.now a) (M.now m) (Err fault)) where
     abbrev k : Known
     k = e.known
 
     abbrev all_turns : List Turn
-    all_turns = turns_of (errand_of request input) [] (volume_of k)
+    all_turns = turns_of (errand_of request input) [] (session_over (volume_of k))
 
     sound : IsSound k.mounted.volume.layout k.windows k.changes (forced_of k) (M.now m).image
     sound =
@@ -273,7 +273,7 @@ module _ {S D : Type 0} (state : S → State) (has : S → Mounted → List Plac
     halted = record {
       windows = refl;
       whole = 0;
-      more = some (volume_of k);
+      more = some (session_over (volume_of k));
       said = sym (append-nil (M.now m).said);
       forced = forced_of k;
       least = omega arith;
@@ -295,10 +295,10 @@ module _ {S D : Type 0} (state : S → State) (has : S → Mounted → List Plac
     runs = record {
       cut = None;
       may = tt;
-      ahead = tt;
       cause = tt;
       finishes = record {
         mets = [];
+        ahead = tt;
         goes = λ t le. tt;
         moments = broken_moments M request (M.report a) k all_turns m m b moments why halted short ends_k once told_is status says honest ended;
         ends = inr (broken_ends M request (M.report a) k all_turns m m b moments why halted short ends_k once told_is status says honest ended);
@@ -309,7 +309,7 @@ module _ {S D : Type 0} (state : S → State) (has : S → Mounted → List Plac
     settled_run = mounted_run M request input rest l windows e.next h f e.count e.prefix k a m b e.settled quiet e.moments e.named (says.since honest) here now status runs
 
   pub refused_run : (here : M.left_since m (M.moment m) (M.now m)) (now : M.left_since b (M.moment m) (M.now b)) (only : (left : Moment) → M.left_since m (M.moment m) left → left ≡ M.now m)
-      (some : (v : Volume) → IsSome (slice_get (turns_of (errand_of request input) [] v) 0)) → MountsSound state has l windows h f (M.left_since m) (M.moment a) (λ P. LeavesOnly M.moment M.left_since a m P) (M.now a) (M.now m) (Err fault)
+      (some : (s : Session) → IsSome (slice_get (turns_of (errand_of request input) [] s) 0)) → MountsSound state has l windows h f (M.left_since m) (M.moment a) (λ P. LeavesOnly M.moment M.left_since a m P) (M.now a) (M.now m) (Err fault)
       → LeavesRun request input rest l windows h f (M.left_since b) (M.moment a) (λ P. LeavesOnly M.moment M.left_since a b P) (M.report a) (M.report b) (M.now a) (M.now b) status
   refused_run here now only some (inl u) = unmounted_run u
   refused_run here now only some (inr e) = settled_run here now only some e
@@ -317,10 +317,10 @@ module _ {S D : Type 0} (state : S → State) (has : S → Mounted → List Plac
 -- what a request does over a volume that was just mounted
 pub joined_run : {S D : Type 0} (state : S → State) (has : S → Mounted → List Placed → Type 0) (M : Ghosts D) (request : Request) (input rest : List ℕ) (l : Layout) (windows : List WeakRun) (h : List Change) (f : ℕ) (a m b : D) (v : S)
     → (M.now m).said ≡ (M.now a).said → UsesDisk (M.report a) (M.report m) → DiskFaults None (M.report a) (M.report m) → Since M m b → M.left_since m (M.moment m) (M.now m) → (M.moment m ≤ M.moment b → M.left_since b (M.moment m) (M.now b)) → (status : ℕ)
-    → MountsSound state has l windows h f (M.left_since m) (M.moment a) (λ P. LeavesOnly M.moment M.left_since a m P) (M.now a) (M.now m) (Ok v) → ((k : Known) → (volume_of k).unforced ≡ 0 → Stands state has v k (M.now m) → RunsOut M request input rest (M.report m) k m b status)
+    → MountsSound state has l windows h f (M.left_since m) (M.moment a) (λ P. LeavesOnly M.moment M.left_since a m P) (M.now a) (M.now m) (Ok v) → ((k : Known) → (volume_of k).unforced ≡ 0 → k.opened ≡ none_open → Stands state has v k (M.now m) → RunsOut M request input rest (M.report m) k m b status)
     → LeavesRun request input rest l windows h f (M.left_since b) (M.moment a) (λ P. LeavesOnly M.moment M.left_since a b P) (M.report a) (M.report b) (M.now a) (M.now b) status
 joined_run state has M request input rest l windows h f a m b v quiet uses faults since here now status (inl u) does = absurd u.why
 joined_run state has M request input rest l windows h f a m b v quiet uses faults since here now status (inr e) does =
     let k = e.known in
-    let r = does k e.settled.fresh.unforced e.ends in
+    let r = does k e.settled.fresh.unforced e.settled.opened e.ends in
     mounted_run M request input rest l windows e.next h f e.count e.prefix k a m b e.settled quiet e.moments e.named since here (now r.finishes.moments.later) status (runs_on M request input rest (M.report a) (M.report m) uses faults k m b status r)

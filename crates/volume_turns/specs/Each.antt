@@ -5,44 +5,44 @@ use Rattle.sector_disk.specs.declared.machine.Machine.{Ghosts}
 use Rattle.sector_disk.specs.Machine.{Moment}
 use Rattle.fsd_files.specs.Replies.{Reply}
 use Rattle.fsd_texts.specs.declared.bad_line.BadLine.{BadLine}
-use Rattle.fsd_texts.specs.declared.command.Command.{Command}
 use Rattle.fsd_texts.specs.declared.end.End.TheVariants.{Bad}
 use Rattle.fsd_texts.specs.declared.line.Line.TheVariants as Says
+use Rattle.fsd_texts.specs.declared.script_command.ScriptCommand.{ScriptCommand}
 use Rattle.fsd_texts.specs.Script.{script_in}
 use Rattle.fsd_texts.specs.Text.{text}
 use Rattle.fsd_runs.specs.Commands.{reply_text}
 use Rattle.fsd_runs.specs.Errands.{forced_turn}
-use Rattle.volume_turns.specs.Answering.{MayReply}
+use Rattle.volume_turns.specs.Calls.{MayReplyTo}
 
 -- One reply is said, which the command may have over the image as it is then.
-pub record SaysOnce (says : Reply → List ℕ) (command : Command) (old new : Moment) : Type 0 where
+pub record SaysOnce (says : Reply → List ℕ) (command : ScriptCommand) (old new : Moment) : Type 0 where
   pub reply : Reply
-  pub may : MayReply command new.image reply
+  pub may : MayReplyTo command new.image reply
   pub said : new.said ≡ old.said ++ says reply
 
 -- it may be answered so over the image of one of these moments
-abbrev pub MayReplyIn : (Past : Moment → Type 0) → Command → Reply → Type 0
-MayReplyIn Past command reply = (at : Moment) × Past at × MayReply command at.image reply
+abbrev pub MayReplyIn : (Past : Moment → Type 0) → ScriptCommand → Reply → Type 0
+MayReplyIn Past command reply = (at : Moment) × Past at × MayReplyTo command at.image reply
 
 -- one reply for each command, in order
-abbrev pub AreReplies : (Past : Moment → Type 0) → List Command → List Reply → Type 0
+abbrev pub AreReplies : (Past : Moment → Type 0) → List ScriptCommand → List Reply → Type 0
 AreReplies Past [] [] = ⊤
 AreReplies Past (command ∷ commands) (reply ∷ replies) = MayReplyIn Past command reply × AreReplies Past commands replies
 AreReplies Past commands replies = ⊥
 
 -- For each of the commands a reply is said that it may have, in order, each whole, and no more.
-pub record SaysEach (says : Reply → List ℕ) (Past : Moment → Type 0) (commands : List Command) (before after : List ℕ) : Type 0 where
+pub record SaysEach (says : Reply → List ℕ) (Past : Moment → Type 0) (commands : List ScriptCommand) (before after : List ℕ) : Type 0 where
   pub replies : List Reply
   pub each : AreReplies Past commands replies
   pub said : after ≡ before ++ flat_map says replies
 
 -- so it is between two states of a machine, over the images that a stop might have left since a
 -- moment that is no later than the first
-abbrev pub SaysBetween : {D : Type 0} → (M : Ghosts D) → (says : Reply → List ℕ) → List Command → (a b : D) → Type 0
+abbrev pub SaysBetween : {D : Type 0} → (M : Ghosts D) → (says : Reply → List ℕ) → List ScriptCommand → (a b : D) → Type 0
 SaysBetween M says commands a b = M.honest b → (t : ℕ) → t ≤ M.moment a → SaysEach says (M.left_since b t) commands (M.now a).said (M.now b).said
 
 -- So it is of the commands of a script, and last it is said that all is forced.
-pub record SaysForced (says : Reply → List ℕ) (Past : Moment → Type 0) (commands : List Command) (before after : List ℕ) : Type 0 where
+pub record SaysForced (says : Reply → List ℕ) (Past : Moment → Type 0) (commands : List ScriptCommand) (before after : List ℕ) : Type 0 where
   pub front : List ℕ
   pub whole : SaysEach says Past commands before front
   pub said : after ≡ front ++ forced_turn.said

@@ -1,21 +1,29 @@
 -- Commands that are made up: they are done one after another with nothing said, and counted.
-use Rattle.std.specs.Prelude.{◌≡◌, Bool, true, false, List, [], ◌∷◌, Option, Some, None, Result, Ok, Err, IfOk, IfSome}
+use Rattle.std.specs.Prelude.{◌≡◌, Bool, true, false, List, [], ◌∷◌, map, Option, Some, None, Result, Ok, Err, IfOk, IfSome}
 use Rattle.fsd_log.specs.Scan.{Placed}
 use Rattle.sector_disk.specs.declared.machine.Machine.{Ghosts}
 use Rattle.sector_disk.specs.Machine.{Moment}
 use Rattle.fsd_sound.specs.Mounted.{Mounted}
 use Rattle.fsd_texts.specs.declared.command.Command.{Command}
+use Rattle.fsd_texts.specs.declared.script_command.ScriptCommand.{ScriptCommand}
+use Rattle.fsd_texts.specs.declared.script_command.ScriptCommand.TheVariants.{Plain}
 use Rattle.fsd_texts.specs.declared.counts.Counts.{Counts}
-use Rattle.fsd_runs.specs.Commands.{answer}
-use Rattle.fsd_runs.specs.Errands.{Errand, answered_so, generated}
+use Rattle.fsd_runs.specs.Errands.{Errand, generated}
 use Rattle.fsd_runs.specs.Runs.{answered}
+use Rattle.fsd_runs.specs.Sessions.{answer_in, session_over}
 use Rattle.script_text.specs.Making.{Making, made_left}
-use Rattle.volume_contract.specs.State.{State, Ages, Known, Stands, volume_of}
+use Rattle.client_desk.specs.Clients.{no_desk}
+use Rattle.volume_contract.specs.State.{State, Ages, Known, volume_of}
 use Rattle.volume_turns.specs.declared.turns.End.{End}
 use Rattle.volume_turns.specs.Group.{IsGroup}
 use Rattle.volume_turns.specs.Once.{unit_of}
+use Rattle.volume_turns.specs.Seats.{Seated, SitsAt, session_in}
 use Rattle.volume_turns.specs.Tally.{all_counted, counted, nothing}
 use Rattle.volume_turns.specs.Turns.{Runs, RunsFrom, StepsOk}
+
+-- as a script has them
+abbrev pub all_plain : List Command → List ScriptCommand
+all_plain commands = map (λ command. Plain command) commands
 
 -- nothing is said of a reply
 abbrev pub silent : Errand
@@ -23,32 +31,32 @@ silent = generated 0 0
 
 module _ {S : Type 0} (state : S → State) (has : S → Mounted → List Placed → Type 0) where
   -- A command is done, and counted by its answer.
-  pub record CountedStep {D : Type 0} (M : Ghosts D) (k : Known) (from : Moment) (command : Command) (a b : D) (s : S) (t u : Counts) : Type 0 where
-    pub step : StepsOk state has M silent k from command a b s
-    pub counts : u ≡ counted t (answered_so command (answer step.met (volume_of k) command).0)
+  pub record CountedStep {D : Type 0} (M : Ghosts D) (k : Seated) (from : Moment) (command : Command) (a b : D) (s : S) (t u : Counts) : Type 0 where
+    pub step : StepsOk state has M silent k from (Plain command) a b (s, no_desk)
+    pub counts : u ≡ counted t (Plain command) (answer_in step.met (session_in k) (Plain command)).0
 
-  abbrev pub StepsCountedBy : {D : Type 0} → (M : Ghosts D) → Known → Moment → Command → (a b : D) → S → Counts → Result Counts End → Type 0
+  abbrev pub StepsCountedBy : {D : Type 0} → (M : Ghosts D) → Seated → Moment → Command → (a b : D) → S → Counts → Result Counts End → Type 0
   StepsCountedBy M k from command a b s t (Ok u) = CountedStep M k from command a b s t u
-  StepsCountedBy M k from command a b s t (Err end) = (more : List Command) → RunsFrom state has M silent k from (command ∷ more) a b s (Err end)
+  StepsCountedBy M k from command a b s t (Err end) = (more : List ScriptCommand) → RunsFrom state has M silent k from (Plain command ∷ more) a b (s, no_desk) (Err end)
 
   abbrev pub StepsCounted : {D : Type 0} → (M : Ghosts D) → Command → (old : S) → (a : D) → (new : S) → (b : D) → Counts → Result Counts End → Type 0
   StepsCounted M command old a new b t result =
-      M.honest b → (k : Known) (from : Moment) → Stands state has old k from → Ages from (M.now a) → StepsCountedBy M k from command a b new t result
+      M.honest b → (k : Seated) (from : Moment) → SitsAt state has (old, no_desk) k from → Ages from (M.now a) → StepsCountedBy M k from command a b new t result
 
   -- Commands are done, and where all of them are they are counted.
-  pub record CountedRun {D : Type 0} (M : Ghosts D) (k : Known) (from : Moment) (commands : List Command) (a b : D) (s : S) (t : Counts) (result : Result Counts End) : Type 0 where
-    pub ran : RunsFrom state has M silent k from commands a b s (unit_of result)
-    pub counts : IfOk result (λ u. u ≡ all_counted t (answered ran.mets (volume_of k) commands))
+  pub record CountedRun {D : Type 0} (M : Ghosts D) (k : Seated) (from : Moment) (commands : List Command) (a b : D) (s : S) (t : Counts) (result : Result Counts End) : Type 0 where
+    pub ran : RunsFrom state has M silent k from (all_plain commands) a b (s, no_desk) (unit_of result)
+    pub counts : IfOk result (λ u. u ≡ all_counted t (answered ran.mets (session_in k) (all_plain commands)))
 
   abbrev pub RunsCounted : {D : Type 0} → (M : Ghosts D) → List Command → (old : S) → (a : D) → (new : S) → (b : D) → Counts → Result Counts End → Type 0
   RunsCounted M commands old a new b t result =
-      M.honest b → (k : Known) (from : Moment) → Stands state has old k from → Ages from (M.now a) → CountedRun M k from commands a b new t result
+      M.honest b → (k : Seated) (from : Moment) → SitsAt state has (old, no_desk) k from → Ages from (M.now a) → CountedRun M k from commands a b new t result
 
   -- the next of them, or that there is none, or what has ended them
   abbrev pub Draws : {D : Type 0} → (M : Ghosts D) → (before now : Making) → (old : S) → (a : D) → (new : S) → (b : D) → Counts → Result (Option Counts) End → Type 0
   Draws M before now old a new b t (Ok (Some u)) = (command : Command) × (made_left before ≡ command ∷ made_left now) × StepsCounted M command old a new b t (Ok u)
   Draws M before now old a new b t (Ok None) = (made_left before ≡ []) × (new ≡ old) × (b ≡ a)
-  Draws M before now old a new b t (Err end) = Runs state has M silent (made_left before) old a new b (Err end)
+  Draws M before now old a new b t (Err end) = Runs state has M silent (all_plain (made_left before)) (old, no_desk) a (new, no_desk) b (Err end)
 
 -- ---- with the force behind them
 
@@ -60,5 +68,5 @@ all_of (Err end) = Err end
 
 -- A group of them, which are counted where all were done.
 pub record CountedGroup {D : Type 0} (M : Ghosts D) (k : Known) (commands : List Command) (a b : D) (result : Result (Option Counts) End) : Type 0 where
-  pub group : IsGroup M silent k (M.now a) commands a b (all_of result)
-  pub counts : IfOk result (λ o. IfSome o (λ t. t ≡ all_counted nothing (answered group.mets (volume_of k) commands)))
+  pub group : IsGroup M silent k (M.now a) (all_plain commands) a b (all_of result)
+  pub counts : IfOk result (λ o. IfSome o (λ t. t ≡ all_counted nothing (answered group.mets (session_over (volume_of k)) (all_plain commands))))

@@ -2,13 +2,14 @@
 use Rattle.std.specs.Prelude.{◌≡◌, ⊤, ℕ, ◌≤◌, ◌==◌, ◌||◌, Bool, true, false, not, List, [], ◌∷◌, ◌++◌, length, slice_get, IsTrue, Result, Ok, Err}
 use Rattle.sector_disk.specs.declared.machine.Machine.{Ghosts}
 use Rattle.sector_disk.specs.Machine.{Moment, LeavesOnly}
-use Rattle.fsd_files.specs.Answers.{Met}
+use Rattle.fsd_files.specs.Desk.{Session}
 use Rattle.fsd_files.specs.Disk.{Image, in_runs}
 use Rattle.fsd_files.specs.Volume.{Volume}
-use Rattle.fsd_texts.specs.declared.command.Command.{Command}
 use Rattle.fsd_texts.specs.declared.fault.Fault.TheVariants as Ends
+use Rattle.fsd_texts.specs.declared.script_command.ScriptCommand.{ScriptCommand}
 use Rattle.fsd_runs.specs.Errands.{Errand, Turn, blank, forced_turn}
 use Rattle.fsd_runs.specs.Runs.{Goes, IsWornOut, behind, WearsOut, turns_begun}
+use Rattle.fsd_runs.specs.Sessions.{Meeting, session_over}
 use Rattle.volume_turns.specs.declared.turns.End.{End}
 use Rattle.volume_turns.specs.declared.turns.End.TheVariants.{Fault as Stopped, Output}
 use Rattle.volume_turns.specs.Once.{IsDone}
@@ -21,12 +22,12 @@ WornIf true v i = IsWornOut v i
 WornIf false v i = ⊤
 
 -- a group is cut off in front of a command that a worn-out mount refuses
-abbrev pub CutsOff : Bool → List Met → List Command → Type 0
-CutsOff true mets commands = WearsOut (slice_get commands (length mets))
-CutsOff false mets commands = ⊤
+abbrev pub CutsOff : Bool → List Meeting → Session → List ScriptCommand → Type 0
+CutsOff true mets s commands = WearsOut (behind mets s commands) (slice_get commands (length mets))
+CutsOff false mets s commands = ⊤
 
 -- all commands were begun, or those in front of which the group was cut off
-abbrev pub is_through : (cut : Bool) → List Met → List Command → Bool
+abbrev pub is_through : (cut : Bool) → List Meeting → List ScriptCommand → Bool
 is_through cut mets commands = cut || length mets == length commands
 
 -- what follows the commands that were begun: the force, and what stands behind it, such as the line of a fault that cut
@@ -35,19 +36,19 @@ abbrev pub turns_behind : (through : Bool) → (more : List Turn) → List Turn
 turns_behind true more = forced_turn ∷ more
 turns_behind false more = blank ∷ []
 
-abbrev pub EndsGroup : Errand → Known → (cut : Bool) → List Met → List Command → (old new : Moment) → Result Bool End → Type 0
+abbrev pub EndsGroup : Errand → Known → (cut : Bool) → List Meeting → List ScriptCommand → (old new : Moment) → Result Bool End → Type 0
 EndsGroup e k cut mets commands old new (Ok all) =
-    (all ≡ not cut) × IsTrue (is_through cut mets commands) × IsDone k (turns_begun e mets (volume_of k) commands ++ forced_turn ∷ []) (behind mets (volume_of k) commands) old new
-EndsGroup e k cut mets commands old new (Err (Stopped fault)) = EndsAtOnce fault × Said k fault (turns_begun e mets (volume_of k) commands) old new
+    (all ≡ not cut) × IsTrue (is_through cut mets commands) × IsDone k (turns_begun e mets (session_over (volume_of k)) commands ++ forced_turn ∷ []) (behind mets (session_over (volume_of k)) commands).volume old new
+EndsGroup e k cut mets commands old new (Err (Stopped fault)) = EndsAtOnce fault × Said k fault (turns_begun e mets (session_over (volume_of k)) commands) old new
 EndsGroup e k cut mets commands old new (Err Output) = ⊤
 
 -- Of a group from a moment on.
-pub record IsGroup {D : Type 0} (M : Ghosts D) (e : Errand) (k : Known) (from : Moment) (commands : List Command) (a b : D) (result : Result Bool End) : Type 0 where
-  pub mets : List Met
+pub record IsGroup {D : Type 0} (M : Ghosts D) (e : Errand) (k : Known) (from : Moment) (commands : List ScriptCommand) (a b : D) (result : Result Bool End) : Type 0 where
+  pub mets : List Meeting
   pub cut : Bool
-  pub before : CutsOff cut mets commands
-  pub goes : (t : ℕ) → t ≤ M.moment a → Goes (in_runs k.windows) (M.left_since b t) (WornIf cut) e (M.now a).said from.image (volume_of k) mets commands
-  pub moments : (more : List Turn) → LeavesOnly M.moment M.left_since a b (InRun k (turns_begun e mets (volume_of k) commands ++ turns_behind (is_through cut mets commands) more) (M.now a))
+  pub before : CutsOff cut mets (session_over (volume_of k)) commands
+  pub goes : (t : ℕ) → t ≤ M.moment a → Goes (in_runs k.windows) (M.left_since b t) (WornIf cut) e (M.now a).said from.image (session_over (volume_of k)) mets commands
+  pub moments : (more : List Turn) → LeavesOnly M.moment M.left_since a b (InRun k (turns_begun e mets (session_over (volume_of k)) commands ++ turns_behind (is_through cut mets commands) more) (M.now a))
   pub ends : EndsGroup e k cut mets commands (M.now a) (M.now b) result
 
 abbrev pub is_worn_end : End → Bool

@@ -1,4 +1,5 @@
 pub mod Answering
+pub mod Calls
 pub mod Causes
 pub mod Each
 pub mod Generate
@@ -10,6 +11,7 @@ pub mod Numbers
 pub mod Once
 pub mod Reasons
 pub mod Script
+pub mod Seats
 pub mod Status
 pub mod Steps
 pub mod Taking

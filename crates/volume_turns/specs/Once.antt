@@ -5,7 +5,7 @@ use Rattle.fsd_bytes.specs.declared.refusal.Refusal.TheVariants as Why
 use Rattle.sector_disk.specs.declared.machine.Machine.{Ghosts}
 use Rattle.sector_disk.specs.Image.{AllWorn}
 use Rattle.sector_disk.specs.Machine.{Moment, LeavesOnly}
-use Rattle.fsd_files.specs.Answers.{Met}
+use Rattle.fsd_files.specs.Desk.{Session}
 use Rattle.fsd_files.specs.Disk.{Image, in_runs}
 use Rattle.fsd_files.specs.Volume.{Volume}
 use Rattle.fsd_sound.specs.Mounted.{telling_of}
@@ -14,8 +14,10 @@ use Rattle.fsd_sound.specs.Sound.{IsSound, weak_of}
 use Rattle.fsd_texts.specs.declared.command.Command.{Command}
 use Rattle.fsd_texts.specs.declared.fault.Fault.{Fault}
 use Rattle.fsd_texts.specs.declared.fault.Fault.TheVariants as Ends
+use Rattle.fsd_texts.specs.declared.script_command.ScriptCommand.TheVariants.{Plain}
 use Rattle.fsd_runs.specs.Errands.{Turn, alone, alone_ending}
 use Rattle.fsd_runs.specs.Runs.{Goes, answered, behind, changes_in, said_in, turns_of}
+use Rattle.fsd_runs.specs.Sessions.{Meeting, session_over}
 use Rattle.fsd_sound.specs.declared.fault.MountFault.{MountFault}
 use Rattle.fsd_sound.specs.declared.fault.MountFault.TheVariants as Refused
 use Rattle.volume_turns.specs.declared.turns.End.{End}
@@ -84,15 +86,15 @@ pub record IsDone (k : Known) (turns : List Turn) (after : Volume) (old new : Mo
   pub lasts : AllWorn (weak_of k.windows) (λ j. told k.mounted.volume.layout j ≡ Some (telling_of after)) new.image
 
 -- the status of its reply
-abbrev pub status_alone : Command → List Met → Volume → ℕ
-status_alone c mets v = (alone_ending (answered mets v (c ∷ []))).status
+abbrev pub status_alone : Command → List Meeting → Session → ℕ
+status_alone c mets s = (alone_ending (answered mets s (Plain c ∷ []))).status
 
 -- where memory was refused, the disk is sound as it was
 abbrev pub Spares : Known → Fault → Image → Type 0
 Spares k why i = why ≡ Ends.Memory → IsSound k.mounted.volume.layout k.windows k.changes (forced_of k) i
 
-abbrev pub EndsAlone : Command → Known → List Met → (old new : Moment) → Result ℕ End → Type 0
-EndsAlone c k mets old new (Ok status) = (length mets ≡ 1) × (status ≡ status_alone c mets (volume_of k)) × IsDone k (turns_of (alone c) mets (volume_of k)) (behind mets (volume_of k) (c ∷ [])) old new
+abbrev pub EndsAlone : Command → Known → List Meeting → (old new : Moment) → Result ℕ End → Type 0
+EndsAlone c k mets old new (Ok status) = (length mets ≡ 1) × (status ≡ status_alone c mets (session_over (volume_of k))) × IsDone k (turns_of (alone c) mets (session_over (volume_of k))) (behind mets (session_over (volume_of k)) (Plain c ∷ [])).volume old new
 EndsAlone c k mets old new (Err (Stopped fault)) = EndsAtOnce fault × (new.said ≡ old.said) × Spares k fault new.image
 EndsAlone c k mets old new (Err Output) = ⊤
 
@@ -100,7 +102,7 @@ abbrev pub Anything : Volume → Image → Type 0
 Anything v i = ⊤
 
 pub record IsAlone {D : Type 0} (M : Ghosts D) (c : Command) (k : Known) (a b : D) (result : Result ℕ End) : Type 0 where
-  pub mets : List Met
-  pub goes : (t : ℕ) → t ≤ M.moment a → Goes (in_runs k.windows) (M.left_since b t) Anything (alone c) (M.now a).said (M.now a).image (volume_of k) mets (c ∷ [])
-  pub moments : LeavesOnly M.moment M.left_since a b (InRun k (turns_of (alone c) mets (volume_of k)) (M.now a))
+  pub mets : List Meeting
+  pub goes : (t : ℕ) → t ≤ M.moment a → Goes (in_runs k.windows) (M.left_since b t) Anything (alone c) (M.now a).said (M.now a).image (session_over (volume_of k)) mets (Plain c ∷ [])
+  pub moments : LeavesOnly M.moment M.left_since a b (InRun k (turns_of (alone c) mets (session_over (volume_of k))) (M.now a))
   pub ends : EndsAlone c k mets (M.now a) (M.now b) result

@@ -5,9 +5,10 @@ use Rattle.sector_disk.specs.declared.machine.Machine.{Ghosts}
 use Rattle.sector_disk.specs.Calls.{DiskFaults}
 use Rattle.sector_disk.specs.Machine.{Report, Rose}
 use Rattle.fsd_sound.specs.Mounted.{Mounted}
-use Rattle.fsd_texts.specs.declared.command.Command.{Command}
+use Rattle.fsd_texts.specs.declared.script_command.ScriptCommand.{ScriptCommand}
 use Rattle.fsd_texts.specs.Script.{max_input, script_in, script_of}
 use Rattle.fsd_runs.specs.Errands.{Errand}
+use Rattle.client_desk.specs.declared.client.Client.{Client}
 use Rattle.script_text.specs.Reading.{IsShort, Reading, fresh, script_left}
 use Rattle.volume_contract.specs.State.{State, Known}
 use Rattle.volume_turns.specs.declared.turns.End.{End}
@@ -45,7 +46,7 @@ GoesOn old new None = (new.given ≡ old.given + 1) × (new.end ≡ None) × (ne
 GoesOn old new other = ⊤
 
 -- Some bytes of the input are taken: whatever stands behind them, they spell these commands and what is to come.
-pub record Spells (before left : List ℕ) (old new : Reading) (commands : List Command) : Type 0 where
+pub record Spells (before left : List ℕ) (old new : Reading) (commands : List ScriptCommand) : Type 0 where
   pub bytes : List ℕ
   pub all : before ≡ bytes ++ left
   pub count : new.taken ≡ old.taken + length bytes
@@ -53,26 +54,26 @@ pub record Spells (before left : List ℕ) (old new : Reading) (commands : List 
 
 module _ {S : Type 0} (state : S → State) (has : S → Mounted → List Placed → Type 0) where
   -- commands are done and said, and more of them may follow
-  abbrev pub Leads : {D : Type 0} → (M : Ghosts D) → Errand → List Command → (old : S) → (a : D) → (new : S) → (b : D) → Type 0
+  abbrev pub Leads : {D : Type 0} → (M : Ghosts D) → Errand → List ScriptCommand → (old : S × List Client) → (a : D) → (new : S × List Client) → (b : D) → Type 0
   Leads {D = D} M e done old a new b =
-      (more : List Command) (z : S) (c : D) (result : Result (Unit {0}) End) → Follows M b c → Runs state has M e more new b z c result → Runs state has M e (done ++ more) old a z c result
+      (more : List ScriptCommand) (z : S × List Client) (c : D) (result : Result (Unit {0}) End) → Follows M b c → Runs state has M e more new b z c result → Runs state has M e (done ++ more) old a z c result
 
   -- Some first commands of what is to come are done.
-  pub record DoneSo {D : Type 0} (M : Ghosts D) (e : Errand) (r s : Reading) (old : S) (a : D) (new : S) (b : D) : Type 0 where
-    pub done : List Command
+  pub record DoneSo {D : Type 0} (M : Ghosts D) (e : Errand) (r s : Reading) (old : S × List Client) (a : D) (new : S × List Client) (b : D) : Type 0 where
+    pub done : List ScriptCommand
     pub taken : Spells (M.ledger a).input (M.ledger b).input r s done
     pub says : SaysBetween M e.says done a b
     pub leads : Leads M e done old a new b
 
   -- All commands that stand whole in what was taken are done, and the input has failed.
-  pub record FailsBehind {D : Type 0} (M : Ghosts D) (e : Errand) (r s : Reading) (old : S) (a : D) (new : S) (b : D) : Type 0 where
-    pub done : List Command
+  pub record FailsBehind {D : Type 0} (M : Ghosts D) (e : Errand) (r s : Reading) (old : S × List Client) (a : D) (new : S × List Client) (b : D) : Type 0 where
+    pub done : List ScriptCommand
     pub taken : Spells (M.ledger a).input (M.ledger b).input r s done
     pub runs : Runs state has M e done old a new b (Ok tt)
     pub still : s.end ≡ None
     pub short : IsShort s.waiting
 
-  abbrev pub Reads : {D : Type 0} → (M : Ghosts D) → Errand → (r s : Reading) → (old : S) → (a : D) → (new : S) → (b : D) → Result (Option Stop) End → Type 0
+  abbrev pub Reads : {D : Type 0} → (M : Ghosts D) → Errand → (r s : Reading) → (old : S × List Client) → (a : D) → (new : S × List Client) → (b : D) → Result (Option Stop) End → Type 0
   Reads M e r s old a new b (Ok None) = DoneSo M e r s old a new b
   Reads M e r s old a new b (Ok (Some (Ended end))) = ((script_left r (M.ledger a).input).1 ≡ end) × Runs state has M e (script_left r (M.ledger a).input).0 old a new b (Ok tt) × SaysBetween M e.says (script_left r (M.ledger a).input).0 a b
   Reads M e r s old a new b (Ok (Some Input)) = FailsBehind M e r s old a new b
@@ -84,7 +85,7 @@ module _ {S : Type 0} (state : S → State) (has : S → Mounted → List Placed
   stopped (Err end) = Err end
 
   -- from the script's first byte on
-  pub record WholeRead {D : Type 0} (M : Ghosts D) (e : Errand) (old : S) (a : D) (new : S) (b : D) (result : Result Stop End) : Type 0 where
+  pub record WholeRead {D : Type 0} (M : Ghosts D) (e : Errand) (old : S × List Client) (a : D) (new : S × List Client) (b : D) (result : Result Stop End) : Type 0 where
     pub last : Reading
     pub few : last.end ≡ None → last.taken ≤ max_input
     pub reads : Reads M e fresh last old a new b (stopped result)
@@ -94,7 +95,7 @@ module _ {S : Type 0} (state : S → State) (has : S → Mounted → List Placed
 -- Commands that stand whole in what was taken are done as a group, and then the input has failed;
 -- rest is what was left of it.
 pub record FailedGroup {D : Type 0} (M : Ghosts D) (e : Errand) (k : Known) (input rest : List ℕ) (a b : D) (result : Result Bool End) : Type 0 where
-  pub done : List Command
+  pub done : List ScriptCommand
   pub front : take (length done) (script_in input).0 ≡ done
   pub taken : List ℕ
   pub all : input ≡ taken ++ rest

@@ -35,6 +35,12 @@ reply_of Said.Forced = Reply.Forced
 reply_of (Said.Listed entries) = Reply.Listed entries.items
 reply_of (Said.Counts s) = Reply.Counts s.free s.waiting s.pages_free s.versions
 reply_of (Said.Scrubbed found healed) = Reply.Scrubbed found.items healed
+reply_of (Said.Begun c) = Reply.Begun c
+reply_of (Said.Took c sum) = Reply.Took c sum
+reply_of (Said.Dropped c) = Reply.Dropped c
+reply_of (Said.Opened c len) = Reply.Opened c len
+reply_of (Said.Given c bytes) = Reply.Given c bytes.items
+reply_of (Said.Done c) = Reply.Done c
 
 -- a refusal ends the run, or is said
 abbrev pub ended_by : Refusal → Result Answer Fault
@@ -115,10 +121,11 @@ Stays state has s old left = (k : Known) → Stands state has s k old → StaysS
 -- ---- how a command ends
 
 -- It is answered as the definitions do, over the images from its entry to its exit,
--- and isn't one that a worn-out mount refuses.
+-- what is open stays, and it isn't one that a worn-out mount refuses.
 pub record IsAnswered (command : Command) (s : State) (k after : Known) (i j : Image) (reply : Reply) : Type 0 where
   pub met : Met
   pub is : answer met (volume_of k) command ≡ (reply, volume_of after)
+  pub opened : after.opened ≡ k.opened
   pub windows : after.windows ≡ k.windows
   pub changes : after.changes ≡ k.changes ++ changes_of command reply
   pub find : MayFind i j (volume_of k) command met

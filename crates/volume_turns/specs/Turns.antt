@@ -5,24 +5,26 @@ use Rattle.fsd_log.specs.Scan.{Placed}
 use Rattle.std.specs.List.{flat_map, list_any}
 use Rattle.sector_disk.specs.declared.machine.Machine.{Ghosts}
 use Rattle.sector_disk.specs.Machine.{Moment, Report, Rose, LeavesOnly, Wears}
-use Rattle.fsd_files.specs.Answers.{Met}
 use Rattle.fsd_files.specs.Disk.{Image, in_runs}
+use Rattle.fsd_files.specs.Desk.{Session}
 use Rattle.fsd_files.specs.Replies.{Reply}
 use Rattle.fsd_files.specs.Volume.{Volume}
 use Rattle.fsd_sound.specs.Mounted.{Mounted}
 use Rattle.fsd_sound.specs.Sound.{IsSound}
-use Rattle.fsd_texts.specs.declared.command.Command.{Command}
 use Rattle.fsd_texts.specs.declared.fault.Fault.{Fault}
 use Rattle.fsd_texts.specs.declared.fault.Fault.TheVariants as Ends
-use Rattle.fsd_runs.specs.Commands.{answer}
+use Rattle.fsd_texts.specs.declared.script_command.ScriptCommand.{ScriptCommand}
 use Rattle.fsd_runs.specs.Errands.{Errand, Turn, answered_so}
 use Rattle.fsd_runs.specs.Runs.{Goes, IsStep, IsWornOut, behind, changes_in, forced_in, said_in, turn_of, WearsOut, turns_begun}
 use Rattle.fsd_runs.specs.Leaves.{SaysNext}
+use Rattle.fsd_runs.specs.Sessions.{Meeting, answer_in}
+use Rattle.client_desk.specs.declared.client.Client.{Client}
 use Rattle.volume_turns.specs.declared.turns.End.{End}
 use Rattle.volume_turns.specs.declared.turns.End.TheVariants.{Fault as Stopped, Output}
 use Rattle.sector_disk.specs.Calls.{DiskFaults, Since}
+use Rattle.volume_contract.specs.State.{State, Ages, Known, forced_of}
+use Rattle.volume_turns.specs.Seats.{Seated, SitsAt, known_of, session_in}
 use Rattle.volume_turns.specs.Steps.{IsOfCall, IsToldOn, device_told}
-use Rattle.volume_contract.specs.State.{State, Ages, Known, volume_of, forced_of, Stands}
 
 -- A moment of a run of these turns over a volume that stands so: some are said whole, and a part of what comes next.
 -- The disk is sound for the changes of the turns said and of the one under way.
@@ -107,64 +109,64 @@ pub record Said (k : Known) (why : Fault) (turns : List Turn) (old now : Moment)
   pub sound : IsSound k.mounted.volume.layout k.windows (k.changes ++ changes_in (take (suc whole) turns)) forced now.image
   pub undone : why ≡ Ends.Memory → Undone k turns whole now.image
 
-abbrev pub turn_by : Errand → Known → Command → Met → Turn
-turn_by e k command met = turn_of e (answered_so command (answer met (volume_of k) command).0)
+abbrev pub turn_by : Errand → Session → ScriptCommand → Meeting → Turn
+turn_by e s command x = turn_of e (answered_so s command (answer_in x s command).0)
 
 module _ {S : Type 0} (state : S → State) (has : S → Mounted → List Placed → Type 0) where
   -- The commands that were begun are answered and said, and the volume stands behind them.
-  pub record StandsBehind (e : Errand) (k : Known) (mets : List Met) (commands : List Command) (s : S) (old now : Moment) : Type 0 where
-    pub after : Known
-    pub is : volume_of after ≡ behind mets (volume_of k) commands
+  pub record StandsBehind (e : Errand) (k : Seated) (mets : List Meeting) (commands : List ScriptCommand) (s : S × List Client) (old now : Moment) : Type 0 where
+    pub after : Seated
+    pub is : session_in after ≡ behind mets (session_in k) commands
     pub windows : after.windows ≡ k.windows
-    pub changes : after.changes ≡ k.changes ++ changes_in (turns_begun e mets (volume_of k) commands)
-    pub said : now.said ≡ old.said ++ said_in (turns_begun e mets (volume_of k) commands)
+    pub changes : after.changes ≡ k.changes ++ changes_in (turns_begun e mets (session_in k) commands)
+    pub said : now.said ≡ old.said ++ said_in (turns_begun e mets (session_in k) commands)
     pub open_windows : now.windows ≡ old.windows
     pub layout : after.mounted.volume.layout ≡ k.mounted.volume.layout
-    pub least : forced_of k ≤ forced_of after
-    pub forced : IsTrue (list_any (λ t. t.forces) (turns_begun e mets (volume_of k) commands)) → length k.changes + forced_in (turns_begun e mets (volume_of k) commands) ≤ forced_of after
-    pub stands : Stands state has s after now
+    pub least : forced_of (known_of k) ≤ forced_of (known_of after)
+    pub forced : IsTrue (list_any (λ t. t.forces) (turns_begun e mets (session_in k) commands)) → length k.changes + forced_in (turns_begun e mets (session_in k) commands) ≤ forced_of (known_of after)
+    pub stands : SitsAt state has s after now
 
-  abbrev pub EndsBy : Errand → Known → List Met → List Command → S → (old now : Moment) → Result (Unit {0}) End → Type 0
+  abbrev pub EndsBy : Errand → Seated → List Meeting → List ScriptCommand → S × List Client → (old now : Moment) → Result (Unit {0}) End → Type 0
   EndsBy e k mets commands s old now (Ok x) = (length mets ≡ length commands) × StandsBehind e k mets commands s old now
-  EndsBy e k mets commands s old now (Err (Stopped Ends.WornOut)) = WearsOut (slice_get commands (length mets)) × StandsBehind e k mets commands s old now
-  EndsBy e k mets commands s old now (Err (Stopped fault)) = EndsAtOnce fault × Said k fault (turns_begun e mets (volume_of k) commands) old now
+  EndsBy e k mets commands s old now (Err (Stopped Ends.WornOut)) = WearsOut (behind mets (session_in k) commands) (slice_get commands (length mets)) × StandsBehind e k mets commands s old now
+  EndsBy e k mets commands s old now (Err (Stopped fault)) = EndsAtOnce fault × Said (known_of k) fault (turns_begun e mets (session_in k) commands) old now
   EndsBy e k mets commands s old now (Err Output) = ⊤
 
   -- The commands over the volume as it stood at a moment that has been worn since.
-  pub record RunsFrom {D : Type 0} (M : Ghosts D) (e : Errand) (k : Known) (from : Moment) (commands : List Command) (a b : D) (s : S) (result : Result (Unit {0}) End) : Type 0 where
-    pub mets : List Met
-    pub goes : (t : ℕ) → t ≤ M.moment a → Goes (in_runs k.windows) (M.left_since b t) (Behind result) e (M.now a).said from.image (volume_of k) mets commands
-    pub moments : (rest : List Turn) → LeavesOnly M.moment M.left_since a b (InRun k (turns_begun e mets (volume_of k) commands ++ rest) (M.now a))
+  pub record RunsFrom {D : Type 0} (M : Ghosts D) (e : Errand) (k : Seated) (from : Moment) (commands : List ScriptCommand) (a b : D) (s : S × List Client) (result : Result (Unit {0}) End) : Type 0 where
+    pub mets : List Meeting
+    pub goes : (t : ℕ) → t ≤ M.moment a → Goes (in_runs k.windows) (M.left_since b t) (Behind result) e (M.now a).said from.image (session_in k) mets commands
+    pub moments : (rest : List Turn) → LeavesOnly M.moment M.left_since a b (InRun (known_of k) (turns_begun e mets (session_in k) commands ++ rest) (M.now a))
     pub ends : EndsBy e k mets commands s (M.now a) (M.now b) result
 
-  abbrev pub Runs : {D : Type 0} → (M : Ghosts D) → Errand → List Command → (old : S) → (a : D) → (new : S) → (b : D) → Result (Unit {0}) End → Type 0
+  abbrev pub Runs : {D : Type 0} → (M : Ghosts D) → Errand → List ScriptCommand → (old : S × List Client) → (a : D) → (new : S × List Client) → (b : D) → Result (Unit {0}) End → Type 0
   Runs M e commands old a new b result =
-      M.honest b → (k : Known) (from : Moment) → Stands state has old k from → Ages from (M.now a) → RunsFrom M e k from commands a b new result
+      M.honest b → (k : Seated) (from : Moment) → SitsAt state has old k from → Ages from (M.now a) → RunsFrom M e k from commands a b new result
 
   -- ---- one command
 
   -- It is answered and said: the volume stands so before its reply is said, and since.
-  pub record StepsOk {D : Type 0} (M : Ghosts D) (e : Errand) (k : Known) (from : Moment) (command : Command) (a b : D) (s : S) : Type 0 where
-    pub met : Met
-    pub after : Known
+  pub record StepsOk {D : Type 0} (M : Ghosts D) (e : Errand) (k : Seated) (from : Moment) (command : ScriptCommand) (a b : D) (s : S × List Client) : Type 0 where
+    pub met : Meeting
+    pub after : Seated
     pub mid : Moment
-    pub step : (t : ℕ) → t ≤ M.moment a → IsStep (in_runs k.windows) (M.left_since b t) (M.now a).said from.image mid.image (volume_of k) command met
-    pub is : volume_of after ≡ (answer met (volume_of k) command).1
-    pub carries : Carries k after (turn_by e k command met)
-    pub stands : Stands state has s after mid
+    pub step : (t : ℕ) → t ≤ M.moment a → IsStep (in_runs k.windows) (M.left_since b t) (M.now a).said from.image mid.image (session_in k) command met
+    pub is : session_in after ≡ (answer_in met (session_in k) command).1
+    pub carries : Carries (known_of k) (known_of after) (turn_by e (session_in k) command met)
+    pub stands : SitsAt state has s after mid
     pub ages : Ages mid (M.now b)
     pub open_windows : (M.now b).windows ≡ (M.now a).windows
-    pub said : (M.now b).said ≡ (M.now a).said ++ (turn_by e k command met).said
-    pub moments : (rest : List Turn) → LeavesOnly M.moment M.left_since a b (InRun k (turn_by e k command met ∷ rest) (M.now a))
+    pub said : (M.now b).said ≡ (M.now a).said ++ (turn_by e (session_in k) command met).said
+    pub moments : (rest : List Turn) → LeavesOnly M.moment M.left_since a b (InRun (known_of k) (turn_by e (session_in k) command met ∷ rest) (M.now a))
 
   -- where it ends the run, it does so whatever commands would follow
-  abbrev pub StepsBy : {D : Type 0} → (M : Ghosts D) → Errand → Known → Moment → Command → (a b : D) → S → Result (Unit {0}) End → Type 0
+  abbrev pub StepsBy : {D : Type 0} → (M : Ghosts D) → Errand → Seated → Moment → ScriptCommand → (a b : D) → S × List Client → Result (Unit {0}) End → Type 0
   StepsBy M e k from command a b s (Ok x) = StepsOk M e k from command a b s
-  StepsBy M e k from command a b s (Err end) = (more : List Command) → RunsFrom M e k from (command ∷ more) a b s (Err end)
+  StepsBy M e k from command a b s (Err end) = (more : List ScriptCommand) → RunsFrom M e k from (command ∷ more) a b s (Err end)
 
-  abbrev pub Steps : {D : Type 0} → (M : Ghosts D) → Errand → Command → (old : S) → (a : D) → (new : S) → (b : D) → Result (Unit {0}) End → Type 0
+  abbrev pub Steps : {D : Type 0} → (M : Ghosts D) → Errand → ScriptCommand → (old : S × List Client) → (a : D) → (new : S × List Client) → (b : D) → Result (Unit {0}) End → Type 0
   Steps M e command old a new b result =
-      M.honest b → (k : Known) (from : Moment) → Stands state has old k from → Ages from (M.now a) → StepsBy M e k from command a b new result
+      M.honest b → (k : Seated) (from : Moment) → SitsAt state has old k from → Ages from (M.now a) → StepsBy M e k from command a b new result
 
 -- ---- what is said over any image
 

@@ -1,10 +1,10 @@
 -- Runs over a mounted volume to their end: the last line is said, or that of the fault that ended them.
-use Rattle.std.specs.Prelude.{◌≡◌, ◌⊎◌, ℕ, suc, ◌+◌, ◌≤◌, List, ◌++◌, length, take, IsSome, IsTrue, slice_get}
+use Rattle.std.specs.Prelude.{◌≡◌, ◌⊎◌, ⊤, ℕ, suc, ◌+◌, ◌≤◌, List, ◌++◌, length, take, IsSome, IsTrue, slice_get}
 use Rattle.std.specs.List.{list_any}
 use Rattle.sector_disk.specs.declared.machine.Machine.{Ghosts}
 use Rattle.sector_disk.specs.Machine.{Moment, Report, LeavesOnly}
-use Rattle.fsd_files.specs.Answers.{Met}
 use Rattle.fsd_files.specs.Disk.{Image, in_runs}
+use Rattle.fsd_files.specs.Desk.{Session}
 use Rattle.fsd_files.specs.Volume.{Volume}
 use Rattle.fsd_sound.specs.Sound.{IsSound}
 use Rattle.fsd_texts.specs.declared.fault.Fault.{Fault}
@@ -13,6 +13,7 @@ use Rattle.fsd_runs.specs.declared.request.Request.{Request}
 use Rattle.fsd_runs.specs.Errands.{Cut, Errand, MayCut, Turn, errand_of}
 use Rattle.fsd_runs.specs.Leaves.{CutCause, IsBroken, IsUnsaid}
 use Rattle.fsd_runs.specs.Runs.{Goes, IsCutAt, IsCutBefore, answered, behind, changes_in, errand_in, forced_in, said_in, turns_of}
+use Rattle.fsd_runs.specs.Sessions.{Meeting, session_over}
 use Rattle.volume_contract.specs.State.{Known, volume_of, forced_of}
 use Rattle.volume_turns.specs.Once.{IsDone}
 use Rattle.volume_turns.specs.Turns.{InRun, Undone}
@@ -34,24 +35,28 @@ pub record Halted (k : Known) (why : Fault) (turns : List Turn) (old now : Momen
 
 -- ---- to the end
 
--- All commands were begun, all is said and forced, and the status is given.
-pub record SaysOut (e : Errand) (k : Known) (mets : List Met) (old new : Moment) (status : ℕ) : Type 0 where
-  pub through : length mets ≡ length e.commands
-  pub gives : status ≡ (e.ends (answered mets (volume_of k) e.commands)).status
-  pub done : IsDone k (turns_of e mets (volume_of k)) (behind mets (volume_of k) e.commands) old new
+-- whatever it is
+abbrev pub Always : Session → Type 0
+Always s = ⊤
 
--- The commands of an errand, from the mounted volume to the end: all is said, or the output failed, or a fault has
+-- All commands were begun, all is said and forced, and the status is given.
+pub record SaysOut (e : Errand) (k : Known) (mets : List Meeting) (old new : Moment) (status : ℕ) : Type 0 where
+  pub through : length mets ≡ length e.commands
+  pub gives : status ≡ (e.ends (answered mets (session_over (volume_of k)) e.commands)).status
+  pub done : IsDone k (turns_of e mets (session_over (volume_of k))) (behind mets (session_over (volume_of k)) e.commands).volume old new
+
+-- The commands of an errand, from the mounted volume to the end, and what is so behind them: all is said, or the output failed, or a fault has
 -- ended it, which was counted since before.
-pub record Finishes {D : Type 0} (M : Ghosts D) (request : Request) (e : Errand) (Last : Volume → Image → Type 0) (before : Report) (k : Known) (a b : D) (status : ℕ) : Type 0 where
-  pub mets : List Met
-  pub goes : (t : ℕ) → t ≤ M.moment a → Goes (in_runs k.windows) (M.left_since b t) Last e (M.now a).said (M.now a).image (volume_of k) mets e.commands
-  pub moments : LeavesOnly M.moment M.left_since a b (InRun k (turns_of e mets (volume_of k)) (M.now a))
-  pub ends : SaysOut e k mets (M.now a) (M.now b) status ⊎ (IsUnsaid before (M.report b) status ⊎ IsBroken request (Undone k (turns_of e mets (volume_of k))) before (M.report b) (turns_of e mets (volume_of k)) (M.now a) (M.now b) status)
+pub record Finishes {D : Type 0} (M : Ghosts D) (request : Request) (e : Errand) (Ahead : Session → Type 0) (Last : Volume → Image → Type 0) (before : Report) (k : Known) (a b : D) (status : ℕ) : Type 0 where
+  pub mets : List Meeting
+  pub ahead : Ahead (behind mets (session_over (volume_of k)) e.commands)
+  pub goes : (t : ℕ) → t ≤ M.moment a → Goes (in_runs k.windows) (M.left_since b t) Last e (M.now a).said (M.now a).image (session_over (volume_of k)) mets e.commands
+  pub moments : LeavesOnly M.moment M.left_since a b (InRun k (turns_of e mets (session_over (volume_of k))) (M.now a))
+  pub ends : SaysOut e k mets (M.now a) (M.now b) status ⊎ (IsUnsaid before (M.report b) status ⊎ IsBroken request (Undone k (turns_of e mets (session_over (volume_of k)))) before (M.report b) (turns_of e mets (session_over (volume_of k))) (M.now a) (M.now b) status)
 
 -- A request over its mounted volume.
 pub record RunsOut {D : Type 0} (M : Ghosts D) (request : Request) (input rest : List ℕ) (before : Report) (k : Known) (a b : D) (status : ℕ) : Type 0 where
   pub cut : Cut
   pub may : MayCut request cut
-  pub ahead : IsCutBefore cut (errand_of request input).commands
   pub cause : CutCause cut input rest before (M.report b)
-  pub finishes : Finishes M request (errand_in request input cut) (IsCutAt cut) before k a b status
+  pub finishes : Finishes M request (errand_in request input cut) (λ s. IsCutBefore cut s (errand_of request input).commands) (IsCutAt cut) before k a b status

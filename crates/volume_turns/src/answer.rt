@@ -22,6 +22,18 @@ pub enum Answer {
     Counts(Stat),
     /// The data sectors that read damaged, each with its version's key, and how many others were healed.
     Scrubbed { found: Vec<(Key, u32)>, healed: u32 },
+    /// A client has begun a version.
+    Begun(u32),
+    /// It has so many bytes of it.
+    Took { client: u32, sum: u32 },
+    /// It has given it up.
+    Dropped(u32),
+    /// It has opened a version of so many bytes.
+    Opened { client: u32, length: u32 },
+    /// It has these next bytes of it.
+    Given { client: u32, bytes: Vec<u8> },
+    /// It is done with it.
+    Done(u32),
 }
 
 // A refusal is said, or ends the run.

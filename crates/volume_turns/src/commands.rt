@@ -6,6 +6,7 @@ ghost use Rattle.fsd_texts.specs.declared.command.Command.TheVariants as Word;
 ghost use Rattle.fsd_runs.specs.Errands.{reply_status};
 ghost use Rattle.sector_disk.specs.Calls.{OnlyReads, WritesDisk};
 ghost use Rattle.volume_contract.specs.State.{Known, Stands, volume_of};
+ghost use Rattle.scrub.specs.Scrub.{KeepsOpen};
 ghost use Rattle.volume_turns.specs.Answering.{Answers};
 ghost use Rattle.volume_turns.specs.Reasons.{Because, HasWritten, HasWrittenBy, most_written};
 ghost use Rattle.volume_turns.specs.Status.{IsStatusFrom};
@@ -31,6 +32,7 @@ pub(crate) fn put<M: Machine, V: Files<M>>(
     requires room { (V.state v.old).layout.sectors ≤ (M.report m.old).sectors }
     requires up { (V.state v.old).down ≡ None }
     ensures layout { (V.state v.new).layout ≡ (V.state v.old).layout }
+    ensures open { KeepsOpen (V.state v.old) (V.state v.new) }
     ensures up { OnOk result ((V.state v.new).down ≡ None) }
     ensures disk { WritesDisk M.Machine (device_by result) (Stays V.state V.holds v.old) m.old m.new }
     ensures fault { IfErr result IsOfCall }
@@ -59,6 +61,7 @@ pub(crate) fn delete<M: Machine, V: Files<M>>(
     requires room { (V.state v.old).layout.sectors ≤ (M.report m.old).sectors }
     requires up { (V.state v.old).down ≡ None }
     ensures layout { (V.state v.new).layout ≡ (V.state v.old).layout }
+    ensures open { KeepsOpen (V.state v.old) (V.state v.new) }
     ensures up { OnOk result ((V.state v.new).down ≡ None) }
     ensures disk { WritesDisk M.Machine (device_by result) (Stays V.state V.holds v.old) m.old m.new }
     ensures fault { IfErr result IsOfCall }
@@ -85,6 +88,7 @@ pub(crate) fn set_keep<M: Machine, V: Files<M>>(
     requires room { (V.state v.old).layout.sectors ≤ (M.report m.old).sectors }
     requires up { (V.state v.old).down ≡ None }
     ensures layout { (V.state v.new).layout ≡ (V.state v.old).layout }
+    ensures open { KeepsOpen (V.state v.old) (V.state v.new) }
     ensures up { OnOk result ((V.state v.new).down ≡ None) }
     ensures disk { WritesDisk M.Machine (device_by result) (Stays V.state V.holds v.old) m.old m.new }
     ensures fault { IfErr result IsOfCall }
@@ -106,6 +110,7 @@ pub(crate) fn force<M: Machine, V: Files<M>>(v: &mut V, m: &mut M) -> Result<Ans
     requires room { (V.state v.old).layout.sectors ≤ (M.report m.old).sectors }
     requires up { (V.state v.old).down ≡ None }
     ensures layout { (V.state v.new).layout ≡ (V.state v.old).layout }
+    ensures open { KeepsOpen (V.state v.old) (V.state v.new) }
     ensures up { OnOk result ((V.state v.new).down ≡ None) }
     ensures disk { WritesDisk M.Machine (device_by result) (Stays V.state V.holds v.old) m.old m.new }
     ensures fault { IfErr result IsOfCall }
@@ -127,6 +132,7 @@ pub(crate) fn tick<M: Machine, V: Files<M>>(v: &mut V, m: &mut M) -> Result<Answ
     requires room { (V.state v.old).layout.sectors ≤ (M.report m.old).sectors }
     requires up { (V.state v.old).down ≡ None }
     ensures layout { (V.state v.new).layout ≡ (V.state v.old).layout }
+    ensures open { KeepsOpen (V.state v.old) (V.state v.new) }
     ensures up { OnOk result ((V.state v.new).down ≡ None) }
     ensures disk { WritesDisk M.Machine (device_by result) (Stays V.state V.holds v.old) m.old m.new }
     ensures fault { IfErr result IsOfCall }
@@ -153,6 +159,7 @@ pub(crate) fn get<M: Machine, V: Files<M>>(
     requires room { (V.state v.old).layout.sectors ≤ (M.report m.old).sectors }
     requires up { (V.state v.old).down ≡ None }
     ensures layout { (V.state v.new).layout ≡ (V.state v.old).layout }
+    ensures open { KeepsOpen (V.state v.old) (V.state v.new) }
     ensures up { OnOk result ((V.state v.new).down ≡ None) }
     ensures disk { WritesDisk M.Machine (device_by result) (Stays V.state V.holds v.old) m.old m.new }
     ensures fault { IfErr result IsOfCall }
@@ -180,6 +187,7 @@ fn read_whole<M: Machine, V: Files<M>>(
     requires room { (V.state v.old).layout.sectors ≤ (M.report m.old).sectors }
     requires up { (V.state v.old).down ≡ None }
     ensures layout { (V.state v.new).layout ≡ (V.state v.old).layout }
+    ensures open { KeepsOpen (V.state v.old) (V.state v.new) }
     ensures up { OnOk result ((V.state v.new).down ≡ None) }
     ensures disk { OnlyReads M.Machine (device_by result) m.old m.new }
     ensures fault { IfErr result IsOfCall }
@@ -212,6 +220,7 @@ pub(crate) fn answer<M: Machine, V: Files<M>>(
     requires room { (V.state v.old).layout.sectors ≤ (M.report m.old).sectors }
     requires up { (V.state v.old).down ≡ None }
     ensures layout { (V.state v.new).layout ≡ (V.state v.old).layout }
+    ensures open { KeepsOpen (V.state v.old) (V.state v.new) }
     ensures up { OnOk result ((V.state v.new).down ≡ None) }
     ensures disk { WritesDisk M.Machine (device_by result) (Stays V.state V.holds v.old) m.old m.new }
     ensures fault { IfErr result IsOfCall }
@@ -240,6 +249,7 @@ fn scrub_all<M: Machine, V: Files<M>>(alloc: Global, v: &mut V, m: &mut M) -> Re
     requires room { (V.state v.old).layout.sectors ≤ (M.report m.old).sectors }
     requires up { (V.state v.old).down ≡ None }
     ensures layout { (V.state v.new).layout ≡ (V.state v.old).layout }
+    ensures open { KeepsOpen (V.state v.old) (V.state v.new) }
     ensures up { OnOk result ((V.state v.new).down ≡ None) }
     ensures disk { WritesDisk M.Machine (device_by result) (Stays V.state V.holds v.old) m.old m.new }
     ensures fault { IfErr result IsOfCall }

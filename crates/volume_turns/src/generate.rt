@@ -11,8 +11,9 @@ ghost use Rattle.volume_turns.specs.declared.turns.End.TheVariants.{Fault as Sto
 ghost use Rattle.fsd_runs.specs.Errands.{forced_turn};
 ghost use Rattle.fsd_runs.specs.Leaves.{LeavesRun};
 ghost use Rattle.fsd_runs.specs.declared.request.Request.TheVariants.{Generate};
+ghost use Rattle.client_desk.specs.Clients.{IsDesk, no_desk};
 ghost use Rattle.volume_contract.specs.Mount.{IsSoundAt};
-ghost use Rattle.volume_contract.specs.State.{Known, Stands};
+ghost use Rattle.volume_contract.specs.State.{Known, Stands, none_open};
 ghost use Rattle.scrub.specs.Telling.{AreOfPage};
 ghost use Rattle.volume_turns.specs.Causes.{SaysFault, SaysMade, SaysOfCall, TellsImage, is_of_fault};
 ghost use Rattle.volume_turns.specs.Generate.{CountedGroup, Draws, RunsCounted, StepsCounted};
@@ -45,9 +46,11 @@ fn do_counted<M: Machine, V: Files<M>>(
 ) -> Result<Tally, End>
     requires room { (V.state v.old).layout.sectors ≤ (M.report m.old).sectors }
     requires up { (V.state v.old).down ≡ None }
+    requires idle { IsDesk (V.state v.old) no_desk }
     requires few { tally.now.count < 2 ^ 32 - 1 }
     ensures layout { (V.state v.new).layout ≡ (V.state v.old).layout }
     ensures up { OnOk result ((V.state v.new).down ≡ None) }
+    ensures idle { IsDesk (V.state v.new) no_desk }
     ensures told { Told (M.report m.old) (M.report m.new) result }
     ensures ledger { M.tells m.new → OnlyWrites (M.ledger m.old) (M.ledger m.new) }
     ensures fault { IfErr result IsEndOfVolume }
@@ -80,9 +83,11 @@ fn draw<M: Machine, V: Files<M>>(
 ) -> Result<Option<Tally>, End>
     requires room { (V.state v.old).layout.sectors ≤ (M.report m.old).sectors }
     requires up { (V.state v.old).down ≡ None }
+    requires idle { IsDesk (V.state v.old) no_desk }
     requires few { tally.now.count < 2 ^ 32 - 1 }
     ensures layout { (V.state v.new).layout ≡ (V.state v.old).layout }
     ensures up { OnOk result ((V.state v.new).down ≡ None) }
+    ensures idle { IsDesk (V.state v.new) no_desk }
     ensures told { Told (M.report m.old) (M.report m.new) result }
     ensures ledger { M.tells m.new → OnlyWrites (M.ledger m.old) (M.ledger m.new) }
     ensures fault { IfErr result IsEndOfVolume }
@@ -116,6 +121,7 @@ fn make_up<M: Machine, V: Files<M>>(
 ) -> Result<Tally, End>
     requires room { (V.state v.old).layout.sectors ≤ (M.report m.old).sectors }
     requires up { (V.state v.old).down ≡ None }
+    requires idle { IsDesk (V.state v.old) no_desk }
     ensures layout { (V.state v.new).layout ≡ (V.state v.old).layout }
     ensures told { Told (M.report m.old) (M.report m.new) result }
     ensures ledger { M.tells m.new → OnlyWrites (M.ledger m.old) (M.ledger m.new) }
@@ -200,6 +206,7 @@ fn make_group<M: Machine, V: Files<M> + Drop>(
 ) -> Result<Option<Tally>, End>
     requires room { (V.state v).layout.sectors ≤ (M.report m.old).sectors }
     requires up { (V.state v).down ≡ None }
+    requires idle { IsDesk (V.state v) no_desk }
     ensures told { Told (M.report m.old) (M.report m.new) result }
     ensures ledger { M.tells m.new → OnlyWrites (M.ledger m.old) (M.ledger m.new) }
     ensures fault { IfErr result IsEndOfVolume }
@@ -212,7 +219,7 @@ fn make_group<M: Machine, V: Files<M> + Drop>(
     ensures since { M.honest m.new → Since M.Machine m.old m.new }
     ensures later { M.honest m.new → M.moment m.old ≤ M.moment m.new }
     ensures quiet { M.honest m.new → KeepsSaid (M.now m.old) (M.now m.new) result }
-    ensures group { M.honest m.new → (k : Known) → Stands V.state V.holds v k (M.now m.old) → CountedGroup M.Machine k (made_up seed count) m.old m.new result }
+    ensures group { M.honest m.new → (k : Known) → k.opened ≡ none_open → Stands V.state V.holds v k (M.now m.old) → CountedGroup M.Machine k (made_up seed count) m.old m.new result }
 {
     let mut v = v;
     match make_up(alloc, &mut v, m, seed, count) {
@@ -237,6 +244,7 @@ fn generate_on<M: Machine, V: Files<M> + Drop>(
 ) -> u8
     requires room { (V.state v).layout.sectors ≤ (M.report m.old).sectors }
     requires up { (V.state v).down ≡ None }
+    requires idle { IsDesk (V.state v) no_desk }
     ensures ledger { M.tells m.new → OnlyWrites (M.ledger m.old) (M.ledger m.new) }
     ensures status { IsMadeStatus result }
     ensures counts { CountsRun (M.report m.old) (M.report m.new) result }
@@ -246,7 +254,7 @@ fn generate_on<M: Machine, V: Files<M> + Drop>(
     ensures last { IsTrue (is_of_fault result) → M.honest m.new → SaysFault (M.report m.new).fault_place (M.now m.new) result }
     ensures spent { result ≡ 9 → M.honest m.new → MayWear count (V.state v) }
     ensures all { result ≡ 0 → M.honest m.new → SaysMade count (M.now m.old).said (M.now m.new) }
-    ensures runs { M.honest m.new → (input rest : List ℕ) (k : Known) → Stands V.state V.holds v k (M.now m.old) → RunsOut M.Machine (Generate seed count) input rest (M.report m.old) k m.old m.new result }
+    ensures runs { M.honest m.new → (input rest : List ℕ) (k : Known) → k.opened ≡ none_open → Stands V.state V.holds v k (M.now m.old) → RunsOut M.Machine (Generate seed count) input rest (M.report m.old) k m.old m.new result }
 {
     match make_group(alloc, v, m, seed, count) {
         Ok(Some(tally)) => last_line(m, &tally.line(), 0),

@@ -11,7 +11,7 @@ ghost use Rattle.fsd_runs.specs.Commands.{reply_alone};
 ghost use Rattle.fsd_runs.specs.Leaves.{LeavesRun};
 ghost use Rattle.fsd_runs.specs.declared.request.Request.TheVariants.{Put};
 ghost use Rattle.volume_contract.specs.Mount.{IsSoundAt};
-ghost use Rattle.volume_contract.specs.State.{Known, Stands, is_worn, volume_of};
+ghost use Rattle.volume_contract.specs.State.{Known, Stands, is_worn, none_open, volume_of};
 ghost use Rattle.scrub.specs.Telling.{AreOfPage};
 ghost use Rattle.volume_turns.specs.Answering.{SaysNoReply, SaysOne};
 ghost use Rattle.volume_turns.specs.Causes.{FailsInput, SaysFault, SaysOfCall, SaysOfInput, TellsImage, is_of_fault};
@@ -78,7 +78,7 @@ fn put_on<M: Machine, V: Files<M> + Drop, T: Says>(
     ensures unspent { result ≡ 9 → M.honest m.new → ⊥ }
     ensures last { IsTrue (is_of_fault result) → M.honest m.new → SaysFault (M.report m.new).fault_place (M.now m.new) result }
     ensures one { M.honest m.new → (V.state v).dirty ≡ [] → SaysOne (Word.Put name (M.ledger m.old).input keep) (M.now m.old) (M.now m.new) result }
-    ensures runs { M.honest m.new → (k : Known) → (volume_of k).unforced ≡ 0 → Stands V.state V.holds v k (M.now m.old) →
+    ensures runs { M.honest m.new → (k : Known) → (volume_of k).unforced ≡ 0 → k.opened ≡ none_open → Stands V.state V.holds v k (M.now m.old) →
         RunsOut M.Machine (Put name keep) (M.ledger m.old).input (M.ledger m.new).input (M.report m.old) k m.old m.new result }
 {
     match read_input(alloc, m) {

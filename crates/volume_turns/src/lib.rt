@@ -3,6 +3,7 @@
 #![tactic(auto)]
 
 mod answer;
+mod calls;
 mod commands;
 mod generate;
 mod input;
@@ -10,6 +11,7 @@ mod line;
 mod listing;
 mod once;
 mod script;
+mod session;
 mod taking;
 mod tally;
 mod turns;

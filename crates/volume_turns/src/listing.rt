@@ -8,6 +8,7 @@ ghost use Rattle.volume_contract.specs.Ends.{Looks, device_of};
 ghost use Rattle.volume_contract.specs.Order.{Follows, IsLookUp, next_steps};
 ghost use Rattle.volume_contract.specs.State.{Known, Stands, volume_of};
 ghost use Rattle.volume_turns.specs.Answering.{Answers};
+ghost use Rattle.scrub.specs.Scrub.{KeepsOpen};
 ghost use Rattle.scrub.specs.Telling.{AreOfPage};
 ghost use Rattle.scrub.specs.Walk.{IsFromOutside};
 ghost use Rattle.volume_turns.specs.Listing.{fitting};
@@ -99,6 +100,7 @@ pub(crate) fn list<M: Machine, V: Files<M>>(
     requires room { (V.state v.old).layout.sectors ≤ (M.report m.old).sectors }
     requires up { (V.state v.old).down ≡ None }
     ensures layout { (V.state v.new).layout ≡ (V.state v.old).layout }
+    ensures open { KeepsOpen (V.state v.old) (V.state v.new) }
     ensures up { OnOk result ((V.state v.new).down ≡ None) }
     ensures disk { WritesDisk M.Machine (device_by result) (Stays V.state V.holds v.old) m.old m.new }
     ensures fault { IfErr result IsOfCall }

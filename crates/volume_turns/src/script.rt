@@ -10,18 +10,20 @@ ghost use Rattle.fsd_runs.specs.declared.request.Request.TheVariants.{Script};
 ghost use Rattle.volume_contract.specs.Mount.{IsSoundAt};
 ghost use Rattle.scrub.specs.Telling.{AreOfPage};
 ghost use Rattle.volume_turns.specs.Whole.{RunsOut};
-ghost use Rattle.fsd_files.specs.Answers.{Met};
-ghost use Rattle.fsd_files.specs.Volume.{Volume};
-ghost use Rattle.fsd_texts.specs.declared.command.Command.{Command as Word};
+ghost use Rattle.fsd_files.specs.Desk.{Session};
+ghost use Rattle.fsd_texts.specs.declared.script_command.ScriptCommand.{ScriptCommand as Word};
 ghost use Rattle.fsd_texts.specs.Script.{max_input, script_in};
-ghost use Rattle.fsd_runs.specs.Commands.{answer, reply_text};
+ghost use Rattle.fsd_runs.specs.Commands.{reply_text};
 ghost use Rattle.fsd_runs.specs.Errands.{forced_turn, is_forced};
-ghost use Rattle.volume_contract.specs.State.{Known, Stands};
+ghost use Rattle.fsd_runs.specs.Sessions.{Meeting, answer_in};
+ghost use Rattle.client_desk.specs.Clients.{IsDesk, no_desk};
+ghost use Rattle.volume_contract.specs.State.{Known, Stands, none_open};
 ghost use Rattle.volume_turns.specs.Causes.{FailsInput, SaysFault, SaysOfCall, SaysOfInput, TellsImage, is_of_fault};
 ghost use Rattle.volume_turns.specs.Each.{SaysBadLine, SaysBetween, SaysForced};
 ghost use Rattle.volume_turns.specs.Last.{EndsSo, ending_line, ending_status};
 ghost use Rattle.volume_turns.specs.Numbers.{GoesUp, MayWear};
 ghost use Rattle.volume_turns.specs.Once.{ClosesAndSays, unit_of};
+ghost use Rattle.volume_turns.specs.Seats.{Seated, SitsAt, known_of};
 ghost use Rattle.volume_turns.specs.Status.{CountsTaking, IsScriptStatus};
 ghost use Rattle.fsd_texts.specs.declared.end.End.{End as EndOf};
 ghost use Rattle.fsd_texts.specs.declared.end.End.TheVariants.{Done};
@@ -35,6 +37,7 @@ use crate::generate::close_forced;
 use crate::line::{end_with, fault_status, last_line};
 use crate::once::fault_of;
 use crate::turns::{End, Says, is_worn_end, step};
+use client_desk::Desk;
 use fsd_texts::{End as ScriptEnd, Fault, Line};
 use script_text::{Reader, ScriptFault};
 use sector_disk::Machine;
@@ -56,14 +59,17 @@ pub(crate) enum Stop {
 fn read_on<M: Machine, V: Files<M>, T: Says>(
     alloc: Global,
     v: &mut V,
+    desk: &mut Desk,
     m: &mut M,
     reader: &mut Reader,
 ) -> Result<Option<Stop>, End>
     requires room { (V.state v.old).layout.sectors ≤ (M.report m.old).sectors }
     requires up { (V.state v.old).down ≡ None }
-    requires lazily { (met : Met) (x : Volume) (w : Word) → IsTrue (T.errand.forces (answer met x w).0) → (answer met x w).1.unforced ≡ 0 }
+    requires desk { IsDesk (V.state v.old) desk.old }
+    requires lazily { (x : Meeting) (s : Session) (w : Word) → IsTrue (T.errand.forces (answer_in x s w).0) → (answer_in x s w).1.volume.unforced ≡ 0 }
     ensures layout { (V.state v.new).layout ≡ (V.state v.old).layout }
     ensures up { OnOk result ((V.state v.new).down ≡ None) }
+    ensures desk { IsDesk (V.state v.new) desk.new }
     ensures heard { Heard (M.report m.old) (M.report m.new) result }
     ensures attaches { M.tells m.new → (M.ledger m.new).attaches ≡ (M.ledger m.old).attaches }
     ensures fault { IfErr result IsEndOfVolume }
@@ -79,10 +85,10 @@ fn read_on<M: Machine, V: Files<M>, T: Says>(
     ensures on { IfOk result (GoesOn reader.old reader.new) }
     ensures few { reader.new.end ≡ None → reader.new.taken ≤ max_input }
     ensures whole { result ≡ Ok (Some (Ended Done)) → reader.old.end ≡ None → M.tells m.new → (M.ledger m.new).input ≡ [] }
-    ensures reads { M.tells m.new → Reads V.state V.holds M.Machine T.errand reader.old reader.new v.old m.old v.new m.new result }
+    ensures reads { M.tells m.new → Reads V.state V.holds M.Machine T.errand reader.old reader.new (v.old, desk.old) m.old (v.new, desk.new) m.new result }
 {
     match reader.next_command(alloc, m) {
-        Ok(Some(c)) => match step::<M, V, T>(alloc, v, m, &c) {
+        Ok(Some(c)) => match step::<M, V, T>(alloc, v, desk, m, &c) {
             Ok(()) => Ok(None),
             Err(end) => Err(end),
         },
@@ -98,13 +104,16 @@ fn read_on<M: Machine, V: Files<M>, T: Says>(
 fn read_all<M: Machine, V: Files<M>, T: Says>(
     alloc: Global,
     v: &mut V,
+    desk: &mut Desk,
     m: &mut M,
 ) -> Result<Stop, End>
     requires room { (V.state v.old).layout.sectors ≤ (M.report m.old).sectors }
     requires up { (V.state v.old).down ≡ None }
-    requires lazily { (met : Met) (x : Volume) (w : Word) → IsTrue (T.errand.forces (answer met x w).0) → (answer met x w).1.unforced ≡ 0 }
+    requires desk { IsDesk (V.state v.old) desk.old }
+    requires lazily { (x : Meeting) (s : Session) (w : Word) → IsTrue (T.errand.forces (answer_in x s w).0) → (answer_in x s w).1.volume.unforced ≡ 0 }
     ensures layout { (V.state v.new).layout ≡ (V.state v.old).layout }
     ensures up { OnOk result ((V.state v.new).down ≡ None) }
+    ensures desk { IsDesk (V.state v.new) desk.new }
     ensures heard { Heard (M.report m.old) (M.report m.new) result }
     ensures attaches { M.tells m.new → (M.ledger m.new).attaches ≡ (M.ledger m.old).attaches }
     ensures fault { IfErr result IsEndOfVolume }
@@ -118,11 +127,11 @@ fn read_all<M: Machine, V: Files<M>, T: Says>(
     ensures whole_replies { M.honest m.new → SaysWhole T.errand.says (M.now m.old) (M.now m.new) result }
     ensures replies { (end : EndOf) → result ≡ Ok (Ended end) → SaysBetween M.Machine T.errand.says (script_in (M.ledger m.old).input).0 m.old m.new }
     ensures whole { result ≡ Ok (Ended Done) → M.tells m.new → (M.ledger m.new).input ≡ [] }
-    ensures reads { M.tells m.new → WholeRead V.state V.holds M.Machine T.errand v.old m.old v.new m.new result }
+    ensures reads { M.tells m.new → WholeRead V.state V.holds M.Machine T.errand (v.old, desk.old) m.old (v.new, desk.new) m.new result }
 {
     let mut reader = Reader::new(alloc);
     loop {
-        match read_on::<M, V, T>(alloc, v, m, &mut reader) {
+        match read_on::<M, V, T>(alloc, v, desk, m, &mut reader) {
             Ok(None) => {}
             Ok(Some(stop)) => return Ok(stop),
             Err(end) => return Err(end),
@@ -138,7 +147,8 @@ fn group_read<M: Machine, V: Files<M> + Drop, T: Says>(
 ) -> Result<Stop, End>
     requires room { (V.state v).layout.sectors ≤ (M.report m.old).sectors }
     requires up { (V.state v).down ≡ None }
-    requires lazily { (met : Met) (x : Volume) (w : Word) → IsTrue (T.errand.forces (answer met x w).0) → (answer met x w).1.unforced ≡ 0 }
+    requires idle { IsDesk (V.state v) no_desk }
+    requires lazily { (x : Meeting) (s : Session) (w : Word) → IsTrue (T.errand.forces (answer_in x s w).0) → (answer_in x s w).1.volume.unforced ≡ 0 }
     ensures heard { Heard (M.report m.old) (M.report m.new) result }
     ensures attaches { M.tells m.new → (M.ledger m.new).attaches ≡ (M.ledger m.old).attaches }
     ensures fault { IfErr result IsEndOfVolume }
@@ -155,24 +165,28 @@ fn group_read<M: Machine, V: Files<M> + Drop, T: Says>(
     ensures since { M.honest m.new → Since M.Machine m.old m.new }
     ensures later { M.honest m.new → M.moment m.old ≤ M.moment m.new }
     ensures broken { M.honest m.new → BreaksWhole T.errand.says (M.now m.old) (M.now m.new) result }
-    ensures group { M.honest m.new → (k : Known) → Stands V.state V.holds v k (M.now m.old) → GroupsBy M.Machine T.errand k (M.ledger m.old).input (M.ledger m.new).input m.old m.new result }
+    ensures group { M.honest m.new → (k : Known) → k.opened ≡ none_open → Stands V.state V.holds v k (M.now m.old) → GroupsBy M.Machine T.errand k (M.ledger m.old).input (M.ledger m.new).input m.old m.new result }
 {
     let mut v = v;
-    match read_all::<M, V, T>(alloc, &mut v, m) {
-        Ok(stop) => force_read(v, m, stop),
+    let mut desk = Desk::new();
+    match read_all::<M, V, T>(alloc, &mut v, &mut desk, m) {
+        Ok(stop) => force_read(v, desk, m, stop),
         Err(end) => {
             if is_worn_end(&end) {
-                force_read(v, m, Stop::WornOut)
+                force_read(v, desk, m, Stop::WornOut)
             } else {
+                desk.finish(&mut v);
                 Err(end)
             }
         }
     }
 }
 
-// Ends the use of a volume, says that all is forced, and passes on what the commands have come to.
-fn force_read<M: Machine, V: Files<M>>(v: V, m: &mut M, stop: Stop) -> Result<Stop, End>
+// What clients have open is dropped, or done; then it ends the use of the volume, says that all is forced, and passes on
+// what the commands have come to.
+fn force_read<M: Machine, V: Files<M>>(v: V, desk: Desk, m: &mut M, stop: Stop) -> Result<Stop, End>
     requires room { (V.state v).layout.sectors ≤ (M.report m.old).sectors }
+    requires desk { IsDesk (V.state v) desk }
     ensures told { Told (M.report m.old) (M.report m.new) result }
     ensures ledger { M.tells m.new → OnlyWrites (M.ledger m.old) (M.ledger m.new) }
     ensures fault { IfErr result IsEndOfVolume }
@@ -185,8 +199,10 @@ fn force_read<M: Machine, V: Files<M>>(v: V, m: &mut M, stop: Stop) -> Result<St
     ensures same { IfOk result (λ x. x ≡ stop) }
     ensures wants { (V.state v).down ≡ None → IfErr result WantsNone }
     ensures quiet { M.honest m.new → KeepsSaid (M.now m.old) (M.now m.new) result }
-    ensures closes { M.honest m.new → (k : Known) → Stands V.state V.holds v k (M.now m.old) → ClosesAndSays M.Machine k forced_turn.said m.old m.new (unit_of result) }
+    ensures closes { M.honest m.new → (k : Seated) → SitsAt V.state V.holds (v, desk) k (M.now m.old) → ClosesAndSays M.Machine (known_of k) forced_turn.said m.old m.new (unit_of result) }
 {
+    let mut v = v;
+    desk.finish(&mut v);
     match close_forced(v, m) {
         Ok(()) => Ok(stop),
         Err(end) => Err(end),
@@ -239,7 +255,8 @@ fn say_last<M: Machine>(m: &mut M, ended: Result<Stop, End>) -> u8
 fn script_on<M: Machine, V: Files<M> + Drop, T: Says>(alloc: Global, v: V, m: &mut M) -> u8
     requires room { (V.state v).layout.sectors ≤ (M.report m.old).sectors }
     requires up { (V.state v).down ≡ None }
-    requires lazily { (met : Met) (x : Volume) (w : Word) → IsTrue (T.errand.forces (answer met x w).0) → (answer met x w).1.unforced ≡ 0 }
+    requires idle { IsDesk (V.state v) no_desk }
+    requires lazily { (x : Meeting) (s : Session) (w : Word) → IsTrue (T.errand.forces (answer_in x s w).0) → (answer_in x s w).1.volume.unforced ≡ 0 }
     requires says { T.errand.says ≡ reply_text }
     requires forces { T.errand.forces ≡ is_forced }
     ensures attaches { M.tells m.new → (M.ledger m.new).attaches ≡ (M.ledger m.old).attaches }
@@ -257,7 +274,7 @@ fn script_on<M: Machine, V: Files<M> + Drop, T: Says>(alloc: Global, v: V, m: &m
     ensures spent { result ≡ 9 → M.honest m.new → MayWear (max_input + 1) (V.state v) }
     ensures all { result ≡ 0 → M.honest m.new → (t : ℕ) → t ≤ M.moment m.old →
         SaysForced reply_text (M.left_since m.new t) (script_in (M.ledger m.old).input).0 (M.now m.old).said (M.now m.new).said }
-    ensures runs { M.honest m.new → (k : Known) → Stands V.state V.holds v k (M.now m.old) → RunsOut M.Machine Script (M.ledger m.old).input (M.ledger m.new).input (M.report m.old) k m.old m.new result }
+    ensures runs { M.honest m.new → (k : Known) → k.opened ≡ none_open → Stands V.state V.holds v k (M.now m.old) → RunsOut M.Machine Script (M.ledger m.old).input (M.ledger m.new).input (M.report m.old) k m.old m.new result }
 {
     let ended = group_read::<M, V, T>(alloc, v, m);
     say_last(m, ended)
@@ -271,7 +288,7 @@ pub fn run_script<M: Machine, V: Files<M> + Drop, T: Says>(
     sectors: u32,
 ) -> u8
     requires sectors { sectors ≡ (M.report m.old).sectors }
-    requires lazily { (met : Met) (x : Volume) (w : Word) → IsTrue (T.errand.forces (answer met x w).0) → (answer met x w).1.unforced ≡ 0 }
+    requires lazily { (x : Meeting) (s : Session) (w : Word) → IsTrue (T.errand.forces (answer_in x s w).0) → (answer_in x s w).1.volume.unforced ≡ 0 }
     requires says { T.errand.says ≡ reply_text }
     requires forces { T.errand.forces ≡ is_forced }
     ensures attaches { M.tells m.new → (M.ledger m.new).attaches ≡ (M.ledger m.old).attaches }

@@ -2,7 +2,8 @@
 ghost use Rattle.std.specs.Prelude.{◌≡◌, ◌<◌, ◌≤◌, ◌^◌, ◌-◌, IfErr, IfOk};
 ghost use Rattle.fsd_texts.specs.declared.fault.Fault.TheVariants as Ends;
 ghost use Rattle.fsd_texts.specs.declared.line.Line.TheVariants as Says;
-ghost use Rattle.fsd_runs.specs.Errands.{answered_so, bytes_moved, bytes_read, is_deleted, is_kept, is_made, is_read, is_refused};
+ghost use Rattle.fsd_texts.specs.declared.script_command.ScriptCommand.TheVariants.{Plain};
+ghost use Rattle.fsd_runs.specs.Errands.{bytes_moved, bytes_read, is_deleted, is_kept, is_made, is_read, is_refused};
 ghost use Rattle.volume_turns.specs.Steps.{reply_of};
 ghost use Rattle.volume_turns.specs.Tally.{counted, nothing};
 
@@ -47,7 +48,7 @@ impl Tally {
     /// Counts one more. Where the bytes are 2^64 or more there is no memory for their sum.
     pub(crate) fn count(&self, c: &Command, answer: &Answer) -> Result<Tally, Fault>
         requires { self.now.count < 2 ^ 32 - 1 }
-        ensures ok { IfOk result (λ t. t ≡ counted self.now (answered_so c.now (reply_of answer.now))) }
+        ensures ok { IfOk result (λ t. t ≡ counted self.now (Plain c.now) (reply_of answer.now)) }
         ensures err { IfErr result (λ fault. fault ≡ Ends.Memory) }
     {
         let so_far = self.counts;

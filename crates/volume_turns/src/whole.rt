@@ -13,7 +13,7 @@ ghost use Rattle.volume_turns.specs.Answering.{EndsOne, RunsOne};
 ghost use Rattle.volume_turns.specs.Causes.{SaysFault, SaysOfCall, TellsImage, is_of_fault};
 ghost use Rattle.volume_turns.specs.Status.{CountsRun, IsOneStatus};
 ghost use Rattle.volume_turns.specs.Steps.{MayLose};
-ghost use Rattle.volume_contract.specs.State.{Known, Stands, is_worn, volume_of};
+ghost use Rattle.volume_contract.specs.State.{Known, Stands, is_worn, none_open, volume_of};
 ghost use Rattle.volume_turns.specs.Whole.{RunsOut};
 
 use crate::line::end_with;
@@ -44,7 +44,7 @@ pub(crate) fn one_on<M: Machine, V: Files<M> + Drop, T: Says>(
     ensures unspent { result ≡ 9 → M.honest m.new → ⊥ }
     ensures last { IsTrue (is_of_fault result) → M.honest m.new → SaysFault (M.report m.new).fault_place (M.now m.new) result }
     ensures one { M.honest m.new → (V.state v).dirty ≡ [] → EndsOne c.now (V.state v) (M.now m.old) (M.now m.new) result }
-    ensures runs { M.honest m.new → (rest : List ℕ) (k : Known) → (volume_of k).unforced ≡ 0 → Stands V.state V.holds v k (M.now m.old) → RunsOut M.Machine (One c.now) [] rest (M.report m.old) k m.old m.new result }
+    ensures runs { M.honest m.new → (rest : List ℕ) (k : Known) → (volume_of k).unforced ≡ 0 → k.opened ≡ none_open → Stands V.state V.holds v k (M.now m.old) → RunsOut M.Machine (One c.now) [] rest (M.report m.old) k m.old m.new result }
 {
     match alone::<M, V, T>(alloc, v, m, c) {
         Ok(status) => status,

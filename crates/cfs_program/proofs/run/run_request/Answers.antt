@@ -7,6 +7,7 @@ use Rattle.volume_turns.proofs.QuietLaws.{quiet_unfailed}
 use Rattle.volume_turns.proofs.StatusLaws.{one_not_five}
 use Rattle.cfs_program.proofs.AmongLaws.{command_complete, command_status, made_complete_is, made_not_five, made_status, put_complete_is, put_status, script_complete_is, script_low, script_status}
 use Rattle.cfs_program.proofs.CountsLaws.{input_alone}
+use Rattle.cfs_program.proofs.DrillLaws.{ran_drill}
 use Rattle.cfs_program.proofs.ProgramLaws.{ran_format, ran_line}
 use Rattle.cfs_program.proofs.run.run_request.Goals as goal
 
@@ -177,3 +178,7 @@ returns-in-Generate g c =
       leaves = λ h l windows changes f sound. e.leaves h (M.ledger b).input l windows changes f sound;
       accepted = λ h l windows changes f sound. never_refused (Generate c.in-Generate.seed c.in-Generate.count) [] (M.ledger b).input l windows changes f (M.left_since b) (M.moment a) (λ P. LeavesOnly M.moment M.left_since a b P) (M.report a) (M.report b) (M.now a) (M.now b) result (e.leaves h (M.ledger b).input l windows changes f sound);
     })
+
+pub returns-in-Drill : goal.returns-in-Drill
+returns-in-Drill g c =
+    rw c.in-Drill.is (ran_drill g.M.Machine c.args.path.now c.args.m.now c.run_drill.new.m c.run_drill.result c.run_drill.ensures)

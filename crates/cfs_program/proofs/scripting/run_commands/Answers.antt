@@ -5,7 +5,7 @@ use Rattle.fsd_texts.specs.Script.{script_in}
 use Rattle.fsd_runs.specs.declared.request.Request.TheVariants.{Script}
 use Rattle.fsd_runs.specs.Commands.{reply_text}
 use Rattle.fsd_runs.specs.Leaves.{LeavesRun}
-use Rattle.fsd_runs.proofs.AnswerLaws.{forces_all}
+use Rattle.fsd_runs.proofs.SessionLaws.{all_forced}
 use Rattle.volume_turns.specs.Each.{SaysBadLine, SaysForced}
 use Rattle.volume_turns.proofs.StatusLaws.{not_as}
 use Rattle.scrub.specs.Telling.{AreOfPage}
@@ -14,7 +14,7 @@ use Rattle.cfs_program.proofs.EndedLaws.{failed_status}
 use Rattle.cfs_program.proofs.scripting.run_commands.Goals as goal
 
 pub run_script-requires-clause-lazily : goal.run_script-requires-clause-lazily
-run_script-requires-clause-lazily g c = λ met v command is. forces_all met v command is
+run_script-requires-clause-lazily g c = λ x s command is. all_forced x s command is
 
 pub returns-in-Ok : goal.returns-in-Ok
 returns-in-Ok g c =

@@ -1,4 +1,5 @@
-use Rattle.fsd_runs.proofs.AnswerLaws.{command_follows, run_follows}
+use Rattle.fsd_runs.proofs.RunLaws.{run_follows}
+use Rattle.fsd_runs.proofs.SessionLaws.{command_follows}
 use Rattle.fsd_runs.proofs.laws.replies_tell_the_changes.Goals as goal
 
 pub returns-clause-command : goal.returns-clause-command

@@ -24,6 +24,7 @@ returns-clause-done g c h k stands =
       record {
         met = record { forces = false; reached = 0; damaged = None; found = []; healed = 0 };
         is = ap (λ (r : Reply). (r, volume_of k)) (counts_are (g.V.Files.state c.args.v.now) k.mounted stands.fits said.free said.waiting said.pages_free said.versions e.free e.waiting e.pages_free e.versions);
+        opened = refl;
         windows = refl;
         changes = sym (append-nil k.changes);
         find = tt;

@@ -58,6 +58,7 @@ returns-in-Ok-clause-done g c h k stands =
       record {
         met = record { forces = false; reached = 0; damaged = None; found = found; healed = c.in-Ok.healed.sectors };
         is = ap (λ (v : Volume). (Reply.Scrubbed found c.in-Ok.healed.sectors, v)) (sym e.forces.volume);
+        opened = e.forces.opened;
         windows = e.forces.windows;
         changes = e.forces.changes ∙ sym (append-nil k.changes);
         find = e.finds;

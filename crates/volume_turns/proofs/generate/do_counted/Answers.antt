@@ -1,9 +1,13 @@
 use Rattle.std.proofs.Common.{◌≡◌, ◌∙◌, ap, subst, sym}
-use Rattle.std.specs.Prelude.{Err}
+use Rattle.std.specs.Prelude.{Ok, Err}
 use Rattle.fsd_texts.specs.declared.fault.Fault.TheVariants as Ends
 use Rattle.sector_disk.specs.Image.{AreShort, Windows}
 use Rattle.fsd_texts.specs.declared.fault.Fault.{Fault}
 use Rattle.volume_turns.specs.Steps.{IsOfCall, IsToldOn, MayLose, reply_of}
+use Rattle.sector_disk.proofs.CallLaws.{writes_more}
+use Rattle.client_desk.specs.Clients.{no_desk}
+use Rattle.volume_turns.specs.Seats.{known_of}
+use Rattle.volume_turns.proofs.SeatLaws.{desk_holds, desk_on, plain_does, seat_wears, stays_in}
 use Rattle.volume_turns.proofs.NumberLaws.{worn_may}
 use Rattle.volume_turns.proofs.CountLaws.{counted_fault, counted_none, counted_step}
 use Rattle.volume_turns.proofs.generate.do_counted.Goals as goal
@@ -14,11 +18,12 @@ returns-in-Ok-count-clause-steps g c h k from stood aged =
     let M = g.M.Machine in
     let a = c.args.m.now in
     let v = c.args.v.now in
-    let disk = c.in-Ok.ensures.disk in
+    let disk = writes_more c.in-Ok.ensures.disk (λ x left stays. stays_in V.state V.holds (v, no_desk) (M.now a) left stays) in
     let first = disk.trust.honest h in
     let short = λ (m : g.row.M.Denot) (x : M.honest m). g.met.M.Machine.short m x in
-    let at = g.met.V.Files.wears v k from (M.now a) (subst (λ (w : Windows). AreShort w) aged.windows (short a first)) aged stood in
-    let does = c.in-Ok.ensures.done h k at in
+    let at = seat_wears V.state V.holds g.met.V.Files.wears (v, no_desk) k from (M.now a) (subst (λ (w : Windows). AreShort w) aged.windows (short a first)) aged stood in
+    let w = c.answer.new.v in
+    let does = plain_does V.state V.holds c.args.c.now v w no_desk k (M.now a) (M.now c.answer.new.m) at (desk_holds V.state V.holds v w no_desk k (M.now a) (M.now c.answer.new.m) at (desk_on (V.state v) (V.state c.answer.new.v) no_desk c.answer.ensures.layout c.answer.ensures.open c.requires.idle)) (Ok c.in-Ok.answer) (c.in-Ok.ensures.done h (known_of k) at.stands) in
     counted_step V.state V.holds M g.met.V.Files.wears short g.met.M.Machine.counts_now c.args.c.now v c.answer.new.v a c.answer.new.m k from stood aged at _ disk c.in-Ok.ensures.layout h (λ left was. g.met.M.Machine.only_now c.answer.new.m left h was)
     does.0 (reply_of c.in-Ok.answer) does.1 does.2 c.args.tally.now c.in-Ok-count.tally c.in-Ok-count.ensures.ok
 
@@ -28,11 +33,12 @@ returns-in-Ok-clause-steps g c h k from stood aged =
     let M = g.M.Machine in
     let a = c.args.m.now in
     let v = c.args.v.now in
-    let disk = c.in-Ok.ensures.disk in
+    let disk = writes_more c.in-Ok.ensures.disk (λ x left stays. stays_in V.state V.holds (v, no_desk) (M.now a) left stays) in
     let first = disk.trust.honest h in
     let short = λ (m : g.row.M.Denot) (x : M.honest m). g.met.M.Machine.short m x in
-    let at = g.met.V.Files.wears v k from (M.now a) (subst (λ (w : Windows). AreShort w) aged.windows (short a first)) aged stood in
-    let does = c.in-Ok.ensures.done h k at in
+    let at = seat_wears V.state V.holds g.met.V.Files.wears (v, no_desk) k from (M.now a) (subst (λ (w : Windows). AreShort w) aged.windows (short a first)) aged stood in
+    let w = c.answer.new.v in
+    let does = plain_does V.state V.holds c.args.c.now v w no_desk k (M.now a) (M.now c.answer.new.m) at (desk_holds V.state V.holds v w no_desk k (M.now a) (M.now c.answer.new.m) at (desk_on (V.state v) (V.state c.answer.new.v) no_desk c.answer.ensures.layout c.answer.ensures.open c.requires.idle)) (Ok c.in-Ok.answer) (c.in-Ok.ensures.done h (known_of k) at.stands) in
     counted_none V.state V.holds M g.met.V.Files.wears short g.met.M.Machine.counts_now c.args.c.now v c.answer.new.v a c.answer.new.m k from stood aged at _ disk c.in-Ok.ensures.layout h (λ left was. g.met.M.Machine.only_now c.answer.new.m left h was)
     does.0 (reply_of c.in-Ok.answer) does.1 does.2 c.in-Err-count.fault c.in-Err-count.ensures.err
 
@@ -42,11 +48,11 @@ returns-clause-steps g c h k from stood aged =
     let M = g.M.Machine in
     let a = c.args.m.now in
     let v = c.args.v.now in
-    let disk = c.in-Err.ensures.disk in
+    let disk = writes_more c.in-Err.ensures.disk (λ x left stays. stays_in V.state V.holds (v, no_desk) (M.now a) left stays) in
     let first = disk.trust.honest h in
     let short = λ (m : g.row.M.Denot) (x : M.honest m). g.met.M.Machine.short m x in
-    let at = g.met.V.Files.wears v k from (M.now a) (subst (λ (w : Windows). AreShort w) aged.windows (short a first)) aged stood in
-    counted_fault V.state V.holds M g.met.V.Files.wears short g.met.M.Machine.counts_now c.args.c.now v c.answer.new.v a c.answer.new.m k from stood aged at _ disk c.in-Err.ensures.layout h c.in-Err.fault (c.in-Err.ensures.done h k at)
+    let at = seat_wears V.state V.holds g.met.V.Files.wears (v, no_desk) k from (M.now a) (subst (λ (w : Windows). AreShort w) aged.windows (short a first)) aged stood in
+    counted_fault V.state V.holds M g.met.V.Files.wears short g.met.M.Machine.counts_now c.args.c.now v c.answer.new.v a c.answer.new.m k from stood aged at _ disk c.in-Err.ensures.layout h c.in-Err.fault (plain_does V.state V.holds c.args.c.now v c.answer.new.v no_desk k (M.now a) (M.now c.answer.new.m) at (desk_holds V.state V.holds v c.answer.new.v no_desk k (M.now a) (M.now c.answer.new.m) at (desk_on (V.state v) (V.state c.answer.new.v) no_desk c.answer.ensures.layout c.answer.ensures.open c.requires.idle)) (Err c.in-Err.fault) (c.in-Err.ensures.done h (known_of k) at.stands))
 
 pub returns-in-Ok-clause-fault : goal.returns-in-Ok-clause-fault
 returns-in-Ok-clause-fault g c = subst IsOfCall (sym c.in-Err-count.ensures.err) tt
@@ -94,3 +100,14 @@ pub returns-clause-used : goal.returns-clause-used
 returns-clause-used g c is h =
     let e : c.in-Err.fault ≡ Ends.WornOut = cc is in
     worn_may (g.V.Files.state c.args.v.now) ((c.in-Err.ensures.answers h).worn (ap (λ (w : Fault). Err w) e))
+
+-- ---- nobody has anything open
+
+pub returns-in-Ok-count-clause-idle : goal.returns-in-Ok-count-clause-idle
+returns-in-Ok-count-clause-idle g c = desk_on (g.V.Files.state c.args.v.now) (g.V.Files.state c.answer.new.v) no_desk c.answer.ensures.layout c.answer.ensures.open c.requires.idle
+
+pub returns-in-Ok-clause-idle : goal.returns-in-Ok-clause-idle
+returns-in-Ok-clause-idle g c = desk_on (g.V.Files.state c.args.v.now) (g.V.Files.state c.answer.new.v) no_desk c.answer.ensures.layout c.answer.ensures.open c.requires.idle
+
+pub returns-clause-idle : goal.returns-clause-idle
+returns-clause-idle g c = desk_on (g.V.Files.state c.args.v.now) (g.V.Files.state c.answer.new.v) no_desk c.answer.ensures.layout c.answer.ensures.open c.requires.idle

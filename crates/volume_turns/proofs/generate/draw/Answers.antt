@@ -1,8 +1,9 @@
 use Rattle.std.proofs.Common.{◌≡◌, refl, ap, Ok, Err, List, ◌∷◌, Option, sym, subst}
 use Rattle.sector_disk.specs.Image.{AreShort, Windows}
 use Rattle.fsd_texts.specs.declared.command.Command.{Command as Word}
+use Rattle.client_desk.specs.Clients.{no_desk}
 use Rattle.script_text.specs.Making.{MakesNext, made_left}
-use Rattle.volume_turns.specs.Generate.{silent}
+use Rattle.volume_turns.specs.Generate.{all_plain, silent}
 use Rattle.volume_turns.specs.Turns.{RunsFrom}
 use Rattle.fsd_texts.specs.declared.fault.Fault.TheVariants as Ends
 use Rattle.volume_turns.specs.declared.turns.End.TheVariants.{Fault as Stopped}
@@ -17,8 +18,8 @@ returns-in-Ok-Some-clause-draws g c h k from stood aged =
     let V = g.V.Files in
     let M = g.M.Machine in
     let made : made_left c.args.maker.now ≡ c.in-Ok-Some.c ∷ made_left c.next_command.new.self = subst (λ (o : Option Word). MakesNext (Ok o) c.args.maker.now c.next_command.new.self) c.in-Ok-Some.field-0-is c.in-Ok-Some.ensures in
-    subst (λ (cs : List Word). RunsFrom V.state V.holds M silent k from cs c.args.m.now c.do_counted.new.m c.do_counted.new.v (Err c.in-Err-do_counted.end)) (sym made)
-    (c.in-Err-do_counted.ensures.steps h k from stood aged (made_left c.next_command.new.self))
+    subst (λ (cs : List Word). RunsFrom V.state V.holds M silent k from (all_plain cs) c.args.m.now c.do_counted.new.m (c.do_counted.new.v, no_desk) (Err c.in-Err-do_counted.end)) (sym made)
+    (c.in-Err-do_counted.ensures.steps h k from stood aged (all_plain (made_left c.next_command.new.self)))
 
 pub returns-clause-draws : goal.returns-clause-draws
 returns-clause-draws g c =

@@ -7,6 +7,9 @@ use Rattle.fsd_texts.specs.Generator.{made_up}
 use Rattle.fsd_texts.specs.declared.fault.Fault.TheVariants as Ends
 use Rattle.volume_turns.specs.declared.turns.End.TheVariants.{Fault as Stopped}
 use Rattle.volume_turns.proofs.ApartLaws.{err_is, ok_apart}
+use Rattle.fsd_files.specs.Desk.{no_clients}
+use Rattle.client_desk.proofs.FinishLaws.{sits_fresh}
+use Rattle.volume_turns.specs.Seats.{known_of, seated}
 use Rattle.volume_turns.proofs.CountLaws.{counted_all, counted_broken, counted_worn, told_end, told_more, told_worn_out}
 use Rattle.volume_turns.proofs.GroupLaws.{worn_is}
 use Rattle.volume_turns.proofs.NumberLaws.{counts_none, counts_on, ended, forced_behind, other_end, passed_on}
@@ -42,8 +45,8 @@ returns-in-Ok g c =
       told = told_more (M.report a) (M.report m) (M.report b) tally result made.told done.told;
       used = λ is h. let no : None ≡ Some tally = passed_on (Some tally) None result done.same is in absurd (cc (no));
       counts = counts_on c.args.count tally made.counts result done.same;
-      group = λ h k stands. let back = done.trust.honest h in
-          counted_all V.state V.holds M k commands a m b v (done.since h) (made.later back) tally (made.runs back k now stands (record { image = worn_refl (open_damage now.windows) now.image; windows = refl })) result done.same (λ x at. done.closes h x at);
+      group = λ h k none stands. let back = done.trust.honest h in
+          counted_all V.state V.holds M k commands a m b v (done.since h) (made.later back) tally (made.runs back (seated k no_clients) now (sits_fresh V.state V.holds k c.args.v now none stands) (record { image = worn_refl (open_damage now.windows) now.image; windows = refl })) result done.same (λ x at. done.closes h (known_of x) at.stands);
     }
 
 -- the mount is worn out
@@ -76,8 +79,8 @@ returns-then-is_worn_end g c =
       told = told_more (M.report a) (M.report m) (M.report b) tt result (told_worn_out (M.report a) (M.report m) end worn made.told) done.told;
       used = λ is h. made.used (ap ended (worn_is end worn)) (done.trust.honest h);
       counts = counts_none c.args.count result done.same;
-      group = λ h k stands. let back = done.trust.honest h in
-          counted_worn V.state V.holds M k commands a m b v (done.since h) (made.later back) end worn (made.runs back k now stands (record { image = worn_refl (open_damage now.windows) now.image; windows = refl })).ran result done.same (λ x at. done.closes h x at);
+      group = λ h k none stands. let back = done.trust.honest h in
+          counted_worn V.state V.holds M k commands a m b v (done.since h) (made.later back) end worn (made.runs back (seated k no_clients) now (sits_fresh V.state V.holds k c.args.v now none stands) (record { image = worn_refl (open_damage now.windows) now.image; windows = refl })).ran result done.same (λ x at. done.closes h (known_of x) at.stands);
     }
 
 -- another fault has ended it
@@ -104,6 +107,6 @@ returns-else-is_worn_end g c =
       since = made.since;
       later = made.later;
       quiet = λ h. keeps_end now (M.now m) end (made.quiet h);
-      group = λ h k stands.
-          counted_broken g.V.Files.state g.V.Files.holds M k (made_up c.args.seed c.args.count) a m m c.make_up.new.v (λ t left le was. was) (made.later h) end unworn (made.runs h k now stands (record { image = worn_refl (open_damage now.windows) now.image; windows = refl })).ran;
+      group = λ h k none stands.
+          counted_broken g.V.Files.state g.V.Files.holds M k (made_up c.args.seed c.args.count) a m m c.make_up.new.v (λ t left le was. was) (made.later h) end unworn (made.runs h (seated k no_clients) now (sits_fresh g.V.Files.state g.V.Files.holds k c.args.v now none stands) (record { image = worn_refl (open_damage now.windows) now.image; windows = refl })).ran;
     }

@@ -26,6 +26,7 @@ loop-init g c =
     record {
       layout = refl;
       up = c.requires.up;
+      idle = c.requires.idle;
       told = told_none (M.report c.args.m.now);
       ledger = λ t. record { input = refl; attaches = refl };
       trust = record { tells = λ h. h; honest = λ h. h };
@@ -50,6 +51,9 @@ draw-requires-clause-room g c =
 pub draw-requires-clause-up : goal.draw-requires-clause-up
 draw-requires-clause-up g c = c.loop.invariant.up
 
+pub draw-requires-clause-idle : goal.draw-requires-clause-idle
+draw-requires-clause-idle g c = c.loop.invariant.idle
+
 pub draw-requires-clause-few : goal.draw-requires-clause-few
 draw-requires-clause-few g c =
     let counts = c.loop.invariant.counts in
@@ -69,6 +73,7 @@ loop-preserved g c =
     record {
       layout = c.draw.ensures.layout ∙ was.layout;
       up = c.in-Ok-Some.ensures.up;
+      idle = c.draw.ensures.idle;
       told = told_all (M.report c.args.m.now) (M.report c.draw.new.m) c.in-Ok-Some.field-0 tt (told_more (M.report c.args.m.now) (M.report c.loop.m) (M.report c.draw.new.m) tt (Ok c.in-Ok-Some.field-0) was.told c.in-Ok-Some.ensures.told);
       ledger = λ t. only_writes_then (M.ledger c.args.m.now) (M.ledger c.loop.m) (M.ledger c.draw.new.m) (was.ledger (c.draw.ensures.trust.tells t)) (c.draw.ensures.ledger t);
       trust = trusts_on was.trust c.draw.ensures.trust;

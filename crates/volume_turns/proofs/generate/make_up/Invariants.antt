@@ -5,6 +5,7 @@ use Rattle.sector_disk.specs.Machine.{OnlyWrites, Trusts}
 use Rattle.fsd_texts.specs.declared.counts.Counts.{Counts}
 use Rattle.fsd_texts.specs.Generator.{made_up}
 use Rattle.script_text.specs.Making.{made_left}
+use Rattle.client_desk.specs.Clients.{IsDesk, no_desk}
 use Rattle.volume_turns.specs.declared.turns.End.{End}
 use Rattle.volume_turns.specs.Generate.{RunsCounted}
 use Rattle.volume_turns.specs.Numbers.{GoesUp}
@@ -17,6 +18,7 @@ abbrev pub invariant-loop : goal.invariant-loop
 invariant-loop g l = record {
   layout : (g.V.Files.state l.v).layout ≡ (g.V.Files.state l.fn.v).layout;
   up : (g.V.Files.state l.v).down ≡ None;
+  idle : IsDesk (g.V.Files.state l.v) no_desk;
   told : Told {T = Unit {0}} (g.M.Machine.report l.fn.m) (g.M.Machine.report l.m) (Ok tt);
   ledger : g.M.Machine.tells l.m → OnlyWrites (g.M.Machine.ledger l.fn.m) (g.M.Machine.ledger l.m);
   trust : Trusts (g.M.Machine.tells l.fn.m) (g.M.Machine.tells l.m) (g.M.Machine.honest l.fn.m) (g.M.Machine.honest l.m);

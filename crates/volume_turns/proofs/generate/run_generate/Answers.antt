@@ -6,7 +6,11 @@ use Rattle.volume_turns.proofs.BehindLaws.{RefusedBy, RunsOver, over_counts, ove
 use Rattle.volume_turns.proofs.GenerateLaws.{some_turn}
 use Rattle.volume_turns.proofs.NumberLaws.{new_may}
 use Rattle.volume_turns.proofs.StatusLaws.{fault_is_made, fault_not_zero}
+use Rattle.client_desk.proofs.DeskLaws.{desk_fresh}
 use Rattle.volume_turns.proofs.generate.run_generate.Goals as goal
+
+pub generate_on-requires-clause-idle : goal.generate_on-requires-clause-idle
+generate_on-requires-clause-idle g c = let fresh = c.in-Ok.ensures.fresh in desk_fresh (g.V.Files.state c.in-Ok.v) fresh.unfinished fresh.readers
 
 pub returns-in-Ok : goal.returns-in-Ok
 returns-in-Ok g c =
@@ -24,7 +28,7 @@ returns-in-Ok g c =
       all = λ zero h. subst (λ (before : List ℕ). SaysMade c.args.count before (M.now c.generate_on.new.m)) (over_said x h) (does.all zero h);
       leaves = λ h input rest l windows changes f at.
           over_leaves x g.V.Files.holds (Generate c.args.seed c.args.count) input rest l windows changes f c.generate_on.result h does.since (λ y t. g.met.M.Machine.counts_now y t) (e.sound (does.trust.honest h) l windows changes f at)
-          (λ k none stands. does.runs h input rest k stands);
+          (λ k none idle stands. does.runs h input rest k idle stands);
     }
 
 pub returns-in-Err : goal.returns-in-Err

@@ -33,7 +33,7 @@ returns-in-Ok g c =
           (one_since _ (M.now c.args.m.now) (M.now c.mount.new.m) (M.now c.put_on.new.m) c.put_on.result (over_said x h) (does.one h e.fresh.dirty));
       leaves = λ h l windows changes f at.
           over_leaves x g.V.Files.holds (Put c.args.name c.args.keep) (M.ledger c.args.m.now).input (M.ledger c.put_on.new.m).input l windows changes f c.put_on.result h does.since (λ y t. g.met.M.Machine.counts_now y t) (e.sound (does.trust.honest h) l windows changes f at)
-          (λ k none stands. subst (λ (input : List ℕ). RunsOut M (Put c.args.name c.args.keep) input (M.ledger c.put_on.new.m).input (M.report c.mount.new.m) k c.mount.new.m c.put_on.new.m c.put_on.result) (over_input x (g.met.M.Machine.honest_tells c.put_on.new.m h)) (does.runs h k none stands));
+          (λ k none idle stands. subst (λ (input : List ℕ). RunsOut M (Put c.args.name c.args.keep) input (M.ledger c.put_on.new.m).input (M.report c.mount.new.m) k c.mount.new.m c.put_on.new.m c.put_on.result) (over_input x (g.met.M.Machine.honest_tells c.put_on.new.m h)) (does.runs h k none idle stands));
     }
 
 pub returns-in-Err : goal.returns-in-Err

@@ -41,6 +41,7 @@ returns-in-Ok-clause-done g c h k stands = (
   record {
     met = record { forces = false; reached = 0; damaged = None; found = []; healed = 0 };
     is = ap (λ (x : List Entry). (Reply.Listed x, volume_of k)) (sym (c.in-Ok.ensures.done h k stands));
+    opened = refl;
     windows = refl;
     changes = sym (append-nil k.changes);
     find = tt;

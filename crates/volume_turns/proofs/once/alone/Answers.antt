@@ -11,21 +11,21 @@ use Rattle.volume_turns.proofs.AnsweringLaws.{alone_closed, alone_ended}
 use Rattle.volume_turns.proofs.once.alone.Goals as goal
 
 pub returns-in-Ok-clause-does : goal.returns-in-Ok-clause-does
-returns-in-Ok-clause-does g c h k none stands =
+returns-in-Ok-clause-does g c h k none idle stands =
     let V = g.V.Files in
     let M = g.M.Machine in
     let back = c.close_as.ensures.trust.honest h in
     let does = c.in-Ok.ensures.done back k stands in
     let reply = reply_of c.in-Ok.answer in
-    alone_answered V.state V.holds M g.met.V.Files.wears (λ m x. g.met.M.Machine.short m x) g.met.M.Machine.counts_now c.args.c.now c.args.v c.answer.new.v c.args.m.now c.answer.new.m c.close_as.new.m k stands _ c.in-Ok.ensures.disk c.in-Ok.ensures.layout back
+    alone_answered V.state V.holds M g.met.V.Files.wears (λ m x. g.met.M.Machine.short m x) g.met.M.Machine.counts_now c.args.c.now c.args.v c.answer.new.v c.args.m.now c.answer.new.m c.close_as.new.m k idle stands _ c.in-Ok.ensures.disk c.in-Ok.ensures.layout back
     (c.close_as.ensures.since h) does.0 reply does.1 does.2 c.close_as.result c.close_as.ensures.undone c.close_as.ensures.status
     (subst (λ (says : Reply → List ℕ). ClosesAndSays M does.0 (says reply) c.answer.new.m c.close_as.new.m (unit_of c.close_as.result)) c.requires.says (c.close_as.ensures.closes h does.0 does.2))
 
 pub returns-in-Err-clause-does : goal.returns-in-Err-clause-does
-returns-in-Err-clause-does g c h k none stands =
+returns-in-Err-clause-does g c h k none idle stands =
     let V = g.V.Files in
     let M = g.M.Machine in
-    alone_fault V.state V.holds M g.met.V.Files.wears (λ m x. g.met.M.Machine.short m x) g.met.M.Machine.counts_now c.args.c.now c.args.v c.answer.new.v c.args.m.now c.answer.new.m c.answer.new.m k stands _ c.in-Err.ensures.disk c.in-Err.ensures.layout h (λ t left le was. was)
+    alone_fault V.state V.holds M g.met.V.Files.wears (λ m x. g.met.M.Machine.short m x) g.met.M.Machine.counts_now c.args.c.now c.args.v c.answer.new.v c.args.m.now c.answer.new.m c.answer.new.m k idle stands _ c.in-Err.ensures.disk c.in-Err.ensures.layout h (λ t left le was. was)
     c.requires.unworn c.in-Err.fault (c.in-Err.ensures.done h k stands)
 
 pub returns-in-Ok-clause-later : goal.returns-in-Ok-clause-later

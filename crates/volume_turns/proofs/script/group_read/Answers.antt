@@ -1,4 +1,4 @@
-use Rattle.std.proofs.Common.{Ok, refl, sym, ◌∙◌, ap, arith}
+use Rattle.std.proofs.Common.{Ok, List, refl, sym, ◌∙◌, ap, subst, arith}
 use Rattle.std.specs.Prelude.{Result}
 use Rattle.sector_disk.proofs.Holding.{trusts_on}
 use Rattle.fsd_texts.specs.declared.end.End.TheVariants.{Done}
@@ -8,6 +8,11 @@ use Rattle.volume_turns.specs.declared.script.Stop.{Stop}
 use Rattle.volume_turns.specs.declared.script.Stop.TheVariants.{Ended, WornOut}
 use Rattle.volume_turns.specs.declared.turns.End.{End}
 use Rattle.volume_turns.specs.declared.turns.End.TheVariants.{Fault as Stopped}
+use Rattle.fsd_files.specs.Desk.{no_clients}
+use Rattle.client_desk.specs.declared.client.Client.{Client}
+use Rattle.client_desk.specs.Clients.{IsDesk}
+use Rattle.client_desk.proofs.FinishLaws.{sits_fresh}
+use Rattle.volume_turns.specs.Seats.{SitsAt, seated}
 use Rattle.volume_turns.proofs.ApartLaws.{err_is, ok_apart}
 use Rattle.volume_turns.proofs.CauseLaws.{passes_on, read_ends, read_not_worn, worn_apart}
 use Rattle.volume_turns.proofs.EachLaws.{each_more, forced_by}
@@ -20,6 +25,9 @@ use Rattle.volume_turns.proofs.ScriptGroupLaws.{group_broken, group_stopped, gro
 use Rattle.volume_turns.proofs.ScriptLaws.{heard_of, heard_then, rose_forced}
 use Rattle.volume_turns.proofs.ToldLaws.{told_behind}
 use Rattle.volume_turns.proofs.script.group_read.Goals as goal
+
+pub read_all-requires-clause-desk : goal.read_all-requires-clause-desk
+read_all-requires-clause-desk g c = subst (λ (d : List Client). IsDesk (g.V.Files.state c.args.v) d) (sym c.new-desk.ensures.idle) c.requires.idle
 
 abbrev came_to : Stop → Result Stop End
 came_to stop = Ok stop
@@ -41,7 +49,7 @@ returns-in-Ok g c =
       fault = done.fault;
       image = told_behind (V.state c.args.v).layout (V.state c.read_all.new.v).layout read.layout (M.honest b) (M.now b).image result done.image;
       used = λ is h. let worn = passed_on stop WornOut result done.same is in
-          absurd (read_not_worn V.state V.holds M g.T.Says.errand c.args.v a c.read_all.new.v m stop (sym worn) (read.reads (done.trust.tells (g.met.M.Machine.honest_tells b h))));
+          absurd (read_not_worn V.state V.holds M g.T.Says.errand (c.args.v, c.new-desk.result) a (c.read_all.new.v, c.read_all.new.desk) m stop (sym worn) (read.reads (done.trust.tells (g.met.M.Machine.honest_tells b h))));
       unworn = done.unworn;
       says = λ end is h t le.
           let says = g.T.Says.errand.says in
@@ -53,14 +61,14 @@ returns-in-Ok g c =
           (each_more says (M.left_since m t) (M.left_since b t) (λ at was. done.since h t at (omega (arith, le, reached)) was) commands (M.now a).said (M.now m).said each) done.says h;
       rose = rose_forced (M.report a) (M.report m) (M.report b) stop result read.rose done.told.input done.same;
       memory = wanting_none (M.report a) (M.report b) result (done.wants read.up);
-      ends = λ end is t. read_ends V.state V.holds M g.T.Says.errand c.args.v a c.read_all.new.v m stop end (read.reads (done.trust.tells t)) (passes_on stop end result done.same is);
+      ends = λ end is t. read_ends V.state V.holds M g.T.Says.errand (c.args.v, c.new-desk.result) a (c.read_all.new.v, c.read_all.new.desk) m stop end (read.reads (done.trust.tells t)) (passes_on stop end result done.same is);
       whole = λ is t. (done.ledger t).input ∙ read.whole (ap came_to (passes_on stop Done result done.same is)) (done.trust.tells t);
       trust = trusts_on read.trust done.trust;
       since = since_on M a m b done.trust.honest read.since read.later done.since;
       later = later_on M a m b done.trust.honest read.later done.later;
       broken = λ h. broken_by g.T.Says.errand.says (M.now a) (M.now m) (M.now b) result (read.whole_replies (done.trust.honest h)) (done.quiet h);
-      group = λ h k stands. let back = done.trust.honest h in
-          group_stopped V.state V.holds M g.T.Says.errand k c.args.v c.read_all.new.v a m b (done.since h) (read.later back) back stands (done.ledger (g.met.M.Machine.honest_tells b h)).input done.told.input
+      group = λ h k none stands. let back = done.trust.honest h in
+          group_stopped V.state V.holds M g.T.Says.errand k (c.args.v, c.new-desk.result) (c.read_all.new.v, c.read_all.new.desk) a m b (done.since h) (read.later back) back (subst (λ (d : List Client). SitsAt V.state V.holds (c.args.v, d) (seated k no_clients) (M.now a)) (sym c.new-desk.ensures.idle) (sits_fresh V.state V.holds k c.args.v (M.now a) none stands)) (done.ledger (g.met.M.Machine.honest_tells b h)).input done.told.input
           stop result done.same read.rose (read.reads (g.met.M.Machine.honest_tells m back)) (λ x at. done.closes h x at);
     }
 
@@ -95,8 +103,8 @@ returns-then-is_worn_end g c =
       later = later_on M a m b done.trust.honest read.later done.later;
       broken = λ h. let says = g.T.Says.errand.says in
           broken_by says (M.now a) (M.now m) (M.now b) result (worn_whole says (M.now a) (M.now m) end worn (read.whole_replies (done.trust.honest h))) (done.quiet h);
-      group = λ h k stands. let back = done.trust.honest h in
-          group_worn_out V.state V.holds M g.T.Says.errand k c.args.v c.read_all.new.v a m b (done.since h) (read.later back) back stands end worn result done.same (read.reads (g.met.M.Machine.honest_tells m back)) (λ x at. done.closes h x at);
+      group = λ h k none stands. let back = done.trust.honest h in
+          group_worn_out V.state V.holds M g.T.Says.errand k (c.args.v, c.new-desk.result) (c.read_all.new.v, c.read_all.new.desk) a m b (done.since h) (read.later back) back (subst (λ (d : List Client). SitsAt V.state V.holds (c.args.v, d) (seated k no_clients) (M.now a)) (sym c.new-desk.ensures.idle) (sits_fresh V.state V.holds k c.args.v (M.now a) none stands)) end worn result done.same (read.reads (g.met.M.Machine.honest_tells m back)) (λ x at. done.closes h x at);
     }
 
 -- another fault has ended it
@@ -126,5 +134,5 @@ returns-else-is_worn_end g c =
       since = read.since;
       later = read.later;
       broken = read.whole_replies;
-      group = λ h k stands. group_broken V.state V.holds M g.T.Says.errand k c.args.v c.read_all.new.v a m m (λ t left le was. was) (read.later h) h stands end unworn (read.reads (g.met.M.Machine.honest_tells m h));
+      group = λ h k none stands. group_broken V.state V.holds M g.T.Says.errand k (c.args.v, c.new-desk.result) (c.read_all.new.v, c.read_all.new.desk) a m m (λ t left le was. was) (read.later h) h (subst (λ (d : List Client). SitsAt V.state V.holds (c.args.v, d) (seated k no_clients) (M.now a)) (sym c.new-desk.ensures.idle) (sits_fresh V.state V.holds k c.args.v (M.now a) none stands)) end unworn (read.reads (g.met.M.Machine.honest_tells m h));
     }

@@ -31,6 +31,7 @@ loop-stop-init g c =
     record {
       layout = refl;
       up = c.requires.up;
+      desk = c.requires.desk;
       heard = heard_none (M.report c.args.m.now);
       input = refl;
       attaches = λ t. refl;
@@ -40,7 +41,7 @@ loop-stop-init g c =
       few = let same = ap (λ (r : Reading). r.given) c.new-reader.ensures in omega (arith, same);
       numbers = λ h. goes_none _ (V.state c.args.v.now) (V.state c.args.v.now) refl;
       going = ap (λ (r : Reading). r.end) c.new-reader.ensures;
-      so_far = λ t. subst (λ (r : Reading). DoneSo V.state V.holds M g.T.Says.errand fresh r c.args.v.now c.args.m.now c.args.v.now c.args.m.now) (sym c.new-reader.ensures) (done_none V.state V.holds M g.T.Says.errand fresh c.args.v.now c.args.m.now);
+      so_far = λ t. subst (λ (r : Reading). DoneSo V.state V.holds M g.T.Says.errand fresh r (c.args.v.now, c.args.desk.now) c.args.m.now (c.args.v.now, c.args.desk.now) c.args.m.now) (sym c.new-reader.ensures) (done_none V.state V.holds M g.T.Says.errand fresh (c.args.v.now, c.args.desk.now) c.args.m.now);
     }
 
 pub read_on-requires-clause-room : goal.read_on-requires-clause-room
@@ -61,12 +62,12 @@ returns-in-Ok-Some g c =
     let b = c.read_on.new.m in
     let was = l.invariant in
     let does = rw c.in-Ok-Some.field-0-is at c.in-Ok-Some.ensures in
-    let so_far = λ (h : M.honest m). done_replies V.state V.holds M e fresh l.reader c.args.v.now a l.v m (was.so_far (g.met.M.Machine.honest_tells m h)) h in
-    let reads : M.tells b → WholeRead V.state V.holds M e c.args.v.now a c.read_on.new.v b (Ok c.in-Ok-Some.stop) =
+    let so_far = λ (h : M.honest m). done_replies V.state V.holds M e fresh l.reader (c.args.v.now, c.args.desk.now) a (l.v, l.desk) m (was.so_far (g.met.M.Machine.honest_tells m h)) h in
+    let reads : M.tells b → WholeRead V.state V.holds M e (c.args.v.now, c.args.desk.now) a (c.read_on.new.v, c.read_on.new.desk) b (Ok c.in-Ok-Some.stop) =
     λ t. record {
       last = c.read_on.new.reader;
       few = does.few;
-      reads = reads_then V.state V.holds M e fresh l.reader c.read_on.new.reader c.args.v.now l.v c.read_on.new.v a m b (Ok (Some c.in-Ok-Some.stop)) was.later (record { honest = does.trust.honest; since = does.since; later = does.later }) (was.so_far (does.trust.tells t)) (does.reads t);
+      reads = reads_then V.state V.holds M e fresh l.reader c.read_on.new.reader (c.args.v.now, c.args.desk.now) (l.v, l.desk) (c.read_on.new.v, c.read_on.new.desk) a m b (Ok (Some c.in-Ok-Some.stop)) was.later (record { honest = does.trust.honest; since = does.since; later = does.later }) (was.so_far (does.trust.tells t)) (does.reads t);
     } in
     record {
       layout = does.layout ∙ was.layout;
@@ -75,6 +76,7 @@ returns-in-Ok-Some g c =
       since = since_on M a m b does.trust.honest was.since was.later does.since;
       later = later_on M a m b does.trust.honest was.later does.later;
       up = does.up;
+      desk = does.desk;
       heard = heard_as (M.report a) (M.report b) (Some c.in-Ok-Some.stop) c.in-Ok-Some.stop (heard_then (M.report a) (M.report m) (M.report b) tt (Ok (Some c.in-Ok-Some.stop)) was.heard does.heard);
       fault = tt;
       image = tt;
@@ -82,7 +84,7 @@ returns-in-Ok-Some g c =
       rose = rose_then (M.report a) (M.report m) (M.report b) (Some c.in-Ok-Some.stop) was.input does.rose;
       quiet = tt;
       whole_replies = λ h. replies_then e.says (M.now a).said (M.now m).said (M.now b).said (so_far (does.trust.honest h)) (does.whole_replies h);
-      replies = λ end is h. read_says V.state V.holds M e c.read_on.new.reader c.args.v.now a c.read_on.new.v b c.in-Ok-Some.stop end (reads (g.met.M.Machine.honest_tells b h)).reads (ok_is _ c.in-Ok-Some.stop (Ended end) refl is) h;
+      replies = λ end is h. read_says V.state V.holds M e c.read_on.new.reader (c.args.v.now, c.args.desk.now) a (c.read_on.new.v, c.read_on.new.desk) b c.in-Ok-Some.stop end (reads (g.met.M.Machine.honest_tells b h)).reads (ok_is _ c.in-Ok-Some.stop (Ended end) refl is) h;
       whole = λ is t. does.whole (ap read_so (ok_is _ c.in-Ok-Some.stop (Ended Done) refl is)) was.going t;
       reads = reads;
     }
@@ -98,12 +100,12 @@ returns-in-Err g c =
     let b = c.read_on.new.m in
     let was = l.invariant in
     let does = c.in-Err.ensures in
-    let so_far = λ (h : M.honest m). done_replies V.state V.holds M e fresh l.reader c.args.v.now a l.v m (was.so_far (g.met.M.Machine.honest_tells m h)) h in
-    let reads : M.tells b → WholeRead V.state V.holds M e c.args.v.now a c.read_on.new.v b (Err c.in-Err.end) =
+    let so_far = λ (h : M.honest m). done_replies V.state V.holds M e fresh l.reader (c.args.v.now, c.args.desk.now) a (l.v, l.desk) m (was.so_far (g.met.M.Machine.honest_tells m h)) h in
+    let reads : M.tells b → WholeRead V.state V.holds M e (c.args.v.now, c.args.desk.now) a (c.read_on.new.v, c.read_on.new.desk) b (Err c.in-Err.end) =
     λ t. record {
       last = c.read_on.new.reader;
       few = does.few;
-      reads = reads_then V.state V.holds M e fresh l.reader c.read_on.new.reader c.args.v.now l.v c.read_on.new.v a m b (Err c.in-Err.end) was.later (record { honest = does.trust.honest; since = does.since; later = does.later }) (was.so_far (does.trust.tells t)) (does.reads t);
+      reads = reads_then V.state V.holds M e fresh l.reader c.read_on.new.reader (c.args.v.now, c.args.desk.now) (l.v, l.desk) (c.read_on.new.v, c.read_on.new.desk) a m b (Err c.in-Err.end) was.later (record { honest = does.trust.honest; since = does.since; later = does.later }) (was.so_far (does.trust.tells t)) (does.reads t);
     } in
     record {
       layout = does.layout ∙ was.layout;
@@ -112,6 +114,7 @@ returns-in-Err g c =
       since = since_on M a m b does.trust.honest was.since was.later does.since;
       later = later_on M a m b does.trust.honest was.later does.later;
       up = tt;
+      desk = does.desk;
       heard = heard_end (M.report a) (M.report b) c.in-Err.end (heard_then (M.report a) (M.report m) (M.report b) tt (Err c.in-Err.end) was.heard does.heard);
       fault = does.fault;
       image = λ h. subst (λ (x : Layout). IsEndOn AreOfPage x (M.now b).image c.in-Err.end) was.layout (does.image h);
@@ -146,6 +149,7 @@ loop-stop-preserved g c =
     record {
       layout = c.read_on.ensures.layout ∙ was.layout;
       up = c.in-Ok-None.ensures.up;
+      desk = c.read_on.ensures.desk;
       heard = heard_as (M.report c.args.m.now) (M.report c.read_on.new.m) c.in-Ok-None.field-0 tt (heard_then (M.report c.args.m.now) (M.report l.m) (M.report c.read_on.new.m) tt (Ok c.in-Ok-None.field-0) was.heard c.in-Ok-None.ensures.heard);
       input = subst (λ (o : Option Stop). RoseBy (M.report l.m) (M.report c.read_on.new.m) o) c.in-Ok-None.field-0-is c.in-Ok-None.ensures.rose ∙ was.input;
       attaches = λ t. c.read_on.ensures.attaches t ∙ was.attaches (c.read_on.ensures.trust.tells t);
@@ -155,6 +159,6 @@ loop-stop-preserved g c =
       few = goes.2;
       numbers = λ h. goes_then l.reader.given c.read_on.new.reader.given (V.state c.args.v.now) (V.state l.v) (V.state c.read_on.new.v) goes.0 (was.numbers (c.read_on.ensures.trust.honest h)) (c.read_on.ensures.grows h);
       going = goes.1;
-      so_far = λ t. reads_then V.state V.holds M g.T.Says.errand fresh l.reader c.read_on.new.reader c.args.v.now l.v c.read_on.new.v c.args.m.now l.m c.read_on.new.m (Ok None) was.later step (was.so_far (c.read_on.ensures.trust.tells t))
-          (subst (λ (o : Option Stop). Reads V.state V.holds M g.T.Says.errand l.reader c.read_on.new.reader l.v l.m c.read_on.new.v c.read_on.new.m (Ok o)) c.in-Ok-None.field-0-is (c.in-Ok-None.ensures.reads t));
+      so_far = λ t. reads_then V.state V.holds M g.T.Says.errand fresh l.reader c.read_on.new.reader (c.args.v.now, c.args.desk.now) (l.v, l.desk) (c.read_on.new.v, c.read_on.new.desk) c.args.m.now l.m c.read_on.new.m (Ok None) was.later step (was.so_far (c.read_on.ensures.trust.tells t))
+          (subst (λ (o : Option Stop). Reads V.state V.holds M g.T.Says.errand l.reader c.read_on.new.reader (l.v, l.desk) l.m (c.read_on.new.v, c.read_on.new.desk) c.read_on.new.m (Ok o)) c.in-Ok-None.field-0-is (c.in-Ok-None.ensures.reads t));
     }

@@ -3,6 +3,7 @@ use Rattle.sector_disk.specs.Calls.{Since}
 use Rattle.sector_disk.specs.Machine.{Trusts}
 use Rattle.fsd_texts.specs.Script.{max_input}
 use Rattle.script_text.specs.Reading.{fresh}
+use Rattle.client_desk.specs.Clients.{IsDesk}
 use Rattle.volume_turns.specs.Numbers.{GoesUp}
 use Rattle.volume_turns.specs.Script.{DoneSo, Heard}
 use Rattle.volume_turns.proofs.script.read_all.Given as goal
@@ -14,6 +15,7 @@ invariant-loop-stop g l =
     record {
       layout : (g.V.Files.state l.v).layout ≡ (g.V.Files.state l.fn.v).layout;
       up : (g.V.Files.state l.v).down ≡ None;
+      desk : IsDesk (g.V.Files.state l.v) l.desk;
       heard : Heard {T = Unit {0}} (M.report l.fn.m) (M.report l.m) (Ok tt);
       input : (M.report l.m).input_faults ≡ (M.report l.fn.m).input_faults;
       attaches : M.tells l.m → (M.ledger l.m).attaches ≡ (M.ledger l.fn.m).attaches;
@@ -23,7 +25,7 @@ invariant-loop-stop g l =
       few : l.reader.given ≤ max_input;
       numbers : M.honest l.m → GoesUp l.reader.given (g.V.Files.state l.fn.v) (g.V.Files.state l.v);
       going : l.reader.end ≡ None;
-      so_far : M.tells l.m → DoneSo g.V.Files.state g.V.Files.holds M g.T.Says.errand fresh l.reader l.fn.v l.fn.m l.v l.m;
+      so_far : M.tells l.m → DoneSo g.V.Files.state g.V.Files.holds M g.T.Says.errand fresh l.reader (l.fn.v, l.fn.desk) l.fn.m (l.v, l.desk) l.m;
     }
 
 abbrev pub decreases-loop-stop : goal.decreases-loop-stop

@@ -10,7 +10,11 @@ use Rattle.volume_turns.proofs.BehindLaws.{RefusedBy, RunsOver, over_attaches, o
 use Rattle.volume_turns.proofs.NumberLaws.{new_may}
 use Rattle.volume_turns.proofs.ScriptRunLaws.{some_forced}
 use Rattle.volume_turns.proofs.StatusLaws.{fault_is_script, fault_not_bad, fault_not_five, fault_not_zero}
+use Rattle.client_desk.proofs.DeskLaws.{desk_fresh}
 use Rattle.volume_turns.proofs.script.run_script.Goals as goal
+
+pub script_on-requires-clause-idle : goal.script_on-requires-clause-idle
+script_on-requires-clause-idle g c = let fresh = c.in-Ok.ensures.fresh in desk_fresh (g.V.Files.state c.in-Ok.v) fresh.unfinished fresh.readers
 
 pub returns-in-Ok : goal.returns-in-Ok
 returns-in-Ok g c =
@@ -39,7 +43,7 @@ returns-in-Ok g c =
           (subst (λ (input : List ℕ). SaysForced reply_text (M.left_since b t) (script_in input).0 (M.now m).said (M.now b).said) (over_input x (g.met.M.Machine.honest_tells b h)) (does.all zero h t (omega (arith, le, reached))));
       leaves = λ h l windows changes f at.
           over_leaves x g.V.Files.holds Script (M.ledger c.args.m.now).input (M.ledger b).input l windows changes f c.script_on.result h does.since (λ y t. g.met.M.Machine.counts_now y t) (e.sound (does.trust.honest h) l windows changes f at)
-          (λ k none stands. subst (λ (input : List ℕ). RunsOut M Script input (M.ledger b).input (M.report m) k m b c.script_on.result) (over_input x (g.met.M.Machine.honest_tells b h)) (does.runs h k stands));
+          (λ k none idle stands. subst (λ (input : List ℕ). RunsOut M Script input (M.ledger b).input (M.report m) k m b c.script_on.result) (over_input x (g.met.M.Machine.honest_tells b h)) (does.runs h k idle stands));
     }
 
 pub returns-in-Err : goal.returns-in-Err

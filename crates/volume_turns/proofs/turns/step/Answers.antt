@@ -1,11 +1,14 @@
-use Rattle.std.proofs.Common.{◌≡◌, ap, subst}
+use Rattle.std.proofs.Common.{◌≡◌, List, ap, subst}
 use Rattle.std.specs.Prelude.{Err}
 use Rattle.fsd_texts.specs.declared.fault.Fault.{Fault}
 use Rattle.fsd_texts.specs.declared.fault.Fault.TheVariants as Ends
 use Rattle.sector_disk.specs.Image.{AreShort, Windows}
-use Rattle.volume_turns.specs.Steps.{MayLose, reply_of}
+use Rattle.volume_turns.specs.Calls.{MayLoseIn}
+use Rattle.volume_turns.specs.Steps.{reply_of}
 use Rattle.volume_turns.specs.Turns.{SaysAll, Unsaid}
 use Rattle.volume_turns.proofs.RunLaws.{step_said, step_fault, told_fault, on_ok_said, on_err_said}
+use Rattle.client_desk.specs.declared.client.Client.{Client}
+use Rattle.volume_turns.proofs.SeatLaws.{seat_wears}
 use Rattle.volume_turns.proofs.AnsweringLaws.{says_so}
 use Rattle.volume_turns.proofs.EachLaws.{once_by}
 use Rattle.volume_turns.proofs.SaidLaws.{no_replies, whole_by}
@@ -19,30 +22,30 @@ returns-in-Ok-clause-steps g c h k from stood aged =
     let V = g.V.Files in
     let M = g.M.Machine in
     let a = c.args.m.now in
-    let v = c.args.v.now in
+    let v : g.row.V.Denot × List Client = (c.args.v.now, c.args.desk.now) in
     let back = c.say.ensures.trust.honest h in
-    let disk = c.answer.ensures.disk in
+    let disk = c.answer_in.ensures.disk in
     let first = disk.trust.honest back in
     let short = λ (m : g.row.M.Denot) (x : M.honest m). g.met.M.Machine.short m x in
-    let at = g.met.V.Files.wears v k from (M.now a) (subst (λ (w : Windows). AreShort w) aged.windows (short a first)) aged stood in
+    let at = seat_wears V.state V.holds g.met.V.Files.wears v k from (M.now a) (subst (λ (w : Windows). AreShort w) aged.windows (short a first)) aged stood in
     let does = c.in-Ok.ensures.done back k at in
-    step_said V.state V.holds M g.met.V.Files.wears short g.met.M.Machine.counts_now g.T.Says.errand c.requires.lazily c.args.c.now v c.answer.new.v a c.answer.new.m c.say.new.m k from stood aged at _ c.in-Ok.ensures.disk c.in-Ok.ensures.layout back (c.say.ensures.since h)
-    does.0 (reply_of c.in-Ok.answer) does.1 does.2 (c.say.ensures.moments h) c.say.result (on_ok_said (SaysAll (g.T.Says.errand.says (reply_of c.in-Ok.answer)) (M.now c.answer.new.m) (M.now c.say.new.m)) c.say.result h c.say.ensures.said) (on_err_said (Unsaid (M.now c.answer.new.m) (M.now c.say.new.m)) c.say.result h c.say.ensures.unsaid)
+    step_said V.state V.holds M g.met.V.Files.wears short g.met.M.Machine.counts_now g.T.Says.errand c.requires.lazily c.args.c.now v (c.answer_in.new.v, c.answer_in.new.desk) a c.answer_in.new.m c.say.new.m k from stood aged at _ c.in-Ok.ensures.disk c.in-Ok.ensures.layout back (c.say.ensures.since h)
+    does.0 (reply_of c.in-Ok.answer) does.1 does.2 (c.say.ensures.moments h) c.say.result (on_ok_said (SaysAll (g.T.Says.errand.says (reply_of c.in-Ok.answer)) (M.now c.answer_in.new.m) (M.now c.say.new.m)) c.say.result h c.say.ensures.said) (on_err_said (Unsaid (M.now c.answer_in.new.m) (M.now c.say.new.m)) c.say.result h c.say.ensures.unsaid)
 
 pub returns-in-Err-clause-told : goal.returns-in-Err-clause-told
-returns-in-Err-clause-told g c = told_fault (g.M.Machine.report c.args.m.now) (g.M.Machine.report c.answer.new.m) c.in-Err.fault c.in-Err.ensures.disk.uses c.in-Err.ensures.disk.faults
+returns-in-Err-clause-told g c = told_fault (g.M.Machine.report c.args.m.now) (g.M.Machine.report c.answer_in.new.m) c.in-Err.fault c.in-Err.ensures.disk.uses c.in-Err.ensures.disk.faults
 
 pub returns-in-Err-clause-steps : goal.returns-in-Err-clause-steps
 returns-in-Err-clause-steps g c h k from stood aged =
     let V = g.V.Files in
     let M = g.M.Machine in
     let a = c.args.m.now in
-    let v = c.args.v.now in
+    let v : g.row.V.Denot × List Client = (c.args.v.now, c.args.desk.now) in
     let disk = c.in-Err.ensures.disk in
     let first = disk.trust.honest h in
     let short = λ (m : g.row.M.Denot) (x : M.honest m). g.met.M.Machine.short m x in
-    let at = g.met.V.Files.wears v k from (M.now a) (subst (λ (w : Windows). AreShort w) aged.windows (short a first)) aged stood in
-    step_fault V.state V.holds M g.met.V.Files.wears short g.met.M.Machine.counts_now g.T.Says.errand c.requires.lazily c.args.c.now v c.answer.new.v a c.answer.new.m c.answer.new.m k from stood aged at _ disk c.in-Err.ensures.layout h (λ t left le was. was)
+    let at = seat_wears V.state V.holds g.met.V.Files.wears v k from (M.now a) (subst (λ (w : Windows). AreShort w) aged.windows (short a first)) aged stood in
+    step_fault V.state V.holds M g.met.V.Files.wears short g.met.M.Machine.counts_now g.T.Says.errand c.requires.lazily c.args.c.now v (c.answer_in.new.v, c.answer_in.new.desk) a c.answer_in.new.m c.answer_in.new.m k from stood aged at _ disk c.in-Err.ensures.layout h (λ t left le was. was)
     c.in-Err.fault (c.in-Err.ensures.done h k at)
 
 -- ---- what is said
@@ -52,18 +55,18 @@ returns-in-Ok-clause-whole_replies g c h =
     let now = g.M.Machine.now in
     let says = g.T.Says.errand.says in
     let reply = reply_of c.in-Ok.answer in
-    let m = now c.answer.new.m in
+    let m = now c.answer_in.new.m in
     let b = now c.say.new.m in
     whole_by says (now c.args.m.now) m b reply (c.in-Ok.ensures.disk.quiet (c.say.ensures.trust.honest h)) c.say.result
     (says_so (says reply) m b c.say.result (on_ok_said (SaysAll (says reply) m b) c.say.result h c.say.ensures.said) (on_err_said (Unsaid m b) c.say.result h c.say.ensures.unsaid))
 
 pub returns-in-Err-clause-whole_replies : goal.returns-in-Err-clause-whole_replies
-returns-in-Err-clause-whole_replies g c h = no_replies g.T.Says.errand.says (g.M.Machine.now c.args.m.now).said (g.M.Machine.now c.answer.new.m).said (c.in-Err.ensures.disk.quiet h)
+returns-in-Err-clause-whole_replies g c h = no_replies g.T.Says.errand.says (g.M.Machine.now c.args.m.now).said (g.M.Machine.now c.answer_in.new.m).said (c.in-Err.ensures.disk.quiet h)
 
 pub returns-in-Ok-clause-once : goal.returns-in-Ok-clause-once
 returns-in-Ok-clause-once g c =
     let M = g.M.Machine in
-    let m = c.answer.new.m in
+    let m = c.answer_in.new.m in
     let b = c.say.new.m in
     once_by g.T.Says.errand.says c.args.c.now (reply_of c.in-Ok.answer) (M.honest b) (M.honest m) (M.now c.args.m.now) (M.now m) (M.now b) c.say.ensures.trust.honest c.in-Ok.ensures.disk.quiet (λ h. (c.in-Ok.ensures.answers h).replies) c.say.result c.say.ensures.said
 
@@ -73,7 +76,7 @@ pub returns-in-Ok-clause-image : goal.returns-in-Ok-clause-image
 returns-in-Ok-clause-image g c =
     let M = g.M.Machine in
     let b = c.say.new.m in
-    unsaid_on (MayLose c.args.c.now) (g.V.Files.state c.args.v.now).layout (M.now b).image (M.honest b) (M.now c.answer.new.m) (M.now b) c.say.result c.say.ensures.unsaid
+    unsaid_on (MayLoseIn c.args.c.now) (g.V.Files.state c.args.v.now).layout (M.now b).image (M.honest b) (M.now c.answer_in.new.m) (M.now b) c.say.result c.say.ensures.unsaid
 
 pub returns-in-Err-clause-image : goal.returns-in-Err-clause-image
 returns-in-Err-clause-image g c h = (c.in-Err.ensures.answers h).told
@@ -81,14 +84,14 @@ returns-in-Err-clause-image g c h = (c.in-Err.ensures.answers h).told
 -- ---- the numbers of a mount
 
 pub returns-in-Ok-clause-grows : goal.returns-in-Ok-clause-grows
-returns-in-Ok-clause-grows g c h = (c.answer.ensures.answers (c.say.ensures.trust.honest h)).numbers
+returns-in-Ok-clause-grows g c h = (c.answer_in.ensures.answers (c.say.ensures.trust.honest h)).numbers
 
 pub returns-in-Err-clause-grows : goal.returns-in-Err-clause-grows
-returns-in-Err-clause-grows g c h = (c.answer.ensures.answers h).numbers
+returns-in-Err-clause-grows g c h = (c.answer_in.ensures.answers h).numbers
 
 pub returns-in-Ok-clause-used : goal.returns-in-Ok-clause-used
 returns-in-Ok-clause-used g c is h =
-    let m = g.M.Machine.now c.answer.new.m in
+    let m = g.M.Machine.now c.answer_in.new.m in
     let b = g.M.Machine.now c.say.new.m in
     absurd (unsaid_unworn m b c.say.result (on_err_said (Unsaid m b) c.say.result h c.say.ensures.unsaid) is)
 

@@ -22,7 +22,7 @@ returns-in-Ok g c =
       one = λ h. over_one x c.args.c.now c.one_on.result h (does.one h e.fresh.dirty);
       leaves = λ h rest l windows changes f at.
           over_leaves x g.V.Files.holds (One c.args.c.now) [] rest l windows changes f c.one_on.result h does.since (λ y t. g.met.M.Machine.counts_now y t) (e.sound (does.trust.honest h) l windows changes f at)
-          (λ k none stands. does.runs h rest k none stands);
+          (λ k none idle stands. does.runs h rest k none idle stands);
     }
 
 pub returns-in-Err : goal.returns-in-Err

@@ -1,0 +1,10 @@
+//! The commands of a script.
+use crate::call::Call;
+use crate::command::Command;
+
+/// One command of a script: of the volume alone, or of a client.
+#[derive(Debug, Drop)]
+pub enum ScriptCommand {
+    Plain(Command),
+    OfClient { client: u32, call: Call },
+}

@@ -1,0 +1,92 @@
+use Rattle.std.proofs.Common.{◌-◌, [], refl, sym, ap, subst, ◌∙◌, Result}
+use Rattle.sector_disk.specs.Calls.{WritesDisk}
+use Rattle.fsd_files.specs.Desk.{done_outcome}
+use Rattle.fsd_files.specs.Replies.{Reply}
+use Rattle.fsd_texts.specs.declared.call.Call.TheVariants as Calls
+use Rattle.fsd_texts.specs.declared.fault.Fault.{Fault}
+use Rattle.fsd_texts.specs.declared.script_command.ScriptCommand.TheVariants.{OfClient}
+use Rattle.client_desk.specs.Clients.{as_reading, client_at}
+use Rattle.volume_turns.specs.declared.answer.Answer.{Answer}
+use Rattle.volume_turns.specs.Calls.{AnswersIn}
+use Rattle.volume_turns.specs.Seats.{DoesIn, StaysIn, known_of}
+use Rattle.volume_turns.specs.Steps.{device_by}
+use Rattle.volume_turns.proofs.CallKeepLaws.{gives_continues, gives_goes, still_up}
+use Rattle.volume_turns.proofs.CallLaws.{answers_does, met_none, refused_so, says_refused, none_stays}
+use Rattle.volume_turns.proofs.CallOrderLaws.{done_refuses, idle_said, test_client}
+use Rattle.volume_turns.proofs.calls.done.Given as given
+use Rattle.volume_turns.proofs.calls.done.Goals as goal
+
+abbrev V-of : (g : given.Over) → Type 0
+V-of g = g.row.V.Denot
+
+-- ---- it is over
+
+pub returns-in-Ok-clause-layout : goal.returns-in-Ok-clause-layout
+returns-in-Ok-clause-layout g c =
+    let V = g.V.Files in
+    (gives_continues (client_at c.args.desk.now (c.args.client - 1)) (V.state c.args.v.now) (V.state c.done.new.v) c.in-Ok.ensures.kept.volume).layout
+
+pub returns-in-Ok-clause-up : goal.returns-in-Ok-clause-up
+returns-in-Ok-clause-up g c =
+    let V = g.V.Files in
+    let s = V.state c.args.v.now in
+    let t = V.state c.done.new.v in
+    still_up s t (gives_continues (client_at c.args.desk.now (c.args.client - 1)) s t c.in-Ok.ensures.kept.volume) c.requires.up
+
+pub returns-in-Ok-clause-disk : goal.returns-in-Ok-clause-disk
+returns-in-Ok-clause-disk g c =
+    let V = g.V.Files in
+    let M = g.M.Machine in
+    let at = c.args.m.now in
+    none_stays V.state V.holds M at c.args.v.now c.args.desk.now (λ left h is. g.met.M.Machine.only_now at left h is)
+
+pub returns-in-Ok-clause-answers : goal.returns-in-Ok-clause-answers
+returns-in-Ok-clause-answers g c h =
+    let V = g.V.Files in
+    record {
+      replies = (refl, test_client as_reading c.args.desk.now c.args.client c.in-Ok.ensures.order.0);
+      worn = λ is. absurd (cc is);
+      numbers = gives_goes (client_at c.args.desk.now (c.args.client - 1)) (V.state c.args.v.now) (V.state c.done.new.v) c.in-Ok.ensures.kept.volume;
+      told = tt;
+    }
+
+pub returns-in-Ok-clause-done : goal.returns-in-Ok-clause-done
+returns-in-Ok-clause-done g c h k sits =
+    let V = g.V.Files in
+    let now = g.M.Machine.now c.args.m.now in
+    let e = c.in-Ok.ensures.done (known_of k) k.clients now sits in
+    answers_does V.state V.holds c.args.client Calls.Done c.args.v.now c.done.new.v c.args.desk.now c.done.new.self k now now c.in-Ok.ensures.desk
+    (λ s. done_outcome e.held s c.args.client) (record { met = met_none; held = e.held }) refl tt (Reply.Done c.args.client) [] refl (λ may. cc may) e.answers
+
+-- ---- it is refused
+
+pub returns-in-Err-clause-disk : goal.returns-in-Err-clause-disk
+returns-in-Err-clause-disk g c =
+    let V = g.V.Files in
+    let M = g.M.Machine in
+    let at = c.args.m.now in
+    let said = c.ended_by.ensures.is ∙ idle_said c.args.client c.in-Err.why (done_refuses c.args.desk.now c.args.client c.in-Err.why c.in-Err.ensures.order) in
+    let stays = StaysIn V.state V.holds (c.args.v.now, c.args.desk.now) in
+    subst (λ (r : Result Answer Fault). WritesDisk M (device_by r) stays at at) (sym said)
+    (none_stays V.state V.holds M at c.args.v.now c.args.desk.now (λ left h is. g.met.M.Machine.only_now at left h is))
+
+pub returns-in-Err-clause-answers : goal.returns-in-Err-clause-answers
+returns-in-Err-clause-answers g c h =
+    let V = g.V.Files in
+    let s = V.state c.args.v.now in
+    let t = V.state c.done.new.v in
+    let now = g.M.Machine.now c.args.m.now in
+    let refuses = done_refuses c.args.desk.now c.args.client c.in-Err.why c.in-Err.ensures.order in
+    let said = c.ended_by.ensures.is ∙ idle_said c.args.client c.in-Err.why refuses in
+    subst (λ (r : Result Answer Fault). AnswersIn (OfClient c.args.client Calls.Done) s t now now r) (sym said)
+    (says_refused c.args.client Calls.Done s t now now c.in-Err.why refuses (ap (λ (x : V-of g). V.state x) c.in-Err.ensures.kept.0))
+
+pub returns-in-Err-clause-done : goal.returns-in-Err-clause-done
+returns-in-Err-clause-done g c h k sits =
+    let V = g.V.Files in
+    let now = g.M.Machine.now c.args.m.now in
+    let said = c.ended_by.ensures.is ∙ idle_said c.args.client c.in-Err.why (done_refuses c.args.desk.now c.args.client c.in-Err.why c.in-Err.ensures.order) in
+    let e = c.in-Err.ensures.done (known_of k) k.clients now sits in
+    subst (λ (r : Result Answer Fault). DoesIn V.state V.holds (OfClient c.args.client Calls.Done) (c.args.v.now, c.args.desk.now) (c.done.new.v, c.done.new.self) k now now r) (sym said)
+    (refused_so V.state V.holds c.args.client Calls.Done c.args.v.now c.done.new.v c.args.desk.now c.done.new.self k now now c.in-Err.ensures.desk
+    (λ s. done_outcome e.0 s c.args.client) (record { met = met_none; held = e.0 }) refl tt c.in-Err.why (λ may. cc may) e.1)

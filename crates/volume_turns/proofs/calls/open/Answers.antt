@@ -1,0 +1,100 @@
+use Rattle.std.proofs.Common.{[], refl, sym, ap, subst, Result, None}
+use Rattle.fsd_files.specs.Replies.{Reply}
+use Rattle.fsd_texts.specs.declared.call.Call.TheVariants as Calls
+use Rattle.fsd_texts.specs.declared.fault.Fault.{Fault}
+use Rattle.fsd_texts.specs.declared.script_command.ScriptCommand.TheVariants.{OfClient}
+use Rattle.volume_contract.specs.Ends.{device_of}
+use Rattle.volume_contract.specs.State.{State}
+use Rattle.volume_turns.specs.declared.answer.Answer.{Answer}
+use Rattle.sector_disk.proofs.CallLaws.{writes_told}
+use Rattle.fsd_files.specs.Desk.{open_outcome}
+use Rattle.client_desk.specs.Clients.{as_idle}
+use Rattle.volume_turns.specs.Seats.{DoesIn, known_of}
+use Rattle.volume_turns.proofs.CallEndLaws.{open_does}
+use Rattle.volume_turns.proofs.CallKeepLaws.{holds_continues, holds_goes, still_up}
+use Rattle.volume_turns.proofs.CallLaws.{answers_does, met_none, reads_stay}
+use Rattle.volume_turns.proofs.CallOrderLaws.{declined_answers, declined_device, look_up_more, open_declines, open_unworn, test_client}
+use Rattle.volume_turns.proofs.NumberLaws.{goes_none}
+use Rattle.volume_turns.proofs.ToldLaws.{told_of}
+use Rattle.volume_turns.proofs.calls.open.Goals as goal
+
+-- ---- it is open
+
+pub returns-in-Ok-clause-layout : goal.returns-in-Ok-clause-layout
+returns-in-Ok-clause-layout g c =
+    let V = g.V.Files in
+    let kept = c.in-Ok.ensures.kept in
+    (holds_continues kept.reader.held (V.state c.args.v.now) (V.state c.open_key.new.v) kept.volume).layout
+
+pub returns-in-Ok-clause-up : goal.returns-in-Ok-clause-up
+returns-in-Ok-clause-up g c =
+    let V = g.V.Files in
+    let s = V.state c.args.v.now in
+    let t = V.state c.open_key.new.v in
+    let kept = c.in-Ok.ensures.kept in
+    still_up s t (holds_continues kept.reader.held s t kept.volume) c.requires.up
+
+pub returns-in-Ok-clause-disk : goal.returns-in-Ok-clause-disk
+returns-in-Ok-clause-disk g c =
+    let V = g.V.Files in
+    let M = g.M.Machine in
+    let v = c.args.v.now in
+    reads_stay V.state V.holds M c.args.m.now c.open_key.new.m None c.args.v.now c.args.desk.now (λ k left. g.met.V.Files.wears c.args.v.now k (M.now c.args.m.now) left) (g.met.M.Machine.short c.args.m.now) c.in-Ok.ensures.disk
+
+pub returns-in-Ok-clause-answers : goal.returns-in-Ok-clause-answers
+returns-in-Ok-clause-answers g c h =
+    let V = g.V.Files in
+    let kept = c.in-Ok.ensures.kept in
+    record {
+      replies = (refl, test_client as_idle c.args.desk.now c.args.client c.in-Ok.ensures.order.0);
+      worn = λ is. absurd (cc is);
+      numbers = holds_goes kept.reader.held (V.state c.args.v.now) (V.state c.open_key.new.v) kept.volume;
+      told = tt;
+    }
+
+pub returns-in-Ok-clause-done : goal.returns-in-Ok-clause-done
+returns-in-Ok-clause-done g c h k sits =
+    let V = g.V.Files in
+    let M = g.M.Machine in
+    let e = c.in-Ok.ensures.done h (known_of k) k.clients sits in
+    answers_does V.state V.holds c.args.client (Calls.Open c.args.key.now) c.args.v.now c.open_key.new.v c.args.desk.now c.open_key.new.self k (M.now c.args.m.now) (M.now c.open_key.new.m) c.in-Ok.ensures.desk
+    (λ s. open_outcome e.held s c.args.client c.args.key.now) (record { met = met_none; held = e.held }) refl tt (Reply.Opened c.args.client c.in-Ok.length) [] refl (λ may. cc may) e.answers
+
+-- ---- it is refused
+
+pub returns-in-Err-clause-disk : goal.returns-in-Err-clause-disk
+returns-in-Err-clause-disk g c =
+    let V = g.V.Files in
+    let M = g.M.Machine in
+    let v = c.args.v.now in
+    let s = V.state v in
+    let client = c.args.client in
+    let call = Calls.Open c.args.key.now in
+    let declines = look_up_more client call [] s c.in-Err.why (open_declines s c.requires.up c.args.desk.now client [] c.in-Err.why c.args.key.now c.in-Err.ensures.order) in
+    writes_told (declined_device client call [] s c.in-Err.why declines c.ended_by.result c.ended_by.ensures.is)
+    (reads_stay V.state V.holds M c.args.m.now c.open_key.new.m (device_of c.in-Err.why) c.args.v.now c.args.desk.now (λ k left. g.met.V.Files.wears c.args.v.now k (M.now c.args.m.now) left) (g.met.M.Machine.short c.args.m.now) c.in-Err.ensures.disk)
+
+pub returns-in-Err-clause-answers : goal.returns-in-Err-clause-answers
+returns-in-Err-clause-answers g c h =
+    let V = g.V.Files in
+    let M = g.M.Machine in
+    let s = V.state c.args.v.now in
+    let t = V.state c.open_key.new.v in
+    let client = c.args.client in
+    let call = Calls.Open c.args.key.now in
+    let why = c.in-Err.why in
+    let image = (M.now c.open_key.new.m).image in
+    declined_answers client call s t (M.now c.args.m.now) (M.now c.open_key.new.m) why c.ended_by.result c.ended_by.ensures.is
+    (look_up_more client call image s why (open_declines s c.requires.up c.args.desk.now client image why c.args.key.now c.in-Err.ensures.order))
+    (goes_none 1 s t c.in-Err.ensures.kept.volume)
+    (told_of s t (V.resident c.args.v.now) (M.now c.args.m.now) (M.now c.open_key.new.m) (ap (λ (x : State). x.layout) c.in-Err.ensures.kept.volume) why (c.in-Err.ensures.causes h))
+
+pub returns-in-Err-clause-done : goal.returns-in-Err-clause-done
+returns-in-Err-clause-done g c h k sits =
+    let V = g.V.Files in
+    let M = g.M.Machine in
+    let key = c.args.key.now in
+    subst (λ (r : Result Answer Fault). DoesIn V.state V.holds (OfClient c.args.client (Calls.Open key)) (c.args.v.now, c.args.desk.now) (c.open_key.new.v, c.open_key.new.self) k (M.now c.args.m.now) (M.now c.open_key.new.m) r) (sym c.ended_by.ensures.is)
+    (open_does V.state V.holds c.args.client c.args.v.now c.open_key.new.v c.args.desk.now c.open_key.new.self k (M.now c.args.m.now) (M.now c.open_key.new.m) c.in-Err.ensures.desk c.in-Err.why key
+    (c.in-Err.ensures.done h (known_of k) k.clients sits)
+    (open_unworn (V.state c.args.v.now) c.requires.up c.args.desk.now c.args.client c.in-Err.why key c.in-Err.ensures.order))
