@@ -67,12 +67,6 @@ const VERSIONS: [Row<'static>; 21] = [
     ),
 ];
 
-#[test]
-fn versions_are_made_and_counted(rt: HostRuntime) -> Result<(), Fail> {
-    assert_eq!(rt; wrong_on(rt.alloc(), FORMAT, &VERSIONS)?, None);
-    Ok(())
-}
-
 // Scripts, and what each of them says.
 const SCRIPTS: [Row<'static>; 5] = [
     ("cfs script v", b"", 0, "forced\n"),
@@ -98,12 +92,6 @@ const SCRIPTS: [Row<'static>; 5] = [
         "bytes a!1 3\nxyz\na!1 3 2 2\nlisted 1\nrefused no-such\nforced\nforced\nbad line 5: unknown word\n",
     ),
 ];
-
-#[test]
-fn scripts_say_each_reply(rt: HostRuntime) -> Result<(), Fail> {
-    assert_eq!(rt; wrong_on(rt.alloc(), FORMAT, &SCRIPTS)?, None);
-    Ok(())
-}
 
 // The first command of a script, and why it is none.
 const BAD: [(&[u8], &str); 11] = [
@@ -152,9 +140,13 @@ const MADE_UP: [Row<'static>; 4] = [
     ("cfs list v *", b"", 0, "g0!1 838 3 2\nlisted 1\n"),
 ];
 
+const LISTS: [&[Row<'static>]; 3] = [&VERSIONS, &SCRIPTS, &MADE_UP];
+
 #[test]
-fn commands_are_made_up(rt: HostRuntime) -> Result<(), Fail> {
-    assert_eq!(rt; wrong_on(rt.alloc(), FORMAT, &MADE_UP)?, None);
+fn commands_and_scripts_say_each_reply(rt: HostRuntime) -> Result<(), Fail> {
+    for (i, rows) in LISTS.iter().enumerate() {
+        assert_eq!(rt; wrong_on(rt.alloc(), FORMAT, rows)?, None, "{i}");
+    }
     Ok(())
 }
 

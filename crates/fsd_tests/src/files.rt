@@ -17,7 +17,7 @@ const CUT: &str = "fsd_tests_cut";
 fn run_on_files(rt: &HostRuntime, line: &str) -> Result<u8, AllocError> {
     let words = words_of(rt.alloc(), line)?;
     let mut m = FileMachine::new(rt);
-    Ok(run_words::<FileMachine<&HostRuntime>, Volume>(rt.alloc(), words.as_slice(), &mut m))
+    Ok(run_words::<FileMachine<&HostRuntime>, Volume, Volume>(rt.alloc(), words.as_slice(), &mut m))
 }
 
 // The sectors that the slots of a file hold.

@@ -3,9 +3,15 @@
 #![tactic(auto)]
 
 #[cfg(test)]
+mod clients;
+#[cfg(test)]
 mod commands;
 #[cfg(test)]
 mod damage;
+#[cfg(test)]
+mod drills;
+#[cfg(test)]
+mod failing;
 #[cfg(test)]
 mod faults;
 #[cfg(test)]
@@ -18,8 +24,6 @@ mod full;
 mod generated;
 #[cfg(test)]
 mod healing;
-#[cfg(test)]
-mod homes;
 #[cfg(test)]
 mod machines;
 #[cfg(test)]

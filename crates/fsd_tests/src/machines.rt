@@ -69,7 +69,7 @@ pub(crate) fn run(
 ) -> Result<(MemoryMachine, u8), AllocError> {
     let mut m = m.again(events.to_vec(alloc)?, input.to_vec(alloc)?);
     let words = words_of(alloc, line)?;
-    let status = run_words::<MemoryMachine, Volume>(alloc, words.as_slice(), &mut m);
+    let status = run_words::<MemoryMachine, Volume, Volume>(alloc, words.as_slice(), &mut m);
     Ok((m, status))
 }
 

@@ -65,21 +65,28 @@ fn mount(alloc: Global, m: &mut MemoryMachine) -> Result<Result<(u32, u32), Moun
     })
 }
 
+// The second root stands, and this sector.
+fn rooted(place: usize, bytes: [u8; 512]) -> [Placed; 2] {
+    [(4, root()), (place, bytes)]
+}
+
+// What a mount says of a disk of which these sectors alone are whole.
+fn refused(alloc: Global, whole: &[Placed]) -> Result<Option<MountFault>, Fail> {
+    let mut m = calm(alloc, damaged(alloc, whole)?);
+    Ok(mount(alloc, &mut m)?.err())
+}
+
 #[test]
 fn what_is_no_volume_is_not_mounted(rt: HostRuntime) -> Result<(), Fail> {
     let alloc = rt.alloc();
-    let root = (4, root());
-    let zeros = repeated(0);
-    let rows = [
-        ([(99, zeros), (98, zeros)], MountFault::NotVolume),
-        ([root, (98, zeros)], MountFault::NoAnchor),
-        ([root, (8, last_anchor())], MountFault::WornOut),
-        ([root, (8, anchor(1))], MountFault::Lost { a: 784, b: 852 }),
-    ];
-    for (whole, fault) in rows {
-        let mut m = calm(alloc, damaged(alloc, &whole)?);
-        assert_eq!(rt; mount(alloc, &mut m)?, Err(fault));
-    }
+    let lost = MountFault::Lost { a: 784, b: 852 };
+    assert_eq!(rt; refused(alloc, &[])?, Some(MountFault::NotVolume));
+    let unanchored = rooted(98, repeated(0));
+    assert_eq!(rt; refused(alloc, &unanchored)?, Some(MountFault::NoAnchor));
+    let worn = rooted(8, last_anchor());
+    assert_eq!(rt; refused(alloc, &worn)?, Some(MountFault::WornOut));
+    let bare = rooted(8, anchor(1));
+    assert_eq!(rt; refused(alloc, &bare)?, Some(lost));
     Ok(())
 }
 

@@ -63,40 +63,6 @@ fn record_at(m: &MemoryMachine, sector: usize) -> Option<u8> {
     }
 }
 
-// The first sector of a write, how many of its sectors stand when its second time is stopped, and the record that is
-// brought home.
-const STOPS: [(u32, u32, u8); 5] = [
-    (8, 0, 84),
-    (12, 0, 84),
-    (16, 0, 84),
-    (16, 4, 84),
-    (16, 5, 85),
-];
-
-// The 85th record is written at 16 again. Up to its page's end the old page stands.
-#[test]
-fn a_stop_leaves_the_old_page_or_the_new_one(rt: HostRuntime) -> Result<(), Fail> {
-    let alloc = rt.alloc();
-    for (first, stand, record) in STOPS {
-        let (m, forced) = come_round(alloc, 5, &[stop_in(first, 2, stand)])?;
-        assert!(rt; matches!(forced, Some(Err(_))));
-        assert_eq!(rt; record_mounted(alloc, m)?, Some(record));
-    }
-    Ok(())
-}
-
-// No other page's last image lies in the first third, so the anchor moves with no page written home before.
-#[test]
-fn the_first_third_is_entered_again(rt: HostRuntime) -> Result<(), Fail> {
-    let alloc = rt.alloc();
-    let (m, forced) = come_round(alloc, 5, &[])?;
-    assert_eq!(rt; forced, Some(Ok(Forced { pages: 1 })));
-    assert_eq!(rt; record_at(&m, 19), Some(85));
-    assert_eq!(rt; record_at(&m, 621), Some(0));
-    assert_eq!(rt; record_mounted(alloc, m)?, Some(85));
-    Ok(())
-}
-
 // Page 5's last image lies in the first record: it is written home before the anchor, and not the image that waits.
 #[test]
 fn a_page_of_the_first_third_goes_home_first(rt: HostRuntime) -> Result<(), Fail> {

@@ -3,6 +3,8 @@ use crate::machines::{Row, calm, first_wrong, formatted, run, stop_in};
 use sector_disk::{MemoryMachine, Sector};
 use std::test::Fail;
 
+const SMALL: &str = "cfs format w 721 200 16";
+
 // A line, and the status, the sectors and the text with which it ends.
 const LINES: [(&str, u8, usize, &str); 18] = [
     (
@@ -84,16 +86,6 @@ fn says_each_line(rt: HostRuntime) -> Result<(), Fail> {
     Ok(())
 }
 
-#[test]
-fn four_damaged_sectors_are_no_volume(rt: HostRuntime) -> Result<(), Fail> {
-    let alloc = rt.alloc();
-    let m = calm(alloc, vec![in alloc; Sector::Damaged; 4]?);
-    let (m, status) = run(alloc, m, &[], "cfs stat w", b"")?;
-    assert_eq!(rt; status, 3);
-    assert_eq!(rt; m.said(), b"fault not-a-volume\n".as_slice());
-    Ok(())
-}
-
 // A volume that is made three times, and what is put and read there.
 const PUTS_AND_GETS: [Row<'static>; 11] = [
     ("cfs get v a!1", b"", 3, "fault not-a-volume\n"),
@@ -127,25 +119,7 @@ const PUTS_AND_GETS: [Row<'static>; 11] = [
 #[test]
 fn puts_and_gets(rt: HostRuntime) -> Result<(), Fail> {
     let alloc = rt.alloc();
-    let too_long = vec![in alloc; 5u8; 4_193_793]?;
-    let longest = vec![in alloc; 5u8; 4_193_792]?;
-    let rows: [Row; 2] = [
-        (
-            "cfs put v c",
-            too_long.as_slice(),
-            1,
-            "refused too-long 4193793\n",
-        ),
-        (
-            "cfs put v c",
-            longest.as_slice(),
-            1,
-            "refused no-space 8192 1127\n",
-        ),
-    ];
-    let (m, wrong) = first_wrong(alloc, calm(alloc, Vec::new(alloc)), &PUTS_AND_GETS)?;
-    assert_eq!(rt; wrong, None);
-    let (_, wrong) = first_wrong(alloc, m, &rows)?;
+    let (_, wrong) = first_wrong(alloc, calm(alloc, Vec::new(alloc)), &PUTS_AND_GETS)?;
     assert_eq!(rt; wrong, None);
     Ok(())
 }
@@ -157,26 +131,41 @@ fn begins(m: &MemoryMachine, sector: usize, word: &[u8]) -> bool {
     }
 }
 
+// How the sectors from 16 on begin behind one put: header, blank, header, page, end, page, end.
+const RECORD: [(usize, &str); 7] = [
+    (16, "CLHD"),
+    (17, "\0\0\0\0"),
+    (18, "CLHD"),
+    (19, "CNPG"),
+    (20, "CLEN"),
+    (21, "CNPG"),
+    (22, "CLEN"),
+];
+
 #[test]
 fn one_record_commits_a_put(rt: HostRuntime) -> Result<(), Fail> {
     let alloc = rt.alloc();
-    let image = formatted(alloc, "cfs format w 721 200 16")?;
-    // header, blank, header, page, end, page, end
-    let words = ["CLHD", "\0\0\0\0", "CLHD", "CNPG", "CLEN", "CNPG", "CLEN"];
-    let m = calm(alloc, image.to_vec(alloc)?);
-    let (m, status) = run(alloc, m, &[], "cfs put w a", b"x")?;
-    assert_eq!(rt; status, 0);
-    for (k, word) in words.iter().enumerate() {
-        assert!(rt; begins(&m, 16 + k, word.as_bytes()), "{k}");
+    let m = calm(alloc, formatted(alloc, SMALL)?);
+    let (m, _) = run(alloc, m, &[], "cfs put w a", b"x")?;
+    for (sector, word) in RECORD {
+        assert!(rt; begins(&m, sector, word.as_bytes()), "{sector}");
     }
     assert_eq!(rt; m.image().get(23).copied(), Some(Sector::Damaged));
+    Ok(())
+}
 
-    for (stand, said) in [(4, b"refused no-such\n".as_slice()), (5, b"x".as_slice())] {
-        let m = calm(alloc, image.to_vec(alloc)?);
+// How many sectors of the record stand, and what a get says then.
+const CUT: [(u32, &str); 2] = [(4, "refused no-such\n"), (5, "x")];
+
+#[test]
+fn the_end_of_a_record_commits_it(rt: HostRuntime) -> Result<(), Fail> {
+    let alloc = rt.alloc();
+    for (stand, said) in CUT {
+        let m = calm(alloc, formatted(alloc, SMALL)?);
         let (m, _) = run(alloc, m, &[stop_in(16, 1, stand)], "cfs put w a", b"x")?;
         assert!(rt; m.said().is_empty());
         let (m, _) = run(alloc, m, &[], "cfs get w a!1", b"")?;
-        assert_eq!(rt; m.said(), said, "{stand}");
+        assert_eq!(rt; m.said(), said.as_bytes(), "{stand}");
     }
     Ok(())
 }

@@ -1,7 +1,7 @@
 //! Scripts that are read from a machine in memory.
 use crate::machines::{calm, repeated};
 use fsd_bytes::Key;
-use fsd_texts::{BadLine, Bytes, Cause, Command, Line};
+use fsd_texts::{BadLine, Bytes, Cause, Command, Line, ScriptCommand};
 use script_text::{Maker, Reader, ScriptFault, say_line};
 use sector_disk::{Event, MemoryMachine};
 use std::alloc::{AllocError, Global};
@@ -121,6 +121,14 @@ fn reads_no_byte_past_the_most(rt: HostRuntime) -> Result<(), Fail> {
     Ok(())
 }
 
+// The command of the volume that it is.
+fn plain(command: Option<ScriptCommand>) -> Option<Command> {
+    match command {
+        Some(ScriptCommand::Plain(command)) => Some(command),
+        _ => None,
+    }
+}
+
 // Whether the command asks for this key.
 fn has_key(command: &Option<Command>, text: &[u8]) -> bool {
     match command {
@@ -154,7 +162,7 @@ fn goes_on_after_a_failure(rt: HostRuntime) -> Result<(), Fail> {
     let mut reader = Reader::new(alloc);
     let failed = reader.next_command(alloc, &mut m).err();
     assert_eq!(rt; failed, Some(ScriptFault::Input));
-    let command = reader.next_command(alloc, &mut m).ok().flatten();
+    let command = plain(reader.next_command(alloc, &mut m).ok().flatten());
     assert!(rt; has_key(&command, b"a!1"));
     Ok(())
 }

@@ -83,15 +83,17 @@ fn damage(pair: u32, sectors: (u32, u32), moments: (When, When)) -> [Event; 4] {
     .map(|(sector, when)| Event::HurtAt { sector, when })
 }
 
+// The first or the second moment, or both.
+const MOMENTS: [(When, When); 3] = [
+    (When::Call(1), When::Call(1)),
+    (When::Settle, When::Settle),
+    (When::Call(1), When::Settle),
+];
+
 // The same with each damage of the pair, in the runs behind the put or in all of them.
 fn wrong_at(alloc: Global, image: &[Sector], pair: u32) -> Result<Option<(u64, u64)>, AllocError> {
-    let moments = [
-        (When::Call(1), When::Call(1)),
-        (When::Settle, When::Settle),
-        (When::Call(1), When::Settle),
-    ];
-    for sectors in [(0, 0), (1, 1), (0, 1)] {
-        for when in moments {
+    for sectors in OF_PAIR {
+        for when in MOMENTS {
             let worn = damage(pair, sectors, when);
             let later = wrong_stops(alloc, image, pair, worn, false)?;
             let always = wrong_stops(alloc, image, pair, worn, true)?;
@@ -115,28 +117,34 @@ fn first_wrong_pair(alloc: Global, pairs: &[u32]) -> Result<Option<(u32, u64, u6
 }
 
 // Roots at 0 and 4, anchors at 8 and 12.
+const FRONT: [u32; 8] = [0, 3, 4, 7, 8, 11, 12, 15];
+
 #[test]
 fn the_front_wears(rt: HostRuntime) -> Result<(), Fail> {
-    let pairs = [0, 3, 4, 7, 8, 11, 12, 15];
-    assert_eq!(rt; first_wrong_pair(rt.alloc(), &pairs)?, None);
+    assert_eq!(rt; first_wrong_pair(rt.alloc(), &FRONT)?, None);
     Ok(())
 }
 
 // The first record stands at 16..23.
+const RECORD: [u32; 8] = [16, 17, 18, 19, 20, 21, 22, 23];
+
 #[test]
 fn the_log_wears(rt: HostRuntime) -> Result<(), Fail> {
-    let pairs = [16, 17, 18, 19, 20, 21, 22, 23];
-    assert_eq!(rt; first_wrong_pair(rt.alloc(), &pairs)?, None);
+    assert_eq!(rt; first_wrong_pair(rt.alloc(), &RECORD)?, None);
     Ok(())
 }
 
 // Homes stand at 616..632 and 636..652, the leader at 657, the byte at 658.
+const BEHIND: [u32; 11] = [615, 616, 617, 631, 635, 636, 637, 651, 656, 657, 658];
+
 #[test]
 fn the_homes_and_the_data_wear(rt: HostRuntime) -> Result<(), Fail> {
-    let pairs = [615, 616, 617, 631, 635, 636, 637, 651, 656, 657, 658];
-    assert_eq!(rt; first_wrong_pair(rt.alloc(), &pairs)?, None);
+    assert_eq!(rt; first_wrong_pair(rt.alloc(), &BEHIND)?, None);
     Ok(())
 }
+
+// One sector of a pair, the other, or both.
+const OF_PAIR: [(u32, u32); 3] = [(0, 0), (1, 1), (0, 1)];
 
 // Each pair of the disk, between the put and the first get.
 #[test]
@@ -144,36 +152,54 @@ fn any_pair_wears(rt: HostRuntime) -> Result<(), Fail> {
     let alloc = rt.alloc();
     let image = formatted(alloc, FORMAT)?;
     for pair in 0..721 {
-        for (a, b) in [(0, 0), (1, 1), (0, 1)] {
+        for (a, b) in OF_PAIR {
             let m = weak(alloc, image.as_slice(), [pair; 3])?;
-            let worn = [hurt(pair + a), hurt(pair + b)];
+            let worn = [hurt(pair.saturating_add(a)), hurt(pair.saturating_add(b))];
             assert!(rt; goes_well(alloc, m, [&[], &worn, &[]])?, "{pair} {a} {b}");
         }
     }
     Ok(())
 }
 
-// One pair before the first mount and another one behind it, or so at the second mount.
+fn both(pair: u32) -> [Event; 2] {
+    [hurt(pair), hurt(pair.saturating_add(1))]
+}
+
+// After how many sectors the put stops, where it goes wrong with one pair before the first mount and another one
+// behind it, or so at the second mount.
+fn wrong_later(
+    alloc: Global,
+    image: &[Sector],
+    one: u32,
+    other: u32,
+) -> Result<Option<u64>, AllocError> {
+    let worn = both(one);
+    let later = both(other);
+    for put in 0..14 {
+        let stop = [worn[0], worn[1], Event::Stop { after: put }];
+        let first = weak(alloc, image, [one, other, other])?;
+        let second = weak(alloc, image, [one, one, other])?;
+        let well = goes_well(alloc, first, [&stop, &later, &later])?
+            && goes_well(alloc, second, [&stop[2..], &worn, &later])?;
+        if !well {
+            return Ok(Some(put));
+        }
+    }
+    Ok(None)
+}
+
+const PAIRS: [u32; 16] = [
+    0, 4, 8, 12, 15, 16, 18, 19, 20, 21, 615, 616, 635, 636, 657, 658,
+];
+
 #[test]
 fn another_pair_wears_later(rt: HostRuntime) -> Result<(), Fail> {
     let alloc = rt.alloc();
     let image = formatted(alloc, FORMAT)?;
-    let image = image.as_slice();
-    let pairs = [
-        0, 4, 8, 12, 15, 16, 18, 19, 20, 21, 615, 616, 635, 636, 657, 658,
-    ];
-    for one in pairs {
-        let worn = [hurt(one), hurt(one.saturating_add(1))];
-        for other in pairs {
-            let later = [hurt(other), hurt(other.saturating_add(1))];
-            for put in 0..14 {
-                let stop = [worn[0], worn[1], Event::Stop { after: put }];
-                let first = weak(alloc, image, [one, other, other])?;
-                let second = weak(alloc, image, [one, one, other])?;
-                let well = goes_well(alloc, first, [&stop, &later, &later])?
-                    && goes_well(alloc, second, [&stop[2..], &worn, &later])?;
-                assert!(rt; well, "{one} {other} {put}");
-            }
+    for one in PAIRS {
+        for other in PAIRS {
+            let wrong = wrong_later(alloc, image.as_slice(), one, other)?;
+            assert_eq!(rt; wrong, None, "{one} {other}");
         }
     }
     Ok(())

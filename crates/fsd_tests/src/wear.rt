@@ -1,7 +1,7 @@
 //! Runs on which a pair of sectors wears, in a volume whose log begins at 16, whose homes begin at 784 and 852,
 //! and whose data begins at 921.
-use crate::machines::{NEVER, formatted, hurt, hurt_late, repeated, run, stop_in, weak};
-use sector_disk::{Event, Sector};
+use crate::machines::{NEVER, formatted, hurt, hurt_late, run, weak};
+use sector_disk::{Event, MemoryMachine, Sector, When};
 use std::alloc::{AllocError, Global};
 use std::test::Fail;
 
@@ -41,79 +41,117 @@ const LINES: [(&str, &[u8], &str); 4] = [
     ("cfs get v a!1", b"", "x"),
 ];
 
+// A sector, and whether it is damaged just before the mount settles, and not as it begins.
+type Moment = (u32, bool);
+
+// The pair of all windows, in which of the four runs it wears, its two moments, and a sector that is whole at the end.
+const WORN: [(u32, usize, [Moment; 2], usize); 5] = [
+    // A page of the record, which stands at 16..23, and the end behind it.
+    (19, 1, [(19, false), (20, false)], 784),
+    // The first home of a page that is in the log.
+    (784, 1, [(784, false), (784, true)], 784),
+    // The same with no record, and the last sector of the log.
+    (783, 2, [(783, false), (784, false)], 784),
+    // A root, and an anchor.
+    (0, 1, [(0, false), (0, false)], 0),
+    (8, 1, [(8, false), (8, false)], 8),
+];
+
+fn wears(moment: Moment) -> Event {
+    let (sector, late) = moment;
+    if late {
+        hurt_late(sector)
+    } else {
+        hurt(sector)
+    }
+}
+
+// Whether the four runs say what they ought to where this happens in one of them, and the sector is whole then.
+fn loses_nothing(
+    alloc: Global,
+    m: MemoryMachine,
+    at: usize,
+    worn: [Event; 2],
+    whole: usize,
+) -> Result<bool, AllocError> {
+    let mut m = m;
+    for (i, (line, input, said)) in LINES.iter().enumerate() {
+        let happens = if i == at { worn } else { CALM };
+        let (next, status) = run(alloc, m, &happens, line, input)?;
+        if status != 0 || next.said() != said.as_bytes() || !next.honest() {
+            return Ok(false);
+        }
+        m = next;
+    }
+    Ok(matches!(m.image().get(whole), Some(Sector::Whole(_))))
+}
+
 #[test]
 fn a_worn_pair_loses_nothing(rt: HostRuntime) -> Result<(), Fail> {
     let alloc = rt.alloc();
     let image = formatted(alloc, FORMAT)?;
-    // The pair of all windows, what happens in the four runs, and a sector that is whole at the end.
-    let rows = [
-        // A page of the record, which stands at 16..23, and the end behind it.
-        (19, [CALM, [hurt(19), hurt(20)], CALM, CALM], 784),
-        // The first home of a page that is in the log, before the mount and before it settles.
-        (784, [CALM, [hurt(784), hurt_late(784)], CALM, CALM], 784),
-        // The same with no record, and the last sector of the log.
-        (783, [CALM, CALM, [hurt(783), hurt(784)], CALM], 784),
-        // A root, and an anchor.
-        (0, [CALM, [hurt(0), NEVER], CALM, CALM], 0),
-        (8, [CALM, [hurt(8), NEVER], CALM, CALM], 8),
-    ];
-    for (pair, events, whole) in rows {
-        let mut m = weak(alloc, image.as_slice(), [pair; 3])?;
-        for (happens, (line, input, said)) in events.iter().zip(LINES) {
-            let (next, status) = run(alloc, m, happens, line, input)?;
-            assert_eq!(rt; next.said(), said.as_bytes(), "{pair} {line}");
-            assert!(rt; status == 0 && next.honest(), "{pair} {line}");
-            m = next;
-        }
+    for (pair, at, moments, whole) in WORN {
+        let m = weak(alloc, image.as_slice(), [pair; 3])?;
         assert!(rt;
-            matches!(m.image().get(whole), Some(Sector::Whole(_))),
+            loses_nothing(alloc, m, at, moments.map(wears), whole)?,
             "{pair}"
         );
     }
     Ok(())
 }
 
-// Behind the end of the record that is cut off, the page is that of the record before.
-#[test]
-fn an_old_copy_serves_no_record(rt: HostRuntime) -> Result<(), Fail> {
-    let stop = stop_in(16, 1, 5);
-    let rows: [Row; 4] = [
-        (NEVER, "cfs put v a", b"x", 0, "made a!1 2\n"),
-        (stop, "cfs put v b", b"y", 6, ""),
-        (hurt(19), "cfs get v b!1", b"", 1, "refused no-such\n"),
-        (NEVER, "cfs list v *", b"", 0, LISTED),
-    ];
-    assert_eq!(rt; first_wrong_row(rt.alloc(), [19; 3], &rows)?, None);
-    Ok(())
-}
+const CUT: Event = Event::StopIn {
+    first: 16,
+    nth: 1,
+    stand: 5,
+};
 
-// The first get completes the record and stops between the two homes. What the second one says from there, the third
-// one says from the second home.
-#[test]
-fn a_record_is_completed_before_its_pages_go_home(rt: HostRuntime) -> Result<(), Fail> {
-    let cut = stop_in(16, 1, 5);
-    let between = stop_in(852, 1, 0);
-    let rows: [Row; 4] = [
-        (cut, "cfs put v a", b"x", 6, ""),
-        (between, "cfs get v a!1", b"", 6, ""),
-        (hurt(19), "cfs get v a!1", b"", 0, "x"),
-        (hurt(784), "cfs get v a!1", b"", 0, "x"),
-    ];
-    assert_eq!(rt; first_wrong_row(rt.alloc(), [19, 19, 784], &rows)?, None);
-    Ok(())
-}
+const BETWEEN: Event = Event::StopIn {
+    first: 852,
+    nth: 1,
+    stand: 0,
+};
 
-// The leader stands at 921, and three sectors of bytes behind it.
+const PAGE_HURT: Event = Event::HurtAt {
+    sector: 19,
+    when: When::Call(2),
+};
+
+const HOME_HURT: Event = Event::HurtAt {
+    sector: 784,
+    when: When::Call(2),
+};
+
+// The pairs that may wear, and four runs.
+const RECORDS: [([u32; 3], [Row<'static>; 4]); 2] = [
+    // Behind the end of the record that is cut off, the page is that of the record before.
+    (
+        [19; 3],
+        [
+            (NEVER, "cfs put v a", b"x", 0, "made a!1 2\n"),
+            (CUT, "cfs put v b", b"y", 6, ""),
+            (PAGE_HURT, "cfs get v b!1", b"", 1, "refused no-such\n"),
+            (NEVER, "cfs list v *", b"", 0, LISTED),
+        ],
+    ),
+    // The first get completes the record and stops between the two homes. What the second one says from there, the
+    // third one says from the second home.
+    (
+        [19, 19, 784],
+        [
+            (CUT, "cfs put v a", b"x", 6, ""),
+            (BETWEEN, "cfs get v a!1", b"", 6, ""),
+            (PAGE_HURT, "cfs get v a!1", b"", 0, "x"),
+            (HOME_HURT, "cfs get v a!1", b"", 0, "x"),
+        ],
+    ),
+];
+
 #[test]
-fn bytes_of_a_version_stand_once(rt: HostRuntime) -> Result<(), Fail> {
-    let bytes = repeated::<1200>(7);
-    let damaged = "damaged g!1 923\n";
-    let rows: [Row; 3] = [
-        (NEVER, "cfs put v g", &bytes, 0, "made g!1 4\n"),
-        (hurt(923), "cfs get v g!1", b"", 8, damaged),
-        (NEVER, "cfs get v g!1", b"", 8, damaged),
-    ];
-    assert_eq!(rt; first_wrong_row(rt.alloc(), [923; 3], &rows)?, None);
+fn a_record_is_completed_or_serves_nothing(rt: HostRuntime) -> Result<(), Fail> {
+    for (i, (pairs, rows)) in RECORDS.iter().enumerate() {
+        assert_eq!(rt; first_wrong_row(rt.alloc(), *pairs, rows)?, None, "{i}");
+    }
     Ok(())
 }
 
