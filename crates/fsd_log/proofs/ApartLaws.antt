@@ -5,6 +5,7 @@ use Rattle.std.specs.Option.{option_or}
 use Rattle.std.specs.List.{AllByRecursion}
 use Rattle.std.proofs.lemmas.Bool.{ltb-true}
 use Rattle.volume_layout.specs.Shape.{Shape}
+use Rattle.volume_layout.specs.Kinds.{gap_of}
 use Rattle.fsd_formats.specs.Record.{record_len}
 use Rattle.fsd_log.specs.Judged.{Reader, Logged, record_in}
 use Rattle.fsd_log.specs.Borne.{Foreign}
@@ -15,7 +16,7 @@ use Rattle.fsd_log.proofs.WalkLaws.{stamp_of, IsHere, IsFound, MayEnter, next_fo
 -- what is looked for in a window where both are the same
 pub here_window : (l : Shape) (epoch : ℕ) (X Y : Reader) (number at end : ℕ) → ((w : ℕ) → at ≤ w → w < at + room_at at end → X w ≡ Y w) → record_here l epoch X number at end ≡ record_here l epoch Y number at end
 here_window l epoch X Y number at end same =
-    ap (λ (d : Reader). if nat_lt number last_number then record_in l.pages (stamp_of epoch number) (room_at at end) d else None) (λ i k. pointwise k i)
+    ap (λ (d : Reader). if nat_lt number last_number then record_in (gap_of l) l.pages (stamp_of epoch number) (room_at at end) d else None) (λ i k. pointwise k i)
   where
     by_test : (k : ℕ) (b : Bool) → nat_lt k (room_at at end) ≡ b → (if b then X (at + k) else None) ≡ (if b then Y (at + k) else None)
     by_test k true is = same (at + k) (omega arith) (let lt : k < room_at at end = ltb-true k (room_at at end) is in omega arith)
@@ -28,7 +29,7 @@ here_window l epoch X Y number at end same =
 next_same : (l : Shape) (epoch : ℕ) (X Y : Reader) (h : Head) → record_here l epoch X h.number h.at h.end ≡ record_here l epoch Y h.number h.at h.end → record_here l epoch X h.number h.end (h.end + l.third) ≡ record_here l epoch Y h.number h.end (h.end + l.third)
     → next l epoch X h ≡ next l epoch Y h
 next_same l epoch X Y h here there =
-    λ i. option_or (option_map (behind h.number h.at h.end) (here i)) (cond (nat_lt 0 h.at && nat_lt h.end (3 * l.third)) (option_map (behind h.number h.end (h.end + l.third)) (there i)) None)
+    λ i. option_or (option_map (behind (gap_of l) h.number h.at h.end) (here i)) (cond (nat_lt 0 h.at && nat_lt h.end (3 * l.third)) (option_map (behind (gap_of l) h.number h.end (h.end + l.third)) (there i)) None)
 
 -- a walk sees nothing in front of its head
 pub walk_above : (most : ℕ) (l : Shape) (epoch : ℕ) (X Y : Reader) (h : Head) → IsIn l h → ((w : ℕ) → h.at ≤ w → X w ≡ Y w) → walk most l epoch X h ≡ walk most l epoch Y h
@@ -60,7 +61,7 @@ goes_behind l epoch disk h (q ∷ rs) end b le is_in goes =
     let one = found_goes_on l epoch disk h q goes.0 is_in goes.1 in
     (omega (arith, le, one.from), goes_behind l epoch disk goes.0 rs end b (omega (arith, le, one.from, one.to)) one.is_in goes.2)
 
-goes_before : (l : Shape) (epoch : ℕ) (disk : Reader) (h : Head) (rs : List Placed) (end : Head) (b : ℕ) → end.at ≤ b → IsIn l h → Goes l epoch disk h rs end → AllByRecursion (λ q. q.at + record_len (length q.entry.pages) ≤ b) rs
+goes_before : (l : Shape) (epoch : ℕ) (disk : Reader) (h : Head) (rs : List Placed) (end : Head) (b : ℕ) → end.at ≤ b → IsIn l h → Goes l epoch disk h rs end → AllByRecursion (λ q. q.at + record_len (gap_of l) (length q.entry.pages) ≤ b) rs
 goes_before l epoch disk h [] end b le is_in goes = tt
 goes_before l epoch disk h (q ∷ rs) end b le is_in goes =
     let one = found_goes_on l epoch disk h q goes.0 is_in goes.1 in
@@ -68,8 +69,8 @@ goes_before l epoch disk h (q ∷ rs) end b le is_in goes =
     (omega (arith, one.to, far.from, le), goes_before l epoch disk goes.0 rs end b le one.is_in goes.2)
 
 -- a record lies apart from another on the tape, or is it
-abbrev pub IsApartFrom : Placed → Placed → Type 0
-IsApartFrom r q = ((q.at + record_len (length q.entry.pages) ≤ r.at) ⊎ (r.at + record_len (length r.entry.pages) ≤ q.at)) ⊎ ((q.at ≡ r.at) × (q.entry ≡ r.entry))
+abbrev pub IsApartFrom : (gap : ℕ) → Placed → Placed → Type 0
+IsApartFrom gap r q = ((q.at + record_len gap (length q.entry.pages) ≤ r.at) ⊎ (r.at + record_len gap (length r.entry.pages) ≤ q.at)) ⊎ ((q.at ≡ r.at) × (q.entry ≡ r.entry))
 
 all_join : (P : Placed → Type 0) (xs ys : List Placed) → AllByRecursion P xs → AllByRecursion P ys → AllByRecursion P (xs ++ ys)
 all_join P [] ys a b = b
@@ -82,15 +83,15 @@ all_more P Q (x ∷ xs) more all = (more x all.0, all_more P Q xs more all.1)
 -- the scans are the same, and each of their records lies apart or is the one
 pub record ScansAlike (l : Shape) (epoch first : ℕ) (X Y : Reader) (r : Placed) : Type 0 where
   pub same : scan l epoch X first ≡ scan l epoch Y first
-  pub apart : AllByRecursion (IsApartFrom r) (scan l epoch Y first).records
+  pub apart : AllByRecursion (IsApartFrom (gap_of l) r) (scan l epoch Y first).records
 
 module _ (l : Shape) (epoch first : ℕ) (fits : epoch < 2 ^ 32) (X Y : Reader) (front : List Placed) (mid : Head) (goes : Goes l epoch Y (start l first) front mid) (small : mid.number < last_number)
     (r : Placed) (end : ℕ) (spot : IsHere mid r.at end ⊎ ((MayEnter l mid × (r.at ≡ mid.end) × (end ≡ mid.end + l.third)) × (record_here l epoch Y mid.number mid.at mid.end ≡ None)))
-    (long : record_len (length r.entry.pages) ≤ room_at r.at end)
-    (agree : (w : ℕ) → (w < r.at) ⊎ (r.at + record_len (length r.entry.pages) ≤ w) → X w ≡ Y w)
+    (long : record_len (gap_of l) (length r.entry.pages) ≤ room_at r.at end)
+    (agree : (w : ℕ) → (w < r.at) ⊎ (r.at + record_len (gap_of l) (length r.entry.pages) ≤ w) → X w ≡ Y w)
     (foreign : (w m : ℕ) → m < mid.number → (X w ≡ Y w) ⊎ Foreign (stamp_of epoch m) (X w))
-    (reads : record_in l.pages (stamp_of epoch mid.number) (room_at r.at end) (window X r.at (room_at r.at end)) ≡ record_in l.pages (stamp_of epoch mid.number) (room_at r.at end) (window Y r.at (room_at r.at end)))
-    (part : (record_in l.pages (stamp_of epoch mid.number) (room_at r.at end) (window Y r.at (room_at r.at end)) ≡ None) ⊎ (record_in l.pages (stamp_of epoch mid.number) (room_at r.at end) (window Y r.at (room_at r.at end)) ≡ Some r.entry)) where
+    (reads : record_in (gap_of l) l.pages (stamp_of epoch mid.number) (room_at r.at end) (window X r.at (room_at r.at end)) ≡ record_in (gap_of l) l.pages (stamp_of epoch mid.number) (room_at r.at end) (window Y r.at (room_at r.at end)))
+    (part : (record_in (gap_of l) l.pages (stamp_of epoch mid.number) (room_at r.at end) (window Y r.at (room_at r.at end)) ≡ None) ⊎ (record_in (gap_of l) l.pages (stamp_of epoch mid.number) (room_at r.at end) (window Y r.at (room_at r.at end)) ≡ Some r.entry)) where
   start_in : IsIn l (start l first)
   start_in = record { before = omega arith; from = omega arith; ends = inl refl }
 
@@ -107,7 +108,7 @@ module _ (l : Shape) (epoch first : ℕ) (fits : epoch < 2 ^ 32) (X Y : Reader) 
   at_spot : record_here l epoch X mid.number r.at end ≡ record_here l epoch Y mid.number r.at end
   at_spot = here_looks l epoch X mid.number r.at end small ∙ reads ∙ sym (here_looks l epoch Y mid.number r.at end small)
 
-  within : r.at + record_len (length r.entry.pages) ≤ end
+  within : r.at + record_len (gap_of l) (length r.entry.pages) ≤ end
   within = omega (arith, long)
 
   next_alike : next l epoch X mid ≡ next l epoch Y mid
@@ -120,8 +121,8 @@ module _ (l : Shape) (epoch first : ℕ) (fits : epoch < 2 ^ 32) (X Y : Reader) 
         ((λ i. record_here l epoch X mid.number (sym there.0.1 i) (sym there.0.2 i)) ∙ at_spot ∙ (λ i. record_here l epoch Y mid.number (there.0.1 i) (there.0.2 i)))
   ]
 
-  front_apart : AllByRecursion (IsApartFrom r) front
-  front_apart = all_more (λ q. q.at + record_len (length q.entry.pages) ≤ r.at) (IsApartFrom r) front (λ q le. inl (inl le)) (goes_before l epoch Y (start l first) front mid r.at mid_before start_in goes)
+  front_apart : AllByRecursion (IsApartFrom (gap_of l) r) front
+  front_apart = all_more (λ q. q.at + record_len (gap_of l) (length q.entry.pages) ≤ r.at) (IsApartFrom (gap_of l) r) front (λ q le. inl (inl le)) (goes_before l epoch Y (start l first) front mid r.at mid_before start_in goes)
 
   -- what is found at its place is it
   found_there : (e : Logged) → record_here l epoch Y mid.number r.at end ≡ Some e → e ≡ r.entry
@@ -133,10 +134,10 @@ module _ (l : Shape) (epoch first : ℕ) (fits : epoch < 2 ^ 32) (X Y : Reader) 
       some_same x y e = cc
 
   -- what is found next is it, or lies behind it
-  found_apart : (q : Placed) (h1 : Head) → IsFound l epoch Y mid q h1 → IsApartFrom r q × (r.at + record_len (length r.entry.pages) ≤ h1.at)
+  found_apart : (q : Placed) (h1 : Head) → IsFound l epoch Y mid q h1 → IsApartFrom (gap_of l) r q × (r.at + record_len (gap_of l) (length r.entry.pages) ≤ h1.at)
   found_apart q h1 is =
       let one = found_goes_on l epoch Y mid q h1 far.is_in is in
-      let is_it : q.at ≡ r.at → is.end ≡ end → IsApartFrom r q × (r.at + record_len (length r.entry.pages) ≤ h1.at) =
+      let is_it : q.at ≡ r.at → is.end ≡ end → IsApartFrom (gap_of l) r q × (r.at + record_len (gap_of l) (length r.entry.pages) ≤ h1.at) =
       λ at ends.
       let same : q.entry ≡ r.entry = found_there q.entry ((λ i. record_here l epoch Y mid.number (sym at i) (sym ends i)) ∙ is.found) in
       (inr (at, same), omega (arith, one.to, at, ap (λ (e : Logged). length e.pages) same)) in
@@ -156,7 +157,7 @@ module _ (l : Shape) (epoch first : ℕ) (fits : epoch < 2 ^ 32) (X Y : Reader) 
   alike_none none =
       let x = walk_of_goes (3 * l.third) l epoch X (start l first) front mid start_in (omega arith) goes_x (next_alike ∙ none) in
       let y = walk_of_goes (3 * l.third) l epoch Y (start l first) front mid start_in (omega arith) goes none in
-      record { same = x ∙ sym y; apart = subst (λ (w : Walked). AllByRecursion (IsApartFrom r) w.records) (sym y) front_apart }
+      record { same = x ∙ sym y; apart = subst (λ (w : Walked). AllByRecursion (IsApartFrom (gap_of l) r) w.records) (sym y) front_apart }
 
   alike_some : (q : Placed) (h1 : Head) → next l epoch Y mid ≡ Some (q, h1) → ScansAlike l epoch first X Y r
   unfolding scan
@@ -177,11 +178,11 @@ module _ (l : Shape) (epoch first : ℕ) (fits : epoch < 2 ^ 32) (X Y : Reader) 
       (goes_join l epoch X (start l first) front mid (q ∷ (walk (3 * l.third) l epoch Y h1).records) (walk (3 * l.third) l epoch Y h1).head goes_x (h1, found_x, goes_tail_x)) done_x in
       record {
         same = x ∙ sym y;
-        apart = subst (λ (w : Walked). AllByRecursion (IsApartFrom r) w.records) (sym y)
-            (all_join (IsApartFrom r) front (q ∷ (walk (3 * l.third) l epoch Y h1).records) front_apart (
+        apart = subst (λ (w : Walked). AllByRecursion (IsApartFrom (gap_of l) r) w.records) (sym y)
+            (all_join (IsApartFrom (gap_of l) r) front (q ∷ (walk (3 * l.third) l epoch Y h1).records) front_apart (
               apart.0,
-              all_more (λ x. r.at + record_len (length r.entry.pages) ≤ x.at) (IsApartFrom r) (walk (3 * l.third) l epoch Y h1).records (λ x ge. inl (inr ge))
-                  (goes_behind l epoch Y h1 (walk (3 * l.third) l epoch Y h1).records (walk (3 * l.third) l epoch Y h1).head (r.at + record_len (length r.entry.pages)) apart.1 one.is_in goes_tail),
+              all_more (λ x. r.at + record_len (gap_of l) (length r.entry.pages) ≤ x.at) (IsApartFrom (gap_of l) r) (walk (3 * l.third) l epoch Y h1).records (λ x ge. inl (inr ge))
+                  (goes_behind l epoch Y h1 (walk (3 * l.third) l epoch Y h1).records (walk (3 * l.third) l epoch Y h1).head (r.at + record_len (gap_of l) (length r.entry.pages)) apart.1 one.is_in goes_tail),
             ));
       }
 

@@ -2,6 +2,7 @@
 use Rattle.std.proofs.Common.{◌≡◌, ℕ, ◌+◌, ◌-◌, ◌<◌, ◌≤◌, Bool, true, false, List, Option, Some, None, nat_lt, refl, sym, ap, subst, ◌∙◌, arith, inl, inr, ◌⊎◌}
 use Rattle.std.proofs.lemmas.Bool.{cond-true, cond-false, lt-ltb, ltb-true, cases_lt}
 use Rattle.volume_layout.specs.Shape.{Shape}
+use Rattle.volume_layout.specs.Kinds.{gap_of}
 use Rattle.fsd_formats.specs.Record.{Stamp, record_len}
 use Rattle.fsd_log.specs.Judged.{Reader}
 use Rattle.fsd_log.specs.Borne.{borne_by, Foreign}
@@ -12,7 +13,7 @@ use Rattle.fsd_log.proofs.WalkLaws.{stamp_of, MayEnter}
 pub record IsSpot (l : Shape) (n : ℕ) (h spot : Head) : Type 0 where
   pub number : spot.number ≡ h.number
   pub place : ((spot.at ≡ h.at) × (spot.end ≡ h.end)) ⊎ (MayEnter l h × (spot.at ≡ h.end) × (spot.end ≡ h.end + l.third))
-  pub fits : spot.at + record_len n ≤ spot.end
+  pub fits : spot.at + record_len (gap_of l) n ≤ spot.end
 
 pub none_foreign : (stamp : Stamp) → Foreign stamp None
 none_foreign stamp e = absurd (cc e)

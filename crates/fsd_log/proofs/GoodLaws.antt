@@ -57,35 +57,35 @@ then_some : {A B C : Type 0} (o : Option A) (rest : Option B) (f : A → B → C
 then_some None rest f z e = absurd (cc)
 then_some (Some x) rest f z e = (x, refl)
 
-module _ (p : ℕ) (stamp : Stamp) (room : ℕ) (at : Reader) where
-  good_by : (hc : Bool) (h : Option (List ℕ)) (f : Serving) → nat_le (record_len (length f.pages)) room ≡ true → page_copies stamp at 3 (4 + length f.pages) f.pages ≡ Some f.page_copy
-      → ByHeader p stamp room at hc h f → IsGoodBy p stamp room at f.pages h
+module _ (gap : ℕ) (p : ℕ) (stamp : Stamp) (room : ℕ) (at : Reader) where
+  good_by : (hc : Bool) (h : Option (List ℕ)) (f : Serving) → nat_le (record_len gap (length f.pages)) room ≡ true → page_copies stamp at (3 + gap) (4 + 2 * gap + length f.pages) f.pages ≡ Some f.page_copy
+      → ByHeader gap p stamp room at hc h f → IsGoodBy gap p stamp room at f.pages h
   good_by hc h f roomy copies by =
-      let given = if_some (nat_le (record_len (length f.pages)) room) _ f by.good in
-      let ends = then_some (serving (is_end stamp (length f.pages)) (at (3 + length f.pages)) (at (4 + 2 * length f.pages))) (page_copies stamp at 3 (4 + length f.pages) f.pages) (serving_with hc f.pages) f given.1 in
+      let given = if_some (nat_le (record_len gap (length f.pages)) room) _ f by.good in
+      let ends = then_some (serving (is_end stamp (length f.pages)) (at (3 + gap + length f.pages)) (at (4 + 2 * gap + 2 * length f.pages))) (page_copies stamp at (3 + gap) (4 + 2 * gap + length f.pages) f.pages) (serving_with hc f.pages) f given.1 in
       record {
         named = by.header;
         roomy = leb-true _ _ roomy;
-        ends = served_one (is_end stamp (length f.pages)) (at (3 + length f.pages)) (at (4 + 2 * length f.pages)) ends.0 ends.1;
-        each = each_serves stamp at 3 (4 + length f.pages) f.pages f.page_copy copies;
+        ends = served_one (is_end stamp (length f.pages)) (at (3 + gap + length f.pages)) (at (4 + 2 * gap + 2 * length f.pages)) ends.0 ends.1;
+        each = each_serves stamp at (3 + gap) (4 + 2 * gap + length f.pages) f.pages f.page_copy copies;
       }
 
-  pub judged_is_good : (f : Serving) → judged p stamp room at ≡ Some f → IsGood p stamp room at f.pages
+  pub judged_is_good : (f : Serving) → judged gap p stamp room at ≡ Some f → IsGood gap p stamp room at f.pages
   judged_is_good f e =
-      let known = is_judged p stamp room at f e in
-      ⊎_elim (λ by. inl (good_by false (at 0) f known.roomy known.copies by)) (λ by. inr (good_by true (at 2) f known.roomy known.copies by.1)) known.by
+      let known = is_judged gap p stamp room at f e in
+      ⊎_elim (λ by. inl (good_by false (at 0) f known.roomy known.copies by)) (λ by. inr (good_by true (at (2 + gap)) f known.roomy known.copies by.1)) known.by
 
-  none_by : (hc : Bool) (pages : List ℕ) (h : Option (List ℕ)) → IsGoodBy p stamp room at pages h → judged_by p stamp room at hc h ≡ None → ⊥
+  none_by : (hc : Bool) (pages : List ℕ) (h : Option (List ℕ)) → IsGoodBy gap p stamp room at pages h → judged_by gap p stamp room at hc h ≡ None → ⊥
   none_by hc pages h good none =
-      let with_pages : judged_with stamp room at hc pages ≡ None = ap (λ (o : Option (List ℕ)). option_and_then (judged_with stamp room at hc) o) (sym good.named) ∙ none in
+      let with_pages : judged_with gap stamp room at hc pages ≡ None = ap (λ (o : Option (List ℕ)). option_and_then (judged_with gap stamp room at hc) o) (sym good.named) ∙ none in
       ⊎_elim
-      (λ no_end. serves_none (is_end stamp (length pages)) (at (3 + length pages)) (at (4 + 2 * length pages)) good.ends no_end)
-      (λ no_pages. copies_none stamp at 3 (4 + length pages) pages good.each no_pages)
-      (then_none (serving (is_end stamp (length pages)) (at (3 + length pages)) (at (4 + 2 * length pages))) (page_copies stamp at 3 (4 + length pages) pages) (serving_with hc pages)
-      (sym (cond-true (nat_le (record_len (length pages)) room) _ None (le-leb _ _ good.roomy)) ∙ with_pages))
+      (λ no_end. serves_none (is_end stamp (length pages)) (at (3 + gap + length pages)) (at (4 + 2 * gap + 2 * length pages)) good.ends no_end)
+      (λ no_pages. copies_none stamp at (3 + gap) (4 + 2 * gap + length pages) pages good.each no_pages)
+      (then_none (serving (is_end stamp (length pages)) (at (3 + gap + length pages)) (at (4 + 2 * gap + 2 * length pages))) (page_copies stamp at (3 + gap) (4 + 2 * gap + length pages) pages) (serving_with hc pages)
+      (sym (cond-true (nat_le (record_len gap (length pages)) room) _ None (le-leb _ _ good.roomy)) ∙ with_pages))
 
-  pub none_is_good : (pages : List ℕ) → judged p stamp room at ≡ None → IsGood p stamp room at pages → ⊥
+  pub none_is_good : (pages : List ℕ) → judged gap p stamp room at ≡ None → IsGood gap p stamp room at pages → ⊥
   unfolding judged
   none_is_good pages none good =
-      let were = or_none (judged_by p stamp room at false (at 0)) (judged_by p stamp room at true (at 2)) none in
-      ⊎_elim (λ by. none_by false pages (at 0) by were.0) (λ by. none_by true pages (at 2) by were.1) good
+      let were = or_none (judged_by gap p stamp room at false (at 0)) (judged_by gap p stamp room at true (at (2 + gap))) none in
+      ⊎_elim (λ by. none_by false pages (at 0) by were.0) (λ by. none_by true pages (at (2 + gap)) by were.1) good

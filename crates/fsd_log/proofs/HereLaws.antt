@@ -2,12 +2,13 @@
 use Rattle.std.proofs.Common.{◌≡◌, ℕ, ◌<◌, ◌≤◌, Bool, true, false, cond, Option, Some, None, nat_lt, refl}
 use Rattle.std.proofs.lemmas.Bool.{cond-true, cond-false, ltb-true, lt-ltb, le-ltb}
 use Rattle.volume_layout.specs.Shape.{Shape}
+use Rattle.volume_layout.specs.Kinds.{gap_of}
 use Rattle.fsd_log.specs.Judged.{Reader, Logged, record_in}
 use Rattle.fsd_log.specs.Scan.{last_number, room_at, window, record_here}
 
 module _ (l : Shape) (epoch : ℕ) (disk : Reader) (number at end : ℕ) where
   abbrev pub looked : Option Logged
-  looked = record_in l.pages (record { epoch = epoch; number = number }) (room_at at end) (window disk at (room_at at end))
+  looked = record_in (gap_of l) l.pages (record { epoch = epoch; number = number }) (room_at at end) (window disk at (room_at at end))
 
   pub here_looks : number < last_number → record_here l epoch disk number at end ≡ looked
   here_looks lt = cond-true (nat_lt number last_number) looked None (lt-ltb number last_number lt)

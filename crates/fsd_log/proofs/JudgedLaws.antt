@@ -44,15 +44,15 @@ abbrev pub serving_with : Bool → List ℕ → Bool → List Bool → Serving
 serving_with hc pages x cs = record { pages = pages; header_copy = hc; end_copy = x; page_copy = cs }
 
 -- the record with these pages, if there is room
-abbrev roomy : Stamp → Reader → Bool → List ℕ → Option Serving
-roomy stamp at hc pages =
-    option_and_then (λ x. option_map (serving_with hc pages x) (page_copies stamp at 3 (4 + length pages) pages)) (serving (is_end stamp (length pages)) (at (3 + length pages)) (at (4 + 2 * length pages)))
+abbrev in_room : (gap : ℕ) → Stamp → Reader → Bool → List ℕ → Option Serving
+in_room gap stamp at hc pages =
+    option_and_then (λ x. option_map (serving_with hc pages x) (page_copies stamp at (3 + gap) (4 + 2 * gap + length pages) pages)) (serving (is_end stamp (length pages)) (at (3 + gap + length pages)) (at (4 + 2 * gap + 2 * length pages)))
 
 pub or_none : {A : Type 0} (x y : Option A) → option_or x y ≡ None → (x ≡ None) × (y ≡ None)
 or_none None y e = (refl, e)
 or_none (Some x) y e = absurd (cc)
 
-module _ (stamp : Stamp) (fits : FitsStamp stamp) (old new : Reader) (less : ReadsLess stamp old new) where
+module _ (gap : ℕ) (stamp : Stamp) (fits : FitsStamp stamp) (old new : Reader) (less : ReadsLess stamp old new) where
   copies_less : (a c : ℕ) (pages : List ℕ) → page_copies stamp old a c pages ≡ None → page_copies stamp new a c pages ≡ None
   copies_less a c [] e = absurd (cc)
   copies_less a c (page ∷ pages) e =
@@ -65,45 +65,45 @@ module _ (stamp : Stamp) (fits : FitsStamp stamp) (old new : Reader) (less : Rea
             ∙ none_then (serving (bears page stamp) (new a) (new c)) (λ (x : Bool) (more : List Bool). x ∷ more)
       ]
 
-  roomy_less : (hc : Bool) (pages : List ℕ) → roomy stamp old hc pages ≡ None → roomy stamp new hc pages ≡ None
+  roomy_less : (hc : Bool) (pages : List ℕ) → in_room gap stamp old hc pages ≡ None → in_room gap stamp new hc pages ≡ None
   roomy_less hc pages none =
       let n : ℕ = length pages in
-      elim (then_none (serving (is_end stamp (length pages)) (old (3 + length pages)) (old (4 + 2 * length pages))) (page_copies stamp old 3 (4 + length pages) pages) (serving_with hc pages) none) [
+      elim (then_none (serving (is_end stamp (length pages)) (old (3 + gap + length pages)) (old (4 + 2 * gap + 2 * length pages))) (page_copies stamp old (3 + gap) (4 + 2 * gap + length pages) pages) (serving_with hc pages) none) [
         | inl no_end ↦
-            ap (λ (o : Option Bool). option_and_then (λ x. option_map (serving_with hc pages x) (page_copies stamp new 3 (4 + length pages) pages)) o)
-            (serving_less (is_end stamp (length pages)) stamp (old (3 + length pages)) (old (4 + 2 * length pages)) (new (3 + length pages)) (new (4 + 2 * length pages)) (foreign_end stamp fits (length pages))
-            (less.each (3 + length pages)) (less.each (4 + 2 * length pages)) no_end)
+            ap (λ (o : Option Bool). option_and_then (λ x. option_map (serving_with hc pages x) (page_copies stamp new (3 + gap) (4 + 2 * gap + length pages) pages)) o)
+            (serving_less (is_end stamp (length pages)) stamp (old (3 + gap + length pages)) (old (4 + 2 * gap + 2 * length pages)) (new (3 + gap + length pages)) (new (4 + 2 * gap + 2 * length pages)) (foreign_end stamp fits (length pages))
+            (less.each (3 + gap + length pages)) (less.each (4 + 2 * gap + 2 * length pages)) no_end)
         | inr no_pages ↦
-            ap (λ (o : Option (List Bool)). option_and_then (λ x. option_map (serving_with hc pages x) o) (serving (is_end stamp (length pages)) (new (3 + length pages)) (new (4 + 2 * length pages)))) (copies_less 3 (4 + length pages) pages no_pages)
-            ∙ none_then (serving (is_end stamp (length pages)) (new (3 + length pages)) (new (4 + 2 * length pages))) (serving_with hc pages)
+            ap (λ (o : Option (List Bool)). option_and_then (λ x. option_map (serving_with hc pages x) o) (serving (is_end stamp (length pages)) (new (3 + gap + length pages)) (new (4 + 2 * gap + 2 * length pages)))) (copies_less (3 + gap) (4 + 2 * gap + length pages) pages no_pages)
+            ∙ none_then (serving (is_end stamp (length pages)) (new (3 + gap + length pages)) (new (4 + 2 * gap + 2 * length pages))) (serving_with hc pages)
       ]
 
-  by_room : (b : Bool) (hc : Bool) (pages : List ℕ) → cond b (roomy stamp old hc pages) None ≡ None → cond b (roomy stamp new hc pages) None ≡ None
+  by_room : (b : Bool) (hc : Bool) (pages : List ℕ) → cond b (in_room gap stamp old hc pages) None ≡ None → cond b (in_room gap stamp new hc pages) None ≡ None
   by_room true hc pages none = roomy_less hc pages none
   by_room false hc pages none = refl
 
-  with_less : (room : ℕ) (hc : Bool) (pages : List ℕ) → judged_with stamp room old hc pages ≡ None → judged_with stamp room new hc pages ≡ None
-  with_less room hc pages none = by_room (nat_le (record_len (length pages)) room) hc pages none
+  with_less : (room : ℕ) (hc : Bool) (pages : List ℕ) → judged_with gap stamp room old hc pages ≡ None → judged_with gap stamp room new hc pages ≡ None
+  with_less room hc pages none = by_room (nat_le (record_len gap (length pages)) room) hc pages none
 
-  with_if : (room : ℕ) (hc : Bool) (o : Option (List ℕ)) → option_and_then (judged_with stamp room old hc) o ≡ None → option_and_then (judged_with stamp room new hc) o ≡ None
+  with_if : (room : ℕ) (hc : Bool) (o : Option (List ℕ)) → option_and_then (judged_with gap stamp room old hc) o ≡ None → option_and_then (judged_with gap stamp room new hc) o ≡ None
   with_if room hc None none = refl
   with_if room hc (Some pages) none = with_less room hc pages none
 
-  header_gone : (p room : ℕ) (hc : Bool) (h : Option (List ℕ)) → Foreign stamp h → judged_by p stamp room new hc h ≡ None
+  header_gone : (p room : ℕ) (hc : Bool) (h : Option (List ℕ)) → Foreign stamp h → judged_by gap p stamp room new hc h ≡ None
   header_gone p room hc None foreign = refl
-  header_gone p room hc (Some bytes) foreign = ap (λ (o : Option (List ℕ)). option_and_then (judged_with stamp room new hc) o) (foreign_header stamp fits p bytes foreign)
+  header_gone p room hc (Some bytes) foreign = ap (λ (o : Option (List ℕ)). option_and_then (judged_with gap stamp room new hc) o) (foreign_header stamp fits p bytes foreign)
 
-  by_less : (p room : ℕ) (hc : Bool) (h h1 : Option (List ℕ)) → (h1 ≡ h) ⊎ Foreign stamp h1 → judged_by p stamp room old hc h ≡ None → judged_by p stamp room new hc h1 ≡ None
-  by_less p room hc h h1 (inl same) none = ap (λ (o : Option (List ℕ)). judged_by p stamp room new hc o) same ∙ with_if room hc (option_and_then (read_header p stamp) h) none
+  by_less : (p room : ℕ) (hc : Bool) (h h1 : Option (List ℕ)) → (h1 ≡ h) ⊎ Foreign stamp h1 → judged_by gap p stamp room old hc h ≡ None → judged_by gap p stamp room new hc h1 ≡ None
+  by_less p room hc h h1 (inl same) none = ap (λ (o : Option (List ℕ)). judged_by gap p stamp room new hc o) same ∙ with_if room hc (option_and_then (read_header p stamp) h) none
   by_less p room hc h h1 (inr foreign) none = header_gone p room hc h1 foreign
 
   -- a record that isn't there doesn't come by reading less
-  pub judged_less : (p room : ℕ) → judged p stamp room old ≡ None → judged p stamp room new ≡ None
+  pub judged_less : (p room : ℕ) → judged gap p stamp room old ≡ None → judged gap p stamp room new ≡ None
   unfolding judged
   judged_less p room none =
-      let were = or_none (judged_by p stamp room old false (old 0)) (judged_by p stamp room old true (old 2)) none in
-      ap (λ (o : Option Serving). option_or o (judged_by p stamp room new true (new 2))) (by_less p room false (old 0) (new 0) (less.each 0) were.0)
-      ∙ by_less p room true (old 2) (new 2) (less.each 2) were.1
+      let were = or_none (judged_by gap p stamp room old false (old 0)) (judged_by gap p stamp room old true (old (2 + gap))) none in
+      ap (λ (o : Option Serving). option_or o (judged_by gap p stamp room new true (new (2 + gap)))) (by_less p room false (old 0) (new 0) (less.each 0) were.0)
+      ∙ by_less p room true (old (2 + gap)) (new (2 + gap)) (less.each (2 + gap)) were.1
 
 -- ---- what is there stays, where its own sectors do
 
@@ -119,17 +119,17 @@ copies_same stamp old new a c (page ∷ pages) first second =
     let rest = copies_same stamp old new (a + 1) (c + 1) pages (λ k le lt. first k (omega arith) (omega arith)) (λ k le lt. second k (omega arith) (omega arith)) in
     λ i. option_and_then (λ x. option_map (λ more. x ∷ more) (rest i)) (serving (bears page stamp) (here i) (there i))
 
-pub with_same : (stamp : Stamp) (room : ℕ) (old new : Reader) (hc : Bool) (pages : List ℕ) → Alike old new (record_len (length pages)) → judged_with stamp room new hc pages ≡ judged_with stamp room old hc pages
-with_same stamp room old new hc pages same =
-    let first = same (3 + length pages) (omega arith) in
-    let second = same (4 + 2 * length pages) (omega arith) in
-    let copies = copies_same stamp old new 3 (4 + length pages) pages (λ k le lt. same k (omega arith)) (λ k le lt. same k (omega arith)) in
-    λ i. if nat_le (record_len (length pages)) room then option_and_then (λ x. option_map (serving_with hc pages x) (copies i)) (serving (is_end stamp (length pages)) (first i) (second i)) else None
+pub with_same : (gap : ℕ) → (stamp : Stamp) (room : ℕ) (old new : Reader) (hc : Bool) (pages : List ℕ) → Alike old new (record_len gap (length pages)) → judged_with gap stamp room new hc pages ≡ judged_with gap stamp room old hc pages
+with_same gap stamp room old new hc pages same =
+    let first = same (3 + gap + length pages) (omega arith) in
+    let second = same (4 + 2 * gap + 2 * length pages) (omega arith) in
+    let copies = copies_same stamp old new (3 + gap) (4 + 2 * gap + length pages) pages (λ k le lt. same k (omega arith)) (λ k le lt. same k (omega arith)) in
+    λ i. if nat_le (record_len gap (length pages)) room then option_and_then (λ x. option_map (serving_with hc pages x) (copies i)) (serving (is_end stamp (length pages)) (first i) (second i)) else None
 
 -- by its header
-pub record ByHeader (p : ℕ) (stamp : Stamp) (room : ℕ) (at : Reader) (hc : Bool) (h : Option (List ℕ)) (f : Serving) : Type 0 where
+pub record ByHeader (gap : ℕ) (p : ℕ) (stamp : Stamp) (room : ℕ) (at : Reader) (hc : Bool) (h : Option (List ℕ)) (f : Serving) : Type 0 where
   pub header : option_and_then (read_header p stamp) h ≡ Some f.pages
-  pub good : judged_with stamp room at hc f.pages ≡ Some f
+  pub good : judged_with gap stamp room at hc f.pages ≡ Some f
 
 pub mapped_some : {A B C : Type 0} (o : Option A) (rest : Option B) (f : A → B → C) (z : C) → option_and_then (λ x. option_map (f x) rest) o ≡ Some z → (x : A) × (y : B) × (rest ≡ Some y) × (f x y ≡ z)
 mapped_some None rest f z e = absurd (cc)
@@ -140,56 +140,56 @@ pub if_some : {A : Type 0} (b : Bool) (x : Option A) (z : A) → cond b x None �
 if_some true x z e = (refl, e)
 if_some false x z e = absurd (cc)
 
-with_parts : (stamp : Stamp) (room : ℕ) (at : Reader) (hc : Bool) (pages : List ℕ) (f : Serving) → judged_with stamp room at hc pages ≡ Some f
-    → (nat_le (record_len (length pages)) room ≡ true) × (pages ≡ f.pages) × (page_copies stamp at 3 (4 + length pages) pages ≡ Some f.page_copy)
-with_parts stamp room at hc pages f e =
-    let parts = if_some (nat_le (record_len (length pages)) room) (roomy stamp at hc pages) f e in
-    let made = mapped_some (serving (is_end stamp (length pages)) (at (3 + length pages)) (at (4 + 2 * length pages))) (page_copies stamp at 3 (4 + length pages) pages) (serving_with hc pages) f parts.1 in
+with_parts : (gap : ℕ) → (stamp : Stamp) (room : ℕ) (at : Reader) (hc : Bool) (pages : List ℕ) (f : Serving) → judged_with gap stamp room at hc pages ≡ Some f
+    → (nat_le (record_len gap (length pages)) room ≡ true) × (pages ≡ f.pages) × (page_copies stamp at (3 + gap) (4 + 2 * gap + length pages) pages ≡ Some f.page_copy)
+with_parts gap stamp room at hc pages f e =
+    let parts = if_some (nat_le (record_len gap (length pages)) room) (in_room gap stamp at hc pages) f e in
+    let made = mapped_some (serving (is_end stamp (length pages)) (at (3 + gap + length pages)) (at (4 + 2 * gap + 2 * length pages))) (page_copies stamp at (3 + gap) (4 + 2 * gap + length pages) pages) (serving_with hc pages) f parts.1 in
     (parts.0, ap (λ (s : Serving). s.pages) made.3, made.2 ∙ ap (λ (s : Serving). Some s.page_copy) made.3)
 
-by_header : (p : ℕ) (stamp : Stamp) (room : ℕ) (at : Reader) (hc : Bool) (h : Option (List ℕ)) (f : Serving) → judged_by p stamp room at hc h ≡ Some f → ByHeader p stamp room at hc h f
-by_header p stamp room at hc h f e = by_pages (option_and_then (read_header p stamp) h) refl e
+by_header : (gap : ℕ) → (p : ℕ) (stamp : Stamp) (room : ℕ) (at : Reader) (hc : Bool) (h : Option (List ℕ)) (f : Serving) → judged_by gap p stamp room at hc h ≡ Some f → ByHeader gap p stamp room at hc h f
+by_header gap p stamp room at hc h f e = by_pages (option_and_then (read_header p stamp) h) refl e
   where
-    by_pages : (o : Option (List ℕ)) → option_and_then (read_header p stamp) h ≡ o → option_and_then (judged_with stamp room at hc) o ≡ Some f → ByHeader p stamp room at hc h f
+    by_pages : (o : Option (List ℕ)) → option_and_then (read_header p stamp) h ≡ o → option_and_then (judged_with gap stamp room at hc) o ≡ Some f → ByHeader gap p stamp room at hc h f
     by_pages None is given = absurd (cc)
     by_pages (Some pages) is given =
-        let same = (with_parts stamp room at hc pages f given).1 in
-        record { header = is ∙ ap (λ (x : List ℕ). Some x) same; good = subst (λ (x : List ℕ). judged_with stamp room at hc x ≡ Some f) same given }
+        let same = (with_parts gap stamp room at hc pages f given).1 in
+        record { header = is ∙ ap (λ (x : List ℕ). Some x) same; good = subst (λ (x : List ℕ). judged_with gap stamp room at hc x ≡ Some f) same given }
 
 or_some : {A : Type 0} (x y : Option A) (z : A) → option_or x y ≡ Some z → (x ≡ Some z) ⊎ ((x ≡ None) × (y ≡ Some z))
 or_some None y z e = inr (refl, e)
 or_some (Some x) y z e = inl e
 
 -- which of the two it is
-pub record IsJudged (p : ℕ) (stamp : Stamp) (room : ℕ) (at : Reader) (f : Serving) : Type 0 where
-  pub roomy : nat_le (record_len (length f.pages)) room ≡ true
-  pub copies : page_copies stamp at 3 (4 + length f.pages) f.pages ≡ Some f.page_copy
-  pub by : ByHeader p stamp room at false (at 0) f ⊎ ((judged_by p stamp room at false (at 0) ≡ None) × ByHeader p stamp room at true (at 2) f)
+pub record IsJudged (gap : ℕ) (p : ℕ) (stamp : Stamp) (room : ℕ) (at : Reader) (f : Serving) : Type 0 where
+  pub roomy : nat_le (record_len gap (length f.pages)) room ≡ true
+  pub copies : page_copies stamp at (3 + gap) (4 + 2 * gap + length f.pages) f.pages ≡ Some f.page_copy
+  pub by : ByHeader gap p stamp room at false (at 0) f ⊎ ((judged_by gap p stamp room at false (at 0) ≡ None) × ByHeader gap p stamp room at true (at (2 + gap)) f)
 
-pub is_judged : (p : ℕ) (stamp : Stamp) (room : ℕ) (at : Reader) (f : Serving) → judged p stamp room at ≡ Some f → IsJudged p stamp room at f
+pub is_judged : (gap : ℕ) → (p : ℕ) (stamp : Stamp) (room : ℕ) (at : Reader) (f : Serving) → judged gap p stamp room at ≡ Some f → IsJudged gap p stamp room at f
 unfolding judged
-is_judged p stamp room at f e =
-    elim (or_some (judged_by p stamp room at false (at 0)) (judged_by p stamp room at true (at 2)) f e) [
-      | inl first ↦ let by = by_header p stamp room at false (at 0) f first in let parts = with_parts stamp room at false f.pages f by.good in record { roomy = parts.0; copies = parts.2; by = inl by }
-      | inr second ↦ let by = by_header p stamp room at true (at 2) f second.1 in let parts = with_parts stamp room at true f.pages f by.good in record { roomy = parts.0; copies = parts.2; by = inr (second.0, by) }
+is_judged gap p stamp room at f e =
+    elim (or_some (judged_by gap p stamp room at false (at 0)) (judged_by gap p stamp room at true (at (2 + gap))) f e) [
+      | inl first ↦ let by = by_header gap p stamp room at false (at 0) f first in let parts = with_parts gap stamp room at false f.pages f by.good in record { roomy = parts.0; copies = parts.2; by = inl by }
+      | inr second ↦ let by = by_header gap p stamp room at true (at (2 + gap)) f second.1 in let parts = with_parts gap stamp room at true f.pages f by.good in record { roomy = parts.0; copies = parts.2; by = inr (second.0, by) }
     ]
 
-module _ (stamp : Stamp) (fits : FitsStamp stamp) (old new : Reader) (less : ReadsLess stamp old new) where
-  pub judged_keeps : (p room : ℕ) (f : Serving) → judged p stamp room old ≡ Some f → Alike old new (record_len (length f.pages)) → judged p stamp room new ≡ Some f
+module _ (gap : ℕ) (stamp : Stamp) (fits : FitsStamp stamp) (old new : Reader) (less : ReadsLess stamp old new) where
+  pub judged_keeps : (p room : ℕ) (f : Serving) → judged gap p stamp room old ≡ Some f → Alike old new (record_len gap (length f.pages)) → judged gap p stamp room new ≡ Some f
   unfolding judged
-  judged_keeps p room f e same = by_case (is_judged p stamp room old f e).by
+  judged_keeps p room f e same = by_case (is_judged gap p stamp room old f e).by
     where
-      again : (hc : Bool) (k : ℕ) → new k ≡ old k → ByHeader p stamp room old hc (old k) f → judged_by p stamp room new hc (new k) ≡ Some f
+      again : (hc : Bool) (k : ℕ) → new k ≡ old k → ByHeader gap p stamp room old hc (old k) f → judged_by gap p stamp room new hc (new k) ≡ Some f
       again hc k here by =
-          ap (λ (h : Option (List ℕ)). judged_by p stamp room new hc h) here
-          ∙ ap (λ (o : Option (List ℕ)). option_and_then (judged_with stamp room new hc) o) by.header
-          ∙ with_same stamp room old new hc f.pages same ∙ by.good
+          ap (λ (h : Option (List ℕ)). judged_by gap p stamp room new hc h) here
+          ∙ ap (λ (o : Option (List ℕ)). option_and_then (judged_with gap stamp room new hc) o) by.header
+          ∙ with_same gap stamp room old new hc f.pages same ∙ by.good
 
-      by_case : ByHeader p stamp room old false (old 0) f ⊎ ((judged_by p stamp room old false (old 0) ≡ None) × ByHeader p stamp room old true (old 2) f) → judged p stamp room new ≡ Some f
-      by_case (inl first) = ap (λ (o : Option Serving). option_or o (judged_by p stamp room new true (new 2))) (again false 0 (same 0 (omega arith)) first)
+      by_case : ByHeader gap p stamp room old false (old 0) f ⊎ ((judged_by gap p stamp room old false (old 0) ≡ None) × ByHeader gap p stamp room old true (old (2 + gap)) f) → judged gap p stamp room new ≡ Some f
+      by_case (inl first) = ap (λ (o : Option Serving). option_or o (judged_by gap p stamp room new true (new (2 + gap)))) (again false 0 (same 0 (omega arith)) first)
       by_case (inr second) =
-          ap (λ (o : Option Serving). option_or o (judged_by p stamp room new true (new 2))) (by_less stamp fits old new less p room false (old 0) (new 0) (less.each 0) second.0)
-          ∙ again true 2 (same 2 (omega arith)) second.1
+          ap (λ (o : Option Serving). option_or o (judged_by gap p stamp room new true (new (2 + gap)))) (by_less gap stamp fits old new less p room false (old 0) (new 0) (less.each 0) second.0)
+          ∙ again true (2 + gap) (same (2 + gap) (omega arith)) second.1
 
 -- ---- the images
 
@@ -215,10 +215,10 @@ images_same old new a c (x ∷ cs) first second =
     either true p q = q
     either false p q = p
 
-pub record_with_same : (number : ℕ) (p : ℕ) (stamp : Stamp) (room : ℕ) (old new : Reader) (f : Serving) → IsJudged p stamp room old f → Alike old new (record_len (length f.pages)) → logged_of number new f ≡ logged_of number old f
-record_with_same number p stamp room old new f is same =
-    let many = length-copies stamp old 3 (4 + length f.pages) f.pages f.page_copy is.copies in
-    let images = images_same old new 3 (4 + length f.pages) f.page_copy (λ k le lt. same k (omega (arith, many))) (λ k le lt. same k (omega (arith, many))) in
+pub record_with_same : (gap : ℕ) → (number : ℕ) (p : ℕ) (stamp : Stamp) (room : ℕ) (old new : Reader) (f : Serving) → IsJudged gap p stamp room old f → Alike old new (record_len gap (length f.pages)) → logged_of gap number new f ≡ logged_of gap number old f
+record_with_same gap number p stamp room old new f is same =
+    let many = length-copies stamp old (3 + gap) (4 + 2 * gap + length f.pages) f.pages f.page_copy is.copies in
+    let images = images_same old new (3 + gap) (4 + 2 * gap + length f.pages) f.page_copy (λ k le lt. same k (omega (arith, many))) (λ k le lt. same k (omega (arith, many))) in
     λ i. record { number = number; pages = f.pages; images = images i }
 
 pub map_none : {A B : Type 0} (f : A → B) (o : Option A) → option_map f o ≡ None → o ≡ None
@@ -227,34 +227,34 @@ map_none f (Some x) e = absurd (cc)
 
 -- the record with its images
 
-module _ (p : ℕ) (stamp : Stamp) (fits : FitsStamp stamp) (room : ℕ) (old new : Reader) (less : ReadsLess stamp old new) where
-  pub record_less : record_in p stamp room old ≡ None → record_in p stamp room new ≡ None
+module _ (gap : ℕ) (p : ℕ) (stamp : Stamp) (fits : FitsStamp stamp) (room : ℕ) (old new : Reader) (less : ReadsLess stamp old new) where
+  pub record_less : record_in gap p stamp room old ≡ None → record_in gap p stamp room new ≡ None
   unfolding record_in
-  record_less none = ap (option_map (logged_of stamp.number new)) (judged_less stamp fits old new less p room (map_none (logged_of stamp.number old) (judged p stamp room old) none))
+  record_less none = ap (option_map (logged_of gap stamp.number new)) (judged_less gap stamp fits old new less p room (map_none (logged_of gap stamp.number old) (judged gap p stamp room old) none))
 
-  pub record_keeps : (r : Logged) → record_in p stamp room old ≡ Some r → Alike old new (record_len (length r.pages)) → record_in p stamp room new ≡ Some r
+  pub record_keeps : (r : Logged) → record_in gap p stamp room old ≡ Some r → Alike old new (record_len gap (length r.pages)) → record_in gap p stamp room new ≡ Some r
   unfolding record_in
-  record_keeps r e same = by_judged (judged p stamp room old) refl e
+  record_keeps r e same = by_judged (judged gap p stamp room old) refl e
     where
-      by_judged : (o : Option Serving) → judged p stamp room old ≡ o → option_map (logged_of stamp.number old) o ≡ Some r → record_in p stamp room new ≡ Some r
+      by_judged : (o : Option Serving) → judged gap p stamp room old ≡ o → option_map (logged_of gap stamp.number old) o ≡ Some r → record_in gap p stamp room new ≡ Some r
       by_judged None is given = absurd (cc)
       by_judged (Some f) is given =
-          let made : logged_of stamp.number old f ≡ r = cc in
+          let made : logged_of gap stamp.number old f ≡ r = cc in
           let pages : f.pages ≡ r.pages = ap (λ (x : Logged). x.pages) made in
-          let alike : Alike old new (record_len (length f.pages)) = subst (λ (x : List ℕ). Alike old new (record_len (length x))) (sym pages) same in
-          ap (option_map (logged_of stamp.number new)) (judged_keeps stamp fits old new less p room f is alike)
-          ∙ ap (λ (x : Logged). Some x) (record_with_same stamp.number p stamp room old new f (is_judged p stamp room old f is) alike ∙ made)
+          let alike : Alike old new (record_len gap (length f.pages)) = subst (λ (x : List ℕ). Alike old new (record_len gap (length x))) (sym pages) same in
+          ap (option_map (logged_of gap stamp.number new)) (judged_keeps gap stamp fits old new less p room f is alike)
+          ∙ ap (λ (x : Logged). Some x) (record_with_same gap stamp.number p stamp room old new f (is_judged gap p stamp room old f is) alike ∙ made)
 
-pub record_room : (p : ℕ) (stamp : Stamp) (room : ℕ) (at : Reader) (r : Logged) → record_in p stamp room at ≡ Some r → record_len (length r.pages) ≤ room
+pub record_room : (gap : ℕ) → (p : ℕ) (stamp : Stamp) (room : ℕ) (at : Reader) (r : Logged) → record_in gap p stamp room at ≡ Some r → record_len gap (length r.pages) ≤ room
 unfolding record_in
-record_room p stamp room at r e = by_judged (judged p stamp room at) refl e
+record_room gap p stamp room at r e = by_judged (judged gap p stamp room at) refl e
   where
-    by_judged : (o : Option Serving) → judged p stamp room at ≡ o → option_map (logged_of stamp.number at) o ≡ Some r → record_len (length r.pages) ≤ room
+    by_judged : (o : Option Serving) → judged gap p stamp room at ≡ o → option_map (logged_of gap stamp.number at) o ≡ Some r → record_len gap (length r.pages) ≤ room
     by_judged None is given = absurd (cc)
     by_judged (Some f) is given =
-        let made : logged_of stamp.number at f ≡ r = cc in
+        let made : logged_of gap stamp.number at f ≡ r = cc in
         let pages : f.pages ≡ r.pages = ap (λ (x : Logged). x.pages) made in
-        leb-true (record_len (length r.pages)) room (ap (λ (x : List ℕ). nat_le (record_len (length x)) room) (sym pages) ∙ (is_judged p stamp room at f is).roomy)
+        leb-true (record_len gap (length r.pages)) room (ap (λ (x : List ℕ). nat_le (record_len gap (length x)) room) (sym pages) ∙ (is_judged gap p stamp room at f is).roomy)
 
 -- ---- a record that is laid, and one that is laid in part
 
@@ -286,58 +286,58 @@ images_stand stamp at a c (page ∷ pages) [] stand = absurd stand
 images_stand stamp at a c (page ∷ pages) (image ∷ images) stand = λ i. unwrap_or (stand.0.0 i) [] ∷ images_stand stamp at (a + 1) (c + 1) pages images stand.1 i
 
 -- the front of a record stands: header, pages and end
-pub record FrontStands (stamp : Stamp) (pages : List ℕ) (images : List (List ℕ)) (at : Reader) : Type 0 where
+pub record FrontStands (gap : ℕ) (stamp : Stamp) (pages : List ℕ) (images : List (List ℕ)) (at : Reader) : Type 0 where
   pub header : at 0 ≡ Some (header_bytes stamp pages)
-  pub whole : ImagesStand stamp at 3 pages images
-  pub ends : at (3 + length pages) ≡ Some (end_bytes stamp (length pages))
+  pub whole : ImagesStand stamp at (3 + gap) pages images
+  pub ends : at (3 + gap + length pages) ≡ Some (end_bytes stamp (length pages))
 
 both_none : (b : Bool) → cond {A = Option Serving} b None None ≡ None
 both_none true = refl
 both_none false = refl
 
-module _ (p : ℕ) (stamp : Stamp) (pages : List ℕ) (accepted : are_pages p pages ≡ true) (small : AllByRecursion (λ n. n < 2 ^ 32) pages) (few : length pages < 2 ^ 16) (at : Reader) (room : ℕ) where
+module _ (gap : ℕ) (p : ℕ) (stamp : Stamp) (pages : List ℕ) (accepted : are_pages p pages ≡ true) (small : AllByRecursion (λ n. n < 2 ^ 32) pages) (few : length pages < 2 ^ 16) (at : Reader) (room : ℕ) where
   reads_header : (o : Option (List ℕ)) → o ≡ Some (header_bytes stamp pages) → option_and_then (read_header p stamp) o ≡ Some pages
   reads_header o is = ap (λ (x : Option (List ℕ)). option_and_then (read_header p stamp) x) is ∙ header_is_read p stamp pages accepted small few
 
-  pub front_served : (images : List (List ℕ)) → FrontStands stamp pages images at → record_len (length pages) ≤ room → judged p stamp room at ≡ Some (serving_with false pages false (firsts pages))
+  pub front_served : (images : List (List ℕ)) → FrontStands gap stamp pages images at → record_len gap (length pages) ≤ room → judged gap p stamp room at ≡ Some (serving_with false pages false (firsts pages))
   unfolding judged
   front_served images stands long =
-      let end_passes : passes (is_end stamp (length pages)) (at (3 + length pages)) ≡ true = ap (passes (is_end stamp (length pages))) stands.ends ∙ is_same (end_bytes stamp (length pages)) in
-      let good : judged_with stamp room at false pages ≡ Some (serving_with false pages false (firsts pages)) =
+      let end_passes : passes (is_end stamp (length pages)) (at (3 + gap + length pages)) ≡ true = ap (passes (is_end stamp (length pages))) stands.ends ∙ is_same (end_bytes stamp (length pages)) in
+      let good : judged_with gap stamp room at false pages ≡ Some (serving_with false pages false (firsts pages)) =
       cond-true _ _ None (le-leb _ _ long)
-      ∙ λ i. option_and_then (λ x. option_map (serving_with false pages x) (copies_stand stamp at 3 (4 + length pages) pages images stands.whole i)) (first_serves (is_end stamp (length pages)) (at (3 + length pages)) (at (4 + 2 * length pages)) end_passes i) in
-      let by : judged_by p stamp room at false (at 0) ≡ Some (serving_with false pages false (firsts pages)) = ap (λ (o : Option (List ℕ)). option_and_then (judged_with stamp room at false) o) (reads_header (at 0) stands.header) ∙ good in
-      ap (λ (o : Option Serving). option_or o (judged_by p stamp room at true (at 2))) by
+      ∙ λ i. option_and_then (λ x. option_map (serving_with false pages x) (copies_stand stamp at (3 + gap) (4 + 2 * gap + length pages) pages images stands.whole i)) (first_serves (is_end stamp (length pages)) (at (3 + gap + length pages)) (at (4 + 2 * gap + 2 * length pages)) end_passes i) in
+      let by : judged_by gap p stamp room at false (at 0) ≡ Some (serving_with false pages false (firsts pages)) = ap (λ (o : Option (List ℕ)). option_and_then (judged_with gap stamp room at false) o) (reads_header (at 0) stands.header) ∙ good in
+      ap (λ (o : Option Serving). option_or o (judged_by gap p stamp room at true (at (2 + gap)))) by
 
-  pub front_judged : (images : List (List ℕ)) → FrontStands stamp pages images at → record_len (length pages) ≤ room → record_in p stamp room at ≡ Some (record { number = stamp.number; pages = pages; images = images })
+  pub front_judged : (images : List (List ℕ)) → FrontStands gap stamp pages images at → record_len gap (length pages) ≤ room → record_in gap p stamp room at ≡ Some (record { number = stamp.number; pages = pages; images = images })
   unfolding record_in
   front_judged images stands long =
-      ap (option_map (logged_of stamp.number at)) (front_served images stands long)
-      ∙ λ i. Some (record { number = stamp.number; pages = pages; images = images_stand stamp at 3 (4 + length pages) pages images stands.whole i })
+      ap (option_map (logged_of gap stamp.number at)) (front_served images stands long)
+      ∙ λ i. Some (record { number = stamp.number; pages = pages; images = images_stand stamp at (3 + gap) (4 + 2 * gap + length pages) pages images stands.whole i })
 
   -- neither end is of this record, and headers are this one's or none: it isn't there
-  pub endless_absent : FitsStamp stamp → (at 0 ≡ Some (header_bytes stamp pages)) ⊎ Foreign stamp (at 0) → (at 2 ≡ Some (header_bytes stamp pages)) ⊎ Foreign stamp (at 2)
-      → Foreign stamp (at (3 + length pages)) → Foreign stamp (at (4 + 2 * length pages)) → record_in p stamp room at ≡ None
+  pub endless_absent : FitsStamp stamp → (at 0 ≡ Some (header_bytes stamp pages)) ⊎ Foreign stamp (at 0) → (at (2 + gap) ≡ Some (header_bytes stamp pages)) ⊎ Foreign stamp (at (2 + gap))
+      → Foreign stamp (at (3 + gap + length pages)) → Foreign stamp (at (4 + 2 * gap + 2 * length pages)) → record_in gap p stamp room at ≡ None
   unfolding record_in judged
   endless_absent fits h0 h2 e0 e1 =
-      ap (option_map (logged_of stamp.number at)) (ap (λ (o : Option Serving). option_or o (judged_by p stamp room at true (at 2))) (none_by false (at 0) h0) ∙ none_by true (at 2) h2)
+      ap (option_map (logged_of gap stamp.number at)) (ap (λ (o : Option Serving). option_or o (judged_by gap p stamp room at true (at (2 + gap)))) (none_by false (at 0) h0) ∙ none_by true (at (2 + gap)) h2)
     where
-      none_with : (hc : Bool) → judged_with stamp room at hc pages ≡ None
+      none_with : (hc : Bool) → judged_with gap stamp room at hc pages ≡ None
       none_with hc =
-          let none : serving (is_end stamp (length pages)) (at (3 + length pages)) (at (4 + 2 * length pages)) ≡ None =
-          (λ i. if foreign_end stamp fits (length pages) (at (3 + length pages)) e0 i then Some false else (if foreign_end stamp fits (length pages) (at (4 + 2 * length pages)) e1 i then Some true else None)) in
-          ap (λ (o : Option Bool). if nat_le (record_len (length pages)) room then option_and_then (λ x. option_map (serving_with hc pages x) (page_copies stamp at 3 (4 + length pages) pages)) o else None) none
-          ∙ both_none (nat_le (record_len (length pages)) room)
+          let none : serving (is_end stamp (length pages)) (at (3 + gap + length pages)) (at (4 + 2 * gap + 2 * length pages)) ≡ None =
+          (λ i. if foreign_end stamp fits (length pages) (at (3 + gap + length pages)) e0 i then Some false else (if foreign_end stamp fits (length pages) (at (4 + 2 * gap + 2 * length pages)) e1 i then Some true else None)) in
+          ap (λ (o : Option Bool). if nat_le (record_len gap (length pages)) room then option_and_then (λ x. option_map (serving_with hc pages x) (page_copies stamp at (3 + gap) (4 + 2 * gap + length pages) pages)) o else None) none
+          ∙ both_none (nat_le (record_len gap (length pages)) room)
 
-      none_by : (hc : Bool) (o : Option (List ℕ)) → (o ≡ Some (header_bytes stamp pages)) ⊎ Foreign stamp o → judged_by p stamp room at hc o ≡ None
-      none_by hc o (inl is) = ap (λ (x : Option (List ℕ)). option_and_then (judged_with stamp room at hc) x) (reads_header o is) ∙ none_with hc
+      none_by : (hc : Bool) (o : Option (List ℕ)) → (o ≡ Some (header_bytes stamp pages)) ⊎ Foreign stamp o → judged_by gap p stamp room at hc o ≡ None
+      none_by hc o (inl is) = ap (λ (x : Option (List ℕ)). option_and_then (judged_with gap stamp room at hc) x) (reads_header o is) ∙ none_with hc
       none_by hc None (inr foreign) = refl
-      none_by hc (Some bytes) (inr foreign) = ap (λ (x : Option (List ℕ)). option_and_then (judged_with stamp room at hc) x) (foreign_header stamp fits p bytes foreign)
+      none_by hc (Some bytes) (inr foreign) = ap (λ (x : Option (List ℕ)). option_and_then (judged_with gap stamp room at hc) x) (foreign_header stamp fits p bytes foreign)
 
 -- where every sector bears nothing of it, it isn't there
-pub foreign_absent : (p : ℕ) (stamp : Stamp) (fits : FitsStamp stamp) (room : ℕ) (at : Reader) → ((k : ℕ) → Foreign stamp (at k)) → record_in p stamp room at ≡ None
+pub foreign_absent : (gap : ℕ) → (p : ℕ) (stamp : Stamp) (fits : FitsStamp stamp) (room : ℕ) (at : Reader) → ((k : ℕ) → Foreign stamp (at k)) → record_in gap p stamp room at ≡ None
 unfolding record_in judged
-foreign_absent p stamp fits room at none = record_less p stamp fits room (λ k. None) at (record { each = λ k. inr (none k) }) refl
+foreign_absent gap p stamp fits room at none = record_less gap p stamp fits room (λ k. None) at (record { each = λ k. inr (none k) }) refl
 
 -- ---- one image
 

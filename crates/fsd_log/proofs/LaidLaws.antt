@@ -3,12 +3,12 @@ use Rattle.std.proofs.Common.{◌≡◌, ℕ, zero, suc, ◌+◌, ◌-◌, ◌*�
 use Rattle.std.specs.Prelude.{codes}
 use Rattle.std.specs.List.{flat_map}
 use Rattle.std.proofs.lemmas.Bool.{cases_lt, cases_eq}
-use Rattle.std.proofs.lemmas.List.{take_at, drop_at, drop-drop, take-append-le, drop-append-le, length-append, length-drop, length-replicate}
+use Rattle.std.proofs.lemmas.List.{take_at, drop_at, drop-drop, take-append-le, drop-append-le, length-append, length-drop, length-replicate, drop-replicate, take-replicate}
 use Rattle.fsd_bytes.specs.Bytes.{u16, u32, zeros, sector}
 use Rattle.fsd_formats.specs.Record.{Stamp, stamp_bytes, header_bytes, end_bytes, bears, AreStamped, record_len}
 use Rattle.fsd_log.specs.Judged.{Reader, slice_of}
 use Rattle.fsd_log.specs.Borne.{borne_by, FitsStamp}
-use Rattle.fsd_log.specs.Laid.{laid_bytes, slices_from}
+use Rattle.fsd_log.specs.Laid.{blanks, laid_bytes, slices_from}
 use Rattle.fsd_log.proofs.BorneLaws.{header_bears, end_bears, page_bears}
 use Rattle.fsd_log.proofs.JudgedLaws.{ImagesStand}
 
@@ -48,66 +48,90 @@ header_long stamp pages few = sector_long (codes "CLHD" ++ stamp_bytes stamp ++ 
 
 -- ---- the rows
 
-module _ (h z e images : List ℕ) (n : ℕ) (lh : length h ≡ 512) (lz : length z ≡ 512) (le : length e ≡ 512) (li : length images ≡ 512 * n) where
+-- a blank sector of some
+blank_slice : (count j : ℕ) → j < count → slice_of (blanks count) j ≡ zeros 512
+blank_slice count j lt =
+    ap (take 512) (drop-replicate (512 * j) (512 * count) 0)
+    ∙ take-replicate 512 (512 * count - 512 * j) 0 (omega arith)
+
+pub blanks_long : (count : ℕ) → length (blanks count) ≡ 512 * count
+blanks_long count = length-replicate {A = ℕ} (512 * count) 0
+
+module _ (gap : ℕ) (h e images : List ℕ) (n : ℕ) (lh : length h ≡ 512) (le : length e ≡ 512) (li : length images ≡ 512 * n) where
   abbrev pub all : List ℕ
-  all = h ++ (z ++ (h ++ (images ++ (e ++ (images ++ e)))))
+  all = h ++ (blanks (1 + gap) ++ (h ++ (images ++ (e ++ (blanks gap ++ (images ++ e))))))
 
   pub row_0 : slice_of all 0 ≡ h
-  row_0 = slice_whole h (z ++ (h ++ (images ++ (e ++ (images ++ e))))) lh
+  row_0 = slice_whole h (blanks (1 + gap) ++ (h ++ (images ++ (e ++ (blanks gap ++ (images ++ e)))))) lh
 
-  past_1 : (k j : ℕ) → k ≡ 1 + j → slice_of all k ≡ slice_of (z ++ (h ++ (images ++ (e ++ (images ++ e))))) j
-  past_1 k j at = slice_behind h (z ++ (h ++ (images ++ (e ++ (images ++ e))))) 1 j k lh at
+  past_1 : (k j : ℕ) → k ≡ 1 + j → slice_of all k ≡ slice_of (blanks (1 + gap) ++ (h ++ (images ++ (e ++ (blanks gap ++ (images ++ e)))))) j
+  past_1 k j at = slice_behind h (blanks (1 + gap) ++ (h ++ (images ++ (e ++ (blanks gap ++ (images ++ e)))))) 1 j k lh at
 
-  pub row_1 : slice_of all 1 ≡ z
-  row_1 = past_1 1 0 refl ∙ slice_whole z (h ++ (images ++ (e ++ (images ++ e)))) lz
+  pub row_1 : (k : ℕ) → 1 ≤ k → k < 2 + gap → slice_of all k ≡ zeros 512
+  row_1 k ge lt =
+      past_1 k (k - 1) (omega arith)
+      ∙ slice_within (blanks (1 + gap)) (h ++ (images ++ (e ++ (blanks gap ++ (images ++ e))))) (1 + gap) (k - 1) (blanks_long (1 + gap)) (omega arith)
+      ∙ blank_slice (1 + gap) (k - 1) (omega arith)
 
-  past_2 : (k j : ℕ) → k ≡ 2 + j → slice_of all k ≡ slice_of (h ++ (images ++ (e ++ (images ++ e)))) j
-  past_2 k j at = past_1 k (1 + j) (omega arith) ∙ slice_behind z (h ++ (images ++ (e ++ (images ++ e)))) 1 j (1 + j) lz refl
+  past_2 : (k j : ℕ) → k ≡ 2 + gap + j → slice_of all k ≡ slice_of (h ++ (images ++ (e ++ (blanks gap ++ (images ++ e))))) j
+  past_2 k j at = past_1 k (1 + gap + j) (omega arith) ∙ slice_behind (blanks (1 + gap)) (h ++ (images ++ (e ++ (blanks gap ++ (images ++ e))))) (1 + gap) j (1 + gap + j) (blanks_long (1 + gap)) refl
 
-  pub row_2 : slice_of all 2 ≡ h
-  row_2 = past_2 2 0 refl ∙ slice_whole h (images ++ (e ++ (images ++ e))) lh
+  pub row_2 : slice_of all (2 + gap) ≡ h
+  row_2 = past_2 (2 + gap) 0 (omega arith) ∙ slice_whole h (images ++ (e ++ (blanks gap ++ (images ++ e)))) lh
 
-  past_3 : (k j : ℕ) → k ≡ 3 + j → slice_of all k ≡ slice_of (images ++ (e ++ (images ++ e))) j
-  past_3 k j at = past_2 k (1 + j) (omega arith) ∙ slice_behind h (images ++ (e ++ (images ++ e))) 1 j (1 + j) lh refl
+  past_3 : (k j : ℕ) → k ≡ 3 + gap + j → slice_of all k ≡ slice_of (images ++ (e ++ (blanks gap ++ (images ++ e)))) j
+  past_3 k j at = past_2 k (1 + j) (omega arith) ∙ slice_behind h (images ++ (e ++ (blanks gap ++ (images ++ e)))) 1 j (1 + j) lh refl
 
-  pub row_image : (j : ℕ) → j < n → slice_of all (3 + j) ≡ slice_of images j
-  row_image j lt = past_3 (3 + j) j refl ∙ slice_within images (e ++ (images ++ e)) n j li lt
+  pub row_image : (j : ℕ) → j < n → slice_of all (3 + gap + j) ≡ slice_of images j
+  row_image j lt = past_3 (3 + gap + j) j refl ∙ slice_within images (e ++ (blanks gap ++ (images ++ e))) n j li lt
 
-  past_images : (k j : ℕ) → k ≡ 3 + n + j → slice_of all k ≡ slice_of (e ++ (images ++ e)) j
-  past_images k j at = past_3 k (n + j) (omega arith) ∙ slice_behind images (e ++ (images ++ e)) n j (n + j) li refl
+  past_images : (k j : ℕ) → k ≡ 3 + gap + n + j → slice_of all k ≡ slice_of (e ++ (blanks gap ++ (images ++ e))) j
+  past_images k j at = past_3 k (n + j) (omega arith) ∙ slice_behind images (e ++ (blanks gap ++ (images ++ e))) n j (n + j) li refl
 
-  pub row_end : slice_of all (3 + n) ≡ e
-  row_end = past_images (3 + n) 0 (omega arith) ∙ slice_whole e (images ++ e) le
+  pub row_end : slice_of all (3 + gap + n) ≡ e
+  row_end = past_images (3 + gap + n) 0 (omega arith) ∙ slice_whole e (blanks gap ++ (images ++ e)) le
 
-  past_end : (k j : ℕ) → k ≡ 4 + n + j → slice_of all k ≡ slice_of (images ++ e) j
-  past_end k j at = past_images k (1 + j) (omega arith) ∙ slice_behind e (images ++ e) 1 j (1 + j) le refl
+  past_end : (k j : ℕ) → k ≡ 4 + gap + n + j → slice_of all k ≡ slice_of (blanks gap ++ (images ++ e)) j
+  past_end k j at = past_images k (1 + j) (omega arith) ∙ slice_behind e (blanks gap ++ (images ++ e)) 1 j (1 + j) le refl
 
-  pub row_copy : (j : ℕ) → j < n → slice_of all (4 + n + j) ≡ slice_of images j
-  row_copy j lt = past_end (4 + n + j) j refl ∙ slice_within images e n j li lt
+  pub row_gap : (k : ℕ) → 4 + gap + n ≤ k → k < 4 + 2 * gap + n → slice_of all k ≡ zeros 512
+  row_gap k ge lt =
+      past_end k (k - (4 + gap + n)) (omega arith)
+      ∙ slice_within (blanks gap) (images ++ e) gap (k - (4 + gap + n)) (blanks_long gap) (omega arith)
+      ∙ blank_slice gap (k - (4 + gap + n)) (omega arith)
 
-  pub row_last : (k : ℕ) → k ≡ 4 + 2 * n → slice_of all k ≡ e
+  past_gap : (k j : ℕ) → k ≡ 4 + 2 * gap + n + j → slice_of all k ≡ slice_of (images ++ e) j
+  past_gap k j at = past_end k (gap + j) (omega arith) ∙ slice_behind (blanks gap) (images ++ e) gap j (gap + j) (blanks_long gap) refl
+
+  pub row_copy : (j : ℕ) → j < n → slice_of all (4 + 2 * gap + n + j) ≡ slice_of images j
+  row_copy j lt = past_gap (4 + 2 * gap + n + j) j refl ∙ slice_within images e n j li lt
+
+  pub row_last : (k : ℕ) → k ≡ 4 + 2 * gap + 2 * n → slice_of all k ≡ e
   row_last k at =
-      past_end k n (omega arith) ∙ slice_behind images e n 0 n li (omega arith)
+      past_gap k n (omega arith) ∙ slice_behind images e n 0 n li (omega arith)
       ∙ slice_all e le
 
-  all_long : length all ≡ 512 * (2 * n + 5)
-  all_long = omega (arith, lh, lz, le, li, length-append h (z ++ (h ++ (images ++ (e ++ (images ++ e))))), length-append z (h ++ (images ++ (e ++ (images ++ e)))), length-append h (images ++ (e ++ (images ++ e))), length-append images (e ++ (images ++ e)), length-append e (images ++ e), length-append images e)
+  pub all_long : length all ≡ 512 * record_len gap n
+  all_long = omega (arith, lh, le, li, blanks_long (1 + gap), blanks_long gap, length-append h (blanks (1 + gap) ++ (h ++ (images ++ (e ++ (blanks gap ++ (images ++ e)))))), length-append (blanks (1 + gap)) (h ++ (images ++ (e ++ (blanks gap ++ (images ++ e))))), length-append h (images ++ (e ++ (blanks gap ++ (images ++ e)))), length-append images (e ++ (blanks gap ++ (images ++ e))), length-append e (blanks gap ++ (images ++ e)), length-append (blanks gap) (images ++ e), length-append images e)
 
   -- a row is one of these
-  row_is : (k : ℕ) → k < 2 * n + 5 → (slice_of all k ≡ h) ⊎ ((slice_of all k ≡ z) ⊎ ((slice_of all k ≡ e) ⊎ ((j : ℕ) × (j < n) × (slice_of all k ≡ slice_of images j))))
+  row_is : (k : ℕ) → k < record_len gap n → (slice_of all k ≡ h) ⊎ ((slice_of all k ≡ zeros 512) ⊎ ((slice_of all k ≡ e) ⊎ ((j : ℕ) × (j < n) × (slice_of all k ≡ slice_of images j))))
   row_is k lt = elim (cases_eq k 0) [
     | inl zeroth ↦ inl (ap (slice_of all) zeroth ∙ row_0)
-    | inr p0 ↦ elim (cases_eq k 1) [
-      | inl first ↦ inr (inl (ap (slice_of all) first ∙ row_1))
-      | inr p1 ↦ elim (cases_eq k 2) [
+    | inr p0 ↦ elim (cases_lt k (2 + gap)) [
+      | inl first ↦ inr (inl (row_1 k (omega arith) first))
+      | inr p1 ↦ elim (cases_eq k (2 + gap)) [
         | inl second ↦ inl (ap (slice_of all) second ∙ row_2)
-        | inr p2 ↦ elim (cases_lt k (3 + n)) [
-          | inl below ↦ inr (inr (inr (k - 3, omega arith, ap (slice_of all) (let at : k ≡ 3 + (k - 3) = omega arith in at) ∙ row_image (k - 3) (omega arith))))
-          | inr above ↦ elim (cases_eq k (3 + n)) [
+        | inr p2 ↦ elim (cases_lt k (3 + gap + n)) [
+          | inl below ↦ inr (inr (inr (k - (3 + gap), omega arith, ap (slice_of all) (let at : k ≡ 3 + gap + (k - (3 + gap)) = omega arith in at) ∙ row_image (k - (3 + gap)) (omega arith))))
+          | inr above ↦ elim (cases_eq k (3 + gap + n)) [
             | inl here ↦ inr (inr (inl (ap (slice_of all) here ∙ row_end)))
-            | inr p3 ↦ elim (cases_eq k (4 + 2 * n)) [
-              | inl last ↦ inr (inr (inl (row_last k last)))
-              | inr p4 ↦ inr (inr (inr (k - 4 - n, omega arith, ap (slice_of all) (let at : k ≡ 4 + n + (k - 4 - n) = omega arith in at) ∙ row_copy (k - 4 - n) (omega arith))))
+            | inr p3 ↦ elim (cases_lt k (4 + 2 * gap + n)) [
+              | inl between ↦ inr (inl (row_gap k (omega arith) between))
+              | inr past ↦ elim (cases_eq k (4 + 2 * gap + 2 * n)) [
+                | inl last ↦ inr (inr (inl (row_last k last)))
+                | inr p4 ↦ inr (inr (inr (k - (4 + 2 * gap + n), omega arith, ap (slice_of all) (let at : k ≡ 4 + 2 * gap + n + (k - (4 + 2 * gap + n)) = omega arith in at) ∙ row_copy (k - (4 + 2 * gap + n)) (omega arith))))
+              ]
             ]
           ]
         ]
@@ -140,33 +164,33 @@ images_at stamp (page ∷ pages) images from k at stamped stand =
     )
 
 -- as it is laid
-pub record IsLaidAs (stamp : Stamp) (pages images bytes : List ℕ) : Type 0 where
-  pub long : length bytes ≡ 512 * record_len (length pages)
+pub record IsLaidAs (gap : ℕ) (stamp : Stamp) (pages images bytes : List ℕ) : Type 0 where
+  pub long : length bytes ≡ 512 * record_len gap (length pages)
   pub header : slice_of bytes 0 ≡ header_bytes stamp pages
-  pub header_copy : slice_of bytes 2 ≡ header_bytes stamp pages
-  pub image : (j : ℕ) → j < length pages → slice_of bytes (3 + j) ≡ slice_of images j
-  pub ends : slice_of bytes (3 + length pages) ≡ end_bytes stamp (length pages)
-  pub copy : (j : ℕ) → j < length pages → slice_of bytes (4 + length pages + j) ≡ slice_of images j
-  pub last : slice_of bytes (4 + 2 * length pages) ≡ end_bytes stamp (length pages)
+  pub header_copy : slice_of bytes (2 + gap) ≡ header_bytes stamp pages
+  pub image : (j : ℕ) → j < length pages → slice_of bytes (3 + gap + j) ≡ slice_of images j
+  pub ends : slice_of bytes (3 + gap + length pages) ≡ end_bytes stamp (length pages)
+  pub copy : (j : ℕ) → j < length pages → slice_of bytes (4 + 2 * gap + length pages + j) ≡ slice_of images j
+  pub last : slice_of bytes (4 + 2 * gap + 2 * length pages) ≡ end_bytes stamp (length pages)
   -- each sector bears this stamp or none
-  pub borne : (k : ℕ) → k < record_len (length pages) → (borne_by (slice_of bytes k) ≡ Some stamp) ⊎ (borne_by (slice_of bytes k) ≡ None)
+  pub borne : (k : ℕ) → k < record_len gap (length pages) → (borne_by (slice_of bytes k) ≡ Some stamp) ⊎ (borne_by (slice_of bytes k) ≡ None)
   pub stamped : AreStamped stamp pages (slices_from 0 images (length pages))
 
-pub laid_as : (stamp : Stamp) (fits : FitsStamp stamp) (pages images : List ℕ) → length pages ≤ 96 → length images ≡ 512 * length pages → AreStamped stamp pages (slices_from 0 images (length pages)) → IsLaidAs stamp pages images (laid_bytes stamp pages images)
+pub laid_as : (gap : ℕ) → (stamp : Stamp) (fits : FitsStamp stamp) (pages images : List ℕ) → length pages ≤ 96 → length images ≡ 512 * length pages → AreStamped stamp pages (slices_from 0 images (length pages)) → IsLaidAs gap stamp pages images (laid_bytes gap stamp pages images)
 unfolding laid_bytes
-laid_as stamp fits pages images few long stamped =
+laid_as gap stamp fits pages images few long stamped =
     let h = header_bytes stamp pages in
     let e = end_bytes stamp (length pages) in
     let lh : length (header_bytes stamp pages) ≡ 512 = header_long stamp pages few in
     record {
-      long = all_long h (sector []) e images (length pages) lh refl refl long;
-      header = row_0 h (sector []) e images (length pages) lh refl refl long;
-      header_copy = row_2 h (sector []) e images (length pages) lh refl refl long;
-      image = λ j lt. row_image h (sector []) e images (length pages) lh refl refl long j lt;
-      ends = row_end h (sector []) e images (length pages) lh refl refl long;
-      copy = λ j lt. row_copy h (sector []) e images (length pages) lh refl refl long j lt;
-      last = row_last h (sector []) e images (length pages) lh refl refl long (4 + 2 * length pages) refl;
-      borne = λ k lt. elim (row_is h (sector []) e images (length pages) lh refl refl long k lt) [
+      long = all_long gap h e images (length pages) lh refl long;
+      header = row_0 gap h e images (length pages) lh refl long;
+      header_copy = row_2 gap h e images (length pages) lh refl long;
+      image = λ j lt. row_image gap h e images (length pages) lh refl long j lt;
+      ends = row_end gap h e images (length pages) lh refl long;
+      copy = λ j lt. row_copy gap h e images (length pages) lh refl long j lt;
+      last = row_last gap h e images (length pages) lh refl long (4 + 2 * gap + 2 * length pages) refl;
+      borne = λ k lt. elim (row_is gap h e images (length pages) lh refl long k lt) [
         | inl header ↦ inl (ap borne_by header ∙ header_bears stamp fits pages)
         | inr (inl blank) ↦ inr (ap borne_by blank)
         | inr (inr (inl last)) ↦ inl (ap borne_by last ∙ end_bears stamp fits (length pages))

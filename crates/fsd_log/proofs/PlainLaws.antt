@@ -45,33 +45,33 @@ images_same stamp at k c (page ∷ pages) =
     by_parts (Some d) None = refl
     by_parts (Some d) (Some cs) = λ i. Some (unwrap_or (at_either at k c d i) [] ∷ images_of at (k + 1) (c + 1) cs)
 
-with_same : (stamp : Stamp) (room : ℕ) (at : Reader) (hc : Bool) (pages : List ℕ) → record_with stamp room at pages ≡ option_map (logged_of stamp.number at) (judged_with stamp room at hc pages)
-with_same stamp room at hc pages =
-    (λ i. if nat_le (record_len (length pages)) room && is_some (serve_same (is_end stamp (length pages)) (at (3 + length pages)) (at (4 + 2 * length pages)) i)
-    then option_map (λ images. record { number = stamp.number; pages = pages; images = images }) (images_same stamp at 3 (4 + length pages) pages i) else None)
-    ∙ by_parts (nat_le (record_len (length pages)) room) (serving (is_end stamp (length pages)) (at (3 + length pages)) (at (4 + 2 * length pages))) (page_copies stamp at 3 (4 + length pages) pages)
+with_same : (gap : ℕ) → (stamp : Stamp) (room : ℕ) (at : Reader) (hc : Bool) (pages : List ℕ) → record_with gap stamp room at pages ≡ option_map (logged_of gap stamp.number at) (judged_with gap stamp room at hc pages)
+with_same gap stamp room at hc pages =
+    (λ i. if nat_le (record_len gap (length pages)) room && is_some (serve_same (is_end stamp (length pages)) (at (3 + gap + length pages)) (at (4 + 2 * gap + 2 * length pages)) i)
+    then option_map (λ images. record { number = stamp.number; pages = pages; images = images }) (images_same stamp at (3 + gap) (4 + 2 * gap + length pages) pages i) else None)
+    ∙ by_parts (nat_le (record_len gap (length pages)) room) (serving (is_end stamp (length pages)) (at (3 + gap + length pages)) (at (4 + 2 * gap + 2 * length pages))) (page_copies stamp at (3 + gap) (4 + 2 * gap + length pages) pages)
   where
     by_parts : (b : Bool) (e : Option Bool) (cs : Option (List Bool)) →
-        cond (b && is_some (option_map (λ d. unwrap_or (if d then at (4 + 2 * length pages) else at (3 + length pages)) []) e)) (option_map (λ images. record { number = stamp.number; pages = pages; images = images }) (option_map (images_of at 3 (4 + length pages)) cs)) None
-        ≡ option_map (logged_of stamp.number at) (cond b (option_and_then (λ x. option_map (λ more. record { pages = pages; header_copy = hc; end_copy = x; page_copy = more }) cs) e) None)
+        cond (b && is_some (option_map (λ d. unwrap_or (if d then at (4 + 2 * gap + 2 * length pages) else at (3 + gap + length pages)) []) e)) (option_map (λ images. record { number = stamp.number; pages = pages; images = images }) (option_map (images_of at (3 + gap) (4 + 2 * gap + length pages)) cs)) None
+        ≡ option_map (logged_of gap stamp.number at) (cond b (option_and_then (λ x. option_map (λ more. record { pages = pages; header_copy = hc; end_copy = x; page_copy = more }) cs) e) None)
     by_parts false e cs = refl
     by_parts true None cs = refl
     by_parts true (Some x) None = refl
     by_parts true (Some x) (Some cs) = refl
 
-by_same : (p : ℕ) (stamp : Stamp) (room : ℕ) (at : Reader) (hc : Bool) (k : ℕ) → record_by p stamp room at k ≡ option_map (logged_of stamp.number at) (judged_by p stamp room at hc (at k))
-by_same p stamp room at hc k = by_header (option_and_then (read_header p stamp) (at k))
+by_same : (gap : ℕ) → (p : ℕ) (stamp : Stamp) (room : ℕ) (at : Reader) (hc : Bool) (k : ℕ) → record_by gap p stamp room at k ≡ option_map (logged_of gap stamp.number at) (judged_by gap p stamp room at hc (at k))
+by_same gap p stamp room at hc k = by_header (option_and_then (read_header p stamp) (at k))
   where
-    by_header : (o : Option (List ℕ)) → option_and_then (record_with stamp room at) o ≡ option_map (logged_of stamp.number at) (option_and_then (judged_with stamp room at hc) o)
+    by_header : (o : Option (List ℕ)) → option_and_then (record_with gap stamp room at) o ≡ option_map (logged_of gap stamp.number at) (option_and_then (judged_with gap stamp room at hc) o)
     by_header None = refl
-    by_header (Some pages) = with_same stamp room at hc pages
+    by_header (Some pages) = with_same gap stamp room at hc pages
 
 map_or : {A B : Type 0} (f : A → B) (x y : Option A) → option_or (option_map f x) (option_map f y) ≡ option_map f (option_or x y)
 map_or f None y = refl
 map_or f (Some x) y = refl
 
-pub record_same : (p : ℕ) (stamp : Stamp) (room : ℕ) (at : Reader) → plain_record p stamp room at ≡ record_in p stamp room at
+pub record_same : (gap : ℕ) → (p : ℕ) (stamp : Stamp) (room : ℕ) (at : Reader) → plain_record gap p stamp room at ≡ record_in gap p stamp room at
 unfolding record_in judged
-record_same p stamp room at =
-    (λ i. option_or (by_same p stamp room at false 0 i) (by_same p stamp room at true 2 i))
-    ∙ map_or (logged_of stamp.number at) (judged_by p stamp room at false (at 0)) (judged_by p stamp room at true (at 2))
+record_same gap p stamp room at =
+    (λ i. option_or (by_same gap p stamp room at false 0 i) (by_same gap p stamp room at true (2 + gap) i))
+    ∙ map_or (logged_of gap stamp.number at) (judged_by gap p stamp room at false (at 0)) (judged_by gap p stamp room at true (at (2 + gap)))

@@ -1,5 +1,5 @@
 -- What a record that is read is like: its pages are some of the table's, and each image bears its page and the stamp.
-use Rattle.std.proofs.Common.{◌≡◌, ℕ, zero, suc, ◌+◌, ◌^◌, ◌<◌, ◌≤◌, Bool, true, ◌&&◌, List, [], ◌∷◌, ◌++◌, length, drop, get_or, Option, Some, None, nat_lt, refl, sym, ap, subst, ◌∙◌, arith, ⊎_elim}
+use Rattle.std.proofs.Common.{◌≡◌, ℕ, zero, suc, ◌+◌, ◌*◌, ◌^◌, ◌<◌, ◌≤◌, Bool, true, ◌&&◌, List, [], ◌∷◌, ◌++◌, length, drop, get_or, Option, Some, None, nat_lt, refl, sym, ap, subst, ◌∙◌, arith, ⊎_elim}
 use Rattle.std.specs.Prelude.{option_map, option_and_then, unwrap_or, if◌then◌else◌}
 use Rattle.std.specs.List.{AllByRecursion, list_all}
 use Rattle.std.proofs.lemmas.Bool.{and_parts, ltb-true}
@@ -13,6 +13,7 @@ use Rattle.fsd_log.proofs.BorneLaws.{page_bears}
 use Rattle.fsd_log.proofs.JudgedLaws.{mapped_some, flag_of, is_judged}
 use Rattle.fsd_log.proofs.PlainLaws.{at_either}
 use Rattle.fsd_log.proofs.WornLaws.{serves_which}
+use Rattle.fsd_log.proofs.TornLaws.{are_few}
 
 passes_bytes : (test : List ℕ → Bool) (o : Option (List ℕ)) → passes test o ≡ true → test (unwrap_or o []) ≡ true
 passes_bytes test None e = absurd (cc)
@@ -41,20 +42,24 @@ header_accepted p stamp (Some bytes) pages is =
     let given = given_if (are_pages p named && same_bytes (header_bytes stamp named) bytes) named pages is in
     subst (λ (x : List ℕ). are_pages p x ≡ true) given.1 (and_parts (are_pages p named) (same_bytes (header_bytes stamp named) bytes) given.0).0
 
-pub read_as : (p : ℕ) (stamp : Stamp) (room : ℕ) (at : Reader) (r : Logged) → record_in p stamp room at ≡ Some r → IsReadAs p stamp r
+pub read_as : (gap : ℕ) → (p : ℕ) (stamp : Stamp) (room : ℕ) (at : Reader) (r : Logged) → record_in gap p stamp room at ≡ Some r → IsReadAs p stamp r
 unfolding record_in
-read_as p stamp room at r e = by_judged (judged p stamp room at) refl e
+read_as gap p stamp room at r e = by_judged (judged gap p stamp room at) refl e
   where
-    by_judged : (o : Option Serving) → judged p stamp room at ≡ o → option_map (logged_of stamp.number at) o ≡ Some r → IsReadAs p stamp r
+    by_judged : (o : Option Serving) → judged gap p stamp room at ≡ o → option_map (logged_of gap stamp.number at) o ≡ Some r → IsReadAs p stamp r
     by_judged None is given = absurd (cc)
     by_judged (Some f) is given =
-        let made : logged_of stamp.number at f ≡ r = cc in
-        let judged_as = is_judged p stamp room at f is in
+        let made : logged_of gap stamp.number at f ≡ r = cc in
+        let judged_as = is_judged gap p stamp room at f is in
         subst (IsReadAs p stamp) made (record {
           number = refl;
-          accepted = ⊎_elim (λ by. header_accepted p stamp (at 0) f.pages by.header) (λ by. header_accepted p stamp (at 2) f.pages by.1.header) judged_as.by;
-          stamped = images_bear stamp at 3 (4 + length f.pages) f.pages f.page_copy judged_as.copies;
+          accepted = ⊎_elim (λ by. header_accepted p stamp (at 0) f.pages by.header) (λ by. header_accepted p stamp (at (2 + gap)) f.pages by.1.header) judged_as.by;
+          stamped = images_bear stamp at (3 + gap) (4 + 2 * gap + length f.pages) f.pages f.page_copy judged_as.copies;
         })
+
+pub judged_few : (gap p : ℕ) (stamp : Stamp) (room : ℕ) (at : Reader) (f : Serving) → judged gap p stamp room at ≡ Some f → length f.pages ≤ 96
+judged_few gap p stamp room at f is =
+    are_few p f.pages (⊎_elim (λ by. header_accepted p stamp (at 0) f.pages by.header) (λ by. header_accepted p stamp (at (2 + gap)) f.pages by.1.header) (is_judged gap p stamp room at f is).by)
 
 -- ---- pages that fit
 

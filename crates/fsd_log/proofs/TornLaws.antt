@@ -29,21 +29,21 @@ are_some p pages are =
     let inner = and_parts (is_between 1 96 (length pages)) (ascending pages) outer.0 in
     leb-true 1 (length pages) (and_parts (nat_le 1 (length pages)) (nat_le (length pages) 96) inner.0).0
 
-module _ (p : ℕ) (stamp : Stamp) (fits : FitsStamp stamp) (pages images bytes : List ℕ) (are : ArePages p pages) (laid : IsLaidAs stamp pages images bytes) (room : ℕ) (long : record_len (length pages) ≤ room)
+module _ (gap : ℕ) (p : ℕ) (stamp : Stamp) (fits : FitsStamp stamp) (pages images bytes : List ℕ) (are : ArePages p pages) (laid : IsLaidAs gap stamp pages images bytes) (room : ℕ) (long : record_len gap (length pages) ≤ room)
     (stood : ℕ) (old new : Reader) (torn : IsTorn bytes stood old new) where
-  pub there : 3 + length pages < stood → record_in p stamp room new ≡ Some (new_record stamp pages images)
+  pub there : 3 + gap + length pages < stood → record_in gap p stamp room new ≡ Some (new_record stamp pages images)
   there past =
-      let stands : FrontStands stamp pages (slices_from 0 images (length pages)) new = record {
+      let stands : FrontStands gap stamp pages (slices_from 0 images (length pages)) new = record {
         header = torn.front 0 (omega arith) ∙ ap (λ (x : List ℕ). Some x) laid.header;
-        whole = images_at stamp pages images 0 3 new laid.stamped (λ j lt. torn.front (3 + j) (omega arith) ∙ ap (λ (x : List ℕ). Some x) (laid.image j lt)
+        whole = images_at stamp pages images 0 (3 + gap) new laid.stamped (λ j lt. torn.front (3 + gap + j) (omega arith) ∙ ap (λ (x : List ℕ). Some x) (laid.image j lt)
             ∙ ap (λ (k : ℕ). Some (slice_of images k)) (let e : j ≡ 0 + j = omega arith in e));
-        ends = torn.front (3 + length pages) past ∙ ap (λ (x : List ℕ). Some x) laid.ends;
+        ends = torn.front (3 + gap + length pages) past ∙ ap (λ (x : List ℕ). Some x) laid.ends;
       } in
-      front_judged p stamp pages are.accepted are.small (omega (arith, are.few)) new room (slices_from 0 images (length pages)) stands long
+      front_judged gap p stamp pages are.accepted are.small (omega (arith, are.few)) new room (slices_from 0 images (length pages)) stands long
 
-  pub absent : ((k : ℕ) → Foreign stamp (old k)) → stood ≤ 3 + length pages → record_in p stamp room new ≡ None
+  pub absent : ((k : ℕ) → Foreign stamp (old k)) → stood ≤ 3 + gap + length pages → record_in gap p stamp room new ≡ None
   absent none before =
-      endless_absent p stamp pages are.accepted are.small (omega (arith, are.few)) new room fits (header 0 laid.header) (header 2 laid.header_copy) (foreign (3 + length pages) (omega arith)) (foreign (4 + 2 * length pages) (omega arith))
+      endless_absent gap p stamp pages are.accepted are.small (omega (arith, are.few)) new room fits (header 0 laid.header) (header (2 + gap) laid.header_copy) (foreign (3 + gap + length pages) (omega arith)) (foreign (4 + 2 * gap + 2 * length pages) (omega arith))
     where
       foreign : (k : ℕ) → stood ≤ k → Foreign stamp (new k)
       foreign k past = subst (Foreign stamp) (sym (torn.behind k past)) (none k)

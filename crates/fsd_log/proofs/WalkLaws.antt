@@ -4,6 +4,7 @@ use Rattle.std.specs.Prelude.{option_map, unwrap_or, if◌then◌else◌}
 use Rattle.std.specs.Option.{option_or}
 use Rattle.std.proofs.lemmas.Bool.{cond-true, ltb-true, lt-ltb, and_parts, and_from}
 use Rattle.volume_layout.specs.Shape.{Shape}
+use Rattle.volume_layout.specs.Kinds.{gap_of}
 use Rattle.fsd_formats.specs.Record.{Stamp, record_len}
 use Rattle.fsd_log.specs.Judged.{Reader, Logged}
 use Rattle.fsd_log.specs.Borne.{Foreign, FitsStamp, ReadsLess}
@@ -15,8 +16,8 @@ use Rattle.fsd_log.proofs.PlaceLaws.{end_most}
 abbrev pub stamp_of : ℕ → ℕ → Stamp
 stamp_of epoch number = record { epoch = epoch; number = number }
 
-abbrev pub head_behind : ℕ → ℕ → Placed → Head
-head_behind number end r = record { number = number + 1; at = r.at + record_len (length r.entry.pages); end = end }
+abbrev pub head_behind : (gap : ℕ) → ℕ → ℕ → Placed → Head
+head_behind gap number end r = record { number = number + 1; at = r.at + record_len gap (length r.entry.pages); end = end }
 
 -- it may be the next third's turn
 pub record MayEnter (l : Shape) (h : Head) : Type 0 where
@@ -38,7 +39,7 @@ pub record IsFound (l : Shape) (epoch : ℕ) (disk : Reader) (h : Head) (r : Pla
   pub end : ℕ
   pub place : IsHere h r.at end ⊎ IsThere l epoch disk h r.at end
   pub found : record_here l epoch disk h.number r.at end ≡ Some r.entry
-  pub goes_on : h1 ≡ head_behind h.number end r
+  pub goes_on : h1 ≡ head_behind (gap_of l) h.number end r
 
 pub next_end : (l : Shape) (end : ℕ) → IsEnd l end → end < 3 * l.third → IsEnd l (end + l.third)
 next_end l end (inl e) lt = inr (inl (omega arith))
@@ -69,40 +70,40 @@ module _ (l : Shape) (epoch : ℕ) (disk : Reader) (h : Head) where
       by_place : IsHere h r.at is.end ⊎ IsThere l epoch disk h r.at is.end → next l epoch disk h ≡ Some (r, h1)
       by_place (inl at) =
           let found : record_here l epoch disk h.number h.at h.end ≡ Some r.entry = (λ i. record_here l epoch disk h.number (sym at.at_head i) (sym at.in_third i)) ∙ is.found in
-          let same : behind h.number h.at h.end r.entry ≡ (r, h1) = (λ i. behind h.number (sym at.at_head i) (sym at.in_third i) r.entry) ∙ (λ i. (r, sym is.goes_on i)) in
-          ap (λ (o : Option Logged). option_or (option_map (behind h.number h.at h.end) o) (if enters l h then option_map (behind h.number h.end (h.end + l.third)) (record_here l epoch disk h.number h.end (h.end + l.third)) else None)) found
+          let same : behind (gap_of l) h.number h.at h.end r.entry ≡ (r, h1) = (λ i. behind (gap_of l) h.number (sym at.at_head i) (sym at.in_third i) r.entry) ∙ (λ i. (r, sym is.goes_on i)) in
+          ap (λ (o : Option Logged). option_or (option_map (behind (gap_of l) h.number h.at h.end) o) (if enters l h then option_map (behind (gap_of l) h.number h.end (h.end + l.third)) (record_here l epoch disk h.number h.end (h.end + l.third)) else None)) found
           ∙ ap (λ (x : Placed × Head). Some x) same
       by_place (inr at) =
           let found : record_here l epoch disk h.number h.end (h.end + l.third) ≡ Some r.entry = (λ i. record_here l epoch disk h.number (sym at.at_start i) (sym at.in_third i)) ∙ is.found in
-          let same : behind h.number h.end (h.end + l.third) r.entry ≡ (r, h1) = (λ i. behind h.number (sym at.at_start i) (sym at.in_third i) r.entry) ∙ (λ i. (r, sym is.goes_on i)) in
-          ap (λ (o : Option Logged). option_or (option_map (behind h.number h.at h.end) o) (if enters l h then option_map (behind h.number h.end (h.end + l.third)) (record_here l epoch disk h.number h.end (h.end + l.third)) else None)) at.none
+          let same : behind (gap_of l) h.number h.end (h.end + l.third) r.entry ≡ (r, h1) = (λ i. behind (gap_of l) h.number (sym at.at_start i) (sym at.in_third i) r.entry) ∙ (λ i. (r, sym is.goes_on i)) in
+          ap (λ (o : Option Logged). option_or (option_map (behind (gap_of l) h.number h.at h.end) o) (if enters l h then option_map (behind (gap_of l) h.number h.end (h.end + l.third)) (record_here l epoch disk h.number h.end (h.end + l.third)) else None)) at.none
           ∙ cond-true (enters l h) _ None (enter_may l h at.enters)
-          ∙ ap (option_map (behind h.number h.end (h.end + l.third))) found
+          ∙ ap (option_map (behind (gap_of l) h.number h.end (h.end + l.third))) found
           ∙ ap (λ (x : Placed × Head). Some x) same
 
   pub next_found : (x : Placed × Head) → next l epoch disk h ≡ Some x → IsFound l epoch disk h x.0 x.1
   next_found x e = by_here (record_here l epoch disk h.number h.at h.end) refl e
     where
       by_there : (b : Bool) (o : Option Logged) → record_here l epoch disk h.number h.at h.end ≡ None → enters l h ≡ b → record_here l epoch disk h.number h.end (h.end + l.third) ≡ o
-          → cond b (option_map (behind h.number h.end (h.end + l.third)) o) None ≡ Some x → IsFound l epoch disk h x.0 x.1
+          → cond b (option_map (behind (gap_of l) h.number h.end (h.end + l.third)) o) None ≡ Some x → IsFound l epoch disk h x.0 x.1
       by_there false o none may is given = absurd (cc)
       by_there true None none may is given = absurd (cc)
       by_there true (Some r) none may is given =
-          let made : behind h.number h.end (h.end + l.third) r ≡ x = cc in
+          let made : behind (gap_of l) h.number h.end (h.end + l.third) r ≡ x = cc in
           subst (λ (y : Placed × Head). IsFound l epoch disk h y.0 y.1) made
           (record { end = h.end + l.third; place = inr (record { none = none; enters = may_enter l h may; at_start = refl; in_third = refl }); found = is; goes_on = refl })
 
       by_here : (o : Option Logged) → record_here l epoch disk h.number h.at h.end ≡ o
-          → option_or (option_map (behind h.number h.at h.end) o) (cond (enters l h) (option_map (behind h.number h.end (h.end + l.third)) (record_here l epoch disk h.number h.end (h.end + l.third))) None) ≡ Some x → IsFound l epoch disk h x.0 x.1
+          → option_or (option_map (behind (gap_of l) h.number h.at h.end) o) (cond (enters l h) (option_map (behind (gap_of l) h.number h.end (h.end + l.third)) (record_here l epoch disk h.number h.end (h.end + l.third))) None) ≡ Some x → IsFound l epoch disk h x.0 x.1
       by_here None is given = by_there (enters l h) (record_here l epoch disk h.number h.end (h.end + l.third)) is refl refl given
       by_here (Some r) is given =
-          let made : behind h.number h.at h.end r ≡ x = cc in
+          let made : behind (gap_of l) h.number h.at h.end r ≡ x = cc in
           subst (λ (y : Placed × Head). IsFound l epoch disk h y.0 y.1) made (record { end = h.end; place = inl (record { at_head = refl; in_third = refl }); found = is; goes_on = refl })
 
   -- nothing at either place
   pub none_next : record_here l epoch disk h.number h.at h.end ≡ None → record_here l epoch disk h.number h.end (h.end + l.third) ≡ None → next l epoch disk h ≡ None
   none_next none_here none_there =
-      (λ i. option_or (option_map (behind h.number h.at h.end) (none_here i)) (cond (enters l h) (option_map (behind h.number h.end (h.end + l.third)) (none_there i)) None))
+      (λ i. option_or (option_map (behind (gap_of l) h.number h.at h.end) (none_here i)) (cond (enters l h) (option_map (behind (gap_of l) h.number h.end (h.end + l.third)) (none_there i)) None))
       ∙ either (enters l h)
     where
       either : (b : Bool) → cond {A = Option (Placed × Head)} b None None ≡ None
@@ -112,15 +113,15 @@ module _ (l : Shape) (epoch : ℕ) (disk : Reader) (h : Head) where
 -- what is found lies in its third, and the head goes on behind it
 pub record GoesOn (l : Shape) (h : Head) (r : Placed) (h1 : Head) : Type 0 where
   pub from : h.at ≤ r.at
-  pub to : h1.at ≡ r.at + record_len (length r.entry.pages)
+  pub to : h1.at ≡ r.at + record_len (gap_of l) (length r.entry.pages)
   pub is_in : IsIn l h1
   pub number : h1.number ≡ h.number + 1
 
 module _ (l : Shape) (epoch : ℕ) (disk : Reader) (h : Head) (r : Placed) (h1 : Head) (is_in : IsIn l h) where
-  goes_to : (end : ℕ) → IsEnd l end → h.at ≤ r.at → r.at ≤ end → end ≤ r.at + l.third → record_here l epoch disk h.number r.at end ≡ Some r.entry → h1 ≡ head_behind h.number end r → GoesOn l h r h1
+  goes_to : (end : ℕ) → IsEnd l end → h.at ≤ r.at → r.at ≤ end → end ≤ r.at + l.third → record_here l epoch disk h.number r.at end ≡ Some r.entry → h1 ≡ head_behind (gap_of l) h.number end r → GoesOn l h r h1
   goes_to end ends from before after found goes_on =
-      let room : record_len (length r.entry.pages) ≤ room_at r.at end = record_room l.pages (stamp_of epoch h.number) (room_at r.at end) (window disk r.at (room_at r.at end)) r.entry (here_some l epoch disk h.number r.at end r.entry found).1 in
-      let within : r.at + record_len (length r.entry.pages) ≤ end = omega (arith, room) in
+      let room : record_len (gap_of l) (length r.entry.pages) ≤ room_at r.at end = record_room (gap_of l) l.pages (stamp_of epoch h.number) (room_at r.at end) (window disk r.at (room_at r.at end)) r.entry (here_some l epoch disk h.number r.at end r.entry found).1 in
+      let within : r.at + record_len (gap_of l) (length r.entry.pages) ≤ end = omega (arith, room) in
       subst (GoesOn l h r) (sym goes_on) (record { from = from; to = refl; is_in = record { before = within; from = omega arith; ends = ends }; number = refl })
 
   pub found_goes_on : IsFound l epoch disk h r h1 → GoesOn l h r h1
@@ -214,7 +215,7 @@ window_same : (old new : Reader) (at room n : ℕ) → ((w : ℕ) → at ≤ w �
 window_same old new at room n same k lt = ap (λ (o : Option (List ℕ)). if nat_lt k room then o else None) (same (at + k) (omega arith) (omega arith))
 
 module _ (l : Shape) (epoch : ℕ) (fits : epoch < 2 ^ 32) (old new : Reader) where
-  pub found_keeps : (number : ℕ) (h : Head) (r : Placed) (h1 : Head) → TapeLess epoch number old new → h.number < number → h.number < 2 ^ 32 → ((w : ℕ) → r.at ≤ w → w < r.at + record_len (length r.entry.pages) → new w ≡ old w)
+  pub found_keeps : (number : ℕ) (h : Head) (r : Placed) (h1 : Head) → TapeLess epoch number old new → h.number < number → h.number < 2 ^ 32 → ((w : ℕ) → r.at ≤ w → w < r.at + record_len (gap_of l) (length r.entry.pages) → new w ≡ old w)
       → IsFound l epoch old h r h1 → IsFound l epoch new h r h1
   found_keeps number h r h1 less before small same is =
       let stamp : Stamp = stamp_of epoch h.number in
@@ -224,13 +225,13 @@ module _ (l : Shape) (epoch : ℕ) (fits : epoch < 2 ^ 32) (old new : Reader) wh
       record {
         end = is.end;
         place = ⊎_elim (λ here. inl here) (λ there. inr (record {
-          none = here_none l epoch new h.number h.at h.end (record_less l.pages (stamp_of epoch h.number) ok (room_at h.at h.end) (window old h.at (room_at h.at h.end)) (window new h.at (room_at h.at h.end)) (at_window h.at (room_at h.at h.end)) (sym (here_looks l epoch old h.number h.at h.end looks.0) ∙ there.none));
+          none = here_none l epoch new h.number h.at h.end (record_less (gap_of l) l.pages (stamp_of epoch h.number) ok (room_at h.at h.end) (window old h.at (room_at h.at h.end)) (window new h.at (room_at h.at h.end)) (at_window h.at (room_at h.at h.end)) (sym (here_looks l epoch old h.number h.at h.end looks.0) ∙ there.none));
           enters = there.enters;
           at_start = there.at_start;
           in_third = there.in_third;
         })) is.place;
-        found = here_looks l epoch new h.number r.at is.end looks.0 ∙ record_keeps l.pages (stamp_of epoch h.number) ok (room_at r.at is.end) (window old r.at (room_at r.at is.end)) (window new r.at (room_at r.at is.end)) (at_window r.at (room_at r.at is.end)) r.entry looks.1
-            (window_same old new r.at (room_at r.at is.end) (record_len (length r.entry.pages)) same);
+        found = here_looks l epoch new h.number r.at is.end looks.0 ∙ record_keeps (gap_of l) l.pages (stamp_of epoch h.number) ok (room_at r.at is.end) (window old r.at (room_at r.at is.end)) (window new r.at (room_at r.at is.end)) (at_window r.at (room_at r.at is.end)) r.entry looks.1
+            (window_same old new r.at (room_at r.at is.end) (record_len (gap_of l) (length r.entry.pages)) same);
         goes_on = is.goes_on;
       }
 

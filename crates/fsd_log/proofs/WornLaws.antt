@@ -16,11 +16,11 @@ use Rattle.fsd_log.proofs.TornLaws.{ArePages}
 abbrev pub AsLaid : Stamp → List ℕ → Option (List ℕ) → Type 0
 AsLaid stamp bytes o = (o ≡ Some bytes) ⊎ Foreign stamp o
 
-pub record ReadsLaid (stamp : Stamp) (pages images : List ℕ) (at : Reader) : Type 0 where
+pub record ReadsLaid (gap : ℕ) (stamp : Stamp) (pages images : List ℕ) (at : Reader) : Type 0 where
   pub header : AsLaid stamp (header_bytes stamp pages) (at 0)
-  pub header_copy : AsLaid stamp (header_bytes stamp pages) (at 2)
-  pub first : (j : ℕ) → j < length pages → AsLaid stamp (slice_of images j) (at (3 + j))
-  pub copy : (j : ℕ) → j < length pages → AsLaid stamp (slice_of images j) (at (4 + length pages + j))
+  pub header_copy : AsLaid stamp (header_bytes stamp pages) (at (2 + gap))
+  pub first : (j : ℕ) → j < length pages → AsLaid stamp (slice_of images j) (at (3 + gap + j))
+  pub copy : (j : ℕ) → j < length pages → AsLaid stamp (slice_of images j) (at (4 + 2 * gap + length pages + j))
 
 pub serves_which : (test : List ℕ → Bool) (a c : Option (List ℕ)) (d : Bool) → serving test a c ≡ Some d → passes test (if d then c else a) ≡ true
 serves_which test a c d e = by_tests (passes test a) (passes test c) refl refl d e
@@ -70,7 +70,7 @@ images_serve stamp at a c from (page ∷ pages) images cs first copy e =
     head_served (Some y) None x more cs made e = absurd (cc)
     head_served (Some y) (Some z) x more cs made e = ap (λ (b : Bool). Some b) (cc)
 
-module _ (p : ℕ) (stamp : Stamp) (fits : FitsStamp stamp) (pages images : List ℕ) (are : ArePages p pages) (room : ℕ) (at : Reader) where
+module _ (gap : ℕ) (p : ℕ) (stamp : Stamp) (fits : FitsStamp stamp) (pages images : List ℕ) (are : ArePages p pages) (room : ℕ) (at : Reader) where
   header_pages : (o : Option (List ℕ)) (f : Serving) → AsLaid stamp (header_bytes stamp pages) o → option_and_then (read_header p stamp) o ≡ Some f.pages → f.pages ≡ pages
   header_pages o f (inl is) e =
       let read : option_and_then (read_header p stamp) o ≡ Some pages = ap (λ (x : Option (List ℕ)). option_and_then (read_header p stamp) x) is ∙ header_is_read p stamp pages are.accepted are.small (omega (arith, are.few)) in
@@ -79,30 +79,30 @@ module _ (p : ℕ) (stamp : Stamp) (fits : FitsStamp stamp) (pages images : List
   header_pages (Some bytes) f (inr foreign) e = absurd (let none = foreign_header stamp fits p bytes foreign in cc (none, e))
 
   -- it is this record, or none
-  pub laid_or_none : ReadsLaid stamp pages images at → (record_in p stamp room at ≡ None) ⊎ (record_in p stamp room at ≡ Some (new_record stamp pages images))
+  pub laid_or_none : ReadsLaid gap stamp pages images at → (record_in gap p stamp room at ≡ None) ⊎ (record_in gap p stamp room at ≡ Some (new_record stamp pages images))
   unfolding record_in
-  laid_or_none laid = by_judged (judged p stamp room at) refl
+  laid_or_none laid = by_judged (judged gap p stamp room at) refl
     where
-      found : (f : Serving) → IsJudged p stamp room at f → f.pages ≡ pages → logged_of stamp.number at f ≡ new_record stamp pages images
+      found : (f : Serving) → IsJudged gap p stamp room at f → f.pages ≡ pages → logged_of gap stamp.number at f ≡ new_record stamp pages images
       found f is same =
-          let copies : page_copies stamp at 3 (4 + length pages) pages ≡ Some f.page_copy = subst (λ (x : List ℕ). page_copies stamp at 3 (4 + length x) x ≡ Some f.page_copy) same is.copies in
-          let images_is : images_of at 3 (4 + length pages) f.page_copy ≡ slices_from 0 images (length pages) = images_serve stamp at 3 (4 + length pages) 0 pages images f.page_copy
-          (λ j lt. subst (λ (k : ℕ). AsLaid stamp (slice_of images k) (at (3 + j))) (let x : j ≡ 0 + j = omega arith in x) (laid.first j lt))
-          (λ j lt. subst (λ (k : ℕ). AsLaid stamp (slice_of images k) (at (4 + length pages + j))) (let x : j ≡ 0 + j = omega arith in x) (laid.copy j lt)) copies in
-          (λ i. record { number = stamp.number; pages = same i; images = images_of at 3 (4 + length (same i)) f.page_copy }) ∙ (λ i. record { number = stamp.number; pages = pages; images = images_is i })
+          let copies : page_copies stamp at (3 + gap) (4 + 2 * gap + length pages) pages ≡ Some f.page_copy = subst (λ (x : List ℕ). page_copies stamp at (3 + gap) (4 + 2 * gap + length x) x ≡ Some f.page_copy) same is.copies in
+          let images_is : images_of at (3 + gap) (4 + 2 * gap + length pages) f.page_copy ≡ slices_from 0 images (length pages) = images_serve stamp at (3 + gap) (4 + 2 * gap + length pages) 0 pages images f.page_copy
+          (λ j lt. subst (λ (k : ℕ). AsLaid stamp (slice_of images k) (at (3 + gap + j))) (let x : j ≡ 0 + j = omega arith in x) (laid.first j lt))
+          (λ j lt. subst (λ (k : ℕ). AsLaid stamp (slice_of images k) (at (4 + 2 * gap + length pages + j))) (let x : j ≡ 0 + j = omega arith in x) (laid.copy j lt)) copies in
+          (λ i. record { number = stamp.number; pages = same i; images = images_of at (3 + gap) (4 + 2 * gap + length (same i)) f.page_copy }) ∙ (λ i. record { number = stamp.number; pages = pages; images = images_is i })
 
-      by_judged : (o : Option Serving) → judged p stamp room at ≡ o → (record_in p stamp room at ≡ None) ⊎ (record_in p stamp room at ≡ Some (new_record stamp pages images))
-      by_judged None is = inl (ap (option_map (logged_of stamp.number at)) is)
+      by_judged : (o : Option Serving) → judged gap p stamp room at ≡ o → (record_in gap p stamp room at ≡ None) ⊎ (record_in gap p stamp room at ≡ Some (new_record stamp pages images))
+      by_judged None is = inl (ap (option_map (logged_of gap stamp.number at)) is)
       by_judged (Some f) is =
-          let known = is_judged p stamp room at f is in
-          let same : f.pages ≡ pages = ⊎_elim (λ by. header_pages (at 0) f laid.header by.header) (λ by. header_pages (at 2) f laid.header_copy by.1.header) known.by in
-          inr (ap (option_map (logged_of stamp.number at)) is ∙ ap (λ (r : Logged). Some r) (found f known same))
+          let known = is_judged gap p stamp room at f is in
+          let same : f.pages ≡ pages = ⊎_elim (λ by. header_pages (at 0) f laid.header by.header) (λ by. header_pages (at (2 + gap)) f laid.header_copy by.1.header) known.by in
+          inr (ap (option_map (logged_of gap stamp.number at)) is ∙ ap (λ (r : Logged). Some r) (found f known same))
 
 -- of each sector and its copy one stands
-pub record OneStands (stamp : Stamp) (pages images : List ℕ) (at : Reader) : Type 0 where
-  pub headers : (at 0 ≡ Some (header_bytes stamp pages)) ⊎ (at 2 ≡ Some (header_bytes stamp pages))
-  pub ends : (at (3 + length pages) ≡ Some (end_bytes stamp (length pages))) ⊎ (at (4 + 2 * length pages) ≡ Some (end_bytes stamp (length pages)))
-  pub each : (j : ℕ) → j < length pages → (at (3 + j) ≡ Some (slice_of images j)) ⊎ (at (4 + length pages + j) ≡ Some (slice_of images j))
+pub record OneStands (gap : ℕ) (stamp : Stamp) (pages images : List ℕ) (at : Reader) : Type 0 where
+  pub headers : (at 0 ≡ Some (header_bytes stamp pages)) ⊎ (at (2 + gap) ≡ Some (header_bytes stamp pages))
+  pub ends : (at (3 + gap + length pages) ≡ Some (end_bytes stamp (length pages))) ⊎ (at (4 + 2 * gap + 2 * length pages) ≡ Some (end_bytes stamp (length pages)))
+  pub each : (j : ℕ) → j < length pages → (at (3 + gap + j) ≡ Some (slice_of images j)) ⊎ (at (4 + 2 * gap + length pages + j) ≡ Some (slice_of images j))
 
 serves_one : (test : List ℕ → Bool) (a c : Option (List ℕ)) (bytes : List ℕ) → test bytes ≡ true → (a ≡ Some bytes) ⊎ (c ≡ Some bytes) → serving test a c ≡ None → ⊥
 serves_one test a c bytes ok (inl is) none = let were = none_serves (passes test a) (passes test c) none in let yes : passes test a ≡ true = ap (passes test) is ∙ ok in cc (yes, were.0)
@@ -128,26 +128,26 @@ copies_one stamp at a c from (page ∷ pages) images stamped one none =
     none_behind)
     (then_none (serving (bears page stamp) (at a) (at c)) (page_copies stamp at (a + 1) (c + 1) pages) (λ x more. x ∷ more) none)
 
-module _ (p : ℕ) (stamp : Stamp) (fits : FitsStamp stamp) (pages images : List ℕ) (are : ArePages p pages) (stamped : AreStamped stamp pages (slices_from 0 images (length pages))) (room : ℕ) (long : record_len (length pages) ≤ room) (at : Reader) where
-  with_one : OneStands stamp pages images at → (hc : Bool) → judged_with stamp room at hc pages ≡ None → ⊥
+module _ (gap : ℕ) (p : ℕ) (stamp : Stamp) (fits : FitsStamp stamp) (pages images : List ℕ) (are : ArePages p pages) (stamped : AreStamped stamp pages (slices_from 0 images (length pages))) (room : ℕ) (long : record_len gap (length pages) ≤ room) (at : Reader) where
+  with_one : OneStands gap stamp pages images at → (hc : Bool) → judged_with gap stamp room at hc pages ≡ None → ⊥
   with_one one hc none =
       ⊎_elim
-      (λ no_end. serves_one (is_end stamp (length pages)) (at (3 + length pages)) (at (4 + 2 * length pages)) (end_bytes stamp (length pages)) (is_same (end_bytes stamp (length pages))) one.ends no_end)
-      (λ no_pages. copies_one stamp at 3 (4 + length pages) 0 pages images stamped
+      (λ no_end. serves_one (is_end stamp (length pages)) (at (3 + gap + length pages)) (at (4 + 2 * gap + 2 * length pages)) (end_bytes stamp (length pages)) (is_same (end_bytes stamp (length pages))) one.ends no_end)
+      (λ no_pages. copies_one stamp at (3 + gap) (4 + 2 * gap + length pages) 0 pages images stamped
       (λ j lt. let ef : j ≡ 0 + j = omega arith in ⊎_elim (λ is. inl (is ∙ ap (λ (k : ℕ). Some (slice_of images k)) ef)) (λ is. inr (is ∙ ap (λ (k : ℕ). Some (slice_of images k)) ef)) (one.each j lt)) no_pages)
-      (then_none (serving (is_end stamp (length pages)) (at (3 + length pages)) (at (4 + 2 * length pages))) (page_copies stamp at 3 (4 + length pages) pages) (serving_with hc pages)
-      (sym (cond-true (nat_le (record_len (length pages)) room) _ None (le-leb _ _ long)) ∙ none))
+      (then_none (serving (is_end stamp (length pages)) (at (3 + gap + length pages)) (at (4 + 2 * gap + 2 * length pages))) (page_copies stamp at (3 + gap) (4 + 2 * gap + length pages) pages) (serving_with hc pages)
+      (sym (cond-true (nat_le (record_len gap (length pages)) room) _ None (le-leb _ _ long)) ∙ none))
 
-  by_one : OneStands stamp pages images at → (hc : Bool) (o : Option (List ℕ)) → o ≡ Some (header_bytes stamp pages) → judged_by p stamp room at hc o ≡ None → ⊥
+  by_one : OneStands gap stamp pages images at → (hc : Bool) (o : Option (List ℕ)) → o ≡ Some (header_bytes stamp pages) → judged_by gap p stamp room at hc o ≡ None → ⊥
   by_one one hc o is none =
       let read : option_and_then (read_header p stamp) o ≡ Some pages = ap (λ (x : Option (List ℕ)). option_and_then (read_header p stamp) x) is ∙ header_is_read p stamp pages are.accepted are.small (omega (arith, are.few)) in
-      with_one one hc (ap (λ (x : Option (List ℕ)). option_and_then (judged_with stamp room at hc) x) (sym read) ∙ none)
+      with_one one hc (ap (λ (x : Option (List ℕ)). option_and_then (judged_with gap stamp room at hc) x) (sym read) ∙ none)
 
   -- where one of each pair serves it is there
-  pub worn_there : ReadsLaid stamp pages images at → OneStands stamp pages images at → record_in p stamp room at ≡ Some (new_record stamp pages images)
+  pub worn_there : ReadsLaid gap stamp pages images at → OneStands gap stamp pages images at → record_in gap p stamp room at ≡ Some (new_record stamp pages images)
   unfolding record_in judged
   worn_there laid one = ⊎_elim
       (λ none.
-      let were = or_none (judged_by p stamp room at false (at 0)) (judged_by p stamp room at true (at 2)) (map_none (logged_of stamp.number at) (judged p stamp room at) none) in
-      absurd (⊎_elim (λ is. by_one one false (at 0) is were.0) (λ is. by_one one true (at 2) is were.1) one.headers))
-      (λ found. found) (laid_or_none p stamp fits pages images are room at laid)
+      let were = or_none (judged_by gap p stamp room at false (at 0)) (judged_by gap p stamp room at true (at (2 + gap))) (map_none (logged_of gap stamp.number at) (judged gap p stamp room at) none) in
+      absurd (⊎_elim (λ is. by_one one false (at 0) is were.0) (λ is. by_one one true (at (2 + gap)) is were.1) one.headers))
+      (λ found. found) (laid_or_none gap p stamp fits pages images are room at laid)

@@ -1,6 +1,7 @@
 -- The copies of the last record's images and of its end.
 use Rattle.std.specs.Prelude.{◌≡◌, ◌≤◌, ℕ, ◌+◌, ◌*◌, ◌/◌, ◌%◌, List, [], ◌∷◌, length}
 use Rattle.volume_layout.specs.Shape.{Shape}
+use Rattle.volume_layout.specs.Kinds.{gap_of}
 use Rattle.fsd_formats.specs.Record.{Stamp, end_bytes}
 use Rattle.fsd_log.specs.Judged.{slice_of}
 use Rattle.fsd_log.specs.Laid.{slices}
@@ -25,7 +26,7 @@ pub record AreCopies (stamp : Stamp) (n : ℕ) (bytes : List ℕ) : Type 0 where
 
 -- they are those of this record, whose first copies lie before them
 pub record AreCopiesOf (l : Shape) (epoch third : ℕ) (r : Placed) (c : Copies) : Type 0 where
-  pub place : c.place ≡ place_of l third r.at + (4 + length r.entry.pages)
+  pub place : c.place ≡ place_of l third r.at + (4 + 2 * gap_of l + length r.entry.pages)
   pub copies : AreCopies (record { epoch = epoch; number = r.entry.number }) (length r.entry.pages) c.bytes
   pub images : slices (length r.entry.pages) c.bytes ≡ r.entry.images
 

@@ -8,11 +8,11 @@ abbrev pub Serves : (List ℕ → Bool) → (first copy : Option (List ℕ)) →
 Serves test first copy = IsTrue (passes test first) ⊎ IsTrue (passes test copy)
 
 -- by a header that names these pages, of a record that has room
-pub record IsGoodBy (p : ℕ) (stamp : Stamp) (room : ℕ) (at : Reader) (pages : List ℕ) (header : Option (List ℕ)) : Type 0 where
+pub record IsGoodBy (gap : ℕ) (p : ℕ) (stamp : Stamp) (room : ℕ) (at : Reader) (pages : List ℕ) (header : Option (List ℕ)) : Type 0 where
   pub named : option_and_then (read_header p stamp) header ≡ Some pages
-  pub roomy : record_len (length pages) ≤ room
-  pub ends : Serves (is_end stamp (length pages)) (at (3 + length pages)) (at (4 + 2 * length pages))
-  pub each : (j : ℕ) → j < length pages → Serves (bears (get_or pages j 0) stamp) (at (3 + j)) (at (4 + length pages + j))
+  pub roomy : record_len gap (length pages) ≤ room
+  pub ends : Serves (is_end stamp (length pages)) (at (3 + gap + length pages)) (at (4 + 2 * gap + 2 * length pages))
+  pub each : (j : ℕ) → j < length pages → Serves (bears (get_or pages j 0) stamp) (at (3 + gap + j)) (at (4 + 2 * gap + length pages + j))
 
-abbrev pub IsGood : ℕ → Stamp → (room : ℕ) → Reader → (pages : List ℕ) → Type 0
-IsGood p stamp room at pages = IsGoodBy p stamp room at pages (at 0) ⊎ IsGoodBy p stamp room at pages (at 2)
+abbrev pub IsGood : (gap : ℕ) → ℕ → Stamp → (room : ℕ) → Reader → (pages : List ℕ) → Type 0
+IsGood gap p stamp room at pages = IsGoodBy gap p stamp room at pages (at 0) ⊎ IsGoodBy gap p stamp room at pages (at (2 + gap))

@@ -36,19 +36,19 @@ pub record Serving : Type 0 where
   pub page_copy : List Bool
 
 -- the record with these pages: it has room, its end or the end's copy serves, and so does each page or its copy
-abbrev pub judged_with : Stamp → (room : ℕ) → Reader → Bool → List ℕ → Option Serving
-judged_with stamp room at header_copy pages =
-    if nat_le (record_len (length pages)) room
-    then option_and_then (λ e. option_map (λ cs. record { pages = pages; header_copy = header_copy; end_copy = e; page_copy = cs }) (page_copies stamp at 3 (4 + length pages) pages))
-    (serving (is_end stamp (length pages)) (at (3 + length pages)) (at (4 + 2 * length pages)))
+abbrev pub judged_with : (gap : ℕ) → Stamp → (room : ℕ) → Reader → Bool → List ℕ → Option Serving
+judged_with gap stamp room at header_copy pages =
+    if nat_le (record_len gap (length pages)) room
+    then option_and_then (λ e. option_map (λ cs. record { pages = pages; header_copy = header_copy; end_copy = e; page_copy = cs }) (page_copies stamp at (3 + gap) (4 + 2 * gap + length pages) pages))
+    (serving (is_end stamp (length pages)) (at (3 + gap + length pages)) (at (4 + 2 * gap + 2 * length pages)))
     else None
 
-abbrev pub judged_by : ℕ → Stamp → (room : ℕ) → Reader → Bool → Option (List ℕ) → Option Serving
-judged_by p stamp room at header_copy header = option_and_then (judged_with stamp room at header_copy) (option_and_then (read_header p stamp) header)
+abbrev pub judged_by : (gap : ℕ) → ℕ → Stamp → (room : ℕ) → Reader → Bool → Option (List ℕ) → Option Serving
+judged_by gap p stamp room at header_copy header = option_and_then (judged_with gap stamp room at header_copy) (option_and_then (read_header p stamp) header)
 
 -- by the header, else by the header's copy; p is the number of name pages
-unfoldable pub judged : ℕ → Stamp → (room : ℕ) → Reader → Option Serving
-judged p stamp room at = option_or (judged_by p stamp room at false (at 0)) (judged_by p stamp room at true (at 2))
+unfoldable pub judged : (gap : ℕ) → ℕ → Stamp → (room : ℕ) → Reader → Option Serving
+judged gap p stamp room at = option_or (judged_by gap p stamp room at false (at 0)) (judged_by gap p stamp room at true (at (2 + gap)))
 
 -- ---- the record with its images
 
@@ -62,8 +62,8 @@ abbrev pub images_of : Reader → (k copy : ℕ) → List Bool → List (List �
 images_of at k copy [] = []
 images_of at k copy (c ∷ cs) = unwrap_or (at (if c then copy else k)) [] ∷ images_of at (k + 1) (copy + 1) cs
 
-abbrev pub logged_of : ℕ → Reader → Serving → Logged
-logged_of number at s = record { number = number; pages = s.pages; images = images_of at 3 (4 + length s.pages) s.page_copy }
+abbrev pub logged_of : (gap : ℕ) → ℕ → Reader → Serving → Logged
+logged_of gap number at s = record { number = number; pages = s.pages; images = images_of at (3 + gap) (4 + 2 * gap + length s.pages) s.page_copy }
 
-unfoldable pub record_in : ℕ → Stamp → (room : ℕ) → Reader → Option Logged
-record_in p stamp room at = option_map (logged_of stamp.number at) (judged p stamp room at)
+unfoldable pub record_in : (gap : ℕ) → ℕ → Stamp → (room : ℕ) → Reader → Option Logged
+record_in gap p stamp room at = option_map (logged_of gap stamp.number at) (judged gap p stamp room at)

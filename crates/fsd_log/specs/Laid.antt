@@ -1,17 +1,20 @@
 -- A record as it is laid, as bytes.
-use Rattle.std.specs.Prelude.{◌≡◌, ℕ, zero, suc, ◌*◌, ◌^◌, ◌<◌, ◌≤◌, List, [], ◌∷◌, ◌++◌, length, Some, IsTrue}
+use Rattle.std.specs.Prelude.{◌≡◌, ℕ, zero, suc, ◌+◌, ◌*◌, ◌^◌, ◌<◌, ◌≤◌, List, [], ◌∷◌, ◌++◌, length, Some, IsTrue}
 use Rattle.std.specs.List.{AllByRecursion}
-use Rattle.fsd_bytes.specs.Bytes.{sector, sector_len}
+use Rattle.fsd_bytes.specs.Bytes.{zeros, sector_len}
 use Rattle.fsd_formats.specs.Record.{Stamp, header_bytes, end_bytes, are_pages, AreStamped}
 use Rattle.fsd_log.specs.Judged.{Reader, slice_of, Logged}
 use Rattle.fsd_log.specs.Borne.{FitsStamp}
 
--- header, blank, header, pages, end, pages, end
-unfoldable pub laid_bytes : Stamp → (pages images : List ℕ) → List ℕ
-laid_bytes stamp pages images =
+abbrev pub blanks : ℕ → List ℕ
+blanks count = zeros (sector_len * count)
+
+-- header, blanks, header, pages, end, blanks, pages, end
+unfoldable pub laid_bytes : (gap : ℕ) → Stamp → (pages images : List ℕ) → List ℕ
+laid_bytes gap stamp pages images =
     let header = header_bytes stamp pages in
     let last = end_bytes stamp (length pages) in
-    header ++ (sector [] ++ (header ++ (images ++ (last ++ (images ++ last)))))
+    header ++ (blanks (1 + gap) ++ (header ++ (images ++ (last ++ (blanks gap ++ (images ++ last))))))
 
 -- the sectors of some bytes
 abbrev pub slices_from : ℕ → List ℕ → ℕ → List (List ℕ)

@@ -17,14 +17,14 @@ images_at stamp at k copy [] = Some []
 images_at stamp at k copy (page ∷ pages) =
     option_and_then (λ image. option_map (λ more. image ∷ more) (images_at stamp at (k + 1) (copy + 1) pages)) (either_copy (bears page stamp) (at k) (at copy))
 
-abbrev pub record_with : Stamp → (room : ℕ) → Reader → List ℕ → Option Logged
-record_with stamp room at pages =
-    if nat_le (record_len (length pages)) room && is_some (either_copy (is_end stamp (length pages)) (at (3 + length pages)) (at (4 + 2 * length pages)))
-    then option_map (λ images. record { number = stamp.number; pages = pages; images = images }) (images_at stamp at 3 (4 + length pages) pages)
+abbrev pub record_with : (gap : ℕ) → Stamp → (room : ℕ) → Reader → List ℕ → Option Logged
+record_with gap stamp room at pages =
+    if nat_le (record_len gap (length pages)) room && is_some (either_copy (is_end stamp (length pages)) (at (3 + gap + length pages)) (at (4 + 2 * gap + 2 * length pages)))
+    then option_map (λ images. record { number = stamp.number; pages = pages; images = images }) (images_at stamp at (3 + gap) (4 + 2 * gap + length pages) pages)
     else None
 
-abbrev pub record_by : ℕ → Stamp → (room : ℕ) → Reader → ℕ → Option Logged
-record_by p stamp room at k = option_and_then (record_with stamp room at) (option_and_then (read_header p stamp) (at k))
+abbrev pub record_by : (gap : ℕ) → ℕ → Stamp → (room : ℕ) → Reader → ℕ → Option Logged
+record_by gap p stamp room at k = option_and_then (record_with gap stamp room at) (option_and_then (read_header p stamp) (at k))
 
-abbrev pub plain_record : ℕ → Stamp → (room : ℕ) → Reader → Option Logged
-plain_record p stamp room at = option_or (record_by p stamp room at 0) (record_by p stamp room at 2)
+abbrev pub plain_record : (gap : ℕ) → ℕ → Stamp → (room : ℕ) → Reader → Option Logged
+plain_record gap p stamp room at = option_or (record_by gap p stamp room at 0) (record_by gap p stamp room at (2 + gap))

@@ -7,6 +7,7 @@ use Rattle.std.specs.Option.{option_or}
 use Rattle.fsd_formats.specs.declared.anchor.Anchor.{Anchor}
 use Rattle.fsd_formats.specs.Anchors.{read_anchor}
 use Rattle.volume_layout.specs.Shape.{Shape}
+use Rattle.volume_layout.specs.Kinds.{gap_of}
 use Rattle.fsd_formats.specs.Record.{record_len}
 use Rattle.fsd_log.specs.Judged.{Reader, Logged, record_in}
 use Rattle.fsd_log.specs.Borne.{Foreign}
@@ -52,9 +53,9 @@ pub record Placed : Type 0 where
   pub at : ℕ
   pub entry : Logged
 
--- as many sectors as a record may have, as far as the third goes
+-- as many sectors as a record of either kind may have, as far as the third goes
 abbrev pub room_at : (at end : ℕ) → ℕ
-room_at at end = min 197 (end - at)
+room_at at end = min 199 (end - at)
 
 abbrev pub window : Reader → (at room : ℕ) → Reader
 window disk at room k = if nat_lt k room then disk (at + k) else None
@@ -66,22 +67,22 @@ last_number = 2 ^ 32 - 1
 abbrev pub record_here : Shape → ℕ → Reader → (number at end : ℕ) → Option Logged
 record_here l epoch disk number at end =
     if nat_lt number last_number
-    then record_in l.pages (record { epoch = epoch; number = number }) (room_at at end) (window disk at (room_at at end))
+    then record_in (gap_of l) l.pages (record { epoch = epoch; number = number }) (room_at at end) (window disk at (room_at at end))
     else None
 
 -- the record, and the head behind it
-abbrev pub behind : (number at end : ℕ) → Logged → Placed × Head
-behind number at end r = (record { at = at; entry = r }, record { number = number + 1; at = at + record_len (length r.pages); end = end })
+abbrev pub behind : (gap : ℕ) → (number at end : ℕ) → Logged → Placed × Head
+behind gap number at end r = (record { at = at; entry = r }, record { number = number + 1; at = at + record_len gap (length r.pages); end = end })
 
 -- the next record: here, or at the start of the next third, where this third has a record and isn't the last
 abbrev pub entered : Shape → ℕ → Reader → Head → Option (Placed × Head)
 entered l epoch disk h =
     if nat_lt 0 h.at && nat_lt h.end (3 * l.third)
-    then option_map (behind h.number h.end (h.end + l.third)) (record_here l epoch disk h.number h.end (h.end + l.third))
+    then option_map (behind (gap_of l) h.number h.end (h.end + l.third)) (record_here l epoch disk h.number h.end (h.end + l.third))
     else None
 
 abbrev pub next : Shape → ℕ → Reader → Head → Option (Placed × Head)
-next l epoch disk h = option_or (option_map (behind h.number h.at h.end) (record_here l epoch disk h.number h.at h.end)) (entered l epoch disk h)
+next l epoch disk h = option_or (option_map (behind (gap_of l) h.number h.at h.end) (record_here l epoch disk h.number h.at h.end)) (entered l epoch disk h)
 
 -- the records from a head on, until one isn't there, and the head behind them; no more than so many
 pub record Walked : Type 0 where
@@ -118,8 +119,8 @@ pub record IsLog (l : Shape) (epoch first : ℕ) (disk : Reader) (records : List
 
 -- where a record of n pages goes: here, or at the start of the next third where it doesn't fit
 abbrev pub spot_for : Shape → (n : ℕ) → Head → Head
-spot_for l n h = if nat_le (h.at + record_len n) h.end then h else record { number = h.number; at = h.end; end = h.end + l.third }
+spot_for l n h = if nat_le (h.at + record_len (gap_of l) n) h.end then h else record { number = h.number; at = h.end; end = h.end + l.third }
 
 -- it goes here, or there is a next third that isn't the first again
 abbrev pub HasRoom : Shape → (n : ℕ) → Head → Type 0
-HasRoom l n h = (h.at + record_len n ≤ h.end) ⊎ (h.end < 3 * l.third)
+HasRoom l n h = (h.at + record_len (gap_of l) n ≤ h.end) ⊎ (h.end < 3 * l.third)

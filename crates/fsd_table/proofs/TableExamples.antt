@@ -1,6 +1,7 @@
 -- Worked examples of tables, and of pages that are none, computed.
 use Rattle.std.proofs.Common.{◌≡◌, ℕ, suc, List, [], ◌∷◌, ◌++◌, ◌+◌, map, Option, Some, None, refl}
 use Rattle.std.specs.Prelude.{replicate, true, false, option_map, Bool}
+use Rattle.volume_layout.specs.declared.kind.Kind.TheVariants.{Two}
 use Rattle.fsd_bytes.specs.declared.key.Key.{Key}
 use Rattle.fsd_bytes.specs.Keys.{key_of}
 use Rattle.run_table.specs.declared.run.Run.{Run}
@@ -100,7 +101,7 @@ other_kinds = refl
 
 -- on a volume whose data area is 921 to 2047
 abbrev clashes_with : List Entry → Entry → Bool
-clashes_with = entry_clashes (record { sectors = 2048; third = 256; pages = 64 })
+clashes_with = entry_clashes (record { sectors = 2048; third = 256; pages = 64; kind = Two })
 
 abbrev first_three : List Entry
 first_three = entry_in (long 97) (run_of 921 2 ∷ []) ∷ entry_in (long 98) (run_of 923 1 ∷ run_of 922 1 ∷ []) ∷ entry_in (long 99) (run_of 930 1 ∷ run_of 930 1 ∷ []) ∷ []

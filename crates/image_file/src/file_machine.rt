@@ -119,7 +119,7 @@ impl<R: Files<File = File> + Input + Print + Drop> Machine for FileMachine<R> {
         }
     }
 
-    fn healing(&mut self) -> Result<(), Failed> {
+    fn healing(&mut self, _longest: u32) -> Result<(), Failed> {
         self.disk.turn();
         Ok(())
     }

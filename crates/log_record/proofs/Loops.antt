@@ -10,9 +10,10 @@ use Rattle.std.proofs.lemmas.Slice.{drop-append-drop}
 use Rattle.fsd_bytes.specs.Bytes.{u16, u32, zeros, sector, u16_at, u32_at, same_bytes}
 use Rattle.fsd_bytes.proofs.FieldLaws.{u32_behind}
 use Rattle.fsd_bytes.specs.Names.{is_between}
-use Rattle.fsd_formats.specs.Record.{Stamp, stamp_bytes, header_bytes, read_header, are_pages, ascending, numbers_from, bears}
+use Rattle.fsd_formats.specs.Record.{Stamp, record_len, stamp_bytes, header_bytes, read_header, are_pages, ascending, numbers_from, bears}
 use Rattle.fsd_log.specs.Judged.{Reader, passes, serving, page_copies}
-use Rattle.fsd_log.proofs.LaidLaws.{numbers_long}
+use Rattle.fsd_log.specs.Laid.{blanks}
+use Rattle.fsd_log.proofs.LaidLaws.{numbers_long, blanks_long, all_long}
 
 -- ---- ascending
 
@@ -117,34 +118,58 @@ lay_step done o old new bytes place next long at was put =
     let back : drop (place + length bytes) old ≡ drop next o = ap (drop (place + length bytes)) was ∙ drop-append-drop place o done (place + length bytes) (omega arith) long ∙ ap (λ (n : ℕ). drop n o) (sym at) in
     put ∙ (λ i. front i ++ (bytes ++ back i)) ∙ sym (append_assoc done bytes (drop next o))
 
-module _ (h z images e : List ℕ) (n : ℕ) (lh : length h ≡ 512) (lz : length z ≡ 512) (le : length e ≡ 512) (li : length images ≡ 512 * n) (o a b c d f g new : List ℕ)
-    (p1 : a ≡ take 0 o ++ (h ++ drop (0 + length h) o)) (p2 : b ≡ take 512 a ++ (z ++ drop (512 + length z) a)) (p3 : c ≡ take 1024 b ++ (h ++ drop (1024 + length h) b))
-    (p4 : d ≡ take 1536 c ++ (images ++ drop (1536 + length images) c)) (p5 : f ≡ take (1536 + length images) d ++ (e ++ drop (1536 + length images + length e) d))
-    (p6 : g ≡ take (1536 + length images + 512) f ++ (images ++ drop (1536 + length images + 512 + length images) f))
-    (p7 : new ≡ take (1536 + length images + 512 + length images) g ++ (e ++ drop (1536 + length images + 512 + length images + length e) g)) where
-  whole : new ≡ (h ++ (z ++ (h ++ (images ++ (e ++ (images ++ e)))))) ++ drop (512 * (2 * n + 5)) o
+-- the rows of a record, behind one another
+abbrev pub laid_rows : (gap : ℕ) → (h images e : List ℕ) → List ℕ
+laid_rows gap h images e = h ++ (blanks (1 + gap) ++ (h ++ (images ++ (e ++ (blanks gap ++ (images ++ e))))))
+
+module _ (gap : ℕ) (h images e : List ℕ) (n : ℕ) (lh : length h ≡ 512) (le : length e ≡ 512) (li : length images ≡ 512 * n) (o a b c d f x g new : List ℕ)
+    (first : ℕ) (at_first : first ≡ 1536 + 512 * gap)
+    (p1 : a ≡ take 0 o ++ (h ++ drop (0 + length h) o)) (p2 : b ≡ take 512 a ++ (blanks (1 + gap) ++ drop (512 + 512 * (1 + gap)) a)) (p3 : c ≡ take (1024 + 512 * gap) b ++ (h ++ drop (1024 + 512 * gap + length h) b))
+    (p4 : d ≡ take first c ++ (images ++ drop (first + length images) c)) (p5 : f ≡ take (first + length images) d ++ (e ++ drop (first + length images + length e) d))
+    (p6 : x ≡ take (first + length images + 512) f ++ (blanks gap ++ drop (first + length images + 512 + 512 * gap) f))
+    (p7 : g ≡ take (first + length images + 512 + 512 * gap) x ++ (images ++ drop (first + length images + 512 + 512 * gap + length images) x))
+    (p8 : new ≡ take (first + length images + 512 + 512 * gap + length images) g ++ (e ++ drop (first + length images + 512 + 512 * gap + length images + length e) g)) where
+  lz : length (blanks (1 + gap)) ≡ 512 * (1 + gap)
+  lz = blanks_long (1 + gap)
+
+  lg : length (blanks gap) ≡ 512 * gap
+  lg = blanks_long gap
+
+  q2 : b ≡ take 512 a ++ (blanks (1 + gap) ++ drop (512 + length (blanks (1 + gap))) a)
+  q2 = p2 ∙ ap (λ (m : ℕ). take 512 a ++ (blanks (1 + gap) ++ drop (512 + m) a)) (sym lz)
+
+  q6 : x ≡ take (first + length images + 512) f ++ (blanks gap ++ drop (first + length images + 512 + length (blanks gap)) f)
+  q6 = p6 ∙ ap (λ (m : ℕ). take (first + length images + 512) f ++ (blanks gap ++ drop (first + length images + 512 + m) f)) (sym lg)
+
+  whole : new ≡ laid_rows gap h images e ++ drop (512 * record_len gap n) o
   whole =
+      let z = blanks (1 + gap) in
+      let y = blanks gap in
       let s1 = lay_step [] o o a h 0 512 refl (omega (arith, lh)) refl p1 in
-      let s2 = lay_step h o a b z 512 1024 lh (omega (arith, lz)) s1 p2 in
-      let s3 = lay_step (h ++ z) o b c h 1024 1536 (omega (arith, lh, lz, length-append h z)) (omega (arith, lh)) s2 p3 in
-      let s4 = lay_step ((h ++ z) ++ h) o c d images 1536 (1536 + length images) (omega (arith, lh, lz, length-append (h ++ z) h, length-append h z)) refl s3 p4 in
-      let l4 : length (((h ++ z) ++ h) ++ images) ≡ 1536 + length images = omega (arith, lh, lz, length-append ((h ++ z) ++ h) images, length-append (h ++ z) h, length-append h z) in
-      let s5 = lay_step (((h ++ z) ++ h) ++ images) o d f e (1536 + length images) (1536 + length images + 512) l4 (omega (arith, le)) s4 p5 in
-      let l5 : length ((((h ++ z) ++ h) ++ images) ++ e) ≡ 1536 + length images + 512 = omega (arith, l4, le, length-append (((h ++ z) ++ h) ++ images) e) in
-      let s6 = lay_step ((((h ++ z) ++ h) ++ images) ++ e) o f g images (1536 + length images + 512) (1536 + length images + 512 + length images) l5 refl s5 p6 in
-      let l6 : length (((((h ++ z) ++ h) ++ images) ++ e) ++ images) ≡ 1536 + length images + 512 + length images = omega (arith, l5, length-append ((((h ++ z) ++ h) ++ images) ++ e) images) in
-      let s7 = lay_step (((((h ++ z) ++ h) ++ images) ++ e) ++ images) o g new e (1536 + length images + 512 + length images) (512 * (2 * n + 5)) l6 (omega (arith, le, li)) s6 p7 in
-      let regroup : (((((h ++ z) ++ h) ++ images) ++ e) ++ images) ++ e ≡ h ++ (z ++ (h ++ (images ++ (e ++ (images ++ e))))) = simp append_assoc in
-      s7 ∙ ap (λ (x : List ℕ). x ++ drop (512 * (2 * n + 5)) o) regroup
+      let s2 = lay_step h o a b (blanks (1 + gap)) 512 (1024 + 512 * gap) lh (omega (arith, lz)) s1 q2 in
+      let l2 : length (h ++ blanks (1 + gap)) ≡ 1024 + 512 * gap = omega (arith, lh, lz, length-append h (blanks (1 + gap))) in
+      let s3 = lay_step (h ++ blanks (1 + gap)) o b c h (1024 + 512 * gap) first l2 (omega (arith, lh, at_first)) s2 p3 in
+      let l3 : length ((h ++ blanks (1 + gap)) ++ h) ≡ first = omega (arith, lh, l2, at_first, length-append (h ++ blanks (1 + gap)) h) in
+      let s4 = lay_step ((h ++ blanks (1 + gap)) ++ h) o c d images first (first + length images) l3 refl s3 p4 in
+      let l4 : length (((h ++ blanks (1 + gap)) ++ h) ++ images) ≡ first + length images = omega (arith, l3, length-append ((h ++ blanks (1 + gap)) ++ h) images) in
+      let s5 = lay_step (((h ++ blanks (1 + gap)) ++ h) ++ images) o d f e (first + length images) (first + length images + 512) l4 (omega (arith, le)) s4 p5 in
+      let l5 : length ((((h ++ blanks (1 + gap)) ++ h) ++ images) ++ e) ≡ first + length images + 512 = omega (arith, l4, le, length-append (((h ++ blanks (1 + gap)) ++ h) ++ images) e) in
+      let s6 = lay_step ((((h ++ blanks (1 + gap)) ++ h) ++ images) ++ e) o f x (blanks gap) (first + length images + 512) (first + length images + 512 + 512 * gap) l5 (omega (arith, lg)) s5 q6 in
+      let l6 : length (((((h ++ blanks (1 + gap)) ++ h) ++ images) ++ e) ++ blanks gap) ≡ first + length images + 512 + 512 * gap = omega (arith, l5, lg, length-append ((((h ++ blanks (1 + gap)) ++ h) ++ images) ++ e) (blanks gap)) in
+      let s7 = lay_step (((((h ++ blanks (1 + gap)) ++ h) ++ images) ++ e) ++ blanks gap) o x g images (first + length images + 512 + 512 * gap) (first + length images + 512 + 512 * gap + length images) l6 refl s6 p7 in
+      let l7 : length ((((((h ++ blanks (1 + gap)) ++ h) ++ images) ++ e) ++ blanks gap) ++ images) ≡ first + length images + 512 + 512 * gap + length images = omega (arith, l6, length-append (((((h ++ blanks (1 + gap)) ++ h) ++ images) ++ e) ++ blanks gap) images) in
+      let s8 = lay_step ((((((h ++ blanks (1 + gap)) ++ h) ++ images) ++ e) ++ blanks gap) ++ images) o g new e (first + length images + 512 + 512 * gap + length images) (512 * record_len gap n) l7 (omega (arith, le, li, at_first)) s7 p8 in
+      let regroup : ((((((h ++ blanks (1 + gap)) ++ h) ++ images) ++ e) ++ blanks gap) ++ images) ++ e ≡ laid_rows gap h images e = simp append_assoc in
+      s8 ∙ ap (λ (t : List ℕ). t ++ drop (512 * record_len gap n) o) regroup
 
-  long : length (h ++ (z ++ (h ++ (images ++ (e ++ (images ++ e)))))) ≡ 512 * (2 * n + 5)
-  long = omega (arith, lh, lz, le, li, length-append h (z ++ (h ++ (images ++ (e ++ (images ++ e))))), length-append z (h ++ (images ++ (e ++ (images ++ e)))), length-append h (images ++ (e ++ (images ++ e))), length-append images (e ++ (images ++ e)), length-append e (images ++ e), length-append images e)
+  long : length (laid_rows gap h images e) ≡ 512 * record_len gap n
+  long = all_long gap h e images n lh le li
 
-  pub lay_front : take (512 * (2 * n + 5)) new ≡ h ++ (z ++ (h ++ (images ++ (e ++ (images ++ e)))))
-  lay_front = ap (take (512 * (2 * n + 5))) whole ∙ take_at _ _ _ long
+  pub lay_front : take (512 * record_len gap n) new ≡ laid_rows gap h images e
+  lay_front = ap (take (512 * record_len gap n)) whole ∙ take_at _ _ _ long
 
-  pub lay_rest : drop (512 * (2 * n + 5)) new ≡ drop (512 * (2 * n + 5)) o
-  lay_rest = ap (drop (512 * (2 * n + 5))) whole ∙ drop_at _ _ _ long
+  pub lay_rest : drop (512 * record_len gap n) new ≡ drop (512 * record_len gap n) o
+  lay_rest = ap (drop (512 * record_len gap n)) whole ∙ drop_at _ _ _ long
 
 pub many_none : (p : ℕ) (stamp : Stamp) (bytes : List ℕ) → 96 < u16_at 12 bytes → read_header p stamp bytes ≡ None
 many_none p stamp bytes more = cond-false _ _ _ (too_many p stamp bytes (u16_at 12 bytes) more)

@@ -2,18 +2,25 @@
 ghost use Rattle.std.specs.Prelude.{◌≡◌, ◌≤◌, ◌+◌, ◌*◌, true, false, IfSome, if◌then◌else◌, option_map, length};
 ghost use Rattle.fsd_formats.specs.Record.{max_pages, is_end, bears};
 ghost use Rattle.fsd_log.specs.Judged.{judged, judged_by, judged_with, page_copies, passes};
-ghost use Rattle.fsd_log.specs.Reach.{len_by, reach};
+ghost use Rattle.fsd_log.specs.Reach.{headers_len, len_by, reach};
+ghost use Rattle.volume_layout.specs.Kinds.{more};
 ghost use Rattle.log_record.specs.Found.{read_of, serving_in, found_in, IsCounted};
 
 use crate::header::{MOST_PAGES, end_bytes, read_header};
 use arrayvec::ArrayVec;
 use fsd_bytes::u32_at;
+use volume_layout::Kind;
 
-/// The header, a blank sector and the header's copy begin a record.
-pub const HEADERS: u32 = 3;
+/// The header, blank sectors and the header's copy begin a record: so many sectors.
+pub fn headers(kind: Kind) -> u32
+    ensures len { result ≡ headers_len (more kind) }
+    ensures most { result ≤ 4 }
+{
+    3 + kind.more()
+}
 
-/// As many sectors as a record may have: one of [`MOST_PAGES`].
-pub const RECORD_SECTORS: u32 = 2 * MOST_PAGES as u32 + 5;
+/// As many sectors as a record may have: one of [`MOST_PAGES`] on a volume that bears three damaged sectors.
+pub const RECORD_SECTORS: u32 = 2 * MOST_PAGES as u32 + 7;
 
 /// Their bytes.
 pub const RECORD_BYTES: usize = 512 * RECORD_SECTORS as usize;
@@ -89,22 +96,24 @@ fn which(first: bool, copy: bool) -> Option<bool>
 
 // For each page, whether its copy serves.
 fn page_copies(
+    gap: usize,
     whole: &[bool],
     bytes: &[u8],
     epoch: u32,
     number: u32,
     pages: &[u32],
 ) -> Option<ArrayVec<bool, MOST_PAGES>>
+    requires gap { gap ≤ 1 }
     requires bytes { length bytes.now ≡ 512 * length whole.now }
     requires few { length pages.now ≤ max_pages }
     ensures { option_map (λ v. v.items) result
-        ≡ page_copies (record { epoch = epoch; number = number }) (read_of whole.now bytes.now) 3 (4 + length pages.now) pages.now }
+        ≡ page_copies (record { epoch = epoch; number = number }) (read_of whole.now bytes.now) (3 + gap) (4 + 2 * gap + length pages.now) pages.now }
 {
     let mut copies = ArrayVec::new();
     let n = pages.len();
     for (k, &page) in pages.iter().enumerate() {
-        let first = sector_of(whole, bytes, 3 + k);
-        let copy = sector_of(whole, bytes, 4 + n + k);
+        let first = sector_of(whole, bytes, 3 + gap + k);
+        let copy = sector_of(whole, bytes, 4 + 2 * gap + n + k);
         let serving = which(
             bears(&first, page, epoch, number),
             bears(&copy, page, epoch, number),
@@ -116,6 +125,7 @@ fn page_copies(
 
 // The record with these pages.
 fn judge_with(
+    kind: Kind,
     whole: &[bool],
     bytes: &[u8],
     epoch: u32,
@@ -126,20 +136,21 @@ fn judge_with(
     requires bytes { length bytes.now ≡ 512 * length whole.now }
     requires few { length pages.items ≤ max_pages }
     ensures judged { option_map serving_in result
-        ≡ judged_with (record { epoch = epoch; number = number }) (length whole.now) (read_of whole.now bytes.now) header_copy pages.items }
+        ≡ judged_with (more kind) (record { epoch = epoch; number = number }) (length whole.now) (read_of whole.now bytes.now) header_copy pages.items }
     ensures count { IfSome result (λ f. f.n ≡ length f.pages.items) }
 {
     let n = pages.len();
-    if whole.len() < 2 * n + 5 {
+    let gap = kind.more() as usize;
+    if whole.len() < 2 * n + 5 + 2 * gap {
         return None;
     }
-    let first = sector_of(whole, bytes, 3 + n);
-    let copy = sector_of(whole, bytes, 4 + 2 * n);
+    let first = sector_of(whole, bytes, 3 + gap + n);
+    let copy = sector_of(whole, bytes, 4 + 2 * gap + 2 * n);
     let end_copy = which(
         is_end(&first, epoch, number, n as u16),
         is_end(&copy, epoch, number, n as u16),
     )?;
-    let page_copy = page_copies(whole, bytes, epoch, number, pages.as_slice())?;
+    let page_copy = page_copies(gap, whole, bytes, epoch, number, pages.as_slice())?;
     Some(Found {
         n: n as u32,
         pages,
@@ -151,6 +162,7 @@ fn judge_with(
 
 // The record by the header at a place.
 fn judge_by(
+    kind: Kind,
     whole: &[bool],
     bytes: &[u8],
     p: u32,
@@ -161,16 +173,17 @@ fn judge_by(
 ) -> Option<Found>
     requires { length bytes.now ≡ 512 * length whole.now }
     ensures judged { option_map serving_in result
-        ≡ judged_by p (record { epoch = epoch; number = number }) (length whole.now) (read_of whole.now bytes.now) header_copy (read_of whole.now bytes.now place) }
+        ≡ judged_by (more kind) p (record { epoch = epoch; number = number }) (length whole.now) (read_of whole.now bytes.now) header_copy (read_of whole.now bytes.now place) }
     ensures count { IfSome result (λ f. f.n ≡ length f.pages.items) }
 {
     let header = sector_of(whole, bytes, place)?;
     let pages = read_header(p, epoch, number, &header)?;
-    judge_with(whole, bytes, epoch, number, header_copy, pages)
+    judge_with(kind, whole, bytes, epoch, number, header_copy, pages)
 }
 
 // The sectors of the record that the header at a place names, where it has room.
 fn len_by(
+    kind: Kind,
     whole: &[bool],
     bytes: &[u8],
     p: u32,
@@ -180,7 +193,7 @@ fn len_by(
     place: usize,
 ) -> u32
     requires { length bytes.now ≡ 512 * length whole.now }
-    ensures len { result ≡ len_by p (record { epoch = epoch; number = number }) room (read_of whole.now bytes.now place) }
+    ensures len { result ≡ len_by (more kind) p (record { epoch = epoch; number = number }) room (read_of whole.now bytes.now place) }
     ensures within { result ≤ room }
 {
     let Some(header) = sector_of(whole, bytes, place) else {
@@ -189,37 +202,57 @@ fn len_by(
     let Some(pages) = read_header(p, epoch, number, &header) else {
         return 0;
     };
-    let len = 2 * pages.len() as u32 + 5;
+    let len = 2 * pages.len() as u32 + 5 + 2 * kind.more();
     if len <= room { len } else { 0 }
 }
 
 /// How far sectors are to be read, from the first on, to judge them: the headers, and the record that they name where
 /// it has room, the longer one of two. What lies beyond has no part in it.
 /// `whole` and `bytes` have the headers, or all that there is room for.
-pub fn reach(whole: &[bool], bytes: &[u8], p: u32, epoch: u32, number: u32, room: u32) -> u32
+pub fn reach(
+    kind: Kind,
+    whole: &[bool],
+    bytes: &[u8],
+    p: u32,
+    epoch: u32,
+    number: u32,
+    room: u32,
+) -> u32
     requires { length bytes.now ≡ 512 * length whole.now }
-    ensures reach { result ≡ reach p (record { epoch = epoch; number = number }) room (read_of whole.now bytes.now) }
+    ensures reach { result ≡ reach (more kind) p (record { epoch = epoch; number = number }) room (read_of whole.now bytes.now) }
     ensures within { result ≤ room }
 {
-    let header = len_by(whole, bytes, p, epoch, number, room, 0);
-    let copy = len_by(whole, bytes, p, epoch, number, room, 2);
-    HEADERS.min(room).max(header.max(copy))
+    let header = len_by(kind, whole, bytes, p, epoch, number, room, 0);
+    let copy = len_by(
+        kind,
+        whole,
+        bytes,
+        p,
+        epoch,
+        number,
+        room,
+        2 + kind.more() as usize,
+    );
+    headers(kind).min(room).max(header.max(copy))
 }
 
 /// The record of this epoch and number that begins these sectors, by its header or else by the header's copy. `whole`
 /// tells of each sector whether it could be read, `bytes` has 512 bytes for each, and `p` is the number of name pages.
 /// A header serves only if its record fits in these sectors.
 #[tactic(auto, unfolding(fsd_log::specs::Judged::judged))]
-pub fn judge(whole: &[bool], bytes: &[u8], p: u32, epoch: u32, number: u32) -> Judged
+pub fn judge(kind: Kind, whole: &[bool], bytes: &[u8], p: u32, epoch: u32, number: u32) -> Judged
     requires { length bytes.now ≡ 512 * length whole.now }
-    ensures judged { found_in result ≡ judged p (record { epoch = epoch; number = number }) (length whole.now) (read_of whole.now bytes.now) }
+    ensures judged { found_in result ≡ judged (more kind) p (record { epoch = epoch; number = number }) (length whole.now) (read_of whole.now bytes.now) }
     ensures count { IsCounted result }
 {
-    match judge_by(whole, bytes, p, epoch, number, false, 0) {
+    match judge_by(kind, whole, bytes, p, epoch, number, false, 0) {
         Some(found) => Judged::Good(found),
-        None => match judge_by(whole, bytes, p, epoch, number, true, 2) {
-            Some(found) => Judged::Good(found),
-            None => Judged::NotThere,
-        },
+        None => {
+            let place = 2 + kind.more() as usize;
+            match judge_by(kind, whole, bytes, p, epoch, number, true, place) {
+                Some(found) => Judged::Good(found),
+                None => Judged::NotThere,
+            }
+        }
     }
 }

@@ -19,9 +19,9 @@ pub record Line : Type 0 where
   pub runs : List WeakRun
   pub named : ℕ
 
--- the run that the next healing names
-abbrev pub next_run : Line → WeakRun
-next_run line = run_at line.runs (line.named + 1)
+-- the run that the next healing names, where it may have so many sectors
+abbrev pub next_run : (longest : ℕ) → Line → WeakRun
+next_run longest line = run_at longest line.runs (line.named + 1)
 
 -- one more, but not past the last value of a count
 abbrev pub one_more : ℕ → ℕ
@@ -108,9 +108,9 @@ abbrev pub put_by : Verdict → ℕ → List ℕ → State → State
 put_by verdict first bytes = put first bytes (stood_by verdict (length bytes / 512)) (is_going verdict) (is_stop verdict)
 
 -- the next run is named
-abbrev pub healed : State → State
-healed s = record s {
-  now = record { image = s.now.image; windows = record { present = s.now.windows.present; next = Some (next_run s.line) }; said = s.now.said };
+abbrev pub healed : (longest : ℕ) → State → State
+healed longest s = record s {
+  now = record { image = s.now.image; windows = record { present = s.now.windows.present; next = Some (next_run longest s.line) }; said = s.now.said };
   line = moved_on s.line;
 }
 

@@ -5,7 +5,7 @@ use Rattle.sector_disk.specs.declared.sector.WeakRun.{WeakRun}
 use Rattle.sector_disk.specs.declared.past.Hurt.{Hurt}
 use Rattle.sector_disk.specs.Image.{weak, longest_run}
 
--- there is no run, or it is short
+-- there is no run, or none longer than any may be
 abbrev pub is_short : Option WeakRun → Bool
 is_short None = true
 is_short (Some run) = nat_le run.count longest_run
@@ -14,6 +14,10 @@ is_short (Some run) = nat_le run.count longest_run
 abbrev pub all_weak : Option WeakRun → Option WeakRun → List Hurt → Bool
 all_weak present next = list_all (λ hurt. weak present next hurt.sector)
 
--- the run that the healing after so many names
-abbrev pub run_at : List WeakRun → ℕ → WeakRun
-run_at runs named = slice_index_or runs (min named (length runs - 1)) record { first = 0; count = 0 }
+-- its first sectors, at most so many
+abbrev pub shorter : (longest : ℕ) → WeakRun → WeakRun
+shorter longest run = record { first = run.first; count = min run.count longest }
+
+-- the run that the healing after so many names, in a window that may have a run of so many sectors
+abbrev pub run_at : (longest : ℕ) → List WeakRun → ℕ → WeakRun
+run_at longest runs named = shorter longest (slice_index_or runs (min named (length runs - 1)) record { first = 0; count = 0 })

@@ -1,7 +1,7 @@
 //! The weak runs of a machine in memory: which sectors they allow to be hurt, and which of them comes next.
 ghost use Rattle.std.specs.Prelude.{◌≡◌};
 ghost use Rattle.sector_disk.specs.Image.{in_run, weak};
-ghost use Rattle.sector_disk.specs.Windows.{all_weak, is_short, run_at};
+ghost use Rattle.sector_disk.specs.Windows.{all_weak, is_short, run_at, shorter};
 
 use crate::past::Hurt;
 use crate::{LONGEST_RUN, WeakRun};
@@ -40,15 +40,26 @@ pub(crate) fn is_short(run: Option<WeakRun>) -> bool
     }
 }
 
-// The run that the healing after so many names; the last one again when all are used up.
-pub(crate) fn run_at(runs: &[WeakRun], named: usize) -> WeakRun
-    ensures { result ≡ run_at runs.now named }
+// The first sectors of a run, at most so many.
+fn shorter(run: WeakRun, longest: u32) -> WeakRun
+    ensures { result ≡ shorter longest run }
+{
+    WeakRun {
+        first: run.first,
+        count: run.count.min(longest),
+    }
+}
+
+// The run that the healing after so many names, where it may have so many sectors; the last one again when all are used
+// up.
+pub(crate) fn run_at(runs: &[WeakRun], named: usize, longest: u32) -> WeakRun
+    ensures { result ≡ run_at longest runs.now named }
 {
     if named < runs.len() {
-        return runs[named];
+        return shorter(runs[named], longest);
     }
     match runs.last() {
-        Some(run) => *run,
+        Some(run) => shorter(*run, longest),
         None => WeakRun { first: 0, count: 0 },
     }
 }

@@ -1,2 +1,5 @@
+pub mod KindLaws
 pub mod RegionLaws
 pub mod RootLaws
+pub mod SizeLaws
+pub mod TurnedLaws

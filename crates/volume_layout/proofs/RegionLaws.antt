@@ -4,7 +4,7 @@ use Rattle.volume_layout.specs.declared.layout.Layout.{Layout}
 use Rattle.volume_layout.specs.Layout.{plan, HasRegionsApart}
 use Rattle.volume_layout.proofs.RootLaws.{planned_bounds}
 
-pub regions_apart : (l : Layout) → plan l.sectors l.third l.pages ≡ Ok l → HasRegionsApart l
+pub regions_apart : (l : Layout) → plan l.kind l.sectors l.third l.pages ≡ Ok l → HasRegionsApart l
 regions_apart l e =
     let bounds = planned_bounds l e in
     let least = bounds.sectors_least in

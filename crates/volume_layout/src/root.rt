@@ -1,7 +1,9 @@
 //! The root sector, which says the layout.
 ghost use Rattle.std.specs.Prelude.{◌≡◌};
+ghost use Rattle.volume_layout.specs.Kinds.{kind_of};
 ghost use Rattle.volume_layout.specs.Root.{root_bytes, read_root};
 
+use crate::kind::Kind;
 use crate::layout::Layout;
 use fsd_bytes::{put_bytes, put_u32, u32_at};
 
@@ -11,7 +13,7 @@ pub fn root_bytes(l: &Layout) -> [u8; 512]
 {
     let mut b = [0; 512];
     put_bytes(&mut b, 0, b"CFSR");
-    put_u32(&mut b, 4, 1);
+    put_u32(&mut b, 4, l.kind().number());
     put_u32(&mut b, 8, l.sectors());
     put_u32(&mut b, 12, l.third());
     put_u32(&mut b, 16, l.pages());
@@ -22,8 +24,16 @@ pub fn root_bytes(l: &Layout) -> [u8; 512]
 pub fn read_root(b: &[u8; 512]) -> Option<Layout>
     ensures { result ≡ read_root b.now }
 {
-    match Layout::plan(u32_at(b, 8), u32_at(b, 12), u32_at(b, 16)) {
+    let kind = kind_of(u32_at(b, 4));
+    match Layout::plan_as(kind, u32_at(b, 8), u32_at(b, 12), u32_at(b, 16)) {
         Ok(l) => if root_bytes(&l) == *b { Some(l) } else { None },
         Err(_) => None,
     }
+}
+
+// The kind of a layout with this number.
+fn kind_of(number: u32) -> Kind
+    ensures { result ≡ kind_of number }
+{
+    if number == 2 { Kind::Three } else { Kind::Two }
 }

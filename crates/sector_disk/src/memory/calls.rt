@@ -1,7 +1,7 @@
 //! The calls of the outside in memory.
 ghost use Rattle.std.specs.Prelude.{◌≡◌, false, true, ◌⊎◌, ◌+◌, ◌-◌, ◌/◌, ◌%◌, ◌^◌, ◌<◌, ◌≤◌, ◌++◌, min, drop, refl, length, is_ok, IfOk, IfErr, OnOk, OnErr};
 ghost use Rattle.std.proofs.Common.{inl};
-ghost use Rattle.sector_disk.specs.Image.{sector_at};
+ghost use Rattle.sector_disk.specs.Image.{longest_run, sector_at};
 ghost use Rattle.sector_disk.specs.State.{Calls, Attached, Written, same, healed, closed, given, taken, spoken, disk_failed, input_failed, output_failed};
 ghost use Rattle.sector_disk.specs.Machine.{Takes, Wears, Utters, Says, OutputCause, Attaches, GivesAsked, asked_for, Writes, Tears, DiskCause, InputCause, Names, Settles, Shows, Before, took, wrote};
 ghost use Rattle.sector_disk.specs.Past.{only_at_end};
@@ -112,22 +112,24 @@ impl Machine for MemoryMachine {
         Ok(())
     }
 
-    fn healing(&mut self) -> Result<(), Failed>
+    fn healing(&mut self, longest: u32) -> Result<(), Failed>
+        requires least { 2 ≤ longest }
+        requires most { longest ≤ longest_run }
         ensures cause { DiskCause (memory_report self.old) (memory_report self.new) 0 result }
         ensures sectors { (memory_report self.new).sectors ≡ (memory_report self.old).sectors }
         ensures trust { MemoryTrusts self.old self.new }
-        ensures named { OnOk result (IsHonest self.new → Names (memory_now self.old) (memory_now self.new)) }
+        ensures named { OnOk result (IsHonest self.new → Names longest (memory_now self.old) (memory_now self.new)) }
         ensures failed { OnErr result (IsHonest self.new → Wears (memory_now self.old) (memory_now self.new)) }
         ensures time { MemoryElapses self.old self.new (Before (memory_now self.old) (memory_now self.new)) }
         ensures reached { OnOk result (MemoryReaches self.old self.new (Wears (memory_now self.old))) }
         ensures ledger { Unit {0} → memory_ledger self.new ≡ memory_ledger self.old }
-        ensures exact { Calls false healed (disk_failed 0) (memory_state self.old) (memory_state self.new) (is_ok result) }
+        ensures exact { Calls false (healed longest) (disk_failed 0) (memory_state self.old) (memory_state self.new) (is_ok result) }
     {
         if self.pass(false).is_err() {
             return Err(self.disk_fault(0));
         }
         self.named = self.named.saturating_add(1);
-        self.next = Some(run_at(&self.runs, self.named));
+        self.next = Some(run_at(&self.runs, self.named, longest));
         Ok(())
     }
 
