@@ -1,7 +1,8 @@
 -- Two images that agree on the anchors and in the log have the same anchors, and by them the same records.
-use Rattle.std.proofs.Common.{◌≡◌, inl, inr, ℕ, ◌+◌, ◌*◌, ◌<◌, ◌≤◌, List, ◌++◌, length, map, Option, Some, None, sym, ap, subst, ◌∙◌, arith}
+use Rattle.std.proofs.Common.{◌≡◌, ℕ, ◌+◌, ◌*◌, ◌<◌, ◌≤◌, List, ◌++◌, length, map, Option, Some, None, sym, ap, subst, ◌∙◌, arith}
 use Rattle.std.specs.Prelude.{IsTrue, IfSome, option_and_then}
 use Rattle.volume_layout.specs.declared.layout.Layout.{Layout}
+use Rattle.volume_layout.specs.Layout.{turned}
 use Rattle.fsd_formats.specs.declared.anchor.Anchor.{Anchor}
 use Rattle.fsd_formats.specs.Anchors.{read_anchor}
 use Rattle.sector_disk.specs.declared.sector.Sector.{Sector}
@@ -12,9 +13,10 @@ use Rattle.fsd_files.specs.Disk.{Image, Sectors, bytes_of, bytes_at}
 use Rattle.fsd_sound.specs.Anchors.{anchor_at, anchor_of, EachAnchor}
 use Rattle.fsd_sound.specs.Laid.{IsLaid}
 use Rattle.fsd_sound.specs.Shown.{records_by}
-use Rattle.fsd_sound.specs.Sound.{IfWhole, HasRoots, HasAnchors, on_disk, disk_records, IsSuffix, ScansAgree, HasLog, is_twin}
+use Rattle.fsd_sound.specs.Sound.{IfWhole, HasRoots, HasAnchors, on_disk, disk_records, IsSuffix, LogsNothing, ScansAgree, HasLog, is_twin}
 use Rattle.fsd_sound.proofs.AnchorFacts.{some_third, taken_third, if_some_on}
 use Rattle.fsd_sound.proofs.LogPlaces.{SameLog, same_scan, scan_records, laid_same}
+use Rattle.fsd_sound.proofs.SaidLaws.{some_same}
 
 pub suffix_same : (xs xs' ys ys' : List Placed) → xs' ≡ xs → ys' ≡ ys → IsSuffix xs ys → IsSuffix xs' ys'
 suffix_same xs xs' ys ys' e f s = (s.0, f ∙ s.1 ∙ ap (λ (r : List Placed). s.0 ++ r) (sym e))
@@ -43,7 +45,7 @@ module _ (l : Layout) (i j : Image) (front : (s : ℕ) → 8 ≤ s → s < 16 + 
 
   pub roots_same : (weak : Sectors) → length j ≡ length i → ((s : ℕ) → IsTrue (is_twin l s) → sector_at j s ≡ Damaged → sector_at i s ≡ Damaged) → ((s : ℕ) → s < 8 → sector_at j s ≡ sector_at i s) → HasRoots l weak i → HasRoots l weak j
   roots_same weak size unhurt head h = record {
-    some = elim h.some [ inl a ↦ inl (head 0 (omega arith) ∙ a) | inr b ↦ inr (head 4 (omega arith) ∙ b) ];
+    some = some_same l i j (head 0 (omega arith)) (head 4 (omega arith)) h.some;
     first = λ bytes is. h.first bytes (sym (head 0 (omega arith)) ∙ is);
     second = λ bytes is. h.second bytes (sym (head 4 (omega arith)) ∙ is);
     fits = subst (λ n. l.sectors ≤ n) (sym size) h.fits;
@@ -78,3 +80,7 @@ module _ (l : Layout) (i j : Image) (front : (s : ℕ) → 8 ≤ s → s < 16 + 
     where
       agree_on : (a x b y t z : Option Anchor) → a ≡ x → b ≡ y → t ≡ z → ScansAgree l j x y z → ScansAgree l j a b t
       agree_on a x b y t z e f g agree = subst (λ o. ScansAgree l j o b t) (sym e) (subst (λ o. ScansAgree l j x o t) (sym f) (subst (λ o. ScansAgree l j x y o) (sym g) agree))
+
+-- so nothing is logged on the one where nothing is on the other
+pub unlogged_same : (l : Layout) (i j : Image) → ((s : ℕ) → 8 ≤ s → s < 16 + 3 * l.third → sector_at j s ≡ sector_at i s) → LogsNothing l i → LogsNothing l j
+unlogged_same l i j front = each_same l i j front _ _ (λ a low none. (records_same l i j front a low ∙ none.0, records_same (turned l) i j front a low ∙ none.1))

@@ -5,7 +5,7 @@ use Rattle.std.specs.Option.{option_or}
 use Rattle.std.specs.List.{AllByRecursion}
 use Rattle.std.proofs.lemmas.List.{length-set}
 use Rattle.volume_layout.specs.declared.layout.Layout.{Layout}
-use Rattle.volume_layout.specs.Layout.{home_a, home_b}
+use Rattle.volume_layout.specs.Layout.{home_a, home_b, turned}
 use Rattle.fsd_formats.specs.declared.anchor.Anchor.{Anchor}
 use Rattle.fsd_formats.specs.Anchors.{read_anchor}
 use Rattle.sector_disk.specs.declared.sector.WeakRun.{WeakRun}
@@ -23,10 +23,11 @@ use Rattle.fsd_sound.specs.Shown.{records_by, newest, each_of, all_pages, shown_
 use Rattle.fsd_sound.specs.Sound.{IfWhole, EachStamp, ScansAgree, ShowsOne, ShowsPages, weak_of}
 use Rattle.fsd_sound.specs.Stands.{Stands}
 use Rattle.fsd_sound.specs.Windows.{IsNarrow}
-use Rattle.fsd_sound.proofs.CommuteLaws.{same_or, with_same, with_other, all_over, shows_all, all_shows}
+use Rattle.fsd_sound.proofs.CommuteLaws.{same_or, with_same, with_other, all_over, shows_all, both_same, all_shows}
 use Rattle.fsd_sound.proofs.EachLaws.{all_in_range, each_of_same}
 use Rattle.fsd_sound.proofs.LogPlaces.{IsRecord, SameLog, copies_same, front_same, in_record, laid_same, same_scan, scan_records}
 use Rattle.fsd_sound.proofs.RenewLaws.{AreAnchorPlaces}
+use Rattle.fsd_sound.proofs.SaidLaws.{says_same, some_same}
 use Rattle.fsd_sound.proofs.SectorFacts.{not_damaged}
 
 either_same : (b : Bool) (x : Anchor) → cond b x x ≡ x
@@ -157,7 +158,7 @@ module _ (l : Layout) (weak : Sectors) (choices : List (List (List ℕ))) (s t :
   mended_stands : Stands l weak choices (with_sector i s bytes)
   mended_stands = record {
     roots = record {
-      some = ⊎_elim (λ is. inl (head 0 (omega arith) ∙ is)) (λ is. inr (head 4 (omega arith) ∙ is)) stands.roots.some;
+      some = some_same l i j (head 0 (omega arith)) (head 4 (omega arith)) stands.roots.some;
       first = λ b is. stands.roots.first b (sym (head 0 (omega arith)) ∙ is);
       second = λ b is. stands.roots.second b (sym (head 4 (omega arith)) ∙ is);
       fits = omega (arith, stands.roots.fits, length-set i s (Whole bytes));
@@ -165,6 +166,8 @@ module _ (l : Layout) (weak : Sectors) (choices : List (List (List ℕ))) (s t :
           (λ here. absurd (not_damaged (sector_at j s) bytes j_s (ap (sector_at j) (sym here) ∙ gone)))
           (λ other. stands.roots.twins p twin (sym (j_other p other) ∙ gone)) (same_or p s);
     };
+    empty = λ says. each_now (λ a. (records_by l j a ≡ []) × (records_by (turned l) j a ≡ [])) (on_twin (λ a. (records_by l i a ≡ []) × (records_by (turned l) i a ≡ [])) (λ a. (records_by l j a ≡ []) × (records_by (turned l) j a ≡ []))
+        (λ b low none. (records_same b low ∙ none.0, ap (λ (x : Walked). x.records) (same_scan (turned l) i j log_same b low) ∙ none.1)) (stands.empty (says_same l i j head says)));
     anchors = record {
       first = reads 8 stands.anchors.first;
       second = reads 12 stands.anchors.second;
@@ -194,7 +197,8 @@ anchors_apart weak narrow s t (inr at) hs ht = narrow t s (omega (arith, at.0, a
 pub anchor_shows : (l : Layout) (windows : List WeakRun) → IsNarrow (weak_of windows) → (choices : List (List (List ℕ))) (s t : ℕ) → AreAnchorPlaces s t → (c : Image) (bytes : List ℕ) → s < length c → sector_at c t ≡ Whole bytes → sector_at c s ≡ Damaged → IsTrue (weak_of windows s)
     → ShowsPages l windows choices c → ShowsPages l windows choices (with_sector c s bytes)
 anchor_shows l windows narrow choices s t at c bytes room whole hurt weak_s shows =
-    all_shows l windows choices (with_sector c s bytes)
+    all_shows l windows shows.readable.borne choices (with_sector c s bytes)
+    (both_same l windows c (with_sector c s bytes) shows.readable (λ p head. with_other c s p bytes (λ e. elim at [ inl o ↦ omega (arith, e, o.0, head) | inr o ↦ omega (arith, e, o.0, head) ])))
     (all_over (weak_of windows) (Stands l (weak_of windows) choices) c s bytes room (shows_all l windows narrow choices c shows)
     (λ i worn there stands. mended_stands l (weak_of windows) choices s t at i bytes (omega (arith, room, worn.size))
     (⊎_elim (λ same. same ∙ whole) (λ worse. absurd (anchors_apart (weak_of windows) narrow s t at weak_s worse.0)) (worn.each t)) (there ∙ hurt) stands))

@@ -13,15 +13,17 @@ use Rattle.sector_disk.proofs.Wear.{worn_refl}
 use Rattle.fsd_log.specs.Scan.{start, newer_of}
 use Rattle.fsd_files.specs.Disk.{Image, Sectors, SectorWorn, bytes_of}
 use Rattle.fsd_sound.specs.Anchors.{anchor_at, anchor_of, fresh_anchor}
-use Rattle.fsd_sound.specs.Laid.{IsLaid, HasOwnLog}
+use Rattle.fsd_sound.specs.Laid.{IsLaid, HasOwnLog, HasOwnRoots}
 use Rattle.fsd_sound.specs.Shown.{records_by, shown_by, shown}
-use Rattle.fsd_sound.specs.Sound.{HasRoots, EachStamp, HasAnchors, HasLog, ScansAgree, disk_records, IsSuffix, HasHomes, ShowsOne, ShowsPages, weak_of, is_twin}
+use Rattle.fsd_sound.specs.Sound.{HasRoots, EachStamp, HasAnchors, HasLog, ScansAgree, disk_records, IsSuffix, HasHomes, ShowsOne, ShowsPages, weak_of, is_twin, BearsLast}
 use Rattle.fsd_sound.proofs.FreshLaws.{anchor_stands}
+use Rattle.fsd_sound.proofs.SaidLaws.{own_roots_say}
 use Rattle.fsd_sound.proofs.SectorFacts.{same_bytes, not_damaged}
 use Rattle.fsd_sound.proofs.TwinLaws.{each_twin}
 use Rattle.fsd_sound.proofs.HomedLaws.{stamps_up, fresh_log, no_records, homes_alike, pages_are}
 use Rattle.fsd_sound.specs.Begun.{IsHomed, IsBegun}
 use Rattle.fsd_sound.specs.Windows.{IsNarrow}
+use Rattle.fsd_sound.proofs.WindowLaws.{borne_narrow}
 
 module _ (l : Layout) (epoch : ℕ) (pages : List (List ℕ)) (i : Image) (is : IsBegun l epoch pages i) where
   homed : IsHomed l epoch pages i
@@ -34,12 +36,15 @@ module _ (l : Layout) (epoch : ℕ) (pages : List (List ℕ)) (i : Image) (is : 
 
   has_roots : (weak : Sectors) → HasRoots l weak i
   has_roots weak = record {
-    some = inl homed.root;
-    first = λ bytes e. same_bytes (sector_at i 0) (root_bytes l) bytes homed.root e;
-    second = λ bytes e. same_bytes (sector_at i 4) (root_bytes l) bytes homed.root_copy e;
+    some = inl (root_bytes l, homed.root, inl refl);
+    first = λ bytes e. inl (same_bytes (sector_at i 0) (root_bytes l) bytes homed.root e);
+    second = λ bytes e. inl (same_bytes (sector_at i 4) (root_bytes l) bytes homed.root_copy e);
     fits = homed.long;
     twins = λ s t d. let w = twin_is_whole s t in absurd (not_damaged (sector_at i s) w.0 w.1 d);
   }
+
+  own_roots : (weak : Sectors) → HasOwnRoots l weak i
+  own_roots weak = (inl homed.root, inl homed.root_copy)
 
   found_first : anchor_at i 8 ≡ Some (fresh_anchor epoch)
   found_first = anchor_stands epoch i 8 homed.first homed.last is.anchor
@@ -135,10 +140,12 @@ module _ (l : Layout) (epoch : ℕ) (pages : List (List ℕ)) (i : Image) (is : 
         laid = both_copies (λ a. IsLaid l a weak j (records_by l j a)) (subst (IsLaid l (fresh_anchor epoch) weak j) (sym (no_records l epoch pages i homed weak j (λ s from. w.each s))) tt);
       }
 
-  pub begun_shows : (windows : List WeakRun) → IsNarrow (weak_of windows) → ShowsPages l windows (pages ∷ []) i
-  begun_shows windows narrow = record {
+  pub begun_shows : (windows : List WeakRun) → BearsLast l windows → ShowsPages l windows (pages ∷ []) i
+  begun_shows windows borne = let narrow = borne_narrow l windows borne in record {
     readable = record {
+      borne = borne;
       roots = has_roots (weak_of windows);
+      either = λ says. absurd (own_roots_say l (weak_of windows) i (own_roots (weak_of windows)) says);
       anchors = has_anchors;
       log = λ j w. log_is (weak_of windows) j w narrow;
       homes = λ j w. homes_worn (weak_of windows) j w;
@@ -148,6 +155,7 @@ module _ (l : Layout) (epoch : ℕ) (pages : List (List ℕ)) (i : Image) (is : 
 
   pub begun_own : (windows : List WeakRun) → HasOwnLog l (fresh_anchor epoch) [] (start l 1) (weak_of windows) i
   begun_own windows = record {
+    roots = own_roots (weak_of windows);
     own = both_copies (weak_of windows) i (worn_refl (weak_of windows) i) (λ b. b ≡ fresh_anchor epoch) refl;
     log = fresh_log l epoch pages i homed (weak_of windows) i (λ s from. inl refl);
     laid = tt;

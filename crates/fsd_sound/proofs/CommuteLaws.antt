@@ -2,14 +2,19 @@
 use Rattle.std.proofs.Common.{◌≡◌, ◌≢◌, ◌⊎◌, inl, inr, ⊎_elim, ℕ, ◌<◌, List, length, set, sym, ap, subst, ◌∙◌, arith}
 use Rattle.std.specs.Prelude.{IsTrue}
 use Rattle.std.proofs.lemmas.Bool.{cases_lt}
-use Rattle.std.proofs.lemmas.List.{length-set, get_or-set_same, get_or-set_other, ext_get_or}
+use Rattle.std.proofs.lemmas.List.{length-set, get_or_past, get_or-set_same, get_or-set_other, ext_get_or}
 use Rattle.volume_layout.specs.declared.layout.Layout.{Layout}
+use Rattle.volume_layout.specs.Layout.{turned}
+use Rattle.volume_layout.specs.Root.{root_bytes}
 use Rattle.sector_disk.specs.declared.sector.WeakRun.{WeakRun}
 use Rattle.sector_disk.specs.declared.sector.Sector.TheVariants.{Whole, Damaged}
 use Rattle.sector_disk.specs.Image.{sector_at, with_sector, IsWorn, AllWorn}
 use Rattle.fsd_files.specs.Disk.{Image, Sectors}
 use Rattle.sector_disk.proofs.Wear.{worn_refl}
-use Rattle.fsd_sound.specs.Sound.{ShowsPages, weak_of}
+use Rattle.fsd_sound.specs.Sound.{ShowsPages, weak_of, BearsLast, IsReadable, LogsNothing, SaysTurned}
+use Rattle.fsd_sound.proofs.AlikeLaws.{unlogged_same}
+use Rattle.fsd_sound.proofs.SaidLaws.{says_same, says_worn}
+use Rattle.fsd_sound.proofs.SectorFacts.{not_damaged}
 use Rattle.fsd_sound.proofs.SoundLaws.{shows_still}
 use Rattle.fsd_sound.specs.Stands.{Stands, IsOver}
 use Rattle.fsd_sound.specs.Windows.{IsNarrow}
@@ -77,17 +82,57 @@ all_over may P c s bytes room all step = λ j w. ⊎_elim
     (λ over. subst P (sym over.is) (step over.under over.worn over.there (all over.under over.worn)))
     (worn_or_over may c j s bytes room w)
 
+-- a sector that is whole is one of the image's
+pub whole_inside : (i : Image) (s : ℕ) (bytes : List ℕ) → sector_at i s ≡ Whole bytes → s < length i
+whole_inside i s bytes is = elim (cases_lt s (length i)) [ inl lt ↦ lt | inr past ↦ absurd (not_damaged (sector_at i s) bytes is (get_or_past i s Damaged past)) ]
+
 -- ---- what is shown
 
 pub shows_all : (l : Layout) (windows : List WeakRun) → IsNarrow (weak_of windows) → (choices : List (List (List ℕ))) (c : Image) → ShowsPages l windows choices c → AllWorn (weak_of windows) (Stands l (weak_of windows) choices) c
 shows_all l windows narrow choices c shows = λ j w.
     let at = shows_still l windows narrow choices c j w shows in
-    record { roots = at.readable.roots; anchors = at.readable.anchors; log = shows.readable.log j w; homes = shows.readable.homes j w; shows = shows.shows j w }
+    record {
+      roots = at.readable.roots;
+      empty = λ says. (shows.readable.either (says_worn l c j (weak_of windows) w says)).empty j w;
+      anchors = at.readable.anchors;
+      log = shows.readable.log j w;
+      homes = shows.readable.homes j w;
+      shows = shows.shows j w;
+    }
 
-pub all_shows : (l : Layout) (windows : List WeakRun) (choices : List (List (List ℕ))) (c : Image) → AllWorn (weak_of windows) (Stands l (weak_of windows) choices) c → ShowsPages l windows choices c
-all_shows l windows choices c all =
+module _ (l : Layout) (weak : Sectors) (choices : List (List (List ℕ))) (c : Image) (all : AllWorn weak (Stands l weak choices) c) (says : SaysTurned l c) (j : Image) (w : IsWorn weak c j) where
+  -- the root is worn, so what is logged is told by the image with it
+  unlogged_without : (s : ℕ) → s < 8 → sector_at c s ≡ Whole (root_bytes (turned l)) → ((k : Image) → sector_at k s ≡ Whole (root_bytes (turned l)) → SaysTurned l k) → LogsNothing l j
+  unlogged_without s head root say =
+      let room : s < length c = whole_inside c s (root_bytes (turned l)) root in
+      let back = with_same j s (root_bytes (turned l)) (omega (arith, room, w.size)) in
+      let worn : IsWorn weak c (with_sector j s (root_bytes (turned l))) = record {
+        size = length-set j s (Whole (root_bytes (turned l))) ∙ w.size;
+        each = λ p. ⊎_elim
+            (λ here. inl (ap (sector_at (with_sector j s (root_bytes (turned l)))) here ∙ back ∙ sym root ∙ ap (sector_at c) (sym here)))
+            (λ other. ⊎_elim (λ same. inl (with_other j s p (root_bytes (turned l)) other ∙ same)) (λ hurt. inr (hurt.0, with_other j s p (root_bytes (turned l)) other ∙ hurt.1)) (w.each p)) (same_or p s);
+      } in
+      unlogged_same l (with_sector j s (root_bytes (turned l))) j (λ p from lt. sym (with_other j s p (root_bytes (turned l)) (λ e. omega (arith, e, head, from))))
+      ((all (with_sector j s (root_bytes (turned l))) worn).empty (say (with_sector j s (root_bytes (turned l))) back))
+
+  all_unlogged : LogsNothing l j
+  all_unlogged = ⊎_elim (λ root. unlogged_without 0 (omega arith) root (λ k is. inl is)) (λ root. unlogged_without 4 (omega arith) root (λ k is. inr is)) says
+
+-- where the roots are as they were the layout turned bears the last run as before
+pub both_same : (l : Layout) (windows : List WeakRun) (c j : Image) → IsReadable l windows c → ((s : ℕ) → s < 8 → sector_at j s ≡ sector_at c s) → SaysTurned l j → BearsLast (turned l) windows
+both_same l windows c j readable head says = (readable.either (says_same l c j head says)).borne
+
+pub all_shows : (l : Layout) (windows : List WeakRun) → BearsLast l windows → (choices : List (List (List ℕ))) (c : Image) → (SaysTurned l c → BearsLast (turned l) windows) → AllWorn (weak_of windows) (Stands l (weak_of windows) choices) c → ShowsPages l windows choices c
+all_shows l windows borne choices c both all =
     let here = all c (worn_refl (weak_of windows) c) in
     record {
-      readable = record { roots = here.roots; anchors = here.anchors; log = λ j w. (all j w).log; homes = λ j w. (all j w).homes };
+      readable = record {
+        borne = borne;
+        roots = here.roots;
+        either = λ says. record { borne = both says; empty = all_unlogged l (weak_of windows) choices c all says };
+        anchors = here.anchors;
+        log = λ j w. (all j w).log;
+        homes = λ j w. (all j w).homes;
+      };
       shows = λ j w. (all j w).shows;
     }

@@ -5,7 +5,8 @@ use Rattle.std.specs.Option.{option_or}
 use Rattle.std.specs.List.{AllByRecursion}
 use Rattle.std.proofs.lemmas.List.{length-set, ext_get_or}
 use Rattle.volume_layout.specs.declared.layout.Layout.{Layout}
-use Rattle.volume_layout.specs.Layout.{home_a, home_b}
+use Rattle.volume_layout.specs.Layout.{home_a, home_b, turned}
+use Rattle.volume_layout.specs.Kinds.{gap_of}
 use Rattle.fsd_formats.specs.declared.anchor.Anchor.{Anchor}
 use Rattle.fsd_formats.specs.Anchors.{read_anchor}
 use Rattle.fsd_formats.specs.Record.{Stamp, record_len}
@@ -24,19 +25,20 @@ use Rattle.fsd_sound.specs.Anchors.{anchor_at, anchor_of, EachAnchor}
 use Rattle.fsd_sound.specs.Homes.{home_of}
 use Rattle.fsd_sound.specs.Laid.{IsLaid}
 use Rattle.fsd_sound.specs.Shown.{records_by, newest, each_of, all_pages, shown_by, shown}
-use Rattle.fsd_sound.specs.Sound.{EachStamp, on_disk, disk_records, ScansAgree, ShowsOne, ShowsPages, weak_of}
+use Rattle.fsd_sound.specs.Sound.{EachStamp, SaysTurned, on_disk, disk_records, ScansAgree, ShowsOne, ShowsPages, weak_of}
 use Rattle.fsd_sound.proofs.LogPlaces.{IsRecord, scan_records}
 use Rattle.fsd_sound.specs.Logged.{Follows}
 use Rattle.fsd_sound.specs.Stands.{Stands}
 use Rattle.fsd_sound.specs.Windows.{IsNarrow, IsApart}
 use Rattle.fsd_sound.proofs.AnchorFacts.{IsAnchor}
 use Rattle.fsd_log.proofs.RobustLaws.{rows_of}
-use Rattle.fsd_sound.proofs.CommuteLaws.{same_or, with_same, with_other, all_over, shows_all, all_shows}
+use Rattle.fsd_sound.proofs.CommuteLaws.{same_or, with_same, with_other, all_over, whole_inside, shows_all, all_shows}
 use Rattle.fsd_sound.proofs.CoverLaws.{Covers, covers, is_anchor_at, ends_so, same_last, map_snoc, not_nil}
 use Rattle.fsd_sound.proofs.CompleteLaws.{IsLastBy, row_has, copy_stands, y_worn, same_records, laid_still, x_bears}
 use Rattle.fsd_sound.proofs.AlikeLaws.{suffix_same}
 use Rattle.fsd_sound.proofs.AnchorFacts.{newer_one}
 use Rattle.fsd_sound.proofs.EachLaws.{all_in_range, each_of_same}
+use Rattle.fsd_sound.proofs.SaidLaws.{says_same, says_worn, some_same}
 use Rattle.fsd_sound.proofs.SectorFacts.{same_bytes}
 use Rattle.fsd_sound.proofs.WindowLaws.{apart_narrow}
 
@@ -57,13 +59,13 @@ pub record AtLast (l : Layout) (weak : Sectors) (c : Image) (t : Anchor) (r : Pl
   pub epoch : b.epoch ≡ t.epoch
   pub same : on_disk l b q ≡ on_disk l t r
 
-module _ (l : Layout) (small : l.pages ≤ 2 ^ 32) (windows : List WeakRun) (apart : IsApart (weak_of windows)) (choices : List (List (List ℕ))) (c : Image) (shows : ShowsPages l windows choices c)
+module _ (l : Layout) (small : l.pages ≤ 2 ^ 32) (windows : List WeakRun) (apart : IsApart (gap_of l) (weak_of windows)) (choices : List (List (List ℕ))) (c : Image) (shows : ShowsPages l windows choices c)
     (t : Anchor) (taken : anchor_of c ≡ Some t) (front : List Placed) (r : Placed) (joined : records_by l c t ≡ front ++ r ∷ []) (long : 16 + 3 * l.third ≤ length c) where
   abbrev weak : Sectors
   weak = weak_of windows
 
   narrow : IsNarrow (weak_of windows)
-  narrow = apart_narrow windows apart
+  narrow = apart_narrow l windows apart
 
   all : AllWorn (weak_of windows) (Stands l (weak_of windows) choices) c
   all = shows_all l windows narrow choices c shows
@@ -100,6 +102,13 @@ module _ (l : Layout) (small : l.pages ≤ 2 ^ 32) (windows : List WeakRun) (apa
   pub taken_last : AtLast l (weak_of windows) c t r t
   taken_last = subst (λ (o : Option Anchor). IfSome o (AtLast l (weak_of windows) c t r)) taken (newer_one (AtLast l (weak_of windows) c t r) (anchor_at c 8) (anchor_at c 12) each_last.0 each_last.1)
 
+  -- as there is a record, no root says the layout turned
+  is_logged : SaysTurned l c → ⊥
+  is_logged says =
+      let none = here.empty says in
+      let taken_none = subst (λ (o : Option Anchor). IfSome o (λ b. (records_by l c b ≡ []) × (records_by (turned l) c b ≡ []))) taken (newer_one _ (anchor_at c 8) (anchor_at c 12) none.0 none.1) in
+      not_nil front r (sym joined ∙ taken_none.0)
+
   module _ (k : ℕ) (le : k ≤ length r.entry.pages) where
     abbrev row_of : ℕ → Placed → List ℕ
     row_of epoch p = get_or (rows_of (stamp_at epoch p.entry.number) p.entry) k []
@@ -108,31 +117,31 @@ module _ (l : Layout) (small : l.pages ≤ 2 ^ 32) (windows : List WeakRun) (apa
     x = row_of t.epoch (on_disk l t r)
 
     abbrev f : ℕ
-    f = place_of l t.third r.at + (3 + k)
+    f = place_of l t.third r.at + (3 + (gap_of l) + k)
 
     abbrev s : ℕ
-    s = place_of l t.third r.at + (4 + length r.entry.pages + k)
+    s = place_of l t.third r.at + (4 + 2 * (gap_of l) + length r.entry.pages + k)
 
     module _ (b : Anchor) (at : AtLast l (weak_of windows) c t r b) where
       le_b : k ≤ length at.q.entry.pages
       le_b = omega (arith, le, ap (λ (p : Placed). length p.entry.pages) at.same)
 
-      f_b : place_of l b.third at.q.at + (3 + k) ≡ f
-      f_b = ap (λ (p : Placed). p.at + (3 + k)) at.same
+      f_b : place_of l b.third at.q.at + (3 + (gap_of l) + k) ≡ f
+      f_b = ap (λ (p : Placed). p.at + (3 + (gap_of l) + k)) at.same
 
-      s_b : place_of l b.third at.q.at + (4 + length at.q.entry.pages + k) ≡ s
-      s_b = ap (λ (p : Placed). p.at + (4 + length p.entry.pages + k)) at.same
+      s_b : place_of l b.third at.q.at + (4 + 2 * (gap_of l) + length at.q.entry.pages + k) ≡ s
+      s_b = ap (λ (p : Placed). p.at + (4 + 2 * (gap_of l) + length p.entry.pages + k)) at.same
 
       x_b : get_or (rows_of (stamp_at b.epoch at.q.entry.number) at.q.entry) k [] ≡ x
       x_b = (λ u. get_or (rows_of (stamp_at (at.epoch u) at.q.entry.number) at.q.entry) k []) ∙ ap (row_of t.epoch) at.same
 
-      whole_b : sector_at c f ≡ Whole x → sector_at c (place_of l b.third at.q.at + (3 + k)) ≡ Whole (get_or (rows_of (stamp_at b.epoch at.q.entry.number) at.q.entry) k [])
+      whole_b : sector_at c f ≡ Whole x → sector_at c (place_of l b.third at.q.at + (3 + (gap_of l) + k)) ≡ Whole (get_or (rows_of (stamp_at b.epoch at.q.entry.number) at.q.entry) k [])
       whole_b whole = ap (sector_at c) f_b ∙ whole ∙ ap (λ (v : List ℕ). Whole v) (sym x_b)
 
-      y_b : (i : Image) → with_sector i (place_of l b.third at.q.at + (3 + k)) (get_or (rows_of (stamp_at b.epoch at.q.entry.number) at.q.entry) k []) ≡ with_sector i f x
+      y_b : (i : Image) → with_sector i (place_of l b.third at.q.at + (3 + (gap_of l) + k)) (get_or (rows_of (stamp_at b.epoch at.q.entry.number) at.q.entry) k []) ≡ with_sector i f x
       y_b i = λ u. with_sector i (f_b u) (x_b u)
 
-      z_b : (i : Image) → with_sector i (place_of l b.third at.q.at + (4 + length at.q.entry.pages + k)) (get_or (rows_of (stamp_at b.epoch at.q.entry.number) at.q.entry) k []) ≡ with_sector i s x
+      z_b : (i : Image) → with_sector i (place_of l b.third at.q.at + (4 + 2 * (gap_of l) + length at.q.entry.pages + k)) (get_or (rows_of (stamp_at b.epoch at.q.entry.number) at.q.entry) k []) ≡ with_sector i s x
       z_b i = λ u. with_sector i (s_b u) (x_b u)
 
     -- what an anchor tells is the same of both images
@@ -151,9 +160,9 @@ module _ (l : Layout) (small : l.pages ≤ 2 ^ 32) (windows : List WeakRun) (apa
         is = at.by.is;
         epoch = at.epoch;
         records = subst (λ (v : Image). records_by l (with_sector i s x) b ≡ records_by l v b) (y_b b at i)
-            (subst (λ (v : Image). records_by l v b ≡ records_by l (with_sector i (place_of l b.third at.q.at + (3 + k)) (get_or (rows_of (stamp_at b.epoch at.q.entry.number) at.q.entry) k [])) b) (z_b b at i) (same_records l small (weak_of windows) apart c b at.q at.by k (le_b b at) i worn long_i (whole_b b at whole)));
+            (subst (λ (v : Image). records_by l v b ≡ records_by l (with_sector i (place_of l b.third at.q.at + (3 + (gap_of l) + k)) (get_or (rows_of (stamp_at b.epoch at.q.entry.number) at.q.entry) k [])) b) (z_b b at i) (same_records l small (weak_of windows) apart c b at.q at.by k (le_b b at) i worn long_i (whole_b b at whole)));
         laid = subst (λ (v : Image). IsLaid l b (weak_of windows) v (records_by l v b) → IsLaid l b (weak_of windows) (with_sector i s x) (records_by l (with_sector i s x) b)) (y_b b at i)
-            (subst (λ (v : Image). IsLaid l b (weak_of windows) (with_sector i (place_of l b.third at.q.at + (3 + k)) (get_or (rows_of (stamp_at b.epoch at.q.entry.number) at.q.entry) k [])) (records_by l (with_sector i (place_of l b.third at.q.at + (3 + k)) (get_or (rows_of (stamp_at b.epoch at.q.entry.number) at.q.entry) k [])) b) → IsLaid l b (weak_of windows) v (records_by l v b)) (z_b b at i) (laid_still l small (weak_of windows) apart c b at.q at.by k (le_b b at) i worn long_i (whole_b b at whole)));
+            (subst (λ (v : Image). IsLaid l b (weak_of windows) (with_sector i (place_of l b.third at.q.at + (3 + (gap_of l) + k)) (get_or (rows_of (stamp_at b.epoch at.q.entry.number) at.q.entry) k [])) (records_by l (with_sector i (place_of l b.third at.q.at + (3 + (gap_of l) + k)) (get_or (rows_of (stamp_at b.epoch at.q.entry.number) at.q.entry) k [])) b) → IsLaid l b (weak_of windows) v (records_by l v b)) (z_b b at i) (laid_still l small (weak_of windows) apart c b at.q at.by k (le_b b at) i worn long_i (whole_b b at whole)));
       }
 
       y_is_worn : IsWorn (weak_of windows) c (with_sector i f x)
@@ -163,10 +172,10 @@ module _ (l : Layout) (small : l.pages ≤ 2 ^ 32) (windows : List WeakRun) (apa
       x_is_borne = subst (λ (v : List ℕ). borne_by v ≡ Some (stamp_at t.epoch r.entry.number)) (x_b t taken_last)
           (x_bears l small (weak_of windows) apart c t taken_last.q taken_last.by k (le_b t taken_last) i worn long_i (whole_b t taken_last whole) ∙ ap (λ (p : Placed). Some (stamp_at t.epoch p.entry.number)) taken_last.same)
 
-      in_log : place_of l t.third r.at + record_len (length r.entry.pages) ≤ 16 + 3 * l.third
+      in_log : place_of l t.third r.at + record_len (gap_of l) (length r.entry.pages) ≤ 16 + 3 * l.third
       in_log =
           let are : AllByRecursion (IsRecord l t.third) (front ++ r ∷ []) = subst (AllByRecursion (IsRecord l t.third)) joined (scan_records l c t taken_last.by.is.third) in
-          let is = last_rec front are in place_inside l t.third r.at (record_len (length r.entry.pages)) is.end is.inside (omega arith)
+          let is = last_rec front are in place_inside l t.third r.at (record_len (gap_of l) (length r.entry.pages)) is.end is.inside (omega arith)
         where
           last_rec : (xs : List Placed) → AllByRecursion (IsRecord l t.third) (xs ++ r ∷ []) → IsRecord l t.third r
           last_rec [] all = all.0
@@ -268,7 +277,7 @@ module _ (l : Layout) (small : l.pages ≤ 2 ^ 32) (windows : List WeakRun) (apa
           let z_s : sector_at z s ≡ Whole x = with_same i s x (omega (arith, s_to, long_i)) in
           record {
             roots = record {
-              some = ⊎_elim (λ is. inl (front_z 0 (omega arith) ∙ is)) (λ is. inr (front_z 4 (omega arith) ∙ is)) stands.roots.some;
+              some = some_same l i z (front_z 0 (omega arith)) (front_z 4 (omega arith)) stands.roots.some;
               first = λ bytes is. stands.roots.first bytes (sym (front_z 0 (omega arith)) ∙ is);
               second = λ bytes is. stands.roots.second bytes (sym (front_z 4 (omega arith)) ∙ is);
               fits = omega (arith, stands.roots.fits, length-set i s (Whole x));
@@ -276,6 +285,7 @@ module _ (l : Layout) (small : l.pages ≤ 2 ^ 32) (windows : List WeakRun) (apa
                   (λ at. absurd (let h : sector_at z s ≡ Damaged = ap (sector_at z) (sym at) ∙ hurt in cc (z_s, h)))
                   (λ other. stands.roots.twins p twin (sym (z_other p other) ∙ hurt)) (same_or p s);
             };
+            empty = λ says. absurd (is_logged (says_worn l c i (weak_of windows) worn (says_same l i z (λ p lt. front_z p (omega (arith, lt))) says)));
             anchors = record {
               first = λ bytes is. stands.anchors.first bytes (sym (front_z 8 (omega arith)) ∙ is);
               second = λ bytes is. stands.anchors.second bytes (sym (front_z 12 (omega arith)) ∙ is);
@@ -309,7 +319,7 @@ module _ (l : Layout) (small : l.pages ≤ 2 ^ 32) (windows : List WeakRun) (apa
         (λ whole.
         let back : with_sector c f x ≡ c = set_back c f x (omega (arith, long, f_to whole c (worn_refl (weak_of windows) c))) whole in
         record {
-          shows = all_shows l windows choices (with_sector c s x)
+          shows = all_shows l windows shows.readable.borne choices (with_sector c s x) (λ says. absurd (is_logged (says_same l c (with_sector c s x) (λ p lt. with_other c s p x (λ e. let from = s_from whole c (worn_refl (weak_of windows) c) in omega (arith, e, lt, from))) says)))
               (all_over (weak_of windows) (Stands l (weak_of windows) choices) c s x (omega (arith, long, s_to whole c (worn_refl (weak_of windows) c))) all
               (λ i worn there stands. completed_stands whole i worn stands));
           taken = taken_y whole c (worn_refl (weak_of windows) c) ∙ ap anchor_of back ∙ taken;
@@ -327,10 +337,7 @@ module _ (l : Layout) (small : l.pages ≤ 2 ^ 32) (windows : List WeakRun) (apa
         row_c
       where
         row_c : Has (weak_of windows) c x f
-        row_c = subst (Has (weak_of windows) c x) (f_b t taken_last) (subst (λ (v : List ℕ). Has (weak_of windows) c v (place_of l t.third taken_last.q.at + (3 + k))) (x_b t taken_last) (row_has l small (weak_of windows) apart c t taken_last.q taken_last.by k (le_b t taken_last)))
+        row_c = subst (Has (weak_of windows) c x) (f_b t taken_last) (subst (λ (v : List ℕ). Has (weak_of windows) c v (place_of l t.third taken_last.q.at + (3 + (gap_of l) + k))) (x_b t taken_last) (row_has l small (weak_of windows) apart c t taken_last.q taken_last.by k (le_b t taken_last)))
 
         whole_in : (p : ℕ) → sector_at c p ≡ Whole x → p < length c
-        whole_in p is = elim (Rattle.std.proofs.lemmas.Bool.cases_lt p (length c)) [
-          | inl lt ↦ lt
-          | inr past ↦ absurd (let none : sector_at c p ≡ Damaged = Rattle.std.proofs.lemmas.List.get_or_past c p Damaged past in cc (none, is))
-        ]
+        whole_in p is = whole_inside c p x is

@@ -3,6 +3,7 @@ use Rattle.std.proofs.Common.{◌≡◌, inl, inr, ⊎_elim, ℕ, zero, suc, ◌
 use Rattle.std.specs.List.{AllByRecursion}
 use Rattle.std.proofs.lemmas.Bool.{cases_lt}
 use Rattle.volume_layout.specs.declared.layout.Layout.{Layout}
+use Rattle.volume_layout.specs.Kinds.{gap_of}
 use Rattle.fsd_formats.specs.declared.anchor.Anchor.{Anchor}
 use Rattle.fsd_formats.specs.Record.{end_bytes, record_len}
 use Rattle.sector_disk.specs.declared.sector.WeakRun.{WeakRun}
@@ -40,7 +41,7 @@ last_copies l epoch third [] r c of = of
 last_copies l epoch third (q ∷ []) r c of = of
 last_copies l epoch third (q ∷ p ∷ front) r c of = last_copies l epoch third (p ∷ front) r c of
 
-module _ (l : Layout) (small : l.pages ≤ 2 ^ 32) (windows : List WeakRun) (apart : IsApart (weak_of windows)) (choices : List (List (List ℕ))) (c : Image) (shows : ShowsPages l windows choices c)
+module _ (l : Layout) (small : l.pages ≤ 2 ^ 32) (windows : List WeakRun) (apart : IsApart (gap_of l) (weak_of windows)) (choices : List (List (List ℕ))) (c : Image) (shows : ShowsPages l windows choices c)
     (t : Anchor) (taken : anchor_of c ≡ Some t) (long : 16 + 3 * l.third ≤ length c) (copies : Copies) where
   self : Follows l windows choices t c c
   self = record { shows = shows; taken = taken; records = refl }
@@ -72,21 +73,21 @@ module _ (l : Layout) (small : l.pages ≤ 2 ^ 32) (windows : List WeakRun) (apa
         let so_far = laying m (omega arith) in
         let d : Image = stand c copies.place copies.bytes m in
         let step = completed_one l small windows apart choices (stand c copies.place copies.bytes m) so_far.shows t so_far.taken front r (so_far.records ∙ joined) (omega (arith, long, length-stand c copies.place copies.bytes m)) m (omega arith) in
-        let place : place_of l t.third r.at + (4 + length r.entry.pages + m) ≡ copies.place + m = omega (arith, of.place) in
-        let same : with_sector (stand c copies.place copies.bytes m) (place_of l t.third r.at + (4 + length r.entry.pages + m)) (get_or (copies_of t r) m []) ≡ stand c copies.place copies.bytes (suc m) =
+        let place : place_of l t.third r.at + (4 + 2 * (gap_of l) + length r.entry.pages + m) ≡ copies.place + m = omega (arith, of.place) in
+        let same : with_sector (stand c copies.place copies.bytes m) (place_of l t.third r.at + (4 + 2 * (gap_of l) + length r.entry.pages + m)) (get_or (copies_of t r) m []) ≡ stand c copies.place copies.bytes (suc m) =
         λ u. with_sector (stand c copies.place copies.bytes m) (place u) (row_is m (omega arith) u) in
         let here : Follows l windows choices t (stand c copies.place copies.bytes m) (stand c copies.place copies.bytes (suc m)) = subst (Follows l windows choices t (stand c copies.place copies.bytes m)) same step in
         record { shows = here.shows; taken = here.taken; records = here.records ∙ so_far.records }
 
     -- at the end they stand
     pub laid : HasCopies l t (weak_of windows) (stand c copies.place copies.bytes (copies_count copies)) r
-    laid = stand_from l t (weak_of windows) (stand c copies.place copies.bytes (copies_count copies)) (place_of l t.third r.at + (4 + length r.entry.pages)) (copies_of t r) (λ k lt.
-        let inside = place_inside l t.third r.at (record_len (length r.entry.pages)) is_record.end is_record.inside (omega arith) in
+    laid = stand_from l t (weak_of windows) (stand c copies.place copies.bytes (copies_count copies)) (place_of l t.third r.at + (4 + 2 * (gap_of l) + length r.entry.pages)) (copies_of t r) (λ k lt.
+        let inside = place_inside l t.third r.at (record_len (gap_of l) (length r.entry.pages)) is_record.end is_record.inside (omega arith) in
         let many = length_more r.entry.images (end_bytes (record { epoch = t.epoch; number = r.entry.number }) (length r.entry.pages)) in
         let within : k < copies_count copies = omega (arith, lt, many, is_record.images, count_is) in
         let le : k ≤ length r.entry.pages = omega (arith, within, count_is) in
         let room : copies.place + copies_count copies ≤ length c = omega (arith, count_is, of.place, inside, long) in
-        let place : copies.place + k ≡ place_of l t.third r.at + (4 + length r.entry.pages) + k = omega (arith, of.place) in
+        let place : copies.place + k ≡ place_of l t.third r.at + (4 + 2 * (gap_of l) + length r.entry.pages) + k = omega (arith, of.place) in
         inl (ap (sector_at (stand c copies.place copies.bytes (copies_count copies))) (sym place) ∙ stand_in c copies.place copies.bytes (copies_count copies) k within room ∙ ap (λ (b : List ℕ). Whole b) (sym (row_is k le))))
 
   -- with or without a last record
@@ -102,12 +103,12 @@ module _ (l : Layout) (small : l.pages ≤ 2 ^ 32) (windows : List WeakRun) (apa
       (ends_so (records_by l c t))
 
 -- a moment of the completion
-pub completing_shows : (l : Layout) → l.pages ≤ 2 ^ 32 → (windows : List WeakRun) → IsApart (weak_of windows) → (choices : List (List (List ℕ))) (c : Image) (t : Anchor) (copies : Copies) (stood : ℕ) (now left : Moment) → 16 + 3 * l.third ≤ length c
+pub completing_shows : (l : Layout) → l.pages ≤ 2 ^ 32 → (windows : List WeakRun) → IsApart (gap_of l) (weak_of windows) → (choices : List (List (List ℕ))) (c : Image) (t : Anchor) (copies : Copies) (stood : ℕ) (now left : Moment) → 16 + 3 * l.third ≤ length c
     → EndIn now.windows windows → IsWorn (open_damage now.windows) c now.image → ShowsPages l windows choices c → anchor_of c ≡ Some t → AreLastCopies l t.epoch t.third (records_by l c t) copies
     → stood ≤ copies_count copies → Holds now (stand now.image copies.place copies.bytes stood) left → ShowsPages l windows choices left.image
 completing_shows l small windows apart choices c t copies stood now left long ends worn shows taken of within holds =
     let clean : Image = stand c copies.place copies.bytes stood in
     let by : IsWorn (open_damage now.windows) (stand c copies.place copies.bytes stood) left.image =
     worn_trans (open_damage now.windows) (stand c copies.place copies.bytes stood) (stand now.image copies.place copies.bytes stood) left.image (stand_worn (open_damage now.windows) c now.image copies.place copies.bytes stood worn) holds.worn in
-    shows_still l windows (apart_narrow windows apart) choices (stand c copies.place copies.bytes stood) left.image (open_is_weak now.windows windows (stand c copies.place copies.bytes stood) left.image ends by)
+    shows_still l windows (apart_narrow l windows apart) choices (stand c copies.place copies.bytes stood) left.image (open_is_weak now.windows windows (stand c copies.place copies.bytes stood) left.image ends by)
     (completing l small windows apart choices c shows t taken long copies of stood within).shows

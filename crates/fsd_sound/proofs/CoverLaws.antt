@@ -1,10 +1,11 @@
 -- Once the last record's copies stand, a page that the newer anchor's log has is in the log of each anchor, however the run wears.
-use Rattle.std.proofs.Common.{◌≡◌, ◌⊎◌, inl, inr, ⊎_elim, ℕ, ◌+◌, ◌^◌, ◌<◌, ◌≤◌, Bool, true, false, cond, List, [], ◌∷◌, ◌++◌, length, map, Option, Some, None, refl, sym, ap, subst, ◌∙◌, arith}
+use Rattle.std.proofs.Common.{◌*◌, ◌≡◌, ◌⊎◌, inl, inr, ⊎_elim, ℕ, ◌+◌, ◌^◌, ◌<◌, ◌≤◌, Bool, true, false, cond, List, [], ◌∷◌, ◌++◌, length, map, Option, Some, None, refl, sym, ap, subst, ◌∙◌, arith}
 use Rattle.std.specs.Prelude.{IfSome}
 use Rattle.std.specs.Option.{option_or}
 use Rattle.std.proofs.lemmas.Bool.{cases_lt}
 use Rattle.std.proofs.lemmas.Bool.Decides.{nat_tests}
 use Rattle.volume_layout.specs.declared.layout.Layout.{Layout}
+use Rattle.volume_layout.specs.Kinds.{gap_of}
 use Rattle.fsd_formats.specs.declared.anchor.Anchor.{Anchor}
 use Rattle.fsd_formats.specs.Anchors.{read_anchor}
 use Rattle.fsd_formats.specs.Record.{end_bytes}
@@ -141,7 +142,7 @@ stand_any l t c weak i s (x ∷ xs) stand = (stand.0, stand_any l t c weak i (s 
 -- the copies of a record stand, as one anchor says and as another
 pub copies_alike : (l : Layout) (t c : Anchor) (weak : Sectors) (i : Image) (r q : Placed) → c.epoch ≡ t.epoch → on_disk l c q ≡ on_disk l t r → HasCopies l t weak i r → HasCopies l c weak i q
 copies_alike l t c weak i r q epoch same copies =
-    let X : ℕ → Placed → Type 0 = λ e d. AllStand l c weak i (d.at + (4 + length d.entry.pages)) (d.entry.images ++ end_bytes (record { epoch = e; number = d.entry.number }) (length d.entry.pages) ∷ []) in
+    let X : ℕ → Placed → Type 0 = λ e d. AllStand l c weak i (d.at + (4 + 2 * (gap_of l) + length d.entry.pages)) (d.entry.images ++ end_bytes (record { epoch = e; number = d.entry.number }) (length d.entry.pages) ∷ []) in
     let there : X t.epoch (on_disk l t r) = stand_any l t c weak i _ _ copies in
     subst (λ e. X e (on_disk l c q)) (sym epoch) (subst (X t.epoch) (sym same) there)
 
@@ -184,7 +185,7 @@ module _ (l : Layout) (weak : Sectors) (i : Image) (anchors : HasAnchors l i) (l
   each_whole = each_on _ _ (λ c is both. whole_by c both.0 both.1) (each_both i (Covers l i t) (λ c. IsLaid l c weak i (records_by l i c)) (covers l weak i anchors log t taken) log.laid)
 
   -- so each page of the newer one's is in the log of each, however the run wears
-  pub logged_still : l.pages ≤ 2 ^ 32 → IsApart weak → (page : ℕ) → (last_image page (records_by l i t) ≡ None → ⊥) → IsLogged l weak page i
+  pub logged_still : l.pages ≤ 2 ^ 32 → IsApart (gap_of l) weak → (page : ℕ) → (last_image page (records_by l i t) ≡ None → ⊥) → IsLogged l weak page i
   logged_still small apart page logged = λ j w. each_worn j w
     where
       each_now : (j : Image) → IsWorn weak i j → EachAnchor i (λ c. last_image page (records_by l j c) ≡ None → ⊥)

@@ -13,8 +13,7 @@ use Rattle.fsd_table.specs.Table.{one_leaf, told_in, visits}
 use Rattle.fsd_sound.specs.Begun.{IsBegun}
 use Rattle.fsd_sound.specs.Format.{IsFormatted, format_page}
 use Rattle.fsd_sound.specs.Shown.{all_pages, shown, told}
-use Rattle.fsd_sound.specs.Sound.{ShowsOne, Tells, weak_of, IsSound}
-use Rattle.fsd_sound.specs.Windows.{IsNarrow}
+use Rattle.fsd_sound.specs.Sound.{ShowsOne, Tells, weak_of, IsSound, BearsLast}
 use Rattle.fsd_sound.proofs.BegunLaws.{begun_shows}
 use Rattle.fsd_sound.proofs.MountedLaws.{one_of}
 use Rattle.fsd_sound.proofs.SectorFacts.{not_damaged}
@@ -69,15 +68,15 @@ pages_told : (l : Layout) (i : Image) → IsFormatted l i → told_in (pages_of 
 pages_told l i f = let many = (planned_bounds l f.planned).pages_least in told_pages l.pages (omega (arith, many))
 
 -- however its weak run wears, it tells an empty leaf
-pub format_told : (l : Layout) (windows : List WeakRun) → IsNarrow (weak_of windows) → (i j : Image) → IsWorn (weak_of windows) i j → IsFormatted l i → told l j ≡ Some (one_leaf [])
-format_told l windows narrow i j w f = by (shown l j) ((begun_shows l 1 (pages_of l) i (begun l i f) windows narrow).shows j w)
+pub format_told : (l : Layout) (windows : List WeakRun) → BearsLast l windows → (i j : Image) → IsWorn (weak_of windows) i j → IsFormatted l i → told l j ≡ Some (one_leaf [])
+format_told l windows borne i j w f = by (shown l j) ((begun_shows l 1 (pages_of l) i (begun l i f) windows borne).shows j w)
   where
     by : (o : Option (List (List ℕ))) → ShowsOne (pages_of l ∷ []) o → option_and_then told_in o ≡ Some (one_leaf [])
     by None one = absurd one
     by (Some pages) one = one_of (λ (p : List (List ℕ)). told_in p ≡ Some (one_leaf [])) (pages_of l) pages (pages_told l i f) one
 
-pub format_is_sound : (l : Layout) (windows : List WeakRun) → IsNarrow (weak_of windows) → (i : Image) → IsFormatted l i → IsSound l windows [] 0 i
-format_is_sound l windows narrow i f =
+pub format_is_sound : (l : Layout) (windows : List WeakRun) → BearsLast l windows → (i : Image) → IsFormatted l i → IsSound l windows [] 0 i
+format_is_sound l windows borne i f =
     let nothing : Tells l (in_runs windows) i [] 0 (Some (one_leaf [])) = (0, record { forced = omega arith; made = omega arith }, record { lists = tt; apart = refl; kept = tt }) in
-    sound_from_pages l windows [] 0 (pages_of l ∷ []) i (begun_shows l 1 (pages_of l) i (begun l i f) windows narrow)
+    sound_from_pages l windows [] 0 (pages_of l ∷ []) i (begun_shows l 1 (pages_of l) i (begun l i f) windows borne)
     (λ pages chosen. one_of (λ (p : List (List ℕ)). Tells l (in_runs windows) i [] 0 (told_in p)) (pages_of l) pages (subst (Tells l (in_runs windows) i [] 0) (sym (pages_told l i f)) nothing) chosen)

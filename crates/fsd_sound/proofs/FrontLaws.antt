@@ -18,9 +18,10 @@ use Rattle.fsd_sound.specs.Homes.{home_of}
 use Rattle.fsd_sound.specs.Shown.{records_by, newest, each_of, all_pages, shown_by, shown}
 use Rattle.fsd_sound.specs.Sound.{HasRoots, HasHomes, ShowsOne, ShowsPages, weak_of, is_twin}
 use Rattle.fsd_sound.proofs.LogPlaces.{SameLog}
-use Rattle.fsd_sound.proofs.AlikeLaws.{log_same, taken_same, records_same, each_same, roots_same, anchors_same, has_log_same}
+use Rattle.fsd_sound.proofs.AlikeLaws.{log_same, taken_same, records_same, each_same, roots_same, anchors_same, has_log_same, unlogged_same}
 use Rattle.fsd_sound.proofs.AnchorFacts.{taken_third}
 use Rattle.fsd_sound.proofs.EachLaws.{all_in_range, each_of_same}
+use Rattle.fsd_sound.proofs.SaidLaws.{says_same}
 use Rattle.fsd_sound.proofs.TwinLaws.{each_twin}
 
 abbrev pub SameFront : Layout → Image → Image → Type 0
@@ -106,7 +107,14 @@ front_shows l windows choices i j room same size shows =
     let weak = weak_of windows in
     record {
       readable = record {
+        borne = shows.readable.borne;
         roots = roots_front l i j same weak size shows.readable.roots;
+        either = λ says.
+            let was = shows.readable.either (says_same l i j (λ s lt. same s (omega (arith, lt))) says) in
+            record {
+              borne = was.borne;
+              empty = λ k worn. unlogged_same l (graft l k i) k (log_front l (graft l k i) k (graft_same l weak i j k same size long room worn)) (was.empty (graft l k i) (graft_worn l weak i j k same size long room worn));
+            };
         anchors = anchors_same l i j (log_front l i j same) shows.readable.anchors;
         log = λ k worn. has_log_same l (graft l k i) k (log_front l (graft l k i) k (graft_same l weak i j k same size long room worn)) weak (shows.readable.log (graft l k i) (graft_worn l weak i j k same size long room worn));
         homes = λ k worn. homes_same l (graft l k i) k (graft_same l weak i j k same size long room worn) (shows.readable.homes (graft l k i) (graft_worn l weak i j k same size long room worn));

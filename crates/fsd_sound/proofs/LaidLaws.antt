@@ -3,6 +3,8 @@ use Rattle.std.proofs.Common.{◌≡◌, ◌⊎◌, inl, inr, ⊎_elim, ℕ, zer
 use Rattle.std.specs.List.{AllByRecursion}
 use Rattle.std.proofs.lemmas.Bool.{cases_lt}
 use Rattle.volume_layout.specs.declared.layout.Layout.{Layout}
+use Rattle.volume_layout.specs.Root.{root_bytes}
+use Rattle.volume_layout.specs.Kinds.{gap_of}
 use Rattle.fsd_formats.specs.declared.anchor.Anchor.{Anchor}
 use Rattle.fsd_formats.specs.Record.{Stamp, end_bytes, record_len}
 use Rattle.sector_disk.specs.Image.{IsWorn}
@@ -15,6 +17,7 @@ use Rattle.fsd_log.proofs.TornLaws.{are_some}
 use Rattle.fsd_log.proofs.WalkLaws.{stamp_of, IsFound, found_goes_on, Goes}
 use Rattle.fsd_log.proofs.HereLaws.{here_some}
 use Rattle.fsd_files.specs.Disk.{Image, Sectors, Has, bytes_of, bytes_at}
+use Rattle.fsd_files.proofs.WearLaws.{has_still}
 use Rattle.fsd_sound.specs.Laid.{AllStand, HasFront, HasCopies, AllLaid, HasOwnLog}
 use Rattle.fsd_sound.specs.Shown.{scan_by, records_by}
 use Rattle.fsd_sound.proofs.LogPlaces.{on_tape, off_tape, IsRecord, found_record, start_in, scan_goes}
@@ -53,21 +56,21 @@ reads_none : (weak : Sectors) (i : Image) (bytes : List ℕ) (s : ℕ) → Has w
 reads_none weak i bytes s (inl is) = inl (ap bytes_of is)
 reads_none weak i bytes s (inr hurt) = inr (ap bytes_of hurt.1)
 
-one_reads : (weak : Sectors) (i : Image) (bytes : List ℕ) (s t : ℕ) → IsApart weak → s + 2 ≤ t → Has weak i bytes s → Has weak i bytes t → (bytes_at i s ≡ Some bytes) ⊎ (bytes_at i t ≡ Some bytes)
-one_reads weak i bytes s t apart far (inl is) second = inl (ap bytes_of is)
-one_reads weak i bytes s t apart far (inr hurt) (inl is) = inr (ap bytes_of is)
-one_reads weak i bytes s t apart far (inr hurt) (inr worse) = absurd (apart s t far hurt.0 worse.0)
+one_reads : (gap : ℕ) → (weak : Sectors) (i : Image) (bytes : List ℕ) (s t : ℕ) → IsApart gap weak → s + (2 + gap) ≤ t → Has weak i bytes s → Has weak i bytes t → (bytes_at i s ≡ Some bytes) ⊎ (bytes_at i t ≡ Some bytes)
+one_reads gap weak i bytes s t apart far (inl is) second = inl (ap bytes_of is)
+one_reads gap weak i bytes s t apart far (inr hurt) (inl is) = inr (ap bytes_of is)
+one_reads gap weak i bytes s t apart far (inr hurt) (inr worse) = absurd (apart s t far hurt.0 worse.0)
 
-module _ (l : Layout) (a : Anchor) (weak : Sectors) (apart : IsApart weak) (i : Image) where
+module _ (l : Layout) (a : Anchor) (weak : Sectors) (apart : IsApart (gap_of l) weak) (i : Image) where
   -- a record that was laid whole reads so on the tape
-  pub laid_reads : (r : Placed) → IsRecord l a.third r → 1 ≤ length r.entry.pages → HasFront l a weak i r → HasCopies l a weak i r → StandsOn a.epoch (tape l a.third (bytes_at i)) r
+  pub laid_reads : (r : Placed) → IsRecord l a.third r → 1 ≤ length r.entry.pages → HasFront l a weak i r → HasCopies l a weak i r → StandsOn (gap_of l) a.epoch (tape l a.third (bytes_at i)) r
   laid_reads r is some front copies = record {
     header = subst (OrNone _) (at_disk 0 (omega arith)) (reads_none weak i _ _ (subst (Has weak i _) (let e : place_of l a.third r.at ≡ place_of l a.third r.at + 0 = omega arith in e) front.header));
-    header_copy = subst (OrNone _) (at_disk 2 (omega arith)) (reads_none weak i _ _ front.header_copy);
-    headers = one_at 0 2 _ (omega arith) (omega arith) (subst (Has weak i _) (let e : place_of l a.third r.at ≡ place_of l a.third r.at + 0 = omega arith in e) front.header) front.header_copy;
-    row = λ k le. subst (OrNone _) (at_disk (3 + k) (omega arith)) (reads_none weak i _ _ (row_has k le));
-    copy = λ k le. subst (OrNone _) (at_disk (4 + length r.entry.pages + k) (omega arith)) (reads_none weak i _ _ (copy_has k le));
-    one = λ k le. one_at (3 + k) (4 + length r.entry.pages + k) _ (omega arith) (omega arith) (row_has k le) (copy_has k le);
+    header_copy = subst (OrNone _) (at_disk (2 + gap_of l) (omega arith)) (reads_none weak i _ _ front.header_copy);
+    headers = one_at 0 (2 + gap_of l) _ (omega arith) (omega arith) (subst (Has weak i _) (let e : place_of l a.third r.at ≡ place_of l a.third r.at + 0 = omega arith in e) front.header) front.header_copy;
+    row = λ k le. subst (OrNone _) (at_disk (3 + (gap_of l) + k) (omega arith)) (reads_none weak i _ _ (row_has k le));
+    copy = λ k le. subst (OrNone _) (at_disk (4 + 2 * (gap_of l) + length r.entry.pages + k) (omega arith)) (reads_none weak i _ _ (copy_has k le));
+    one = λ k le. one_at (3 + (gap_of l) + k) (4 + 2 * (gap_of l) + length r.entry.pages + k) _ (omega arith) (omega arith) (row_has k le) (copy_has k le);
   }
     where
       stamp : Stamp
@@ -76,29 +79,29 @@ module _ (l : Layout) (a : Anchor) (weak : Sectors) (apart : IsApart weak) (i : 
       many : length (rows_of (stamp_of a.epoch r.entry.number) r.entry) ≡ length r.entry.pages + 1
       many = length_more r.entry.images (end_bytes (stamp_of a.epoch r.entry.number) (length r.entry.pages)) ∙ ap (λ (n : ℕ). n + 1) is.images
 
-      inside : (k : ℕ) → k < record_len (length r.entry.pages) → r.at + k < 3 * l.third
+      inside : (k : ℕ) → k < record_len (gap_of l) (length r.entry.pages) → r.at + k < 3 * l.third
       inside k lt = omega (arith, is.inside.to, end_most l is.end is.inside.ends)
 
-      at_disk : (k : ℕ) → k < record_len (length r.entry.pages) → bytes_at i (place_of l a.third r.at + k) ≡ tape l a.third (bytes_at i) (r.at + k)
-      at_disk k lt = ap (bytes_at i) (sym (place_add l a.third r.at (record_len (length r.entry.pages)) is.end k is.inside lt)) ∙ sym (on_tape l a.third (r.at + k) (bytes_at i) (inside k lt))
+      at_disk : (k : ℕ) → k < record_len (gap_of l) (length r.entry.pages) → bytes_at i (place_of l a.third r.at + k) ≡ tape l a.third (bytes_at i) (r.at + k)
+      at_disk k lt = ap (bytes_at i) (sym (place_add l a.third r.at (record_len (gap_of l) (length r.entry.pages)) is.end k is.inside lt)) ∙ sym (on_tape l a.third (r.at + k) (bytes_at i) (inside k lt))
 
-      row_has : (k : ℕ) → k ≤ length r.entry.pages → Has weak i (get_or (rows_of (stamp_of a.epoch r.entry.number) r.entry) k []) (place_of l a.third r.at + (3 + k))
-      row_has k le = let e : place_of l a.third r.at + 3 + k ≡ place_of l a.third r.at + (3 + k) = omega arith in subst (Has weak i _) e (stand_at l a weak i _ _ front.pages k (omega (arith, many)))
+      row_has : (k : ℕ) → k ≤ length r.entry.pages → Has weak i (get_or (rows_of (stamp_of a.epoch r.entry.number) r.entry) k []) (place_of l a.third r.at + (3 + (gap_of l) + k))
+      row_has k le = let e : place_of l a.third r.at + 3 + (gap_of l) + k ≡ place_of l a.third r.at + (3 + (gap_of l) + k) = omega arith in subst (Has weak i _) e (stand_at l a weak i _ _ front.pages k (omega (arith, many)))
 
-      copy_has : (k : ℕ) → k ≤ length r.entry.pages → Has weak i (get_or (rows_of (stamp_of a.epoch r.entry.number) r.entry) k []) (place_of l a.third r.at + (4 + length r.entry.pages + k))
-      copy_has k le = let e : place_of l a.third r.at + (4 + length r.entry.pages) + k ≡ place_of l a.third r.at + (4 + length r.entry.pages + k) = omega arith in
+      copy_has : (k : ℕ) → k ≤ length r.entry.pages → Has weak i (get_or (rows_of (stamp_of a.epoch r.entry.number) r.entry) k []) (place_of l a.third r.at + (4 + 2 * (gap_of l) + length r.entry.pages + k))
+      copy_has k le = let e : place_of l a.third r.at + (4 + 2 * (gap_of l) + length r.entry.pages) + k ≡ place_of l a.third r.at + (4 + 2 * (gap_of l) + length r.entry.pages + k) = omega arith in
           subst (Has weak i _) e (stand_at l a weak i _ _ copies k (omega (arith, many)))
 
-      one_at : (k m : ℕ) (bytes : List ℕ) → k + 2 ≤ m → m < record_len (length r.entry.pages) → Has weak i bytes (place_of l a.third r.at + k) → Has weak i bytes (place_of l a.third r.at + m)
+      one_at : (k m : ℕ) (bytes : List ℕ) → k + (2 + gap_of l) ≤ m → m < record_len (gap_of l) (length r.entry.pages) → Has weak i bytes (place_of l a.third r.at + k) → Has weak i bytes (place_of l a.third r.at + m)
           → (tape l a.third (bytes_at i) (r.at + k) ≡ Some bytes) ⊎ (tape l a.third (bytes_at i) (r.at + m) ≡ Some bytes)
       one_at k m bytes far lt first second = ⊎_elim (λ x. inl (sym (at_disk k (omega arith)) ∙ x)) (λ x. inr (sym (at_disk m lt) ∙ x))
-          (one_reads weak i bytes (place_of l a.third r.at + k) (place_of l a.third r.at + m) apart (omega arith) first second)
+          (one_reads (gap_of l) weak i bytes (place_of l a.third r.at + k) (place_of l a.third r.at + m) apart (omega arith) first second)
 
 -- a record that is found has some pages
 some_pages : (l : Layout) (epoch : ℕ) (disk : Reader) (h : Head) (r : Placed) (h1 : Head) → IsFound l epoch disk h r h1 → 1 ≤ length r.entry.pages
-some_pages l epoch disk h r h1 is = are_some l.pages r.entry.pages (read_as l.pages (stamp_of epoch h.number) _ _ r.entry (here_some l epoch disk h.number r.at is.end r.entry is.found).1).accepted
+some_pages l epoch disk h r h1 is = are_some l.pages r.entry.pages (read_as (gap_of l) l.pages (stamp_of epoch h.number) _ _ r.entry (here_some l epoch disk h.number r.at is.end r.entry is.found).1).accepted
 
-module _ (l : Layout) (small : l.pages ≤ 2 ^ 32) (a : Anchor) (fits : a.epoch < 2 ^ 32) (low : a.third ≤ 2) (weak : Sectors) (apart : IsApart weak) (i j : Image) (w : IsWorn weak i j) where
+module _ (l : Layout) (small : l.pages ≤ 2 ^ 32) (a : Anchor) (fits : a.epoch < 2 ^ 32) (low : a.third ≤ 2) (weak : Sectors) (apart : IsApart (gap_of l) weak) (i j : Image) (w : IsWorn weak i j) where
   pub tape_less : (x : ℕ) → (tape l a.third (bytes_at j) x ≡ tape l a.third (bytes_at i) x) ⊎ (tape l a.third (bytes_at j) x ≡ None)
   tape_less x = elim (cases_lt x (3 * l.third)) [
     | inr past ↦ inl (off_tape l a.third x (bytes_at j) past ∙ sym (off_tape l a.third x (bytes_at i) past))
@@ -107,7 +110,7 @@ module _ (l : Layout) (small : l.pages ≤ 2 ^ 32) (a : Anchor) (fits : a.epoch 
         (λ hurt. inr (on_tape l a.third x (bytes_at j) lt ∙ ap bytes_of hurt.1)) (w.each (place_of l a.third x))
   ]
 
-  pub all_read : (h : Head) (rs : List Placed) (end : Head) → IsIn l h → Goes l a.epoch (tape l a.third (bytes_at i)) h rs end → AllLaid l a weak i rs → AllByRecursion (StandsOn a.epoch (tape l a.third (bytes_at j))) rs
+  pub all_read : (h : Head) (rs : List Placed) (end : Head) → IsIn l h → Goes l a.epoch (tape l a.third (bytes_at i)) h rs end → AllLaid l a weak i rs → AllByRecursion (StandsOn (gap_of l) a.epoch (tape l a.third (bytes_at j))) rs
   all_read h [] end is_in goes laid = tt
   all_read h (r ∷ rs) end is_in goes laid =
       let one = found_goes_on l a.epoch (tape l a.third (bytes_at i)) h r goes.0 is_in goes.1 in (
@@ -126,6 +129,7 @@ module _ (l : Layout) (small : l.pages ≤ 2 ^ 32) (a : Anchor) (fits : a.epoch 
   own_worn rs h own =
       let is : records_by l i a ≡ rs = ap (λ (x : Walked). x.records) own.log.scanned in
       record {
+        roots = (has_still weak weak i j (λ s is. is) w (root_bytes l) 0 own.roots.0, has_still weak weak i j (λ s is. is) w (root_bytes l) 4 own.roots.1);
         own = each_anchor_after weak i j w (λ b. b ≡ a) (λ b. b ≡ a) (λ b e. e) own.own;
         log = record {
           scanned = laid_scan (subst (AllLaid l a weak i) (sym is) own.laid) ∙ own.log.scanned;

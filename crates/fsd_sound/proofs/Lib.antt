@@ -9,6 +9,7 @@ pub mod CompletedLaws
 pub mod CompletingLaws
 pub mod CoverLaws
 pub mod EachLaws
+pub mod EmptyLaws
 pub mod FormatSoundLaws
 pub mod FreshLaws
 pub mod FrontLaws
@@ -17,6 +18,8 @@ pub mod LaidLaws
 pub mod LeaderLaws
 pub mod LogPlaces
 pub mod MendLaws
+pub mod MendedMoments
+pub mod MoreLaws
 pub mod MountedLaws
 pub mod MountedWearLaws
 pub mod MoveLaws
@@ -24,14 +27,15 @@ pub mod OpenLaws
 pub mod PagesLaws
 pub mod RehomeLaws
 pub mod RenewLaws
+pub mod SaidLaws
 pub mod SectorFacts
 pub mod SettleLaws
 pub mod SoundLaws
 pub mod StillLaws
+pub mod TurnedLaws
+pub mod TurningLaws
 pub mod TwiceLaws
 pub mod TwinLaws
 pub mod TwinMendLaws
 pub mod WindowLaws
 pub mod WritesLaws
-pub mod MendedMoments
-pub mod MoreLaws

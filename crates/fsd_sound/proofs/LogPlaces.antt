@@ -1,11 +1,12 @@
 -- The records of a scan lie in the log's sectors, so nothing but those says what the scan finds.
-use Rattle.std.proofs.Common.{◌≡◌, inl, inr, ⊎_elim, ℕ, suc, ◌+◌, ◌-◌, ◌*◌, ◌<◌, ◌≤◌, Bool, List, [], ◌∷◌, length, Option, Some, None, nat_lt, refl, sym, ap, subst, ◌∙◌, arith}
+use Rattle.std.proofs.Common.{◌≡◌, ◌++◌, inl, inr, ⊎_elim, ℕ, suc, ◌+◌, ◌-◌, ◌*◌, ◌<◌, ◌≤◌, Bool, List, [], ◌∷◌, length, Option, Some, None, nat_lt, refl, sym, ap, subst, ◌∙◌, arith}
 use Rattle.std.specs.Prelude.{option_map}
 use Rattle.std.specs.List.{AllByRecursion}
 use Rattle.std.proofs.lemmas.Bool.{cases_lt, cond-true, cond-false, lt-ltb, le-ltb}
 use Rattle.std.proofs.lemmas.List.{length-append}
 use Rattle.volume_layout.specs.declared.layout.Layout.{Layout}
 use Rattle.volume_layout.specs.Layout.{InLog}
+use Rattle.volume_layout.specs.Kinds.{gap_of}
 use Rattle.fsd_formats.specs.declared.anchor.Anchor.{Anchor}
 use Rattle.fsd_formats.specs.Record.{Stamp, record_len, end_bytes}
 use Rattle.sector_disk.specs.Image.{sector_at}
@@ -57,24 +58,24 @@ length-images : (at : Reader) (k c : ℕ) (cs : List Bool) → length (images_of
 length-images at k c [] = refl
 length-images at k c (x ∷ cs) = ap suc (length-images at (k + 1) (c + 1) cs)
 
-pub record_images : (p : ℕ) (stamp : Stamp) (room : ℕ) (at : Reader) (r : Logged) → record_in p stamp room at ≡ Some r → length r.images ≡ length r.pages
+pub record_images : (gap : ℕ) → (p : ℕ) (stamp : Stamp) (room : ℕ) (at : Reader) (r : Logged) → record_in gap p stamp room at ≡ Some r → length r.images ≡ length r.pages
 unfolding record_in
-record_images p stamp room at r e = by_judged (judged p stamp room at) refl e
+record_images gap p stamp room at r e = by_judged (judged gap p stamp room at) refl e
   where
-    by_judged : (o : Option Serving) → judged p stamp room at ≡ o → option_map (logged_of stamp.number at) o ≡ Some r → length r.images ≡ length r.pages
+    by_judged : (o : Option Serving) → judged gap p stamp room at ≡ o → option_map (logged_of gap stamp.number at) o ≡ Some r → length r.images ≡ length r.pages
     by_judged None is given = absurd (cc)
     by_judged (Some f) is given =
-        let made : logged_of stamp.number at f ≡ r = cc in
+        let made : logged_of gap stamp.number at f ≡ r = cc in
         let pages : f.pages ≡ r.pages = ap (λ (x : Logged). x.pages) made in
-        ap (λ (x : Logged). length x.images) (sym made) ∙ length-images at 3 (4 + length f.pages) f.page_copy
-        ∙ length-copies stamp at 3 (4 + length f.pages) f.pages f.page_copy (is_judged p stamp room at f is).copies ∙ ap length pages
+        ap (λ (x : Logged). length x.images) (sym made) ∙ length-images at (3 + gap) (4 + 2 * gap + length f.pages) f.page_copy
+        ∙ length-copies stamp at (3 + gap) (4 + 2 * gap + length f.pages) f.pages f.page_copy (is_judged gap p stamp room at f is).copies ∙ ap length pages
 
 -- ---- records of a scan
 
 -- it lies in one third, and has an image of each page
 pub record IsRecord (l : Layout) (third : ℕ) (r : Placed) : Type 0 where
   pub end : ℕ
-  pub inside : InThird l third r.at (record_len (length r.entry.pages)) end
+  pub inside : InThird l third r.at (record_len (gap_of l) (length r.entry.pages)) end
   pub images : length r.entry.images ≡ length r.entry.pages
 
 module _ (l : Layout) (epoch third : ℕ) (le : third ≤ 2) (disk : Reader) where
@@ -90,7 +91,7 @@ module _ (l : Layout) (epoch third : ℕ) (le : third ≤ 2) (disk : Reader) whe
           from = ⊎_elim (λ here. omega (arith, here.at_head, here.in_third, is_in.from)) (λ there. omega (arith, there.at_start, there.in_third)) is.place;
           to = omega (arith, one.to, one.is_in.before, ends);
         };
-        images = record_images l.pages (record { epoch = epoch; number = h.number }) (room_at r.at is.end) (window disk r.at (room_at r.at is.end)) r.entry (here_some l epoch disk h.number r.at is.end r.entry is.found).1;
+        images = record_images (gap_of l) l.pages (record { epoch = epoch; number = h.number }) (room_at r.at is.end) (window disk r.at (room_at r.at is.end)) r.entry (here_some l epoch disk h.number r.at is.end r.entry is.found).1;
       }
 
   pub goes_records : (h : Head) (rs : List Placed) (end : Head) → IsIn l h → Goes l epoch disk h rs end → AllByRecursion (IsRecord l third) rs
@@ -110,10 +111,10 @@ pub scan_records : (l : Layout) (i : Image) (a : Anchor) → a.third ≤ 2 → A
 scan_records l i a le = goes_records l a.epoch a.third le (tape l a.third (bytes_at i)) (start l a.first) (records_by l i a) (scan_by l i a).head (start_in l a.first) (scan_goes l a.epoch a.first (tape l a.third (bytes_at i)))
 
 -- a sector of a record lies in the log
-pub record_in_log : (l : Layout) (third : ℕ) (r : Placed) (k : ℕ) → IsRecord l third r → k < record_len (length r.entry.pages) → InLog l (place_of l third r.at + k)
+pub record_in_log : (l : Layout) (third : ℕ) (r : Placed) (k : ℕ) → IsRecord l third r → k < record_len (gap_of l) (length r.entry.pages) → InLog l (place_of l third r.at + k)
 record_in_log l third r k is lt = (
   let from : 16 ≤ place_of l third r.at = place_from l third r.at in omega arith,
-  let inside : place_of l third r.at + record_len (length r.entry.pages) ≤ 16 + 3 * l.third = place_inside l third r.at (record_len (length r.entry.pages)) is.end is.inside (omega arith) in omega arith,
+  let inside : place_of l third r.at + record_len (gap_of l) (length r.entry.pages) ≤ 16 + 3 * l.third = place_inside l third r.at (record_len (gap_of l) (length r.entry.pages)) is.end is.inside (omega arith) in omega arith,
 )
 
 -- ---- records as they were laid
@@ -135,8 +136,8 @@ module _ (l : Layout) (a : Anchor) (weak : Sectors) (i j : Image) where
     good_same stamp (s + 1) pages images (λ k ge lt. same k (omega arith) (omega arith)) good.1,
   )
 
-  module _ (r : Placed) (is : IsRecord l a.third r) (same : (k : ℕ) → k < record_len (length r.entry.pages) → sector_at j (place_of l a.third r.at + k) ≡ sector_at i (place_of l a.third r.at + k)) where
-    within : (from : ℕ) (n : ℕ) → from + n ≤ record_len (length r.entry.pages) → (k : ℕ) → place_of l a.third r.at + from ≤ k → k < place_of l a.third r.at + from + n → sector_at j k ≡ sector_at i k
+  module _ (r : Placed) (is : IsRecord l a.third r) (same : (k : ℕ) → k < record_len (gap_of l) (length r.entry.pages) → sector_at j (place_of l a.third r.at + k) ≡ sector_at i (place_of l a.third r.at + k)) where
+    within : (from : ℕ) (n : ℕ) → from + n ≤ record_len (gap_of l) (length r.entry.pages) → (k : ℕ) → place_of l a.third r.at + from ≤ k → k < place_of l a.third r.at + from + n → sector_at j k ≡ sector_at i k
     within from n le k ge lt =
         let at : place_of l a.third r.at + (k - place_of l a.third r.at) ≡ k = omega arith in
         subst (λ (s : ℕ). sector_at j s ≡ sector_at i s) at (same (k - place_of l a.third r.at) (omega arith))
@@ -145,19 +146,19 @@ module _ (l : Layout) (a : Anchor) (weak : Sectors) (i j : Image) where
     front_same front = record {
       header = let at : place_of l a.third r.at + 0 ≡ place_of l a.third r.at = omega arith in
           has_same _ _ (subst (λ (s : ℕ). sector_at j s ≡ sector_at i s) at (same 0 (omega arith))) front.header;
-      header_copy = has_same _ _ (same 2 (omega arith)) front.header_copy;
-      pages = stand_same (place_of l a.third r.at + 3) _ (within 3 _ (omega (arith, is.images, length-append r.entry.images (end_bytes (stamp_of l a weak i r) (length r.entry.pages) ∷ [])))) front.pages;
+      header_copy = has_same _ _ (same (2 + gap_of l) (omega arith)) front.header_copy;
+      pages = stand_same (place_of l a.third r.at + 3 + (gap_of l)) _ (λ k ge lt. within (3 + gap_of l) (length (r.entry.images ++ end_bytes (stamp_of l a weak i r) (length r.entry.pages) ∷ [])) (omega (arith, is.images, length-append r.entry.images (end_bytes (stamp_of l a weak i r) (length r.entry.pages) ∷ []))) k (omega (arith, ge)) (omega (arith, lt))) front.pages;
     }
 
     pub copies_same : HasCopies l a weak i r → HasCopies l a weak j r
-    copies_same copies = stand_same (place_of l a.third r.at + (4 + length r.entry.pages)) _ (within (4 + length r.entry.pages) _ (omega (arith, is.images, length-append r.entry.images (end_bytes (stamp_of l a weak i r) (length r.entry.pages) ∷ [])))) copies
+    copies_same copies = stand_same (place_of l a.third r.at + (4 + 2 * (gap_of l) + length r.entry.pages)) _ (within (4 + 2 * (gap_of l) + length r.entry.pages) _ (omega (arith, is.images, length-append r.entry.images (end_bytes (stamp_of l a weak i r) (length r.entry.pages) ∷ [])))) copies
 
-    pub good_copies_same : GoodCopies l a weak i (stamp_of l a weak i r) (place_of l a.third r.at + (4 + length r.entry.pages)) r.entry.pages r.entry.images
-        → GoodCopies l a weak j (stamp_of l a weak j r) (place_of l a.third r.at + (4 + length r.entry.pages)) r.entry.pages r.entry.images
-    good_copies_same good = good_same (stamp_of l a weak i r) (place_of l a.third r.at + (4 + length r.entry.pages)) r.entry.pages r.entry.images (within (4 + length r.entry.pages) (length r.entry.pages) (omega arith)) good
+    pub good_copies_same : GoodCopies l a weak i (stamp_of l a weak i r) (place_of l a.third r.at + (4 + 2 * (gap_of l) + length r.entry.pages)) r.entry.pages r.entry.images
+        → GoodCopies l a weak j (stamp_of l a weak j r) (place_of l a.third r.at + (4 + 2 * (gap_of l) + length r.entry.pages)) r.entry.pages r.entry.images
+    good_copies_same good = good_same (stamp_of l a weak i r) (place_of l a.third r.at + (4 + 2 * (gap_of l) + length r.entry.pages)) r.entry.pages r.entry.images (within (4 + 2 * (gap_of l) + length r.entry.pages) (length r.entry.pages) (omega arith)) good
 
   module _ (same : SameLog l i j) where
-    pub in_record : (r : Placed) → IsRecord l a.third r → (k : ℕ) → k < record_len (length r.entry.pages) → sector_at j (place_of l a.third r.at + k) ≡ sector_at i (place_of l a.third r.at + k)
+    pub in_record : (r : Placed) → IsRecord l a.third r → (k : ℕ) → k < record_len (gap_of l) (length r.entry.pages) → sector_at j (place_of l a.third r.at + k) ≡ sector_at i (place_of l a.third r.at + k)
     in_record r is k lt = same (place_of l a.third r.at + k) (record_in_log l a.third r k is lt)
 
     pub laid_same : (rs : List Placed) → AllByRecursion (IsRecord l a.third) rs → IsLaid l a weak i rs → IsLaid l a weak j rs

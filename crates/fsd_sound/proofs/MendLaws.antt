@@ -1,9 +1,9 @@
 -- A home is written from its whole twin, or from the log; a root from the layout: what is shown stays, however the window wears.
-use Rattle.std.proofs.Common.{◌≡◌, ◌≢◌, ◌⊎◌, inl, inr, ⊎_elim, ℕ, ◌+◌, ◌*◌, ◌<◌, ◌≤◌, List, length, Option, Some, None, sym, ap, ◌∙◌, arith}
+use Rattle.std.proofs.Common.{◌≡◌, ◌≢◌, ◌⊎◌, inl, inr, ⊎_elim, ℕ, ◌+◌, ◌*◌, ◌<◌, ◌≤◌, List, length, Option, Some, None, refl, sym, ap, subst, ◌∙◌, arith}
 use Rattle.std.specs.Prelude.{IsTrue, IfSome}
 use Rattle.std.proofs.lemmas.List.{length-set}
 use Rattle.volume_layout.specs.declared.layout.Layout.{Layout}
-use Rattle.volume_layout.specs.Layout.{home_a, home_b}
+use Rattle.volume_layout.specs.Layout.{home_a, home_b, turned}
 use Rattle.fsd_formats.specs.declared.anchor.Anchor.{Anchor}
 use Rattle.sector_disk.specs.declared.sector.WeakRun.{WeakRun}
 use Rattle.sector_disk.specs.declared.sector.Sector.{Sector}
@@ -15,12 +15,13 @@ use Rattle.fsd_sound.specs.Anchors.{anchor_at, EachAnchor}
 use Rattle.fsd_sound.specs.Homes.{home_of}
 use Rattle.fsd_sound.specs.Shown.{records_by}
 use Rattle.volume_layout.specs.Root.{root_bytes}
-use Rattle.fsd_sound.specs.Sound.{HasRoots, ShowsPages, weak_of}
+use Rattle.volume_layout.proofs.TurnedLaws.{roots_differ}
+use Rattle.fsd_sound.specs.Sound.{IfWhole, IsRootOf, SaysTurned, HasRoots, IsEither, ShowsPages, weak_of}
 use Rattle.fsd_sound.specs.Homes.{AreTwins}
 use Rattle.fsd_sound.specs.Logged.{IsLogged}
 use Rattle.fsd_sound.specs.Stands.{Stands}
 use Rattle.fsd_sound.specs.Windows.{IsNarrow}
-use Rattle.fsd_sound.proofs.CommuteLaws.{same_or, with_same, with_other, all_over, shows_all, all_shows}
+use Rattle.fsd_sound.proofs.CommuteLaws.{same_or, with_same, with_other, all_over, shows_all, both_same, all_shows}
 use Rattle.fsd_sound.proofs.AlikeLaws.{records_same, each_same}
 use Rattle.fsd_sound.proofs.RehomeLaws.{Rehomes, rehomed_stands, rooted_stands}
 use Rattle.fsd_sound.proofs.SectorFacts.{same_bytes, not_damaged, whole_or_damaged}
@@ -50,7 +51,8 @@ module _ (l : Layout) (weak : Sectors) (choices : List (List (List ℕ))) (page 
 
   pub logged_shows : (windows : List WeakRun) → weak ≡ weak_of windows → IsNarrow (weak_of windows) → (c : Image) → s < length c → IsLogged l (weak_of windows) page c → ShowsPages l windows choices c → ShowsPages l windows choices (with_sector c s bytes)
   logged_shows windows is narrow c room logged shows =
-      all_shows l windows choices (with_sector c s bytes)
+      all_shows l windows shows.readable.borne choices (with_sector c s bytes)
+      (both_same l windows c (with_sector c s bytes) shows.readable (λ p head. with_other c s p bytes (λ e. ⊎_elim (λ here. omega (arith, here, e, head)) (λ here. omega (arith, here, e, head)) at)))
       (all_over (weak_of windows) (Stands l (weak_of windows) choices) c s bytes room (shows_all l windows narrow choices c shows)
       (λ i worn there stands. rehomed_stands l (weak_of windows) choices page i (with_sector i s bytes) (logged_rehomes i (omega (arith, room, worn.size)) (logged i worn)) stands))
 
@@ -184,37 +186,61 @@ module _ (l : Layout) (windows : List WeakRun) (narrow : IsNarrow (weak_of windo
 
   pub mended_shows : ShowsPages l windows choices (with_sector c s bytes)
   mended_shows =
-      all_shows l windows choices (with_sector c s bytes)
+      all_shows l windows shows.readable.borne choices (with_sector c s bytes)
+      (both_same l windows c (with_sector c s bytes) shows.readable (λ p head. with_other c s p bytes (λ e. elim at [ inl a ↦ omega (arith, a.0, e, head) | inr b ↦ omega (arith, b.0, e, head) ])))
       (all_over (weak_of windows) (Stands l (weak_of windows) choices) c s bytes room all
       (λ i worn there stands. rehomed_stands l (weak_of windows) choices page i (with_sector i s bytes) (mended_rehomes i worn there) stands))
 
 -- ---- a root
 
-module _ (l : Layout) (weak : Sectors) (i : Image) (s : ℕ) (at : (s ≡ 0) ⊎ (s ≡ 4)) (room : s < length i) where
-  root_is : sector_at (with_sector i s (root_bytes l)) s ≡ Whole (root_bytes l)
-  root_is = with_same i s (root_bytes l) room
+module _ (l : Layout) (weak : Sectors) (i : Image) (s : ℕ) (at : (s ≡ 0) ⊎ (s ≡ 4)) (bytes : List ℕ) (is : IsRootOf l bytes) (room : s < length i) where
+  root_is : sector_at (with_sector i s bytes) s ≡ Whole bytes
+  root_is = with_same i s bytes room
 
-  root_alike : (p : ℕ) → ((bytes : List ℕ) → sector_at i p ≡ Whole bytes → bytes ≡ root_bytes l) → (bytes : List ℕ) → sector_at (with_sector i s (root_bytes l)) p ≡ Whole bytes → bytes ≡ root_bytes l
-  root_alike p before bytes is = ⊎_elim
-      (λ here. same_bytes (sector_at (with_sector i s (root_bytes l)) s) (root_bytes l) bytes root_is (ap (sector_at (with_sector i s (root_bytes l))) (sym here) ∙ is))
-      (λ other. before bytes (sym (with_other i s p (root_bytes l) other) ∙ is)) (same_or p s)
+  -- what stands whole there is the root that was written, or what stood before
+  root_alike : (P : List ℕ → Type 0) → P bytes → (p : ℕ) → IfWhole i p P → IfWhole (with_sector i s bytes) p P
+  root_alike P now p before x there = ⊎_elim
+      (λ here. subst P (sym (same_bytes (sector_at (with_sector i s bytes) s) bytes x root_is (ap (sector_at (with_sector i s bytes)) (sym here) ∙ there))) now)
+      (λ other. before x (sym (with_other i s p bytes other) ∙ there)) (same_or p s)
 
-  rooted_roots : HasRoots l weak i → HasRoots l weak (with_sector i s (root_bytes l))
+  rooted_roots : HasRoots l weak i → HasRoots l weak (with_sector i s bytes)
   rooted_roots roots = record {
-    some = ⊎_elim (λ first. inl (ap (sector_at (with_sector i s (root_bytes l))) (sym first) ∙ root_is)) (λ second. inr (ap (sector_at (with_sector i s (root_bytes l))) (sym second) ∙ root_is)) at;
-    first = root_alike 0 roots.first;
-    second = root_alike 4 roots.second;
-    fits = omega (arith, roots.fits, length-set i s (Whole (root_bytes l)));
+    some = ⊎_elim (λ first. inl (bytes, ap (sector_at (with_sector i s bytes)) (sym first) ∙ root_is, is)) (λ second. inr (bytes, ap (sector_at (with_sector i s bytes)) (sym second) ∙ root_is, is)) at;
+    first = root_alike (IsRootOf l) is 0 roots.first;
+    second = root_alike (IsRootOf l) is 4 roots.second;
+    fits = omega (arith, roots.fits, length-set i s (Whole bytes));
     twins = λ p twin hurt. ⊎_elim
-        (λ here. absurd (not_damaged (sector_at (with_sector i s (root_bytes l)) s) (root_bytes l) root_is (ap (sector_at (with_sector i s (root_bytes l))) (sym here) ∙ hurt)))
-        (λ other. roots.twins p twin (sym (with_other i s p (root_bytes l) other) ∙ hurt)) (same_or p s);
+        (λ here. absurd (not_damaged (sector_at (with_sector i s bytes) s) bytes root_is (ap (sector_at (with_sector i s bytes)) (sym here) ∙ hurt)))
+        (λ other. roots.twins p twin (sym (with_other i s p bytes other) ∙ hurt)) (same_or p s);
   }
 
-pub rooted_shows : (l : Layout) (windows : List WeakRun) → IsNarrow (weak_of windows) → (choices : List (List (List ℕ))) (s : ℕ) (c : Image) → (s ≡ 0) ⊎ (s ≡ 4) → s < length c → ShowsPages l windows choices c → ShowsPages l windows choices (with_sector c s (root_bytes l))
-rooted_shows l windows narrow choices s c at room shows =
-    all_shows l windows choices (with_sector c s (root_bytes l))
-    (all_over (weak_of windows) (Stands l (weak_of windows) choices) c s (root_bytes l) room (shows_all l windows narrow choices c shows)
+  behind_root : (p : ℕ) → 8 ≤ p → sector_at (with_sector i s bytes) p ≡ sector_at i p
+  behind_root p from = with_other i s p bytes (λ e. elim at [ inl a ↦ omega (arith, a, e, from) | inr b ↦ omega (arith, b, e, from) ])
+
+  -- a root says the layout turned only where it did before, or the one that was written does
+  says_rooted : SaysTurned l (with_sector i s bytes) → SaysTurned l i ⊎ (bytes ≡ root_bytes (turned l))
+  says_rooted = ⊎_elim (at_place 0 (λ says. inl says)) (at_place 4 (λ says. inr says))
+    where
+      at_place : (p : ℕ) → (sector_at i p ≡ Whole (root_bytes (turned l)) → SaysTurned l i) → sector_at (with_sector i s bytes) p ≡ Whole (root_bytes (turned l)) → SaysTurned l i ⊎ (bytes ≡ root_bytes (turned l))
+      at_place p says there = ⊎_elim
+          (λ here. inr (sym (same_bytes (sector_at (with_sector i s bytes) s) bytes (root_bytes (turned l)) root_is (ap (sector_at (with_sector i s bytes)) (sym here) ∙ there))))
+          (λ other. inl (says (sym (with_other i s p bytes other) ∙ there))) (same_or p s)
+
+-- a root may be written with the bytes of the layout, or of it turned, where it may be mounted with that as well
+root_shows : (l : Layout) (windows : List WeakRun) → IsNarrow (weak_of windows) → (choices : List (List (List ℕ))) (s : ℕ) (bytes : List ℕ) (c : Image) → IsRootOf l bytes → (bytes ≡ root_bytes (turned l) → IsEither l windows c) → (s ≡ 0) ⊎ (s ≡ 4) → s < length c
+    → ShowsPages l windows choices c → ShowsPages l windows choices (with_sector c s bytes)
+root_shows l windows narrow choices s bytes c is turns at room shows =
+    let may : SaysTurned l (with_sector c s bytes) → IsEither l windows c = λ says. ⊎_elim shows.readable.either turns (says_rooted l (weak_of windows) c s at bytes is room says) in
+    all_shows l windows shows.readable.borne choices (with_sector c s bytes) (λ says. (may says).borne)
+    (all_over (weak_of windows) (Stands l (weak_of windows) choices) c s bytes room (shows_all l windows narrow choices c shows)
     (λ i worn there stands.
     let inside : s < length i = omega (arith, room, worn.size) in
-    rooted_stands l (weak_of windows) choices i (with_sector i s (root_bytes l)) (λ p from. with_other i s p (root_bytes l) (λ e. elim at [ inl a ↦ omega (arith, a, e, from) | inr b ↦ omega (arith, b, e, from) ]))
-    (rooted_roots l (weak_of windows) i s at inside stands.roots) stands))
+    rooted_stands l (weak_of windows) choices i (with_sector i s bytes) (behind_root l (weak_of windows) i s at bytes is inside) (rooted_roots l (weak_of windows) i s at bytes is inside stands.roots)
+    (λ says. ⊎_elim stands.empty (λ written. (turns written).empty i worn) (says_rooted l (weak_of windows) i s at bytes is inside says)) stands))
+
+pub rooted_shows : (l : Layout) (windows : List WeakRun) → IsNarrow (weak_of windows) → (choices : List (List (List ℕ))) (s : ℕ) (c : Image) → (s ≡ 0) ⊎ (s ≡ 4) → s < length c → ShowsPages l windows choices c → ShowsPages l windows choices (with_sector c s (root_bytes l))
+rooted_shows l windows narrow choices s c = root_shows l windows narrow choices s (root_bytes l) c (inl refl) (λ same. absurd (roots_differ l same))
+
+pub turned_root_shows : (l : Layout) (windows : List WeakRun) → IsNarrow (weak_of windows) → (choices : List (List (List ℕ))) (s : ℕ) (c : Image) → IsEither l windows c → (s ≡ 0) ⊎ (s ≡ 4) → s < length c
+    → ShowsPages l windows choices c → ShowsPages l windows choices (with_sector c s (root_bytes (turned l)))
+turned_root_shows l windows narrow choices s c either = root_shows l windows narrow choices s (root_bytes (turned l)) c (inr refl) (λ same. either)

@@ -2,6 +2,7 @@
 use Rattle.std.proofs.Common.{◌≡◌, ◌≢◌, ◌⊎◌, inl, inr, ⊎_elim, ℕ, zero, suc, ◌+◌, ◌^◌, ◌<◌, ◌≤◌, List, length, sym, subst, arith}
 use Rattle.std.specs.Prelude.{IsTrue}
 use Rattle.std.proofs.lemmas.Bool.{cases_lt}
+use Rattle.volume_layout.specs.Kinds.{gap_of}
 use Rattle.sector_disk.specs.declared.sector.WeakRun.{WeakRun}
 use Rattle.sector_disk.specs.declared.sector.Sector.TheVariants.{Whole}
 use Rattle.sector_disk.specs.Image.{AreShort, IsWorn, open_damage, sector_at, stand}
@@ -17,11 +18,11 @@ use Rattle.fsd_sound.specs.Windows.{IsApart}
 use Rattle.fsd_sound.proofs.LeaderLaws.{leader_mounted}
 use Rattle.fsd_sound.proofs.MountedWearLaws.{mounted_still}
 use Rattle.fsd_sound.proofs.TwinMendLaws.{ArePair, twin_mounted}
-use Rattle.fsd_sound.proofs.WindowLaws.{apart_narrow, open_is_weak, short_apart}
+use Rattle.fsd_sound.proofs.WindowLaws.{apart_narrow, borne_apart, open_is_weak}
 
 module _ (m : Mounted) (windows : List WeakRun) (h : List Change) (f : ℕ) (small : m.volume.layout.pages ≤ 2 ^ 32) (old : Moment) (short : AreShort old.windows) (ends : EndIn old.windows windows) (is : IsMounted m windows h f old.image) where
-  apart : IsApart (weak_of windows)
-  apart = short_apart old.windows windows short ends
+  apart : IsApart (gap_of m.volume.layout) (weak_of windows)
+  apart = borne_apart m.volume.layout windows is.over.shows.readable.borne
 
   worn_on : (left : Moment) (i : Image) → IsWorn (open_damage old.windows) i left.image → IsMounted m windows h f i → IsMounted m windows h f left.image
   worn_on left i worn at = mounted_still m windows h f i left.image small apart (open_is_weak old.windows windows i left.image ends worn) at
@@ -30,7 +31,7 @@ module _ (m : Mounted) (windows : List WeakRun) (h : List Change) (f : ℕ) (sma
   module _ (s t : ℕ) (pair : ArePair m.volume.layout s t) (bytes : List ℕ) (long : length bytes ≡ 512) (whole : sector_at old.image t ≡ Whole bytes) where
     copy_stands : (stood : ℕ) → stood ≤ 1 → IsMounted m windows h f (stand old.image s bytes stood)
     copy_stands zero once = is
-    copy_stands (suc zero) once = subst (λ (i : Image). IsMounted m windows h f i) (sym (stand_one old.image s bytes long)) (twin_mounted m windows (apart_narrow windows apart) h f old.image is s t pair bytes whole)
+    copy_stands (suc zero) once = subst (λ (i : Image). IsMounted m windows h f i) (sym (stand_one old.image s bytes long)) (twin_mounted m windows (apart_narrow m.volume.layout windows apart) h f old.image is s t pair bytes whole)
     copy_stands (suc (suc k)) once = absurd (omega (arith, once))
 
     pub copy_left : (stood : ℕ) → stood ≤ 1 → (left : Moment) → Holds old (stand old.image s bytes stood) left → IsMounted m windows h f left.image

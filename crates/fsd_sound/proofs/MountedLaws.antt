@@ -5,6 +5,7 @@ use Rattle.std.specs.List.{AllByRecursion, AllZip, flat_map, list_all}
 use Rattle.std.proofs.lemmas.List.{take_all, take-append-le, length-append}
 use Rattle.std.proofs.lemmas.Bool.{leb-true, and_parts, or_cases, or_from, or_parts, eqb-true, false_from_ne_true}
 use Rattle.volume_layout.specs.declared.layout.Layout.{Layout}
+use Rattle.volume_layout.specs.Root.{root_bytes}
 use Rattle.volume_layout.specs.Layout.{data_start, map_start, is_data}
 use Rattle.run_table.specs.declared.run.Run.{Run}
 use Rattle.run_table.specs.RunTable.{sectors_of}
@@ -12,6 +13,7 @@ use Rattle.run_table.specs.Space.{contains, all_differ}
 use Rattle.fsd_formats.specs.declared.anchor.Anchor.{Anchor}
 use Rattle.fsd_formats.specs.declared.entry.Entry.{Entry}
 use Rattle.sector_disk.specs.declared.sector.WeakRun.{WeakRun}
+use Rattle.sector_disk.specs.Image.{AllWorn}
 use Rattle.fsd_log.specs.Scan.{Placed, Head, IsLog, tape}
 use Rattle.fsd_files.specs.Disk.{Image, Sectors, in_runs, bytes_at}
 use Rattle.fsd_files.specs.Files.{Files, Change, after}
@@ -28,7 +30,7 @@ use Rattle.fsd_sound.specs.Mounted.{AgreeOutside, image_at, Mounted, StandsOver,
 use Rattle.fsd_files.specs.Waiting.{IsSpaced, is_kept_alone, is_let_go}
 use Rattle.fsd_files.proofs.WaitLaws.{version_stays, forced_is_spaced, let_go_free, open_taken, open_in_area, idle_is_spaced}
 use Rattle.fsd_sound.proofs.OpenLaws.{open_on, open_worn}
-use Rattle.fsd_sound.proofs.LogPlaces.{IsRecord, same_tape, front_same, copies_same, in_record, goes_records, scan_goes, start_in}
+use Rattle.fsd_sound.proofs.LogPlaces.{IsRecord, same_tape, has_same, front_same, copies_same, in_record, goes_records, scan_goes, start_in}
 use Rattle.fsd_sound.proofs.AlikeLaws.{each_same}
 use Rattle.fsd_sound.proofs.FrontLaws.{SameFront, log_front, front_log, front_shows}
 use Rattle.fsd_sound.proofs.SoundLaws.{sound_from_pages}
@@ -49,6 +51,7 @@ module _ (l : Layout) (a : Anchor) (weak : Sectors) (i j : Image) (same : SameFr
       subst (λ (w : Rattle.fsd_log.specs.Scan.Walked). AllByRecursion (IsRecord l a.third) w.records) own.log.scanned
       (goes_records l a.epoch a.third low (tape l a.third (bytes_at i)) (start_is) _ _ (start_in l a.first) (scan_goes l a.epoch a.first (tape l a.third (bytes_at i)))) in
       record {
+        roots = (has_same l a weak i j (root_bytes l) 0 (same 0 (omega arith)) own.roots.0, has_same l a weak i j (root_bytes l) 4 (same 4 (omega arith)) own.roots.1);
         own = each_same l i j (log_front l i j same) _ _ (λ b low is. is) own.own;
         log = subst (λ t. IsLog l a.epoch a.first t records head) (sym (same_tape l i j (front_log l i j same) a.third low)) own.log;
         laid = all_laid_same records are own.laid;
@@ -216,6 +219,21 @@ force_sound m windows h f i j now is same told shows =
     (tells_forced m.volume windows h f j is.disk le forced)
     (tells_all m.volume windows h f j now le is.files told (describes_data l (in_runs windows) m.volume.files m.volume.entries i j same is.described)) two)
 
+-- and so it is while it shows what was forced alone
+pub forced_sound : (m : Mounted) (windows : List WeakRun) (h : List Change) (f : ℕ) (i j : Image) → (is : IsMounted m windows h f i) → SameData m.volume.layout (in_runs windows) i j → ShowsPages m.volume.layout windows (is.disk ∷ []) j
+    → IsSound m.volume.layout windows h f j
+forced_sound m windows h f i j is same shows =
+    let l = m.volume.layout in
+    let forced : HasForced m.volume windows h f j is.disk = record {
+      telling = is.forced.telling;
+      told = is.forced.told;
+      described = describes_data l (in_runs windows) (after (take f h)) is.forced.telling.entries i j same is.forced.described;
+      taken = is.forced.taken;
+      leaders = is.forced.leaders;
+    } in
+    sound_from_pages l windows h f (is.disk ∷ []) j shows
+    (λ pages one. one_of (λ ps. Tells l (in_runs windows) j h f (told_in ps)) is.disk pages (tells_forced m.volume windows h f j is.disk (some_forced m windows h f i is) forced) one)
+
 pub force_mounted : (m : Mounted) (windows : List WeakRun) (h : List Change) (f : ℕ) (i j : Image) (now : List (List ℕ)) (anchor : Anchor) (head : Head) (records : List Placed) → IsMounted m windows h f i → SameData m.volume.layout (in_runs windows) i j
     → told_in now ≡ Some (telling_of m.volume) → IsSameEpoch m.anchor anchor → StandsOver m.volume.layout anchor head records now now [] windows j
     → IsMounted (with_forced m now anchor head) windows h (length h) j
@@ -349,9 +367,9 @@ same_items (x ∷ xs) (y ∷ ys) size each =
     let rest : xs ≡ ys = same_items xs ys (omega (arith, size)) (λ k. each (suc k)) in
     ap (λ (z : List ℕ). z ∷ xs) first ∙ ap (λ (zs : List (List ℕ)). y ∷ zs) rest
 
--- the disk's own table is the volume's
-pub mounted_tells : (m : Mounted) (windows : List WeakRun) (h : List Change) (f : ℕ) (i : Image) → IsMounted m windows h f i → m.volume.unforced ≡ 0 → told m.volume.layout i ≡ Some (telling_of m.volume)
-mounted_tells m windows h f i is none = by (shown m.volume.layout i) (is.over.shows.shows i (worn_refl (weak_of windows) i))
+-- where nothing waits the disk's own table is the volume's, however the last window's run wears
+pub mounted_lasts : (m : Mounted) (windows : List WeakRun) (h : List Change) (f : ℕ) (i : Image) → IsMounted m windows h f i → m.volume.unforced ≡ 0 → AllWorn (weak_of windows) (λ j. told m.volume.layout j ≡ Some (telling_of m.volume)) i
+mounted_lasts m windows h f i is none j worn = by (shown m.volume.layout j) (is.over.shows.shows j worn)
   where
     few : length m.dirty ≤ 0
     few = let at_most = is.few in omega (arith, at_most, none)
@@ -363,6 +381,10 @@ mounted_tells m windows h f i is none = by (shown m.volume.layout i) (is.over.sh
     by : (o : Option (List (List ℕ))) → ShowsOne (is.disk ∷ []) o → option_and_then told_in o ≡ Some (telling_of m.volume)
     by None one = absurd one
     by (Some pages) one = one_of (λ pages. told_in pages ≡ Some (telling_of m.volume)) is.disk pages (ap told_in same ∙ is.in_memory) one
+
+-- as the disk is
+pub mounted_tells : (m : Mounted) (windows : List WeakRun) (h : List Change) (f : ℕ) (i : Image) → IsMounted m windows h f i → m.volume.unforced ≡ 0 → told m.volume.layout i ≡ Some (telling_of m.volume)
+mounted_tells m windows h f i is none = mounted_lasts m windows h f i is none i (worn_refl (weak_of windows) i)
 
 -- ---- where a volume forces by itself
 

@@ -5,6 +5,7 @@ use Rattle.sector_disk.specs.declared.sector.WeakRun.{WeakRun}
 use Rattle.sector_disk.specs.Image.{IsWorn}
 use Rattle.sector_disk.proofs.Wear.{worn_refl}
 use Rattle.volume_layout.specs.declared.layout.Layout.{Layout}
+use Rattle.volume_layout.specs.Kinds.{gap_of}
 use Rattle.fsd_formats.specs.declared.anchor.Anchor.{Anchor}
 use Rattle.fsd_formats.specs.declared.entry.Entry.{Entry}
 use Rattle.fsd_files.specs.Disk.{Image, in_runs}
@@ -44,7 +45,7 @@ own_anchor l windows choices a i shows own =
 
 -- ---- the volume
 
-module _ (m : Mounted) (windows : List WeakRun) (h : List Change) (f : ℕ) (i j : Image) (small : m.volume.layout.pages ≤ 2 ^ 32) (apart : IsApart (weak_of windows)) (w : IsWorn (weak_of windows) i j) where
+module _ (m : Mounted) (windows : List WeakRun) (h : List Change) (f : ℕ) (i j : Image) (small : m.volume.layout.pages ≤ 2 ^ 32) (apart : IsApart (gap_of m.volume.layout) (weak_of windows)) (w : IsWorn (weak_of windows) i j) where
   described_still : (files : Files) (entries : List Entry) → Describes m.volume.layout (in_runs windows) i files entries → Describes m.volume.layout (in_runs windows) j files entries
   described_still files entries d = record { lists = d.lists; apart = d.apart; kept = kept_still (weak_of windows) (in_runs windows) i j files entries (weak_within_hurt windows) w d.kept }
 
@@ -65,7 +66,7 @@ module _ (m : Mounted) (windows : List WeakRun) (h : List Change) (f : ℕ) (i j
         disk = is.disk;
         records = is.records;
         over = record {
-          shows = shows_still m.volume.layout windows (apart_narrow windows apart) (is.disk ∷ []) i j w is.over.shows;
+          shows = shows_still m.volume.layout windows (apart_narrow m.volume.layout windows apart) (is.disk ∷ []) i j w is.over.shows;
           own = own_worn m.volume.layout small m.anchor anchor.epoch is.third (weak_of windows) apart i j w is.records m.head is.over.own;
           clean = is.over.clean;
         };

@@ -19,13 +19,14 @@ use Rattle.fsd_log.specs.Images.{last_image}
 use Rattle.fsd_files.specs.Disk.{Image, Sectors, bytes_of, either_copy}
 use Rattle.fsd_sound.specs.Anchors.{anchor_at, anchor_of, EachAnchor}
 use Rattle.fsd_sound.specs.Homes.{home_of}
-use Rattle.fsd_sound.specs.Laid.{IsLaid}
+use Rattle.fsd_sound.specs.Laid.{HasOwnRoots, IsLaid}
 use Rattle.fsd_sound.specs.Shown.{records_by, newest, each_of, all_pages, shown_by, shown}
 use Rattle.fsd_sound.specs.Sound.{IfWhole, EachStamp, HasAnchors, HasRoots, on_disk, disk_records, IsSuffix, ScansAgree, ShowsOne}
 use Rattle.fsd_sound.proofs.EachLaws.{all_in_range}
 use Rattle.fsd_sound.proofs.LogPlaces.{SameLog, same_scan, scan_records, laid_same}
 use Rattle.fsd_sound.specs.Stands.{Stands}
 use Rattle.fsd_sound.proofs.CommuteLaws.{same_or}
+use Rattle.fsd_sound.proofs.SaidLaws.{own_roots_say, says_same, some_same}
 use Rattle.fsd_sound.proofs.SectorFacts.{not_damaged}
 
 -- an anchor that may follow another in its epoch
@@ -47,6 +48,7 @@ pub record IsHomedIn (l : Layout) (rs rest : List Placed) (i : Image) (page : �
 -- an image whose log by the old anchor is this, and by the new one the rest of it
 pub record MayMoveOn (l : Layout) (old new : Anchor) (rs rest : List Placed) (pages : List (List ℕ)) (weak : Sectors) (i : Image) : Type 0 where
   pub later : IsLater old new
+  pub roots : HasOwnRoots l weak i
   pub own : EachAnchor i (λ a. a ≡ old)
   pub records : records_by l i old ≡ rs
   pub behind : records_by l i new ≡ rest
@@ -241,7 +243,7 @@ module _ (l : Layout) (old new : Anchor) (rs rest : List Placed) (pages : List (
 
   roots_now : HasRoots l weak j
   roots_now = record {
-    some = ⊎_elim (λ is. inl (front 0 (omega arith) ∙ is)) (λ is. inr (front 4 (omega arith) ∙ is)) stands.roots.some;
+    some = some_same l i j (front 0 (omega arith)) (front 4 (omega arith)) stands.roots.some;
     first = λ b is. stands.roots.first b (sym (front 0 (omega arith)) ∙ is);
     second = λ b is. stands.roots.second b (sym (front 4 (omega arith)) ∙ is);
     fits = omega (arith, stands.roots.fits, size);
@@ -251,6 +253,7 @@ module _ (l : Layout) (old new : Anchor) (rs rest : List Placed) (pages : List (
   pub moved_stands : Stands l weak (pages ∷ []) j
   moved_stands = record {
     roots = roots_now;
+    empty = λ says. absurd (own_roots_say l weak i may.roots (says_same l i j front says));
     anchors = anchors_now;
     log = record {
       agree = subst (ScansAgree l j (anchor_at j 8) (anchor_at j 12)) (sym taken_now) (agree (anchor_at j 8) (anchor_at j 12) each_either.0 each_either.1);

@@ -13,12 +13,13 @@ use Rattle.fsd_files.specs.Disk.{Image, Sectors, bytes_of, either_copy}
 use Rattle.fsd_sound.specs.Anchors.{anchor_at, anchor_of, EachAnchor}
 use Rattle.fsd_sound.specs.Homes.{home_of}
 use Rattle.fsd_sound.specs.Shown.{records_by, newest, each_of, all_pages, shown_by, shown}
-use Rattle.fsd_sound.specs.Sound.{HasRoots, HasHomes, ShowsOne}
+use Rattle.fsd_sound.specs.Sound.{SaysTurned, HasRoots, LogsNothing, HasHomes, ShowsOne}
 use Rattle.fsd_sound.specs.Stands.{Stands}
 use Rattle.fsd_sound.proofs.CommuteLaws.{same_or}
-use Rattle.fsd_sound.proofs.AlikeLaws.{taken_same, records_same, each_same, roots_same, anchors_same, has_log_same}
+use Rattle.fsd_sound.proofs.AlikeLaws.{taken_same, records_same, each_same, roots_same, anchors_same, has_log_same, unlogged_same}
 use Rattle.fsd_sound.proofs.AnchorFacts.{newer_one, taken_third, each_both}
 use Rattle.fsd_sound.proofs.EachLaws.{all_in_range, each_of_same}
+use Rattle.fsd_sound.proofs.SaidLaws.{says_same}
 
 -- the images agree but on the homes of a page, and those tell the same, or the page is logged
 pub record Rehomes (l : Layout) (page : ℕ) (i j : Image) : Type 0 where
@@ -72,6 +73,7 @@ module _ (l : Layout) (weak : Sectors) (choices : List (List (List ℕ))) (page 
   pub rehomed_stands : Stands l weak choices i → Stands l weak choices j
   rehomed_stands stands = record {
     roots = roots_same l i j in_front weak re.size (λ s twin hurt. re.unhurt s hurt) (λ s lt. re.others s (λ e. omega arith) (λ e. omega arith)) stands.roots;
+    empty = λ says. unlogged_same l i j in_front (stands.empty (says_same l i j (λ s lt. re.others s (λ e. omega arith) (λ e. omega arith)) says));
     anchors = anchors_same l i j in_front stands.anchors;
     log = has_log_same l i j in_front weak stands.log;
     homes = homes_kept stands.homes;
@@ -98,9 +100,10 @@ module _ (l : Layout) (weak : Sectors) (choices : List (List (List ℕ))) (i j :
           ∙ each_of_same (newest l j (records_by l i a)) (newest l i (records_by l i a)) (all_pages l)
           (all_in_range (λ q. newest l j (records_by l i a) q ≡ newest l i (records_by l i a) q) 0 l.pages (λ q le lt. ap (option_or (last_image q (records_by l i a))) (home_behind q)))
 
-  pub rooted_stands : HasRoots l weak j → Stands l weak choices i → Stands l weak choices j
-  rooted_stands roots stands = record {
+  pub rooted_stands : HasRoots l weak j → (SaysTurned l j → LogsNothing l i) → Stands l weak choices i → Stands l weak choices j
+  rooted_stands roots empty stands = record {
     roots = roots;
+    empty = λ says. unlogged_same l i j behind_front (empty says);
     anchors = anchors_same l i j behind_front stands.anchors;
     log = has_log_same l i j behind_front weak stands.log;
     homes = each_same l i j behind_front _ _ (λ a low homes q lt none x y first second. homes q lt (ap (last_image q) (sym (records_same l i j behind_front a low)) ∙ none) x y

@@ -25,8 +25,9 @@ use Rattle.fsd_sound.proofs.FreshLaws.{anchor_stands}
 use Rattle.fsd_sound.specs.Begun.{IsHomed, AreOlder}
 use Rattle.fsd_sound.specs.Stands.{Stands}
 use Rattle.fsd_sound.specs.Windows.{IsNarrow}
-use Rattle.fsd_sound.proofs.CommuteLaws.{same_or, with_same, with_other, all_over, shows_all, all_shows}
+use Rattle.fsd_sound.proofs.CommuteLaws.{same_or, with_same, with_other, all_over, shows_all, both_same, all_shows}
 use Rattle.fsd_sound.proofs.HomedLaws.{stamps_up, no_records, homes_alike, pages_are}
+use Rattle.fsd_sound.proofs.SaidLaws.{own_roots_say, says_same, says_worn, some_same}
 use Rattle.fsd_sound.proofs.SectorFacts.{not_damaged}
 
 -- the places of the two anchors, in either order
@@ -197,7 +198,7 @@ module _ (l : Layout) (epoch : ℕ) (pages : List (List ℕ)) (c : Image) (homed
   pub renewed_stands : Stands l weak choices (with_sector i s (anchor_bytes (fresh_anchor epoch)))
   renewed_stands = record {
     roots = record {
-      some = ⊎_elim (λ is. inl (head 0 (omega arith) ∙ is)) (λ is. inr (head 4 (omega arith) ∙ is)) stands.roots.some;
+      some = some_same l i j (head 0 (omega arith)) (head 4 (omega arith)) stands.roots.some;
       first = λ b is. stands.roots.first b (sym (head 0 (omega arith)) ∙ is);
       second = λ b is. stands.roots.second b (sym (head 4 (omega arith)) ∙ is);
       fits = omega (arith, stands.roots.fits, length-set i s (Whole (anchor_bytes (fresh_anchor epoch))));
@@ -205,6 +206,7 @@ module _ (l : Layout) (epoch : ℕ) (pages : List (List ℕ)) (c : Image) (homed
           (λ here. absurd (not_damaged (sector_at j s) (anchor_bytes (fresh_anchor epoch)) j_s (ap (sector_at j) (sym here) ∙ hurt)))
           (λ other. stands.roots.twins p twin (sym (j_other p other) ∙ hurt)) (same_or p s);
     };
+    empty = λ says. absurd (own_roots_say l weak c (inl homed.root, inl homed.root_copy) (says_worn l c i weak worn (says_same l i j head says)));
     anchors = anchors_now;
     log = record { agree = agree_now; laid = laid_now };
     homes = homes_now;
@@ -223,6 +225,7 @@ older_worn l weak epoch c i worn older = (at_place 8 older.0, at_place 12 older.
 pub renewed_shows : (l : Layout) (windows : List WeakRun) → IsNarrow (weak_of windows) → (choices : List (List (List ℕ))) (epoch : ℕ) (pages : List (List ℕ)) (s t : ℕ) (c : Image) → AreAnchorPlaces s t → s < length c
     → IsHomed l epoch pages c → AreOlder epoch c → Contains choices pages → ShowsPages l windows choices c → ShowsPages l windows choices (with_sector c s (anchor_bytes (fresh_anchor epoch)))
 renewed_shows l windows narrow choices epoch pages s t c at room homed older chosen shows =
-    all_shows l windows choices (with_sector c s (anchor_bytes (fresh_anchor epoch)))
+    all_shows l windows shows.readable.borne choices (with_sector c s (anchor_bytes (fresh_anchor epoch)))
+    (both_same l windows c (with_sector c s (anchor_bytes (fresh_anchor epoch))) shows.readable (λ p head. with_other c s p (anchor_bytes (fresh_anchor epoch)) (λ e. elim at [ inl o ↦ omega (arith, e, o.0, head) | inr o ↦ omega (arith, e, o.0, head) ])))
     (all_over (weak_of windows) (Stands l (weak_of windows) choices) c s (anchor_bytes (fresh_anchor epoch)) room (shows_all l windows narrow choices c shows)
     (λ i worn there stands. renewed_stands l epoch pages c homed (weak_of windows) narrow choices chosen s t at i (omega (arith, room, worn.size)) worn (older_worn l (weak_of windows) epoch c i worn older) stands))

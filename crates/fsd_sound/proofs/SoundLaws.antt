@@ -1,12 +1,11 @@
 -- What is sound stays so however its weak run wears; and what shows pages that tell the changes is sound.
-use Rattle.std.proofs.Common.{◌≡◌, ◌⊎◌, ℕ, ◌≤◌, Bool, List, [], ◌∷◌, take, Option, Some, None, refl, sym, ap, subst, ◌∙◌, inl, inr, arith}
+use Rattle.std.proofs.Common.{◌≡◌, ◌⊎◌, ℕ, ◌≤◌, Bool, List, [], ◌∷◌, take, Option, Some, None, refl, sym, subst, ◌∙◌, inl, inr, arith}
 use Rattle.std.specs.Prelude.{IsTrue, IfSome, option_and_then, Contains}
 use Rattle.std.specs.List.{list_any, last_or}
 use Rattle.std.proofs.lemmas.Bool.{or_left, or_right}
 use Rattle.volume_layout.specs.declared.layout.Layout.{Layout}
 use Rattle.fsd_formats.specs.declared.anchor.Anchor.{Anchor}
 use Rattle.fsd_formats.specs.Anchors.{read_anchor}
-use Rattle.volume_layout.specs.Root.{root_bytes}
 use Rattle.sector_disk.specs.declared.sector.WeakRun.{WeakRun}
 use Rattle.sector_disk.specs.declared.sector.Sector.{Sector}
 use Rattle.sector_disk.specs.declared.sector.Sector.TheVariants.{Whole, Damaged}
@@ -16,10 +15,11 @@ use Rattle.fsd_files.specs.Files.{Change, after}
 use Rattle.fsd_sound.specs.Anchors.{EachAnchor}
 use Rattle.fsd_table.specs.Table.{Telling, told_in}
 use Rattle.fsd_sound.specs.Shown.{shown}
-use Rattle.fsd_sound.specs.Sound.{IfWhole, HasRoots, HasAnchors, Tells, weak_of, IsReadable, IsSound, ShowsOne, ShowsPages, is_twin}
+use Rattle.fsd_sound.specs.Sound.{IfWhole, HasRoots, HasAnchors, IsRootAt, IsRootOf, Tells, weak_of, IsReadable, IsSound, ShowsOne, ShowsPages, is_twin}
 use Rattle.fsd_sound.specs.Windows.{IsNarrow}
 use Rattle.sector_disk.proofs.Wear.{worn_trans, worn_whole}
 use Rattle.fsd_files.proofs.WearLaws.{kept_still}
+use Rattle.fsd_sound.proofs.SaidLaws.{says_worn}
 use Rattle.fsd_sound.proofs.SectorFacts.{whole_or_damaged}
 
 -- ---- roots
@@ -31,26 +31,25 @@ still_or_weak b x y bytes (inr d) w = inr d.0
 
 module _ (l : Layout) (weak : Sectors) (narrow : IsNarrow weak) (i j : Image) (w : IsWorn weak i j) where
   -- the other root serves where this one is weak
-  other_root : (s : ℕ) → (IsTrue (weak s) → ⊥) → IsTrue (is_twin l s) → IfWhole i s (λ bytes. bytes ≡ root_bytes l) → (IsTrue (is_twin l s) → sector_at i s ≡ Damaged → IsTrue (weak s))
-      → sector_at j s ≡ Whole (root_bytes l)
+  other_root : (s : ℕ) → (IsTrue (weak s) → ⊥) → IsTrue (is_twin l s) → IfWhole i s (IsRootOf l) → (IsTrue (is_twin l s) → sector_at i s ≡ Damaged → IsTrue (weak s)) → IsRootAt l j s
   other_root s strong twin each damaged =
       elim (whole_or_damaged (sector_at i s)) [
         | inl x ↦ elim (still_or_weak (weak s) (sector_at i s) (sector_at j s) x.0 (w.each s) x.1) [
-          | inl e ↦ e ∙ ap Whole (each x.0 x.1)
+          | inl e ↦ (x.0, e, each x.0 x.1)
           | inr d ↦ absurd (strong d)
         ]
         | inr d ↦ absurd (strong (damaged twin d))
       ]
 
-  some_root : HasRoots l weak i → (sector_at i 0 ≡ Whole (root_bytes l)) ⊎ (sector_at i 4 ≡ Whole (root_bytes l)) → (sector_at j 0 ≡ Whole (root_bytes l)) ⊎ (sector_at j 4 ≡ Whole (root_bytes l))
+  some_root : HasRoots l weak i → IsRootAt l i 0 ⊎ IsRootAt l i 4 → IsRootAt l j 0 ⊎ IsRootAt l j 4
   some_root h (inl e) =
-      elim (still_or_weak (weak 0) (sector_at i 0) (sector_at j 0) (root_bytes l) (w.each 0) e) [
-        | inl f ↦ inl f
+      elim (still_or_weak (weak 0) (sector_at i 0) (sector_at j 0) e.0 (w.each 0) e.1) [
+        | inl f ↦ inl (e.0, f, e.2)
         | inr d ↦ inr (other_root 4 (λ d4. narrow 0 4 (omega arith) d d4) refl h.second (h.twins 4))
       ]
   some_root h (inr e) =
-      elim (still_or_weak (weak 4) (sector_at i 4) (sector_at j 4) (root_bytes l) (w.each 4) e) [
-        | inl f ↦ inr f
+      elim (still_or_weak (weak 4) (sector_at i 4) (sector_at j 4) e.0 (w.each 4) e.1) [
+        | inl f ↦ inr (e.0, f, e.2)
         | inr d ↦ inl (other_root 0 (λ d0. narrow 0 4 (omega arith) d0 d) refl h.first (h.twins 0))
       ]
 
@@ -94,7 +93,9 @@ anchors_still l weak i j w h = record {
 
 readable_still : (l : Layout) (windows : List WeakRun) → IsNarrow (weak_of windows) → (i j : Image) → IsWorn (weak_of windows) i j → IsReadable l windows i → IsReadable l windows j
 readable_still l windows narrow i j w h = record {
+  borne = h.borne;
   roots = roots_still l (weak_of windows) narrow i j w h.roots;
+  either = λ says. let was = h.either (says_worn l i j (weak_of windows) w says) in record { borne = was.borne; empty = λ k v. was.empty k (worn_trans (weak_of windows) i j k w v) };
   anchors = anchors_still l (weak_of windows) i j w h.anchors;
   log = λ k v. h.log k (worn_trans (weak_of windows) i j k w v);
   homes = λ k v. h.homes k (worn_trans (weak_of windows) i j k w v);

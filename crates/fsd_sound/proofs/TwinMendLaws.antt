@@ -14,7 +14,7 @@ use Rattle.sector_disk.specs.declared.sector.Sector.{Sector}
 use Rattle.sector_disk.specs.declared.sector.Sector.TheVariants.{Whole, Damaged}
 use Rattle.sector_disk.specs.Image.{sector_at, with_sector}
 use Rattle.fsd_log.specs.Scan.{IsLog, Walked}
-use Rattle.fsd_files.specs.Disk.{Image, bytes_of, in_runs}
+use Rattle.fsd_files.specs.Disk.{Has, Image, bytes_of, in_runs}
 use Rattle.fsd_files.specs.Files.{Change, after}
 use Rattle.fsd_sound.specs.Anchors.{anchor_at, EachAnchor}
 use Rattle.fsd_sound.specs.Homes.{AreTwins}
@@ -31,7 +31,7 @@ use Rattle.fsd_sound.proofs.MendLaws.{mended_shows, rooted_shows}
 use Rattle.fsd_sound.proofs.MountedLaws.{data_behind, describes_data}
 use Rattle.fsd_sound.proofs.OpenLaws.{open_worn}
 use Rattle.fsd_sound.proofs.RenewLaws.{AreAnchorPlaces}
-use Rattle.fsd_sound.proofs.SectorFacts.{whole_or_damaged}
+use Rattle.fsd_sound.proofs.SectorFacts.{has_bytes, whole_or_damaged}
 
 -- the two roots, in either order
 abbrev pub AreRootPlaces : ℕ → ℕ → Type 0
@@ -99,8 +99,8 @@ module _ (m : Mounted) (windows : List WeakRun) (narrow : IsNarrow (weak_of wind
   -- ---- what is shown
 
   root_is : AreRootPlaces s t → bytes ≡ root_bytes m.volume.layout
-  root_is (inl r) = shows.readable.roots.second bytes (ap (sector_at i) (sym r.1) ∙ whole)
-  root_is (inr r) = shows.readable.roots.first bytes (ap (sector_at i) (sym r.1) ∙ whole)
+  root_is (inl r) = sym (has_bytes (weak_of windows) i (root_bytes m.volume.layout) bytes 4 is.over.own.roots.1 (ap (sector_at i) (sym r.1) ∙ whole))
+  root_is (inr r) = sym (has_bytes (weak_of windows) i (root_bytes m.volume.layout) bytes 0 is.over.own.roots.0 (ap (sector_at i) (sym r.1) ∙ whole))
 
   root_at : AreRootPlaces s t → (s ≡ 0) ⊎ (s ≡ 4)
   root_at (inl r) = inl r.0
@@ -174,8 +174,22 @@ module _ (m : Mounted) (windows : List WeakRun) (narrow : IsNarrow (weak_of wind
   twin_of_12 (inr (inr (page, lt, inl o))) e = absurd (omega (arith, o.0, e))
   twin_of_12 (inr (inr (page, lt, inr o))) e = absurd (omega (arith, o.0, e))
 
+  -- what is written over a root is the layout's
+  root_bytes_are : {p : ℕ} → ArePair m.volume.layout s t → p ≡ s → (p ≡ 0) ⊎ (p ≡ 4) → bytes ≡ root_bytes m.volume.layout
+  root_bytes_are (inl r) e root = root_is r
+  root_bytes_are (inr (inl (inl a))) e root = absurd (⊎_elim (λ is. omega (arith, a.0, e, is)) (λ is. omega (arith, a.0, e, is)) root)
+  root_bytes_are (inr (inl (inr a))) e root = absurd (⊎_elim (λ is. omega (arith, a.0, e, is)) (λ is. omega (arith, a.0, e, is)) root)
+  root_bytes_are (inr (inr (page, lt, inl o))) e root = absurd (⊎_elim (λ is. omega (arith, o.0, e, is)) (λ is. omega (arith, o.0, e, is)) root)
+  root_bytes_are (inr (inr (page, lt, inr o))) e root = absurd (⊎_elim (λ is. omega (arith, o.0, e, is)) (λ is. omega (arith, o.0, e, is)) root)
+
+  root_now : (p : ℕ) → (p ≡ s → bytes ≡ root_bytes m.volume.layout) → Has (weak_of windows) i (root_bytes m.volume.layout) p → Has (weak_of windows) (with_sector i s bytes) (root_bytes m.volume.layout) p
+  root_now p are has = ⊎_elim
+      (λ same. inl (ap (sector_at (with_sector i s bytes)) same ∙ with_same i s bytes room_s ∙ ap (λ (b : List ℕ). Whole b) (are same)))
+      (λ differs. ⊎_elim (λ there. inl (other p differs ∙ there)) (λ hurt. inr (hurt.0, other p differs ∙ hurt.1)) has) (same_or p s)
+
   own_now : HasOwnLog m.volume.layout m.anchor is.records m.head (weak_of windows) (with_sector i s bytes)
   own_now = record {
+    roots = (root_now 0 (λ e. root_bytes_are pair e (inl refl)) is.over.own.roots.0, root_now 4 (λ e. root_bytes_are pair e (inr refl)) is.over.own.roots.1);
     own = (own_at 8 12 (twin_of_8 pair) own.0 own.1, own_at 12 8 (twin_of_12 pair) own.1 own.0);
     log = subst (λ t. IsLog m.volume.layout m.anchor.epoch m.anchor.first t is.records m.head) (sym (same_tape m.volume.layout i (with_sector i s bytes) log_same m.anchor.third is.third)) is.over.own.log;
     laid = all_laid_log m.volume.layout m.anchor (weak_of windows) i (with_sector i s bytes) log_same is.records

@@ -15,7 +15,7 @@ use Rattle.fsd_sound.specs.Sound.{EachStamp, ShowsPages}
 
 -- Both roots stand, each page stands at both homes, and the log has nothing of this epoch or a later one.
 pub record IsHomed (l : Layout) (epoch : ℕ) (pages : List (List ℕ)) (i : Image) : Type 0 where
-  pub planned : plan l.sectors l.third l.pages ≡ Ok l
+  pub planned : plan l.kind l.sectors l.third l.pages ≡ Ok l
   pub long : l.sectors ≤ length i
   pub root : sector_at i 0 ≡ Whole (root_bytes l)
   pub root_copy : sector_at i 4 ≡ Whole (root_bytes l)

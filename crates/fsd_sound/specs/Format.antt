@@ -30,7 +30,7 @@ format_anchor = record { epoch = 1; third = 0; first = 1 }
 
 -- Roots, anchors and name pages stand twice, and the log has never been written.
 pub record IsFormatted (l : Layout) (i : Image) : Type 0 where
-  pub planned : plan l.sectors l.third l.pages ≡ Ok l
+  pub planned : plan l.kind l.sectors l.third l.pages ≡ Ok l
   pub long : l.sectors ≤ length i
   pub root : sector_at i 0 ≡ Whole (root_bytes l)
   pub root_copy : sector_at i 4 ≡ Whole (root_bytes l)

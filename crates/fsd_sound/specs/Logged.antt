@@ -1,6 +1,7 @@
 -- What the log has of a page, and the copies of a record's pages and of its end.
-use Rattle.std.specs.Prelude.{◌≡◌, ℕ, ◌+◌, List, [], ◌∷◌, ◌++◌, length, Some, None}
+use Rattle.std.specs.Prelude.{◌≡◌, ℕ, ◌+◌, ◌*◌, List, [], ◌∷◌, ◌++◌, length, Some, None}
 use Rattle.volume_layout.specs.declared.layout.Layout.{Layout}
+use Rattle.volume_layout.specs.Kinds.{gap_of}
 use Rattle.fsd_formats.specs.declared.anchor.Anchor.{Anchor}
 use Rattle.fsd_formats.specs.Record.{end_bytes}
 use Rattle.sector_disk.specs.declared.sector.WeakRun.{WeakRun}
@@ -18,7 +19,7 @@ IsLogged l weak page = AllWorn weak (λ i. EachAnchor i (λ a. last_image page (
 
 -- where the copies of a record's pages and end begin on the disk
 abbrev pub copies_at : Layout → Anchor → Placed → ℕ
-copies_at l a r = place_of l a.third r.at + (4 + length r.entry.pages)
+copies_at l a r = place_of l a.third r.at + (4 + 2 * gap_of l + length r.entry.pages)
 
 abbrev pub copies_of : Anchor → Placed → List (List ℕ)
 copies_of a r = r.entry.images ++ end_bytes (record { epoch = a.epoch; number = r.entry.number }) (length r.entry.pages) ∷ []

@@ -1,8 +1,10 @@
 -- What a mount finds of an image, and why it is refused.
-use Rattle.std.specs.Prelude.{◌≡◌, ◌⊎◌, ⊤, ℕ, ◌-◌, ◌^◌, ◌<◌, Option, Some, None, IsSome}
+use Rattle.std.specs.Prelude.{◌≡◌, ◌⊎◌, ⊤, ℕ, ◌-◌, ◌^◌, ◌<◌, ◌≤◌, Option, Some, None, IsSome}
 use Rattle.volume_layout.specs.declared.layout.Layout.{Layout}
+use Rattle.volume_layout.specs.Kinds.{longest_of}
 use Rattle.sector_disk.specs.declared.machine.LoadFault.{LoadFault}
 use Rattle.sector_disk.specs.declared.machine.LoadFault.TheVariants as load
+use Rattle.sector_disk.specs.declared.sector.WeakRun.{WeakRun}
 use Rattle.fsd_formats.specs.declared.anchor.Anchor.{Anchor}
 use Rattle.fsd_files.specs.Disk.{Image}
 use Rattle.fsd_sound.specs.Anchors.{anchor_of}
@@ -17,6 +19,10 @@ last_epoch = 2 ^ 32 - 1
 -- this is a root of the image that counts, the first or the second
 abbrev pub HasRoot : ℕ → Image → Layout → Type 0
 HasRoot sectors i l = (root_at sectors i 0 ≡ Some l) ⊎ (root_at sectors i 4 ≡ Some l)
+
+-- each root of the image that counts bears the run
+abbrev pub EachBears : ℕ → Image → WeakRun → Type 0
+EachBears sectors i run = (l : Layout) → HasRoot sectors i l → run.count ≤ longest_of l.kind
 
 -- The image has this root and this anchor.
 pub record IsVolume (sectors : ℕ) (i : Image) (l : Layout) (a : Anchor) : Type 0 where

@@ -2,14 +2,15 @@
 use Rattle.std.specs.Prelude.{◌≡◌, ◌⊎◌, ℕ, ◌<◌, ◌≤◌, Bool, ◌&&◌, ◌||◌, List, [], ◌∷◌, ◌++◌, length, map, take, Option, Some, None, IfSome, IsSome, nat_le, nat_lt, ◌==◌, IsTrue, Contains, ⊤}
 use Rattle.std.specs.List.{last_or, list_any}
 use Rattle.volume_layout.specs.declared.layout.Layout.{Layout}
-use Rattle.volume_layout.specs.Layout.{home_a, home_b, InLog}
+use Rattle.volume_layout.specs.Layout.{home_a, home_b, InLog, turned}
+use Rattle.volume_layout.specs.Kinds.{longest_of}
 use Rattle.volume_layout.specs.Root.{root_bytes}
 use Rattle.fsd_formats.specs.declared.anchor.Anchor.{Anchor}
 use Rattle.fsd_formats.specs.Anchors.{read_anchor}
 use Rattle.fsd_formats.specs.Record.{Stamp}
 use Rattle.sector_disk.specs.declared.sector.WeakRun.{WeakRun}
 use Rattle.sector_disk.specs.declared.sector.Sector.TheVariants.{Whole, Damaged}
-use Rattle.sector_disk.specs.Image.{Windows, open_damage, sector_at, IsWorn}
+use Rattle.sector_disk.specs.Image.{Windows, open_damage, sector_at, AllWorn, IsWorn}
 use Rattle.fsd_log.specs.Borne.{borne_by}
 use Rattle.fsd_log.specs.Scan.{Placed, place_of}
 use Rattle.fsd_log.specs.Images.{last_image}
@@ -34,11 +35,24 @@ is_home l s = (nat_le (home_a l 0) s && nat_lt s (home_a l l.pages)) || (nat_le 
 abbrev pub is_twin : Layout → ℕ → Bool
 is_twin l s = list_any (λ t. t == s) (0 ∷ 4 ∷ 8 ∷ 12 ∷ []) || is_home l s
 
--- Some copy of the root is whole, each whole one is the layout's, and twins are damaged in the weak run alone.
+-- the bytes are the root of the layout, or of it turned
+abbrev pub IsRootOf : Layout → List ℕ → Type 0
+IsRootOf l bytes = (bytes ≡ root_bytes l) ⊎ (bytes ≡ root_bytes (turned l))
+
+-- such a root stands in the sector
+abbrev pub IsRootAt : Layout → Image → ℕ → Type 0
+IsRootAt l i s = (bytes : List ℕ) × (sector_at i s ≡ Whole bytes) × IsRootOf l bytes
+
+-- some root is that of the layout turned
+abbrev pub SaysTurned : Layout → Image → Type 0
+SaysTurned l i = (sector_at i 0 ≡ Whole (root_bytes (turned l))) ⊎ (sector_at i 4 ≡ Whole (root_bytes (turned l)))
+
+-- Some copy of the root is whole, each whole one is that of the layout, or of it turned, and twins are damaged in the
+-- weak run alone.
 pub record HasRoots (l : Layout) (weak : Sectors) (i : Image) : Type 0 where
-  pub some : (sector_at i 0 ≡ Whole (root_bytes l)) ⊎ (sector_at i 4 ≡ Whole (root_bytes l))
-  pub first : IfWhole i 0 (λ bytes. bytes ≡ root_bytes l)
-  pub second : IfWhole i 4 (λ bytes. bytes ≡ root_bytes l)
+  pub some : IsRootAt l i 0 ⊎ IsRootAt l i 4
+  pub first : IfWhole i 0 (IsRootOf l)
+  pub second : IfWhole i 4 (IsRootOf l)
   pub fits : l.sectors ≤ length i
   pub twins : (s : ℕ) → IsTrue (is_twin l s) → sector_at i s ≡ Damaged → IsTrue (weak s)
 
@@ -77,6 +91,10 @@ pub record HasLog (l : Layout) (weak : Sectors) (i : Image) : Type 0 where
   pub agree : ScansAgree l i (anchor_at i 8) (anchor_at i 12) (anchor_of i)
   pub laid : EachAnchor i (λ a. IsLaid l a weak i (records_by l i a))
 
+-- by each anchor nothing is logged, whether the records are of the layout's form or of the other one
+abbrev pub LogsNothing : Layout → Image → Type 0
+LogsNothing l i = EachAnchor i (λ a. (records_by l i a ≡ []) × (records_by (turned l) i a ≡ []))
+
 -- ---- home
 
 -- a page that no record has is the same at both homes, where they are whole
@@ -93,6 +111,16 @@ at_rest windows = record { present = last_or None windows; next = None }
 -- the last window's run
 abbrev pub weak_of : List WeakRun → Sectors
 weak_of windows = open_damage (at_rest windows)
+
+-- the volume bears the last window's run
+abbrev pub BearsLast : Layout → List WeakRun → Type 0
+BearsLast l windows = IfSome (last_or None windows) (λ run. run.count ≤ longest_of l.kind)
+
+-- The image may be mounted with the layout turned as well: that bears the last window's run too, and nothing is logged,
+-- however the run wears.
+pub record IsEither (l : Layout) (windows : List WeakRun) (i : Image) : Type 0 where
+  pub borne : BearsLast (turned l) windows
+  pub empty : AllWorn (weak_of windows) (LogsNothing l) i
 
 -- The machine's present window is the last of these.
 pub record EndIn (now : Windows) (windows : List WeakRun) : Type 0 where
@@ -112,9 +140,16 @@ Tells l hurt i h f (Some t) = (n : ℕ) × IsPrefixOf h f n × Describes l hurt 
 
 -- ---- the whole
 
--- what holds of the disk whatever its pages tell
+-- the layout is this one, or it turned, where a root says so
+abbrev pub IsSaid : Layout → Image → (layout : Layout) → Type 0
+IsSaid l i layout = (layout ≡ l) ⊎ ((layout ≡ turned l) × SaysTurned l i)
+
+-- What holds of the disk whatever its pages tell. The volume bears the last window's run. Where a root says the layout
+-- turned, the image may be mounted with that as well.
 pub record IsReadable (l : Layout) (windows : List WeakRun) (i : Image) : Type 0 where
+  pub borne : BearsLast l windows
   pub roots : HasRoots l (weak_of windows) i
+  pub either : SaysTurned l i → IsEither l windows i
   pub anchors : HasAnchors l i
   pub log : (j : Image) → IsWorn (weak_of windows) i j → HasLog l (weak_of windows) j
   pub homes : (j : Image) → IsWorn (weak_of windows) i j → HasHomes l j

@@ -4,11 +4,12 @@ use Rattle.volume_layout.specs.declared.layout.Layout.{Layout}
 use Rattle.sector_disk.specs.Image.{sector_at, with_sector, IsWorn}
 use Rattle.fsd_files.specs.Disk.{Image, Sectors}
 use Rattle.fsd_sound.specs.Shown.{shown}
-use Rattle.fsd_sound.specs.Sound.{HasRoots, HasAnchors, HasLog, HasHomes, ShowsOne}
+use Rattle.fsd_sound.specs.Sound.{SaysTurned, HasRoots, HasAnchors, HasLog, LogsNothing, HasHomes, ShowsOne}
 
 -- What stands on a disk that shows one of these page lists.
 pub record Stands (l : Layout) (weak : Sectors) (choices : List (List (List ℕ))) (i : Image) : Type 0 where
   pub roots : HasRoots l weak i
+  pub empty : SaysTurned l i → LogsNothing l i
   pub anchors : HasAnchors l i
   pub log : HasLog l weak i
   pub homes : HasHomes l i

@@ -4,9 +4,9 @@ use Rattle.sector_disk.specs.declared.sector.WeakRun.{WeakRun}
 use Rattle.sector_disk.specs.Machine.{Moment}
 use Rattle.fsd_files.specs.Disk.{Sectors}
 
--- no two sectors but neighbours are weak at once
-abbrev pub IsApart : Sectors → Type 0
-IsApart weak = (s t : ℕ) → s + 2 ≤ t → IsTrue (weak s) → IsTrue (weak t) → ⊥
+-- no two sectors that lie two sectors and the gap apart, or further, are weak at once
+abbrev pub IsApart : (gap : ℕ) → Sectors → Type 0
+IsApart gap weak = (s t : ℕ) → s + (2 + gap) ≤ t → IsTrue (weak s) → IsTrue (weak t) → ⊥
 
 -- no two sectors that lie as far apart as what stands twice are weak at once
 abbrev pub IsNarrow : Sectors → Type 0

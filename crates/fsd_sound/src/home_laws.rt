@@ -2,7 +2,7 @@
 ghost use Rattle.std.specs.Prelude.{◌≡◌, ◌⊎◌, ◌<◌, get_or, ℕ, List, [], length, Some, None};
 ghost use Rattle.volume_layout.specs.declared.layout.Layout.{Layout};
 ghost use Rattle.volume_layout.specs.Root.{root_bytes};
-ghost use Rattle.volume_layout.specs.Layout.{home_a, home_b};
+ghost use Rattle.volume_layout.specs.Layout.{home_a, home_b, turned};
 ghost use Rattle.sector_disk.specs.declared.sector.WeakRun.{WeakRun};
 ghost use Rattle.sector_disk.specs.declared.sector.Sector.TheVariants.{Whole};
 ghost use Rattle.sector_disk.specs.Image.{sector_at, with_sector};
@@ -11,7 +11,7 @@ ghost use Rattle.fsd_files.specs.Disk.{Image};
 ghost use Rattle.fsd_sound.specs.Anchors.{anchor_of};
 ghost use Rattle.fsd_sound.specs.Shown.{records_by, shown};
 ghost use Rattle.fsd_log.specs.Images.{last_image};
-ghost use Rattle.fsd_sound.specs.Sound.{weak_of, ShowsPages};
+ghost use Rattle.fsd_sound.specs.Sound.{weak_of, IsEither, ShowsPages};
 ghost use Rattle.fsd_sound.specs.Homes.{AreTwins};
 ghost use Rattle.fsd_sound.specs.Logged.{IsLogged};
 ghost use Rattle.fsd_sound.specs.Windows.{IsNarrow};
@@ -32,6 +32,12 @@ pub fn logged_homes_may_be_written()
 pub fn roots_may_be_mended()
     ensures { (l : Layout) (windows : List WeakRun) (choices : List (List (List ℕ))) (s : ℕ) (i : Image) → IsNarrow (weak_of windows) → (s ≡ 0) ⊎ (s ≡ 4) → s < length i →
         ShowsPages l windows choices i → ShowsPages l windows choices (with_sector i s (root_bytes l)) }
+{}
+
+/// So may it with those of the layout turned, where the image may be mounted with that as well.
+pub fn roots_may_be_turned()
+    ensures { (l : Layout) (windows : List WeakRun) (choices : List (List (List ℕ))) (s : ℕ) (i : Image) → IsNarrow (weak_of windows) → (s ≡ 0) ⊎ (s ≡ 4) → s < length i → IsEither l windows i →
+        ShowsPages l windows choices i → ShowsPages l windows choices (with_sector i s (root_bytes (turned l))) }
 {}
 
 /// A page's last image in the log is what is shown of it, and where it has none, what stands whole at either home.

@@ -3,7 +3,7 @@ ghost use Rattle.std.specs.Prelude.{◌≡◌, ◌≤◌, ◌^◌, ℕ, List, []
 ghost use Rattle.fsd_formats.specs.declared.anchor.Anchor.{Anchor};
 ghost use Rattle.std.specs.List.{last_or};
 ghost use Rattle.volume_layout.specs.declared.layout.Layout.{Layout};
-ghost use Rattle.volume_layout.specs.Layout.{map_start};
+ghost use Rattle.volume_layout.specs.Layout.{IsFormOf, map_start};
 ghost use Rattle.sector_disk.specs.declared.sector.WeakRun.{WeakRun};
 ghost use Rattle.sector_disk.specs.Image.{Windows, open_damage, IsWorn};
 ghost use Rattle.fsd_files.specs.Disk.{Image, in_runs};
@@ -14,22 +14,22 @@ ghost use Rattle.fsd_log.specs.Scan.{Placed, Head};
 ghost use Rattle.fsd_sound.specs.Mounted.{Mounted, StandsOver, HasOpen, IsMounted, SameStays, SameTaken, SameData, ChangesTo, IsFresh, IsSameEpoch, forces_by_itself, telling_of, with_forced};
 ghost use Rattle.fsd_table.specs.Table.{one_leaf, told_in};
 ghost use Rattle.fsd_sound.specs.Shown.{told};
-ghost use Rattle.fsd_sound.specs.Sound.{EndIn, weak_of, IsSound, IsStill, ShowsPages, Tells, TellsPrefix};
+ghost use Rattle.fsd_sound.specs.Sound.{BearsLast, EndIn, weak_of, IsSaid, IsSound, IsStill, ShowsPages, Tells, TellsPrefix};
 ghost use Rattle.fsd_sound.specs.Choices.{TellsChoices};
 ghost use Rattle.fsd_sound.specs.Windows.{IsApart};
+ghost use Rattle.volume_layout.specs.Kinds.{gap_of, longest_of};
 
-/// A formatted disk is sound, with no changes, in a window whose weak run has at most three sectors,
-/// also as its own window has worn it.
+/// A formatted disk is sound, with no changes, in a window whose weak run it bears, also as its own window has worn it.
 pub fn formatted_disks_are_sound()
-    ensures written { (l : Layout) (windows : List WeakRun) (i : Image) → IfSome (last_or None windows) (λ r. r.count ≤ 3) →
+    ensures written { (l : Layout) (windows : List WeakRun) (i : Image) → BearsLast l windows →
         IsFormatted l i → IsSound l windows [] 0 i }
-    ensures worn { (l : Layout) (next : WeakRun) (i : Image) → next.count ≤ 3 →
+    ensures worn { (l : Layout) (next : WeakRun) (i : Image) → next.count ≤ longest_of l.kind →
         IsFormattedIn l next i → IsSound l (next ∷ []) [] 0 i }
 {}
 
 /// It tells an empty table of one leaf, however its weak run wears.
 pub fn formatted_disks_are_empty()
-    ensures { (l : Layout) (windows : List WeakRun) (i j : Image) → IfSome (last_or None windows) (λ r. r.count ≤ 3) → IsWorn (weak_of windows) i j →
+    ensures { (l : Layout) (windows : List WeakRun) (i j : Image) → BearsLast l windows → IsWorn (weak_of windows) i j →
         IsFormatted l i → told l j ≡ Some (one_leaf []) }
 {}
 
@@ -41,6 +41,15 @@ pub fn sound_disks_wear()
     ensures pages { (l : Layout) (windows : List WeakRun) (choices : List (List (List ℕ))) (i j : Image) →
         IfSome (last_or None windows) (λ r. r.count ≤ 3) →
         IsWorn (weak_of windows) i j → ShowsPages l windows choices i → ShowsPages l windows choices j }
+{}
+
+/// What is sound by a layout is so by each that its roots say: by it, or by it turned.
+pub fn disks_are_sound_by_each_root()
+    ensures form { (l : Layout) (i : Image) (layout : Layout) → IsSaid l i layout → IsFormOf l layout }
+    ensures sound { (l : Layout) (windows : List WeakRun) (h : List Change) (f : ℕ) (i : Image) (layout : Layout) → IsSaid l i layout →
+        IsSound l windows h f i → IsSound layout windows h f i }
+    ensures pages { (l : Layout) (windows : List WeakRun) (choices : List (List (List ℕ))) (i : Image) (layout : Layout) → IsSaid l i layout →
+        ShowsPages l windows choices i → ShowsPages layout windows choices i }
 {}
 
 /// What the machine's open windows wear, the last window wears:
@@ -71,7 +80,7 @@ pub fn mounted_volumes_are_sound()
 
 /// A mounted volume stays mounted however a narrow run wears.
 pub fn mounted_volumes_wear()
-    ensures { (m : Mounted) (windows : List WeakRun) (h : List Change) (f : ℕ) (i j : Image) → m.volume.layout.pages ≤ 2 ^ 32 → IsApart (weak_of windows) → IsWorn (weak_of windows) i j →
+    ensures { (m : Mounted) (windows : List WeakRun) (h : List Change) (f : ℕ) (i j : Image) → m.volume.layout.pages ≤ 2 ^ 32 → IsApart (gap_of m.volume.layout) (weak_of windows) → IsWorn (weak_of windows) i j →
         IsMounted m windows h f i → IsMounted m windows h f j }
 {}
 

@@ -1,8 +1,9 @@
 -- Records as they were laid: which stay, and how a new one stands behind them.
-use Rattle.std.proofs.Common.{◌≡◌, ℕ, zero, suc, ◌+◌, ◌<◌, List, [], ◌∷◌, ◌++◌, length, get_or, refl, sym, ap, subst, ◌∙◌, arith, inl, inr}
+use Rattle.std.proofs.Common.{◌*◌, ◌≡◌, ℕ, zero, suc, ◌+◌, ◌<◌, List, [], ◌∷◌, ◌++◌, length, get_or, refl, sym, ap, subst, ◌∙◌, arith, inl, inr}
 use Rattle.std.specs.Prelude.{IsTrue}
 use Rattle.std.proofs.lemmas.List.{length_push}
 use Rattle.volume_layout.specs.declared.layout.Layout.{Layout}
+use Rattle.volume_layout.specs.Kinds.{gap_of}
 use Rattle.fsd_formats.specs.declared.anchor.Anchor.{Anchor}
 use Rattle.fsd_formats.specs.Record.{Stamp, end_bytes, bears, record_len}
 use Rattle.sector_disk.specs.declared.sector.Sector.TheVariants.{Whole}
@@ -43,8 +44,8 @@ module _ (l : Layout) (a : Anchor) (weak : Sectors) where
           stand_same (s + 1) xs (λ k lt. subst (λ (t : ℕ). sector_at new t ≡ sector_at old t) (let e : s + suc k ≡ s + 1 + k = omega arith in e) (same (suc k) (omega arith))) all.1,
         )
 
-    module _ (r : Placed) (many : length r.entry.images ≡ length r.entry.pages) (same : (k : ℕ) → k < record_len (length r.entry.pages) → sector_at new (begin l a weak old r + k) ≡ sector_at old (begin l a weak old r + k)) where
-      at_place : (k m : ℕ) → k ≡ begin l a weak old r + m → m < record_len (length r.entry.pages) → sector_at new k ≡ sector_at old k
+    module _ (r : Placed) (many : length r.entry.images ≡ length r.entry.pages) (same : (k : ℕ) → k < record_len (gap_of l) (length r.entry.pages) → sector_at new (begin l a weak old r + k) ≡ sector_at old (begin l a weak old r + k)) where
+      at_place : (k m : ℕ) → k ≡ begin l a weak old r + m → m < record_len (gap_of l) (length r.entry.pages) → sector_at new k ≡ sector_at old k
       at_place k m e lt = subst (λ (t : ℕ). sector_at new t ≡ sector_at old t) (sym e) (same m lt)
 
       long : length (r.entry.images ++ end_bytes (stamp_of l a weak old r) (length r.entry.pages) ∷ []) ≡ length r.entry.pages + 1
@@ -53,12 +54,12 @@ module _ (l : Layout) (a : Anchor) (weak : Sectors) where
       pub front_same : HasFront l a weak old r → HasFront l a weak new r
       front_same front = record {
         header = has_same _ _ (at_place (begin l a weak old r) 0 (omega arith) (omega arith)) front.header;
-        header_copy = has_same _ _ (at_place (begin l a weak old r + 2) 2 refl (omega arith)) front.header_copy;
-        pages = stand_same (begin l a weak old r + 3) _ (λ k lt. at_place (begin l a weak old r + 3 + k) (3 + k) (omega arith) (omega (arith, long))) front.pages;
+        header_copy = has_same _ _ (at_place (begin l a weak old r + (2 + (gap_of l))) (2 + (gap_of l)) refl (omega arith)) front.header_copy;
+        pages = stand_same (begin l a weak old r + 3 + (gap_of l)) _ (λ k lt. at_place (begin l a weak old r + 3 + (gap_of l) + k) (3 + (gap_of l) + k) (omega arith) (omega (arith, long))) front.pages;
       }
 
       pub copies_same : HasCopies l a weak old r → HasCopies l a weak new r
-      copies_same copies = stand_same (begin l a weak old r + (4 + length r.entry.pages)) _ (λ k lt. at_place (begin l a weak old r + (4 + length r.entry.pages) + k) (4 + length r.entry.pages + k) (omega arith) (omega (arith, long))) copies
+      copies_same copies = stand_same (begin l a weak old r + (4 + 2 * (gap_of l) + length r.entry.pages)) _ (λ k lt. at_place (begin l a weak old r + (4 + 2 * (gap_of l) + length r.entry.pages) + k) (4 + 2 * (gap_of l) + length r.entry.pages + k) (omega arith) (omega (arith, long))) copies
 
   -- ---- every record as it was laid
 
@@ -68,7 +69,7 @@ module _ (l : Layout) (a : Anchor) (weak : Sectors) where
     all_laid_more (q ∷ rs) r all last = (all.0, all_laid_more rs r all.1 last)
 
     -- and a last one of which the front stands
-    pub is_laid_more : (rs : List Placed) (r : Placed) → AllLaid l a weak i rs → HasFront l a weak i r × GoodCopies l a weak i (stamp_of l a weak i r) (begin l a weak i r + (4 + length r.entry.pages)) r.entry.pages r.entry.images → IsLaid l a weak i (rs ++ r ∷ [])
+    pub is_laid_more : (rs : List Placed) (r : Placed) → AllLaid l a weak i rs → HasFront l a weak i r × GoodCopies l a weak i (stamp_of l a weak i r) (begin l a weak i r + (4 + 2 * (gap_of l) + length r.entry.pages)) r.entry.pages r.entry.images → IsLaid l a weak i (rs ++ r ∷ [])
     is_laid_more [] r all last = last
     is_laid_more (q ∷ []) r all last = (all.0.0, all.0.1, last)
     is_laid_more (q ∷ p ∷ rs) r all last = (all.0.0, all.0.1, is_laid_more (p ∷ rs) r all.1 last)

@@ -19,8 +19,9 @@ use Rattle.group_commit.proofs.FrameLaws.{stamped_none, stamped_same}
 use Rattle.group_commit.proofs.ImageLaws.{all_at}
 use Rattle.group_commit.proofs.OrderLaws.{accepted_ascending, length_ascending, one_ascending}
 use Rattle.std.proofs.lemmas.List.{nil_from_length}
+use Rattle.volume_layout.specs.Kinds.{gap_of}
 
-pub written_some : (log : LogValue) (dirty : List ℕ) → 1 ≤ length dirty → sectors_written log dirty ≡ sectors_before log (length dirty) + record_len (length dirty)
+pub written_some : (log : LogValue) (dirty : List ℕ) → 1 ≤ length dirty → sectors_written log dirty ≡ sectors_before log (length dirty) + record_len (gap_of log.layout) (length dirty)
 written_some log [] some = absurd (omega (arith, some))
 written_some log (x ∷ xs) some = refl
 

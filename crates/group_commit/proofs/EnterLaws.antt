@@ -6,6 +6,7 @@ use Rattle.std.specs.Option.{option_or}
 use Rattle.std.proofs.lemmas.List.{length-set, map-append}
 use Rattle.volume_layout.specs.declared.layout.Layout.{Layout}
 use Rattle.volume_layout.specs.Layout.{home_a, home_b, third_start}
+use Rattle.volume_layout.specs.Root.{root_bytes}
 use Rattle.volume_layout.proofs.RootLaws.{planned_bounds}
 use Rattle.fsd_formats.specs.declared.anchor.Anchor.{Anchor}
 use Rattle.fsd_formats.specs.Anchors.{anchor_bytes}
@@ -27,7 +28,7 @@ use Rattle.fsd_sound.specs.Laid.{HasOwnLog, AllStand, HasFront, HasCopies, AllLa
 use Rattle.fsd_sound.specs.Mounted.{StandsOver, image_at}
 use Rattle.fsd_sound.specs.Shown.{records_by}
 use Rattle.fsd_sound.specs.Sound.{on_disk, IsSuffix, EachStamp, ShowsPages, weak_of}
-use Rattle.fsd_sound.proofs.LogPlaces.{IsRecord, SameLog, scan_records}
+use Rattle.fsd_sound.proofs.LogPlaces.{IsRecord, SameLog, has_same, scan_records}
 use Rattle.fsd_sound.proofs.SoundLaws.{shows_still, each_anchor_after}
 use Rattle.log_thirds.specs.declared.slots.Slot.{Slot}
 use Rattle.log_thirds.specs.Anchoring.{AnchorsIn, with_anchors}
@@ -39,17 +40,18 @@ use Rattle.log_thirds.specs.Slots.{lies_in, slot_of}
 use Rattle.log_thirds.proofs.ImageLaws.{no_last_image}
 use Rattle.log_thirds.proofs.MovingLaws.{MayMove, LiesOn, IsParted, parted, place_back, next_is, next_low, later_first, log_moved, front_slots, slot_of-joined, all_right}
 use Rattle.fsd_sound.specs.Stands.{Stands}
-use Rattle.fsd_sound.proofs.CommuteLaws.{with_same, with_other, worn_or_over, shows_all, all_shows}
+use Rattle.fsd_sound.proofs.CommuteLaws.{with_same, with_other, worn_or_over, shows_all, both_same, all_shows}
 use Rattle.fsd_sound.proofs.CoverLaws.{copies_alike, stand_any}
 use Rattle.group_commit.proofs.GivenLaws.{gives_last}
 use Rattle.fsd_sound.proofs.HomedLaws.{either_reads}
 use Rattle.fsd_sound.proofs.SectorFacts.{same_bytes}
-use Rattle.fsd_sound.proofs.LaidLaws.{all_laid_worn}
+use Rattle.fsd_sound.proofs.LaidLaws.{all_laid_worn, has_worn}
 use Rattle.fsd_sound.proofs.MoveLaws.{IsLater, IsHomedIn, MayMoveOn, anchor_found, moved_stands}
 use Rattle.group_commit.specs.Entering.{Shows, IsHoming, IsEntered, MayHome}
 use Rattle.group_commit.proofs.ForceLaws.{is_laid}
 use Rattle.group_commit.proofs.HomingLaws.{all_laid_same, narrow, weaker, own_later, shows_now}
 use Rattle.group_commit.proofs.StandsLaws.{is_shown, page_shown}
+use Rattle.volume_layout.specs.Kinds.{gap_of}
 
 -- ---- what is so of each anchor is so of the one that is taken
 
@@ -86,11 +88,11 @@ front_alike l t c weak i r q epoch same front =
     record {
       header = subst (λ (s : ℕ). Has weak i (header_bytes (record { epoch = c.epoch; number = q.entry.number }) q.entry.pages) s) place
           (transport_header (place_of l t.third r.at) front.header);
-      header_copy = subst (λ (s : ℕ). Has weak i (header_bytes (record { epoch = c.epoch; number = q.entry.number }) q.entry.pages) (s + 2)) place
-          (transport_header (place_of l t.third r.at + 2) front.header_copy);
-      pages = stand_any l t c weak i (place_of l c.third q.at + 3) _ (subst (λ (s : ℕ). AllStand l t weak i (s + 3) (q.entry.images ++ end_bytes (record { epoch = c.epoch; number = q.entry.number }) (length q.entry.pages) ∷ [])) place
-          (subst (λ (x : Rattle.fsd_log.specs.Judged.Logged). AllStand l t weak i (place_of l t.third r.at + 3) (x.images ++ end_bytes (record { epoch = c.epoch; number = x.number }) (length x.pages) ∷ [])) entry
-          (subst (λ (n : ℕ). AllStand l t weak i (place_of l t.third r.at + 3) (r.entry.images ++ end_bytes (record { epoch = n; number = r.entry.number }) (length r.entry.pages) ∷ [])) (sym epoch) front.pages)));
+      header_copy = subst (λ (s : ℕ). Has weak i (header_bytes (record { epoch = c.epoch; number = q.entry.number }) q.entry.pages) (s + (2 + (gap_of l)))) place
+          (transport_header (place_of l t.third r.at + (2 + (gap_of l))) front.header_copy);
+      pages = stand_any l t c weak i (place_of l c.third q.at + 3 + (gap_of l)) _ (subst (λ (s : ℕ). AllStand l t weak i (s + 3 + (gap_of l)) (q.entry.images ++ end_bytes (record { epoch = c.epoch; number = q.entry.number }) (length q.entry.pages) ∷ [])) place
+          (subst (λ (x : Rattle.fsd_log.specs.Judged.Logged). AllStand l t weak i (place_of l t.third r.at + 3 + (gap_of l)) (x.images ++ end_bytes (record { epoch = c.epoch; number = x.number }) (length x.pages) ∷ [])) entry
+          (subst (λ (n : ℕ). AllStand l t weak i (place_of l t.third r.at + 3 + (gap_of l)) (r.entry.images ++ end_bytes (record { epoch = n; number = r.entry.number }) (length r.entry.pages) ∷ [])) (sym epoch) front.pages)));
     }
   where
     transport_header : (s : ℕ) → Has weak i (header_bytes (record { epoch = t.epoch; number = r.entry.number }) r.entry.pages) s → Has weak i (header_bytes (record { epoch = c.epoch; number = q.entry.number }) q.entry.pages) s
@@ -250,6 +252,7 @@ module _ (log : LogValue) (records : List Placed) (disk : List (List ℕ)) (wind
     may_i : MayMoveOn log.layout log.anchor (moved_anchor log) records (records_moved log.layout records) disk (weak_of windows) i
     may_i = record {
       later = later_anchor;
+      roots = own_i.roots;
       own = own_i.own;
       records = records_i;
       behind = behind_i;
@@ -331,9 +334,9 @@ module _ (log : LogValue) (records : List Placed) (disk : List (List ℕ)) (wind
   part zero zero le once = record { shows = at.over.shows; same = λ s first second. refl }
   part zero (suc k) le once = absurd (omega (arith, le))
   part (suc zero) zero le once = subst Part (sym (stand_one at.image 8 (anchor_bytes (moved_anchor log)) bytes_long))
-      (record { shows = all_shows log.layout windows (disk ∷ []) (with_sector at.image 8 (anchor_bytes (moved_anchor log))) stands_one; same = λ s first second. with_other at.image 8 s (anchor_bytes (moved_anchor log)) first })
+      (record { shows = all_shows log.layout windows at.over.shows.readable.borne (disk ∷ []) (with_sector at.image 8 (anchor_bytes (moved_anchor log))) (both_same log.layout windows at.image (with_sector at.image 8 (anchor_bytes (moved_anchor log))) at.over.shows.readable (λ s head. with_other at.image 8 s (anchor_bytes (moved_anchor log)) (λ e. omega (arith, e, head)))) stands_one; same = λ s first second. with_other at.image 8 s (anchor_bytes (moved_anchor log)) first })
   part (suc zero) (suc zero) le once = subst Part (sym two_is)
-      (record { shows = all_shows log.layout windows (disk ∷ []) (with_sector (with_sector at.image 8 (anchor_bytes (moved_anchor log))) 12 (anchor_bytes (moved_anchor log))) stands_two; same = same_two })
+      (record { shows = all_shows log.layout windows at.over.shows.readable.borne (disk ∷ []) (with_sector (with_sector at.image 8 (anchor_bytes (moved_anchor log))) 12 (anchor_bytes (moved_anchor log))) (both_same log.layout windows at.image (with_sector (with_sector at.image 8 (anchor_bytes (moved_anchor log))) 12 (anchor_bytes (moved_anchor log))) at.over.shows.readable (λ s head. same_two s (λ e. omega (arith, e, head)) (λ e. omega (arith, e, head)))) stands_two; same = same_two })
   part (suc zero) (suc (suc k)) le once = absurd (omega (arith, le))
   part (suc (suc j)) k le once = absurd (omega (arith, once))
 
@@ -369,6 +372,11 @@ module _ (log : LogValue) (records : List Placed) (disk : List (List ℕ)) (wind
     same_log : SameLog log.layout at.image (with_sector (with_sector at.image 8 (anchor_bytes (moved_anchor log))) 12 (anchor_bytes (moved_anchor log)))
     same_log s within = let from = within.0 in same_two s (λ e. omega (arith, e, from)) (λ e. omega (arith, e, from))
 
+    root_two : (s : ℕ) → s < 8 → Has (weak_of windows) at.image (root_bytes log.layout) s → Has (weak_of windows) left.image (root_bytes log.layout) s
+    root_two s head has =
+        has_worn (weak_of windows) (with_sector (with_sector at.image 8 (anchor_bytes (moved_anchor log))) 12 (anchor_bytes (moved_anchor log))) left.image (root_bytes log.layout) s worn_two
+        (has_same log.layout log.anchor (weak_of windows) at.image (with_sector (with_sector at.image 8 (anchor_bytes (moved_anchor log))) 12 (anchor_bytes (moved_anchor log))) (root_bytes log.layout) s (same_two s (λ e. omega (arith, e, head)) (λ e. omega (arith, e, head))) has)
+
     pub entered : IsLogWorn (moved log) (records_moved log.layout records) left → IsIndexed (moved log) (records_moved log.layout records) → IsEntered log records disk windows old left
     entered log_worn indexed =
         let shows = moving_shows left (record { first = 1; copy = 1; in_order = omega arith; once = omega arith; holds = holds }) in
@@ -377,6 +385,7 @@ module _ (log : LogValue) (records : List Placed) (disk : List (List ℕ)) (wind
           over = record {
             shows = shows.shows;
             own = record {
+              roots = (root_two 0 (omega arith) at.over.own.roots.0, root_two 4 (omega arith) at.over.own.roots.1);
               own = own_two;
               log = log_worn left.image (worn_refl (open_damage left.windows) left.image);
               laid = all_laid_worn log.layout (moved_anchor log) (weak_of windows) (with_sector (with_sector at.image 8 (anchor_bytes (moved_anchor log))) 12 (anchor_bytes (moved_anchor log))) left.image (records_moved log.layout records) worn_two

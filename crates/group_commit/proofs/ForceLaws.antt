@@ -8,6 +8,7 @@ use Rattle.std.proofs.lemmas.List.{get_or_append_left, get_or_push, length_push}
 use Rattle.volume_layout.specs.declared.layout.Layout.{Layout}
 use Rattle.volume_layout.specs.Layout.{home_a, home_b, InLog}
 use Rattle.volume_layout.specs.Root.{root_bytes}
+use Rattle.volume_layout.specs.Kinds.{gap_of}
 use Rattle.run_table.specs.Space.{contains}
 use Rattle.fsd_formats.specs.declared.anchor.Anchor.{Anchor}
 use Rattle.fsd_formats.specs.Anchors.{read_anchor}
@@ -30,13 +31,15 @@ use Rattle.fsd_sound.specs.Anchors.{anchor_at, anchor_of, EachAnchor}
 use Rattle.fsd_sound.specs.Homes.{home_of}
 use Rattle.fsd_sound.specs.Laid.{HasOwnLog, AllStand, HasFront, HasCopies, GoodCopies, IsLaid, AllLaid}
 use Rattle.fsd_sound.specs.Shown.{records_by, newest, each_of, all_pages, shown_by, shown}
-use Rattle.fsd_sound.specs.Sound.{disk_records, IfWhole, is_home, is_twin, HasRoots, EachStamp, HasAnchors, IsSuffix, ScansAgree, HasLog, HasHomes, EndIn, at_rest, weak_of, ShowsOne}
+use Rattle.fsd_sound.specs.Sound.{disk_records, IfWhole, is_home, is_twin, HasRoots, EachStamp, HasAnchors, IsSuffix, ScansAgree, HasLog, HasHomes, EndIn, IsRootOf, SaysTurned, at_rest, weak_of, ShowsOne}
+use Rattle.fsd_sound.proofs.SaidLaws.{own_roots_say, says_same, says_worn, some_same}
 use Rattle.fsd_sound.proofs.SoundLaws.{shows_still}
 use Rattle.fsd_sound.proofs.WindowLaws.{open_is_weak}
 use Rattle.fsd_sound.specs.Stands.{Stands}
 use Rattle.fsd_sound.specs.Windows.{IsApart}
 use Rattle.fsd_sound.proofs.CommuteLaws.{all_shows}
-use Rattle.fsd_sound.proofs.LaidLaws.{own_worn}
+use Rattle.fsd_sound.proofs.LaidLaws.{has_worn, own_worn}
+use Rattle.fsd_sound.proofs.LogPlaces.{has_same}
 use Rattle.log_thirds.specs.LogValue.{LogValue}
 use Rattle.log_thirds.specs.Append.{StandsInPart, stamp_now, next_record, head_past, log_past, IsLogWorn, IsApartNow}
 use Rattle.log_thirds.proofs.MomentLaws.{MayAppend, spots, in_third, write_inside, laid}
@@ -50,6 +53,7 @@ use Rattle.group_commit.proofs.PlaceLaws.{LiesBefore, log_lies, on_tape}
 use Rattle.group_commit.proofs.AllLaidLaws.{length-slices, slice_at, front_same, copies_same, all_laid_more, is_laid_more, good_rows}
 use Rattle.group_commit.proofs.StandsLaws as lower
 use Rattle.group_commit.proofs.ShownLaws.{GivesEach, each_given, last_image-append, none_before, image_in_at, image_in_not}
+use Rattle.volume_layout.proofs.KindLaws.{gap_most}
 
 -- ---- anchors that are all the log's own
 
@@ -103,7 +107,7 @@ pub record MayForce (log : LogValue) (s : ResidentValue) (images : List ℕ) (re
   pub of : IsRecordOf (stamp_now log) s.dirty (stamped (stamp_now log) s.dirty s.pages) images
   pub table : length s.pages ≡ log.layout.pages
   pub few : log.layout.pages ≤ 2 ^ 32
-  pub apart : IsApart (weak_of windows)
+  pub apart : IsApart (gap_of log.layout) (weak_of windows)
   pub ends : EndIn old.windows windows
   pub over : StandsOver log records disk s windows old.image
 
@@ -129,12 +133,12 @@ module _ (l : Layout) (a : Anchor) (weak : Sectors) (i : Image) where
   -- records that were laid whole are laid
   pub is_laid : (rs : List Placed) → AllByRecursion (λ r. length r.entry.images ≡ length r.entry.pages) rs → AllLaid l a weak i rs → IsLaid l a weak i rs
   is_laid [] many all = tt
-  is_laid (r ∷ []) many all = (all.0.0, good_copies (record { epoch = a.epoch; number = r.entry.number }) (place_of l a.third r.at + (4 + length r.entry.pages)) r.entry.pages r.entry.images (end_bytes (record { epoch = a.epoch; number = r.entry.number }) (length r.entry.pages)) many.0 all.0.1)
+  is_laid (r ∷ []) many all = (all.0.0, good_copies (record { epoch = a.epoch; number = r.entry.number }) (place_of l a.third r.at + (4 + 2 * (gap_of l) + length r.entry.pages)) r.entry.pages r.entry.images (end_bytes (record { epoch = a.epoch; number = r.entry.number }) (length r.entry.pages)) many.0 all.0.1)
   is_laid (r ∷ q ∷ rs) many all = (all.0.0, all.0.1, is_laid (q ∷ rs) many.1 all.1)
 
 -- the log stays its own, as the machine's windows may wear it
 pub log_in_window : (log : LogValue) (s : ResidentValue) (records : List Placed) (disk : List (List ℕ)) (windows : List WeakRun) (old : Moment) → log.layout.pages ≤ 2 ^ 32 → log.anchor.epoch < 2 ^ 32 → log.anchor.third ≤ 2
-    → IsApart (weak_of windows) → EndIn old.windows windows → StandsOver log records disk s windows old.image → IsLogWorn log records old
+    → IsApart (gap_of log.layout) (weak_of windows) → EndIn old.windows windows → StandsOver log records disk s windows old.image → IsLogWorn log records old
 log_in_window log s records disk windows old few epoch third apart ends over = λ j w.
     (own_worn log.layout few log.anchor epoch third (weak_of windows) apart old.image j (open_is_weak old.windows windows old.image j ends w) records log.head over.own).log
 
@@ -155,7 +159,7 @@ module _ (log : LogValue) (s : ResidentValue) (images : List ℕ) (records : Lis
   place = place_of l a.third spot.at
 
   abbrev bytes : List ℕ
-  bytes = laid_bytes (stamp_now log) s.dirty images
+  bytes = laid_bytes (gap_of log.layout) (stamp_now log) s.dirty images
 
   abbrev now : List (List ℕ)
   now = stamped (stamp_now log) s.dirty s.pages
@@ -166,16 +170,16 @@ module _ (log : LogValue) (s : ResidentValue) (images : List ℕ) (records : Lis
   abbrev r : Placed
   r = next_record log s.dirty images
 
-  third : InThird l a.third spot.at (record_len n) spot.end
+  third : InThird l a.third spot.at (record_len (gap_of log.layout) n) spot.end
   third = in_third log s.dirty images (length old.image) m.may
 
-  inside : place + record_len n ≤ 16 + 3 * l.third
+  inside : place + record_len (gap_of log.layout) n ≤ 16 + 3 * l.third
   inside = write_inside log s.dirty images (length old.image) m.may
 
   from : 16 ≤ place
   from = place_from l a.third spot.at
 
-  as_laid : IsLaidAs (stamp_now log) s.dirty images bytes
+  as_laid : IsLaidAs (gap_of log.layout) (stamp_now log) s.dirty images bytes
   as_laid = laid log s.dirty images (length old.image) m.may
 
   spot_from : log.head.at ≤ spot.at
@@ -184,21 +188,30 @@ module _ (log : LogValue) (s : ResidentValue) (images : List ℕ) (records : Lis
   abbrev rest : Moment
   rest = record { image = old.image; windows = at_rest windows; said = old.said }
 
-  narrow : IsApartNow rest
-  narrow t d x y far = m.apart t (t + d) (omega arith) x y
+  narrow : IsApartNow (gap_of log.layout) rest
+  narrow t d x y far = m.apart t (t + d) (omega (arith, far)) x y
 
   log_worn : IsLogWorn log records rest
   log_worn j w = (own_worn l m.few a m.may.epoch m.may.one_of hurt m.apart old.image j w records log.head m.over.own).log
 
-  room_for : (stood : ℕ) → stood ≤ record_len n → place + stood ≤ length old.image
+  room_for : (stood : ℕ) → stood ≤ record_len (gap_of log.layout) n → place + stood ≤ length old.image
   room_for stood within = omega (arith, inside, m.may.sized)
 
   lies : AllByRecursion (LiesBefore l log.head.at) records
   lies = log_lies l a.epoch (tape l a.third (bytes_at old.image)) a.first records log.head m.over.own.log
 
+  -- ---- the roots are not written
+
+  head_same : (stood t : ℕ) → t < 8 → sector_at (stand old.image place bytes stood) t ≡ sector_at old.image t
+  head_same stood t head = stand_other old.image place bytes stood t (inl (omega (arith, from, head)))
+
+  never_turned : (stood : ℕ) (i : Image) → IsWorn hurt (stand old.image place bytes stood) i → SaysTurned l i → ⊥
+  never_turned stood i worn says = own_roots_say l hurt old.image m.over.own.roots
+      (says_same l old.image (stand old.image place bytes stood) (head_same stood) (says_worn l (stand old.image place bytes stood) i hurt worn says))
+
   -- ---- one image that a stop may leave
 
-  module _ (i : Image) (stood : ℕ) (within : stood ≤ record_len n) (worn : IsWorn hurt (stand old.image place bytes stood) i) where
+  module _ (i : Image) (stood : ℕ) (within : stood ≤ record_len (gap_of log.layout) n) (worn : IsWorn hurt (stand old.image place bytes stood) i) where
     -- the same with the old sectors where the write stands
     abbrev base : Image
     base = under hurt old.image i place bytes stood (room_for stood within) worn
@@ -208,7 +221,7 @@ module _ (log : LogValue) (s : ResidentValue) (images : List ℕ) (records : Lis
 
     over : StandsOver log records disk s windows base
     over = record {
-      shows = shows_still l windows (λ t u far x y. m.apart t u (omega arith) x y) (disk ∷ []) old.image base base_worn m.over.shows;
+      shows = shows_still l windows (λ t u far x y. m.apart t u (omega (arith, far, gap_most l)) x y) (disk ∷ []) old.image base base_worn m.over.shows;
       own = own_worn l m.few a m.may.epoch m.may.one_of hurt m.apart old.image base base_worn records log.head m.over.own;
       clean = m.over.clean;
     }
@@ -220,15 +233,15 @@ module _ (log : LogValue) (s : ResidentValue) (images : List ℕ) (records : Lis
     same_far t (inl below) = same_out t (inl (omega (arith, from)))
     same_far t (inr above) = same_out t (inr (omega (arith, inside, within)))
 
-    away : (q : Placed) → LiesBefore l log.head.at q → (k : ℕ) → k < record_len (length q.entry.pages) → (place_of l a.third q.at + k < place) ⊎ (place + stood ≤ place_of l a.third q.at + k)
+    away : (q : Placed) → LiesBefore l log.head.at q → (k : ℕ) → k < record_len (gap_of log.layout) (length q.entry.pages) → (place_of l a.third q.at + k < place) ⊎ (place + stood ≤ place_of l a.third q.at + k)
     away q before k lt =
-        let at_q : InThird l a.third q.at (record_len (length q.entry.pages)) before.end = record { one_of = m.may.one_of; ends = before.ends; from = before.from; to = before.to } in
-        let there : place_of l a.third (q.at + k) ≡ place_of l a.third q.at + k = place_add l a.third q.at (record_len (length q.entry.pages)) before.end k at_q lt in
+        let at_q : InThird l a.third q.at (record_len (gap_of log.layout) (length q.entry.pages)) before.end = record { one_of = m.may.one_of; ends = before.ends; from = before.from; to = before.to } in
+        let there : place_of l a.third (q.at + k) ≡ place_of l a.third q.at + k = place_add l a.third q.at (record_len (gap_of log.layout) (length q.entry.pages)) before.end k at_q lt in
         subst (λ (t : ℕ). (t < place) ⊎ (place + stood ≤ t)) there
         (below_numbers l.third (a.third * l.third) spot.at stood spot.end place (q.at + k) (place_of l a.third (q.at + k)) (first_most l a.third m.may.one_of) (end_most l spot.end third.ends) (omega (arith, third.to, within)) (omega (arith, before.before, spot_from))
         (place_cases l a.third spot.at) (place_cases l a.third (q.at + k)))
 
-    same_record : (q : Placed) → LiesBefore l log.head.at q → (k : ℕ) → k < record_len (length q.entry.pages) → sector_at i (place_of l a.third q.at + k) ≡ sector_at base (place_of l a.third q.at + k)
+    same_record : (q : Placed) → LiesBefore l log.head.at q → (k : ℕ) → k < record_len (gap_of log.layout) (length q.entry.pages) → sector_at i (place_of l a.third q.at + k) ≡ sector_at base (place_of l a.third q.at + k)
     same_record q before k lt = same_out (place_of l a.third q.at + k) (away q before k lt)
 
     in_write : (k : ℕ) → k < stood → Has hurt i (slice_of bytes k) (place + k)
@@ -242,6 +255,9 @@ module _ (log : LogValue) (s : ResidentValue) (images : List ℕ) (records : Lis
 
     -- ---- roots and anchors
 
+    root_has : (t : ℕ) → t < 8 → Has hurt old.image (root_bytes l) t → Has hurt i (root_bytes l) t
+    root_has t head has = has_worn hurt (stand old.image place bytes stood) i (root_bytes l) t worn (has_same l a hurt old.image (stand old.image place bytes stood) (root_bytes l) t (head_same stood t head) has)
+
     whole_far : (t : ℕ) (P : List ℕ → Type 0) → (t < 16) ⊎ (16 + 3 * l.third ≤ t) → IfWhole base t P → IfWhole i t P
     whole_far t P far was x is = was x (sym (same_far t far) ∙ is)
 
@@ -249,9 +265,9 @@ module _ (log : LogValue) (s : ResidentValue) (images : List ℕ) (records : Lis
     roots =
         let was = over.shows.readable.roots in
         record {
-          some = ⊎_elim (λ e. inl (same_far 0 (inl (omega arith)) ∙ e)) (λ e. inr (same_far 4 (inl (omega arith)) ∙ e)) was.some;
-          first = whole_far 0 (λ x. x ≡ root_bytes l) (inl (omega arith)) was.first;
-          second = whole_far 4 (λ x. x ≡ root_bytes l) (inl (omega arith)) was.second;
+          some = some_same l base i (same_far 0 (inl (omega arith))) (same_far 4 (inl (omega arith))) was.some;
+          first = whole_far 0 (IsRootOf l) (inl (omega arith)) was.first;
+          second = whole_far 4 (IsRootOf l) (inl (omega arith)) was.second;
           fits = omega (arith, was.fits, size);
           twins = λ t twin is. was.twins t twin (sym (same_far t (twin_outside l t twin)) ∙ is);
         }
@@ -336,7 +352,7 @@ module _ (log : LogValue) (s : ResidentValue) (images : List ℕ) (records : Lis
           let anchor : anchor_of i ≡ Some a = anchors_same ∙ anchored in
           let by : shown_by l i a ≡ Some ys = ap (λ (q : List Placed). each_of (newest l i q) (all_pages l)) scanned ∙ each_given (newest l i found) 0 l.pages ys gives in
           let shows_ys : shown l i ≡ Some ys = ap (option_and_then (shown_by l i)) anchor ∙ by in
-          record { roots = roots; anchors = anchors; log = has_log; homes = has_homes; shows = subst (ShowsOne choices) (sym shows_ys) one }
+          record { roots = roots; empty = λ says. absurd (never_turned stood i worn says); anchors = anchors; log = has_log; homes = has_homes; shows = subst (ShowsOne choices) (sym shows_ys) one }
 
     -- ---- the records as they were laid
 
@@ -382,38 +398,38 @@ module _ (log : LogValue) (s : ResidentValue) (images : List ℕ) (records : Lis
               (ap (λ (j : ℕ). slice_of bytes (at + j)) same ∙ last ∙ sym (get_or_push (slices n images) (end_bytes (stamp_now log) n) [] k (length-slices n 0 images ∙ sym same)))
         ])
 
-    front_new : 3 + n < stood → HasFront l a hurt i r
+    front_new : 3 + (gap_of log.layout) + n < stood → HasFront l a hurt i r
     front_new stands = record {
       header = subst (Has hurt i (header_bytes (stamp_now log) s.dirty)) (let e : place + 0 ≡ place = omega arith in e) (has_row 0 (header_bytes (stamp_now log) s.dirty) (omega arith) as_laid.header);
-      header_copy = has_row 2 (header_bytes (stamp_now log) s.dirty) (omega arith) as_laid.header_copy;
-      pages = rows_have l a hurt i (place + 3) rows (row_at 3 as_laid.image as_laid.ends stands);
+      header_copy = has_row (2 + (gap_of log.layout)) (header_bytes (stamp_now log) s.dirty) (omega arith) as_laid.header_copy;
+      pages = subst (λ (s : ℕ). AllStand l a hurt i s rows) (let e : place + (3 + (gap_of log.layout)) ≡ place + 3 + (gap_of log.layout) = omega arith in e) (rows_have l a hurt i (place + (3 + (gap_of log.layout))) rows (row_at (3 + (gap_of log.layout)) as_laid.image as_laid.ends stands));
     }
 
-    copies_new : record_len n ≤ stood → HasCopies l a hurt i r
-    copies_new stands = rows_have l a hurt i (place + (4 + n)) rows
-        (row_at (4 + n) as_laid.copy (ap (slice_of bytes) (let e : 4 + n + n ≡ 4 + 2 * n = omega arith in e) ∙ as_laid.last) (omega arith))
+    copies_new : record_len (gap_of log.layout) n ≤ stood → HasCopies l a hurt i r
+    copies_new stands = rows_have l a hurt i (place + (4 + 2 * (gap_of log.layout) + n)) rows
+        (row_at (4 + 2 * (gap_of log.layout) + n) as_laid.copy (ap (slice_of bytes) (let e : 4 + 2 * (gap_of log.layout) + n + n ≡ 4 + 2 * (gap_of log.layout) + 2 * n = omega arith in e) ∙ as_laid.last) (omega arith))
 
     -- a sector that was not written bears no such stamp
-    not_ours : (k : ℕ) → k < record_len n → (page : ℕ) (x : List ℕ) → sector_at base (place + k) ≡ Whole x → IsTrue (bears page (stamp_now log) x) → ⊥
+    not_ours : (k : ℕ) → k < record_len (gap_of log.layout) n → (page : ℕ) (x : List ℕ) → sector_at base (place + k) ≡ Whole x → IsTrue (bears page (stamp_now log) x) → ⊥
     not_ours k lt page x is bear =
-        let read : tape l a.third (bytes_at base) (spot.at + k) ≡ Some x = on_tape l a.third spot.at (record_len n) spot.end third base (stand base place bytes stood) bytes stood within (λ p. refl) k (bytes_at base) lt ∙ ap bytes_of is in
+        let read : tape l a.third (bytes_at base) (spot.at + k) ≡ Some x = on_tape l a.third spot.at (record_len (gap_of log.layout) n) spot.end third base (stand base place bytes stood) bytes stood within (λ p. refl) k (bytes_at base) lt ∙ ap bytes_of is in
         let foreign : Foreign (stamp_now log) (tape l a.third (bytes_at base) (spot.at + k)) = over.own.log.fresh (spot.at + k) log.head.number (omega arith) in
         subst (Foreign (stamp_now log)) read foreign (page_bears page (stamp_now log) x bear)
 
-    good_new : GoodCopies l a hurt i (stamp_now log) (place + (4 + n)) s.dirty (slices n images)
-    good_new = good_rows l a hurt i (stamp_now log) (place + (4 + n)) s.dirty (slices n images) (length-slices n 0 images) (λ k lt x is bear.
-        let at : place + (4 + n) + k ≡ place + (4 + n + k) = omega arith in
-        let there : sector_at i (place + (4 + n + k)) ≡ Whole x = ap (sector_at i) (sym at) ∙ is in
-        elim (cases_lt (4 + n + k) stood) [
+    good_new : GoodCopies l a hurt i (stamp_now log) (place + (4 + 2 * (gap_of log.layout) + n)) s.dirty (slices n images)
+    good_new = good_rows l a hurt i (stamp_now log) (place + (4 + 2 * (gap_of log.layout) + n)) s.dirty (slices n images) (length-slices n 0 images) (λ k lt x is bear.
+        let at : place + (4 + 2 * (gap_of log.layout) + n) + k ≡ place + (4 + 2 * (gap_of log.layout) + n + k) = omega arith in
+        let there : sector_at i (place + (4 + 2 * (gap_of log.layout) + n + k)) ≡ Whole x = ap (sector_at i) (sym at) ∙ is in
+        elim (cases_lt (4 + 2 * (gap_of log.layout) + n + k) stood) [
           | inl here ↦
-              whole_is l a hurt i x (slice_of bytes (4 + n + k)) (place + (4 + n + k)) (in_write (4 + n + k) here) there ∙ as_laid.copy k lt ∙ sym (slice_at n images k lt)
-          | inr past ↦ absurd (not_ours (4 + n + k) (omega arith) (get_or s.dirty k 0) x (sym (same_out (place + (4 + n + k)) (inr (omega arith))) ∙ there) bear)
+              whole_is l a hurt i x (slice_of bytes (4 + 2 * (gap_of log.layout) + n + k)) (place + (4 + 2 * (gap_of log.layout) + n + k)) (in_write (4 + 2 * (gap_of log.layout) + n + k) here) there ∙ as_laid.copy k lt ∙ sym (slice_at n images k lt)
+          | inr past ↦ absurd (not_ours (4 + 2 * (gap_of log.layout) + n + k) (omega arith) (get_or s.dirty k 0) x (sym (same_out (place + (4 + 2 * (gap_of log.layout) + n + k)) (inr (omega arith))) ∙ there) bear)
         ])
 
-    laid_more : 3 + n < stood → IsLaid l a hurt i (records ++ r ∷ [])
+    laid_more : 3 + (gap_of log.layout) + n < stood → IsLaid l a hurt i (records ++ r ∷ [])
     laid_more stands = is_laid_more l a hurt i records r all_records (front_new stands, good_new)
 
-    all_more : record_len n ≤ stood → AllLaid l a hurt i (records ++ r ∷ [])
+    all_more : record_len (gap_of log.layout) n ≤ stood → AllLaid l a hurt i (records ++ r ∷ [])
     all_more stands = all_laid_more l a hurt i records r all_records (front_new (omega arith), copies_new stands)
 
     -- ---- the pages that are shown
@@ -458,11 +474,11 @@ module _ (log : LogValue) (s : ResidentValue) (images : List ℕ) (records : Lis
     stands_old : records_by l i a ≡ records → Stands l hurt (disk ∷ now ∷ []) i
     stands_old scanned = stands_by records scanned laid_records (λ page none. none) (disk ∷ now ∷ []) disk gives_disk was_shown.0 (0, omega arith, refl)
 
-    stands_new : (choices : List (List (List ℕ))) → ShowsOne choices (Some now) → 3 + n < stood → records_by l i a ≡ records ++ r ∷ [] → Stands l hurt choices i
+    stands_new : (choices : List (List (List ℕ))) → ShowsOne choices (Some now) → 3 + (gap_of log.layout) + n < stood → records_by l i a ≡ records ++ r ∷ [] → Stands l hurt choices i
     stands_new choices one there scanned = stands_by (records ++ r ∷ []) scanned (laid_more there) (λ page none. none_before page records r none) choices now gives_now was_shown.0 one
 
     stands_either : Stands l hurt (disk ∷ now ∷ []) i
-    stands_either = elim (cases_lt (3 + n) stood) [
+    stands_either = elim (cases_lt (3 + (gap_of log.layout) + n) stood) [
       | inr before ↦ stands_old (ap (λ (w : Walked). w.records) (image_before log s.dirty images (length old.image) m.may rest refl records log_worn stood within i worn before))
       | inl there ↦ ⊎_elim
           (λ is. stands_old (ap (λ (w : Walked). w.records) is))
@@ -470,14 +486,14 @@ module _ (log : LogValue) (s : ResidentValue) (images : List ℕ) (records : Lis
           (image_either log s.dirty images (length old.image) m.may rest refl records log_worn stood within i worn)
     ]
 
-    log_now : stood ≡ record_len n → IsLog l a.epoch a.first (tape l a.third (bytes_at i)) (records ++ r ∷ []) (head_past log n)
+    log_now : stood ≡ record_len (gap_of log.layout) n → IsLog l a.epoch a.first (tape l a.third (bytes_at i)) (records ++ r ∷ []) (head_past log n)
     log_now whole = image_whole log s.dirty images (length old.image) m.may rest refl records log_worn stood within i worn whole narrow
 
-    stands_now : stood ≡ record_len n → Stands l hurt (now ∷ []) i
+    stands_now : stood ≡ record_len (gap_of log.layout) n → Stands l hurt (now ∷ []) i
     stands_now whole = stands_new (now ∷ []) (0, omega arith, refl) (omega (arith, whole)) (ap (λ (w : Walked). w.records) (log_now whole).scanned)
 
-    own_now : stood ≡ record_len n → HasOwnLog l a (records ++ r ∷ []) (head_past log n) hurt i
-    own_now whole = record { own = own; log = log_now whole; laid = all_more (omega (arith, whole)) }
+    own_now : stood ≡ record_len (gap_of log.layout) n → HasOwnLog l a (records ++ r ∷ []) (head_past log n) hurt i
+    own_now whole = record { roots = (root_has 0 (omega arith) m.over.own.roots.0, root_has 4 (omega arith) m.over.own.roots.1); own = own; log = log_now whole; laid = all_more (omega (arith, whole)) }
 
   -- ---- the two claims of a force
 
@@ -485,7 +501,7 @@ module _ (log : LogValue) (s : ResidentValue) (images : List ℕ) (records : Lis
   in_window stood left holds = open_is_weak old.windows windows (stand old.image place bytes stood) left.image m.ends holds.worn
 
   -- what lies outside the log is not written
-  apart_from : (t stood : ℕ) → (InLog l t → ⊥) → stood ≤ record_len n → (t < place) ⊎ (place + stood ≤ t)
+  apart_from : (t stood : ℕ) → (InLog l t → ⊥) → stood ≤ record_len (gap_of log.layout) n → (t < place) ⊎ (place + stood ≤ t)
   apart_from t stood out within = elim (cases_lt t place) [
     | inl before ↦ inl before
     | inr from ↦ inr (elim (cases_lt t (place + stood)) [
@@ -494,9 +510,9 @@ module _ (log : LogValue) (s : ResidentValue) (images : List ℕ) (records : Lis
     ])
   ]
 
-  pub commits : (left : Moment) → StandsInPart place bytes (record_len n) old left → Commits l windows disk now old left
+  pub commits : (left : Moment) → StandsInPart place bytes (record_len (gap_of log.layout) n) old left → Commits l windows disk now old left
   commits left part = record {
-    shows = all_shows l windows (disk ∷ now ∷ []) left.image
+    shows = all_shows l windows m.over.shows.readable.borne (disk ∷ now ∷ []) left.image (λ says. absurd (never_turned part.stood left.image (in_window part.stood left part.holds) says))
         (λ j w. stands_either j part.stood part.within (worn_trans hurt (stand old.image place bytes part.stood) left.image j (in_window part.stood left part.holds) w));
     kept = λ t ge. ⊎_elim
         (λ same. inl (same ∙ stand_other old.image place bytes part.stood t (inr (omega (arith, inside, part.within)))))
@@ -511,13 +527,13 @@ module _ (log : LogValue) (s : ResidentValue) (images : List ℕ) (records : Lis
     said = part.holds.said;
   }
 
-  pub committed : (left : Moment) → Holds old (stand old.image place bytes (record_len n)) left → Committed (log_past log n) (record { pages = now; dirty = [] }) windows left.image
+  pub committed : (left : Moment) → Holds old (stand old.image place bytes (record_len (gap_of log.layout) n)) left → Committed (log_past log n) (record { pages = now; dirty = [] }) windows left.image
   committed left holds = record {
     records = records ++ r ∷ [];
     stands = record {
-      shows = all_shows l windows (now ∷ []) left.image
-          (λ j w. stands_now j (record_len n) (omega arith) (worn_trans hurt (stand old.image place bytes (record_len n)) left.image j (in_window (record_len n) left holds) w) refl);
-      own = own_now left.image (record_len n) (omega arith) (in_window (record_len n) left holds) refl;
+      shows = all_shows l windows m.over.shows.readable.borne (now ∷ []) left.image (λ says. absurd (never_turned (record_len (gap_of log.layout) n) left.image (in_window (record_len (gap_of log.layout) n) left holds) says))
+          (λ j w. stands_now j (record_len (gap_of log.layout) n) (omega arith) (worn_trans hurt (stand old.image place bytes (record_len (gap_of log.layout) n)) left.image j (in_window (record_len (gap_of log.layout) n) left holds) w) refl);
+      own = own_now left.image (record_len (gap_of log.layout) n) (omega arith) (in_window (record_len (gap_of log.layout) n) left holds) refl;
       clean = record { size = refl; each = λ page out. refl };
     };
   }

@@ -6,6 +6,7 @@ use Rattle.std.proofs.lemmas.List.{length-set}
 use Rattle.std.proofs.lemmas.Bool.{cases_lt}
 use Rattle.volume_layout.specs.declared.layout.Layout.{Layout}
 use Rattle.volume_layout.specs.Layout.{home_a, home_b}
+use Rattle.volume_layout.specs.Root.{root_bytes}
 use Rattle.volume_layout.proofs.RootLaws.{planned_bounds}
 use Rattle.fsd_formats.specs.declared.anchor.Anchor.{Anchor}
 use Rattle.sector_disk.specs.declared.machine.LoadFault.{LoadFault}
@@ -25,7 +26,7 @@ use Rattle.fsd_sound.specs.Laid.{HasOwnLog, AllLaid}
 use Rattle.fsd_sound.specs.Mounted.{image_at}
 use Rattle.fsd_sound.specs.Shown.{records_by, newest}
 use Rattle.fsd_sound.specs.Sound.{ShowsPages, weak_of}
-use Rattle.fsd_sound.proofs.LogPlaces.{SameLog, IsRecord, same_tape, front_same, copies_same, in_record, goes_records, scan_goes, start_in}
+use Rattle.fsd_sound.proofs.LogPlaces.{SameLog, IsRecord, has_same, same_tape, front_same, copies_same, in_record, goes_records, scan_goes, start_in}
 use Rattle.fsd_sound.proofs.SoundLaws.{shows_still}
 use Rattle.fsd_sound.proofs.WindowLaws.{open_is_weak}
 use Rattle.log_thirds.specs.Append.{IsLogWorn, LastLiesIn}
@@ -46,6 +47,7 @@ use Rattle.fsd_sound.proofs.MendLaws.{logged_shows}
 use Rattle.fsd_sound.proofs.AlikeLaws.{log_same, each_same}
 use Rattle.group_commit.specs.Force.{MayWrite}
 use Rattle.group_commit.specs.Entering.{Shows, OwnsLog, IsHoming, MayHome}
+use Rattle.volume_layout.proofs.KindLaws.{gap_most}
 
 -- ---- where only homes are written the log stays
 
@@ -57,15 +59,16 @@ module _ (l : Layout) (a : Anchor) (weak : Sectors) (i j : Image) (same : SameLo
     all_laid_same rs are.1 laid.1,
   )
 
-pub own_same : (l : Layout) (a : Anchor) (weak : Sectors) (i j : Image) → ((s : ℕ) → 8 ≤ s → s < 16 + 3 * l.third → sector_at j s ≡ sector_at i s) → a.third ≤ 2 → (records : List Placed) (head : Head)
+pub own_same : (l : Layout) (a : Anchor) (weak : Sectors) (i j : Image) → ((s : ℕ) → s < 16 + 3 * l.third → sector_at j s ≡ sector_at i s) → a.third ≤ 2 → (records : List Placed) (head : Head)
     → HasOwnLog l a records head weak i → HasOwnLog l a records head weak j
 own_same l a weak i j front low records head own =
-    let same : SameLog l i j = log_same l i j front in
+    let same : SameLog l i j = log_same l i j (λ s from lt. front s lt) in
     let are : AllByRecursion (IsRecord l a.third) records =
     subst (λ (w : Walked). AllByRecursion (IsRecord l a.third) w.records) own.log.scanned
     (goes_records l a.epoch a.third low (tape l a.third (bytes_at i)) (start l a.first) _ _ (start_in l a.first) (scan_goes l a.epoch a.first (tape l a.third (bytes_at i)))) in
     record {
-      own = each_same l i j front (λ b. b ≡ a) (λ b. b ≡ a) (λ b low is. is) own.own;
+      roots = (has_same l a weak i j (root_bytes l) 0 (front 0 (omega arith)) own.roots.0, has_same l a weak i j (root_bytes l) 4 (front 4 (omega arith)) own.roots.1);
+      own = each_same l i j (λ s from lt. front s lt) (λ b. b ≡ a) (λ b. b ≡ a) (λ b low is. is) own.own;
       log = subst (λ t. IsLog l a.epoch a.first t records head) (sym (same_tape l i j same a.third low)) own.log;
       laid = all_laid_same l a weak i j same records are own.laid;
     }
@@ -75,7 +78,7 @@ module _ (log : LogValue) (records : List Placed) (disk : List (List ℕ)) (wind
   l = log.layout
 
   pub narrow : IsNarrow (weak_of windows)
-  narrow s t far a b = may.apart s t (omega (arith, far)) a b
+  narrow s t far a b = may.apart s t (omega (arith, far, gap_most log.layout)) a b
 
   pub weaker : (i j : Image) → IsWorn (open_damage old.windows) i j → IsWorn (weak_of windows) i j
   weaker i j w = open_is_weak old.windows windows i j may.ends w
@@ -193,7 +196,7 @@ module _ (log : LogValue) (records : List Placed) (disk : List (List ℕ)) (wind
             many = length-set e s (Whole bytes) ∙ part.many;
             over = record {
               shows = logged_shows log.layout (weak_of windows) (disk ∷ []) page s bytes lt place windows refl narrow e (omega (arith, room.0, part.many)) (is_logged e part.over page logged) part.over.shows;
-              own = own_same log.layout log.anchor (weak_of windows) e (with_sector e s bytes) (λ p from inside. with_other e s p bytes (λ is. omega (arith, is, inside, room.1))) may.shape.third records log.head part.over.own;
+              own = own_same log.layout log.anchor (weak_of windows) e (with_sector e s bytes) (λ p inside. with_other e s p bytes (λ is. omega (arith, is, inside, room.1))) may.shape.third records log.head part.over.own;
               indexed = part.over.indexed;
             };
             others = λ p a b. with_other e s p bytes (λ is. ⊎_elim (λ here. a (is ∙ here)) (λ here. b (is ∙ here)) place) ∙ part.others p a b;

@@ -3,6 +3,7 @@ use Rattle.std.proofs.Common.{◌≡◌, ℕ, zero, suc, ◌+◌, ◌*◌, ◌<�
 use Rattle.std.specs.Prelude.{nat_eq}
 use Rattle.std.specs.Option.{option_or}
 use Rattle.std.proofs.lemmas.Bool.{or_parts}
+use Rattle.volume_layout.specs.Kinds.{gap_of}
 use Rattle.run_table.specs.Space.{contains}
 use Rattle.fsd_formats.specs.Record.{record_len}
 use Rattle.sector_disk.specs.declared.sector.Sector.TheVariants.{Whole}
@@ -54,32 +55,32 @@ module _ (log : LogValue) (pages images : List ℕ) (old new : Moment) (may : Ma
   place = place_of log.layout log.anchor.third (spot_for log.layout (length pages) log.head).at
 
   abbrev bytes : List ℕ
-  bytes = laid_bytes (stamp_now log) pages images
+  bytes = laid_bytes (gap_of log.layout) (stamp_now log) pages images
 
   abbrev written : Image
-  written = stand old.image place bytes (record_len (length pages))
+  written = stand old.image place bytes (record_len (gap_of log.layout) (length pages))
 
-  inside : place + record_len (length pages) ≤ 16 + 3 * log.layout.third
+  inside : place + record_len (gap_of log.layout) (length pages) ≤ 16 + 3 * log.layout.third
   inside = write_inside log pages images (length old.image) may
 
   module _ (k : ℕ) (lt : k < length pages) where
     abbrev page : ℕ
     page = get_or pages k 0
 
-    row : (s m : ℕ) → s ≡ place + m → m < record_len (length pages) → slice_of bytes m ≡ slice_of images k → sector_at written s ≡ Whole (slice_of images k)
+    row : (s m : ℕ) → s ≡ place + m → m < record_len (gap_of log.layout) (length pages) → slice_of bytes m ≡ slice_of images k → sector_at written s ≡ Whole (slice_of images k)
     row s m at within is =
         ap (sector_at written) at
-        ∙ stand_in old.image place bytes (record_len (length pages)) m within (omega (arith, inside, may.sized))
+        ∙ stand_in old.image place bytes (record_len (gap_of log.layout) (length pages)) m within (omega (arith, inside, may.sized))
         ∙ ap (λ (x : List ℕ). Whole x) is
 
-    slot_is : length log.slots ≡ log.layout.pages → get_or (log_with log pages).slots page None ≡ Some (slot log.head.number (place + 3 + k) (place + 3 + length pages + 1 + k))
+    slot_is : length log.slots ≡ log.layout.pages → get_or (log_with log pages).slots page None ≡ Some (slot log.head.number (place + 3 + (gap_of log.layout) + k) (place + 3 + (gap_of log.layout) + length pages + 1 + (gap_of log.layout) + k))
     slot_is table =
         let asked = pages_of log.layout.pages pages may.accepted in
         let below : page < length log.slots = omega (arith, table, below_at log.layout.pages pages asked.below page (index_contained pages k lt)) in
-        get-noted log.head.number log.slots (place + 3) (place + 3 + length pages + 1) page pages below
-        ∙ ap (λ (o : Option Slot). option_or o (get_or log.slots page None)) (slot_in_at log.head.number (place + 3) (place + 3 + length pages + 1) pages k lt (not_before pages k asked.ascends lt))
+        get-noted log.head.number log.slots (place + 3 + (gap_of log.layout)) (place + 3 + (gap_of log.layout) + length pages + 1 + (gap_of log.layout)) page pages below
+        ∙ ap (λ (o : Option Slot). option_or o (get_or log.slots page None)) (slot_in_at log.head.number (place + 3 + (gap_of log.layout)) (place + 3 + (gap_of log.layout) + length pages + 1 + (gap_of log.layout)) pages k lt (not_before pages k asked.ascends lt))
 
-    in_record : LieInRecord log.layout (place + 3 + k) (place + 3 + length pages + 1 + k)
+    in_record : LieInRecord log.layout (place + 3 + (gap_of log.layout) + k) (place + 3 + (gap_of log.layout) + length pages + 1 + (gap_of log.layout) + k)
     in_record =
         let from = place_from log.layout log.anchor.third (spot_for log.layout (length pages) log.head).at in
         record { start = place; count = length pages; index = k; there = lt; first = refl; copy = refl; from = from; to = omega (arith, inside) }
@@ -91,11 +92,11 @@ module _ (log : LogValue) (pages images : List ℕ) (old new : Moment) (may : Ma
         record {
           seen = written;
           worn = subst (λ (w : Windows). IsWorn (open_damage w) written new.image) (sym holds.windows) holds.worn;
-          a = place + 3 + k;
-          b = place + 3 + length pages + 1 + k;
+          a = place + 3 + (gap_of log.layout) + k;
+          b = place + 3 + (gap_of log.layout) + length pages + 1 + (gap_of log.layout) + k;
           logged = record { lies = record { number = log.head.number; is = slot_is table }; in_record = in_record };
-          first = row (place + 3 + k) (3 + k) (omega arith) (omega (arith, lt)) (rows.image k lt);
-          second = row (place + 3 + length pages + 1 + k) (4 + length pages + k) (omega arith) (omega (arith, lt)) (rows.copy k lt);
+          first = row (place + 3 + (gap_of log.layout) + k) (3 + (gap_of log.layout) + k) (omega arith) (omega (arith, lt)) (rows.image k lt);
+          second = row (place + 3 + (gap_of log.layout) + length pages + 1 + (gap_of log.layout) + k) (4 + 2 * (gap_of log.layout) + length pages + k) (omega arith) (omega (arith, lt)) (rows.copy k lt);
         }
 
 -- ---- the frames that it was laid from

@@ -3,6 +3,7 @@ use Rattle.std.proofs.Common.{◌≡◌, ◌⊎◌, inl, inr, ⊎_elim, ℕ, ◌
 use Rattle.std.proofs.lemmas.Bool.{cases_lt}
 use Rattle.volume_layout.specs.declared.layout.Layout.{Layout}
 use Rattle.volume_layout.specs.Layout.{home_a, home_b, InLog}
+use Rattle.volume_layout.specs.Kinds.{gap_of}
 use Rattle.fsd_formats.specs.declared.anchor.Anchor.{Anchor}
 use Rattle.fsd_formats.specs.Anchors.{anchor_bytes}
 use Rattle.fsd_formats.specs.Record.{record_len}
@@ -70,19 +71,19 @@ module _ (log : LogValue) (pages images : List ℕ) (old new : Moment) (may : Ma
   abbrev pub place : ℕ
   place = place_of log.layout log.anchor.third (spot_for log.layout (length pages) log.head).at
 
-  inside : place + record_len (length pages) ≤ 16 + 3 * log.layout.third
+  inside : place + record_len (gap_of log.layout) (length pages) ≤ 16 + 3 * log.layout.third
   inside = write_inside log pages images (length old.image) may
 
-  in_log : (s stood : ℕ) → stood ≤ record_len (length pages) → place ≤ s → s < place + stood → InLog log.layout s
+  in_log : (s stood : ℕ) → stood ≤ record_len (gap_of log.layout) (length pages) → place ≤ s → s < place + stood → InLog log.layout s
   in_log s stood within from there = (omega (arith, from, place_from log.layout log.anchor.third (spot_for log.layout (length pages) log.head).at), omega (arith, there, within, inside))
 
-  apart : (s stood : ℕ) → stood ≤ record_len (length pages) → (MayWrite log.layout s → ⊥) → (s < place) ⊎ (place + stood ≤ s)
+  apart : (s stood : ℕ) → stood ≤ record_len (gap_of log.layout) (length pages) → (MayWrite log.layout s → ⊥) → (s < place) ⊎ (place + stood ≤ s)
   apart s stood within out = ⊎_elim (λ before. inl before)
       (λ from. inr (⊎_elim (λ there. absurd (out (inl (in_log s stood within from there)))) (λ past. past) (cases_lt s (place + stood))))
       (cases_lt s place)
 
-  pub outside_record : StandsInPart place (laid_bytes (stamp_now log) pages images) (record_len (length pages)) old new → KeepsOutside log.layout old new
+  pub outside_record : StandsInPart place (laid_bytes (gap_of log.layout) (stamp_now log) pages images) (record_len (gap_of log.layout) (length pages)) old new → KeepsOutside log.layout old new
   outside_record part =
-      let bytes = laid_bytes (stamp_now log) pages images in
+      let bytes = laid_bytes (gap_of log.layout) (stamp_now log) pages images in
       outside_held log.layout old new (stand old.image place bytes part.stood) part.holds (length-stand old.image place bytes part.stood)
       (λ s out. stand_other old.image place bytes part.stood s (apart s part.stood part.within out))

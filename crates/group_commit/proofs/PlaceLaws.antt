@@ -3,6 +3,7 @@ use Rattle.std.proofs.Common.{◌≡◌, ◌⊎◌, ℕ, ◌+◌, ◌*◌, ◌<�
 use Rattle.std.specs.List.{AllByRecursion}
 use Rattle.std.proofs.lemmas.Bool.{cond-true, lt-ltb}
 use Rattle.volume_layout.specs.Shape.{Shape}
+use Rattle.volume_layout.specs.Kinds.{gap_of}
 use Rattle.sector_disk.specs.declared.sector.Sector.{Sector}
 use Rattle.sector_disk.specs.Image.{sector_at, stand}
 use Rattle.fsd_formats.specs.Record.{record_len}
@@ -20,8 +21,8 @@ pub record LiesBefore (l : Shape) (at : ℕ) (r : Placed) : Type 0 where
   pub end : ℕ
   pub ends : IsEnd l end
   pub from : end ≤ r.at + l.third
-  pub to : r.at + record_len (length r.entry.pages) ≤ end
-  pub before : r.at + record_len (length r.entry.pages) ≤ at
+  pub to : r.at + record_len (gap_of l) (length r.entry.pages) ≤ end
+  pub before : r.at + record_len (gap_of l) (length r.entry.pages) ≤ at
   pub images : length r.entry.images ≡ length r.entry.pages
 
 module _ (l : Shape) (epoch : ℕ) (disk : Reader) where
@@ -42,7 +43,7 @@ module _ (l : Shape) (epoch : ℕ) (disk : Reader) where
           from = found_from h r goes.1.end is_in goes.1.place;
           to = omega (arith, one.to, one.is_in.before, at_end);
           before = omega (arith, one.to, far.from);
-          images = record_images l.pages (stamp_of epoch h.number) (room_at r.at goes.1.end) (window disk r.at (room_at r.at goes.1.end)) r.entry found.1;
+          images = record_images (gap_of l) l.pages (stamp_of epoch h.number) (room_at r.at goes.1.end) (window disk r.at (room_at r.at goes.1.end)) r.entry found.1;
         },
         lie_before goes.0 rs end one.is_in goes.2,
       )

@@ -3,14 +3,15 @@ use Rattle.std.proofs.Common.{◌≡◌, ℕ, ◌+◌, ◌*◌, ◌<◌, ◌≤�
 use Rattle.std.specs.Prelude.{Result, Ok, Err, OnOk}
 use Rattle.log_thirds.specs.LogValue.{LogValue}
 use Rattle.std.proofs.lemmas.Bool.{lt-leb, le-ltb}
+use Rattle.volume_layout.specs.Kinds.{gap_of}
 use Rattle.fsd_formats.specs.Record.{record_len}
 use Rattle.group_commit.specs.Room.{goes_before, pages_in_first, sectors_before}
 
 -- ---- where a record goes
 
-pub first_again : (log : LogValue) (n : ℕ) → log.head.end < log.head.at + record_len n → 3 * log.layout.third ≤ log.head.end → goes_before log n ≡ false
+pub first_again : (log : LogValue) (n : ℕ) → log.head.end < log.head.at + record_len (gap_of log.layout) n → 3 * log.layout.third ≤ log.head.end → goes_before log n ≡ false
 first_again log n lt ge =
-    ap (λ (b : Bool). b || nat_lt log.head.end (3 * log.layout.third)) (lt-leb (log.head.at + record_len n) log.head.end lt)
+    ap (λ (b : Bool). b || nat_lt log.head.end (3 * log.layout.third)) (lt-leb (log.head.at + record_len (gap_of log.layout) n) log.head.end lt)
     ∙ le-ltb log.head.end (3 * log.layout.third) ge
 
 -- so many sectors are written before a record that enters the first third again

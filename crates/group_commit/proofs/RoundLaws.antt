@@ -6,16 +6,16 @@ use Rattle.volume_layout.specs.Layout.{plan, map_start}
 use Rattle.fsd_formats.specs.Record.{Stamp}
 use Rattle.sector_disk.specs.declared.sector.Sector.{Sector}
 use Rattle.sector_disk.specs.declared.sector.WeakRun.{WeakRun}
-use Rattle.sector_disk.specs.Image.{Windows, AreShort, open_damage, sector_at}
+use Rattle.sector_disk.specs.Image.{Windows, open_damage, sector_at}
 use Rattle.sector_disk.specs.Machine.{Moment}
 use Rattle.sector_disk.proofs.Wear.{worn_twice}
 use Rattle.fsd_log.specs.Scan.{Placed}
 use Rattle.fsd_files.specs.Disk.{SectorWorn}
 use Rattle.fsd_sound.specs.Shown.{shown}
-use Rattle.fsd_sound.specs.Sound.{EndIn}
+use Rattle.fsd_sound.specs.Sound.{EndIn, BearsLast}
 use Rattle.log_thirds.specs.LogValue.{LogValue}
 use Rattle.log_thirds.specs.Append.{stamp_now}
-use Rattle.fsd_sound.proofs.WindowLaws.{short_apart}
+use Rattle.fsd_sound.proofs.WindowLaws.{borne_apart}
 use Rattle.log_thirds.specs.LogValue.{FitsLayout}
 use Rattle.group_commit.specs.Entering.{Shows, OwnsLog, HasRoomNow, MayHome}
 use Rattle.group_commit.specs.Force.{MayWrite, StandsOver, Commits}
@@ -32,11 +32,11 @@ data_outside l s from (inr (inl (inr second))) = absurd (omega (arith, from, sec
 data_outside l s from (inr (inr (page, lt, inl home))) = absurd (omega (arith, from, lt, home))
 data_outside l s from (inr (inr (page, lt, inr home))) = absurd (omega (arith, from, lt, home))
 
-pub may_home : (log : LogValue) (layout : Layout) (windows : List WeakRun) (old : Moment) → layout ≡ log.layout → plan layout.sectors layout.third layout.pages ≡ Ok layout → FitsLayout log → AreShort old.windows → EndIn old.windows windows → MayHome log windows old
-may_home log layout windows old same planned shape short ends = record {
-  planned = subst (λ (l : Layout). plan l.sectors l.third l.pages ≡ Ok l) same planned;
+pub may_home : (log : LogValue) (layout : Layout) (windows : List WeakRun) (old : Moment) → layout ≡ log.layout → plan layout.kind layout.sectors layout.third layout.pages ≡ Ok layout → FitsLayout log → BearsLast log.layout windows → EndIn old.windows windows → MayHome log windows old
+may_home log layout windows old same planned shape borne ends = record {
+  planned = subst (λ (l : Layout). plan l.kind l.sectors l.third l.pages ≡ Ok l) same planned;
   shape = shape;
-  apart = short_apart old.windows windows short ends;
+  apart = borne_apart log.layout windows borne;
   ends = ends;
 }
 

@@ -4,6 +4,7 @@ use Rattle.std.specs.Prelude.{nat_eq, nat_lt, ◌==◌}
 use Rattle.std.specs.List.{IsDistinct}
 use Rattle.std.specs.Option.{option_or}
 use Rattle.std.proofs.lemmas.Bool.{and_parts, cases_lt, le-ltb, lt-ltb, ltb-true}
+use Rattle.volume_layout.specs.Kinds.{gap_of}
 use Rattle.run_table.specs.Space.{contains}
 use Rattle.fsd_formats.specs.Record.{ascending}
 use Rattle.fsd_log.specs.Scan.{place_of, spot_for}
@@ -65,17 +66,17 @@ module _ (log : LogValue) (dirty : List ℕ) (once : IsDistinct nat_eq dirty) (p
   place n = place_of log.layout log.anchor.third (spot_for log.layout n log.head).at
 
   abbrev slot_by : (n : ℕ) (one : Bool) (less : ℕ) → Option Slot
-  slot_by n one less = option_or (cond one (Some (slot log.head.number (place n + 3 + less) (place n + 3 + n + 1 + less))) None) (get_or log.slots page None)
+  slot_by n one less = option_or (cond one (Some (slot log.head.number (place n + 3 + (gap_of log.layout) + less) (place n + 3 + (gap_of log.layout) + n + 1 + (gap_of log.layout) + less))) None) (get_or log.slots page None)
 
-  as_told : (n : ℕ) (one : Bool) (less : ℕ) → slot_by n one less ≡ cond one (Some (slot log.head.number (place n + 3 + less) (place n + 3 + less + n + 1))) (get_or log.slots page None)
-  as_told n true less = let same : place n + 3 + n + 1 + less ≡ place n + 3 + less + n + 1 = omega arith in λ i. Some (slot log.head.number (place n + 3 + less) (same i))
+  as_told : (n : ℕ) (one : Bool) (less : ℕ) → slot_by n one less ≡ cond one (Some (slot log.head.number (place n + 3 + (gap_of log.layout) + less) (place n + 3 + (gap_of log.layout) + less + n + 1 + (gap_of log.layout)))) (get_or log.slots page None)
+  as_told n true less = let same : place n + 3 + (gap_of log.layout) + n + 1 + (gap_of log.layout) + less ≡ place n + 3 + (gap_of log.layout) + less + n + 1 + (gap_of log.layout) = omega arith in λ i. Some (slot log.head.number (place n + 3 + (gap_of log.layout) + less) (same i))
   as_told n false less = refl
 
   -- each of them has its slot in the record, and any other page the one that it had
-  pub slot_then : get_or (log_with log (ascending_of dirty)).slots page None ≡ cond (contains dirty page) (Some (slot log.head.number (place (length dirty) + 3 + rank page dirty) (place (length dirty) + 3 + rank page dirty + length dirty + 1))) (get_or log.slots page None)
+  pub slot_then : get_or (log_with log (ascending_of dirty)).slots page None ≡ cond (contains dirty page) (Some (slot log.head.number (place (length dirty) + 3 + (gap_of log.layout) + rank page dirty) (place (length dirty) + 3 + (gap_of log.layout) + rank page dirty + length dirty + 1 + (gap_of log.layout)))) (get_or log.slots page None)
   slot_then =
       let xs = ascending_of dirty in
-      get-noted log.head.number log.slots (place (length xs) + 3) (place (length xs) + 3 + length xs + 1) page xs within
-      ∙ ap (λ (o : Option Slot). option_or o (get_or log.slots page None)) (slot_in_rank log.head.number (place (length xs) + 3) (place (length xs) + 3 + length xs + 1) page xs (ascending_ascends dirty))
+      get-noted log.head.number log.slots (place (length xs) + 3 + (gap_of log.layout)) (place (length xs) + 3 + (gap_of log.layout) + length xs + 1 + (gap_of log.layout)) page xs within
+      ∙ ap (λ (o : Option Slot). option_or o (get_or log.slots page None)) (slot_in_rank log.head.number (place (length xs) + 3 + (gap_of log.layout)) (place (length xs) + 3 + (gap_of log.layout) + length xs + 1 + (gap_of log.layout)) page xs (ascending_ascends dirty))
       ∙ (λ i. slot_by (length_ascending dirty once i) (one_ascending dirty page i) (rank_ascending page dirty once i))
       ∙ as_told (length dirty) (contains dirty page) (rank page dirty)

@@ -2,6 +2,7 @@
 use Rattle.std.specs.Prelude.{◌≡◌, ⊤, false, ℕ, ◌<◌, List, [], ◌∷◌, length, Ok}
 use Rattle.volume_layout.specs.declared.layout.Layout.{Layout}
 use Rattle.volume_layout.specs.Layout.{plan}
+use Rattle.volume_layout.specs.Kinds.{gap_of}
 use Rattle.sector_disk.specs.declared.sector.WeakRun.{WeakRun}
 use Rattle.sector_disk.specs.Image.{sector_at}
 use Rattle.sector_disk.specs.Damage.{LostCause}
@@ -47,9 +48,9 @@ pub record IsHoming (log : LogValue) (records : List Placed) (disk : List (List 
 
 -- No two sectors of the window but neighbours are weak.
 pub record MayHome (log : LogValue) (windows : List WeakRun) (old : Moment) : Type 0 where
-  pub planned : plan log.layout.sectors log.layout.third log.layout.pages ≡ Ok log.layout
+  pub planned : plan log.layout.kind log.layout.sectors log.layout.third log.layout.pages ≡ Ok log.layout
   pub shape : FitsLayout log
-  pub apart : IsApart (weak_of windows)
+  pub apart : IsApart (gap_of log.layout) (weak_of windows)
   pub ends : EndIn old.windows windows
 
 -- At the end of it the disk shows the same pages, and the log is what lies behind the first third.

@@ -2,6 +2,7 @@
 use Rattle.std.specs.Prelude.{◌≡◌, ◌⊎◌, ℕ, ◌+◌, ◌≤◌, ◌<◌, List, [], ◌∷◌, length}
 use Rattle.volume_layout.specs.declared.layout.Layout.{Layout}
 use Rattle.volume_layout.specs.Layout.{home_a, home_b, map_start, InLog}
+use Rattle.volume_layout.specs.Kinds.{gap_of}
 use Rattle.sector_disk.specs.declared.sector.WeakRun.{WeakRun}
 use Rattle.sector_disk.specs.Image.{open_damage, sector_at}
 use Rattle.sector_disk.specs.Machine.{Moment}
@@ -18,7 +19,7 @@ use Rattle.group_commit.specs.Room.{log_before, sectors_before}
 -- how many sectors are written: none where no page waits; else those before the record, and the record's
 abbrev pub sectors_written : LogValue → (dirty : List ℕ) → ℕ
 sectors_written log [] = 0
-sectors_written log (page ∷ more) = sectors_before log (length (page ∷ more)) + record_len (length (page ∷ more))
+sectors_written log (page ∷ more) = sectors_before log (length (page ∷ more)) + record_len (gap_of log.layout) (length (page ∷ more))
 
 -- the pages with those that wait stamped
 abbrev pub stamped_by : LogValue → ResidentValue → List (List ℕ)

@@ -65,7 +65,7 @@ module _ (log : LogValue) (old new : Moment) (worn : IsWorn (open_damage old.win
         records = knows.records;
         disk = knows.disk;
         over = record {
-          shows = shows_still log.layout knows.windows (apart_narrow knows.windows knows.apart) (knows.disk ∷ []) old.image new.image weak knows.over.shows;
+          shows = shows_still log.layout knows.windows (apart_narrow log.layout knows.windows knows.apart) (knows.disk ∷ []) old.image new.image weak knows.over.shows;
           own = own_worn log.layout (omega (arith, shape.pages)) log.anchor shape.epoch shape.third (weak_of knows.windows) knows.apart old.image new.image weak knows.records log.head knows.over.own;
           indexed = knows.over.indexed;
         };

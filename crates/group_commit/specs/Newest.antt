@@ -2,6 +2,7 @@
 use Rattle.std.specs.Prelude.{◌≡◌, ◌⊎◌, ℕ, nat_lt, if◌then◌else◌, List, Option, None, slice_index_or}
 use Rattle.volume_layout.specs.declared.layout.Layout.{Layout}
 use Rattle.volume_layout.specs.Layout.{home_a, home_b}
+use Rattle.volume_layout.specs.Kinds.{gap_of}
 use Rattle.sector_disk.specs.declared.sector.Sector.TheVariants.{Whole}
 use Rattle.sector_disk.specs.declared.sector.WeakRun.{WeakRun}
 use Rattle.sector_disk.specs.Image.{sector_at}
@@ -30,7 +31,7 @@ KnowsImages log i = IsIndexed log (records_by log.layout i log.anchor)
 pub record KnowsPages (log : LogValue) (at : Moment) : Type 0 where
   pub windows : List WeakRun
   pub ends : EndIn at.windows windows
-  pub apart : IsApart (weak_of windows)
+  pub apart : IsApart (gap_of log.layout) (weak_of windows)
   pub shape : FitsLayout log
   pub records : List Placed
   pub disk : List (List ℕ)

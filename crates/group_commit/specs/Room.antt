@@ -1,6 +1,7 @@
 -- Where a record goes when the log comes round.
 use Rattle.std.specs.Prelude.{ℕ, ◌+◌, ◌*◌, Bool, ◌||◌, count_by, nat_le, nat_lt, if◌then◌else◌}
 use Rattle.volume_layout.specs.Layout.{third_start}
+use Rattle.volume_layout.specs.Kinds.{gap_of}
 use Rattle.fsd_formats.specs.Record.{record_len}
 use Rattle.log_thirds.specs.LogValue.{LogValue}
 use Rattle.log_thirds.specs.Moving.{moved}
@@ -8,7 +9,7 @@ use Rattle.log_thirds.specs.Slots.{lies_in}
 
 -- a record of so many pages lies before the first third
 abbrev pub goes_before : LogValue → (n : ℕ) → Bool
-goes_before log n = nat_le (log.head.at + record_len n) log.head.end || nat_lt log.head.end (3 * log.layout.third)
+goes_before log n = nat_le (log.head.at + record_len (gap_of log.layout) n) log.head.end || nat_lt log.head.end (3 * log.layout.third)
 
 -- of how many pages the last image lies in the first third
 abbrev pub pages_in_first : LogValue → ℕ

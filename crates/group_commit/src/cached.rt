@@ -8,6 +8,7 @@ ghost use Rattle.fsd_log.specs.Judged.{slice_of};
 ghost use Rattle.fsd_log.specs.Scan.{Placed};
 ghost use Rattle.fsd_sound.specs.Sound.{EndIn};
 ghost use Rattle.run_table.specs.Space.{contains};
+ghost use Rattle.volume_layout.specs.Kinds.{gap_of};
 ghost use Rattle.fsd_formats.specs.Record.{max_pages, AreStamped, are_pages, record_len};
 ghost use Rattle.fsd_log.specs.Laid.{slices};
 ghost use Rattle.log_thirds.specs.Append.{stamp_now, log_with};
@@ -61,7 +62,7 @@ fn write_frames<M: Machine>(
     ensures disk { WritesDisk M.Machine (device_in load_failed_at result) (FramesLeave log.old cache.old waiting.now) m.old m.new }
     ensures rest { M.honest m.new → KeepsOutside log.old.layout (M.now m.old) (M.now m.new) }
     ensures cause { IfErr result (RecordCause log.old (length waiting.now)) }
-    ensures counted { OnOk result (M.tells m.new → (M.ledger m.new).written ≡ (M.ledger m.old).written + (sectors_before log.old (length waiting.now) + record_len (length waiting.now))) }
+    ensures counted { OnOk result (M.tells m.new → (M.ledger m.new).written ≡ (M.ledger m.old).written + (sectors_before log.old (length waiting.now) + record_len (gap_of log.old.layout) (length waiting.now))) }
     ensures counted_err { OnErr result (M.tells m.new → WroteMost (sectors_before log.old (length waiting.now)) (M.ledger m.old) (M.ledger m.new)) }
     ensures cache { cache.new ≡ stamped_frames (stamp_now log.old) waiting.now cache.old }
     ensures past { OnOk result (log.new ≡ log_with (log_before log.old (length waiting.now)) waiting.now) }

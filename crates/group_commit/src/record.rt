@@ -4,6 +4,7 @@ ghost use Rattle.sector_disk.specs.Damage.{IsDevice};
 ghost use Rattle.sector_disk.specs.declared.sector.WeakRun.{WeakRun};
 ghost use Rattle.sector_disk.specs.Calls.{WritesDisk, device_in, load_failed_at};
 ghost use Rattle.sector_disk.specs.Written.{WroteMost};
+ghost use Rattle.volume_layout.specs.Kinds.{gap_of};
 ghost use Rattle.fsd_formats.specs.Record.{AreStamped, are_pages, record_len};
 ghost use Rattle.fsd_log.specs.Judged.{slice_of};
 ghost use Rattle.fsd_log.specs.Laid.{slices};
@@ -37,7 +38,7 @@ pub(crate) fn write_record<M: Machine>(
     ensures disk { WritesDisk M.Machine (device_in load_failed_at result) (RecordLeaves log.old dirty.now room.now) m.old m.new }
     ensures rest { M.honest m.new → KeepsOutside log.old.layout (M.now m.old) (M.now m.new) }
     ensures cause { IfErr result (RecordCause log.old (length dirty.now)) }
-    ensures counted { OnOk result (M.tells m.new → (M.ledger m.new).written ≡ (M.ledger m.old).written + (sectors_before log.old (length dirty.now) + record_len (length dirty.now))) }
+    ensures counted { OnOk result (M.tells m.new → (M.ledger m.new).written ≡ (M.ledger m.old).written + (sectors_before log.old (length dirty.now) + record_len (gap_of log.old.layout) (length dirty.now))) }
     ensures counted_err { OnErr result (M.tells m.new → WroteMost (sectors_before log.old (length dirty.now)) (M.ledger m.old) (M.ledger m.new)) }
     ensures past { OnOk result (log.new ≡ log_with (log_before log.old (length dirty.now)) dirty.now) }
     ensures past_err { OnErr result ((log.new ≡ log.old) ⊎ ((log.new ≡ log_before log.old (length dirty.now)) × (M.tells m.new → (M.ledger m.new).written ≡ (M.ledger m.old).written + sectors_before log.old (length dirty.now)))) }

@@ -16,14 +16,14 @@ use Rattle.log_thirds.specs.Copies.{served_at, AreServed, Copies, AreCopies, Are
 
 -- ---- one sector more
 
-pub served_more : (s : Serving) (bytes : List ℕ) (k : ℕ) (copies sector : List ℕ) → AreServed s bytes k copies → length sector ≡ 512 → sector ≡ slice_of bytes (served_at s k) → AreServed s bytes (k + 1) (copies ++ sector)
-served_more s bytes k copies sector are long is = record {
+pub served_more : (gap : ℕ) → (s : Serving) (bytes : List ℕ) (k : ℕ) (copies sector : List ℕ) → AreServed gap s bytes k copies → length sector ≡ 512 → sector ≡ slice_of bytes (served_at gap s k) → AreServed gap s bytes (k + 1) (copies ++ sector)
+served_more gap s bytes k copies sector are long is = record {
   long = omega (arith, length-append copies sector, are.long, long);
   each = λ j lt. elim (cases_lt j k) [
     | inl below ↦ slice_within copies sector k j are.long below ∙ are.each j below
     | inr from ↦
         let at : k ≡ j = omega arith in
-        subst (λ (n : ℕ). slice_of (copies ++ sector) n ≡ slice_of bytes (served_at s n)) at (slice_behind copies sector k 0 k are.long (omega arith) ∙ slice_all sector long ∙ is)
+        subst (λ (n : ℕ). slice_of (copies ++ sector) n ≡ slice_of bytes (served_at gap s n)) at (slice_behind copies sector k 0 k are.long (omega arith) ∙ slice_all sector long ∙ is)
   ];
 }
 
@@ -41,7 +41,7 @@ passed : (test : List ℕ → Bool) (w : Bool) (s : List ℕ) → passes test (c
 passed test true s is = (refl, is)
 passed test false s is = absurd (false≢true is)
 
-module _ (whole : List Bool) (bytes : List ℕ) where
+module _ (gap : ℕ) (whole : List Bool) (bytes : List ℕ) where
   serves : (test : List ℕ → Bool) (a b : ℕ) (d : Bool) → serving test (read_of whole bytes a) (read_of whole bytes b) ≡ Some d
       → (unwrap_or (read_of whole bytes (if d then b else a)) [] ≡ slice_of bytes (if d then b else a)) × (test (slice_of bytes (if d then b else a)) ≡ true)
   serves test a b true is = passed test (get_or whole b false) (slice_of bytes b) (pick test (read_of whole bytes a) (read_of whole bytes b) true is)
@@ -75,34 +75,34 @@ module _ (whole : List Bool) (bytes : List ℕ) where
           subst (λ (x : List Bool). images_of (read_of whole bytes) k c x ≡ slices_from j copies (length (page ∷ pages))) made
           (λ i. ((serves (bears page stamp) k c d one).0 ∙ sym head) i ∷ tail i)
 
-  module _ (p : ℕ) (stamp : Stamp) (s : Serving) (is : judged p stamp (length whole) (read_of whole bytes) ≡ Some s) where
-    end_serving : (hc : Bool) → judged_with stamp (length whole) (read_of whole bytes) hc s.pages ≡ Some s
-        → serving (is_end stamp (length s.pages)) (read_of whole bytes (3 + length s.pages)) (read_of whole bytes (4 + 2 * length s.pages)) ≡ Some s.end_copy
+  module _ (p : ℕ) (stamp : Stamp) (s : Serving) (is : judged gap p stamp (length whole) (read_of whole bytes) ≡ Some s) where
+    end_serving : (hc : Bool) → judged_with gap stamp (length whole) (read_of whole bytes) hc s.pages ≡ Some s
+        → serving (is_end stamp (length s.pages)) (read_of whole bytes (3 + gap + length s.pages)) (read_of whole bytes (4 + 2 * gap + 2 * length s.pages)) ≡ Some s.end_copy
     end_serving hc e =
         let parts = if_some _ _ s e in
-        by_parts (serving (is_end stamp (length s.pages)) (read_of whole bytes (3 + length s.pages)) (read_of whole bytes (4 + 2 * length s.pages))) (page_copies stamp (read_of whole bytes) 3 (4 + length s.pages) s.pages) parts.1
+        by_parts (serving (is_end stamp (length s.pages)) (read_of whole bytes (3 + gap + length s.pages)) (read_of whole bytes (4 + 2 * gap + 2 * length s.pages))) (page_copies stamp (read_of whole bytes) (3 + gap) (4 + 2 * gap + length s.pages) s.pages) parts.1
       where
         by_parts : (o : Option Bool) (rest : Option (List Bool)) → option_and_then (λ x. option_map (serving_with hc s.pages x) rest) o ≡ Some s → o ≡ Some s.end_copy
         by_parts None rest e = absurd (cc e)
         by_parts (Some x) None e = absurd (cc e)
         by_parts (Some x) (Some cs) e = let made : serving_with hc s.pages x cs ≡ s = cc e in ap (λ (y : Serving). Some y.end_copy) made
 
-    module _ (copies : List ℕ) (are : AreServed s bytes (length s.pages + 1) copies) where
-      pub images_served : images_of (read_of whole bytes) 3 (4 + length s.pages) s.page_copy ≡ slices (length s.pages) copies
-      images_served = served_slices stamp copies 3 (4 + length s.pages) 0 s.pages s.page_copy (is_judged p stamp (length whole) (read_of whole bytes) s is).copies
+    module _ (copies : List ℕ) (are : AreServed gap s bytes (length s.pages + 1) copies) where
+      pub images_served : images_of (read_of whole bytes) (3 + gap) (4 + 2 * gap + length s.pages) s.page_copy ≡ slices (length s.pages) copies
+      images_served = served_slices stamp copies (3 + gap) (4 + 2 * gap + length s.pages) 0 s.pages s.page_copy (is_judged gap p stamp (length whole) (read_of whole bytes) s is).copies
           (λ i lt. let zero_on : 0 + i ≡ i = omega arith in ap (slice_of copies) zero_on ∙ are.each i (omega (arith, lt)) ∙ ap (slice_of bytes) (cond-true (nat_lt i (length s.pages)) _ _ (lt-ltb i (length s.pages) lt)))
 
       pub end_served : AreCopies stamp (length s.pages) copies
       end_served =
           let n : ℕ = length s.pages in
-          let at : slice_of copies (length s.pages) ≡ slice_of bytes (if s.end_copy then 4 + 2 * length s.pages else 3 + length s.pages) =
+          let at : slice_of copies (length s.pages) ≡ slice_of bytes (if s.end_copy then 4 + 2 * gap + 2 * length s.pages else 3 + gap + length s.pages) =
           are.each (length s.pages) (omega arith) ∙ ap (slice_of bytes) (cond-false (nat_lt (length s.pages) (length s.pages)) _ _ (le-ltb (length s.pages) (length s.pages) (omega arith))) in
-          let ends = serves (is_end stamp (length s.pages)) (3 + length s.pages) (4 + 2 * length s.pages) s.end_copy
-          (elim (is_judged p stamp (length whole) (read_of whole bytes) s is).by [ inl by ↦ end_serving false by.good | inr by ↦ end_serving true by.1.good ]) in
+          let ends = serves (is_end stamp (length s.pages)) (3 + gap + length s.pages) (4 + 2 * gap + 2 * length s.pages) s.end_copy
+          (elim (is_judged gap p stamp (length whole) (read_of whole bytes) s is).by [ inl by ↦ end_serving false by.good | inr by ↦ end_serving true by.1.good ]) in
           record { long = are.long; end = at ∙ sym (same_is (end_bytes stamp (length s.pages)) _ ends.1) }
 
-pub length_copies : (p : ℕ) (stamp : Stamp) (room : ℕ) (at : Reader) (s : Serving) → judged p stamp room at ≡ Some s → length s.page_copy ≡ length s.pages
-length_copies p stamp room at s is = length-copies stamp at 3 (4 + length s.pages) s.pages s.page_copy (is_judged p stamp room at s is).copies
+pub length_copies : (gap : ℕ) → (p : ℕ) (stamp : Stamp) (room : ℕ) (at : Reader) (s : Serving) → judged gap p stamp room at ≡ Some s → length s.page_copy ≡ length s.pages
+length_copies gap p stamp room at s is = length-copies stamp at (3 + gap) (4 + 2 * gap + length s.pages) s.pages s.page_copy (is_judged gap p stamp room at s is).copies
 
 -- ---- a record more
 

@@ -3,6 +3,7 @@ use Rattle.std.proofs.Common.{◌≡◌, inl, inr, ℕ, ◌+◌, ◌-◌, ◌*�
 use Rattle.std.specs.Prelude.{◌&&◌, option_map}
 use Rattle.std.proofs.lemmas.Bool.{cases_lt, cond-true, lt-ltb, leb-true, and_from}
 use Rattle.volume_layout.specs.Shape.{Shape}
+use Rattle.volume_layout.specs.Kinds.{gap_of}
 use Rattle.fsd_formats.specs.Record.{Stamp, record_len}
 use Rattle.fsd_log.specs.Judged.{Reader, Logged, Serving, judged}
 use Rattle.fsd_log.proofs.JudgedLaws.{is_judged}
@@ -22,38 +23,38 @@ run_inside l first at end count one before from ends le = elim (cases_lt 0 count
   | inr none ↦ omega (arith, place_most l first at one (omega (arith, before, end_most l end ends)))
 ]
 
-pub judged_room : (p : ℕ) (stamp : Stamp) (room : ℕ) (at : Reader) (s : Serving) → Some s ≡ judged p stamp room at → record_len (length s.pages) ≤ room
-judged_room p stamp room at s is = leb-true _ _ (is_judged p stamp room at s (sym is)).roomy
+pub judged_room : (gap : ℕ) → (p : ℕ) (stamp : Stamp) (room : ℕ) (at : Reader) (s : Serving) → Some s ≡ judged gap p stamp room at → record_len gap (length s.pages) ≤ room
+judged_room gap p stamp room at s is = leb-true _ _ (is_judged gap p stamp room at s (sym is)).roomy
 
 -- ---- where the head goes
 
-pub goes_to : (l : Shape) (from at n end : ℕ) (spot : Spot) → spot ≡ record { at = at + (2 * n + 5); end = end } → from ≤ at → at + (2 * n + 5) ≤ end → end ≤ at + l.third → IsEnd l end → GoesTo l from spot
+pub goes_to : (l : Shape) (from at n end : ℕ) (spot : Spot) → spot ≡ record { at = at + (2 * n + (5 + 2 * (gap_of l))); end = end } → from ≤ at → at + (2 * n + (5 + 2 * (gap_of l))) ≤ end → end ≤ at + l.third → IsEnd l end → GoesTo l from spot
 goes_to l from at n end spot is le fits after ends = subst (GoesTo l from) (sym is) (record { on = omega arith; before = fits; after = omega arith; ends = ends })
 
-some_step : (number at end : ℕ) (entry : Logged) (o : Option Logged) → Some entry ≡ o
-    → ◌≡◌ {A = Option Stepped} (Some (record { from = at; entry = entry; at = at + (2 * length entry.pages + 5); end = end })) (option_map stepped_of (option_map (behind number at end) o))
-some_step number at end entry o is = ap (λ (x : Option Logged). option_map stepped_of (option_map (behind number at end) x)) is
+some_step : (gap : ℕ) → (number at end : ℕ) (entry : Logged) (o : Option Logged) → Some entry ≡ o
+    → ◌≡◌ {A = Option Stepped} (Some (record { from = at; entry = entry; at = at + (2 * length entry.pages + (5 + 2 * gap)); end = end })) (option_map stepped_of (option_map (behind gap number at end) o))
+some_step gap number at end entry o is = ap (λ (x : Option Logged). option_map stepped_of (option_map (behind gap number at end) x)) is
 
 module _ (l : Shape) (epoch : ℕ) (disk : Reader) (h : Head) where
-  pub here_found : (entry : Logged) → Some entry ≡ record_here l epoch disk h.number h.at h.end → ◌≡◌ {A = Option Stepped} (Some (record { from = h.at; entry = entry; at = h.at + (2 * length entry.pages + 5); end = h.end })) (option_map stepped_of (next l epoch disk h))
-  here_found entry is = ap (λ (x : Option Logged). option_map stepped_of (option_or (option_map (behind h.number h.at h.end) x) (entered l epoch disk h))) is
+  pub here_found : (entry : Logged) → Some entry ≡ record_here l epoch disk h.number h.at h.end → ◌≡◌ {A = Option Stepped} (Some (record { from = h.at; entry = entry; at = h.at + (2 * length entry.pages + (5 + 2 * (gap_of l))); end = h.end })) (option_map stepped_of (next l epoch disk h))
+  here_found entry is = ap (λ (x : Option Logged). option_map stepped_of (option_or (option_map (behind (gap_of l) h.number h.at h.end) x) (entered l epoch disk h))) is
 
   pub not_here : (o : Option Stepped) → None ≡ record_here l epoch disk h.number h.at h.end → o ≡ option_map stepped_of (entered l epoch disk h)
       → o ≡ option_map stepped_of (next l epoch disk h)
   not_here o none is =
-      is ∙ ap (λ (r : Option Logged). option_map stepped_of (option_or (option_map (behind h.number h.at h.end) r) (entered l epoch disk h))) none
+      is ∙ ap (λ (r : Option Logged). option_map stepped_of (option_or (option_map (behind (gap_of l) h.number h.at h.end) r) (entered l epoch disk h))) none
 
   may : 0 < h.at → h.end < 3 * l.third → (nat_lt 0 h.at && nat_lt h.end (3 * l.third)) ≡ true
   may some further = and_from _ _ (lt-ltb _ _ some) (lt-ltb _ _ further)
 
   pub there_found : (entry : Logged) → 0 < h.at → h.end < 3 * l.third → Some entry ≡ record_here l epoch disk h.number h.end (h.end + l.third)
-      → ◌≡◌ {A = Option Stepped} (Some (record { from = h.end; entry = entry; at = h.end + (2 * length entry.pages + 5); end = h.end + l.third })) (option_map stepped_of (entered l epoch disk h))
+      → ◌≡◌ {A = Option Stepped} (Some (record { from = h.end; entry = entry; at = h.end + (2 * length entry.pages + (5 + 2 * (gap_of l))); end = h.end + l.third })) (option_map stepped_of (entered l epoch disk h))
   there_found entry some further is =
-      some_step h.number h.end (h.end + l.third) entry (record_here l epoch disk h.number h.end (h.end + l.third)) is
-      ∙ ap (λ (o : Option (Placed × Head)). option_map stepped_of o) (sym (cond-true _ (option_map (behind h.number h.end (h.end + l.third)) (record_here l epoch disk h.number h.end (h.end + l.third))) None (may some further)))
+      some_step (gap_of l) h.number h.end (h.end + l.third) entry (record_here l epoch disk h.number h.end (h.end + l.third)) is
+      ∙ ap (λ (o : Option (Placed × Head)). option_map stepped_of o) (sym (cond-true _ (option_map (behind (gap_of l) h.number h.end (h.end + l.third)) (record_here l epoch disk h.number h.end (h.end + l.third))) None (may some further)))
 
   pub not_there : 0 < h.at → h.end < 3 * l.third → None ≡ record_here l epoch disk h.number h.end (h.end + l.third)
       → ◌≡◌ {A = Option Stepped} None (option_map stepped_of (entered l epoch disk h))
   not_there some further none =
       ap (λ (o : Option (Placed × Head)). option_map stepped_of o)
-      (ap (λ (r : Option Logged). option_map (behind h.number h.end (h.end + l.third)) r) none ∙ sym (cond-true _ (option_map (behind h.number h.end (h.end + l.third)) (record_here l epoch disk h.number h.end (h.end + l.third))) None (may some further)))
+      (ap (λ (r : Option Logged). option_map (behind (gap_of l) h.number h.end (h.end + l.third)) r) none ∙ sym (cond-true _ (option_map (behind (gap_of l) h.number h.end (h.end + l.third)) (record_here l epoch disk h.number h.end (h.end + l.third))) None (may some further)))

@@ -1,9 +1,10 @@
 -- What holds of each image of each record, with its sector and its copy's, holds of a page's slot.
-use Rattle.std.proofs.Common.{◌≡◌, ℕ, suc, ◌+◌, ◌<◌, Bool, true, false, cond, List, [], ◌∷◌, length, get_or, Option, Some, None, refl, sym, ap, subst, ◌∙◌, arith}
+use Rattle.std.proofs.Common.{◌*◌, ◌≡◌, ℕ, suc, ◌+◌, ◌<◌, Bool, true, false, cond, List, [], ◌∷◌, length, get_or, Option, Some, None, refl, sym, ap, subst, ◌∙◌, arith}
 use Rattle.std.specs.Prelude.{◌==◌, if◌then◌else◌}
 use Rattle.std.specs.Option.{option_or}
 use Rattle.std.specs.List.{AllByRecursion}
 use Rattle.volume_layout.specs.Shape.{Shape}
+use Rattle.volume_layout.specs.Kinds.{gap_of}
 use Rattle.fsd_log.specs.Scan.{Placed, place_of}
 use Rattle.fsd_log.specs.Images.{image_in, last_image}
 use Rattle.log_thirds.specs.declared.slots.Slot.{Slot}
@@ -54,7 +55,7 @@ module _ (l : Shape) (third : ℕ) (P : List ℕ → (place copy : ℕ) → Type
   -- P of each of a record's images, with the sectors where it and its copy were laid
   pub record EachImage (r : Placed) : Type 0 where
     pub many : length r.entry.images ≡ length r.entry.pages
-    pub each : (k : ℕ) → k < length r.entry.pages → P (get_or r.entry.images k []) (place_of l third r.at + 3 + k) (place_of l third r.at + (4 + length r.entry.pages) + k)
+    pub each : (k : ℕ) → k < length r.entry.pages → P (get_or r.entry.images k []) (place_of l third r.at + 3 + (gap_of l) + k) (place_of l third r.at + (4 + 2 * (gap_of l) + length r.entry.pages) + k)
 
   module _ (page : ℕ) where
     -- the page's last image among some records, of which P holds with its slot
@@ -65,10 +66,10 @@ module _ (l : Shape) (third : ℕ) (P : List ℕ → (place copy : ℕ) → Type
 
     gives_in : (r : Placed) (slot : Slot) → EachImage r → slot_at l third page r ≡ Some slot → (bytes : List ℕ) × (image_in page r.entry.pages r.entry.images ≡ Some bytes) × P bytes slot.place slot.copy
     gives_in r slot each found =
-        let at = among page r.entry.number (place_of l third r.at + 3) (place_of l third r.at + 3 + length r.entry.pages + 1) r.entry.pages r.entry.images each.many slot found in
-        let first : place_of l third r.at + 3 + at.index ≡ slot.place = sym at.first in
-        let second : place_of l third r.at + (4 + length r.entry.pages) + at.index ≡ slot.copy = omega (arith, at.second) in
-        (get_or r.entry.images at.index [], at.image, subst (λ (p : ℕ). P (get_or r.entry.images at.index []) p slot.copy) first (subst (λ (p : ℕ). P (get_or r.entry.images at.index []) (place_of l third r.at + 3 + at.index) p) second (each.each at.index at.there)))
+        let at = among page r.entry.number (place_of l third r.at + 3 + (gap_of l)) (place_of l third r.at + 3 + (gap_of l) + length r.entry.pages + 1 + (gap_of l)) r.entry.pages r.entry.images each.many slot found in
+        let first : place_of l third r.at + 3 + (gap_of l) + at.index ≡ slot.place = sym at.first in
+        let second : place_of l third r.at + (4 + 2 * (gap_of l) + length r.entry.pages) + at.index ≡ slot.copy = omega (arith, at.second) in
+        (get_or r.entry.images at.index [], at.image, subst (λ (p : ℕ). P (get_or r.entry.images at.index []) p slot.copy) first (subst (λ (p : ℕ). P (get_or r.entry.images at.index []) (place_of l third r.at + 3 + (gap_of l) + at.index) p) second (each.each at.index at.there)))
 
     pub slot_gives : (rs : List Placed) (slot : Slot) → AllByRecursion EachImage rs → slot_of l third page rs ≡ Some slot → Gives rs slot
     slot_gives [] slot each found = absurd (cc found)

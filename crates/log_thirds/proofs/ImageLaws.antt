@@ -5,6 +5,7 @@ use Rattle.std.specs.Option.{option_or}
 use Rattle.std.proofs.lemmas.Bool.{cases_lt, eqb-true, cond-true, lt-ltb, false≢true}
 use Rattle.std.proofs.lemmas.List.{get_or_past}
 use Rattle.volume_layout.specs.Shape.{Shape}
+use Rattle.volume_layout.specs.Kinds.{gap_of}
 use Rattle.fsd_formats.specs.Record.{Stamp, bears, record_len}
 use Rattle.fsd_log.specs.Judged.{Reader, Logged, Serving, judged, images_of, logged_of, record_in}
 use Rattle.fsd_log.specs.Plain.{served, either_copy, images_at}
@@ -30,16 +31,16 @@ use Rattle.log_thirds.proofs.ScanLaws.{found_number}
 
 -- ---- in one record
 
-pub images_there : (p : ℕ) (stamp : Stamp) (room : ℕ) (at : Reader) (r : Logged) → record_in p stamp room at ≡ Some r → images_at stamp at 3 (4 + length r.pages) r.pages ≡ Some r.images
+pub images_there : (gap : ℕ) → (p : ℕ) (stamp : Stamp) (room : ℕ) (at : Reader) (r : Logged) → record_in gap p stamp room at ≡ Some r → images_at stamp at (3 + gap) (4 + 2 * gap + length r.pages) r.pages ≡ Some r.images
 unfolding record_in
-images_there p stamp room at r is = by_judged (judged p stamp room at) refl is
+images_there gap p stamp room at r is = by_judged (judged gap p stamp room at) refl is
   where
-    by_judged : (o : Option Serving) → judged p stamp room at ≡ o → option_map (logged_of stamp.number at) o ≡ Some r → images_at stamp at 3 (4 + length r.pages) r.pages ≡ Some r.images
+    by_judged : (o : Option Serving) → judged gap p stamp room at ≡ o → option_map (logged_of gap stamp.number at) o ≡ Some r → images_at stamp at (3 + gap) (4 + 2 * gap + length r.pages) r.pages ≡ Some r.images
     by_judged None there e = absurd (cc)
     by_judged (Some s) there e =
-        let same : logged_of stamp.number at s ≡ r = cc in
-        subst (λ (x : Logged). images_at stamp at 3 (4 + length x.pages) x.pages ≡ Some x.images) same
-        (images_same stamp at 3 (4 + length s.pages) s.pages ∙ ap (option_map (images_of at 3 (4 + length s.pages))) (is_judged p stamp room at s there).copies)
+        let same : logged_of gap stamp.number at s ≡ r = cc in
+        subst (λ (x : Logged). images_at stamp at (3 + gap) (4 + 2 * gap + length x.pages) x.pages ≡ Some x.images) same
+        (images_same stamp at (3 + gap) (4 + 2 * gap + length s.pages) s.pages ∙ ap (option_map (images_of at (3 + gap) (4 + 2 * gap + length s.pages))) (is_judged gap p stamp room at s there).copies)
 
 module _ (page epoch number : ℕ) (at disk : Reader) where
   abbrev stamp : Stamp
@@ -105,14 +106,14 @@ no_last_image l third page [] is = refl
 no_last_image l third page (r ∷ records) is = by_rest (λ none. no_last_image l third page records none) (slot_of l third page records) refl is
   where
     by_rest : (slot_of l third page records ≡ None → last_image page records ≡ None) → (o : Option Slot) → slot_of l third page records ≡ o → option_or o (slot_at l third page r) ≡ None → option_or (last_image page records) (image_in page r.entry.pages r.entry.images) ≡ None
-    by_rest before None none e = λ i. option_or (before none i) (no_image_in page r.entry.number (place_of l third r.at + 3) (place_of l third r.at + 3 + length r.entry.pages + 1) r.entry.pages r.entry.images e i)
+    by_rest before None none e = λ i. option_or (before none i) (no_image_in page r.entry.number (place_of l third r.at + 3 + (gap_of l)) (place_of l third r.at + 3 + (gap_of l) + length r.entry.pages + 1 + (gap_of l)) r.entry.pages r.entry.images e i)
     by_rest before (Some s) none e = absurd (cc e)
 
 -- ---- on the tape
 
 module _ (l : Shape) (epoch third page : ℕ) (one_of : third ≤ 2) (disk : Reader) where
   module _ (h : Head) (r : Placed) (h1 : Head) (is_in : IsIn l h) (is : IsFound l epoch (tape l third disk) h r h1) where
-    in_third : InThird l third r.at (record_len (length r.entry.pages)) is.end
+    in_third : InThird l third r.at (record_len (gap_of l) (length r.entry.pages)) is.end
     in_third =
         let one = found_goes_on l epoch (tape l third disk) h r h1 is_in is in
         let end : h1.end ≡ is.end = ap (λ (x : Head). x.end) is.goes_on in
@@ -123,26 +124,26 @@ module _ (l : Shape) (epoch third page : ℕ) (one_of : third ≤ 2) (disk : Rea
           to = omega (arith, one.is_in.before, one.to, end);
         }
 
-    found : record_in l.pages (record { epoch = epoch; number = h.number }) (room_at r.at is.end) (window (tape l third disk) r.at (room_at r.at is.end)) ≡ Some r.entry
+    found : record_in (gap_of l) l.pages (record { epoch = epoch; number = h.number }) (room_at r.at is.end) (window (tape l third disk) r.at (room_at r.at is.end)) ≡ Some r.entry
     found = (here_some l epoch (tape l third disk) h.number r.at is.end r.entry is.found).1
 
-    seen_at : (k : ℕ) → k < record_len (length r.entry.pages) → window (tape l third disk) r.at (room_at r.at is.end) k ≡ disk (place_of l third r.at + k)
+    seen_at : (k : ℕ) → k < record_len (gap_of l) (length r.entry.pages) → window (tape l third disk) r.at (room_at r.at is.end) k ≡ disk (place_of l third r.at + k)
     seen_at k lt =
-        let within : InThird l third r.at (record_len (length r.entry.pages)) is.end = in_third in
-        let room : record_len (length r.entry.pages) ≤ room_at r.at is.end = record_room l.pages (record { epoch = epoch; number = h.number }) (room_at r.at is.end) (window (tape l third disk) r.at (room_at r.at is.end)) r.entry found in
+        let within : InThird l third r.at (record_len (gap_of l) (length r.entry.pages)) is.end = in_third in
+        let room : record_len (gap_of l) (length r.entry.pages) ≤ room_at r.at is.end = record_room (gap_of l) l.pages (record { epoch = epoch; number = h.number }) (room_at r.at is.end) (window (tape l third disk) r.at (room_at r.at is.end)) r.entry found in
         cond-true (nat_lt k (room_at r.at is.end)) (tape l third disk (r.at + k)) None (lt-ltb k (room_at r.at is.end) (omega (arith, lt, room)))
         ∙ cond-true (nat_lt (r.at + k) (3 * l.third)) (disk (place_of l third (r.at + k))) None (lt-ltb (r.at + k) (3 * l.third) (omega (arith, lt, within.to, end_most l is.end within.ends)))
-        ∙ ap disk (place_add l third r.at (record_len (length r.entry.pages)) is.end k within lt)
+        ∙ ap disk (place_add l third r.at (record_len (gap_of l) (length r.entry.pages)) is.end k within lt)
 
     pub found_image : (slot : Slot) → slot_at l third page r ≡ Some slot → GivesSlot page epoch disk slot (image_in page r.entry.pages r.entry.images)
     found_image slot there =
         let n : ℕ = length r.entry.pages in
         let number : r.entry.number ≡ h.number = found_number l epoch (tape l third disk) h r h1 is in
-        let images = images_there l.pages (record { epoch = epoch; number = h.number }) (room_at r.at is.end) (window (tape l third disk) r.at (room_at r.at is.end)) r.entry found in
-        image_of_slot page epoch r.entry.number (window (tape l third disk) r.at (room_at r.at is.end)) disk 3 (4 + length r.entry.pages) (place_of l third r.at + 3) (place_of l third r.at + 3 + length r.entry.pages + 1) r.entry.pages r.entry.images slot
-        (subst (λ (m : ℕ). images_at (record { epoch = epoch; number = m }) (window (tape l third disk) r.at (room_at r.at is.end)) 3 (4 + length r.entry.pages) r.entry.pages ≡ Some r.entry.images) (sym number) images)
-        (λ j lt. let place : place_of l third r.at + (3 + j) ≡ place_of l third r.at + 3 + j = omega arith in seen_at (3 + j) (omega (arith, lt)) ∙ ap disk place)
-        (λ j lt. let place : place_of l third r.at + (4 + length r.entry.pages + j) ≡ place_of l third r.at + 3 + length r.entry.pages + 1 + j = omega arith in seen_at (4 + length r.entry.pages + j) (omega (arith, lt)) ∙ ap disk place)
+        let images = images_there (gap_of l) l.pages (record { epoch = epoch; number = h.number }) (room_at r.at is.end) (window (tape l third disk) r.at (room_at r.at is.end)) r.entry found in
+        image_of_slot page epoch r.entry.number (window (tape l third disk) r.at (room_at r.at is.end)) disk (3 + (gap_of l)) (4 + 2 * (gap_of l) + length r.entry.pages) (place_of l third r.at + 3 + (gap_of l)) (place_of l third r.at + 3 + (gap_of l) + length r.entry.pages + 1 + (gap_of l)) r.entry.pages r.entry.images slot
+        (subst (λ (m : ℕ). images_at (record { epoch = epoch; number = m }) (window (tape l third disk) r.at (room_at r.at is.end)) (3 + (gap_of l)) (4 + 2 * (gap_of l) + length r.entry.pages) r.entry.pages ≡ Some r.entry.images) (sym number) images)
+        (λ j lt. let place : place_of l third r.at + (3 + (gap_of l) + j) ≡ place_of l third r.at + 3 + (gap_of l) + j = omega arith in seen_at (3 + (gap_of l) + j) (omega (arith, lt)) ∙ ap disk place)
+        (λ j lt. let place : place_of l third r.at + (4 + 2 * (gap_of l) + length r.entry.pages + j) ≡ place_of l third r.at + 3 + (gap_of l) + length r.entry.pages + 1 + (gap_of l) + j = omega arith in seen_at (4 + 2 * (gap_of l) + length r.entry.pages + j) (omega (arith, lt)) ∙ ap disk place)
         there
 
   pub last_image_read : (h : Head) (records : List Placed) (end : Head) (slot : Slot) → IsIn l h → Goes l epoch (tape l third disk) h records end → slot_of l third page records ≡ Some slot → GivesSlot page epoch disk slot (last_image page records)

@@ -8,6 +8,7 @@ use Rattle.std.proofs.lemmas.List.Sums.{sum_by-append}
 use Rattle.std.proofs.lemmas.Bool.{cases_lt, cond-true, cond-false, lt-ltb, le-ltb, le-leb, lt-leb, and_from, and_right}
 use Rattle.volume_layout.specs.Shape.{Shape}
 use Rattle.volume_layout.specs.Layout.{third_start}
+use Rattle.volume_layout.specs.Kinds.{gap_of}
 use Rattle.fsd_formats.specs.Record.{record_len}
 use Rattle.sector_disk.specs.declared.sector.Sector.{Sector}
 use Rattle.sector_disk.specs.Image.{stand, sector_at, IsWorn, Windows, open_damage, bytes_of}
@@ -111,7 +112,7 @@ module _ (t first : ℕ) (front rest : List Placed) (before : AllByRecursion (λ
 -- the record lies in one third of the tape
 pub record LiesOn (l : Shape) (third : ℕ) (r : Placed) : Type 0 where
   pub end : ℕ
-  pub inside : InThird l third r.at (record_len (length r.entry.pages)) end
+  pub inside : InThird l third r.at (record_len (gap_of l) (length r.entry.pages)) end
 
 module _ (l : Shape) (epoch third : ℕ) (le : third ≤ 2) (disk : Reader) where
   pub goes_lie : (h : Head) (rs : List Placed) (end : Head) → IsIn l h → Goes l epoch disk h rs end → AllByRecursion (LiesOn l third) rs
@@ -187,7 +188,7 @@ module _ (l : Shape) (third next : ℕ) (low : third ≤ 2) (is_next : IsNextThi
   IsOutside s = lies_in (third_start l third) l.third (Some s) ≡ false
 
   front_in : (r : Placed) → LiesOn l third r → r.at < l.third → IfSome (slot_at l third page r) IsInFirst
-  front_in r lies lt = by_slot (slot_at l third page r) (in_pages page r.entry.number (place_of l third r.at + 3) (place_of l third r.at + 3 + length r.entry.pages + 1) r.entry.pages)
+  front_in r lies lt = by_slot (slot_at l third page r) (in_pages page r.entry.number (place_of l third r.at + 3 + (gap_of l)) (place_of l third r.at + 3 + (gap_of l) + length r.entry.pages + 1 + (gap_of l)) r.entry.pages)
     where
       ends : lies.end ≡ l.third
       ends = ⊎_elim (λ e. e) (λ o. ⊎_elim (λ e. absurd (omega (arith, e, lies.inside.from, lt))) (λ e. absurd (omega (arith, e, lies.inside.from, lt))) o) lies.inside.ends
@@ -195,17 +196,17 @@ module _ (l : Shape) (third next : ℕ) (low : third ≤ 2) (is_next : IsNextThi
       place : place_of l third r.at ≡ 16 + (third * l.third + r.at)
       place = let most = first_most l third low in elim (place_cases l third r.at) [ inl p ↦ p.0 | inr p ↦ absurd (let far = p.1 in omega (arith, far, most, lt)) ]
 
-      by_slot : (o : Option Slot) → IfSome o (λ s. (place_of l third r.at + 3 ≤ s.place) × (s.place < place_of l third r.at + 3 + length r.entry.pages)) → IfSome o IsInFirst
+      by_slot : (o : Option Slot) → IfSome o (λ s. (place_of l third r.at + 3 + (gap_of l) ≤ s.place) × (s.place < place_of l third r.at + 3 + (gap_of l) + length r.entry.pages)) → IfSome o IsInFirst
       by_slot None is = tt
       by_slot (Some s) is = let from = is.0 in let to = is.1 in lies_yes (third_start l third) l.third s (omega (arith, from, place)) (omega (arith, to, place, ends, lies.inside.to))
 
   rest_out : (r : Placed) → LiesOn l third r → l.third ≤ r.at → IfSome (slot_at l third page r) IsOutside
-  rest_out r lies ge = by_slot (slot_at l third page r) (in_pages page r.entry.number (place_of l third r.at + 3) (place_of l third r.at + 3 + length r.entry.pages + 1) r.entry.pages)
+  rest_out r lies ge = by_slot (slot_at l third page r) (in_pages page r.entry.number (place_of l third r.at + 3 + (gap_of l)) (place_of l third r.at + 3 + (gap_of l) + length r.entry.pages + 1 + (gap_of l)) r.entry.pages)
     where
       most : lies.end ≤ 3 * l.third
       most = ⊎_elim (λ e. omega (arith, e)) (λ o. ⊎_elim (λ e. omega (arith, e)) (λ e. omega (arith, e)) o) lies.inside.ends
 
-      by_slot : (o : Option Slot) → IfSome o (λ s. (place_of l third r.at + 3 ≤ s.place) × (s.place < place_of l third r.at + 3 + length r.entry.pages)) → IfSome o IsOutside
+      by_slot : (o : Option Slot) → IfSome o (λ s. (place_of l third r.at + 3 + (gap_of l) ≤ s.place) × (s.place < place_of l third r.at + 3 + (gap_of l) + length r.entry.pages)) → IfSome o IsOutside
       by_slot None is = tt
       by_slot (Some s) is =
           let from = is.0 in
@@ -218,7 +219,7 @@ module _ (l : Shape) (third next : ℕ) (low : third ≤ 2) (is_next : IsNextThi
   slot_moved : (r : Placed) → LiesOn l third r → l.third ≤ r.at → slot_at l next page (back l.third r) ≡ slot_at l third page r
   slot_moved r lies ge =
       let place = place_back l third next is_next r lies ge in
-      λ i. slot_in page r.entry.number (place i + 3) (place i + 3 + length r.entry.pages + 1) r.entry.pages
+      λ i. slot_in page r.entry.number (place i + 3 + (gap_of l)) (place i + 3 + (gap_of l) + length r.entry.pages + 1 + (gap_of l)) r.entry.pages
 
   slots_back : (rs : List Placed) → AllByRecursion (LiesOn l third) rs → AllByRecursion (λ r. l.third ≤ r.at) rs → slot_of l next page (map (back l.third) rs) ≡ slot_of l third page rs
   slots_back [] lie behind = refl

@@ -74,10 +74,10 @@ pub read_past : (whole : List Bool) (bytes : List ℕ) (k : ℕ) → length whol
 read_past whole bytes k past = ap (λ (b : Bool). if b then Some (slice_of bytes k) else None) (get_or_past whole k false past)
 
 -- the headers, and then as far as they say
-pub record_read : (honest honest1 : Type 0) (old mid new : Moment) (p : ℕ) (stamp : Stamp) (place room first count : ℕ) (whole whole1 whole2 : List Bool) (bytes bytes1 bytes2 : List ℕ) → whole ≡ [] → (honest1 → honest) → (honest1 → Wears old mid) → (honest1 → Wears mid new)
-    → first ≡ min room headers_len → ReadsOn honest old mid place first whole whole1 bytes bytes1 → count ≡ reach p stamp room (read_of whole1 bytes1) → ReadsOn honest1 mid new place count whole1 whole2 bytes1 bytes2
-    → ReadsRecord honest1 old new p stamp place room whole2 bytes2
-record_read honest honest1 old mid new p stamp place room first count whole whole1 whole2 bytes bytes1 bytes2 none back wears later is_first front is_count rest = record {
+pub record_read : (gap : ℕ) → (honest honest1 : Type 0) (old mid new : Moment) (p : ℕ) (stamp : Stamp) (place room first count : ℕ) (whole whole1 whole2 : List Bool) (bytes bytes1 bytes2 : List ℕ) → whole ≡ [] → (honest1 → honest) → (honest1 → Wears old mid) → (honest1 → Wears mid new)
+    → first ≡ min room (headers_len gap) → ReadsOn honest old mid place first whole whole1 bytes bytes1 → count ≡ reach gap p stamp room (read_of whole1 bytes1) → ReadsOn honest1 mid new place count whole1 whole2 bytes1 bytes2
+    → ReadsRecord gap honest1 old new p stamp place room whole2 bytes2
+record_read gap honest honest1 old mid new p stamp place room first count whole whole1 whole2 bytes bytes1 bytes2 none back wears later is_first front is_count rest = record {
   run = record {
     many = refl;
     long = rest.long ∙ ap (λ (n : ℕ). 512 * n) (sym rest.many);
@@ -87,13 +87,13 @@ record_read honest honest1 old mid new p stamp place room first count whole whol
     ];
   };
   within = within;
-  reaches = rest.many ∙ is_count ∙ λ i. max (min headers_len room) (max (len_by p stamp room (header 0 (omega arith) i)) (len_by p stamp room (header 2 (omega arith) i)));
+  reaches = rest.many ∙ is_count ∙ λ i. max (min (headers_len gap) room) (max (len_by gap p stamp room (header 0 (omega arith) i)) (len_by gap p stamp room (header (2 + gap) (omega arith) i)));
 }
   where
     within : length whole2 ≤ room
-    within = omega (arith, rest.many, is_count, reach_most p stamp room (read_of whole1 bytes1))
+    within = omega (arith, rest.many, is_count, reach_most gap p stamp room (read_of whole1 bytes1))
 
-    header : (k : ℕ) → k < headers_len → read_of whole1 bytes1 k ≡ read_of whole2 bytes2 k
+    header : (k : ℕ) → k < (headers_len gap) → read_of whole1 bytes1 k ≡ read_of whole2 bytes2 k
     header k lt = elim (cases_lt k (length whole1)) [
       | inl there ↦ sym (rest.kept k there)
       | inr past ↦ read_past whole1 bytes1 k past ∙ sym (read_past whole2 bytes2 k (omega (arith, within, front.many, is_first, past, lt)))

@@ -2,6 +2,7 @@
 use Rattle.std.proofs.Common.{◌≡◌, ℕ, ◌+◌, ◌*◌, List, [], ◌∷◌, ◌++◌, Option, Some, None, refl, sym, ap, subst, arith, inl}
 use Rattle.std.specs.Prelude.{option_map, replicate}
 use Rattle.volume_layout.specs.Shape.{Shape}
+use Rattle.volume_layout.specs.Kinds.{gap_of}
 use Rattle.fsd_formats.specs.Record.{Stamp}
 use Rattle.fsd_log.specs.Judged.{Reader, Logged, Serving, judged, logged_of, record_in}
 use Rattle.log_thirds.specs.declared.slots.Slot.{Slot}
@@ -34,17 +35,17 @@ reaches_as l epoch first third disk h f f1 s s1 c one two so_far =
     subst (λ (x : List (Option Slot)). Reaches l epoch first third disk h f1 x c) (sym two) (subst (λ (x : Firsts). Reaches l epoch first third disk h x s c) (sym one) so_far)
 
 -- a record bears the number that is looked for
-pub record_number : (p : ℕ) (stamp : Stamp) (room : ℕ) (at : Reader) (r : Logged) → record_in p stamp room at ≡ Some r → r.number ≡ stamp.number
+pub record_number : (gap : ℕ) → (p : ℕ) (stamp : Stamp) (room : ℕ) (at : Reader) (r : Logged) → record_in gap p stamp room at ≡ Some r → r.number ≡ stamp.number
 unfolding record_in
-record_number p stamp room at r is = by_judged (judged p stamp room at) is
+record_number gap p stamp room at r is = by_judged (judged gap p stamp room at) is
   where
-    by_judged : (o : Option Serving) → option_map (logged_of stamp.number at) o ≡ Some r → r.number ≡ stamp.number
+    by_judged : (o : Option Serving) → option_map (logged_of gap stamp.number at) o ≡ Some r → r.number ≡ stamp.number
     by_judged None e = absurd (cc)
-    by_judged (Some s) e = let same : logged_of stamp.number at s ≡ r = cc in ap (λ (x : Logged). x.number) (sym same)
+    by_judged (Some s) e = let same : logged_of gap stamp.number at s ≡ r = cc in ap (λ (x : Logged). x.number) (sym same)
 
 pub found_number : (l : Shape) (epoch : ℕ) (disk : Reader) (h : Head) (r : Placed) (h1 : Head) → IsFound l epoch disk h r h1 → r.entry.number ≡ h.number
 found_number l epoch disk h r h1 is =
-    record_number l.pages (record { epoch = epoch; number = h.number }) (room_at r.at is.end) (window disk r.at (room_at r.at is.end)) r.entry (here_some l epoch disk h.number r.at is.end r.entry is.found).1
+    record_number (gap_of l) l.pages (record { epoch = epoch; number = h.number }) (room_at r.at is.end) (window disk r.at (room_at r.at is.end)) r.entry (here_some l epoch disk h.number r.at is.end r.entry is.found).1
 
 pub reaches_on : (l : Shape) (epoch first third : ℕ) (disk : Reader) (h : Head) (f : Firsts) (slots : List (Option Slot)) (step : Stepped) (c c1 : Copies) → Reaches l epoch first third disk h f slots c → AreCopiesOf l epoch third (record { at = step.from; entry = step.entry }) c1 → Some step ≡ option_map stepped_of (next l epoch disk h)
     → Reaches l epoch first third disk (record { number = h.number + 1; at = step.at; end = step.end }) (firsts_with l.third step.from f) (slots_with l third h.number step.from step.entry.pages slots) c1

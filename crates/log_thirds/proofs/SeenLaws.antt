@@ -10,6 +10,7 @@ use Rattle.sector_disk.specs.Image.{sector_at, lay, IsWorn, open_damage, bytes_o
 use Rattle.sector_disk.specs.Machine.{Moment, Wears}
 use Rattle.sector_disk.proofs.Wear.{worn_trans, worn_whole, length-lay, lay_other, outside_cases, whole_of, damaged_of}
 use Rattle.volume_layout.specs.Shape.{Shape}
+use Rattle.volume_layout.specs.Kinds.{gap_of}
 use Rattle.fsd_formats.specs.Record.{Stamp}
 use Rattle.fsd_log.specs.Judged.{Reader, Serving, judged, logged_of, record_in}
 use Rattle.fsd_log.specs.Scan.{IsEnd, Head, place_of, tape, room_at, window, record_here, last_number, start}
@@ -44,7 +45,7 @@ lay_at image first sector (suc k) j lt room = elim (cases_eq j k) [
 ]
 
 module _ (l : Shape) (first at end : ℕ) (one : first ≤ 2) (before : at ≤ end) (from : end ≤ at + l.third) (ends : IsEnd l end) (old new : Moment) (wears : Wears old new) (honest : Type 0) (h : honest)
-    (place : ℕ) (is_place : place ≡ place_of l first at) (p : ℕ) (stamp : Stamp) (whole : List Bool) (bytes : List ℕ) (is : ReadsRecord honest old new p stamp place (room_at at end) whole bytes)
+    (place : ℕ) (is_place : place ≡ place_of l first at) (p : ℕ) (stamp : Stamp) (whole : List Bool) (bytes : List ℕ) (is : ReadsRecord (gap_of l) honest old new p stamp place (room_at at end) whole bytes)
     (j : List Sector) (jw : IsWorn (open_damage old.windows) j old.image) where
   abbrev may : ℕ → Bool
   may = open_damage old.windows
@@ -149,26 +150,26 @@ module _ (l : Shape) (first at end : ℕ) (one : first ≤ 2) (before : at ≤ e
   read_window : (k : ℕ) → k < length whole → read_of whole bytes k ≡ window (tape l first (reads seen)) at (room_at at end) k
   read_window k lt = sym (seen_read k lt) ∙ sym (cond-true (nat_lt k (room_at at end)) (tape l first (reads seen) (at + k)) None (lt-ltb _ _ (omega (arith, is.within))))
 
-  read_header : (k : ℕ) → k < headers_len → read_of whole bytes k ≡ window (tape l first (reads seen)) at (room_at at end) k
+  read_header : (k : ℕ) → k < (headers_len (gap_of l)) → read_of whole bytes k ≡ window (tape l first (reads seen)) at (room_at at end) k
   read_header k lt = elim (cases_lt k (length whole)) [
     | inl there ↦ read_window k there
     | inr past ↦ read_past whole bytes k past ∙ sym (cond-false (nat_lt k (room_at at end)) (tape l first (reads seen) (at + k)) None (le-ltb _ _ (omega (arith, is.reaches, past, lt))))
   ]
 
-  pub judged_seen : (o : Option Serving) → o ≡ judged p stamp (length whole) (read_of whole bytes)
-      → option_map (logged_of stamp.number (read_of whole bytes)) o ≡ record_in p stamp (room_at at end) (window (tape l first (reads seen)) at (room_at at end))
+  pub judged_seen : (o : Option Serving) → o ≡ judged (gap_of l) p stamp (length whole) (read_of whole bytes)
+      → option_map (logged_of (gap_of l) stamp.number (read_of whole bytes)) o ≡ record_in (gap_of l) p stamp (room_at at end) (window (tape l first (reads seen)) at (room_at at end))
   unfolding record_in
   judged_seen o e =
-      ap (option_map (logged_of stamp.number (read_of whole bytes))) e
-      ∙ record_within p stamp (room_at at end) (length whole) (window (tape l first (reads seen)) at (room_at at end)) (read_of whole bytes)
-      (record { within = is.within; alike = read_window; header = read_header 0 (omega arith); copy = read_header 2 (omega arith) }) (omega (arith, is.reaches))
+      ap (option_map (logged_of (gap_of l) stamp.number (read_of whole bytes))) e
+      ∙ record_within (gap_of l) p stamp (room_at at end) (length whole) (window (tape l first (reads seen)) at (room_at at end)) (read_of whole bytes)
+      (record { within = is.within; alike = read_window; header = read_header 0 (omega arith); copy = read_header (2 + (gap_of l)) (omega arith) }) (omega (arith, is.reaches))
 
 -- ---- what was found before stays
 
 -- a record is looked for in front of its third's end
 pub here_below : (l : Shape) (epoch : ℕ) (old new : Reader) (number at end : ℕ) → at ≤ end → ((w : ℕ) → w < end → new w ≡ old w) → record_here l epoch new number at end ≡ record_here l epoch old number at end
 here_below l epoch old new number at end le same =
-    ap (λ (d : Reader). if nat_lt number last_number then record_in l.pages (record { epoch = epoch; number = number }) (room_at at end) d else None) (λ i k. pointwise k i)
+    ap (λ (d : Reader). if nat_lt number last_number then record_in (gap_of l) l.pages (record { epoch = epoch; number = number }) (room_at at end) d else None) (λ i k. pointwise k i)
   where
     by_test : (k : ℕ) (b : Bool) → nat_lt k (room_at at end) ≡ b → (if b then new (at + k) else None) ≡ (if b then old (at + k) else None)
     by_test k true is = same (at + k) (let lt : k < room_at at end = ltb-true k (room_at at end) is in omega (arith, lt, le))

@@ -4,6 +4,7 @@ use Rattle.std.specs.List.{AllByRecursion}
 use Rattle.std.proofs.lemmas.Bool.{cases_lt, cond-true, cond-false, lt-ltb, le-ltb}
 use Rattle.std.specs.Prelude.{if◌then◌else◌}
 use Rattle.volume_layout.specs.Shape.{Shape}
+use Rattle.volume_layout.specs.Kinds.{gap_of}
 use Rattle.fsd_formats.specs.Record.{record_len}
 use Rattle.fsd_log.specs.Judged.{Reader, record_in}
 use Rattle.fsd_log.specs.Borne.{Foreign}
@@ -24,8 +25,8 @@ module _ (l : Shape) (epoch : ℕ) (old new : Reader) (shifted : IsShifted l old
   same_here number at end from before inside =
       let room : room_at (at - l.third) (end - l.third) ≡ room_at at end = omega arith in
       let windows : window new (at - l.third) (room_at at end) ≡ window old at (room_at at end) = λ i k. pointwise k i in
-      (λ i. if nat_lt number last_number then record_in l.pages (stamp_of epoch number) (room i) (window new (at - l.third) (room i)) else None)
-      ∙ ap (λ (r : Reader). if nat_lt number last_number then record_in l.pages (stamp_of epoch number) (room_at at end) r else None) windows
+      (λ i. if nat_lt number last_number then record_in (gap_of l) l.pages (stamp_of epoch number) (room i) (window new (at - l.third) (room i)) else None)
+      ∙ ap (λ (r : Reader). if nat_lt number last_number then record_in (gap_of l) l.pages (stamp_of epoch number) (room_at at end) r else None) windows
     where
       pointwise : (k : ℕ) → window new (at - l.third) (room_at at end) k ≡ window old at (room_at at end) k
       pointwise k = elim (cases_lt k (room_at at end)) [
@@ -54,7 +55,7 @@ module _ (l : Shape) (epoch : ℕ) (old new : Reader) (shifted : IsShifted l old
         goes_on = (λ i. head_back l.third (is.goes_on i)) ∙ λ i. record { number = h.number + 1; at = moved_on i; end = is.end - l.third };
       }
     where
-      moved_on : r.at + record_len (length r.entry.pages) - l.third ≡ r.at - l.third + record_len (length r.entry.pages)
+      moved_on : r.at + record_len (gap_of l) (length r.entry.pages) - l.third ≡ r.at - l.third + record_len (gap_of l) (length r.entry.pages)
       moved_on = let one = found_goes_on l epoch old h r h1 is_in is in omega (arith, one.from)
 
   goes_back : (h : Head) (rs : List Placed) (end : Head) → IsIn l h → l.third < h.at → Goes l epoch old h rs end → Goes l epoch new (head_back l.third h) (map (back l.third) rs) (head_back l.third end)
@@ -109,7 +110,7 @@ module _ (l : Shape) (epoch : ℕ) (old new : Reader) (shifted : IsShifted l old
           let found : record_here l epoch new h.number (r.at - l.third) (goes.1.end - l.third) ≡ Some r.entry =
           same_here h.number r.at goes.1.end (omega (arith, at)) (omega (arith, at, last)) (omega (arith, ends, end_most l goes.0.end one.is_in.ends)) ∙ goes.1.found in
           let count : h.number ≡ h.number + length {A = Placed} [] = omega arith in
-          let moved : r.at + record_len (length r.entry.pages) - l.third ≡ r.at - l.third + record_len (length r.entry.pages) = omega (arith, at) in
+          let moved : r.at + record_len (gap_of l) (length r.entry.pages) - l.third ≡ r.at - l.third + record_len (gap_of l) (length r.entry.pages) = omega (arith, at) in
           let step : IsFound l epoch new (start l h.number) (back l.third r) (head_back l.third goes.0) = record {
             end = goes.1.end - l.third;
             place = inl (record { at_head = omega (arith, at); in_third = omega (arith, last) });
@@ -151,7 +152,7 @@ module _ (l : Shape) (epoch first : ℕ) (fits : epoch < 2 ^ 32) (third : 0 < l.
   ]
 
   none_at : (at end : ℕ) → record_here l epoch new h.number at end ≡ None
-  none_at at end = here_none l epoch new h.number at end (foreign_absent l.pages (stamp_of epoch h.number) (record { epoch = fits; number = small }) (room_at at end) (window new at (room_at at end))
+  none_at at end = here_none l epoch new h.number at end (foreign_absent (gap_of l) l.pages (stamp_of epoch h.number) (record { epoch = fits; number = small }) (room_at at end) (window new at (room_at at end))
       (window_foreign (stamp_of epoch h.number) new at (room_at at end) (λ k inside. fresh (at + k) h.number (omega arith))))
 
   pub moves_on : MovesOn l epoch first new rs h

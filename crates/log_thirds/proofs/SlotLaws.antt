@@ -5,6 +5,7 @@ use Rattle.std.specs.Option.{option_or}
 use Rattle.std.proofs.lemmas.Bool.{eqb-true, eqb-false, cases_eq, cases_lt}
 use Rattle.std.proofs.lemmas.List.{length-set, drop_all, length-replicate, get_or-replicate, set_past, get_or_past}
 use Rattle.volume_layout.specs.Shape.{Shape}
+use Rattle.volume_layout.specs.Kinds.{gap_of}
 use Rattle.fsd_log.specs.Scan.{Placed, place_of}
 use Rattle.log_thirds.specs.declared.slots.Slot.{Slot}
 use Rattle.log_thirds.specs.Slots.{slot_in, slot_at, slot_of, noted, slots_with, AreSlots, LieInRecords, SlotsInside}
@@ -61,8 +62,8 @@ slot_of-append l third page (q ∷ records) r =
 pub slots_more : (l : Shape) (third : ℕ) (records : List Placed) (r : Placed) (slots : List (Option Slot)) → AreSlots l third records slots
     → AreSlots l third (records ++ r ∷ []) (slots_with l third r.entry.number r.at r.entry.pages slots)
 slots_more l third records r slots are page lt =
-    let within : page < length slots = omega (arith, lt, length-noted r.entry.number slots (place_of l third r.at + 3) (place_of l third r.at + 3 + length r.entry.pages + 1) r.entry.pages) in
-    get-noted r.entry.number slots (place_of l third r.at + 3) (place_of l third r.at + 3 + length r.entry.pages + 1) page r.entry.pages within
+    let within : page < length slots = omega (arith, lt, length-noted r.entry.number slots (place_of l third r.at + 3 + (gap_of l)) (place_of l third r.at + 3 + (gap_of l) + length r.entry.pages + 1 + (gap_of l)) r.entry.pages) in
+    get-noted r.entry.number slots (place_of l third r.at + 3 + (gap_of l)) (place_of l third r.at + 3 + (gap_of l) + length r.entry.pages + 1 + (gap_of l)) page r.entry.pages within
     ∙ ap (λ (o : Option Slot). option_or (slot_at l third page r) o) (are page within)
     ∙ sym (slot_of-append l third page records r)
 
@@ -126,17 +127,17 @@ pub none_lie : (l : Shape) (n : ℕ) → LieInRecords l (replicate n None)
 none_lie l n = none_each (λ slot. LieInRecord l slot.place slot.copy) n
 
 -- a record that ends in its third lies on the disk
-pub record_inside : (l : Shape) (third number at end place : ℕ) (pages : List ℕ) (slots : List (Option Slot)) → InThird l third at (2 * length pages + 5) end → 16 + 3 * l.third ≤ l.sectors → place ≡ place_of l third at
-    → SlotsInside l.sectors slots → SlotsInside l.sectors (noted number (place + 3) (place + 3 + length pages + 1) pages slots)
+pub record_inside : (l : Shape) (third number at end place : ℕ) (pages : List ℕ) (slots : List (Option Slot)) → InThird l third at (2 * length pages + (5 + 2 * (gap_of l))) end → 16 + 3 * l.third ≤ l.sectors → place ≡ place_of l third at
+    → SlotsInside l.sectors slots → SlotsInside l.sectors (noted number (place + 3 + (gap_of l)) (place + 3 + (gap_of l) + length pages + 1 + (gap_of l)) pages slots)
 record_inside l third number at end place pages slots within fits is inside =
-    let last = place_inside l third at (2 * length pages + 5) end within (omega arith) in
-    noted_inside l.sectors number (place + 3) (place + 3 + length pages + 1) pages slots (omega (arith, last, fits, is)) (omega (arith, last, fits, is)) inside
+    let last = place_inside l third at (2 * length pages + (5 + 2 * (gap_of l))) end within (omega arith) in
+    noted_inside l.sectors number (place + 3 + (gap_of l)) (place + 3 + (gap_of l) + length pages + 1 + (gap_of l)) pages slots (omega (arith, last, fits, is)) (omega (arith, last, fits, is)) inside
 
 -- its pages' sectors are those of a record in the log
-pub record_lies : (l : Shape) (third number at end place : ℕ) (pages : List ℕ) (slots : List (Option Slot)) → InThird l third at (2 * length pages + 5) end → place ≡ place_of l third at
-    → LieInRecords l slots → LieInRecords l (noted number (place + 3) (place + 3 + length pages + 1) pages slots)
+pub record_lies : (l : Shape) (third number at end place : ℕ) (pages : List ℕ) (slots : List (Option Slot)) → InThird l third at (2 * length pages + (5 + 2 * (gap_of l))) end → place ≡ place_of l third at
+    → LieInRecords l slots → LieInRecords l (noted number (place + 3 + (gap_of l)) (place + 3 + (gap_of l) + length pages + 1 + (gap_of l)) pages slots)
 record_lies l third number at end place pages slots within is before =
-    let last = place_inside l third at (2 * length pages + 5) end within (omega arith) in
+    let last = place_inside l third at (2 * length pages + (5 + 2 * (gap_of l))) end within (omega arith) in
     let from = place_from l third at in
-    noted_each (λ slot. LieInRecord l slot.place slot.copy) number (place + 3) (place + 3 + length pages + 1) pages slots
+    noted_each (λ slot. LieInRecord l slot.place slot.copy) number (place + 3 + (gap_of l)) (place + 3 + (gap_of l) + length pages + 1 + (gap_of l)) pages slots
     (λ j lt. record { start = place; count = length pages; index = j; there = lt; first = refl; copy = refl; from = omega (arith, from, is); to = omega (arith, last, is) }) before

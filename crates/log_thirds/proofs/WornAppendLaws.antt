@@ -3,6 +3,7 @@ use Rattle.std.proofs.Common.{◌≡◌, ℕ, ◌+◌, ◌-◌, ◌*◌, ◌^◌
 use Rattle.std.specs.Prelude.{IsTrue}
 use Rattle.std.proofs.lemmas.Bool.{cond-true, lt-ltb, cases_lt}
 use Rattle.volume_layout.specs.Shape.{Shape}
+use Rattle.volume_layout.specs.Kinds.{gap_of}
 use Rattle.fsd_formats.specs.Record.{header_bytes, end_bytes, record_len}
 use Rattle.fsd_log.specs.Judged.{Reader, slice_of}
 use Rattle.fsd_log.specs.Borne.{borne_by, Foreign, FitsStamp}
@@ -15,6 +16,7 @@ use Rattle.fsd_log.proofs.HereLaws.{here_looks, here_none}
 use Rattle.fsd_log.specs.Scan.{IsIn, Head, Placed, Walked, room_at, window, record_here, next, scan, start, IsLog}
 use Rattle.fsd_log.proofs.WalkLaws.{stamp_of, head_behind, IsFound, Goes, GoesFar, goes_far, goes_of_walk, goes_more, walk_of_goes, none_next, TapeLess, goes_keeps}
 use Rattle.fsd_log.proofs.AppendLaws.{IsSpot, none_foreign, window_foreign, two_stamps}
+use Rattle.volume_layout.proofs.KindLaws.{gap_most}
 
 -- the first sectors of a write stand on the tape, but where they may have worn; the others are as they were
 pub record TapeWorn (weak : ℕ → Bool) (bytes : List ℕ) (at stood : ℕ) (old new : Reader) : Type 0 where
@@ -23,8 +25,8 @@ pub record TapeWorn (weak : ℕ → Bool) (bytes : List ℕ) (at stood : ℕ) (o
   pub above : (w : ℕ) → at + stood ≤ w → new w ≡ old w
 
 module _ (l : Shape) (epoch first : ℕ) (fits : epoch < 2 ^ 32) (third : 0 < l.third) (old new : Reader) (rs : List Placed) (h : Head) (log : IsLog l epoch first old rs h) (small : h.number < 2 ^ 32 - 1)
-    (pages images bytes : List ℕ) (are : ArePages l.pages pages) (laid : IsLaidAs (stamp_of epoch h.number) pages images bytes)
-    (spot : Head) (is_spot : IsSpot l (length pages) h spot) (weak : ℕ → Bool) (stood : ℕ) (within : stood ≤ record_len (length pages)) (torn : TapeWorn weak bytes spot.at stood old new) where
+    (pages images bytes : List ℕ) (are : ArePages l.pages pages) (laid : IsLaidAs (gap_of l) (stamp_of epoch h.number) pages images bytes)
+    (spot : Head) (is_spot : IsSpot l (length pages) h spot) (weak : ℕ → Bool) (stood : ℕ) (within : stood ≤ record_len (gap_of l) (length pages)) (torn : TapeWorn weak bytes spot.at stood old new) where
   stamp_fits : (m : ℕ) → m < 2 ^ 32 → FitsStamp (stamp_of epoch m)
   stamp_fits m lt = record { epoch = fits; number = lt }
 
@@ -81,14 +83,14 @@ module _ (l : Shape) (epoch first : ℕ) (fits : epoch < 2 ^ 32) (third : 0 < l.
   none_at : (m at end : ℕ) → h.number ≤ m → m < 2 ^ 32 → ((k : ℕ) → k < room_at at end → (at + k < spot.at) ⊎ (spot.at + stood ≤ at + k)) → record_here l epoch new m at end ≡ None
   none_at m at end from lt where_ =
       here_none l epoch new m at end
-      (foreign_absent l.pages (stamp_of epoch m) (stamp_fits m lt) (room_at at end) (window new at (room_at at end))
+      (foreign_absent (gap_of l) l.pages (stamp_of epoch m) (stamp_fits m lt) (room_at at end) (window new at (room_at at end))
       (window_foreign (stamp_of epoch m) new at (room_at at end) (λ k inside. old_foreign (at + k) m from (where_ k inside))))
 
-  roomy : record_len (length pages) ≤ room_at spot.at spot.end
-  roomy = omega (arith, is_spot.fits, are.few)
+  roomy : record_len (gap_of l) (length pages) ≤ room_at spot.at spot.end
+  roomy = omega (arith, is_spot.fits, are.few, gap_most l)
 
   -- in the window each sector is as laid, or bears nothing of it
-  in_window : (k : ℕ) → k < record_len (length pages) → AsLaid (stamp_of epoch h.number) (slice_of bytes k) (window new spot.at (room_at spot.at spot.end) k)
+  in_window : (k : ℕ) → k < record_len (gap_of l) (length pages) → AsLaid (stamp_of epoch h.number) (slice_of bytes k) (window new spot.at (room_at spot.at spot.end) k)
   in_window k lt =
       let seen : window new spot.at (room_at spot.at spot.end) k ≡ new (spot.at + k) = cond-true (nat_lt k (room_at spot.at spot.end)) (new (spot.at + k)) None (lt-ltb k (room_at spot.at spot.end) (omega (arith, roomy))) in
       subst (AsLaid (stamp_of epoch h.number) (slice_of bytes k)) (sym seen)
@@ -97,37 +99,37 @@ module _ (l : Shape) (epoch first : ℕ) (fits : epoch < 2 ^ 32) (third : 0 < l.
         | inr past ↦ inr (old_foreign (spot.at + k) h.number (omega arith) (inr (omega arith)))
       ])
 
-  as_laid : (k : ℕ) (row : List ℕ) → k < record_len (length pages) → slice_of bytes k ≡ row → AsLaid (stamp_of epoch h.number) row (window new spot.at (room_at spot.at spot.end) k)
+  as_laid : (k : ℕ) (row : List ℕ) → k < record_len (gap_of l) (length pages) → slice_of bytes k ≡ row → AsLaid (stamp_of epoch h.number) row (window new spot.at (room_at spot.at spot.end) k)
   as_laid k row lt is = subst (λ (r : List ℕ). AsLaid (stamp_of epoch h.number) r (window new spot.at (room_at spot.at spot.end) k)) is (in_window k lt)
 
-  reads_laid : ReadsLaid (stamp_of epoch h.number) pages images (window new spot.at (room_at spot.at spot.end))
+  reads_laid : ReadsLaid (gap_of l) (stamp_of epoch h.number) pages images (window new spot.at (room_at spot.at spot.end))
   reads_laid = record {
     header = as_laid 0 (header_bytes (stamp_of epoch h.number) pages) (omega arith) laid.header;
-    header_copy = as_laid 2 (header_bytes (stamp_of epoch h.number) pages) (omega arith) laid.header_copy;
-    first = λ j lt. as_laid (3 + j) (slice_of images j) (omega arith) (laid.image j lt);
-    copy = λ j lt. as_laid (4 + length pages + j) (slice_of images j) (omega arith) (laid.copy j lt);
+    header_copy = as_laid (2 + (gap_of l)) (header_bytes (stamp_of epoch h.number) pages) (omega arith) laid.header_copy;
+    first = λ j lt. as_laid (3 + (gap_of l) + j) (slice_of images j) (omega arith) (laid.image j lt);
+    copy = λ j lt. as_laid (4 + 2 * (gap_of l) + length pages + j) (slice_of images j) (omega arith) (laid.copy j lt);
   }
 
-  past_foreign : (k : ℕ) → stood ≤ k → k < record_len (length pages) → Foreign (stamp_of epoch h.number) (window new spot.at (room_at spot.at spot.end) k)
+  past_foreign : (k : ℕ) → stood ≤ k → k < record_len (gap_of l) (length pages) → Foreign (stamp_of epoch h.number) (window new spot.at (room_at spot.at spot.end) k)
   past_foreign k past lt =
       let seen : window new spot.at (room_at spot.at spot.end) k ≡ new (spot.at + k) = cond-true (nat_lt k (room_at spot.at spot.end)) (new (spot.at + k)) None (lt-ltb k (room_at spot.at spot.end) (omega (arith, roomy))) in
       subst (Foreign (stamp_of epoch h.number)) (sym seen) (old_foreign (spot.at + k) h.number (omega arith) (inr (omega arith)))
 
   -- at the spot itself
-  spot_none : stood ≤ 3 + length pages → record_here l epoch new h.number spot.at spot.end ≡ None
+  spot_none : stood ≤ 3 + (gap_of l) + length pages → record_here l epoch new h.number spot.at spot.end ≡ None
   spot_none before =
       here_none l epoch new h.number spot.at spot.end
-      (endless_absent l.pages (stamp_of epoch h.number) pages are.accepted are.small (omega (arith, are.few)) (window new spot.at (room_at spot.at spot.end)) (room_at spot.at spot.end) (stamp_fits h.number (omega (arith, small)))
-      reads_laid.header reads_laid.header_copy (past_foreign (3 + length pages) before (omega arith)) (past_foreign (4 + 2 * length pages) (omega arith) (omega arith)))
+      (endless_absent (gap_of l) l.pages (stamp_of epoch h.number) pages are.accepted are.small (omega (arith, are.few)) (window new spot.at (room_at spot.at spot.end)) (room_at spot.at spot.end) (stamp_fits h.number (omega (arith, small)))
+      reads_laid.header reads_laid.header_copy (past_foreign (3 + (gap_of l) + length pages) before (omega arith)) (past_foreign (4 + 2 * (gap_of l) + 2 * length pages) (omega arith) (omega arith)))
 
   spot_either : (record_here l epoch new h.number spot.at spot.end ≡ None) ⊎ (record_here l epoch new h.number spot.at spot.end ≡ Some (new_record (stamp_of epoch h.number) pages images))
   spot_either =
       ⊎_elim (λ none. inl (here_none l epoch new h.number spot.at spot.end none)) (λ some. inr (here_looks l epoch new h.number spot.at spot.end small ∙ some))
-      (laid_or_none l.pages (stamp_of epoch h.number) (stamp_fits h.number (omega (arith, small))) pages images are (room_at spot.at spot.end) (window new spot.at (room_at spot.at spot.end)) reads_laid)
+      (laid_or_none (gap_of l) l.pages (stamp_of epoch h.number) (stamp_fits h.number (omega (arith, small))) pages images are (room_at spot.at spot.end) (window new spot.at (room_at spot.at spot.end)) reads_laid)
 
-  -- of two sectors that are not neighbours one stands
-  one_of : stood ≡ record_len (length pages) → ((k d : ℕ) → k + d < record_len (length pages) → 2 ≤ d → IsTrue (weak (spot.at + k)) → IsTrue (weak (spot.at + (k + d))) → ⊥)
-      → (k d : ℕ) (row : List ℕ) → k + d < record_len (length pages) → 2 ≤ d → slice_of bytes k ≡ row → slice_of bytes (k + d) ≡ row
+  -- of two sectors that lie so far apart one stands
+  one_of : stood ≡ record_len (gap_of l) (length pages) → ((k d : ℕ) → k + d < record_len (gap_of l) (length pages) → 2 + (gap_of l) ≤ d → IsTrue (weak (spot.at + k)) → IsTrue (weak (spot.at + (k + d))) → ⊥)
+      → (k d : ℕ) (row : List ℕ) → k + d < record_len (gap_of l) (length pages) → 2 + (gap_of l) ≤ d → slice_of bytes k ≡ row → slice_of bytes (k + d) ≡ row
       → (window new spot.at (room_at spot.at spot.end) k ≡ Some row) ⊎ (window new spot.at (room_at spot.at spot.end) (k + d) ≡ Some row)
   one_of whole narrow k d row lt apart is is_copy =
       let seen : window new spot.at (room_at spot.at spot.end) k ≡ new (spot.at + k) = cond-true (nat_lt k (room_at spot.at spot.end)) (new (spot.at + k)) None (lt-ltb k (room_at spot.at spot.end) (omega (arith, roomy))) in
@@ -140,23 +142,26 @@ module _ (l : Shape) (epoch first : ℕ) (fits : epoch < 2 ^ 32) (third : 0 < l.
       (torn.front (k + d) (omega arith)))
       (torn.front k (omega arith))
 
-  spot_there : stood ≡ record_len (length pages) → ((k d : ℕ) → k + d < record_len (length pages) → 2 ≤ d → IsTrue (weak (spot.at + k)) → IsTrue (weak (spot.at + (k + d))) → ⊥)
+  spot_there : stood ≡ record_len (gap_of l) (length pages) → ((k d : ℕ) → k + d < record_len (gap_of l) (length pages) → 2 + (gap_of l) ≤ d → IsTrue (weak (spot.at + k)) → IsTrue (weak (spot.at + (k + d))) → ⊥)
       → 1 ≤ length pages → record_here l epoch new h.number spot.at spot.end ≡ Some (new_record (stamp_of epoch h.number) pages images)
   spot_there whole narrow some =
       let n : ℕ = length pages in
       let at : Reader = window new spot.at (room_at spot.at spot.end) in
-      let copy_end : 3 + length pages + (1 + length pages) ≡ 4 + 2 * length pages = omega arith in
-      let one : OneStands (stamp_of epoch h.number) pages images (window new spot.at (room_at spot.at spot.end)) = record {
-        headers = one_of whole narrow 0 2 (header_bytes (stamp_of epoch h.number) pages) (omega arith) (omega arith) laid.header laid.header_copy;
-        ends = subst (λ (k : ℕ). (window new spot.at (room_at spot.at spot.end) (3 + length pages) ≡ Some (end_bytes (stamp_of epoch h.number) (length pages))) ⊎ (window new spot.at (room_at spot.at spot.end) k ≡ Some (end_bytes (stamp_of epoch h.number) (length pages)))) copy_end
-            (one_of whole narrow (3 + length pages) (1 + length pages) (end_bytes (stamp_of epoch h.number) (length pages)) (omega arith) (omega arith) laid.ends (ap (slice_of bytes) copy_end ∙ laid.last));
+      let copy_end : 3 + (gap_of l) + length pages + (1 + (gap_of l) + length pages) ≡ 4 + 2 * (gap_of l) + 2 * length pages = omega arith in
+      let one : OneStands (gap_of l) (stamp_of epoch h.number) pages images (window new spot.at (room_at spot.at spot.end)) = record {
+        headers =
+            let copy_at : 0 + (2 + (gap_of l)) ≡ 2 + (gap_of l) = omega arith in
+            subst (λ (k : ℕ). (window new spot.at (room_at spot.at spot.end) 0 ≡ Some (header_bytes (stamp_of epoch h.number) pages)) ⊎ (window new spot.at (room_at spot.at spot.end) k ≡ Some (header_bytes (stamp_of epoch h.number) pages))) copy_at
+            (one_of whole narrow 0 (2 + (gap_of l)) (header_bytes (stamp_of epoch h.number) pages) (omega arith) (omega arith) laid.header (ap (slice_of bytes) copy_at ∙ laid.header_copy));
+        ends = subst (λ (k : ℕ). (window new spot.at (room_at spot.at spot.end) (3 + (gap_of l) + length pages) ≡ Some (end_bytes (stamp_of epoch h.number) (length pages))) ⊎ (window new spot.at (room_at spot.at spot.end) k ≡ Some (end_bytes (stamp_of epoch h.number) (length pages)))) copy_end
+            (one_of whole narrow (3 + (gap_of l) + length pages) (1 + (gap_of l) + length pages) (end_bytes (stamp_of epoch h.number) (length pages)) (omega arith) (omega arith) laid.ends (ap (slice_of bytes) copy_end ∙ laid.last));
         each = λ j lt.
-            let copy_at : 3 + j + (1 + length pages) ≡ 4 + length pages + j = omega arith in
-            subst (λ (k : ℕ). (window new spot.at (room_at spot.at spot.end) (3 + j) ≡ Some (slice_of images j)) ⊎ (window new spot.at (room_at spot.at spot.end) k ≡ Some (slice_of images j))) copy_at
-            (one_of whole narrow (3 + j) (1 + length pages) (slice_of images j) (omega arith) (omega arith) (laid.image j lt) (ap (slice_of bytes) copy_at ∙ laid.copy j lt));
+            let copy_at : 3 + (gap_of l) + j + (1 + (gap_of l) + length pages) ≡ 4 + 2 * (gap_of l) + length pages + j = omega arith in
+            subst (λ (k : ℕ). (window new spot.at (room_at spot.at spot.end) (3 + (gap_of l) + j) ≡ Some (slice_of images j)) ⊎ (window new spot.at (room_at spot.at spot.end) k ≡ Some (slice_of images j))) copy_at
+            (one_of whole narrow (3 + (gap_of l) + j) (1 + (gap_of l) + length pages) (slice_of images j) (omega arith) (omega arith) (laid.image j lt) (ap (slice_of bytes) copy_at ∙ laid.copy j lt));
       } in
       here_looks l epoch new h.number spot.at spot.end small
-      ∙ worn_there l.pages (stamp_of epoch h.number) (stamp_fits h.number (omega (arith, small))) pages images are laid.stamped (room_at spot.at spot.end) roomy (window new spot.at (room_at spot.at spot.end)) reads_laid one
+      ∙ worn_there (gap_of l) l.pages (stamp_of epoch h.number) (stamp_fits h.number (omega (arith, small))) pages images are laid.stamped (room_at spot.at spot.end) roomy (window new spot.at (room_at spot.at spot.end)) reads_laid one
 
   -- where it isn't at the spot, the scan is the old one
   scan_none : record_here l epoch new h.number spot.at spot.end ≡ None → scan l epoch new first ≡ record { records = rs; head = h }
@@ -177,10 +182,10 @@ module _ (l : Shape) (epoch first : ℕ) (fits : epoch < 2 ^ 32) (third : 0 < l.
   new_placed = record { at = spot.at; entry = new_record (stamp_of epoch h.number) pages images }
 
   -- where it is, the scan has it
-  scan_some : record_here l epoch new h.number spot.at spot.end ≡ Some (new_record (stamp_of epoch h.number) pages images) → scan l epoch new first ≡ record { records = rs ++ record { at = spot.at; entry = new_record (stamp_of epoch h.number) pages images } ∷ []; head = record { number = h.number + 1; at = spot.at + record_len (length pages); end = spot.end } }
+  scan_some : record_here l epoch new h.number spot.at spot.end ≡ Some (new_record (stamp_of epoch h.number) pages images) → scan l epoch new first ≡ record { records = rs ++ record { at = spot.at; entry = new_record (stamp_of epoch h.number) pages images } ∷ []; head = record { number = h.number + 1; at = spot.at + record_len (gap_of l) (length pages); end = spot.end } }
   unfolding new_placed scan
   scan_some found_here =
-      let found : IsFound l epoch new h new_placed (head_behind h.number spot.end new_placed) = record {
+      let found : IsFound l epoch new h new_placed (head_behind (gap_of l) h.number spot.end new_placed) = record {
         end = spot.end;
         place = elim is_spot.place [
           | inl here ↦ inl (record { at_head = here.0; in_third = here.1 })
@@ -194,23 +199,23 @@ module _ (l : Shape) (epoch first : ℕ) (fits : epoch < 2 ^ 32) (third : 0 < l.
         found = found_here;
         goes_on = refl;
       } in
-      let last : Head = head_behind h.number spot.end new_placed in
-      let none : next l epoch new (head_behind h.number spot.end new_placed) ≡ None = none_next l epoch new (head_behind h.number spot.end new_placed)
-      (none_at (h.number + 1) (spot.at + record_len (length pages)) spot.end (omega arith) (omega (arith, small)) (λ k inside. inr (omega arith)))
+      let last : Head = head_behind (gap_of l) h.number spot.end new_placed in
+      let none : next l epoch new (head_behind (gap_of l) h.number spot.end new_placed) ≡ None = none_next l epoch new (head_behind (gap_of l) h.number spot.end new_placed)
+      (none_at (h.number + 1) (spot.at + record_len (gap_of l) (length pages)) spot.end (omega arith) (omega (arith, small)) (λ k inside. inr (omega arith)))
       (none_at (h.number + 1) spot.end (spot.end + l.third) (omega arith) (omega (arith, small)) (λ k inside. inr (omega (arith, is_spot.fits)))) in
-      walk_of_goes (3 * l.third) l epoch new (start l first) (rs ++ new_placed ∷ []) (head_behind h.number spot.end new_placed) start_in (omega arith)
-      (goes_more l epoch new (start l first) rs h new_placed (head_behind h.number spot.end new_placed) goes_new found) none
+      walk_of_goes (3 * l.third) l epoch new (start l first) (rs ++ new_placed ∷ []) (head_behind (gap_of l) h.number spot.end new_placed) start_in (omega arith)
+      (goes_more l epoch new (start l first) rs h new_placed (head_behind (gap_of l) h.number spot.end new_placed) goes_new found) none
 
   -- before its end stands the record isn't there, however the disk wears
-  pub worn_before : stood ≤ 3 + length pages → scan l epoch new first ≡ record { records = rs; head = h }
+  pub worn_before : stood ≤ 3 + (gap_of l) + length pages → scan l epoch new first ≡ record { records = rs; head = h }
   worn_before before = scan_none (spot_none before)
 
   -- it is there or not
   pub worn_either : (scan l epoch new first ≡ record { records = rs; head = h })
-      ⊎ (scan l epoch new first ≡ record { records = rs ++ record { at = spot.at; entry = new_record (stamp_of epoch h.number) pages images } ∷ []; head = record { number = h.number + 1; at = spot.at + record_len (length pages); end = spot.end } })
+      ⊎ (scan l epoch new first ≡ record { records = rs ++ record { at = spot.at; entry = new_record (stamp_of epoch h.number) pages images } ∷ []; head = record { number = h.number + 1; at = spot.at + record_len (gap_of l) (length pages); end = spot.end } })
   worn_either = ⊎_elim (λ none. inl (scan_none none)) (λ found. inr (scan_some found)) spot_either
 
   -- whole, it is there, however a narrow run wears
-  pub worn_whole_there : stood ≡ record_len (length pages) → ((k d : ℕ) → k + d < record_len (length pages) → 2 ≤ d → IsTrue (weak (spot.at + k)) → IsTrue (weak (spot.at + (k + d))) → ⊥) → 1 ≤ length pages
-      → scan l epoch new first ≡ record { records = rs ++ record { at = spot.at; entry = new_record (stamp_of epoch h.number) pages images } ∷ []; head = record { number = h.number + 1; at = spot.at + record_len (length pages); end = spot.end } }
+  pub worn_whole_there : stood ≡ record_len (gap_of l) (length pages) → ((k d : ℕ) → k + d < record_len (gap_of l) (length pages) → 2 + (gap_of l) ≤ d → IsTrue (weak (spot.at + k)) → IsTrue (weak (spot.at + (k + d))) → ⊥) → 1 ≤ length pages
+      → scan l epoch new first ≡ record { records = rs ++ record { at = spot.at; entry = new_record (stamp_of epoch h.number) pages images } ∷ []; head = record { number = h.number + 1; at = spot.at + record_len (gap_of l) (length pages); end = spot.end } }
   worn_whole_there whole narrow some = scan_some (spot_there whole narrow some)

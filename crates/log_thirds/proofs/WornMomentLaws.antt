@@ -8,6 +8,7 @@ use Rattle.sector_disk.specs.Image.{IsWorn, Windows, sector_at, lay, stand, open
 use Rattle.sector_disk.specs.Machine.{Moment, Holds}
 use Rattle.sector_disk.proofs.Wear.{length-lay, lay_in, lay_other, length-stand, stand_in, stand_other, worn_trans}
 use Rattle.volume_layout.specs.Shape.{Shape}
+use Rattle.volume_layout.specs.Kinds.{gap_of}
 use Rattle.fsd_formats.specs.Record.{record_len}
 use Rattle.fsd_log.specs.Judged.{Reader}
 use Rattle.fsd_log.specs.Laid.{laid_bytes}
@@ -88,52 +89,52 @@ module _ (log : LogValue) (pages images : List ℕ) (long : ℕ) (may : MayAppen
   abbrev place : ℕ
   place = place_of log.layout log.anchor.third (spot_for log.layout (length pages) log.head).at
 
-  room_for : (stood : ℕ) → stood ≤ record_len (length pages) → place + stood ≤ length old.image
+  room_for : (stood : ℕ) → stood ≤ record_len (gap_of log.layout) (length pages) → place + stood ≤ length old.image
   room_for stood within = omega (arith, write_inside log pages images long may, may.sized)
 
-  module _ (stood : ℕ) (within : stood ≤ record_len (length pages)) (left : List Sector) (worn : IsWorn (open_damage old.windows) (stand old.image place (laid_bytes (stamp_now log) pages images) stood) left) where
+  module _ (stood : ℕ) (within : stood ≤ record_len (gap_of log.layout) (length pages)) (left : List Sector) (worn : IsWorn (open_damage old.windows) (stand old.image place (laid_bytes (gap_of log.layout) (stamp_now log) pages images) stood) left) where
     below : List Sector
-    below = under (open_damage old.windows) old.image left place (laid_bytes (stamp_now log) pages images) stood (room_for stood within) worn
+    below = under (open_damage old.windows) old.image left place (laid_bytes (gap_of log.layout) (stamp_now log) pages images) stood (room_for stood within) worn
 
     log_below : IsLog log.layout log.anchor.epoch log.anchor.first (tape log.layout log.anchor.third (reads below)) records log.head
     unfolding below
-    log_below = is_log (under (open_damage old.windows) old.image left place (laid_bytes (stamp_now log) pages images) stood (room_for stood within) worn) (under_worn (open_damage old.windows) old.image left place (laid_bytes (stamp_now log) pages images) stood (room_for stood within) worn)
+    log_below = is_log (under (open_damage old.windows) old.image left place (laid_bytes (gap_of log.layout) (stamp_now log) pages images) stood (room_for stood within) worn) (under_worn (open_damage old.windows) old.image left place (laid_bytes (gap_of log.layout) (stamp_now log) pages images) stood (room_for stood within) worn)
 
-    torn : TapeWorn (λ w. open_damage old.windows (place_of log.layout log.anchor.third w)) (laid_bytes (stamp_now log) pages images) (spot_for log.layout (length pages) log.head).at stood (tape log.layout log.anchor.third (reads below)) (tape log.layout log.anchor.third (reads left))
+    torn : TapeWorn (λ w. open_damage old.windows (place_of log.layout log.anchor.third w)) (laid_bytes (gap_of log.layout) (stamp_now log) pages images) (spot_for log.layout (length pages) log.head).at stood (tape log.layout log.anchor.third (reads below)) (tape log.layout log.anchor.third (reads left))
     unfolding below
-    torn = tape_worn log.layout log.anchor.third (spot_for log.layout (length pages) log.head).at (record_len (length pages)) (spot_for log.layout (length pages) log.head).end (in_third log pages images long may) (open_damage old.windows) old.image left (laid_bytes (stamp_now log) pages images) stood within (room_for stood within) worn
+    torn = tape_worn log.layout log.anchor.third (spot_for log.layout (length pages) log.head).at (record_len (gap_of log.layout) (length pages)) (spot_for log.layout (length pages) log.head).end (in_third log pages images long may) (open_damage old.windows) old.image left (laid_bytes (gap_of log.layout) (stamp_now log) pages images) stood within (room_for stood within) worn
 
-    pub image_before : stood ≤ 3 + length pages → scan_of log (record { image = left; windows = old.windows; said = old.said }) ≡ record { records = records; head = log.head }
+    pub image_before : stood ≤ 3 + (gap_of log.layout) + length pages → scan_of log (record { image = left; windows = old.windows; said = old.said }) ≡ record { records = records; head = log.head }
     image_before before = worn_before log.layout log.anchor.epoch log.anchor.first may.epoch (omega (arith, may.least)) (tape log.layout log.anchor.third (reads below)) (tape log.layout log.anchor.third (reads left)) records log.head log_below may.number
-        pages images (laid_bytes (stamp_now log) pages images) (are log pages images long may) (laid log pages images long may) (spot_for log.layout (length pages) log.head) (spots log pages images long may).0 (λ w. open_damage old.windows (place_of log.layout log.anchor.third w)) stood within torn before
+        pages images (laid_bytes (gap_of log.layout) (stamp_now log) pages images) (are log pages images long may) (laid log pages images long may) (spot_for log.layout (length pages) log.head) (spots log pages images long may).0 (λ w. open_damage old.windows (place_of log.layout log.anchor.third w)) stood within torn before
 
     pub image_either : (scan_of log (record { image = left; windows = old.windows; said = old.said }) ≡ record { records = records; head = log.head })
         ⊎ (scan_of log (record { image = left; windows = old.windows; said = old.said }) ≡ record { records = records ++ next_record log pages images ∷ []; head = head_past log (length pages) })
     image_either = worn_either log.layout log.anchor.epoch log.anchor.first may.epoch (omega (arith, may.least)) (tape log.layout log.anchor.third (reads below)) (tape log.layout log.anchor.third (reads left)) records log.head log_below may.number
-        pages images (laid_bytes (stamp_now log) pages images) (are log pages images long may) (laid log pages images long may) (spot_for log.layout (length pages) log.head) (spots log pages images long may).0 (λ w. open_damage old.windows (place_of log.layout log.anchor.third w)) stood within torn
+        pages images (laid_bytes (gap_of log.layout) (stamp_now log) pages images) (are log pages images long may) (laid log pages images long may) (spot_for log.layout (length pages) log.head) (spots log pages images long may).0 (λ w. open_damage old.windows (place_of log.layout log.anchor.third w)) stood within torn
 
-    pub image_whole : stood ≡ record_len (length pages) → IsApartNow old
+    pub image_whole : stood ≡ record_len (gap_of log.layout) (length pages) → IsApartNow (gap_of log.layout) old
         → IsLog log.layout log.anchor.epoch log.anchor.first (tape log.layout log.anchor.third (reads left)) (records ++ next_record log pages images ∷ []) (head_past log (length pages))
     image_whole whole narrow = record {
       scanned = worn_whole_there log.layout log.anchor.epoch log.anchor.first may.epoch (omega (arith, may.least)) (tape log.layout log.anchor.third (reads below)) (tape log.layout log.anchor.third (reads left)) records log.head log_below may.number
-          pages images (laid_bytes (stamp_now log) pages images) (are log pages images long may) (laid log pages images long may) (spot_for log.layout (length pages) log.head) (spots log pages images long may).0 (λ w. open_damage old.windows (place_of log.layout log.anchor.third w)) stood within torn whole
+          pages images (laid_bytes (gap_of log.layout) (stamp_now log) pages images) (are log pages images long may) (laid log pages images long may) (spot_for log.layout (length pages) log.head) (spots log pages images long may).0 (λ w. open_damage old.windows (place_of log.layout log.anchor.third w)) stood within torn whole
           (λ k d lt apart a b.
-          let pa : place_of log.layout log.anchor.third ((spot_for log.layout (length pages) log.head).at + k) ≡ place + k = place_add log.layout log.anchor.third (spot_for log.layout (length pages) log.head).at (record_len (length pages)) (spot_for log.layout (length pages) log.head).end k (in_third log pages images long may) (omega arith) in
-          let pb : place_of log.layout log.anchor.third ((spot_for log.layout (length pages) log.head).at + (k + d)) ≡ (place + k) + d = place_add log.layout log.anchor.third (spot_for log.layout (length pages) log.head).at (record_len (length pages)) (spot_for log.layout (length pages) log.head).end (k + d) (in_third log pages images long may) lt ∙ omega arith in
+          let pa : place_of log.layout log.anchor.third ((spot_for log.layout (length pages) log.head).at + k) ≡ place + k = place_add log.layout log.anchor.third (spot_for log.layout (length pages) log.head).at (record_len (gap_of log.layout) (length pages)) (spot_for log.layout (length pages) log.head).end k (in_third log pages images long may) (omega arith) in
+          let pb : place_of log.layout log.anchor.third ((spot_for log.layout (length pages) log.head).at + (k + d)) ≡ (place + k) + d = place_add log.layout log.anchor.third (spot_for log.layout (length pages) log.head).at (record_len (gap_of log.layout) (length pages)) (spot_for log.layout (length pages) log.head).end (k + d) (in_third log pages images long may) lt ∙ omega arith in
           narrow (place + k) d (subst (λ (s : ℕ). IsTrue (open_damage old.windows s)) pa a) (subst (λ (s : ℕ). IsTrue (open_damage old.windows s)) pb b) apart)
           (are_some log.layout.pages pages may.accepted);
       fresh = λ w m from. fresh_after log.layout log.anchor.epoch log.anchor.first may.epoch (omega (arith, may.least)) (tape log.layout log.anchor.third (reads below)) (tape log.layout log.anchor.third (reads left)) records log.head log_below may.number
-          pages images (laid_bytes (stamp_now log) pages images) (are log pages images long may) (laid log pages images long may) (spot_for log.layout (length pages) log.head) (spots log pages images long may).0 (λ w. open_damage old.windows (place_of log.layout log.anchor.third w)) stood within torn w m from;
+          pages images (laid_bytes (gap_of log.layout) (stamp_now log) pages images) (are log pages images long may) (laid log pages images long may) (spot_for log.layout (length pages) log.head) (spots log pages images long may).0 (λ w. open_damage old.windows (place_of log.layout log.anchor.third w)) stood within torn w m from;
     }
 
-  pub worn_appends : (left : Moment) → StandsInPart place (laid_bytes (stamp_now log) pages images) (record_len (length pages)) old left → AppendsWorn log records pages images old left
+  pub worn_appends : (left : Moment) → StandsInPart place (laid_bytes (gap_of log.layout) (stamp_now log) pages images) (record_len (gap_of log.layout) (length pages)) old left → AppendsWorn log records pages images old left
   worn_appends left part = record {
     part = part;
     absent = λ before. image_before part.stood part.within left.image part.holds.worn before;
     either = image_either part.stood part.within left.image part.holds.worn;
   }
 
-  pub worn_appended : (new : Moment) → IsApartNow old → Holds old (stand old.image place (laid_bytes (stamp_now log) pages images) (record_len (length pages))) new → IsLogWorn (log_past log (length pages)) (records ++ next_record log pages images ∷ []) new
+  pub worn_appended : (new : Moment) → IsApartNow (gap_of log.layout) old → Holds old (stand old.image place (laid_bytes (gap_of log.layout) (stamp_now log) pages images) (record_len (gap_of log.layout) (length pages))) new → IsLogWorn (log_past log (length pages)) (records ++ next_record log pages images ∷ []) new
   worn_appended new narrow holds = λ image worn.
       let at_old : IsWorn (open_damage old.windows) new.image image = subst (λ (w : Windows). IsWorn (open_damage w) new.image image) holds.windows worn in
-      image_whole (record_len (length pages)) (omega arith) image (worn_trans (open_damage old.windows) _ new.image image holds.worn at_old) refl narrow
+      image_whole (record_len (gap_of log.layout) (length pages)) (omega arith) image (worn_trans (open_damage old.windows) _ new.image image holds.worn at_old) refl narrow

@@ -1,5 +1,5 @@
 -- What a write of a record leaves.
-use Rattle.std.specs.Prelude.{◌≡◌, ◌⊎◌, IsTrue, ◌<◌, ◌≤◌, ℕ, ◌+◌, ◌*◌, false, List, [], ◌∷◌, ◌++◌, length}
+use Rattle.std.specs.Prelude.{◌≡◌, ◌⊎◌, IsTrue, ◌<◌, ◌≤◌, ℕ, ◌+◌, ◌*◌, false, List, [], ◌∷◌, ◌++◌, length, slice_index_or, None}
 use Rattle.fsd_formats.specs.Record.{Stamp, record_len}
 use Rattle.sector_disk.specs.Image.{stand, open_damage, AllWorn}
 use Rattle.sector_disk.specs.Machine.{Moment, Holds}
@@ -10,7 +10,9 @@ use Rattle.log_thirds.specs.LogValue.{LogValue}
 use Rattle.log_thirds.specs.Copies.{AreLastCopies}
 use Rattle.log_thirds.specs.Firsts.{firsts_with, AreFirsts}
 use Rattle.log_thirds.specs.Slots.{slots_with, AreSlots, slot_of, lies_in}
-use Rattle.volume_layout.specs.Layout.{third_start}
+use Rattle.volume_layout.specs.declared.kind.Kind.{Kind}
+use Rattle.volume_layout.specs.Layout.{third_start, with_kind}
+use Rattle.volume_layout.specs.Kinds.{gap_of}
 use Rattle.log_thirds.specs.declared.thirds.Place.{Place}
 use Rattle.log_thirds.specs.declared.thirds.Place.TheVariants.{Here, NextThird, FirstThird}
 
@@ -32,7 +34,7 @@ abbrev pub next_record : LogValue → (pages images : List ℕ) → Placed
 next_record log pages images = record { at = (spot_for log.layout (length pages) log.head).at; entry = record { number = log.head.number; pages = pages; images = slices (length pages) images } }
 
 abbrev pub head_past : LogValue → (n : ℕ) → Head
-head_past log n = let spot = spot_for log.layout n log.head in record { number = log.head.number + 1; at = spot.at + record_len n; end = spot.end }
+head_past log n = let spot = spot_for log.layout n log.head in record { number = log.head.number + 1; at = spot.at + record_len (gap_of log.layout) n; end = spot.end }
 
 abbrev pub log_past : LogValue → (n : ℕ) → LogValue
 log_past log n = record { layout = log.layout; anchor = log.anchor; head = head_past log n; firsts = log.firsts; slots = log.slots; copies = log.copies }
@@ -56,6 +58,14 @@ pub record IsIndexed (log : LogValue) (records : List Placed) : Type 0 where
 -- the log has the copies of the last record, or there is none
 abbrev pub KnowsLast : LogValue → List Placed → Type 0
 KnowsLast log records = AreLastCopies log.layout log.anchor.epoch log.anchor.third records log.copies
+
+-- the log whose next records have the form of this kind
+abbrev pub of_kind : Kind → LogValue → LogValue
+of_kind kind log = record { layout = with_kind kind log.layout; anchor = log.anchor; head = log.head; firsts = log.firsts; slots = log.slots; copies = log.copies }
+
+-- the log has no page
+abbrev pub HasNoPages : LogValue → Type 0
+HasNoPages log = (page : ℕ) → slice_index_or log.slots page None ≡ None
 
 -- the scan by the log's anchor
 abbrev pub scan_of : LogValue → Moment → Walked
@@ -86,19 +96,19 @@ NoneOfThird log records t first = (q : ℕ) → first ≤ q → q < log.layout.p
 abbrev pub IsLogWorn : LogValue → List Placed → Moment → Type 0
 IsLogWorn log records at = AllWorn (open_damage at.windows) (λ image. IsLog log.layout log.anchor.epoch log.anchor.first (tape log.layout log.anchor.third (reads image)) records log.head) at.image
 
--- a run that has no two sectors but neighbours
-abbrev pub IsApartNow : Moment → Type 0
-IsApartNow at = (s d : ℕ) → IsTrue (open_damage at.windows s) → IsTrue (open_damage at.windows (s + d)) → 2 ≤ d → ⊥
+-- no two sectors lie as far apart as two sectors and the gap
+abbrev pub IsApartNow : (gap : ℕ) → Moment → Type 0
+IsApartNow gap at = (s d : ℕ) → IsTrue (open_damage at.windows s) → IsTrue (open_damage at.windows (s + d)) → 2 + gap ≤ d → ⊥
 
 -- Some first sectors of the record stand, worn. Up to its end the scan is the old one,
 -- and from then on the old one or the one with the record.
 pub record AppendsWorn (log : LogValue) (records : List Placed) (pages images : List ℕ) (old left : Moment) : Type 0 where
-  pub part : StandsInPart (place_of log.layout log.anchor.third (spot_for log.layout (length pages) log.head).at) (laid_bytes (stamp_now log) pages images) (record_len (length pages)) old left
-  pub absent : part.stood ≤ 3 + length pages → scan_of log left ≡ record { records = records; head = log.head }
+  pub part : StandsInPart (place_of log.layout log.anchor.third (spot_for log.layout (length pages) log.head).at) (laid_bytes (gap_of log.layout) (stamp_now log) pages images) (record_len (gap_of log.layout) (length pages)) old left
+  pub absent : part.stood ≤ 3 + (gap_of log.layout) + length pages → scan_of log left ≡ record { records = records; head = log.head }
   pub either : (scan_of log left ≡ record { records = records; head = log.head }) ⊎ (scan_of log left ≡ record { records = records ++ next_record log pages images ∷ []; head = head_past log (length pages) })
 
 -- what is told of a record's place
 abbrev pub GoesAt : LogValue → ℕ → Place → Type 0
-GoesAt log n Here = log.head.at + record_len n ≤ log.head.end
-GoesAt log n NextThird = (log.head.end < log.head.at + record_len n) × (log.head.end < 3 * log.layout.third)
-GoesAt log n (FirstThird t) = ((log.head.end < log.head.at + record_len n) × (3 * log.layout.third ≤ log.head.end)) × (t ≡ log.anchor.third)
+GoesAt log n Here = log.head.at + record_len (gap_of log.layout) n ≤ log.head.end
+GoesAt log n NextThird = (log.head.end < log.head.at + record_len (gap_of log.layout) n) × (log.head.end < 3 * log.layout.third)
+GoesAt log n (FirstThird t) = ((log.head.end < log.head.at + record_len (gap_of log.layout) n) × (3 * log.layout.third ≤ log.head.end)) × (t ≡ log.anchor.third)

@@ -7,15 +7,15 @@ use Rattle.fsd_log.specs.Laid.{slices}
 pub use Rattle.fsd_log.specs.Copies.{Copies, copies_count, FitsDisk, AreCopies, AreCopiesOf, AreLastCopies}
 
 -- the record's sector that serves as its jth image, and behind the images as its end
-abbrev pub served_at : Serving → ℕ → ℕ
-served_at s j =
-    if nat_lt j (length s.pages) then (if slice_index_or s.page_copy j false then 4 + length s.pages + j else 3 + j)
-    else (if s.end_copy then 4 + 2 * length s.pages else 3 + length s.pages)
+abbrev pub served_at : (gap : ℕ) → Serving → ℕ → ℕ
+served_at gap s j =
+    if nat_lt j (length s.pages) then (if slice_index_or s.page_copy j false then 4 + 2 * gap + length s.pages + j else 3 + gap + j)
+    else (if s.end_copy then 4 + 2 * gap + 2 * length s.pages else 3 + gap + length s.pages)
 
 -- the first ones of these sectors, so many, one behind the other
-pub record AreServed (s : Serving) (bytes : List ℕ) (count : ℕ) (copies : List ℕ) : Type 0 where
+pub record AreServed (gap : ℕ) (s : Serving) (bytes : List ℕ) (count : ℕ) (copies : List ℕ) : Type 0 where
   pub long : length copies ≡ 512 * count
-  pub each : (j : ℕ) → j < count → slice_of copies j ≡ slice_of bytes (served_at s j)
+  pub each : (j : ℕ) → j < count → slice_of copies j ≡ slice_of bytes (served_at gap s j)
 
 -- what is told of the record that they are of
 pub record IsLast (c : Copies) (last : LastRecord) : Type 0 where

@@ -30,7 +30,7 @@ pub record IsShaped (layout : Shape) (anchor : Anchor) (head : Head) (firsts : F
   pub in_records : LieInRecords layout slots
   pub copied : FitsDisk layout.sectors copies
   pub few : copies_count copies ≤ 97
-  pub long : length buffer ≡ 100864
+  pub long : length buffer ≡ 101888
 
 -- A log lies in its layout, and its head in a third.
 pub record FitsLayout (log : LogValue) : Type 0 where

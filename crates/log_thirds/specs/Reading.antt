@@ -4,6 +4,7 @@ use Rattle.sector_disk.specs.declared.sector.Sector.TheVariants.{Damaged}
 use Rattle.sector_disk.specs.Image.{sector_at, open_damage}
 use Rattle.sector_disk.specs.Machine.{Moment}
 use Rattle.volume_layout.specs.Shape.{Shape}
+use Rattle.volume_layout.specs.Kinds.{gap_of}
 use Rattle.fsd_formats.specs.Record.{Stamp}
 use Rattle.fsd_log.specs.Reach.{reach}
 use Rattle.log_record.specs.Found.{read_of}
@@ -66,10 +67,10 @@ pub record ReadsRun (honest : Type 0) (old new : Moment) (place count : ℕ) (wh
   pub sees : honest → (k : ℕ) → k < count → Sees old new (place + k) (read_of whole bytes k)
 
 -- Of so much room the sectors are read that the headers reach, and the headers.
-pub record ReadsRecord (honest : Type 0) (old new : Moment) (p : ℕ) (stamp : Stamp) (place room : ℕ) (whole : List Bool) (bytes : List ℕ) : Type 0 where
+pub record ReadsRecord (gap : ℕ) (honest : Type 0) (old new : Moment) (p : ℕ) (stamp : Stamp) (place room : ℕ) (whole : List Bool) (bytes : List ℕ) : Type 0 where
   pub run : ReadsRun honest old new place (length whole) whole bytes
   pub within : length whole ≤ room
-  pub reaches : length whole ≡ reach p stamp room (read_of whole bytes)
+  pub reaches : length whole ≡ reach gap p stamp room (read_of whole bytes)
 
 -- the head goes on in its third
 pub record GoesTo (l : Shape) (from : ℕ) (spot : Spot) : Type 0 where
@@ -94,7 +95,7 @@ stepped_of x = record { from = x.0.at; entry = x.0.entry; at = x.1.at; end = x.1
 -- the record ends where the head goes on, in one third
 pub record StepsOn (l : Shape) (from : ℕ) (step : Step) : Type 0 where
   pub goes : GoesTo l from step.past
-  pub lies : step.past.at ≡ step.from + (2 * length step.found.pages.items + 5)
+  pub lies : step.past.at ≡ step.from + (2 * length step.found.pages.items + (5 + 2 * (gap_of l)))
   pub in_third : step.past.end ≤ step.from + l.third
   pub few : length step.found.pages.items ≤ 96
 

@@ -2,6 +2,7 @@
 use Rattle.std.specs.Prelude.{◌≡◌, ◌<◌, ◌≤◌, IsTrue, Bool, false, ◌&&◌, nat_le, nat_lt, ℕ, ◌+◌, List, [], ◌∷◌, length, slice_set, slice_index_or, Option, Some, None, IfSome, ◌==◌, if◌then◌else◌}
 use Rattle.std.specs.Option.{option_or}
 use Rattle.volume_layout.specs.Shape.{Shape}
+use Rattle.volume_layout.specs.Kinds.{gap_of}
 use Rattle.fsd_log.specs.Places.{LieInRecord}
 use Rattle.fsd_log.specs.Scan.{Placed, place_of}
 use Rattle.log_thirds.specs.declared.slots.Slot.{Slot}
@@ -12,7 +13,7 @@ slot_in page number place copy [] = None
 slot_in page number place copy (p ∷ pages) = if p == page then Some (record { place = place; copy = copy; number = number }) else slot_in page number (place + 1) (copy + 1) pages
 
 abbrev pub slot_at : Shape → (third page : ℕ) → Placed → Option Slot
-slot_at l third page r = let place = place_of l third r.at + 3 in slot_in page r.entry.number place (place + length r.entry.pages + 1) r.entry.pages
+slot_at l third page r = let place = place_of l third r.at + 3 + gap_of l in slot_in page r.entry.number place (place + length r.entry.pages + 1 + gap_of l) r.entry.pages
 
 -- its slot in the last record that has it
 abbrev pub slot_of : Shape → (third page : ℕ) → List Placed → Option Slot
@@ -26,7 +27,7 @@ noted number place copy (p ∷ pages) slots = slice_set (noted number (place + 1
 
 -- with those of a record that begins there on the tape
 abbrev pub slots_with : Shape → (third number at : ℕ) → (pages : List ℕ) → List (Option Slot) → List (Option Slot)
-slots_with l third number at pages slots = let place = place_of l third at + 3 in noted number place (place + length pages + 1) pages slots
+slots_with l third number at pages slots = let place = place_of l third at + 3 + gap_of l in noted number place (place + length pages + 1 + gap_of l) pages slots
 
 -- the table has of each page the slot in the last record that has it
 abbrev pub AreSlots : Shape → (third : ℕ) → List Placed → List (Option Slot) → Type 0

@@ -1,6 +1,7 @@
 //! Looking for the next record.
 ghost use Rattle.std.specs.Prelude.{◌≡◌, ◌≤◌, ◌<◌, ◌+◌, ◌-◌, ◌*◌, List, length, IfOk, IfSome, IfNone, option_map};
 ghost use Rattle.sector_disk.specs.Calls.{OnlyReads, device_in};
+ghost use Rattle.volume_layout.specs.Kinds.{gap_of};
 ghost use Rattle.fsd_formats.specs.Record.{max_pages};
 ghost use Rattle.fsd_log.specs.Scan.{IsEnd, place_of, tape, room_at, last_number, record_here, entered, next};
 ghost use Rattle.log_thirds.specs.Copies.{AreCopies, entry_in};
@@ -11,9 +12,10 @@ ghost use Rattle.sector_disk.specs.Image.{IsWorn, open_damage};
 ghost use Rattle.log_thirds.specs.Reading.{StepsOn, read_failed_at, stepped_in, stepped_of};
 
 use crate::copies::copies_in;
+use crate::form::{judge, record_sectors};
 use crate::reading::{ReadFault, Reading, read_record};
 use fsd_formats::Anchor;
-use log_record::{Found, Judged, RECORD_SECTORS, judge};
+use log_record::{Found, Judged, RECORD_SECTORS};
 use sector_disk::Machine;
 use std::alloc::{AllocError, Global};
 use volume_layout::Layout;
@@ -43,11 +45,11 @@ impl Step {
     ghost use Rattle.std.specs.Prelude.{◌≡◌, ◌+◌, ◌*◌, ◌≤◌};
 
     // The step to a record that was found at this place, in a third that ends there.
-    fn over(found: Found, from: u32, end: u32) -> Step
-        requires { from + (2 * found.n + 5) ≤ end }
-        ensures { result ≡ record { from = from; found = found; past = record { at = from + (2 * found.n + 5); end = end } } }
+    fn over(layout: &Layout, found: Found, from: u32, end: u32) -> Step
+        requires { from + (2 * found.n + (5 + 2 * gap_of layout.now)) ≤ end }
+        ensures { result ≡ record { from = from; found = found; past = record { at = from + (2 * found.n + (5 + 2 * gap_of layout.now)); end = end } } }
     {
-        let at = from + (2 * found.n + 5);
+        let at = from + record_sectors(layout, found.n);
         let past = Spot { at, end };
         Step { from, found, past }
     }
@@ -115,7 +117,7 @@ fn find<M: Machine>(
     requires ends { IsEnd layout.now end }
     requires sectors { layout.now.sectors ≤ (M.report m.old).sectors }
     ensures reads { OnlyReads M.Machine (device_in read_failed_at result) m.old m.new }
-    ensures fits { IfOk result (λ o. IfSome o (λ found. at + (2 * found.n + 5) ≤ end)) }
+    ensures fits { IfOk result (λ o. IfSome o (λ found. at + (2 * found.n + (5 + 2 * gap_of layout.now)) ≤ end)) }
     ensures counted { IfOk result (λ o. IfSome o (λ found. found.n ≡ length found.pages.items)) }
     ensures few { IfOk result (λ o. IfSome o (λ found. found.n ≤ max_pages)) }
     ensures numbered { IfOk result (λ o. IfSome o (λ _. number < last_number)) }
@@ -131,13 +133,29 @@ fn find<M: Machine>(
     let room = room_at(at, end);
     let place = place_of(layout, anchor.third, at);
     let (p, epoch) = (layout.pages(), anchor.epoch);
-    match read_record(m, p, epoch, number, place, room, &mut scratch.reading) {
+    match read_record(
+        m,
+        layout,
+        p,
+        epoch,
+        number,
+        place,
+        room,
+        &mut scratch.reading,
+    ) {
         Ok(()) => {}
         Err(fault) => return Err(fault),
     }
     let bytes = scratch.reading.bytes.as_slice();
-    match judge(scratch.reading.whole.as_slice(), bytes, p, epoch, number) {
-        Judged::Good(found) => match copies_in(&found, bytes, &mut scratch.copies) {
+    match judge(
+        layout,
+        scratch.reading.whole.as_slice(),
+        bytes,
+        p,
+        epoch,
+        number,
+    ) {
+        Judged::Good(found) => match copies_in(layout, &found, bytes, &mut scratch.copies) {
             Ok(()) => Ok(Some(found)),
             Err(_) => Err(ReadFault::Memory),
         },
@@ -175,7 +193,7 @@ fn enter<M: Machine>(
         return Ok(None);
     }
     match find(m, layout, anchor, number, end, end + third, scratch) {
-        Ok(Some(found)) => Ok(Some(Step::over(found, end, end + third))),
+        Ok(Some(found)) => Ok(Some(Step::over(layout, found, end, end + third))),
         Ok(None) => Ok(None),
         Err(fault) => Err(fault),
     }
@@ -207,7 +225,7 @@ pub(crate) fn next<M: Machine>(
         (next layout.now anchor.now.epoch (tape layout.now anchor.now.third (reads i)) (record { number = number; at = at; end = end })))) }
 {
     match find(m, layout, anchor, number, at, end, scratch) {
-        Ok(Some(found)) => Ok(Some(Step::over(found, at, end))),
+        Ok(Some(found)) => Ok(Some(Step::over(layout, found, at, end))),
         Ok(None) => enter(m, layout, anchor, number, at, end, scratch),
         Err(fault) => Err(fault),
     }

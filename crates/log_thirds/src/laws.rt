@@ -8,6 +8,8 @@ ghost use Rattle.log_thirds.specs.declared.slots.Slot.{Slot};
 ghost use Rattle.fsd_log.specs.Images.{last_image};
 ghost use Rattle.log_thirds.specs.LogValue.{LogValue};
 ghost use Rattle.volume_layout.specs.Shape.{Shape};
+ghost use Rattle.volume_layout.specs.Layout.{with_kind};
+ghost use Rattle.volume_layout.specs.declared.kind.Kind.{Kind};
 ghost use Rattle.fsd_log.specs.Judged.{Reader};
 ghost use Rattle.fsd_log.specs.Borne.{Foreign};
 ghost use Rattle.fsd_log.specs.Scan.{Head, Placed, IsLog, start, tape};
@@ -26,10 +28,16 @@ pub fn new_epochs_are_empty()
         ((at number : ℕ) → Foreign (record { epoch = epoch; number = number }) (tape l third disk at)) → IsLog l epoch 1 (tape l third disk) [] (start l 1) }
 {}
 
-/// Runs of no sector damage nothing, and runs of at most two sectors have no two but neighbours.
+/// An empty log is empty in the form of either kind: nothing on the disk bears a stamp that its records may have.
+pub fn empty_logs_have_either_form()
+    ensures { (l : Shape) (kind : Kind) (epoch third : ℕ) (disk : Reader) (h : Head) → epoch < 2 ^ 32 → IsLog l epoch 1 (tape l third disk) [] h →
+        IsLog (with_kind kind l) epoch 1 (tape l third disk) [] (start l 1) }
+{}
+
+/// Runs of no sector damage nothing, and runs of at most two sectors and a gap have no two that lie so far apart.
 pub fn short_runs()
     ensures calm { (at : Moment) → IfSome at.windows.present (λ run. run.count ≡ 0) → IfSome at.windows.next (λ run. run.count ≡ 0) → IsCalmNow at }
-    ensures narrow { (at : Moment) → IfSome at.windows.present (λ run. run.count ≤ 2) → IfSome at.windows.next (λ run. run.count ≤ 2) → IsApartNow at }
+    ensures narrow { (gap : ℕ) (at : Moment) → IfSome at.windows.present (λ run. run.count ≤ 2 + gap) → IfSome at.windows.next (λ run. run.count ≤ 2 + gap) → IsApartNow gap at }
 {}
 
 /// Where a page has a slot, its last image stands in the sector that the slot names, or else in the copy; where it has

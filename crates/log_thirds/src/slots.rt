@@ -1,9 +1,12 @@
 //! Where each page's last image lies.
-ghost use Rattle.std.specs.Prelude.{◌≡◌, ◌<◌, ◌+◌, ◌*◌, ◌^◌, Some, None, IfOk, IfSome, IfNone, length, map, slice_set, replicate};
+ghost use Rattle.std.specs.Prelude.{◌≡◌, ◌<◌, ◌+◌, ◌*◌, ◌^◌, Some, None, IfOk, IfSome, IfNone, is_some, length, map, slice_set, replicate};
+ghost use Rattle.std.specs.List.{list_any};
+ghost use Rattle.volume_layout.specs.Kinds.{gap_of};
 ghost use Rattle.log_thirds.specs.Moving.{slot_outside};
 ghost use Rattle.log_thirds.specs.Slots.{noted, lies_in, IsLeastIn, NoneLiesIn};
 
 use std::alloc::{AllocError, Global};
+use volume_layout::Layout;
 
 /// The sectors of a page's image in a record and of its copy there, and the record's number.
 #[derive(Clone, Copy, Debug, PartialEq, Eq)]
@@ -48,10 +51,10 @@ fn put(slots: &mut [Option<Slot>], page: u32, slot: Slot)
     }
 }
 
-/// Puts the slots of these pages, whose images begin at a place in a record of this number.
-pub(crate) fn note(slots: &mut [Option<Slot>], number: u32, place: u32, pages: &[u32])
-    requires { place + (2 * length pages.now + 1) < 2 ^ 32 }
-    ensures { slots.new ≡ noted number place (place + length pages.now + 1) pages.now slots.old }
+// Puts the slots of these pages, whose images begin at a place in a record of this number and with this gap.
+fn note_at(slots: &mut [Option<Slot>], number: u32, place: u32, gap: u32, pages: &[u32])
+    requires { place + (2 * length pages.now + 1 + gap) < 2 ^ 32 }
+    ensures { slots.new ≡ noted number place (place + length pages.now + 1 + gap) pages.now slots.old }
 {
     let n = pages.len();
     for k in 0..n {
@@ -61,11 +64,26 @@ pub(crate) fn note(slots: &mut [Option<Slot>], number: u32, place: u32, pages: &
             pages[j],
             Slot {
                 place: place + j as u32,
-                copy: place + n as u32 + 1 + j as u32,
+                copy: place + n as u32 + 1 + gap + j as u32,
                 number,
             },
         );
     }
+}
+
+/// Puts the slots of the pages of a record of this number that begins at a place, on a volume of this layout.
+pub(crate) fn note(
+    slots: &mut [Option<Slot>],
+    layout: &Layout,
+    number: u32,
+    place: u32,
+    pages: &[u32],
+)
+    requires { place + (2 * length pages.now + (5 + 2 * gap_of layout.now)) < 2 ^ 32 }
+    ensures { slots.new ≡ noted number (place + 3 + gap_of layout.now) (place + 3 + gap_of layout.now + length pages.now + 1 + gap_of layout.now) pages.now slots.old }
+{
+    let gap = layout.kind().more();
+    note_at(slots, number, place + 3 + gap, gap, pages);
 }
 
 // Whether a slot's image lies in so many sectors from a start on.
@@ -93,4 +111,11 @@ pub(crate) fn least_in(slots: &[Option<Slot>], first: u32, start: u32, count: u3
         }
     }
     None
+}
+
+/// Whether some page has a slot.
+pub(crate) fn has_some(slots: &[Option<Slot>]) -> bool
+    ensures { result ≡ list_any is_some slots.now }
+{
+    slots.iter().any(|slot| slot.is_some())
 }

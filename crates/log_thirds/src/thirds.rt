@@ -3,17 +3,18 @@ use crate::anchors::{find_anchor, write_anchor};
 use crate::fault::{LogFault, log_fault};
 use crate::find::{Scratch, Step, next, place_of};
 use crate::firsts::Firsts;
+use crate::form::{copies_place, record_sectors};
 use crate::images::read_slot;
 use crate::moving::next_third;
 use crate::reading::ReadFault;
-use crate::slots::{Slot, clear, drop_in, least_in, no_slots, note};
+use crate::slots::{Slot, clear, drop_in, has_some, least_in, no_slots, note};
 use crate::write::write_record;
 use fsd_formats::Anchor;
 use log_record::RECORD_BYTES;
 use sector_disk::{Failed, LoadFault, Machine, write_sectors};
 use std::alloc::Global;
 use std::marker::Model;
-use volume_layout::Layout;
+use volume_layout::{Kind, Layout};
 
 /// Where a record of some pages goes.
 #[derive(Clone, Copy, Debug, PartialEq, Eq)]
@@ -61,13 +62,15 @@ impl Model for Log {
 }
 
 impl Log {
-    ghost use Rattle.std.specs.Prelude.{◌≡◌, ◌≤◌, ◌<◌, ◌↔◌, ◌+◌, ◌-◌, ◌*◌, ◌^◌, ◌++◌, ◌∷◌, [], List, length, Some, None, Ok, Err, true, false, if◌then◌else◌, replicate, slice_index_or, IsTrue, IfErr, IfOk, IfSome, IfNone, OnOk, OnErr};
+    ghost use Rattle.std.specs.List.{list_any};
+    ghost use Rattle.std.specs.Prelude.{◌≡◌, ◌≤◌, ◌<◌, ◌↔◌, ◌+◌, ◌-◌, ◌*◌, ◌^◌, ◌++◌, ◌∷◌, [], List, is_some, length, Some, None, Ok, Err, true, false, if◌then◌else◌, replicate, slice_index_or, IsTrue, IfErr, IfOk, IfSome, IfNone, OnOk, OnErr};
     ghost use Rattle.sector_disk.specs.Calls.{OnlyReads, WritesDisk, device_in, failed_at, load_failed_at};
     ghost use Rattle.sector_disk.specs.Damage.{IsDevice, LostCause};
     ghost use Rattle.sector_disk.specs.declared.sector.Sector.{Sector};
     ghost use Rattle.sector_disk.specs.Image.{stand, IsWorn, open_damage};
     ghost use Rattle.log_thirds.specs.Seen.{ScansOn, LogOn};
     ghost use Rattle.sector_disk.specs.Machine.{LeavesOnly, Holds, wrote};
+    ghost use Rattle.volume_layout.specs.Kinds.{gap_of};
     ghost use Rattle.fsd_formats.specs.Record.{max_pages, are_pages, AreStamped};
     ghost use Rattle.log_record.specs.declared.judging.TheConstants.{RECORD_BYTES};
     ghost use Rattle.fsd_log.specs.Laid.{laid_bytes, slices};
@@ -78,10 +81,18 @@ impl Log {
     ghost use Rattle.log_thirds.specs.Images.{NamesSlot, AreLogged, StandsAt, GivesLast};
     ghost use Rattle.fsd_log.specs.Images.{last_image};
     ghost use Rattle.log_thirds.specs.Copies.{copies_count, IsLast};
-    ghost use Rattle.log_thirds.specs.Append.{IsCalmNow, IsApartNow, IsLogWorn, AppendsWorn, stamp_now, next_record, log_with, scan_of, GoesAt, IsIndexed, StandsInPart, IsLeastOfThird, NoneOfThird};
+    ghost use Rattle.log_thirds.specs.Append.{IsCalmNow, IsApartNow, IsLogWorn, AppendsWorn, stamp_now, next_record, log_with, of_kind, HasNoPages, scan_of, GoesAt, IsIndexed, StandsInPart, IsLeastOfThird, NoneOfThird};
     ghost use Rattle.log_thirds.specs.Anchoring.{AnchorsIn, with_anchors, next_epoch, in_next_epoch};
     ghost use Rattle.log_thirds.specs.Moving.{moved_anchor, moved, records_moved, EndsInLastThird, MovesWorn};
     ghost use Rattle.log_thirds.specs.Reading.{SeesAnchor, SeesLastEpoch, log_failed_at, read_failed_at};
+
+    /// The form of the next records. The log holds no record yet.
+    pub fn set_kind(&mut self, kind: Kind)
+        requires { HasNoPages self.old }
+        ensures { self.new ≡ of_kind kind self.old }
+    {
+        self.layout = self.layout.with_kind(kind);
+    }
 
     // Finds the end of the log that begins with this anchor's first record.
     fn scan_by<M: Machine>(
@@ -146,8 +157,8 @@ impl Log {
                 Ok(Some(Step { from, found, past })) => {
                     let place = place_of(layout, anchor.third, from);
                     let pages = found.pages.as_slice();
-                    note(slots.as_mut_slice(), number, place + 3, pages);
-                    copies_at = place + (4 + found.pages.len() as u32);
+                    note(slots.as_mut_slice(), layout, number, place, pages);
+                    copies_at = copies_place(layout, place, found.pages.len() as u32);
                     firsts = firsts.with(third, from);
                     number += 1;
                     at = past.at;
@@ -231,7 +242,7 @@ impl Log {
         ensures { GoesAt self.now n result }
     {
         let third = self.layout.third();
-        if self.at + (2 * n + 5) <= self.end {
+        if self.at + (2 * n + (5 + 2 * self.layout.kind().more())) <= self.end {
             Place::Here
         } else if self.end < 3 * third {
             Place::NextThird
@@ -248,7 +259,7 @@ impl Log {
         ensures end { result.1 ≡ (spot_for self.now.layout n self.now.head).end }
     {
         let third = self.layout.third();
-        if self.at + (2 * n + 5) <= self.end {
+        if self.at + (2 * n + (5 + 2 * self.layout.kind().more())) <= self.end {
             (self.at, self.end)
         } else {
             (self.end, self.end + third)
@@ -267,6 +278,13 @@ impl Log {
         let _pages = self.layout.pages();
         let start = self.layout.third_start(t);
         least_in(self.slots.as_slice(), first, start, third)
+    }
+
+    /// Whether the log has a page.
+    pub fn has_pages(&self) -> bool
+        ensures { result ≡ list_any is_some self.now.slots }
+    {
+        has_some(self.slots.as_slice())
     }
 
     /// Reads a page's last image, and answers false where the log has none. Its sector is taken where that bears the
@@ -370,16 +388,16 @@ impl Log {
         requires sectors { self.old.layout.sectors ≤ (M.report m.old).sectors }
         ensures writes { WritesDisk M.Machine (device_in failed_at result)
             (StandsInPart (place_of self.old.layout self.old.anchor.third (spot_for self.old.layout (length pages.now) self.old.head).at)
-            (laid_bytes (stamp_now self.old) pages.now images.now) (2 * length pages.now + 5)) m.old m.new }
-        ensures counted { OnOk result (M.tells m.new → M.ledger m.new ≡ wrote (M.ledger m.old) (2 * length pages.now + 5)) }
+            (laid_bytes (gap_of self.old.layout) (stamp_now self.old) pages.now images.now) (2 * length pages.now + (5 + 2 * gap_of self.old.layout))) m.old m.new }
+        ensures counted { OnOk result (M.tells m.new → M.ledger m.new ≡ wrote (M.ledger m.old) (2 * length pages.now + (5 + 2 * gap_of self.old.layout))) }
         ensures counted_err { OnErr result (M.tells m.new → M.ledger m.new ≡ M.ledger m.old) }
         ensures worn_moment { (records : List Placed) → M.honest m.new → IsLogWorn self.old records (M.now m.old)
             → LeavesOnly M.moment M.left_since m.old m.new (AppendsWorn self.old records pages.now images.now (M.now m.old)) }
-        ensures worn_done { OnOk result ((records : List Placed) → M.honest m.new → IsApartNow (M.now m.old) → IsLogWorn self.old records (M.now m.old)
+        ensures worn_done { OnOk result ((records : List Placed) → M.honest m.new → IsApartNow (gap_of self.old.layout) (M.now m.old) → IsLogWorn self.old records (M.now m.old)
             → IsLogWorn self.new (records ++ next_record self.old pages.now images.now ∷ []) (M.now m.new)) }
         ensures stands { OnOk result (M.honest m.new → Holds (M.now m.old)
             (stand (M.now m.old).image (place_of self.old.layout self.old.anchor.third (spot_for self.old.layout (length pages.now) self.old.head).at)
-            (laid_bytes (stamp_now self.old) pages.now images.now) (2 * length pages.now + 5)) (M.now m.new)) }
+            (laid_bytes (gap_of self.old.layout) (stamp_now self.old) pages.now images.now) (2 * length pages.now + (5 + 2 * gap_of self.old.layout))) (M.now m.new)) }
         ensures shape { FitsLayout self.old }
         ensures past { OnOk result (self.new ≡ log_with self.old pages.now) }
         ensures indexed { OnOk result ((records : List Placed) → IsIndexed self.old records → IsIndexed self.new (records ++ next_record self.old pages.now images.now ∷ [])) }
@@ -389,6 +407,7 @@ impl Log {
         let place = self.place(at);
         write_record(
             m,
+            &self.layout,
             place,
             self.anchor.epoch,
             self.number,
@@ -396,10 +415,17 @@ impl Log {
             images,
             self.buffer.as_mut_slice(),
         )?;
-        note(self.slots.as_mut_slice(), self.number, place + 3, pages);
+        let layout = self.layout;
+        note(
+            self.slots.as_mut_slice(),
+            &layout,
+            self.number,
+            place,
+            pages,
+        );
         self.firsts = self.firsts.with(self.layout.third(), at);
         self.number += 1;
-        self.at = at + (2 * pages.len() as u32 + 5);
+        self.at = at + record_sectors(&layout, pages.len() as u32);
         self.end = end;
         Ok(())
     }

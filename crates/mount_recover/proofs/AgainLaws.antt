@@ -3,6 +3,7 @@ use Rattle.std.proofs.Common.{◌≡◌, ◌⊎◌, inl, inr, ⊎_elim, ℕ, ◌
 use Rattle.std.specs.List.{AllByRecursion}
 use Rattle.std.proofs.lemmas.Bool.{cases_lt}
 use Rattle.volume_layout.specs.declared.layout.Layout.{Layout}
+use Rattle.volume_layout.specs.Kinds.{gap_of}
 use Rattle.fsd_formats.specs.declared.anchor.Anchor.{Anchor}
 use Rattle.fsd_formats.specs.Record.{end_bytes, record_len}
 use Rattle.sector_disk.specs.declared.sector.Sector.TheVariants.{Whole}
@@ -30,7 +31,7 @@ record LaysSome (place : ℕ) (sectors : List (List ℕ)) (i j : Image) : Type 0
 
 -- ---- the records before it lie before it
 
-goes_before : (l : Layout) (epoch : ℕ) (disk : Reader) (h : Head) (rs : List Placed) (end : Head) → IsIn l h → Goes l epoch disk h rs end → AllByRecursion (λ q. q.at + record_len (length q.entry.pages) ≤ end.at) rs
+goes_before : (l : Layout) (epoch : ℕ) (disk : Reader) (h : Head) (rs : List Placed) (end : Head) → IsIn l h → Goes l epoch disk h rs end → AllByRecursion (λ q. q.at + record_len (gap_of l) (length q.entry.pages) ≤ end.at) rs
 goes_before l epoch disk h [] end is_in goes = tt
 goes_before l epoch disk h (q ∷ rs) end is_in goes =
     let one = found_goes_on l epoch disk h q goes.0 is_in goes.1 in
@@ -58,11 +59,11 @@ module _ (l : Layout) (i j : Image) (c : Anchor) (low : c.third ≤ 2) (front : 
   many : length (copies_of c r) ≡ n + 1
   many = length_more r.entry.images (end_bytes (record { epoch = c.epoch; number = r.entry.number }) n) ∙ ap (λ (k : ℕ). k + 1) is_record.images
 
-  inside : p + record_len n ≤ 16 + 3 * l.third
-  inside = place_inside l c.third r.at (record_len n) is_record.end is_record.inside (omega arith)
+  inside : p + record_len (gap_of l) n ≤ 16 + 3 * l.third
+  inside = place_inside l c.third r.at (record_len (gap_of l) n) is_record.end is_record.inside (omega arith)
 
   -- a sector outside the copies is as it was
-  outside : (s : ℕ) → (s < p + (4 + n)) ⊎ (p + record_len n ≤ s) → sector_at j s ≡ sector_at i s
+  outside : (s : ℕ) → (s < p + (4 + 2 * (gap_of l) + n)) ⊎ (p + record_len (gap_of l) n ≤ s) → sector_at j s ≡ sector_at i s
   outside s out = ⊎_elim (λ same. same) (λ row. absurd (⊎_elim (λ lt. omega (arith, row.2)) (λ ge. omega (arith, row.1, row.2, many)) out)) (lays.each s)
 
   part : EndsWith l c.epoch old_tape (start l c.first) front r (scan_by l i c).head
@@ -74,8 +75,8 @@ module _ (l : Layout) (i j : Image) (c : Anchor) (low : c.third ≤ 2) (front : 
       let far = goes_far l c.epoch old_tape (start l c.first) front part.mid (start_in l c.first) part.goes in
       (found_goes_on l c.epoch old_tape part.mid r (scan_by l i c).head far.is_in part.found).from
 
-  before : (w : ℕ) → w < r.at → (place_of l c.third w < p) ⊎ (p + record_len n ≤ place_of l c.third w)
-  before w lt = below_numbers l.third (c.third * l.third) r.at (record_len n) is_record.end p w (place_of l c.third w) (first_most l c.third low) (end_most l is_record.end is_record.inside.ends) is_record.inside.to lt
+  before : (w : ℕ) → w < r.at → (place_of l c.third w < p) ⊎ (p + record_len (gap_of l) n ≤ place_of l c.third w)
+  before w lt = below_numbers l.third (c.third * l.third) r.at (record_len (gap_of l) n) is_record.end p w (place_of l c.third w) (first_most l c.third low) (end_most l is_record.end is_record.inside.ends) is_record.inside.to lt
       (place_cases l c.third r.at) (place_cases l c.third w)
 
   before_same : (w : ℕ) → w < r.at → sector_at j (place_of l c.third w) ≡ sector_at i (place_of l c.third w)
@@ -83,18 +84,18 @@ module _ (l : Layout) (i j : Image) (c : Anchor) (low : c.third ≤ 2) (front : 
 
   -- ---- the images
 
-  again_front : (rs : List Placed) → AllByRecursion (IsRecord l c.third) rs → AllByRecursion (λ q. q.at + record_len (length q.entry.pages) ≤ part.mid.at) rs → AllByRecursion (RecordAgain l c.third (bytes_at i) (bytes_at j)) rs
+  again_front : (rs : List Placed) → AllByRecursion (IsRecord l c.third) rs → AllByRecursion (λ q. q.at + record_len (gap_of l) (length q.entry.pages) ≤ part.mid.at) rs → AllByRecursion (RecordAgain l c.third (bytes_at i) (bytes_at j)) rs
   again_front [] records ends = tt
   again_front (q ∷ rs) records ends =
-      let same : (k : ℕ) → k < record_len (length q.entry.pages) → bytes_at j (place_of l c.third q.at + k) ≡ bytes_at i (place_of l c.third q.at + k) = λ k lt.
-      let at = place_add l c.third q.at (record_len (length q.entry.pages)) records.0.end k records.0.inside lt in
+      let same : (k : ℕ) → k < record_len (gap_of l) (length q.entry.pages) → bytes_at j (place_of l c.third q.at + k) ≡ bytes_at i (place_of l c.third q.at + k) = λ k lt.
+      let at = place_add l c.third q.at (record_len (gap_of l) (length q.entry.pages)) records.0.end k records.0.inside lt in
       ap bytes_of (subst (λ (s : ℕ). sector_at j s ≡ sector_at i s) at (before_same (q.at + k) (omega (arith, ends.0, from_mid)))) in (
         record {
           images = records.0.images;
-          first = λ k lt. let at : place_of l c.third q.at + 3 + k ≡ place_of l c.third q.at + (3 + k) = omega arith in ap (bytes_at j) at ∙ same (3 + k) (omega arith) ∙ ap (bytes_at i) (sym at);
+          first = λ k lt. let at : place_of l c.third q.at + 3 + (gap_of l) + k ≡ place_of l c.third q.at + (3 + (gap_of l) + k) = omega arith in ap (bytes_at j) at ∙ same (3 + (gap_of l) + k) (omega arith) ∙ ap (bytes_at i) (sym at);
           copy = λ k lt.
-              let at : place_of l c.third q.at + 3 + length q.entry.pages + 1 + k ≡ place_of l c.third q.at + (4 + length q.entry.pages + k) = omega arith in
-              inl (ap (bytes_at j) at ∙ same (4 + length q.entry.pages + k) (omega arith) ∙ ap (bytes_at i) (sym at));
+              let at : place_of l c.third q.at + 3 + (gap_of l) + length q.entry.pages + 1 + (gap_of l) + k ≡ place_of l c.third q.at + (4 + 2 * (gap_of l) + length q.entry.pages + k) = omega arith in
+              inl (ap (bytes_at j) at ∙ same (4 + 2 * (gap_of l) + length q.entry.pages + k) (omega arith) ∙ ap (bytes_at i) (sym at));
         },
         again_front rs records.1 ends.1,
       )
@@ -102,14 +103,14 @@ module _ (l : Layout) (i j : Image) (c : Anchor) (low : c.third ≤ 2) (front : 
   again_last : RecordAgain l c.third (bytes_at i) (bytes_at j) r
   again_last = record {
     images = is_record.images;
-    first = λ k lt. ap bytes_of (outside (place_of l c.third r.at + 3 + k) (inl (omega arith)));
+    first = λ k lt. ap bytes_of (outside (place_of l c.third r.at + 3 + (gap_of l) + k) (inl (omega arith)));
     copy = λ k lt. ⊎_elim
         (λ same. inl (ap bytes_of same))
         (λ row.
         let at : row.0 ≡ k = omega (arith, row.2) in
         inr (ap bytes_of row.3 ∙ ap (λ (x : ℕ). Some (get_or (copies_of c r) x [])) at
         ∙ ap (λ (x : List ℕ). Some x) (get_left r.entry.images (end_bytes (record { epoch = c.epoch; number = r.entry.number }) n) k (omega (arith, is_record.images, lt)))))
-        (lays.each (place_of l c.third r.at + 3 + length r.entry.pages + 1 + k));
+        (lays.each (place_of l c.third r.at + 3 + (gap_of l) + length r.entry.pages + 1 + (gap_of l) + k));
   }
 
   -- each record's images are read as they were, but maybe a copy as the image that was laid there
@@ -131,8 +132,8 @@ module _ (l : Layout) (a : Anchor) (r : Placed) (c : Copies) (is : IsRecord l a.
 
   copies_end : c.place + copies_count c ≤ 16 + 3 * l.third
   copies_end =
-      let inside = place_inside l a.third r.at (record_len count) is.end is.inside (omega arith) in
-      let at : c.place ≡ place_of l a.third r.at + (4 + length r.entry.pages) = of.place in
+      let inside = place_inside l a.third r.at (record_len (gap_of l) count) is.end is.inside (omega arith) in
+      let at : c.place ≡ place_of l a.third r.at + (4 + 2 * (gap_of l) + length r.entry.pages) = of.place in
       omega (arith, inside, at, count_is)
 
   copy_is : (k : ℕ) → k < count + 1 → get_or (copies_of a r) k [] ≡ slice_of c.bytes k

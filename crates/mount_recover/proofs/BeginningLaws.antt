@@ -7,6 +7,7 @@ use Rattle.std.proofs.lemmas.List.FromFn.{length-range_with_len}
 use Rattle.volume_layout.specs.declared.layout.Layout.{Layout}
 use Rattle.volume_layout.specs.Layout.{home_a, home_b}
 use Rattle.volume_layout.proofs.RootLaws.{planned_bounds}
+use Rattle.volume_layout.specs.Kinds.{gap_of, longest_of}
 use Rattle.fsd_formats.specs.declared.anchor.Anchor.{Anchor}
 use Rattle.fsd_formats.specs.Anchors.{anchor_bytes, read_anchor}
 use Rattle.fsd_formats.specs.Record.{Stamp}
@@ -22,8 +23,8 @@ use Rattle.fsd_log.specs.Scan.{is_newer, newer_of, start}
 use Rattle.fsd_files.specs.Disk.{Image, SectorWorn, Has, bytes_of}
 use Rattle.fsd_sound.specs.Anchors.{anchor_at, EachAnchor, fresh_anchor}
 use Rattle.fsd_sound.specs.Shown.{newest, records_by, all_pages, shown_by}
-use Rattle.fsd_sound.specs.Sound.{EachStamp, ShowsPages, weak_of}
-use Rattle.fsd_sound.proofs.WindowLaws.{open_is_weak}
+use Rattle.fsd_sound.specs.Sound.{EachStamp, ShowsPages, weak_of, BearsLast}
+use Rattle.fsd_sound.proofs.WindowLaws.{open_is_weak, next_borne, borne_narrow, borne_apart}
 use Rattle.log_thirds.specs.Anchoring.{with_anchors, AnchorsIn}
 use Rattle.log_thirds.specs.LogValue.{LogValue}
 use Rattle.fsd_sound.specs.Begun.{IsHomed, IsBegun, IsMountedIn, AreOlder}
@@ -44,7 +45,6 @@ use Rattle.mount_recover.proofs.MendingLaws.{narrow}
 use Rattle.fsd_sound.proofs.AnchorFacts.{newer_one}
 use Rattle.fsd_sound.proofs.EachLaws.{each_size}
 use Rattle.fsd_sound.proofs.SectorFacts.{whole_before}
-use Rattle.fsd_sound.proofs.WindowLaws.{next_apart}
 
 -- ---- runs
 
@@ -293,14 +293,17 @@ module _ (l : Layout) (windows : List WeakRun) (choices : List (List (List ℕ))
       named : (run : WeakRun) × (first.windows.next ≡ Some run)
       named = some_run first.windows.next some
 
-      apart_next : IsApart (weak_of (windows ++ named.0 ∷ []))
-      apart_next = next_apart first.windows windows named.0 (subst AreShort at.holds.windows short) named.1
+      borne_next : BearsLast l (windows ++ named.0 ∷ [])
+      borne_next = next_borne l windows named.0 (subst (λ (o : Option WeakRun). IfSome o (λ run. run.count ≤ longest_of l.kind)) named.1 c.short)
+
+      apart_next : IsApart (gap_of l) (weak_of (windows ++ named.0 ∷ []))
+      apart_next = borne_apart l (windows ++ named.0 ∷ []) borne_next
 
       narrow_next : IsNarrow (weak_of (windows ++ named.0 ∷ []))
-      narrow_next s t far a b = apart_next s t (omega (arith, far)) a b
+      narrow_next = borne_narrow l (windows ++ named.0 ∷ []) borne_next
 
       mounted : IsMountedIn l windows named.0 c.pages new
-      mounted = settles l windows named.0 (log.anchor.epoch + 1) c.pages first mid new two narrow_next named.1 begun holds_mid done
+      mounted = settles l windows named.0 (log.anchor.epoch + 1) c.pages first mid new two borne_next named.1 begun holds_mid done
 
       worn_new : IsWorn (open_damage first.windows) two new.image
       worn_new = worn_trans (open_damage first.windows) two mid.image new.image holds_mid.worn (subst (λ (w : Windows). IsWorn (open_damage w) mid.image new.image) holds_mid.windows done.image)

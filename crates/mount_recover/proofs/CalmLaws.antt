@@ -36,7 +36,7 @@ use Rattle.log_thirds.specs.Copies.{copies_count}
 use Rattle.log_thirds.specs.Slots.{slot_of}
 use Rattle.log_thirds.proofs.RunLaws.{calm_runs}
 use Rattle.fsd_files.specs.Scrub.{ReadsDamaged}
-use Rattle.twin_home.specs.Heal.{Mends, Heals, Healed, RootsIn}
+use Rattle.twin_home.specs.Heal.{Mends, Heals, Healed, HealsRoots}
 use Rattle.fsd_sound.proofs.CommuteLaws.{with_same, with_other}
 use Rattle.fsd_sound.specs.declared.fault.MountFault.{MountFault}
 use Rattle.fsd_sound.specs.declared.fault.MountFault.TheVariants.{Lost}
@@ -219,8 +219,8 @@ excuse_loses l records first other excuse = tt
 
 -- ---- the last record
 
-pub laid_again : (l : Layout) (log : LogValue) (old mid new : Moment) → log.layout ≡ l → KnowsLog l log old.image → IsCalmNow old → 16 + 3 * l.third ≤ length old.image
-    → Holds old (stand old.image log.copies.place log.copies.bytes (copies_count log.copies)) mid → Names mid new → IsLaidAgain l log old.image new.image
+pub laid_again : {longest : ℕ} (l : Layout) (log : LogValue) (old mid new : Moment) → log.layout ≡ l → KnowsLog l log old.image → IsCalmNow old → 16 + 3 * l.third ≤ length old.image
+    → Holds old (stand old.image log.copies.place log.copies.bytes (copies_count log.copies)) mid → Names longest mid new → IsLaidAgain l log old.image new.image
 laid_again l log old mid new same knows still long holds names =
     let low = low_third l old.image log.anchor knows.taken in
     let is : new.image ≡ stand old.image log.copies.place log.copies.bytes (copies_count log.copies) =
@@ -244,7 +244,7 @@ not_written i s (suc zero) bytes once room hurt =
     absurd (cc (there, hurt))
 not_written i s (suc (suc k)) bytes once room hurt = absurd (omega (arith, once))
 
-pub roots_lose : (bytes : List ℕ) (old new : Moment) → 4 < length old.image → IsCalmNow old → RootsIn bytes old new → (HasNoRoot old.image → ⊥) → (fault : LoadFault) → LostCause (λ x y. (x ≡ 0) × (y ≡ 4)) new.image fault → IsDevice fault
+pub roots_lose : (bytes : List ℕ) (old new : Moment) → 4 < length old.image → IsCalmNow old → HealsRoots bytes old new → (HasNoRoot old.image → ⊥) → (fault : LoadFault) → LostCause (λ x y. (x ≡ 0) × (y ≡ 4)) new.image fault → IsDevice fault
 roots_lose bytes old new room still roots some (load.Device s) lost = tt
 roots_lose bytes old new room still roots some (load.Lost a b) lost =
     let is : new.image ≡ stand (stand old.image 0 bytes roots.first) 4 bytes roots.second = still_holds old (stand (stand old.image 0 bytes roots.first) 4 bytes roots.second) new still roots.holds in

@@ -5,6 +5,7 @@ use Rattle.std.specs.List.{AllByRecursion}
 use Rattle.volume_layout.specs.declared.layout.Layout.{Layout}
 use Rattle.volume_layout.specs.Layout.{plan}
 use Rattle.volume_layout.proofs.RootLaws.{planned_bounds}
+use Rattle.volume_layout.specs.Kinds.{gap_of, longest_of}
 use Rattle.fsd_formats.specs.declared.anchor.Anchor.{Anchor}
 use Rattle.fsd_formats.specs.Record.{record_len}
 use Rattle.sector_disk.specs.declared.sector.WeakRun.{WeakRun}
@@ -29,6 +30,7 @@ use Rattle.fsd_sound.specs.Logged.{IsLogged, Follows}
 use Rattle.fsd_sound.specs.Windows.{IsNarrow}
 use Rattle.fsd_sound.specs.Writes.{WritesAsMount, mount_writes}
 use Rattle.fsd_sound.proofs.CoverLaws.{ends_so, logged_still}
+use Rattle.fsd_sound.proofs.HomedLaws.{if_more}
 use Rattle.fsd_sound.proofs.LaidLaws.{all_laid_worn}
 use Rattle.fsd_sound.proofs.AnchorFacts.{newer_one, taken_third}
 use Rattle.fsd_sound.proofs.CompletingLaws.{completing, laid, last_copies}
@@ -36,6 +38,7 @@ use Rattle.fsd_sound.proofs.WritesLaws.{elsewhere}
 use Rattle.fsd_sound.proofs.CompleteLaws.{all_last}
 use Rattle.mount_recover.specs.Mending.{KnowsLog, StaysElsewhere, IsSeen, Completed}
 use Rattle.mount_recover.specs.Replay.{HasLastCopies, KeepsBehindLog, Replays}
+use Rattle.volume_layout.proofs.KindLaws.{gap_most}
 
 -- ---- where the copies lie
 
@@ -56,7 +59,7 @@ module _ (l : Layout) (log : LogValue) (j : Image) (knows : KnowsLog l log j) wh
       (λ last.
       let of = last_copies l log.anchor.epoch log.anchor.third last.0 last.1 log.copies (subst (λ (rs : List Placed). AreLastCopies l log.anchor.epoch log.anchor.third rs log.copies) last.2 knows.last) in
       let is = all_last (IsRecord l log.anchor.third) last.0 last.1 (subst (AllByRecursion (IsRecord l log.anchor.third)) last.2 (scan_records l j log.anchor (low_third l j log.anchor knows.taken))) in
-      let inside = place_inside l log.anchor.third last.1.at (record_len (length last.1.entry.pages)) is.end is.inside (omega arith) in
+      let inside = place_inside l log.anchor.third last.1.at (record_len (gap_of l) (length last.1.entry.pages)) is.end is.inside (omega arith) in
       let count = count_of last.1 of in
       stand_other i log.copies.place log.copies.bytes m s (inr (omega (arith, le, count, of.place, inside, from))))
       (ends_so (records_by l j log.anchor))
@@ -99,12 +102,12 @@ one_shown : (choices : List (List (List ℕ))) (o : Option (List (List ℕ))) �
 one_shown choices None is = absurd is
 one_shown choices (Some pages) is = (pages, refl, is)
 
-module _ (l : Layout) (windows : List WeakRun) (choices : List (List (List ℕ))) (log : LogValue) (old : Moment) (planned : plan l.sectors l.third l.pages ≡ Ok l) (seen : IsSeen l windows choices log old) where
+module _ (l : Layout) (windows : List WeakRun) (choices : List (List (List ℕ))) (log : LogValue) (old : Moment) (planned : plan l.kind l.sectors l.third l.pages ≡ Ok l) (seen : IsSeen l windows choices log old) where
   abbrev weak : Sectors
   weak = weak_of windows
 
   narrow : IsNarrow (weak_of windows)
-  narrow s t far a b = seen.apart s t (omega (arith, far)) a b
+  narrow s t far a b = seen.apart s t (omega (arith, far, gap_most l)) a b
 
   small : l.pages ≤ 2 ^ 32
   small = let bounds = planned_bounds l planned in omega (arith, bounds.pages_most)
@@ -157,10 +160,10 @@ module _ (l : Layout) (windows : List WeakRun) (choices : List (List (List ℕ))
     wears_replays : (left : Moment) → Wears mid left → Replays l windows choices old left
     wears_replays left wears = replays_at (copies_count log.copies) (omega arith) left (later left wears.image) (ap (λ (w : Windows). w.present) (wears.windows ∙ holds.windows)) (wears.said ∙ holds.said)
 
-    names_replays : (new : Moment) → Names mid new → Replays l windows choices old new
+    names_replays : {longest : ℕ} (new : Moment) → Names longest mid new → Replays l windows choices old new
     names_replays new names = replays_at (copies_count log.copies) (omega arith) new (later new names.image) (names.present ∙ ap (λ (w : Windows). w.present) holds.windows) (names.said ∙ holds.said)
 
-    pub healing_replays : (new left : Moment) → Names mid new → Before mid new left → Replays l windows choices old left
+    pub healing_replays : {longest : ℕ} (new left : Moment) → Names longest mid new → Before mid new left → Replays l windows choices old left
     healing_replays new left names (inl wears) = wears_replays left wears
     healing_replays new left names (inr is) = subst (Replays l windows choices old) (sym is) (names_replays new names)
 
@@ -195,8 +198,8 @@ module _ (l : Layout) (windows : List WeakRun) (choices : List (List (List ℕ))
         (λ last. logged_still l (weak_of windows) clean at_clean.shows.readable.anchors (at_clean.shows.readable.log clean (worn_refl (weak_of windows) clean)) log.anchor at_clean.taken last.0 last.1 last.2 (last_has last.0 last.1 last.2) small seen.apart page is)
         (ends_so (records_by l clean log.anchor))
 
-    pub completed : (new : Moment) → Names mid new → Completed l windows choices log old seen new
-    completed new names =
+    pub completed : (longest : ℕ) → longest ≤ longest_of l.kind → (new : Moment) → Names longest mid new → Completed l windows choices log old seen new
+    completed longest fits new names =
         let worn : IsWorn (weak_of windows) clean new.image = weaker clean new.image (from_seen (copies_count log.copies) (omega arith) new (later new names.image)) in
         let present : new.windows.present ≡ old.windows.present = names.present ∙ ap (λ (w : Windows). w.present) holds.windows in
         let one = one_shown choices (shown l clean) (at_clean.shows.shows clean (worn_refl (weak_of windows) clean)) in
@@ -206,6 +209,7 @@ module _ (l : Layout) (windows : List WeakRun) (choices : List (List (List ℕ))
             planned = planned;
             apart = seen.apart;
             ends = record { last = seen.ends.last ∙ sym present; some = subst (λ (o : Option WeakRun). IsSome o) (sym present) seen.ends.some };
+            short = if_more new.windows.next (λ run. run.count ≤ longest) (λ run. run.count ≤ longest_of l.kind) (λ run most. omega (arith, most, fits)) names.short;
             worn = worn;
             shows = at_clean.shows;
             taken = at_clean.taken;

@@ -4,6 +4,7 @@ use Rattle.std.specs.Prelude.{◌==◌}
 use Rattle.std.specs.List.{AllByRecursion}
 use Rattle.std.specs.Option.{option_or}
 use Rattle.volume_layout.specs.declared.layout.Layout.{Layout}
+use Rattle.volume_layout.specs.Kinds.{gap_of}
 use Rattle.fsd_formats.specs.declared.anchor.Anchor.{Anchor}
 use Rattle.fsd_formats.specs.Record.{bears, record_len}
 use Rattle.fsd_log.specs.Judged.{Reader}
@@ -109,9 +110,9 @@ module _ (page number : ℕ) where
 -- the sectors of its images read as they did, and their copies as they did or as the images
 pub record RecordAgain (l : Layout) (third : ℕ) (old new : Reader) (r : Placed) : Type 0 where
   pub images : length r.entry.images ≡ length r.entry.pages
-  pub first : (j : ℕ) → j < length r.entry.pages → new (place_of l third r.at + 3 + j) ≡ old (place_of l third r.at + 3 + j)
-  pub copy : (j : ℕ) → j < length r.entry.pages → (new (place_of l third r.at + 3 + length r.entry.pages + 1 + j) ≡ old (place_of l third r.at + 3 + length r.entry.pages + 1 + j))
-      ⊎ (new (place_of l third r.at + 3 + length r.entry.pages + 1 + j) ≡ Some (get_or r.entry.images j []))
+  pub first : (j : ℕ) → j < length r.entry.pages → new (place_of l third r.at + 3 + (gap_of l) + j) ≡ old (place_of l third r.at + 3 + (gap_of l) + j)
+  pub copy : (j : ℕ) → j < length r.entry.pages → (new (place_of l third r.at + 3 + (gap_of l) + length r.entry.pages + 1 + (gap_of l) + j) ≡ old (place_of l third r.at + 3 + (gap_of l) + length r.entry.pages + 1 + (gap_of l) + j))
+      ⊎ (new (place_of l third r.at + 3 + (gap_of l) + length r.entry.pages + 1 + (gap_of l) + j) ≡ Some (get_or r.entry.images j []))
 
 pub last_again : (l : Layout) (third page : ℕ) (old new : Reader) (rs : List Placed) (slot : Slot) → AllByRecursion (RecordAgain l third old new) rs → slot_of l third page rs ≡ Some slot → SlotAgain old new slot (last_image page rs)
 last_again l third page old new [] slot all is = absurd (cc (is))
@@ -123,7 +124,7 @@ last_again l third page old new (r ∷ rs) slot all is = by_rest (λ e. last_aga
         let rest = later (is1 ∙ e) in
         record { image = rest.image; is = ap (λ (o : Option (List ℕ)). option_or o (image_in page r.entry.pages r.entry.images)) rest.is; place = rest.place; copy = rest.copy }
     by_rest later None is1 e =
-        let one = slot_again page r.entry.number old new (place_of l third r.at + 3) (place_of l third r.at + 3 + length r.entry.pages + 1) r.entry.pages r.entry.images slot all.0.images all.0.first all.0.copy e in
+        let one = slot_again page r.entry.number old new (place_of l third r.at + 3 + (gap_of l)) (place_of l third r.at + 3 + (gap_of l) + length r.entry.pages + 1 + (gap_of l)) r.entry.pages r.entry.images slot all.0.images all.0.first all.0.copy e in
         record { image = one.image; is = λ i. option_or (no_last_image l third page rs is1 i) (one.is i); place = one.place; copy = one.copy }
 
 -- a page's slot lies in the log
@@ -135,8 +136,8 @@ slot_inside l third page (r ∷ rs) slot are is = by_rest (λ e. slot_inside l t
         → (slot.place < 16 + 3 * l.third) × (slot.copy < 16 + 3 * l.third)
     by_rest later (Some s) is1 e = later (is1 ∙ e)
     by_rest later None is1 e =
-        let inside = place_inside l third r.at (record_len (length r.entry.pages)) are.0.end are.0.inside (omega arith) in
-        slot_below page r.entry.number (16 + 3 * l.third) (place_of l third r.at + 3) (place_of l third r.at + 3 + length r.entry.pages + 1) r.entry.pages slot (omega (arith, inside)) (omega (arith, inside)) e
+        let inside = place_inside l third r.at (record_len (gap_of l) (length r.entry.pages)) are.0.end are.0.inside (omega arith) in
+        slot_below page r.entry.number (16 + 3 * l.third) (place_of l third r.at + 3 + (gap_of l)) (place_of l third r.at + 3 + (gap_of l) + length r.entry.pages + 1 + (gap_of l)) r.entry.pages slot (omega (arith, inside)) (omega (arith, inside)) e
 
 -- ---- of an image
 

@@ -8,7 +8,7 @@ use Rattle.sector_disk.proofs.Wear.{stand_other, worn_twice}
 use Rattle.fsd_files.specs.Disk.{Image, SectorWorn}
 use Rattle.fsd_sound.proofs.WritesLaws.{beside, elsewhere}
 use Rattle.twin_home.specs.Home.{HomesIn}
-use Rattle.twin_home.specs.Heal.{Heals, RootsIn}
+use Rattle.twin_home.specs.Heal.{Heals, HealsRoots}
 use Rattle.mount_recover.specs.Mending.{Keeps, KeepsBut}
 
 -- ---- but for two sectors
@@ -35,7 +35,7 @@ but_heals a b old new (inr (inl mends)) = but_holds a b old new (stand old.image
 but_heals a b old new (inr (inr mends)) = but_holds a b old new (stand old.image b mends.bytes mends.part.stood) mends.part.holds
     (λ s not_a not_b. stand_other old.image b mends.bytes mends.part.stood s (beside s b mends.part.stood not_b mends.part.within))
 
-pub but_roots : (bytes : List ℕ) (old new : Moment) → RootsIn bytes old new → KeepsBut 0 4 old new
+pub but_roots : (bytes : List ℕ) (old new : Moment) → HealsRoots bytes old new → KeepsBut 0 4 old new
 but_roots bytes old new roots = but_holds 0 4 old new (stand (stand old.image 0 bytes roots.first) 4 bytes roots.second) roots.holds
     (two_written 0 4 bytes roots.first roots.second roots.once roots.once_more old.image)
 

@@ -9,6 +9,7 @@ mod KeepsLaws
 mod MendingLaws
 mod MountLaws
 mod PlaceLaws
+mod RootLaws
 mod SeenLaws
 mod SlotLaws
 mod TurningLaws

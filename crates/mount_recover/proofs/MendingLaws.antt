@@ -22,7 +22,7 @@ use Rattle.fsd_sound.proofs.SoundLaws.{shows_still}
 use Rattle.fsd_sound.proofs.WindowLaws.{open_is_weak}
 use Rattle.log_thirds.specs.LogValue.{LogValue}
 use Rattle.twin_home.specs.Home.{HomesIn}
-use Rattle.twin_home.specs.Heal.{Mends, Heals, Mended, Healed, RootsIn, NeedsRoot, RootsHealed}
+use Rattle.twin_home.specs.Heal.{Mends, Heals, Mended, Healed, HealsRoots, NeedsRoot, RootsHealed}
 use Rattle.fsd_sound.specs.Homes.{AreTwins, IsAtHome}
 use Rattle.fsd_sound.specs.Logged.{IsLogged}
 use Rattle.fsd_sound.specs.Windows.{IsNarrow}
@@ -32,6 +32,7 @@ use Rattle.fsd_sound.proofs.MendLaws.{logged_shows, mended_shows, rooted_shows}
 use Rattle.fsd_sound.proofs.PagesLaws.{home_is, logged_is}
 use Rattle.fsd_sound.proofs.AlikeLaws.{each_same, records_same}
 use Rattle.mount_recover.specs.Mending.{IsCompleted, IsMending, IsMended, Stays}
+use Rattle.volume_layout.proofs.KindLaws.{gap_most}
 
 -- ---- moments
 
@@ -48,7 +49,7 @@ not_none o x is none = absurd (cc (is, none))
 
 module _ (l : Layout) (windows : List WeakRun) (choices : List (List (List ℕ))) (log : LogValue) (first : Moment) (c : IsCompleted l windows choices log first) where
   pub narrow : IsNarrow (weak_of windows)
-  narrow s t far a b = c.apart s t (omega (arith, far)) a b
+  narrow s t far a b = c.apart s t (omega (arith, far, gap_most l)) a b
 
   pub weaker : (i j : Image) → IsWorn (open_damage first.windows) i j → IsWorn (weak_of windows) i j
   weaker i j w = open_is_weak first.windows windows i j c.ends w
@@ -287,7 +288,7 @@ module _ (l : Layout) (windows : List WeakRun) (choices : List (List (List ℕ))
   rooted_two : (j k : ℕ) → j ≤ 1 → k ≤ 1 → Rooted (stand (stand at.image 0 (root_bytes l) j) 4 (root_bytes l) k)
   rooted_two j k once twice = rooted_some (stand at.image 0 (root_bytes l) j) (rooted_some at.image rooted_here 0 (inl refl) j once) 4 (inr refl) k twice
 
-  pub roots_stay : (left : Moment) → RootsIn (root_bytes l) now left → Stays l windows choices first left
+  pub roots_stay : (left : Moment) → HealsRoots (root_bytes l) now left → Stays l windows choices first left
   roots_stay left roots =
       let is = rooted_two roots.first roots.second roots.once roots.once_more in
       record {

@@ -4,9 +4,11 @@ use Rattle.std.specs.Prelude.{IsTrue, IsSome, option_and_then, nat_le}
 use Rattle.std.specs.List.{AllByRecursion}
 use Rattle.std.proofs.lemmas.Bool.{cond-true, le-leb, and_parts, or_left, or_right}
 use Rattle.volume_layout.specs.declared.layout.Layout.{Layout}
-use Rattle.volume_layout.specs.Layout.{plan}
+use Rattle.volume_layout.specs.Layout.{plan, turned}
 use Rattle.volume_layout.specs.Root.{root_bytes, read_root}
 use Rattle.volume_layout.proofs.RootLaws.{planned_root_is_read}
+use Rattle.volume_layout.proofs.TurnedLaws.{planned_turned}
+use Rattle.volume_layout.specs.Kinds.{gap_of}
 use Rattle.fsd_formats.specs.declared.anchor.Anchor.{Anchor}
 use Rattle.fsd_formats.specs.Record.{record_len, end_bytes}
 use Rattle.sector_disk.specs.declared.sector.Sector.{Sector}
@@ -24,10 +26,13 @@ use Rattle.fsd_sound.specs.Anchors.{anchor_of}
 use Rattle.fsd_sound.specs.Laid.{AllStand}
 use Rattle.fsd_sound.specs.Roots.{counted_root, root_at, root_of}
 use Rattle.fsd_sound.specs.Shown.{records_by, shown_by}
-use Rattle.fsd_sound.specs.Sound.{EndIn, ShowsOne, ShowsPages, weak_of}
+use Rattle.fsd_sound.specs.Sound.{EndIn, IsRootAt, IsRootOf, IsSaid, SaysTurned, ShowsOne, ShowsPages, weak_of}
 use Rattle.fsd_sound.proofs.LogPlaces.{IsRecord, scan_records}
+use Rattle.fsd_sound.proofs.SaidLaws.{says_worn}
+use Rattle.fsd_sound.proofs.SectorFacts.{not_damaged}
 use Rattle.fsd_sound.proofs.SoundLaws.{shows_still}
-use Rattle.fsd_sound.proofs.WindowLaws.{open_is_weak}
+use Rattle.fsd_sound.proofs.TurnedLaws.{said_shows}
+use Rattle.fsd_sound.proofs.WindowLaws.{open_is_weak, borne_apart}
 use Rattle.log_thirds.specs.Images.{AreOfLogged}
 use Rattle.log_thirds.specs.LogValue.{LogValue}
 use Rattle.log_thirds.proofs.ImageLaws.{logged_by}
@@ -43,7 +48,6 @@ use Rattle.log_thirds.specs.Anchoring.{in_next_epoch}
 use Rattle.log_thirds.proofs.SlotLaws.{no_records}
 use Rattle.mount_recover.specs.Recover.{IsFreshLog, IsRefusedFor, ShowsVolume}
 use Rattle.mount_recover.specs.Replay.{HasLastCopies, IsCompletedFrom, Replays}
-use Rattle.fsd_sound.proofs.WindowLaws.{short_apart}
 use Rattle.fsd_sound.proofs.CompleteLaws.{all_last}
 use Rattle.mount_recover.proofs.PlaceLaws.{lies_last}
 use Rattle.mount_recover.proofs.CompletingLaws.{low_third}
@@ -51,29 +55,58 @@ use Rattle.mount_recover.proofs.MendingLaws.{stays_show}
 use Rattle.fsd_log.proofs.RobustLaws.{length_more}
 use Rattle.fsd_log.specs.Places.{LieInRecord, last_places}
 use Rattle.fsd_files.proofs.KeptLaws.{has_on}
+use Rattle.volume_layout.proofs.KindLaws.{gap_most}
 
 -- ---- the root of an image that shows pages
 
-root_stands : (l : Layout) (sectors : ℕ) (i : Image) (s : ℕ) → plan l.sectors l.third l.pages ≡ Ok l → l.sectors ≤ sectors → sector_at i s ≡ Whole (root_bytes l) → root_at sectors i s ≡ Some l
+root_stands : (l : Layout) (sectors : ℕ) (i : Image) (s : ℕ) → plan l.kind l.sectors l.third l.pages ≡ Ok l → l.sectors ≤ sectors → sector_at i s ≡ Whole (root_bytes l) → root_at sectors i s ≡ Some l
 root_stands l sectors i s planned room stands =
     ap (λ (x : Sector). option_and_then (counted_root sectors) (option_and_then read_root (bytes_of x))) stands
     ∙ ap (option_and_then (counted_root sectors)) (planned_root_is_read l planned)
     ∙ cond-true (nat_le l.sectors sectors) (Some l) None (le-leb l.sectors sectors room)
 
-root_shown : (l : Layout) (sectors : ℕ) (windows : List WeakRun) (choices : List (List (List ℕ))) (i : Image) → plan l.sectors l.third l.pages ≡ Ok l → l.sectors ≤ sectors → ShowsPages l windows choices i → root_of sectors i ≡ Some l
-root_shown l sectors windows choices i planned room shows = by_sector (sector_at i 0) refl
-  where
-    by_sector : (s : Sector) → sector_at i 0 ≡ s → root_of sectors i ≡ Some l
-    by_sector Damaged is =
-        let none : root_at sectors i 0 ≡ None = ap (λ (x : Sector). option_and_then (counted_root sectors) (option_and_then read_root (bytes_of x))) is in
-        let second : sector_at i 4 ≡ Whole (root_bytes l) = ⊎_elim (λ first. absurd (cc (first, is))) (λ there. there) shows.readable.roots.some in
-        ap (λ (r : Option Layout). either_copy r (root_at sectors i 4)) none ∙ root_stands l sectors i 4 planned room second
-    by_sector (Whole bytes) is =
-        let stands : sector_at i 0 ≡ Whole (root_bytes l) = is ∙ ap (λ (b : List ℕ). Whole b) (shows.readable.roots.first bytes is) in
-        ap (λ (r : Option Layout). either_copy r (root_at sectors i 4)) (root_stands l sectors i 0 planned room stands)
+-- the root that the image tells is the layout, or it turned, where a root says so
+pub record TellsRoot (l : Layout) (sectors : ℕ) (i : Image) : Type 0 where
+  pub layout : Layout
+  pub said : IsSaid l i layout
+  pub root : root_of sectors i ≡ Some layout
+
+module _ (l : Layout) (sectors : ℕ) (windows : List WeakRun) (choices : List (List (List ℕ))) (i : Image) (planned : plan l.kind l.sectors l.third l.pages ≡ Ok l) (room : l.sectors ≤ sectors) (shows : ShowsPages l windows choices i) where
+  -- a root of it counts
+  counts : (s : ℕ) (bytes : List ℕ) → sector_at i s ≡ Whole bytes → IsRootOf l bytes → (sector_at i s ≡ Whole (root_bytes (turned l)) → SaysTurned l i) → (k : Layout) × IsSaid l i k × (root_at sectors i s ≡ Some k)
+  counts s bytes there (inl is) says = (l, inl refl, root_stands l sectors i s planned room (there ∙ ap (λ (b : List ℕ). Whole b) is))
+  counts s bytes there (inr is) says =
+      let at : sector_at i s ≡ Whole (root_bytes (turned l)) = there ∙ ap (λ (b : List ℕ). Whole b) is in
+      (turned l, inr (refl, says at), root_stands (turned l) sectors i s (planned_turned l planned) room at)
+
+  pub root_shown : TellsRoot l sectors i
+  root_shown = by_sector (sector_at i 0) refl
+    where
+      by_sector : (s : Sector) → sector_at i 0 ≡ s → TellsRoot l sectors i
+      by_sector Damaged is =
+          let none : root_at sectors i 0 ≡ None = ap (λ (x : Sector). option_and_then (counted_root sectors) (option_and_then read_root (bytes_of x))) is in
+          let second : IsRootAt l i 4 = ⊎_elim (λ first. absurd (not_damaged (sector_at i 0) first.0 first.1 is)) (λ there. there) shows.readable.roots.some in
+          let found = counts 4 second.0 second.1 second.2 (λ says. inr says) in
+          record { layout = found.0; said = found.1; root = ap (λ (r : Option Layout). either_copy r (root_at sectors i 4)) none ∙ found.2 }
+      by_sector (Whole bytes) is =
+          let found = counts 0 bytes is (shows.readable.roots.first bytes is) (λ says. inl says) in
+          record { layout = found.0; said = found.1; root = ap (λ (r : Option Layout). either_copy r (root_at sectors i 4)) found.2 }
 
 some_same : (x y : Layout) → Some x ≡ Some y → x ≡ y
-some_same x y e = cc
+some_same x y e = cc e
+
+planned_said : (l : Layout) (i : Image) (k : Layout) → IsSaid l i k → plan l.kind l.sectors l.third l.pages ≡ Ok l → plan k.kind k.sectors k.third k.pages ≡ Ok k
+planned_said l i k (inl is) planned = subst (λ (x : Layout). plan x.kind x.sectors x.third x.pages ≡ Ok x) (sym is) planned
+planned_said l i k (inr is) planned = subst (λ (x : Layout). plan x.kind x.sectors x.third x.pages ≡ Ok x) (sym is.0) (planned_turned l planned)
+
+fits_said : (sectors : ℕ) (l : Layout) (i : Image) (k : Layout) → IsSaid l i k → l.sectors ≤ sectors → k.sectors ≤ sectors
+fits_said sectors l i k (inl is) fits = subst (λ (x : Layout). x.sectors ≤ sectors) (sym is) fits
+fits_said sectors l i k (inr is) fits = subst (λ (x : Layout). x.sectors ≤ sectors) (sym is.0) fits
+
+-- what is said of a worn image was said before
+said_worn : (l : Layout) (i j : Image) (may : Sectors) (k : Layout) → IsWorn may i j → IsSaid l j k → IsSaid l i k
+said_worn l i j may k worn (inl is) = inl is
+said_worn l i j may k worn (inr is) = inr (is.0, says_worn l i j may worn is.1)
 
 -- ---- the last record's copies stay
 
@@ -88,17 +121,17 @@ last_on : (l : Layout) (a : Anchor) (weak : Sectors) (records : List Placed) (i 
     → HasLastCopies l a weak records i → HasLastCopies l a weak records j
 last_on l a weak records i j are on last front r is =
     let at = all_last (IsRecord l a.third) front r (subst (AllByRecursion (IsRecord l a.third)) is are) in
-    let inside = place_inside l a.third r.at (record_len (length r.entry.pages)) at.end at.inside (omega arith) in
-    all_on l a weak i j (place_of l a.third r.at + (4 + length r.entry.pages)) (r.entry.images ++ end_bytes (record { epoch = a.epoch; number = r.entry.number }) (length r.entry.pages) ∷ []) (λ p from to. on p (omega (arith, from, place_from l a.third r.at)) (omega (arith, to, inside, at.images, length_more r.entry.images (end_bytes (record { epoch = a.epoch; number = r.entry.number }) (length r.entry.pages))))) (last front r is)
+    let inside = place_inside l a.third r.at (record_len (gap_of l) (length r.entry.pages)) at.end at.inside (omega arith) in
+    all_on l a weak i j (place_of l a.third r.at + (4 + 2 * (gap_of l) + length r.entry.pages)) (r.entry.images ++ end_bytes (record { epoch = a.epoch; number = r.entry.number }) (length r.entry.pages) ∷ []) (λ p from to. on p (omega (arith, from, place_from l a.third r.at)) (omega (arith, to, inside, at.images, length_more r.entry.images (end_bytes (record { epoch = a.epoch; number = r.entry.number }) (length r.entry.pages))))) (last front r is)
 
 -- ---- from an image that shows pages
 
 module _ (sectors : ℕ) (l : Layout) (windows : List WeakRun) (choices : List (List (List ℕ))) (old : Moment) (start : ShowsVolume sectors l windows choices old) (short : AreShort old.windows) where
-  apart : IsApart (weak_of windows)
-  apart = short_apart old.windows windows short start.ends
+  apart : IsApart (gap_of l) (weak_of windows)
+  apart = borne_apart l windows start.shows.readable.borne
 
   narrow : IsNarrow (weak_of windows)
-  narrow s t far a b = apart s t (omega (arith, far)) a b
+  narrow s t far a b = apart s t (omega (arith, far, gap_most l)) a b
 
   weaker : (i j : Image) → IsWorn (open_damage old.windows) i j → IsWorn (weak_of windows) i j
   weaker i j w = open_is_weak old.windows windows i j start.ends w
@@ -123,7 +156,7 @@ module _ (sectors : ℕ) (l : Layout) (windows : List WeakRun) (choices : List (
       shows = shows_worn refused.seen refused.from
 
       by_fault : (f : MountFault) → NotFoundFor sectors refused.seen f → IsExcuse f
-      by_fault NotVolume none = let some : root_of sectors refused.seen ≡ Some l = root_shown l sectors windows choices refused.seen start.planned start.fits shows in absurd (cc (some, none))
+      by_fault NotVolume none = let some = (root_shown l sectors windows choices refused.seen start.planned start.fits shows).root in absurd (cc (some, none))
       by_fault NoAnchor none =
           subst (λ (o : Option Anchor). ShowsOne choices (option_and_then (shown_by l refused.seen) o)) none.1 (start.shows.shows refused.seen (weaker old.image refused.seen refused.from))
       by_fault (Lost a b) why = why
@@ -131,12 +164,20 @@ module _ (sectors : ℕ) (l : Layout) (windows : List WeakRun) (choices : List (
       by_fault other why = tt
 
   module _ (one : Moment) (wears : Wears old one) (found : Layout) (log : LogValue) (is : IsFound sectors found log old one) where
-    pub found_same : found ≡ l
-    found_same = some_same found l (sym is.root ∙ root_shown l sectors windows choices is.seen start.planned start.fits (shows_worn is.seen is.from))
+    -- the layout that was found is one that the image says
+    pub found_said : IsSaid l old.image found
+    found_said =
+        let told = root_shown l sectors windows choices is.seen start.planned start.fits (shows_worn is.seen is.from) in
+        said_worn l old.image is.seen (open_damage old.windows) found is.from (subst (IsSaid l is.seen) (some_same told.layout found (sym told.root ∙ is.root)) told.said)
 
-    -- what is so by the layout that was found is so by the one that is shown
-    pub by_found : (P : Layout → Type 0) → (ShowsVolume sectors found windows choices old → P found) → P l
-    by_found P so = subst P found_same (so (subst (λ (k : Layout). ShowsVolume sectors k windows choices old) (sym found_same) start))
+    -- so by it the image shows the same pages
+    pub found_starts : ShowsVolume sectors found windows choices old
+    found_starts = record {
+      planned = planned_said l old.image found found_said start.planned;
+      fits = fits_said sectors l old.image found found_said start.fits;
+      ends = start.ends;
+      shows = said_shows l windows choices old.image found found_said start.shows;
+    }
 
   -- the log that was found, of the layout that is shown
   module _ (one : Moment) (wears : Wears old one) (log : LogValue) (is : IsFound sectors l log old one) where

@@ -3,6 +3,7 @@ use Rattle.std.proofs.Common.{◌≡◌, ℕ, ◌+◌, Bool, true, false, cond, 
 use Rattle.std.specs.Prelude.{option_map, ◌==◌}
 use Rattle.std.specs.Option.{option_or}
 use Rattle.volume_layout.specs.Shape.{Shape}
+use Rattle.volume_layout.specs.Kinds.{gap_of}
 use Rattle.fsd_log.specs.Places.{last_places, places_in}
 use Rattle.fsd_log.specs.Scan.{Placed, place_of}
 use Rattle.log_thirds.specs.declared.slots.Slot.{Slot}
@@ -28,10 +29,10 @@ either (Some s) p = refl
 in_records : (l : Shape) (third page : ℕ) (records : List Placed) → option_map places_of (slot_of l third page records) ≡ last_places l third page records
 in_records l third page [] = refl
 in_records l third page (r ∷ records) =
-    let start = place_of l third r.at + 3 in
+    let start = place_of l third r.at + 3 + (gap_of l) in
     either (slot_of l third page records) (slot_at l third page r)
     ∙ ap (λ (o : Option (ℕ × ℕ)). option_or o (option_map places_of (slot_at l third page r))) (in_records l third page records)
-    ∙ ap (λ (o : Option (ℕ × ℕ)). option_or (last_places l third page records) o) (in_pages page r.entry.number start (start + length r.entry.pages + 1) r.entry.pages)
+    ∙ ap (λ (o : Option (ℕ × ℕ)). option_or (last_places l third page records) o) (in_pages page r.entry.number start (start + length r.entry.pages + 1 + (gap_of l)) r.entry.pages)
 
 pub lies_last : (l : Shape) (third page : ℕ) (records : List Placed) (a b : ℕ) → LiesAt (slot_of l third page records) a b → last_places l third page records ≡ Some (a, b)
 lies_last l third page records a b lies = sym (in_records l third page records) ∙ ap (λ (o : Option Slot). option_map places_of o) lies.is

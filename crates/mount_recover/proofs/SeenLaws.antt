@@ -1,10 +1,9 @@
 -- What a mount finds, of an image as it was seen.
-use Rattle.std.proofs.Common.{◌≡◌, ◌≢◌, inl, inr, ⊎_elim, ℕ, ◌<◌, ◌≤◌, Bool, List, length, set, Option, Some, None, Ok, refl, sym, ap, subst, ◌∙◌, arith}
-use Rattle.std.specs.Prelude.{IsTrue, IsSome, IfSome, option_and_then}
+use Rattle.std.proofs.Common.{◌≡◌, ◌≢◌, inl, inr, ⊎_elim, ℕ, ◌<◌, ◌≤◌, Bool, List, length, set, Option, Some, None, refl, sym, ap, subst, ◌∙◌, arith}
+use Rattle.std.specs.Prelude.{IsTrue, IsSome, IfSome}
 use Rattle.std.proofs.lemmas.List.{length-set, get_or-set_same, get_or-set_other}
 use Rattle.volume_layout.specs.declared.layout.Layout.{Layout}
-use Rattle.volume_layout.specs.Layout.{plan}
-use Rattle.volume_layout.specs.Root.{read_root}
+use Rattle.volume_layout.specs.Kinds.{longest_of}
 use Rattle.fsd_formats.specs.declared.anchor.Anchor.{Anchor}
 use Rattle.sector_disk.specs.declared.sector.Sector.{Sector}
 use Rattle.sector_disk.specs.declared.sector.Sector.TheVariants.{Damaged}
@@ -15,7 +14,7 @@ use Rattle.fsd_log.specs.Judged.{Reader}
 use Rattle.fsd_log.specs.Scan.{Placed, anchor_in, anchor_on, newer_of, scan, tape}
 use Rattle.fsd_files.specs.Disk.{Image, bytes_of, bytes_at, either_copy}
 use Rattle.fsd_sound.specs.Anchors.{anchor_of}
-use Rattle.fsd_sound.specs.Roots.{counted_root, root_of}
+use Rattle.fsd_sound.specs.Roots.{root_of}
 use Rattle.fsd_sound.specs.Shown.{records_by}
 use Rattle.log_thirds.specs.Append.{IsIndexed}
 use Rattle.log_thirds.specs.Copies.{AreLastCopies}
@@ -27,23 +26,13 @@ use Rattle.log_thirds.specs.Reading.{ReadWorn, SeesAnchor, SeesLastEpoch}
 use Rattle.log_thirds.specs.Seen.{IsScanOf, LogOn}
 use Rattle.fsd_sound.proofs.CommuteLaws.{same_or}
 use Rattle.fsd_sound.specs.declared.fault.MountFault.{MountFault}
-use Rattle.mount_recover.specs.Finding.{mount_fault_of, IsFound, IsNotFound}
+use Rattle.fsd_sound.specs.declared.fault.MountFault.TheVariants.{NotVolume}
+use Rattle.mount_recover.specs.Finding.{mount_fault_of, IsBorneFound, IsNotFound, SeesRoots}
 use Rattle.mount_recover.specs.Mending.{KnowsLog}
+use Rattle.mount_recover.proofs.RootLaws.{each_bears, root_of_same, seen_root}
 
 pub reads_bytes : (i : Image) → ◌≡◌ {A = Reader} (reads i) (bytes_at i)
 reads_bytes i = refl
-
--- the roots are the first sectors
-root_same : (sectors : ℕ) (i j : Image) → sector_at j 0 ≡ sector_at i 0 → sector_at j 4 ≡ sector_at i 4 → root_of sectors j ≡ root_of sectors i
-root_same sectors i j first second =
-    let at : Sector → Option Layout = λ s. option_and_then (counted_root sectors) (option_and_then read_root (bytes_of s)) in
-    λ x. either_copy (at (first x)) (at (second x))
-
-pub planned_of : (o : Option Layout) (l : Layout) → o ≡ Some l → IfSome o (λ k. plan k.sectors k.third k.pages ≡ Ok k) → plan l.sectors l.third l.pages ≡ Ok l
-planned_of o l is planned = subst (λ (x : Option Layout). IfSome x (λ k. plan k.sectors k.third k.pages ≡ Ok k)) is planned
-
-pub fits_of : (sectors : ℕ) (o : Option Layout) (l : Layout) → o ≡ Some l → IfSome o (λ k. k.sectors ≤ sectors) → l.sectors ≤ sectors
-fits_of sectors o l is fits = subst (λ (x : Option Layout). IfSome x (λ k. k.sectors ≤ sectors)) is fits
 
 -- ---- the log
 
@@ -92,57 +81,74 @@ record SeesAnchors (may : ℕ → Bool) (i : Image) (o : Option Anchor) : Type 0
   is : anchor_of image ≡ o
   front : (s : ℕ) → s < 8 → sector_at image s ≡ sector_at i s
 
-see_anchors : (at : Moment) (o : Option Anchor) → 12 < length at.image → SeesAnchor at o → SeesAnchors (open_damage at.windows) at.image o
-see_anchors at o room sees =
-    let one = see_one at at.image 8 sees.sees_first.bytes (omega (arith, room)) refl sees.sees_first.read in
-    let two = see_one at one.image 12 sees.sees_copy.bytes (omega (arith, room, one.worn.size)) (one.rest 12 (λ e. omega arith)) sees.sees_copy.read in
+see_anchors : (at : Moment) (i : Image) (o : Option Anchor) → 12 < length i → sector_at i 8 ≡ sector_at at.image 8 → sector_at i 12 ≡ sector_at at.image 12 → SeesAnchor at o → SeesAnchors (open_damage at.windows) i o
+see_anchors at i o room same same_copy sees =
+    let one = see_one at i 8 sees.sees_first.bytes (omega (arith, room)) same sees.sees_first.read in
+    let two = see_one at one.image 12 sees.sees_copy.bytes (omega (arith, room, one.worn.size)) (one.rest 12 (λ e. omega arith) ∙ same_copy) sees.sees_copy.read in
     let first : anchor_in (bytes_at two.image 8) ≡ sees.first = ap (λ (x : Sector). anchor_in (bytes_of x)) (two.rest 8 (λ e. omega arith)) ∙ ap anchor_in one.is ∙ sym sees.sees_first.copy in
     let copy : anchor_in (bytes_at two.image 12) ≡ sees.copy = ap anchor_in two.is ∙ sym sees.sees_copy.copy in
     record {
       image = two.image;
-      worn = worn_trans (open_damage at.windows) at.image one.image two.image one.worn two.worn;
+      worn = worn_trans (open_damage at.windows) i one.image two.image one.worn two.worn;
       is = (λ x. newer_of (first x) (copy x)) ∙ sym sees.newer;
       front = λ s low. two.rest s (λ e. omega (arith, e, low)) ∙ one.rest s (λ e. omega (arith, e, low));
     }
 
 -- ---- what is found
 
-module _ (sectors : ℕ) (old mid : Moment) (wears : Wears old mid) (l : Layout) (root : root_of sectors mid.image ≡ Some l) where
-  then_mid : (j : Image) → IsWorn (open_damage mid.windows) mid.image j → IsWorn (open_damage old.windows) old.image j
-  then_mid j worn = worn_trans (open_damage old.windows) old.image mid.image j wears.image (subst (λ (w : Windows). IsWorn (open_damage w) mid.image j) wears.windows worn)
+-- neither root counts
+pub none_so : (sectors : ℕ) (first second : Option Layout) (old mid : Moment) → SeesRoots sectors first second old mid → either_copy first second ≡ None → IsNotFound sectors NotVolume old
+none_so sectors first second old mid roots none = record { seen = roots.seen; from = roots.from; why = seen_root sectors first second old mid roots None none }
 
-  pub found_so : (log : LogValue) (new : Moment) → log.layout ≡ l → LogOn log (open_damage mid.windows) mid.image new.image → IsFound sectors l log old new
-  found_so log new same on = record {
-    seen = on.image;
-    from = then_mid on.image on.from;
-    to = subst (λ (w : Windows). IsWorn (open_damage w) on.image new.image) wears.windows on.to;
-    root = root_same sectors mid.image on.image (on.head 0 (omega arith)) (on.head 4 (omega arith)) ∙ root;
-    knows = scan_knows l log on.image same on.taken on.scanned;
+module _ (sectors : ℕ) (first second : Option Layout) (old mid : Moment) (wears : Wears old mid) (roots : SeesRoots sectors first second old mid) (l : Layout) (taken : either_copy first second ≡ Some l) where
+  then_seen : (j : Image) → IsWorn (open_damage mid.windows) roots.seen j → IsWorn (open_damage old.windows) old.image j
+  then_seen j worn = worn_trans (open_damage old.windows) old.image roots.seen j roots.from (subst (λ (w : Windows). IsWorn (open_damage w) roots.seen j) wears.windows worn)
+
+  pub seen_now : IsWorn (open_damage mid.windows) roots.seen mid.image
+  seen_now = subst (λ (w : Windows). IsWorn (open_damage w) roots.seen mid.image) (sym wears.windows) roots.to
+
+  root_then : (j : Image) → ((s : ℕ) → s < 8 → sector_at j s ≡ sector_at roots.seen s) → root_of sectors j ≡ Some l
+  root_then j head = root_of_same sectors roots.seen j (head 0 (omega arith)) (head 4 (omega arith)) ∙ seen_root sectors first second old mid roots (Some l) taken
+
+  pub found_so : (longest : ℕ) → IfSome first (λ k. longest ≤ longest_of k.kind) → IfSome second (λ k. longest ≤ longest_of k.kind)
+      → (log : LogValue) (new : Moment) → log.layout ≡ l → LogOn log (open_damage mid.windows) roots.seen new.image → IsBorneFound sectors l log longest old new
+  found_so longest one two log new same on = record {
+    is = record {
+      seen = on.image;
+      from = then_seen on.image on.from;
+      to = subst (λ (w : Windows). IsWorn (open_damage w) on.image new.image) wears.windows on.to;
+      root = root_then on.image on.head;
+      knows = scan_knows l log on.image same on.taken on.scanned;
+    };
+    bears = each_bears sectors first second old mid roots longest one two on.image (on.head 0 (omega arith)) (on.head 4 (omega arith));
   }
 
   pub not_found_so : (fault : LogFault) (told : MountFault) → 12 < length mid.image → told ≡ mount_fault_of fault → (fault ≡ log.NoAnchor → SeesAnchor mid None) → (fault ≡ log.WornOut → SeesLastEpoch mid) → IsNotFound sectors told old
   not_found_so fault told room is none last = subst (λ (f : MountFault). IsNotFound sectors f old) (sym is) (by_fault fault none last)
     where
+      seen_anchors : (o : Option Anchor) → SeesAnchor mid o → SeesAnchors (open_damage mid.windows) roots.seen o
+      seen_anchors o = see_anchors mid roots.seen o (omega (arith, room, roots.to.size)) (roots.behind 8 (omega arith)) (roots.behind 12 (omega arith))
+
       by_fault : (f : LogFault) → (f ≡ log.NoAnchor → SeesAnchor mid None) → (f ≡ log.WornOut → SeesLastEpoch mid) → IsNotFound sectors (mount_fault_of f) old
       by_fault (log.Device s) none last = record { seen = mid.image; from = wears.image; why = tt }
       by_fault log.Memory none last = record { seen = mid.image; from = wears.image; why = tt }
       by_fault log.NoAnchor none last =
-          let sees = see_anchors mid None room (none refl) in
+          let sees = seen_anchors None (none refl) in
           record {
             seen = sees.image;
-            from = then_mid sees.image sees.worn;
-            why = (subst (λ (r : Option Layout). IsSome r) (sym (root_same sectors mid.image sees.image (sees.front 0 (omega arith)) (sees.front 4 (omega arith)) ∙ root)) refl, sees.is);
+            from = then_seen sees.image sees.worn;
+            why = (subst (λ (r : Option Layout). IsSome r) (sym (root_then sees.image sees.front)) refl, sees.is);
           }
       by_fault log.WornOut none last =
           let end = last refl in
-          let sees = see_anchors mid (Some end.anchor) room end.sees in
+          let sees = seen_anchors (Some end.anchor) end.sees in
           record {
             seen = sees.image;
-            from = then_mid sees.image sees.worn;
+            from = then_seen sees.image sees.worn;
             why = record {
               layout = l;
               anchor = end.anchor;
-              found = record { root = root_same sectors mid.image sees.image (sees.front 0 (omega arith)) (sees.front 4 (omega arith)) ∙ root; anchor = sees.is };
+              found = record { root = root_then sees.image sees.front; anchor = sees.is };
               epoch = end.last;
             };
           }

@@ -2,6 +2,7 @@
 use Rattle.std.proofs.Common.{◌≡◌, ◌⊎◌, inl, inr, ℕ, ◌+◌, ◌*◌, ◌<◌, List, [], ◌∷◌, Some, None, sym, ap, subst, ◌∙◌}
 use Rattle.std.specs.List.{AllByRecursion}
 use Rattle.volume_layout.specs.declared.layout.Layout.{Layout}
+use Rattle.volume_layout.specs.Kinds.{gap_of}
 use Rattle.sector_disk.specs.declared.machine.LoadFault.{LoadFault}
 use Rattle.sector_disk.specs.declared.machine.LoadFault.TheVariants as load
 use Rattle.sector_disk.specs.declared.sector.Sector.{Sector}
@@ -35,7 +36,7 @@ use Rattle.mount_recover.proofs.MendingLaws.{weaker}
 
 -- ---- a record that was laid whole
 
-each_image : (l : Layout) (a : Anchor) (weak : Sectors) (i : Image) (rs : List Placed) → AllByRecursion (IsRecord l a.third) rs → AllLaid l a weak i rs → AllByRecursion (EachImage l a.third (StandsTwice weak i)) rs
+each_image : (l : Layout) (a : Anchor) (weak : Sectors) (i : Image) (rs : List Placed) → AllByRecursion (IsRecord l a.third) rs → AllLaid l a weak i rs → AllByRecursion (EachImage l a.third (StandsTwice (gap_of l) weak i)) rs
 each_image l a weak i [] are laid = tt
 each_image l a weak i (r ∷ rs) are laid = (record { many = are.0.images; each = image_stands l a weak i r are.0 laid.0.0 laid.0.1 }, each_image l a weak i rs are.1 laid.1)
 
@@ -60,8 +61,8 @@ module _ (l : Layout) (windows : List WeakRun) (choices : List (List (List ℕ))
     found = subst (λ (k : Layout). slot_of k log.anchor.third n (records_by l c.clean log.anchor) ≡ Some (record { place = a; copy = b; number = (logged_by log (records_by l c.clean log.anchor) n a b indexed lies).number })) same
         (logged_by log (records_by l c.clean log.anchor) n a b indexed lies).is
 
-    gives : Gives l log.anchor.third (StandsTwice (weak_of windows) c.clean) n (records_by l c.clean log.anchor) (record { place = a; copy = b; number = (logged_by log (records_by l c.clean log.anchor) n a b indexed lies).number })
-    gives = slot_gives_at l log.anchor.third (StandsTwice (weak_of windows) c.clean) n (records_by l c.clean log.anchor) (record { place = a; copy = b; number = (logged_by log (records_by l c.clean log.anchor) n a b indexed lies).number })
+    gives : Gives l log.anchor.third (StandsTwice (gap_of l) (weak_of windows) c.clean) n (records_by l c.clean log.anchor) (record { place = a; copy = b; number = (logged_by log (records_by l c.clean log.anchor) n a b indexed lies).number })
+    gives = slot_gives_at l log.anchor.third (StandsTwice (gap_of l) (weak_of windows) c.clean) n (records_by l c.clean log.anchor) (record { place = a; copy = b; number = (logged_by log (records_by l c.clean log.anchor) n a b indexed lies).number })
         (each_image l log.anchor (weak_of windows) c.clean (records_by l c.clean log.anchor) (scan_records l c.clean log.anchor c.low) c.laid) found
 
     inside : (a < 16 + 3 * l.third) × (b < 16 + 3 * l.third)

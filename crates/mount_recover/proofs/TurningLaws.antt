@@ -24,7 +24,7 @@ module _ (old mid new left : Moment) (same : mid.windows ≡ old.windows) where
   worn_unturned failed (inl wears) = present_as left.windows old.windows (wears.windows ∙ same)
   worn_unturned failed (inr is) = present_as left.windows old.windows (ap (λ (at : Moment). at.windows) is ∙ failed.windows ∙ same)
 
-  pub named_unturned : Names mid new → Before mid new left → IsUnturned old left
+  pub named_unturned : {longest : ℕ} → Names longest mid new → Before mid new left → IsUnturned old left
   named_unturned named (inl wears) = present_as left.windows old.windows (wears.windows ∙ same)
   named_unturned named (inr is) = ap (λ (at : Moment). at.windows.present) is ∙ named.present ∙ present_as mid.windows old.windows same
 

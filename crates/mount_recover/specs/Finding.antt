@@ -1,10 +1,11 @@
 -- What a mount finds before it writes.
-use Rattle.std.specs.Prelude.{◌≡◌, ⊤, ℕ, Some, None, IsSome}
+use Rattle.std.specs.Prelude.{◌≡◌, ◌≤◌, ⊤, ℕ, Option, Some, None, IsSome}
 use Rattle.volume_layout.specs.declared.layout.Layout.{Layout}
-use Rattle.sector_disk.specs.Image.{IsWorn, open_damage}
+use Rattle.volume_layout.specs.Kinds.{longest_of}
+use Rattle.sector_disk.specs.Image.{IsWorn, open_damage, sector_at}
 use Rattle.sector_disk.specs.Machine.{Moment}
 use Rattle.fsd_files.specs.Disk.{Image}
-use Rattle.fsd_sound.specs.Roots.{root_of}
+use Rattle.fsd_sound.specs.Roots.{root_at, root_of}
 use Rattle.fsd_sound.specs.Anchors.{anchor_of}
 use Rattle.log_thirds.specs.declared.fault.LogFault.{LogFault}
 use Rattle.log_thirds.specs.declared.fault.LogFault.TheVariants as log
@@ -12,7 +13,7 @@ use Rattle.fsd_sound.specs.declared.fault.MountFault.{MountFault}
 use Rattle.fsd_sound.specs.declared.fault.MountFault.TheVariants.{NotVolume, Device, Memory, Lost, NoAnchor, Unsound, WornOut}
 use Rattle.log_thirds.specs.LogValue.{LogValue}
 use Rattle.mount_recover.specs.Mending.{KnowsLog}
-use Rattle.fsd_sound.specs.Mounting.{IsWornOut}
+use Rattle.fsd_sound.specs.Mounting.{HasRoot, IsWornOut}
 
 abbrev pub mount_fault_of : LogFault → MountFault
 mount_fault_of (log.Device s) = Device s
@@ -38,6 +39,21 @@ pub record IsFound (sectors : ℕ) (l : Layout) (log : LogValue) (old new : Mome
   pub to : IsWorn (open_damage old.windows) seen new.image
   pub root : root_of sectors seen ≡ Some l
   pub knows : KnowsLog l log seen
+
+-- So it is, and each root of that image that counts bears a run of so many sectors.
+pub record IsBorneFound (sectors : ℕ) (l : Layout) (log : LogValue) (longest : ℕ) (old new : Moment) : Type 0 where
+  pub is : IsFound sectors l log old new
+  pub bears : (root : Layout) → HasRoot sectors is.seen root → longest ≤ longest_of root.kind
+
+-- Both roots are those of an image that was seen: the old one may be worn to it, and it to the new one, which differs
+-- from it in the first sector at most.
+pub record SeesRoots (sectors : ℕ) (first second : Option Layout) (old new : Moment) : Type 0 where
+  pub seen : Image
+  pub from : IsWorn (open_damage old.windows) old.image seen
+  pub to : IsWorn (open_damage old.windows) seen new.image
+  pub behind : (s : ℕ) → 1 ≤ s → sector_at seen s ≡ sector_at new.image s
+  pub at_first : root_at sectors seen 0 ≡ first
+  pub at_second : root_at sectors seen 4 ≡ second
 
 -- An image was seen, which the old one may be worn to, and of which the refusal tells.
 pub record IsNotFound (sectors : ℕ) (fault : MountFault) (old : Moment) : Type 0 where

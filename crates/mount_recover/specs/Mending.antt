@@ -1,8 +1,9 @@
 -- The steps of a mount, where sectors wear.
-use Rattle.std.specs.Prelude.{◌≡◌, ◌≢◌, ◌⊎◌, ⊤, ℕ, ◌+◌, ◌*◌, ◌<◌, ◌≤◌, List, [], get_or, Some, None, Ok, Contains, IsFalse}
+use Rattle.std.specs.Prelude.{◌≡◌, ◌≢◌, ◌⊎◌, ⊤, ℕ, ◌+◌, ◌*◌, ◌<◌, ◌≤◌, List, [], get_or, Some, None, Ok, Contains, IsFalse, IfSome}
 use Rattle.volume_layout.specs.declared.layout.Layout.{Layout}
 use Rattle.volume_layout.specs.Layout.{plan, home_a, home_b}
 use Rattle.volume_layout.specs.Root.{root_bytes}
+use Rattle.volume_layout.specs.Kinds.{gap_of, longest_of}
 use Rattle.sector_disk.specs.declared.sector.Sector.TheVariants.{Whole}
 use Rattle.sector_disk.specs.declared.sector.WeakRun.{WeakRun}
 use Rattle.sector_disk.specs.Image.{sector_at, IsWorn, open_damage}
@@ -86,7 +87,7 @@ pub record KnowsLog (l : Layout) (log : LogValue) (i : Image) : Type 0 where
 -- An image was seen that the disk is worn from: it shows the pages, and the log is its log.
 pub record IsSeen (l : Layout) (windows : List WeakRun) (choices : List (List (List ℕ))) (log : LogValue) (now : Moment) : Type 0 where
   pub image : Image
-  pub apart : IsApart (weak_of windows)
+  pub apart : IsApart (gap_of l) (weak_of windows)
   pub ends : EndIn now.windows windows
   pub worn : IsWorn (open_damage now.windows) image now.image
   pub shows : ShowsPages l windows choices image
@@ -94,12 +95,14 @@ pub record IsSeen (l : Layout) (windows : List WeakRun) (choices : List (List (L
 
 -- ---- from `healing` on
 
--- The disk is worn from an image that shows the pages and has every record of its log whole.
+-- The disk is worn from an image that shows the pages and has every record of its log whole. The volume bears the run
+-- that was named.
 pub record IsCompleted (l : Layout) (windows : List WeakRun) (choices : List (List (List ℕ))) (log : LogValue) (now : Moment) : Type 0 where
   pub clean : Image
-  pub planned : plan l.sectors l.third l.pages ≡ Ok l
-  pub apart : IsApart (weak_of windows)
+  pub planned : plan l.kind l.sectors l.third l.pages ≡ Ok l
+  pub apart : IsApart (gap_of l) (weak_of windows)
   pub ends : EndIn now.windows windows
+  pub short : IfSome now.windows.next (λ run. run.count ≤ longest_of l.kind)
   pub worn : IsWorn (weak_of windows) clean now.image
   pub shows : ShowsPages l windows choices clean
   pub taken : anchor_of clean ≡ Some log.anchor

@@ -1,5 +1,5 @@
 -- What a mount settles, and what it leaves.
-use Rattle.std.specs.Prelude.{◌≡◌, ⊤, ℕ, ◌+◌, ◌*◌, ◌≤◌, List, [], Ok}
+use Rattle.std.specs.Prelude.{◌≡◌, ⊤, ℕ, ◌+◌, ◌*◌, ◌≤◌, List, [], Ok, IfSome}
 use Rattle.volume_layout.specs.declared.layout.Layout.{Layout}
 use Rattle.volume_layout.specs.Layout.{plan}
 use Rattle.fsd_formats.specs.declared.anchor.Anchor.{Anchor}
@@ -10,7 +10,7 @@ use Rattle.sector_disk.specs.Machine.{Moment, Wears}
 use Rattle.fsd_log.specs.Scan.{start}
 use Rattle.fsd_files.specs.Disk.{Image, Has}
 use Rattle.fsd_sound.specs.Anchors.{fresh_anchor}
-use Rattle.fsd_sound.specs.Mounting.{IsVolume, RefusedFor}
+use Rattle.fsd_sound.specs.Mounting.{EachBears, IsVolume, RefusedFor}
 use Rattle.fsd_sound.specs.Sound.{EndIn, ShowsPages}
 use Rattle.log_thirds.specs.LogValue.{LogValue}
 use Rattle.log_thirds.specs.Append.{IsIndexed}
@@ -31,10 +31,12 @@ pub record IsFreshLog (l : Layout) (log : LogValue) : Type 0 where
   pub indexed : IsIndexed log []
 
 -- An image was seen, which the old one may be worn to: what is settled is its root, and the epoch behind its anchor's.
-pub record IsSettledIn (sectors : ℕ) (l : Layout) (log : LogValue) (old : Moment) : Type 0 where
+-- Each root of it that counts bears the run of the window that is settled.
+pub record IsSettledIn (sectors : ℕ) (l : Layout) (log : LogValue) (old new : Moment) : Type 0 where
   pub seen : Image
   pub from : IsWorn (open_damage old.windows) old.image seen
   pub settled : IsSettled sectors seen l log
+  pub bears : IfSome new.windows.present (EachBears sectors seen)
 
 -- An image was seen, which the old one may be worn to, and of which the refusal tells.
 pub record IsRefusedFor (sectors : ℕ) (fault : MountFault) (old : Moment) : Type 0 where
@@ -64,7 +66,7 @@ IsNotUnsound fault = ⊤
 
 -- The moment's image shows pages of a volume with this layout, however the present run wears.
 pub record ShowsVolume (sectors : ℕ) (l : Layout) (windows : List WeakRun) (choices : List (List (List ℕ))) (now : Moment) : Type 0 where
-  pub planned : plan l.sectors l.third l.pages ≡ Ok l
+  pub planned : plan l.kind l.sectors l.third l.pages ≡ Ok l
   pub fits : l.sectors ≤ sectors
   pub ends : EndIn now.windows windows
   pub shows : ShowsPages l windows choices now.image

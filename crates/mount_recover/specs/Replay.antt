@@ -11,7 +11,7 @@ use Rattle.fsd_files.specs.Disk.{Image, Sectors, SectorWorn, Has}
 use Rattle.fsd_sound.specs.Anchors.{anchor_of, fresh_anchor}
 use Rattle.fsd_sound.specs.Laid.{HasCopies, HasOwnLog}
 use Rattle.fsd_sound.specs.Shown.{records_by}
-use Rattle.fsd_sound.specs.Sound.{weak_of, ShowsPages}
+use Rattle.fsd_sound.specs.Sound.{weak_of, IsSaid, ShowsPages}
 use Rattle.fsd_sound.specs.Writes.{WritesAsMount}
 pub use Rattle.fsd_sound.specs.Homes.{StandAtHome}
 pub use Rattle.fsd_sound.specs.Logged.{copies_at, copies_of, Follows}
@@ -74,3 +74,12 @@ pub record IsReplayed (l : Layout) (windows : List WeakRun) (choices : List (Lis
   pub after : IsAfter l windows choices new
   pub log : HasOwnLog l (fresh_anchor epoch) [] (start l 1) (weak_of (windows ++ after.run ∷ [])) new.image
   pub home : StandAtHomeBut l (weak_of (windows ++ after.run ∷ [])) after.pages new.image
+
+-- A mount over an image that shows pages of a volume: with one layout that the image says, the one that it took, each
+-- moment is such a moment of a mount, and so is its end.
+pub record ReplaysSaid (l : Layout) (windows : List WeakRun) (choices : List (List (List ℕ))) (Took : Layout → Type 0) (Only : (Moment → Type 0) → Type 0) (old new : Moment) : Type 0 where
+  pub layout : Layout
+  pub said : IsSaid l old.image layout
+  pub took : Took layout
+  pub moments : Only (Replays layout windows choices old)
+  pub exit : Replays layout windows choices old new

@@ -35,12 +35,12 @@ pub(crate) fn begin_epoch<M: Machine>(m: &mut M, log: &mut Log) -> Result<(), Fa
 
     // The image shows the same pages at each moment.
     ensures any_moment { (l : Plan) (windows : List Run) (choices : List (List (List ℕ))) (first : At) (c : IsCompleted l windows choices log.old first) → M.honest m.new →
-        plan l.sectors l.third l.pages ≡ Ok l → IsSome first.windows.next → IsMended l windows choices log.old first c (M.now m.old) →
+        plan l.kind l.sectors l.third l.pages ≡ Ok l → IsSome first.windows.next → IsMended l windows choices log.old first c (M.now m.old) →
         LeavesOnly M.moment M.left_since m.old m.new (Begins l windows choices first) }
 
     // At the end the epoch is the next one, its log is empty, and the pages stand at home.
     ensures done { OnOk result ((l : Plan) (windows : List Run) (choices : List (List (List ℕ))) (first : At) (c : IsCompleted l windows choices log.old first) → M.honest m.new →
-        plan l.sectors l.third l.pages ≡ Ok l → IsSome first.windows.next → IsMended l windows choices log.old first c (M.now m.old) →
+        plan l.kind l.sectors l.third l.pages ≡ Ok l → IsSome first.windows.next → IsMended l windows choices log.old first c (M.now m.old) →
         IsReplayed l windows choices (log.old.anchor.epoch + 1) (M.now m.new)) }
 {
     log.new_epoch(m)?;

@@ -1,24 +1,26 @@
-//! What a mount finds before it writes: the root, and the log behind the newer anchor.
+//! What a mount finds before it writes: the roots, and the log behind the newer anchor.
 ghost use Rattle.std.specs.Prelude.{◌≡◌, ◌-◌, ◌<◌, ◌≤◌, ◌^◌, Ok, IfOk, IfErr};
+ghost use Rattle.volume_layout.specs.Kinds.{longest_of};
 ghost use Rattle.volume_layout.specs.Layout.{plan};
 ghost use Rattle.sector_disk.specs.Calls.{OnlyReads, device_in};
 ghost use Rattle.fsd_sound.specs.Mounting.{HasRoot};
-ghost use Rattle.mount_recover.specs.Finding.{mount_fault_of, IsFound, IsNotFound};
+ghost use Rattle.mount_recover.specs.Finding.{mount_fault_of, IsBorneFound, IsNotFound};
 ghost use Rattle.mount_recover.specs.Recover.{IsNotUnsound};
 ghost use Rattle.fsd_sound.specs.Mounting.{device_of_mount};
 
-use crate::root::find_root;
+use crate::root::find_roots;
 use fsd_sound::MountFault;
 use log_thirds::{Log, LogFault};
 use sector_disk::Machine;
 use std::alloc::Global;
 use volume_layout::Layout;
 
-/// A volume that was found, and its log.
+/// A volume that was found, its log, and the sectors that the next window's run may have.
 #[derive(Drop)]
 pub(crate) struct Found {
     pub layout: Layout,
     pub log: Log,
+    pub longest: u32,
 }
 
 fn mount_fault(fault: LogFault) -> MountFault
@@ -44,23 +46,32 @@ pub(crate) fn find_volume<M: Machine>(
     ensures sound { IfErr result IsNotUnsound }
     ensures room { IfOk result (λ found. found.layout.sectors ≤ sectors) }
     ensures layout { IfOk result (λ found. found.log.layout ≡ found.layout) }
-    ensures planned { IfOk result (λ found. plan found.layout.sectors found.layout.third found.layout.pages ≡ Ok found.layout) }
+    ensures planned { IfOk result (λ found. plan found.layout.kind found.layout.sectors found.layout.third found.layout.pages ≡ Ok found.layout) }
     ensures epoch { IfOk result (λ found. found.log.anchor.epoch < 2 ^ 32 - 1) }
+
+    ensures short { IfOk result (λ found. found.longest ≤ longest_of found.layout.kind) }
+    ensures least { IfOk result (λ found. 2 ≤ found.longest) }
 
     // The layout is that of a root of the image, also where sectors wear.
     ensures root { IfOk result (λ found. M.honest m.new → HasRoot sectors (M.now m.old).image found.layout) }
 
     // Also where sectors wear, each answer but a fault of the disk and want of memory says what the image was,
     // as it was seen.
-    ensures seen { IfOk result (λ found. M.honest m.new → IsFound sectors found.layout found.log (M.now m.old) (M.now m.new)) }
+    ensures seen { IfOk result (λ found. M.honest m.new → IsBorneFound sectors found.layout found.log found.longest (M.now m.old) (M.now m.new)) }
     ensures refused { IfErr result (λ fault. M.honest m.new → IsNotFound sectors fault (M.now m.old)) }
 {
-    match find_root(m, sectors) {
-        Ok(Some(layout)) => match Log::scan(alloc, m, &layout) {
-            Ok(log) => Ok(Found { layout, log }),
-            Err(fault) => Err(mount_fault(fault)),
+    match find_roots(m, sectors) {
+        Ok(roots) => match roots.taken() {
+            Some(layout) => match Log::scan(alloc, m, &layout) {
+                Ok(log) => Ok(Found {
+                    layout,
+                    log,
+                    longest: roots.longest(),
+                }),
+                Err(fault) => Err(mount_fault(fault)),
+            },
+            None => Err(MountFault::NotVolume),
         },
-        Ok(None) => Err(MountFault::NotVolume),
         Err(failed) => Err(MountFault::Device(failed.place)),
     }
 }

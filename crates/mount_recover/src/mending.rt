@@ -33,7 +33,7 @@ fn home_logged<M: Machine>(
     page: u32,
     b: &[u8; 512],
 ) -> Result<(), MountFault>
-    requires planned { plan l.now.sectors l.now.third l.now.pages ≡ Ok l.now }
+    requires planned { plan l.now.kind l.now.sectors l.now.third l.now.pages ≡ Ok l.now }
     requires page { page < l.now.pages }
     requires room { l.now.sectors ≤ (M.report m.old).sectors }
 
@@ -60,7 +60,7 @@ fn home_logged<M: Machine>(
 
 // Writes the one of a page's homes that is damaged from the other, when the pages before it are mended.
 fn heal_home<M: Machine>(m: &mut M, l: &Layout, page: u32) -> Result<(), MountFault>
-    requires planned { plan l.now.sectors l.now.third l.now.pages ≡ Ok l.now }
+    requires planned { plan l.now.kind l.now.sectors l.now.third l.now.pages ≡ Ok l.now }
     requires page { page < l.now.pages }
     requires room { l.now.sectors ≤ (M.report m.old).sectors }
 
@@ -92,7 +92,7 @@ fn heal_home<M: Machine>(m: &mut M, l: &Layout, page: u32) -> Result<(), MountFa
 // the one of its homes that is damaged from the other.
 fn mend_page<M: Machine>(m: &mut M, l: &Layout, log: &Log, page: u32) -> Result<(), MountFault>
     requires layout { log.now.layout ≡ l.now }
-    requires planned { plan l.now.sectors l.now.third l.now.pages ≡ Ok l.now }
+    requires planned { plan l.now.kind l.now.sectors l.now.third l.now.pages ≡ Ok l.now }
     requires page { page < l.now.pages }
     requires room { l.now.sectors ≤ (M.report m.old).sectors }
 
@@ -127,7 +127,7 @@ fn mend_page<M: Machine>(m: &mut M, l: &Layout, log: &Log, page: u32) -> Result<
 // Mends each page, in ascending order.
 fn mend_pages<M: Machine>(m: &mut M, l: &Layout, log: &Log) -> Result<(), MountFault>
     requires layout { log.now.layout ≡ l.now }
-    requires planned { plan l.now.sectors l.now.third l.now.pages ≡ Ok l.now }
+    requires planned { plan l.now.kind l.now.sectors l.now.third l.now.pages ≡ Ok l.now }
     requires room { l.now.sectors ≤ (M.report m.old).sectors }
 
     ensures disk { HealsDisk M.Machine (device_in device_of_mount result) m.old m.new }
@@ -153,7 +153,7 @@ fn mend_pages<M: Machine>(m: &mut M, l: &Layout, log: &Log) -> Result<(), MountF
 
 // Writes each root that is damaged or differs, when the pages are mended.
 fn mend_roots<M: Machine>(m: &mut M, l: &Layout) -> Result<(), MountFault>
-    requires planned { plan l.now.sectors l.now.third l.now.pages ≡ Ok l.now }
+    requires planned { plan l.now.kind l.now.sectors l.now.third l.now.pages ≡ Ok l.now }
     requires room { l.now.sectors ≤ (M.report m.old).sectors }
 
     ensures disk { HealsDisk M.Machine (device_in device_of_mount result) m.old m.new }
@@ -181,7 +181,7 @@ fn mend_roots<M: Machine>(m: &mut M, l: &Layout) -> Result<(), MountFault>
 /// Mends the pages, and then the roots.
 pub(crate) fn mend<M: Machine>(m: &mut M, l: &Layout, log: &Log) -> Result<(), MountFault>
     requires layout { log.now.layout ≡ l.now }
-    requires planned { plan l.now.sectors l.now.third l.now.pages ≡ Ok l.now }
+    requires planned { plan l.now.kind l.now.sectors l.now.third l.now.pages ≡ Ok l.now }
     requires room { l.now.sectors ≤ (M.report m.old).sectors }
 
     ensures disk { HealsDisk M.Machine (device_in device_of_mount result) m.old m.new }

@@ -17,7 +17,7 @@ ghost use Rattle.mount_recover.specs.Recover.{IsSettledIn, IsFreshLog, IsRefused
 ghost use Rattle.fsd_sound.specs.Mounting.{device_of_mount};
 ghost use Rattle.fsd_sound.specs.Windows.{IsNamedSince};
 ghost use Rattle.mount_recover.specs.Finding.{IsExcuse};
-ghost use Rattle.mount_recover.specs.Replay.{IsReplayed, IsUnturned, Replays, TurnsLast};
+ghost use Rattle.mount_recover.specs.Replay.{IsReplayed, IsUnturned, ReplaysSaid, TurnsLast};
 
 use crate::completing::complete;
 use crate::epoch::begin_epoch;
@@ -51,7 +51,7 @@ pub fn recover<M: Machine>(alloc: Global, m: &mut M, sectors: u32) -> Result<Set
     ensures grows { OnOk result (M.tells m.new → (M.ledger m.old).written ≤ (M.ledger m.new).written) }
     ensures counted_err { OnErr result (M.tells m.new → M.honest m.new → WritesMost sectors (M.now m.old) (M.ledger m.old) (M.ledger m.new)) }
     ensures room { IfOk result (λ settled. settled.layout.sectors ≤ sectors) }
-    ensures planned { IfOk result (λ settled. plan settled.layout.sectors settled.layout.third settled.layout.pages ≡ Ok settled.layout) }
+    ensures planned { IfOk result (λ settled. plan settled.layout.kind settled.layout.sectors settled.layout.third settled.layout.pages ≡ Ok settled.layout) }
     ensures log { IfOk result (λ settled. IsFreshLog settled.layout settled.log) }
 
     // The anchors on the disk are then those of the log, whatever the image was.
@@ -61,7 +61,7 @@ pub fn recover<M: Machine>(alloc: Global, m: &mut M, sectors: u32) -> Result<Set
     ensures named { OnOk result (M.honest m.new → IsNamedSince (M.left_since m.new) (M.moment m.old) (M.now m.new).windows.present) }
 
     // Each answer but a fault of the disk and want of memory says what the image was, as it was seen.
-    ensures found { IfOk result (λ settled. M.honest m.new → IsSettledIn sectors settled.layout settled.log (M.now m.old)) }
+    ensures found { IfOk result (λ settled. M.honest m.new → IsSettledIn sectors settled.layout settled.log (M.now m.old) (M.now m.new)) }
     ensures refused { IfErr result (λ fault. M.honest m.new → IsRefusedFor sectors fault (M.now m.old)) }
     ensures unchanged { IfErr result (λ fault. M.honest m.new → LeavesAll fault (M.now m.old) (M.now m.new)) }
 
@@ -86,22 +86,24 @@ pub fn recover<M: Machine>(alloc: Global, m: &mut M, sectors: u32) -> Result<Set
         StandAsShown settled.layout a (M.now m.old).image (M.now m.new).image) }
     ensures all_shown { IfErr result (λ fault. M.honest m.new → IsCalm (M.now m.old).windows → IsCalm (M.now m.new).windows → LosesShown sectors (M.now m.old).image fault) }
 
-    // An image that shows the pages of a volume shows them at each moment, also at the exit, and the last record has
-    // its copies before anything is written behind the log. At Ok the log is empty and the pages stand at home; else it
-    // is refused for nothing but the disk, memory and the last epoch.
+    // An image that shows the pages of a volume shows them at each moment, also at the exit, with one layout that a root
+    // of it says, and the last record has its copies before anything is written behind the log. At Ok this is the layout,
+    // the log is empty and the pages stand at home; else it is refused for nothing but the disk, memory and the last
+    // epoch.
     ensures any_moment { (l : Plan) (windows : List Run) (choices : List (List (List ℕ))) → M.honest m.new → ShowsVolume sectors l windows choices (M.now m.old) →
-        LeavesOnly M.moment M.left_since m.old m.new (Replays l windows choices (M.now m.old)) }
+        ReplaysSaid l windows choices (λ layout. IfOk result (λ settled. settled.layout ≡ layout)) (LeavesOnly M.moment M.left_since m.old m.new) (M.now m.old) (M.now m.new) }
     ensures turns { (l : Plan) (windows : List Run) (choices : List (List (List ℕ))) → M.honest m.new → ShowsVolume sectors l windows choices (M.now m.old) →
         LeavesOnly M.moment M.left_since m.old m.new (TurnsLast (M.now m.old) (M.now m.new)) }
-    ensures exit { (l : Plan) (windows : List Run) (choices : List (List (List ℕ))) → M.honest m.new → ShowsVolume sectors l windows choices (M.now m.old) →
-        Replays l windows choices (M.now m.old) (M.now m.new) }
-    ensures same { IfOk result (λ settled. (l : Plan) (windows : List Run) (choices : List (List (List ℕ))) → M.honest m.new → ShowsVolume sectors l windows choices (M.now m.old) → settled.layout ≡ l) }
     ensures done { IfOk result (λ settled. (l : Plan) (windows : List Run) (choices : List (List (List ℕ))) → M.honest m.new → ShowsVolume sectors l windows choices (M.now m.old) →
-        IsReplayed l windows choices settled.log.anchor.epoch (M.now m.new)) }
+        IsReplayed settled.layout windows choices settled.log.anchor.epoch (M.now m.new)) }
     ensures excuses { IfErr result (λ fault. (l : Plan) (windows : List Run) (choices : List (List (List ℕ))) → M.honest m.new → ShowsVolume sectors l windows choices (M.now m.old) → IsExcuse fault) }
 {
-    let Found { layout, mut log } = find_volume(alloc, m, sectors)?;
-    complete(m, &log)?;
+    let Found {
+        layout,
+        mut log,
+        longest,
+    } = find_volume(alloc, m, sectors)?;
+    complete(m, &log, longest)?;
     mend(m, &layout, &log)?;
     begin_epoch(m, &mut log)?;
     Ok(Settled { layout, log })

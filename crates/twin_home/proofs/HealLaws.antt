@@ -1,19 +1,24 @@
 -- One of two copies is healed from the other.
-use Rattle.std.proofs.Common.{◌≡◌, inl, inr, ⊎_elim, ◌⊎◌, ℕ, ◌≤◌, List, length, Option, Some, None, Result, Ok, Err, refl, sym, ap, subst, ◌∙◌, arith}
+use Rattle.std.proofs.Common.{◌≡◌, inl, inr, ⊎_elim, ◌⊎◌, ℕ, ◌≤◌, ◌<◌, ◌+◌, ◌/◌, List, length, Option, Some, None, Result, Ok, Err, refl, sym, ap, subst, ◌∙◌, arith}
 use Rattle.std.specs.Prelude.{IfErr, IfOk, OnOk}
+use Rattle.volume_layout.specs.declared.layout.Layout.{Layout}
+use Rattle.volume_layout.specs.Root.{root_bytes}
 use Rattle.sector_disk.specs.declared.machine.LoadFault.{LoadFault}
 use Rattle.sector_disk.specs.declared.machine.LoadFault.TheVariants.{Device, Lost}
 use Rattle.sector_disk.specs.declared.sector.Sector.{Sector}
 use Rattle.sector_disk.specs.Damage.{IsDevice, LostCause}
 use Rattle.sector_disk.specs.declared.sector.Sector.TheVariants.{Whole, Damaged}
-use Rattle.sector_disk.specs.Calls.{as_sector}
+use Rattle.sector_disk.specs.declared.machine.Machine.{Ghosts}
+use Rattle.sector_disk.specs.Calls.{WritesDisk, as_sector}
 use Rattle.sector_disk.specs.Image.{sector_at, stand, IsWorn, Windows, open_damage}
-use Rattle.sector_disk.specs.Machine.{Moment, Wears, Holds}
+use Rattle.sector_disk.specs.Machine.{Moment, Tears, Wears, Holds}
+use Rattle.sector_disk.proofs.CallLaws.{writes_more, writes_then}
 use Rattle.sector_disk.proofs.Holding.{holds_now, holds_wears, holds_on}
 use Rattle.sector_disk.proofs.Wear.{stand_worn, worn_damaged, worn_trans, worn_whole}
 use Rattle.fsd_files.specs.Scrub.{ReadsDamaged}
 use Rattle.twin_home.specs.Home.{WritesPart}
-use Rattle.twin_home.specs.Heal.{ReadsCopy, ReadsBoth, Mends, Heals, Mended, SetsRoot, SetsRoots, RootsIn, NeedsRoot, RootsHealed, TellsCopies, WasWhole}
+use Rattle.twin_home.proofs.WriteLaws.{torn_part}
+use Rattle.twin_home.specs.Heal.{ReadsCopy, ReadsBoth, Mends, Heals, Mended, SetsRoot, SetsRoots, HealsRoots, RootsIn, NeedsRoot, RootsHealed, TellsCopies, WasWhole}
 
 -- a moment that is only worn
 pub still : (old left : Moment) → Wears old left → Holds old old.image left
@@ -69,10 +74,10 @@ device_lost P Copies image (Err (Lost x y)) device = absurd device
 
 -- ---- roots
 
-pub roots_still : (bytes : List ℕ) (old left : Moment) → Wears old left → RootsIn bytes old left
+pub roots_still : (bytes : List ℕ) (old left : Moment) → Wears old left → HealsRoots bytes old left
 roots_still bytes old left wears = record { first = 0; second = 0; once = omega arith; once_more = omega arith; holds = still old left wears }
 
-pub roots_first : (bytes : List ℕ) (old left : Moment) → WritesPart 0 bytes old left → RootsIn bytes old left
+pub roots_first : (bytes : List ℕ) (old left : Moment) → WritesPart 0 bytes old left → HealsRoots bytes old left
 roots_first bytes old left part = record { first = part.stood; second = 0; once = part.within; once_more = omega arith; holds = part.holds }
 
 -- what a root that was set leaves
@@ -84,7 +89,7 @@ set_few : (place : ℕ) (read : Option (List ℕ)) (bytes : List ℕ) (count : �
 set_few place read bytes count mid new (inl none) = omega (arith, none.0)
 set_few place read bytes count mid new (inr one) = omega (arith, one.0)
 
-pub roots_second : (read : Option (List ℕ)) (bytes : List ℕ) (count : ℕ) (old mid left : Moment) → SetsRoot 0 read bytes count old mid → WritesPart 4 bytes mid left → RootsIn bytes old left
+pub roots_second : (read : Option (List ℕ)) (bytes : List ℕ) (count : ℕ) (old mid left : Moment) → SetsRoot 0 read bytes count old mid → WritesPart 4 bytes mid left → HealsRoots bytes old left
 roots_second read bytes count old mid left set part = record {
   first = count;
   second = part.stood;
@@ -92,6 +97,43 @@ roots_second read bytes count old mid left set part = record {
   once_more = part.within;
   holds = holds_on old mid left (stand old.image 0 bytes count) 4 bytes part.stood (set_holds 0 read bytes count old mid set) part.holds;
 }
+
+-- the roots of a layout, written one behind the other
+module _ (l : Layout) (bytes : List ℕ) (is : bytes ≡ root_bytes l) where
+  long : length bytes ≡ 512
+  long = ap (λ (b : List ℕ). length b) is
+
+  torn_first : (old left : Moment) → Tears 0 bytes old left → RootsIn (root_bytes l) old left
+  torn_first old left torn =
+      let part = torn_part 0 bytes long old left torn in
+      subst (λ (b : List ℕ). RootsIn b old left) is (record { first = part.stood; second = 0; in_order = omega arith; once = part.within; once_more = omega arith; holds = part.holds })
+
+  torn_second : (old mid left : Moment) → Holds old (stand old.image 0 bytes (length bytes / 512)) mid → Tears 4 bytes mid left → RootsIn (root_bytes l) old left
+  torn_second old mid left first torn =
+      let part = torn_part 4 bytes long mid left torn in
+      let one : length bytes / 512 ≡ 1 = omega (arith, long) in
+      subst (λ (b : List ℕ). RootsIn b old left) is (record {
+        first = 1;
+        second = part.stood;
+        in_order = part.within;
+        once = omega arith;
+        once_more = part.within;
+        holds = holds_on old mid left (stand old.image 0 bytes 1) 4 bytes part.stood (subst (λ (n : ℕ). Holds old (stand old.image 0 bytes n) mid) one first) part.holds;
+      })
+
+  module _ {D : Type 0} {M : Ghosts D} {fault : Option ℕ} where
+    -- of the roots at 0 and at 4 the one that is written first is not the later one
+    pub first_written : {x y : D} {a : ℕ} → WritesDisk M fault (Tears a bytes) x y → (a ≡ 0) ⊎ (a ≡ 4) → a < 4 → WritesDisk M fault (RootsIn (root_bytes l)) x y
+    first_written {x = x} {a = a} writes (inl zero) in_order = writes_more writes (λ h left torn. torn_first (M.now x) left (subst (λ (s : ℕ). Tears s bytes (M.now x) left) zero torn))
+    first_written {a = a} writes (inr four) in_order = absurd (omega (arith, four, in_order))
+
+    pub both_written : {x y z : D} {a b : ℕ} → WritesDisk M None (Tears a bytes) x y → (M.honest y → Holds (M.now x) (stand (M.now x).image a bytes (length bytes / 512)) (M.now y)) → WritesDisk M fault (Tears b bytes) y z
+        → (a ≡ 0) ⊎ (a ≡ 4) → a + b ≡ 4 → a < b → WritesDisk M fault (RootsIn (root_bytes l)) x z
+    both_written {x = x} {y = y} {z = z} {a = a} {b = b} first done second (inl zero) pair in_order =
+        let four : b ≡ 4 = omega (arith, zero, pair) in
+        writes_then first second (λ h left torn. torn_first (M.now x) left (subst (λ (s : ℕ). Tears s bytes (M.now x) left) zero torn))
+        (λ h left torn. torn_second (M.now x) (M.now y) left (subst (λ (s : ℕ). Holds (M.now x) (stand (M.now x).image s bytes (length bytes / 512)) (M.now y)) zero (done (second.trust.honest h))) (subst (λ (s : ℕ). Tears s bytes (M.now y) left) four torn))
+    both_written {a = a} {b = b} first done second (inr four) pair in_order = absurd (omega (arith, four, pair, in_order))
 
 holds_both : (old mid left : Moment) (bytes : List ℕ) (first second : ℕ) → Wears old mid → Holds mid (stand (stand mid.image 0 bytes first) 4 bytes second) left → Holds old (stand (stand old.image 0 bytes first) 4 bytes second) left
 holds_both old mid left bytes first second wears holds =
@@ -104,7 +146,7 @@ holds_both old mid left bytes first second wears holds =
     }
 
 -- roots that are set behind the reads
-pub roots_on : (bytes : List ℕ) (old mid left : Moment) → Wears old mid → RootsIn bytes mid left → RootsIn bytes old left
+pub roots_on : (bytes : List ℕ) (old mid left : Moment) → Wears old mid → HealsRoots bytes mid left → HealsRoots bytes old left
 roots_on bytes old mid left wears r = record { first = r.first; second = r.second; once = r.once; once_more = r.once_more; holds = holds_both old mid left bytes r.first r.second wears r.holds }
 
 -- why it is written, or not

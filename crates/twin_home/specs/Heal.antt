@@ -70,9 +70,18 @@ pub record SetsRoots (read_0 read_4 : Option (List ℕ)) (bytes : List ℕ) (cou
   pub second : SetsRoot 4 read_4 bytes two mid new
 
 -- The roots of these bytes stand at the first place, if so many (0 or 1) are written there, and at the second.
+pub record HealsRoots (bytes : List ℕ) (old left : Moment) : Type 0 where
+  pub first : ℕ
+  pub second : ℕ
+  pub once : first ≤ 1
+  pub once_more : second ≤ 1
+  pub holds : Holds old (stand (stand old.image 0 bytes first) 4 bytes second) left
+
+-- The roots of these bytes stand at neither place, at the first, or at both, and nothing else was written.
 pub record RootsIn (bytes : List ℕ) (old left : Moment) : Type 0 where
   pub first : ℕ
   pub second : ℕ
+  pub in_order : second ≤ first
   pub once : first ≤ 1
   pub once_more : second ≤ 1
   pub holds : Holds old (stand (stand old.image 0 bytes first) 4 bytes second) left

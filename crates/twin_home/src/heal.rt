@@ -7,7 +7,7 @@ ghost use Rattle.sector_disk.specs.Machine.{Holds, wrote};
 ghost use Rattle.volume_layout.specs.Layout.{home_a, home_b};
 ghost use Rattle.volume_layout.specs.Root.{root_bytes};
 ghost use Rattle.twin_home.specs.Home.{WritesPart};
-ghost use Rattle.twin_home.specs.Heal.{AreCopies, ReadsBoth, Heals, Healed, TellsCopies, SetsRoot, SetsRoots, RootsIn, RootsHealed};
+ghost use Rattle.twin_home.specs.Heal.{AreCopies, ReadsBoth, Heals, Healed, TellsCopies, SetsRoot, SetsRoots, HealsRoots, RootsHealed};
 
 use sector_disk::{Failed, LoadFault, Machine, read_sector, write_sectors};
 use volume_layout::{Layout, root_bytes};
@@ -157,7 +157,7 @@ fn set_roots<M: Machine>(
 ) -> Result<u32, LoadFault>
     requires { 4 < (M.report m.old).sectors }
 
-    ensures writes { WritesDisk M.Machine (device_in load_failed_at result) (RootsIn b.now) m.old m.new }
+    ensures writes { WritesDisk M.Machine (device_in load_failed_at result) (HealsRoots b.now) m.old m.new }
     ensures device { IfErr result IsDevice }
     ensures counted { IfOk result (λ count. M.tells m.new → (M.ledger m.new).written ≡ (M.ledger m.old).written + count) }
     ensures most { M.tells m.new → (M.ledger m.new).written ≤ (M.ledger m.old).written + 2 }
@@ -173,7 +173,7 @@ fn set_roots<M: Machine>(
 pub fn heal_root<M: Machine>(m: &mut M, l: &Layout) -> Result<u32, LoadFault>
     requires room { 4 < (M.report m.old).sectors }
 
-    ensures writes { WritesDisk M.Machine (device_in load_failed_at result) (RootsIn (root_bytes l.now)) m.old m.new }
+    ensures writes { WritesDisk M.Machine (device_in load_failed_at result) (HealsRoots (root_bytes l.now)) m.old m.new }
     ensures copies { IfErr result (TellsCopies 0 4) }
     ensures counted { IfOk result (λ count. M.tells m.new → (M.ledger m.new).written ≡ (M.ledger m.old).written + count) }
     ensures most { M.tells m.new → (M.ledger m.new).written ≤ (M.ledger m.old).written + 2 }

@@ -3,8 +3,10 @@
 
 mod heal;
 mod home;
+mod roots;
 mod twins;
 
 pub use heal::{heal_anchor, heal_page, heal_root, heal_roots};
 pub use home::{read_home, write_a, write_b, write_home};
+pub use roots::write_roots;
 pub use twins::{heal_pages, heal_twins};

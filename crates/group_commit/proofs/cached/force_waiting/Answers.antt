@@ -1,4 +1,5 @@
 use Rattle.std.proofs.Common.{◌≡◌, ◌≤◌, ◌+◌, ◌⊎◌, ⊎_elim, ℕ, true, List, [], length, Some, None, refl, sym, ap, subst, ◌∙◌, arith, rules}
+use Rattle.volume_layout.specs.Kinds.{gap_of}
 use Rattle.run_table.specs.Space.{contains}
 use Rattle.fsd_formats.specs.Record.{record_len}
 use Rattle.log_thirds.specs.LogValue.{LogValue}
@@ -66,7 +67,7 @@ returns-in-Ok g c =
       cause = tt;
       pages = many;
       counted = λ tells. wrote.counted tells
-          ∙ ap (λ (k : ℕ). (g.M.Machine.ledger c.args.m.now).written + k) ((λ i. sectors_before log (many i) + record_len (many i)) ∙ sym (written_some log cache.dirty (omega (arith, some, many))));
+          ∙ ap (λ (k : ℕ). (g.M.Machine.ledger c.args.m.now).written + k) ((λ i. sectors_before log (many i) + record_len (gap_of c.args.log.now.layout) (many i)) ∙ sym (written_some log cache.dirty (omega (arith, some, many))));
       counted_err = tt;
       idle = λ clean. absurd (omega (arith, some, many, ap length clean));
       cache = c.cleaned.ensures ∙ ap cleaned (wrote.cache ∙ all_stamped cache valid waiting are (stamp_now log));

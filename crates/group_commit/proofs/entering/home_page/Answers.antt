@@ -107,6 +107,9 @@ returns-then-not-branch-clause-disk g c =
     let now = g.M.Machine.now c.args.m.now in
     reads_as_writes c.in_ok-image_of.ensures.reads (λ h left wears records disk windows old n may lies at. stays c.args.log.now records disk windows old may n now at left wears)
 
+pub returns-then-not-branch-clause-done : goal.returns-then-not-branch-clause-done
+returns-then-not-branch-clause-done g c = absurd (c.requires.slot (c.in_ok-image_of.ensures.absent.0 (ap (λ (b : Bool). Ok b) c.if-not-branch.true)))
+
 pub returns-then-not-branch-clause-rest : goal.returns-then-not-branch-clause-rest
 returns-then-not-branch-clause-rest g c h =
     let M = g.M.Machine in

@@ -1,5 +1,5 @@
 use Rattle.std.proofs.Common.{◌∙◌}
-use Rattle.fsd_sound.proofs.WindowLaws.{short_apart}
+use Rattle.fsd_sound.proofs.WindowLaws.{borne_apart}
 use Rattle.group_commit.proofs.NewestLaws.{in_layout}
 use Rattle.group_commit.proofs.StandsLaws.{knows_images, page_newest, page_in_memory}
 use Rattle.group_commit.proofs.laws.pages_are_newest.Goals as goal
@@ -11,7 +11,7 @@ pub returns-clause-pages : goal.returns-clause-pages
 returns-clause-pages c = λ log records disk s windows at shape short ends over indexed. record {
   windows = windows;
   ends = ends;
-  apart = short_apart at.windows windows short ends;
+  apart = borne_apart log.layout windows over.shows.readable.borne;
   shape = shape;
   records = records;
   disk = disk;

@@ -1,6 +1,7 @@
-use Rattle.std.proofs.Common.{◌≡◌, ◌*◌, ℕ, List, [], length, get_or, take, sym, ap, subst, ◌∙◌, arith}
+use Rattle.std.proofs.Common.{◌≡◌, ◌+◌, ◌*◌, ℕ, None, List, [], length, get_or, take, sym, ap, subst, ◌∙◌, arith}
 use Rattle.std.proofs.lemmas.List.{length-take-le}
 use Rattle.volume_layout.specs.declared.layout.Layout.{Layout}
+use Rattle.volume_layout.specs.Kinds.{gap_of}
 use Rattle.fsd_formats.specs.Record.{Stamp, are_pages, record_len, AreStamped}
 use Rattle.fsd_log.specs.Judged.{slice_of}
 use Rattle.fsd_log.specs.Laid.{laid_bytes, slices}
@@ -13,11 +14,10 @@ use Rattle.sector_disk.specs.Calls.{load_failed_at}
 use Rattle.sector_disk.specs.Machine.{Moment}
 use Rattle.sector_disk.specs.Written.{WroteMost}
 use Rattle.sector_disk.proofs.CallLaws.{told_up, writes_more, writes_then, writes_told}
-use Rattle.fsd_sound.specs.Sound.{EndIn}
+use Rattle.fsd_sound.specs.Sound.{EndIn, BearsLast, weak_of}
 use Rattle.log_thirds.specs.LogValue.{LogValue}
-use Rattle.log_thirds.specs.Append.{StandsInPart, stamp_now, log_with}
+use Rattle.log_thirds.specs.Append.{IsApartNow, StandsInPart, stamp_now, log_with}
 use Rattle.log_thirds.proofs.MomentLaws.{MayAppend, all_small}
-use Rattle.log_thirds.proofs.RunLaws.{narrow_runs}
 use Rattle.sector_disk.specs.Image.{open_damage}
 use Rattle.sector_disk.proofs.Wear.{worn_refl, slice_in_front}
 use Rattle.sector_disk.proofs.ResultLaws.{err_as}
@@ -37,13 +37,15 @@ use Rattle.group_commit.proofs.OutsideLaws.{outside_record, outside_then}
 use Rattle.group_commit.proofs.record.write_record.Given as given
 use Rattle.group_commit.proofs.record.write_record.Goals as goal
 use Rattle.group_commit.proofs.record.write_record.Goals.{After-append}
+use Rattle.fsd_sound.proofs.WindowLaws.{fewer}
+use Rattle.std.specs.List.{last_or}
+use Rattle.fsd_sound.specs.Windows.{IsApart}
 
 -- ---- where room was made and the record written
 
-home_here : (g : given.Over) (c : After-append g) (windows : List WeakRun) → g.M.Machine.honest c.append.new.m → EndIn (g.M.Machine.now c.args.m.now).windows windows → MayHome c.args.log.now windows (g.M.Machine.now c.args.m.now)
-home_here g c windows h ends =
-    may_home c.args.log.now c.layout-layout.result.now windows (g.M.Machine.now c.args.m.now) c.layout-layout.ensures.value c.pages-pages.ensures.planned c.layout-layout.ensures.shape
-    (g.met.M.Machine.short c.args.m.now (c.make_room.ensures.disk.trust.honest (c.append.ensures.writes.trust.honest h))) ends
+home_here : (g : given.Over) (c : After-append g) (windows : List WeakRun) → BearsLast c.args.log.now.layout windows → EndIn (g.M.Machine.now c.args.m.now).windows windows → MayHome c.args.log.now windows (g.M.Machine.now c.args.m.now)
+home_here g c windows borne ends =
+    may_home c.args.log.now c.layout-layout.result.now windows (g.M.Machine.now c.args.m.now) c.layout-layout.ensures.value c.pages-pages.ensures.planned c.layout-layout.ensures.shape borne ends
 
 abbrev s : (g : given.Over) (c : After-append g) → List (List ℕ) → ResidentValue
 s g c pages = record { pages = pages; dirty = c.args.dirty.now }
@@ -61,7 +63,7 @@ made : (g : given.Over) (c : After-append g) (pages : List (List ℕ)) (windows 
     → StandsOver c.args.log.now records disk (s g c pages) windows (g.M.Machine.now c.args.m.now).image → KnowsImages c.args.log.now (g.M.Machine.now c.args.m.now).image
     → HasRoomNow c.make_room.new.log disk windows (g.M.Machine.now c.args.m.now) (g.M.Machine.now c.make_room.new.m)
 made g c pages windows records disk h ends over known =
-    c.in_ok-make_room.ensures.done records disk windows (c.append.ensures.writes.trust.honest h) (home_here g c windows h ends) (owns c.args.log.now (s g c pages) records disk windows (g.M.Machine.now c.args.m.now) over known)
+    c.in_ok-make_room.ensures.done records disk windows (c.append.ensures.writes.trust.honest h) (home_here g c windows over.shows.readable.borne ends) (owns c.args.log.now (s g c pages) records disk windows (g.M.Machine.now c.args.m.now) over known)
 
 -- the log takes the record, whatever the disk shows
 may_append : (g : given.Over) (c : After-append g) → g.M.Machine.honest c.append.new.m → MayAppend c.make_room.new.log c.args.dirty.now (images g c) (length (g.M.Machine.now c.make_room.new.m).image)
@@ -97,14 +99,14 @@ may g c pages has windows records disk h ends over known =
       of = subst (λ (t : Stamp). IsRecordOf t c.args.dirty.now (stamped t c.args.dirty.now pages) (images g c)) (sym c.make_room.ensures.stamp) (laid g c pages has);
       table = has.table ∙ ap (λ (l : Layout). l.pages) (sym c.make_room.ensures.layout);
       few = omega (arith, c.append.ensures.shape.pages);
-      apart = (home_here g c windows h ends).apart;
+      apart = subst (λ (l : Layout). IsApart (gap_of l) (weak_of windows)) (sym c.make_room.ensures.layout) (home_here g c windows over.shows.readable.borne ends).apart;
       ends = ends_then log (s g c pages) records disk windows (M.now c.args.m.now) over after mid room c.make_room.ensures.layout c.make_room.ensures.stamp (c.make_room.ensures.disk.windows h1) (c.make_room.ensures.disk.quiet h1) ends;
       over = stands log (s g c pages) records disk windows (M.now c.args.m.now) over after mid room c.make_room.ensures.layout c.make_room.ensures.stamp (c.make_room.ensures.disk.windows h1) (c.make_room.ensures.disk.quiet h1);
     }
 
 -- whatever the append leaves, the pages as they were or as they are now are shown
 shown : (g : given.Over) (c : After-append g) (left : Moment) → g.M.Machine.honest c.append.new.m
-    → StandsInPart (place_of c.make_room.new.log.layout c.make_room.new.log.anchor.third (spot_for c.make_room.new.log.layout (length c.args.dirty.now) c.make_room.new.log.head).at) (laid_bytes (stamp_now c.make_room.new.log) c.args.dirty.now (images g c)) (record_len (length c.args.dirty.now)) (g.M.Machine.now c.make_room.new.m) left
+    → StandsInPart (place_of c.make_room.new.log.layout c.make_room.new.log.anchor.third (spot_for c.make_room.new.log.layout (length c.args.dirty.now) c.make_room.new.log.head).at) (laid_bytes (gap_of c.make_room.new.log.layout) (stamp_now c.make_room.new.log) c.args.dirty.now (images g c)) (record_len (gap_of c.make_room.new.log.layout) (length c.args.dirty.now)) (g.M.Machine.now c.make_room.new.m) left
     → RecordLeaves c.args.log.now c.args.dirty.now c.args.room.now (g.M.Machine.now c.args.m.now) left
 shown g c left h part pages has windows records disk ends over known =
     let M = g.M.Machine in
@@ -121,7 +123,7 @@ making_room g c left h shows pages has windows records disk ends over known =
     let log = c.args.log.now in
     making log (s g c pages) records disk windows old over (stamped (stamp_now log) c.args.dirty.now pages) left
     (shows records disk windows
-    (may_home log c.layout-layout.result.now windows old c.layout-layout.ensures.value c.pages-pages.ensures.planned c.layout-layout.ensures.shape (g.met.M.Machine.short c.args.m.now (c.in_ok-make_room.ensures.disk.trust.honest h)) ends)
+    (may_home log c.layout-layout.result.now windows old c.layout-layout.ensures.value c.pages-pages.ensures.planned c.layout-layout.ensures.shape over.shows.readable.borne ends)
     (owns log (s g c pages) records disk windows old over known))
 
 -- whatever the disk shows
@@ -151,7 +153,7 @@ returns-in_err-make_room-clause-disk g c =
     (writes_more writes (λ h left shows pages has windows records disk ends over known.
     making log (record { pages = pages; dirty = c.args.dirty.now }) records disk windows old over (stamped (stamp_now log) c.args.dirty.now pages) left
     (shows records disk windows
-    (may_home log c.layout-layout.result.now windows old c.layout-layout.ensures.value c.pages-pages.ensures.planned c.layout-layout.ensures.shape (g.met.M.Machine.short c.args.m.now (writes.trust.honest h)) ends)
+    (may_home log c.layout-layout.result.now windows old c.layout-layout.ensures.value c.pages-pages.ensures.planned c.layout-layout.ensures.shape over.shows.readable.borne ends)
     (owns log (record { pages = pages; dirty = c.args.dirty.now }) records disk windows old over known))))
 
 pub returns-in_err-make_room-clause-never_lost : goal.returns-in_err-make_room-clause-never_lost
@@ -163,7 +165,7 @@ returns-in_err-make_room-clause-never_lost g c =
     → StandsOver log records disk (record { pages = pages; dirty = c.args.dirty.now }) windows old.image → KnowsImages log old.image → IsDevice fault)
     c.from_residual.result c.in_err-make_room.field-0.0 c.from_residual.ensures.1
     (λ pages windows records disk has h ends over known. c.in_err-make_room.ensures.never_lost records disk windows h
-    (may_home log c.layout-layout.result.now windows old c.layout-layout.ensures.value c.pages-pages.ensures.planned c.layout-layout.ensures.shape (g.met.M.Machine.short c.args.m.now (c.make_room.ensures.disk.trust.honest h)) ends)
+    (may_home log c.layout-layout.result.now windows old c.layout-layout.ensures.value c.pages-pages.ensures.planned c.layout-layout.ensures.shape over.shows.readable.borne ends)
     (owns log (record { pages = pages; dirty = c.args.dirty.now }) records disk windows old over known))
 
 pub returns-in_err-append-clause-lost : goal.returns-in_err-append-clause-lost
@@ -211,6 +213,12 @@ returns-clause-done g c pages windows records disk has h ends over known =
     subst (λ (x : LogValue). Committed x (record { pages = stamped (stamp_now log) dirty pages; dirty = [] }) windows image) (sym past)
     (subst (λ (t : Stamp). Committed (log_with after dirty) (record { pages = stamped t dirty pages; dirty = [] }) windows image) c.make_room.ensures.stamp (record { records = done.records; stands = done.stands }))
 
+-- what the machine may wear now lies no farther apart than the last window's run
+apart_now : (gap : ℕ) (windows : List WeakRun) (at : Moment) → EndIn at.windows windows → IsApart gap (weak_of windows) → IsApartNow gap at
+apart_now gap windows at ends apart s d x y far =
+    let weaker = fewer (last_or None windows) at.windows.present at.windows.next ends.last ends.some in
+    apart s (s + d) (omega (arith, far)) (weaker s x) (weaker (s + d) y)
+
 pub returns-clause-knows : goal.returns-clause-knows
 returns-clause-knows g c pages windows records disk has h ends over kept =
     let M = g.M.Machine in
@@ -220,9 +228,8 @@ returns-clause-knows g c pages windows records disk has h ends over kept =
     let after = c.make_room.new.log in
     let room = made g c1 pages windows records disk h ends over kept in
     let is = may g c1 pages has windows records disk h ends over kept in
-    let short = g.met.M.Machine.short c.make_room.new.m (c.append.ensures.writes.trust.honest h) in
     let before = log_in_window after (s g c1 pages) room.records disk windows mid is.few c.append.ensures.shape.epoch c.append.ensures.shape.third is.apart is.ends is.over in
-    let then = c.in_ok-append.ensures.worn_done room.records h (λ p d x y far. narrow_runs mid.windows.present mid.windows.next short.present short.next p d x y far) before in
+    let then = c.in_ok-append.ensures.worn_done room.records h (apart_now (gap_of after.layout) windows mid is.ends is.apart) before in
     knows_log c.append.new.self _ new (then new.image (worn_refl (open_damage new.windows) new.image)) (c.in_ok-append.ensures.indexed room.records room.over.indexed)
 
 pub returns-clause-logged : goal.returns-clause-logged

@@ -1,5 +1,6 @@
 use Rattle.std.proofs.Common.{◌≡◌, ◌+◌, ◌*◌, ◌<◌, ◌≤◌, ℕ, length, arith, subst, ap, ◌∙◌, sym, refl, Some, Option}
 use Rattle.std.specs.Prelude.{option_map, IfSome}
+use Rattle.volume_layout.specs.Kinds.{gap_of}
 use Rattle.fsd_log.specs.Scan.{Head, IsEnd, tape, record_here}
 use Rattle.log_thirds.specs.Disk.{reads}
 use Rattle.fsd_log.proofs.WalkLaws.{next_end}
@@ -14,17 +15,17 @@ use Rattle.log_thirds.proofs.SeenLaws.{sees_more}
 use Rattle.log_thirds.proofs.find.enter.Goals as goal
 
 pub over-requires : goal.over-requires
-over-requires g c = subst (λ (o : Option Found). IfSome o (λ f. c.args.end + (2 * f.n + 5) ≤ c.args.end + c.third-third.result)) c.in-Ok-Some.field-0-is c.in-Ok-Some.ensures.fits
+over-requires g c = subst (λ (o : Option Found). IfSome o (λ f. c.args.end + (2 * f.n + (5 + 2 * (gap_of c.args.layout.now))) ≤ c.args.end + c.third-third.result)) c.in-Ok-Some.field-0-is c.in-Ok-Some.ensures.fits
 
 pub returns-in-Ok-Some-clause-goes : goal.returns-in-Ok-Some-clause-goes
 returns-in-Ok-Some-clause-goes g c =
     let n = c.in-Ok-Some.found.n in
     let value = c.third-third.ensures.value in
-    let fits = subst (λ (o : Option Found). IfSome o (λ f. c.args.end + (2 * f.n + 5) ≤ c.args.end + c.third-third.result)) c.in-Ok-Some.field-0-is c.in-Ok-Some.ensures.fits in
+    let fits = subst (λ (o : Option Found). IfSome o (λ f. c.args.end + (2 * f.n + (5 + 2 * (gap_of c.args.layout.now))) ≤ c.args.end + c.third-third.result)) c.in-Ok-Some.field-0-is c.in-Ok-Some.ensures.fits in
     let counted = subst (λ (o : Option Found). IfSome o (λ f. f.n ≡ length f.pages.items)) c.in-Ok-Some.field-0-is c.in-Ok-Some.ensures.counted in
     let few = subst (λ (o : Option Found). IfSome o (λ f. f.n ≤ 96)) c.in-Ok-Some.field-0-is c.in-Ok-Some.ensures.few in
     subst (StepsOn c.args.layout.now c.args.at) (sym c.over.ensures) (record {
-      goes = goes_to c.args.layout.now c.args.at c.args.end n (c.args.end + c.third-third.result) (record { at = c.args.end + (2 * n + 5); end = c.args.end + c.third-third.result }) refl c.requires.before fits (omega (arith, value))
+      goes = goes_to c.args.layout.now c.args.at c.args.end n (c.args.end + c.third-third.result) (record { at = c.args.end + (2 * n + (5 + 2 * (gap_of c.args.layout.now))); end = c.args.end + c.third-third.result }) refl c.requires.before fits (omega (arith, value))
           (subst (λ (t : ℕ). IsEnd c.args.layout.now (c.args.end + t)) (sym value) (next_end c.args.layout.now c.args.end c.requires.ends (omega (arith, value, c.if-end-third.false))));
       lies = omega (arith, counted);
       few = omega (arith, counted, few);
@@ -49,7 +50,7 @@ returns-in-Ok-Some-clause-seen g c j h jw =
     (λ i found.
     let there = ap (option_map (λ f. entry_in c.args.number f c.find.new.scratch.copies.items)) (sym c.in-Ok-Some.field-0-is) ∙ found ∙ ap (λ (t : ℕ). (record_here l epoch (tape l third (reads i)) c.args.number c.args.end (c.args.end + t))) value in
     (λ k. Some (stepped_in c.args.number c.find.new.scratch.copies.items (c.over.ensures k)))
-    ∙ (λ k. Some (record { from = c.args.end; entry = entry_in c.args.number c.in-Ok-Some.found c.find.new.scratch.copies.items; at = c.args.end + (2 * counted k + 5); end = c.args.end + value k }))
+    ∙ (λ k. Some (record { from = c.args.end; entry = entry_in c.args.number c.in-Ok-Some.found c.find.new.scratch.copies.items; at = c.args.end + (2 * counted k + (5 + 2 * (gap_of c.args.layout.now))); end = c.args.end + value k }))
     ∙ there_found l epoch (tape l third (reads i)) head (entry_in c.args.number c.in-Ok-Some.found c.find.new.scratch.copies.items) some (omega (arith, value, c.if-end-third.false)) there)
     (c.in-Ok-Some.ensures.seen j h jw)
 

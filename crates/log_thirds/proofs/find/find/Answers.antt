@@ -7,6 +7,7 @@ use Rattle.log_thirds.specs.Disk.{reads}
 use Rattle.log_thirds.specs.Reading.{ReadsRecord}
 use Rattle.log_thirds.proofs.CopyLaws.{length_copies, images_served, end_served}
 use Rattle.volume_layout.proofs.RootLaws.{planned_bounds}
+use Rattle.volume_layout.specs.Kinds.{gap_of}
 use Rattle.fsd_log.proofs.HereLaws.{here_looks, here_last}
 use Rattle.log_thirds.proofs.FindLaws.{run_inside, judged_room}
 use Rattle.sector_disk.proofs.Wear.{worn_refl}
@@ -15,6 +16,7 @@ use Rattle.log_thirds.proofs.SeenLaws.{seen, seen_from, seen_to, seen_below, see
 use Rattle.log_thirds.proofs.find.find.Given as given
 use Rattle.log_thirds.proofs.find.find.Goals.{After-judge}
 use Rattle.log_thirds.proofs.find.find.Goals as goal
+use Rattle.fsd_log.proofs.RecordFacts.{judged_few}
 
 pub read_record-requires : goal.read_record-requires
 read_record-requires g c =
@@ -22,44 +24,42 @@ read_record-requires g c =
 
 -- what was read, as the slices have it
 is_read : (g : given.Over) (c : After-judge g)
-    → ReadsRecord (g.M.Machine.honest c.read_record.new.m) (g.M.Machine.now c.args.m.now) (g.M.Machine.now c.read_record.new.m) c.pages-p.result (record { epoch = c.args.anchor.now.epoch; number = c.args.number }) c.place_of-place.result (room_at c.args.at c.args.end) c.as_slice.result.now c.as_slice-bytes.result.now
+    → ReadsRecord (gap_of c.args.layout.now) (g.M.Machine.honest c.read_record.new.m) (g.M.Machine.now c.args.m.now) (g.M.Machine.now c.read_record.new.m) c.pages-p.result (record { epoch = c.args.anchor.now.epoch; number = c.args.number }) c.place_of-place.result (room_at c.args.at c.args.end) c.as_slice.result.now c.as_slice-bytes.result.now
 is_read g c =
     let M = g.M.Machine in
     let stamp : Stamp = record { epoch = c.args.anchor.now.epoch; number = c.args.number } in
-    subst (λ (b : List ℕ). ReadsRecord (M.honest c.read_record.new.m) (M.now c.args.m.now) (M.now c.read_record.new.m) c.pages-p.result stamp c.place_of-place.result (room_at c.args.at c.args.end) c.as_slice.result.now b) (sym c.as_slice-bytes.ensures.value)
-    (subst (λ (w : List Bool). ReadsRecord (M.honest c.read_record.new.m) (M.now c.args.m.now) (M.now c.read_record.new.m) c.pages-p.result stamp c.place_of-place.result (room_at c.args.at c.args.end) w c.read_record.new.reading.bytes.items) (sym c.as_slice.ensures.value)
-    (subst (λ (room : ℕ). ReadsRecord (M.honest c.read_record.new.m) (M.now c.args.m.now) (M.now c.read_record.new.m) c.pages-p.result stamp c.place_of-place.result room c.read_record.new.reading.whole.items c.read_record.new.reading.bytes.items) c.room_at-room.ensures c.in-Ok.ensures.read))
+    subst (λ (b : List ℕ). ReadsRecord (gap_of c.args.layout.now) (M.honest c.read_record.new.m) (M.now c.args.m.now) (M.now c.read_record.new.m) c.pages-p.result stamp c.place_of-place.result (room_at c.args.at c.args.end) c.as_slice.result.now b) (sym c.as_slice-bytes.ensures.value)
+    (subst (λ (w : List Bool). ReadsRecord (gap_of c.args.layout.now) (M.honest c.read_record.new.m) (M.now c.args.m.now) (M.now c.read_record.new.m) c.pages-p.result stamp c.place_of-place.result (room_at c.args.at c.args.end) w c.read_record.new.reading.bytes.items) (sym c.as_slice.ensures.value)
+    (subst (λ (room : ℕ). ReadsRecord (gap_of c.args.layout.now) (M.honest c.read_record.new.m) (M.now c.args.m.now) (M.now c.read_record.new.m) c.pages-p.result stamp c.place_of-place.result room c.read_record.new.reading.whole.items c.read_record.new.reading.bytes.items) c.room_at-room.ensures c.in-Ok.ensures.read))
 
 pub copies_in-requires-clause-each : goal.copies_in-requires-clause-each
 copies_in-requires-clause-each g c =
     let stamp : Stamp = record { epoch = c.args.anchor.now.epoch; number = c.args.number } in
-    length_copies c.pages-p.result stamp (length c.as_slice.result.now) (read_of c.as_slice.result.now c.as_slice-bytes.result.now) (serving_in c.in-Good.found) (sym c.in-Good.ensures.judged)
+    length_copies (gap_of c.args.layout.now) c.pages-p.result stamp (length c.as_slice.result.now) (read_of c.as_slice.result.now c.as_slice-bytes.result.now) (serving_in c.in-Good.found) (sym c.in-Good.ensures.judged)
 
 pub copies_in-requires-clause-room : goal.copies_in-requires-clause-room
 copies_in-requires-clause-room g c =
     let stamp : Stamp = record { epoch = c.args.anchor.now.epoch; number = c.args.number } in
     let read = is_read g (goal.at.copies_in-requires-clause-room g c).After-judge in
-    let room : record_len (length c.in-Good.found.pages.items) ≤ length c.as_slice.result.now = judged_room c.pages-p.result stamp (length c.as_slice.result.now) (read_of c.as_slice.result.now c.as_slice-bytes.result.now) (serving_in c.in-Good.found) c.in-Good.ensures.judged in
+    let room : record_len (gap_of c.args.layout.now) (length c.in-Good.found.pages.items) ≤ length c.as_slice.result.now = judged_room (gap_of c.args.layout.now) c.pages-p.result stamp (length c.as_slice.result.now) (read_of c.as_slice.result.now c.as_slice-bytes.result.now) (serving_in c.in-Good.found) c.in-Good.ensures.judged in
     omega (arith, room, read.run.long)
 
 pub returns-in-Ok-copies_in-clause-fits : goal.returns-in-Ok-copies_in-clause-fits
 returns-in-Ok-copies_in-clause-fits g c =
     let stamp : Stamp = record { epoch = c.args.anchor.now.epoch; number = c.args.number } in
     let read = is_read g (goal.at.returns-in-Ok-copies_in-clause-fits g c).After-judge in
-    let room : record_len (length c.in-Good.found.pages.items) ≤ length c.as_slice.result.now = judged_room c.pages-p.result stamp (length c.as_slice.result.now) (read_of c.as_slice.result.now c.as_slice-bytes.result.now) (serving_in c.in-Good.found) c.in-Good.ensures.judged in
+    let room : record_len (gap_of c.args.layout.now) (length c.in-Good.found.pages.items) ≤ length c.as_slice.result.now = judged_room (gap_of c.args.layout.now) c.pages-p.result stamp (length c.as_slice.result.now) (read_of c.as_slice.result.now c.as_slice-bytes.result.now) (serving_in c.in-Good.found) c.in-Good.ensures.judged in
     omega (arith, room, read.within, c.in-Good.ensures.count, c.requires.before)
 
 pub returns-in-Ok-copies_in-clause-few : goal.returns-in-Ok-copies_in-clause-few
 returns-in-Ok-copies_in-clause-few g c =
     let stamp : Stamp = record { epoch = c.args.anchor.now.epoch; number = c.args.number } in
-    let read = is_read g (goal.at.returns-in-Ok-copies_in-clause-few g c).After-judge in
-    let room : record_len (length c.in-Good.found.pages.items) ≤ length c.as_slice.result.now = judged_room c.pages-p.result stamp (length c.as_slice.result.now) (read_of c.as_slice.result.now c.as_slice-bytes.result.now) (serving_in c.in-Good.found) c.in-Good.ensures.judged in
-    omega (arith, room, read.within, c.in-Good.ensures.count)
+    omega (arith, judged_few (gap_of c.args.layout.now) c.pages-p.result stamp (length c.as_slice.result.now) (read_of c.as_slice.result.now c.as_slice-bytes.result.now) (serving_in c.in-Good.found) (sym c.in-Good.ensures.judged), c.in-Good.ensures.count)
 
 pub returns-in-Ok-copies_in-clause-copied : goal.returns-in-Ok-copies_in-clause-copied
 returns-in-Ok-copies_in-clause-copied g c =
     let stamp : Stamp = record { epoch = c.args.anchor.now.epoch; number = c.args.number } in
-    end_served c.as_slice.result.now c.as_slice-bytes.result.now c.pages-p.result stamp (serving_in c.in-Good.found) (sym c.in-Good.ensures.judged) c.copies_in.new.copies.items c.in-Ok-copies_in.ensures
+    end_served (gap_of c.args.layout.now) c.as_slice.result.now c.as_slice-bytes.result.now c.pages-p.result stamp (serving_in c.in-Good.found) (sym c.in-Good.ensures.judged) c.copies_in.new.copies.items c.in-Ok-copies_in.ensures
 
 pub returns-in-Ok-copies_in-clause-seen : goal.returns-in-Ok-copies_in-clause-seen
 returns-in-Ok-copies_in-clause-seen g c j h jw =
@@ -76,9 +76,9 @@ returns-in-Ok-copies_in-clause-seen g c j h jw =
       to = seen_to l third c.args.at c.args.end c.requires.first c.requires.before c.requires.from c.requires.ends old new (c.read_record.ensures.reads.worn h) (M.honest c.read_record.new.m) h c.place_of-place.result c.place_of-place.ensures c.pages-p.result stamp c.as_slice.result.now c.as_slice-bytes.result.now read j jw;
       below = seen_below l third c.args.at c.args.end c.requires.first c.requires.before c.requires.from c.requires.ends old new (c.read_record.ensures.reads.worn h) (M.honest c.read_record.new.m) h c.place_of-place.result c.place_of-place.ensures c.pages-p.result stamp c.as_slice.result.now c.as_slice-bytes.result.now read j jw;
       front = seen_front l third c.args.at c.args.end c.requires.first c.requires.before c.requires.from c.requires.ends old new (c.read_record.ensures.reads.worn h) (M.honest c.read_record.new.m) h c.place_of-place.result c.place_of-place.ensures c.pages-p.result stamp c.as_slice.result.now c.as_slice-bytes.result.now read j jw;
-      is = (λ i. Some (record { number = c.args.number; pages = c.in-Good.found.pages.items; images = sym (images_served c.as_slice.result.now c.as_slice-bytes.result.now c.pages-p.result stamp (serving_in c.in-Good.found) (sym c.in-Good.ensures.judged) c.copies_in.new.copies.items c.in-Ok-copies_in.ensures) i }))
+      is = (λ i. Some (record { number = c.args.number; pages = c.in-Good.found.pages.items; images = sym (images_served (gap_of c.args.layout.now) c.as_slice.result.now c.as_slice-bytes.result.now c.pages-p.result stamp (serving_in c.in-Good.found) (sym c.in-Good.ensures.judged) c.copies_in.new.copies.items c.in-Ok-copies_in.ensures) i }))
           ∙ judged_seen l third c.args.at c.args.end c.requires.first c.requires.before c.requires.from c.requires.ends old new (c.read_record.ensures.reads.worn h) (M.honest c.read_record.new.m) h c.place_of-place.result c.place_of-place.ensures c.pages-p.result stamp c.as_slice.result.now c.as_slice-bytes.result.now read j jw (Some (serving_in c.in-Good.found)) c.in-Good.ensures.judged
-          ∙ ap (λ (p : ℕ). (record_in p stamp (room_at c.args.at c.args.end) (window (tape l third (reads image)) c.args.at (room_at c.args.at c.args.end)))) c.pages-p.ensures.value
+          ∙ ap (λ (p : ℕ). (record_in (gap_of c.args.layout.now) p stamp (room_at c.args.at c.args.end) (window (tape l third (reads image)) c.args.at (room_at c.args.at c.args.end)))) c.pages-p.ensures.value
           ∙ (sym (here_looks l c.args.anchor.now.epoch (tape l third (reads image)) c.args.number c.args.at c.args.end (omega (arith, c.if-number-eq-LAST_NUMBER.false))));
     }
 
@@ -98,7 +98,7 @@ returns-in-NotThere-clause-seen g c j h jw =
       below = seen_below l third c.args.at c.args.end c.requires.first c.requires.before c.requires.from c.requires.ends old new (c.read_record.ensures.reads.worn h) (M.honest c.read_record.new.m) h c.place_of-place.result c.place_of-place.ensures c.pages-p.result stamp c.as_slice.result.now c.as_slice-bytes.result.now read j jw;
       front = seen_front l third c.args.at c.args.end c.requires.first c.requires.before c.requires.from c.requires.ends old new (c.read_record.ensures.reads.worn h) (M.honest c.read_record.new.m) h c.place_of-place.result c.place_of-place.ensures c.pages-p.result stamp c.as_slice.result.now c.as_slice-bytes.result.now read j jw;
       is = judged_seen l third c.args.at c.args.end c.requires.first c.requires.before c.requires.from c.requires.ends old new (c.read_record.ensures.reads.worn h) (M.honest c.read_record.new.m) h c.place_of-place.result c.place_of-place.ensures c.pages-p.result stamp c.as_slice.result.now c.as_slice-bytes.result.now read j jw None c.in-NotThere.ensures.judged
-          ∙ ap (λ (p : ℕ). (record_in p stamp (room_at c.args.at c.args.end) (window (tape l third (reads image)) c.args.at (room_at c.args.at c.args.end)))) c.pages-p.ensures.value
+          ∙ ap (λ (p : ℕ). (record_in (gap_of c.args.layout.now) p stamp (room_at c.args.at c.args.end) (window (tape l third (reads image)) c.args.at (room_at c.args.at c.args.end)))) c.pages-p.ensures.value
           ∙ (sym (here_looks l c.args.anchor.now.epoch (tape l third (reads image)) c.args.number c.args.at c.args.end (omega (arith, c.if-number-eq-LAST_NUMBER.false))));
     }
 

@@ -1,6 +1,7 @@
 use Rattle.std.proofs.Common.{◌≡◌, ◌+◌, ◌*◌, ◌≤◌, length, Some, arith, subst, ap, ◌∙◌, sym, refl, Option}
 use Rattle.std.specs.Prelude.{option_map, IfSome}
 use Rattle.std.proofs.lemmas.Result.{IfOk-weaker}
+use Rattle.volume_layout.specs.Kinds.{gap_of}
 use Rattle.fsd_log.specs.Scan.{Head, tape, entered}
 use Rattle.log_thirds.specs.Disk.{reads}
 use Rattle.log_record.specs.declared.judging.Found.{Found}
@@ -16,16 +17,16 @@ use Rattle.log_thirds.proofs.SeenLaws.{sees_more, sees_on, here_below}
 use Rattle.log_thirds.proofs.find.next.Goals as goal
 
 pub over-requires : goal.over-requires
-over-requires g c = subst (λ (o : Option Found). IfSome o (λ f. c.args.at + (2 * f.n + 5) ≤ c.args.end)) c.in-Ok-Some.field-0-is c.in-Ok-Some.ensures.fits
+over-requires g c = subst (λ (o : Option Found). IfSome o (λ f. c.args.at + (2 * f.n + (5 + 2 * (gap_of c.args.layout.now))) ≤ c.args.end)) c.in-Ok-Some.field-0-is c.in-Ok-Some.ensures.fits
 
 pub returns-in-Ok-Some-clause-goes : goal.returns-in-Ok-Some-clause-goes
 returns-in-Ok-Some-clause-goes g c =
     let n = c.in-Ok-Some.found.n in
-    let fits = subst (λ (o : Option Found). IfSome o (λ f. c.args.at + (2 * f.n + 5) ≤ c.args.end)) c.in-Ok-Some.field-0-is c.in-Ok-Some.ensures.fits in
+    let fits = subst (λ (o : Option Found). IfSome o (λ f. c.args.at + (2 * f.n + (5 + 2 * (gap_of c.args.layout.now))) ≤ c.args.end)) c.in-Ok-Some.field-0-is c.in-Ok-Some.ensures.fits in
     let counted = subst (λ (o : Option Found). IfSome o (λ f. f.n ≡ length f.pages.items)) c.in-Ok-Some.field-0-is c.in-Ok-Some.ensures.counted in
     let few = subst (λ (o : Option Found). IfSome o (λ f. f.n ≤ 96)) c.in-Ok-Some.field-0-is c.in-Ok-Some.ensures.few in
     subst (StepsOn c.args.layout.now c.args.at) (sym c.over.ensures) (record {
-      goes = goes_to c.args.layout.now c.args.at c.args.at n c.args.end (record { at = c.args.at + (2 * n + 5); end = c.args.end }) refl (omega arith) fits c.requires.from c.requires.ends;
+      goes = goes_to c.args.layout.now c.args.at c.args.at n c.args.end (record { at = c.args.at + (2 * n + (5 + 2 * (gap_of c.args.layout.now))); end = c.args.end }) refl (omega arith) fits c.requires.from c.requires.ends;
       lies = omega (arith, counted);
       few = omega (arith, counted, few);
       in_third = c.requires.from;
@@ -49,7 +50,7 @@ returns-in-Ok-Some-clause-seen g c j h jw =
     sees_more l third c.args.at (open_damage (M.now c.args.m.now).windows) j (M.now c.find.new.m).image _ _
     (λ i found.
     (λ k. Some (stepped_in c.args.number c.find.new.scratch.copies.items (c.over.ensures k)))
-    ∙ (λ k. Some (record { from = c.args.at; entry = entry_in c.args.number c.in-Ok-Some.found c.find.new.scratch.copies.items; at = c.args.at + (2 * counted k + 5); end = c.args.end }))
+    ∙ (λ k. Some (record { from = c.args.at; entry = entry_in c.args.number c.in-Ok-Some.found c.find.new.scratch.copies.items; at = c.args.at + (2 * counted k + (5 + 2 * (gap_of c.args.layout.now))); end = c.args.end }))
     ∙ here_found l epoch (tape l third (reads i)) head (entry_in c.args.number c.in-Ok-Some.found c.find.new.scratch.copies.items) (ap (option_map (λ f. entry_in c.args.number f c.find.new.scratch.copies.items)) (sym c.in-Ok-Some.field-0-is) ∙ found))
     (c.in-Ok-Some.ensures.seen j h jw)
 

@@ -1,4 +1,4 @@
-use Rattle.std.proofs.Common.{◌+◌, ◌*◌, ◌≤◌, length, ap, arith}
+use Rattle.std.proofs.Common.{◌+◌, ◌*◌, ◌≤◌, length, ap, arith, subst}
 use Rattle.volume_layout.specs.declared.layout.Layout.{Layout}
 use Rattle.volume_layout.proofs.RootLaws.{planned_bounds}
 use Rattle.mount_recover.proofs.CalmLaws.{laid_again}
@@ -12,6 +12,7 @@ use Rattle.mount_recover.specs.Replay.{IsUnturned, Replays}
 use Rattle.mount_recover.proofs.CompletingLaws.{part_replays, healing_replays, failed_replays, completed, rest_stays, rest_in_part}
 use Rattle.mount_recover.proofs.TurningLaws.{named_unturned, part_unturned, worn_unturned}
 use Rattle.mount_recover.proofs.completing.complete.Goals as goal
+use Rattle.volume_layout.specs.Kinds.{longest_of}
 
 pub returns-in_err-complete_last-clause-disk : goal.returns-in_err-complete_last-clause-disk
 returns-in_err-complete_last-clause-disk g c = heals_told (told_up failed_at c.from_residual.result c.in_err-complete_last.field-0.0 c.from_residual.ensures.1) (writes_as_heals c.in_err-complete_last.ensures.writes)
@@ -73,7 +74,8 @@ returns-clause-rest g c l j h planned same knows =
 pub returns-clause-done : goal.returns-clause-done
 returns-clause-done g c l windows choices h planned same seen =
     let M = g.M.Machine in
-    completed l windows choices c.args.log.now (M.now c.args.m.now) planned seen (M.now c.complete_last.new.m) (c.in_ok-complete_last.ensures.done (c.healing.ensures.trust.honest h)) (M.now c.healing.new.self) (c.in_ok-healing.ensures.named h)
+    completed l windows choices c.args.log.now (M.now c.args.m.now) planned seen (M.now c.complete_last.new.m) (c.in_ok-complete_last.ensures.done (c.healing.ensures.trust.honest h))
+    c.args.longest (subst (λ (k : Layout). c.args.longest ≤ longest_of k.kind) same c.requires.borne) (M.now c.healing.new.self) (c.in_ok-healing.ensures.named h)
 
 pub returns-clause-given : goal.returns-clause-given
 returns-clause-given g c l h still planned same knows =

@@ -1,37 +1,54 @@
-use Rattle.std.proofs.Common.{Err, ◌<◌, length, sym, ◌∙◌, arith}
+use Rattle.std.proofs.Common.{◌≡◌, Err, Some, ◌<◌, ◌≤◌, Ok, length, sym, ◌∙◌, arith}
+use Rattle.volume_layout.specs.Layout.{plan}
 use Rattle.volume_layout.proofs.RootLaws.{planned_bounds}
-use Rattle.sector_disk.proofs.Wear.{worn_refl}
-use Rattle.sector_disk.specs.Image.{open_damage}
 use Rattle.sector_disk.proofs.CallLaws.{reads_then, reads_told}
+use Rattle.fsd_files.specs.Disk.{either_copy}
 use Rattle.mount_recover.proofs.FaultLaws.{scan_sound, scan_told}
-use Rattle.mount_recover.proofs.SeenLaws.{found_so, not_found_so, planned_of, fits_of}
+use Rattle.mount_recover.proofs.RootLaws.{taken_before, taken_so}
+use Rattle.mount_recover.proofs.SeenLaws.{found_so, none_so, not_found_so, seen_now}
 use Rattle.mount_recover.proofs.finding.find_volume.Goals as goal
 
 pub returns-in-Err-scan-clause-sound : goal.returns-in-Err-scan-clause-sound
 returns-in-Err-scan-clause-sound g c = scan_sound c.in-Err-scan.fault c.mount_fault.result c.mount_fault.ensures
 
-pub returns-in-Ok-clause-reads : goal.returns-in-Ok-clause-reads
-returns-in-Ok-clause-reads g c = reads_then c.in-Ok-Some.ensures.reads c.in-Ok.ensures.reads
+pub returns-in-Ok-scan-clause-reads : goal.returns-in-Ok-scan-clause-reads
+returns-in-Ok-scan-clause-reads g c = reads_then c.in-Ok.ensures.reads c.in-Ok-scan.ensures.reads
 
 pub returns-in-Err-scan-clause-reads : goal.returns-in-Err-scan-clause-reads
-returns-in-Err-scan-clause-reads g c = reads_told (scan_told c.in-Err-scan.fault c.mount_fault.result c.mount_fault.ensures) (reads_then c.in-Ok-Some.ensures.reads c.in-Err-scan.ensures.reads)
+returns-in-Err-scan-clause-reads g c = reads_told (scan_told c.in-Err-scan.fault c.mount_fault.result c.mount_fault.ensures) (reads_then c.in-Ok.ensures.reads c.in-Err-scan.ensures.reads)
 
-pub returns-in-Ok-clause-seen : goal.returns-in-Ok-clause-seen
-returns-in-Ok-clause-seen g c h =
+pub returns-in-Ok-scan-clause-root : goal.returns-in-Ok-scan-clause-root
+returns-in-Ok-scan-clause-root g c h =
     let M = g.M.Machine in
-    let old = M.now c.args.m.now in let mid = M.now c.find_root.new.m in let new = M.now c.scan.new.m in
+    let roots = c.in-Ok.roots in
+    taken_before c.args.sectors roots.first roots.second (M.now c.args.m.now) (M.now c.find_roots.new.m) (c.in-Ok.ensures.seen (c.scan.ensures.reads.trust.honest h)) c.in-Some.layout (sym c.taken.ensures ∙ c.in-Some.is)
+
+pub returns-in-Ok-scan-clause-seen : goal.returns-in-Ok-scan-clause-seen
+returns-in-Ok-scan-clause-seen g c h =
+    let M = g.M.Machine in
+    let roots = c.in-Ok.roots in
+    let old = M.now c.args.m.now in let mid = M.now c.find_roots.new.m in
     let h1 = c.scan.ensures.reads.trust.honest h in
-    found_so c.args.sectors old mid (c.find_root.ensures.reads.worn h1) c.in-Ok-Some.layout (sym (c.in-Ok-Some.ensures.found h1) ∙ c.in-Ok-Some.field-0-is) c.in-Ok.log new c.in-Ok.ensures.layout
-    (c.in-Ok.ensures.seen mid.image h (worn_refl (open_damage mid.windows) mid.image))
+    let wears = c.find_roots.ensures.reads.worn h1 in
+    let seen = c.in-Ok.ensures.seen h1 in
+    found_so c.args.sectors roots.first roots.second old mid wears seen c.in-Some.layout (sym c.taken.ensures ∙ c.in-Some.is) c.longest.result c.longest.ensures.first c.longest.ensures.second
+    c.in-Ok-scan.log (M.now c.scan.new.m) c.in-Ok-scan.ensures.layout (c.in-Ok-scan.ensures.seen seen.seen h (seen_now c.args.sectors roots.first roots.second old mid wears seen c.in-Some.layout (sym c.taken.ensures ∙ c.in-Some.is)))
 
 pub returns-in-Err-scan-clause-refused : goal.returns-in-Err-scan-clause-refused
 returns-in-Err-scan-clause-refused g c h =
     let M = g.M.Machine in
-    let old = M.now c.args.m.now in let mid = M.now c.find_root.new.m in
+    let roots = c.in-Ok.roots in
+    let old = M.now c.args.m.now in let mid = M.now c.find_roots.new.m in
     let h1 = c.scan.ensures.reads.trust.honest h in
-    let sized = g.met.M.Machine.sized c.find_root.new.m h1 in
-    let bounds = planned_bounds c.in-Ok-Some.layout (planned_of c.in-Ok-Some.field-0 c.in-Ok-Some.layout c.in-Ok-Some.field-0-is c.in-Ok-Some.ensures.planned) in
-    let fits = fits_of c.args.sectors c.in-Ok-Some.field-0 c.in-Ok-Some.layout c.in-Ok-Some.field-0-is c.in-Ok-Some.ensures.fits in
-    let room : 12 < length (M.now c.find_root.new.m).image = omega (arith, sized, bounds.third_least, bounds.sectors_least, fits, c.requires, c.find_root.ensures.reads.uses.sectors) in
-    not_found_so c.args.sectors old mid (c.find_root.ensures.reads.worn h1) c.in-Ok-Some.layout (sym (c.in-Ok-Some.ensures.found h1) ∙ c.in-Ok-Some.field-0-is) c.in-Err-scan.fault c.mount_fault.result room c.mount_fault.ensures
+    let sized = g.met.M.Machine.sized c.find_roots.new.m h1 in
+    let taken : either_copy roots.first roots.second ≡ Some c.in-Some.layout = sym c.taken.ensures ∙ c.in-Some.is in
+    let bounds = planned_bounds c.in-Some.layout (taken_so (λ k. plan k.kind k.sectors k.third k.pages ≡ Ok k) roots.first roots.second c.in-Some.layout taken c.in-Ok.ensures.planned.0 c.in-Ok.ensures.planned.1) in
+    let fits = taken_so (λ k. k.sectors ≤ c.args.sectors) roots.first roots.second c.in-Some.layout taken c.in-Ok.ensures.fits.0 c.in-Ok.ensures.fits.1 in
+    let room : 12 < length mid.image = omega (arith, sized, bounds.third_least, bounds.sectors_least, fits, c.requires, c.find_roots.ensures.reads.uses.sectors) in
+    not_found_so c.args.sectors roots.first roots.second old mid (c.find_roots.ensures.reads.worn h1) (c.in-Ok.ensures.seen h1) c.in-Some.layout taken c.in-Err-scan.fault c.mount_fault.result room c.mount_fault.ensures
     (λ e. c.in-Err-scan.ensures.no_anchor (λ i. Err (e i)) h) (λ e. c.in-Err-scan.ensures.worn_out (λ i. Err (e i)) h)
+
+pub returns-in-None-clause-refused : goal.returns-in-None-clause-refused
+returns-in-None-clause-refused g c h =
+    let M = g.M.Machine in
+    none_so c.args.sectors c.in-Ok.roots.first c.in-Ok.roots.second (M.now c.args.m.now) (M.now c.find_roots.new.m) (c.in-Ok.ensures.seen h) (sym c.taken.ensures ∙ c.in-None.is)

@@ -3,7 +3,7 @@ use Rattle.volume_layout.proofs.RootLaws.{planned_bounds}
 use Rattle.sector_disk.proofs.CallLaws.{heals_told, writes_as_heals}
 use Rattle.sector_disk.proofs.Moments.{leaves_more}
 use Rattle.volume_layout.specs.Root.{root_bytes}
-use Rattle.twin_home.specs.Heal.{RootsIn}
+use Rattle.twin_home.specs.Heal.{HealsRoots}
 use Rattle.mount_recover.specs.Mending.{Stays, AreRoots}
 use Rattle.mount_recover.specs.Finding.{IsExcuse}
 use Rattle.mount_recover.proofs.CalmLaws.{roots_lose}
@@ -25,13 +25,13 @@ pub returns-in-Ok-clause-any_moment : goal.returns-in-Ok-clause-any_moment
 returns-in-Ok-clause-any_moment g c windows choices log first is h at =
     let M = g.M.Machine in
     let l = c.args.l.now in let now = M.now c.args.m.now in
-    leaves_more M.moment M.left_since c.args.m.now c.heal_root.new.m (RootsIn (root_bytes l) now) (Stays l windows choices first) (λ left roots. roots_stay l windows choices log first is now at left roots) (c.heal_root.ensures.writes.any_moment h)
+    leaves_more M.moment M.left_since c.args.m.now c.heal_root.new.m (HealsRoots (root_bytes l) now) (Stays l windows choices first) (λ left roots. roots_stay l windows choices log first is now at left roots) (c.heal_root.ensures.writes.any_moment h)
 
 pub returns-in-Err-clause-any_moment : goal.returns-in-Err-clause-any_moment
 returns-in-Err-clause-any_moment g c windows choices log first is h at =
     let M = g.M.Machine in
     let l = c.args.l.now in let now = M.now c.args.m.now in
-    leaves_more M.moment M.left_since c.args.m.now c.heal_root.new.m (RootsIn (root_bytes l) now) (Stays l windows choices first) (λ left roots. roots_stay l windows choices log first is now at left roots) (c.heal_root.ensures.writes.any_moment h)
+    leaves_more M.moment M.left_since c.args.m.now c.heal_root.new.m (HealsRoots (root_bytes l) now) (Stays l windows choices first) (λ left roots. roots_stay l windows choices log first is now at left roots) (c.heal_root.ensures.writes.any_moment h)
 
 pub returns-in-Ok-clause-keeps : goal.returns-in-Ok-clause-keeps
 returns-in-Ok-clause-keeps g c h =

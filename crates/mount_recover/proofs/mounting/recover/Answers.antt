@@ -8,7 +8,8 @@ use Rattle.sector_disk.proofs.Moments.{leaves_more, then_on}
 use Rattle.log_thirds.specs.LogValue.{LogValue}
 use Rattle.fsd_sound.proofs.WritesLaws.{elsewhere}
 use Rattle.fsd_sound.specs.Lost.{AreCopiesOn}
-use Rattle.mount_recover.specs.Mending.{Begins, Stays}
+use Rattle.fsd_sound.specs.Sound.{IsSaid}
+use Rattle.mount_recover.specs.Mending.{Begins, IsCompleted, Stays}
 use Rattle.mount_recover.specs.Recover.{ShowsVolume}
 use Rattle.mount_recover.specs.Replay.{IsReplayed, IsUnturned, Replays, TurnsLast}
 use Rattle.std.specs.Prelude.{IfSome, IsSome}
@@ -17,74 +18,85 @@ use Rattle.sector_disk.specs.Image.{AreShort, Windows, IsEmpty}
 use Rattle.fsd_sound.specs.Shown.{records_by}
 use Rattle.mount_recover.proofs.CalmLaws.{calm_now, calm_two, knows_one, loses_shown, next_kept, next_settled, some_root, stand_shown, still_next, still_one}
 use Rattle.mount_recover.proofs.FaultLaws.{load_left, load_sound, worn_left}
-use Rattle.mount_recover.proofs.MountLaws.{wears_replays, by_found, not_found_excused, not_refused, device_refused, found_same, is_seen, replays_from, stays_replays, begins_replays, lost_on, fresh, rest_kept, rest_left, mend_refused, none_found, none_shown}
+use Rattle.mount_recover.proofs.MountLaws.{wears_replays, not_found_excused, not_refused, device_refused, found_said, found_starts, is_seen, replays_from, stays_replays, begins_replays, lost_on, fresh, rest_kept, rest_left, mend_refused, none_found, none_shown}
 use Rattle.mount_recover.proofs.HomesLaws.{both_settled}
+use Rattle.mount_recover.proofs.RootLaws.{run_bears}
 use Rattle.mount_recover.proofs.TurningLaws.{beginning_turns, completing_turns, next_present, stays_turns, still_unturned, worn_turns}
 use Rattle.mount_recover.proofs.mounting.recover.Given as given
 use Rattle.mount_recover.proofs.mounting.recover.Goals.{After-begin_epoch, After-complete, After-mend}
 use Rattle.mount_recover.proofs.mounting.recover.Goals as goal
 use Rattle.mount_recover.proofs.KeepsLaws.{keeps_none}
 
--- ---- an image that shows a volume, step by step
+-- ---- the layout that was found
 
 module _ (g : given.Over) (c : After-complete g) (l : Layout) (windows : List WeakRun) (choices : List (List (List ℕ))) (h : g.M.Machine.honest c.complete.new.m) (start : ShowsVolume c.args.sectors l windows choices (g.M.Machine.now c.args.m.now)) where
-  to_complete : LeavesOnly g.M.Machine.moment g.M.Machine.left_since c.args.m.now c.complete.new.m (Replays l windows choices (g.M.Machine.now c.args.m.now))
+  honest_one : g.M.Machine.honest c.find_volume.new.m
+  honest_one = c.complete.ensures.disk.trust.honest h
+
+  -- the image says it
+  said : IsSaid l (g.M.Machine.now c.args.m.now).image c.in_ok-layout.field-0.layout
+  said = found_said c.args.sectors l windows choices (g.M.Machine.now c.args.m.now) start (g.met.M.Machine.short c.args.m.now (c.find_volume.ensures.reads.trust.honest honest_one)) (g.M.Machine.now c.find_volume.new.m) (c.find_volume.ensures.reads.worn honest_one)
+      c.in_ok-layout.field-0.layout c.in_ok-layout.field-0.log (c.in_ok-layout.ensures.seen honest_one).is
+
+  -- and shows its pages by it
+  begins : ShowsVolume c.args.sectors c.in_ok-layout.field-0.layout windows choices (g.M.Machine.now c.args.m.now)
+  begins = found_starts c.args.sectors l windows choices (g.M.Machine.now c.args.m.now) start (g.met.M.Machine.short c.args.m.now (c.find_volume.ensures.reads.trust.honest honest_one)) (g.M.Machine.now c.find_volume.new.m) (c.find_volume.ensures.reads.worn honest_one)
+      c.in_ok-layout.field-0.layout c.in_ok-layout.field-0.log (c.in_ok-layout.ensures.seen honest_one).is
+
+-- ---- an image that shows a volume with that layout, step by step
+
+module _ (g : given.Over) (c : After-complete g) (windows : List WeakRun) (choices : List (List (List ℕ))) (h : g.M.Machine.honest c.complete.new.m) (begin : ShowsVolume c.args.sectors c.in_ok-layout.field-0.layout windows choices (g.M.Machine.now c.args.m.now)) where
+  to_complete : LeavesOnly g.M.Machine.moment g.M.Machine.left_since c.args.m.now c.complete.new.m (Replays c.in_ok-layout.field-0.layout windows choices (g.M.Machine.now c.args.m.now))
   to_complete =
       let M = g.M.Machine in
       let old = M.now c.args.m.now in let one = M.now c.find_volume.new.m in let found = c.in_ok-layout.field-0 in
       let h1 = c.complete.ensures.disk.trust.honest h in
       let short = g.met.M.Machine.short c.args.m.now (c.find_volume.ensures.reads.trust.honest h1) in
       let wears = c.find_volume.ensures.reads.worn h1 in
-      let is = c.in_ok-layout.ensures.seen h1 in
-      then_on M.moment M.left_since c.args.m.now c.find_volume.new.m c.complete.new.m (Replays l windows choices old)
-      (leaves_more M.moment M.left_since c.args.m.now c.find_volume.new.m (Wears old) (Replays l windows choices old) (λ left worn. wears_replays c.args.sectors l windows choices old start short left worn) (c.find_volume.ensures.reads.any_moment h1))
-      (by_found c.args.sectors l windows choices old start short one wears found.layout found.log is (λ k. LeavesOnly M.moment M.left_since c.find_volume.new.m c.complete.new.m (Replays k windows choices old))
-      (λ begin.
-      leaves_more M.moment M.left_since c.find_volume.new.m c.complete.new.m (Replays found.layout windows choices one) (Replays found.layout windows choices old) (λ left now. replays_from c.args.sectors found.layout windows choices old begin short one wears found.log is left now)
-      (c.complete.ensures.any_moment found.layout windows choices h begin.planned c.in_ok-layout.ensures.layout (is_seen c.args.sectors found.layout windows choices old begin short one wears found.log is))))
+      let is = (c.in_ok-layout.ensures.seen h1).is in
+      then_on M.moment M.left_since c.args.m.now c.find_volume.new.m c.complete.new.m (Replays found.layout windows choices old)
+      (leaves_more M.moment M.left_since c.args.m.now c.find_volume.new.m (Wears old) (Replays found.layout windows choices old) (λ left worn. wears_replays c.args.sectors found.layout windows choices old begin short left worn) (c.find_volume.ensures.reads.any_moment h1))
+      (leaves_more M.moment M.left_since c.find_volume.new.m c.complete.new.m (Replays found.layout windows choices one) (Replays found.layout windows choices old) (λ left now. replays_from c.args.sectors found.layout windows choices old begin short one wears found.log is left now)
+      (c.complete.ensures.any_moment found.layout windows choices h begin.planned c.in_ok-layout.ensures.layout (is_seen c.args.sectors found.layout windows choices old begin short one wears found.log is)))
 
-module _ (g : given.Over) (c : After-mend g) (l : Layout) (windows : List WeakRun) (choices : List (List (List ℕ))) (h : g.M.Machine.honest c.mend.new.m) (start : ShowsVolume c.args.sectors l windows choices (g.M.Machine.now c.args.m.now)) where
-  stays : LeavesOnly g.M.Machine.moment g.M.Machine.left_since c.complete.new.m c.mend.new.m (Stays c.in_ok-layout.field-0.layout windows choices (g.M.Machine.now c.complete.new.m))
-  stays =
+module _ (g : given.Over) (c : After-mend g) (windows : List WeakRun) (choices : List (List (List ℕ))) (h : g.M.Machine.honest c.mend.new.m) (begin : ShowsVolume c.args.sectors c.in_ok-layout.field-0.layout windows choices (g.M.Machine.now c.args.m.now)) where
+  is_completed : IsCompleted c.in_ok-layout.field-0.layout windows choices c.in_ok-layout.field-0.log (g.M.Machine.now c.complete.new.m)
+  is_completed =
       let M = g.M.Machine in
       let old = M.now c.args.m.now in let one = M.now c.find_volume.new.m in let found = c.in_ok-layout.field-0 in
       let h2 = c.mend.ensures.disk.trust.honest h in let h1 = c.complete.ensures.disk.trust.honest h2 in
       let short = g.met.M.Machine.short c.args.m.now (c.find_volume.ensures.reads.trust.honest h1) in
-      let wears = c.find_volume.ensures.reads.worn h1 in
-      let is = c.in_ok-layout.ensures.seen h1 in
-      let begin = subst (λ (k : Layout). ShowsVolume c.args.sectors k windows choices old) (sym (found_same c.args.sectors l windows choices old start short one wears found.layout found.log is)) start in
-      let seen = is_seen c.args.sectors found.layout windows choices old begin short one wears found.log is in
-      c.mend.ensures.any_moment windows choices (c.in_ok-complete.ensures.done found.layout windows choices h2 begin.planned c.in_ok-layout.ensures.layout seen).is h
+      let seen = is_seen c.args.sectors found.layout windows choices old begin short one (c.find_volume.ensures.reads.worn h1) found.log (c.in_ok-layout.ensures.seen h1).is in
+      (c.in_ok-complete.ensures.done found.layout windows choices h2 begin.planned c.in_ok-layout.ensures.layout seen).is
 
-  to_mend : LeavesOnly g.M.Machine.moment g.M.Machine.left_since c.complete.new.m c.mend.new.m (Replays l windows choices (g.M.Machine.now c.args.m.now))
+  stays : LeavesOnly g.M.Machine.moment g.M.Machine.left_since c.complete.new.m c.mend.new.m (Stays c.in_ok-layout.field-0.layout windows choices (g.M.Machine.now c.complete.new.m))
+  stays = c.mend.ensures.any_moment windows choices is_completed h
+
+  to_mend : LeavesOnly g.M.Machine.moment g.M.Machine.left_since c.complete.new.m c.mend.new.m (Replays c.in_ok-layout.field-0.layout windows choices (g.M.Machine.now c.args.m.now))
   to_mend =
       let M = g.M.Machine in
       let old = M.now c.args.m.now in let one = M.now c.find_volume.new.m in let two = M.now c.complete.new.m in let found = c.in_ok-layout.field-0 in
       let h2 = c.mend.ensures.disk.trust.honest h in let h1 = c.complete.ensures.disk.trust.honest h2 in
       let short = g.met.M.Machine.short c.args.m.now (c.find_volume.ensures.reads.trust.honest h1) in
       let wears = c.find_volume.ensures.reads.worn h1 in
-      let is = c.in_ok-layout.ensures.seen h1 in
-      by_found c.args.sectors l windows choices old start short one wears found.layout found.log is (λ k. LeavesOnly M.moment M.left_since c.complete.new.m c.mend.new.m (Replays k windows choices old))
-      (λ begin.
+      let is = (c.in_ok-layout.ensures.seen h1).is in
       let seen = is_seen c.args.sectors found.layout windows choices old begin short one wears found.log is in
       let done = c.in_ok-complete.ensures.done found.layout windows choices h2 begin.planned c.in_ok-layout.ensures.layout seen in
-      leaves_more M.moment M.left_since c.complete.new.m c.mend.new.m (Stays found.layout windows choices two) (Replays found.layout windows choices old) (λ left at. stays_replays c.args.sectors found.layout windows choices old begin short one wears found.log is two done left at) stays)
+      leaves_more M.moment M.left_since c.complete.new.m c.mend.new.m (Stays found.layout windows choices two) (Replays found.layout windows choices old) (λ left at. stays_replays c.args.sectors found.layout windows choices old begin short one wears found.log is two done left at) stays
 
-module _ (g : given.Over) (c : After-begin_epoch g) (l : Layout) (windows : List WeakRun) (choices : List (List (List ℕ))) (h : g.M.Machine.honest c.begin_epoch.new.m) (start : ShowsVolume c.args.sectors l windows choices (g.M.Machine.now c.args.m.now)) where
-  to_begin : LeavesOnly g.M.Machine.moment g.M.Machine.left_since c.mend.new.m c.begin_epoch.new.m (Replays l windows choices (g.M.Machine.now c.args.m.now))
+module _ (g : given.Over) (c : After-begin_epoch g) (windows : List WeakRun) (choices : List (List (List ℕ))) (h : g.M.Machine.honest c.begin_epoch.new.m) (begin : ShowsVolume c.args.sectors c.in_ok-layout.field-0.layout windows choices (g.M.Machine.now c.args.m.now)) where
+  to_begin : LeavesOnly g.M.Machine.moment g.M.Machine.left_since c.mend.new.m c.begin_epoch.new.m (Replays c.in_ok-layout.field-0.layout windows choices (g.M.Machine.now c.args.m.now))
   to_begin =
       let M = g.M.Machine in
       let old = M.now c.args.m.now in let one = M.now c.find_volume.new.m in let two = M.now c.complete.new.m in let found = c.in_ok-layout.field-0 in
       let h3 = c.begin_epoch.ensures.disk.trust.honest h in let h2 = c.mend.ensures.disk.trust.honest h3 in let h1 = c.complete.ensures.disk.trust.honest h2 in
       let short = g.met.M.Machine.short c.args.m.now (c.find_volume.ensures.reads.trust.honest h1) in
       let wears = c.find_volume.ensures.reads.worn h1 in
-      let is = c.in_ok-layout.ensures.seen h1 in
-      by_found c.args.sectors l windows choices old start short one wears found.layout found.log is (λ k. LeavesOnly M.moment M.left_since c.mend.new.m c.begin_epoch.new.m (Replays k windows choices old))
-      (λ begin.
+      let is = (c.in_ok-layout.ensures.seen h1).is in
       let seen = is_seen c.args.sectors found.layout windows choices old begin short one wears found.log is in
       let done = c.in_ok-complete.ensures.done found.layout windows choices h2 begin.planned c.in_ok-layout.ensures.layout seen in
       leaves_more M.moment M.left_since c.mend.new.m c.begin_epoch.new.m (Begins found.layout windows choices two) (Replays found.layout windows choices old) (λ left at. begins_replays c.args.sectors found.layout windows choices old begin short one wears found.log is two done left at)
-      (c.begin_epoch.ensures.any_moment found.layout windows choices two done.is h begin.planned (c.in_ok-complete.ensures.named h2) (c.in_ok-mend.ensures.done windows choices done.is h3)))
+      (c.begin_epoch.ensures.any_moment found.layout windows choices two done.is h begin.planned (c.in_ok-complete.ensures.named h2) (c.in_ok-mend.ensures.done windows choices done.is h3))
 
 -- it turns its windows last
 turns_last : (g : given.Over) (c : After-begin_epoch g) (windows : List WeakRun) (choices : List (List (List ℕ))) → g.M.Machine.honest c.begin_epoch.new.m
@@ -137,10 +149,14 @@ returns-in_err-layout g c =
       epoch = tt;
       shown = tt;
       all_shown = λ h calm calm_new. none_shown c.args.sectors old.image old fault (failed.refused h);
-      any_moment = λ l windows choices h start. leaves_more M.moment M.left_since c.args.m.now c.find_volume.new.m (Wears old) (Replays l windows choices old) (λ left worn. wears_replays c.args.sectors l windows choices old start (short h) left worn) (reads.any_moment h);
+      any_moment = λ l windows choices h start. record {
+        layout = l;
+        said = inl refl;
+        took = tt;
+        moments = leaves_more M.moment M.left_since c.args.m.now c.find_volume.new.m (Wears old) (Replays l windows choices old) (λ left worn. wears_replays c.args.sectors l windows choices old start (short h) left worn) (reads.any_moment h);
+        exit = wears_replays c.args.sectors l windows choices old start (short h) one (reads.worn h);
+      };
       turns = λ l windows choices h start. leaves_more M.moment M.left_since c.args.m.now c.find_volume.new.m (Wears old) (TurnsLast old one) (λ left worn. inl (ap (λ (w : Windows). w.present) worn.windows)) (reads.any_moment h);
-      exit = λ l windows choices h start. wears_replays c.args.sectors l windows choices old start (short h) one (reads.worn h);
-      same = tt;
       done = tt;
       excuses = λ l windows choices h start. not_found_excused c.args.sectors l windows choices old start (short h) fault (failed.refused h);
     })
@@ -153,7 +169,6 @@ returns-in_err-complete g c =
     let found = c.in_ok-layout.field-0 in let was = c.in_ok-layout.ensures in
     let reads = c.find_volume.ensures.reads in let failed = c.complete.ensures in
     let back = failed.disk.trust.honest in
-    let moments : (l : Layout) (windows : List WeakRun) (choices : List (List (List ℕ))) → M.honest c.complete.new.m → ShowsVolume c.args.sectors l windows choices old → LeavesOnly M.moment M.left_since c.args.m.now c.complete.new.m (Replays l windows choices old) = to_complete g at in
     let p = err_from_is_err_and c.from_residual-in_err-complete.result c.from_residual-in_err-complete.ensures.1 in
     rw (p.1, p.2) (record {
       disk = heals_then (reads_as_heals was.reads) c.in_err-complete.ensures.disk;
@@ -172,7 +187,7 @@ returns-in_err-complete g c =
       unchanged = λ h. tt;
       rest = tt;
       rest_err = λ h.
-          let is = was.seen (back h) in
+          let is = (was.seen (back h)).is in
           let kept = failed.rest found.layout is.seen h was.planned was.layout is.knows in
           inr (record { layout = found.layout; root = was.root (back h); rest = rest_left found.layout old one two two two (reads.worn (back h)) kept (keeps_none found.layout two) (keeps_none found.layout two).rest refl });
       homes = tt;
@@ -181,13 +196,17 @@ returns-in_err-complete g c =
       epoch = tt;
       shown = tt;
       all_shown = λ h calm calm_new. tt;
-      any_moment = moments;
+      any_moment = λ l windows choices h start. let moments = to_complete g at windows choices h (begins g at l windows choices h start) in record {
+        layout = found.layout;
+        said = said g at l windows choices h start;
+        took = tt;
+        moments = moments;
+        exit = moments.each two (g.met.M.Machine.counts_now c.complete.new.m (M.moment c.args.m.now) h moments.later);
+      };
       turns = λ l windows choices h start.
           then_on M.moment M.left_since c.args.m.now c.find_volume.new.m c.complete.new.m (TurnsLast old two)
           (leaves_more M.moment M.left_since c.args.m.now c.find_volume.new.m (Wears old) (TurnsLast old two) (λ left worn. worn_turns old one two two two (reads.worn (back h)) (failed.present h) refl left worn) (reads.any_moment (back h)))
           (leaves_more M.moment M.left_since c.find_volume.new.m c.complete.new.m (IsUnturned one) (TurnsLast old two) (λ left still. completing_turns old one two two two (reads.worn (back h)) (failed.present h) refl left still) (failed.unturned h));
-      exit = λ l windows choices h start. let left = moments l windows choices h start in left.each two (g.met.M.Machine.counts_now c.complete.new.m (M.moment c.args.m.now) h left.later);
-      same = tt;
       done = tt;
       excuses = λ l windows choices h start. tt;
     })
@@ -202,8 +221,6 @@ returns-in_err-mend g c =
     let failed = c.in_err-mend.ensures in let fault = c.in_err-mend.field-0.0 in
     let two_on = mended.disk.trust.honest in
     let one_on : M.honest c.mend.new.m → M.honest c.find_volume.new.m = λ h. completed.disk.trust.honest (two_on h) in
-    let moments : (l : Layout) (windows : List WeakRun) (choices : List (List (List ℕ))) → M.honest c.mend.new.m → ShowsVolume c.args.sectors l windows choices old → LeavesOnly M.moment M.left_since c.args.m.now c.mend.new.m (Replays l windows choices old) =
-    λ l windows choices h start. then_on M.moment M.left_since c.args.m.now c.complete.new.m c.mend.new.m (Replays l windows choices old) (to_complete g at.After-complete l windows choices (two_on h) start) (to_mend g at.After-mend l windows choices h start) in
     let p = err_from_is_err_and c.from_residual-in_err-mend.result c.from_residual-in_err-mend.ensures.1 in
     rw (p.1, p.2) (record {
       disk = heals_then (heals_then (reads_as_heals was.reads) c.in_ok-complete.ensures.disk) failed.disk;
@@ -220,42 +237,44 @@ returns-in_err-mend g c =
       anchors = tt;
       named = tt;
       found = tt;
-      refused = λ h. mend_refused c.args.sectors found.layout found.log old one was.epoch (was.seen (one_on h)) fault failed.load;
+      refused = λ h. mend_refused c.args.sectors found.layout found.log old one was.epoch (was.seen (one_on h)).is fault failed.load;
       unchanged = λ h. load_left old three fault failed.load;
       rest = tt;
       rest_err = λ h.
-          let is = was.seen (one_on h) in
+          let is = (was.seen (one_on h)).is in
           let kept = completed.rest found.layout is.seen (two_on h) was.planned was.layout is.knows in
           inr (record { layout = found.layout; root = was.root (one_on h); rest = rest_left found.layout old one two three three (reads.worn (one_on h)) kept (mended.keeps h) (keeps_none found.layout three).rest refl });
       homes = tt;
-      lost = λ h. lost_on c.args.sectors found.layout found.log old one was.layout (was.root (one_on h)) (was.seen (one_on h)) three.image fault (failed.lost h);
+      lost = λ h. lost_on c.args.sectors found.layout found.log old one was.layout (was.root (one_on h)) (was.seen (one_on h)).is three.image fault (failed.lost h);
       root = tt;
       epoch = tt;
       shown = tt;
       all_shown = λ h calm calm_new.
-          let is = was.seen (one_on h) in let wears = reads.worn (one_on h) in
+          let is = (was.seen (one_on h)).is in let wears = reads.worn (one_on h) in
           let laid = c.in_ok-complete.ensures.given found.layout (two_on h) (still_one c.args.sectors found.layout found.log old one two calm wears is) was.planned was.layout (knows_one c.args.sectors found.layout found.log old one two calm wears is) in
           let next = next_kept two.windows three.windows (mended.keeps h).windows calm_new in
           let still = calm_now two.windows (calm_two c.args.sectors found.layout found.log old one two calm wears is (completed.present (two_on h)) next) in
           loses_shown c.args.sectors found.layout found.log old one two calm wears is laid fault
           (failed.not_shown (records_by found.layout one.image found.log.anchor) h still laid.gives (some_root c.args.sectors found.layout found.log old one two calm wears is laid));
-      any_moment = moments;
+      any_moment = λ l windows choices h start.
+          let begin = begins g at.After-complete l windows choices (two_on h) start in
+          let moments = then_on M.moment M.left_since c.args.m.now c.complete.new.m c.mend.new.m (Replays found.layout windows choices old) (to_complete g at.After-complete windows choices (two_on h) begin) (to_mend g at.After-mend windows choices h begin) in
+          record {
+            layout = found.layout;
+            said = said g at.After-complete l windows choices (two_on h) start;
+            took = tt;
+            moments = moments;
+            exit = moments.each three (g.met.M.Machine.counts_now c.mend.new.m (M.moment c.args.m.now) h moments.later);
+          };
       turns = λ l windows choices h start.
           let wears = reads.worn (one_on h) in let present = completed.present (two_on h) in let kept = (mended.keeps h).windows in
           then_on M.moment M.left_since c.args.m.now c.complete.new.m c.mend.new.m (TurnsLast old three)
           (then_on M.moment M.left_since c.args.m.now c.find_volume.new.m c.complete.new.m (TurnsLast old three)
           (leaves_more M.moment M.left_since c.args.m.now c.find_volume.new.m (Wears old) (TurnsLast old three) (λ left worn. worn_turns old one two three three wears present kept left worn) (reads.any_moment (one_on h)))
           (leaves_more M.moment M.left_since c.find_volume.new.m c.complete.new.m (IsUnturned one) (TurnsLast old three) (λ left still. completing_turns old one two three three wears present kept left still) (completed.unturned (two_on h))))
-          (leaves_more M.moment M.left_since c.complete.new.m c.mend.new.m (Stays found.layout windows choices two) (TurnsLast old three) (λ left at. stays_turns old one two three three wears present kept found.layout windows choices left at) (stays g at.After-mend l windows choices h start));
-      exit = λ l windows choices h start. let left = moments l windows choices h start in left.each three (g.met.M.Machine.counts_now c.mend.new.m (M.moment c.args.m.now) h left.later);
-      same = tt;
+          (leaves_more M.moment M.left_since c.complete.new.m c.mend.new.m (Stays found.layout windows choices two) (TurnsLast old three) (λ left at. stays_turns old one two three three wears present kept found.layout windows choices left at) (stays g at.After-mend windows choices h (begins g at.After-complete l windows choices (two_on h) start)));
       done = tt;
-      excuses = λ l windows choices h start.
-          let short = g.met.M.Machine.short c.args.m.now (reads.trust.honest (one_on h)) in
-          let is = was.seen (one_on h) in let wears = reads.worn (one_on h) in
-          let begin = subst (λ (k : Layout). ShowsVolume c.args.sectors k windows choices old) (sym (found_same c.args.sectors l windows choices old start short one wears found.layout found.log is)) start in
-          let seen = is_seen c.args.sectors found.layout windows choices old begin short one wears found.log is in
-          failed.never_lost windows choices (c.in_ok-complete.ensures.done found.layout windows choices (two_on h) begin.planned was.layout seen).is h;
+      excuses = λ l windows choices h start. failed.never_lost windows choices (is_completed g at.After-mend windows choices h (begins g at.After-complete l windows choices (two_on h) start)) h;
     })
 
 pub returns-in_err-begin_epoch : goal.returns-in_err-begin_epoch
@@ -268,10 +287,6 @@ returns-in_err-begin_epoch g c =
     let three_on = begun.disk.trust.honest in
     let two_on : M.honest c.begin_epoch.new.m → M.honest c.complete.new.m = λ h. mended.disk.trust.honest (three_on h) in
     let one_on : M.honest c.begin_epoch.new.m → M.honest c.find_volume.new.m = λ h. completed.disk.trust.honest (two_on h) in
-    let moments : (l : Layout) (windows : List WeakRun) (choices : List (List (List ℕ))) → M.honest c.begin_epoch.new.m → ShowsVolume c.args.sectors l windows choices old → LeavesOnly M.moment M.left_since c.args.m.now c.begin_epoch.new.m (Replays l windows choices old) =
-    λ l windows choices h start. then_on M.moment M.left_since c.args.m.now c.mend.new.m c.begin_epoch.new.m (Replays l windows choices old)
-    (then_on M.moment M.left_since c.args.m.now c.complete.new.m c.mend.new.m (Replays l windows choices old) (to_complete g at.After-complete l windows choices (two_on h) start) (to_mend g at.After-mend l windows choices (three_on h) start))
-    (to_begin g at.After-begin_epoch l windows choices h start) in
     let p = err_from_is_err_and c.from_residual-in_err-begin_epoch.result c.from_residual-in_err-begin_epoch.ensures.1 in
     rw (p.1, p.2) (record {
       disk = heals_then (heals_then (heals_then (reads_as_heals was.reads) c.in_ok-complete.ensures.disk) c.in_ok-mend.ensures.disk) c.in_err-begin_epoch.ensures.disk;
@@ -292,7 +307,7 @@ returns-in_err-begin_epoch g c =
       unchanged = λ h. tt;
       rest = tt;
       rest_err = λ h.
-          let is = was.seen (one_on h) in
+          let is = (was.seen (one_on h)).is in
           let kept = completed.rest found.layout is.seen (two_on h) was.planned was.layout is.knows in
           inr (record { layout = found.layout; root = was.root (one_on h); rest = rest_left found.layout old one two three new (reads.worn (one_on h)) kept (mended.keeps (three_on h)) (λ s out. let is = elsewhere found.layout s out in begun.rest h s is.anchor is.anchor_copy) (c.in_err-begin_epoch.ensures.windows_err h) });
       homes = tt;
@@ -301,10 +316,19 @@ returns-in_err-begin_epoch g c =
       epoch = tt;
       shown = tt;
       all_shown = λ h calm calm_new. tt;
-      any_moment = moments;
-      turns = λ l windows choices h start. turns_last g at.After-begin_epoch windows choices h (stays g at.After-mend l windows choices (three_on h) start);
-      exit = λ l windows choices h start. let left = moments l windows choices h start in left.each new (g.met.M.Machine.counts_now c.begin_epoch.new.m (M.moment c.args.m.now) h left.later);
-      same = tt;
+      any_moment = λ l windows choices h start.
+          let begin = begins g at.After-complete l windows choices (two_on h) start in
+          let moments = then_on M.moment M.left_since c.args.m.now c.mend.new.m c.begin_epoch.new.m (Replays found.layout windows choices old)
+          (then_on M.moment M.left_since c.args.m.now c.complete.new.m c.mend.new.m (Replays found.layout windows choices old) (to_complete g at.After-complete windows choices (two_on h) begin) (to_mend g at.After-mend windows choices (three_on h) begin))
+          (to_begin g at.After-begin_epoch windows choices h begin) in
+          record {
+            layout = found.layout;
+            said = said g at.After-complete l windows choices (two_on h) start;
+            took = tt;
+            moments = moments;
+            exit = moments.each new (g.met.M.Machine.counts_now c.begin_epoch.new.m (M.moment c.args.m.now) h moments.later);
+          };
+      turns = λ l windows choices h start. turns_last g at.After-begin_epoch windows choices h (stays g at.After-mend windows choices (three_on h) (begins g at.After-complete l windows choices (two_on h) start));
       done = tt;
       excuses = λ l windows choices h start. tt;
     })
@@ -319,10 +343,6 @@ returns g c =
     let three_on = begun.disk.trust.honest in
     let two_on : M.honest c.begin_epoch.new.m → M.honest c.complete.new.m = λ h. mended.disk.trust.honest (three_on h) in
     let one_on : M.honest c.begin_epoch.new.m → M.honest c.find_volume.new.m = λ h. completed.disk.trust.honest (two_on h) in
-    let moments : (l : Layout) (windows : List WeakRun) (choices : List (List (List ℕ))) → M.honest c.begin_epoch.new.m → ShowsVolume c.args.sectors l windows choices old → LeavesOnly M.moment M.left_since c.args.m.now c.begin_epoch.new.m (Replays l windows choices old) =
-    λ l windows choices h start. then_on M.moment M.left_since c.args.m.now c.mend.new.m c.begin_epoch.new.m (Replays l windows choices old)
-    (then_on M.moment M.left_since c.args.m.now c.complete.new.m c.mend.new.m (Replays l windows choices old) (to_complete g at.After-complete l windows choices (two_on h) start) (to_mend g at.After-mend l windows choices (three_on h) start))
-    (to_begin g at.After-begin_epoch l windows choices h start) in
     let settled = c.in_ok-begin_epoch.ensures in
     let epoch : c.begin_epoch.new.log.anchor.epoch ≡ found.log.anchor.epoch + 1 = ap (λ (log : LogValue). log.anchor.epoch) settled.past in
     record {
@@ -353,12 +373,18 @@ returns g c =
             same = next_present two.windows three.windows new.windows some (mended.keeps (three_on h)).windows (settled.windows h);
           };
       found = λ h.
-          let is = was.seen (one_on h) in
-          record { seen = is.seen; from = is.from; settled = record { anchor = found.log.anchor; found = record { root = is.root; anchor = is.knows.taken }; epoch = epoch } };
+          let borne = was.seen (one_on h) in let is = borne.is in
+          record {
+            seen = is.seen;
+            from = is.from;
+            settled = record { anchor = found.log.anchor; found = record { root = is.root; anchor = is.knows.taken }; epoch = epoch };
+            bears = run_bears c.args.sectors is.seen found.longest two.windows.next new.windows.present
+                (next_present two.windows three.windows new.windows (c.in_ok-complete.ensures.named (two_on h)) (mended.keeps (three_on h)).windows (settled.windows h)) (c.in_ok-complete.ensures.short (two_on h)) borne.bears;
+          };
       refused = tt;
       unchanged = tt;
       rest = λ h.
-          let is = was.seen (one_on h) in
+          let is = (was.seen (one_on h)).is in
           rest_kept found.layout old one two three new (reads.worn (one_on h)) (completed.rest found.layout is.seen (two_on h) was.planned was.layout is.knows) (mended.keeps (three_on h))
           (λ s out. let is = elsewhere found.layout s out in begun.rest h s is.anchor is.anchor_copy) (c.in_ok-complete.ensures.named (two_on h)) (settled.windows h);
       rest_err = tt;
@@ -368,7 +394,7 @@ returns g c =
       root = λ h. was.root (one_on h);
       epoch = omega (arith, epoch, was.epoch);
       shown = λ a h calm calm_new taken.
-          let is = was.seen (one_on h) in let wears = reads.worn (one_on h) in
+          let is = (was.seen (one_on h)).is in let wears = reads.worn (one_on h) in
           let laid = c.in_ok-complete.ensures.given found.layout (two_on h) (still_one c.args.sectors found.layout found.log old one two calm wears is) was.planned was.layout (knows_one c.args.sectors found.layout found.log old one two calm wears is) in
           let keeps = mended.keeps (three_on h) in
           let next = subst (λ (w : Windows). IfSome w.next IsEmpty) keeps.windows (next_settled three.windows new.windows (settled.windows h) calm_new) in
@@ -376,17 +402,22 @@ returns g c =
           stand_shown c.args.sectors found.layout found.log old one two calm wears is laid three new a taken (c.in_ok-mend.ensures.shown (records_by found.layout one.image found.log.anchor) (three_on h) still laid.gives)
           (still_next two three keeps.windows still) (begun.rest h);
       all_shown = tt;
-      any_moment = moments;
-      turns = λ l windows choices h start. turns_last g at.After-begin_epoch windows choices h (stays g at.After-mend l windows choices (three_on h) start);
-      exit = λ l windows choices h start. let left = moments l windows choices h start in left.each new (g.met.M.Machine.counts_now c.begin_epoch.new.m (M.moment c.args.m.now) h left.later);
-      same = λ l windows choices h start. found_same c.args.sectors l windows choices old start (g.met.M.Machine.short c.args.m.now (reads.trust.honest (one_on h))) one (reads.worn (one_on h)) found.layout found.log (was.seen (one_on h));
+      any_moment = λ l windows choices h start.
+          let begin = begins g at.After-complete l windows choices (two_on h) start in
+          let moments = then_on M.moment M.left_since c.args.m.now c.mend.new.m c.begin_epoch.new.m (Replays found.layout windows choices old)
+          (then_on M.moment M.left_since c.args.m.now c.complete.new.m c.mend.new.m (Replays found.layout windows choices old) (to_complete g at.After-complete windows choices (two_on h) begin) (to_mend g at.After-mend windows choices (three_on h) begin))
+          (to_begin g at.After-begin_epoch windows choices h begin) in
+          record {
+            layout = found.layout;
+            said = said g at.After-complete l windows choices (two_on h) start;
+            took = refl;
+            moments = moments;
+            exit = moments.each new (g.met.M.Machine.counts_now c.begin_epoch.new.m (M.moment c.args.m.now) h moments.later);
+          };
+      turns = λ l windows choices h start. turns_last g at.After-begin_epoch windows choices h (stays g at.After-mend windows choices (three_on h) (begins g at.After-complete l windows choices (two_on h) start));
       done = λ l windows choices h start.
-          let short = g.met.M.Machine.short c.args.m.now (reads.trust.honest (one_on h)) in
-          let is = was.seen (one_on h) in let wears = reads.worn (one_on h) in
-          by_found c.args.sectors l windows choices old start short one wears found.layout found.log is (λ k. IsReplayed k windows choices c.begin_epoch.new.log.anchor.epoch new)
-          (λ begin.
-          let done = c.in_ok-complete.ensures.done found.layout windows choices (two_on h) begin.planned was.layout (is_seen c.args.sectors found.layout windows choices old begin short one wears found.log is) in
+          let is = is_completed g at.After-mend windows choices (three_on h) (begins g at.After-complete l windows choices (two_on h) start) in
           subst (λ (epoch : ℕ). IsReplayed found.layout windows choices epoch new) (sym epoch)
-          (settled.done found.layout windows choices two done.is h begin.planned (c.in_ok-complete.ensures.named (two_on h)) (c.in_ok-mend.ensures.done windows choices done.is (three_on h))));
+          (settled.done found.layout windows choices two is h was.planned (c.in_ok-complete.ensures.named (two_on h)) (c.in_ok-mend.ensures.done windows choices is (three_on h)));
       excuses = tt;
     }

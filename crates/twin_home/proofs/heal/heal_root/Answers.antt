@@ -4,7 +4,7 @@ use Rattle.sector_disk.specs.Machine.{Ledger}
 use Rattle.std.specs.Prelude.{is_none}
 use Rattle.sector_disk.proofs.CallLaws.{reads_as_writes, reads_then_writes}
 use Rattle.volume_layout.specs.Root.{root_bytes}
-use Rattle.twin_home.specs.Heal.{AreCopies, RootsIn, SetsRoots}
+use Rattle.twin_home.specs.Heal.{AreCopies, HealsRoots, SetsRoots}
 use Rattle.twin_home.proofs.HealLaws.{both_healed, device_copies, device_lost, roots_on, roots_still}
 use Rattle.twin_home.proofs.heal.heal_root.Goals.{else-is_none-via-then-is_none+else-is_none-2, else-is_none-via-else-is_none}
 use Rattle.twin_home.proofs.heal.heal_root.Goals as goal
@@ -39,7 +39,7 @@ returns-clause-writes g c =
     let bytes = root_bytes c.args.l.now in
     let old = M.now c.args.m.now in let mid = M.now c.read_both.new.m in
     reads_then_writes c.in_ok-first.ensures.reads c.set_roots.ensures.writes (λ h left worn. roots_still bytes old left worn)
-    (λ h left roots. roots_on bytes old mid left (c.read_both.ensures.reads.worn (c.set_roots.ensures.writes.trust.honest h)) (subst (λ (b : List ℕ). RootsIn b mid left) c.root_bytes.ensures roots))
+    (λ h left roots. roots_on bytes old mid left (c.read_both.ensures.reads.worn (c.set_roots.ensures.writes.trust.honest h)) (subst (λ (b : List ℕ). HealsRoots b mid left) c.root_bytes.ensures roots))
 
 pub returns-clause-done : goal.returns-clause-done
 returns-clause-done g c =
@@ -56,3 +56,6 @@ returns-clause-done g c =
     both_healed bytes count c.in_ok-first.first c.in_ok-first.second old mid new (c.read_both.ensures.reads.worn h1) (c.in_ok-first.ensures.read h1) some
     (subst (λ (b : List ℕ). SetsRoots c.in_ok-first.first c.in_ok-first.second b count mid new) c.root_bytes.ensures (done h)))
     c.set_roots.ensures.done
+
+pub returns-then-is_none-2-clause-writes : goal.returns-then-is_none-2-clause-writes
+returns-then-is_none-2-clause-writes g c = reads_as_writes c.in_ok-first.ensures.reads (λ h left worn. roots_still (root_bytes c.args.l.now) (g.M.Machine.now c.args.m.now) left worn)

@@ -10,6 +10,7 @@ use Rattle.log_thirds.specs.Disk.{reads}
 use Rattle.log_thirds.specs.Slots.{noted, slots_with, LieInRecords, SlotsInside}
 use Rattle.log_thirds.specs.Reading.{StepsOn, stepped_in, stepped_of}
 use Rattle.volume_layout.proofs.RootLaws.{planned_bounds}
+use Rattle.volume_layout.specs.Kinds.{gap_of}
 use Rattle.log_thirds.proofs.SlotLaws.{length-noted, none_inside, none_lie, record_inside, record_lies}
 use Rattle.log_thirds.specs.Copies.{FitsDisk, AreCopies, AreLastCopies, copies_count}
 use Rattle.fsd_log.proofs.PlaceLaws.{InThird, place_inside, end_most}
@@ -56,13 +57,13 @@ stepped g c = subst (λ (o : Option Step). IfSome o (StepsOn c.args.layout.now c
 numbered : (g : given.Over) (c : After-place_of-place g) → c.loop-from.number < last_number
 numbered g c = subst (λ (o : Option Step). IfSome o (λ _. c.loop-from.number < last_number)) c.in-Ok-Some.field-0-is c.in-Ok-Some.ensures.numbered
 
-lies : (g : given.Over) (c : After-place_of-place g) → InThird c.args.layout.now c.args.anchor.now.third c.in-Ok-Some.field-0-0.from (2 * length c.in-Ok-Some.field-0-0.found.pages.items + 5) c.in-Ok-Some.field-0-0.past.end
+lies : (g : given.Over) (c : After-place_of-place g) → InThird c.args.layout.now c.args.anchor.now.third c.in-Ok-Some.field-0-0.from (2 * length c.in-Ok-Some.field-0-0.found.pages.items + (5 + 2 * (gap_of c.args.layout.now))) c.in-Ok-Some.field-0-0.past.end
 lies g c = let gone = stepped g c in record { one_of = c.requires.third; ends = gone.goes.ends; from = gone.in_third; to = omega (arith, gone.lies, gone.goes.before) }
 
-placed : (g : given.Over) (c : After-place_of-place g) → c.place_of-place.result + (2 * length c.in-Ok-Some.field-0-0.found.pages.items + 5) ≤ 16 + 3 * 4096
+placed : (g : given.Over) (c : After-place_of-place g) → c.place_of-place.result + (2 * length c.in-Ok-Some.field-0-0.found.pages.items + (5 + 2 * (gap_of c.args.layout.now))) ≤ 16 + 3 * 4096
 placed g c =
     let from : ℕ = c.in-Ok-Some.field-0-0.from in
-    let count : ℕ = 2 * length c.in-Ok-Some.field-0-0.found.pages.items + 5 in
+    let count : ℕ = 2 * length c.in-Ok-Some.field-0-0.found.pages.items + (5 + 2 * (gap_of c.args.layout.now)) in
     omega (arith, place_inside c.args.layout.now c.args.anchor.now.third from count c.in-Ok-Some.field-0-0.past.end (lies g c) (omega arith), c.place_of-place.ensures, c.third-third.ensures.most, c.third-third.ensures.value)
 
 pub place_of-place-requires-clause-at : goal.place_of-place-requires-clause-at
@@ -70,17 +71,11 @@ place_of-place-requires-clause-at g c =
     let gone = subst (λ (o : Option Step). IfSome o (StepsOn c.args.layout.now c.loop-from.at)) c.in-Ok-Some.field-0-is c.in-Ok-Some.ensures.goes in
     omega (arith, gone.lies, gone.goes.before, end_most c.args.layout.now c.in-Ok-Some.field-0-0.past.end gone.goes.ends)
 
-pub overflow_add-place : goal.overflow_add-place
-overflow_add-place g c = omega (arith, placed g (goal.at.overflow_add-place g c).After-place_of-place)
+pub copies_place-copies_at-requires : goal.copies_place-copies_at-requires
+copies_place-copies_at-requires g c = omega (arith, placed g (goal.at.copies_place-copies_at-requires g c).After-place_of-place, c.len.ensures.value)
 
 pub note-requires : goal.note-requires
 note-requires g c = omega (arith, placed g (goal.at.note-requires g c).After-place_of-place, ap length c.as_slice-pages.ensures.value)
-
-pub overflow_add-copies_at : goal.overflow_add-copies_at
-overflow_add-copies_at g c = omega (arith, placed g (goal.at.overflow_add-copies_at g c).After-place_of-place, c.len.ensures.value)
-
-pub overflow_add-copies_at-in-Ok-Some : goal.overflow_add-copies_at-in-Ok-Some
-overflow_add-copies_at-in-Ok-Some g c = omega (arith, placed g (goal.at.overflow_add-copies_at-in-Ok-Some g c).After-place_of-place, c.len.ensures.value)
 
 pub overflow_add-number : goal.overflow_add-number
 overflow_add-number g c = omega (arith, numbered g (goal.at.overflow_add-number g c).After-place_of-place)
@@ -103,14 +98,14 @@ loop-from-preserved g c =
     let back = c.next.ensures.reads.trust.honest in
     let p = (goal.at.loop-from-preserved g c).After-place_of-place in
     let gone = stepped g p in
-    let in_third : InThird c.args.layout.now c.args.anchor.now.third c.in-Ok-Some.field-0-0.from (2 * length c.as_slice-pages.result.now + 5) c.in-Ok-Some.field-0-0.past.end =
-    subst (λ (pages : List ℕ). InThird c.args.layout.now c.args.anchor.now.third c.in-Ok-Some.field-0-0.from (2 * length pages + 5) c.in-Ok-Some.field-0-0.past.end) (sym c.as_slice-pages.ensures.value) (lies g p) in
+    let in_third : InThird c.args.layout.now c.args.anchor.now.third c.in-Ok-Some.field-0-0.from (2 * length c.as_slice-pages.result.now + (5 + 2 * (gap_of c.args.layout.now))) c.in-Ok-Some.field-0-0.past.end =
+    subst (λ (pages : List ℕ). InThird c.args.layout.now c.args.anchor.now.third c.in-Ok-Some.field-0-0.from (2 * length pages + (5 + 2 * (gap_of c.args.layout.now))) c.in-Ok-Some.field-0-0.past.end) (sym c.as_slice-pages.ensures.value) (lies g p) in
     let copied = subst (λ (o : Option Step). IfSome o (λ s. AreCopies (record { epoch = c.args.anchor.now.epoch; number = c.loop-from.number }) (length s.found.pages.items) c.next.new.scratch.copies.items)) c.in-Ok-Some.field-0-is c.in-Ok-Some.ensures.copied in
     let long : length c.note.new.slots ≡ length c.as_mut_slice.result.now =
-    ap length c.note.ensures ∙ length-noted c.loop-from.number c.as_mut_slice.result.now (c.place_of-place.result + 3) (c.place_of-place.result + 3 + length c.as_slice-pages.result.now + 1) c.as_slice-pages.result.now in
+    ap length c.note.ensures ∙ length-noted c.loop-from.number c.as_mut_slice.result.now (c.place_of-place.result + 3 + (gap_of c.args.layout.now)) (c.place_of-place.result + 3 + (gap_of c.args.layout.now) + length c.as_slice-pages.result.now + 1 + (gap_of c.args.layout.now)) c.as_slice-pages.result.now in
     let kept : (with_items c.loop-from.slots c.note.new.slots).items ≡ c.note.new.slots = with_items_is c.loop-from.slots c.note.new.slots (long ∙ c.as_mut_slice.ensures.len) in
     let table : c.note.new.slots ≡ slots_with c.args.layout.now c.args.anchor.now.third c.loop-from.number c.in-Ok-Some.field-0-0.from c.in-Ok-Some.field-0-0.found.pages.items c.loop-from.slots.items =
-    c.note.ensures ∙ λ i. noted c.loop-from.number (c.place_of-place.ensures i + 3) (c.place_of-place.ensures i + 3 + length (c.as_slice-pages.ensures.value i) + 1) (c.as_slice-pages.ensures.value i) (c.as_mut_slice.ensures.value i) in
+    c.note.ensures ∙ λ i. noted c.loop-from.number (c.place_of-place.ensures i + 3 + (gap_of c.args.layout.now)) (c.place_of-place.ensures i + 3 + (gap_of c.args.layout.now) + length (c.as_slice-pages.ensures.value i) + 1 + (gap_of c.args.layout.now)) (c.as_slice-pages.ensures.value i) (c.as_mut_slice.ensures.value i) in
     let firsts = c.with-firsts.ensures ∙ ap (λ (t : ℕ). firsts_with t c.in-Ok-Some.field-0-0.from c.loop-from.firsts) c.third-third.ensures.value in
     record {
       is_in = record { before = gone.goes.before; from = gone.goes.after; ends = gone.goes.ends };
@@ -128,8 +123,9 @@ loop-from-preserved g c =
         inside = omega (
           arith,
           copied.long,
-          place_inside c.args.layout.now c.args.anchor.now.third c.in-Ok-Some.field-0-0.from (2 * length c.in-Ok-Some.field-0-0.found.pages.items + 5) c.in-Ok-Some.field-0-0.past.end (lies g p) (omega arith),
+          place_inside c.args.layout.now c.args.anchor.now.third c.in-Ok-Some.field-0-0.from (2 * length c.in-Ok-Some.field-0-0.found.pages.items + (5 + 2 * (gap_of c.args.layout.now))) c.in-Ok-Some.field-0-0.past.end (lies g p) (omega arith),
           c.place_of-place.ensures,
+          c.copies_place-copies_at.ensures,
           c.len.ensures.value,
           (planned_bounds c.args.layout.now c.third-third.ensures.planned).sectors_least,
         );
@@ -144,10 +140,10 @@ loop-from-preserved g c =
           sees_on c.args.layout.now c.args.anchor.now.third 0 c.loop-from.at (open_damage (M.now c.args.m.now).windows) j (M.now c.loop-from.m).image (M.now c.next.new.m).image _ _ _ (omega arith) first second
           (λ i k worn below before step.
           reaches_as _ _ _ _ _ _ _ _ _ _ _ firsts (kept ∙ table)
-          (reaches_on c.args.layout.now c.args.anchor.now.epoch c.args.anchor.now.first c.args.anchor.now.third (tape c.args.layout.now c.args.anchor.now.third (reads k)) (record { number = c.loop-from.number; at = c.loop-from.at; end = c.loop-from.end }) c.loop-from.firsts c.loop-from.slots.items (stepped_in c.loop-from.number c.next.new.scratch.copies.items c.in-Ok-Some.field-0-0) (record { place = c.loop-from.copies_at; bytes = c.loop-from.scratch.copies.items }) (record { place = c.place_of-place.result + (4 + c.len.result); bytes = c.next.new.scratch.copies.items })
+          (reaches_on c.args.layout.now c.args.anchor.now.epoch c.args.anchor.now.first c.args.anchor.now.third (tape c.args.layout.now c.args.anchor.now.third (reads k)) (record { number = c.loop-from.number; at = c.loop-from.at; end = c.loop-from.end }) c.loop-from.firsts c.loop-from.slots.items (stepped_in c.loop-from.number c.next.new.scratch.copies.items c.in-Ok-Some.field-0-0) (record { place = c.loop-from.copies_at; bytes = c.loop-from.scratch.copies.items }) (record { place = c.copies_place-copies_at.result; bytes = c.next.new.scratch.copies.items })
           (reaches_keeps c.args.layout.now c.args.anchor.now.epoch c.args.anchor.now.first c.args.anchor.now.third (omega (arith, c.fits-anchor.0.1)) (tape c.args.layout.now c.args.anchor.now.third (reads i)) (tape c.args.layout.now c.args.anchor.now.third (reads k)) (record { number = c.loop-from.number; at = c.loop-from.at; end = c.loop-from.end }) c.loop-from.firsts c.loop-from.slots.items (record { place = c.loop-from.copies_at; bytes = c.loop-from.scratch.copies.items }) (omega (arith, c.loop-from.auto.number-fits))
           (tape_worn c.args.layout.now c.args.anchor.now.third (open_damage (M.now c.args.m.now).windows) i k worn) below before)
-          (record { place = λ i. c.place_of-place.ensures i + (4 + c.len.ensures.value i); copies = copied; images = refl })
+          (record { place = c.copies_place-copies_at.ensures ∙ λ i. c.place_of-place.ensures i + (4 + 2 * (gap_of c.args.layout.now) + c.len.ensures.value i); copies = copied; images = refl })
           (ap (option_map (stepped_in c.loop-from.number c.next.new.scratch.copies.items)) (sym c.in-Ok-Some.field-0-is) ∙ step)));
     }
 

@@ -1,6 +1,6 @@
 use Rattle.log_record.specs.Found.{serving_in}
 use Rattle.log_thirds.specs.Copies.{AreServed}
-use Rattle.log_thirds.proofs.copies.copies_in.Given as goal
+use Rattle.log_thirds.proofs.copies.copies_as.Given as goal
 
 abbrev pub invariant-loop-j : goal.invariant-loop-j
-invariant-loop-j l = AreServed (serving_in l.found) l.bytes l.j l.copies.items
+invariant-loop-j l = AreServed l.gap (serving_in l.found) l.bytes l.j l.copies.items
