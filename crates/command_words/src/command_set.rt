@@ -16,11 +16,11 @@ struct Row<'a> {
 
 // Their order is that of the definition `cfs`, and so it is in any build that is proved: the contract of `command_set`
 // says that the two are one.
-const ROWS: [Row<'static>; 11] = [
+const ROWS: [Row<'static>; 12] = [
     Row {
         name: "format",
         positionals: &["image", "n", "t", "p"],
-        options: &[],
+        options: &["layout"],
     },
     Row {
         name: "put",
@@ -54,6 +54,11 @@ const ROWS: [Row<'static>; 11] = [
     },
     Row {
         name: "scrub",
+        positionals: &["image"],
+        options: &[],
+    },
+    Row {
+        name: "upgrade",
         positionals: &["image"],
         options: &[],
     },

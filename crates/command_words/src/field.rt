@@ -6,11 +6,12 @@ ghost use Rattle.clap.specs.Matches.{found_of};
 ghost use Rattle.clap.specs.Walk.{first_of, rows_of};
 ghost use Rattle.fsd_bytes.specs.Keys.{is_plain};
 ghost use Rattle.fsd_texts.specs.Script.{key_in, name_in, number_in, pattern_in};
-ghost use Rattle.fsd_runs.specs.Words.{field, keep_in, seed_in};
+ghost use Rattle.fsd_runs.specs.Words.{field, keep_in, kind_numbered, layout_in, seed_in};
 
 use clap::ArgMatches;
 use fsd_bytes::{FileName, Key, Pattern, read_number};
 use fsd_texts::Cause;
+use volume_layout::Kind;
 
 /// The word of a positional.
 pub(crate) fn field<'a>(fields: &ArgMatches<'a>, id: &str) -> &'a str
@@ -66,6 +67,32 @@ fn option_of(word: Option<&str>) -> Result<Option<u32>, Cause>
     match word {
         Some(word) => Ok(Some(number_of(word)?)),
         None => Ok(None),
+    }
+}
+
+/// The kind of the layout that the option of a format names: that of layout 1 where it has none.
+pub(crate) fn layout_of(fields: &ArgMatches<'_>) -> Result<Kind, Cause>
+    ensures { result ≡ layout_in (first_of (codes "layout") (rows_of (found_of fields.now))) }
+{
+    kind_of(fields.get_str("layout"))
+}
+
+fn kind_of(word: Option<&str>) -> Result<Kind, Cause>
+    ensures { result ≡ layout_in (option_map (λ w. w.now) word.entry) }
+{
+    match word {
+        Some(word) => kind_numbered(number_of(word)?),
+        None => Ok(Kind::Two),
+    }
+}
+
+fn kind_numbered(number: u32) -> Result<Kind, Cause>
+    ensures { result ≡ kind_numbered number }
+{
+    match number {
+        1 => Ok(Kind::Two),
+        2 => Ok(Kind::Three),
+        _ => Err(Cause::BadNumber),
     }
 }
 

@@ -8,7 +8,7 @@ ghost use Rattle.fsd_runs.specs.declared.request.Request.TheVariants.{Outside};
 ghost use Rattle.fsd_runs.specs.Words.{entered, image_in, or_bad_field, path_of, reads, reads_format, reads_generate, reads_keep, reads_put, request_of};
 
 use crate::command_set::command_set;
-use crate::field::{field, keep_of, key_of, name_of, number_at, pattern_of, seed_of};
+use crate::field::{field, keep_of, key_of, layout_of, name_of, number_at, pattern_of, seed_of};
 use clap::ArgMatches;
 use clap::error::ErrorKind;
 use fsd_runs::Request;
@@ -83,6 +83,7 @@ fn read_fields(name: &str, fields: &ArgMatches<'_>) -> Result<Request, Cause>
         "keep" => read_keep(fields),
         "stat" => Ok(Request::One(Command::Stat)),
         "scrub" => Ok(Request::One(Command::Scrub)),
+        "upgrade" => Ok(Request::One(Command::Upgrade)),
         "script" => Ok(Request::Script),
         "generate" => read_generate(fields),
         "drill" => Ok(Request::Drill),
@@ -96,10 +97,12 @@ fn read_format(fields: &ArgMatches<'_>) -> Result<Request, Cause>
     let sectors = number_at(fields, "n")?;
     let third = number_at(fields, "t")?;
     let pages = number_at(fields, "p")?;
+    let kind = layout_of(fields)?;
     Ok(Request::Format {
         sectors,
         third,
         pages,
+        kind,
     })
 }
 

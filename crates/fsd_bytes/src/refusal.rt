@@ -61,4 +61,7 @@ pub enum Refusal {
     /// More bytes came than were declared.
     #[error("{declared} bytes were declared and {got} came")]
     Long { declared: u32, got: u64 },
+    /// The volume has layout 2 already.
+    #[error("the volume has layout {0} already")]
+    LayoutIs(u32),
 }

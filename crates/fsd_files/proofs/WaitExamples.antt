@@ -1,6 +1,7 @@
 -- Worked examples of sectors that wait, with a reader and with a draft, computed.
 use Rattle.std.proofs.Common.{◌≡◌, List, [], ◌∷◌, Some, refl, map, codes}
 use Rattle.std.specs.Prelude.{Bool, true, false}
+use Rattle.volume_layout.specs.declared.kind.Kind.TheVariants.{Two}
 use Rattle.fsd_bytes.specs.Keys.{key_of}
 use Rattle.run_table.specs.declared.run.Run.{Run}
 use Rattle.run_table.specs.RunTable.{run_of}
@@ -18,7 +19,7 @@ entry_a = record { key = key_of (codes "a") 1; keep = 2; serial = record { epoch
 -- one version of two sectors, which a reader holds
 abbrev held : Volume
 held = record {
-  layout = record { sectors = 2048; third = 256; pages = 64 };
+  layout = record { sectors = 2048; third = 256; pages = 64; kind = Two };
   files = (key_of (codes "a") 1, record { bytes = codes "x"; keep = 2 }) ∷ [];
   entries = entry_a ∷ [];
   removed = [];

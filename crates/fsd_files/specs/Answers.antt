@@ -9,8 +9,11 @@ use Rattle.fsd_bytes.specs.declared.key.Key.{Key}
 use Rattle.fsd_bytes.specs.declared.key.Serial.{Serial}
 use Rattle.fsd_bytes.specs.declared.pattern.Pattern.{Pattern}
 use Rattle.fsd_bytes.specs.declared.refusal.Refusal.{Refusal}
-use Rattle.fsd_bytes.specs.declared.refusal.Refusal.TheVariants.{NoSuch, TooLong, NoSpace, TooFragmented, NameTableFull, VersionsUsedUp, KeepTooLarge}
+use Rattle.fsd_bytes.specs.declared.refusal.Refusal.TheVariants.{NoSuch, TooLong, NoSpace, TooFragmented, NameTableFull, VersionsUsedUp, KeepTooLarge, LayoutIs}
 use Rattle.fsd_bytes.specs.Keys.{key_cmp, key_lt, same_key, max_u32, fits}
+use Rattle.volume_layout.specs.declared.kind.Kind.{Kind}
+use Rattle.volume_layout.specs.declared.kind.Kind.TheVariants.{Two, Three}
+use Rattle.volume_layout.specs.Layout.{with_kind}
 use Rattle.run_table.specs.declared.run.Run.{Run}
 use Rattle.run_table.specs.RunTable.{sectors_of, total}
 use Rattle.run_table.specs.Space.{best}
@@ -20,7 +23,7 @@ use Rattle.fsd_formats.specs.NamePage.{max_keep, max_length, sectors_for}
 use Rattle.fsd_files.specs.Disk.{Image, Sectors, Has}
 use Rattle.fsd_files.specs.Files.{File, Change, step, new_key, new_keep, gone_keys}
 use Rattle.fsd_files.specs.Kept.{FirstDamaged, IsWhole, KeptIn, range_sectors}
-use Rattle.fsd_files.specs.Replies.{Reply, Refused, Made, Deleted, Kept, Listed, Bytes, DamagedAt, Forced, Counts, Scrubbed, Found}
+use Rattle.fsd_files.specs.Replies.{Reply, Refused, Made, Deleted, Kept, Listed, Bytes, DamagedAt, Forced, Counts, Scrubbed, Upgraded, Found}
 use Rattle.fsd_files.specs.Volume.{Volume, plans_of, free_runs, free_count, waiting_count, pages_free, place_for, forced, forced_for_place, forced_if, drawn, entries_at, entries_without}
 
 -- a reply, and the volume as it leaves it
@@ -179,6 +182,16 @@ force_outcome v = (Forced, forced v)
 -- all is forced before a sector is looked at
 abbrev pub scrub_outcome : Met → Volume → Outcome
 scrub_outcome met v = (Scrubbed met.found met.healed, forced v)
+
+-- ---- an upgrade
+
+-- a volume of layout 1 is one of layout 2 then, and nothing else changes
+abbrev pub upgraded : Kind → Volume → Outcome
+upgraded Two v = (Upgraded, record v { layout = with_kind Three v.layout })
+upgraded Three v = refused v (LayoutIs 2)
+
+abbrev pub upgrade_outcome : Volume → Outcome
+upgrade_outcome v = upgraded v.layout.kind v
 
 -- ---- what changes nothing
 

@@ -17,6 +17,8 @@ pub data Reply : Type 0 where
   Counts : (free waiting pages versions : ℕ) → Reply
   -- the data sectors that read damaged, each with its version's key, and how many others were healed
   Scrubbed : (found : List (Key × ℕ)) → (healed : ℕ) → Reply
+  -- the volume is one of layout 2 now
+  Upgraded : Reply
   -- of a client: it has begun a version, has so many bytes of it, or has given it up; it has opened one of so many bytes,
   -- has these next ones of it, or is done with it
   Begun : (client : ℕ) → Reply

@@ -9,6 +9,8 @@ use Rattle.fsd_bytes.specs.declared.key.Serial.{Serial}
 use Rattle.fsd_bytes.specs.declared.refusal.Refusal.{Refusal}
 use Rattle.fsd_bytes.specs.declared.refusal.Refusal.TheVariants.{KeepTooLarge}
 use Rattle.fsd_bytes.specs.Keys.{key_cmp}
+use Rattle.volume_layout.specs.declared.kind.Kind.{Kind}
+use Rattle.volume_layout.specs.declared.kind.Kind.TheVariants.{Two, Three}
 use Rattle.run_table.specs.declared.run.Run.{Run}
 use Rattle.fsd_formats.specs.declared.entry.Entry.{Entry}
 use Rattle.fsd_formats.specs.NamePage.{sectors_for, max_keep}
@@ -16,7 +18,7 @@ use Rattle.sector_disk.specs.declared.sector.Sector.{Sector}
 use Rattle.sector_disk.specs.declared.sector.Sector.TheVariants.{Whole, Damaged}
 use Rattle.sector_disk.specs.Image.{sector_at}
 use Rattle.fsd_files.proofs.HistoryLaws.{fold_both}
-use Rattle.fsd_files.specs.Answers.{Met, Outcome, refused, enter_fault, entered_unless, entered, put_at, put_unless, size_fault, keep_given, deleted, keep_set, entry_of, highest_entry, got, Finds, FindsIn}
+use Rattle.fsd_files.specs.Answers.{Met, Outcome, refused, enter_fault, entered_unless, entered, put_at, put_unless, size_fault, keep_given, deleted, keep_set, entry_of, highest_entry, upgraded, got, Finds, FindsIn}
 use Rattle.fsd_files.specs.Disk.{Image}
 use Rattle.fsd_files.specs.Files.{Change, File, Files, step}
 use Rattle.fsd_files.specs.Kept.{range_sectors}
@@ -112,6 +114,10 @@ keep_tried met v at name keep false same = does_from met v at (Word.Keep name ke
 still : (met : Met) (v : Volume) (command : Command) (out : Outcome) → changes_of command out.0 ≡ [] → IsSame v out.1 → Does met v command out
 still met v command out none same = inl (record { none = none; same = same })
 
+upgrade_same : (kind : Kind) (v : Volume) → IsSame v (upgraded kind v).1
+upgrade_same Two v = record { files = refl; reached = refl; held = refl; unforced = omega arith }
+upgrade_same Three v = same_itself v
+
 pub does : (met : Met) (v : Volume) (command : Command) → Does met v command (answer met v command)
 does met v (Word.Put name bytes given) = put_does met v name bytes given (size_fault (keep_given given) (length bytes))
 does met v (Word.Delete key) =
@@ -124,6 +130,7 @@ does met v Word.Force = still met v Word.Force (answer met v Word.Force) refl (s
 does met v Word.Tick = still met v Word.Tick (answer met v Word.Tick) refl (same_forced true v)
 does met v Word.Stat = still met v Word.Stat (answer met v Word.Stat) refl (same_itself v)
 does met v Word.Scrub = still met v Word.Scrub (answer met v Word.Scrub) refl (same_forced true v)
+does met v Word.Upgrade = still met v Word.Upgrade (answer met v Word.Upgrade) refl (upgrade_same v.layout.kind v)
 
 -- a command that is answered by this is a force
 pub forces_all : (met : Met) (v : Volume) (command : Command) → is_forced (answer met v command).0 ≡ true → (answer met v command).1.unforced ≡ 0
@@ -131,6 +138,11 @@ forces_all met v Word.Force e = refl
 forces_all met v Word.Tick e = refl
 forces_all met v Word.Stat e = absurd cc
 forces_all met v Word.Scrub e = absurd cc
+forces_all met v Word.Upgrade e = absurd (by v.layout.kind e)
+  where
+    by : (kind : Kind) → is_forced (upgraded kind v).0 ≡ true → ⊥
+    by Two e = cc
+    by Three e = cc
 forces_all met v (Word.List pattern) e = absurd cc
 forces_all met v (Word.Get key) e = absurd (by (find key_cmp key v.files) met.damaged e)
   where

@@ -4,6 +4,7 @@ use Rattle.std.specs.Prelude.{min}
 use Rattle.std.specs.List.{last_or}
 use Rattle.std.proofs.lemmas.List.{length-take, take-append-le}
 use Rattle.volume_layout.specs.declared.layout.Layout.{Layout}
+use Rattle.volume_layout.specs.Layout.{IsFormOf}
 use Rattle.sector_disk.specs.declared.sector.WeakRun.{WeakRun}
 use Rattle.sector_disk.specs.Image.{Windows}
 use Rattle.fsd_files.specs.Disk.{Image}
@@ -30,16 +31,18 @@ take_of_take (suc f) (suc n) [] le = refl
 take_of_take (suc f) (suc n) (c ∷ h) le = ap (λ (x : List Change). c ∷ x) (take_of_take f n h (omega (arith, le)))
 
 -- whatever a stop leaves is sound again
-pub left_stays : (l : Layout) (windows : List WeakRun) (run : WeakRun) (h : List Change) (f n : ℕ) (turns : List Turn) (old left : Moment) → IsPrefixOf h f n → last_or None windows ≡ old.windows.present
-    → Left l windows run h f n turns old left → StaysSound l h f left
-left_stays l windows run h f n turns old left prefix ends (inl b) =
-    record { windows = windows; changes = h; count = f; keeps = record { forced = omega arith; same = refl }; present = ends ∙ sym b.present; sound = b.sound }
-left_stays l windows run h f n turns old left prefix ends (inr s) =
+pub left_stays : (l layout : Layout) → IsFormOf l layout → (windows : List WeakRun) (run : WeakRun) (h : List Change) (f n : ℕ) (turns : List Turn) (old left : Moment) → IsPrefixOf h f n → last_or None windows ≡ old.windows.present
+    → Left layout windows run h f n turns old left → StaysSound l h f left
+left_stays l layout form windows run h f n turns old left prefix ends (inl b) =
+    record { layout = layout; form = form; windows = windows; changes = h; count = f; keeps = record { forced = omega arith; same = refl }; present = ends ∙ sym b.present; sound = b.sound }
+left_stays l layout form windows run h f n turns old left prefix ends (inr s) =
     let forced = prefix.forced in
     let made = prefix.made in
     let long : length (take n h) ≡ min n (length h) = length-take n h in
     let few : f ≤ length (take n h) = omega (arith, forced, made, long) in
     record {
+      layout = layout;
+      form = form;
       windows = windows ++ run ∷ [];
       changes = take n h ++ changes_in (take (suc s.whole) turns);
       count = n + s.forced;

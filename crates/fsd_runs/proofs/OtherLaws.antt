@@ -1,5 +1,5 @@
--- No line of a script asks for a scrub, and no command that is made up is one.
-use Rattle.std.proofs.Common.{◌≡◌, ℕ, zero, suc, ◌+◌, ◌%◌, Bool, true, false, List, [], ◌∷◌, length, take, drop, Option, None, Some, Result, Ok, Err}
+-- No line of a script asks for a scrub or an upgrade, and no command that is made up is one.
+use Rattle.std.proofs.Common.{◌≡◌, ℕ, zero, suc, ◌+◌, ◌%◌, Bool, true, false, List, [], ◌∷◌, length, take, drop, Option, None, Some, Result, Ok, Err, subst}
 use Rattle.std.specs.Prelude.{◌&&◌, ◌==◌, IfOk, codes, nat_le, nat_lt, slice_index, if◌then◌else◌}
 use Rattle.std.specs.List.{AllByRecursion}
 use Rattle.fsd_texts.specs.declared.asking.Asking.{Asking}
@@ -18,9 +18,17 @@ use Rattle.fsd_texts.specs.declared.script_command.ScriptCommand.TheVariants as 
 use Rattle.fsd_texts.specs.Generator.{amount_of, command_of_draw, command_of_kind, draw_of, kind_of, made_bytes, made_from, made_name, name_number, next_state}
 use Rattle.fsd_texts.specs.Script.{◌>>=◌, Script, asked_by, asks, asks_alone, asks_begin, asks_client, asks_keep, asks_piece, asks_put, call_with_field, call_with_none, command_at, commands_from, key_in, line_at, max_line, name_in, needs_more, number_in, pattern_in, script_from, then_more, whole_command, with_bytes, with_field, with_no_field, words_of}
 
--- another command than a scrub
+-- another command than a scrub and an upgrade
 abbrev pub IsOther : Command → Type 0
-IsOther command = command ≡ Word.Scrub → ⊥
+IsOther Word.Scrub = ⊥
+IsOther Word.Upgrade = ⊥
+IsOther command = Unit {0}
+
+pub no_scrub : (command : Command) → IsOther command → command ≡ Word.Scrub → ⊥
+no_scrub command other is = subst IsOther is other
+
+pub no_upgrade : (command : Command) → IsOther command → command ≡ Word.Upgrade → ⊥
+no_upgrade command other is = subst IsOther is other
 
 abbrev pub AreOthers : List Command → Type 0
 AreOthers commands = AllByRecursion IsOther commands
@@ -77,7 +85,7 @@ abbrev keep_for : List ℕ → ℕ → Result Asking Cause
 keep_for n k = Ok (Plainly (Word.Keep n k))
 
 keep_asks : (fields : List (List ℕ)) → IfOk (asks_keep fields) AsksOther
-keep_asks (name ∷ keep ∷ []) = then_read AsksOther (λ n. number_in keep >>= λ k. keep_for n k) (λ n. then_read AsksOther (λ k. keep_for n k) (λ k is. cc is) (number_in keep)) (name_in name)
+keep_asks (name ∷ keep ∷ []) = then_read AsksOther (λ n. number_in keep >>= λ k. keep_for n k) (λ n. then_read AsksOther (λ k. keep_for n k) (λ k. tt) (number_in keep)) (name_in name)
 keep_asks other = tt
 
 no_field : (command : Command) → IsOther command → (fields : List (List ℕ)) → IfOk (with_no_field command fields) AsksOther
@@ -134,14 +142,14 @@ client_asks word fields =
 alone_asks : (word : List ℕ) (fields : List (List ℕ)) → IfOk (asks_alone word fields) AsksOther
 alone_asks word fields =
     each_first ReadsOther (is_word word (codes "force") (with_no_field Word.Force fields) ∷ is_word word (codes "tick") (with_no_field Word.Tick fields) ∷ is_word word (codes "stat") (with_no_field Word.Stat fields) ∷ []) (asks_client word fields)
-    (no_field Word.Force (λ is. cc is) fields, (no_field Word.Tick (λ is. cc is) fields, (no_field Word.Stat (λ is. cc is) fields, tt))) (client_asks word fields)
+    (no_field Word.Force tt fields, (no_field Word.Tick tt fields, (no_field Word.Stat tt fields, tt))) (client_asks word fields)
 
 word_asks : (word : List ℕ) (fields : List (List ℕ)) → IfOk (asks word fields) AsksOther
 word_asks word fields =
     each_first ReadsOther
     (is_word word (codes "put") (asks_put fields) ∷ is_word word (codes "delete") (with_field key_in Word.Delete fields) ∷ is_word word (codes "keep") (asks_keep fields) ∷ is_word word (codes "list") (with_field pattern_in Word.List fields) ∷ is_word word (codes "get") (with_field key_in Word.Get fields) ∷ [])
     (asks_alone word fields)
-    (put_asks fields, (one_field key_in Word.Delete (λ key is. cc is) fields, (keep_asks fields, (one_field pattern_in Word.List (λ pattern is. cc is) fields, (one_field key_in Word.Get (λ key is. cc is) fields, tt))))) (alone_asks word fields)
+    (put_asks fields, (one_field key_in Word.Delete (λ key. tt) fields, (keep_asks fields, (one_field pattern_in Word.List (λ pattern. tt) fields, (one_field key_in Word.Get (λ key. tt) fields, tt))))) (alone_asks word fields)
 
 line_asks : (words : List (List ℕ)) → IfOk (asked_by words) AsksOther
 line_asks [] = tt
@@ -151,7 +159,7 @@ line_asks ((b ∷ word) ∷ fields) = word_asks (b ∷ word) fields
 
 -- ---- the command that begins the bytes
 
-abbrev GivesOther : ScriptCommand × List ℕ → Type 0
+abbrev pub GivesOther : ScriptCommand × List ℕ → Type 0
 GivesOther x = IsOtherIn x.0
 
 abbrev CommandRead : Type 0
@@ -171,7 +179,7 @@ bytes_other make other len rest = each_first ReadsWhole (short_of len rest ∷ b
 
 whole_other : (asking : Asking) (rest : List ℕ) → AsksOther asking → IfOk (whole_command asking rest) GivesOther
 whole_other (Plainly command) rest other = other
-whole_other (Put name len keep) rest other = bytes_other (λ bytes. Asked.Plain (Word.Put name bytes keep)) (λ bytes is. cc is) len rest
+whole_other (Put name len keep) rest other = bytes_other (λ bytes. Asked.Plain (Word.Put name bytes keep)) (λ bytes. tt) len rest
 whole_other (OfClient client call) rest other = tt
 whole_other (Piece client len) rest other = bytes_other (λ bytes. Asked.OfClient client (Calls.Piece bytes)) (λ bytes. tt) len rest
 
@@ -182,7 +190,7 @@ asked_other (Err cause) rest other = tt
 abbrev behind_line : List ℕ × List ℕ → Result (ScriptCommand × List ℕ) Cause
 behind_line line = asked_by (words_of line.0) >>= λ asking. whole_command asking line.1
 
-command_other : (bytes : List ℕ) → IfOk (command_at bytes) GivesOther
+pub command_other : (bytes : List ℕ) → IfOk (command_at bytes) GivesOther
 command_other bytes = then_read GivesOther behind_line (λ line. asked_other (asked_by (words_of line.0)) line.1 (line_asks (words_of line.0))) (line_at max_line bytes)
 
 -- ---- a script
@@ -214,7 +222,7 @@ kind_other : (kind i q u : ℕ) → IsOther (command_of_kind kind i q u)
 kind_other kind i q u =
     each_first IsOther
     (case_of (nat_lt kind 4) (Word.Put (made_name q) (made_bytes i q (u % 3000)) None) ∷ case_of (kind == 4) (Word.Delete (key_of (made_name q) (1 + u % 8))) ∷ case_of (kind == 5) (Word.Keep (made_name q) (u % 4)) ∷ case_of (kind == 6) (Word.Get (key_of (made_name q) (1 + u % 8))) ∷ [])
-    Word.Force ((λ is. cc is), ((λ is. cc is), ((λ is. cc is), ((λ is. cc is), tt)))) (λ is. cc is)
+    Word.Force (tt, (tt, (tt, (tt, tt)))) tt
 
 draw_other : (i r : ℕ) → IsOther (command_of_draw i r)
 draw_other i r = kind_other (kind_of r) i (name_number r) (amount_of r)

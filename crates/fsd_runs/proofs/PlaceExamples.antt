@@ -14,21 +14,27 @@ use Rattle.fsd_texts.specs.declared.command.Command.{Command}
 use Rattle.fsd_texts.specs.declared.command.Command.TheVariants as Word
 use Rattle.fsd_texts.specs.Generator.{next_state}
 use Rattle.fsd_texts.specs.Text.{format_line, text}
+use Rattle.volume_layout.specs.declared.kind.Kind.TheVariants.{Two, Three}
 use Rattle.volume_layout.specs.Layout.{plan}
 use Rattle.fsd_runs.specs.Errands.{generated}
 use Rattle.fsd_runs.proofs.Plain.{behind, default, fresh, lines, plain, says}
 
 -- ---- formats
 
-format_says : text (format_line (plan 2048 256 64)) ≡ lines (codes "formatted 2048 free 1127" ∷ [])
+format_says : text (format_line (plan Two 2048 256 64)) ≡ lines (codes "formatted 2048 free 1127" ∷ [])
 unfolding digits
 format_says = refl
 
-too_small : text (format_line (plan 720 200 16)) ≡ lines (codes "refused too-small 721" ∷ [])
+-- layout 2 takes no more sectors
+format_says_of_2 : text (format_line (plan Three 2048 256 64)) ≡ lines (codes "formatted 2048 free 1127" ∷ [])
+unfolding digits
+format_says_of_2 = refl
+
+too_small : text (format_line (plan Two 720 200 16)) ≡ lines (codes "refused too-small 721" ∷ [])
 unfolding digits
 too_small = refl
 
-just_large : text (format_line (plan 721 200 16)) ≡ lines (codes "formatted 721 free 64" ∷ [])
+just_large : text (format_line (plan Two 721 200 16)) ≡ lines (codes "formatted 721 free 64" ∷ [])
 unfolding digits
 just_large = refl
 

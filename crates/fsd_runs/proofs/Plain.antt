@@ -1,6 +1,7 @@
 -- Volumes and runs for worked examples: nothing is damaged, no force comes by itself, and the table has one page.
 use Rattle.std.proofs.Common.{ℕ, List, [], ◌∷◌, ◌++◌, map, None}
 use Rattle.std.specs.Prelude.{false, length, replicate}
+use Rattle.volume_layout.specs.declared.kind.Kind.TheVariants.{Two}
 use Rattle.fsd_files.specs.Answers.{Met}
 use Rattle.fsd_files.specs.Volume.{Volume}
 use Rattle.fsd_texts.specs.declared.command.Command.{Command}
@@ -21,7 +22,7 @@ meets met = record { met = met; held = [] }
 -- right behind the first mount after a format
 abbrev pub fresh : (n t p : ℕ) → Volume
 fresh n t p = record {
-  layout = record { sectors = n; third = t; pages = p };
+  layout = record { kind = Two; sectors = n; third = t; pages = p };
   files = [];
   entries = [];
   removed = [];

@@ -4,6 +4,8 @@ use Rattle.std.specs.Fmt.{digits}
 use Rattle.std.specs.Prelude.{replicate}
 use Rattle.fsd_bytes.specs.declared.refusal.Refusal.TheVariants.{TooLong, NoSpace}
 use Rattle.fsd_bytes.specs.Keys.{key_of}
+use Rattle.volume_layout.specs.declared.kind.Kind.TheVariants.{Three}
+use Rattle.volume_layout.specs.Layout.{with_kind}
 use Rattle.run_table.specs.RunTable.{run_of}
 use Rattle.fsd_files.specs.Answers.{Met, no_place, size_fault}
 use Rattle.fsd_files.specs.Volume.{Volume, free_count}
@@ -91,6 +93,24 @@ scrub_status = refl
 
 scrub_well : reply_status (answer plain default Word.Scrub).0 ≡ 0
 scrub_well = refl
+
+-- a volume of layout 1 is one of layout 2 then, the same but for that, and is upgraded once
+abbrev three : Volume
+three = record default { layout = with_kind Three default.layout }
+
+upgrade_says : says (alone Word.Upgrade) default ≡ lines (codes "upgraded 2" ∷ [])
+unfolding digits
+upgrade_says = refl
+
+upgrade_leaves : (answer plain default Word.Upgrade).1 ≡ three
+upgrade_leaves = refl
+
+upgraded_already : says (alone Word.Upgrade) three ≡ lines (codes "refused layout 2" ∷ [])
+unfolding digits
+upgraded_already = refl
+
+upgrade_status : map (λ v. reply_status (answer plain v Word.Upgrade).0) (default ∷ three ∷ []) ≡ 0 ∷ 1 ∷ []
+upgrade_status = refl
 
 -- ---- lines that are no commands
 

@@ -17,7 +17,7 @@ use Rattle.fsd_texts.specs.Script.{max_input, script_in}
 use Rattle.fsd_runs.specs.declared.request.Request.{Request}
 use Rattle.fsd_runs.specs.declared.request.Request.TheVariants as Asks
 use Rattle.fsd_runs.specs.Errands.{Answered, Cut, Errand, IfMounts, MayCut, Turn, alone, blank, errand_of, fault_status, nothing_but, reply_status, script_ending}
-use Rattle.fsd_runs.specs.Leaves.{IsBroken, IsOutside, IsReplied, IsUndone, IsSpent, IsUnsaid, LeavesMounted, LeavesRun, LeavesUnmounted, Unbegun}
+use Rattle.fsd_runs.specs.Leaves.{IsBroken, IsOutside, IsReplied, IsUndone, IsSpent, IsUnsaid, LeavesBy, LeavesMounted, LeavesRun, LeavesUnmounted, Unbegun}
 use Rattle.fsd_runs.specs.Runs.{IsThrough, answered, errand_in, run_end, run_status, run_turns}
 use Rattle.fsd_runs.specs.Sessions.{session_over}
 
@@ -102,9 +102,13 @@ module _ (request : Request) (input rest : List ℕ) (l : Layout) (windows : Lis
       by (inl through) = in_otherwise request input m.run.cut m.run.may otherwise (answered m.run.mets (session_over m.volume) (errand_in request input m.run.cut).commands) (sym through.1.ends ∙ e)
       by (inr other) = broken_otherwise request (IsUndone l (windows ++ m.next ∷ []) (take m.count h) m.count (run_turns m.run)) before after (run_turns m.run) old new result other e
 
+  by_otherwise : EndsOtherwise (errand_of request input) → LeavesBy request input rest l windows h f Past began Only before after old new result → NotThree result
+  by_otherwise otherwise (inl u) = unmounted_otherwise u
+  by_otherwise otherwise (inr m) = mounted_otherwise otherwise m
+
+module _ (request : Request) (input rest : List ℕ) (l : Layout) (windows : List WeakRun) (h : List Change) (f : ℕ) (Past : ℕ → Moment → Type 0) (began : ℕ) (Only : (Moment → Type 0) → Type 0) (before after : Report) (old new : Moment) (result : ℕ) where
   run_otherwise : EndsOtherwise (errand_of request input) → LeavesRun request input rest l windows h f Past began Only before after old new result → NotThree result
-  run_otherwise otherwise (inl u) = unmounted_otherwise u
-  run_otherwise otherwise (inr m) = mounted_otherwise otherwise m
+  run_otherwise otherwise leaves = by_otherwise request input rest leaves.0 windows h f Past began Only before after old new result otherwise leaves.2
 
   pub never_refused : IfMounts request (LeavesRun request input rest l windows h f Past began Only before after old new result → result ≡ 3 → ⊥)
   never_refused = if_mounts request (EndsOtherwise (errand_of request input)) (LeavesRun request input rest l windows h f Past began Only before after old new result → NotThree result) run_otherwise (errand_otherwise request input)

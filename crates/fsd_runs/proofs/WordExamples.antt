@@ -1,6 +1,7 @@
 -- Worked examples of the words of the command line, computed.
 use Rattle.std.proofs.Common.{◌≡◌, [], ◌∷◌, Some, None, refl, codes}
 use Rattle.clap.proofs.OnLiterals.{clap_on_literals}
+use Rattle.volume_layout.specs.declared.kind.Kind.TheVariants.{Two, Three}
 use Rattle.fsd_bytes.specs.Keys.{key_of}
 use Rattle.fsd_bytes.specs.declared.pattern.Pattern.TheVariants.{Prefix}
 use Rattle.fsd_texts.specs.declared.bad_line.Cause.TheVariants.{BadNumber, BadName, BadKey}
@@ -8,9 +9,30 @@ use Rattle.fsd_texts.specs.declared.command.Command.TheVariants as Word
 use Rattle.fsd_runs.specs.declared.request.Request.TheVariants.{Outside, BadField, Format, Put, One, Script, Generate, Drill}
 use Rattle.fsd_runs.specs.Words.{request_of, path_of}
 
-formats : request_of (codes "cfs" ∷ codes "format" ∷ codes "v" ∷ codes "2048" ∷ codes "256" ∷ codes "64" ∷ []) ≡ Format 2048 256 64
+formats : request_of (codes "cfs" ∷ codes "format" ∷ codes "v" ∷ codes "2048" ∷ codes "256" ∷ codes "64" ∷ []) ≡ Format 2048 256 64 Two
 unfolding clap_on_literals
 formats = refl
+
+formats_layout_2 : request_of (codes "cfs" ∷ codes "format" ∷ codes "v" ∷ codes "2048" ∷ codes "256" ∷ codes "64" ∷ codes "--layout" ∷ codes "2" ∷ []) ≡ Format 2048 256 64 Three
+unfolding clap_on_literals
+formats_layout_2 = refl
+
+formats_layout_1 : request_of (codes "cfs" ∷ codes "format" ∷ codes "--layout=1" ∷ codes "v" ∷ codes "2048" ∷ codes "256" ∷ codes "64" ∷ []) ≡ Format 2048 256 64 Two
+unfolding clap_on_literals
+formats_layout_1 = refl
+
+-- no other layout is there
+no_layout_3 : request_of (codes "cfs" ∷ codes "format" ∷ codes "v" ∷ codes "2048" ∷ codes "256" ∷ codes "64" ∷ codes "--layout" ∷ codes "3" ∷ []) ≡ BadField BadNumber
+unfolding clap_on_literals
+no_layout_3 = refl
+
+no_layout_of_a_name : request_of (codes "cfs" ∷ codes "format" ∷ codes "v" ∷ codes "2048" ∷ codes "256" ∷ codes "64" ∷ codes "--layout" ∷ codes "two" ∷ []) ≡ BadField BadNumber
+unfolding clap_on_literals
+no_layout_of_a_name = refl
+
+layout_twice : request_of (codes "cfs" ∷ codes "format" ∷ codes "v" ∷ codes "2048" ∷ codes "256" ∷ codes "64" ∷ codes "--layout" ∷ codes "1" ∷ codes "--layout" ∷ codes "2" ∷ []) ≡ Outside
+unfolding clap_on_literals
+layout_twice = refl
 
 puts : request_of (codes "cfs" ∷ codes "put" ∷ codes "v" ∷ codes "a" ∷ []) ≡ Put (codes "a") None
 unfolding clap_on_literals
@@ -150,6 +172,15 @@ asks_for_help_with_all = refl
 a_scrub : request_of (codes "cfs" ∷ codes "scrub" ∷ codes "v" ∷ []) ≡ One Word.Scrub
 unfolding clap_on_literals
 a_scrub = refl
+
+an_upgrade : request_of (codes "cfs" ∷ codes "upgrade" ∷ codes "v" ∷ []) ≡ One Word.Upgrade
+unfolding clap_on_literals
+an_upgrade = refl
+
+-- it names no layout
+upgrades_to_2_alone : request_of (codes "cfs" ∷ codes "upgrade" ∷ codes "v" ∷ codes "--layout" ∷ codes "2" ∷ []) ≡ Outside
+unfolding clap_on_literals
+upgrades_to_2_alone = refl
 
 -- a drill names no image
 drills : request_of (codes "cfs" ∷ codes "drill" ∷ []) ≡ Drill

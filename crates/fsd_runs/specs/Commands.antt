@@ -4,10 +4,10 @@ use Rattle.std.specs.List.{flat_map}
 use Rattle.fsd_bytes.specs.declared.key.Key.{Key}
 use Rattle.fsd_formats.specs.declared.entry.Entry.{Entry}
 use Rattle.fsd_formats.specs.NamePage.{max_keep, sectors_for}
-use Rattle.fsd_files.specs.Answers.{Met, Outcome, put_outcome, delete_outcome, keep_outcome, force_outcome, scrub_outcome, stat_reply, list_reply, get_reply, keep_given, size_fault, FindsIn}
+use Rattle.fsd_files.specs.Answers.{Met, Outcome, put_outcome, delete_outcome, keep_outcome, force_outcome, scrub_outcome, upgrade_outcome, stat_reply, list_reply, get_reply, keep_given, size_fault, FindsIn}
 use Rattle.fsd_files.specs.Disk.{Image}
 use Rattle.fsd_files.specs.Files.{Change}
-use Rattle.fsd_files.specs.Replies.{Reply, Refused, Made, Deleted, Kept, Listed, Bytes, DamagedAt, Forced, Counts, Scrubbed, Begun, Took, Dropped, Opened, Given, Done, Found}
+use Rattle.fsd_files.specs.Replies.{Reply, Refused, Made, Deleted, Kept, Listed, Bytes, DamagedAt, Forced, Counts, Scrubbed, Upgraded, Begun, Took, Dropped, Opened, Given, Done, Found}
 use Rattle.fsd_files.specs.Scrub.{Picks, all_data}
 use Rattle.fsd_files.specs.Volume.{Volume}
 use Rattle.fsd_texts.specs.declared.command.Command.{Command}
@@ -29,6 +29,7 @@ answer met v Word.Force = force_outcome v
 answer met v Word.Tick = force_outcome v
 answer met v Word.Stat = (stat_reply v, v)
 answer met v Word.Scrub = scrub_outcome met v
+answer met v Word.Upgrade = upgrade_outcome v
 
 -- A mount that is worn out refuses what would change something, where no refusal comes before this one.
 abbrev pub may_wear_out : Command → Bool
@@ -41,6 +42,7 @@ may_wear_out Word.Force = false
 may_wear_out Word.Tick = false
 may_wear_out Word.Stat = false
 may_wear_out Word.Scrub = false
+may_wear_out Word.Upgrade = false
 
 -- what may read as damaged, between these images
 abbrev pub MayFind : Image → Image → Volume → Command → Met → Type 0
@@ -53,6 +55,7 @@ MayFind i j v Word.Force met = ⊤
 MayFind i j v Word.Tick met = ⊤
 MayFind i j v Word.Stat met = ⊤
 MayFind i j v Word.Scrub met = Picks i j (all_data v.entries) met.found
+MayFind i j v Word.Upgrade met = ⊤
 
 -- the change that was accepted, if one was
 abbrev pub changes_of : Command → Reply → List Change
@@ -68,6 +71,7 @@ changes_of Word.Force reply = []
 changes_of Word.Tick reply = []
 changes_of Word.Stat reply = []
 changes_of Word.Scrub reply = []
+changes_of Word.Upgrade reply = []
 
 -- ---- texts
 
@@ -90,6 +94,7 @@ reply_text (DamagedAt key s) = text (Says.Damaged key s)
 reply_text Forced = text Says.Forced
 reply_text (Counts free waiting pages versions) = text (Says.Stat free waiting pages versions)
 reply_text (Scrubbed found healed) = found_text found ++ text (Says.Scrubbed healed (length found))
+reply_text Upgraded = text Says.Upgraded
 reply_text (Begun client) = text (Says.Begun client)
 reply_text (Took client sum) = text (Says.Took client sum)
 reply_text (Dropped client) = text (Says.Dropped client)

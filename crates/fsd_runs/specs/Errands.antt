@@ -158,6 +158,7 @@ bytes_moved Word.Force reply = bytes_read reply
 bytes_moved Word.Tick reply = bytes_read reply
 bytes_moved Word.Stat reply = bytes_read reply
 bytes_moved Word.Scrub reply = bytes_read reply
+bytes_moved Word.Upgrade reply = bytes_read reply
 
 -- of a script's command
 abbrev pub moved_in : ScriptCommand → Reply → ℕ

@@ -2,6 +2,7 @@
 use Rattle.std.specs.Prelude.{◌≡◌, ◌⊎◌, ◌<◌, ◌≤◌, ⊤, ℕ, suc, ◌+◌, List, [], ◌∷◌, ◌++◌, length, take, Option, Some, None, IsSome, IsTrue, slice_get}
 use Rattle.std.specs.List.{last_or}
 use Rattle.volume_layout.specs.declared.layout.Layout.{Layout}
+use Rattle.volume_layout.specs.Layout.{IsFormOf}
 use Rattle.sector_disk.specs.declared.sector.WeakRun.{WeakRun}
 use Rattle.sector_disk.specs.Image.{IsWorn}
 use Rattle.sector_disk.specs.Machine.{DeviceFault, Moment, Report, Rose}
@@ -10,10 +11,11 @@ use Rattle.fsd_files.specs.Files.{Change}
 use Rattle.fsd_files.specs.Volume.{Volume}
 use Rattle.fsd_formats.specs.declared.anchor.Anchor.{Anchor}
 use Rattle.fsd_sound.specs.Anchors.{anchor_of}
+use Rattle.fsd_sound.specs.Laid.{HasOwnRoots}
 use Rattle.fsd_sound.specs.Mounted.{telling_of}
 use Rattle.fsd_sound.specs.Mounting.{last_epoch}
 use Rattle.fsd_sound.specs.Shown.{told}
-use Rattle.fsd_sound.specs.Sound.{IsPrefixOf, IsSound, weak_of}
+use Rattle.fsd_sound.specs.Sound.{IsPrefixOf, IsSaid, IsSound, weak_of}
 use Rattle.fsd_sound.specs.Windows.{IsNamedSince}
 use Rattle.fsd_texts.specs.declared.fault.Fault.{Fault}
 use Rattle.fsd_texts.specs.declared.fault.Fault.TheVariants as Ends
@@ -79,13 +81,15 @@ Left l windows run h f n turns old left = LeftBefore l windows h f old left ⊎ 
 -- ---- how a run ends
 
 -- The whole text is said, its status is given, and all changes are forced: the disk's own table is that of the volume
--- behind them, in the places and with the serials that it gave. The present window is run still.
+-- behind them, in the places and with the serials that it gave, and both roots are those of its layout, which an upgrade
+-- has turned. The present window is run still.
 pub record IsReplied (l : Layout) (windows : List WeakRun) (run : WeakRun) (h : List Change) (n : ℕ) (turns : List Turn) (status : ℕ) (behind : Volume) (old new : Moment) (result : ℕ) : Type 0 where
   pub ends : result ≡ status
   pub said : new.said ≡ old.said ++ said_in turns
   pub settled : new.windows ≡ record { present = Some run; next = None }
   pub sound : IsSound l (windows ++ run ∷ []) (take n h ++ changes_in turns) (n + length (changes_in turns)) new.image
   pub tells : told l new.image ≡ Some (telling_of behind)
+  pub roots : HasOwnRoots behind.layout (weak_of (windows ++ run ∷ [])) new.image
 
 -- some turns are said whole, not all of them, and then this
 pub record SaysThen (turns : List Turn) (bytes : List ℕ) (old new : Moment) : Type 0 where
@@ -151,14 +155,17 @@ pub record KeepsForced (h : List Change) (f : ℕ) (g : List Change) (n : ℕ) :
   pub forced : f ≤ n
   pub same : take f g ≡ take f h
 
--- the image is sound in the windows that the machine has then, with every change forced that was
+-- the image is sound in the windows that the machine has then, with every change forced that was; by the layout, or the
+-- same but for the damage that it bears
 pub record StaysSound (l : Layout) (h : List Change) (f : ℕ) (left : Moment) : Type 0 where
+  pub layout : Layout
+  pub form : IsFormOf l layout
   pub windows : List WeakRun
   pub changes : List Change
   pub count : ℕ
   pub keeps : KeepsForced h f changes count
   pub present : last_or None windows ≡ left.windows.present
-  pub sound : IsSound l windows changes count left.image
+  pub sound : IsSound layout windows changes count left.image
 
 -- ---- the whole
 
@@ -188,7 +195,8 @@ pub record RaisesEpoch (windows : List WeakRun) (old from : Image) : Type 0 wher
   pub next : AreNext (anchor_of left) (anchor_of from)
 
 -- The mount settled at some time: it found the first n changes, every forced one among them, and the run went on from
--- the image as it settled. The window that it settled is next: it was named since the run began, and is the present one
+-- the image as it settled, in which both roots were its layout's. The window that it settled is next: it was named since
+-- the run began, and is the present one
 -- at each moment from then on and at the end. Each moment is what is said above; from that time on each is of the second
 -- kind, and the images of the run are of these. Either all commands were begun, all is said and all changes are forced;
 -- or a fault from outside has ended the run at once; or the output failed.
@@ -204,6 +212,7 @@ pub record LeavesMounted (request : Request) (input rest : List ℕ) (l : Layout
   pub raised : RaisesEpoch windows old.image from
   pub volume : Volume
   pub starts : Starts l (windows ++ next ∷ []) (take count h) volume from
+  pub own : HasOwnRoots l (weak_of (windows ++ next ∷ [])) from
   pub run : Run request input (windows ++ next ∷ []) (Past at) old.said volume from
   pub cause : CutCause run.cut input rest before after
   pub moments : Only (Left l windows next h f count (run_turns run) old)
@@ -211,8 +220,13 @@ pub record LeavesMounted (request : Request) (input rest : List ℕ) (l : Layout
   pub exit : LeftSince l windows next h count (run_turns run) old new
   pub ends : (IsThrough run × IsReplied l windows next h count (run_turns run) (run_status run) (run_end run) old new result) ⊎ (IsUnsaid before after result ⊎ IsBroken request (IsUndone l (windows ++ next ∷ []) (take count h) count (run_turns run)) before after (run_turns run) old new result)
 
--- A run over a sound image. The input is as it was, and rest what is left of it.
+-- A run over an image that is sound by this layout. The input is as it was, and rest what is left of it.
 -- Past is what a stop from a time on may have left, and began the time at which the run began.
+abbrev pub LeavesBy : Request → (input rest : List ℕ) → Layout → List WeakRun → List Change → ℕ → (Past : ℕ → Moment → Type 0) → (began : ℕ) → (Only : (Moment → Type 0) → Type 0) → (before after : Report) → (old new : Moment) → (result : ℕ) → Type 0
+LeavesBy request input rest l windows h f Past began Only before after old new result =
+    LeavesUnmounted request l windows h f Only before after old new result ⊎ LeavesMounted request input rest l windows h f Past began Only before after old new result
+
+-- so it is by the layout that the mount has read: this one, or it turned, where a root says so
 abbrev pub LeavesRun : Request → (input rest : List ℕ) → Layout → List WeakRun → List Change → ℕ → (Past : ℕ → Moment → Type 0) → (began : ℕ) → (Only : (Moment → Type 0) → Type 0) → (before after : Report) → (old new : Moment) → (result : ℕ) → Type 0
 LeavesRun request input rest l windows h f Past began Only before after old new result =
-    LeavesUnmounted request l windows h f Only before after old new result ⊎ LeavesMounted request input rest l windows h f Past began Only before after old new result
+    (layout : Layout) × IsSaid l old.image layout × LeavesBy request input rest layout windows h f Past began Only before after old new result

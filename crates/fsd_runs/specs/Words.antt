@@ -1,9 +1,11 @@
 -- What the words of the command line ask for. Which words the command set has, and which argument each word is, are
 -- `clap`'s own definitions of a simple command; then each field is read.
-use Rattle.std.specs.Prelude.{ℕ, ◌-◌, ◌^◌, true, false, List, [], ◌∷◌, Option, Some, None, unwrap_or, Result, Ok, Err, ok_or, codes, if◌then◌else◌}
+use Rattle.std.specs.Prelude.{ℕ, ◌-◌, ◌^◌, ◌==◌, true, false, List, [], ◌∷◌, Option, Some, None, unwrap_or, Result, Ok, Err, ok_or, codes, if◌then◌else◌}
 use Rattle.clap.specs.Simple.{App, Shape, new_rule, new_shape, subcommand_of}
 use Rattle.clap.specs.Takes.{takes}
 use Rattle.clap.specs.Walk.{Rule, Row, Text, first_of}
+use Rattle.volume_layout.specs.declared.kind.Kind.{Kind}
+use Rattle.volume_layout.specs.declared.kind.Kind.TheVariants.{Two, Three}
 use Rattle.fsd_bytes.specs.Bytes.{same_bytes}
 use Rattle.fsd_bytes.specs.Keys.{read_number}
 use Rattle.fsd_texts.specs.declared.bad_line.Cause.{Cause}
@@ -19,7 +21,7 @@ use Rattle.fsd_runs.specs.declared.request.Request.TheVariants.{Outside, BadFiel
 abbrev pub positional : Text → Rule
 positional id = record (new_rule id) { required = true }
 
--- an option with a value, as `--keep K`
+-- an option with a value, as `--keep K` and `--layout V`
 abbrev pub option : Text → Rule
 option id = record (new_rule id) { long = Some id }
 
@@ -33,7 +35,7 @@ image = positional (codes "image")
 abbrev pub cfs : App
 cfs = record {
   top = record (new_shape (codes "cfs")) { is_leaf = false };
-  subs = subcommand (codes "format") (image ∷ positional (codes "n") ∷ positional (codes "t") ∷ positional (codes "p") ∷ [])
+  subs = subcommand (codes "format") (image ∷ positional (codes "n") ∷ positional (codes "t") ∷ positional (codes "p") ∷ option (codes "layout") ∷ [])
       ∷ subcommand (codes "put") (image ∷ positional (codes "name") ∷ option (codes "keep") ∷ [])
       ∷ subcommand (codes "get") (image ∷ positional (codes "key") ∷ [])
       ∷ subcommand (codes "list") (image ∷ positional (codes "pat") ∷ [])
@@ -41,6 +43,7 @@ cfs = record {
       ∷ subcommand (codes "keep") (image ∷ positional (codes "name") ∷ positional (codes "k") ∷ [])
       ∷ subcommand (codes "stat") (image ∷ [])
       ∷ subcommand (codes "scrub") (image ∷ [])
+      ∷ subcommand (codes "upgrade") (image ∷ [])
       ∷ subcommand (codes "script") (image ∷ [])
       ∷ subcommand (codes "generate") (image ∷ positional (codes "seed") ∷ positional (codes "count") ∷ [])
       ∷ subcommand (codes "drill") []
@@ -62,12 +65,22 @@ abbrev pub keep_in : Option (List ℕ) → Result (Option ℕ) Cause
 keep_in None = Ok None
 keep_in (Some w) = number_in w >>= λ keep. Ok (Some keep)
 
+-- of the layout with this number
+abbrev pub kind_numbered : ℕ → Result Kind Cause
+kind_numbered number = if number == 1 then Ok Two else (if number == 2 then Ok Three else Err BadNumber)
+
+-- without a number it is layout 1
+abbrev pub layout_in : Option (List ℕ) → Result Kind Cause
+layout_in None = Ok Two
+layout_in (Some w) = number_in w >>= kind_numbered
+
 abbrev pub reads_format : List Row → Result Request Cause
 reads_format rows = do
   n ← number_in (field (codes "n") rows)
   t ← number_in (field (codes "t") rows)
   p ← number_in (field (codes "p") rows)
-  Ok (Format n t p)
+  kind ← layout_in (first_of (codes "layout") rows)
+  Ok (Format n t p kind)
 
 abbrev pub reads_put : List Row → Result Request Cause
 reads_put rows = do
@@ -98,10 +111,11 @@ reads name rows =
     else (if same_bytes name (codes "keep") then reads_keep rows
     else (if same_bytes name (codes "stat") then Ok (One Word.Stat)
     else (if same_bytes name (codes "scrub") then Ok (One Word.Scrub)
+    else (if same_bytes name (codes "upgrade") then Ok (One Word.Upgrade)
     else (if same_bytes name (codes "script") then Ok Script
     else (if same_bytes name (codes "generate") then reads_generate rows
     else (if same_bytes name (codes "drill") then Ok Drill
-    else Ok Outside))))))))))
+    else Ok Outside)))))))))))
 
 -- ---- the words
 

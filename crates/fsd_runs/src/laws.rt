@@ -2,6 +2,7 @@
 ghost use Rattle.std.specs.Prelude.{◌≡◌, ◌⊎◌, ◌≤◌, ◌+◌, ℕ, List, [], ◌∷◌, None, length, map, fold};
 ghost use Rattle.std.specs.List.{last_or};
 ghost use Rattle.volume_layout.specs.declared.layout.Layout.{Layout};
+ghost use Rattle.volume_layout.specs.Layout.{IsFormOf};
 ghost use Rattle.sector_disk.specs.declared.sector.WeakRun.{WeakRun};
 ghost use Rattle.sector_disk.specs.Machine.{Moment, Report};
 ghost use Rattle.fsd_sound.specs.Sound.{IsPrefixOf};
@@ -47,10 +48,10 @@ pub fn each_command_has_an_answer()
 {}
 
 /// Whatever a stop leaves of a run over a sound disk is a sound disk again, in the windows that the machine has then,
-/// with every change forced that was: so runs go on from each other.
+/// with every change forced that was, by the layout or its other form: so runs go on from each other.
 pub fn stops_leave_sound_disks()
-    ensures { (l : Layout) (windows : List WeakRun) (run : WeakRun) (h : List Change) (f n : ℕ) (turns : List Turn) (old left : Moment) → IsPrefixOf h f n →
-        last_or None windows ≡ old.windows.present → Left l windows run h f n turns old left → StaysSound l h f left }
+    ensures { (l layout : Layout) → IsFormOf l layout → (windows : List WeakRun) (run : WeakRun) (h : List Change) (f n : ℕ) (turns : List Turn) (old left : Moment) → IsPrefixOf h f n →
+        last_or None windows ≡ old.windows.present → Left layout windows run h f n turns old left → StaysSound l h f left }
 {}
 
 /// Where no fault is counted, a run that does not say all says that memory was refused, and has changed nothing since

@@ -1,6 +1,7 @@
 //! What the words of the command line ask for.
 use fsd_bytes::FileName;
 use fsd_texts::{Cause, Command};
+use volume_layout::Kind;
 
 /// What the words ask for, of the image that they name.
 #[derive(Debug, Drop)]
@@ -13,6 +14,7 @@ pub enum Request {
         sectors: u32,
         third: u32,
         pages: u32,
+        kind: Kind,
     },
     /// The whole input is to be a version of this name.
     Put {

@@ -47,9 +47,9 @@ client_lines = refl
 
 -- what a script of one line ends with
 lines : map (λ (bytes : List ℕ). (script_of (bytes ++ newline)).1)
-    (replicate 129 97 ∷ [] ∷ replicate 128 97 ∷ codes " stat" ∷ codes "Stat" ∷ codes "scrub" ∷ codes "stat " ∷ codes "put a" ∷ codes "put a 1 2 3" ∷ codes "put  3" ∷ codes "put a! 01" ∷ codes "put a 4294967296" ∷ codes "put a 1 01"
+    (replicate 129 97 ∷ [] ∷ replicate 128 97 ∷ codes " stat" ∷ codes "Stat" ∷ codes "scrub" ∷ codes "upgrade v" ∷ codes "stat " ∷ codes "put a" ∷ codes "put a 1 2 3" ∷ codes "put  3" ∷ codes "put a! 01" ∷ codes "put a 4294967296" ∷ codes "put a 1 01"
     ∷ codes "keep a -1" ∷ codes "keep a " ∷ codes "delete a!0" ∷ codes "get a" ∷ codes "list a*b" ∷ codes "put a 1" ∷ [])
-    ≡ map (ends_at 1) (Causes.LongLine ∷ Causes.EmptyLine ∷ Causes.UnknownWord ∷ Causes.UnknownWord ∷ Causes.UnknownWord ∷ Causes.UnknownWord ∷ Causes.WordCount ∷ Causes.WordCount ∷ Causes.WordCount ∷ Causes.BadName ∷ Causes.BadName
+    ≡ map (ends_at 1) (Causes.LongLine ∷ Causes.EmptyLine ∷ Causes.UnknownWord ∷ Causes.UnknownWord ∷ Causes.UnknownWord ∷ Causes.UnknownWord ∷ Causes.UnknownWord ∷ Causes.WordCount ∷ Causes.WordCount ∷ Causes.WordCount ∷ Causes.BadName ∷ Causes.BadName
     ∷ Causes.BadNumber ∷ Causes.BadNumber ∷ Causes.BadNumber ∷ Causes.BadNumber ∷ Causes.BadKey ∷ Causes.BadKey ∷ Causes.BadPattern ∷ Causes.ShortBytes ∷ [])
 lines = refl
 

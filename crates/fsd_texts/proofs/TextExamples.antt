@@ -19,15 +19,18 @@ replies : map text (Says.Formatted 2048 1127 ∷ Says.Made (key_of (codes "a") 1
 unfolding digits
 replies = refl
 
+an_upgrade : text Says.Upgraded ≡ codes "upgraded 2" ++ newline
+an_upgrade = refl
+
 of_clients : map text (Says.Begun 1 ∷ Says.Took 2 512 ∷ Says.Dropped 3 ∷ Says.Opened 4 600 ∷ Says.Given 5 0 ∷ Says.Done 8 ∷ [])
     ≡ map (λ (l : List ℕ). l ++ newline) (codes "begun 1" ∷ codes "took 2 512" ∷ codes "dropped 3" ∷ codes "opened 4 600" ∷ codes "next 5 0" ∷ codes "done 8" ∷ [])
 unfolding digits
 of_clients = refl
 
 refusals : map (λ why. text (Says.Refused why)) (Why.NoSuch ∷ Why.TooLong 4193793 ∷ Why.NoSpace 8192 1127 ∷ Why.TooFragmented 9 8 ∷ Why.NameTableFull 7 ∷ Why.VersionsUsedUp ∷ Why.KeepTooLarge 1000
-    ∷ Why.BadClient 9 ∷ Why.Busy 1 ∷ Why.Idle 2 ∷ Why.Short 5 3 ∷ Why.Long 5 6 ∷ [])
+    ∷ Why.BadClient 9 ∷ Why.Busy 1 ∷ Why.Idle 2 ∷ Why.Short 5 3 ∷ Why.Long 5 6 ∷ Why.LayoutIs 2 ∷ [])
     ≡ map (λ (l : List ℕ). codes "refused " ++ l ++ newline) (codes "no-such" ∷ codes "too-long 4193793" ∷ codes "no-space 8192 1127" ∷ codes "fragmented 9 8" ∷ codes "table-full 7" ∷ codes "versions-used" ∷ codes "keep 1000"
-    ∷ codes "client 9" ∷ codes "busy 1" ∷ codes "idle 2" ∷ codes "short 5 3" ∷ codes "long 5 6" ∷ [])
+    ∷ codes "client 9" ∷ codes "busy 1" ∷ codes "idle 2" ∷ codes "short 5 3" ∷ codes "long 5 6" ∷ codes "layout 2" ∷ [])
 unfolding digits
 refusals = refl
 

@@ -1,7 +1,7 @@
 -- The lines that are said.
 use Rattle.std.specs.Prelude.{ℕ, ◌-◌, List, [], ◌∷◌, ◌++◌, Result, Ok, Err, codes, decimal}
 use Rattle.fsd_bytes.specs.declared.refusal.Refusal.{Refusal}
-use Rattle.fsd_bytes.specs.declared.refusal.Refusal.TheVariants.{NoSuch, TooLong, NoSpace, TooFragmented, NameTableFull, VersionsUsedUp, KeepTooLarge, BadClient, Busy, Idle, Short, Long}
+use Rattle.fsd_bytes.specs.declared.refusal.Refusal.TheVariants.{NoSuch, TooLong, NoSpace, TooFragmented, NameTableFull, VersionsUsedUp, KeepTooLarge, BadClient, Busy, Idle, Short, Long, LayoutIs}
 use Rattle.fsd_bytes.specs.Keys.{key_text}
 use Rattle.volume_layout.specs.declared.layout.Layout.{Layout}
 use Rattle.volume_layout.specs.Layout.{data_start}
@@ -13,7 +13,7 @@ use Rattle.fsd_texts.specs.declared.bad_line.BadLine.{BadLine}
 use Rattle.fsd_texts.specs.declared.fault.Fault.{Fault}
 use Rattle.fsd_texts.specs.declared.fault.Fault.TheVariants as Ends
 use Rattle.fsd_texts.specs.declared.line.Line.{Line}
-use Rattle.fsd_texts.specs.declared.line.Line.TheVariants.{Usage, Bad, Formatted, Unplanned, Made, Deleted, Kept, Version, Listed, Bytes, Forced, Stat, Damaged, Scrubbed, Generated, Life, Begun, Took, Dropped, Opened, Given, Done, Refused, Ended}
+use Rattle.fsd_texts.specs.declared.line.Line.TheVariants.{Usage, Bad, Formatted, Unplanned, Made, Deleted, Kept, Version, Listed, Bytes, Forced, Stat, Damaged, Scrubbed, Upgraded, Generated, Life, Begun, Took, Dropped, Opened, Given, Done, Refused, Ended}
 
 abbrev pub newline : List ℕ
 newline = 10 ∷ []
@@ -42,6 +42,7 @@ refusal_words (Busy c) = codes "busy" ∷ number c ∷ []
 refusal_words (Idle c) = codes "idle" ∷ number c ∷ []
 refusal_words (Short declared got) = codes "short" ∷ number declared ∷ number got ∷ []
 refusal_words (Long declared got) = codes "long" ∷ number declared ∷ number got ∷ []
+refusal_words (LayoutIs n) = codes "layout" ∷ number n ∷ []
 -- the others are told by lines of their own
 refusal_words other = []
 
@@ -103,6 +104,7 @@ text Forced = codes "forced" ++ newline
 text (Stat free waiting pages versions) = line (codes "stat" ∷ codes "free" ∷ number free ∷ codes "waiting" ∷ number waiting ∷ codes "pages" ∷ number pages ∷ codes "versions" ∷ number versions ∷ [])
 text (Damaged key s) = line (codes "damaged" ∷ key_text key ∷ number s ∷ [])
 text (Scrubbed healed damaged) = line (codes "scrubbed" ∷ codes "healed" ∷ number healed ∷ codes "damaged" ∷ number damaged ∷ [])
+text Upgraded = codes "upgraded 2" ++ newline
 text (Generated c) =
     line (codes "generated" ∷ number c.count ∷ codes "made" ∷ number c.made ∷ codes "deleted" ∷ number c.deleted ∷ codes "kept" ∷ number c.kept
     ∷ codes "read" ∷ number c.read ∷ codes "bytes" ∷ number c.bytes ∷ codes "refused" ∷ number c.refused ∷ [])

@@ -24,4 +24,6 @@ pub enum Command {
     Stat,
     /// No line of a script asks for it.
     Scrub,
+    /// The volume is one of layout 2 then. No line of a script asks for it.
+    Upgrade,
 }

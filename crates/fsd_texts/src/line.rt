@@ -57,6 +57,8 @@ pub enum Line {
         healed: u32,
         damaged: u32,
     },
+    /// The volume is one of layout 2 now.
+    Upgraded,
     /// So many commands were made up, and what came of them.
     Generated(Counts),
     /// What is said behind it is of this life of a drill.

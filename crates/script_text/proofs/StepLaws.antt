@@ -12,7 +12,7 @@ use Rattle.script_text.specs.declared.fault.BodyFault.TheVariants as Stops
 use Rattle.fsd_texts.specs.declared.end.End.TheVariants as Ends
 use Rattle.script_text.specs.declared.fault.ScriptFault.{ScriptFault}
 use Rattle.script_text.specs.declared.fault.ScriptFault.TheVariants as Faults
-use Rattle.script_text.specs.Reading.{Ahead, Gives, GivesFirst, GoesOn, IsShort, NoneWaits, Reading, answer_of, room_of, script_left}
+use Rattle.script_text.specs.Reading.{Ahead, Gives, GivesFirst, GoesOn, IsShort, IsSpelled, NoneWaits, Reading, answer_of, room_of, script_left}
 use Rattle.script_text.specs.Taking.{Grows, Moves}
 use Rattle.script_text.proofs.LeftLaws.{after, from_gives}
 use Rattle.script_text.proofs.ReaderLaws.{IsOpen, room_fits, script_open}
@@ -116,6 +116,15 @@ end_waits Ends.TooLong waiting = tt
 pub answer_ahead : (end : Option End) (result : Answer) (s t : Script) → is_some end ≡ true → IfSome end (λ e. result ≡ answer_of e) → Ahead result s t
 answer_ahead None result s t some is = absurd cc
 answer_ahead (Some end) result s t some is = subst (λ (r : Answer). Ahead r s t) (sym is) (end_ahead end s t)
+
+end_spelled : (end : End) → IsSpelled (answer_of end)
+end_spelled Ends.Done = tt
+end_spelled (Ends.Bad bad) = tt
+end_spelled Ends.TooLong = tt
+
+pub answer_spelled : (end : Option End) (result : Answer) → is_some end ≡ true → IfSome end (λ e. result ≡ answer_of e) → IsSpelled result
+answer_spelled None result some is = absurd cc
+answer_spelled (Some end) result some is = subst IsSpelled (sym is) (end_spelled end)
 
 pub answer_waits : (end : Option End) (result : Answer) (waiting : List ℕ) → is_some end ≡ true → IfSome end (λ e. result ≡ answer_of e) → NoneWaits result waiting
 answer_waits None result waiting some is = absurd cc

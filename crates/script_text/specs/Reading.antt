@@ -70,6 +70,11 @@ abbrev pub NoneWaits : Result (Option ScriptCommand) ScriptFault → List ℕ �
 NoneWaits (Err Input) waiting = IsShort waiting
 NoneWaits other waiting = Unit {0}
 
+-- What is given is a command that some bytes begin with.
+abbrev pub IsSpelled : Result (Option ScriptCommand) ScriptFault → Type 0
+IsSpelled (Ok (Some command)) = (bytes : List ℕ) × (rest : List ℕ) × (command_at bytes ≡ Ok (command, rest))
+IsSpelled other = Unit {0}
+
 -- the end that is known with an answer, and the commands given with it
 abbrev pub end_with : Result (Option ScriptCommand) ScriptFault → Option End
 end_with (Ok (Some command)) = None

@@ -3,7 +3,7 @@ ghost use Rattle.std.specs.Prelude.{◌≡◌, ◌<◌, ◌≤◌, ◌+◌, ◌^
 ghost use Rattle.sector_disk.specs.Calls.{LeavesDisk};
 ghost use Rattle.sector_disk.specs.Machine.{Wears};
 ghost use Rattle.fsd_texts.specs.Script.{command_at, ends_early, max_input};
-ghost use Rattle.script_text.specs.Reading.{Answers, IsShort, NoneWaits, GivesFirst, GoesOn, answer_of, count_with, end_after, end_by, end_with, fresh, script_left};
+ghost use Rattle.script_text.specs.Reading.{Answers, IsShort, IsSpelled, NoneWaits, GivesFirst, GoesOn, answer_of, count_with, end_after, end_by, end_with, fresh, script_left};
 ghost use Rattle.script_text.specs.Taking.{Comes, Grows, IsUntaken, Moves, input_in};
 
 use crate::command::command_of;
@@ -73,6 +73,7 @@ impl Reader {
         ensures few { self.new.given ≤ self.new.taken }
         ensures moves { M.tells m.new → Moves result self.old self.new (M.ledger m.old) (M.ledger m.new) }
         ensures waits { NoneWaits result self.new.waiting }
+        ensures spelled { IsSpelled result }
         ensures calls { LeavesDisk M.Machine (input_in result) false Wears m.old m.new }
     {
         while self.end.is_none() {

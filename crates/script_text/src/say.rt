@@ -48,6 +48,7 @@ pub fn lay_line(line: &Line) -> LineText
         } => stat_text(*free, *waiting, *pages, *versions),
         Line::Damaged { key, sector } => key_line("damaged ", key, *sector),
         Line::Scrubbed { healed, damaged } => scrubbed_text(*healed, *damaged),
+        Line::Upgraded => words("upgraded 2\n"),
         Line::Generated(counts) => generated_text(counts),
         Line::Life(life) => numbered("life ", u64::from(*life)),
         Line::Begun(client) => numbered("begun ", u64::from(*client)),
@@ -220,6 +221,7 @@ fn refused_text(why: Refusal) -> LineText
             paired("refused short ", u64::from(declared), u64::from(got))
         }
         Refusal::Long { declared, got } => paired("refused long ", u64::from(declared), got),
+        Refusal::LayoutIs(number) => numbered("refused layout ", u64::from(number)),
         Refusal::Damaged(_)
         | Refusal::Device(_)
         | Refusal::Down(_)

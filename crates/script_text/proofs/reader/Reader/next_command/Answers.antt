@@ -1,9 +1,9 @@
 use Rattle.std.proofs.Common.{◌≡◌, ◌+◌, ◌∙◌, ℕ, arith, sym, ap, subst, refl, true, None}
 use Rattle.std.specs.Prelude.{is_none, is_some}
-use Rattle.script_text.specs.Reading.{Ahead, GoesOn, IsShort, NoneWaits, Reading, script_left}
+use Rattle.script_text.specs.Reading.{Ahead, GoesOn, IsShort, IsSpelled, NoneWaits, Reading, script_left}
 use Rattle.script_text.specs.Taking.{Grows}
 use Rattle.script_text.proofs.ReaderLaws.{IsOpen, open_of}
-use Rattle.script_text.proofs.StepLaws.{Answer, answer_ahead, answer_waits, fault_ahead, fault_is, fault_waits, falls, gives_next, grows_then, moves_from, moves_still, as_it_was, never, none_of}
+use Rattle.script_text.proofs.StepLaws.{Answer, answer_ahead, answer_spelled, answer_waits, fault_ahead, fault_is, fault_waits, falls, gives_next, grows_then, moves_from, moves_still, as_it_was, never, none_of}
 use Rattle.sector_disk.proofs.CallLaws.{takes_then}
 use Rattle.script_text.proofs.reader.Reader.next_command.Given as given
 use Rattle.script_text.proofs.reader.Reader.next_command.Goals as goal
@@ -35,6 +35,9 @@ returns-in-Ok-clause-moves g c h = moves_from _ _ _ _ _ _ (open_here g c) (c.loo
 pub returns-in-Ok-clause-calls : goal.returns-in-Ok-clause-calls
 returns-in-Ok-clause-calls g c = c.loop-alloc.invariant.calls
 
+pub returns-in-Ok-clause-spelled : goal.returns-in-Ok-clause-spelled
+returns-in-Ok-clause-spelled g c = (c.loop-alloc.self.waiting, _, c.in-Ok.ensures.read)
+
 pub returns-in-Err-Memory : goal.returns-in-Err-Memory
 returns-in-Err-Memory g c =
     let M = g.M.Machine in
@@ -55,6 +58,7 @@ returns-in-Err-Memory g c =
       few = omega (arith, ap (λ (r : Reading). r.given) same, taken, ap (λ (r : Reading). r.given) c.self.view_is, ap (λ (r : Reading). r.taken) c.self.view_is, c.self.invariant.each_took);
       moves = λ h. moves_still _ _ _ _ _ _ (so_far.grows h) same (λ s t e. e still);
       waits = tt;
+      spelled = tt;
       calls = so_far.calls;
     }
 
@@ -67,6 +71,16 @@ pub returns-clause-waits : goal.returns-clause-waits
 returns-clause-waits g c =
     let some : is_some c.self-2.inside.end ≡ true = ap (λ (r : Reading). is_some r.end) (c.self-2.view_is ∙ sym c.self.view_is) ∙ c.loop-alloc-test.ensures in
     answer_waits c.self-2.inside.end c.answer.result _ some c.answer.ensures
+
+pub returns-clause-spelled : goal.returns-clause-spelled
+returns-clause-spelled g c =
+    let some : is_some c.self-2.inside.end ≡ true = ap (λ (r : Reading). is_some r.end) (c.self-2.view_is ∙ sym c.self.view_is) ∙ c.loop-alloc-test.ensures in
+    answer_spelled c.self-2.inside.end c.answer.result some c.answer.ensures
+
+pub returns-in_err-go_on-in-Err-Bad-clause-spelled : goal.returns-in_err-go_on-in-Err-Bad-clause-spelled
+returns-in_err-go_on-in-Err-Bad-clause-spelled g c =
+    let step = c.in_err-go_on-in-Err-Bad.ensures in
+    subst IsSpelled (fault_is c.from_residual.result c.in_err-go_on-in-Err-Bad.field-0.0 c.from_residual.ensures.1) tt
 
 pub returns-in_err-go_on-in-Err-Bad-clause-again : goal.returns-in_err-go_on-in-Err-Bad-clause-again
 returns-in_err-go_on-in-Err-Bad-clause-again g c = never c.args.self.now _ c.loop-alloc.self _ c.self.view_is c.loop-alloc-test.ensures c.loop-alloc.invariant.again
