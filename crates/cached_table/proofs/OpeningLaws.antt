@@ -72,6 +72,7 @@ refusal_cases P device lost unsound memory (Why.Busy n) = memory (Why.Busy n) re
 refusal_cases P device lost unsound memory (Why.Idle n) = memory (Why.Idle n) refl
 refusal_cases P device lost unsound memory (Why.Short declared got) = memory (Why.Short declared got) refl
 refusal_cases P device lost unsound memory (Why.Long declared got) = memory (Why.Long declared got) refl
+refusal_cases P device lost unsound memory (Why.LayoutIs n) = memory (Why.LayoutIs n) refl
 
 device_told : (home_a : ℕ) (f : TreeFault) → device_of_mount (mount_fault_in home_a f) ≡ device_of (outer_of f)
 device_told home_a (Broken page) = refl
@@ -95,7 +96,7 @@ module _ {D : Type 0} (M : MachineGhosts D) (l : Layout) (m' : D) (home_a : ℕ)
 
 -- ---- homes
 
-module _ (l : Layout) (planned : plan l.sectors l.third l.pages ≡ Ok l) where
+module _ (l : Layout) (planned : plan l.kind l.sectors l.third l.pages ≡ Ok l) where
   -- the sector of a home A as a number of 32 bits
   home_number : (page : ℕ) → page < l.pages → home_in (home_a l 0) page ≡ home_a l page
   home_number page lt =
@@ -142,7 +143,7 @@ any_page page (v ∷ vs) = ap (λ (b : Bool). (v.page == page) || b) (any_page p
 
 -- ---- where the homes are known
 
-module _ {D : Type 0} (M : MachineGhosts D) (l : Layout) (planned : plan l.sectors l.third l.pages ≡ Ok l) (m m' : D) (c0 c : CacheValue) (is_new : c0 ≡ no_pages frames) (free : List Bool) (none : free ≡ replicate l.pages false) (first : ℕ) (home_first : first ≡ home_a l 0)
+module _ {D : Type 0} (M : MachineGhosts D) (l : Layout) (planned : plan l.kind l.sectors l.third l.pages ≡ Ok l) (m m' : D) (c0 c : CacheValue) (is_new : c0 ≡ no_pages frames) (free : List Bool) (none : free ≡ replicate l.pages false) (first : ℕ) (home_first : first ≡ home_a l 0)
     (honest : M.honest m') (knows : KnowsHomes l (M.now m)) where
   trusted : IsTrusted M at_home.ghosts l m c0 m'
   trusted = record {

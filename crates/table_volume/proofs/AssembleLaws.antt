@@ -50,7 +50,7 @@ module _ (l : Layout) where
       down = None;
     }
 
-    pub whole_assembled : plan l.sectors l.third l.pages ≡ Ok l → log.layout ≡ l → IsOpened l o → IsWhole (assembled l log o)
+    pub whole_assembled : plan l.kind l.sectors l.third l.pages ≡ Ok l → log.layout ≡ l → IsOpened l o → IsWhole (assembled l log o)
     whole_assembled planned layout opened = record {
       planned = planned;
       map = opened.map;

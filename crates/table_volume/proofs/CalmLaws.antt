@@ -70,7 +70,7 @@ module _ (sectors : ℕ) (l : Layout) (log : LogValue) (i : Image) (at : Moment)
     no_table_shown Memory fails = tt
     no_table_shown other fails = absurd fails
 
-    module _ (planned : plan l.sectors l.third l.pages ≡ Ok l) where
+    module _ (planned : plan l.kind l.sectors l.third l.pages ≡ Ok l) where
       table_shown : (v : VolumeValue) → IsAssembled l log v → IsTableOf l (home_pages l at.image) (opened_of v) → MountsShown state Holds sectors i v
       table_shown v a t =
           let pages = home_pages l at.image in
@@ -87,7 +87,7 @@ module _ (sectors : ℕ) (l : Layout) (log : LogValue) (i : Image) (at : Moment)
             whole = subst (λ (k : Layout). (page : ℕ) → Breaks k pages page → ⊥) same t.whole;
           }
 
-module _ (sectors : ℕ) (l : Layout) (planned : plan l.sectors l.third l.pages ≡ Ok l) (log : LogValue) (i : Image) (at new : Moment) (same : new.image ≡ at.image) (is : IsSettled sectors i l log) (stand : StandAsShown l is.anchor i at.image) (calm : IsCalm at.windows) where
+module _ (sectors : ℕ) (l : Layout) (planned : plan l.kind l.sectors l.third l.pages ≡ Ok l) (log : LogValue) (i : Image) (at new : Moment) (same : new.image ≡ at.image) (is : IsSettled sectors i l log) (stand : StandAsShown l is.anchor i at.image) (calm : IsCalm at.windows) where
   pub mounts_calm : (r : Result VolumeValue MountFault) → IfOk r (IsAssembled l log) → IfErr r (λ fault. LostIn (AreHomes l) new.image fault) → OpensCalm l at r → MountsCalm state Holds sectors i r
   mounts_calm (Ok v) a lost opens = table_shown sectors l log i at is stand opens.0 calm planned v a opens.1
   mounts_calm (Err fault) a lost (inl unread) = unread_calm fault unread (lost_shown sectors l log i at is stand fault unread (subst (λ (j : Image). LostIn (AreHomes l) j fault) same lost))

@@ -9,6 +9,7 @@ use Rattle.sector_disk.specs.Machine.{LeavesOnly, Moment, Wears}
 use Rattle.sector_disk.proofs.Moments.{leaves_more, then_on}
 use Rattle.sector_disk.proofs.Wear.{worn_refl}
 use Rattle.fsd_files.specs.Files.{Change}
+use Rattle.fsd_sound.specs.Choices.{TellsChoices}
 use Rattle.fsd_sound.specs.Mounted.{SameData}
 use Rattle.fsd_sound.specs.Sound.{weak_of}
 use Rattle.fsd_sound.specs.Windows.{IsNamedSince}
@@ -25,7 +26,7 @@ use Rattle.table_volume.specs.Mounting.{IsAssembled, OpensKnown}
 use Rattle.volume_state.specs.State.{Holds, state}
 use Rattle.volume_state.specs.Volume.{VolumeValue}
 use Rattle.table_volume.proofs.EpochLaws.{at_last_epoch}
-use Rattle.volume_state.proofs.MomentLaws.{before_of, lists_now, sound_before}
+use Rattle.volume_state.proofs.MomentLaws.{before_of, sound_before}
 use Rattle.table_volume.proofs.SettledLaws.{count, files_settled, known_new, knows_settled, mounts_new, settled_new, since_settled}
 
 -- ---- moments of which two things are known
@@ -46,30 +47,30 @@ excuses_of sectors old (Device s) excuse refused = tt
 excuses_of sectors old Memory excuse refused = tt
 excuses_of sectors old other excuse refused = absurd excuse
 
-module _ (sectors : ℕ) (l : Layout) (windows : List WeakRun) (h : List Change) (f : ℕ) (old : Moment) (begun : IsSoundAt sectors l windows h f old) where
-  moment_before : (left : Moment) → Replays l windows (lists_now sectors l windows h f old begun) old left → IsUnturned old left → SoundBefore l windows h f old left
+module _ (sectors : ℕ) (l : Layout) (windows : List WeakRun) (h : List Change) (f : ℕ) (old : Moment) (begun : IsSoundAt sectors l windows h f old) (lists : TellsChoices l windows h f old.image) where
+  moment_before : (left : Moment) → Replays l windows lists.choices old left → IsUnturned old left → SoundBefore l windows h f old left
   moment_before left replays still =
       let before = staged replays.stage in
       record {
         present = still;
         said = replays.said;
-        sound = sound_before sectors l windows h f old begun left.image before.shows (data_stays l (weak_of windows) old left replays.rest);
+        sound = sound_before sectors l windows h f old begun lists left.image before.shows (data_stays l (weak_of windows) old left replays.rest);
         writes = replays.rest;
       }
     where
-      staged : IsBefore l windows (lists_now sectors l windows h f old begun) old left ⊎ IsAfter l windows (lists_now sectors l windows h f old begun) left → IsBefore l windows (lists_now sectors l windows h f old begun) old left
+      staged : IsBefore l windows lists.choices old left ⊎ IsAfter l windows lists.choices left → IsBefore l windows lists.choices old left
       staged (inl before) = before
-      staged (inr is) = before_of l windows (lists_now sectors l windows h f old begun) old left begun.ends still is
+      staged (inr is) = before_of l windows lists.choices old left begun.ends still is
 
   module _ {D : Type 0} (M : MachineGhosts D) (a b : D) where
     -- it failed before it settled
-    pub ends_before : (new : Moment) → LeavesOnly M.moment M.left_since a b (Replays l windows (lists_now sectors l windows h f old begun) old) → LeavesOnly M.moment M.left_since a b (TurnsLast old new)
-        → Replays l windows (lists_now sectors l windows h f old begun) old new → IsUnturned old new → (r : Result VolumeValue MountFault) (fault : MountFault) → IsErrAnd r (λ told. told ≡ fault) → IsExcuse fault → IsRefusedFor sectors fault old
+    pub ends_before : (new : Moment) → LeavesOnly M.moment M.left_since a b (Replays l windows lists.choices old) → LeavesOnly M.moment M.left_since a b (TurnsLast old new)
+        → Replays l windows lists.choices old new → IsUnturned old new → (r : Result VolumeValue MountFault) (fault : MountFault) → IsErrAnd r (λ told. told ≡ fault) → IsExcuse fault → IsRefusedFor sectors fault old
         → EndsBefore state Holds l windows h f (LeavesOnly M.moment M.left_since a b) old new r
     ends_before new replays turns exit still r fault is excuse refused = record {
-      moments = leaves_more M.moment M.left_since a b (λ left. Replays l windows (lists_now sectors l windows h f old begun) old left × TurnsLast old new left) (SoundBefore l windows h f old)
+      moments = leaves_more M.moment M.left_since a b (λ left. Replays l windows lists.choices old left × TurnsLast old new left) (SoundBefore l windows h f old)
           (λ left both. moment_before left both.0 (unturned left both.1))
-          (leaves_both M.moment M.left_since a b (Replays l windows (lists_now sectors l windows h f old begun) old) (TurnsLast old new) replays turns);
+          (leaves_both M.moment M.left_since a b (Replays l windows lists.choices old) (TurnsLast old new) replays turns);
       exit = moment_before new exit still;
       why = why r is;
     }
@@ -84,40 +85,40 @@ module _ (sectors : ℕ) (l : Layout) (windows : List WeakRun) (h : List Change)
 
   -- ---- once it has settled
 
-  module _ {D : Type 0} (M : MachineGhosts D) (a b c : D) (log : LogValue) (mid new : Moment) (done : IsReplayed l windows (lists_now sectors l windows h f old begun) log.anchor.epoch mid) (short : AreShort mid.windows)
-      (exit : Replays l windows (lists_now sectors l windows h f old begun) old mid) where
+  module _ {D : Type 0} (M : MachineGhosts D) (a b c : D) (log : LogValue) (mid new : Moment) (done : IsReplayed l windows lists.choices log.anchor.epoch mid) (short : AreShort mid.windows)
+      (exit : Replays l windows lists.choices old mid) where
     same : SameData l (weak_of windows) old.image mid.image
     same = data_stays l (weak_of windows) old mid exit.rest
 
-    since : (left : Moment) → Wears mid left → SoundSince l windows done.after.run h (count sectors l windows h f old begun log mid done short) old left
-    since left wears = since_settled sectors l windows h f old begun log mid done short (data_stays l (weak_of windows) old mid exit.rest) exit.said exit.rest left wears
+    since : (left : Moment) → Wears mid left → SoundSince l windows done.after.run h (count sectors l windows h f old begun lists log mid done short) old left
+    since left wears = since_settled sectors l windows h f old begun lists log mid done short (data_stays l (weak_of windows) old mid exit.rest) exit.said exit.rest left wears
 
     at_mid : Wears mid mid
     at_mid = record { image = worn_refl _ mid.image; windows = refl; said = refl }
 
     abbrev Each : Moment → Type 0
-    Each left = SoundBefore l windows h f old left ⊎ SoundSince l windows done.after.run h (count sectors l windows h f old begun log mid done short) old left
+    Each left = SoundBefore l windows h f old left ⊎ SoundSince l windows done.after.run h (count sectors l windows h f old begun lists log mid done short) old left
 
-    each : (left : Moment) → Replays l windows (lists_now sectors l windows h f old begun) old left → TurnsLast old mid left → Each left
+    each : (left : Moment) → Replays l windows lists.choices old left → TurnsLast old mid left → Each left
     each left replays (inl still) = inl (moment_before left replays still)
-    each left replays (inr end) = inr (subst (SoundSince l windows done.after.run h (count sectors l windows h f old begun log mid done short) old) (sym end) (since mid at_mid))
+    each left replays (inr end) = inr (subst (SoundSince l windows done.after.run h (count sectors l windows h f old begun lists log mid done short) old) (sym end) (since mid at_mid))
 
     pub knows : KnowsHomes l mid
-    knows = knows_settled sectors l windows h f old begun log mid done short
+    knows = knows_settled sectors l windows h f old begun lists log mid done short
 
-    pub ends_settled : LeavesOnly M.moment M.left_since a b (Replays l windows (lists_now sectors l windows h f old begun) old) → LeavesOnly M.moment M.left_since a b (TurnsLast old mid) → LeavesOnly M.moment M.left_since b c (Wears mid)
-        → IsFreshLog l log → IsSettledIn sectors l log old → log.anchor.epoch < 2 ^ 32 → Wears mid new → (r : Result VolumeValue MountFault) → IfOk r (IsAssembled l log) → OpensKnown l mid r
+    pub ends_settled : LeavesOnly M.moment M.left_since a b (Replays l windows lists.choices old) → LeavesOnly M.moment M.left_since a b (TurnsLast old mid) → LeavesOnly M.moment M.left_since b c (Wears mid)
+        → IsFreshLog l log → IsSettledIn sectors l log old mid → log.anchor.epoch < 2 ^ 32 → Wears mid new → (r : Result VolumeValue MountFault) → IfOk r (IsAssembled l log) → OpensKnown l mid r
         → IsNamedSince (M.left_since c) (M.moment a) mid.windows.present → EndsSettled state Holds l windows h f (M.left_since c) (M.moment a) (LeavesOnly M.moment M.left_since a c) old new r
     ends_settled replays turns reads fresh is fits wears r assembled opens named = record {
-      count = count sectors l windows h f old begun log mid done short;
-      prefix = (files_settled sectors l windows h f old begun log mid done short).prefix;
+      count = count sectors l windows h f old begun lists log mid done short;
+      prefix = (files_settled sectors l windows h f old begun lists log mid done short).prefix;
       next = done.after.run;
       named = subst (IsNamedSince (M.left_since c) (M.moment a)) (ap (λ (w : Windows). w.present) done.after.settled) named;
-      known = known_new sectors l windows h f old begun log mid done short same exit.said exit.rest fresh is fits new wears;
+      known = known_new sectors l windows h f old begun lists log mid done short same exit.said exit.rest fresh is fits new wears;
       moments = then_on M.moment M.left_since a b c Each
-          (leaves_more M.moment M.left_since a b (λ left. Replays l windows (lists_now sectors l windows h f old begun) old left × TurnsLast old mid left) Each (λ left both. each left both.0 both.1)
-          (leaves_both M.moment M.left_since a b (Replays l windows (lists_now sectors l windows h f old begun) old) (TurnsLast old mid) replays turns))
+          (leaves_more M.moment M.left_since a b (λ left. Replays l windows lists.choices old left × TurnsLast old mid left) Each (λ left both. each left both.0 both.1)
+          (leaves_both M.moment M.left_since a b (Replays l windows lists.choices old) (TurnsLast old mid) replays turns))
           (leaves_more M.moment M.left_since b c (Wears mid) Each (λ left worn. inr (since left worn)) reads);
-      settled = settled_new sectors l windows h f old begun log mid done short same exit.said exit.rest fresh is fits new wears;
-      ends = mounts_new sectors l windows h f old begun log mid done short same exit.said exit.rest fresh is fits new wears r assembled opens;
+      settled = settled_new sectors l windows h f old begun lists log mid done short same exit.said exit.rest fresh is fits new wears;
+      ends = mounts_new sectors l windows h f old begun lists log mid done short same exit.said exit.rest fresh is fits new wears r assembled opens;
     }

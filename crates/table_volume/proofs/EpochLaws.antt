@@ -91,9 +91,9 @@ own_taken l windows choices a i shows own =
     by None is shows same = absurd shows
     by (Some t) is shows same = is ∙ ap (λ (x : Anchor). Some x) same
 
-pub raised : (sectors : ℕ) (l : Layout) (windows : List WeakRun) (log : LogValue) (old : Moment) → EndIn old.windows windows → IsSettledIn sectors l log old
+pub raised : (sectors : ℕ) (l : Layout) (windows : List WeakRun) (log : LogValue) (old mid : Moment) → EndIn old.windows windows → IsSettledIn sectors l log old mid
     → (later : List WeakRun) (choices : List (List (List ℕ))) (from : Image) → ShowsPages l later choices from → EachAnchor from (λ b. b ≡ log.anchor) → RaisesEpoch windows old.image from
-raised sectors l windows log old ends is later choices from shows own = record {
+raised sectors l windows log old mid ends is later choices from shows own = record {
   left = is.seen;
   worn = open_is_weak old.windows windows old.image is.seen ends is.from;
   next = subst (λ (o : Option Anchor). AreNext o (anchor_of from)) (sym is.settled.found.anchor)

@@ -40,7 +40,7 @@ in_data l s low high = and_from (nat_le (data_start l) s) (nat_lt s l.sectors) (
 
 -- ---- the volume
 
-module _ (l : Layout) (planned : plan l.sectors l.third l.pages ≡ Ok l) (log : LogValue) (v : VolumeValue) (a : IsAssembled l log v) (pages : List (List ℕ)) (t : IsTableOf l pages (opened_of v)) (files : Files) (count : length files ≡ length t.telling.entries) where
+module _ (l : Layout) (planned : plan l.kind l.sectors l.third l.pages ≡ Ok l) (log : LogValue) (v : VolumeValue) (a : IsAssembled l log v) (pages : List (List ℕ)) (t : IsTableOf l pages (opened_of v)) (files : Files) (count : length files ≡ length t.telling.entries) where
   taken : ℕ → Bool
   taken s = is_in (plans_of t.telling.entries) s
 

@@ -1,5 +1,5 @@
 -- A volume stands over what a call leaves that heals.
-use Rattle.std.proofs.Common.{◌≡◌, ◌≢◌, ◌⊎◌, inl, inr, ⊎_elim, ℕ, zero, suc, ◌+◌, ◌<◌, ◌≤◌, List, Result, Ok, Err, refl, sym, ap, subst, ◌∙◌, arith}
+use Rattle.std.proofs.Common.{◌≡◌, ◌≢◌, inl, inr, ⊎_elim, ℕ, zero, suc, ◌+◌, ◌<◌, ◌≤◌, List, Result, Ok, Err, refl, sym, ap, subst, ◌∙◌, arith}
 use Rattle.std.specs.Prelude.{IfErr, IfOk, OnOk, IsFalse, IsTrue, nat_le, nat_lt}
 use Rattle.std.proofs.lemmas.Bool.{and_parts, both_ways, leb-true, or_left}
 use Rattle.volume_layout.specs.declared.layout.Layout.{Layout}
@@ -27,7 +27,7 @@ use Rattle.fsd_sound.proofs.MountedLaws.{mounted_sound}
 use Rattle.fsd_sound.proofs.OpenLaws.{drafts_worn}
 use Rattle.fsd_sound.proofs.TwinLaws.{twin_a, twin_b}
 use Rattle.fsd_sound.proofs.TwinMendLaws.{ArePair, twin_mounted}
-use Rattle.fsd_sound.proofs.WindowLaws.{apart_narrow, short_apart}
+use Rattle.fsd_sound.proofs.WindowLaws.{borne_narrow}
 use Rattle.fsd_sound.proofs.WritesLaws.{beside}
 use Rattle.twin_home.specs.Heal.{Heals, Mends}
 use Rattle.twin_home.specs.Twins.{AreTwins, HealsPages, HealsTwins, TwinsStand}
@@ -66,7 +66,7 @@ module _ (v : VolumeValue) (k : Known) (old : Moment) (stands : Stands state Hol
   -- ---- a copy that is written from its twin
 
   narrow : AreShort old.windows → IsNarrow (weak_of k.windows)
-  narrow short = apart_narrow k.windows (short_apart old.windows k.windows short stands.ends)
+  narrow short = borne_narrow k.mounted.volume.layout k.windows stands.disk.over.shows.readable.borne
 
   pair_outside : (s t p : ℕ) → ArePair k.mounted.volume.layout s t → InLog k.mounted.volume.layout p → p ≡ s → ⊥
   pair_outside s t p (inl (inl r)) within e = let from = within.0 in omega (arith, r.0, from, e)

@@ -15,4 +15,5 @@ pub mod MountLaws
 pub mod RestLaws
 pub mod SettledLaws
 pub mod UnbrokenLaws
+mod UpgradeLaws
 pub mod UnsoundLaws

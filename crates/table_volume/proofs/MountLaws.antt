@@ -1,6 +1,6 @@
 -- What a mount answers.
 use Rattle.std.proofs.Common.{◌≡◌, inl, inr, ℕ, ◌^◌, ◌<◌, false, not, ◌||◌, ◌&&◌, List, [], length, replicate, Some, None, Result, Ok, Err, refl, sym, ap, subst, ◌∙◌, arith}
-use Rattle.std.specs.Prelude.{IfOk, ◌==◌}
+use Rattle.std.specs.Prelude.{IfOk, IfSome, ◌==◌}
 use Rattle.std.proofs.Math.Bool.{or-false}
 use Rattle.std.proofs.lemmas.List.{ext_get_or, get_or-replicate, length-replicate}
 use Rattle.volume_layout.specs.declared.layout.Layout.{Layout}
@@ -10,19 +10,19 @@ use Rattle.sector_set.specs.Area.{Area}
 use Rattle.sector_set.proofs.FreeLaws.{where_same}
 use Rattle.shadow_frees.specs.Readers.{is_held, unheld}
 use Rattle.shadow_frees.specs.Waits.{waits}
-use Rattle.sector_disk.specs.Image.{IsCalm}
-use Rattle.sector_disk.specs.Machine.{Moment}
+use Rattle.sector_disk.specs.Image.{IsCalm, Windows}
+use Rattle.sector_disk.specs.Machine.{Moment, Wears}
 use Rattle.sector_disk.proofs.Calm.{calm_worn}
 use Rattle.sector_disk.proofs.Damage.{lost_as}
 use Rattle.fsd_files.specs.Disk.{Image}
 use Rattle.fsd_sound.specs.Lost.{AreCopiesOn, AreHomes, LostIn}
-use Rattle.fsd_sound.specs.Mounting.{HasRoot}
+use Rattle.fsd_sound.specs.Mounting.{EachBears, HasRoot}
 use Rattle.fsd_sound.specs.Roots.{root_of}
 use Rattle.fsd_sound.specs.declared.fault.MountFault.{MountFault}
 use Rattle.fsd_sound.specs.declared.fault.MountFault.TheVariants.{Device, Lost, Memory, Unsound}
 use Rattle.log_thirds.specs.LogValue.{LogValue}
 use Rattle.mount_recover.specs.Recover.{IsSettled, IsSettledIn}
-use Rattle.volume_contract.specs.Mount.{IsRefused}
+use Rattle.volume_contract.specs.Mount.{IsFound, IsRefused}
 use Rattle.volume_contract.specs.State.{IsNew}
 use Rattle.table_volume.specs.Mounting.{IsAssembled, assembled, no_area, opened_of}
 use Rattle.cached_table.specs.Opening.{IsOpenFault}
@@ -83,9 +83,22 @@ module _ (l : Layout) (log : LogValue) (v : VolumeValue) (a : IsAssembled l log 
   pub is_new : IsNew (state v)
   is_new = subst (λ (x : VolumeValue). IsNew (state x)) (sym a.is) new_state
 
+-- ---- what it found
+
+module _ (sectors : ℕ) (l : Layout) (log : LogValue) (old mid new : Moment) (is : IsSettledIn sectors l log old mid) (wears : Wears mid new) where
+  pub found_open : (v : VolumeValue) → IsAssembled l log v → IsFound sectors (state v) old new
+  found_open v a = subst (λ (x : VolumeValue). IsFound sectors (state x) old new) (sym a.is) (record {
+    seen = is.seen;
+    from = is.from;
+    anchor = is.settled.anchor;
+    found = is.settled.found;
+    next = is.settled.epoch;
+    bears = subst (λ (w : Windows). IfSome w.present (EachBears sectors is.seen)) (sym wears.windows) is.bears;
+  })
+
 -- ---- why it is refused
 
-module _ (sectors : ℕ) (l : Layout) (log : LogValue) (old : Moment) (in_epoch : log.anchor.epoch < 2 ^ 32) (is : IsSettledIn sectors l log old) where
+module _ (sectors : ℕ) (l : Layout) (log : LogValue) (old mid : Moment) (in_epoch : log.anchor.epoch < 2 ^ 32) (is : IsSettledIn sectors l log old mid) where
   pub refused_open : (fault : MountFault) → IsOpenFault fault → IsRefused sectors fault old
   refused_open (Device s) open_fault = record { seen = is.seen; from = is.from; why = tt }
   refused_open Memory open_fault = record { seen = is.seen; from = is.from; why = tt }
@@ -94,14 +107,14 @@ module _ (sectors : ℕ) (l : Layout) (log : LogValue) (old : Moment) (in_epoch 
   refused_open other open_fault = absurd open_fault
 
 -- where nothing wears, what was seen is the image
-pub settled_in : (sectors : ℕ) (l : Layout) (log : LogValue) (old : Moment) → IsCalm old.windows → IsSettledIn sectors l log old → IsSettled sectors old.image l log
-settled_in sectors l log old calm is = subst (λ (i : Image). IsSettled sectors i l log) (calm_worn old.windows old.image is.seen calm is.from) is.settled
+pub settled_in : (sectors : ℕ) (l : Layout) (log : LogValue) (old mid : Moment) → IsCalm old.windows → IsSettledIn sectors l log old mid → IsSettled sectors old.image l log
+settled_in sectors l log old mid calm is = subst (λ (i : Image). IsSettled sectors i l log) (calm_worn old.windows old.image is.seen calm is.from) is.settled
 
 -- ---- what it loses
 
-module _ (sectors : ℕ) (l : Layout) (log : LogValue) (old : Moment) (image : Image) (root : HasRoot sectors old.image l) (is : IsSettledIn sectors l log old) where
+module _ (sectors : ℕ) (l : Layout) (log : LogValue) (old mid : Moment) (image : Image) (root : HasRoot sectors old.image l) (is : IsSettledIn sectors l log old mid) where
   calm_root : IsCalm old.windows → root_of sectors old.image ≡ Some l
-  calm_root calm = (settled_in sectors l log old calm is).found.root
+  calm_root calm = (settled_in sectors l log old mid calm is).found.root
 
   pub home_lost : (fault : MountFault) → LostIn (AreHomes l) image fault → LostIn (AreCopiesOn sectors old) image fault
   home_lost (Lost a b) lost = lost_as (AreHomes l) a b (AreCopiesOn sectors old) image (λ homes. inr (inl (record { layout = l; root = root; homes = homes; calm = calm_root }))) lost

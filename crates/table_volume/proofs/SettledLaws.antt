@@ -25,6 +25,7 @@ use Rattle.fsd_files.proofs.WearLaws.{has_still, kept_still}
 use Rattle.fsd_sound.specs.Anchors.{anchor_of, fresh_anchor}
 use Rattle.fsd_sound.specs.Homes.{home_of}
 use Rattle.fsd_sound.specs.Laid.{HasOwnLog}
+use Rattle.fsd_sound.specs.Choices.{TellsChoices}
 use Rattle.fsd_sound.specs.Mounted.{IsFresh, IsMounted, Mounted, SameData}
 use Rattle.fsd_sound.specs.Shown.{all_pages, records_by, shown, shown_by}
 use Rattle.fsd_sound.specs.Sound.{EndIn, ShowsOne, ShowsPages, weak_of}
@@ -36,7 +37,7 @@ use Rattle.fsd_sound.proofs.EachLaws.{each_size}
 use Rattle.fsd_sound.proofs.LaidLaws.{own_worn}
 use Rattle.fsd_sound.proofs.MountedLaws.{fresh_mounted as mounted_fresh, one_of}
 use Rattle.fsd_sound.proofs.SoundLaws.{shows_still, sound_still, weak_within_hurt}
-use Rattle.fsd_sound.proofs.WindowLaws.{apart_narrow, last_snoc, open_is_weak, short_apart}
+use Rattle.fsd_sound.proofs.WindowLaws.{apart_narrow, last_snoc, open_is_weak, borne_apart}
 use Rattle.log_thirds.specs.LogValue.{LogValue}
 use Rattle.mount_recover.specs.Recover.{IsFreshLog, IsSettledIn}
 use Rattle.mount_recover.specs.Replay.{IsReplayed}
@@ -51,9 +52,10 @@ use Rattle.volume_state.specs.State.{Holds, state}
 use Rattle.volume_state.specs.Volume.{VolumeValue}
 use Rattle.table_volume.proofs.EpochLaws.{raised}
 use Rattle.table_volume.proofs.FreshLaws.{fresh_fits, fresh_holds}
-use Rattle.volume_state.proofs.MomentLaws.{TellsFiles, described_since, files_now, lists_now, sound_since, worn_both}
+use Rattle.volume_state.proofs.MomentLaws.{TellsFiles, described_since, files_now, sound_since, worn_both}
 use Rattle.table_volume.proofs.UnbrokenLaws.{told_unbroken}
 use Rattle.volume_state.proofs.ListLaws.{lists_of}
+use Rattle.volume_layout.specs.Kinds.{gap_of}
 
 -- ---- how many pages are shown
 
@@ -86,8 +88,8 @@ twice_home weak i bytes a b apart (inl first) second = ap (λ (s : Sector). eith
 twice_home weak i bytes a b apart (inr hurt) (inl second) = ap (λ (s : Sector). either_copy (bytes_of s) (bytes_at i b)) hurt.1 ∙ ap bytes_of second
 twice_home weak i bytes a b apart (inr hurt) (inr more) = absurd (apart hurt.0 more.0)
 
-module _ (sectors : ℕ) (l : Layout) (windows : List WeakRun) (h : List Change) (f : ℕ) (old : Moment) (begun : IsSoundAt sectors l windows h f old)
-    (log : LogValue) (mid : Moment) (done : IsReplayed l windows (lists_now sectors l windows h f old begun) log.anchor.epoch mid) (short : AreShort mid.windows) where
+module _ (sectors : ℕ) (l : Layout) (windows : List WeakRun) (h : List Change) (f : ℕ) (old : Moment) (begun : IsSoundAt sectors l windows h f old) (lists : TellsChoices l windows h f old.image)
+    (log : LogValue) (mid : Moment) (done : IsReplayed l windows lists.choices log.anchor.epoch mid) (short : AreShort mid.windows) where
   abbrev pub run : WeakRun
   run = done.after.run
 
@@ -103,8 +105,8 @@ module _ (sectors : ℕ) (l : Layout) (windows : List WeakRun) (h : List Change)
     some = subst (λ (w : Windows). IsSome w.present) (sym done.after.settled) refl;
   }
 
-  apart_later : IsApart (weak_of later)
-  apart_later = short_apart mid.windows later short ends_later
+  apart_later : IsApart (gap_of l) (weak_of later)
+  apart_later = borne_apart l later done.after.shows.readable.borne
 
   worn_later : (i : Image) → IsWorn (open_damage mid.windows) mid.image i → IsWorn (weak_of later) mid.image i
   worn_later i worn = open_is_weak mid.windows later mid.image i ends_later worn
@@ -114,7 +116,7 @@ module _ (sectors : ℕ) (l : Layout) (windows : List WeakRun) (h : List Change)
   home_gives i worn page lt =
       let stand = done.home page lt in
       let still = has_still (weak_of later) (weak_of later) mid.image i (λ s weak. weak) (worn_later i worn) (get_or pages page []) in
-      twice_home (weak_of later) i (get_or pages page []) (home_a l page) (home_b l page) (λ a b. apart_later (home_a l page) (home_b l page) (omega (arith, lt)) a b) (still (home_a l page) stand.0) (still (home_b l page) stand.1)
+      twice_home (weak_of later) i (get_or pages page []) (home_a l page) (home_b l page) (λ a b. apart_narrow l later apart_later (home_a l page) (home_b l page) (omega (arith, lt)) a b) (still (home_a l page) stand.0) (still (home_b l page) stand.1)
 
   pub knows_settled : KnowsHomes l mid
   knows_settled page lt = record { bytes = get_or pages page []; stays = λ i worn. home_gives i worn page lt }
@@ -131,7 +133,7 @@ module _ (sectors : ℕ) (l : Layout) (windows : List WeakRun) (h : List Change)
   -- ---- what the pages tell
 
   abbrev pub files_settled : TellsFiles l (in_runs windows) old.image h f pages
-  files_settled = files_now sectors l windows h f old begun run pages done.after.chosen
+  files_settled = files_now sectors l windows h f old begun lists run pages done.after.chosen
 
   abbrev pub count : ℕ
   count = files_settled.count
@@ -143,8 +145,8 @@ module _ (sectors : ℕ) (l : Layout) (windows : List WeakRun) (h : List Change)
     since_settled left wears = record {
       settled = wears.windows ∙ done.after.settled;
       said = wears.said ∙ said;
-      sound = sound_still l later (apart_narrow later apart_later) (take count h) count mid.image left.image (worn_later left.image wears.image)
-          (sound_since sectors l windows h f old begun run pages done.after.chosen mid.image done.after.shows same);
+      sound = sound_still l later (apart_narrow l later apart_later) (take count h) count mid.image left.image (worn_later left.image wears.image)
+          (sound_since sectors l windows h f old begun lists run pages done.after.chosen mid.image done.after.shows same);
       writes = λ s out. worn_both (weak_of windows s) (in_run run s) (sector_at old.image s) (sector_at mid.image s) (sector_at left.image s) (rest s out) (worn_in s (wears.image.each s));
     }
       where
@@ -153,12 +155,12 @@ module _ (sectors : ℕ) (l : Layout) (windows : List WeakRun) (h : List Change)
 
     -- ---- the volume
 
-    module _ (fresh : IsFreshLog l log) (is : IsSettledIn sectors l log old) (fits : log.anchor.epoch < 2 ^ 32) (new : Moment) (wears : Wears mid new) where
+    module _ (fresh : IsFreshLog l log) (is : IsSettledIn sectors l log old mid) (fits : log.anchor.epoch < 2 ^ 32) (new : Moment) (wears : Wears mid new) where
       worn_new : IsWorn (weak_of later) mid.image new.image
       worn_new = worn_later new.image wears.image
 
       shows_new : ShowsPages l later (pages ∷ []) new.image
-      shows_new = shows_still l later (apart_narrow later apart_later) (pages ∷ []) mid.image new.image worn_new done.after.shows
+      shows_new = shows_still l later (apart_narrow l later apart_later) (pages ∷ []) mid.image new.image worn_new done.after.shows
 
       own_new : HasOwnLog l log.anchor [] log.head (weak_of later) new.image
       own_new =
@@ -170,7 +172,7 @@ module _ (sectors : ℕ) (l : Layout) (windows : List WeakRun) (h : List Change)
 
       described_new : Describes l (in_runs later) new.image (after (take count h)) files_settled.telling.entries
       described_new =
-          let d = described_since sectors l windows h f old begun run pages done.after.chosen mid.image same in
+          let d = described_since sectors l windows h f old begun lists run pages done.after.chosen mid.image same in
           record { lists = d.lists; apart = d.apart; kept = kept_still (weak_of later) (in_runs later) mid.image new.image (after (take count h)) files_settled.telling.entries (weak_within_hurt later) worn_new d.kept }
 
       -- with the files that the pages tell
@@ -207,7 +209,7 @@ module _ (sectors : ℕ) (l : Layout) (windows : List WeakRun) (h : List Change)
         changes = refl;
         layout = refl;
         first = refl;
-        raised = raised sectors l windows log old begun.ends is later (pages ∷ []) new.image shows_new own_new.own;
+        raised = raised sectors l windows log old mid begun.ends is later (pages ∷ []) new.image shows_new own_new.own;
         fresh = fresh_new;
       }
 

@@ -139,6 +139,14 @@ impl<M: Machine> Files<M> for Volume {
         Volume::stat(self)
     }
 
+    fn fresh(&self) -> bool {
+        Volume::fresh(self)
+    }
+
+    fn upgrade(&mut self, m: &mut M) -> Result<(), Refusal> {
+        Volume::upgrade(self, m)
+    }
+
     fn close(self, m: &mut M) -> Result<(), Refusal> {
         Volume::close(self, m)
     }

@@ -20,6 +20,7 @@ mod placing;
 mod putting;
 mod reading;
 mod storing;
+mod upgrading;
 mod volume;
 
 pub use volume::Volume;

@@ -37,12 +37,12 @@ impl Volume {
 
         ensures disk { HealsDisk M.Machine (device_in device_of_mount result) m.old m.new }
         ensures room { IfOk result (λ volume. (state volume).layout.sectors ≤ sectors) }
-        ensures planned { IfOk result (λ volume. let l = (state volume).layout in plan l.sectors l.third l.pages ≡ Ok l) }
+        ensures planned { IfOk result (λ volume. let l = (state volume).layout in plan l.kind l.sectors l.third l.pages ≡ Ok l) }
         ensures fresh { IfOk result (λ volume. IsNew (state volume)) }
         ensures counted { IfOk result (λ volume. M.tells m.new → CountsMount (state volume) (M.ledger m.old) (M.ledger m.new)) }
 
         // Each answer but a fault of the disk and want of memory says what the image was, as it was seen.
-        ensures found { IfOk result (λ volume. M.honest m.new → IsFound sectors (state volume) (M.now m.old)) }
+        ensures found { IfOk result (λ volume. M.honest m.new → IsFound sectors (state volume) (M.now m.old) (M.now m.new)) }
         ensures refused { IfErr result (λ fault. M.honest m.new → IsRefused sectors fault (M.now m.old)) }
         ensures unchanged { IfErr result (λ fault. M.honest m.new → KeepsAll fault (M.now m.old) (M.now m.new)) }
         ensures rest { M.honest m.new → MountKeeps sectors (M.now m.old) (M.now m.new) }
@@ -70,7 +70,7 @@ impl Volume {
 
 // The volume that has settled, once each page was read at home and its table is surveyed.
 fn open_read<M: Machine>(alloc: Global, m: &mut M, settled: Settled) -> Result<Volume, MountFault>
-    requires planned { plan settled.layout.sectors settled.layout.third settled.layout.pages ≡ Ok settled.layout }
+    requires planned { plan settled.layout.kind settled.layout.sectors settled.layout.third settled.layout.pages ≡ Ok settled.layout }
     requires sectors { settled.layout.sectors ≤ (M.report m.old).sectors }
     requires log { IsFreshLog settled.layout settled.log }
     ensures reads { OnlyReads M.Machine (device_in device_of_mount result) m.old m.new }
@@ -90,7 +90,7 @@ fn open_settled<M: Machine>(
     m: &mut M,
     settled: Settled,
 ) -> Result<Volume, MountFault>
-    requires planned { plan settled.layout.sectors settled.layout.third settled.layout.pages ≡ Ok settled.layout }
+    requires planned { plan settled.layout.kind settled.layout.sectors settled.layout.third settled.layout.pages ≡ Ok settled.layout }
     requires sectors { settled.layout.sectors ≤ (M.report m.old).sectors }
     requires log { IsFreshLog settled.layout settled.log }
     ensures reads { OnlyReads M.Machine (device_in device_of_mount result) m.old m.new }
@@ -106,7 +106,7 @@ fn open_settled<M: Machine>(
 
 // The volume with what was opened; nothing waits.
 fn assemble(alloc: Global, settled: Settled, opened: Opened) -> Result<Volume, MountFault>
-    requires planned { plan settled.layout.sectors settled.layout.third settled.layout.pages ≡ Ok settled.layout }
+    requires planned { plan settled.layout.kind settled.layout.sectors settled.layout.third settled.layout.pages ≡ Ok settled.layout }
     requires log { IsFreshLog settled.layout settled.log }
     requires opened { IsOpened settled.layout opened }
     ensures assembled { IfOk result (IsAssembled settled.layout settled.log) }

@@ -1,7 +1,7 @@
 -- A creation that is entered into the table: over the volume that has it abandoned its sectors are free, and they are taken there as those of a version that lay in free sectors.
-use Rattle.std.proofs.Common.{◌≡◌, inl, inr, ℕ, ◌+◌, ◌-◌, ◌^◌, ◌<◌, ◌≤◌, min, Bool, true, false, not, ◌&&◌, ◌||◌, List, [], ◌∷◌, ◌++◌, length, Option, None, Some, refl, sym, ap, subst, ◌∙◌, arith}
-use Rattle.std.specs.Prelude.{IsFalse, IsTrue, count_by, ◌==◌}
-use Rattle.std.proofs.lemmas.Bool.{both_ways, false_from_ne_true, or_cases, or_from, or_right}
+use Rattle.std.proofs.Common.{◌≡◌, ℕ, ◌+◌, ◌-◌, ◌^◌, ◌<◌, ◌≤◌, min, Bool, true, false, not, ◌&&◌, ◌||◌, List, [], ◌∷◌, ◌++◌, length, Option, None, Some, refl, sym, ap, subst, ◌∙◌}
+use Rattle.std.specs.Prelude.{count_by, ◌==◌}
+use Rattle.std.proofs.lemmas.Bool.{both_ways, false_from_ne_true, or_from, or_right}
 use Rattle.sector_disk.specs.declared.machine.Machine.{Ghosts as MachineGhosts}
 use Rattle.sector_disk.specs.Image.{AreShort, open_damage}
 use Rattle.run_table.specs.declared.run.Run.{Run}
@@ -9,7 +9,7 @@ use Rattle.run_table.specs.RunTable.{sectors_of}
 use Rattle.run_table.specs.Space.{contains}
 use Rattle.sector_set.specs.Area.{Area, AreIn, AreOut, area, together, without}
 use Rattle.sector_set.proofs.FreeLaws.{where_same}
-use Rattle.shadow_frees.specs.Waits.{Waits, waits}
+use Rattle.shadow_frees.specs.Waits.{Waits}
 use Rattle.fsd_formats.specs.declared.entry.Entry.{Entry}
 use Rattle.fsd_formats.specs.NamePage.{sectors_for}
 use Rattle.fsd_files.specs.Answers.{HasVersion}
@@ -24,7 +24,6 @@ use Rattle.volume_contract.specs.Pieces.{ended, slices_in, with_opened}
 use Rattle.volume_contract.specs.State.{Known, Stands}
 use Rattle.cached_table.specs.Editing.{DirtiesAtMost, EditsOnly, EditsTable}
 use Rattle.cached_table.specs.Entering.{AreInTurn, OfTableIn}
-use Rattle.cached_table.specs.Surveying.{IsOfData}
 use Rattle.volume_changes.specs.Completed.{Completes}
 use Rattle.volume_changes.specs.Entered.{StandsEntered}
 use Rattle.volume_state.specs.Placing.{IsPlace}
@@ -33,7 +32,6 @@ use Rattle.volume_state.specs.Volume.{IsWhole, VolumeValue}
 use Rattle.volume_state.proofs.PieceLaws.{abandoned, map_more, stands_abandoned, unfinished_left, waiting_out, whole_abandoned}
 use Rattle.volume_changes.proofs.EnterDone.{ends_entered}
 use Rattle.volume_changes.proofs.MakingLaws.{whole_entered, with_if}
-use Rattle.volume_changes.proofs.WholeLaws.{whole_edited}
 
 -- ---- the volume without the creation
 

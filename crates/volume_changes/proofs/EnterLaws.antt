@@ -1,5 +1,5 @@
 -- The end of a creation: its tests, its leader, the force that it makes by itself, and its entry into the table.
-use Rattle.std.proofs.Common.{◌≡◌, ◌⊎◌, inl, inr, ℕ, suc, ◌+◌, ◌-◌, ◌^◌, ◌<◌, ◌≤◌, Bool, true, false, cond, not, ◌&&◌, ◌||◌, nat_le, nat_lt, List, [], ◌∷◌, ◌++◌, filter, length, map, Option, Some, None, Result, Ok, Err, refl, sym, ap, subst, ◌∙◌, arith}
+use Rattle.std.proofs.Common.{◌≡◌, ◌⊎◌, inl, inr, ℕ, Bool, true, false, cond, not, ◌&&◌, ◌||◌, nat_lt, List, [], ◌∷◌, ◌++◌, filter, length, map, Option, Some, None, Result, Ok, Err, refl, sym, ap, subst, ◌∙◌, arith}
 use Rattle.std.specs.Prelude.{IsFalse, MatchResult, option_map}
 use Rattle.std.proofs.lemmas.Bool.{or_parts}
 use Rattle.std.proofs.lemmas.List.{append-nil}
@@ -15,7 +15,7 @@ use Rattle.sector_set.specs.Area.{AreIn}
 use Rattle.sector_disk.specs.Image.{AreShort, open_damage}
 use Rattle.sector_disk.specs.Machine.{Moment}
 use Rattle.fsd_formats.specs.declared.entry.Entry.{Entry}
-use Rattle.fsd_formats.specs.NamePage.{max_keep, max_length, sectors_for}
+use Rattle.fsd_formats.specs.NamePage.{max_keep, sectors_for}
 use Rattle.fsd_log.specs.Scan.{Head}
 use Rattle.fsd_files.specs.Answers.{Met, Outcome, enter_fault, keep_given, least_pages, new_entry, refused, size_fault, with_version}
 use Rattle.fsd_files.specs.Disk.{Sectors, Touches}
@@ -26,12 +26,11 @@ use Rattle.fsd_files.specs.Volume.{Volume, forced_if, pages_free}
 use Rattle.fsd_sound.specs.Mounted.{Mounted, forces_by_itself}
 use Rattle.fsd_sound.specs.Writes.{force_writes}
 use Rattle.version_data.specs.Writing.{WritesIn}
-use Rattle.volume_contract.specs.declared.token.Draft.{Draft}
 use Rattle.volume_contract.specs.Causes.{HasCause}
-use Rattle.volume_contract.specs.Ends.{Answered, EndsRefused, Unchanged, made_key}
+use Rattle.volume_contract.specs.Ends.{Answered, EndsRefused, Unchanged}
 use Rattle.volume_contract.specs.Order.{Asks, Comes, Disk, Fetch, Follows, Force, IsDeviceIn, Keeps, LookUp, Step, Through, by_itself, enter_steps, is_idle, table_full}
 use Rattle.volume_contract.specs.Pieces.{EndsEnter as EndsCreation, Enters, IsDraft, drafts_without, ended, in_leader, with_opened}
-use Rattle.volume_contract.specs.State.{GoesOn, HasCounted, HasLogged, IsForced, KeepsLog, Known, Leaves, Stands, State, Written, downs_for, forced_of, forces_first, is_worn, numbered, volume_of}
+use Rattle.volume_contract.specs.State.{GoesOn, HasCounted, HasLogged, IsForced, KeepsLog, Known, Leaves, Stands, State, Written, downs_for, forces_first, is_worn, numbered, volume_of}
 use Rattle.volume_changes.specs.Completed.{Completes, EndsComplete, draft_of}
 use Rattle.volume_changes.specs.Entered.{EndsEnter, enter_steps as look_steps}
 use Rattle.volume_state.specs.Placing.{IsPlace, test_steps}

@@ -18,7 +18,6 @@ use Rattle.volume_contract.specs.Order.{Comes, Through}
 use Rattle.cached_table.specs.Entering.{AreIdleInTurn, AreInTurn, NoneFor}
 use Rattle.volume_changes.specs.Entered.{Enters, enter_steps}
 use Rattle.volume_state.specs.State.{state}
-use Rattle.volume_contract.specs.State.{held_runs}
 use Rattle.volume_state.specs.Volume.{IsWhole, VolumeValue}
 use Rattle.volume_state.proofs.CountLaws.{count_of_flags}
 use Rattle.volume_changes.proofs.GoingLaws.{idle_in_turn}

@@ -1,5 +1,5 @@
 -- How a version comes to be held.
-use Rattle.std.proofs.Common.{◌≡◌, inl, inr, ℕ, ◌<◌, true, List, length, set, Option, None, Some, Result, Ok, Err, refl, sym, ap, subst, ◌∙◌}
+use Rattle.std.proofs.Common.{◌≡◌, inl, inr, ℕ, ◌<◌, true, List, length, Option, None, Some, Ok, Err, refl, sym, ap, subst, ◌∙◌}
 use Rattle.std.specs.Prelude.{Contains, IfSome, slice_index_or}
 use Rattle.std.specs.FinMap.{find}
 use Rattle.volume_layout.specs.declared.layout.Layout.{Layout}
@@ -22,7 +22,7 @@ use Rattle.fsd_files.specs.Replies.{Found, Refused}
 use Rattle.volume_contract.specs.declared.token.Held.{Held}
 use Rattle.volume_contract.specs.Causes.{IsRead, Shows}
 use Rattle.volume_contract.specs.Ends.{Looks}
-use Rattle.volume_contract.specs.Pieces.{EndsHold, HoldsAt, HoldsVersion, IsHeld, read_at, with_opened}
+use Rattle.volume_contract.specs.Pieces.{EndsHold, HoldsVersion, IsHeld, read_at, with_opened}
 use Rattle.volume_contract.specs.State.{Known, Stands, State, volume_of}
 use Rattle.volume_state.specs.State.{Holds, state}
 use Rattle.volume_state.specs.Volume.{VolumeValue}

@@ -1,9 +1,8 @@
 -- A volume with one version more, whose bytes stand in runs that were free.
-use Rattle.std.proofs.Common.{◌≡◌, inl, inr, ℕ, List, [], ◌∷◌, ◌++◌, None, Option, refl, subst}
+use Rattle.std.proofs.Common.{inl, inr, ℕ, List, [], ◌∷◌, None, Option, refl, subst}
 use Rattle.std.specs.Prelude.{IsTrue, T, not}
 use Rattle.std.specs.List.{AllZip, last_or, list_any}
 use Rattle.std.specs.FinMap.{is_sorted}
-use Rattle.std.proofs.lemmas.List.{append-nil}
 use Rattle.volume_layout.specs.declared.layout.Layout.{Layout}
 use Rattle.fsd_bytes.specs.Keys.{key_cmp, same_key}
 use Rattle.fsd_bytes.specs.declared.key.Serial.{Serial}

@@ -1,5 +1,5 @@
 -- How a write of slices of an unfinished creation ends: they stand, or nothing is known of them.
-use Rattle.std.proofs.Common.{◌≡◌, ℕ, ◌+◌, ◌-◌, ◌≤◌, true, false, List, length, Option, None, Some, sym, subst, ◌∙◌}
+use Rattle.std.proofs.Common.{◌≡◌, ℕ, ◌+◌, ◌-◌, ◌≤◌, true, false, List, length, Option, Some, sym, subst, ◌∙◌}
 use Rattle.std.specs.List.{AllZip}
 use Rattle.sector_disk.specs.Image.{AreShort, Windows, open_damage}
 use Rattle.sector_disk.specs.Machine.{Moment}

@@ -1,5 +1,5 @@
 -- What a creation that becomes a version makes of a volume.
-use Rattle.std.specs.Prelude.{◌≡◌, ◌&&◌, ℕ, not, List, [], ◌∷◌, length, Option, Some, Result, Ok, Err}
+use Rattle.std.specs.Prelude.{◌≡◌, ◌&&◌, ℕ, not, List, Option, Result, Ok, Err}
 use Rattle.run_table.specs.declared.run.Run.{Run}
 use Rattle.run_table.specs.RunTable.{sectors_of}
 use Rattle.run_table.specs.Space.{contains}

@@ -15,6 +15,7 @@ use Rattle.fsd_files.specs.Files.{File, Change}
 use Rattle.fsd_files.specs.Kept.{FirstDamaged, IsWhole, range_sectors}
 use Rattle.fsd_files.specs.Replies.{Reply, Refused, Made, Kept, Found}
 use Rattle.fsd_files.specs.Volume.{Volume, drawn, forced}
+use Rattle.fsd_sound.specs.Laid.{HasOwnRoots}
 use Rattle.fsd_sound.specs.Mounted.{Mounted, forces_by_itself, telling_of}
 use Rattle.fsd_sound.specs.Shown.{told}
 use Rattle.fsd_sound.specs.Sound.{IsSound, weak_of}
@@ -99,10 +100,11 @@ module _ {S : Type 0} (state : S → State) (has : S → Mounted → List Placed
   EndsForce outcome reply k new now (Err other) = ⊥
 
 -- All changes are forced: the disk is sound for them, and however it wears its own table is the volume's,
--- with its places and serials.
+-- with its places and serials. Both roots are those of its layout.
 pub record Closes (k : Known) (i : Image) : Type 0 where
   pub sound : IsSound k.mounted.volume.layout k.windows k.changes (length k.changes) i
   pub tells : AllWorn (weak_of k.windows) (λ j. told k.mounted.volume.layout j ≡ Some (telling_of k.mounted.volume)) i
+  pub roots : HasOwnRoots k.mounted.volume.layout (weak_of k.windows) i
 
 -- ---- look-ups
 

@@ -8,3 +8,4 @@ pub mod Found
 pub mod Logged
 pub mod Healing
 pub mod Pieces
+pub mod Upgrade

@@ -1,6 +1,7 @@
 -- What a force leaves of the pages that waited, over any image.
 use Rattle.std.specs.Prelude.{◌≡◌, ℕ, List, Option, Some, None, IsTrue, slice_index_or}
 use Rattle.run_table.specs.Space.{contains}
+use Rattle.volume_layout.specs.Kinds.{gap_of}
 use Rattle.sector_disk.specs.Image.{open_damage}
 use Rattle.sector_disk.specs.Machine.{Moment}
 use Rattle.fsd_formats.specs.NamePage.{Content}
@@ -16,7 +17,7 @@ pub record StandsForced (s : State) (resident : ℕ → Option (List ℕ)) (now 
   pub place : ℕ
   pub copy : ℕ
   pub copies : AreOfSlot s.layout (slice_index_or s.slots page None) place copy
-  pub twice : StandsTwice (open_damage now.windows) now.image bytes place copy
+  pub twice : StandsTwice (gap_of s.layout) (open_damage now.windows) now.image bytes place copy
 
 -- so does each page that waited
 abbrev pub AllLogged : (old new : State) → (resident : ℕ → Option (List ℕ)) → Moment → Type 0

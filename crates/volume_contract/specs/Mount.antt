@@ -1,5 +1,5 @@
 -- What a mount finds, why it is refused, and what it leaves.
-use Rattle.std.specs.Prelude.{◌≡◌, ◌⊎◌, ⊤, ℕ, ◌+◌, ◌*◌, ◌<◌, ◌≤◌, Bool, ◌||◌, List, [], ◌∷◌, ◌++◌, take, Some, None, Result, Ok, Err}
+use Rattle.std.specs.Prelude.{◌≡◌, ◌⊎◌, ⊤, ℕ, ◌+◌, ◌*◌, ◌<◌, ◌≤◌, Bool, ◌||◌, List, [], ◌∷◌, ◌++◌, take, Some, None, IfSome, Result, Ok, Err}
 use Rattle.volume_layout.specs.declared.layout.Layout.{Layout}
 use Rattle.volume_layout.specs.Layout.{home_a, plan}
 use Rattle.fsd_formats.specs.declared.anchor.Anchor.{Anchor}
@@ -17,13 +17,13 @@ use Rattle.fsd_sound.specs.Homes.{home_of, HasBothHomes}
 use Rattle.fsd_sound.specs.Laid.{StandsTwice}
 use Rattle.fsd_sound.specs.Mounted.{Mounted, IsFresh, telling_of}
 use Rattle.fsd_sound.specs.Shown.{all_pages, each_of, shown}
-use Rattle.fsd_sound.specs.Sound.{EndIn, IsPrefixOf, IsSound, weak_of}
+use Rattle.fsd_sound.specs.Sound.{EndIn, IsPrefixOf, IsSaid, IsSound, weak_of}
 use Rattle.fsd_sound.specs.declared.fault.MountFault.{MountFault}
 use Rattle.fsd_sound.specs.declared.fault.MountFault.TheVariants.{Device, Memory, NoAnchor, NotVolume, Unsound, WornOut}
 use Rattle.fsd_sound.specs.Lost.{LosesShown}
 use Rattle.fsd_sound.specs.Writes.{WritesAsMount}
 use Rattle.fsd_sound.specs.Windows.{IsNamedSince}
-use Rattle.fsd_sound.specs.Mounting.{HasNextEpoch, HasRoot, IsVolume, RefusedFor, last_epoch}
+use Rattle.fsd_sound.specs.Mounting.{EachBears, HasNextEpoch, HasRoot, IsVolume, RefusedFor, last_epoch}
 use Rattle.fsd_runs.specs.Leaves.{RaisesEpoch}
 use Rattle.volume_contract.specs.State.{Fits, Known, ListsPages, Stands, State, none_open}
 
@@ -35,13 +35,15 @@ CountsMount s old new = (old.written ≤ new.written) × (new.written ≤ old.wr
 
 -- ---- what is found, and why a mount is refused: by an image that was seen, which the old one may be worn to
 
--- The layout is the image's root, and the epoch the one behind its anchor's.
-pub record IsFound (sectors : ℕ) (s : State) (old : Moment) : Type 0 where
+-- The layout is the image's root, and the epoch the one behind its anchor's. Each root of the image that counts bears the
+-- run of the window that the mount has settled.
+pub record IsFound (sectors : ℕ) (s : State) (old new : Moment) : Type 0 where
   pub seen : Image
   pub from : IsWorn (open_damage old.windows) old.image seen
   pub anchor : Anchor
   pub found : IsVolume sectors seen s.layout anchor
   pub next : s.serial.epoch ≡ anchor.epoch + 1
+  pub bears : IfSome new.windows.present (EachBears sectors seen)
 
 -- Where its table is unsound the image has an epoch behind it too.
 abbrev pub MountRefusedFor : ℕ → Image → MountFault → Type 0
@@ -64,7 +66,7 @@ KeepsAll fault old new = ⊤
 
 -- the volume's anchor stands at both of its places, but for what the open window may wear
 abbrev pub HealsAnchors : State → Moment → Type 0
-HealsAnchors s now = StandsTwice (open_damage now.windows) now.image (anchor_bytes s.anchor) 8 12
+HealsAnchors s now = StandsTwice 1 (open_damage now.windows) now.image (anchor_bytes s.anchor) 8 12
 
 -- each home of each page has some bytes, or is damaged where the open window may wear it
 abbrev pub HealsHomes : State → Moment → Type 0
@@ -123,7 +125,7 @@ module _ {S : Type 0} (state : S → State) (has : S → Mounted → List Placed
 
 -- The machine's disk is sound.
 pub record IsSoundAt (sectors : ℕ) (l : Layout) (windows : List WeakRun) (h : List Change) (f : ℕ) (now : Moment) : Type 0 where
-  pub planned : plan l.sectors l.third l.pages ≡ Ok l
+  pub planned : plan l.kind l.sectors l.third l.pages ≡ Ok l
   pub fits : l.sectors ≤ sectors
   pub ends : EndIn now.windows windows
   pub sound : IsSound l windows h f now.image
@@ -200,5 +202,10 @@ module _ {S : Type 0} (state : S → State) (has : S → Mounted → List Placed
     pub settled : Settled l windows next h count known old new
     pub ends : Mounts known new result
 
+  -- both by this layout
+  abbrev pub MountsAs : Layout → List WeakRun → List Change → ℕ → (Past : ℕ → Moment → Type 0) → (began : ℕ) → ((Moment → Type 0) → Type 0) → (old new : Moment) → Result S MountFault → Type 0
+  MountsAs l windows h f Past began Only old new result = EndsBefore l windows h f Only old new result ⊎ EndsSettled l windows h f Past began Only old new result
+
+  -- so it is by the layout that the mount has read: this one, or it turned, where a root says so
   abbrev pub MountsSound : Layout → List WeakRun → List Change → ℕ → (Past : ℕ → Moment → Type 0) → (began : ℕ) → ((Moment → Type 0) → Type 0) → (old new : Moment) → Result S MountFault → Type 0
-  MountsSound l windows h f Past began Only old new result = EndsBefore l windows h f Only old new result ⊎ EndsSettled l windows h f Past began Only old new result
+  MountsSound l windows h f Past began Only old new result = (layout : Layout) × IsSaid l old.image layout × MountsAs layout windows h f Past began Only old new result

@@ -1,18 +1,22 @@
 -- In which order a call may be refused, and what a refusal keeps, over any machine: the steps of each call in a line.
-use Rattle.std.specs.Prelude.{◌≡◌, ◌⊎◌, ⊤, ℕ, suc, Bool, true, false, not, ◌&&◌, List, [], ◌∷◌, length, Option, Some, None, is_none, option_map, nat_lt, if◌then◌else◌, IsTrue, Result, MatchResult}
+use Rattle.std.specs.Prelude.{◌≡◌, ◌⊎◌, ⊤, ℕ, suc, Bool, true, false, not, ◌&&◌, ◌||◌, ◌==◌, List, [], ◌∷◌, length, Option, Some, None, is_none, option_map, nat_lt, if◌then◌else◌, IsTrue, Result, MatchResult}
 use Rattle.fsd_bytes.specs.declared.refusal.Refusal.{Refusal}
 use Rattle.fsd_bytes.specs.declared.refusal.Refusal.TheVariants as Why
+use Rattle.volume_layout.specs.declared.kind.Kind.{Kind}
+use Rattle.volume_layout.specs.declared.kind.Kind.TheVariants.{Two, Three}
+use Rattle.volume_layout.specs.Layout.{with_kind}
 use Rattle.run_table.specs.RunTable.{total}
 use Rattle.run_table.specs.Space.{best}
 use Rattle.run_table.specs.declared.run.Run.{Run}
 use Rattle.fsd_formats.specs.NamePage.{max_keep, sectors_for}
 use Rattle.fsd_files.specs.Answers.{size_fault, keep_given, least_pages}
 use Rattle.fsd_files.specs.Disk.{Sectors}
-use Rattle.volume_contract.specs.State.{State, IsForced, IsDownAt, forces_first, forces_for_place, in_place, is_worn, place_in}
+use Rattle.volume_contract.specs.State.{State, IsForced, IsDownAt, downs_for, forces_first, forces_for_place, in_place, is_worn, place_in}
 
 -- A step of a call on its way to its answer: a test of what is in memory, or one of the table; a serial that is drawn;
 -- writes of the disk that begin in such sectors; a force, where one comes; a look-up; pages that are made resident;
--- the data of a version; copies that are healed from their twins; one sector that is read or written.
+-- the data of a version; copies that are healed from their twins; one sector that is read or written; the two roots,
+-- written with another layout.
 pub data Step : Type 0 where
   Test : Option Refusal → Step
   Asks : Refusal → Step
@@ -24,6 +28,7 @@ pub data Step : Type 0 where
   Data : Step
   Heal : Step
   Single : Step
+  Roots : Step
 
 -- ---- what a step may refuse
 
@@ -52,6 +57,10 @@ abbrev pub IsData : Refusal → Type 0
 IsData (Why.Damaged s) = ⊤
 IsData other = IsDevice other
 
+-- the sectors of the two roots
+abbrev pub is_root : Sectors
+is_root s = (s == 0) || (s == 4)
+
 abbrev pub Refuses : Step → Refusal → Type 0
 Refuses (Test why) r = why ≡ Some r
 Refuses (Asks why) r = r ≡ why
@@ -63,6 +72,7 @@ Refuses Fetch r = IsFetch r
 Refuses Data r = IsData r
 Refuses Heal r = IsLoss r
 Refuses Single r = IsDevice r
+Refuses Roots r = IsDeviceIn is_root r
 
 -- a test that refuses nothing; of any other step nothing is known here
 abbrev pub Passes : Step → Type 0
@@ -96,17 +106,22 @@ is_idle (step ∷ steps) = false
 abbrev pub with_drawn : State → State
 with_drawn s = record s { serial = record { epoch = s.serial.epoch; count = suc s.serial.count } }
 
+-- it bears runs of three
+abbrev pub with_three : State → State
+with_three s = record s { layout = with_kind Three s.layout }
+
 abbrev pub IsDownBy : Refusal → State → State → Type 0
 IsDownBy (Why.Device s) old new = IsDownAt s old new
 IsDownBy (Why.Lost a b) old new = IsDownAt a old new
 IsDownBy why old new = ⊥
 
 -- The volume came to these steps so, and one of them refused: it is as it was at that step, which a serial drawn and a
--- force that ended before it have changed; or it is down, where a force has failed.
+-- force that ended before it have changed; or it is down, where a force or a write of a root has failed.
 abbrev pub Keeps : List Step → Refusal → (at new : State) → Type 0
 Keeps [] r at new = ⊥
 Keeps (Draw ∷ steps) r at new = Keeps steps r (with_drawn at) new
 Keeps (Force true ∷ steps) r at new = IsDownBy r at new ⊎ ((next : State) × IsForced at next × Keeps steps r next new)
+Keeps (Roots ∷ steps) r at new = (Refuses Roots r × (new ≡ record at { down = downs_for r })) ⊎ Keeps steps r (with_three at) new
 Keeps (step ∷ steps) r at new = (Refuses step r × (new ≡ at)) ⊎ (Passes step × Keeps steps r at new)
 
 -- ---- the tests
@@ -189,3 +204,11 @@ module _ (s : State) where
   -- of a version's leader, and of one of its data sectors
   abbrev pub single_steps : List Step
   single_steps = down ∷ Single ∷ []
+
+  -- layout 2 is the last one
+  abbrev pub layout_is : Kind → Option Refusal
+  layout_is Two = None
+  layout_is Three = Some (Why.LayoutIs 2)
+
+  abbrev pub upgrade_steps : List Step
+  upgrade_steps = down ∷ Test (layout_is s.layout.kind) ∷ Roots ∷ []

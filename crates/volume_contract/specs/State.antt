@@ -33,6 +33,7 @@ use Rattle.log_thirds.specs.Moves.{head_back}
 use Rattle.log_thirds.specs.Moving.{next_third, slot_outside}
 use Rattle.log_thirds.specs.Slots.{AreSlots, lies_in}
 use Rattle.fsd_runs.specs.Runs.{last_count}
+use Rattle.volume_layout.specs.Kinds.{gap_of}
 
 -- ---- over any machine
 
@@ -143,7 +144,7 @@ numbered s = if length s.dirty == 0 then s.head.number else suc s.head.number
 
 -- the next record would be laid in the anchor's first third
 abbrev pub enters_again : State → Bool
-enters_again s = nat_lt s.head.end (s.head.at + record_len (length s.dirty)) && nat_le (3 * s.layout.third) s.head.end
+enters_again s = nat_lt s.head.end (s.head.at + record_len (gap_of s.layout) (length s.dirty)) && nat_le (3 * s.layout.third) s.head.end
 
 -- Its log lacks that third: the anchor names the following one, whose first record has this number, and the log has no
 -- page's last image in the one that it leaves.
@@ -165,14 +166,14 @@ record_spot s = spot_for s.layout (length s.dirty) s.head
 -- the slot that it has of a page that waits: its pages ascend
 abbrev pub record_slot : State → (page : ℕ) → Slot
 record_slot s page =
-    let place = place_of s.layout s.anchor.third (record_spot s).at + 3 + count_by (λ q. nat_lt q page) s.dirty in
-    record { place = place; copy = place + length s.dirty + 1; number = s.head.number }
+    let place = place_of s.layout s.anchor.third (record_spot s).at + 3 + gap_of s.layout + count_by (λ q. nat_lt q page) s.dirty in
+    record { place = place; copy = place + length s.dirty + 1 + gap_of s.layout; number = s.head.number }
 
 -- A record of the pages that wait stands behind the log, which ends behind it then,
 -- and of each of these pages has the slot in it.
 pub record LogsRecord (s new : State) : Type 0 where
   pub anchor : new.anchor ≡ s.anchor
-  pub head : new.head ≡ record { number = suc s.head.number; at = (record_spot s).at + record_len (length s.dirty); end = (record_spot s).end }
+  pub head : new.head ≡ record { number = suc s.head.number; at = (record_spot s).at + record_len (gap_of s.layout) (length s.dirty); end = (record_spot s).end }
   pub table : length new.slots ≡ length s.slots
   pub slots : (page : ℕ) → page < length s.slots → slice_index_or new.slots page None ≡ (if contains s.dirty page then Some (record_slot s page) else slice_index_or s.slots page None)
 
@@ -218,7 +219,7 @@ abbrev pub homed : State → ℕ
 homed s = count_by (lies_in (third_start s.layout s.anchor.third) s.layout.third) s.slots
 
 abbrev pub force_len : State → ℕ
-force_len s = if length s.dirty == 0 then 0 else record_len (length s.dirty) + (if enters_again s then 2 * homed s + 2 else 0)
+force_len s = if length s.dirty == 0 then 0 else record_len (gap_of s.layout) (length s.dirty) + (if enters_again s then 2 * homed s + 2 else 0)
 
 -- with a force on the way, where one comes
 abbrev pub change_len : State → ℕ

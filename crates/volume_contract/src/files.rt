@@ -25,13 +25,14 @@ ghost use Rattle.fsd_sound.specs.Mounted.{Mounted, image_at};
 ghost use Rattle.fsd_sound.specs.Lost.{AreCopiesOn, LostIn};
 ghost use Rattle.volume_contract.specs.State.{State, Known, Ages, volume_of, Stands, IsNew, GoesOn, HasEnough, HasCounted, IsForced as HasForced, Counted, Reading, downs, downs_for, Leaves, put_writes, force_len, change_len, put_len, forces_first, forces_for_place};
 ghost use Rattle.fsd_sound.specs.Writes.{MountKeeps, force_writes};
-ghost use Rattle.volume_contract.specs.Order.{Follows, IsDevice, Keeps, is_idle, put_steps, delete_steps, keep_steps, entry_steps, next_steps, read_steps, reserve_steps, slices_steps, enter_steps, held_steps, force_steps, heal_steps, single_steps};
+ghost use Rattle.volume_contract.specs.Order.{Follows, IsDevice, Keeps, is_idle, put_steps, delete_steps, keep_steps, entry_steps, next_steps, read_steps, reserve_steps, slices_steps, enter_steps, held_steps, force_steps, heal_steps, single_steps, upgrade_steps, is_root, with_three};
 ghost use Rattle.volume_contract.specs.Pieces.{IsDraft, IsHeld, Reserves, GivesBack, Enters as EntersState, HoldsAt, Unholds, FitsDraft, reserve_len, slice_count, in_slices, in_leader, slices_in, slices_if, read_at, ended, with_opened, told, EndsReserve, EndsSlices, EndsEnter, EndsHold, ReadsHeld};
 ghost use Rattle.volume_contract.specs.Ends.{Ends, EndsPut, EndsForce, Closes, Looks, IsLater, count_in, found_one, Reads, kept_key, device_of};
 ghost use Rattle.volume_contract.specs.Absent.{LacksKey, LacksLater, ShowsReached};
 ghost use Rattle.volume_contract.specs.Found.{HasEntry, HasRange, ShowsReachedNext};
 ghost use Rattle.volume_contract.specs.Causes.{Causes, IsTaken};
 ghost use Rattle.volume_contract.specs.Healing.{IsMet, LeavesWith, LosesTwins, StandsStill, TwinsStand};
+ghost use Rattle.volume_contract.specs.Upgrade.{EndsUpgrade, RootsStand, is_fresh};
 ghost use Rattle.volume_contract.specs.Logged.{AllLogged, KeepsPages};
 ghost use Rattle.volume_contract.specs.Mount.{CountsMount, HealsAnchors, HealsHomes, IsFound, IsRefused, KeepsAll, UnsoundFor, MountsCalm, IsSoundAt, MountsSound};
 ghost use Rattle.fsd_sound.specs.Mounting.{device_of_mount};
@@ -79,12 +80,12 @@ pub trait Files<M: Machine>: Sized {
 
         ensures disk { HealsDisk M.Machine (device_in device_of_mount result) m.old m.new }
         ensures room { IfOk result (λ volume. (state volume).layout.sectors ≤ sectors) }
-        ensures planned { IfOk result (λ volume. let l = (state volume).layout in plan l.sectors l.third l.pages ≡ Ok l) }
+        ensures planned { IfOk result (λ volume. let l = (state volume).layout in plan l.kind l.sectors l.third l.pages ≡ Ok l) }
         ensures fresh { IfOk result (λ volume. IsNew (state volume)) }
         ensures counted { IfOk result (λ volume. M.tells m.new → CountsMount (state volume) (M.ledger m.old) (M.ledger m.new)) }
 
         // Each answer but a fault of the disk and want of memory says what the image was, as it was seen.
-        ensures found { IfOk result (λ volume. M.honest m.new → IsFound sectors (state volume) (M.now m.old)) }
+        ensures found { IfOk result (λ volume. M.honest m.new → IsFound sectors (state volume) (M.now m.old) (M.now m.new)) }
         ensures refused { IfErr result (λ fault. M.honest m.new → IsRefused sectors fault (M.now m.old)) }
         ensures unchanged { IfErr result (λ fault. M.honest m.new → KeepsAll fault (M.now m.old) (M.now m.new)) }
         ensures rest { M.honest m.new → MountKeeps sectors (M.now m.old) (M.now m.new) }
@@ -407,6 +408,24 @@ pub trait Files<M: Machine>: Sized {
         ensures waiting { result.waiting ≡ length (state self.now).waiting }
         ensures pages_free { result.pages_free ≡ length (state self.now).free_pages }
         ensures versions { result.versions ≡ (state self.now).versions };
+
+    /// Whether no record was written in this mount, and no page waits; of a volume that is down too.
+    fn fresh(&self) -> bool
+        ensures { result ≡ is_fresh (state self.now) };
+
+    /// Writes both roots with layout 2, root 0 first, so that the volume bears runs of three adjacent sectors. Layout 2 is
+    /// `LayoutIs(2)`; where the disk fails, the volume is down, and sound by both layouts.
+    fn upgrade(&mut self, m: &mut M) -> Result<(), Refusal>
+        requires room { (state self.old).layout.sectors ≤ (M.report m.old).sectors }
+        requires fresh { IsTrue (is_fresh (state self.old)) }
+        ensures order { Follows (upgrade_steps (state self.old)) result }
+        ensures disk { WritesDisk M.Machine (device_in device_of result) (Leaves state holds self.old is_root) m.old m.new }
+        ensures rest { M.honest m.new → Touches is_root (M.now m.old) (M.now m.new) }
+        ensures counted { M.tells m.new → Counted result 2 (M.ledger m.old) (M.ledger m.new) }
+        ensures state { MatchResult result (λ x. state self.new ≡ with_three (state self.old)) (λ why. Keeps (upgrade_steps (state self.old)) why (state self.old) (state self.new)) }
+        ensures idle { IsTrue (is_idle (upgrade_steps (state self.old))) → m.new ≡ m.old }
+        ensures roots { OnOk result (M.honest m.new → RootsStand (state self.new) (M.now m.new)) }
+        ensures done { M.honest m.new → (k : Known) → Stands state holds self.old k (M.now m.old) → EndsUpgrade state holds k self.new (M.now m.new) result };
 
     /// Ends the use of a volume by a force.
     fn close(self, m: &mut M) -> Result<(), Refusal>

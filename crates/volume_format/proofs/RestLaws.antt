@@ -27,7 +27,7 @@ ends (Ok x) settles fails h = inl (settles h)
 ends (Err e) settles fails h = inr (fails h)
 
 -- behind the naming of a window
-module _ (may : Sectors) (old opened : Moment) (named : Names old opened) where
+module _ {longest : ℕ} (may : Sectors) (old opened : Moment) (named : Names longest old opened) where
   named_then : (new : Moment) (s : ℕ) → (IsTrue (open_damage opened.windows s) → IsTrue (open_damage new.windows s)) → SectorWorn (open_damage opened.windows s) (sector_at opened.image s) (sector_at new.image s)
       → SectorWorn (open_damage old.windows s || open_damage new.windows s) (sector_at old.image s) (sector_at new.image s)
   named_then new s more next =

@@ -1,7 +1,8 @@
 -- A new image, and what a format makes of it.
-use Rattle.std.specs.Prelude.{◌≡◌, ℕ, ◌+◌, ◌||◌, ◌==◌, List, [], ◌∷◌, Some, None, IsFalse, slice_index_or, if◌then◌else◌}
+use Rattle.std.specs.Prelude.{◌≡◌, ◌≤◌, ℕ, ◌+◌, ◌||◌, ◌==◌, List, [], ◌∷◌, Some, None, IsFalse, slice_index_or, if◌then◌else◌}
 use Rattle.fsd_bytes.specs.Bytes.{sector}
 use Rattle.volume_layout.specs.declared.layout.Layout.{Layout}
+use Rattle.volume_layout.specs.Kinds.{longest_of}
 use Rattle.volume_layout.specs.Layout.{home_a, home_b}
 use Rattle.volume_layout.specs.Root.{root_bytes}
 use Rattle.fsd_formats.specs.Anchors.{anchor_bytes}
@@ -21,9 +22,10 @@ pub record IsNew (moment : Moment) : Type 0 where
   pub damaged : (s : ℕ) → sector_at moment.image s ≡ Damaged
   pub windows : moment.windows ≡ record { present = None; next = None }
 
--- An empty volume stands, in a window of its own.
+-- An empty volume stands, in a window of its own, whose run the volume bears.
 pub record Formats (l : Layout) (old new : Moment) : Type 0 where
   pub run : WeakRun
+  pub short : run.count ≤ longest_of l.kind
   pub formatted : IsFormattedIn l run new.image
   pub windows : new.windows ≡ record { present = Some run; next = None }
   pub said : new.said ≡ old.said

@@ -37,7 +37,7 @@ pub fn format<M: Machine>(m: &mut M, l: &Layout) -> Result<(), Failed>
     // On a new image an empty volume stands then, also as the window of the format has worn it.
     ensures done { OnOk result (M.honest m.new → IsNew (M.now m.old) → Formats l.now (M.now m.old) (M.now m.new)) }
 {
-    m.healing()?;
+    m.healing(l.kind().longest())?;
     write_volume(m, l)?;
     m.settle()
 }
@@ -49,7 +49,7 @@ fn write_volume<M: Machine>(m: &mut M, l: &Layout) -> Result<(), Failed>
     ensures counted { OnOk result (M.tells m.new → M.ledger m.new ≡ wrote (M.ledger m.old) (format_count l.now)) }
     ensures counted_err { OnErr result (M.tells m.new → WroteMost (format_count l.now) (M.ledger m.old) (M.ledger m.new)) }
     ensures done { OnOk result (M.honest m.new → Holds (M.now m.old) (with_volume l.now (M.now m.old).image) (M.now m.new)) }
-    ensures planned { plan l.now.sectors l.now.third l.now.pages ≡ Ok l.now }
+    ensures planned { plan l.now.kind l.now.sectors l.now.third l.now.pages ≡ Ok l.now }
 {
     let pages = l.pages();
     write_pages(m, l.home_a(0), pages)?;

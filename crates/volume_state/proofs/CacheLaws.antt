@@ -8,7 +8,7 @@ use Rattle.sector_disk.specs.Machine.{Moment}
 use Rattle.page_cache.specs.Cache.{AreNewest, CacheValue, Held, IsResident, bytes_of, held, is_one_of}
 use Rattle.fsd_sound.specs.Mounted.{image_at}
 use Rattle.fsd_sound.specs.Shown.{newest, records_by}
-use Rattle.fsd_sound.proofs.WindowLaws.{short_apart}
+use Rattle.fsd_sound.proofs.WindowLaws.{borne_apart}
 use Rattle.log_thirds.specs.Append.{IsIndexed}
 use Rattle.group_commit.specs.Newest.{KnowsPages, newest_by}
 use Rattle.group_commit.proofs.NewestLaws.{in_layout}
@@ -26,7 +26,7 @@ module _ (v : VolumeValue) (k : Known) (now : Moment) (whole : IsWhole v) (stand
       record {
         windows = k.windows;
         ends = stands.ends;
-        apart = short_apart now.windows k.windows short stands.ends;
+        apart = borne_apart v.log.layout k.windows at.shows.readable.borne;
         shape = stands.holds.fits;
         records = stands.disk.records;
         disk = stands.disk.disk;

@@ -1,44 +1,27 @@
 -- How the use of a volume ends: all its changes are forced, and its disk tells them.
-use Rattle.std.proofs.Common.{◌≡◌, ℕ, ◌-◌, List, [], ◌∷◌, length, Option, Some, None, Err, refl, sym, ap, subst, ◌∙◌, arith}
-use Rattle.std.specs.Prelude.{IsFalse, option_and_then}
-use Rattle.std.proofs.lemmas.List.{append-nil, ext_get_or, nil_from_length}
+use Rattle.std.proofs.Common.{◌≡◌, ℕ, ◌-◌, List, [], length, Some, Err, sym, ap, subst, ◌∙◌, arith}
+use Rattle.std.proofs.lemmas.List.{append-nil}
 use Rattle.volume_layout.specs.declared.layout.Layout.{Layout}
-use Rattle.run_table.specs.Space.{contains}
 use Rattle.fsd_bytes.specs.declared.refusal.Refusal.{Refusal}
 use Rattle.fsd_bytes.specs.declared.refusal.Refusal.TheVariants as Why
 use Rattle.sector_disk.specs.declared.sector.WeakRun.{WeakRun}
-use Rattle.sector_disk.specs.Image.{AllWorn, IsWorn}
+use Rattle.sector_disk.specs.Image.{IsWorn}
 use Rattle.sector_disk.specs.Machine.{Moment}
-use Rattle.fsd_table.specs.Table.{Telling, told_in}
+use Rattle.fsd_table.specs.Table.{Telling}
 use Rattle.fsd_files.specs.Answers.{Met, Outcome, force_outcome}
-use Rattle.fsd_files.specs.Disk.{Image}
 use Rattle.fsd_files.specs.Files.{Change}
 use Rattle.fsd_files.specs.Replies.{Reply, Forced as IsForced}
 use Rattle.fsd_files.specs.Volume.{Volume, forced}
-use Rattle.fsd_sound.specs.Mounted.{IsMounted, Mounted, telling_of}
-use Rattle.fsd_sound.specs.Shown.{shown, told}
-use Rattle.fsd_sound.specs.Sound.{IsSound, ShowsOne, weak_of}
-use Rattle.fsd_sound.proofs.MountedLaws.{mounted_sound, one_of}
+use Rattle.fsd_sound.specs.Laid.{HasOwnRoots}
+use Rattle.fsd_sound.specs.Mounted.{telling_of}
+use Rattle.fsd_sound.specs.Shown.{told}
+use Rattle.fsd_sound.specs.Sound.{IsSound, weak_of}
+use Rattle.fsd_sound.proofs.MountedLaws.{mounted_lasts, mounted_sound}
 use Rattle.volume_contract.specs.Ends.{Answered, Closes, EndsForce}
 use Rattle.volume_contract.specs.Order.{IsDevice}
 use Rattle.volume_contract.specs.State.{Known, volume_of}
 use Rattle.volume_state.specs.State.{Holds, state}
 use Rattle.volume_state.specs.Volume.{VolumeValue}
-
--- where nothing waits the disk tells the volume's table, however it wears
-module _ (m : Mounted) (windows : List WeakRun) (h : List Change) (f : ℕ) (i : Image) (is : IsMounted m windows h f i) (none : m.volume.unforced ≡ 0) where
-  none_dirty : m.dirty ≡ []
-  none_dirty = nil_from_length m.dirty (let few = is.few in omega (arith, few, none))
-
-  same : is.disk ≡ m.pages
-  same = ext_get_or [] is.disk m.pages is.over.clean.size (λ page lt. is.over.clean.each page (subst (λ (dirty : List ℕ). IsFalse (contains dirty page)) (sym none_dirty) refl))
-
-  told_by_one : (o : Option (List (List ℕ))) → ShowsOne (is.disk ∷ []) o → option_and_then told_in o ≡ Some (telling_of m.volume)
-  told_by_one None one = absurd one
-  told_by_one (Some pages) one = one_of (λ pages. told_in pages ≡ Some (telling_of m.volume)) is.disk pages (ap told_in same ∙ is.in_memory) one
-
-  told_worn : AllWorn (weak_of windows) (λ j. told m.volume.layout j ≡ Some (telling_of m.volume)) i
-  told_worn j worn = told_by_one (shown m.volume.layout j) (is.over.shows.shows j worn)
 
 -- what a force has ended with
 pub closes : (k : Known) (w : VolumeValue) (at : Moment) → Answered state Holds (λ met. force_outcome (volume_of k)) IsForced [] k w at → Closes k at.image
@@ -51,13 +34,14 @@ closes k w at ends =
     let telling : telling_of (volume_of after) ≡ telling_of (volume_of k) = sym (ap telling_of volume) in
     let count : length after.changes - (volume_of after).unforced ≡ length k.changes = omega (arith, none, ap (λ (h : List Change). length h) changes) in
     let sound = mounted_sound after.mounted after.windows after.changes (length after.changes - (volume_of after).unforced) at.image ends.2.disk in
-    let tells = told_worn after.mounted after.windows after.changes (length after.changes - (volume_of after).unforced) at.image ends.2.disk none in
+    let tells = mounted_lasts after.mounted after.windows after.changes (length after.changes - (volume_of after).unforced) at.image ends.2.disk none in
     record {
       sound = subst (λ (l : Layout). IsSound l k.windows k.changes (length k.changes) at.image) layout
           (subst (λ (n : ℕ). IsSound (volume_of after).layout k.windows k.changes n at.image) count
           (subst (λ (h : List Change). IsSound (volume_of after).layout k.windows h (length after.changes - (volume_of after).unforced) at.image) changes
           (subst (λ (ws : List WeakRun). IsSound (volume_of after).layout ws after.changes (length after.changes - (volume_of after).unforced) at.image) ends.1.windows sound)));
       tells = λ j worn. ap (λ (l : Layout). told l j) (sym layout) ∙ tells j (subst (λ (ws : List WeakRun). IsWorn (weak_of ws) at.image j) (sym ends.1.windows) worn) ∙ ap (λ (t : Telling). Some t) telling;
+      roots = subst (λ (l : Layout). HasOwnRoots l (weak_of k.windows) at.image) layout (subst (λ (ws : List WeakRun). HasOwnRoots (volume_of after).layout (weak_of ws) at.image) ends.1.windows ends.2.disk.over.own.roots);
     }
 
 -- and a force that fails over a volume that stands is one that the disk failed

@@ -1,28 +1,18 @@
 -- A volume that stands still stands where sectors of its unfinished creations are written.
-use Rattle.std.proofs.Common.{◌≡◌, inl, inr, ℕ, ◌+◌, ◌<◌, ◌≤◌, Bool, true, false, not, ◌&&◌, ◌||◌, List, [], ◌∷◌, ◌++◌, map, refl, sym, ap, subst, ◌∙◌, arith}
-use Rattle.std.specs.Prelude.{IsFalse, IsTrue}
-use Rattle.std.specs.List.{AllZip, flat_map}
+use Rattle.std.proofs.Common.{◌≡◌, inl, inr, ℕ, true, false, ◌||◌, List, map, refl, sym, ap, ◌∙◌}
 use Rattle.std.proofs.lemmas.Bool.{both_ways, false_from_ne_true, or_cases, or_from, or_parts, or_right}
-use Rattle.run_table.specs.declared.run.Run.{Run}
-use Rattle.run_table.specs.RunTable.{sectors_of}
 use Rattle.run_table.specs.Space.{contains}
 use Rattle.sector_set.specs.Area.{Area, area}
 use Rattle.shadow_frees.specs.Waits.{waits}
-use Rattle.volume_layout.specs.Layout.{is_data}
-use Rattle.sector_disk.specs.declared.sector.WeakRun.{WeakRun}
 use Rattle.sector_disk.specs.Image.{AreShort, open_damage}
 use Rattle.sector_disk.specs.Machine.{Moment}
-use Rattle.fsd_files.specs.Disk.{Image, Sectors, in_runs}
-use Rattle.fsd_files.specs.Files.{Change}
-use Rattle.fsd_files.specs.Kept.{data_sectors}
-use Rattle.fsd_files.specs.Volume.{Volume, in_version, is_free, is_in, plans_of}
-use Rattle.fsd_files.specs.Waiting.{IsSpaced, is_kept_alone, is_let_go}
-use Rattle.fsd_files.proofs.ChangeLaws.{used-append}
-use Rattle.fsd_files.proofs.CountLaws.{contains_occurs, used}
-use Rattle.fsd_sound.specs.Mounted.{IsMounted, Mounted, Wrote}
+use Rattle.fsd_files.specs.Disk.{Sectors, in_runs}
+use Rattle.fsd_files.specs.Volume.{Volume, is_free, is_in}
+use Rattle.fsd_files.specs.Waiting.{is_kept_alone}
+use Rattle.fsd_sound.specs.Mounted.{Mounted}
 use Rattle.version_data.specs.Writing.{WritesIn}
 use Rattle.volume_contract.specs.Pieces.{with_opened}
-use Rattle.volume_contract.specs.State.{Known, Leaves, Opened, Stands, Written, forced_of, readings, volume_of}
+use Rattle.volume_contract.specs.State.{Known, Leaves, Stands, Written, forced_of}
 use Rattle.volume_state.specs.State.{Holds, state}
 use Rattle.volume_state.specs.Volume.{IsWhole, VolumeValue}
 use Rattle.volume_state.proofs.ClearedLaws.{AreWritten, free_cleared, mounted_again, mounted_cleared, no_drafts, same_volume}

@@ -2,6 +2,7 @@
 use Rattle.std.proofs.Common.{◌≡◌, ℕ, ◌+◌, ◌*◌, ◌<◌, ◌≤◌, Bool, true, false, cond, not, ◌||◌, ◌&&◌, nat_le, nat_lt, length, inl, refl, sym, ap, subst, ◌∙◌, arith}
 use Rattle.std.specs.Prelude.{None, Result, Ok, Err, IsErrAnd, slice_index_or}
 use Rattle.volume_layout.specs.declared.layout.Layout.{Layout}
+use Rattle.volume_layout.specs.Kinds.{gap_of}
 use Rattle.fsd_bytes.specs.declared.refusal.Refusal.{Refusal}
 use Rattle.fsd_formats.specs.Record.{record_len}
 use Rattle.sector_disk.specs.declared.machine.LoadFault.{LoadFault}
@@ -34,10 +35,10 @@ before_force : (v : VolumeValue) → IsWhole v → 1 ≤ length v.cache.dirty �
 before_force v whole some =
     let n = length v.cache.dirty in
     let log = v.log in
-    let here = before_within (nat_le (log.head.at + record_len n) log.head.end || nat_lt log.head.end (3 * log.layout.third)) (nat_lt log.head.end (log.head.at + record_len n) && nat_le (3 * log.layout.third) log.head.end)
-    (2 * pages_in_first log + 2) (record_len n) (laid_again (log.head.at + record_len n) log.head.end (3 * log.layout.third)) in
-    subst (λ (b : Bool). sectors_before log n ≤ cond b 0 (record_len n + cond (enters_again (state v)) (2 * homed (state v) + 2) 0)) (sym (some_pages n some))
-    (subst (λ (l : Layout). sectors_before log n ≤ record_len n + cond (enters_again (record (state v) { layout = l })) (2 * homed (record (state v) { layout = l }) + 2) 0) whole.log here)
+    let here = before_within (nat_le (log.head.at + record_len (gap_of log.layout) n) log.head.end || nat_lt log.head.end (3 * log.layout.third)) (nat_lt log.head.end (log.head.at + record_len (gap_of log.layout) n) && nat_le (3 * log.layout.third) log.head.end)
+    (2 * pages_in_first log + 2) (record_len (gap_of log.layout) n) (laid_again (log.head.at + record_len (gap_of log.layout) n) log.head.end (3 * log.layout.third)) in
+    subst (λ (b : Bool). sectors_before log n ≤ cond b 0 (record_len (gap_of v.layout) n + cond (enters_again (state v)) (2 * homed (state v) + 2) 0)) (sym (some_pages n some))
+    (subst (λ (l : Layout). sectors_before log n ≤ record_len (gap_of l) n + cond (enters_again (record (state v) { layout = l })) (2 * homed (record (state v) { layout = l }) + 2) 0) whole.log here)
 
 pub failed_counted : (v w : VolumeValue) → v ≡ w → IsWhole v → 1 ≤ length v.cache.dirty → (old new : Ledger) → WroteMost (sectors_before v.log (length v.cache.dirty)) old new
     → (old.written ≤ new.written) × (new.written ≤ old.written + force_len (state w))
@@ -55,10 +56,10 @@ pub failed_none : (v w : VolumeValue) → v ≡ w → IsWhole v → (old new : L
 failed_none v w is whole old new most never =
     let n = length v.cache.dirty in
     let log = v.log in
-    let not_again : (nat_lt log.head.end (log.head.at + record_len n) && nat_le (3 * log.layout.third) log.head.end) ≡ false =
-    subst (λ (l : Layout). (nat_lt log.head.end (log.head.at + record_len n) && nat_le (3 * l.third) log.head.end) ≡ false) (sym whole.log) (subst (λ (x : VolumeValue). enters_again (state x) ≡ false) (sym is) never) in
-    let none : sectors_before log n ≡ 0 = before_none (nat_le (log.head.at + record_len n) log.head.end || nat_lt log.head.end (3 * log.layout.third)) (nat_lt log.head.end (log.head.at + record_len n) && nat_le (3 * log.layout.third) log.head.end)
-    (2 * pages_in_first log + 2) (laid_again (log.head.at + record_len n) log.head.end (3 * log.layout.third)) not_again in
+    let not_again : (nat_lt log.head.end (log.head.at + record_len (gap_of log.layout) n) && nat_le (3 * log.layout.third) log.head.end) ≡ false =
+    subst (λ (l : Layout). (nat_lt log.head.end (log.head.at + record_len (gap_of l) n) && nat_le (3 * l.third) log.head.end) ≡ false) (sym whole.log) (subst (λ (x : VolumeValue). enters_again (state x) ≡ false) (sym is) never) in
+    let none : sectors_before log n ≡ 0 = before_none (nat_le (log.head.at + record_len (gap_of log.layout) n) log.head.end || nat_lt log.head.end (3 * log.layout.third)) (nat_lt log.head.end (log.head.at + record_len (gap_of log.layout) n) && nat_le (3 * log.layout.third) log.head.end)
+    (2 * pages_in_first log + 2) (laid_again (log.head.at + record_len (gap_of log.layout) n) log.head.end (3 * log.layout.third)) not_again in
     omega (arith, none, most.no_fewer, most.no_more)
 
 -- nothing is written

@@ -9,6 +9,7 @@ use Rattle.group_commit.proofs.CachedLaws.{written_some}
 use Rattle.volume_contract.specs.State.{enters_again, force_len, homed}
 use Rattle.volume_state.specs.State.{state}
 use Rattle.volume_state.specs.Volume.{IsWhole, VolumeValue}
+use Rattle.volume_layout.specs.Kinds.{gap_of}
 
 less_flips : (a b : ℕ) → nat_lt b a ≡ not (nat_le a b)
 less_flips a b = by (nat_le a b) refl
@@ -50,9 +51,9 @@ pub forced_count : (v w : VolumeValue) → v ≡ w → IsWhole v → 1 ≤ lengt
 forced_count v w is whole some =
     let n = length v.cache.dirty in
     let log = v.log in
-    let here = in_turn (nat_le (log.head.at + record_len n) log.head.end || nat_lt log.head.end (3 * log.layout.third)) (nat_lt log.head.end (log.head.at + record_len n) && nat_le (3 * log.layout.third) log.head.end)
-    (2 * pages_in_first log + 2) (record_len n) (again_is (log.head.at + record_len n) log.head.end (3 * log.layout.third)) in
+    let here = in_turn (nat_le (log.head.at + record_len (gap_of log.layout) n) log.head.end || nat_lt log.head.end (3 * log.layout.third)) (nat_lt log.head.end (log.head.at + record_len (gap_of log.layout) n) && nat_le (3 * log.layout.third) log.head.end)
+    (2 * pages_in_first log + 2) (record_len (gap_of log.layout) n) (again_is (log.head.at + record_len (gap_of log.layout) n) log.head.end (3 * log.layout.third)) in
     subst (λ (x : VolumeValue). sectors_written v.log v.cache.dirty ≡ force_len (state x)) is
     (written_some v.log v.cache.dirty some
-    ∙ subst (λ (b : Bool). sectors_before log n + record_len n ≡ cond b 0 (record_len n + cond (enters_again (state v)) (2 * homed (state v) + 2) 0)) (sym (some_pages n some))
-    (subst (λ (l : Layout). sectors_before log n + record_len n ≡ record_len n + cond (enters_again (record (state v) { layout = l })) (2 * homed (record (state v) { layout = l }) + 2) 0) whole.log here))
+    ∙ subst (λ (b : Bool). sectors_before log n + record_len (gap_of log.layout) n ≡ cond b 0 (record_len (gap_of v.layout) n + cond (enters_again (state v)) (2 * homed (state v) + 2) 0)) (sym (some_pages n some))
+    (subst (λ (l : Layout). sectors_before log n + record_len (gap_of log.layout) n ≡ record_len (gap_of l) n + cond (enters_again (record (state v) { layout = l })) (2 * homed (record (state v) { layout = l }) + 2) 0) whole.log here))

@@ -22,6 +22,7 @@ use Rattle.group_commit.proofs.SlotLaws.{slot_then}
 use Rattle.volume_contract.specs.Order.{with_drawn}
 use Rattle.volume_contract.specs.State.{HasLogged, IsForced, KeepsLog, LogsRecord, State, enters_again, moved_on, record_slot, with_room}
 use Rattle.volume_state.proofs.ForceCountLaws.{again_is}
+use Rattle.volume_layout.specs.Kinds.{gap_of}
 
 -- what is told of a log is of this one
 pub record Tells (s : State) (log : LogValue) : Type 0 where
@@ -35,8 +36,8 @@ pub record Tells (s : State) (log : LogValue) : Type 0 where
 module _ (s : State) (log : LogValue) (t : Tells s log) where
   enters_is : enters_again s ≡ not (goes_before log (length s.dirty))
   enters_is =
-      (λ i. nat_lt (sym t.head i).end ((sym t.head i).at + record_len (length s.dirty)) && nat_le (3 * (sym t.layout i).third) (sym t.head i).end)
-      ∙ again_is (log.head.at + record_len (length s.dirty)) log.head.end (3 * log.layout.third)
+      (λ i. nat_lt (sym t.head i).end ((sym t.head i).at + record_len (gap_of (sym t.layout i)) (length s.dirty)) && nat_le (3 * (sym t.layout i).third) (sym t.head i).end)
+      ∙ again_is (log.head.at + record_len (gap_of log.layout) (length s.dirty)) log.head.end (3 * log.layout.third)
 
   told_moved : Tells (moved_on s (moved log).anchor.first) (moved log)
   told_moved = record {
@@ -81,15 +82,15 @@ module _ (s new : State) (log : LogValue) (t : Tells s log) (once : IsDistinct n
       ap (λ (slots : List (Option Slot)). get_or slots page None) (sym then.slots)
       ∙ slot_then log s.dirty once page (subst (λ (slots : List (Option Slot)). page < length slots) (sym t.slots) lt)
       ∙ (λ i.
-      let place : ℕ = place_of (t.layout i) (t.anchor i).third (spot_for (t.layout i) (length s.dirty) (t.head i)).at + 3 + rank page s.dirty in
-      cond (contains s.dirty page) (Some (record { place = place; copy = place + length s.dirty + 1; number = (t.head i).number })) (get_or (t.slots i) page None))
+      let place : ℕ = place_of (t.layout i) (t.anchor i).third (spot_for (t.layout i) (length s.dirty) (t.head i)).at + 3 + gap_of (t.layout i) + rank page s.dirty in
+      cond (contains s.dirty page) (Some (record { place = place; copy = place + length s.dirty + 1 + gap_of (t.layout i); number = (t.head i).number })) (get_or (t.slots i) page None))
 
   pub logs_record : LogsRecord s new
   logs_record = record {
     anchor = sym then.anchor ∙ t.anchor;
     head = sym then.head ∙ (λ i. record {
       number = number i;
-      at = (spot_for (t.layout i) (many i) (t.head i)).at + record_len (many i);
+      at = (spot_for (t.layout i) (many i) (t.head i)).at + record_len (gap_of (t.layout i)) (many i);
       end = (spot_for (t.layout i) (many i) (t.head i)).end;
     });
     table = ap (λ (slots : List (Option Slot)). length slots) (sym then.slots) ∙ length-noted _ log.slots _ _ (ascending_of s.dirty) ∙ ap (λ (slots : List (Option Slot)). length slots) t.slots;

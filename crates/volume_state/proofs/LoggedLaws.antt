@@ -140,13 +140,14 @@ module _ (v w : VolumeValue) (was : IsWhole v) (whole : IsWhole w) (to : IsForce
       stands : (bytes : List ℕ) → bytes_of w.cache page ≡ Some bytes → StandsLogged w.log now page bytes → StandsForced (state w) (resident w) now page
       stands bytes there s =
           let may = open_damage now.windows in
-          let lies = s.logged.in_record in
+          let copies : AreOfSlot w.layout (slice_index_or w.log.slots page None) s.a s.b = subst (λ (l : Layout). AreOfSlot l (slice_index_or w.log.slots page None) s.a s.b) whole.log s.logged in
+          let lies = copies.in_record in
           record {
             bytes = bytes;
             there = there;
             place = s.a;
             copy = s.b;
-            copies = subst (λ (l : Layout). AreOfSlot l (slice_index_or w.log.slots page None) s.a s.b) whole.log s.logged;
+            copies = copies;
             twice = record {
               first = has_on may s.seen now.image bytes s.a (s.worn.each s.a) (inl s.first);
               second = has_on may s.seen now.image bytes s.b (s.worn.each s.b) (inl s.second);

@@ -1,15 +1,18 @@
 -- What a mount of a sound disk leaves at each moment.
 use Rattle.std.proofs.Common.{◌≡◌, inl, inr, ⊎_elim, ℕ, ◌≤◌, Bool, ◌||◌, List, [], ◌∷◌, ◌++◌, length, take, Option, Some, None, refl, sym, ap, subst, ◌∙◌, arith}
-use Rattle.std.specs.Prelude.{IsTrue, Contains}
+use Rattle.std.specs.Prelude.{IfSome, IsTrue, Contains}
 use Rattle.std.specs.List.{last_or}
 use Rattle.std.proofs.lemmas.Bool.{or_left, or_right}
 use Rattle.std.proofs.lemmas.List.{take_all, length-take-le}
 use Rattle.std.proofs.lemmas.List.Folds.{list_any-append}
 use Rattle.volume_layout.specs.declared.layout.Layout.{Layout}
+use Rattle.volume_layout.specs.Kinds.{longest_of}
+use Rattle.volume_layout.specs.Layout.{turned}
 use Rattle.volume_layout.proofs.RegionLaws.{regions_apart}
+use Rattle.volume_layout.proofs.TurnedLaws.{planned_turned}
 use Rattle.sector_disk.specs.declared.sector.Sector.{Sector}
 use Rattle.sector_disk.specs.declared.sector.WeakRun.{WeakRun}
-use Rattle.sector_disk.specs.Image.{IsWorn, in_run, weak as in_window}
+use Rattle.sector_disk.specs.Image.{AllWorn, IsWorn, in_run, weak as in_window}
 use Rattle.sector_disk.specs.Machine.{Moment}
 use Rattle.fsd_formats.specs.declared.entry.Entry.{Entry}
 use Rattle.fsd_table.specs.Table.{Telling, told_in}
@@ -20,10 +23,11 @@ use Rattle.fsd_files.proofs.WearLaws.{each_of_both}
 use Rattle.fsd_sound.specs.Choices.{TellsChoices}
 use Rattle.fsd_sound.specs.Mounted.{SameData}
 use Rattle.fsd_sound.specs.Shown.{shown}
-use Rattle.fsd_sound.specs.Sound.{EndIn, HasHomes, HasLog, HasRoots, IsPrefixOf, IsSound, ShowsOne, ShowsPages, Tells, weak_of}
+use Rattle.fsd_sound.specs.Sound.{EndIn, HasHomes, HasLog, HasRoots, IsEither, IsPrefixOf, IsSaid, IsSound, LogsNothing, ShowsOne, ShowsPages, Tells, weak_of}
 use Rattle.fsd_sound.proofs.ChoiceLaws.{shows_choices}
 use Rattle.fsd_sound.proofs.MountedLaws.{describes_data, one_of}
 use Rattle.fsd_sound.proofs.SoundLaws.{sound_from_pages, weak_within_hurt}
+use Rattle.fsd_sound.proofs.TurnedLaws.{said_shows, said_sound}
 use Rattle.fsd_sound.proofs.WindowLaws.{last_snoc}
 use Rattle.mount_recover.specs.Recover.{ShowsVolume}
 use Rattle.mount_recover.specs.Replay.{IsAfter, IsBefore}
@@ -59,10 +63,18 @@ shows_among choices pages None chosen shows = absurd shows
 shows_among choices pages (Some ps) chosen shows = one_of (Contains choices) pages ps chosen shows
 
 -- windows that end alike wear alike
+either_alike : (l : Layout) (now then : List WeakRun) (i : Image) → last_or None now ≡ last_or None then → IsEither l now i → IsEither l then i
+either_alike l now then i e is = record {
+  borne = subst (λ (o : Option WeakRun). IfSome o (λ run. run.count ≤ longest_of (turned l).kind)) e is.borne;
+  empty = subst (λ (o : Option WeakRun). AllWorn (in_window o None) (LogsNothing l) i) e is.empty;
+}
+
 shows_alike : (l : Layout) (now then : List WeakRun) (choices : List (List (List ℕ))) (pages : List (List ℕ)) (i : Image) → last_or None now ≡ last_or None then → Contains choices pages → ShowsPages l now (pages ∷ []) i → ShowsPages l then choices i
 shows_alike l now then choices pages i e chosen is = record {
   readable = record {
+    borne = subst (λ (o : Option WeakRun). IfSome o (λ run. run.count ≤ longest_of l.kind)) e is.readable.borne;
     roots = subst (λ (o : Option WeakRun). HasRoots l (in_window o None) i) e is.readable.roots;
+    either = λ says. either_alike l now then i e (is.readable.either says);
     anchors = is.readable.anchors;
     log = subst (λ (o : Option WeakRun). (j : Image) → IsWorn (in_window o None) i j → HasLog l (in_window o None) j) e is.readable.log;
     homes = subst (λ (o : Option WeakRun). (j : Image) → IsWorn (in_window o None) i j → HasHomes l j) e is.readable.homes;
@@ -78,6 +90,35 @@ before_of l windows choices old left ends still is =
       present = still;
       shows = shows_alike l (windows ++ is.run ∷ []) windows choices is.pages left.image (last_snoc None windows is.run ∙ sym present ∙ still ∙ sym ends.last) is.chosen is.shows;
     }
+
+-- ---- by the layout that the image says
+
+tells_turned : (l : Layout) (hurt : Sectors) (i : Image) (h : List Change) (f : ℕ) (o : Option Telling) → Tells l hurt i h f o → Tells (turned l) hurt i h f o
+tells_turned l hurt i h f None tells = tells
+tells_turned l hurt i h f (Some t) tells = (tells.0, tells.1, record { lists = tells.2.lists; apart = tells.2.apart; kept = tells.2.kept })
+
+module _ (l : Layout) (i : Image) (layout : Layout) where
+  pub said_tells : IsSaid l i layout → (hurt : Sectors) (h : List Change) (f : ℕ) (o : Option Telling) → Tells l hurt i h f o → Tells layout hurt i h f o
+  said_tells (inl is) hurt h f o tells = subst (λ (k : Layout). Tells k hurt i h f o) (sym is) tells
+  said_tells (inr is) hurt h f o tells = subst (λ (k : Layout). Tells k hurt i h f o) (sym is.0) (tells_turned l hurt i h f o tells)
+
+  -- it shows the same page lists
+  abbrev pub said_lists : IsSaid l i layout → (windows : List WeakRun) (h : List Change) (f : ℕ) → TellsChoices l windows h f i → TellsChoices layout windows h f i
+  said_lists said windows h f lists = record {
+    choices = lists.choices;
+    shows = said_shows l windows lists.choices i layout said lists.shows;
+    tells = λ pages one. said_tells said (in_runs windows) h f (told_in pages) (lists.tells pages one);
+  }
+
+-- and is as sound
+pub said_at : (sectors : ℕ) (l : Layout) (windows : List WeakRun) (h : List Change) (f : ℕ) (old : Moment) (layout : Layout) → IsSaid l old.image layout → IsSoundAt sectors l windows h f old → IsSoundAt sectors layout windows h f old
+said_at sectors l windows h f old layout (inl is) begun = subst (λ (k : Layout). IsSoundAt sectors k windows h f old) (sym is) begun
+said_at sectors l windows h f old layout (inr is) begun = subst (λ (k : Layout). IsSoundAt sectors k windows h f old) (sym is.0) (record {
+  planned = planned_turned l begun.planned;
+  fits = begun.fits;
+  ends = begun.ends;
+  sound = said_sound l windows h f old.image (turned l) (inr (refl, is.1)) begun.sound;
+})
 
 -- ---- what pages tell
 
@@ -102,16 +143,13 @@ took_so_many h n made = length-take-le n h made
 took_again : (h : List Change) (n : ℕ) → n ≤ length h → take n (take n h) ≡ take n h
 took_again h n made = take_all n (take n h) (omega (arith, took_so_many h n made))
 
-module _ (sectors : ℕ) (l : Layout) (windows : List WeakRun) (h : List Change) (f : ℕ) (old : Moment) (begun : IsSoundAt sectors l windows h f old) where
-  -- the lists of pages that the disk may show, and what they tell
-  pub told_now : TellsChoices l windows h f old.image
-  told_now = let apart = regions_apart l begun.planned in shows_choices l windows h f old.image (omega (arith, apart.map, apart.data_area)) begun.sound
+-- the lists of pages that the disk may show, and what they tell
+pub lists_now : (sectors : ℕ) (l : Layout) (windows : List WeakRun) (h : List Change) (f : ℕ) (old : Moment) → IsSoundAt sectors l windows h f old → TellsChoices l windows h f old.image
+lists_now sectors l windows h f old begun = let apart = regions_apart l begun.planned in shows_choices l windows h f old.image (omega (arith, apart.map, apart.data_area)) begun.sound
 
-  abbrev pub lists_now : List (List (List ℕ))
-  lists_now = told_now.choices
-
-  pub shows_now : ShowsVolume sectors l windows lists_now old
-  shows_now = record { planned = begun.planned; fits = begun.fits; ends = begun.ends; shows = told_now.shows }
+module _ (sectors : ℕ) (l : Layout) (windows : List WeakRun) (h : List Change) (f : ℕ) (old : Moment) (begun : IsSoundAt sectors l windows h f old) (lists : TellsChoices l windows h f old.image) where
+  pub shows_now : ShowsVolume sectors l windows lists.choices old
+  shows_now = record { planned = begun.planned; fits = begun.fits; ends = begun.ends; shows = lists.shows }
 
   -- the data stays but for damage that may have come
   data_stays : (j : Image) → SameData l (weak_of windows) old.image j → SameData l (in_runs windows) old.image j
@@ -123,14 +161,14 @@ module _ (sectors : ℕ) (l : Layout) (windows : List WeakRun) (h : List Change)
   tells_in j same None tells = tells
   tells_in j same (Some t) tells = (tells.0, tells.1, describes_data l (in_runs windows) (after (take tells.0 h)) t.entries old.image j (data_stays j same) tells.2)
 
-  pub sound_before : (j : Image) → ShowsPages l windows lists_now j → SameData l (weak_of windows) old.image j → IsSound l windows h f j
-  sound_before j shows same = sound_from_pages l windows h f lists_now j shows (λ pages one. tells_in j same (told_in pages) (told_now.tells pages one))
+  pub sound_before : (j : Image) → ShowsPages l windows lists.choices j → SameData l (weak_of windows) old.image j → IsSound l windows h f j
+  sound_before j shows same = sound_from_pages l windows h f lists.choices j shows (λ pages one. tells_in j same (told_in pages) (lists.tells pages one))
 
   -- ---- since then
 
-  module _ (run : WeakRun) (pages : List (List ℕ)) (chosen : Contains lists_now pages) where
+  module _ (run : WeakRun) (pages : List (List ℕ)) (chosen : Contains lists.choices pages) where
     pub files_now : TellsFiles l (in_runs windows) old.image h f pages
-    files_now = tells_files l (in_runs windows) old.image h f pages (told_now.tells pages chosen)
+    files_now = tells_files l (in_runs windows) old.image h f pages (lists.tells pages chosen)
 
     abbrev pub count_now : ℕ
     count_now = files_now.count

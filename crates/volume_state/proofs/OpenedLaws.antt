@@ -1,8 +1,8 @@
 -- What clients of a mounted volume have open may change while it stands over its disk.
-use Rattle.std.proofs.Common.{◌≡◌, ◌⊎◌, inl, inr, ℕ, zero, suc, ◌+◌, ◌<◌, ◌≤◌, Bool, true, false, not, ◌&&◌, ◌||◌, List, [], ◌∷◌, ◌++◌, length, map, set, Option, None, Some, refl, sym, ap, subst, ◌∙◌, arith, cond, if◌then◌else◌}
-use Rattle.std.specs.Prelude.{IsTrue, IsFalse, IfSome, filter, replicate, option_map, slice_index_or}
+use Rattle.std.proofs.Common.{◌≡◌, ◌⊎◌, inl, inr, ℕ, zero, suc, ◌+◌, ◌<◌, ◌≤◌, Bool, true, false, not, ◌&&◌, ◌||◌, List, [], ◌∷◌, ◌++◌, length, map, set, Option, None, Some, refl, sym, ap, ◌∙◌, arith, cond, if◌then◌else◌}
+use Rattle.std.specs.Prelude.{IsTrue, IsFalse, IfSome, filter, slice_index_or}
 use Rattle.std.specs.List.{AllByRecursion, AllZip, flat_map, list_all, list_any}
-use Rattle.std.proofs.lemmas.Bool.{and_from, and_parts, both_ways, false_from_ne_true, not-true, or_cases, or_from, or_left, or_parts, or_right}
+use Rattle.std.proofs.lemmas.Bool.{and_from, and_parts, both_ways, false_from_ne_true, or_cases, or_from, or_left, or_parts, or_right}
 use Rattle.std.proofs.lemmas.List.Folds.{list_any-append}
 use Rattle.std.specs.Prelude.{◌==◌}
 use Rattle.run_table.specs.declared.run.Run.{Run}
@@ -15,11 +15,11 @@ use Rattle.fsd_formats.specs.declared.entry.Entry.{Entry}
 use Rattle.volume_layout.specs.declared.layout.Layout.{Layout}
 use Rattle.volume_layout.specs.Layout.{is_data}
 use Rattle.sector_disk.specs.declared.sector.WeakRun.{WeakRun}
-use Rattle.fsd_files.specs.Disk.{Image, Sectors, in_runs}
+use Rattle.fsd_files.specs.Disk.{Image, in_runs}
 use Rattle.fsd_files.specs.Files.{Change}
 use Rattle.fsd_files.specs.Kept.{KeptIn, data_sectors}
 use Rattle.fsd_files.specs.Space.{Apart}
-use Rattle.fsd_files.specs.Volume.{Volume, in_version, is_free, is_in, plans_of, waits}
+use Rattle.fsd_files.specs.Volume.{Volume, in_version, is_free, is_in, plans_of}
 use Rattle.fsd_files.specs.Waiting.{IsSpaced, are_same_or_apart, is_kept_alone, is_let_go}
 use Rattle.fsd_files.proofs.ChangeLaws.{AreFree, used-append}
 use Rattle.fsd_files.proofs.CountLaws.{contains_occurs, differ_occurs, occurs, occurs_contains, occurs_differ, used, used-cons}

@@ -1,8 +1,8 @@
 -- A volume that stands still stands once a creation is begun or over, and once a reader holds a version or gives it up.
-use Rattle.std.proofs.Common.{◌≡◌, inl, inr, ℕ, zero, suc, ◌+◌, ◌-◌, ◌<◌, ◌≤◌, Bool, true, false, cond, not, ◌&&◌, ◌||◌, List, [], ◌∷◌, length, map, set, get_or, Option, None, Some, refl, sym, ap, subst, ◌∙◌, arith}
-use Rattle.std.specs.Prelude.{IsFalse, IsTrue, drop, option_map, replicate, slice_index_or}
-use Rattle.std.specs.List.{AllByRecursion, AllZip, list_all, list_any}
-use Rattle.std.proofs.lemmas.Bool.{and_from, and_parts, both_ways, false_from_ne_true, not-true, or_cases, or_from, or_left, or_parts, or_right}
+use Rattle.std.proofs.Common.{◌≡◌, inl, inr, ℕ, zero, suc, ◌-◌, ◌<◌, ◌≤◌, Bool, true, false, cond, not, ◌&&◌, ◌||◌, List, [], ◌∷◌, length, map, Option, None, Some, refl, sym, ap, subst, ◌∙◌, arith}
+use Rattle.std.specs.Prelude.{drop, option_map, replicate}
+use Rattle.std.specs.List.{AllZip, list_any}
+use Rattle.std.proofs.lemmas.Bool.{and_parts, both_ways, false_from_ne_true, not-true, or_cases, or_from, or_parts, or_right}
 use Rattle.volume_layout.specs.declared.layout.Layout.{Layout}
 use Rattle.volume_layout.specs.Layout.{data_start}
 use Rattle.run_table.specs.declared.run.Run.{Run}
@@ -10,30 +10,27 @@ use Rattle.run_table.specs.RunTable.{same_runs, sectors_of, total}
 use Rattle.run_table.specs.Space.{contains, where_free}
 use Rattle.run_table.proofs.SectorLaws.{length_of_sectors}
 use Rattle.sector_set.specs.Area.{Area, AreIn, AreOut, area, together, without}
-use Rattle.sector_set.proofs.AreaLaws.{free_passes}
-use Rattle.shadow_frees.specs.Readers.{Slots, has_sector, is_held}
 use Rattle.shadow_frees.specs.Waits.{AreIdle, Waits, waits}
 use Rattle.sector_disk.specs.Image.{open_damage}
 use Rattle.sector_disk.specs.Machine.{Moment}
 use Rattle.fsd_formats.specs.NamePage.{sectors_for}
 use Rattle.fsd_files.specs.Disk.{Image, Sectors, in_runs}
 use Rattle.fsd_files.specs.Kept.{data_sectors}
-use Rattle.fsd_files.specs.Volume.{Volume, is_free, is_in, in_version}
-use Rattle.fsd_files.specs.Waiting.{IsSpaced, is_kept_alone}
+use Rattle.fsd_files.specs.Volume.{is_free, is_in}
+use Rattle.fsd_files.specs.Waiting.{is_kept_alone}
 use Rattle.fsd_files.proofs.ChangeLaws.{AreFree}
 use Rattle.fsd_files.proofs.CountLaws.{differ_occurs, occurs_contains}
 use Rattle.fsd_sound.specs.Mounted.{IsMounted, Mounted, Wrote}
-use Rattle.fsd_sound.specs.Shown.{records_by}
 use Rattle.volume_contract.specs.declared.token.Draft.{Draft}
 use Rattle.volume_contract.specs.Pieces.{GivesBack, IsDraft, Takes, begun, drafts_without, ended, slice_count, slices_in, with_opened}
 use Rattle.volume_contract.specs.State.{Known, Opened, Reading, StandWritten, Stands, Written, forced_of, held_runs, readings, volume_of}
 use Rattle.volume_contract.specs.Order.{with_drawn}
 use Rattle.volume_state.specs.Placing.{IsPlace, drawn_known, drawn_volume}
 use Rattle.volume_state.specs.State.{Holds, state}
-use Rattle.volume_state.specs.Volume.{IsWhole, VolumeValue, WaitsOnce}
+use Rattle.volume_state.specs.Volume.{IsWhole, VolumeValue}
 use Rattle.cached_table.specs.Surveying.{IsOfData}
 use Rattle.volume_state.proofs.ForcedLaws.{own_of}
-use Rattle.volume_state.proofs.OpenedLaws.{drafted, each_filtered, each_zip, zip_each, free_again, free_more, in_fewer, mounted_fewer, mounted_more, reopen, spaced_fewer, spaced_more, drafts_more}
+use Rattle.volume_state.proofs.OpenedLaws.{each_filtered, each_zip, zip_each, free_again, free_more, in_fewer, mounted_fewer, mounted_more, reopen, drafts_more}
 use Rattle.volume_state.proofs.WrittenLaws.{stands_drawn}
 use Rattle.volume_state.proofs.SpaceLaws.{by_area, none_outside, same_free, same_freed, same_unfinished, same_waiting, same_waits, test_there}
 

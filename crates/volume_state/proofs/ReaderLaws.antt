@@ -1,39 +1,37 @@
 -- A volume that stands still stands once a reader holds one of its versions, and once a reader gives one up.
-use Rattle.std.proofs.Common.{◌≡◌, ◌⊎◌, inl, inr, ℕ, zero, suc, ◌+◌, ◌<◌, ◌≤◌, Bool, true, false, not, ◌&&◌, ◌||◌, List, [], ◌∷◌, ◌++◌, length, map, set, get_or, Option, None, Some, refl, sym, ap, subst, ◌∙◌, arith, if◌then◌else◌, cond}
-use Rattle.std.specs.Prelude.{All, Contains, IfSome, is_none, IsFalse, IsTrue, option_map, slice_index_or}
-use Rattle.std.specs.List.{flat_map, list_all, list_any}
-use Rattle.std.proofs.lemmas.Bool.{and_from, and_parts, both_ways, false_from_ne_true, not-true, not-false, or_cases, or_from, or_left, or_parts, or_right}
+use Rattle.std.proofs.Common.{◌≡◌, ◌⊎◌, inl, inr, ℕ, zero, suc, ◌<◌, ◌≤◌, Bool, true, false, not, ◌&&◌, ◌||◌, List, [], ◌∷◌, ◌++◌, length, map, set, get_or, Option, None, Some, refl, sym, ap, subst, ◌∙◌, arith, if◌then◌else◌}
+use Rattle.std.specs.Prelude.{All, Contains, IfSome, is_none, option_map, slice_index_or}
+use Rattle.std.specs.List.{flat_map, list_any}
+use Rattle.std.proofs.lemmas.Bool.{and_parts, both_ways, false_from_ne_true, not-true, or_cases, or_from, or_left, or_parts, or_right}
 use Rattle.std.proofs.lemmas.List.{length-set, length-map}
-use Rattle.volume_layout.specs.declared.layout.Layout.{Layout}
-use Rattle.volume_layout.specs.Layout.{data_start, is_data}
+use Rattle.volume_layout.specs.Layout.{is_data}
 use Rattle.run_table.specs.declared.run.Run.{Run}
 use Rattle.run_table.specs.RunTable.{same_runs, sectors_of}
 use Rattle.run_table.specs.Space.{contains, runs_of, where_free}
 use Rattle.run_table.proofs.SameLaws.{same_runs_are}
-use Rattle.sector_set.specs.Area.{Area, AreIn, AreOut, area, together, without}
+use Rattle.sector_set.specs.Area.{Area, AreIn, AreOut, together, without}
 use Rattle.sector_set.specs.Meet.{meets}
 use Rattle.sector_set.proofs.FreeLaws.{where_same}
 use Rattle.sector_set.proofs.MeetLaws.{none_any}
 use Rattle.shadow_frees.specs.Readers.{Agrees, AreUnheld, Slots, given_back, has_same, has_sector, is_empty, is_held, unheld}
-use Rattle.shadow_frees.specs.Waits.{AreIdle, Waits, left_kept, waits}
+use Rattle.shadow_frees.specs.Waits.{AreIdle, Waits, left_kept}
 use Rattle.sector_disk.specs.Machine.{Moment}
 use Rattle.fsd_formats.specs.declared.entry.Entry.{Entry}
 use Rattle.fsd_files.specs.Disk.{in_runs}
 use Rattle.fsd_files.specs.Kept.{KeptIn}
 use Rattle.fsd_files.specs.Volume.{Volume, in_version, is_free, is_in, plans_of}
-use Rattle.fsd_files.specs.Waiting.{IsSpaced, is_kept_alone}
+use Rattle.fsd_files.specs.Waiting.{is_kept_alone}
 use Rattle.fsd_files.proofs.ChangeLaws.{used-append}
 use Rattle.fsd_files.proofs.CountLaws.{contains_occurs, occurs_contains, used, used-cons}
 use Rattle.fsd_sound.specs.Mounted.{IsMounted, Mounted}
 use Rattle.volume_contract.specs.declared.token.Held.{Held}
 use Rattle.volume_contract.specs.Pieces.{IsHeld, Unholds, read_at, with_opened}
-use Rattle.volume_contract.specs.State.{Known, Opened, Reading, Stands, forced_of, held_runs, readings, volume_of}
+use Rattle.volume_contract.specs.State.{Known, Reading, Stands, forced_of, held_runs, volume_of}
 use Rattle.volume_state.specs.State.{Holds, freed_sectors, state}
 use Rattle.volume_state.specs.Taken.{are_taken}
 use Rattle.volume_state.proofs.TakenLaws.{taken_is_out}
-use Rattle.volume_state.specs.Volume.{IsWhole, VolumeValue, WaitsOnce}
-use Rattle.cached_table.specs.Surveying.{IsOfData}
-use Rattle.volume_state.proofs.OpenedLaws.{alone_held, free_held, held_by, mounted_given, mounted_held, reopen, same_or_apart, spaced_given, used_apart}
+use Rattle.volume_state.specs.Volume.{IsWhole, VolumeValue}
+use Rattle.volume_state.proofs.OpenedLaws.{alone_held, free_held, held_by, mounted_given, mounted_held, reopen, same_or_apart, used_apart}
 use Rattle.volume_state.proofs.SpaceLaws.{held_is}
 use Rattle.volume_state.proofs.PieceLaws.{as_opened, in_data, mounted_opened, of_test, places_held, stands_opened, waiting_out, with_runs, without_runs, written_opened}
 

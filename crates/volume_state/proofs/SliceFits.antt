@@ -1,26 +1,21 @@
 -- The sectors of an unfinished creation lie on the volume, and slices that fit it in its sectors.
-use Rattle.std.proofs.Common.{◌≡◌, inl, inr, ℕ, zero, suc, ◌+◌, ◌-◌, ◌*◌, ◌^◌, ◌<◌, ◌≤◌, Bool, true, ◌&&◌, nat_le, nat_lt, List, [], ◌∷◌, length, map, Option, Some, None, Result, Ok, Err, refl, sym, ap, subst, ◌∙◌, arith}
-use Rattle.std.specs.Prelude.{All, IsFalse, IsTrue, option_map, slice_index_or}
-use Rattle.std.specs.List.{AllByRecursion, AllZip}
+use Rattle.std.proofs.Common.{◌≡◌, ℕ, zero, suc, ◌+◌, ◌-◌, ◌^◌, ◌<◌, ◌≤◌, true, nat_le, nat_lt, List, [], ◌∷◌, length, map, Option, Some, None, refl, ap, ◌∙◌, arith}
+use Rattle.std.specs.Prelude.{All, option_map}
 use Rattle.std.proofs.lemmas.Bool.{and_from, le-leb, lt-ltb}
 use Rattle.std.proofs.lemmas.List.{length-drop}
 use Rattle.volume_layout.specs.Layout.{data_start, is_data}
 use Rattle.volume_layout.proofs.RootLaws.{planned_bounds}
-use Rattle.run_table.specs.declared.run.Run.{Run}
-use Rattle.run_table.specs.RunTable.{sectors_of, total}
+use Rattle.run_table.specs.RunTable.{sectors_of}
 use Rattle.run_table.specs.Space.{contains}
 use Rattle.run_table.proofs.SectorLaws.{length_of_sectors}
-use Rattle.sector_disk.specs.Image.{open_damage}
-use Rattle.sector_disk.specs.Machine.{Moment}
-use Rattle.fsd_bytes.specs.declared.refusal.Refusal.{Refusal}
 use Rattle.fsd_bytes.specs.declared.refusal.Refusal.TheVariants as Why
 use Rattle.fsd_formats.specs.declared.entry.Entry.{Entry}
 use Rattle.fsd_formats.specs.NamePage.{is_entry, sectors_for}
-use Rattle.fsd_files.specs.Disk.{Has, Image, Sectors}
+use Rattle.fsd_files.specs.Disk.{Sectors}
 use Rattle.fsd_files.specs.Kept.{data_sectors, slices, slices_from}
 use Rattle.volume_contract.specs.declared.token.Draft.{Draft}
-use Rattle.volume_contract.specs.Order.{Comes, Disk, Follows, IsDeviceIn, Step, Test, is_idle, slices_steps}
-use Rattle.volume_contract.specs.Pieces.{FitsDraft, IsDraft, in_slices, slice_count}
+use Rattle.volume_contract.specs.Order.{Disk, Test, is_idle, slices_steps}
+use Rattle.volume_contract.specs.Pieces.{FitsDraft, IsDraft}
 use Rattle.volume_contract.specs.State.{State}
 use Rattle.volume_state.specs.Placing.{IsPlace}
 use Rattle.volume_state.specs.State.{state}

@@ -1,13 +1,11 @@
 -- A volume that stands still stands once slices of an unfinished creation are written, or were not where the disk failed.
-use Rattle.std.proofs.Common.{◌≡◌, ◌⊎◌, inl, inr, ℕ, ◌+◌, ◌-◌, ◌<◌, ◌≤◌, Bool, true, false, cond, List, [], ◌∷◌, ◌++◌, length, map, take, drop, Option, Some, None, refl, sym, ap, subst, ◌∙◌, arith, if◌then◌else◌}
-use Rattle.std.specs.Prelude.{IsTrue}
+use Rattle.std.proofs.Common.{◌≡◌, inl, inr, ℕ, ◌+◌, ◌-◌, ◌≤◌, Bool, true, false, cond, List, [], ◌∷◌, ◌++◌, length, map, take, drop, Option, Some, None, refl, sym, ap, subst, ◌∙◌, arith}
 use Rattle.std.specs.List.{AllZip, last_or}
 use Rattle.std.proofs.lemmas.Bool.{both_ways, false_from_ne_true}
 use Rattle.run_table.specs.declared.run.Run.{Run}
 use Rattle.run_table.specs.RunTable.{same_runs, sectors_of}
-use Rattle.run_table.specs.Space.{all_differ, contains}
+use Rattle.run_table.specs.Space.{contains}
 use Rattle.run_table.proofs.SameLaws.{same_runs_are}
-use Rattle.sector_disk.specs.declared.sector.Sector.TheVariants.{Damaged}
 use Rattle.sector_disk.specs.Image.{AreShort, open_damage, sector_at}
 use Rattle.sector_disk.specs.Machine.{Moment}
 use Rattle.fsd_formats.specs.NamePage.{sectors_for}
@@ -22,7 +20,7 @@ use Rattle.fsd_sound.proofs.SoundLaws.{weak_within_hurt}
 use Rattle.fsd_sound.proofs.WindowLaws.{fewer}
 use Rattle.version_data.specs.Writing.{WritesIn}
 use Rattle.volume_contract.specs.declared.token.Draft.{Draft}
-use Rattle.volume_contract.specs.Pieces.{IsDraft, drafts_with, in_slices, slice_sectors, slices_if, slices_in, with_opened, with_slices, wrote}
+use Rattle.volume_contract.specs.Pieces.{IsDraft, drafts_with, in_slices, slice_sectors, slices_in, with_opened, with_slices, wrote}
 use Rattle.volume_contract.specs.State.{Known, Leaves, Stands, Written, volume_of}
 use Rattle.volume_state.specs.Placing.{IsPlace}
 use Rattle.volume_state.specs.State.{Holds, state}

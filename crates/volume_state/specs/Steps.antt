@@ -1,11 +1,13 @@
 -- The steps of a call that none of them has refused.
 use Rattle.std.specs.Prelude.{◌≡◌, true, List, [], ◌∷◌}
-use Rattle.volume_contract.specs.Order.{Passes, Step, Draw, Force, with_drawn}
+use Rattle.volume_contract.specs.Order.{Passes, Step, Draw, Force, Roots, with_drawn, with_three}
 use Rattle.volume_contract.specs.State.{IsForced, State}
 
--- The volume has gone through these steps so: serials that were drawn and forces that have ended have changed it.
+-- The volume has gone through these steps so: serials that were drawn, forces that have ended and
+-- roots that were written have changed it.
 abbrev pub Went : List Step → (at new : State) → Type 0
 Went [] at new = new ≡ at
 Went (Draw ∷ steps) at new = Went steps (with_drawn at) new
 Went (Force true ∷ steps) at new = (next : State) × IsForced at next × Went steps next new
+Went (Roots ∷ steps) at new = Went steps (with_three at) new
 Went (step ∷ steps) at new = Passes step × Went steps at new

@@ -38,7 +38,7 @@ pub record WaitsOnce (w : Waits) : Type 0 where
 -- each dirty page is an image of itself, and the next record can be numbered;
 -- where none is dirty no sector waits for a force.
 pub record IsWhole (v : VolumeValue) : Type 0 where
-  pub planned : plan v.layout.sectors v.layout.third v.layout.pages ≡ Ok v.layout
+  pub planned : plan v.layout.kind v.layout.sectors v.layout.third v.layout.pages ≡ Ok v.layout
   pub map : IsOfData v.layout v.map
   pub removed : IsOfData v.layout v.shadow.removed
   pub kept : IsOfData v.layout v.shadow.kept

@@ -14,14 +14,15 @@ use Rattle.fsd_sound.specs.Windows.{IsApart}
 use Rattle.fsd_sound.proofs.LaidLaws.{own_worn}
 use Rattle.fsd_sound.proofs.MountedWearLaws.{mounted_still}
 use Rattle.fsd_sound.proofs.OpenLaws.{drafts_worn}
-use Rattle.fsd_sound.proofs.WindowLaws.{open_is_weak, short_apart}
+use Rattle.fsd_sound.proofs.WindowLaws.{open_is_weak, borne_apart}
 use Rattle.volume_contract.specs.State.{Known, Ages, ListsPages, StandWritten, Stands, forced_of}
 use Rattle.volume_state.specs.State.{Holds, state}
 use Rattle.volume_state.specs.Volume.{VolumeValue}
+use Rattle.volume_layout.specs.Kinds.{gap_of}
 
 module _ (v : VolumeValue) (k : Known) (old new : Moment) (short : AreShort old.windows) (ages : Ages old new) (stands : Stands state Holds v k old) where
-  apart : IsApart (weak_of k.windows)
-  apart = short_apart old.windows k.windows short stands.ends
+  apart : IsApart (gap_of k.mounted.volume.layout) (weak_of k.windows)
+  apart = borne_apart k.mounted.volume.layout k.windows stands.disk.over.shows.readable.borne
 
   worn : IsWorn (weak_of k.windows) old.image new.image
   worn = open_is_weak old.windows k.windows old.image new.image stands.ends ages.image

@@ -1,4 +1,6 @@
-use Rattle.std.proofs.Common.{◌≤◌, length, arith}
+use Rattle.std.proofs.Common.{◌≡◌, ◌≤◌, ℕ, length, ap, subst, ◌∙◌, arith}
+use Rattle.volume_layout.specs.Kinds.{longest_of}
+use Rattle.sector_disk.specs.Machine.{Names}
 use Rattle.volume_format.specs.Formatting.{format_writes}
 use Rattle.volume_format.proofs.FormatLaws.{formats, formats_if}
 use Rattle.volume_format.proofs.RestLaws.{ends, kept_settled}
@@ -22,5 +24,6 @@ returns-clause-done g c =
     let h1 = c.write_volume.ensures.disk.trust.honest h2 in
     let h0 = c.healing.ensures.trust.honest h1 in
     let sized : c.args.l.now.sectors ≤ length (M.now old).image = omega (arith, g.met.M.Machine.sized old h0, c.requires) in
+    let longest : c.longest.result ≡ longest_of c.args.l.now.kind = c.longest.ensures.value ∙ ap longest_of c.kind.ensures in
     formats c.args.l.now c.in_ok-write_volume.ensures.planned (M.now old) (M.now c.healing.new.self) (M.now c.write_volume.new.m) (M.now c.settle.new.self)
-    sized fresh (c.in_ok-healing.ensures.named h1) (c.in_ok-write_volume.ensures.done h2) settles)
+    sized fresh (subst (λ (n : ℕ). Names n (M.now old) (M.now c.healing.new.self)) longest (c.in_ok-healing.ensures.named h1)) (c.in_ok-write_volume.ensures.done h2) settles)

@@ -1,4 +1,4 @@
-use Rattle.std.proofs.Common.{◌≡◌, ◌∙◌, Err, None, Some, ap, length, set, subst, sym, true}
+use Rattle.std.proofs.Common.{◌≡◌, ◌∙◌, Err, None, Some, ap, set, subst, sym, true}
 use Rattle.std.specs.Prelude.{is_none, slice_index_or}
 use Rattle.std.specs.List.{list_any}
 use Rattle.fsd_bytes.specs.declared.refusal.Refusal.{Refusal}

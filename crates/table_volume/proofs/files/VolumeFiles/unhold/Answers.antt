@@ -1,4 +1,4 @@
-use Rattle.std.proofs.Common.{◌∙◌, List, Option, ap, subst, sym}
+use Rattle.std.proofs.Common.{◌∙◌, List, ap, subst, sym}
 use Rattle.std.specs.Prelude.{IfSome}
 use Rattle.run_table.specs.declared.run.Run.{Run}
 use Rattle.shadow_frees.specs.Readers.{AreUnheld, Slots}

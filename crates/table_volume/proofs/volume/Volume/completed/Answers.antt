@@ -22,7 +22,7 @@ use Rattle.table_volume.proofs.volume.Volume.completed.Goals as goal
 
 pub enter-done-requires-clause-runs : goal.enter-done-requires-clause-runs
 enter-done-requires-clause-runs g c =
-    place_fits _ _ c.self.invariant.unfinished (search rules) c.args.entry c.requires.good (subst (λ (x : VolumeValue). AreIn x.shadow.unfinished c.args.entry.runs) (sym c.self.view_is) c.requires.place.free)
+    place_fits c.self.inside.layout c.self.inside.shadow.unfinished c.self.invariant.unfinished (search rules) c.args.entry c.requires.good (subst (λ (x : VolumeValue). AreIn x.shadow.unfinished c.args.entry.runs) (sym c.self.view_is) c.requires.place.free)
 
 pub free_gone_if-requires : goal.free_gone_if-requires
 free_gone_if-requires g c = idle_gone _ _ _ _ c.as_slice.ensures.value c.in_ok-plan.ensures.taken

@@ -1,7 +1,5 @@
-use Rattle.std.proofs.Common.{◌≡◌, refl, subst}
-use Rattle.volume_contract.specs.declared.token.Draft.{Draft}
+use Rattle.std.proofs.Common.{refl, subst}
 use Rattle.volume_contract.specs.Pieces.{IsDraft}
-use Rattle.volume_changes.specs.Completed.{draft_of}
 use Rattle.volume_state.specs.State.{state}
 use Rattle.table_volume.proofs.volume.Volume.enter.Goals as goal
 

@@ -22,7 +22,7 @@ use Rattle.table_volume.proofs.volume.Volume.entered.Goals as goal
 
 pub enter-done-requires-clause-runs : goal.enter-done-requires-clause-runs
 enter-done-requires-clause-runs g c =
-    place_fits _ _ c.self.invariant.map (search rules) c.args.draft c.requires.good (subst (λ (x : VolumeValue). AreIn x.map c.args.draft.runs) (sym c.self.view_is) c.requires.place.free)
+    place_fits c.self.inside.layout c.self.inside.map c.self.invariant.map (search rules) c.args.draft c.requires.good (subst (λ (x : VolumeValue). AreIn x.map c.args.draft.runs) (sym c.self.view_is) c.requires.place.free)
 
 pub take-requires : goal.take-requires
 take-requires g c = subst (λ (x : VolumeValue). AreIn x.map c.args.draft.runs) (sym c.self.view_is) c.requires.place.free

@@ -1,15 +1,14 @@
-use Rattle.std.proofs.Common.{◌≡◌, ◌∙◌, ◌+◌, ◌≤◌, ◌||◌, [], ℕ, inl, inr, Ok, Err, Some, true, refl, sym, ap, subst, length, arith}
+use Rattle.std.proofs.Common.{◌≡◌, ◌+◌, ◌||◌, [], inl, Err, Some, true, refl, sym, subst, arith}
 use Rattle.std.proofs.lemmas.Result.{err_from_is_err_and}
 use Rattle.sector_disk.specs.Machine.{Wears}
 use Rattle.sector_disk.specs.Image.{open_damage}
-use Rattle.sector_disk.proofs.CallLaws.{reads_as_writes, told_up, writes_more, writes_none, writes_then, writes_told}
+use Rattle.sector_disk.proofs.CallLaws.{reads_as_writes, writes_more, writes_none, writes_then, writes_told}
 use Rattle.fsd_bytes.specs.declared.key.Key.{Key}
 use Rattle.fsd_files.specs.Answers.{HasVersion}
 use Rattle.fsd_files.specs.Disk.{Sectors}
 use Rattle.fsd_sound.specs.Writes.{force_writes}
-use Rattle.volume_contract.specs.Ends.{device_of}
 use Rattle.volume_contract.specs.Pieces.{in_leader, slices_if, slices_in}
-use Rattle.volume_contract.specs.State.{Counted, Known, Leaves, Opened, Stands, change_len}
+use Rattle.volume_contract.specs.State.{Leaves, Opened, change_len}
 use Rattle.volume_changes.specs.Completed.{draft_of}
 use Rattle.volume_state.specs.State.{Holds, resident, state}
 use Rattle.volume_state.specs.Volume.{IsWhole}

@@ -14,7 +14,7 @@ use Rattle.group_commit.specs.Cached.{AreWaiting}
 use Rattle.volume_contract.specs.Ends.{device_of, Answered}
 use Rattle.fsd_sound.specs.Writes.{force_writes}
 use Rattle.volume_contract.specs.Causes.{HasCause}
-use Rattle.volume_contract.specs.State.{GoesOn, IsForced as HasForced, Leaves, Stands, State, downs_for, force_len, held_runs, volume_of}
+use Rattle.volume_contract.specs.State.{GoesOn, IsForced as HasForced, Leaves, Stands, State, downs_for, force_len, volume_of}
 use Rattle.fsd_files.specs.Answers.{force_outcome}
 use Rattle.fsd_files.specs.Disk.{Touches}
 use Rattle.fsd_files.specs.Replies.{Forced as IsForced}

@@ -9,7 +9,6 @@ use Rattle.fsd_files.specs.Scrub.{CountsTwins}
 use Rattle.twin_home.specs.Twins.{AreTwins, HealsTwins, TwinsStand}
 use Rattle.volume_state.specs.Volume.{VolumeValue}
 use Rattle.fsd_bytes.specs.declared.refusal.Refusal.{Refusal}
-use Rattle.fsd_bytes.specs.declared.refusal.Refusal.TheVariants as Why
 use Rattle.fsd_sound.specs.Sound.{is_twin}
 use Rattle.volume_contract.specs.Ends.{device_of}
 use Rattle.volume_contract.specs.Healing.{LosesTwins, StandsStill, TwinsStand as AllStand}

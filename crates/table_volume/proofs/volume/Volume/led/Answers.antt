@@ -1,6 +1,5 @@
-use Rattle.std.proofs.Common.{◌≡◌, ◌≤◌, ◌<◌, ◌+◌, ◌^◌, sym, ap, subst, arith}
+use Rattle.std.proofs.Common.{ap, subst, arith}
 use Rattle.sector_disk.proofs.CallLaws.{writes_more}
-use Rattle.volume_state.specs.State.{state}
 use Rattle.volume_state.specs.Volume.{IsWhole}
 use Rattle.volume_changes.specs.Completed.{draft_of}
 use Rattle.volume_state.proofs.LeaderWriteLaws.{leaves_leader}

@@ -1,4 +1,4 @@
-use Rattle.std.proofs.Common.{inl, inr, subst}
+use Rattle.std.proofs.Common.{◌≡◌, inl, inr, subst}
 use Rattle.std.specs.Prelude.{IfOk}
 use Rattle.std.proofs.lemmas.Result.{IfErr-weaker, IfOk-weaker}
 use Rattle.volume_layout.specs.declared.layout.Layout.{Layout}
@@ -7,7 +7,8 @@ use Rattle.sector_disk.proofs.Calm.{calm_worn, same_calm}
 use Rattle.fsd_sound.specs.Lost.{AreCopiesOn, AreHomes, LostIn}
 use Rattle.fsd_sound.proofs.WindowLaws.{named_on}
 use Rattle.mount_recover.specs.Recover.{IsFreshLog, IsSettledIn}
-use Rattle.volume_contract.specs.Mount.{CountsMount, HealsAnchors, HealsHomes, IsRefused, UnsoundFor}
+use Rattle.mount_recover.specs.Replay.{IsReplayed}
+use Rattle.volume_contract.specs.Mount.{CountsMount, HealsAnchors, HealsHomes, IsFound, IsRefused, UnsoundFor}
 use Rattle.volume_contract.specs.State.{IsNew}
 use Rattle.cached_table.specs.Homes.{KnowsHomes}
 use Rattle.table_volume.specs.Mounting.{IsAssembled, OpensKnown}
@@ -15,9 +16,9 @@ use Rattle.cached_table.specs.Opening.{IsOpenFault}
 use Rattle.volume_state.specs.State.{state}
 use Rattle.table_volume.proofs.CalmLaws.{calm_handed, fails_calm, mounts_calm}
 use Rattle.table_volume.proofs.EndsLaws.{ends_before, ends_settled, knows}
-use Rattle.volume_state.proofs.MomentLaws.{lists_now, shows_now}
+use Rattle.volume_state.proofs.MomentLaws.{lists_now, said_at, said_lists, shows_now}
 use Rattle.table_volume.proofs.HealsLaws.{anchors_read, homes_read}
-use Rattle.table_volume.proofs.MountLaws.{home_lost, is_new, refused_open, settled_in}
+use Rattle.table_volume.proofs.MountLaws.{found_open, home_lost, is_new, refused_open, settled_in}
 use Rattle.table_volume.proofs.RestLaws.{counts_mount, rest_read}
 use Rattle.table_volume.proofs.UnsoundLaws.{err_under, fails_sound, opens_unsound}
 use Rattle.table_volume.proofs.volume.Volume.mount.Goals as goal
@@ -36,7 +37,7 @@ returns-clause-refused g c =
     let settled = c.in_ok-settled.settled in
     let old = M.now c.args.m.now in
     IfErr-weaker c.open_read.result IsOpenFault (λ fault. M.honest c.open_read.new.m → IsRefused c.args.sectors fault old)
-    (λ fault cause honest. refused_open c.args.sectors settled.layout settled.log old c.in_ok-settled.ensures.epoch (c.in_ok-settled.ensures.found (c.open_read.ensures.reads.trust.honest honest)) fault cause) c.open_read.ensures.cause
+    (λ fault cause honest. refused_open c.args.sectors settled.layout settled.log old (M.now c.recover.new.m) c.in_ok-settled.ensures.epoch (c.in_ok-settled.ensures.found (c.open_read.ensures.reads.trust.honest honest)) fault cause) c.open_read.ensures.cause
 
 pub returns-clause-lost : goal.returns-clause-lost
 returns-clause-lost g c =
@@ -47,7 +48,7 @@ returns-clause-lost g c =
     IfErr-weaker c.open_read.result (λ fault. M.honest c.open_read.new.m → LostIn (AreHomes settled.layout) new.image fault) (λ fault. M.honest c.open_read.new.m → LostIn (AreCopiesOn c.args.sectors old) new.image fault)
     (λ fault lost honest.
     let back = c.open_read.ensures.reads.trust.honest honest in
-    home_lost c.args.sectors settled.layout settled.log old new.image (c.in_ok-settled.ensures.root back) (c.in_ok-settled.ensures.found back) fault (lost honest))
+    home_lost c.args.sectors settled.layout settled.log old (M.now c.recover.new.m) new.image (c.in_ok-settled.ensures.root back) (c.in_ok-settled.ensures.found back) fault (lost honest))
     c.open_read.ensures.lost
 
 pub returns-in_err-settled-clause-calm : goal.returns-in_err-settled-clause-calm
@@ -64,7 +65,7 @@ returns-clause-calm g c honest calm calm_new =
     let back = c.open_read.ensures.reads.trust.honest honest in
     let worn = c.open_read.ensures.reads.worn honest in
     let calm_mid = same_calm mid.windows new.windows worn.windows calm_new in
-    let is = settled_in c.args.sectors settled.layout settled.log old calm (c.in_ok-settled.ensures.found back) in
+    let is = settled_in c.args.sectors settled.layout settled.log old mid calm (c.in_ok-settled.ensures.found back) in
     mounts_calm c.args.sectors settled.layout c.in_ok-settled.ensures.planned settled.log old.image mid new (calm_worn mid.windows mid.image new.image calm_mid worn.image) is
     (c.in_ok-settled.ensures.shown is.anchor back calm calm_mid is.found.anchor) calm_mid c.open_read.result c.open_read.ensures.assembled
     (IfErr-weaker c.open_read.result (λ fault. M.honest c.open_read.new.m → LostIn (AreHomes settled.layout) new.image fault) (λ fault. LostIn (AreHomes settled.layout) new.image fault) (λ fault lost. lost honest) c.open_read.ensures.lost) (c.open_read.ensures.calm honest calm_mid)
@@ -108,15 +109,30 @@ returns-clause-homes g c =
     (λ v a honest. homes_read mid new (c.open_read.ensures.reads.worn honest) settled.layout settled.log v a (c.in_ok-settled.ensures.homes (c.open_read.ensures.reads.trust.honest honest)))
     c.open_read.ensures.assembled
 
+pub returns-clause-found : goal.returns-clause-found
+returns-clause-found g c =
+    let M = g.M.Machine in
+    let settled = c.in_ok-settled.settled in
+    let old = M.now c.args.m.now in let mid = M.now c.recover.new.m in let new = M.now c.open_read.new.m in
+    IfOk-weaker c.open_read.result (IsAssembled settled.layout settled.log) (λ v. M.honest c.open_read.new.m → IsFound c.args.sectors (state v) old new)
+    (λ v a honest. found_open c.args.sectors settled.layout settled.log old mid new (c.in_ok-settled.ensures.found (c.open_read.ensures.reads.trust.honest honest)) (c.open_read.ensures.reads.worn honest) v a)
+    c.open_read.ensures.assembled
+
+-- by the layout that the image says and the mount has taken
 pub returns-in_err-settled-clause-sound : goal.returns-in_err-settled-clause-sound
 returns-in_err-settled-clause-sound g c honest l windows h f begun =
     let M = g.M.Machine in
     let s = c.args.sectors in
     let old = M.now c.args.m.now in let new = M.now c.recover.new.m in
     let lists = lists_now s l windows h f old begun in
-    let shows = shows_now s l windows h f old begun in
-    inl (ends_before s l windows h f old begun M c.args.m.now c.recover.new.m new (c.recover.ensures.any_moment l windows lists honest shows) (c.recover.ensures.turns l windows lists honest shows)
-    (c.recover.ensures.exit l windows lists honest shows) (c.in_err-settled.ensures.unturned honest) c.from_residual.result c.in_err-settled.field-0.0 c.from_residual.ensures.1 (c.in_err-settled.ensures.excuses l windows lists honest shows) (c.in_err-settled.ensures.refused honest))
+    let shows = shows_now s l windows h f old begun lists in
+    let by = c.in_err-settled.ensures.any_moment l windows lists.choices honest shows in
+    let k = by.layout in (
+      k,
+      by.said,
+      inl (ends_before s k windows h f old (said_at s l windows h f old k by.said begun) (said_lists l old.image k by.said windows h f lists) M c.args.m.now c.recover.new.m new by.moments (c.recover.ensures.turns l windows lists.choices honest shows)
+          by.exit (c.in_err-settled.ensures.unturned honest) c.from_residual.result c.in_err-settled.field-0.0 c.from_residual.ensures.1 (c.in_err-settled.ensures.excuses l windows lists.choices honest shows) (c.in_err-settled.ensures.refused honest)),
+    )
 
 pub returns-clause-sound : goal.returns-clause-sound
 returns-clause-sound g c honest l windows h f begun =
@@ -125,19 +141,25 @@ returns-clause-sound g c honest l windows h f begun =
     let old = M.now c.args.m.now in let mid = M.now c.recover.new.m in let new = M.now c.open_read.new.m in
     let settled = c.in_ok-settled.settled in
     let lists = lists_now s l windows h f old begun in
-    let shows = shows_now s l windows h f old begun in
+    let shows = shows_now s l windows h f old begun lists in
     let back = c.open_read.ensures.reads.trust.honest honest in
     let short = g.met.M.Machine.short c.recover.new.m back in
-    let exit = c.recover.ensures.exit l windows lists back shows in
-    let same = c.in_ok-settled.ensures.same l windows lists back shows in
-    let done = c.in_ok-settled.ensures.done l windows lists back shows in
-    let known = subst (λ (k : Layout). KnowsHomes k mid → OpensKnown k mid c.open_read.result) same (c.open_read.ensures.known honest) in
-    inr (ends_settled s l windows h f old begun M c.args.m.now c.recover.new.m c.open_read.new.m settled.log mid new done short exit
-    (c.recover.ensures.any_moment l windows lists back shows) (c.recover.ensures.turns l windows lists back shows) (c.open_read.ensures.reads.any_moment honest)
-    (subst (λ (k : Layout). IsFreshLog k settled.log) same c.in_ok-settled.ensures.log) (subst (λ (k : Layout). IsSettledIn s k settled.log old) same (c.in_ok-settled.ensures.found back)) c.in_ok-settled.ensures.epoch
-    (c.open_read.ensures.reads.worn honest) c.open_read.result (subst (λ (k : Layout). IfOk c.open_read.result (IsAssembled k settled.log)) same c.open_read.ensures.assembled)
-    (known (knows s l windows h f old begun M c.args.m.now c.recover.new.m c.open_read.new.m settled.log mid new done short exit))
-    (named_on (M.left_since c.recover.new.m) (M.left_since c.open_read.new.m) (M.moment c.args.m.now) (M.moment c.recover.new.m) mid.windows.present (c.recover.ensures.disk.later back) (c.open_read.ensures.reads.since honest) (c.in_ok-settled.ensures.named back)))
+    let by = c.in_ok-settled.ensures.any_moment l windows lists.choices back shows in
+    let k = by.layout in
+    let begun_k = said_at s l windows h f old k by.said begun in
+    let lists_k = said_lists l old.image k by.said windows h f lists in
+    let same : settled.layout ≡ k = by.took in
+    let done = subst (λ (x : Layout). IsReplayed x windows lists.choices settled.log.anchor.epoch mid) same (c.in_ok-settled.ensures.done l windows lists.choices back shows) in
+    let known = subst (λ (x : Layout). KnowsHomes x mid → OpensKnown x mid c.open_read.result) same (c.open_read.ensures.known honest) in (
+      k,
+      by.said,
+      inr (ends_settled s k windows h f old begun_k lists_k M c.args.m.now c.recover.new.m c.open_read.new.m settled.log mid new done short by.exit
+          by.moments (c.recover.ensures.turns l windows lists.choices back shows) (c.open_read.ensures.reads.any_moment honest)
+          (subst (λ (x : Layout). IsFreshLog x settled.log) same c.in_ok-settled.ensures.log) (subst (λ (x : Layout). IsSettledIn s x settled.log old mid) same (c.in_ok-settled.ensures.found back)) c.in_ok-settled.ensures.epoch
+          (c.open_read.ensures.reads.worn honest) c.open_read.result (subst (λ (x : Layout). IfOk c.open_read.result (IsAssembled x settled.log)) same c.open_read.ensures.assembled)
+          (known (knows s k windows h f old begun_k lists_k M c.args.m.now c.recover.new.m c.open_read.new.m settled.log mid new done short by.exit))
+          (named_on (M.left_since c.recover.new.m) (M.left_since c.open_read.new.m) (M.moment c.args.m.now) (M.moment c.recover.new.m) mid.windows.present (c.recover.ensures.disk.later back) (c.open_read.ensures.reads.since honest) (c.in_ok-settled.ensures.named back))),
+    )
 
 pub returns-in_err-settled-clause-unsound : goal.returns-in_err-settled-clause-unsound
 returns-in_err-settled-clause-unsound g c =

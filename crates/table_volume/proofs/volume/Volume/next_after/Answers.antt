@@ -1,8 +1,9 @@
 use Rattle.std.proofs.Common.{◌≤◌, ◌^◌, ap, arith, sym, subst}
 use Rattle.std.specs.Prelude.{IfNone, IfOk, IfSome}
+use Rattle.std.proofs.lemmas.Result.{err_from_is_err_and}
 use Rattle.std.specs.Option.{option_copied}
 use Rattle.fsd_formats.specs.declared.entry.Entry.{Entry}
-use Rattle.fsd_files.specs.Answers.{next_reply}
+use Rattle.fsd_files.specs.Answers.{entry_after, next_reply}
 use Rattle.volume_contract.specs.Absent.{LacksLater, ShowsReached}
 use Rattle.volume_contract.specs.Causes.{Causes}
 use Rattle.volume_contract.specs.Ends.{IsLater, Looks}
@@ -15,6 +16,7 @@ use Rattle.volume_layout.proofs.RootLaws.{planned_bounds}
 use Rattle.table_volume.proofs.MetLaws.{found_is_met}
 use Rattle.volume_changes.proofs.AbsentLaws.{none_met}
 use Rattle.volume_changes.proofs.CauseLaws.{met_one}
+use Rattle.volume_changes.proofs.EntryLaws.{fault_looked_up}
 use Rattle.volume_changes.proofs.FoundLaws.{one_met}
 use Rattle.volume_changes.proofs.NextLaws.{met_done, met_later, met_order, up_by}
 use Rattle.table_volume.proofs.volume.Volume.next_after.Goals as goal
@@ -29,6 +31,12 @@ pub returns-clause-done : goal.returns-clause-done
 returns-clause-done g c = λ h k stands.
     subst (Looks (next_reply k.mounted.volume (option_copied c.args.after))) (sym c.met_found.ensures)
     (met_done c.find_next.new.self c.in_ok-found.found (option_copied c.args.after) k.mounted.volume.entries (c.in_ok-found.ensures.found h k stands) (c.in_ok-found.ensures.taken h k stands))
+
+pub returns-in_err-found-clause-done : goal.returns-in_err-found-clause-done
+returns-in_err-found-clause-done g c =
+    let p = err_from_is_err_and c.from_residual-in_err-found.result c.from_residual-in_err-found.ensures.1 in
+    rw (p.1, p.2) (λ h k stands.
+    fault_looked_up (next_reply k.mounted.volume (option_copied c.args.after)) (entry_after (option_copied c.args.after) k.mounted.volume.entries) c.in_err-found.field-0.0 (c.in_err-found.ensures.found h k stands))
 
 pub returns-clause-causes : goal.returns-clause-causes
 returns-clause-causes g c =

@@ -1,4 +1,4 @@
-use Rattle.std.proofs.Common.{◌≡◌, inl, inr, Err, option_map, refl, sym, ap, arith}
+use Rattle.std.proofs.Common.{◌≡◌, inl, inr, Err, option_map, refl, sym, ap}
 use Rattle.std.proofs.lemmas.Result.{err_from_is_err_and}
 use Rattle.sector_disk.proofs.CallLaws.{reads_none, reads_told}
 use Rattle.fsd_bytes.specs.declared.refusal.Refusal.TheVariants as Why

@@ -1,11 +1,10 @@
-use Rattle.std.proofs.Common.{◌≡◌, ◌∙◌, ◌≤◌, ◌<◌, ◌-◌, ◌+◌, ◌^◌, ℕ, inl, inr, option_map, length, refl, sym, ap, subst, true, false, arith}
+use Rattle.std.proofs.Common.{inl, inr, option_map, length, refl, sym, ap, subst, arith}
 use Rattle.std.proofs.lemmas.Result.{err_from_is_err_and}
-use Rattle.fsd_formats.specs.NamePage.{sectors_for}
 use Rattle.sector_disk.proofs.CallLaws.{writes_more, writes_none, writes_told}
-use Rattle.volume_contract.specs.Pieces.{IsDraft, in_slices}
+use Rattle.volume_contract.specs.Pieces.{in_slices}
 use Rattle.volume_contract.specs.State.{Leaves}
 use Rattle.volume_state.specs.State.{Holds, state}
-use Rattle.volume_state.specs.Volume.{IsWhole, VolumeValue}
+use Rattle.volume_state.specs.Volume.{IsWhole}
 use Rattle.volume_state.proofs.ForceEndLaws.{not_down}
 use Rattle.volume_state.proofs.ForceLeavesLaws.{down_tells_none}
 use Rattle.volume_state.proofs.ForceMomentLaws.{touches_none}
