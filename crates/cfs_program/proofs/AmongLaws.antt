@@ -61,6 +61,7 @@ from_all (Word.Get key) status (inl low) = low_among (all_of (Word.Get key)) ref
 from_all (Word.Get key) status (inr eight) = one_at (all_of (Word.Get key)) 8 status eight refl
 from_all Word.Scrub status (inl none) = one_at (all_of Word.Scrub) 0 status none refl
 from_all Word.Scrub status (inr eight) = one_at (all_of Word.Scrub) 8 status eight refl
+from_all Word.Upgrade status low = low_among (all_of Word.Upgrade) refl refl status low
 from_all c status none = one_at (all_of c) 0 status none refl
 
 from_complete : (c : Command) (status : ℕ) → IsStatusFrom c status → IsTrue (is_one_of (complete_of c) status)
@@ -71,6 +72,7 @@ from_complete (Word.Get key) status (inl low) = low_among (complete_of (Word.Get
 from_complete (Word.Get key) status (inr eight) = one_at (complete_of (Word.Get key)) 8 status eight refl
 from_complete Word.Scrub status (inl none) = one_at (complete_of Word.Scrub) 0 status none refl
 from_complete Word.Scrub status (inr eight) = one_at (complete_of Word.Scrub) 8 status eight refl
+from_complete Word.Upgrade status low = low_among (complete_of Word.Upgrade) refl refl status low
 from_complete c status none = one_at (complete_of c) 0 status none refl
 
 broken_one : (c : Command) (result : ℕ) → IsStatusBroken result → IsTrue (is_one_of (all_of c) result)
@@ -79,6 +81,7 @@ broken_one (Word.Delete key) result broken = broken_all (all_of (Word.Delete key
 broken_one (Word.Keep name keep) result broken = broken_all (all_of (Word.Keep name keep)) refl refl refl result refl refl broken
 broken_one (Word.Get key) result broken = broken_all (all_of (Word.Get key)) refl refl refl result refl refl broken
 broken_one Word.Scrub result broken = broken_all (all_of Word.Scrub) refl refl refl result refl refl broken
+broken_one Word.Upgrade result broken = broken_all (all_of Word.Upgrade) refl refl refl result refl refl broken
 broken_one c result broken = broken_all (all_of c) refl refl refl result refl refl broken
 
 quiet_one : (c : Command) (result : ℕ) → (result ≡ 4 → ⊥) → (result ≡ 6 → ⊥) → IsStatusBroken result → IsTrue (is_one_of (complete_of c) result)
@@ -87,6 +90,7 @@ quiet_one (Word.Delete key) result disk said broken = broken_complete (complete_
 quiet_one (Word.Keep name keep) result disk said broken = broken_complete (complete_of (Word.Keep name keep)) refl refl refl result disk said broken
 quiet_one (Word.Get key) result disk said broken = broken_complete (complete_of (Word.Get key)) refl refl refl result disk said broken
 quiet_one Word.Scrub result disk said broken = broken_complete (complete_of Word.Scrub) refl refl refl result disk said broken
+quiet_one Word.Upgrade result disk said broken = broken_complete (complete_of Word.Upgrade) refl refl refl result disk said broken
 quiet_one c result disk said broken = broken_complete (complete_of c) refl refl refl result disk said broken
 
 pub command_status : (c : Command) (result : ℕ) → IsOneStatus c result → IsTrue (is_one_of (all_of c) result)

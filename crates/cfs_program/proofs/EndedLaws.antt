@@ -56,12 +56,16 @@ module _ {D : Type 0} (M : Ghosts D) (request : Request) (input rest : List ℕ)
   ended (inr (is, all)) = inr (inr (broken is all.said))
 
   pub ended_behind : LeavesRun request input rest l windows h f (M.left_since c) (M.moment a) (λ P. LeavesOnly M.moment M.left_since a c P) (M.report a) (M.report c) (M.now a) (M.now c) status
-  ended_behind = inl (record {
-    moments = then_on M.moment M.left_since a b c (LeftBefore l windows h f (M.now a)) first
-        (leaves_more M.moment M.left_since b c (Utters (fault_text why) (M.now b)) (LeftBefore l windows h f (M.now a)) saying (says.any_moment honest));
-    exit = saying (M.now c) (says.exit honest);
-    ends = ended ends;
-  })
+  ended_behind = (
+    l,
+    inl refl,
+    inl (record {
+      moments = then_on M.moment M.left_since a b c (LeftBefore l windows h f (M.now a)) first
+          (leaves_more M.moment M.left_since b c (Utters (fault_text why) (M.now b)) (LeftBefore l windows h f (M.now a)) saying (says.any_moment honest));
+      exit = saying (M.now c) (says.exit honest);
+      ends = ended ends;
+    }),
+  )
 
 module _ {D : Type 0} (M : Ghosts D) (request : Request) (input rest : List ℕ) (l : Layout) (windows : List WeakRun) (h : List Change) (f : ℕ) (a b c : D) (why : Fault) (may : MayEnd why) (status : ℕ)
     (sound : IsSoundDisk l windows h f (M.now a)) (short : AreShort (M.now a).windows) where

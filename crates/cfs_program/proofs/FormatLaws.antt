@@ -1,19 +1,19 @@
 -- A format on a new image, and its line.
 use Rattle.std.proofs.Common.{◌≡◌, inl, inr, ℕ, zero, suc, ◌≤◌, List, [], ◌∷◌, ◌++◌, take, None, replicate, refl, ap, subst, sym, ◌∙◌, arith}
 use Rattle.std.specs.Prelude.{Result, Ok, Err, OnOk}
-use Rattle.std.specs.List.{last_or}
 use Rattle.sector_disk.specs.declared.sector.Sector.{Sector}
 use Rattle.sector_disk.specs.declared.sector.Sector.TheVariants.{Damaged}
 use Rattle.sector_disk.specs.declared.sector.WeakRun.{WeakRun}
-use Rattle.sector_disk.specs.Image.{AreShort, IsShort, IsWorn, Windows, in_run, open_damage, sector_at}
+use Rattle.sector_disk.specs.Image.{IsWorn, Windows, in_run, open_damage, sector_at}
 use Rattle.sector_disk.specs.Machine.{Makes, Moment, Utters}
 use Rattle.sector_disk.proofs.Wear.{worn_trans}
 use Rattle.volume_layout.specs.declared.layout.Layout.{Layout}
+use Rattle.volume_layout.specs.Kinds.{longest_of}
 use Rattle.fsd_sound.specs.Format.{IsFormattedIn}
 use Rattle.fsd_sound.specs.Sound.{IsSound}
 use Rattle.fsd_sound.proofs.FormatSoundLaws.{format_is_sound}
 use Rattle.fsd_sound.proofs.SoundLaws.{sound_still}
-use Rattle.fsd_sound.proofs.WindowLaws.{windows_are_narrow}
+use Rattle.fsd_sound.proofs.WindowLaws.{borne_narrow}
 use Rattle.volume_format.specs.Formatting.{Formats, IsNew}
 use Rattle.volume_layout.specs.declared.fault.LayoutFault.{LayoutFault}
 use Rattle.fsd_texts.specs.declared.line.Line.{Line}
@@ -27,21 +27,17 @@ sector_at-replicate zero s = refl
 sector_at-replicate (suc count) zero = refl
 sector_at-replicate (suc count) (suc s) = sector_at-replicate count s
 
-formatted_sound : (l : Layout) (run : WeakRun) (i : List Sector) → IsShort run → IsFormattedIn l run i → IsSound l (run ∷ []) [] 0 i
-formatted_sound l run i short f =
-    let few : run.count ≤ 3 = omega (arith, short) in
-    let narrow = windows_are_narrow (run ∷ []) (last_or None (run ∷ [])) refl few in
-    sound_still l (run ∷ []) narrow [] 0 f.written i f.worn (format_is_sound l (run ∷ []) narrow f.written f.formatted)
+formatted_sound : (l : Layout) (run : WeakRun) (i : List Sector) → run.count ≤ longest_of l.kind → IsFormattedIn l run i → IsSound l (run ∷ []) [] 0 i
+formatted_sound l run i short f = sound_still l (run ∷ []) (borne_narrow l (run ∷ []) short) [] 0 f.written i f.worn (format_is_sound l (run ∷ []) short f.written f.formatted)
 
-pub volume_made : (l : Layout) (count : ℕ) (old mid new : Moment) → AreShort new.windows → Makes count old mid → (IsNew mid → Formats l mid new) → MakesVolume l old new
-volume_made l count old mid new are_short made done =
+pub volume_made : (l : Layout) (count : ℕ) (old mid new : Moment) → Makes count old mid → (IsNew mid → Formats l mid new) → MakesVolume l old new
+volume_made l count old mid new made done =
     let formats = done (record {
       damaged = λ s. ap (λ (i : List Sector). sector_at i s) made.image ∙ sector_at-replicate count s;
       windows = made.windows;
     }) in
-    let short : IsShort formats.run = (subst (λ (w : Windows). AreShort w) formats.windows are_short).present in
     record {
-      holds = record { run = formats.run; short = short; formatted = formats.formatted; sound = formatted_sound l formats.run new.image short formats.formatted; windows = formats.windows };
+      holds = record { run = formats.run; short = formats.short; formatted = formats.formatted; sound = formatted_sound l formats.run new.image formats.short formats.formatted; windows = formats.windows };
       said = formats.said ∙ made.said;
     }
 
@@ -62,10 +58,10 @@ holds_on l between after holds still =
       windows = still.windows ∙ holds.windows;
     }
 
-pub made_of : {E : Type 0} (l : Layout) (count : ℕ) (old mid new : Moment) (H : Type 0) (result : Result (Unit {0}) E) → (H → AreShort new.windows) → (H → Makes count old mid)
+pub made_of : {E : Type 0} (l : Layout) (count : ℕ) (old mid new : Moment) (H : Type 0) (result : Result (Unit {0}) E) → (H → Makes count old mid)
     → OnOk result (H → IsNew mid → Formats l mid new) → OnOk result (H → MakesVolume l old new)
-made_of l count old mid new H (Ok x) short makes done = λ h. volume_made l count old mid new (short h) (makes h) (done h)
-made_of l count old mid new H (Err e) short makes done = tt
+made_of l count old mid new H (Ok x) makes done = λ h. volume_made l count old mid new (makes h) (done h)
+made_of l count old mid new H (Err e) makes done = tt
 
 -- ---- its line
 

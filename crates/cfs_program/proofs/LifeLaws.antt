@@ -23,7 +23,7 @@ use Rattle.fsd_files.specs.Files.{Change, File, Files, after, new_key}
 use Rattle.fsd_files.specs.Kept.{IsEntryOf, Lists}
 use Rattle.fsd_files.specs.Replies.{Reply}
 use Rattle.fsd_files.specs.Volume.{Volume, drawn, forced_for_place, forced_if, place_for}
-use Rattle.fsd_sound.specs.Sound.{IsPrefixOf, IsSound}
+use Rattle.fsd_sound.specs.Sound.{IsPrefixOf, IsSaid, IsSound}
 use Rattle.fsd_texts.specs.declared.command.Command.{Command}
 use Rattle.fsd_texts.specs.declared.command.Command.TheVariants as Word
 use Rattle.fsd_texts.specs.declared.fault.Fault.{Fault}
@@ -35,11 +35,12 @@ use Rattle.fsd_runs.specs.declared.request.Request.{Request}
 use Rattle.fsd_runs.specs.declared.request.Request.TheVariants as Asks
 use Rattle.fsd_runs.specs.Commands.{answer, changes_of, version_line}
 use Rattle.fsd_runs.specs.Errands.{Cut, Turn, MayCut, alone, alone_ending, answered_so, blank, fault_status, reply_status}
-use Rattle.fsd_runs.specs.Leaves.{IsBroken, IsReplied, IsSpent, IsUndone, IsUnsaid, LeavesMounted, LeavesRun, LeftSince, Unbegun}
+use Rattle.fsd_runs.specs.Leaves.{IsBroken, IsReplied, IsSpent, IsUndone, IsUnsaid, LeavesBy, LeavesMounted, LeavesRun, LeftSince, Unbegun}
 use Rattle.fsd_runs.specs.Sessions.{Meeting, session_over}
 use Rattle.fsd_runs.specs.Runs.{Goes, IsCutAt, IsThrough, answered, changes_in, errand_in, run_end, run_status, run_turns, said_in, turn_of, turns_of}
 use Rattle.cfs_program.specs.Drill.{KeepsFirst, ListsPrefix, list_text, version_text}
 use Rattle.cfs_program.specs.Formatting.{HoldsVolume}
+use Rattle.cfs_program.proofs.OpeningLaws.{said_disk}
 
 -- ---- a list, by the files
 
@@ -80,7 +81,7 @@ last_is (w ∷ windows) o run = last_is windows (Some w) run
 
 -- ---- a format
 
-pub kept_made : (l : Layout) (now : Moment) → plan l.sectors l.third l.pages ≡ Ok l → HoldsVolume l now → KeepsFirst [] 0 now
+pub kept_made : (l : Layout) (now : Moment) → plan l.kind l.sectors l.third l.pages ≡ Ok l → HoldsVolume l now → KeepsFirst [] 0 now
 kept_made l now planned holds = record {
   layout = l;
   windows = holds.run ∷ [];
@@ -246,7 +247,7 @@ found_of h f now k n prefix =
     (record { forced = omega (arith, forced, some); made = few.1 }, take-take n k.made h few.0)
 
 -- a mount that settled
-kept_mounted : (l : Layout) (windows : List WeakRun) (next : WeakRun) (h g : List Change) (f made forced : ℕ) (now : Moment) → plan l.sectors l.third l.pages ≡ Ok l → now.windows ≡ record { present = Some next; next = None }
+kept_mounted : (l : Layout) (windows : List WeakRun) (next : WeakRun) (h g : List Change) (f made forced : ℕ) (now : Moment) → plan l.kind l.sectors l.third l.pages ≡ Ok l → now.windows ≡ record { present = Some next; next = None }
     → IsSound l (windows ++ next ∷ []) g forced now.image → g ≡ take made h → made ≤ length h → f ≤ forced → KeepsFirst h f now
 kept_mounted l windows next h g f made forced now planned settled sound is few some = record {
   layout = l;
@@ -267,7 +268,7 @@ module _ (name : List ℕ) (byte : ℕ) (h : List Change) (old new : Moment) (k 
   more = h ++ the_change name byte ∷ []
 
   abbrev Leaves : Type 0
-  Leaves = LeavesRun (the_request name byte) (byte ∷ []) rest k.layout k.windows (take k.made h) k.forced Past began Only before after_it old new result
+  Leaves = LeavesBy (the_request name byte) (byte ∷ []) rest k.layout k.windows (take k.made h) k.forced Past began Only before after_it old new result
 
   abbrev Mounted : Type 0
   Mounted = LeavesMounted (the_request name byte) (byte ∷ []) rest k.layout k.windows (take k.made h) k.forced Past began Only before after_it old new result
@@ -283,13 +284,13 @@ module _ (name : List ℕ) (byte : ℕ) (h : List Change) (old new : Moment) (k 
       let most = found.0.made in
       (omega (arith, least, most), found.1 ∙ take_all n h least)
 
-  pub kept_done : result ≡ 0 → Leaves → KeepsFirst more (length h + 1) new
-  kept_done nought (inl u) = absurd (by u.ends)
+  done_by : result ≡ 0 → Leaves → KeepsFirst more (length h + 1) new
+  done_by nought (inl u) = absurd (by u.ends)
     where
       by : IsSpent old new result ⊎ (IsUnsaid before after_it result ⊎ IsBroken (the_request name byte) Unbegun before after_it (blank ∷ []) old new result) → ⊥
       by (inl spent) = let nine = spent.ends in omega (arith, nought, nine)
       by (inr other) = broken_not_zero (the_request name byte) Unbegun before after_it (blank ∷ []) old new result other nought
-  kept_done nought (inr m) = by m.ends
+  done_by nought (inr m) = by m.ends
     where
       by : (IsThrough m.run × IsReplied k.layout k.windows m.next (take k.made h) m.count (run_turns m.run) (run_status m.run) (run_end m.run) old new result)
           ⊎ (IsUnsaid before after_it result ⊎ IsBroken (the_request name byte) (IsUndone k.layout (k.windows ++ m.next ∷ []) (take m.count (take k.made h)) m.count (run_turns m.run)) before after_it (run_turns m.run) old new result)
@@ -304,8 +305,8 @@ module _ (name : List ℕ) (byte : ℕ) (h : List Change) (old new : Moment) (k 
           (both ∙ sym (take_all (length more) more (omega arith))) (omega arith) (omega (arith, count, single))
       by (inr other) = absurd (broken_not_zero (the_request name byte) (IsUndone k.layout (k.windows ++ m.next ∷ []) (take m.count (take k.made h)) m.count (run_turns m.run)) before after_it (run_turns m.run) old new result other nought)
 
-  pub kept_left : Leaves → KeepsFirst more (length h) new
-  kept_left (inl u) = record {
+  left_by : Leaves → KeepsFirst more (length h) new
+  left_by (inl u) = record {
     layout = k.layout;
     windows = k.windows;
     made = k.made;
@@ -318,7 +319,7 @@ module _ (name : List ℕ) (byte : ℕ) (h : List Change) (old new : Moment) (k 
       sound = subst (λ (x : List Change). IsSound k.layout k.windows x k.forced new.image) (sym (take-append-le k.made h (the_change name byte ∷ []) k.few)) u.exit.sound;
     };
   }
-  kept_left (inr m) = by (put_begun name byte m.run.cut m.run.may (in_runs (k.windows ++ m.next ∷ [])) (Past m.at) old.said m.from m.run.mets m.volume m.run.goes s.whole)
+  left_by (inr m) = by (put_begun name byte m.run.cut m.run.may (in_runs (k.windows ++ m.next ∷ [])) (Past m.at) old.said m.from m.run.mets m.volume m.run.goes s.whole)
     where
       s : LeftSince k.layout k.windows m.next (take k.made h) m.count (run_turns m.run) old new
       s = m.exit
@@ -336,13 +337,13 @@ module _ (name : List ℕ) (byte : ℕ) (h : List Change) (old new : Moment) (k 
       by (inr one) = kept (length more) ((λ i. found.1 i ++ one i) ∙ sym (take_all (length more) more (omega arith))) (omega arith)
 
 module _ (h : List Change) (f : ℕ) (old new : Moment) (k : KeepsFirst h f old) (rest : List ℕ) (Past : ℕ → Moment → Type 0) (began : ℕ) (Only : (Moment → Type 0) → Type 0) (before after_it : Report) (result : ℕ) where
-  pub kept_listed : old.said ≡ [] → result ≡ 0 → LeavesRun (Asks.One all_versions) [] rest k.layout k.windows (take k.made h) k.forced Past began Only before after_it old new result → ListsPrefix h f new.said
-  kept_listed unsaid nought (inl u) = absurd (by u.ends)
+  listed_by : old.said ≡ [] → result ≡ 0 → LeavesBy (Asks.One all_versions) [] rest k.layout k.windows (take k.made h) k.forced Past began Only before after_it old new result → ListsPrefix h f new.said
+  listed_by unsaid nought (inl u) = absurd (by u.ends)
     where
       by : IsSpent old new result ⊎ (IsUnsaid before after_it result ⊎ IsBroken (Asks.One all_versions) Unbegun before after_it (blank ∷ []) old new result) → ⊥
       by (inl spent) = let nine = spent.ends in omega (arith, nought, nine)
       by (inr other) = broken_not_zero (Asks.One all_versions) Unbegun before after_it (blank ∷ []) old new result other nought
-  kept_listed unsaid nought (inr m) = by m.ends
+  listed_by unsaid nought (inr m) = by m.ends
     where
       by : (IsThrough m.run × IsReplied k.layout k.windows m.next (take k.made h) m.count (run_turns m.run) (run_status m.run) (run_end m.run) old new result)
           ⊎ (IsUnsaid before after_it result ⊎ IsBroken (Asks.One all_versions) (IsUndone k.layout (k.windows ++ m.next ∷ []) (take m.count (take k.made h)) m.count (run_turns m.run)) before after_it (run_turns m.run) old new result)
@@ -360,3 +361,30 @@ module _ (h : List Change) (f : ℕ) (old new : Moment) (k : KeepsFirst h f old)
                 ∙ ap list_text files;
           }
       by (inr other) = absurd (broken_not_zero (Asks.One all_versions) (IsUndone k.layout (k.windows ++ m.next ∷ []) (take m.count (take k.made h)) m.count (run_turns m.run)) before after_it (run_turns m.run) old new result other nought)
+
+-- ---- by the layout that a root says
+
+abbrev kept_by : (h : List Change) (f : ℕ) (now : Moment) (k : KeepsFirst h f now) (layout : Layout) → IsSaid k.layout now.image layout → KeepsFirst h f now
+kept_by h f now k layout said = record {
+  layout = layout;
+  windows = k.windows;
+  made = k.made;
+  few = k.few;
+  forced = k.forced;
+  some = k.some;
+  sound = said_disk k.layout layout k.windows (take k.made h) k.forced now said k.sound;
+}
+
+module _ (name : List ℕ) (byte : ℕ) (h : List Change) (old new : Moment) (k : KeepsFirst h (length h) old) (rest : List ℕ) (Past : ℕ → Moment → Type 0) (began : ℕ) (Only : (Moment → Type 0) → Type 0) (before after_it : Report) (result : ℕ) where
+  abbrev LeavesPut : Type 0
+  LeavesPut = LeavesRun (the_request name byte) (byte ∷ []) rest k.layout k.windows (take k.made h) k.forced Past began Only before after_it old new result
+
+  pub kept_done : result ≡ 0 → LeavesPut → KeepsFirst (h ++ the_change name byte ∷ []) (length h + 1) new
+  kept_done nought (layout, said, leaves) = done_by name byte h old new (kept_by h (length h) old k layout said) rest Past began Only before after_it result nought leaves
+
+  pub kept_left : LeavesPut → KeepsFirst (h ++ the_change name byte ∷ []) (length h) new
+  kept_left (layout, said, leaves) = left_by name byte h old new (kept_by h (length h) old k layout said) rest Past began Only before after_it result leaves
+
+module _ (h : List Change) (f : ℕ) (old new : Moment) (k : KeepsFirst h f old) (rest : List ℕ) (Past : ℕ → Moment → Type 0) (began : ℕ) (Only : (Moment → Type 0) → Type 0) (before after_it : Report) (result : ℕ) where
+  pub kept_listed : old.said ≡ [] → result ≡ 0 → LeavesRun (Asks.One all_versions) [] rest k.layout k.windows (take k.made h) k.forced Past began Only before after_it old new result → ListsPrefix h f new.said
+  kept_listed unsaid nought (layout, said, leaves) = listed_by h f old new (kept_by h f old k layout said) rest Past began Only before after_it result unsaid nought leaves

@@ -4,6 +4,7 @@ use Rattle.std.specs.Prelude.{IsSome}
 use Rattle.std.proofs.lemmas.List.{append-nil}
 use Rattle.volume_layout.specs.declared.layout.Layout.{Layout}
 use Rattle.volume_layout.proofs.RootLaws.{planned_bounds}
+use Rattle.volume_layout.proofs.TurnedLaws.{planned_turned}
 use Rattle.sector_disk.specs.declared.machine.Machine.{Ghosts}
 use Rattle.sector_disk.specs.declared.sector.WeakRun.{WeakRun}
 use Rattle.sector_disk.specs.Image.{AreShort, IsWorn, Windows, open_damage}
@@ -12,9 +13,11 @@ use Rattle.sector_disk.proofs.Moments.{goes_on, leaves_more, started, then_on}
 use Rattle.sector_disk.proofs.Wear.{worn_trans}
 use Rattle.fsd_files.specs.Files.{Change}
 use Rattle.fsd_files.specs.Disk.{Image, in_runs}
-use Rattle.fsd_sound.specs.Sound.{weak_of}
+use Rattle.fsd_sound.specs.Sound.{IsSaid, weak_of}
 use Rattle.fsd_sound.proofs.WindowLaws.{named_from}
 use Rattle.fsd_sound.proofs.MoreLaws.{wear_sound}
+use Rattle.fsd_sound.proofs.SaidLaws.{says_worn}
+use Rattle.fsd_sound.proofs.TurnedLaws.{sound_turned}
 use Rattle.fsd_sound.proofs.WindowLaws.{open_is_weak}
 use Rattle.fsd_texts.specs.declared.fault.Fault.{Fault}
 use Rattle.fsd_texts.specs.declared.fault.Fault.TheVariants as Ends
@@ -22,7 +25,7 @@ use Rattle.fsd_texts.specs.Text.{fault_text}
 use Rattle.fsd_runs.specs.declared.request.Request.{Request}
 use Rattle.fsd_runs.specs.declared.request.Request.TheVariants.{Put}
 use Rattle.fsd_runs.specs.Errands.{Cut, Turn}
-use Rattle.fsd_runs.specs.Leaves.{CutCause, IsBroken, IsOutside, IsReplied, IsSpent, IsUndone, IsUnsaid, LeavesMounted, LeavesRun, LeavesUnmounted, Left, LeftBefore, LeftSince, SaysFault}
+use Rattle.fsd_runs.specs.Leaves.{CutCause, IsBroken, IsOutside, IsReplied, IsSpent, IsUndone, IsUnsaid, LeavesBy, LeavesMounted, LeavesRun, LeavesUnmounted, Left, LeftBefore, LeftSince, SaysFault}
 use Rattle.fsd_runs.specs.Sessions.{session_over}
 use Rattle.fsd_runs.specs.Runs.{Goes, IsCutAt, IsThrough, Run, errand_in, run_end, run_status, run_turns, said_in}
 use Rattle.volume_contract.specs.Mount.{IsSoundAt}
@@ -168,7 +171,7 @@ module _ {D : Type 0} (M : Ghosts D) (request : Request) (input rest : List ℕ)
     }
 
     replied_on : IsReplied l windows m.next h m.count turns (run_status m.run) (run_end m.run) (M.now b) (M.now c) status → IsReplied l windows m.next h m.count turns (run_status m.run) (run_end m.run) (M.now a) (M.now c) status
-    replied_on x = record { ends = x.ends; said = x.said ∙ ap (λ (s : List ℕ). s ++ said_in turns) found.said; settled = x.settled; sound = x.sound; tells = x.tells }
+    replied_on x = record { ends = x.ends; said = x.said ∙ ap (λ (s : List ℕ). s ++ said_in turns) found.said; settled = x.settled; sound = x.sound; tells = x.tells; roots = x.roots }
 
     ends_on : (IsThrough m.run × IsReplied l windows m.next h m.count turns (run_status m.run) (run_end m.run) (M.now b) (M.now c) status) ⊎ (IsUnsaid (M.report b) (M.report c) status ⊎ IsBroken request (IsUndone l (windows ++ m.next ∷ []) (take m.count h) m.count turns) (M.report b) (M.report c) turns (M.now b) (M.now c) status)
         → (IsThrough run_is × IsReplied l windows m.next h m.count (run_turns run_is) (run_status run_is) (run_end run_is) (M.now a) (M.now c) status) ⊎ (IsUnsaid (M.report a) (M.report c) status ⊎ IsBroken request (IsUndone l (windows ++ m.next ∷ []) (take m.count h) m.count (run_turns run_is)) (M.report a) (M.report c) (run_turns run_is) (M.now a) (M.now c) status)
@@ -188,6 +191,7 @@ module _ {D : Type 0} (M : Ghosts D) (request : Request) (input rest : List ℕ)
       raised = record { left = m.raised.left; worn = worn_trans (weak_of windows) (M.now a).image (M.now b).image m.raised.left (open_is_weak (M.now a).windows windows (M.now a).image (M.now b).image sound.ends found.image) m.raised.worn; next = m.raised.next };
       volume = m.volume;
       starts = m.starts;
+      own = m.own;
       run = run_is;
       cause = cause_on m.run.cut input rest (M.report a) (M.report b) (M.report c) same m.cause;
       moments = then_on M.moment M.left_since a b c (Left l windows m.next h f m.count turns (M.now a))
@@ -198,10 +202,32 @@ module _ {D : Type 0} (M : Ghosts D) (request : Request) (input rest : List ℕ)
       ends = ends_on m.ends;
     }
 
-  pub found_run : LeavesRun request input rest l windows h f (M.left_since c) (M.moment b) (λ P. LeavesOnly M.moment M.left_since b c P) (M.report b) (M.report c) (M.now b) (M.now c) status
-      → LeavesRun request input rest l windows h f (M.left_since c) (M.moment a) (λ P. LeavesOnly M.moment M.left_since a c P) (M.report a) (M.report c) (M.now a) (M.now c) status
-  found_run (inl u) = inl (opened_unmounted u)
-  found_run (inr m) = inr (opened_mounted m)
+  found_by : LeavesBy request input rest l windows h f (M.left_since c) (M.moment b) (λ P. LeavesOnly M.moment M.left_since b c P) (M.report b) (M.report c) (M.now b) (M.now c) status
+      → LeavesBy request input rest l windows h f (M.left_since c) (M.moment a) (λ P. LeavesOnly M.moment M.left_since a c P) (M.report a) (M.report c) (M.now a) (M.now c) status
+  found_by (inl u) = inl (opened_unmounted u)
+  found_by (inr m) = inr (opened_mounted m)
+
+module _ {D : Type 0} (M : Ghosts D) (request : Request) (input rest : List ℕ) (l : Layout) (windows : List WeakRun) (h : List Change) (f : ℕ) (a b c : D) (status : ℕ)
+    (sound : IsSoundDisk l windows h f (M.now a)) (short : AreShort (M.now a).windows) (only : (left : Moment) → M.left_since a (M.moment a) left → left ≡ M.now a)
+    (time : Elapses (M.moment a) (M.moment b) (M.left_since a) (M.left_since b) (Before (M.now a) (M.now b))) (found : Finds (M.now a) (M.now b)) (same : CountsNone (M.report a) (M.report b)) where
+  opened_by : LeavesBy request input rest l windows h f (M.left_since c) (M.moment b) (λ P. LeavesOnly M.moment M.left_since b c P) (M.report b) (M.report c) (M.now b) (M.now c) status
+      → LeavesBy request input rest l windows h f (M.left_since c) (M.moment a) (λ P. LeavesOnly M.moment M.left_since a c P) (M.report a) (M.report c) (M.now a) (M.now c) status
+  opened_by =
+      let keeps = finds_keep (M.now a) (M.now b) found in
+      found_by M request input rest l windows h f a b c status sound short
+      (goes_on M.moment M.left_since a a b (LeftBefore l windows h f (M.now a)) (Before (M.now a) (M.now b))
+      (started M.moment M.left_since a (M.now a) (LeftBefore l windows h f (M.now a)) only (left_start l windows h f (M.now a) sound short)) time (left_attach l windows h f (M.now a) sound short (M.now b) keeps)) keeps same
+
+-- ---- by the layout that a root says
+
+said_before : (l layout : Layout) (old at : Moment) → Keeps old at → IsSaid l at.image layout → IsSaid l old.image layout
+said_before l layout old at keeps (inl is) = inl is
+said_before l layout old at keeps (inr (is, says)) = inr (is, says_worn l old.image at.image (open_damage old.windows) keeps.image says)
+
+pub said_disk : (l layout : Layout) (windows : List WeakRun) (h : List Change) (f : ℕ) (now : Moment) → IsSaid l now.image layout → IsSoundDisk l windows h f now → IsSoundDisk layout windows h f now
+said_disk l layout windows h f now (inl is) sound = subst (λ (k : Layout). IsSoundDisk k windows h f now) (sym is) sound
+said_disk l layout windows h f now (inr (is, says)) sound =
+    subst (λ (k : Layout). IsSoundDisk k windows h f now) (sym is) (record { planned = planned_turned l sound.planned; ends = sound.ends; sound = sound_turned l windows now.image says h f sound.sound })
 
 module _ {D : Type 0} (M : Ghosts D) (request : Request) (input rest : List ℕ) (l : Layout) (windows : List WeakRun) (h : List Change) (f : ℕ) (a b c : D) (status : ℕ)
     (sound : IsSoundDisk l windows h f (M.now a)) (short : AreShort (M.now a).windows) where
@@ -209,8 +235,6 @@ module _ {D : Type 0} (M : Ghosts D) (request : Request) (input rest : List ℕ)
   pub opened_run : (only : (left : Moment) → M.left_since a (M.moment a) left → left ≡ M.now a) → Elapses (M.moment a) (M.moment b) (M.left_since a) (M.left_since b) (Before (M.now a) (M.now b)) → Finds (M.now a) (M.now b) → CountsNone (M.report a) (M.report b)
       → LeavesRun request input rest l windows h f (M.left_since c) (M.moment b) (λ P. LeavesOnly M.moment M.left_since b c P) (M.report b) (M.report c) (M.now b) (M.now c) status
       → LeavesRun request input rest l windows h f (M.left_since c) (M.moment a) (λ P. LeavesOnly M.moment M.left_since a c P) (M.report a) (M.report c) (M.now a) (M.now c) status
-  opened_run only time found same =
-      let keeps = finds_keep (M.now a) (M.now b) found in
-      found_run M request input rest l windows h f a b c status sound short
-      (goes_on M.moment M.left_since a a b (LeftBefore l windows h f (M.now a)) (Before (M.now a) (M.now b))
-      (started M.moment M.left_since a (M.now a) (LeftBefore l windows h f (M.now a)) only (left_start l windows h f (M.now a) sound short)) time (left_attach l windows h f (M.now a) sound short (M.now b) keeps)) keeps same
+  opened_run only time found same (layout, says, leaves) =
+      let said = said_before l layout (M.now a) (M.now b) (finds_keep (M.now a) (M.now b) found) says in
+      (layout, said, opened_by M request input rest layout windows h f a b c status (said_disk l layout windows h f (M.now a) said sound) short only time found same leaves)

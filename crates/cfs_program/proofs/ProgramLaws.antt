@@ -3,6 +3,7 @@ use Rattle.std.proofs.Common.{◌≡◌, ◌⊎◌, inl, inr, ℕ, Bool, false, 
 use Rattle.std.specs.Prelude.{⊤, Option, Some, Result, Ok, Err, IsFalse, IsTrue}
 use Rattle.std.proofs.lemmas.Bool.{eq-eqb}
 use Rattle.std.proofs.lemmas.List.{append-nil}
+use Rattle.volume_layout.specs.declared.kind.Kind.{Kind}
 use Rattle.volume_layout.specs.declared.layout.Layout.{Layout}
 use Rattle.volume_layout.specs.declared.fault.LayoutFault.{LayoutFault}
 use Rattle.volume_layout.specs.Layout.{plan}
@@ -69,7 +70,7 @@ module _ {D : Type 0} (M : Ghosts D) (path : List ℕ) (a b : D) (line : Line) (
   IsSaid None = ⊤
 
   pub ran_line : (request : Request) → Some line ≡ line_for request → Ran M request path a b result
-  ran_line (Format n t p) is = absurd (cc is)
+  ran_line (Format n t p kind) is = absurd (cc is)
   ran_line (Put name keep) is = absurd (cc is)
   ran_line (One command) is = absurd (cc is)
   ran_line Script is = absurd (cc is)
@@ -126,12 +127,12 @@ six_one (Word.Put name bytes keep) = refl
 six_one command = refl
 
 seven_is : (request : Request) → IsTrue (is_one_of (complete_statuses request) 7) × IsTrue (is_one_of (complete_statuses request ++ fault_statuses request) 7)
-seven_is (Format n t p) = seven_format (plan n t p)
+seven_is (Format n t p kind) = seven_format (plan kind n t p)
 seven_is (One command) = seven_one command
 seven_is other = (refl, refl)
 
 six_is : (request : Request) → IsTrue (is_one_of (complete_statuses request ++ fault_statuses request) 6)
-six_is (Format n t p) = six_format (plan n t p)
+six_is (Format n t p kind) = six_format (plan kind n t p)
 six_is (One command) = six_one command
 six_is other = refl
 
@@ -150,7 +151,7 @@ spares_plan (Err why) old new still = still
 spares_image : (request : Request) (old new : Moment) → Ages old new → SparesImage request old new
 spares_image Outside old new still = still
 spares_image (BadField cause) old new still = still
-spares_image (Format n t p) old new still = spares_plan (plan n t p) old new still
+spares_image (Format n t p kind) old new still = spares_plan (plan kind n t p) old new still
 spares_image Drill old new still = still
 spares_image request old new still = tt
 
@@ -257,32 +258,32 @@ format_asked (Err why) path old new result status asks all inside = none asks.at
     none (inl same) = same
     none (inr same) = same ∙ sym (append-nil old.attaches)
 
-pub ran_format : {D : Type 0} (M : Ghosts D) (n t p : ℕ) (path : List ℕ) (a b : D) (result : ℕ) → IsFormatStatus (plan n t p) result → CountsFaults (M.report a) (M.report b) result
-    → (M.tells b → AsksAtMost (plan_asks (plan n t p) path) (M.ledger a) (M.ledger b)) → (result ≡ 0 → M.tells b → AsksAll (plan_asks (plan n t p) path) (M.ledger a) (M.ledger b))
-    → Trusts (M.tells a) (M.tells b) (M.honest a) (M.honest b) → (M.honest b → SaysFormat (plan n t p) (M.report b).fault_place (M.now a) (M.now b) result)
-    → (result ≡ 0 → M.honest b → IsMadeBy (plan n t p) (M.now b)) → (M.honest b → SparesUnplanned (plan n t p) (M.now a) (M.now b)) → Ran M (Format n t p) path a b result
-ran_format M n t p path a b result status counts asks asked trust says made untouched = record {
-  status = format_status_is (plan n t p) result status;
-  complete = λ none. format_complete (plan n t p) result status (λ four. none.disk (counts.disk four)) (λ six. none.output (counts.output six));
+pub ran_format : {D : Type 0} (M : Ghosts D) (n t p : ℕ) (kind : Kind) (path : List ℕ) (a b : D) (result : ℕ) → IsFormatStatus (plan kind n t p) result → CountsFaults (M.report a) (M.report b) result
+    → (M.tells b → AsksAtMost (plan_asks (plan kind n t p) path) (M.ledger a) (M.ledger b)) → (result ≡ 0 → M.tells b → AsksAll (plan_asks (plan kind n t p) path) (M.ledger a) (M.ledger b))
+    → Trusts (M.tells a) (M.tells b) (M.honest a) (M.honest b) → (M.honest b → SaysFormat (plan kind n t p) (M.report b).fault_place (M.now a) (M.now b) result)
+    → (result ≡ 0 → M.honest b → IsMadeBy (plan kind n t p) (M.now b)) → (M.honest b → SparesUnplanned (plan kind n t p) (M.now a) (M.now b)) → Ran M (Format n t p kind) path a b result
+ran_format M n t p kind path a b result status counts asks asked trust says made untouched = record {
+  status = format_status_is (plan kind n t p) result status;
+  complete = λ none. format_complete (plan kind n t p) result status (λ four. none.disk (counts.disk four)) (λ six. none.output (counts.output six));
   device = counts.disk;
   output = counts.output;
   quiet = λ quiet. counts.quiet (quiet_unfailed result quiet);
   unfailed = λ unfailed. input_alone (M.report a) (M.report b) (counts.quiet unfailed);
   attaches = λ t. (asks t).attaches;
-  attached = λ inside told. format_asked (plan n t p) path (M.ledger a) (M.ledger b) result status (asks told) (λ zero. asked zero told) inside;
+  attached = λ inside told. format_asked (plan kind n t p) path (M.ledger a) (M.ledger b) result status (asks told) (λ zero. asked zero told) inside;
   taken = λ t. (asks t).input;
   spared = counts.input;
-  input = λ five told. absurd (format_not 5 (plan n t p) result status (λ e. omega (arith, e)) (λ e. omega (arith, e)) (λ e. omega (arith, e)) (λ e. omega (arith, e)) five);
-  fails = λ five h. absurd (format_not 5 (plan n t p) result status (λ e. omega (arith, e)) (λ e. omega (arith, e)) (λ e. omega (arith, e)) (λ e. omega (arith, e)) five);
+  input = λ five told. absurd (format_not 5 (plan kind n t p) result status (λ e. omega (arith, e)) (λ e. omega (arith, e)) (λ e. omega (arith, e)) (λ e. omega (arith, e)) five);
+  fails = λ five h. absurd (format_not 5 (plan kind n t p) result status (λ e. omega (arith, e)) (λ e. omega (arith, e)) (λ e. omega (arith, e)) (λ e. omega (arith, e)) five);
   bad = λ two h. tt;
   whole = λ zero t. tt;
   spelled = λ zero t. tt;
   trust = trust;
   says = λ h. inl (says h);
   mounted = λ any h. tt;
-  refused = λ three h. absurd (format_not 3 (plan n t p) result status (λ e. omega (arith, e)) (λ e. omega (arith, e)) (λ e. omega (arith, e)) (λ e. omega (arith, e)) three);
-  accepted = λ h l windows changes f sound three. format_not 3 (plan n t p) result status (λ e. omega (arith, e)) (λ e. omega (arith, e)) (λ e. omega (arith, e)) (λ e. omega (arith, e)) three;
-  spent = λ nine h. absurd (format_not 9 (plan n t p) result status (λ e. omega (arith, e)) (λ e. omega (arith, e)) (λ e. omega (arith, e)) (λ e. omega (arith, e)) nine);
+  refused = λ three h. absurd (format_not 3 (plan kind n t p) result status (λ e. omega (arith, e)) (λ e. omega (arith, e)) (λ e. omega (arith, e)) (λ e. omega (arith, e)) three);
+  accepted = λ h l windows changes f sound three. format_not 3 (plan kind n t p) result status (λ e. omega (arith, e)) (λ e. omega (arith, e)) (λ e. omega (arith, e)) (λ e. omega (arith, e)) three;
+  spent = λ nine h. absurd (format_not 9 (plan kind n t p) result status (λ e. omega (arith, e)) (λ e. omega (arith, e)) (λ e. omega (arith, e)) (λ e. omega (arith, e)) nine);
   last = λ of h. tt;
   all = λ zero h. tt;
   image = made;

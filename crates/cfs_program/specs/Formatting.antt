@@ -3,10 +3,10 @@ use Rattle.std.specs.Prelude.{◌≡◌, ◌⊎◌, ◌≤◌, ℕ, List, [], �
 use Rattle.sector_disk.specs.declared.machine.Attach.TheVariants.{New}
 use Rattle.sector_disk.specs.declared.sector.WeakRun.{WeakRun}
 use Rattle.sector_disk.specs.Calls.{DiskFaults}
-use Rattle.sector_disk.specs.Image.{IsShort}
 use Rattle.sector_disk.specs.Machine.{Asked, Ledger, Moment, Report, Rose}
 use Rattle.volume_layout.specs.declared.layout.Layout.{Layout}
 use Rattle.volume_layout.specs.declared.fault.LayoutFault.{LayoutFault}
+use Rattle.volume_layout.specs.Kinds.{longest_of}
 use Rattle.fsd_sound.specs.Format.{IsFormattedIn}
 use Rattle.fsd_sound.specs.Sound.{IsSound}
 use Rattle.fsd_texts.specs.declared.fault.Fault.TheVariants as Ends
@@ -16,10 +16,10 @@ use Rattle.volume_turns.specs.Status.{CountsNone, is_unfailed}
 
 -- ---- the image
 
--- An empty volume stands, in a window of its own, and its disk is sound with no changes.
+-- An empty volume stands, in a window of its own, whose run the volume bears, and its disk is sound with no changes.
 pub record HoldsVolume (l : Layout) (moment : Moment) : Type 0 where
   pub run : WeakRun
-  pub short : IsShort run
+  pub short : run.count ≤ longest_of l.kind
   pub formatted : IsFormattedIn l run moment.image
   pub sound : IsSound l (run ∷ []) [] 0 moment.image
   pub windows : moment.windows ≡ record { present = Some run; next = None }

@@ -28,7 +28,7 @@ is_from_outside status = list_any (λ s. s == status) (4 ∷ 6 ∷ 7 ∷ [])
 
 -- The image is sound in the windows that the machine has.
 pub record IsSoundDisk (l : Layout) (windows : List WeakRun) (h : List Change) (f : ℕ) (now : Moment) : Type 0 where
-  pub planned : plan l.sectors l.third l.pages ≡ Ok l
+  pub planned : plan l.kind l.sectors l.third l.pages ≡ Ok l
   pub ends : EndIn now.windows windows
   pub sound : IsSound l windows h f now.image
 

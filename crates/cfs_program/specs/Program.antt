@@ -46,12 +46,13 @@ reply_statuses Word.Force = 0 ∷ []
 reply_statuses Word.Tick = 0 ∷ []
 reply_statuses Word.Stat = 0 ∷ []
 reply_statuses Word.Scrub = 0 ∷ 8 ∷ []
+reply_statuses Word.Upgrade = 0 ∷ 1 ∷ []
 
 -- where no call of the outside fails
 abbrev pub complete_statuses : Request → List ℕ
 complete_statuses Outside = 2 ∷ 7 ∷ []
 complete_statuses (BadField cause) = 2 ∷ 7 ∷ []
-complete_statuses (Format n t p) = format_status (plan n t p) ∷ 7 ∷ []
+complete_statuses (Format n t p kind) = format_status (plan kind n t p) ∷ 7 ∷ []
 complete_statuses (Put name keep) = 0 ∷ 1 ∷ 3 ∷ 5 ∷ 7 ∷ 9 ∷ []
 complete_statuses (One command) = reply_statuses command ++ 3 ∷ 7 ∷ 9 ∷ []
 complete_statuses Script = 0 ∷ 2 ∷ 3 ∷ 5 ∷ 7 ∷ 9 ∷ []
@@ -66,7 +67,7 @@ plan_faults (Err why) = 6 ∷ []
 abbrev pub fault_statuses : Request → List ℕ
 fault_statuses Outside = 6 ∷ []
 fault_statuses (BadField cause) = 6 ∷ []
-fault_statuses (Format n t p) = plan_faults (plan n t p)
+fault_statuses (Format n t p kind) = plan_faults (plan kind n t p)
 fault_statuses (Put name keep) = 4 ∷ 5 ∷ 6 ∷ []
 fault_statuses Script = 4 ∷ 5 ∷ 6 ∷ []
 fault_statuses Drill = 6 ∷ []
@@ -81,7 +82,7 @@ is_one_of statuses status = list_any (λ s. s == status) statuses
 abbrev pub asks_of : Request → List ℕ → List Asked
 asks_of Outside path = []
 asks_of (BadField cause) path = []
-asks_of (Format n t p) path = plan_asks (plan n t p) path
+asks_of (Format n t p kind) path = plan_asks (plan kind n t p) path
 asks_of Drill path = []
 asks_of request path = mount_asks path
 
@@ -142,7 +143,7 @@ SaysMemory old new result = SaysLine (Says.Ended Ends.Memory) 7 old new result �
 abbrev pub SaysAnswer : Request → (place : ℕ) → (old new : Moment) → ℕ → Type 0
 SaysAnswer Outside place old new result = SaysLine Says.Usage 2 old new result
 SaysAnswer (BadField cause) place old new result = SaysLine (field_line cause) 2 old new result
-SaysAnswer (Format n t p) place old new result = SaysFormat (plan n t p) place old new result
+SaysAnswer (Format n t p kind) place old new result = SaysFormat (plan kind n t p) place old new result
 SaysAnswer Drill place old new result = SaysDrill old new result
 SaysAnswer request place old new result = ⊤
 
@@ -186,14 +187,14 @@ WritesAlone request old new = ⊤
 abbrev pub HoldsAfter : Request → Moment → Type 0
 HoldsAfter Outside new = ⊥
 HoldsAfter (BadField cause) new = ⊥
-HoldsAfter (Format n t p) new = IsMadeBy (plan n t p) new
+HoldsAfter (Format n t p kind) new = IsMadeBy (plan kind n t p) new
 HoldsAfter request new = ⊤
 
 -- a request that asks for no attach leaves the disk as it was
 abbrev pub SparesImage : Request → (old new : Moment) → Type 0
 SparesImage Outside old new = Ages old new
 SparesImage (BadField cause) old new = Ages old new
-SparesImage (Format n t p) old new = SparesUnplanned (plan n t p) old new
+SparesImage (Format n t p kind) old new = SparesUnplanned (plan kind n t p) old new
 SparesImage Drill old new = Ages old new
 SparesImage request old new = ⊤
 

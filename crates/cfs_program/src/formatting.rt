@@ -8,25 +8,39 @@ ghost use Rattle.cfs_program.specs.Formatting.{AsksAll, AsksAtMost, CountsFaults
 use fsd_texts::{Fault, Line};
 use sector_disk::{Attach, Failed, Machine};
 use volume_format::format;
-use volume_layout::Layout;
+use volume_layout::{Kind, Layout, LayoutFault};
 use volume_turns::last_line;
 
-/// Makes an empty volume of these numbers of sectors, of sectors a third, and of name pages, says so or why not,
-/// and gives the status.
-pub fn run_format<M: Machine>(m: &mut M, path: &str, sectors: u32, third: u32, pages: u32) -> u8
-    ensures status { IsFormatStatus (plan sectors third pages) result }
+/// Makes an empty volume of these numbers of sectors, of sectors a third, and of name pages, which bears so much
+/// adjacent damage, says so or why not, and gives the status.
+pub fn run_format<M: Machine>(
+    m: &mut M,
+    path: &str,
+    sectors: u32,
+    third: u32,
+    pages: u32,
+    kind: Kind,
+) -> u8
+    ensures status { IsFormatStatus (plan kind sectors third pages) result }
     ensures counts { CountsFaults (M.report m.old) (M.report m.new) result }
-    ensures asks { M.tells m.new → AsksAtMost (plan_asks (plan sectors third pages) path.now) (M.ledger m.old) (M.ledger m.new) }
-    ensures asked { result ≡ 0 → M.tells m.new → AsksAll (plan_asks (plan sectors third pages) path.now) (M.ledger m.old) (M.ledger m.new) }
+    ensures asks { M.tells m.new → AsksAtMost (plan_asks (plan kind sectors third pages) path.now) (M.ledger m.old) (M.ledger m.new) }
+    ensures asked { result ≡ 0 → M.tells m.new → AsksAll (plan_asks (plan kind sectors third pages) path.now) (M.ledger m.old) (M.ledger m.new) }
     ensures trust { Trusts (M.tells m.old) (M.tells m.new) (M.honest m.old) (M.honest m.new) }
-    ensures says { M.honest m.new → SaysFormat (plan sectors third pages) (M.report m.new).fault_place (M.now m.old) (M.now m.new) result }
-    ensures made { result ≡ 0 → M.honest m.new → IsMadeBy (plan sectors third pages) (M.now m.new) }
-    ensures untouched { M.honest m.new → SparesUnplanned (plan sectors third pages) (M.now m.old) (M.now m.new) }
+    ensures says { M.honest m.new → SaysFormat (plan kind sectors third pages) (M.report m.new).fault_place (M.now m.old) (M.now m.new) result }
+    ensures made { result ≡ 0 → M.honest m.new → IsMadeBy (plan kind sectors third pages) (M.now m.new) }
+    ensures untouched { M.honest m.new → SparesUnplanned (plan kind sectors third pages) (M.now m.old) (M.now m.new) }
 {
-    match Layout::plan(sectors, third, pages) {
+    match plan_of(sectors, third, pages, kind) {
         Ok(l) => make(m, path, &l),
         Err(fault) => last_line(m, &Line::Unplanned(fault), 1),
     }
+}
+
+// The layout of these numbers, of this kind, or the first fault.
+fn plan_of(sectors: u32, third: u32, pages: u32, kind: Kind) -> Result<Layout, LayoutFault>
+    ensures { result ≡ plan kind sectors third pages }
+{
+    Ok(Layout::plan(sectors, third, pages)?.with_kind(kind))
 }
 
 // Makes a volume of this layout, and says so.

@@ -12,6 +12,7 @@ use fsd_texts::Command;
 use sector_disk::{Event, MemoryMachine, When};
 use std::alloc::{AllocError, Global};
 use volume_contract::Files;
+use volume_layout::Kind;
 
 // A path: a machine in memory holds its image under each.
 const PATH: &str = "v";
@@ -105,7 +106,7 @@ fn made(alloc: Global, pair: u32) -> Result<MemoryMachine, AllocError>
     let pairs = [1, 1, 1, pair, 1].to_vec(alloc)?;
     let image = Vec::new(alloc);
     let mut m = MemoryMachine::new(alloc, image, pairs, Vec::new(alloc), Vec::new(alloc))?;
-    match run_format(&mut m, PATH, 2048, 256, 64) {
+    match run_format(&mut m, PATH, 2048, 256, 64, Kind::Two) {
         0 => Ok(m),
         _ => Err(AllocError),
     }

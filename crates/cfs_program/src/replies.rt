@@ -76,6 +76,7 @@ fn text_of(alloc: Global, answer: &Answer) -> Result<Vec<u8>, AllocError>
         Answer::Forced => line_text(alloc, &Line::Forced),
         Answer::Counts(stat) => line_text(alloc, &stat_line(stat)),
         Answer::Scrubbed { found, healed } => scrub_text(alloc, found.as_slice(), *healed),
+        Answer::Upgraded => line_text(alloc, &Line::Upgraded),
         Answer::Begun(client) => line_text(alloc, &Line::Begun(*client)),
         Answer::Took { client, sum } => line_text(
             alloc,

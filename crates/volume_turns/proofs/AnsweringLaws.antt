@@ -25,7 +25,7 @@ use Rattle.fsd_texts.specs.Text.{fault_text}
 use Rattle.fsd_runs.specs.Commands.{reply_alone}
 use Rattle.fsd_runs.specs.Errands.{reply_status}
 use Rattle.volume_contract.specs.Mount.{IsFound}
-use Rattle.volume_contract.specs.Order.{Asks, Comes, Data, Force, IsData, IsDevice, IsDeviceIn, IsFetch, IsLookUp, IsLoss, LookUp, Refuses, Step, Test, down, force_steps, is_idle, no_place_in, place, runs_at, worn}
+use Rattle.volume_contract.specs.Order.{Asks, Comes, Data, Force, IsData, IsDevice, IsDeviceIn, IsFetch, IsLookUp, IsLoss, LookUp, Refuses, Step, Test, down, force_steps, is_idle, is_root, no_place_in, place, runs_at, worn}
 use Rattle.volume_contract.specs.State.{Ages, State, in_place, is_worn, place_in, put_writes}
 use Rattle.scrub.specs.Scrub.{scrub_writes}
 use Rattle.scrub.specs.Telling.{AreOfPage}
@@ -284,6 +284,7 @@ alone_rest (Word.Get key) s t a m b windows layout still none first closing quie
 alone_rest Word.Stat s t a m b windows layout still none first closing quiet = touches_then nowhere nowhere nowhere a m b (λ x out. out) (λ x out. out) windows first (quiet (ap (λ (x : State). x.dirty) still ∙ none))
 alone_rest Word.Scrub s t a m b windows layout still none first closing quiet =
     touches_then (scrub_writes s.layout) nowhere (scrub_writes s.layout) a m b (λ x out. out) (λ x out. refl) windows first (quiet (ap (λ (x : State). x.dirty) (still none) ∙ none))
+alone_rest Word.Upgrade s t a m b windows layout still none first closing quiet = touches_then is_root nowhere is_root a m b (λ x out. out) (λ x out. refl) windows first (quiet (still ∙ none))
 alone_rest command s t a m b windows layout still none first closing quiet =
     touches_then (force_writes s.layout) (force_writes t.layout) (force_writes s.layout) a m b (λ x out. out) (λ x out. subst (λ (l : Layout). IsFalse (force_writes l x)) (sym layout) out) windows first closing
 
@@ -349,12 +350,13 @@ module _ (command : Command) (s : State) (a m : Moment) (none : s.dirty ≡ []) 
 
 -- ---- from the mount on
 
-behind_mount : (command : Command) (sectors : ℕ) (s : State) (a m b : Moment) → IsFound sectors s a → b.windows ≡ m.windows → Touches (may_write command s) m b → WritesBehind command sectors a m b
+behind_mount : (command : Command) (sectors : ℕ) (s : State) (a m b : Moment) → IsFound sectors s a m → b.windows ≡ m.windows → Touches (may_write command s) m b → WritesBehind command sectors a m b
 behind_mount (Word.Put name bytes keep) sectors s a m b found windows rest = tt
 behind_mount (Word.List pattern) sectors s a m b found windows rest = touches_ages m b windows rest
 behind_mount (Word.Get key) sectors s a m b found windows rest = touches_ages m b windows rest
 behind_mount Word.Stat sectors s a m b found windows rest = touches_ages m b windows rest
 behind_mount Word.Scrub sectors s a m b found windows rest = inr (record { seen = found.seen; from = found.from; layout = s.layout; anchor = found.anchor; found = found.found }, rest)
+behind_mount Word.Upgrade sectors s a m b found windows rest = rest
 behind_mount command sectors s a m b found windows rest = inr (record { seen = found.seen; from = found.from; layout = s.layout; anchor = found.anchor; found = found.found }, rest)
 
 behind_nothing : (command : Command) (sectors : ℕ) (a m b : Moment) → Ages m b → WritesBehind command sectors a m b
@@ -363,9 +365,10 @@ behind_nothing (Word.List pattern) sectors a m b ages = ages
 behind_nothing (Word.Get key) sectors a m b ages = ages
 behind_nothing Word.Stat sectors a m b ages = ages
 behind_nothing Word.Scrub sectors a m b ages = inl ages
+behind_nothing Word.Upgrade sectors a m b ages = worn_touches is_root m b ages.image
 behind_nothing command sectors a m b ages = inl ages
 
-pub run_mounted : (command : Command) (sectors : ℕ) (s : State) (a m b : Moment) (status : ℕ) → IsFound sectors s a → m.said ≡ a.said → MountKeeps sectors a m → EndsOne command s m b status → RunsOne command sectors a b status
+pub run_mounted : (command : Command) (sectors : ℕ) (s : State) (a m b : Moment) (status : ℕ) → IsFound sectors s a m → m.said ≡ a.said → MountKeeps sectors a m → EndsOne command s m b status → RunsOne command sectors a b status
 run_mounted command sectors s a m b status found same kept ends = record {
   says = one_since command a m b status same ends.says;
   rest = record { mounted = m; rest = kept; behind = behind_mount command sectors s a m b found ends.windows ends.rest };

@@ -45,7 +45,7 @@ use Rattle.volume_turns.proofs.WholeLaws.{joined_run, refused_run}
 pub record RunsOver {S D : Type 0} (state : S → State) (M : Ghosts D) (sectors : ℕ) (v : S) (a m b : D) : Type 0 where
   pub disk : HealsDisk M None a m
   pub fresh : IsNew (state v)
-  pub found : M.honest m → IsFound sectors (state v) (M.now a)
+  pub found : M.honest m → IsFound sectors (state v) (M.now a) (M.now m)
   pub rest : M.honest m → MountKeeps sectors (M.now a) (M.now m)
   pub trust : Trusts (M.tells m) (M.tells b) (M.honest m) (M.honest b)
 
@@ -72,7 +72,7 @@ module _ {S D : Type 0} {state : S → State} {M : Ghosts D} {sectors : ℕ} {v 
   over_taking {status} counts = script_counts_after (M.report a) (M.report m) (M.report b) status x.disk.uses x.disk.faults counts
 
   pub over_image : (script : Bool) (AreCopies : Layout → ℕ → ℕ → Type 0) (made : Option ℕ) (status : ℕ) → M.honest b → (status ≡ 3 → SaysOfCall script AreCopies (state v).layout (M.now m).said (M.now b)) → (status ≡ 9 → MaySpend made) → TellsImage script AreCopies made sectors (M.now a) (M.now b) status
-  over_image script AreCopies made status h says may = tells_mounted script AreCopies made sectors (state v) (M.now a) (M.now b) status (M.now m).said (over_said h) (x.found (x.trust.honest h)) says may
+  over_image script AreCopies made status h says may = tells_mounted script AreCopies made sectors (state v) (M.now a) (M.now m) (M.now b) status (M.now m).said (over_said h) (x.found (x.trust.honest h)) says may
 
   pub over_one : (command : Command) (status : ℕ) → M.honest b → EndsOne command (state v) (M.now m) (M.now b) status → RunsOne command sectors (M.now a) (M.now b) status
   over_one command status h ends =
@@ -92,7 +92,7 @@ module _ {S D : Type 0} {state : S → State} {M : Ghosts D} {sectors : ℕ} {v 
       → ((k : Known) → (volume_of k).unforced ≡ 0 → k.opened ≡ none_open → Stands state has v k (M.now m) → RunsOut M request input rest (M.report m) k m b status)
       → LeavesRun request input rest l windows h f (M.left_since b) (M.moment a) (λ P. LeavesOnly M.moment M.left_since a b P) (M.report a) (M.report b) (M.now a) (M.now b) status
   over_leaves has request input rest l windows h f status honest since counts_now sound runs =
-      joined_run state has M request input rest l windows h f a m b v (over_said honest) x.disk.uses x.disk.faults (since honest) (counts_now m (M.moment m) (x.trust.honest honest) (omega arith)) (counts_now b (M.moment m) honest) status sound runs
+      (sound.0, sound.1, joined_run state has M request input rest sound.0 windows h f a m b v (over_said honest) x.disk.uses x.disk.faults (since honest) (counts_now m (M.moment m) (x.trust.honest honest) (omega arith)) (counts_now b (M.moment m) honest) status sound.2 runs)
 
 -- ---- by a line
 
@@ -149,6 +149,9 @@ module _ {D : Type 0} {M : Ghosts D} {sectors : ℕ} {fault : MountFault} {why :
   refused_leaves state has request input rest l windows h f honest short counts_now only at sound some =
       let back = x.says.trust.honest honest in
       let says = subst (λ (w : Fault). LeavesDisk M false (is_unsaid status) (Utters (fault_text w)) m b) x.is x.says in
-      let ended = subst (λ (w : Fault). EndsWith w (M.now m) (M.now b) status) x.is (x.ends honest) in
-      refused_run state has M request input rest l windows h f sectors a m b at fault (x.disk.quiet back) x.disk.uses x.disk.faults status says honest (short back) ended
-      (counts_now m (M.moment m) back (omega arith)) (counts_now b (M.moment m) honest (x.says.any_moment honest).later) (λ left was. only left back was) some sound
+      let ended = subst (λ (w : Fault). EndsWith w (M.now m) (M.now b) status) x.is (x.ends honest) in (
+        sound.0,
+        sound.1,
+        refused_run state has M request input rest sound.0 windows h f a m b at.ends fault (x.disk.quiet back) x.disk.uses x.disk.faults status says honest (short back) ended
+            (counts_now m (M.moment m) back (omega arith)) (counts_now b (M.moment m) honest (x.says.any_moment honest).later) (λ left was. only left back was) some sound.2,
+      )

@@ -5,7 +5,7 @@ use Rattle.fsd_bytes.specs.declared.refusal.Refusal.{Refusal}
 use Rattle.fsd_bytes.specs.declared.refusal.Refusal.TheVariants as Why
 use Rattle.fsd_formats.specs.NamePage.{sectors_for}
 use Rattle.fsd_texts.specs.declared.fault.Fault.{Fault}
-use Rattle.volume_contract.specs.Order.{Draw, Force, IsDownBy, Keeps, Passes, Refuses, Step, with_drawn}
+use Rattle.volume_contract.specs.Order.{Draw, Force, IsDownBy, Keeps, Passes, Refuses, Roots, Step, with_drawn}
 use Rattle.volume_contract.specs.Pieces.{HoldsAt, Reserves}
 use Rattle.volume_contract.specs.declared.token.Draft.{Draft}
 use Rattle.volume_contract.specs.declared.token.Held.{Held}
@@ -102,13 +102,19 @@ passes_on : (place : Option ℕ) (s t : State) (P Q K : Type 0) → (K → Conti
 passes_on place s t P Q K on (inl here) = continues_same place s t here.1
 passes_on place s t P Q K on (inr later) = on later.1
 
+-- none of the steps writes the roots
+abbrev NoRoots : List Step → Type 0
+NoRoots [] = Unit {0}
+NoRoots (Roots ∷ steps) = ⊥
+NoRoots (step ∷ steps) = NoRoots steps
+
 -- a call that was refused at one of these steps
-pub keeps_continues : (steps : List Step) (r : Refusal) (s t : State) → Keeps steps r s t → Continues (downs_for r) s t
-keeps_continues [] r s t keeps = absurd keeps
-keeps_continues (Draw ∷ steps) r s t keeps =
-    let more = keeps_continues steps r (with_drawn s) t keeps in
+pub keeps_continues : (steps : List Step) → NoRoots steps → (r : Refusal) (s t : State) → Keeps steps r s t → Continues (downs_for r) s t
+keeps_continues [] none r s t keeps = absurd keeps
+keeps_continues (Draw ∷ steps) none r s t keeps =
+    let more = keeps_continues steps none r (with_drawn s) t keeps in
     record { layout = more.layout; epoch = more.epoch; down = more.down }
-keeps_continues (Force true ∷ steps) r s t keeps = by (λ next k. keeps_continues steps r next t k) keeps
+keeps_continues (Force true ∷ steps) none r s t keeps = by (λ next k. keeps_continues steps none r next t k) keeps
   where
     by : ((next : State) → Keeps steps r next t → Continues (downs_for r) next t) → IsDownBy r s t ⊎ ((next : State) × IsForced s next × Keeps steps r next t) → Continues (downs_for r) s t
     by on (inl d) = down_by_continues r s t d
@@ -119,8 +125,9 @@ keeps_continues (Force true ∷ steps) r s t keeps = by (λ next k. keeps_contin
           epoch = more.epoch ∙ ap (λ (y : State). y.serial.epoch) x.1.is;
           down = elim more.down [ inl same ↦ inl (same ∙ ap (λ (y : State). y.down) x.1.is) | inr at ↦ inr at ];
         }
-keeps_continues (Force false ∷ steps) r s t keeps = passes_on (downs_for r) s t (Refuses (Force false) r) (Passes (Force false)) (Keeps steps r s t) (λ k. keeps_continues steps r s t k) keeps
-keeps_continues (step ∷ steps) r s t keeps = passes_on (downs_for r) s t (Refuses step r) (Passes step) (Keeps steps r s t) (λ k. keeps_continues steps r s t k) keeps
+keeps_continues (Force false ∷ steps) none r s t keeps = passes_on (downs_for r) s t (Refuses (Force false) r) (Passes (Force false)) (Keeps steps r s t) (λ k. keeps_continues steps none r s t k) keeps
+keeps_continues (Roots ∷ steps) none r s t keeps = absurd none
+keeps_continues (step ∷ steps) none r s t keeps = passes_on (downs_for r) s t (Refuses step r) (Passes step) (Keeps steps r s t) (λ k. keeps_continues steps none r s t k) keeps
 
 -- ---- it is up
 

@@ -1,6 +1,6 @@
 -- Which refusals a call of a client may end with, over a volume that is up.
-use Rattle.std.proofs.Common.{◌≡◌, ◌⊎◌, inl, inr, ℕ, Bool, true, false, cond, List, [], ◌∷◌, length, Some, None, refl, sym, ◌∙◌, ap, subst, arith}
-use Rattle.std.specs.Prelude.{◌≤◌, ◌+◌, ◌-◌, IfErr, IfOk, IsFalse, IsTrue, Result, Ok, Err, is_none, nat_lt}
+use Rattle.std.proofs.Common.{◌≡◌, ◌⊎◌, inl, inr, ℕ, Bool, true, false, cond, List, [], ◌∷◌, length, Option, Some, None, refl, sym, ◌∙◌, ap, subst, arith}
+use Rattle.std.specs.Prelude.{◌≤◌, ◌+◌, ◌-◌, IfErr, IfOk, IsFalse, IsTrue, Result, Ok, Err, is_none, nat_lt, option_map}
 use Rattle.std.proofs.lemmas.Bool.{ltb-false, ltb-true}
 use Rattle.volume_layout.specs.declared.layout.Layout.{Layout}
 use Rattle.run_table.specs.RunTable.{total}
@@ -32,7 +32,7 @@ use Rattle.volume_turns.specs.Calls.{AnswersIn, CallMayReply, IsTooLong, LacksEn
 use Rattle.volume_turns.specs.Numbers.{GoesUp}
 use Rattle.volume_turns.specs.Steps.{IsRefusedOn, IsToldOn, device_by, ended_by, reply_of}
 use Rattle.volume_turns.proofs.AnsweringLaws.{each}
-use Rattle.volume_turns.proofs.OrderLaws.{few_best, passes_worn, refuses_worn, starts_up}
+use Rattle.volume_turns.proofs.OrderLaws.{Never, few_best, never, passes_worn, refuses_worn, starts_up}
 use Rattle.volume_turns.proofs.StatusLaws.{look_up_ends, loss_looks}
 use Rattle.volume_turns.proofs.StepLaws.{same_device}
 use Rattle.volume_turns.proofs.ToldLaws.{told_so}
@@ -386,3 +386,45 @@ open_unworn s up desk c why key comes is = by (open_declines s up desk c [] Why.
     by (inl (inl busy)) = busy
     by (inl (inr none)) = cc none
     by (inr broken) = broken
+
+-- ---- none wants memory
+
+-- what is told as want of memory is a refusal for it
+ended_memory : (why : Refusal) → ended_by why ≡ Err Ends.Memory → why ≡ Why.Memory
+ended_memory (Why.Device n) is = absurd (cc is)
+ended_memory (Why.Down n) is = absurd (cc is)
+ended_memory (Why.Lost a b) is = absurd (cc is)
+ended_memory (Why.Unsound n) is = absurd (cc is)
+ended_memory Why.WornOut is = absurd (cc is)
+ended_memory Why.Memory is = refl
+ended_memory why is = absurd (cc is)
+
+pub spared_by : (steps : List Step) → Never Why.Memory steps → (why : Refusal) → Comes steps why → (r : Result Answer Fault) → r ≡ ended_by why → r ≡ Err Ends.Memory → ⊥
+spared_by steps none why comes r is at = never Why.Memory steps none (subst (λ (w : Refusal). Comes steps w) (ended_memory why (sym is ∙ at)) comes)
+
+down_spares : (place : Option ℕ) → option_map Why.Down place ≡ Some Why.Memory → ⊥
+down_spares None is = cc is
+down_spares (Some place) is = cc is
+
+place_spares : (s : State) (need : ℕ) → cond (is_none (place_in s need)) (Some (no_place_in s (runs_at s need) need)) None ≡ Some Why.Memory → ⊥
+place_spares s need = by (is_none (place_in s need)) (nat_lt (total (runs_at s need)) need)
+  where
+    by : (none few : Bool) → cond none (Some (cond few (Why.NoSpace need (total (runs_at s need))) (Why.TooFragmented need (best (runs_at s need))))) None ≡ Some Why.Memory → ⊥
+    by true true is = cc is
+    by true false is = cc is
+    by false few is = cc is
+
+module _ (s : State) (desk : List Client) (c : ℕ) where
+  pub begin_spares : (len : ℕ) → Never Why.Memory (begin_steps s desk c len)
+  begin_spares len =
+      let place = place_spares s (sectors_for len) in
+      (idle_test desk c Why.Memory, (down_spares s.down, (size_says len Why.Memory (nat_lt max_length len) refl, (λ is. let same = (refuses_worn (is_worn s) Why.Memory is).0 in cc same, (λ x. x.1, (place, (λ x. x, tt)))))))
+
+  pub piece_spares : (count : ℕ) → Never Why.Memory (piece_steps s desk c count)
+  piece_spares count = (writing_test desk c Why.Memory, (long_says (client_at desk (c - 1)) count Why.Memory, (down_spares s.down, (λ x. x, tt))))
+
+pub drop_spares : (desk : List Client) (c : ℕ) → Never Why.Memory (drop_steps desk c)
+drop_spares desk c = (writing_test desk c Why.Memory, tt)
+
+pub done_spares : (desk : List Client) (c : ℕ) → Never Why.Memory (done_steps desk c)
+done_spares desk c = (reading_test desk c Why.Memory, tt)

@@ -75,8 +75,8 @@ call_says script AreCopies layout before why of old new status behind worn told 
 
 -- ---- a mount
 
-has_volume : (sectors : ℕ) (s : State) (old : Moment) → IsFound sectors s old → HasVolume sectors old
-has_volume sectors s old f = record { seen = f.seen; from = f.from; layout = s.layout; anchor = f.anchor; found = f.found }
+has_volume : (sectors : ℕ) (s : State) (old mounted : Moment) → IsFound sectors s old mounted → HasVolume sectors old
+has_volume sectors s old mounted f = record { seen = f.seen; from = f.from; layout = s.layout; anchor = f.anchor; found = f.found }
 
 -- what was said of it as the mount ended was said before
 pub call_since : (script : Bool) (AreCopies : Layout → ℕ → ℕ → Type 0) (layout : Layout) (before now : List ℕ) (new : Moment) → now ≡ before → SaysOfCall script AreCopies layout now new → SaysOfCall script AreCopies layout before new
@@ -91,11 +91,11 @@ spent_mounted : (made : Option ℕ) (sectors : ℕ) (old : Moment) → HasVolume
 spent_mounted (Some count) sectors old volume may = inl (volume, may)
 spent_mounted None sectors old volume may = absurd may
 
-pub tells_mounted : (script : Bool) (AreCopies : Layout → ℕ → ℕ → Type 0) (made : Option ℕ) (sectors : ℕ) (s : State) (old new : Moment) (status : ℕ) (now : List ℕ) → now ≡ old.said → IsFound sectors s old → (status ≡ 3 → SaysOfCall script AreCopies s.layout now new) → (status ≡ 9 → MaySpend made)
+pub tells_mounted : (script : Bool) (AreCopies : Layout → ℕ → ℕ → Type 0) (made : Option ℕ) (sectors : ℕ) (s : State) (old mounted new : Moment) (status : ℕ) (now : List ℕ) → now ≡ old.said → IsFound sectors s old mounted → (status ≡ 3 → SaysOfCall script AreCopies s.layout now new) → (status ≡ 9 → MaySpend made)
     → TellsImage script AreCopies made sectors old new status
 unfolding has_volume
-tells_mounted script AreCopies made sectors s old new status now same f says may =
-    let volume = has_volume sectors s old f in
+tells_mounted script AreCopies made sectors s old mounted new status now same f says may =
+    let volume = has_volume sectors s old mounted f in
     record {
       mounted = λ any. volume;
       refused = λ three. let x = call_since script AreCopies s.layout old.said now new same (says three) in record { why = x.why; says = x.says; cause = inr (record { mounted = volume; of = x.of; told = x.told }) };

@@ -107,24 +107,24 @@ module _ {S D : Type 0} (state : S → State) (has : S → Mounted → List Plac
     says : SaysAll (silent.says reply) (M.now m) (M.now m)
     says = record { ages = record { image = worn_refl (open_damage (M.now m).windows) (M.now m).image; windows = refl }; said = sym (append-nil (M.now m).said) }
 
-    met_is : (step_ok state has M wears short counts_now silent never plain (v, no_desk) (w, no_desk) a m m k from stood_from aged stood fault disk layout honest still after reply is stands run says).met ≡ is.met
-    met_is = step_ok_met state has M wears short counts_now silent never plain (v, no_desk) (w, no_desk) a m m k from stood_from aged stood fault disk layout honest still after reply is stands run says
+    met_is : (step_ok state has M wears short counts_now silent never plain (v, no_desk) (w, no_desk) a m m k from stood_from aged stood fault disk honest still after reply is stands layout run says).met ≡ is.met
+    met_is = step_ok_met state has M wears short counts_now silent never plain (v, no_desk) (w, no_desk) a m m k from stood_from aged stood fault disk honest still after reply is stands layout run says
 
     pub counted_step : (t u : Counts) → u ≡ counted t plain reply → CountedStep state has M k from command a m w t u
     counted_step t u counts = record {
-      step = step_ok state has M wears short counts_now silent never plain (v, no_desk) (w, no_desk) a m m k from stood_from aged stood fault disk layout honest still after reply is stands run says;
-      counts = counts ∙ ap (λ (r : Reply). counted t plain r) (sym (reply_is state has M wears short counts_now silent never plain (v, no_desk) (w, no_desk) a m m k from stood_from aged stood fault disk layout honest still after reply is stands))
+      step = step_ok state has M wears short counts_now silent never plain (v, no_desk) (w, no_desk) a m m k from stood_from aged stood fault disk honest still after reply is stands layout run says;
+      counts = counts ∙ ap (λ (r : Reply). counted t plain r) (sym (reply_is state has M wears short counts_now silent never plain (v, no_desk) (w, no_desk) a m m k from stood_from aged stood fault disk honest still after reply is stands))
           ∙ ap (λ (x : Meeting). counted t plain (answer_in x (session_in k) plain).0) (sym met_is);
     }
 
     -- its bytes have no sum
     pub counted_none : (why : Fault) → why ≡ Ends.Memory → (more : List ScriptCommand) → RunsFrom state has M silent k from (plain ∷ more) a m (w, no_desk) (Err (Stopped why))
     counted_none why is_memory more = subst (λ (x : Fault). RunsFrom state has M silent k from (plain ∷ more) a m (w, no_desk) (Err (Stopped x))) (sym is_memory)
-        (step_unsaid state has M wears short counts_now silent never plain (v, no_desk) (w, no_desk) a m m k from stood_from aged stood fault disk layout honest still after reply is stands run (Stopped Ends.Memory)
+        (step_unsaid state has M wears short counts_now silent never plain (v, no_desk) (w, no_desk) a m m k from stood_from aged stood fault disk honest still after reply is stands layout run (Stopped Ends.Memory)
         (record { image = worn_refl (open_damage (M.now m).windows) (M.now m).image; windows = refl; said = refl }) more)
 
   pub counted_fault : (why : Fault) → DoesIn state has plain (v, no_desk) (w, no_desk) k (M.now a) (M.now m) (Err why) → (more : List ScriptCommand) → RunsFrom state has M silent k from (plain ∷ more) a m (w, no_desk) (Err (Stopped why))
-  counted_fault why does more = step_fault state has M wears short counts_now silent never plain (v, no_desk) (w, no_desk) a m m k from stood_from aged stood fault disk layout honest still why does more
+  counted_fault why does more = step_fault state has M wears short counts_now silent never plain (v, no_desk) (w, no_desk) a m m k from stood_from aged stood fault disk honest still why does more
 
 -- ---- one after another
 

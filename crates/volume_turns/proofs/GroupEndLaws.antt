@@ -36,6 +36,7 @@ use Rattle.volume_turns.specs.Once.{IsDone}
 use Rattle.volume_turns.specs.Turns.{EndsAtOnce, InRun, Said, SaysAll, Told, Undone}
 use Rattle.volume_turns.specs.Whole.{Finishes, Halted, SaysOut}
 use Rattle.volume_turns.proofs.HaltLaws.{broken_ends, broken_moments, said_halts, said_halts_forced, said_halts_whole, says_part}
+use Rattle.volume_turns.proofs.OnceLaws.{roots_worn}
 use Rattle.volume_turns.proofs.TurnLaws.{forced_most, says_nothing}
 
 -- ---- the turns of a group and of its end
@@ -188,6 +189,7 @@ module _ (k : Known) (front : List Turn) (line : Line) (after : Volume) (old mid
     sound = worn new (record { image = says.ages.image; windows = says.ages.windows; heard = length t.said; said = says.said ∙ ap (λ (x : List ℕ). mid.said ++ x) (sym (take_all (length t.said) t.said (omega arith))) });
     tells = d.lasts new.image (open_is_weak mid.windows k.windows mid.image new.image ends_mid says.ages.image);
     lasts = AllWorn-worn (weak_of k.windows) (λ j. told k.mounted.volume.layout j ≡ Some (telling_of after)) mid.image new.image (open_is_weak mid.windows k.windows mid.image new.image ends_mid says.ages.image) d.lasts;
+    roots = roots_worn after.layout (weak_of k.windows) mid.image new.image (open_is_weak mid.windows k.windows mid.image new.image ends_mid says.ages.image) d.roots;
   }
 
 module _ {D : Type 0} (M : Ghosts D) (request : Request) (before : Report) (k : Known) (front : List Turn) (line : Line) (after : Volume) (gives : ℕ) (a m b : D) (moments : LeavesOnly M.moment M.left_since a m (InRun k (front ++ line_turn line ∷ []) (M.now a)))

@@ -14,6 +14,7 @@ use Rattle.fsd_files.specs.Desk.{Session, no_clients}
 use Rattle.fsd_files.specs.Disk.{Image, Sectors, in_runs}
 use Rattle.fsd_files.specs.Files.{Change}
 use Rattle.fsd_files.specs.Volume.{Volume}
+use Rattle.fsd_sound.specs.Laid.{HasOwnRoots}
 use Rattle.fsd_sound.specs.Mounted.{Mounted, telling_of}
 use Rattle.fsd_sound.specs.Shown.{told}
 use Rattle.fsd_sound.specs.Sound.{IsSound, weak_of}
@@ -84,6 +85,7 @@ module _ {S D : Type 0} (state : S → State) (has : S → Mounted → List Plac
             lasts = subst (λ (x : List WeakRun). AllWorn (weak_of x) (λ j. told k.mounted.volume.layout j ≡ Some (telling_of (behind ran.mets (session_over (volume_of k)) commands).volume)) (M.now b).image) behind_it.windows
                 (subst (λ (l : Layout). AllWorn (weak_of behind_it.after.windows) (λ j. told l j ≡ Some (telling_of (behind ran.mets (session_over (volume_of k)) commands).volume)) (M.now b).image) behind_it.layout
                 (subst (λ (x : Session). AllWorn (weak_of behind_it.after.windows) (λ j. told behind_it.after.mounted.volume.layout j ≡ Some (telling_of x.volume)) (M.now b).image) behind_it.is c.lasts));
+            roots = subst (λ (x : Session). HasOwnRoots x.volume.layout (weak_of k.windows) (M.now b).image) behind_it.is (subst (λ (x : List WeakRun). HasOwnRoots behind_it.after.mounted.volume.layout (weak_of x) (M.now b).image) behind_it.windows c.roots);
           }
 
       said_all : (why : Fault) → InClose (known_of behind_it.after) forced_turn.said (M.now m) (M.now b) → (M.now b).said ≡ (M.now m).said → Said k why turns (M.now a) (M.now b)

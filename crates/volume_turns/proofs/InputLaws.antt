@@ -136,6 +136,7 @@ module _ {S D : Type 0} (state : S → State) (has : S → Mounted → List Plac
         sound = subst (λ (h : List Change). IsSound k.mounted.volume.layout k.windows h (length h) (M.now m).image) (sym (append-nil k.changes)) closes.sound;
         tells = AllWorn-here (weak_of k.windows) (λ j. told k.mounted.volume.layout j ≡ Some (telling_of (volume_of k))) (M.now m).image closes.tells;
         lasts = closes.tells;
+        roots = closes.roots;
       }
 
   pub refused_broken : (why : Refusal) → IsDevice why → Told {T = Unit {0}} (M.report a) (M.report m) (Err (Stopped (close_fault why))) → LeavesDisk M false (is_unsaid status) (Utters (fault_text (close_fault why))) m b → EndsWith (close_fault why) (M.now m) (M.now b) status → Over

@@ -6,7 +6,7 @@ use Rattle.sector_disk.specs.Machine.{Moment, Report}
 use Rattle.fsd_sound.specs.Mounting.{device_of_mount}
 use Rattle.fsd_sound.specs.declared.fault.MountFault.{MountFault}
 use Rattle.fsd_texts.specs.declared.command.Command.{Command}
-use Rattle.fsd_texts.specs.declared.command.Command.TheVariants.{Delete, Get, Keep, Put, Scrub}
+use Rattle.fsd_texts.specs.declared.command.Command.TheVariants.{Delete, Get, Keep, Put, Scrub, Upgrade}
 use Rattle.fsd_texts.specs.declared.fault.Fault.{Fault}
 use Rattle.fsd_texts.specs.declared.fault.Fault.TheVariants as Ends
 use Rattle.fsd_texts.specs.declared.line.Line.{Line}
@@ -35,6 +35,7 @@ reply_not (Get key) status (inl low) of = low_not status low of
 reply_not (Get key) status (inr eight) of = fault_not 8 status refl of eight
 reply_not Scrub status (inl none) of = fault_not 0 status refl of none
 reply_not Scrub status (inr eight) of = fault_not 8 status refl of eight
+reply_not Upgrade status low of = low_not status low of
 reply_not command status none of = fault_not 0 status refl of none
 
 -- ---- the place of a fault of the disk

@@ -43,5 +43,6 @@ pub mod StepLaws
 pub mod TakingLaws
 pub mod ToldLaws
 pub mod TurnLaws
+pub mod UpgradeLaws
 pub mod WholeLaws
 pub mod WornLaws

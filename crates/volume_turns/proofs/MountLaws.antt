@@ -11,9 +11,10 @@ use Rattle.fsd_files.specs.Disk.{Image, in_runs}
 use Rattle.fsd_files.specs.Files.{Change, after}
 use Rattle.fsd_files.specs.Kept.{Describes}
 use Rattle.fsd_sound.specs.Anchors.{anchor_of, anchor_at}
+use Rattle.fsd_sound.specs.Laid.{HasOwnRoots}
 use Rattle.fsd_sound.specs.Mounted.{IsMounted, telling_of}
 use Rattle.fsd_sound.specs.Shown.{told}
-use Rattle.fsd_sound.specs.Sound.{IsSound, IsPrefixOf}
+use Rattle.fsd_sound.specs.Sound.{IsSound, IsPrefixOf, weak_of}
 use Rattle.fsd_sound.proofs.MoreLaws.{sound_more}
 use Rattle.fsd_sound.proofs.MountedLaws.{fresh_mounted, mounted_tells}
 use Rattle.fsd_texts.specs.declared.fault.Fault.TheVariants as Ends
@@ -102,6 +103,10 @@ module _ (l : Layout) (windows : List WeakRun) (run : WeakRun) (h : List Change)
   epoch_of : (o : Option Anchor) → IfSome o (λ a. a ≡ k.mounted.anchor) → IfSome o (λ a. a.epoch ≡ k.mounted.volume.serial.epoch)
   epoch_of None is = tt
   epoch_of (Some a) is = ap (λ (x : Anchor). x.epoch) is ∙ sym s.fresh.epoch
+
+  -- both roots are the layout's as it settled
+  pub own_roots : HasOwnRoots l (weak_of (windows ++ run ∷ [])) mid.image
+  own_roots = subst (λ (x : Layout). HasOwnRoots x (weak_of (windows ++ run ∷ [])) mid.image) s.layout (subst (λ (x : List WeakRun). HasOwnRoots k.mounted.volume.layout (weak_of x) mid.image) s.known mounted.over.own.roots)
 
   pub starts : Starts l (windows ++ run ∷ []) (take n h) (volume_of k) mid.image
   starts = record {

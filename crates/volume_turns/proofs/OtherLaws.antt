@@ -1,12 +1,17 @@
--- A command that is read from a script or made up is no scrub.
-use Rattle.std.proofs.Common.{◌≡◌, ℕ, ◌+◌, List, ◌∷◌, ◌++◌, Option, Some, None, Ok, subst}
+-- A command that is read from a script or made up is no scrub and no upgrade.
+use Rattle.std.proofs.Common.{◌≡◌, ℕ, ◌+◌, false, List, ◌∷◌, ◌++◌, Option, Some, None, Ok, refl, subst}
+use Rattle.std.specs.Prelude.{IfOk, Result}
+use Rattle.fsd_texts.specs.declared.bad_line.Cause.{Cause}
 use Rattle.fsd_texts.specs.declared.command.Command.{Command}
+use Rattle.fsd_texts.specs.declared.command.Command.TheVariants as Word
 use Rattle.fsd_texts.specs.declared.end.End.{End}
 use Rattle.fsd_texts.specs.declared.script_command.ScriptCommand.{ScriptCommand}
+use Rattle.fsd_texts.specs.declared.script_command.ScriptCommand.TheVariants.{Plain, OfClient}
 use Rattle.fsd_texts.specs.Script.{Script, script_from}
-use Rattle.fsd_runs.proofs.OtherLaws.{AreOthers, AreOthersIn, IsOther, IsOtherIn, made_others, script_others}
+use Rattle.fsd_runs.proofs.OtherLaws.{AreOthers, AreOthersIn, GivesOther, IsOther, IsOtherIn, command_other, made_others, script_others}
 use Rattle.script_text.specs.Making.{Making, made_left}
-use Rattle.script_text.specs.Reading.{Answers, Reading, room_of, script_left, unless_ended}
+use Rattle.script_text.specs.Reading.{Answers, IsSpelled, Reading, room_of, script_left, unless_ended}
+use Rattle.volume_turns.specs.Steps.{is_upgrade, is_upgrade_in}
 
 unless_others : (end : Option End) (s : Script) → AreOthersIn s.0 → AreOthersIn (unless_ended end s).0
 unless_others None s others = others
@@ -24,3 +29,16 @@ pub made_other : (old new : Making) (command : Command) → made_left old ≡ co
 made_other old new command is =
     let all : AreOthers (command ∷ made_left new) = subst (λ (x : List Command). AreOthers x) is (made_others old.left old.ordinal old.state) in
     all.0
+
+-- one that some bytes begin with
+pub spelled_other : (command : ScriptCommand) → IsSpelled (Ok (Some command)) → IsOtherIn command
+spelled_other command is = subst (λ (r : Result (ScriptCommand × List ℕ) Cause). IfOk r GivesOther) is.2 (command_other is.0)
+
+pub not_upgrade : (command : Command) → IsOther command → is_upgrade command ≡ false
+not_upgrade Word.Scrub other = absurd other
+not_upgrade Word.Upgrade other = absurd other
+not_upgrade command other = refl
+
+pub not_upgrade_in : (command : ScriptCommand) → IsOtherIn command → is_upgrade_in command ≡ false
+not_upgrade_in (Plain command) other = not_upgrade command other
+not_upgrade_in (OfClient c call) other = refl

@@ -110,6 +110,7 @@ module _ {S D : Type 0} (state : S → State) (has : S → Mounted → List Plac
         sound = out.done.sound;
         tells = out.done.tells;
         lasts = out.done.lasts;
+        roots = out.done.roots;
       };
     })
     ends_from mets (inr (inl u)) = inr (inl u)

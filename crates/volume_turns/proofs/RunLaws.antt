@@ -85,7 +85,7 @@ module _ {S D : Type 0} (state : S → State) (has : S → Mounted → List Plac
   -- ---- one command, from its answer on
 
   module _ (command : ScriptCommand) (v w : S × List Client) (a m b : D) (k : Seated) (from : Moment) (stood_from : SitsAt state has v k from) (aged : Ages from (M.now a)) (stood : SitsAt state has v k (M.now a))
-      (fault : Option ℕ) (disk : WritesDisk M fault (StaysIn state has v) a m) (layout : (state w.0).layout ≡ (state v.0).layout) (honest : M.honest m) (since : Since M m b) where
+      (fault : Option ℕ) (disk : WritesDisk M fault (StaysIn state has v) a m) (honest : M.honest m) (since : Since M m b) where
     pub before_it : (turns : List Turn) → LeavesOnly M.moment M.left_since a m (InRun (known_of k) turns (M.now a))
     before_it turns = leaves_more M.moment M.left_since a m (StaysIn state has v (M.now a)) (InRun (known_of k) turns (M.now a)) (λ left stays. in_before (known_of k) turns (M.now a) left (stays k stood)) (disk.any_moment honest)
 
@@ -104,20 +104,6 @@ module _ {S D : Type 0} (state : S → State) (has : S → Mounted → List Plac
 
       pub changes_is : after.changes ≡ k.changes ++ turn.changes
       changes_is = is.changes ∙ ap (λ (r : Reply). k.changes ++ changes_in_session (session_in k) command r) (sym reply_is)
-
-      pub behind_it : Carries (known_of k) (known_of after) turn
-      behind_it =
-          let more = command_grows is.met (session_in k) command in
-          let same : after.mounted.volume.unforced ≡ out.1.volume.unforced = ap (λ (x : Session). x.volume.unforced) session_is in
-          let sum = length-append k.changes turn.changes in
-          let long : length after.changes ≡ length (k.changes ++ turn.changes) = ap (λ (h : List Change). length h) changes_is in
-          record {
-            layout = stands.stands.fits.layout ∙ layout ∙ sym stood.stands.fits.layout;
-            windows = is.windows;
-            changes = changes_is;
-            least = omega (arith, more, same, sum, long);
-            all = λ all. let none = forced is.met (session_in k) command all in omega (arith, none, same);
-          }
 
       passed : (t : ℕ) → t ≤ M.moment a → Stood (M.left_since b t) (M.now a).said (M.now m).image
       passed t le =
@@ -138,65 +124,81 @@ module _ {S D : Type 0} (state : S → State) (has : S → Mounted → List Plac
         };
       }
 
-      -- while its reply is said
-      module _ (run : LeavesOnly M.moment M.left_since m b (Utters (e.says reply) (M.now m))) where
-        said_is : e.says reply ≡ turn.said
-        said_is = ap (λ (r : Reply). e.says r) (sym reply_is)
+      -- a command that keeps the layout
+      module _ (layout : (state w.0).layout ≡ (state v.0).layout) where
+        pub behind_it : Carries (known_of k) (known_of after) turn
+        behind_it =
+            let more = command_grows is.met (session_in k) command in
+            let same : after.mounted.volume.unforced ≡ out.1.volume.unforced = ap (λ (x : Session). x.volume.unforced) session_is in
+            let sum = length-append k.changes turn.changes in
+            let long : length after.changes ≡ length (k.changes ++ turn.changes) = ap (λ (h : List Change). length h) changes_is in
+            record {
+              layout = stands.stands.fits.layout ∙ layout ∙ sym stood.stands.fits.layout;
+              windows = is.windows;
+              changes = changes_is;
+              least = omega (arith, more, same, sum, long);
+              all = λ all. let none = forced is.met (session_in k) command all in omega (arith, none, same);
+            }
 
-        saying : (rest : List Turn) (left : Moment) → Utters (e.says reply) (M.now m) left → InRun (known_of k) (turn ∷ rest) (M.now a) left
-        saying rest left utters =
-            let at = seat_wears state has wears w after (M.now m) left (short m honest) (record { image = utters.image; windows = utters.windows }) stands in
-            in_saying (known_of k) (known_of after) turn rest behind_it (M.now a) left (utters.windows ∙ disk.windows honest) (mounted_sound after.mounted after.windows after.changes (forced_of (known_of after)) left.image at.stands.disk) utters.heard
-            (utters.said ∙ ap (λ (x : List ℕ). x ++ take utters.heard (e.says reply)) (disk.quiet honest) ∙ ap (λ (x : List ℕ). (M.now a).said ++ take utters.heard x) said_is)
+        -- while its reply is said
+        module _ (run : LeavesOnly M.moment M.left_since m b (Utters (e.says reply) (M.now m))) where
+          said_is : e.says reply ≡ turn.said
+          said_is = ap (λ (r : Reply). e.says r) (sym reply_is)
 
-        pub in_both : (rest : List Turn) → LeavesOnly M.moment M.left_since a b (InRun (known_of k) (turn ∷ rest) (M.now a))
-        in_both rest = then_on M.moment M.left_since a m b (InRun (known_of k) (turn ∷ rest) (M.now a)) (before_it (turn ∷ rest)) (leaves_more M.moment M.left_since m b (Utters (e.says reply) (M.now m)) (InRun (known_of k) (turn ∷ rest) (M.now a)) (saying rest) run)
+          saying : (rest : List Turn) (left : Moment) → Utters (e.says reply) (M.now m) left → InRun (known_of k) (turn ∷ rest) (M.now a) left
+          saying rest left utters =
+              let at = seat_wears state has wears w after (M.now m) left (short m honest) (record { image = utters.image; windows = utters.windows }) stands in
+              in_saying (known_of k) (known_of after) turn rest behind_it (M.now a) left (utters.windows ∙ disk.windows honest) (mounted_sound after.mounted after.windows after.changes (forced_of (known_of after)) left.image at.stands.disk) utters.heard
+              (utters.said ∙ ap (λ (x : List ℕ). x ++ take utters.heard (e.says reply)) (disk.quiet honest) ∙ ap (λ (x : List ℕ). (M.now a).said ++ take utters.heard x) said_is)
 
-        pub step_ok : SaysAll (e.says reply) (M.now m) (M.now b) → StepsOk state has M e k from command a b w
-        step_ok says = record {
-          met = is.met;
-          after = after;
-          mid = M.now m;
-          step = step_is;
-          is = session_is;
-          carries = behind_it;
-          stands = stands;
-          ages = says.ages;
-          open_windows = says.ages.windows ∙ disk.windows honest;
-          said = says.said ∙ ap (λ (x : List ℕ). x ++ e.says reply) (disk.quiet honest) ∙ ap (λ (x : List ℕ). (M.now a).said ++ x) said_is;
-          moments = in_both;
-        }
+          pub in_both : (rest : List Turn) → LeavesOnly M.moment M.left_since a b (InRun (known_of k) (turn ∷ rest) (M.now a))
+          in_both rest = then_on M.moment M.left_since a m b (InRun (known_of k) (turn ∷ rest) (M.now a)) (before_it (turn ∷ rest)) (leaves_more M.moment M.left_since m b (Utters (e.says reply) (M.now m)) (InRun (known_of k) (turn ∷ rest) (M.now a)) (saying rest) run)
 
-        pub step_ok_met : (says : SaysAll (e.says reply) (M.now m) (M.now b)) → (step_ok says).met ≡ is.met
-        unfolding step_ok
-        step_ok_met says = refl
+          pub step_ok : SaysAll (e.says reply) (M.now m) (M.now b) → StepsOk state has M e k from command a b w
+          step_ok says = record {
+            met = is.met;
+            after = after;
+            mid = M.now m;
+            step = step_is;
+            is = session_is;
+            carries = behind_it;
+            stands = stands;
+            ages = says.ages;
+            open_windows = says.ages.windows ∙ disk.windows honest;
+            said = says.said ∙ ap (λ (x : List ℕ). x ++ e.says reply) (disk.quiet honest) ∙ ap (λ (x : List ℕ). (M.now a).said ++ x) said_is;
+            moments = in_both;
+          }
 
-        worn_after : Wears (M.now m) (M.now b) → IsSound after.mounted.volume.layout after.windows after.changes (forced_of (known_of after)) (M.now b).image
-        worn_after worn =
-            let at = seat_wears state has wears w after (M.now m) (M.now b) (short m honest) (record { image = worn.image; windows = worn.windows }) stands in
-            mounted_sound after.mounted after.windows after.changes (forced_of (known_of after)) (M.now b).image at.stands.disk
+          pub step_ok_met : (says : SaysAll (e.says reply) (M.now m) (M.now b)) → (step_ok says).met ≡ is.met
+          unfolding step_ok
+          step_ok_met says = refl
 
-        -- what was done is on no disk yet
-        spared_after : Wears (M.now m) (M.now b) → IsSound k.mounted.volume.layout k.windows k.changes (forced_of (known_of k)) (M.now b).image
-        spared_after worn = wear_sound k.mounted.volume.layout k.windows k.changes (forced_of (known_of k)) (M.now m).windows (M.now m).image (M.now b).image (short m honest)
-            (subst (λ (w : Windows). EndIn w k.windows) (sym (disk.windows honest)) stood.stands.ends) worn.image (disk.exit honest k stood).sound
+          worn_after : Wears (M.now m) (M.now b) → IsSound after.mounted.volume.layout after.windows after.changes (forced_of (known_of after)) (M.now b).image
+          worn_after worn =
+              let at = seat_wears state has wears w after (M.now m) (M.now b) (short m honest) (record { image = worn.image; windows = worn.windows }) stands in
+              mounted_sound after.mounted after.windows after.changes (forced_of (known_of after)) (M.now b).image at.stands.disk
 
-        -- it was not said
-        pub step_unsaid : (end : End) → Unsaid (M.now m) (M.now b) end → (more : List ScriptCommand) → RunsFrom state has M e k from (command ∷ more) a b w (Err end)
-        step_unsaid (Stopped Ends.Memory) unsaid more = record {
-          mets = is.met ∷ [];
-          goes = λ t le. ((M.now m).image, step_is t le, tt);
-          moments = in_both;
-          ends = (tt, said_before (known_of k) (known_of after) turn [] behind_it.layout behind_it.windows behind_it.changes (forced_of (known_of after)) behind_it.least (M.now a) (M.now b) (unsaid.windows ∙ disk.windows honest) (worn_after unsaid) Ends.Memory (λ is. spared_after unsaid) (unsaid.said ∙ disk.quiet honest));
-        }
-        step_unsaid Output unsaid more = record { mets = is.met ∷ []; goes = λ t le. ((M.now m).image, step_is t le, tt); moments = in_both; ends = tt }
-        step_unsaid (Stopped fault) unsaid more = absurd unsaid
+          -- what was done is on no disk yet
+          spared_after : Wears (M.now m) (M.now b) → IsSound k.mounted.volume.layout k.windows k.changes (forced_of (known_of k)) (M.now b).image
+          spared_after worn = wear_sound k.mounted.volume.layout k.windows k.changes (forced_of (known_of k)) (M.now m).windows (M.now m).image (M.now b).image (short m honest)
+              (subst (λ (w : Windows). EndIn w k.windows) (sym (disk.windows honest)) stood.stands.ends) worn.image (disk.exit honest k stood).sound
 
-      -- by how its reply was said
-      pub step_said : (run : LeavesOnly M.moment M.left_since m b (Utters (e.says reply) (M.now m))) (r : Result (Unit {0}) End) → OnOk r (SaysAll (e.says reply) (M.now m) (M.now b)) → IfErr r (λ end. Unsaid (M.now m) (M.now b) end)
-          → StepsBy state has M e k from command a b w r
-      step_said run (Ok x) said unsaid = step_ok run said
-      step_said run (Err end) said unsaid = step_unsaid run end unsaid
+          -- it was not said
+          pub step_unsaid : (end : End) → Unsaid (M.now m) (M.now b) end → (more : List ScriptCommand) → RunsFrom state has M e k from (command ∷ more) a b w (Err end)
+          step_unsaid (Stopped Ends.Memory) unsaid more = record {
+            mets = is.met ∷ [];
+            goes = λ t le. ((M.now m).image, step_is t le, tt);
+            moments = in_both;
+            ends = (tt, said_before (known_of k) (known_of after) turn [] behind_it.layout behind_it.windows behind_it.changes (forced_of (known_of after)) behind_it.least (M.now a) (M.now b) (unsaid.windows ∙ disk.windows honest) (worn_after unsaid) Ends.Memory (λ is. spared_after unsaid) (unsaid.said ∙ disk.quiet honest));
+          }
+          step_unsaid Output unsaid more = record { mets = is.met ∷ []; goes = λ t le. ((M.now m).image, step_is t le, tt); moments = in_both; ends = tt }
+          step_unsaid (Stopped fault) unsaid more = absurd unsaid
+
+        -- by how its reply was said
+        pub step_said : (run : LeavesOnly M.moment M.left_since m b (Utters (e.says reply) (M.now m))) (r : Result (Unit {0}) End) → OnOk r (SaysAll (e.says reply) (M.now m) (M.now b)) → IfErr r (λ end. Unsaid (M.now m) (M.now b) end)
+            → StepsBy state has M e k from command a b w r
+        step_said run (Ok x) said unsaid = step_ok run said
+        step_said run (Err end) said unsaid = step_unsaid run end unsaid
 
     -- it was not answered
     pub step_fault : (why : Fault) → DoesIn state has command v w k (M.now a) (M.now m) (Err why) → (more : List ScriptCommand) → RunsFrom state has M e k from (command ∷ more) a m w (Err (Stopped why))

@@ -92,7 +92,7 @@ module _ (k : Known) (o : Opened) (text : List ℕ) where
   in_close_as old left x = record { windows = x.windows; forced = x.forced; least = x.least; sound = x.sound; heard = x.heard; said = x.said; all = x.all }
 
   ends_as : (old new : Moment) (r : Result (Unit {0}) End) → EndsClosed (with_opened k o) text old new r → EndsClosed k text old new r
-  ends_as old new (Ok x) is = record { windows = is.windows; said = is.said; sound = is.sound; tells = is.tells; lasts = is.lasts }
+  ends_as old new (Ok x) is = record { windows = is.windows; said = is.said; sound = is.sound; tells = is.tells; lasts = is.lasts; roots = is.roots }
   ends_as old new (Err (Stopped fault)) is = (is.0, is.1, in_close_as old new is.2)
   ends_as old new (Err Output) is = tt
 

@@ -17,7 +17,7 @@ use Rattle.fsd_texts.specs.declared.fault.Fault.{Fault}
 use Rattle.fsd_texts.specs.declared.fault.Fault.TheVariants as Ends
 use Rattle.fsd_texts.specs.declared.script_command.ScriptCommand.{ScriptCommand}
 use Rattle.fsd_texts.specs.declared.script_command.ScriptCommand.TheVariants.{Plain, OfClient}
-use Rattle.fsd_runs.proofs.OtherLaws.{IsOtherIn}
+use Rattle.fsd_runs.proofs.OtherLaws.{IsOtherIn, no_scrub}
 use Rattle.volume_contract.specs.Causes.{Causes, HasCause}
 use Rattle.volume_contract.specs.State.{State}
 use Rattle.scrub.specs.Telling.{AreOfPage, StandTwice, TellsOn}
@@ -110,7 +110,7 @@ end_of_page command other l i Output told = tt
 
 -- so it is of a script's command
 pub end_of_page_in : (command : ScriptCommand) → IsOtherIn command → (l : Layout) (i : Image) (end : End) → IsEndOn (MayLoseIn command) l i end → IsEndOn AreOfPage l i end
-end_of_page_in (Plain command) other l i end told = end_of_page command other l i end told
+end_of_page_in (Plain command) other l i end told = end_of_page command (no_scrub command other) l i end told
 end_of_page_in (OfClient c call) other l i end told = told
 
 -- ---- since

@@ -14,10 +14,11 @@ use Rattle.sector_disk.proofs.Moments.{leaves_more, started, then_on}
 use Rattle.fsd_files.specs.Disk.{Image, in_runs}
 use Rattle.fsd_files.specs.Desk.{Session}
 use Rattle.fsd_files.specs.Files.{Change}
+use Rattle.fsd_sound.specs.Laid.{HasOwnRoots}
 use Rattle.fsd_sound.specs.Mounted.{Mounted, telling_of}
 use Rattle.fsd_sound.specs.Mounting.{device_of_mount}
 use Rattle.fsd_sound.specs.Shown.{told}
-use Rattle.fsd_sound.specs.Sound.{EndIn, IsPrefixOf, IsSound}
+use Rattle.fsd_sound.specs.Sound.{EndIn, IsPrefixOf, IsSound, weak_of}
 use Rattle.fsd_sound.specs.Windows.{IsNamedSince}
 use Rattle.fsd_sound.proofs.WindowLaws.{named_on}
 use Rattle.fsd_sound.specs.declared.fault.MountFault.{MountFault}
@@ -31,10 +32,10 @@ use Rattle.fsd_texts.specs.Text.{fault_text}
 use Rattle.fsd_runs.specs.declared.request.Request.{Request}
 use Rattle.fsd_runs.specs.declared.request.Request.TheVariants.{Put}
 use Rattle.fsd_runs.specs.Errands.{Cut, Turn, blank, errand_of, fault_status}
-use Rattle.fsd_runs.specs.Leaves.{CutCause, IsBroken, IsOutside, IsReplied, IsSpent, IsUndone, IsUnsaid, Left, LeavesRun, LeftBefore, LeftSince, Unbegun}
+use Rattle.fsd_runs.specs.Leaves.{CutCause, IsBroken, IsOutside, IsReplied, IsSpent, IsUndone, IsUnsaid, Left, LeavesBy, LeftBefore, LeftSince, Unbegun}
 use Rattle.fsd_runs.specs.Sessions.{session_over}
 use Rattle.fsd_runs.specs.Runs.{Goes, IsCutAt, IsThrough, Run, changes_in, errand_in, run_end, run_status, run_turns, said_in, turns_of}
-use Rattle.volume_contract.specs.Mount.{EndsBefore, EndsSettled, Excuses, ExcusesOf, IsSoundAt, MountsSound, Settled, SoundBefore, SoundSince}
+use Rattle.volume_contract.specs.Mount.{EndsBefore, EndsSettled, Excuses, ExcusesOf, MountsAs, Settled, SoundBefore, SoundSince}
 use Rattle.volume_contract.specs.State.{State, Known, Stands, forced_of, none_open, volume_of}
 use Rattle.volume_turns.specs.declared.turns.End.TheVariants.{Fault as Stopped}
 use Rattle.volume_turns.specs.Line.{EndsWith, is_unsaid}
@@ -43,7 +44,7 @@ use Rattle.volume_turns.specs.Turns.{EndsAtOnce, InRun, SaysAll, Told, Undone}
 use Rattle.volume_turns.specs.Whole.{Halted, RunsOut, SaysOut}
 use Rattle.volume_turns.proofs.HaltLaws.{broken_ends, broken_moments}
 use Rattle.volume_turns.proofs.LineLaws.{excused}
-use Rattle.volume_turns.proofs.MountLaws.{before_left, known_length, nothing_said, run_left, run_undone, since_left, sound_to, starts}
+use Rattle.volume_turns.proofs.MountLaws.{before_left, known_length, nothing_said, own_roots, run_left, run_undone, since_left, sound_to, starts}
 use Rattle.volume_turns.proofs.RunLaws.{told_fault}
 use Rattle.volume_turns.proofs.TurnLaws.{in_before, none_done}
 use Rattle.volume_turns.proofs.StatusLaws.{same_device}
@@ -137,6 +138,7 @@ module _ {D : Type 0} (M : Ghosts D) (request : Request) (input rest : List ℕ)
         sound = sound_to k.mounted.volume.layout l k.windows (windows ++ run ∷ []) (k.changes ++ changes_in turns) (take n h ++ changes_in turns) (length (k.changes ++ changes_in turns)) (n + length (changes_in turns)) (M.now b).image
             s.layout s.known (ap (λ (x : List Change). x ++ changes_in turns) s.changes) all d.sound;
         tells = subst (λ (x : Layout). told x (M.now b).image ≡ Some (telling_of (run_end run_is))) s.layout d.tells;
+        roots = subst (λ (x : List WeakRun). HasOwnRoots (run_end run_is).layout (weak_of x) (M.now b).image) s.known d.roots;
       }
 
   abbrev Over : Type 0
@@ -148,7 +150,7 @@ module _ {D : Type 0} (M : Ghosts D) (request : Request) (input rest : List ℕ)
   ended (inr (inl u)) = inr (inl u)
   ended (inr (inr x)) = inr (inr (broken_on_said (M.report a) (M.report b) request (Undone k turns) (IsUndone l (windows ++ run ∷ []) (take n h) n turns) turns (M.now a) (M.now m) (M.now b) status quiet (λ whole i u. run_undone l windows run h f n prefix k (M.now a) (M.now m) s quiet turns whole i u) x))
 
-  pub mounted_run : LeavesRun request input rest l windows h f (M.left_since b) (M.moment a) (λ P. LeavesOnly M.moment M.left_since a b P) (M.report a) (M.report b) (M.now a) (M.now b) status
+  pub mounted_run : LeavesBy request input rest l windows h f (M.left_since b) (M.moment a) (λ P. LeavesOnly M.moment M.left_since a b P) (M.report a) (M.report b) (M.now a) (M.now b) status
   mounted_run = inr (record {
     count = n;
     prefix = prefix;
@@ -161,6 +163,7 @@ module _ {D : Type 0} (M : Ghosts D) (request : Request) (input rest : List ℕ)
     raised = s.raised;
     volume = volume_of k;
     starts = starts l windows run h f n prefix k (M.now a) (M.now m) s quiet;
+    own = own_roots l windows run h f n prefix k (M.now a) (M.now m) s quiet;
     run = run_is;
     cause = r.cause;
     moments = then_on M.moment M.left_since a m b (Left l windows run h f n turns (M.now a)) mount_left
@@ -177,7 +180,7 @@ at_once (Refused.Device s) is = tt
 at_once Refused.Memory is = tt
 at_once fault is = absurd is
 
-module _ {S D : Type 0} (state : S → State) (has : S → Mounted → List Placed → Type 0) (M : Ghosts D) (request : Request) (input rest : List ℕ) (l : Layout) (windows : List WeakRun) (h : List Change) (f sectors : ℕ) (a m b : D) (at : IsSoundAt sectors l windows h f (M.now a))
+module _ {S D : Type 0} (state : S → State) (has : S → Mounted → List Placed → Type 0) (M : Ghosts D) (request : Request) (input rest : List ℕ) (l : Layout) (windows : List WeakRun) (h : List Change) (f : ℕ) (a m b : D) (at : EndIn (M.now a).windows windows)
     (fault : MountFault) (quiet : (M.now m).said ≡ (M.now a).said) (uses : UsesDisk (M.report a) (M.report m)) (faults : DiskFaults (device_of_mount fault) (M.report a) (M.report m)) (status : ℕ) (says : LeavesDisk M false (is_unsaid status) (Utters (fault_text (fault_of fault))) m b)
     (honest : M.honest b) (short : AreShort (M.now m).windows) (ended : EndsWith (fault_of fault) (M.now m) (M.now b) status) where
   abbrev why : Fault
@@ -211,7 +214,7 @@ module _ {S D : Type 0} (state : S → State) (has : S → Mounted → List Plac
   -- before it settled
   module _ (u : EndsBefore state has l windows h f (λ P. LeavesOnly M.moment M.left_since a m P) (M.now a) (M.now m) (Err fault)) where
     ends_in : EndIn (M.now m).windows windows
-    ends_in = record { last = at.ends.last ∙ sym u.exit.present; some = subst (λ (o : Option WeakRun). IsSome o) (sym u.exit.present) at.ends.some }
+    ends_in = record { last = at.last ∙ sym u.exit.present; some = subst (λ (o : Option WeakRun). IsSome o) (sym u.exit.present) at.some }
 
     before_only : (left : Moment) → SoundBefore l windows h f (M.now a) left → LeftBefore l windows h f (M.now a) left
     before_only left x = record { present = x.present; part = []; said = x.said ∙ sym (append-nil (M.now a).said); fault = nothing_said; sound = x.sound }
@@ -242,7 +245,7 @@ module _ {S D : Type 0} (state : S → State) (has : S → Mounted → List Plac
     by_end (inl six) = inr (inl (unsaid six))
     by_end (inr (gives, all)) = by_fault fault u.why refl gives all
 
-    unmounted_run : LeavesRun request input rest l windows h f (M.left_since b) (M.moment a) (λ P. LeavesOnly M.moment M.left_since a b P) (M.report a) (M.report b) (M.now a) (M.now b) status
+    unmounted_run : LeavesBy request input rest l windows h f (M.left_since b) (M.moment a) (λ P. LeavesOnly M.moment M.left_since a b P) (M.report a) (M.report b) (M.now a) (M.now b) status
     unmounted_run = inl (record {
       moments = then_on M.moment M.left_since a m b (LeftBefore l windows h f (M.now a)) (leaves_more M.moment M.left_since a m (SoundBefore l windows h f (M.now a)) (LeftBefore l windows h f (M.now a)) before_only u.moments)
           (leaves_more M.moment M.left_since m b (Utters (fault_text why) (M.now m)) (LeftBefore l windows h f (M.now a)) on_line (says.any_moment honest));
@@ -305,20 +308,20 @@ module _ {S D : Type 0} (state : S → State) (has : S → Mounted → List Plac
       };
     }
 
-    settled_run : LeavesRun request input rest l windows h f (M.left_since b) (M.moment a) (λ P. LeavesOnly M.moment M.left_since a b P) (M.report a) (M.report b) (M.now a) (M.now b) status
+    settled_run : LeavesBy request input rest l windows h f (M.left_since b) (M.moment a) (λ P. LeavesOnly M.moment M.left_since a b P) (M.report a) (M.report b) (M.now a) (M.now b) status
     settled_run = mounted_run M request input rest l windows e.next h f e.count e.prefix k a m b e.settled quiet e.moments e.named (says.since honest) here now status runs
 
   pub refused_run : (here : M.left_since m (M.moment m) (M.now m)) (now : M.left_since b (M.moment m) (M.now b)) (only : (left : Moment) → M.left_since m (M.moment m) left → left ≡ M.now m)
-      (some : (s : Session) → IsSome (slice_get (turns_of (errand_of request input) [] s) 0)) → MountsSound state has l windows h f (M.left_since m) (M.moment a) (λ P. LeavesOnly M.moment M.left_since a m P) (M.now a) (M.now m) (Err fault)
-      → LeavesRun request input rest l windows h f (M.left_since b) (M.moment a) (λ P. LeavesOnly M.moment M.left_since a b P) (M.report a) (M.report b) (M.now a) (M.now b) status
+      (some : (s : Session) → IsSome (slice_get (turns_of (errand_of request input) [] s) 0)) → MountsAs state has l windows h f (M.left_since m) (M.moment a) (λ P. LeavesOnly M.moment M.left_since a m P) (M.now a) (M.now m) (Err fault)
+      → LeavesBy request input rest l windows h f (M.left_since b) (M.moment a) (λ P. LeavesOnly M.moment M.left_since a b P) (M.report a) (M.report b) (M.now a) (M.now b) status
   refused_run here now only some (inl u) = unmounted_run u
   refused_run here now only some (inr e) = settled_run here now only some e
 
 -- what a request does over a volume that was just mounted
 pub joined_run : {S D : Type 0} (state : S → State) (has : S → Mounted → List Placed → Type 0) (M : Ghosts D) (request : Request) (input rest : List ℕ) (l : Layout) (windows : List WeakRun) (h : List Change) (f : ℕ) (a m b : D) (v : S)
     → (M.now m).said ≡ (M.now a).said → UsesDisk (M.report a) (M.report m) → DiskFaults None (M.report a) (M.report m) → Since M m b → M.left_since m (M.moment m) (M.now m) → (M.moment m ≤ M.moment b → M.left_since b (M.moment m) (M.now b)) → (status : ℕ)
-    → MountsSound state has l windows h f (M.left_since m) (M.moment a) (λ P. LeavesOnly M.moment M.left_since a m P) (M.now a) (M.now m) (Ok v) → ((k : Known) → (volume_of k).unforced ≡ 0 → k.opened ≡ none_open → Stands state has v k (M.now m) → RunsOut M request input rest (M.report m) k m b status)
-    → LeavesRun request input rest l windows h f (M.left_since b) (M.moment a) (λ P. LeavesOnly M.moment M.left_since a b P) (M.report a) (M.report b) (M.now a) (M.now b) status
+    → MountsAs state has l windows h f (M.left_since m) (M.moment a) (λ P. LeavesOnly M.moment M.left_since a m P) (M.now a) (M.now m) (Ok v) → ((k : Known) → (volume_of k).unforced ≡ 0 → k.opened ≡ none_open → Stands state has v k (M.now m) → RunsOut M request input rest (M.report m) k m b status)
+    → LeavesBy request input rest l windows h f (M.left_since b) (M.moment a) (λ P. LeavesOnly M.moment M.left_since a b P) (M.report a) (M.report b) (M.now a) (M.now b) status
 joined_run state has M request input rest l windows h f a m b v quiet uses faults since here now status (inl u) does = absurd u.why
 joined_run state has M request input rest l windows h f a m b v quiet uses faults since here now status (inr e) does =
     let k = e.known in

@@ -19,6 +19,7 @@ use Rattle.fsd_texts.specs.declared.fault.Fault.TheVariants as Ends
 use Rattle.fsd_texts.specs.Text.{fault_text}
 use Rattle.fsd_runs.specs.Commands.{reply_alone}
 use Rattle.fsd_runs.specs.Errands.{fault_status, reply_status}
+use Rattle.volume_contract.specs.Order.{is_root}
 use Rattle.volume_contract.specs.State.{Ages, State, is_worn, put_writes}
 use Rattle.scrub.specs.Scrub.{scrub_writes}
 use Rattle.scrub.specs.Telling.{AreOfPage}
@@ -79,6 +80,9 @@ MayReply Word.Stat i (Reply.Counts free waiting pages versions) = ⊤
 MayReply Word.Stat i reply = ⊥
 MayReply Word.Scrub i (Reply.Scrubbed found healed) = AllByRecursion (λ x. HasDamaged i x.1) found
 MayReply Word.Scrub i reply = ⊥
+MayReply Word.Upgrade i Reply.Upgraded = ⊤
+MayReply Word.Upgrade i (Reply.Refused why) = why ≡ Why.LayoutIs 2
+MayReply Word.Upgrade i reply = ⊥
 
 -- ---- what is written
 
@@ -93,8 +97,10 @@ may_write Word.Force s = force_writes s.layout
 may_write Word.Tick s = force_writes s.layout
 may_write Word.Stat s = nowhere
 may_write Word.Scrub s = scrub_writes s.layout
+may_write Word.Upgrade s = is_root
 
--- a command that only reads leaves the volume's state, and so does a scrub where no page waits
+-- a command that only reads leaves the volume's state, and so does a scrub where no page waits; behind an upgrade the same
+-- pages wait
 abbrev pub KeepsState : Command → State → State → Type 0
 KeepsState (Word.Put name bytes keep) s t = ⊤
 KeepsState (Word.Delete key) s t = ⊤
@@ -105,6 +111,7 @@ KeepsState Word.Force s t = ⊤
 KeepsState Word.Tick s t = ⊤
 KeepsState Word.Stat s t = t ≡ s
 KeepsState Word.Scrub s t = s.dirty ≡ [] → t ≡ s
+KeepsState Word.Upgrade s t = t.dirty ≡ s.dirty
 
 -- ---- one command, step by step
 
@@ -180,8 +187,8 @@ pub record EndsOne (command : Command) (s : State) (old new : Moment) (status : 
 abbrev pub WritesForce : (sectors : ℕ) → (old mounted new : Moment) → Type 0
 WritesForce sectors old mounted new = Ages mounted new ⊎ ((volume : HasVolume sectors old) × Touches (force_writes volume.layout) mounted new)
 
--- What is written behind the mount: nothing by a command that only reads; by another that is no put, only where a force
--- writes, and by a scrub also roots and in the data area.
+-- What is written behind the mount: nothing by a command that only reads; by an upgrade only the roots; by another that is
+-- no put, only where a force writes, and by a scrub also roots and in the data area.
 abbrev pub WritesBehind : Command → (sectors : ℕ) → (old mounted new : Moment) → Type 0
 WritesBehind (Word.Put name bytes keep) sectors old mounted new = ⊤
 WritesBehind (Word.Delete key) sectors old mounted new = WritesForce sectors old mounted new
@@ -192,6 +199,7 @@ WritesBehind Word.Force sectors old mounted new = WritesForce sectors old mounte
 WritesBehind Word.Tick sectors old mounted new = WritesForce sectors old mounted new
 WritesBehind Word.Stat sectors old mounted new = Ages mounted new
 WritesBehind Word.Scrub sectors old mounted new = Ages mounted new ⊎ ((volume : HasVolume sectors old) × Touches (scrub_writes volume.layout) mounted new)
+WritesBehind Word.Upgrade sectors old mounted new = Touches is_root mounted new
 
 -- A mount writes only where it may, and the command behind it.
 pub record WritesOne (command : Command) (sectors : ℕ) (old new : Moment) : Type 0 where

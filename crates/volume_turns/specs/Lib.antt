@@ -18,3 +18,4 @@ pub mod Taking
 pub mod Tally
 pub mod Turns
 pub mod Whole
+pub mod Upgrade

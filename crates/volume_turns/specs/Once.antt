@@ -1,5 +1,6 @@
 -- One command by itself: it is done, all is forced, and then its reply is said.
 use Rattle.std.specs.Prelude.{◌≡◌, ⊤, ℕ, ◌<◌, ◌≤◌, List, [], ◌∷◌, ◌++◌, length, take, Some, Result, Ok, Err}
+use Rattle.volume_layout.specs.declared.layout.Layout.{Layout}
 use Rattle.fsd_bytes.specs.declared.refusal.Refusal.{Refusal}
 use Rattle.fsd_bytes.specs.declared.refusal.Refusal.TheVariants as Why
 use Rattle.sector_disk.specs.declared.machine.Machine.{Ghosts}
@@ -8,6 +9,7 @@ use Rattle.sector_disk.specs.Machine.{Moment, LeavesOnly}
 use Rattle.fsd_files.specs.Desk.{Session}
 use Rattle.fsd_files.specs.Disk.{Image, in_runs}
 use Rattle.fsd_files.specs.Volume.{Volume}
+use Rattle.fsd_sound.specs.Laid.{HasOwnRoots}
 use Rattle.fsd_sound.specs.Mounted.{telling_of}
 use Rattle.fsd_sound.specs.Shown.{told}
 use Rattle.fsd_sound.specs.Sound.{IsSound, weak_of}
@@ -53,22 +55,33 @@ pub record InClose (k : Known) (text : List ℕ) (old left : Moment) : Type 0 wh
   pub said : left.said ≡ old.said ++ take heard text
   pub all : 0 < heard → forced ≡ length k.changes
 
--- All is said. The disk's own table is the volume's, however it wears.
-pub record SaysClosed (k : Known) (text : List ℕ) (old new : Moment) : Type 0 where
+-- All is said. The disk's own table is the volume's, however it wears, and both roots are those of this layout.
+pub record SaysClosedBy (own : Layout) (k : Known) (text : List ℕ) (old new : Moment) : Type 0 where
   pub windows : new.windows ≡ old.windows
   pub said : new.said ≡ old.said ++ text
   pub sound : IsSound k.mounted.volume.layout k.windows k.changes (length k.changes) new.image
   pub tells : told k.mounted.volume.layout new.image ≡ Some (telling_of (volume_of k))
   pub lasts : AllWorn (weak_of k.windows) (λ j. told k.mounted.volume.layout j ≡ Some (telling_of (volume_of k))) new.image
+  pub roots : HasOwnRoots own (weak_of k.windows) new.image
+
+abbrev pub EndsClosedBy : Layout → Known → List ℕ → (old new : Moment) → Result (Unit {0}) End → Type 0
+EndsClosedBy own k text old new (Ok x) = SaysClosedBy own k text old new
+EndsClosedBy own k text old new (Err (Stopped fault)) = EndsAtOnce fault × (new.said ≡ old.said) × InClose k text old new
+EndsClosedBy own k text old new (Err Output) = ⊤
+
+pub record ClosesAndSaysBy {D : Type 0} (own : Layout) (M : Ghosts D) (k : Known) (text : List ℕ) (a b : D) (result : Result (Unit {0}) End) : Type 0 where
+  pub moments : LeavesOnly M.moment M.left_since a b (InClose k text (M.now a))
+  pub ends : EndsClosedBy own k text (M.now a) (M.now b) result
+
+-- and these are of the volume's own
+abbrev pub SaysClosed : Known → List ℕ → (old new : Moment) → Type 0
+SaysClosed k text old new = SaysClosedBy k.mounted.volume.layout k text old new
 
 abbrev pub EndsClosed : Known → List ℕ → (old new : Moment) → Result (Unit {0}) End → Type 0
-EndsClosed k text old new (Ok x) = SaysClosed k text old new
-EndsClosed k text old new (Err (Stopped fault)) = EndsAtOnce fault × (new.said ≡ old.said) × InClose k text old new
-EndsClosed k text old new (Err Output) = ⊤
+EndsClosed k text old new result = EndsClosedBy k.mounted.volume.layout k text old new result
 
-pub record ClosesAndSays {D : Type 0} (M : Ghosts D) (k : Known) (text : List ℕ) (a b : D) (result : Result (Unit {0}) End) : Type 0 where
-  pub moments : LeavesOnly M.moment M.left_since a b (InClose k text (M.now a))
-  pub ends : EndsClosed k text (M.now a) (M.now b) result
+abbrev pub ClosesAndSays : {D : Type 0} → (M : Ghosts D) → Known → List ℕ → (a b : D) → Result (Unit {0}) End → Type 0
+ClosesAndSays M k text a b result = ClosesAndSaysBy k.mounted.volume.layout M k text a b result
 
 -- ---- one command
 
@@ -77,13 +90,15 @@ abbrev pub unit_of : {T : Type 0} → Result T End → Result (Unit {0}) End
 unit_of (Ok x) = Ok tt
 unit_of (Err end) = Err end
 
--- All is said, and all is forced: the disk's own table is that of the volume behind it, however it wears.
+-- All is said, and all is forced: the disk's own table is that of the volume behind it, however it wears, and both roots
+-- are those of its layout.
 pub record IsDone (k : Known) (turns : List Turn) (after : Volume) (old new : Moment) : Type 0 where
   pub windows : new.windows ≡ old.windows
   pub said : new.said ≡ old.said ++ said_in turns
   pub sound : IsSound k.mounted.volume.layout k.windows (k.changes ++ changes_in turns) (length (k.changes ++ changes_in turns)) new.image
   pub tells : told k.mounted.volume.layout new.image ≡ Some (telling_of after)
   pub lasts : AllWorn (weak_of k.windows) (λ j. told k.mounted.volume.layout j ≡ Some (telling_of after)) new.image
+  pub roots : HasOwnRoots after.layout (weak_of k.windows) new.image
 
 -- the status of its reply
 abbrev pub status_alone : Command → List Meeting → Session → ℕ

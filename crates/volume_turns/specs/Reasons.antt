@@ -5,16 +5,23 @@ use Rattle.fsd_bytes.specs.declared.pattern.Pattern.{Pattern}
 use Rattle.fsd_bytes.specs.declared.refusal.Refusal.TheVariants as Why
 use Rattle.fsd_formats.specs.declared.entry.Entry.{Entry}
 use Rattle.fsd_formats.specs.NamePage.{sectors_for}
+use Rattle.volume_layout.specs.declared.kind.Kind.TheVariants.{Two, Three}
+use Rattle.volume_layout.specs.Layout.{with_kind}
 use Rattle.fsd_table.specs.Table.{Visit}
 use Rattle.fsd_files.specs.Replies.{Reply}
 use Rattle.fsd_texts.specs.declared.command.Command.{Command}
 use Rattle.fsd_texts.specs.declared.command.Command.TheVariants as Word
+use Rattle.fsd_texts.specs.declared.call.Call.{Call}
+use Rattle.fsd_texts.specs.declared.call.Call.TheVariants as Calls
+use Rattle.fsd_texts.specs.declared.script_command.ScriptCommand.{ScriptCommand}
+use Rattle.fsd_texts.specs.declared.script_command.ScriptCommand.TheVariants.{Plain, OfClient}
 use Rattle.fsd_texts.specs.declared.fault.Fault.{Fault}
 use Rattle.sector_disk.specs.Machine.{Ledger, Moment}
 use Rattle.volume_contract.specs.Absent.{LacksKey, LacksLater, Reaches}
 use Rattle.volume_contract.specs.Causes.{Shows}
-use Rattle.volume_contract.specs.Found.{HasRange}
+use Rattle.volume_contract.specs.Found.{HasEntry, HasRange}
 use Rattle.volume_contract.specs.State.{Ages, State, change_len, force_len, put_len}
+use Rattle.volume_contract.specs.Upgrade.{RootsStand}
 use Rattle.scrub.specs.Looking.{AreDamaged}
 use Rattle.scrub.specs.Scrub.{WritesHealed}
 use Rattle.volume_turns.specs.declared.answer.Answer.{Answer}
@@ -33,6 +40,7 @@ most_written (Word.Keep name keep) s = change_len s
 most_written Word.Force s = force_len s
 most_written Word.Tick s = force_len s
 most_written Word.Scrub s = force_len s
+most_written Word.Upgrade s = 2
 most_written (Word.List pattern) s = 0
 most_written (Word.Get key) s = 0
 most_written Word.Stat s = 0
@@ -62,6 +70,7 @@ HasWrittenBy Word.Force s old new result = HasWritten (most_written Word.Force s
 HasWrittenBy Word.Tick s old new result = HasWritten (most_written Word.Tick s) old new result
 HasWrittenBy Word.Stat s old new result = HasWritten (most_written Word.Stat s) old new result
 HasWrittenBy Word.Scrub s old new result = HasScrubbed s old new result
+HasWrittenBy Word.Upgrade s old new result = HasWritten (most_written Word.Upgrade s) old new result
 
 -- ---- what a scrub has found
 
@@ -69,6 +78,14 @@ HasWrittenBy Word.Scrub s old new result = HasScrubbed s old new result
 abbrev pub BecauseScrubbed : State → Moment → Reply → Type 0
 BecauseScrubbed s new (Reply.Scrubbed found healed) = AreDamaged s.layout new.image found
 BecauseScrubbed s new reply = ⊤
+
+-- ---- which layout the volume has
+
+-- it had layout 1 and both roots say 2 now, or it had layout 2
+abbrev pub BecauseUpgraded : (s t : State) → (new : Moment) → Reply → Type 0
+BecauseUpgraded s t new Reply.Upgraded = (s.layout.kind ≡ Two) × (t.layout ≡ with_kind Three s.layout) × RootsStand t new
+BecauseUpgraded s t new (Reply.Refused why) = s.layout.kind ≡ Three
+BecauseUpgraded s t new reply = ⊤
 
 -- ---- what the pages that were read show
 
@@ -110,3 +127,24 @@ module _ {S : Type 0} (state : S → State) (resident : S → ℕ → Option (Li
   Because Word.Tick s t old new reply = ⊤
   Because Word.Stat s t old new reply = ⊤
   Because Word.Scrub s t old new reply = BecauseScrubbed s new reply
+  Because Word.Upgrade s t old new reply = BecauseUpgraded s t new reply
+
+  -- Of a client that opens a version: none of the key is there, or one is, with an entry of this length.
+  abbrev pub BecauseOpened : Key → (s t : State) → (old new : Moment) → Reply → Type 0
+  BecauseOpened key s t old new (Reply.Refused why) = why ≡ Why.NoSuch → Showed s t old new (λ from. LacksKey key)
+  BecauseOpened key s t old new (Reply.Opened c len) = (e : Entry) × (e.key ≡ key) × (e.length ≡ len) × Showed s t old new (λ from. HasEntry e)
+  BecauseOpened key s t old new reply = ⊤
+
+  abbrev pub BecauseCalled : Call → (s t : State) → (old new : Moment) → Reply → Type 0
+  BecauseCalled (Calls.Begin name len) s t old new reply = ⊤
+  BecauseCalled (Calls.Piece bytes) s t old new reply = ⊤
+  BecauseCalled Calls.Close s t old new reply = ⊤
+  BecauseCalled Calls.Drop s t old new reply = ⊤
+  BecauseCalled (Calls.Open key) s t old new reply = BecauseOpened key s t old new reply
+  BecauseCalled (Calls.Next len) s t old new reply = ⊤
+  BecauseCalled Calls.Done s t old new reply = ⊤
+
+  -- so it is of a script's command
+  abbrev pub BecauseIn : ScriptCommand → (s t : State) → (old new : Moment) → Reply → Type 0
+  BecauseIn (Plain command) s t old new reply = Because command s t old new reply
+  BecauseIn (OfClient c call) s t old new reply = BecauseCalled call s t old new reply

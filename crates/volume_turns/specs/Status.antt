@@ -3,7 +3,7 @@ use Rattle.std.specs.Prelude.{◌≡◌, ◌⊎◌, ◌≤◌, ◌==◌, ◌||�
 use Rattle.std.specs.List.{list_any}
 use Rattle.sector_disk.specs.Machine.{Report, Rose}
 use Rattle.fsd_texts.specs.declared.command.Command.{Command}
-use Rattle.fsd_texts.specs.declared.command.Command.TheVariants.{Delete, Force, Get, Keep, List, Put, Scrub, Stat, Tick}
+use Rattle.fsd_texts.specs.declared.command.Command.TheVariants.{Delete, Force, Get, Keep, List, Put, Scrub, Stat, Tick, Upgrade}
 use Rattle.fsd_texts.specs.declared.fault.Fault.{Fault}
 use Rattle.fsd_runs.specs.Errands.{fault_status}
 use Rattle.volume_turns.specs.Steps.{IsOfVolume}
@@ -18,7 +18,7 @@ IsStatusOfFault status = (why : Fault) × IsOfVolume why × (status ≡ fault_st
 abbrev pub IsStatusBroken : ℕ → Type 0
 IsStatusBroken status = IsStatusOfFault status ⊎ (status ≡ 6)
 
--- the status of a reply to this command: a change is made or refused; so a version is read, or a sector of it is
+-- the status of a reply to this command: a change is made or refused, and so is an upgrade; so a version is read, or a sector of it is
 -- damaged; of what is told, and of a force, nothing is refused; a scrub has found damaged sectors, or none
 abbrev pub IsStatusFrom : Command → ℕ → Type 0
 IsStatusFrom (Put name bytes keep) status = status ≤ 1
@@ -30,6 +30,7 @@ IsStatusFrom Force status = status ≡ 0
 IsStatusFrom Tick status = status ≡ 0
 IsStatusFrom Stat status = status ≡ 0
 IsStatusFrom Scrub status = (status ≡ 0) ⊎ (status ≡ 8)
+IsStatusFrom Upgrade status = status ≤ 1
 
 -- one command ends with the status of its reply, or of a fault, or its output failed
 abbrev pub IsOneStatus : Command → ℕ → Type 0

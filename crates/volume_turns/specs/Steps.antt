@@ -1,5 +1,5 @@
 -- One command over a mounted volume: what it answers, and what it leaves.
-use Rattle.std.specs.Prelude.{◌≡◌, ⊤, ℕ, List, ◌++◌, Option, Some, None, Result, Ok, Err, IfErr, IsTrue, IsFalse}
+use Rattle.std.specs.Prelude.{◌≡◌, ⊤, ℕ, Bool, true, false, List, ◌++◌, Option, Some, None, Result, Ok, Err, IfErr, IsTrue, IsFalse}
 use Rattle.volume_layout.specs.declared.layout.Layout.{Layout}
 use Rattle.fsd_log.specs.Scan.{Placed}
 use Rattle.fsd_bytes.specs.declared.key.Key.{Key}
@@ -10,6 +10,8 @@ use Rattle.fsd_files.specs.Disk.{Image}
 use Rattle.fsd_files.specs.Replies.{Reply}
 use Rattle.fsd_texts.specs.declared.command.Command.{Command}
 use Rattle.fsd_texts.specs.declared.command.Command.TheVariants as Word
+use Rattle.fsd_texts.specs.declared.script_command.ScriptCommand.{ScriptCommand}
+use Rattle.fsd_texts.specs.declared.script_command.ScriptCommand.TheVariants.{Plain, OfClient}
 use Rattle.fsd_texts.specs.declared.fault.Fault.{Fault}
 use Rattle.fsd_texts.specs.declared.fault.Fault.TheVariants as Ends
 use Rattle.fsd_runs.specs.Commands.{answer, changes_of, MayFind, may_wear_out}
@@ -21,6 +23,18 @@ use Rattle.scrub.specs.Telling.{AreOfPage, IsHomeOfPage, StandTwice}
 use Rattle.volume_turns.specs.declared.answer.Answer.{Answer}
 use Rattle.volume_turns.specs.declared.answer.Answer.TheVariants as Said
 use Rattle.volume_contract.specs.State.{State, Known, volume_of, forced_of, Stands, is_worn}
+
+-- ---- which command it is
+
+-- an upgrade asks for more of the volume than the others
+abbrev pub is_upgrade : Command → Bool
+is_upgrade Word.Upgrade = true
+is_upgrade other = false
+
+-- so it is of a script's command
+abbrev pub is_upgrade_in : ScriptCommand → Bool
+is_upgrade_in (Plain command) = is_upgrade command
+is_upgrade_in (OfClient c call) = false
 
 -- ---- answers of the code
 
@@ -35,6 +49,7 @@ reply_of Said.Forced = Reply.Forced
 reply_of (Said.Listed entries) = Reply.Listed entries.items
 reply_of (Said.Counts s) = Reply.Counts s.free s.waiting s.pages_free s.versions
 reply_of (Said.Scrubbed found healed) = Reply.Scrubbed found.items healed
+reply_of Said.Upgraded = Reply.Upgraded
 reply_of (Said.Begun c) = Reply.Begun c
 reply_of (Said.Took c sum) = Reply.Took c sum
 reply_of (Said.Dropped c) = Reply.Dropped c
@@ -86,6 +101,7 @@ MayLose Word.Force = AreOfPage
 MayLose Word.Tick = AreOfPage
 MayLose Word.Stat = AreOfPage
 MayLose Word.Scrub = StandTwice
+MayLose Word.Upgrade = AreOfPage
 
 -- It is so by this layout, in this image: the two sectors that are told as lost are such copies and both damaged, and it
 -- is the home of a page of the table that is told as unsound.

@@ -22,6 +22,8 @@ pub enum Answer {
     Counts(Stat),
     /// The data sectors that read damaged, each with its version's key, and how many others were healed.
     Scrubbed { found: Vec<(Key, u32)>, healed: u32 },
+    /// The volume has layout 2 now.
+    Upgraded,
     /// A client has begun a version.
     Begun(u32),
     /// It has so many bytes of it.

@@ -1,13 +1,15 @@
 //! One call of a client, over a mounted volume and its desk.
-ghost use Rattle.std.specs.Prelude.{◌≡◌, ◌≤◌, None, OnOk, IfErr, length};
+ghost use Rattle.std.specs.Prelude.{◌≡◌, ◌≤◌, None, Err, OnOk, IfOk, IfErr, length};
 ghost use Rattle.fsd_formats.specs.NamePage.{sectors_for};
 ghost use Rattle.fsd_texts.specs.declared.call.Call.TheVariants as Calls;
+ghost use Rattle.fsd_texts.specs.declared.fault.Fault.TheVariants as Ends;
 ghost use Rattle.fsd_texts.specs.declared.script_command.ScriptCommand.TheVariants.{OfClient};
 ghost use Rattle.sector_disk.specs.Calls.{WritesDisk};
 ghost use Rattle.client_desk.specs.Clients.{IsDesk};
 ghost use Rattle.volume_turns.specs.Calls.{AnswersIn, next_ended_by, room_for, sectors_made};
+ghost use Rattle.volume_turns.specs.Reasons.{BecauseCalled, BecauseOpened};
 ghost use Rattle.volume_turns.specs.Seats.{DoesIn, Seated, SitsAt, StaysIn};
-ghost use Rattle.volume_turns.specs.Steps.{IsOfCall, device_by};
+ghost use Rattle.volume_turns.specs.Steps.{IsOfCall, device_by, reply_of};
 
 use crate::answer::{Answer, ended_by, read_ended_by};
 use client_desk::Desk;
@@ -17,7 +19,7 @@ use sector_disk::Machine;
 use std::alloc::Global;
 use volume_contract::Files;
 
-// A client begins a version.
+// A client begins a version. It takes no memory.
 fn begin<M: Machine, V: Files<M>>(
     v: &mut V,
     desk: &mut Desk,
@@ -34,6 +36,7 @@ fn begin<M: Machine, V: Files<M>>(
     ensures desk { IsDesk (V.state v.new) desk.new }
     ensures disk { WritesDisk M.Machine (device_by result) (StaysIn V.state V.holds (v.old, desk.old)) m.old m.new }
     ensures fault { IfErr result IsOfCall }
+    ensures spares { result ≡ Err Ends.Memory → ⊥ }
     ensures answers { M.honest m.new → AnswersIn (OfClient client (Calls.Begin name.now length)) (V.state v.old) (V.state v.new) (M.now m.old) (M.now m.new) result }
     ensures done { M.honest m.new → (k : Seated) → SitsAt V.state V.holds (v.old, desk.old) k (M.now m.old) →
         DoesIn V.state V.holds (OfClient client (Calls.Begin name.now length)) (v.old, desk.old) (v.new, desk.new) k (M.now m.old) (M.now m.new) result }
@@ -44,7 +47,7 @@ fn begin<M: Machine, V: Files<M>>(
     }
 }
 
-// It has more bytes of it. Where the disk fails the version is given up, and the run ends.
+// It has more bytes of it, and takes no memory. Where the disk fails the version is given up, and the run ends.
 fn piece<M: Machine, V: Files<M>>(
     v: &mut V,
     desk: &mut Desk,
@@ -60,6 +63,7 @@ fn piece<M: Machine, V: Files<M>>(
     ensures desk { IsDesk (V.state v.new) desk.new }
     ensures disk { WritesDisk M.Machine (device_by result) (StaysIn V.state V.holds (v.old, desk.old)) m.old m.new }
     ensures fault { IfErr result IsOfCall }
+    ensures spares { result ≡ Err Ends.Memory → ⊥ }
     ensures answers { M.honest m.new → AnswersIn (OfClient client (Calls.Piece bytes.now)) (V.state v.old) (V.state v.new) (M.now m.old) (M.now m.new) result }
     ensures done { M.honest m.new → (k : Seated) → SitsAt V.state V.holds (v.old, desk.old) k (M.now m.old) →
         DoesIn V.state V.holds (OfClient client (Calls.Piece bytes.now)) (v.old, desk.old) (v.new, desk.new) k (M.now m.old) (M.now m.new) result }
@@ -96,7 +100,7 @@ fn close<M: Machine, V: Files<M>>(
     }
 }
 
-// It gives the version up.
+// It gives the version up, and takes no memory.
 fn drop_draft<M: Machine, V: Files<M>>(
     v: &mut V,
     desk: &mut Desk,
@@ -111,6 +115,7 @@ fn drop_draft<M: Machine, V: Files<M>>(
     ensures desk { IsDesk (V.state v.new) desk.new }
     ensures disk { WritesDisk M.Machine (device_by result) (StaysIn V.state V.holds (v.old, desk.old)) m.old m.new }
     ensures fault { IfErr result IsOfCall }
+    ensures spares { result ≡ Err Ends.Memory → ⊥ }
     ensures answers { M.honest m.new → AnswersIn (OfClient client Calls.Drop) (V.state v.old) (V.state v.new) (M.now m.old) (M.now m.new) result }
     ensures done { M.honest m.new → (k : Seated) → SitsAt V.state V.holds (v.old, desk.old) k (M.now m.old) →
         DoesIn V.state V.holds (OfClient client Calls.Drop) (v.old, desk.old) (v.new, desk.new) k (M.now m.old) (M.now m.new) result }
@@ -138,6 +143,7 @@ fn open<M: Machine, V: Files<M>>(
     ensures disk { WritesDisk M.Machine (device_by result) (StaysIn V.state V.holds (v.old, desk.old)) m.old m.new }
     ensures fault { IfErr result IsOfCall }
     ensures answers { M.honest m.new → AnswersIn (OfClient client (Calls.Open key.now)) (V.state v.old) (V.state v.new) (M.now m.old) (M.now m.new) result }
+    ensures because { M.honest m.new → IfOk result (λ a. BecauseOpened V.state V.resident key.now (V.state v.old) (V.state v.new) (M.now m.old) (M.now m.new) (reply_of a)) }
     ensures done { M.honest m.new → (k : Seated) → SitsAt V.state V.holds (v.old, desk.old) k (M.now m.old) →
         DoesIn V.state V.holds (OfClient client (Calls.Open key.now)) (v.old, desk.old) (v.new, desk.new) k (M.now m.old) (M.now m.new) result }
 {
@@ -178,7 +184,7 @@ fn next<M: Machine, V: Files<M>>(
     }
 }
 
-// It is done with it.
+// It is done with it, and takes no memory.
 fn done<M: Machine, V: Files<M>>(
     v: &mut V,
     desk: &mut Desk,
@@ -193,6 +199,7 @@ fn done<M: Machine, V: Files<M>>(
     ensures desk { IsDesk (V.state v.new) desk.new }
     ensures disk { WritesDisk M.Machine (device_by result) (StaysIn V.state V.holds (v.old, desk.old)) m.old m.new }
     ensures fault { IfErr result IsOfCall }
+    ensures spares { result ≡ Err Ends.Memory → ⊥ }
     ensures answers { M.honest m.new → AnswersIn (OfClient client Calls.Done) (V.state v.old) (V.state v.new) (M.now m.old) (M.now m.new) result }
     ensures done { M.honest m.new → (k : Seated) → SitsAt V.state V.holds (v.old, desk.old) k (M.now m.old) →
         DoesIn V.state V.holds (OfClient client Calls.Done) (v.old, desk.old) (v.new, desk.new) k (M.now m.old) (M.now m.new) result }
@@ -221,6 +228,7 @@ pub(crate) fn call<M: Machine, V: Files<M>>(
     ensures disk { WritesDisk M.Machine (device_by result) (StaysIn V.state V.holds (v.old, desk.old)) m.old m.new }
     ensures fault { IfErr result IsOfCall }
     ensures answers { M.honest m.new → AnswersIn (OfClient client call.now) (V.state v.old) (V.state v.new) (M.now m.old) (M.now m.new) result }
+    ensures because { M.honest m.new → IfOk result (λ a. BecauseCalled V.state V.resident call.now (V.state v.old) (V.state v.new) (M.now m.old) (M.now m.new) (reply_of a)) }
     ensures done { M.honest m.new → (k : Seated) → SitsAt V.state V.holds (v.old, desk.old) k (M.now m.old) →
         DoesIn V.state V.holds (OfClient client call.now) (v.old, desk.old) (v.new, desk.new) k (M.now m.old) (M.now m.new) result }
 {

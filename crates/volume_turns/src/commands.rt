@@ -1,5 +1,5 @@
 //! One command over a mounted volume.
-ghost use Rattle.std.specs.Prelude.{◌≡◌, ◌≤◌, length, None, OnOk, IfErr, IfOk, IfSome};
+ghost use Rattle.std.specs.Prelude.{◌≡◌, ◌≤◌, length, false, None, OnOk, IfErr, IfOk, IfSome};
 ghost use Rattle.fsd_formats.specs.NamePage.{max_length, sectors_for};
 ghost use Rattle.fsd_files.specs.Answers.{entry_of};
 ghost use Rattle.fsd_texts.specs.declared.command.Command.TheVariants as Word;
@@ -10,7 +10,7 @@ ghost use Rattle.scrub.specs.Scrub.{KeepsOpen};
 ghost use Rattle.volume_turns.specs.Answering.{Answers};
 ghost use Rattle.volume_turns.specs.Reasons.{Because, HasWritten, HasWrittenBy, most_written};
 ghost use Rattle.volume_turns.specs.Status.{IsStatusFrom};
-ghost use Rattle.volume_turns.specs.Steps.{Does, IsOfCall, Stays, device_by, reply_of};
+ghost use Rattle.volume_turns.specs.Steps.{Does, IsOfCall, Stays, device_by, is_upgrade, reply_of};
 
 use crate::answer::{Answer, ended_by, read_ended_by};
 use crate::listing::list;
@@ -210,7 +210,7 @@ fn read_whole<M: Machine, V: Files<M>>(
     }
 }
 
-/// Does one command.
+/// Does one command that is no upgrade.
 pub(crate) fn answer<M: Machine, V: Files<M>>(
     alloc: Global,
     v: &mut V,
@@ -219,6 +219,7 @@ pub(crate) fn answer<M: Machine, V: Files<M>>(
 ) -> Result<Answer, Fault>
     requires room { (V.state v.old).layout.sectors ≤ (M.report m.old).sectors }
     requires up { (V.state v.old).down ≡ None }
+    requires other { is_upgrade c.now ≡ false }
     ensures layout { (V.state v.new).layout ≡ (V.state v.old).layout }
     ensures open { KeepsOpen (V.state v.old) (V.state v.new) }
     ensures up { OnOk result ((V.state v.new).down ≡ None) }
@@ -241,6 +242,7 @@ pub(crate) fn answer<M: Machine, V: Files<M>>(
         Command::List(pattern) => list(alloc, v, m, pattern),
         Command::Stat => count(v, m),
         Command::Scrub => scrub_all(alloc, v, m),
+        Command::Upgrade => unreachable!(),
     }
 }
 

@@ -20,7 +20,7 @@ ghost use Rattle.volume_turns.specs.Generate.{CountedGroup, Draws, RunsCounted, 
 ghost use Rattle.volume_turns.specs.Numbers.{GoesUp, MayWear};
 ghost use Rattle.volume_turns.specs.Once.{ClosesAndSays, unit_of};
 ghost use Rattle.volume_turns.specs.Status.{CountsRun, IsMadeStatus};
-ghost use Rattle.volume_turns.specs.Steps.{MayLose};
+ghost use Rattle.volume_turns.specs.Steps.{MayLose, is_upgrade};
 ghost use Rattle.volume_turns.specs.Tally.{nothing};
 ghost use Rattle.volume_turns.specs.Turns.{IsEndOfVolume, IsEndOn, KeepsSaid, Told, WantsNone};
 ghost use Rattle.volume_turns.specs.Whole.{RunsOut};
@@ -47,6 +47,7 @@ fn do_counted<M: Machine, V: Files<M>>(
     requires room { (V.state v.old).layout.sectors ≤ (M.report m.old).sectors }
     requires up { (V.state v.old).down ≡ None }
     requires idle { IsDesk (V.state v.old) no_desk }
+    requires other { is_upgrade c.now ≡ false }
     requires few { tally.now.count < 2 ^ 32 - 1 }
     ensures layout { (V.state v.new).layout ≡ (V.state v.old).layout }
     ensures up { OnOk result ((V.state v.new).down ≡ None) }

@@ -12,6 +12,7 @@ ghost use Rattle.fsd_runs.specs.Leaves.{LeavesRun};
 ghost use Rattle.fsd_runs.specs.declared.request.Request.TheVariants.{Put};
 ghost use Rattle.volume_contract.specs.Mount.{IsSoundAt};
 ghost use Rattle.volume_contract.specs.State.{Known, Stands, is_worn, none_open, volume_of};
+ghost use Rattle.volume_contract.specs.Upgrade.{is_fresh};
 ghost use Rattle.scrub.specs.Telling.{AreOfPage};
 ghost use Rattle.volume_turns.specs.Answering.{SaysNoReply, SaysOne};
 ghost use Rattle.volume_turns.specs.Causes.{FailsInput, SaysFault, SaysOfCall, SaysOfInput, TellsImage, is_of_fault};
@@ -64,6 +65,7 @@ fn put_on<M: Machine, V: Files<M> + Drop, T: Says>(
     requires room { (V.state v).layout.sectors ≤ (M.report m.old).sectors }
     requires up { (V.state v).down ≡ None }
     requires unworn { is_worn (V.state v) ≡ false }
+    requires fresh { IsTrue (is_fresh (V.state v)) }
     requires says { T.errand.says ≡ reply_alone }
     ensures attaches { M.tells m.new → (M.ledger m.new).attaches ≡ (M.ledger m.old).attaches }
     ensures status { IsPutStatus result }

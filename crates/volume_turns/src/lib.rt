@@ -15,6 +15,7 @@ mod session;
 mod taking;
 mod tally;
 mod turns;
+mod upgrade;
 mod whole;
 
 pub use answer::Answer;

@@ -1,5 +1,5 @@
 //! One command by itself over a mounted volume, to its reply.
-ghost use Rattle.std.specs.Prelude.{◌≡◌, ◌≤◌, None, Err, IfErr, IfOk, false};
+ghost use Rattle.std.specs.Prelude.{◌≡◌, ◌≤◌, None, Err, IfErr, IfOk, IsTrue, false};
 ghost use Rattle.sector_disk.specs.Machine.{OnlyWrites, Trusts};
 ghost use Rattle.fsd_runs.specs.Commands.{reply_alone};
 ghost use Rattle.fsd_runs.specs.Errands.{reply_status};
@@ -8,7 +8,8 @@ ghost use Rattle.volume_turns.specs.Answering.{AnswersAlone, ClosesBy};
 ghost use Rattle.volume_turns.specs.Once.{ClosesAndSays, IsAlone, close_fault, fault_of, unit_of};
 ghost use Rattle.volume_turns.specs.Status.{IsStatusFrom};
 ghost use Rattle.volume_contract.specs.State.{Known, Stands, is_worn, none_open, volume_of};
-ghost use Rattle.volume_turns.specs.Steps.{reply_of};
+ghost use Rattle.volume_contract.specs.Upgrade.{is_fresh};
+ghost use Rattle.volume_turns.specs.Steps.{is_upgrade, reply_of};
 ghost use Rattle.fsd_texts.specs.declared.fault.Fault.TheVariants as Ends;
 ghost use Rattle.volume_turns.specs.declared.turns.End.TheVariants.{Fault as Stopped};
 ghost use Rattle.volume_turns.specs.Turns.{IsEndOfVolume, Told, WantsNone};
@@ -17,6 +18,7 @@ use crate::answer::Answer;
 use crate::commands;
 use crate::line::say_bytes;
 use crate::turns::{End, Says};
+use crate::upgrade::upgrade_alone;
 use fsd_bytes::Refusal;
 use fsd_sound::MountFault;
 use fsd_texts::{Command, Fault};
@@ -72,7 +74,7 @@ fn status_of(answer: &Answer) -> u8
 
 // Ends the use of a volume, says a reply, and gives its status. The reply's text is made first:
 // where memory is refused for it nothing is forced.
-fn close_as<M: Machine, V: Files<M> + Drop, T: Says>(
+pub(crate) fn close_as<M: Machine, V: Files<M> + Drop, T: Says>(
     alloc: Global,
     v: V,
     m: &mut M,
@@ -110,6 +112,35 @@ pub fn alone<M: Machine, V: Files<M> + Drop, T: Says>(
     requires room { (V.state v).layout.sectors ≤ (M.report m.old).sectors }
     requires up { (V.state v).down ≡ None }
     requires unworn { is_worn (V.state v) ≡ false }
+    requires fresh { IsTrue (is_fresh (V.state v)) }
+    requires says { T.errand.says ≡ reply_alone }
+    ensures told { Told (M.report m.old) (M.report m.new) result }
+    ensures trust { Trusts (M.tells m.old) (M.tells m.new) (M.honest m.old) (M.honest m.new) }
+    ensures ledger { M.tells m.new → OnlyWrites (M.ledger m.old) (M.ledger m.new) }
+    ensures fault { IfErr result IsEndOfVolume }
+    ensures status { IfOk result (IsStatusFrom c.now) }
+    ensures since { M.honest m.new → Since M.Machine m.old m.new }
+    ensures later { M.honest m.new → M.moment m.old ≤ M.moment m.new }
+    ensures answers { M.honest m.new → AnswersAlone c.now (V.state v) (M.now m.old) (M.now m.new) result }
+    ensures does { M.honest m.new → (k : Known) → (volume_of k).unforced ≡ 0 → k.opened ≡ none_open → Stands V.state V.holds v k (M.now m.old) → IsAlone M.Machine c.now k m.old m.new result }
+{
+    match c {
+        Command::Upgrade => upgrade_alone::<M, V, T>(alloc, v, m),
+        _ => answer_alone::<M, V, T>(alloc, v, m, c),
+    }
+}
+
+// So it is of a command that is no upgrade.
+fn answer_alone<M: Machine, V: Files<M> + Drop, T: Says>(
+    alloc: Global,
+    v: V,
+    m: &mut M,
+    c: &Command,
+) -> Result<u8, End>
+    requires room { (V.state v).layout.sectors ≤ (M.report m.old).sectors }
+    requires up { (V.state v).down ≡ None }
+    requires unworn { is_worn (V.state v) ≡ false }
+    requires other { is_upgrade c.now ≡ false }
     requires says { T.errand.says ≡ reply_alone }
     ensures told { Told (M.report m.old) (M.report m.new) result }
     ensures trust { Trusts (M.tells m.old) (M.tells m.new) (M.honest m.old) (M.honest m.new) }

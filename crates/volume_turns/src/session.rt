@@ -1,10 +1,11 @@
 //! One command of a script over a mounted volume and its desk, to its reply.
-ghost use Rattle.std.specs.Prelude.{◌≡◌, ◌≤◌, None, IfErr, OnOk};
+ghost use Rattle.std.specs.Prelude.{◌≡◌, ◌≤◌, false, None, IfErr, IfOk, OnOk};
 ghost use Rattle.sector_disk.specs.Calls.{WritesDisk};
 ghost use Rattle.client_desk.specs.Clients.{IsDesk};
 ghost use Rattle.volume_turns.specs.Calls.{AnswersIn};
+ghost use Rattle.volume_turns.specs.Reasons.{BecauseIn};
 ghost use Rattle.volume_turns.specs.Seats.{DoesIn, Seated, SitsAt, StaysIn};
-ghost use Rattle.volume_turns.specs.Steps.{IsOfCall, device_by};
+ghost use Rattle.volume_turns.specs.Steps.{IsOfCall, device_by, is_upgrade_in, reply_of};
 
 use crate::answer::Answer;
 use crate::calls::call;
@@ -15,7 +16,7 @@ use sector_disk::Machine;
 use std::alloc::Global;
 use volume_contract::Files;
 
-/// Does one command of a script.
+/// Does one command of a script, which is no upgrade.
 pub(crate) fn answer_in<M: Machine, V: Files<M>>(
     alloc: Global,
     v: &mut V,
@@ -26,12 +27,14 @@ pub(crate) fn answer_in<M: Machine, V: Files<M>>(
     requires room { (V.state v.old).layout.sectors ≤ (M.report m.old).sectors }
     requires up { (V.state v.old).down ≡ None }
     requires desk { IsDesk (V.state v.old) desk.old }
+    requires other { is_upgrade_in c.now ≡ false }
     ensures layout { (V.state v.new).layout ≡ (V.state v.old).layout }
     ensures up { OnOk result ((V.state v.new).down ≡ None) }
     ensures desk { IsDesk (V.state v.new) desk.new }
     ensures disk { WritesDisk M.Machine (device_by result) (StaysIn V.state V.holds (v.old, desk.old)) m.old m.new }
     ensures fault { IfErr result IsOfCall }
     ensures answers { M.honest m.new → AnswersIn c.now (V.state v.old) (V.state v.new) (M.now m.old) (M.now m.new) result }
+    ensures because { M.honest m.new → IfOk result (λ a. BecauseIn V.state V.resident c.now (V.state v.old) (V.state v.new) (M.now m.old) (M.now m.new) (reply_of a)) }
     ensures done { M.honest m.new → (k : Seated) → SitsAt V.state V.holds (v.old, desk.old) k (M.now m.old) →
         DoesIn V.state V.holds c.now (v.old, desk.old) (v.new, desk.new) k (M.now m.old) (M.now m.new) result }
 {

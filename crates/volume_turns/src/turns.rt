@@ -1,5 +1,5 @@
 //! One command with its reply, and why commands were not all done.
-ghost use Rattle.std.specs.Prelude.{◌≡◌, ◌≤◌, None, Err, OnOk, IfOk, IfErr, IsTrue};
+ghost use Rattle.std.specs.Prelude.{◌≡◌, ◌≤◌, false, None, Err, OnOk, IfOk, IfErr, IsTrue};
 ghost use Rattle.sector_disk.specs.Machine.{LeavesOnly, OnlyWrites, Trusts, Utters};
 ghost use Rattle.fsd_files.specs.Desk.{Session};
 ghost use Rattle.fsd_texts.specs.declared.script_command.ScriptCommand.{ScriptCommand as Word};
@@ -12,7 +12,7 @@ ghost use Rattle.volume_turns.specs.Calls.{MayLoseIn};
 ghost use Rattle.volume_turns.specs.Each.{SaysOnce};
 ghost use Rattle.volume_turns.specs.Group.{is_worn_end};
 ghost use Rattle.volume_turns.specs.Numbers.{GoesUp, MayWear};
-ghost use Rattle.volume_turns.specs.Steps.{reply_of};
+ghost use Rattle.volume_turns.specs.Steps.{is_upgrade_in, reply_of};
 ghost use Rattle.volume_turns.specs.declared.turns.End.TheVariants.{Fault as Stopped};
 ghost use Rattle.volume_turns.specs.Turns.{IsEndOfVolume, IsEndOn, Steps, SaysAll, SaysWhole, Told, Unsaid};
 
@@ -81,6 +81,7 @@ pub(crate) fn step<M: Machine, V: Files<M>, T: Says>(
     requires room { (V.state v.old).layout.sectors ≤ (M.report m.old).sectors }
     requires up { (V.state v.old).down ≡ None }
     requires desk { IsDesk (V.state v.old) desk.old }
+    requires other { is_upgrade_in c.now ≡ false }
     requires lazily { (x : Meeting) (s : Session) (w : Word) → IsTrue (T.errand.forces (answer_in x s w).0) → (answer_in x s w).1.volume.unforced ≡ 0 }
     ensures layout { (V.state v.new).layout ≡ (V.state v.old).layout }
     ensures up { OnOk result ((V.state v.new).down ≡ None) }

@@ -14,6 +14,7 @@ ghost use Rattle.volume_turns.specs.Causes.{SaysFault, SaysOfCall, TellsImage, i
 ghost use Rattle.volume_turns.specs.Status.{CountsRun, IsOneStatus};
 ghost use Rattle.volume_turns.specs.Steps.{MayLose};
 ghost use Rattle.volume_contract.specs.State.{Known, Stands, is_worn, none_open, volume_of};
+ghost use Rattle.volume_contract.specs.Upgrade.{is_fresh};
 ghost use Rattle.volume_turns.specs.Whole.{RunsOut};
 
 use crate::line::end_with;
@@ -34,6 +35,7 @@ pub(crate) fn one_on<M: Machine, V: Files<M> + Drop, T: Says>(
     requires room { (V.state v).layout.sectors ≤ (M.report m.old).sectors }
     requires up { (V.state v).down ≡ None }
     requires unworn { is_worn (V.state v) ≡ false }
+    requires fresh { IsTrue (is_fresh (V.state v)) }
     requires says { T.errand.says ≡ reply_alone }
     ensures trust { Trusts (M.tells m.old) (M.tells m.new) (M.honest m.old) (M.honest m.new) }
     ensures ledger { M.tells m.new → OnlyWrites (M.ledger m.old) (M.ledger m.new) }

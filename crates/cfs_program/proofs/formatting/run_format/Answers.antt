@@ -13,12 +13,12 @@ use Rattle.cfs_program.proofs.formatting.run_format.Goals as goal
 pub returns-in-Ok-clause-says : goal.returns-in-Ok-clause-says
 returns-in-Ok-clause-says g c h =
     let M = g.M.Machine in
-    subst (λ (planned : Result Layout LayoutFault). SaysFormat planned (M.report c.make.new.m).fault_place (M.now c.args.m.now) (M.now c.make.new.m) c.make.result) (sym c.in-Ok.is ∙ c.plan.ensures) (c.make.ensures.says h)
+    subst (λ (planned : Result Layout LayoutFault). SaysFormat planned (M.report c.make.new.m).fault_place (M.now c.args.m.now) (M.now c.make.new.m) c.make.result) (sym c.in-Ok.is ∙ c.plan_of.ensures) (c.make.ensures.says h)
 
 pub returns-in-Ok-clause-made : goal.returns-in-Ok-clause-made
 returns-in-Ok-clause-made g c zero h =
     let M = g.M.Machine in
-    subst (λ (planned : Result Layout LayoutFault). IsMadeBy planned (M.now c.make.new.m)) (sym c.in-Ok.is ∙ c.plan.ensures) (c.make.ensures.made zero h)
+    subst (λ (planned : Result Layout LayoutFault). IsMadeBy planned (M.now c.make.new.m)) (sym c.in-Ok.is ∙ c.plan_of.ensures) (c.make.ensures.made zero h)
 
 -- ---- what is counted
 
@@ -37,5 +37,5 @@ returns-in-Err-clause-says g c h =
     let b = M.now c.last_line.new.m in
     let place = (M.report c.last_line.new.m).fault_place in
     let said = c.last_line.ensures in
-    subst (λ (planned : Result Layout LayoutFault). SaysFormat planned place a b c.last_line.result) (sym c.in-Err.is ∙ c.plan.ensures)
+    subst (λ (planned : Result Layout LayoutFault). SaysFormat planned place a b c.last_line.result) (sym c.in-Err.is ∙ c.plan_of.ensures)
     (format_said (Err c.in-Err.fault) place (Lines.Unplanned c.in-Err.fault) 1 a a b c.last_line.result refl (inl (refl, refl)) (said.says.exit h) (said.ends h))

@@ -25,7 +25,7 @@ pub returns-in-Format : goal.returns-in-Format
 returns-in-Format g c =
     let e = c.run_format.ensures in
     let x = c.in-Format in
-    rw x.is (ran_format g.M.Machine x.sectors x.third x.pages c.args.path.now c.args.m.now c.run_format.new.m c.run_format.result e.status e.counts e.asks e.asked e.trust e.says e.made e.untouched)
+    rw x.is (ran_format g.M.Machine x.sectors x.third x.pages x.kind c.args.path.now c.args.m.now c.run_format.new.m c.run_format.result e.status e.counts e.asks e.asked e.trust e.says e.made e.untouched)
 
 pub returns-in-One : goal.returns-in-One
 returns-in-One g c =

@@ -14,7 +14,7 @@ use Rattle.volume_turns.specs.Seats.{DoesIn, known_of}
 use Rattle.volume_turns.proofs.CallEndLaws.{begin_does}
 use Rattle.volume_turns.proofs.CallKeepLaws.{begin_goes, ended_up, keeps_continues, reserves_continues, reserves_goes, still_up}
 use Rattle.volume_turns.proofs.CallLaws.{answers_does, writes_stay, met_none}
-use Rattle.volume_turns.proofs.CallOrderLaws.{begin_declines, begin_fits, begin_through, declined_answers, declined_device, test_client}
+use Rattle.volume_turns.proofs.CallOrderLaws.{begin_declines, begin_fits, begin_spares, begin_through, declined_answers, declined_device, spared_by, test_client}
 use Rattle.volume_turns.proofs.ToldLaws.{told_of}
 use Rattle.volume_turns.proofs.calls.begin.Goals as goal
 
@@ -66,14 +66,14 @@ pub returns-in-Err-clause-layout : goal.returns-in-Err-clause-layout
 returns-in-Err-clause-layout g c =
     let V = g.V.Files in
     let s = V.state c.args.v.now in
-    (keeps_continues (begin_steps s c.args.desk.now c.args.client c.args.length) c.in-Err.why s (V.state c.begin.new.v) c.in-Err.ensures.kept.volume).layout
+    (keeps_continues (begin_steps s c.args.desk.now c.args.client c.args.length) tt c.in-Err.why s (V.state c.begin.new.v) c.in-Err.ensures.kept.volume).layout
 
 pub returns-in-Err-clause-up : goal.returns-in-Err-clause-up
 returns-in-Err-clause-up g c =
     let V = g.V.Files in
     let s = V.state c.args.v.now in
     let t = V.state c.begin.new.v in
-    ended_up s t c.in-Err.why (keeps_continues (begin_steps s c.args.desk.now c.args.client c.args.length) c.in-Err.why s t c.in-Err.ensures.kept.volume) c.requires.up c.ended_by.result c.ended_by.ensures.is
+    ended_up s t c.in-Err.why (keeps_continues (begin_steps s c.args.desk.now c.args.client c.args.length) tt c.in-Err.why s t c.in-Err.ensures.kept.volume) c.requires.up c.ended_by.result c.ended_by.ensures.is
 
 pub returns-in-Err-clause-disk : goal.returns-in-Err-clause-disk
 returns-in-Err-clause-disk g c =
@@ -101,7 +101,7 @@ returns-in-Err-clause-answers g c h =
     declined_answers client call s t (M.now c.args.m.now) (M.now c.begin.new.m) why c.ended_by.result c.ended_by.ensures.is
     (begin_declines s c.requires.up desk client (M.now c.begin.new.m).image why c.args.name.now len c.in-Err.ensures.order)
     (begin_goes s t desk client why len keeps)
-    (told_of s t (V.resident c.args.v.now) (M.now c.args.m.now) (M.now c.begin.new.m) (keeps_continues (begin_steps s desk client len) why s t keeps).layout why (c.in-Err.ensures.causes h))
+    (told_of s t (V.resident c.args.v.now) (M.now c.args.m.now) (M.now c.begin.new.m) (keeps_continues (begin_steps s desk client len) tt why s t keeps).layout why (c.in-Err.ensures.causes h))
 
 pub returns-in-Err-clause-done : goal.returns-in-Err-clause-done
 returns-in-Err-clause-done g c h k sits =
@@ -112,3 +112,8 @@ returns-in-Err-clause-done g c h k sits =
     subst (λ (r : Result Answer Fault). DoesIn V.state V.holds (OfClient c.args.client (Calls.Begin name len)) (c.args.v.now, c.args.desk.now) (c.begin.new.v, c.begin.new.self) k (M.now c.args.m.now) (M.now c.begin.new.m) r) (sym c.ended_by.ensures.is)
     (begin_does V.state V.holds c.args.client c.args.v.now c.begin.new.v c.args.desk.now c.begin.new.self k (M.now c.args.m.now) (M.now c.begin.new.m) c.in-Err.ensures.desk c.in-Err.why c.requires.up sits name len
     c.in-Err.ensures.order (c.in-Err.ensures.done h (known_of k) k.clients sits))
+
+-- ---- it takes no memory
+
+pub returns-in-Err-clause-spares : goal.returns-in-Err-clause-spares
+returns-in-Err-clause-spares g c = spared_by (begin_steps (g.V.Files.state c.args.v.now) c.args.desk.now c.args.client c.args.length) (begin_spares (g.V.Files.state c.args.v.now) c.args.desk.now c.args.client c.args.length) c.in-Err.why c.in-Err.ensures.order c.ended_by.result c.ended_by.ensures.is

@@ -5,14 +5,14 @@ use Rattle.fsd_files.specs.Replies.{Reply}
 use Rattle.fsd_texts.specs.declared.call.Call.TheVariants as Calls
 use Rattle.fsd_texts.specs.declared.fault.Fault.{Fault}
 use Rattle.fsd_texts.specs.declared.script_command.ScriptCommand.TheVariants.{OfClient}
-use Rattle.client_desk.specs.Clients.{as_reading, client_at}
+use Rattle.client_desk.specs.Clients.{as_reading, client_at, done_steps}
 use Rattle.volume_turns.specs.declared.answer.Answer.{Answer}
 use Rattle.volume_turns.specs.Calls.{AnswersIn}
 use Rattle.volume_turns.specs.Seats.{DoesIn, StaysIn, known_of}
 use Rattle.volume_turns.specs.Steps.{device_by}
 use Rattle.volume_turns.proofs.CallKeepLaws.{gives_continues, gives_goes, still_up}
 use Rattle.volume_turns.proofs.CallLaws.{answers_does, met_none, refused_so, says_refused, none_stays}
-use Rattle.volume_turns.proofs.CallOrderLaws.{done_refuses, idle_said, test_client}
+use Rattle.volume_turns.proofs.CallOrderLaws.{done_refuses, done_spares, idle_said, spared_by, test_client}
 use Rattle.volume_turns.proofs.calls.done.Given as given
 use Rattle.volume_turns.proofs.calls.done.Goals as goal
 
@@ -90,3 +90,8 @@ returns-in-Err-clause-done g c h k sits =
     subst (λ (r : Result Answer Fault). DoesIn V.state V.holds (OfClient c.args.client Calls.Done) (c.args.v.now, c.args.desk.now) (c.done.new.v, c.done.new.self) k now now r) (sym said)
     (refused_so V.state V.holds c.args.client Calls.Done c.args.v.now c.done.new.v c.args.desk.now c.done.new.self k now now c.in-Err.ensures.desk
     (λ s. done_outcome e.0 s c.args.client) (record { met = met_none; held = e.0 }) refl tt c.in-Err.why (λ may. cc may) e.1)
+
+-- ---- it takes no memory
+
+pub returns-in-Err-clause-spares : goal.returns-in-Err-clause-spares
+returns-in-Err-clause-spares g c = spared_by (done_steps c.args.desk.now c.args.client) (done_spares c.args.desk.now c.args.client) c.in-Err.why c.in-Err.ensures.order c.ended_by.result c.ended_by.ensures.is

@@ -1,4 +1,5 @@
-use Rattle.std.proofs.Common.{[], refl, sym, ap, subst, Result, None}
+use Rattle.std.proofs.Common.{[], ℕ, refl, sym, ap, subst, Result, None, Err}
+use Rattle.fsd_bytes.specs.declared.refusal.Refusal.{Refusal}
 use Rattle.fsd_files.specs.Replies.{Reply}
 use Rattle.fsd_texts.specs.declared.call.Call.TheVariants as Calls
 use Rattle.fsd_texts.specs.declared.fault.Fault.{Fault}
@@ -9,12 +10,15 @@ use Rattle.volume_turns.specs.declared.answer.Answer.{Answer}
 use Rattle.sector_disk.proofs.CallLaws.{writes_told}
 use Rattle.fsd_files.specs.Desk.{open_outcome}
 use Rattle.client_desk.specs.Clients.{as_idle}
+use Rattle.volume_turns.specs.Reasons.{BecauseOpened}
+use Rattle.volume_turns.specs.Steps.{reply_of}
 use Rattle.volume_turns.specs.Seats.{DoesIn, known_of}
 use Rattle.volume_turns.proofs.CallEndLaws.{open_does}
 use Rattle.volume_turns.proofs.CallKeepLaws.{holds_continues, holds_goes, still_up}
 use Rattle.volume_turns.proofs.CallLaws.{answers_does, met_none, reads_stay}
 use Rattle.volume_turns.proofs.CallOrderLaws.{declined_answers, declined_device, look_up_more, open_declines, open_unworn, test_client}
 use Rattle.volume_turns.proofs.NumberLaws.{goes_none}
+use Rattle.volume_turns.proofs.ReasonLaws.{ages_here, no_reason}
 use Rattle.volume_turns.proofs.ToldLaws.{told_of}
 use Rattle.volume_turns.proofs.calls.open.Goals as goal
 
@@ -52,6 +56,13 @@ returns-in-Ok-clause-answers g c h =
       told = tt;
     }
 
+pub returns-in-Ok-clause-because : goal.returns-in-Ok-clause-because
+returns-in-Ok-clause-because g c h =
+    let V = g.V.Files in
+    let M = g.M.Machine in
+    let found = c.in-Ok.ensures.found in
+    (found.0, found.1, found.2, record { by = c.args.v.now; same = refl; from = M.now c.args.m.now; aged = ages_here (M.now c.args.m.now); shows = found.3 h })
+
 pub returns-in-Ok-clause-done : goal.returns-in-Ok-clause-done
 returns-in-Ok-clause-done g c h k sits =
     let V = g.V.Files in
@@ -88,6 +99,18 @@ returns-in-Err-clause-answers g c h =
     (look_up_more client call image s why (open_declines s c.requires.up c.args.desk.now client image why c.args.key.now c.in-Err.ensures.order))
     (goes_none 1 s t c.in-Err.ensures.kept.volume)
     (told_of s t (V.resident c.args.v.now) (M.now c.args.m.now) (M.now c.open_key.new.m) (ap (λ (x : State). x.layout) c.in-Err.ensures.kept.volume) why (c.in-Err.ensures.causes h))
+
+pub returns-in-Err-clause-because : goal.returns-in-Err-clause-because
+returns-in-Err-clause-because g c h =
+    let V = g.V.Files in
+    let M = g.M.Machine in
+    let s = V.state c.args.v.now in
+    let a = M.now c.args.m.now in
+    no_reason (λ x. BecauseOpened V.state V.resident c.args.key.now s (V.state c.open_key.new.v) a (M.now c.open_key.new.m) (reply_of x)) c.in-Err.why c.ended_by.result c.ended_by.ensures.is
+    (λ is. record { by = c.args.v.now; same = refl; from = a; aged = ages_here a; shows = c.in-Err.ensures.absent (ap err is) h })
+  where
+    err : Refusal → Result ℕ Refusal
+    err why = Err why
 
 pub returns-in-Err-clause-done : goal.returns-in-Err-clause-done
 returns-in-Err-clause-done g c h k sits =

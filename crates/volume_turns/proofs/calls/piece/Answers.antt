@@ -1,4 +1,4 @@
-use Rattle.std.proofs.Common.{◌-◌, [], refl, sym, subst, Result, None, arith}
+use Rattle.std.proofs.Common.{◌-◌, [], length, refl, sym, subst, Result, None, arith}
 use Rattle.sector_disk.proofs.CallLaws.{writes_told}
 use Rattle.fsd_files.specs.Desk.{piece_outcome}
 use Rattle.fsd_files.specs.Replies.{Reply}
@@ -6,13 +6,13 @@ use Rattle.fsd_texts.specs.declared.call.Call.TheVariants as Calls
 use Rattle.fsd_texts.specs.declared.fault.Fault.{Fault}
 use Rattle.fsd_texts.specs.declared.script_command.ScriptCommand.TheVariants.{OfClient}
 use Rattle.volume_contract.specs.Ends.{device_of}
-use Rattle.client_desk.specs.Clients.{as_writing, client_at, in_data}
+use Rattle.client_desk.specs.Clients.{as_writing, client_at, in_data, piece_steps}
 use Rattle.volume_turns.specs.declared.answer.Answer.{Answer}
 use Rattle.volume_turns.specs.Seats.{DoesIn, known_of}
 use Rattle.volume_turns.proofs.CallEndLaws.{piece_does}
 use Rattle.volume_turns.proofs.CallKeepLaws.{piece_continues, piece_goes, still_ended_up}
 use Rattle.volume_turns.proofs.CallLaws.{answers_does, writes_of_stay, met_none}
-use Rattle.volume_turns.proofs.CallOrderLaws.{device_more, declined_answers, declined_device, declined_told, piece_declines, test_client}
+use Rattle.volume_turns.proofs.CallOrderLaws.{declined_answers, declined_device, declined_told, device_more, piece_declines, piece_spares, spared_by, test_client}
 use Rattle.volume_turns.proofs.NumberLaws.{goes_none}
 use Rattle.volume_turns.proofs.calls.piece.Goals as goal
 
@@ -91,3 +91,8 @@ returns-in-Err-clause-done g c h k sits =
     subst (λ (r : Result Answer Fault). DoesIn V.state V.holds (OfClient client (Calls.Piece bytes)) (c.args.v.now, c.args.desk.now) (c.piece.new.v, c.piece.new.self) k (M.now c.args.m.now) (M.now c.piece.new.m) r) (sym c.ended_by.ensures.is)
     (piece_does V.state V.holds client c.args.v.now c.piece.new.v c.args.desk.now c.piece.new.self k (M.now c.args.m.now) (M.now c.piece.new.m) c.in-Err.ensures.desk why bytes
     (piece_declines s c.requires.up c.args.desk.now client [] why bytes c.in-Err.ensures.order) (c.in-Err.ensures.done h (known_of k) k.clients sits))
+
+-- ---- it takes no memory
+
+pub returns-in-Err-clause-spares : goal.returns-in-Err-clause-spares
+returns-in-Err-clause-spares g c = spared_by (piece_steps (g.V.Files.state c.args.v.now) c.args.desk.now c.args.client (length c.args.bytes.now)) (piece_spares (g.V.Files.state c.args.v.now) c.args.desk.now c.args.client (length c.args.bytes.now)) c.in-Err.why c.in-Err.ensures.order c.ended_by.result c.ended_by.ensures.is

@@ -9,7 +9,8 @@ use Rattle.fsd_texts.specs.declared.fault.Fault.TheVariants as Ends
 use Rattle.volume_turns.specs.declared.turns.End.TheVariants.{Fault as Stopped}
 use Rattle.volume_turns.proofs.CountLaws.{counted_refused}
 use Rattle.volume_turns.proofs.NumberLaws.{ended, goes_none}
-use Rattle.volume_turns.proofs.OtherLaws.{made_other}
+use Rattle.fsd_runs.proofs.OtherLaws.{no_scrub}
+use Rattle.volume_turns.proofs.OtherLaws.{made_other, not_upgrade}
 use Rattle.volume_turns.proofs.ToldLaws.{end_of_page}
 use Rattle.volume_turns.proofs.generate.draw.Goals as goal
 
@@ -27,13 +28,20 @@ returns-clause-draws g c =
     let m = c.args.m.now in
     counted_refused g.V.Files.state g.V.Files.holds M (made_left c.args.maker.now) c.args.v.now m g.met.V.Files.wears (λ h left was. g.met.M.Machine.only_now m left h was) (λ h from aged. subst (λ (w : Windows). AreShort w) aged.windows (g.met.M.Machine.short m h))
 
+-- ---- what is asked of it
+
+pub do_counted-requires-clause-other : goal.do_counted-requires-clause-other
+do_counted-requires-clause-other g c =
+    let made : made_left c.args.maker.now ≡ c.in-Ok-Some.c ∷ made_left c.next_command.new.self = subst (λ (o : Option Word). MakesNext (Ok o) c.args.maker.now c.next_command.new.self) c.in-Ok-Some.field-0-is c.in-Ok-Some.ensures in
+    not_upgrade c.in-Ok-Some.c (made_other c.args.maker.now c.next_command.new.self c.in-Ok-Some.c made)
+
 -- ---- what is told of the image
 
 pub returns-in-Ok-Some-clause-image : goal.returns-in-Ok-Some-clause-image
 returns-in-Ok-Some-clause-image g c h =
     let made : made_left c.args.maker.now ≡ c.in-Ok-Some.c ∷ made_left c.next_command.new.self = subst (λ (o : Option Word). MakesNext (Ok o) c.args.maker.now c.next_command.new.self) c.in-Ok-Some.field-0-is c.in-Ok-Some.ensures in
     let other = made_other c.args.maker.now c.next_command.new.self c.in-Ok-Some.c made in
-    end_of_page c.in-Ok-Some.c other (g.V.Files.state c.args.v.now).layout (g.M.Machine.now c.do_counted.new.m).image c.in-Err-do_counted.end (c.in-Err-do_counted.ensures.image h)
+    end_of_page c.in-Ok-Some.c (no_scrub c.in-Ok-Some.c other) (g.V.Files.state c.args.v.now).layout (g.M.Machine.now c.do_counted.new.m).image c.in-Err-do_counted.end (c.in-Err-do_counted.ensures.image h)
 
 pub returns-clause-image : goal.returns-clause-image
 returns-clause-image g c h = tt

@@ -9,7 +9,11 @@ use Rattle.volume_turns.proofs.AnsweringLaws.{one_since}
 use Rattle.volume_turns.proofs.BehindLaws.{RefusedBy, RunsOver, over_attaches, over_fails, over_image, over_input, over_leaves, over_said, over_says_input, over_taking, over_trust, refused_alone, refused_image, refused_last, refused_leaves, refused_of, refused_taking, refused_trust, refused_writes}
 use Rattle.volume_turns.proofs.PutLaws.{some_put}
 use Rattle.volume_turns.proofs.StatusLaws.{fault_is_put, fault_not_five, fault_not_low}
+use Rattle.volume_turns.proofs.UpgradeLaws.{new_fresh}
 use Rattle.volume_turns.proofs.input.run_put.Goals as goal
+
+pub put_on-requires-clause-fresh : goal.put_on-requires-clause-fresh
+put_on-requires-clause-fresh g c = new_fresh (g.V.Files.state c.in-Ok.v) c.in-Ok.ensures.fresh
 
 pub returns-in-Ok : goal.returns-in-Ok
 returns-in-Ok g c =

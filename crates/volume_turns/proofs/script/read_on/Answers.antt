@@ -4,7 +4,7 @@ use Rattle.fsd_texts.specs.declared.fault.Fault.TheVariants as Ends
 use Rattle.volume_turns.specs.declared.turns.End.TheVariants.{Fault as Stopped}
 use Rattle.fsd_texts.specs.declared.script_command.ScriptCommand.{ScriptCommand as Word}
 use Rattle.script_text.specs.declared.fault.ScriptFault.{ScriptFault}
-use Rattle.script_text.specs.Reading.{Answers, NoneWaits, end_with, script_left}
+use Rattle.script_text.specs.Reading.{Answers, IsSpelled, NoneWaits, end_with, script_left}
 use Rattle.script_text.specs.Taking.{Moves}
 use Rattle.fsd_texts.specs.declared.bad_line.BadLine.{BadLine}
 use Rattle.fsd_texts.specs.declared.end.End.TheVariants.{Bad, Done}
@@ -14,7 +14,7 @@ use Rattle.volume_turns.proofs.ApartLaws.{bad_done, err_is, input_done, long_don
 use Rattle.volume_turns.proofs.ScriptLaws.{ended_so, moves_spells, none_done, none_read, one_done, one_stops}
 use Rattle.volume_turns.proofs.CauseLaws.{none_left}
 use Rattle.volume_turns.proofs.NumberLaws.{ended, goes_none}
-use Rattle.volume_turns.proofs.OtherLaws.{read_other}
+use Rattle.volume_turns.proofs.OtherLaws.{not_upgrade_in, read_other, spelled_other}
 use Rattle.volume_turns.proofs.SaidLaws.{no_replies, replies_then, whole_then}
 use Rattle.volume_turns.proofs.ToldLaws.{end_of_page_in}
 use Rattle.volume_turns.proofs.script.read_on.Goals as goal
@@ -110,6 +110,13 @@ returns-clause-reads g c t =
     let calls = c.next_command.ensures.calls in
     none_read V.state V.holds M g.T.Says.errand g.met.V.Files.wears (λ x h. g.met.M.Machine.short x h) (λ x left h was. g.met.M.Machine.only_now x left h was) (c.args.v.now, c.args.desk.now) a m calls.trust.honest calls.exit calls.any_moment
     (script_left c.args.reader.now (M.ledger a).input).0
+
+-- ---- what is asked of a command
+
+pub step-requires-clause-other : goal.step-requires-clause-other
+step-requires-clause-other g c =
+    let spelled = subst (λ (o : Option Word). IsSpelled (Ok o)) c.in-Ok-Some.field-0-is c.in-Ok-Some.ensures.spelled in
+    not_upgrade_in c.in-Ok-Some.c (spelled_other c.in-Ok-Some.c spelled)
 
 -- ---- what is asked for
 

@@ -29,8 +29,8 @@ returns-in-Ok-clause-steps g c h k from stood aged =
     let short = λ (m : g.row.M.Denot) (x : M.honest m). g.met.M.Machine.short m x in
     let at = seat_wears V.state V.holds g.met.V.Files.wears v k from (M.now a) (subst (λ (w : Windows). AreShort w) aged.windows (short a first)) aged stood in
     let does = c.in-Ok.ensures.done back k at in
-    step_said V.state V.holds M g.met.V.Files.wears short g.met.M.Machine.counts_now g.T.Says.errand c.requires.lazily c.args.c.now v (c.answer_in.new.v, c.answer_in.new.desk) a c.answer_in.new.m c.say.new.m k from stood aged at _ c.in-Ok.ensures.disk c.in-Ok.ensures.layout back (c.say.ensures.since h)
-    does.0 (reply_of c.in-Ok.answer) does.1 does.2 (c.say.ensures.moments h) c.say.result (on_ok_said (SaysAll (g.T.Says.errand.says (reply_of c.in-Ok.answer)) (M.now c.answer_in.new.m) (M.now c.say.new.m)) c.say.result h c.say.ensures.said) (on_err_said (Unsaid (M.now c.answer_in.new.m) (M.now c.say.new.m)) c.say.result h c.say.ensures.unsaid)
+    step_said V.state V.holds M g.met.V.Files.wears short g.met.M.Machine.counts_now g.T.Says.errand c.requires.lazily c.args.c.now v (c.answer_in.new.v, c.answer_in.new.desk) a c.answer_in.new.m c.say.new.m k from stood aged at _ c.in-Ok.ensures.disk back (c.say.ensures.since h)
+    does.0 (reply_of c.in-Ok.answer) does.1 does.2 c.in-Ok.ensures.layout (c.say.ensures.moments h) c.say.result (on_ok_said (SaysAll (g.T.Says.errand.says (reply_of c.in-Ok.answer)) (M.now c.answer_in.new.m) (M.now c.say.new.m)) c.say.result h c.say.ensures.said) (on_err_said (Unsaid (M.now c.answer_in.new.m) (M.now c.say.new.m)) c.say.result h c.say.ensures.unsaid)
 
 pub returns-in-Err-clause-told : goal.returns-in-Err-clause-told
 returns-in-Err-clause-told g c = told_fault (g.M.Machine.report c.args.m.now) (g.M.Machine.report c.answer_in.new.m) c.in-Err.fault c.in-Err.ensures.disk.uses c.in-Err.ensures.disk.faults
@@ -45,7 +45,7 @@ returns-in-Err-clause-steps g c h k from stood aged =
     let first = disk.trust.honest h in
     let short = λ (m : g.row.M.Denot) (x : M.honest m). g.met.M.Machine.short m x in
     let at = seat_wears V.state V.holds g.met.V.Files.wears v k from (M.now a) (subst (λ (w : Windows). AreShort w) aged.windows (short a first)) aged stood in
-    step_fault V.state V.holds M g.met.V.Files.wears short g.met.M.Machine.counts_now g.T.Says.errand c.requires.lazily c.args.c.now v (c.answer_in.new.v, c.answer_in.new.desk) a c.answer_in.new.m c.answer_in.new.m k from stood aged at _ disk c.in-Err.ensures.layout h (λ t left le was. was)
+    step_fault V.state V.holds M g.met.V.Files.wears short g.met.M.Machine.counts_now g.T.Says.errand c.requires.lazily c.args.c.now v (c.answer_in.new.v, c.answer_in.new.desk) a c.answer_in.new.m c.answer_in.new.m k from stood aged at _ disk h (λ t left le was. was)
     c.in-Err.fault (c.in-Err.ensures.done h k at)
 
 -- ---- what is said

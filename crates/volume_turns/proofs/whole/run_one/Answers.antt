@@ -4,7 +4,11 @@ use Rattle.volume_turns.specs.Steps.{MayLose}
 use Rattle.volume_turns.proofs.OneLaws.{some_one}
 use Rattle.volume_turns.proofs.BehindLaws.{RefusedBy, RunsOver, over_counts, over_image, over_leaves, over_one, over_trust, over_writes, refused_counts, refused_image, refused_last, refused_leaves, refused_of, refused_one, refused_trust, refused_writes}
 use Rattle.volume_turns.proofs.StatusLaws.{fault_is_one}
+use Rattle.volume_turns.proofs.UpgradeLaws.{new_fresh}
 use Rattle.volume_turns.proofs.whole.run_one.Goals as goal
+
+pub one_on-requires-clause-fresh : goal.one_on-requires-clause-fresh
+one_on-requires-clause-fresh g c = new_fresh (g.V.Files.state c.in-Ok.v) c.in-Ok.ensures.fresh
 
 pub returns-in-Ok : goal.returns-in-Ok
 returns-in-Ok g c =

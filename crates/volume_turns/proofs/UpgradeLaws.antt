@@ -1,0 +1,234 @@
+-- An upgrade by itself: how it is refused, and what it leaves.
+use Rattle.std.proofs.Common.{◌≡◌, ◌⊎◌, inl, inr, ⊎_elim, ℕ, zero, suc, ◌≤◌, Bool, true, false, List, [], ◌∷◌, length, Option, Some, None, refl, sym, ◌∙◌, ap, subst, arith}
+use Rattle.std.specs.Prelude.{OnOk, IfErr, IfOk, IsTrue, Result, Ok, Err, ◌&&◌, ◌==◌, not, is_some, option_and_then, option_map, replicate}
+use Rattle.std.specs.List.{list_any}
+use Rattle.std.proofs.lemmas.List.{append-nil}
+use Rattle.volume_layout.specs.declared.kind.Kind.{Kind}
+use Rattle.volume_layout.specs.declared.kind.Kind.TheVariants.{Two, Three}
+use Rattle.volume_layout.specs.declared.layout.Layout.{Layout}
+use Rattle.volume_layout.specs.Kinds.{other}
+use Rattle.volume_layout.specs.Layout.{turned, with_kind}
+use Rattle.volume_layout.specs.Root.{root_bytes}
+use Rattle.fsd_bytes.specs.declared.refusal.Refusal.{Refusal}
+use Rattle.fsd_bytes.specs.declared.refusal.Refusal.TheVariants as Why
+use Rattle.sector_disk.specs.declared.machine.Machine.{Ghosts}
+use Rattle.sector_disk.specs.declared.sector.WeakRun.{WeakRun}
+use Rattle.sector_disk.specs.declared.sector.Sector.TheVariants.{Whole, Damaged}
+use Rattle.sector_disk.specs.Calls.{Since, WritesDisk}
+use Rattle.sector_disk.specs.Image.{AllWorn, AreShort, IsWorn, Windows, open_damage, sector_at}
+use Rattle.sector_disk.specs.Machine.{LeavesOnly, Moment, Utters}
+use Rattle.fsd_log.specs.Scan.{Head, Placed}
+use Rattle.fsd_files.specs.Answers.{Met, Outcome, upgraded as upgrade_outcome_of}
+use Rattle.fsd_files.specs.Disk.{Image, Sectors, Has, Touches, nowhere}
+use Rattle.fsd_files.specs.Replies.{Reply}
+use Rattle.fsd_files.specs.Volume.{Volume}
+use Rattle.fsd_sound.specs.Laid.{HasOwnRoots}
+use Rattle.fsd_sound.specs.Mounted.{Mounted, telling_of}
+use Rattle.fsd_sound.specs.Writes.{force_writes}
+use Rattle.fsd_sound.specs.Shown.{told}
+use Rattle.fsd_sound.specs.Sound.{EndIn, IsRootAt, IsSound, SaysTurned, weak_of}
+use Rattle.fsd_table.specs.Table.{Telling, told_in}
+use Rattle.fsd_sound.proofs.MountedLaws.{mounted_lasts}
+use Rattle.fsd_sound.proofs.TurnedLaws.{shown_turned}
+use Rattle.fsd_runs.specs.Commands.{reply_alone}
+use Rattle.fsd_texts.specs.declared.command.Command.TheVariants as Word
+use Rattle.fsd_texts.specs.declared.fault.Fault.{Fault}
+use Rattle.fsd_texts.specs.declared.fault.Fault.TheVariants as Ends
+use Rattle.volume_contract.specs.Order.{IsDeviceIn, Keeps, Roots, Test, Through, is_root, layout_is, upgrade_steps, with_three}
+use Rattle.volume_contract.specs.State.{Ages, IsNew, Known, Stands, State, downs_for, forced_of, none_open, volume_of}
+use Rattle.volume_contract.specs.Upgrade.{EndsUpgrade, RootsStand, is_fresh, upgraded}
+use Rattle.volume_turns.specs.declared.answer.Answer.{Answer}
+use Rattle.volume_turns.specs.declared.answer.Answer.TheVariants as Said
+use Rattle.volume_turns.specs.declared.turns.End.{End}
+use Rattle.volume_turns.specs.declared.turns.End.TheVariants.{Fault as Stopped}
+use Rattle.volume_turns.specs.Answering.{Answers, AnswersAlone, SaysBy}
+use Rattle.volume_turns.specs.Numbers.{GoesUp}
+use Rattle.volume_turns.specs.Once.{ClosesAndSaysBy, IsAlone, unit_of}
+use Rattle.volume_turns.specs.Steps.{Does, Stays, StaysSound, ended_by}
+use Rattle.volume_turns.specs.Turns.{SaysAll, Unsaid}
+use Rattle.volume_turns.specs.Upgrade.{EndsState, is_upgraded}
+use Rattle.volume_turns.proofs.AnsweringLaws.{alone_closed, closed_by}
+use Rattle.volume_turns.proofs.NumberLaws.{goes_none}
+use Rattle.volume_turns.proofs.OnceLaws.{alone_closed_as, says_closed}
+
+-- ---- a volume that was just mounted
+
+none_slot : {X : Type 0} (n : ℕ) (slots : List (Option X)) → slots ≡ replicate n None → list_any is_some slots ≡ false
+none_slot {X = X} n slots same = ap (λ (xs : List (Option X)). list_any is_some xs) same ∙ by n
+  where
+    by : (n : ℕ) → (let xs : List (Option X) = replicate n None in list_any is_some xs) ≡ false
+    by zero = refl
+    by (suc n) = by n
+
+pub new_fresh : (s : State) → IsNew s → IsTrue (is_fresh s)
+new_fresh s new =
+    let number : s.head.number ≡ 1 = ap (λ (h : Head). h.number) new.head in
+    let slots : list_any is_some s.slots ≡ false = none_slot s.layout.pages s.slots new.slots in
+    let clean : length s.dirty ≡ 0 = ap (λ (x : List ℕ). length x) new.dirty in
+    fresh_by s.head.number (list_any is_some s.slots) (length s.dirty) number slots clean
+  where
+    fresh_by : (n : ℕ) (b : Bool) (d : ℕ) → n ≡ 1 → b ≡ false → d ≡ 0 → IsTrue ((n == 1) && not b && (d == 0))
+    fresh_by n b d one none clean = subst (λ (x : ℕ). IsTrue ((x == 1) && not b && (d == 0))) (sym one) (subst (λ (x : Bool). IsTrue ((1 == 1) && not x && (d == 0))) (sym none) (subst (λ (x : ℕ). IsTrue ((1 == 1) && not false && (x == 0))) (sym clean) refl))
+
+-- ---- how it is refused
+
+-- the volume has layout 2 already
+abbrev IsDone : State → State → Refusal → Type 0
+IsDone s t why = (why ≡ Why.LayoutIs 2) × (s.layout.kind ≡ Three) × (t ≡ s)
+
+-- a write of a root has failed there
+abbrev FailsRoots : State → State → Refusal → Type 0
+FailsRoots s t why = (place : ℕ) × (why ≡ Why.Device place) × (t ≡ record s { down = Some place })
+
+device_fails : (s t : State) (why : Refusal) → IsDeviceIn is_root why → t ≡ record s { down = downs_for why } → FailsRoots s t why
+device_fails s t (Why.Device place) is fails = (place, refl, fails)
+device_fails s t why is fails = absurd is
+
+kind_kept : (s t : State) (kind : Kind) (why : Refusal) → Keeps (Test (layout_is s kind) ∷ Roots ∷ []) why s t → ((why ≡ Why.LayoutIs 2) × (kind ≡ Three) × (t ≡ s)) ⊎ FailsRoots s t why
+kind_kept s t Two why (inl here) = absurd (cc here.0)
+kind_kept s t Two why (inr (passes, inl roots)) = inr (device_fails s t why roots.0 roots.1)
+kind_kept s t Two why (inr (passes, inr none)) = absurd none
+kind_kept s t Three why (inl here) = inl (cc here.0, refl, here.1)
+kind_kept s t Three why (inr (passes, later)) = absurd (cc passes)
+
+pub upgrade_kept : (s t : State) → s.down ≡ None → (why : Refusal) → Keeps (upgrade_steps s) why s t → IsDone s t why ⊎ FailsRoots s t why
+upgrade_kept s t up why (inl here) = let not_down : None ≡ Some why = subst (λ (o : Option ℕ). option_map Why.Down o ≡ Some why) up here.0 in absurd (cc not_down)
+upgrade_kept s t up why (inr (passes, later)) = kind_kept s t s.layout.kind why later
+
+-- where it is not, it had layout 1
+pub upgrade_through : (s : State) → Through (upgrade_steps s) → s.layout.kind ≡ Two
+upgrade_through s through = by s.layout.kind through.1.0
+  where
+    by : (kind : Kind) → layout_is s kind ≡ None → kind ≡ Two
+    by Two passes = refl
+    by Three passes = absurd (cc passes)
+
+-- the numbers of the mount stay
+pub upgrade_goes : (s t : State) → t.serial.count ≡ s.serial.count → t.head.number ≡ s.head.number → GoesUp 1 s t
+upgrade_goes s t serials records = record { serials = omega (arith, serials); records = omega (arith, records) }
+
+-- what it is told, where it was not upgraded
+pub ends_done : (s t : State) (answer : Answer) → is_upgraded answer ≡ false → EndsState s t (Ok answer) → (answer ≡ Said.Refused (Why.LayoutIs 2)) × (s.layout.kind ≡ Three) × (t ≡ s)
+ends_done s t Said.Upgraded not_so ends = absurd (cc not_so)
+ends_done s t answer not_so ends = ends
+
+pub ends_upgraded : (answer : Answer) → is_upgraded answer ≡ true → answer ≡ Said.Upgraded
+ends_upgraded Said.Upgraded is = refl
+ends_upgraded answer is = absurd (cc is)
+
+-- the mount is not told as worn out
+pub ends_unworn : (s t : State) (fault : Fault) → EndsState s t (Err fault) → fault ≡ Ends.WornOut → ⊥
+ends_unworn s t fault ends is = (let r : Fault → Result Answer Fault = λ x. Err x in subst (λ (x : Fault). EndsState s t (r x)) is ends)
+
+-- so it is told
+pub upgrade_refused : (P : Result Answer Fault → Type 0) (s t : State) (why : Refusal) (r : Result Answer Fault) → r ≡ ended_by why → IsDone s t why ⊎ FailsRoots s t why
+    → (IsDone s t why → P (Ok (Said.Refused (Why.LayoutIs 2)))) → ((place : ℕ) → why ≡ Why.Device place → t ≡ record s { down = Some place } → P (Err (Ends.Device place))) → P r
+upgrade_refused P s t why r is (inl done) layout device = subst P (sym (is ∙ ap ended_by done.0)) (layout done)
+upgrade_refused P s t why r is (inr fails) layout device = subst P (sym (is ∙ ap ended_by fails.1)) (device fails.0 fails.1 fails.2)
+
+-- ---- how it ends over a volume that stands
+
+abbrev none_met : Met
+none_met = record { forces = false; reached = 0; damaged = None; found = []; healed = 0 }
+
+module _ {S : Type 0} (state : S → State) (has : S → Mounted → List Placed → Type 0) (v w : S) (k : Known) (before now : Moment) (stood : Stands state has v k before) where
+  kind_of : (kind : Kind) → (state v).layout.kind ≡ kind → (volume_of k).layout.kind ≡ kind
+  kind_of kind is = ap (λ (l : Layout). l.kind) stood.fits.layout ∙ is
+
+  answered_by : (kind : Kind) → (state v).layout.kind ≡ kind → upgrade_outcome_of (volume_of k).layout.kind (volume_of k) ≡ upgrade_outcome_of kind (volume_of k)
+  answered_by kind is = ap (λ (x : Kind). upgrade_outcome_of x (volume_of k)) (kind_of kind is)
+
+  pub upgraded_does : (state v).layout.kind ≡ Two → Stands state has w (upgraded k) now → Does state has Word.Upgrade v w k before now (Ok Said.Upgraded)
+  upgraded_does two stands = (
+    upgraded k,
+    record { met = none_met; is = answered_by Two two; opened = refl; windows = refl; changes = sym (append-nil k.changes); find = tt; unworn = λ may. cc may },
+    stands,
+  )
+
+  pub stands_done : (why : Refusal) → why ≡ Why.LayoutIs 2 → (let r : Result (Unit {0}) Refusal = Err why in EndsUpgrade state has k w now r) → Stands state has w k now
+  stands_done why is ends = (let r : Refusal → Result (Unit {0}) Refusal = λ x. Err x in subst (λ (x : Refusal). EndsUpgrade state has k w now (r x)) is ends)
+
+  pub done_does : (state v).layout.kind ≡ Three → Stands state has w k now → Does state has Word.Upgrade v w k before now (Ok (Said.Refused (Why.LayoutIs 2)))
+  done_does three stands = (
+    k,
+    record { met = none_met; is = answered_by Three three; opened = refl; windows = refl; changes = sym (append-nil k.changes); find = tt; unworn = λ may. cc may },
+    stands,
+  )
+
+-- ---- one that is done, by itself
+
+-- a root that stands is the new one
+root_says : (l : Layout) (weak : Sectors) (i : Image) (s : ℕ) (bytes : List ℕ) → sector_at i s ≡ Whole bytes → Has weak i (root_bytes l) s → sector_at i s ≡ Whole (root_bytes l)
+root_says l weak i s bytes whole (inl stands) = stands
+root_says l weak i s bytes whole (inr hurt) = absurd (let damaged : Whole bytes ≡ Damaged = sym whole ∙ hurt.1 in cc damaged)
+
+module _ {S D : Type 0} (state : S → State) (has : S → Mounted → List Placed → Type 0) (M : Ghosts D)
+    (wears : (s : S) (k : Known) (old new : Moment) → AreShort old.windows → Ages old new → Stands state has s k old → Stands state has s k new)
+    (short : (m : D) → M.honest m → AreShort (M.now m).windows)
+    (counts_now : (m : D) (t : ℕ) → M.honest m → t ≤ M.moment m → M.left_since m t (M.now m))
+    (v w : S) (a m b : D) (k : Known) (none : k.opened ≡ none_open) (forced : (volume_of k).unforced ≡ 0) (stood : Stands state has v k (M.now a))
+    (fault : Option ℕ) (disk : WritesDisk M fault (Stays state has v) a m) (honest : M.honest m) (since : Since M m b)
+    (two : (state v).layout.kind ≡ Two) (three : state w ≡ with_three (state v)) (roots : RootsStand (state w) (M.now m)) (does : Does state has Word.Upgrade v w k (M.now a) (M.now m) (Ok Said.Upgraded)) where
+  abbrev l : Layout
+  l = (volume_of k).layout
+
+  abbrev after : Known
+  after = does.0
+
+  exit : StaysSound k (M.now a) (M.now m)
+  exit = disk.exit honest k stood
+
+  sound : IsSound l k.windows k.changes (length k.changes) (M.now m).image
+  sound = subst (λ (n : ℕ). IsSound l k.windows k.changes n (M.now m).image) (let n : forced_of k ≡ length k.changes = omega (arith, forced) in n) exit.sound
+
+  -- it is the volume with the layout turned
+  turned_is : with_kind Three l ≡ turned l
+  turned_is = ap (λ (kind : Kind). with_kind (other kind) l) (sym (kind_of state has v w k (M.now a) (M.now m) stood Two two))
+
+  volume_is : record (volume_of k) { layout = with_kind Three l } ≡ volume_of after
+  volume_is = ap (λ (o : Outcome). o.1) (sym (answered_by state has v w k (M.now a) (M.now m) stood Two two) ∙ does.1.is)
+
+  same_layout : (volume_of after).layout ≡ turned l
+  same_layout = ap (λ (x : Volume). x.layout) (sym volume_is) ∙ turned_is
+
+  telling : telling_of (volume_of k) ≡ telling_of (volume_of after)
+  telling = ap telling_of volume_is
+
+  says_at : (s : ℕ) → IsRootAt l (M.now m).image s → Has (open_damage (M.now m).windows) (M.now m).image (root_bytes (state w).layout) s → sector_at (M.now m).image s ≡ Whole (root_bytes (turned l))
+  says_at s root stands =
+      let same : (state w).layout ≡ turned l = ap (λ (x : State). x.layout) three ∙ ap (λ (x : Layout). with_kind Three x) (sym stood.fits.layout) ∙ turned_is in
+      root_says (state w).layout (open_damage (M.now m).windows) (M.now m).image s root.0 root.1 stands ∙ ap (λ (x : Layout). Whole (root_bytes x)) same
+
+  says : SaysTurned l (M.now m).image
+  says = ⊎_elim (λ root. inl (says_at 0 root roots.first)) (λ root. inr (says_at 4 root roots.second)) sound.readable.roots.some
+
+  -- nothing is logged, so its table is told in either form
+  lasts : AllWorn (weak_of k.windows) (λ j. told l j ≡ Some (telling_of (volume_of k))) (M.now m).image
+  lasts j worn =
+      let unforced : (volume_of after).unforced ≡ 0 = ap (λ (x : Volume). x.unforced) (sym volume_is) ∙ forced in
+      let worn_after = subst (λ (ws : List WeakRun). IsWorn (weak_of ws) (M.now m).image j) (sym does.1.windows) worn in
+      let by_turned : told (turned l) j ≡ told l j = ap (option_and_then told_in) (shown_turned l j ((sound.readable.either says).empty j worn)) in
+      sym by_turned ∙ ap (λ (x : Layout). told x j) (sym same_layout) ∙ mounted_lasts after.mounted after.windows after.changes (forced_of after) (M.now m).image does.2.disk unforced j worn_after ∙ ap (λ (x : Telling). Some x) (sym telling)
+
+  ends_in : EndIn (M.now m).windows k.windows
+  ends_in = subst (λ (x : Windows). EndIn x k.windows) (sym (disk.windows honest)) stood.ends
+
+  -- its roots are those of the volume with the layout turned
+  own_roots : HasOwnRoots (volume_of after).layout (weak_of k.windows) (M.now m).image
+  own_roots = subst (λ (ws : List WeakRun). HasOwnRoots (volume_of after).layout (weak_of ws) (M.now m).image) does.1.windows does.2.disk.over.own.roots
+
+  pub upgraded_alone : (text : List ℕ) → text ≡ reply_alone Reply.Upgraded → LeavesOnly M.moment M.left_since m b (Utters text (M.now m)) → (r : Result ℕ End) → (r ≡ Err (Stopped Ends.Memory) → b ≡ m) → IfOk r (λ status. status ≡ 0)
+      → OnOk (unit_of r) (SaysAll text (M.now m) (M.now b)) → IfErr (unit_of r) (λ end. Unsaid (M.now m) (M.now b) end) → IsAlone M Word.Upgrade k a b r
+  upgraded_alone text is run r undone gives all unsaid =
+      let closes = says_closed M m b k (volume_of after).layout text ends_in sound lasts own_roots (short m honest) run (unit_of r) all unsaid in
+      alone_closed_as state has M wears short counts_now Word.Upgrade v w a m b k none stood fault disk honest since after Reply.Upgraded does.1 does.2 k refl refl (sym (append-nil k.changes)) (omega arith) telling r undone gives
+      (subst (λ (x : List ℕ). ClosesAndSaysBy (volume_of after).layout M k x m b (unit_of r)) is closes)
+
+-- what it says and writes, whatever the image
+pub upgraded_answers : (s t : State) (a m b : Moment) → m.windows ≡ a.windows → m.said ≡ a.said → Answers Word.Upgrade s t a m (Ok Said.Upgraded) → Ages m b → (r : Result ℕ End) → IfOk r (λ status. status ≡ 0) → SaysBy (reply_alone Reply.Upgraded) m b (unit_of r)
+    → ((why : Fault) → unit_of r ≡ Err (Stopped why) → ⊥) → AnswersAlone Word.Upgrade s a b r
+upgraded_answers s t a m b windows same answers ages r gives says unstopped =
+    let still : Touches (force_writes s.layout) m m = record { size = refl; others = λ x out. inl refl } in
+    let nothing : Touches nowhere m m = record { size = refl; others = λ x out. inl refl } in
+    alone_closed Word.Upgrade s s a m windows same b Said.Upgraded r refl (record { replies = answers.replies; rest = answers.rest; still = refl; worn = λ is. absurd (cc is); numbers = goes_none 1 s s refl; told = tt }) gives
+    (closed_by s (reply_alone Reply.Upgraded) m m b (unit_of r) refl refl still (λ clean. nothing) ages says (λ is. unstopped Ends.WornOut is) (λ why is. absurd (unstopped why is)))

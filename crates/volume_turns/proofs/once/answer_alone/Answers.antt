@@ -1,0 +1,64 @@
+use Rattle.std.proofs.Common.{ℕ, List, subst, arith}
+use Rattle.fsd_files.specs.Replies.{Reply}
+use Rattle.fsd_runs.specs.Errands.{reply_status}
+use Rattle.volume_turns.specs.Once.{ClosesAndSays, unit_of}
+use Rattle.volume_turns.specs.Steps.{reply_of}
+use Rattle.volume_turns.proofs.OnceLaws.{alone_answered, alone_fault}
+use Rattle.volume_turns.specs.Status.{IsStatusFrom}
+use Rattle.volume_turns.proofs.StatusLaws.{status_at}
+use Rattle.volume_turns.specs.Answering.{ClosesBy}
+use Rattle.volume_turns.proofs.AnsweringLaws.{alone_closed, alone_ended}
+use Rattle.volume_turns.proofs.once.answer_alone.Goals as goal
+
+pub returns-in-Ok-clause-does : goal.returns-in-Ok-clause-does
+returns-in-Ok-clause-does g c h k none idle stands =
+    let V = g.V.Files in
+    let M = g.M.Machine in
+    let back = c.close_as.ensures.trust.honest h in
+    let does = c.in-Ok.ensures.done back k stands in
+    let reply = reply_of c.in-Ok.answer in
+    alone_answered V.state V.holds M g.met.V.Files.wears (λ m x. g.met.M.Machine.short m x) g.met.M.Machine.counts_now c.args.c.now c.args.v c.answer.new.v c.args.m.now c.answer.new.m c.close_as.new.m k idle stands _ c.in-Ok.ensures.disk back
+    (c.close_as.ensures.since h) does.0 reply does.1 does.2 c.in-Ok.ensures.layout c.close_as.result c.close_as.ensures.undone c.close_as.ensures.status
+    (subst (λ (says : Reply → List ℕ). ClosesAndSays M does.0 (says reply) c.answer.new.m c.close_as.new.m (unit_of c.close_as.result)) c.requires.says (c.close_as.ensures.closes h does.0 does.2))
+
+pub returns-in-Err-clause-does : goal.returns-in-Err-clause-does
+returns-in-Err-clause-does g c h k none idle stands =
+    let V = g.V.Files in
+    let M = g.M.Machine in
+    alone_fault V.state V.holds M g.met.V.Files.wears (λ m x. g.met.M.Machine.short m x) g.met.M.Machine.counts_now c.args.c.now c.args.v c.answer.new.v c.args.m.now c.answer.new.m c.answer.new.m k idle stands _ c.in-Err.ensures.disk h (λ t left le was. was)
+    c.in-Err.fault (λ is. c.requires.unworn) (c.in-Err.ensures.done h k stands)
+
+pub returns-in-Ok-clause-later : goal.returns-in-Ok-clause-later
+returns-in-Ok-clause-later g c h =
+    let back = c.close_as.ensures.trust.honest h in
+    let x = (c.in-Ok.ensures.disk.any_moment back).later in
+    let y = c.close_as.ensures.later h in
+    omega (arith, x, y)
+
+pub returns-in-Err-clause-later : goal.returns-in-Err-clause-later
+returns-in-Err-clause-later g c h = (c.in-Err.ensures.disk.any_moment h).later
+
+pub returns-in-Ok-clause-status : goal.returns-in-Ok-clause-status
+returns-in-Ok-clause-status g c = status_at (IsStatusFrom c.args.c.now) (reply_status (reply_of c.in-Ok.answer)) c.close_as.result c.close_as.ensures.status c.in-Ok.ensures.status
+
+-- ---- what is said and written
+
+pub returns-in-Ok-clause-answers : goal.returns-in-Ok-clause-answers
+returns-in-Ok-clause-answers g c h =
+    let V = g.V.Files in
+    let now = g.M.Machine.now in
+    let back = c.close_as.ensures.trust.honest h in
+    let e = c.in-Ok.ensures in
+    let t = V.state c.answer.new.v in
+    let m = now c.answer.new.m in
+    let b = now c.close_as.new.m in
+    let reply = reply_of c.in-Ok.answer in
+    alone_closed c.args.c.now (V.state c.args.v) t (now c.args.m.now) m (e.disk.windows back) (e.disk.quiet back) b c.in-Ok.answer c.close_as.result e.layout (e.answers back) c.close_as.ensures.status
+    (subst (λ (says : Reply → List ℕ). ClosesBy t (says reply) m b (unit_of c.close_as.result)) c.requires.says (c.close_as.ensures.closing h))
+
+pub returns-in-Err-clause-answers : goal.returns-in-Err-clause-answers
+returns-in-Err-clause-answers g c h =
+    let V = g.V.Files in
+    let now = g.M.Machine.now in
+    let e = c.in-Err.ensures in
+    alone_ended c.args.c.now (V.state c.args.v) (V.state c.answer.new.v) (now c.args.m.now) (now c.answer.new.m) (e.disk.windows h) (e.disk.quiet h) c.in-Err.fault (e.answers h)
