@@ -94,7 +94,7 @@ const SCRIPTS: [Row<'static>; 5] = [
 ];
 
 // The first command of a script, and why it is none.
-const BAD: [(&[u8], &str); 11] = [
+const BAD: [(&[u8], &str); 12] = [
     (b" stat\n", "forced\nbad line 1: unknown word\n"),
     (b"stat x\n", "forced\nbad line 1: word count\n"),
     (b"put  a 1\n", "forced\nbad line 1: bad name\n"),
@@ -106,6 +106,7 @@ const BAD: [(&[u8], &str); 11] = [
     (b"stat", "forced\nbad line 1: no newline\n"),
     (b"scrub\n", "forced\nbad line 1: unknown word\n"),
     (b"scrub v\n", "forced\nbad line 1: unknown word\n"),
+    (b"upgrade\n", "forced\nbad line 1: unknown word\n"),
 ];
 
 #[test]

@@ -1,5 +1,5 @@
 //! Images of which sectors are damaged, or hold other bytes, before a run.
-use crate::machines::{Row, calm, first_wrong, formatted, repeated};
+use crate::machines::{Row, calm, first_wrong, formatted, repeated, run};
 use sector_disk::Sector;
 use std::alloc::{AllocError, Global};
 use std::test::Fail;
@@ -88,6 +88,28 @@ fn a_page_that_breaks_the_table_is_told(rt: HostRuntime) -> Result<(), Fail> {
             let wrong = wrong_on(alloc, &[784, 852], Sector::Whole(bytes), &[row])?;
             assert_eq!(rt; wrong, None, "{line}");
         }
+    }
+    Ok(())
+}
+
+// The record of a put stands at 16..25.
+#[test]
+fn a_record_of_layout_2_outlasts_three_damaged_sectors(rt: HostRuntime) -> Result<(), Fail> {
+    let alloc = rt.alloc();
+    let m = calm(
+        alloc,
+        formatted(alloc, "cfs format v 2048 256 64 --layout 2")?,
+    );
+    let (m, _) = run(alloc, m, &[], "cfs put v a", b"x")?;
+    for first in 16..23 {
+        let mut image = m.image().to_vec(alloc)?;
+        set(
+            image.as_mut_slice(),
+            &[first, first + 1, first + 2],
+            Sector::Damaged,
+        );
+        let (_, wrong) = first_wrong(alloc, calm(alloc, image), &[("cfs get v a!1", b"", 0, "x")])?;
+        assert_eq!(rt; wrong, None, "{first}");
     }
     Ok(())
 }

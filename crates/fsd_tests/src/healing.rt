@@ -29,7 +29,8 @@ const PUTS: &[u8] =
     b"put a 1\nx\nput b 1\nx\nput c 1\nx\nput d 1\nx\nput e 1\nx\nput f 1\nx\nput g 1\nx\nput h 1\nx\n\
     put i 1\nx\nput j 1\nx\nput k 1\nx\nput l 1\nx\n";
 
-const GETS: &[u8] =
+/// Gets of the twelve versions.
+pub(crate) const GETS: &[u8] =
     b"get a!1\nget b!1\nget c!1\nget d!1\nget e!1\nget f!1\nget g!1\nget h!1\nget i!1\nget j!1\n\
     get k!1\nget l!1\n";
 
@@ -53,8 +54,8 @@ fn scrub_says(alloc: Global, hurt: &[u32], leaders: bool) -> Result<Vec<u8>, All
     Ok(said)
 }
 
-// What the gets say.
-fn gets_say(alloc: Global, hurt: &[u32]) -> Result<Vec<u8>, AllocError> {
+/// What the gets say where these sectors are damaged.
+pub(crate) fn gets_say(alloc: Global, hurt: &[u32]) -> Result<Vec<u8>, AllocError> {
     let mut said = Vec::new(alloc);
     for (key, _, data) in VERSIONS {
         if hurt.contains(&data) {
@@ -107,7 +108,8 @@ fn scrubs_well(
     Ok(first && second && m.said() == gets_say(alloc, hurt)?.as_slice() && m.honest())
 }
 
-fn twelve(alloc: Global) -> Result<Vec<Sector>, AllocError> {
+/// The volume with the twelve versions.
+pub(crate) fn twelve(alloc: Global) -> Result<Vec<Sector>, AllocError> {
     let m = calm(alloc, formatted(alloc, FORMAT)?);
     let (m, _) = run(alloc, m, &[], "cfs script w", PUTS)?;
     m.image().to_vec(alloc)
@@ -160,7 +162,7 @@ fn wrong_stop(alloc: Global, image: &[Sector], pair: [u32; 2]) -> Result<Option<
         when: When::Call(2),
     });
     for after in 0..8u64 {
-        let m = weak(alloc, image, [pair[0]; 3])?;
+        let m = weak(alloc, image, 2, [pair[0]; 3])?;
         let (m, _) = run(
             alloc,
             m,

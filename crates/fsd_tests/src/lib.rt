@@ -43,6 +43,8 @@ mod stops;
 #[cfg(test)]
 mod sweeps;
 #[cfg(test)]
+mod upgrades;
+#[cfg(test)]
 mod waiting;
 #[cfg(test)]
 mod wear;

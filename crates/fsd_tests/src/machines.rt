@@ -45,15 +45,17 @@ pub(crate) fn calm(alloc: Global, image: Vec<Sector>) -> MemoryMachine {
     MemoryMachine::with_runs(alloc, image, runs, Vec::new(alloc), Vec::new(alloc))
 }
 
-/// A machine over this image. The first pair may wear at first, each mount names the next, and the last one stays.
+/// A machine over this image, whose weak runs have so many sectors. The first one may wear at first, each mount names
+/// the next, and the last one stays.
 pub(crate) fn weak(
     alloc: Global,
     image: &[Sector],
-    pairs: [u32; 3],
+    count: u32,
+    firsts: [u32; 3],
 ) -> Result<MemoryMachine, AllocError> {
     let mut runs = Vec::new(alloc);
-    for first in pairs {
-        runs.push(WeakRun { first, count: 2 })?;
+    for first in firsts {
+        runs.push(WeakRun { first, count })?;
     }
     let image = image.to_vec(alloc)?;
     Ok(MemoryMachine::with_runs(alloc, image, runs, Vec::new(alloc), Vec::new(alloc)))

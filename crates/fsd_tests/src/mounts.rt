@@ -6,6 +6,7 @@ use mount_recover::{Settled, recover};
 use sector_disk::{Attach, Machine, MemoryMachine, Sector};
 use std::alloc::{AllocError, Global};
 use std::test::Fail;
+use volume_layout::Kind;
 
 fn beginning(front: &[u8; 20]) -> [u8; 512] {
     let mut bytes = repeated(0);
@@ -116,7 +117,7 @@ fn logged_page() -> [u8; 512] {
 // and its home at 784 is damaged.
 fn logged(alloc: Global) -> Result<Vec<Sector>, AllocError> {
     let mut record = repeated::<3584>(0);
-    lay(2, 1, &[0], &logged_page(), &mut record);
+    lay(Kind::Two, 2, 1, &[0], &logged_page(), &mut record);
     let zeros = repeated(0);
     let mut image = homed(
         alloc,

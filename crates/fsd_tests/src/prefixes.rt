@@ -89,7 +89,7 @@ fn wrong_stops(
     let [a, b] = worn;
     for changing in 0..30 {
         for listing in 0..13 {
-            let m = weak(alloc, image, [pair; 3])?;
+            let m = weak(alloc, image, 2, [pair; 3])?;
             let first = [a, b, Event::Stop { after: changing }];
             let second = [a, b, Event::Stop { after: listing }];
             if !goes_well(alloc, m, [&first, &second, &worn])? {

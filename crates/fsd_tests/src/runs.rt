@@ -5,8 +5,10 @@ use std::test::Fail;
 
 const SMALL: &str = "cfs format w 721 200 16";
 
+const OF_THREE: &str = "cfs format w 2048 256 64 --layout 2";
+
 // A line, and the status, the sectors and the text with which it ends.
-const LINES: [(&str, u8, usize, &str); 18] = [
+const LINES: [(&str, u8, usize, &str); 24] = [
     (
         "cfs format v 2048 256 64",
         0,
@@ -45,6 +47,42 @@ const LINES: [(&str, u8, usize, &str); 18] = [
         2,
         721,
         "bad line 0: bad number\n",
+    ),
+    (
+        "cfs format w 721 200 16 --layout 3",
+        2,
+        721,
+        "bad line 0: bad number\n",
+    ),
+    (
+        "cfs format w 721 200 16 --layout x",
+        2,
+        721,
+        "bad line 0: bad number\n",
+    ),
+    (
+        "cfs format w 721 200 16 --layout",
+        2,
+        721,
+        "usage: cfs COMMAND IMAGE WORDS\n",
+    ),
+    (
+        "cfs format w 722 200 16 --layout 2",
+        0,
+        722,
+        "formatted 722 free 65\n",
+    ),
+    (
+        "cfs format w 721 200 16 --layout 1",
+        0,
+        721,
+        "formatted 721 free 64\n",
+    ),
+    (
+        "cfs upgrade w x",
+        2,
+        721,
+        "usage: cfs COMMAND IMAGE WORDS\n",
     ),
     ("cfs frob v", 2, 721, "usage: cfs COMMAND IMAGE WORDS\n"),
     (
@@ -131,41 +169,53 @@ fn begins(m: &MemoryMachine, sector: usize, word: &[u8]) -> bool {
     }
 }
 
-// How the sectors from 16 on begin behind one put: header, blank, header, page, end, page, end.
-const RECORD: [(usize, &str); 7] = [
-    (16, "CLHD"),
-    (17, "\0\0\0\0"),
-    (18, "CLHD"),
-    (19, "CNPG"),
-    (20, "CLEN"),
-    (21, "CNPG"),
-    (22, "CLEN"),
+// A volume, and how its sectors from 16 on begin behind one put: header, blank, header, page, end, page, end;
+// on layout 2 with two blanks, and one more behind the first end.
+const RECORDS: [(&str, &[&str]); 2] = [
+    (
+        SMALL,
+        &["CLHD", "\0\0\0\0", "CLHD", "CNPG", "CLEN", "CNPG", "CLEN"],
+    ),
+    (
+        OF_THREE,
+        &[
+            "CLHD", "\0\0\0\0", "\0\0\0\0", "CLHD", "CNPG", "CLEN", "\0\0\0\0", "CNPG", "CLEN",
+        ],
+    ),
 ];
 
 #[test]
 fn one_record_commits_a_put(rt: HostRuntime) -> Result<(), Fail> {
     let alloc = rt.alloc();
-    let m = calm(alloc, formatted(alloc, SMALL)?);
-    let (m, _) = run(alloc, m, &[], "cfs put w a", b"x")?;
-    for (sector, word) in RECORD {
-        assert!(rt; begins(&m, sector, word.as_bytes()), "{sector}");
+    for (format, words) in RECORDS {
+        let m = calm(alloc, formatted(alloc, format)?);
+        let (m, _) = run(alloc, m, &[], "cfs put w a", b"x")?;
+        for (i, word) in words.iter().enumerate() {
+            assert!(rt; begins(&m, 16 + i, word.as_bytes()), "{format} {i}");
+        }
+        let behind = m.image().get(16 + words.len()).copied();
+        assert_eq!(rt; behind, Some(Sector::Damaged), "{format}");
     }
-    assert_eq!(rt; m.image().get(23).copied(), Some(Sector::Damaged));
     Ok(())
 }
 
-// How many sectors of the record stand, and what a get says then.
-const CUT: [(u32, &str); 2] = [(4, "refused no-such\n"), (5, "x")];
+// A volume, how many sectors of the record stand, and what a get says then.
+const CUT: [(&str, u32, &str); 4] = [
+    (SMALL, 4, "refused no-such\n"),
+    (SMALL, 5, "x"),
+    (OF_THREE, 5, "refused no-such\n"),
+    (OF_THREE, 6, "x"),
+];
 
 #[test]
 fn the_end_of_a_record_commits_it(rt: HostRuntime) -> Result<(), Fail> {
     let alloc = rt.alloc();
-    for (stand, said) in CUT {
-        let m = calm(alloc, formatted(alloc, SMALL)?);
+    for (format, stand, said) in CUT {
+        let m = calm(alloc, formatted(alloc, format)?);
         let (m, _) = run(alloc, m, &[stop_in(16, 1, stand)], "cfs put w a", b"x")?;
         assert!(rt; m.said().is_empty());
         let (m, _) = run(alloc, m, &[], "cfs get w a!1", b"")?;
-        assert_eq!(rt; m.said(), said.as_bytes(), "{stand}");
+        assert_eq!(rt; m.said(), said.as_bytes(), "{format} {stand}");
     }
     Ok(())
 }

@@ -29,7 +29,7 @@ fn scrubbed(
         sector,
         when: When::Call(call),
     };
-    let m = weak(alloc, image, [sector; 3])?;
+    let m = weak(alloc, image, 2, [sector; 3])?;
     let (m, status) = run(alloc, m, &[hurt], "cfs scrub v", b"")?;
     let saw = told(m.said());
     let whole = matches!(m.image().get(sector as usize), Some(Sector::Whole(_)));

@@ -136,27 +136,41 @@ fn listed_behind(
     run(alloc, m, &[], "cfs list w *", b"")
 }
 
-// The first sector of a write, how many of its sectors stand when its second time is stopped, and what is listed.
-const ROUNDS: [(u32, u32, &str); 5] = [
-    (8, 0, "x!1 0 1 83\nlisted 1\n"),
-    (12, 0, "x!1 0 1 83\nlisted 1\n"),
-    (16, 0, "x!1 0 1 83\nlisted 1\n"),
-    (16, 4, "x!1 0 1 83\nlisted 1\n"),
-    (16, 5, "x!1 0 1 84\nlisted 1\n"),
+const ONE: &str = "cfs format w 721 200 16";
+
+const TWO: &str = "cfs format w 721 200 16 --layout 2";
+
+// A volume, the first sector of a write, which of the writes there is stopped, how many of its sectors stand then, and
+// what is listed.
+const ROUNDS: [(&str, u32, u32, u32, &str); 14] = [
+    (ONE, 216, 1, 4, "x!1 0 1 27\nlisted 1\n"),
+    (ONE, 216, 1, 5, "x!1 0 1 28\nlisted 1\n"),
+    (ONE, 8, 2, 0, "x!1 0 1 83\nlisted 1\n"),
+    (ONE, 12, 2, 0, "x!1 0 1 83\nlisted 1\n"),
+    (ONE, 16, 2, 0, "x!1 0 1 83\nlisted 1\n"),
+    (ONE, 16, 2, 4, "x!1 0 1 83\nlisted 1\n"),
+    (ONE, 16, 2, 5, "x!1 0 1 84\nlisted 1\n"),
+    (TWO, 216, 1, 5, "x!1 0 1 21\nlisted 1\n"),
+    (TWO, 216, 1, 6, "x!1 0 1 22\nlisted 1\n"),
+    (TWO, 8, 2, 0, "x!1 0 1 65\nlisted 1\n"),
+    (TWO, 12, 2, 0, "x!1 0 1 65\nlisted 1\n"),
+    (TWO, 16, 2, 0, "x!1 0 1 65\nlisted 1\n"),
+    (TWO, 16, 2, 5, "x!1 0 1 65\nlisted 1\n"),
+    (TWO, 16, 2, 6, "x!1 0 1 66\nlisted 1\n"),
 ];
 
-// A third of 200 sectors has 28 records of one page.
-// The 85th enters the first third again: the anchor goes to 8 and 12 before it.
+// A third of 200 sectors has 28 records of one page, or 22 on layout 2.
+// The 85th, or the 67th, enters the first third again: the anchor goes to 8 and 12 before it.
 #[test]
 fn the_log_comes_round(rt: HostRuntime) -> Result<(), Fail> {
     let alloc = rt.alloc();
     let script = keeps(alloc)?;
-    let image = formatted(alloc, "cfs format w 721 200 16")?;
-    for (first, stand, listed) in ROUNDS {
-        let event = stop_in(first, 2, stand);
+    for (format, first, nth, stand, listed) in ROUNDS {
+        let image = formatted(alloc, format)?;
+        let event = stop_in(first, nth, stand);
         let (m, status) = listed_behind(alloc, image.as_slice(), script.as_slice(), event)?;
         assert_eq!(rt; status, 0);
-        assert_eq!(rt; m.said(), listed.as_bytes());
+        assert_eq!(rt; m.said(), listed.as_bytes(), "{format} {first} {stand}");
     }
     Ok(())
 }

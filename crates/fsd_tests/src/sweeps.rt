@@ -1,13 +1,41 @@
 //! A put and two gets of what it made, with a stop at every write of the first two runs, and with damage at every
-//! moment that the windows allow. As `rt test` builds them they take seconds, and minutes as `rt try` does.
+//! moment that the windows allow, on a volume of each layout. As `rt test` builds them they take seconds, and minutes
+//! as `rt try` does.
 use crate::machines::{NEVER, formatted, hurt, run, weak};
 use sector_disk::{Event, MemoryMachine, Sector, When};
 use std::alloc::{AllocError, Global};
 use std::test::Fail;
 
-const FORMAT: &str = "cfs format w 721 200 16";
-
 const GET: &str = "cfs get w a!1";
+
+// Which sectors of a weak run are damaged, counted from its first one.
+type Part = [u32; 3];
+
+// A line that formats a small volume, how many adjacent sectors of it may wear, and which of them do. The put writes
+// fewer sectors than the first number of stops, and the get fewer than the second.
+#[derive(Drop)]
+struct Small<'a> {
+    format: &'a str,
+    count: u32,
+    parts: &'a [Part],
+    stops: (u64, u64),
+}
+
+// One sector of a pair, the other, or both; of three the first one, alone, with the last one and with both.
+const SMALL: [Small<'static>; 2] = [
+    Small {
+        format: "cfs format w 721 200 16",
+        count: 2,
+        parts: &[[0, 0, 0], [1, 1, 1], [0, 1, 1]],
+        stops: (14, 9),
+    },
+    Small {
+        format: "cfs format w 721 200 16 --layout 2",
+        count: 3,
+        parts: &[[0, 0, 0], [0, 2, 2], [0, 1, 2]],
+        stops: (17, 10),
+    },
+];
 
 // The last run says the byte that was put, or names its sector, which is damaged.
 // Only of a version of which no run has told it may know nothing.
@@ -40,25 +68,26 @@ fn goes_well(alloc: Global, m: MemoryMachine, events: [&[Event]; 3]) -> Result<b
 }
 
 // These events, and a stop after so many sectors.
-fn stopping(events: [Event; 4], after: u64) -> [Event; 5] {
-    let [a, b, c, d] = events;
-    [a, b, c, d, Event::Stop { after }]
+fn stopping(events: [Event; 6], after: u64) -> [Event; 7] {
+    let [a, b, c, d, e, f] = events;
+    [a, b, c, d, e, f, Event::Stop { after }]
 }
 
 // After how many sectors the put and the first get stop, where it goes wrong.
-// The put writes 13 sectors at most, and the get 8.
 fn wrong_stops(
     alloc: Global,
     image: &[Sector],
-    pair: u32,
-    worn: [Event; 4],
+    small: &Small,
+    first: u32,
+    worn: [Event; 6],
     early: bool,
 ) -> Result<Option<(u64, u64)>, AllocError> {
-    let first = if early { worn } else { [NEVER; 4] };
-    for put in 0..14 {
-        for get in 0..9 {
-            let m = weak(alloc, image, [pair; 3])?;
-            let putting = stopping(first, put);
+    let begun = if early { worn } else { [NEVER; 6] };
+    let (puts, gets) = small.stops;
+    for put in 0..puts {
+        for get in 0..gets {
+            let m = weak(alloc, image, small.count, [first; 3])?;
+            let putting = stopping(begun, put);
             let getting = stopping(worn, get);
             if !goes_well(alloc, m, [&putting, &getting, &worn])? {
                 return Ok(Some((put, get)));
@@ -68,17 +97,17 @@ fn wrong_stops(
     Ok(None)
 }
 
-// One or both sectors of a pair, at one or both of two moments.
-fn damage(pair: u32, sectors: (u32, u32), moments: (When, When)) -> [Event; 4] {
-    let (a, b) = sectors;
+// Some sectors of the run that begins here, at one or both of two moments.
+fn damage(first: u32, part: Part, moments: (When, When)) -> [Event; 6] {
+    let [a, b, c] = part.map(|k| first.saturating_add(k));
     let (early, late) = moments;
-    let first = pair.saturating_add(a);
-    let second = pair.saturating_add(b);
     [
-        (first, early),
-        (first, late),
-        (second, early),
-        (second, late),
+        (a, early),
+        (a, late),
+        (b, early),
+        (b, late),
+        (c, early),
+        (c, late),
     ]
     .map(|(sector, when)| Event::HurtAt { sector, when })
 }
@@ -90,13 +119,18 @@ const MOMENTS: [(When, When); 3] = [
     (When::Call(1), When::Settle),
 ];
 
-// The same with each damage of the pair, in the runs behind the put or in all of them.
-fn wrong_at(alloc: Global, image: &[Sector], pair: u32) -> Result<Option<(u64, u64)>, AllocError> {
-    for sectors in OF_PAIR {
+// The same with each damage of the run, in the runs behind the put or in all of them.
+fn wrong_at(
+    alloc: Global,
+    image: &[Sector],
+    small: &Small,
+    first: u32,
+) -> Result<Option<(u64, u64)>, AllocError> {
+    for part in small.parts {
         for when in MOMENTS {
-            let worn = damage(pair, sectors, when);
-            let later = wrong_stops(alloc, image, pair, worn, false)?;
-            let always = wrong_stops(alloc, image, pair, worn, true)?;
+            let worn = damage(first, *part, when);
+            let later = wrong_stops(alloc, image, small, first, worn, false)?;
+            let always = wrong_stops(alloc, image, small, first, worn, true)?;
             if later.or(always).is_some() {
                 return Ok(later.or(always));
             }
@@ -105,12 +139,17 @@ fn wrong_at(alloc: Global, image: &[Sector], pair: u32) -> Result<Option<(u64, u
     Ok(None)
 }
 
-// The first of these pairs at which it goes wrong, and after how many sectors.
-fn first_wrong_pair(alloc: Global, pairs: &[u32]) -> Result<Option<(u32, u64, u64)>, AllocError> {
-    let image = formatted(alloc, FORMAT)?;
-    for pair in pairs {
-        if let Some((put, get)) = wrong_at(alloc, image.as_slice(), *pair)? {
-            return Ok(Some((*pair, put, get)));
+// The number of sectors of the first of these runs at which it goes wrong, its first one, and after how many sectors.
+fn first_wrong_run(
+    alloc: Global,
+    firsts: &[u32],
+) -> Result<Option<(u32, u32, u64, u64)>, AllocError> {
+    for small in &SMALL {
+        let image = formatted(alloc, small.format)?;
+        for first in firsts {
+            if let Some((put, get)) = wrong_at(alloc, image.as_slice(), small, *first)? {
+                return Ok(Some((small.count, *first, put, get)));
+            }
         }
     }
     Ok(None)
@@ -121,16 +160,16 @@ const FRONT: [u32; 8] = [0, 3, 4, 7, 8, 11, 12, 15];
 
 #[test]
 fn the_front_wears(rt: HostRuntime) -> Result<(), Fail> {
-    assert_eq!(rt; first_wrong_pair(rt.alloc(), &FRONT)?, None);
+    assert_eq!(rt; first_wrong_run(rt.alloc(), &FRONT)?, None);
     Ok(())
 }
 
-// The first record stands at 16..23.
-const RECORD: [u32; 8] = [16, 17, 18, 19, 20, 21, 22, 23];
+// The first record stands at 16..23, or at 16..25 on layout 2.
+const RECORD: [u32; 10] = [16, 17, 18, 19, 20, 21, 22, 23, 24, 25];
 
 #[test]
 fn the_log_wears(rt: HostRuntime) -> Result<(), Fail> {
-    assert_eq!(rt; first_wrong_pair(rt.alloc(), &RECORD)?, None);
+    assert_eq!(rt; first_wrong_run(rt.alloc(), &RECORD)?, None);
     Ok(())
 }
 
@@ -139,48 +178,59 @@ const BEHIND: [u32; 11] = [615, 616, 617, 631, 635, 636, 637, 651, 656, 657, 658
 
 #[test]
 fn the_homes_and_the_data_wear(rt: HostRuntime) -> Result<(), Fail> {
-    assert_eq!(rt; first_wrong_pair(rt.alloc(), &BEHIND)?, None);
+    assert_eq!(rt; first_wrong_run(rt.alloc(), &BEHIND)?, None);
     Ok(())
 }
 
-// One sector of a pair, the other, or both.
-const OF_PAIR: [(u32, u32); 3] = [(0, 0), (1, 1), (0, 1)];
+fn hurts(first: u32, part: Part) -> [Event; 3] {
+    part.map(|k| hurt(first.saturating_add(k)))
+}
 
-// Each pair of the disk, between the put and the first get.
-#[test]
-fn any_pair_wears(rt: HostRuntime) -> Result<(), Fail> {
-    let alloc = rt.alloc();
-    let image = formatted(alloc, FORMAT)?;
-    for pair in 0..721 {
-        for (a, b) in OF_PAIR {
-            let m = weak(alloc, image.as_slice(), [pair; 3])?;
-            let worn = [hurt(pair.saturating_add(a)), hurt(pair.saturating_add(b))];
-            assert!(rt; goes_well(alloc, m, [&[], &worn, &[]])?, "{pair} {a} {b}");
+// The first sector of the disk at whose run it goes wrong, between the put and the first get.
+fn first_wrong_place(alloc: Global, small: &Small) -> Result<Option<u32>, AllocError> {
+    let image = formatted(alloc, small.format)?;
+    for first in 0..721 {
+        for part in small.parts {
+            let m = weak(alloc, image.as_slice(), small.count, [first; 3])?;
+            if !goes_well(alloc, m, [&[], &hurts(first, *part), &[]])? {
+                return Ok(Some(first));
+            }
         }
+    }
+    Ok(None)
+}
+
+#[test]
+fn any_run_wears(rt: HostRuntime) -> Result<(), Fail> {
+    for small in &SMALL {
+        assert_eq!(rt;
+            first_wrong_place(rt.alloc(), small)?,
+            None,
+            "{}",
+            small.format
+        );
     }
     Ok(())
 }
 
-fn both(pair: u32) -> [Event; 2] {
-    [hurt(pair), hurt(pair.saturating_add(1))]
-}
-
-// After how many sectors the put stops, where it goes wrong with one pair before the first mount and another one
+// After how many sectors the put stops, where it goes wrong with one run before the first mount and another one
 // behind it, or so at the second mount.
 fn wrong_later(
     alloc: Global,
     image: &[Sector],
+    small: &Small,
     one: u32,
     other: u32,
 ) -> Result<Option<u64>, AllocError> {
-    let worn = both(one);
-    let later = both(other);
-    for put in 0..14 {
-        let stop = [worn[0], worn[1], Event::Stop { after: put }];
-        let first = weak(alloc, image, [one, other, other])?;
-        let second = weak(alloc, image, [one, one, other])?;
+    let worn = hurts(one, [0, 1, small.count.saturating_sub(1)]);
+    let later = hurts(other, [0, 1, small.count.saturating_sub(1)]);
+    let [a, b, c] = worn;
+    for put in 0..small.stops.0 {
+        let stop = [a, b, c, Event::Stop { after: put }];
+        let first = weak(alloc, image, small.count, [one, other, other])?;
+        let second = weak(alloc, image, small.count, [one, one, other])?;
         let well = goes_well(alloc, first, [&stop, &later, &later])?
-            && goes_well(alloc, second, [&stop[2..], &worn, &later])?;
+            && goes_well(alloc, second, [&stop[3..], &worn, &later])?;
         if !well {
             return Ok(Some(put));
         }
@@ -188,18 +238,20 @@ fn wrong_later(
     Ok(None)
 }
 
-const PAIRS: [u32; 16] = [
-    0, 4, 8, 12, 15, 16, 18, 19, 20, 21, 615, 616, 635, 636, 657, 658,
+const PLACES: [u32; 17] = [
+    0, 4, 8, 12, 15, 16, 18, 19, 20, 21, 22, 615, 616, 635, 636, 657, 658,
 ];
 
 #[test]
-fn another_pair_wears_later(rt: HostRuntime) -> Result<(), Fail> {
+fn another_run_wears_later(rt: HostRuntime) -> Result<(), Fail> {
     let alloc = rt.alloc();
-    let image = formatted(alloc, FORMAT)?;
-    for one in PAIRS {
-        for other in PAIRS {
-            let wrong = wrong_later(alloc, image.as_slice(), one, other)?;
-            assert_eq!(rt; wrong, None, "{one} {other}");
+    for small in &SMALL {
+        let image = formatted(alloc, small.format)?;
+        for one in PLACES {
+            for other in PLACES {
+                let wrong = wrong_later(alloc, image.as_slice(), small, one, other)?;
+                assert_eq!(rt; wrong, None, "{} {one} {other}", small.format);
+            }
         }
     }
     Ok(())

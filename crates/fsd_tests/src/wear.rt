@@ -22,7 +22,7 @@ fn first_wrong_row(
     rows: &[Row],
 ) -> Result<Option<usize>, AllocError> {
     let image = formatted(alloc, FORMAT)?;
-    let mut m = weak(alloc, image.as_slice(), pairs)?;
+    let mut m = weak(alloc, image.as_slice(), 2, pairs)?;
     for (i, (event, line, input, status, said)) in rows.iter().enumerate() {
         let (next, ended) = run(alloc, m, &[*event], line, input)?;
         if ended != *status || next.said() != said.as_bytes() || !next.honest() {
@@ -91,7 +91,7 @@ fn a_worn_pair_loses_nothing(rt: HostRuntime) -> Result<(), Fail> {
     let alloc = rt.alloc();
     let image = formatted(alloc, FORMAT)?;
     for (pair, at, moments, whole) in WORN {
-        let m = weak(alloc, image.as_slice(), [pair; 3])?;
+        let m = weak(alloc, image.as_slice(), 2, [pair; 3])?;
         assert!(rt;
             loses_nothing(alloc, m, at, moments.map(wears), whole)?,
             "{pair}"
@@ -160,7 +160,7 @@ fn a_record_is_completed_or_serves_nothing(rt: HostRuntime) -> Result<(), Fail> 
 fn no_other_sector_wears(rt: HostRuntime) -> Result<(), Fail> {
     let alloc = rt.alloc();
     let image = formatted(alloc, FORMAT)?;
-    let m = weak(alloc, image.as_slice(), [784; 3])?;
+    let m = weak(alloc, image.as_slice(), 2, [784; 3])?;
     let (m, _) = run(alloc, m, &[], "cfs put v a", b"x")?;
     assert!(rt; m.honest());
     let events = [hurt(784), hurt_late(852)];

@@ -12,7 +12,7 @@ use sector_disk::{Failed, LoadFault, Machine, MemoryMachine};
 use std::alloc::Global;
 use std::process::Abort;
 use std::test::Fail;
-use volume_layout::Layout;
+use volume_layout::{Kind, Layout};
 
 // A second anchor, of epoch 7, is written.
 fn write_anchor<M: Machine>(m: &mut M) -> Result<(), Failed>
@@ -87,7 +87,7 @@ pub(crate) fn image_in(page: u32, number: u32) -> [u8; 512] {
 // The record (2, 1) of page 0.
 fn record() -> [u8; 3584] {
     let mut out = repeated(0);
-    lay(2, 1, &[0], &image_in(0, 1), &mut out);
+    lay(Kind::Two, 2, 1, &[0], &image_in(0, 1), &mut out);
     out
 }
 
@@ -158,7 +158,14 @@ fn lay_record<M: Machine>(m: &mut M, sector: u32, number: u32, page: u32) -> Res
     ensures { (M.report m.new).sectors ≡ (M.report m.old).sectors }
 {
     let mut out = repeated::<3584>(0);
-    lay(2, number, &[page], &image_in(page, number), &mut out);
+    lay(
+        Kind::Two,
+        2,
+        number,
+        &[page],
+        &image_in(page, number),
+        &mut out,
+    );
     m.write(sector, &out)
 }
 

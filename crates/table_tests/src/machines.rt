@@ -1,7 +1,9 @@
 //! The machine in memory: each kind of event, and each call, once.
 ghost use Rattle.std.specs.Prelude.{◌≡◌, ◌<◌, ◌≤◌};
 
-use sector_disk::{Attach, Event, Failed, Machine, MemoryMachine, Sector, Seen, WeakRun, When};
+use sector_disk::{
+    Attach, Event, Failed, LONGEST_RUN, Machine, MemoryMachine, Sector, Seen, WeakRun, When,
+};
 use std::alloc::{AllocError, Global};
 use std::process::Abort;
 use std::test::Fail;
@@ -123,7 +125,6 @@ fn events_come_where_they_say(rt: HostRuntime) -> Result<(), Fail> {
 }
 
 // Sector 1 lies in the first two runs, and sector 0 in the second alone, which is the present one after `settle`.
-// The third run is too long.
 const RUNS: [WeakRun; 3] = [
     WeakRun { first: 1, count: 2 },
     WeakRun { first: 0, count: 2 },
@@ -157,13 +158,15 @@ fn with_runs(
     Ok(MemoryMachine::with_runs(alloc, image, runs, events, input))
 }
 
-// Four sectors are written, and one window is closed.
-fn turned<M: Machine>(m: &mut M) -> Result<(), Failed>
-    requires { 4 ≤ (M.report m.old).sectors }
+// Four sectors are written, and one window is closed and the next one open, whose run may have so many sectors.
+fn turned<M: Machine>(m: &mut M, longest: u32) -> Result<(), Failed>
+    requires sectors { 4 ≤ (M.report m.old).sectors }
+    requires least { 2 ≤ longest }
+    requires longest { longest ≤ 3 }
     ensures { (M.report m.new).sectors ≡ (M.report m.old).sectors }
 {
     m.write(0, &repeated::<2048>(7))?;
-    m.healing()?;
+    m.healing(longest)?;
     m.settle()
 }
 
@@ -183,7 +186,7 @@ const TWO_HURT: [Sector; 4] = [HURT, HURT, OLD, OLD];
 fn hurts_two(rt: &impl Abort, m: &mut MemoryMachine) -> Result<(), Failed> {
     let sectors = m.attach("v", Attach::Old)?;
     assert!(rt; sectors >= 4);
-    turned(m)?;
+    turned(m, LONGEST_RUN)?;
     assert!(rt; sees(m, 0, Seen::Damaged, 0)?);
     assert!(rt; sees(m, 2, Seen::Whole, 7)?);
     Ok(())
@@ -213,6 +216,26 @@ fn windows_close(rt: HostRuntime) -> Result<(), Fail> {
     Ok(())
 }
 
+// The third sector is damaged in the second window, just before it is read.
+const THIRD_HURT: [Event; 1] = [Event::HurtAt {
+    sector: 2,
+    when: When::Call(5),
+}];
+
+// The run has three sectors, of which a window of two has the first two.
+#[test]
+fn a_window_has_no_more_sectors_than_it_may(rt: HostRuntime) -> Result<(), Fail> {
+    for longest in 2..=LONGEST_RUN {
+        let mut m = with_runs(rt.alloc(), &RUNS[2..], &THIRD_HURT)?;
+        let sectors = m.attach("v", Attach::Old)?;
+        assert!(rt; sectors >= 4);
+        turned(&mut m, longest)?;
+        assert!(rt; sees(&mut m, 2, Seen::Damaged, 0)?);
+        assert_eq!(rt; m.honest(), longest == 3);
+    }
+    Ok(())
+}
+
 // The second call fails, and an image is not made before.
 const SECOND_FAILS: [Event; 1] = [Event::FailCall { call: 2, stand: 0 }];
 
@@ -222,8 +245,8 @@ fn another_run_goes_on(rt: HostRuntime) -> Result<(), Fail> {
     let mut m = with_runs(alloc, &RUNS, &IN_RUNS)?;
     hurts_two(&rt, &mut m)?;
     let mut m = m.again(SECOND_FAILS.to_vec(alloc)?, Vec::new(alloc));
-    m.healing()?;
-    assert!(rt; !m.honest());
+    m.healing(LONGEST_RUN)?;
+    assert!(rt; m.honest());
     assert_eq!(rt; m.say(b"x"), Err(Failed { place: 0 }));
     assert_eq!(rt; m.said(), b"".as_slice());
     assert_eq!(rt; m.attach("w", Attach::New(1)), Ok(1));

@@ -3,7 +3,7 @@ ghost use Rattle.std.specs.Prelude.{◌≤◌};
 
 use crate::machines::repeated;
 use image_file::{FileMachine, SLOT_BYTES, read_slot, slot_of};
-use sector_disk::{Attach, Failed, Machine, Seen};
+use sector_disk::{Attach, Failed, LONGEST_RUN, Machine, Seen};
 use std::fs;
 use std::process::Abort;
 use std::test::Fail;
@@ -52,7 +52,7 @@ fn fill<M: Machine>(m: &mut M) -> Result<(), Failed>
 
 // Each other call succeeds.
 fn call_others<M: Machine>(m: &mut M) -> Result<(), Failed> {
-    m.healing()?;
+    m.healing(LONGEST_RUN)?;
     m.settle()?;
     m.say(b"")?;
     let _piece = m.take(&mut [0; 8]);

@@ -11,8 +11,8 @@ const NAME: &[u8] = b"notes/a";
 
 const BYTES: [u8; 5] = *b"hello";
 
-// A volume that is mounted, and empty, with these events to come.
-fn empty(alloc: Global, events: &[Event]) -> Result<Mounted, Fail> {
+/// A volume that is mounted, and empty, with these events to come.
+pub(crate) fn empty(alloc: Global, events: &[Event]) -> Result<Mounted, Fail> {
     let m = formatted(alloc, 2048, 256, 64)?;
     Mounted::on(alloc, m, &[])?.counting_anew(alloc, events)
 }

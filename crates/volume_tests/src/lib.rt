@@ -21,3 +21,5 @@ mod mounted;
 mod names;
 #[cfg(test)]
 mod places;
+#[cfg(test)]
+mod upgrades;

@@ -152,6 +152,15 @@ impl Mounted {
         Files::tick(&mut self.v, &mut self.m)
     }
 
+    /// Makes it a volume of layout 2; nothing is done, and none answered, where it isn't fresh.
+    pub(crate) fn upgrade(&mut self) -> Option<Result<(), Refusal>> {
+        if Files::<MemoryMachine>::fresh(&self.v) {
+            Some(self.v.upgrade(&mut self.m))
+        } else {
+            None
+        }
+    }
+
     /// What it counts.
     pub(crate) fn stat(&self) -> Stat {
         self.v.stat()
