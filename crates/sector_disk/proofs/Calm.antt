@@ -8,7 +8,6 @@ use Rattle.sector_disk.specs.declared.sector.Sector.{Sector}
 use Rattle.sector_disk.specs.declared.sector.Sector.TheVariants.{Whole, Damaged}
 use Rattle.sector_disk.specs.declared.sector.WeakRun.{WeakRun}
 use Rattle.sector_disk.specs.Image.{stand, with_sector, IsWorn, in_run, Windows, IsEmpty, IsCalm, weak, open_damage}
-use Rattle.sector_disk.specs.Machine.{Moment, Wears}
 
 -- no place lies in an empty run
 in_empty : (run : WeakRun) (place : ℕ) → IsEmpty run → IsTrue (in_run run place) → ⊥
@@ -34,17 +33,6 @@ stand_one image place bytes size =
     let here : place + 0 ≡ place = omega arith in
     let all : take 512 bytes ≡ bytes = take_all 512 bytes (omega (arith, size)) in
     ap (λ (at : ℕ). set image at (Whole (take 512 bytes))) here ∙ ap (λ (b : List ℕ). set image place (Whole b)) all
-
-same_moment : (a b : Moment) → a.image ≡ b.image → a.windows ≡ b.windows → a.said ≡ b.said → a ≡ b
-same_moment a b image windows said =
-    ap (λ (x : List Sector). record { image = x; windows = a.windows; said = a.said }) image
-    ∙ ap (λ (x : Windows). record { image = b.image; windows = x; said = a.said }) windows
-    ∙ ap (λ (x : List ℕ). record { image = b.image; windows = b.windows; said = x }) said
-
-module _ (old new : Moment) (calm : IsCalm old.windows) where
-  -- a call that changes nothing
-  pub calm_wears : Wears old new → new ≡ old
-  calm_wears wears = same_moment new old (calm_worn old.windows old.image new.image calm wears.image) wears.windows wears.said
 
 -- the windows are calm where those of a later moment are, which are the same
 pub same_calm : (old new : Windows) → new ≡ old → IsCalm new → IsCalm old

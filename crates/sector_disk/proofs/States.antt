@@ -1,11 +1,12 @@
 -- What a call that is refused or noted makes of the state.
-use Rattle.std.proofs.Common.{◌≡◌, inl, inr, ℕ, ◌+◌, ◌-◌, ◌/◌, ◌^◌, ◌==◌, min, replicate, None, Vec, Bool, true, false, ◌||◌, ◌&&◌, cond, List, [], ◌∷◌, ◌++◌, length, refl, sym, ◌∙◌, ap, subst, arith}
+use Rattle.std.proofs.Common.{◌≡◌, inl, inr, ℕ, ◌+◌, ◌-◌, ◌/◌, ◌^◌, ◌==◌, min, replicate, Option, None, Some, Vec, Bool, true, false, ◌||◌, ◌&&◌, cond, List, [], ◌∷◌, ◌++◌, length, refl, sym, ◌∙◌, ap, subst, arith}
 use Rattle.std.specs.Prelude.{if◌then◌else◌, count_by, drop, Result, Ok, Err, OnOk, OnErr, is_ok, is_err}
 use Rattle.std.specs.List.{list_any}
 use Rattle.std.proofs.lemmas.List.{append-nil}
 use Rattle.std.specs.declared.alloc.Global.{Global}
 use Rattle.sector_disk.specs.declared.sector.Sector.{Sector}
 use Rattle.sector_disk.specs.declared.sector.Sector.TheVariants.{Damaged}
+use Rattle.sector_disk.specs.declared.sector.WeakRun.{WeakRun}
 use Rattle.sector_disk.specs.declared.machine.Attach.{Attach}
 use Rattle.sector_disk.specs.declared.machine.Attach.TheVariants.{Old, New}
 use Rattle.sector_disk.specs.declared.machine.Failed.{Failed}
@@ -19,14 +20,14 @@ use Rattle.sector_disk.specs.declared.event.Verdict.{Verdict}
 use Rattle.sector_disk.specs.declared.event.Verdict.TheVariants.{Goes, Fails, Stops}
 use Rattle.sector_disk.specs.declared.memory.MemoryMachine.{MemoryMachine}
 use Rattle.sector_disk.specs.Machine.{wrote}
-use Rattle.sector_disk.specs.Image.{stand}
+use Rattle.sector_disk.specs.Image.{settled, stand}
 use Rattle.sector_disk.specs.Events.{verdict_at, verdict_of, or_else, counts_at, stood_by, is_going, is_stop}
 use Rattle.sector_disk.specs.Past.{hurt_all, attaches_in, attach_of, written_in, written_by, begins_at, is_write_at, due}
 use Rattle.sector_disk.specs.State.{State, Rests, noted, asked, opened, put, put_by, spoken, call_goes, write_verdict, Exactly, Calls, Attached, Written, same}
-use Rattle.sector_disk.specs.Memory.{memory_state, memory_ledger, memory_honest, Notes, Refuses, Fails as Failing, IsAttaching, IsWriting}
+use Rattle.sector_disk.specs.Memory.{memory_state, memory_now, memory_ledger, memory_honest, Notes, Refuses, Fails as Failing, IsAttaching, IsWriting}
 use Rattle.sector_disk.specs.Windows.{all_weak}
 use Rattle.sector_disk.proofs.Calls.{noted_ledger}
-use Rattle.std.proofs.lemmas.List.{length_push}
+use Rattle.sector_disk.proofs.Steps.{noted_calls, noted_step, noted_synced}
 use Rattle.std.proofs.lemmas.List.Sums.{sum_by-append}
 
 -- A REFUSED CALL
@@ -42,6 +43,7 @@ refused_state old new refused = elim refused.cause [
 
     at : {n : ℕ} → new.starved ≡ n → memory_state new ≡ record (memory_state old) { starved = n }
     at is = ap memory_state refused.rest ∙ (λ i. record (memory_state old) {
+      now = record (memory_now old) { time = length (refused.past i); synced = min old.synced (length (refused.past i)) };
       ledger = record { input = drop old.taken old.input.items; attaches = attaches_in (refused.past i); written = written_in (refused.past i) };
       calls = length (refused.past i);
       begun = λ first. count_by (begins_at first) (refused.past i);
@@ -49,6 +51,15 @@ refused_state old new refused = elim refused.cause [
     })
 
 -- A NOTED CALL
+
+-- a sync now
+pub same_min : (sync n : ℕ) → sync ≡ n → min sync n ≡ n
+same_min sync n is = omega (arith, is)
+
+-- no run is named
+pub none_settled : (present next : Option WeakRun) → None ≡ next → record { present = present; next = next } ≡ settled present next
+none_settled present None is = refl
+none_settled present (Some run) is = absurd (cc is)
 
 none_add : (n : ℕ) → 0 + n ≡ n
 none_add n = omega arith
@@ -67,30 +78,30 @@ noted_by settle work s = record (noted settle s) {
 
 pub noted_state : (settle : Bool) (work : Work) (old new : MemoryMachine) → Notes settle work old new → memory_state new ≡ noted_by settle work (memory_state old)
 noted_state settle work old new call = ap memory_state call.rest ∙ (λ i. record (memory_state old) {
-  now = record { image = image i; windows = record { present = old.present; next = old.next }; said = old.said.items };
+  now = record { image = image i; windows = record { present = old.present; next = old.next }; said = old.said.items; time = calls i; synced = synced i };
   ledger = ledger i;
   calls = calls i;
   begun = λ first. begun first i;
   allowed = allowed i;
 })
   where
-    step : Step
-    step = record { hurts = call.hurts; present = old.present; next = old.next; said = length old.said.items; work = work }
-
     image : new.image.items ≡ hurt_all (due old.image.items (length old.past.items) settle old.events.items) old.image.items
     image = call.image ∙ ap (λ l. hurt_all l old.image.items) call.all_due
 
     mid : MemoryMachine
-    mid = record old { image = new.image; past = new.past; honest = new.honest }
+    mid = record old { image = new.image; past = new.past; honest = new.honest; synced = new.synced }
 
     ledger : memory_ledger mid ≡ record { input = (memory_ledger old).input; attaches = (memory_ledger old).attaches ++ attach_of work; written = (memory_ledger old).written + written_by work }
     ledger = sym (ap memory_ledger call.rest) ∙ noted_ledger settle work old new call
 
     calls : length new.past.items ≡ length old.past.items + 1
-    calls = ap (λ (l : List Step). length l) call.past ∙ length_push old.past.items step
+    calls = noted_calls settle work old new call
+
+    synced : min new.synced (length new.past.items) ≡ (memory_now old).synced
+    synced = noted_synced settle work old new call
 
     begun : (first : ℕ) → count_by (begins_at first) new.past.items ≡ count_by (begins_at first) old.past.items + (if is_write_at first work then 1 else 0)
-    begun first = ap (count_by (begins_at first)) call.past ∙ count-push first old.past.items step
+    begun first = ap (count_by (begins_at first)) call.past ∙ count-push first old.past.items (noted_step settle work old new call)
 
     allowed : new.honest ≡ (memory_honest old && all_weak old.present old.next (due old.image.items (length old.past.items) settle old.events.items))
     allowed = call.honest ∙ ap (λ l. memory_honest old && all_weak old.present old.next l) call.all_due
@@ -123,7 +134,7 @@ failed_exactly settle work old new done after is (inr failed) = inr (record { ru
 
 -- with room made for the bytes
 pub room_state : (old : MemoryMachine) (said : Vec ℕ Global) → said.items ≡ old.said.items → memory_state (record old { said = said }) ≡ memory_state old
-room_state old said is = λ i. record (memory_state old) { now = record { image = old.image.items; windows = record { present = old.present; next = old.next }; said = is i } }
+room_state old said is = λ i. record (memory_state old) { now = record (memory_now old) { said = is i } }
 
 pub said_none : (bytes : List ℕ) (old : MemoryMachine) (said copy : Vec ℕ Global) (new : MemoryMachine) → said.items ≡ old.said.items → Failing false (Saying copy) (record old { said = said }) new → Calls false (spoken bytes) same (memory_state old) (memory_state new) false
 said_none bytes old said copy new is failed =
@@ -135,7 +146,7 @@ pub said_all : (bytes : List ℕ) (old : MemoryMachine) (said copy : Vec ℕ Glo
     → end ≡ record new { said = end.said } → end.said.items ≡ new.said.items ++ bytes → Calls false (spoken bytes) same (memory_state old) (memory_state end) true
 said_all bytes old said copy new end is call goes rest all =
     let ready : MemoryMachine = record old { said = said } in
-    let after : memory_state end ≡ spoken bytes (memory_state new) = ap memory_state rest ∙ (λ i. record (memory_state new) { now = record { image = new.image.items; windows = record { present = new.present; next = new.next }; said = all i } }) in
+    let after : memory_state end ≡ spoken bytes (memory_state new) = ap memory_state rest ∙ (λ i. record (memory_state new) { now = record (memory_now new) { said = all i } }) in
     subst (λ (s : State). Calls false (spoken bytes) same s (memory_state end) true) (room_state old said is) (record {
       running = call.running;
       goes = goes;
@@ -157,15 +168,18 @@ pub unopened : (work : Work) (image : List Sector) (text : List ℕ) (how : Atta
 unopened work image text how old new is failed =
     failed_exactly false work old new (opened how (asked text how (noted false (memory_state old)))) (asked text how (noted false (memory_state old))) (asking work image text how (memory_state old) is) failed
 
-pub found_state : (work : Work) (image : List Sector) (text : List ℕ) (old new : MemoryMachine) → IsAttaching image text Old work → Notes false work old new → call_goes (memory_state old) ≡ true
-    → Attached text Old same (memory_state old) (memory_state (record new { next = None; attached = true })) true
-found_state work image text old new is call goes = record { running = call.running; goes = goes; after = ap (opened Old) (noted_state false work old new call ∙ asking work image text Old (memory_state old) is) }
+pub found_state : (work : Work) (image : List Sector) (text : List ℕ) (sync : ℕ) (old new : MemoryMachine) → sync ≡ length new.past.items → IsAttaching image text Old work → Notes false work old new → call_goes (memory_state old) ≡ true
+    → Attached text Old same (memory_state old) (memory_state (record new { next = None; attached = true; synced = sync })) true
+found_state work image text sync old new now is call goes =
+    let found_is : memory_state (record new { next = None; attached = true; synced = sync }) ≡ opened Old (memory_state new) =
+    λ i. record (memory_state new) { now = record (memory_now new) { windows = record { present = new.present; next = None }; synced = same_min sync (length new.past.items) now i }; attached = true } in
+    record { running = call.running; goes = goes; after = found_is ∙ ap (opened Old) (noted_state false work old new call ∙ asking work image text Old (memory_state old) is) }
 
-pub made_state : (work : Work) (image : List Sector) (text : List ℕ) (count : ℕ) (fresh : Vec Sector Global) (old new : MemoryMachine) → IsAttaching image text (New count) work → fresh.items ≡ replicate count Damaged → Notes false work old new → call_goes (memory_state old) ≡ true
-    → Attached text (New count) same (memory_state old) (memory_state (record new { next = None; present = None; attached = true; image = fresh })) true
-made_state work image text count fresh old new is made call goes =
-    let fresh_is : memory_state (record new { next = None; present = None; attached = true; image = fresh }) ≡ opened (New count) (memory_state new) =
-    λ i. record (memory_state new) { now = record { image = made i; windows = record { present = None; next = None }; said = new.said.items }; attached = true } in
+pub made_state : (work : Work) (image : List Sector) (text : List ℕ) (count sync : ℕ) (fresh : Vec Sector Global) (old new : MemoryMachine) → sync ≡ length new.past.items → IsAttaching image text (New count) work → fresh.items ≡ replicate count Damaged → Notes false work old new → call_goes (memory_state old) ≡ true
+    → Attached text (New count) same (memory_state old) (memory_state (record new { next = None; present = None; attached = true; image = fresh; synced = sync })) true
+made_state work image text count sync fresh old new now is made call goes =
+    let fresh_is : memory_state (record new { next = None; present = None; attached = true; image = fresh; synced = sync }) ≡ opened (New count) (memory_state new) =
+    λ i. record (memory_state new) { now = record (memory_now new) { image = made i; windows = record { present = None; next = None }; synced = same_min sync (length new.past.items) now i }; attached = true } in
     record { running = call.running; goes = goes; after = fresh_is ∙ ap (opened (New count)) (noted_state false work old new call ∙ asking work image text (New count) (memory_state old) is) }
 
 -- A WRITE
@@ -173,7 +187,7 @@ made_state work image text count fresh old new is made call goes =
 -- what is done to the state beside its ledger and the count of writes
 abbrev stands : ℕ → List ℕ → ℕ → Bool → State → State
 stands first text some stops s = record s {
-  now = record { image = stand s.now.image first text some; windows = s.now.windows; said = s.now.said };
+  now = record s.now { image = stand s.now.image first text some };
   written = min (s.written + some) (2 ^ 64 - 1);
   stopped = stops;
 }
@@ -198,7 +212,7 @@ pub put_state : (work : Work) (first : ℕ) (text : List ℕ) (some : ℕ) (done
     → end.written ≡ min (new.written + some) (2 ^ 64 - 1) → end ≡ record new { image = end.image; written = end.written; stopped = stops } → memory_state end ≡ put first text some done stops (noted false (memory_state old))
 put_state work first text some done stops old new end is call image written rest =
     ap memory_state rest
-    ∙ (λ i. record (memory_state new) { now = record { image = image i; windows = record { present = new.present; next = new.next }; said = new.said.items }; written = written i; stopped = stops })
+    ∙ (λ i. record (memory_state new) { now = record (memory_now new) { image = image i }; written = written i; stopped = stops })
     ∙ ap (stands first text some stops) (noted_state false work old new call)
     ∙ writing work old.image.items first text some done stops (memory_state old) is
 

@@ -6,7 +6,7 @@ use Rattle.sector_disk.specs.declared.machine.LoadFault.{LoadFault}
 use Rattle.sector_disk.specs.declared.machine.LoadFault.TheVariants.{Device, Lost}
 use Rattle.sector_disk.specs.declared.sector.Sector.{Sector}
 use Rattle.sector_disk.specs.declared.sector.Sector.TheVariants.{Whole, Damaged}
-use Rattle.sector_disk.specs.Machine.{Report, Moment, Rose, DeviceFault, UsesDisk, Trusts, Wears, LeavesOnly, OnlyWrites}
+use Rattle.sector_disk.specs.Machine.{Report, Moment, Rose, DeviceFault, UsesDisk, Trusts, Wears, LeavesOnly, OnlyWrites, StopSince, IsHistory}
 
 -- ---- faults
 
@@ -42,6 +42,25 @@ pub record SparesDisk (takes says : Bool) (old new : Report) : Type 0 where
   pub output : Counts says old.output_faults new.output_faults
 
 -- ---- moments
+
+-- What the laws of the trait say of the moments of an honest machine.
+pub record IsTimed {D : Type 0} (M : Ghosts D) (m : D) : Type 0 where
+  pub dated : (M.now m).time ≡ M.moment m
+  pub history : IsHistory (M.now m) (M.left_since m)
+  pub here : M.left_since m (M.moment m) (M.now m)
+  pub only : (c : Moment) → M.left_since m (M.moment m) c → c ≡ M.now m
+
+-- What a stop since a time may have left.
+abbrev pub stops : {D : Type 0} → Ghosts D → D → ℕ → Moment → Type 0
+stops M m t left = StopSince (M.left_since m) t left
+
+-- Each moment since the last sync has this: one of them is on the disk.
+abbrev pub IsHeld : {D : Type 0} → Ghosts D → D → (Moment → Type 0) → Type 0
+IsHeld M m P = (c : Moment) → M.left_since m (M.now m).synced c → P c
+
+-- A stop at any moment since old leaves what has P.
+abbrev pub StopsOnly : {D : Type 0} → Ghosts D → D → D → (Moment → Type 0) → Type 0
+StopsOnly M old new P = LeavesOnly M.moment (stops M) old new P
 
 -- What a stop might have left before, it might have left still.
 abbrev pub Since : {D : Type 0} → Ghosts D → D → D → Type 0

@@ -79,7 +79,7 @@ due_next settle s = due s.now.image s.calls settle s.events
 -- a call is noted, and the hurts before it have come
 abbrev pub noted : Bool → State → State
 noted settle s = record s {
-  now = record { image = hurt_all (due_next settle s) s.now.image; windows = s.now.windows; said = s.now.said };
+  now = record s.now { image = hurt_all (due_next settle s) s.now.image; time = s.calls + 1 };
   calls = s.calls + 1;
   allowed = is_honest s && all_weak s.now.windows.present s.now.windows.next (due_next settle s);
 }
@@ -88,15 +88,15 @@ noted settle s = record s {
 abbrev pub asked : List ℕ → Attach → State → State
 asked path how s = record s { ledger = asked_for s.ledger path how }
 
--- and finds or makes its image
+-- and finds or makes its image, behind a sync
 abbrev pub opened : Attach → State → State
-opened Old s = record s { now = record { image = s.now.image; windows = record { present = s.now.windows.present; next = None }; said = s.now.said }; attached = true }
-opened (New count) s = record s { now = record { image = replicate count Damaged; windows = record { present = None; next = None }; said = s.now.said }; attached = true }
+opened Old s = record s { now = record s.now { windows = record { present = s.now.windows.present; next = None }; synced = s.calls }; attached = true }
+opened (New count) s = record s { now = record s.now { image = replicate count Damaged; windows = record { present = None; next = None }; synced = s.calls }; attached = true }
 
 -- so many sectors of a write stand; it is done, or not, and stops the machine, or not
 abbrev pub put : ℕ → List ℕ → ℕ → Bool → Bool → State → State
 put first bytes stood done stops s = record s {
-  now = record { image = stand s.now.image first bytes stood; windows = s.now.windows; said = s.now.said };
+  now = record s.now { image = stand s.now.image first bytes stood };
   ledger = if done then wrote s.ledger (length bytes / 512) else s.ledger;
   begun = λ sector. s.begun sector + (if first == sector then 1 else 0);
   written = min (s.written + stood) (2 ^ 64 - 1);
@@ -107,16 +107,20 @@ put first bytes stood done stops s = record s {
 abbrev pub put_by : Verdict → ℕ → List ℕ → State → State
 put_by verdict first bytes = put first bytes (stood_by verdict (length bytes / 512)) (is_going verdict) (is_stop verdict)
 
--- the next run is named
+-- all that was written is brought to the disk
+abbrev pub flushed : State → State
+flushed s = record s { now = record s.now { synced = s.calls } }
+
+-- the next run is named, behind a sync
 abbrev pub healed : (longest : ℕ) → State → State
 healed longest s = record s {
-  now = record { image = s.now.image; windows = record { present = s.now.windows.present; next = Some (next_run longest s.line) }; said = s.now.said };
+  now = record s.now { windows = record { present = s.now.windows.present; next = Some (next_run longest s.line) }; synced = s.calls };
   line = moved_on s.line;
 }
 
--- the named run is the present one
+-- the named run is the present one, behind a sync
 abbrev pub closed : State → State
-closed s = record s { now = record { image = s.now.image; windows = settled s.now.windows.present s.now.windows.next; said = s.now.said } }
+closed s = record s { now = record s.now { windows = settled s.now.windows.present s.now.windows.next; synced = s.calls } }
 
 -- how many bytes a `take` gives where there is room for so many
 abbrev pub given : State → ℕ → ℕ
@@ -127,7 +131,7 @@ abbrev pub taken : ℕ → State → State
 taken room s = record s { ledger = took s.ledger (given s room) }
 
 abbrev pub spoken : List ℕ → State → State
-spoken bytes s = record s { now = record { image = s.now.image; windows = s.now.windows; said = s.now.said ++ bytes } }
+spoken bytes s = record s { now = record s.now { said = s.now.said ++ bytes } }
 
 abbrev pub same : State → State
 same s = s

@@ -2,10 +2,11 @@
 ghost use Rattle.std.specs.Prelude.{◌≡◌, false, true, ◌⊎◌, ◌+◌, ◌-◌, ◌/◌, ◌%◌, ◌^◌, ◌<◌, ◌≤◌, ◌++◌, min, drop, refl, length, is_ok, IfOk, IfErr, OnOk, OnErr};
 ghost use Rattle.std.proofs.Common.{inl};
 ghost use Rattle.sector_disk.specs.Image.{longest_run, sector_at};
-ghost use Rattle.sector_disk.specs.State.{Calls, Attached, Written, same, healed, closed, given, taken, spoken, disk_failed, input_failed, output_failed};
-ghost use Rattle.sector_disk.specs.Machine.{Takes, Wears, Utters, Says, OutputCause, Attaches, GivesAsked, asked_for, Writes, Tears, DiskCause, InputCause, Names, Settles, Shows, Before, took, wrote};
+ghost use Rattle.sector_disk.specs.State.{Calls, Attached, Written, same, flushed, healed, closed, given, taken, spoken, disk_failed, input_failed, output_failed};
+ghost use Rattle.sector_disk.specs.Machine.{Takes, Wears, Utters, Says, OutputCause, Attaches, GivesAsked, asked_for, Writes, Tears, DiskCause, InputCause, Names, Settles, Shows, Before, IsSynced, took, wrote};
 ghost use Rattle.sector_disk.specs.Past.{only_at_end};
 ghost use Rattle.sector_disk.specs.Memory.{memory_report, memory_now, memory_ledger, memory_sized, memory_small, memory_state, MemoryTrusts, MemoryElapses, MemoryReaches, IsHonest, memory_calls, memory_left, memory_short};
+ghost use Rattle.sector_disk.specs.History.{memory_history};
 
 use super::MemoryMachine;
 use crate::event::{Verdict, piece_of, stood_of};
@@ -29,7 +30,11 @@ impl Machine for MemoryMachine {
 
     ghost honest_tells = { λ m honest. tt };
 
-    ghost counts_now = { λ m t honest le. inl refl };
+    ghost counts_now = { λ m t honest le. (le, inl refl) };
+
+    ghost dated = { λ m honest. refl };
+
+    ghost history = { memory_history };
 
     ghost only_now = { λ m left honest since. only_at_end m.past.items (memory_now m) left since };
 
@@ -71,6 +76,7 @@ impl Machine for MemoryMachine {
         ensures trust { MemoryTrusts self.old self.new }
         ensures made { IfOk result (λ count. GivesAsked how count) }
         ensures attached { OnOk result (IsHonest self.new → Attaches how (memory_now self.old) (memory_now self.new)) }
+        ensures synced { OnOk result (IsHonest self.new → IsSynced (memory_now self.new)) }
         ensures size { IfOk result (λ count. count ≡ min (length (memory_now self.new).image) (2 ^ 32 - 1)) }
         ensures failed { OnErr result (IsHonest self.new → Wears (memory_now self.old) (memory_now self.new)) }
         ensures time { MemoryElapses self.old self.new (Before (memory_now self.old) (memory_now self.new)) }
@@ -119,6 +125,7 @@ impl Machine for MemoryMachine {
         ensures sectors { (memory_report self.new).sectors ≡ (memory_report self.old).sectors }
         ensures trust { MemoryTrusts self.old self.new }
         ensures named { OnOk result (IsHonest self.new → Names longest (memory_now self.old) (memory_now self.new)) }
+        ensures synced { OnOk result (IsHonest self.new → IsSynced (memory_now self.new)) }
         ensures failed { OnErr result (IsHonest self.new → Wears (memory_now self.old) (memory_now self.new)) }
         ensures time { MemoryElapses self.old self.new (Before (memory_now self.old) (memory_now self.new)) }
         ensures reached { OnOk result (MemoryReaches self.old self.new (Wears (memory_now self.old))) }
@@ -128,6 +135,7 @@ impl Machine for MemoryMachine {
         if self.pass(false).is_err() {
             return Err(self.disk_fault(0));
         }
+        self.synced = self.past.len();
         self.named = self.named.saturating_add(1);
         self.next = Some(run_at(&self.runs, self.named, longest));
         Ok(())
@@ -138,6 +146,7 @@ impl Machine for MemoryMachine {
         ensures sectors { (memory_report self.new).sectors ≡ (memory_report self.old).sectors }
         ensures trust { MemoryTrusts self.old self.new }
         ensures settled { OnOk result (IsHonest self.new → Settles (memory_now self.old) (memory_now self.new)) }
+        ensures synced { OnOk result (IsHonest self.new → IsSynced (memory_now self.new)) }
         ensures failed { OnErr result (IsHonest self.new → Wears (memory_now self.old) (memory_now self.new)) }
         ensures time { MemoryElapses self.old self.new (Before (memory_now self.old) (memory_now self.new)) }
         ensures reached { OnOk result (MemoryReaches self.old self.new (Wears (memory_now self.old))) }
@@ -147,6 +156,7 @@ impl Machine for MemoryMachine {
         if self.pass(true).is_err() {
             return Err(self.disk_fault(0));
         }
+        self.synced = self.past.len();
         match self.next {
             None => Ok(()),
             Some(run) => {
@@ -155,6 +165,24 @@ impl Machine for MemoryMachine {
                 Ok(())
             }
         }
+    }
+
+    fn sync(&mut self) -> Result<(), Failed>
+        ensures cause { DiskCause (memory_report self.old) (memory_report self.new) 0 result }
+        ensures sectors { (memory_report self.new).sectors ≡ (memory_report self.old).sectors }
+        ensures trust { MemoryTrusts self.old self.new }
+        ensures worn { IsHonest self.new → Wears (memory_now self.old) (memory_now self.new) }
+        ensures synced { OnOk result (IsHonest self.new → IsSynced (memory_now self.new)) }
+        ensures time { MemoryElapses self.old self.new (Wears (memory_now self.old)) }
+        ensures reached { OnOk result (MemoryReaches self.old self.new (Wears (memory_now self.old))) }
+        ensures ledger { Unit {0} → memory_ledger self.new ≡ memory_ledger self.old }
+        ensures exact { Calls false flushed (disk_failed 0) (memory_state self.old) (memory_state self.new) (is_ok result) }
+    {
+        if self.pass(false).is_err() {
+            return Err(self.disk_fault(0));
+        }
+        self.synced = self.past.len();
+        Ok(())
     }
 
     fn take(&mut self, buf: &mut [u8]) -> Result<usize, Failed>
