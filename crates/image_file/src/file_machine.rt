@@ -11,8 +11,8 @@ use std::rt::Files;
 
 /// The machine over a file of slots, standard input and standard output.
 ///
-/// Contracts see what it reports and no more. It answers for no content: `healing` and `settle` only forget what was
-/// read ahead, as no run of sectors is weak by anything that it does.
+/// Contracts see what it reports and no more. It answers for no content: `healing` and `settle` only bring what was
+/// written to the disk and forget what was read ahead, as no run of sectors is weak by anything that it does.
 #[derive(Drop)]
 pub struct FileMachine<R: Files<File = File> + Input + Print + Drop> {
     rt: R,
@@ -83,6 +83,10 @@ impl<R: Files<File = File> + Input + Print + Drop> Machine for FileMachine<R> {
 
     ghost counts_now = { λ m t never le. never };
 
+    ghost dated = { λ m never. absurd never };
+
+    ghost history = { λ m never. absurd never };
+
     ghost only_now = { λ m c never left. absurd never };
 
     ghost short = { λ m never. absurd never };
@@ -120,13 +124,24 @@ impl<R: Files<File = File> + Input + Print + Drop> Machine for FileMachine<R> {
     }
 
     fn healing(&mut self, _longest: u32) -> Result<(), Failed> {
-        self.disk.turn();
-        Ok(())
+        match self.disk.turn() {
+            Ok(()) => Ok(()),
+            Err(_) => Err(self.disk_fault(0)),
+        }
     }
 
     fn settle(&mut self) -> Result<(), Failed> {
-        self.disk.turn();
-        Ok(())
+        match self.disk.turn() {
+            Ok(()) => Ok(()),
+            Err(_) => Err(self.disk_fault(0)),
+        }
+    }
+
+    fn sync(&mut self) -> Result<(), Failed> {
+        match self.disk.sync() {
+            Ok(()) => Ok(()),
+            Err(_) => Err(self.disk_fault(0)),
+        }
     }
 
     fn take(&mut self, buf: &mut [u8]) -> Result<usize, Failed> {
