@@ -104,12 +104,12 @@ module _ (log : LogValue) (pages images : List ℕ) (long : ℕ) (may : MayAppen
     unfolding below
     torn = tape_worn log.layout log.anchor.third (spot_for log.layout (length pages) log.head).at (record_len (gap_of log.layout) (length pages)) (spot_for log.layout (length pages) log.head).end (in_third log pages images long may) (open_damage old.windows) old.image left (laid_bytes (gap_of log.layout) (stamp_now log) pages images) stood within (room_for stood within) worn
 
-    pub image_before : stood ≤ 3 + (gap_of log.layout) + length pages → scan_of log (record { image = left; windows = old.windows; said = old.said }) ≡ record { records = records; head = log.head }
+    pub image_before : stood ≤ 3 + (gap_of log.layout) + length pages → scan_of log (record old { image = left }) ≡ record { records = records; head = log.head }
     image_before before = worn_before log.layout log.anchor.epoch log.anchor.first may.epoch (omega (arith, may.least)) (tape log.layout log.anchor.third (reads below)) (tape log.layout log.anchor.third (reads left)) records log.head log_below may.number
         pages images (laid_bytes (gap_of log.layout) (stamp_now log) pages images) (are log pages images long may) (laid log pages images long may) (spot_for log.layout (length pages) log.head) (spots log pages images long may).0 (λ w. open_damage old.windows (place_of log.layout log.anchor.third w)) stood within torn before
 
-    pub image_either : (scan_of log (record { image = left; windows = old.windows; said = old.said }) ≡ record { records = records; head = log.head })
-        ⊎ (scan_of log (record { image = left; windows = old.windows; said = old.said }) ≡ record { records = records ++ next_record log pages images ∷ []; head = head_past log (length pages) })
+    pub image_either : (scan_of log (record old { image = left }) ≡ record { records = records; head = log.head })
+        ⊎ (scan_of log (record old { image = left }) ≡ record { records = records ++ next_record log pages images ∷ []; head = head_past log (length pages) })
     image_either = worn_either log.layout log.anchor.epoch log.anchor.first may.epoch (omega (arith, may.least)) (tape log.layout log.anchor.third (reads below)) (tape log.layout log.anchor.third (reads left)) records log.head log_below may.number
         pages images (laid_bytes (gap_of log.layout) (stamp_now log) pages images) (are log pages images long may) (laid log pages images long may) (spot_for log.layout (length pages) log.head) (spots log pages images long may).0 (λ w. open_damage old.windows (place_of log.layout log.anchor.third w)) stood within torn
 

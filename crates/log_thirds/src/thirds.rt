@@ -287,6 +287,15 @@ impl Log {
         has_some(self.slots.as_slice())
     }
 
+    /// Whether the log has this page.
+    pub fn has(&self, page: u32) -> bool
+        requires { page < self.now.layout.pages }
+        ensures slot { (result ≡ false) ↔ (slice_index_or self.now.slots page None ≡ None) }
+        ensures nowhere { result ≡ false → (records : List Placed) → IsIndexed self.now records → last_image page records ≡ None }
+    {
+        self.slots[page as usize].is_some()
+    }
+
     /// Reads a page's last image, and answers false where the log has none. Its sector is taken where that bears the
     /// page and the stamp of its record, else the copy where that does. It is lost exactly where both read damaged.
     /// Where the disk no longer is what the log was found on, one of them may be whole and bear something else: then

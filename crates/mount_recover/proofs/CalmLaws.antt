@@ -1,9 +1,8 @@
 -- A mount of any image, where nothing wears.
-use Rattle.std.proofs.Common.{◌≡◌, ◌≢◌, ◌⊎◌, inl, inr, ⊎_elim, ℕ, ◌+◌, ◌*◌, ◌<◌, ◌≤◌, false, List, length, Option, Some, None, refl, sym, ap, subst, ◌∙◌, arith, zero, suc}
+use Rattle.std.proofs.Common.{◌≡◌, ◌⊎◌, inl, inr, ⊎_elim, ℕ, ◌+◌, ◌*◌, ◌<◌, ◌≤◌, false, List, length, Option, Some, None, refl, sym, ap, subst, ◌∙◌, arith, zero, suc}
 use Rattle.std.specs.Prelude.{IfSome, option_and_then}
 use Rattle.std.specs.List.{AllByRecursion}
 use Rattle.std.specs.Option.{option_or}
-use Rattle.std.proofs.lemmas.Bool.{cases_lt}
 use Rattle.volume_layout.specs.declared.layout.Layout.{Layout}
 use Rattle.volume_layout.specs.Layout.{home_a, home_b}
 use Rattle.sector_disk.specs.declared.machine.LoadFault.{LoadFault}
@@ -14,7 +13,7 @@ use Rattle.sector_disk.specs.declared.sector.WeakRun.{WeakRun}
 use Rattle.sector_disk.specs.Damage.{LostCause, IsDevice}
 use Rattle.sector_disk.specs.Image.{Windows, IsEmpty, IsCalm, IsWorn, sector_at, slice_of, with_sector, stand, open_damage, settled, bytes_of}
 use Rattle.sector_disk.specs.Machine.{Moment, Holds, Wears, Names}
-use Rattle.sector_disk.proofs.Calm.{calm_wears, calm_worn, worn_not, stand_one}
+use Rattle.sector_disk.proofs.Calm.{calm_worn, worn_not, stand_one}
 use Rattle.sector_disk.proofs.Wear.{stand_in, stand_other, length-stand}
 use Rattle.fsd_log.specs.Images.{last_image}
 use Rattle.fsd_log.specs.Judged.{Reader}
@@ -45,7 +44,7 @@ use Rattle.mount_recover.specs.Lost.{StandAsShown}
 use Rattle.fsd_sound.specs.Lost.{LosesShown}
 use Rattle.mount_recover.specs.Mending.{KnowsLog, StaysBut}
 use Rattle.fsd_sound.specs.Mounting.{IsVolume, load_fault_of}
-use Rattle.mount_recover.specs.Showing.{GivesPages, shows_of, ChangesHome, HasNoRoot, IsLaidAgain, IsShowing, LosesNone, LosesHome}
+use Rattle.mount_recover.specs.Showing.{GivesPages, shows_of, ChangesHome, HasNoRoot, IsLaidAgain, LosesNone, LosesHome}
 use Rattle.mount_recover.proofs.AgainLaws.{again_stand}
 use Rattle.mount_recover.proofs.CompletingLaws.{low_third, copies_inside, copies_behind}
 use Rattle.mount_recover.proofs.GivenLaws.{RecordAgain, last_again, gives_again, gives_same, slot_inside, scan_gives}
@@ -112,27 +111,16 @@ given_on l log same records i j page front given = by_slot (slot_of log.layout l
 
 -- ---- one page
 
-home_same : (l : Layout) (i j : Image) (page : ℕ) → sector_at j (home_a l page) ≡ sector_at i (home_a l page) → sector_at j (home_b l page) ≡ sector_at i (home_b l page) → home_of l j page ≡ home_of l i page
+pub home_same : (l : Layout) (i j : Image) (page : ℕ) → sector_at j (home_a l page) ≡ sector_at i (home_a l page) → sector_at j (home_b l page) ≡ sector_at i (home_b l page) → home_of l j page ≡ home_of l i page
 home_same l i j page first second = λ x. either_copy (bytes_of (first x)) (bytes_of (second x))
 
-first_home : (l : Layout) (i : Image) (page : ℕ) (bytes : List ℕ) → sector_at i (home_a l page) ≡ Whole bytes → home_of l i page ≡ Some bytes
+pub first_home : (l : Layout) (i : Image) (page : ℕ) (bytes : List ℕ) → sector_at i (home_a l page) ≡ Whole bytes → home_of l i page ≡ Some bytes
 first_home l i page bytes is = ap (λ (s : Sector). either_copy (bytes_of s) (bytes_at i (home_b l page))) is
 
 second_home : (l : Layout) (i : Image) (page : ℕ) (bytes : List ℕ) → sector_at i (home_a l page) ≡ Damaged → sector_at i (home_b l page) ≡ Whole bytes → home_of l i page ≡ Some bytes
 second_home l i page bytes hurt is = ap (λ (s : Sector). either_copy (bytes_of s) (bytes_at i (home_b l page))) hurt ∙ ap bytes_of is
 
 module _ (l : Layout) (page : ℕ) (lt : page < l.pages) (old new : Moment) (still : IsCalmNow old) (long : home_b l l.pages ≤ length old.image) where
-  pub homes_change : (bytes : List ℕ) → length bytes ≡ 512 → Holds old (stand (stand old.image (home_a l page) bytes 1) (home_b l page) bytes 1) new → ChangesHome l page old.image new.image (Some bytes)
-  homes_change bytes size holds =
-      let is : new.image ≡ with_sector (with_sector old.image (home_a l page) bytes) (home_b l page) bytes =
-      still_holds old (stand (stand old.image (home_a l page) bytes 1) (home_b l page) bytes 1) new still holds
-      ∙ ap (λ (i : Image). stand i (home_b l page) bytes 1) (stand_one old.image (home_a l page) bytes size) ∙ stand_one (with_sector old.image (home_a l page) bytes) (home_b l page) bytes size in
-      record {
-        others = λ s a b. ap (λ (i : Image). sector_at i s) is ∙ with_other (with_sector old.image (home_a l page) bytes) (home_b l page) s bytes b ∙ with_other old.image (home_a l page) s bytes a;
-        is = first_home l new.image page bytes (ap (λ (i : Image). sector_at i (home_a l page)) is
-            ∙ with_other (with_sector old.image (home_a l page) bytes) (home_b l page) (home_a l page) bytes (λ e. omega (arith, e, lt)) ∙ with_same old.image (home_a l page) bytes (omega (arith, long, lt)));
-      }
-
   may_damaged : (s : ℕ) → ReadsDamaged old s → sector_at old.image s ≡ Damaged
   may_damaged s (inl hurt) = hurt
   may_damaged s (inr may) = absurd (cc (still s, may))
@@ -178,35 +166,7 @@ module _ (l : Layout) (page : ℕ) (lt : page < l.pages) (old new : Moment) (sti
       by_way (inr (inl mends)) first second = absurd (mends_whole (home_a l page) (home_b l page) (inl (omega (arith, lt))) mends second)
       by_way (inr (inr mends)) first second = absurd (mends_whole (home_b l page) (home_a l page) (inr (omega (arith, lt))) mends first)
 
--- ---- page by page
-
-pub showing_none : (l : Layout) (records : List Placed) (i : Image) → IsShowing l records i 0 i
-showing_none l records i = record { front = λ s lt. refl; done = λ page lt. absurd (omega (arith, lt)); left = λ page from lt. refl }
-
-module _ (l : Layout) (records : List Placed) (first : Image) (n : ℕ) (lt : n < l.pages) (i j : Image) (at : IsShowing l records first n i) where
-  pub showing_next : (shown : Option (List ℕ)) → ChangesHome l n i j shown → shown ≡ shows_of l records first n → IsShowing l records first (n + 1) j
-  showing_next shown changes same =
-      let other : (page : ℕ) → page < l.pages → page ≢ n → home_of l j page ≡ home_of l i page = λ page within other.
-      home_same l i j page (changes.others (home_a l page) (λ e. other (omega (arith, e))) (λ e. omega (arith, e, within))) (changes.others (home_b l page) (λ e. omega (arith, e, lt)) (λ e. other (omega (arith, e)))) in
-      record {
-        front = λ s inside. changes.others s (λ e. omega (arith, e, inside)) (λ e. omega (arith, e, inside)) ∙ at.front s inside;
-        done = λ page le. ⊎_elim
-            (λ before. other page (omega (arith, before, lt)) (λ e. omega (arith, e, before)) ∙ at.done page before)
-            (λ past. let here : page ≡ n = omega (arith, past, le) in subst (λ (k : ℕ). home_of l j k ≡ shows_of l records first k) (sym here) (changes.is ∙ same))
-            (cases_lt page n);
-        left = λ page from within. other page within (λ e. omega (arith, e, from)) ∙ at.left page (omega (arith, from)) within;
-      }
-
-  -- a page that is not logged
-  pub at_home : last_image n records ≡ None → home_of l i n ≡ shows_of l records first n
-  at_home none = at.left n (omega arith) lt ∙ ap (λ (o : Option (List ℕ)). option_or o (home_of l first n)) (sym none)
-
-  pub in_log : (bytes : List ℕ) → last_image n records ≡ Some bytes → Some bytes ≡ shows_of l records first n
-  in_log bytes logged = ap (λ (o : Option (List ℕ)). option_or o (home_of l first n)) (sym logged)
-
-  pub loses_so : last_image n records ≡ None → (fault : MountFault) → LosesHome l n i fault → LosesNone l records first fault
-  loses_so none (Lost a b) lost = record { page = n; within = lt; first = lost.0.0; second = lost.0.1; none = sym (at_home none) ∙ lost.1 }
-  loses_so none other lost = tt
+-- ---- faults
 
 -- what was read is not lost
 pub device_loses : (l : Layout) (records : List Placed) (first : Image) (fault : LoadFault) (told : MountFault) → told ≡ load_fault_of fault → IsDevice fault → LosesNone l records first told
@@ -257,18 +217,6 @@ roots_lose bytes old new room still roots some (load.Lost a b) lost =
           ∙ not_written (stand old.image 0 bytes roots.first) 4 roots.second bytes roots.once_more (omega (arith, room, length-stand old.image 0 bytes roots.first)) second,
     )
 
--- ---- pages and roots
-
-module _ (l : Layout) (log : LogValue) (records : List Placed) (old mid : Moment) (at : IsShowing l records old.image l.pages mid.image) where
-  pub roots_kept : HasNoRoot mid.image → HasNoRoot old.image
-  roots_kept none = (sym (at.front 0 (omega arith)) ∙ none.0, sym (at.front 4 (omega arith)) ∙ none.1)
-
-  pub all_shown : (new : Moment) → IsCalmNow mid → StaysBut 0 4 mid new → (page : ℕ) → page < l.pages → home_of l new.image page ≡ shows_of l records old.image page
-  all_shown new still kept page lt = home_same l mid.image new.image page (same (home_a l page) (omega arith)) (same (home_b l page) (omega arith)) ∙ at.done page lt
-    where
-      same : (s : ℕ) → 8 ≤ s → sector_at new.image s ≡ sector_at mid.image s
-      same s from = ⊎_elim (λ is. is) (λ hurt. absurd (cc (still s, hurt.0))) (kept s (λ e. omega (arith, e, from)) (λ e. omega (arith, e, from)))
-
 -- ---- the windows of a mount that is calm at its end
 
 pub calm_now : (w : Windows) → IsCalm w → (place : ℕ) → open_damage w place ≡ false
@@ -292,8 +240,8 @@ calm_on one two calm present next = record { present = subst (λ (o : Option Wea
 
 -- the calls of a mount of an image on which nothing wears, up to the homes
 module _ (sectors : ℕ) (l : Layout) (log : LogValue) (old one two : Moment) (calm : IsCalm old.windows) (wears : Wears old one) (is : IsFound sectors l log old one) where
-  as_old : one ≡ old
-  as_old = calm_wears old one calm wears
+  as_old : one.image ≡ old.image
+  as_old = calm_worn old.windows old.image one.image calm wears.image
 
   seen_old : is.seen ≡ old.image
   seen_old = calm_worn old.windows old.image is.seen calm is.from
@@ -302,24 +250,24 @@ module _ (sectors : ℕ) (l : Layout) (log : LogValue) (old one two : Moment) (c
   volume_old = record { root = ap (root_of sectors) (sym seen_old) ∙ is.root; anchor = ap anchor_of (sym seen_old) ∙ is.knows.taken }
 
   pub knows_one : KnowsLog l log one.image
-  knows_one = subst (KnowsLog l log) (seen_old ∙ ap (λ (m : Moment). m.image) (sym as_old)) is.knows
+  knows_one = subst (KnowsLog l log) (seen_old ∙ sym as_old) is.knows
 
   pub still_one : IsCalmNow one
-  still_one = subst (λ (m : Moment). IsCalmNow m) (sym as_old) (calm_now old.windows calm)
+  still_one = calm_now one.windows (subst (λ (w : Windows). IsCalm w) (sym wears.windows) calm)
 
   pub calm_two : two.windows.present ≡ one.windows.present → IfSome two.windows.next IsEmpty → IsCalm two.windows
-  calm_two present next = calm_on old.windows two.windows calm (present ∙ ap (λ (m : Moment). m.windows.present) as_old) next
+  calm_two present next = calm_on old.windows two.windows calm (present ∙ ap (λ (w : Windows). w.present) wears.windows) next
 
   module _ (laid : IsLaidAgain l log one.image two.image) where
     shows_same : (page : ℕ) → shows_of l (records_by l one.image log.anchor) two.image page ≡ newest l old.image (records_by l old.image log.anchor) page
     shows_same page =
         ap (option_or (last_image page (records_by l one.image log.anchor))) (home_same l one.image two.image page (laid.rest (home_a l page) (inr (omega arith))) (laid.rest (home_b l page) (inr (omega arith))))
-        ∙ ap (λ (m : Moment). newest l m.image (records_by l m.image log.anchor) page) as_old
+        ∙ ap (λ (i : Image). newest l i (records_by l i log.anchor) page) as_old
 
     pub some_root : HasNoRoot two.image → ⊥
     some_root none =
-        let first : sector_at old.image 0 ≡ Damaged = ap (λ (m : Moment). sector_at m.image 0) (sym as_old) ∙ sym (laid.rest 0 (inl (omega arith))) ∙ none.0 in
-        let second : sector_at old.image 4 ≡ Damaged = ap (λ (m : Moment). sector_at m.image 4) (sym as_old) ∙ sym (laid.rest 4 (inl (omega arith))) ∙ none.1 in
+        let first : sector_at old.image 0 ≡ Damaged = ap (λ (i : Image). sector_at i 0) (sym as_old) ∙ sym (laid.rest 0 (inl (omega arith))) ∙ none.0 in
+        let second : sector_at old.image 4 ≡ Damaged = ap (λ (i : Image). sector_at i 4) (sym as_old) ∙ sym (laid.rest 4 (inl (omega arith))) ∙ none.1 in
         let at : Sector → Option Layout = λ s. option_and_then (counted_root sectors) (option_and_then read_root (bytes_of s)) in
         let nothing : root_of sectors old.image ≡ None = λ x. either_copy (at (first x)) (at (second x)) in
         absurd (cc (nothing, volume_old.root))

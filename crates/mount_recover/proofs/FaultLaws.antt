@@ -35,6 +35,11 @@ pub load_excused : (fault : LoadFault) → IsDevice fault → IsExcuse (load_fau
 load_excused (load.Device s) device = tt
 load_excused (load.Lost a b) device = absurd device
 
+-- an excuse tells nothing that is lost
+pub excuse_lost : (AreCopies : ℕ → ℕ → Type 0) (image : Image) (fault : MountFault) → IsExcuse fault → LostIn AreCopies image fault
+excuse_lost AreCopies image (Lost a b) excuse = absurd excuse
+excuse_lost AreCopies image other excuse = tt
+
 -- what was read is not lost
 pub load_not_lost : (AreCopies : ℕ → ℕ → Type 0) (image : Image) (fault : LoadFault) (told : MountFault) → told ≡ load_fault_of fault → ((a b : ℕ) → AreLost AreCopies image a b → ⊥) → LostCause AreCopies image fault → IsExcuse told
 load_not_lost AreCopies image (load.Device s) told is none lost = subst IsExcuse (sym is) tt

@@ -1,5 +1,5 @@
 -- The calls of a mount keep the windows, what was said, and each sector where they do not write.
-use Rattle.std.proofs.Common.{◌≡◌, ◌≢◌, inl, inr, ℕ, ◌<◌, ◌≤◌, List, refl, subst, ◌∙◌, arith}
+use Rattle.std.proofs.Common.{◌≡◌, ◌≢◌, inl, inr, ℕ, ◌<◌, ◌≤◌, List, refl, subst, ◌∙◌}
 use Rattle.volume_layout.specs.declared.layout.Layout.{Layout}
 use Rattle.volume_layout.specs.Layout.{home_a, home_b}
 use Rattle.sector_disk.specs.Image.{Windows, sector_at, stand, open_damage}
@@ -7,9 +7,10 @@ use Rattle.sector_disk.specs.Machine.{Moment, Holds, Wears}
 use Rattle.sector_disk.proofs.Wear.{stand_other, worn_twice}
 use Rattle.fsd_files.specs.Disk.{Image, SectorWorn}
 use Rattle.fsd_sound.proofs.WritesLaws.{beside, elsewhere}
-use Rattle.twin_home.specs.Home.{HomesIn}
+use Rattle.twin_home.specs.Home.{WritesPart}
 use Rattle.twin_home.specs.Heal.{Heals, HealsRoots}
-use Rattle.mount_recover.specs.Mending.{Keeps, KeepsBut}
+use Rattle.mount_recover.specs.Mending.{IsHome, Keeps, KeepsBut}
+use Rattle.mount_recover.proofs.MendingLaws.{not_home}
 
 -- ---- but for two sectors
 
@@ -24,9 +25,9 @@ but_holds a b old new image holds same = record {
   others = λ s not_a not_b. worn_twice (open_damage old.windows s) (sector_at old.image s) (sector_at image s) (sector_at new.image s) (inl (same s not_a not_b)) (holds.worn.each s);
 }
 
-pub but_homes : (l : Layout) (page : ℕ) (bytes : List ℕ) (old new : Moment) → HomesIn l page bytes old new → KeepsBut (home_a l page) (home_b l page) old new
-but_homes l page bytes old new homes = but_holds (home_a l page) (home_b l page) old new (stand (stand old.image (home_a l page) bytes homes.first) (home_b l page) bytes homes.second) homes.holds
-    (two_written (home_a l page) (home_b l page) bytes homes.first homes.second homes.once (omega (arith, homes.in_order, homes.once)) old.image)
+pub but_part : (place : ℕ) (bytes : List ℕ) (old new : Moment) → WritesPart place bytes old new → KeepsBut place place old new
+but_part place bytes old new part = but_holds place place old new (stand old.image place bytes part.stood) part.holds
+    (λ s other again. stand_other old.image place bytes part.stood s (beside s place part.stood other part.within))
 
 pub but_heals : (a b : ℕ) (old new : Moment) → Heals a b old new → KeepsBut a b old new
 but_heals a b old new (inl holds) = but_holds a b old new old.image holds (λ s not_a not_b. refl)
@@ -70,6 +71,14 @@ keeps_page l page lt old new but = record {
   windows = but.windows;
   said = but.said;
   rest = λ s out. let is = elsewhere l s out in but.others s (is.home page lt) (is.home_copy page lt);
+}
+
+-- one home of it
+pub keeps_home : (l : Layout) (page : ℕ) → page < l.pages → (place : ℕ) → IsHome l page place → (old new : Moment) → KeepsBut place place old new → Keeps l old new
+keeps_home l page lt place home old new but = record {
+  windows = but.windows;
+  said = but.said;
+  rest = λ s out. let is = elsewhere l s out in let other = not_home l page place s home (is.home page lt) (is.home_copy page lt) in but.others s other other;
 }
 
 pub keeps_roots : (l : Layout) (old new : Moment) → KeepsBut 0 4 old new → Keeps l old new

@@ -11,5 +11,6 @@ mod MountLaws
 mod PlaceLaws
 mod RootLaws
 mod SeenLaws
+mod ShowingLaws
 mod SlotLaws
 mod TurningLaws

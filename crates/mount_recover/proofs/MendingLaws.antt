@@ -1,9 +1,9 @@
--- A mount from `healing` on: the pages are mended, one after another.
-use Rattle.std.proofs.Common.{◌≡◌, ◌≢◌, ◌⊎◌, inl, inr, ⊎_elim, ℕ, zero, suc, ◌+◌, ◌*◌, ◌<◌, ◌≤◌, List, [], length, get_or, Option, Some, None, refl, sym, ap, subst, ◌∙◌, arith}
+-- A mount from `healing` on: pages are written home from the log, one home after another, and the others are healed.
+use Rattle.std.proofs.Common.{◌≡◌, ◌≢◌, ◌⊎◌, inl, inr, ⊎_elim, ℕ, zero, suc, ◌+◌, ◌*◌, ◌<◌, ◌≤◌, ◌/◌, List, [], length, get_or, Option, Some, None, Ok, refl, sym, ap, subst, ◌∙◌, arith}
 use Rattle.std.proofs.lemmas.List.{length-set}
 use Rattle.std.proofs.lemmas.Bool.{cases_lt}
 use Rattle.volume_layout.specs.declared.layout.Layout.{Layout}
-use Rattle.volume_layout.specs.Layout.{home_a, home_b}
+use Rattle.volume_layout.specs.Layout.{plan, home_a, home_b}
 use Rattle.volume_layout.specs.Root.{root_bytes}
 use Rattle.volume_layout.proofs.RootLaws.{planned_bounds}
 use Rattle.sector_disk.specs.declared.sector.Sector.TheVariants.{Whole}
@@ -21,7 +21,7 @@ use Rattle.fsd_sound.specs.Sound.{ShowsPages, weak_of}
 use Rattle.fsd_sound.proofs.SoundLaws.{shows_still}
 use Rattle.fsd_sound.proofs.WindowLaws.{open_is_weak}
 use Rattle.log_thirds.specs.LogValue.{LogValue}
-use Rattle.twin_home.specs.Home.{HomesIn}
+use Rattle.twin_home.specs.Home.{WritesPart}
 use Rattle.twin_home.specs.Heal.{Mends, Heals, Mended, Healed, HealsRoots, NeedsRoot, RootsHealed}
 use Rattle.fsd_sound.specs.Homes.{AreTwins, IsAtHome}
 use Rattle.fsd_sound.specs.Logged.{IsLogged}
@@ -31,8 +31,51 @@ use Rattle.fsd_sound.proofs.WritesLaws.{elsewhere}
 use Rattle.fsd_sound.proofs.MendLaws.{logged_shows, mended_shows, rooted_shows}
 use Rattle.fsd_sound.proofs.PagesLaws.{home_is, logged_is}
 use Rattle.fsd_sound.proofs.AlikeLaws.{each_same, records_same}
-use Rattle.mount_recover.specs.Mending.{IsCompleted, IsMending, IsMended, Stays}
+use Rattle.mount_recover.specs.Mending.{IsHome, IsCompleted, IsMending, IsMended, SameElsewhere, Stays}
 use Rattle.volume_layout.proofs.KindLaws.{gap_most}
+
+-- ---- homes
+
+pub home_from : (l : Layout) (page s : ℕ) → IsHome l page s → s < home_a l 0 → ⊥
+home_from l page s (inl a) before = omega (arith, a, before)
+home_from l page s (inr b) before = omega (arith, b, before)
+
+-- a home is one page's
+pub home_same_page : (l : Layout) (page n s : ℕ) → page < l.pages → n < l.pages → IsHome l page s → IsHome l n s → page ≡ n
+home_same_page l page n s within lt (inl a) (inl b) = omega (arith, a, b)
+home_same_page l page n s within lt (inl a) (inr b) = absurd (omega (arith, a, b, within, lt))
+home_same_page l page n s within lt (inr a) (inl b) = absurd (omega (arith, a, b, within, lt))
+home_same_page l page n s within lt (inr a) (inr b) = omega (arith, a, b)
+
+-- so another page's home is another sector
+pub home_other : (l : Layout) (page n s p : ℕ) → page < l.pages → n < l.pages → page ≢ n → IsHome l page p → IsHome l n s → p ≢ s
+home_other l page n s p within lt other at place same = other (home_same_page l page n s within lt (subst (IsHome l page) same at) place)
+
+-- the homes of the pages follow each other
+pub home_next : (l : Layout) (start page : ℕ) → IsHome l 0 start → IsHome l page (start + page)
+home_next l start page (inl a) = inl (omega (arith, a))
+home_next l start page (inr b) = inr (omega (arith, b))
+
+-- between the first homes and the second lies no home
+pub no_home_between : (l : Layout) (a b page s : ℕ) → a ≡ home_a l 0 → b ≡ home_b l 0 → page < l.pages → IsHome l page s → s < b → s < a + l.pages
+no_home_between l a b page s is_a is_b within (inl here) before = omega (arith, here, is_a, within)
+no_home_between l a b page s is_a is_b within (inr here) before = absurd (omega (arith, here, is_b, before))
+
+-- a home lies on the disk
+pub home_inside : (l : Layout) (page s : ℕ) → plan l.kind l.sectors l.third l.pages ≡ Ok l → page < l.pages → IsHome l page s → s < l.sectors
+home_inside l page s planned lt home = let bounds = planned_bounds l planned in ⊎_elim (λ a. omega (arith, a, lt, bounds.sectors_least)) (λ b. omega (arith, b, lt, bounds.sectors_least)) home
+
+-- what is written of a page is one sector
+pub one_sector : (bytes : List ℕ) → length bytes ≡ 512 → length bytes / 512 ≡ 1
+one_sector bytes size = omega (arith, size)
+
+-- a sector that is no home of a page
+pub not_home : (l : Layout) (n s p : ℕ) → IsHome l n s → p ≢ home_a l n → p ≢ home_b l n → p ≢ s
+not_home l n s p place a b same = ⊎_elim (λ here. a (same ∙ here)) (λ here. b (same ∙ here)) place
+
+-- what is before the next sector is before this one, or it is it
+pub here_or : (p s : ℕ) → p < s + 1 → (p < s) ⊎ (p ≡ s)
+here_or p s lt = ⊎_elim (λ before. inl before) (λ past. inr (omega (arith, past, lt))) (cases_lt p s)
 
 -- ---- moments
 
@@ -57,27 +100,60 @@ module _ (l : Layout) (windows : List WeakRun) (choices : List (List (List ℕ))
   pub stays_show : (left : Moment) → Stays l windows choices first left → ShowsPages l windows choices left.image
   stays_show left at = shows_still l windows narrow choices at.image left.image (weaker at.image left.image at.holds.worn) at.shows
 
-  pub begin : IsMending l windows choices log first c 0 first
+  begin : IsMending l windows choices log first c (home_a l 0) 0 first
   begin = record {
     image = first.image;
     holds = holds_now first;
     shows = shows_still l windows narrow choices c.clean first.image c.worn c.shows;
     logged = λ page h. AllWorn-worn (weak_of windows) (λ k. EachAnchor k (λ a. last_image page (records_by l k a) ≡ None → ⊥)) c.clean first.image c.worn (c.logged page h);
-    done = λ page lt. absurd (omega (arith, lt));
+    written = λ page s within has home before. absurd (home_from l page s home before);
+    healed = λ page lt. absurd (omega (arith, lt));
     front = λ s lt. refl;
-    left = λ page le lt. (refl, refl);
+    left = λ page le lt none. (refl, refl);
     rest = λ s out. refl;
   }
-
-  pub here_stays : Stays l windows choices first first
-  here_stays = record { image = first.image; holds = holds_now first; shows = shows_still l windows narrow choices c.clean first.image c.worn c.shows; log = λ s from inside. refl; rest = λ s out. refl }
 
   pub logged_same : (n : ℕ) → n < l.pages → (bytes : List ℕ) → last_image n (records_by l c.clean log.anchor) ≡ Some bytes → bytes ≡ get_or c.pages n []
   logged_same n lt bytes last = logged_is l c.clean log.anchor c.taken c.pages c.shown n lt bytes last
 
-  module _ (n : ℕ) (lt : n < l.pages) (now : Moment) (at : IsMending l windows choices log first c n now) where
-    pub still : (left : Moment) → Wears now left → IsMending l windows choices log first c n left
-    still left wears = record { image = at.image; holds = holds_wears first at.image now left at.holds wears; shows = at.shows; logged = at.logged; done = at.done; front = at.front; left = at.left; rest = at.rest }
+  -- how many pages are mended may be told otherwise
+  pub further : (end to n : ℕ) (now : Moment) → ((page s : ℕ) → page < l.pages → IsHome l page s → s < to → s < end) → IsMending l windows choices log first c end n now → IsMending l windows choices log first c to n now
+  further end to n now before at = record {
+    image = at.image;
+    holds = at.holds;
+    shows = at.shows;
+    logged = at.logged;
+    written = λ page s within has home lt. at.written page s within has home (before page s within home lt);
+    healed = at.healed;
+    front = at.front;
+    left = at.left;
+    rest = at.rest;
+  }
+
+  pub begin_at : (a : ℕ) → a ≡ home_a l 0 → IsMending l windows choices log first c a 0 first
+  begin_at a is = subst (λ (k : ℕ). IsMending l windows choices log first c k 0 first) (sym is) begin
+
+  -- all first homes are written, so it goes on with the second
+  pub to_second : (a b : ℕ) (now : Moment) → a ≡ home_a l 0 → b ≡ home_b l 0 → IsMending l windows choices log first c (a + l.pages) 0 now → IsMending l windows choices log first c b 0 now
+  to_second a b now is_a is_b at = further (a + l.pages) b 0 now (λ page s within home before. no_home_between l a b page s is_a is_b within home before) at
+
+  -- all homes are written
+  pub to_others : (b : ℕ) (now : Moment) → b ≡ home_b l 0 → IsMending l windows choices log first c (b + l.pages) 0 now → IsMending l windows choices log first c (home_b l l.pages) 0 now
+  to_others b now is at = further (b + l.pages) (home_b l l.pages) 0 now (λ page s within home before. omega (arith, is, before)) at
+
+  module _ (end n : ℕ) (now : Moment) (at : IsMending l windows choices log first c end n now) where
+    pub still : (left : Moment) → Wears now left → IsMending l windows choices log first c end n left
+    still left wears = record {
+      image = at.image;
+      holds = holds_wears first at.image now left at.holds wears;
+      shows = at.shows;
+      logged = at.logged;
+      written = at.written;
+      healed = at.healed;
+      front = at.front;
+      left = at.left;
+      rest = at.rest;
+    }
 
     pub stays : (left : Moment) → Wears now left → Stays l windows choices first left
     stays left wears = record { image = at.image; holds = holds_wears first at.image now left at.holds wears; shows = at.shows; log = λ s from inside. at.front s inside; rest = at.rest }
@@ -85,178 +161,223 @@ module _ (l : Layout) (windows : List WeakRun) (choices : List (List (List ℕ))
     long : home_b l l.pages ≤ length at.image
     long = let bounds = planned_bounds l c.planned in omega (arith, bounds.third_least, bounds.sectors_least, at.shows.readable.roots.fits)
 
-    -- some homes of the page were written, and nothing else
-    record Part (e : Image) : Type 0 where
-      size : length e ≡ length at.image
-      shows : ShowsPages l windows choices e
-      logged : (page : ℕ) → (last_image page (records_by l c.clean log.anchor) ≡ None → ⊥) → IsLogged l (weak_of windows) page e
-      others : (p : ℕ) → p ≢ home_a l n → p ≢ home_b l n → sector_at e p ≡ sector_at at.image p
-
-    part_here : Part at.image
-    part_here = record { size = refl; shows = at.shows; logged = at.logged; others = λ p a b. refl }
-
-    home_room : (s : ℕ) → (s ≡ home_a l n) ⊎ (s ≡ home_b l n) → (s < length at.image) × (16 + 3 * l.third ≤ s)
-    home_room s (inl here) = (omega (arith, long, here, lt), omega (arith, here))
-    home_room s (inr here) = (omega (arith, long, here, lt), omega (arith, here))
-
-    part_on : (e : Image) → Part e → (s : ℕ) → (s ≡ home_a l n) ⊎ (s ≡ home_b l n) → (bytes : List ℕ) → ShowsPages l windows choices (with_sector e s bytes) → Part (with_sector e s bytes)
-    part_on e part s place bytes shows =
-        let room = home_room s place in
-        record {
-          size = length-set e s (Whole bytes) ∙ part.size;
-          shows = shows;
-          logged = λ page h. logged_on l (weak_of windows) page s bytes e (omega (arith, room.0, part.size)) room.1 (part.logged page h);
-          others = λ p a b. with_other e s p bytes (λ is. ⊎_elim (λ here. a (is ∙ here)) (λ here. b (is ∙ here)) place) ∙ part.others p a b;
-        }
-
-    part_stays : (e : Image) → Part e → (left : Moment) → Holds first e left → Stays l windows choices first left
-    part_stays e part left holds = record {
-      image = e;
-      holds = holds;
-      shows = part.shows;
-      log = λ s from inside. part.others s (λ is. omega (arith, is, inside)) (λ is. omega (arith, is, inside)) ∙ at.front s inside;
-      rest = λ s out. let is = elsewhere l s out in part.others s (is.home n lt) (is.home_copy n lt) ∙ at.rest s out;
-    }
-
-    part_next : (e : Image) → Part e → (new : Moment) → Holds first e new → IsAtHome l e n (get_or c.pages n []) → IsMending l windows choices log first c (n + 1) new
-    part_next e part new holds home = record {
-      image = e;
-      holds = holds;
-      shows = part.shows;
-      logged = part.logged;
-      done = λ page le. ⊎_elim
-          (λ before. let old = at.done page before in (
-            part.others (home_a l page) (λ is. omega (arith, is, before)) (λ is. omega (arith, is, before, lt)) ∙ old.0,
-            part.others (home_b l page) (λ is. omega (arith, is, before, lt)) (λ is. omega (arith, is, before)) ∙ old.1,
-          ))
-          (λ past. let here : page ≡ n = omega (arith, past, le) in subst (λ (k : ℕ). IsAtHome l e k (get_or c.pages k [])) (sym here) home)
-          (cases_lt page n);
-      front = λ s inside. part.others s (λ is. omega (arith, is, inside)) (λ is. omega (arith, is, inside)) ∙ at.front s inside;
-      left = λ page le within. let old = at.left page (omega (arith, le)) within in (
-        part.others (home_a l page) (λ is. omega (arith, is, le)) (λ is. omega (arith, is, le, within)) ∙ old.0,
-        part.others (home_b l page) (λ is. omega (arith, is, le, lt)) (λ is. omega (arith, is, le)) ∙ old.1,
-      );
-      rest = λ s out. let is = elsewhere l s out in part.others s (is.home n lt) (is.home_copy n lt) ∙ at.rest s out;
-    }
-
-    -- ---- from the log
-
-    module _ (bytes : List ℕ) (size : length bytes ≡ 512) (logged : last_image n (records_by l c.clean log.anchor) ≡ None → ⊥) where
-      logged_part : (e : Image) → Part e → (s : ℕ) → (s ≡ home_a l n) ⊎ (s ≡ home_b l n) → Part (with_sector e s bytes)
-      logged_part e part s place =
-          let room = home_room s place in
-          part_on e part s place bytes (logged_shows l (weak_of windows) choices n s bytes lt place windows refl narrow e (omega (arith, room.0, part.size)) (part.logged n logged) part.shows)
-
-      one : Image
-      one = with_sector at.image (home_a l n) bytes
-
-      two : Image
-      two = with_sector (with_sector at.image (home_a l n) bytes) (home_b l n) bytes
-
-      part_one : Part (with_sector at.image (home_a l n) bytes)
-      part_one = logged_part at.image part_here (home_a l n) (inl refl)
-
-      part_two : Part (with_sector (with_sector at.image (home_a l n) bytes) (home_b l n) bytes)
-      part_two = logged_part (with_sector at.image (home_a l n) bytes) part_one (home_b l n) (inr refl)
-
-      stands_two : stand (stand at.image (home_a l n) bytes 1) (home_b l n) bytes 1 ≡ with_sector (with_sector at.image (home_a l n) bytes) (home_b l n) bytes
-      stands_two = ap (λ (i : Image). stand i (home_b l n) bytes 1) (stand_one at.image (home_a l n) bytes size) ∙ stand_one (with_sector at.image (home_a l n) bytes) (home_b l n) bytes size
-
-      homed_part : (j k : ℕ) → k ≤ j → j ≤ 1 → Part (stand (stand at.image (home_a l n) bytes j) (home_b l n) bytes k)
-      homed_part zero zero le once = part_here
-      homed_part zero (suc k) le once = absurd (omega (arith, le))
-      homed_part (suc zero) zero le once = subst Part (sym (stand_one at.image (home_a l n) bytes size)) part_one
-      homed_part (suc zero) (suc zero) le once = subst Part (sym stands_two) part_two
-      homed_part (suc zero) (suc (suc k)) le once = absurd (omega (arith, le))
-      homed_part (suc (suc j)) k le once = absurd (omega (arith, once))
-
-      pub homes_stay : (left : Moment) → HomesIn l n bytes now left → Stays l windows choices first left
-      homes_stay left homes = part_stays (stand (stand at.image (home_a l n) bytes homes.first) (home_b l n) bytes homes.second) (homed_part homes.first homes.second homes.in_order homes.once) left
-          (over_two first now left at.image (home_a l n) (home_b l n) bytes homes.first homes.second at.holds homes.holds)
-
-      pub homes_next : bytes ≡ get_or c.pages n [] → (new : Moment) → Holds now (stand (stand now.image (home_a l n) bytes 1) (home_b l n) bytes 1) new → IsMending l windows choices log first c (n + 1) new
-      homes_next same new holds =
-          let last : Holds first (stand (stand at.image (home_a l n) bytes 1) (home_b l n) bytes 1) new = over_two first now new at.image (home_a l n) (home_b l n) bytes 1 1 at.holds holds in
-          let room_a = home_room (home_a l n) (inl refl) in
-          let room_b = home_room (home_b l n) (inr refl) in
-          part_next (with_sector (with_sector at.image (home_a l n) bytes) (home_b l n) bytes) part_two new (subst (λ (i : Image). Holds first i new) stands_two last)
-          (subst (λ (b : List ℕ). IsAtHome l (with_sector (with_sector at.image (home_a l n) bytes) (home_b l n) bytes) n b) same (
-            with_other (with_sector at.image (home_a l n) bytes) (home_b l n) (home_a l n) bytes (λ is. omega (arith, is, lt)) ∙ with_same at.image (home_a l n) bytes room_a.0,
-            with_same (with_sector at.image (home_a l n) bytes) (home_b l n) bytes (omega (arith, room_b.0, part_one.size)),
-          ))
-
-    -- ---- from its twin
-
-    module _ (place twin : ℕ) (twins : AreTwins l n place twin) (bytes : List ℕ) (size : length bytes ≡ 512) (whole : sector_at at.image twin ≡ Whole bytes) where
-      places : ((place ≡ home_a l n) ⊎ (place ≡ home_b l n)) × ((twin ≡ home_a l n) ⊎ (twin ≡ home_b l n))
-      places = ⊎_elim (λ is. (inl is.0, inr is.1)) (λ is. (inr is.0, inl is.1)) twins
-
-      mended_part : Part (with_sector at.image place bytes)
-      mended_part = part_on at.image part_here place places.0 bytes
-          (mended_shows l windows narrow choices n place twin lt twins at.image bytes whole (home_room place places.0).0 (home_room twin places.1).0 at.shows)
-
-      some_part : (k : ℕ) → k ≤ 1 → Part (stand at.image place bytes k)
-      some_part zero once = part_here
-      some_part (suc zero) once = subst Part (sym (stand_one at.image place bytes size)) mended_part
-      some_part (suc (suc k)) once = absurd (omega (arith, once))
+    holds_same : (left : Moment) → Holds now now.image left → Holds first at.image left
+    holds_same left holds = holds_wears first at.image now left at.holds (record { image = holds.worn; windows = holds.windows; said = holds.said })
 
     whole_at : (s : ℕ) (bytes : List ℕ) → sector_at now.image s ≡ Whole bytes → sector_at at.image s ≡ Whole bytes
     whole_at s bytes whole = worn_whole (open_damage first.windows) at.image now.image s bytes at.holds.worn whole
 
-    mends_stay : (place twin : ℕ) → AreTwins l n place twin → (left : Moment) → Mends place twin now left → Stays l windows choices first left
-    mends_stay place twin twins left mends =
-        part_stays (stand at.image place mends.bytes mends.part.stood) (some_part place twin twins mends.bytes mends.long (whole_at twin mends.bytes mends.whole) mends.part.stood mends.part.within) left
+    -- ---- of a page a home was written, and nothing else
+
+    module _ (page : ℕ) (lt : page < l.pages) (s : ℕ) (place : IsHome l page s) where
+      record Part (e : Image) : Type 0 where
+        size : length e ≡ length at.image
+        shows : ShowsPages l windows choices e
+        logged : (p : ℕ) → (last_image p (records_by l c.clean log.anchor) ≡ None → ⊥) → IsLogged l (weak_of windows) p e
+        others : (p : ℕ) → p ≢ s → sector_at e p ≡ sector_at at.image p
+
+      part_here : Part at.image
+      part_here = record { size = refl; shows = at.shows; logged = at.logged; others = λ p other. refl }
+
+      home_room : (s < length at.image) × (16 + 3 * l.third ≤ s)
+      home_room = ⊎_elim (λ here. (omega (arith, long, here, lt), omega (arith, here))) (λ here. (omega (arith, long, here, lt), omega (arith, here))) place
+
+      part_on : (bytes : List ℕ) → ShowsPages l windows choices (with_sector at.image s bytes) → Part (with_sector at.image s bytes)
+      part_on bytes shows = record {
+        size = length-set at.image s (Whole bytes);
+        shows = shows;
+        logged = λ p h. logged_on l (weak_of windows) p s bytes at.image home_room.0 home_room.1 (at.logged p h);
+        others = λ p other. with_other at.image s p bytes other;
+      }
+
+      part_stood : (bytes : List ℕ) → length bytes ≡ 512 → Part (with_sector at.image s bytes) → (k : ℕ) → k ≤ 1 → Part (stand at.image s bytes k)
+      part_stood bytes size part zero once = part_here
+      part_stood bytes size part (suc zero) once = subst Part (sym (stand_one at.image s bytes size)) part
+      part_stood bytes size part (suc (suc k)) once = absurd (omega (arith, once))
+
+      part_stays : (e : Image) → Part e → (left : Moment) → Holds first e left → Stays l windows choices first left
+      part_stays e part left holds = record {
+        image = e;
+        holds = holds;
+        shows = part.shows;
+        log = λ p from inside. part.others p (λ is. omega (arith, is, inside, home_room.1)) ∙ at.front p inside;
+        rest = λ p out. let is = elsewhere l p out in part.others p (not_home l page s p place (is.home page lt) (is.home_copy page lt)) ∙ at.rest p out;
+      }
+
+      -- another page's homes are as they were
+      part_home : (e : Image) → Part e → (p q : ℕ) → p < l.pages → p ≢ page → IsHome l p q → sector_at e q ≡ sector_at at.image q
+      part_home e part p q within other home = part.others q (home_other l p page s q within lt other home place)
+
+      part_front : (e : Image) → Part e → (p : ℕ) → p < 16 + 3 * l.third → sector_at e p ≡ sector_at first.image p
+      part_front e part p inside = part.others p (λ is. omega (arith, is, inside, home_room.1)) ∙ at.front p inside
+
+      part_rest : (e : Image) → Part e → SameElsewhere l first.image e
+      part_rest e part p out = let is = elsewhere l p out in part.others p (not_home l page s p place (is.home page lt) (is.home_copy page lt)) ∙ at.rest p out
+
+      -- ---- from the log
+
+      module _ (bytes : List ℕ) (size : length bytes ≡ 512) (has : last_image page (records_by l c.clean log.anchor) ≡ None → ⊥) where
+        put_part : Part (with_sector at.image s bytes)
+        put_part = part_on bytes (logged_shows l (weak_of windows) choices page s bytes lt place windows refl narrow at.image home_room.0 (at.logged page has) at.shows)
+
+        pub put_stays : (left : Moment) → WritesPart s bytes now left → Stays l windows choices first left
+        put_stays left part = part_stays (stand at.image s bytes part.stood) (part_stood bytes size put_part part.stood part.within) left (holds_on first now left at.image s bytes part.stood at.holds part.holds)
+
+        -- another page is one that the log does not have
+        other_page : (p : ℕ) → last_image p (records_by l c.clean log.anchor) ≡ None → p ≢ page
+        other_page p none same = has (ap (λ (k : ℕ). last_image k (records_by l c.clean log.anchor)) (sym same) ∙ none)
+
+        pub put_next : end ≡ s → bytes ≡ get_or c.pages page [] → (new : Moment) → Holds now (stand now.image s bytes 1) new → IsMending l windows choices log first c (s + 1) n new
+        put_next here same new holds =
+            let e : Image = with_sector at.image s bytes in
+            let last : Holds first (stand at.image s bytes 1) new = holds_on first now new at.image s bytes 1 at.holds holds in
+            record {
+              image = with_sector at.image s bytes;
+              holds = subst (λ (i : Image). Holds first i new) (stand_one at.image s bytes size) last;
+              shows = put_part.shows;
+              logged = put_part.logged;
+              written = λ p q within logged home before. ⊎_elim
+                  (λ less. put_part.others q (λ is. omega (arith, is, less)) ∙ at.written p q within logged home (omega (arith, less, here)))
+                  (λ is.
+                  let page_is : p ≡ page = home_same_page l p page s within lt (subst (IsHome l p) is home) place in
+                  ap (sector_at (with_sector at.image s bytes)) is ∙ with_same at.image s bytes home_room.0 ∙ ap (λ (b : List ℕ). Whole b) same ∙ ap (λ (k : ℕ). Whole (get_or c.pages k [])) (sym page_is))
+                  (here_or q s before);
+              healed = λ p le within none. let old = at.healed p le within none in (
+                part_home e put_part p (home_a l p) within (other_page p none) (inl refl) ∙ old.0,
+                part_home e put_part p (home_b l p) within (other_page p none) (inr refl) ∙ old.1,
+              );
+              front = part_front e put_part;
+              left = λ p le within none. let old = at.left p le within none in (
+                part_home e put_part p (home_a l p) within (other_page p none) (inl refl) ∙ old.0,
+                part_home e put_part p (home_b l p) within (other_page p none) (inr refl) ∙ old.1,
+              );
+              rest = part_rest e put_part;
+            }
+
+      -- a page that no record has is not written
+      pub put_none : end ≡ s → last_image page (records_by l c.clean log.anchor) ≡ None → IsMending l windows choices log first c (s + 1) n now
+      put_none here none = record {
+        image = at.image;
+        holds = at.holds;
+        shows = at.shows;
+        logged = at.logged;
+        written = λ p q within logged home before. ⊎_elim
+            (λ less. at.written p q within logged home (omega (arith, less, here)))
+            (λ is. absurd (logged (ap (λ (k : ℕ). last_image k (records_by l c.clean log.anchor)) (home_same_page l p page s within lt (subst (IsHome l p) is home) place) ∙ none)))
+            (here_or q s before);
+        healed = at.healed;
+        front = at.front;
+        left = at.left;
+        rest = at.rest;
+      }
+
+      -- ---- from its twin
+
+      module _ (twin : ℕ) (twins : AreTwins l page s twin) (bytes : List ℕ) (whole : sector_at at.image twin ≡ Whole bytes) where
+        twin_room : twin < length at.image
+        twin_room = ⊎_elim (λ is. omega (arith, long, is.1, lt)) (λ is. omega (arith, long, is.1, lt)) twins
+
+        mended_part : Part (with_sector at.image s bytes)
+        mended_part = part_on bytes (mended_shows l windows narrow choices page s twin lt twins at.image bytes whole home_room.0 twin_room at.shows)
+
+    mends_stay : (page : ℕ) → page < l.pages → (place twin : ℕ) → IsHome l page place → AreTwins l page place twin → (left : Moment) → Mends place twin now left → Stays l windows choices first left
+    mends_stay page lt place twin home twins left mends =
+        part_stays page lt place home (stand at.image place mends.bytes mends.part.stood)
+        (part_stood page lt place home mends.bytes mends.long (mended_part page lt place home twin twins mends.bytes (whole_at twin mends.bytes mends.whole)) mends.part.stood mends.part.within) left
         (holds_on first now left at.image place mends.bytes mends.part.stood at.holds mends.part.holds)
 
-    holds_same : (left : Moment) → Holds now now.image left → Holds first at.image left
-    holds_same left holds = holds_wears first at.image now left at.holds (record { image = holds.worn; windows = holds.windows; said = holds.said })
+    pub heals_stay : (page : ℕ) → page < l.pages → (left : Moment) → Heals (home_a l page) (home_b l page) now left → Stays l windows choices first left
+    heals_stay page lt left (inl holds) = part_stays page lt (home_a l page) (inl refl) at.image (part_here page lt (home_a l page) (inl refl)) left (holds_same left holds)
+    heals_stay page lt left (inr (inl mends)) = mends_stay page lt (home_a l page) (home_b l page) (inl refl) (inl (refl, refl)) left mends
+    heals_stay page lt left (inr (inr mends)) = mends_stay page lt (home_b l page) (home_a l page) (inr refl) (inr (refl, refl)) left mends
 
-    pub heals_stay : (left : Moment) → Heals (home_a l n) (home_b l n) now left → Stays l windows choices first left
-    heals_stay left (inl holds) = part_stays at.image part_here left (holds_same left holds)
-    heals_stay left (inr (inl mends)) = mends_stay (home_a l n) (home_b l n) (inl (refl, refl)) left mends
-    heals_stay left (inr (inr mends)) = mends_stay (home_b l n) (home_a l n) (inr (refl, refl)) left mends
+    -- a page that the log has is not healed
+    pub heal_skips : (last_image n (records_by l c.clean log.anchor) ≡ None → ⊥) → IsMending l windows choices log first c end (n + 1) now
+    heal_skips has = record {
+      image = at.image;
+      holds = at.holds;
+      shows = at.shows;
+      logged = at.logged;
+      written = at.written;
+      healed = λ p le within none. ⊎_elim (λ before. at.healed p before within none) (λ is. absurd (has (ap (λ (k : ℕ). last_image k (records_by l c.clean log.anchor)) (sym is) ∙ none))) (here_or p n le);
+      front = at.front;
+      left = λ p le within none. at.left p (omega (arith, le)) within none;
+      rest = at.rest;
+    }
 
     -- a page that no record has is shown by each home
-    module _ (none : last_image n (records_by l c.clean log.anchor) ≡ None) where
+    module _ (lt : n < l.pages) (none : last_image n (records_by l c.clean log.anchor) ≡ None) where
       home_bytes : (bytes : List ℕ) → (sector_at at.image (home_a l n) ≡ Whole bytes) ⊎ (sector_at at.image (home_b l n) ≡ Whole bytes) → bytes ≡ get_or c.pages n []
       home_bytes bytes stands =
-          let same = at.left n (omega arith) lt in
+          let same = at.left n (omega arith) lt none in
           home_is l c.clean log.anchor c.taken c.pages c.shown n lt windows choices c.shows none bytes
           (⊎_elim (λ a. inl (worn_whole (weak_of windows) c.clean first.image (home_a l n) bytes c.worn (sym same.0 ∙ a))) (λ b. inr (worn_whole (weak_of windows) c.clean first.image (home_b l n) bytes c.worn (sym same.1 ∙ b))) stands)
 
-      mended_next : (place twin : ℕ) (twins : AreTwins l n place twin) (new : Moment) → Mended place twin now new → IsMending l windows choices log first c (n + 1) new
-      mended_next place twin twins new mended =
+      -- one home was written at most, and both have the page
+      healed_next : (s : ℕ) (place : IsHome l n s) (e : Image) → Part n lt s place e → (new : Moment) → Holds first e new → IsAtHome l e n (get_or c.pages n []) → IsMending l windows choices log first c end (n + 1) new
+      healed_next s place e part new holds home = record {
+        image = e;
+        holds = holds;
+        shows = part.shows;
+        logged = part.logged;
+        written = λ p q within logged at_home before.
+            part_home n lt s place e part p q within (λ is. logged (ap (λ (k : ℕ). last_image k (records_by l c.clean log.anchor)) is ∙ none)) at_home ∙ at.written p q within logged at_home before;
+        healed = λ p le within free. ⊎_elim
+            (λ before. let old = at.healed p before within free in (
+              part_home n lt s place e part p (home_a l p) within (λ is. omega (arith, is, before)) (inl refl) ∙ old.0,
+              part_home n lt s place e part p (home_b l p) within (λ is. omega (arith, is, before)) (inr refl) ∙ old.1,
+            ))
+            (λ is. subst (λ (k : ℕ). IsAtHome l e k (get_or c.pages k [])) (sym is) home)
+            (here_or p n le);
+        front = part_front n lt s place e part;
+        left = λ p le within free. let old = at.left p (omega (arith, le)) within free in (
+          part_home n lt s place e part p (home_a l p) within (λ is. omega (arith, is, le)) (inl refl) ∙ old.0,
+          part_home n lt s place e part p (home_b l p) within (λ is. omega (arith, is, le)) (inr refl) ∙ old.1,
+        );
+        rest = part_rest n lt s place e part;
+      }
+
+      mended_next : (place twin : ℕ) → IsHome l n place → (twins : AreTwins l n place twin) (new : Moment) → Mended place twin now new → IsMending l windows choices log first c end (n + 1) new
+      mended_next place twin at_home twins new mended =
           let whole = whole_at twin mended.bytes mended.whole in
           let holds : Holds first (stand at.image place mended.bytes 1) new = holds_on first now new at.image place mended.bytes 1 at.holds mended.stands in
-          part_next (with_sector at.image place mended.bytes) (mended_part place twin twins mended.bytes mended.long whole) new (subst (λ (i : Image). Holds first i new) (stand_one at.image place mended.bytes mended.long) holds)
-          (by_twins place twin mended.bytes whole twins)
+          healed_next place at_home (with_sector at.image place mended.bytes) (mended_part n lt place at_home twin twins mended.bytes whole) new (subst (λ (i : Image). Holds first i new) (stand_one at.image place mended.bytes mended.long) holds)
+          (by_twins place twin mended.bytes at_home whole twins)
         where
-          by_twins : (place twin : ℕ) (bytes : List ℕ) → sector_at at.image twin ≡ Whole bytes → AreTwins l n place twin → IsAtHome l (with_sector at.image place bytes) n (get_or c.pages n [])
-          by_twins place twin bytes whole (inl is) =
+          by_twins : (place twin : ℕ) (bytes : List ℕ) → IsHome l n place → sector_at at.image twin ≡ Whole bytes → AreTwins l n place twin → IsAtHome l (with_sector at.image place bytes) n (get_or c.pages n [])
+          by_twins place twin bytes at_home whole (inl is) =
               let here : sector_at at.image (home_b l n) ≡ Whole bytes = ap (sector_at at.image) (sym is.1) ∙ whole in
               let same : bytes ≡ get_or c.pages n [] = home_bytes bytes (inr here) in
-              let room = home_room place (inl is.0) in
+              let room = home_room n lt place at_home in
               subst (λ (b : List ℕ). IsAtHome l (with_sector at.image place bytes) n b) same
               (ap (sector_at (with_sector at.image place bytes)) (sym is.0) ∙ with_same at.image place bytes room.0, with_other at.image place (home_b l n) bytes (λ e. omega (arith, e, is.0, lt)) ∙ here)
-          by_twins place twin bytes whole (inr is) =
+          by_twins place twin bytes at_home whole (inr is) =
               let here : sector_at at.image (home_a l n) ≡ Whole bytes = ap (sector_at at.image) (sym is.1) ∙ whole in
               let same : bytes ≡ get_or c.pages n [] = home_bytes bytes (inl here) in
-              let room = home_room place (inr is.0) in
+              let room = home_room n lt place at_home in
               subst (λ (b : List ℕ). IsAtHome l (with_sector at.image place bytes) n b) same
               (with_other at.image place (home_a l n) bytes (λ e. omega (arith, e, is.0, lt)) ∙ here, ap (sector_at (with_sector at.image place bytes)) (sym is.0) ∙ with_same at.image place bytes room.0)
 
-      pub heals_next : (count : ℕ) (new : Moment) → Healed (home_a l n) (home_b l n) count now new → IsMending l windows choices log first c (n + 1) new
+      pub heals_next : (count : ℕ) (new : Moment) → Healed (home_a l n) (home_b l n) count now new → IsMending l windows choices log first c end (n + 1) new
       heals_next count new (inl (zero_is, a, b, holds)) =
           let first_is = whole_at (home_a l n) a.0 a.1 in
           let second_is = whole_at (home_b l n) b.0 b.1 in
-          part_next at.image part_here new (holds_same new holds)
+          healed_next (home_a l n) (inl refl) at.image (part_here n lt (home_a l n) (inl refl)) new (holds_same new holds)
           (first_is ∙ ap (λ (x : List ℕ). Whole x) (home_bytes a.0 (inl first_is)), second_is ∙ ap (λ (x : List ℕ). Whole x) (home_bytes b.0 (inr second_is)))
-      heals_next count new (inr (one_is, inl mended)) = mended_next (home_a l n) (home_b l n) (inl (refl, refl)) new mended
-      heals_next count new (inr (one_is, inr mended)) = mended_next (home_b l n) (home_a l n) (inr (refl, refl)) new mended
+      heals_next count new (inr (one_is, inl mended)) = mended_next (home_a l n) (home_b l n) (inl refl) (inl (refl, refl)) new mended
+      heals_next count new (inr (one_is, inr mended)) = mended_next (home_b l n) (home_a l n) (inr refl) (inr (refl, refl)) new mended
 
 -- ---- the roots
 
-module _ (l : Layout) (windows : List WeakRun) (choices : List (List (List ℕ))) (log : LogValue) (first : Moment) (c : IsCompleted l windows choices log first) (now : Moment) (at : IsMending l windows choices log first c l.pages now) where
+module _ (l : Layout) (windows : List WeakRun) (choices : List (List (List ℕ))) (log : LogValue) (first : Moment) (c : IsCompleted l windows choices log first) (now : Moment) (at : IsMending l windows choices log first c (home_b l l.pages) l.pages now) where
+  -- each page has its homes, from the log or from a twin
+  all_home : (page : ℕ) → page < l.pages → IsAtHome l at.image page (get_or c.pages page [])
+  all_home page lt = by_last (last_image page (records_by l c.clean log.anchor)) refl
+    where
+      by_last : (o : Option (List ℕ)) → last_image page (records_by l c.clean log.anchor) ≡ o → IsAtHome l at.image page (get_or c.pages page [])
+      by_last None is = at.healed page lt lt is
+      by_last (Some bytes) is = (at.written page (home_a l page) lt (not_none _ bytes is) (inl refl) (omega (arith, lt)), at.written page (home_b l page) lt (not_none _ bytes is) (inr refl) (omega (arith, lt)))
+
   root_long : length (root_bytes l) ≡ 512
   root_long = refl
 
@@ -320,7 +441,7 @@ module _ (l : Layout) (windows : List WeakRun) (choices : List (List (List ℕ))
         image = stand (stand at.image 0 (root_bytes l) healed.first) 4 (root_bytes l) healed.second;
         holds = over_two first now new at.image 0 4 (root_bytes l) healed.first healed.second at.holds healed.holds;
         shows = is.shows;
-        done = λ page lt. let old = at.done page lt in (
+        done = λ page lt. let old = all_home page lt in (
           is.others (home_a l page) (λ e. omega (arith, e)) (λ e. omega (arith, e)) ∙ old.0,
           is.others (home_b l page) (λ e. omega (arith, e)) (λ e. omega (arith, e)) ∙ old.1,
         );

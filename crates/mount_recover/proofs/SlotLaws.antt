@@ -1,6 +1,8 @@
 -- What a page's slot in the log gives while pages are mended.
-use Rattle.std.proofs.Common.{◌≡◌, ◌⊎◌, inl, inr, ℕ, ◌+◌, ◌*◌, ◌<◌, List, [], ◌∷◌, Some, None, sym, ap, subst, ◌∙◌}
+use Rattle.std.proofs.Common.{◌≡◌, ◌⊎◌, inl, inr, ℕ, ◌+◌, ◌*◌, ◌<◌, List, [], ◌∷◌, Option, Some, None, refl, sym, ap, subst, ◌∙◌}
 use Rattle.std.specs.List.{AllByRecursion}
+use Rattle.std.specs.Prelude.{slice_index_or}
+use Rattle.log_thirds.specs.declared.slots.Slot.{Slot}
 use Rattle.volume_layout.specs.declared.layout.Layout.{Layout}
 use Rattle.volume_layout.specs.Kinds.{gap_of}
 use Rattle.sector_disk.specs.declared.machine.LoadFault.{LoadFault}
@@ -42,7 +44,7 @@ each_image l a weak i (r ∷ rs) are laid = (record { many = are.0.images; each 
 
 -- ---- a page's slot
 
-module _ (l : Layout) (windows : List WeakRun) (choices : List (List (List ℕ))) (log : LogValue) (first : Moment) (c : IsCompleted l windows choices log first) (same : log.layout ≡ l) (n : ℕ) (lt : n < l.pages) (now : Moment) (at : IsMending l windows choices log first c n now) where
+module _ (l : Layout) (windows : List WeakRun) (choices : List (List (List ℕ))) (log : LogValue) (first : Moment) (c : IsCompleted l windows choices log first) (same : log.layout ≡ l) (n : ℕ) (lt : n < l.pages) (end many : ℕ) (now : Moment) (at : IsMending l windows choices log first c end many now) where
   abbrev records : List Placed
   records = records_by l c.clean log.anchor
 
@@ -56,7 +58,7 @@ module _ (l : Layout) (windows : List WeakRun) (choices : List (List (List ℕ))
       (subst (λ (x : Sector). SectorWorn (weak_of windows s) (sector_at c.clean s) x) (sym (at.front s inside)) (c.worn.each s))
       ((weaker l windows choices log first c at.image left.image later.worn).each s)
 
-  module _ (a b : ℕ) (lies : LiesAt (Rattle.std.specs.Prelude.slice_index_or log.slots n None) a b) where
+  module _ (a b : ℕ) (lies : LiesAt (slice_index_or log.slots n None) a b) where
     found : slot_of l log.anchor.third n (records_by l c.clean log.anchor) ≡ Some (record { place = a; copy = b; number = (logged_by log (records_by l c.clean log.anchor) n a b indexed lies).number })
     found = subst (λ (k : Layout). slot_of k log.anchor.third n (records_by l c.clean log.anchor) ≡ Some (record { place = a; copy = b; number = (logged_by log (records_by l c.clean log.anchor) n a b indexed lies).number })) same
         (logged_by log (records_by l c.clean log.anchor) n a b indexed lies).is
@@ -83,7 +85,7 @@ module _ (l : Layout) (windows : List WeakRun) (choices : List (List (List ℕ))
       not_both first_is second_is = c.apart a b gives.is.apart (has_weak (weak_of windows) left.image gives.bytes a has_a first_is) (has_weak (weak_of windows) left.image gives.bytes b has_b second_is)
 
   -- what was read of it is its last image
-  pub slot_gives : (bytes : List ℕ) → Wears now now → StandsAt (Rattle.std.specs.Prelude.slice_index_or log.slots n None) now.image bytes → last_image n (records_by l c.clean log.anchor) ≡ Some bytes
+  pub slot_gives : (bytes : List ℕ) → Wears now now → StandsAt (slice_index_or log.slots n None) now.image bytes → last_image n (records_by l c.clean log.anchor) ≡ Some bytes
   slot_gives bytes here stands = slot_bytes stands.a stands.b stands.lies now here bytes stands.stands
 
   -- it is not lost
@@ -93,3 +95,13 @@ module _ (l : Layout) (windows : List WeakRun) (choices : List (List (List ℕ))
 
   pub slot_none : (((records : List Placed) → IsIndexed log records → last_image n records ≡ None)) → last_image n (records_by l c.clean log.anchor) ≡ None
   slot_none nowhere = nowhere (records_by l c.clean log.anchor) indexed
+
+  -- a page that has a slot has an image
+  pub slot_has : (slice_index_or log.slots n None ≡ None → ⊥) → last_image n (records_by l c.clean log.anchor) ≡ None → ⊥
+  slot_has has none = by_slot (slice_index_or log.slots n None) refl
+    where
+      by_slot : (o : Option Slot) → slice_index_or log.slots n None ≡ o → ⊥
+      by_slot None is = has is
+      by_slot (Some slot) is =
+          let given = gives slot.place slot.copy (record { number = slot.number; is = is }) in
+          absurd (cc (given.last, none))

@@ -1,5 +1,5 @@
 -- The steps of a mount, where sectors wear.
-use Rattle.std.specs.Prelude.{◌≡◌, ◌≢◌, ◌⊎◌, ⊤, ℕ, ◌+◌, ◌*◌, ◌<◌, ◌≤◌, List, [], get_or, Some, None, Ok, Contains, IsFalse, IfSome}
+use Rattle.std.specs.Prelude.{◌≡◌, ◌≢◌, ◌⊎◌, ⊤, ℕ, zero, suc, ◌+◌, ◌*◌, ◌<◌, ◌≤◌, List, [], get_or, Option, Some, None, Ok, Contains, IsFalse, IfSome, slice_index_or}
 use Rattle.volume_layout.specs.declared.layout.Layout.{Layout}
 use Rattle.volume_layout.specs.Layout.{plan, home_a, home_b}
 use Rattle.volume_layout.specs.Root.{root_bytes}
@@ -17,6 +17,7 @@ use Rattle.fsd_sound.specs.Sound.{weak_of, EndIn, ShowsPages}
 use Rattle.log_thirds.specs.Append.{IsIndexed}
 use Rattle.log_thirds.specs.Copies.{AreLastCopies}
 use Rattle.log_thirds.specs.LogValue.{LogValue}
+use Rattle.log_thirds.specs.declared.slots.Slot.{Slot}
 use Rattle.fsd_sound.specs.declared.fault.MountFault.{MountFault}
 use Rattle.fsd_sound.specs.declared.fault.MountFault.TheVariants.{NotVolume, Device, Memory, Lost, NoAnchor, Unsound, WornOut}
 use Rattle.log_thirds.specs.Images.{AreOfLogged}
@@ -25,7 +26,7 @@ use Rattle.mount_recover.specs.Replay.{HasLastCopies, KeepsBehindLog, IsAfter}
 use Rattle.fsd_sound.specs.Logged.{IsLogged}
 use Rattle.fsd_sound.specs.Windows.{IsApart}
 use Rattle.fsd_sound.specs.Writes.{WritesAsMount, mount_writes}
-use Rattle.fsd_sound.specs.Homes.{IsAtHome}
+use Rattle.fsd_sound.specs.Homes.{IsAtHome, HasBothHomes, HasSome}
 
 -- ---- faults
 
@@ -124,16 +125,42 @@ pub record Completed (l : Layout) (windows : List WeakRun) (choices : List (List
   pub present : new.windows.present ≡ old.windows.present
   pub said : new.said ≡ old.said
 
--- Of the disk as `healing` left it the first pages are mended, so many of them; the moment is worn from that.
-pub record IsMending (l : Layout) (windows : List WeakRun) (choices : List (List (List ℕ))) (log : LogValue) (first : Moment) (c : IsCompleted l windows choices log first) (n : ℕ) (now : Moment) : Type 0 where
+-- the sector is a home of the page
+abbrev pub IsHome : Layout → (page s : ℕ) → Type 0
+IsHome l page s = (s ≡ home_a l page) ⊎ (s ≡ home_b l page)
+
+-- the log has no image of the page
+abbrev pub LacksPage : LogValue → (page : ℕ) → Type 0
+LacksPage log page = slice_index_or log.slots page None ≡ None
+
+-- one for a page that the log has
+abbrev pub one_if_some : Option Slot → ℕ
+one_if_some None = 0
+one_if_some (Some slot) = 1
+
+-- how many of so many first pages the log has
+abbrev pub logged_count : LogValue → (pages : ℕ) → ℕ
+logged_count log zero = 0
+logged_count log (suc page) = logged_count log page + one_if_some (slice_index_or log.slots page None)
+
+-- Of the disk as `healing` left it the homes before this sector are written, of the pages that the log has; of the other
+-- pages the first are healed, so many of them. The moment is worn from that.
+pub record IsMending (l : Layout) (windows : List WeakRun) (choices : List (List (List ℕ))) (log : LogValue) (first : Moment) (c : IsCompleted l windows choices log first) (end n : ℕ) (now : Moment) : Type 0 where
   pub image : Image
   pub holds : Holds first image now
   pub shows : ShowsPages l windows choices image
   pub logged : (page : ℕ) → (last_image page (records_by l c.clean log.anchor) ≡ None → ⊥) → IsLogged l (weak_of windows) page image
-  pub done : (page : ℕ) → page < n → IsAtHome l image page (get_or c.pages page [])
+  pub written : (page s : ℕ) → page < l.pages → (last_image page (records_by l c.clean log.anchor) ≡ None → ⊥) → IsHome l page s → s < end → sector_at image s ≡ Whole (get_or c.pages page [])
+  pub healed : (page : ℕ) → page < n → page < l.pages → last_image page (records_by l c.clean log.anchor) ≡ None → IsAtHome l image page (get_or c.pages page [])
   pub front : (s : ℕ) → s < 16 + 3 * l.third → sector_at image s ≡ sector_at first.image s
-  pub left : (page : ℕ) → n ≤ page → page < l.pages → (sector_at image (home_a l page) ≡ sector_at first.image (home_a l page)) × (sector_at image (home_b l page) ≡ sector_at first.image (home_b l page))
+  pub left : (page : ℕ) → n ≤ page → page < l.pages → last_image page (records_by l c.clean log.anchor) ≡ None → (sector_at image (home_a l page) ≡ sector_at first.image (home_a l page)) × (sector_at image (home_b l page) ≡ sector_at first.image (home_b l page))
   pub rest : SameElsewhere l first.image image
+
+-- Of any image: of the pages that the log has each home before this sector stands, but for what the open window may wear;
+-- of the other pages both homes of so many first ones.
+pub record AreHomed (l : Layout) (log : LogValue) (end n : ℕ) (now : Moment) : Type 0 where
+  pub written : (page s : ℕ) → page < l.pages → (LacksPage log page → ⊥) → IsHome l page s → s < end → HasSome now s
+  pub healed : (page : ℕ) → page < n → page < l.pages → LacksPage log page → HasBothHomes l now page
 
 -- All pages are mended, and both roots.
 pub record IsMended (l : Layout) (windows : List WeakRun) (choices : List (List (List ℕ))) (log : LogValue) (first : Moment) (c : IsCompleted l windows choices log first) (now : Moment) : Type 0 where

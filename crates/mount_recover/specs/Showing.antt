@@ -1,9 +1,9 @@
 -- What a mount makes of any image on which nothing wears: each page stands at home as the image showed it.
-use Rattle.std.specs.Prelude.{◌≡◌, ◌≢◌, ◌⊎◌, ⊤, ℕ, ◌+◌, ◌*◌, ◌<◌, ◌≤◌, List, Option, None, IfSome}
+use Rattle.std.specs.Prelude.{◌≡◌, ◌≢◌, ◌⊎◌, ⊤, ℕ, ◌+◌, ◌*◌, ◌<◌, ◌≤◌, List, Option, Some, None, IfSome}
 use Rattle.std.specs.Option.{option_or}
 use Rattle.volume_layout.specs.declared.layout.Layout.{Layout}
 use Rattle.volume_layout.specs.Layout.{home_a, home_b}
-use Rattle.sector_disk.specs.declared.sector.Sector.TheVariants.{Damaged}
+use Rattle.sector_disk.specs.declared.sector.Sector.TheVariants.{Whole, Damaged}
 use Rattle.sector_disk.specs.Image.{sector_at}
 use Rattle.fsd_log.specs.Scan.{Placed}
 use Rattle.fsd_log.specs.Images.{last_image}
@@ -33,11 +33,12 @@ pub record ChangesHome (l : Layout) (page : ℕ) (i j : Image) (shown : Option (
   pub others : (s : ℕ) → s ≢ home_a l page → s ≢ home_b l page → sector_at j s ≡ sector_at i s
   pub is : home_of l j page ≡ shown
 
--- Of the first pages, so many of them, the later image has at home what the first one showed; the rest is as it was.
-pub record IsShowing (l : Layout) (records : List Placed) (first : Image) (n : ℕ) (i : Image) : Type 0 where
+-- Of the pages that the records have the first homes before this sector have the last images; the other pages stand at home
+-- as they did, and all before the homes is as it was.
+pub record IsShowing (l : Layout) (records : List Placed) (first : Image) (end : ℕ) (i : Image) : Type 0 where
   pub front : (s : ℕ) → s < 16 + 3 * l.third → sector_at i s ≡ sector_at first s
-  pub done : (page : ℕ) → page < n → home_of l i page ≡ shows_of l records first page
-  pub left : (page : ℕ) → n ≤ page → page < l.pages → home_of l i page ≡ home_of l first page
+  pub written : (page : ℕ) (bytes : List ℕ) → page < l.pages → last_image page records ≡ Some bytes → home_a l page < end → sector_at i (home_a l page) ≡ Whole bytes
+  pub others : (page : ℕ) → page < l.pages → last_image page records ≡ None → home_of l i page ≡ home_of l first page
 
 -- The sectors are the homes of a page that the image does not show.
 pub record IsNotShown (l : Layout) (records : List Placed) (i : Image) (a b : ℕ) : Type 0 where

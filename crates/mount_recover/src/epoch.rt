@@ -5,7 +5,7 @@ ghost use Rattle.volume_layout.specs.Layout.{plan};
 ghost use Rattle.sector_disk.specs.declared.sector.WeakRun.{WeakRun as Run};
 ghost use Rattle.sector_disk.specs.Image.{settled};
 ghost use Rattle.sector_disk.specs.Calls.{HealsDisk, device_in, failed_at};
-ghost use Rattle.sector_disk.specs.Machine.{Moment as At, LeavesOnly};
+ghost use Rattle.sector_disk.specs.Machine.{Moment as At, IsSynced, LeavesOnly};
 ghost use Rattle.log_thirds.specs.Anchoring.{in_next_epoch};
 ghost use Rattle.mount_recover.specs.Mending.{IsCompleted, IsMended, Begins, StaysBut};
 ghost use Rattle.mount_recover.specs.Recover.{HasAnchors};
@@ -25,6 +25,7 @@ pub(crate) fn begin_epoch<M: Machine>(m: &mut M, log: &mut Log) -> Result<(), Fa
     ensures grows { OnOk result (M.tells m.new → (M.ledger m.old).written ≤ (M.ledger m.new).written) }
     ensures windows { OnOk result (M.honest m.new → (M.now m.new).windows ≡ settled (M.now m.old).windows.present (M.now m.old).windows.next) }
     ensures windows_err { OnErr result (M.honest m.new → (M.now m.new).windows ≡ (M.now m.old).windows) }
+    ensures synced { OnOk result (M.honest m.new → IsSynced (M.now m.new)) }
     ensures turns { M.honest m.new → LeavesOnly M.moment M.left_since m.old m.new (TurnsLast (M.now m.old) (M.now m.new)) }
     ensures past { OnOk result (log.new ≡ in_next_epoch log.old) }
 

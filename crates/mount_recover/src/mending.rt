@@ -1,7 +1,6 @@
-//! A mount from `healing` on: the pages that the log has are written home,
-//! and of all else that stands twice what is damaged is
-// written from its twin.
-ghost use Rattle.std.specs.Prelude.{◌≡◌, ◌+◌, ◌*◌, ◌<◌, ◌≤◌, ℕ, List, Ok, Some, None, IfErr, OnOk};
+//! A mount from `healing` on: of the pages that the log has the first homes are written, and then the second, each in
+//! ascending order, and of all else that stands twice what is damaged is written from its twin.
+ghost use Rattle.std.specs.Prelude.{◌≡◌, ◌+◌, ◌*◌, ◌<◌, ◌≤◌, ℕ, List, Ok, Some, None, IfErr, OnOk, slice_index_or};
 ghost use Rattle.volume_layout.specs.Layout.{plan, home_a, home_b};
 ghost use Rattle.sector_disk.specs.declared.sector.WeakRun.{WeakRun as Run};
 ghost use Rattle.sector_disk.specs.Calls.{HealsDisk, device_in};
@@ -15,50 +14,130 @@ ghost use Rattle.log_thirds.specs.Append.{IsCalmNow};
 ghost use Rattle.log_thirds.specs.LogValue.{LogValue};
 ghost use Rattle.mount_recover.specs.Finding.{IsExcuse};
 ghost use Rattle.fsd_sound.specs.Lost.{AreHomes, LostIn};
-ghost use Rattle.mount_recover.specs.Mending.{IsLoadFault, AreOfVolume, AreOfAll, AreRoots, IsCompleted, IsMending, IsMended, Stays, Keeps, KeepsBut};
-ghost use Rattle.fsd_sound.specs.Homes.{HasBothHomes};
+ghost use Rattle.mount_recover.specs.Mending.{IsLoadFault, AreOfVolume, AreOfAll, AreRoots, IsHome, IsCompleted, IsMending, IsMended, AreHomed, Stays, Keeps, KeepsBut, logged_count, one_if_some};
+ghost use Rattle.fsd_sound.specs.Homes.{HasBothHomes, HasSome};
 ghost use Rattle.fsd_sound.specs.Mounting.{device_of_mount};
 ghost use Rattle.mount_recover.specs.Showing.{GivesPages, ChangesHome, HasNoRoot, IsShowing, LosesNone, LosesHome, shows_of};
 
 use fsd_sound::MountFault;
 use log_thirds::Log;
-use sector_disk::Machine;
-use twin_home::{heal_page, heal_root, write_home};
+use sector_disk::{Machine, write_sectors};
+use twin_home::{heal_page, heal_root};
 use volume_layout::Layout;
 
-// Writes a page home from its last image in the log, when the pages before it are mended.
-fn home_logged<M: Machine>(
+// Writes the last image of a page to this home of it, when the homes before that are written.
+fn put_home<M: Machine>(
     m: &mut M,
     l: &Layout,
     page: u32,
+    place: u32,
     b: &[u8; 512],
 ) -> Result<(), MountFault>
     requires planned { plan l.now.kind l.now.sectors l.now.third l.now.pages ≡ Ok l.now }
     requires page { page < l.now.pages }
+    requires home { IsHome l.now page place }
     requires room { l.now.sectors ≤ (M.report m.old).sectors }
 
     ensures disk { HealsDisk M.Machine (device_in device_of_mount result) m.old m.new }
     ensures load { IfErr result IsLoadFault }
-    ensures most { M.tells m.new → (M.ledger m.new).written ≤ (M.ledger m.old).written + 2 }
+    ensures most { M.tells m.new → (M.ledger m.new).written ≤ (M.ledger m.old).written + 1 }
     ensures grows { OnOk result (M.tells m.new → (M.ledger m.old).written ≤ (M.ledger m.new).written) }
-    ensures keeps { M.honest m.new → KeepsBut (home_a l.now page) (home_b l.now page) (M.now m.old) (M.now m.new) }
-    ensures homes { OnOk result (M.honest m.new → HasBothHomes l.now (M.now m.new) page) }
+    ensures keeps { M.honest m.new → KeepsBut place place (M.now m.old) (M.now m.new) }
+    ensures home { OnOk result (M.honest m.new → HasSome (M.now m.new) place) }
     ensures any_moment { (windows : List Run) (choices : List (List (List ℕ))) (log : LogValue) (first : At) (c : IsCompleted l.now windows choices log first) → M.honest m.new →
-        (last_image page (records_by l.now c.clean log.anchor) ≡ None → ⊥) → IsMending l.now windows choices log first c page (M.now m.old) →
+        (last_image page (records_by l.now c.clean log.anchor) ≡ None → ⊥) → IsMending l.now windows choices log first c place 0 (M.now m.old) →
         LeavesOnly M.moment M.left_since m.old m.new (Stays l.now windows choices first) }
     ensures done { OnOk result ((windows : List Run) (choices : List (List (List ℕ))) (log : LogValue) (first : At) (c : IsCompleted l.now windows choices log first) → M.honest m.new →
-        last_image page (records_by l.now c.clean log.anchor) ≡ Some b.now → IsMending l.now windows choices log first c page (M.now m.old) →
-        IsMending l.now windows choices log first c (page + 1) (M.now m.new)) }
+        last_image page (records_by l.now c.clean log.anchor) ≡ Some b.now → IsMending l.now windows choices log first c place 0 (M.now m.old) →
+        IsMending l.now windows choices log first c (place + 1) 0 (M.now m.new)) }
     ensures never_lost { IfErr result IsExcuse }
-    ensures shown { OnOk result (M.honest m.new → IsCalmNow (M.now m.old) → ChangesHome l.now page (M.now m.old).image (M.now m.new).image (Some b.now)) }
+    ensures shown { OnOk result ((records : List Placed) (first : Image) → M.honest m.new → IsCalmNow (M.now m.old) → last_image page records ≡ Some b.now →
+        IsShowing l.now records first place (M.now m.old).image → IsShowing l.now records first (place + 1) (M.now m.new).image) }
 {
-    match write_home(m, l, page, b) {
+    match write_sectors(m, place, b) {
         Ok(()) => Ok(()),
         Err(failed) => Err(MountFault::Device(failed.place)),
     }
 }
 
-// Writes the one of a page's homes that is damaged from the other, when the pages before it are mended.
+// Writes the last image of a page, where the log has one, to this home of it, when the homes before that are written.
+fn write_logged<M: Machine>(
+    m: &mut M,
+    l: &Layout,
+    log: &Log,
+    page: u32,
+    place: u32,
+) -> Result<(), MountFault>
+    requires layout { log.now.layout ≡ l.now }
+    requires planned { plan l.now.kind l.now.sectors l.now.third l.now.pages ≡ Ok l.now }
+    requires page { page < l.now.pages }
+    requires home { IsHome l.now page place }
+    requires room { l.now.sectors ≤ (M.report m.old).sectors }
+
+    ensures disk { HealsDisk M.Machine (device_in device_of_mount result) m.old m.new }
+    ensures load { IfErr result IsLoadFault }
+    ensures most { M.tells m.new → (M.ledger m.new).written ≤ (M.ledger m.old).written + one_if_some (slice_index_or log.now.slots page None) }
+    ensures grows { OnOk result (M.tells m.new → (M.ledger m.old).written ≤ (M.ledger m.new).written) }
+    ensures keeps { M.honest m.new → KeepsBut place place (M.now m.old) (M.now m.new) }
+    ensures homes { OnOk result (M.honest m.new → AreHomed l.now log.now place 0 (M.now m.old) → AreHomed l.now log.now (place + 1) 0 (M.now m.new)) }
+    ensures any_moment { (windows : List Run) (choices : List (List (List ℕ))) (first : At) (c : IsCompleted l.now windows choices log.now first) → M.honest m.new →
+        IsMending l.now windows choices log.now first c place 0 (M.now m.old) →
+        LeavesOnly M.moment M.left_since m.old m.new (Stays l.now windows choices first) }
+    ensures done { OnOk result ((windows : List Run) (choices : List (List (List ℕ))) (first : At) (c : IsCompleted l.now windows choices log.now first) → M.honest m.new →
+        IsMending l.now windows choices log.now first c place 0 (M.now m.old) →
+        IsMending l.now windows choices log.now first c (place + 1) 0 (M.now m.new)) }
+    ensures never_lost { IfErr result (λ fault. (windows : List Run) (choices : List (List (List ℕ))) (first : At) (c : IsCompleted l.now windows choices log.now first) → M.honest m.new →
+        IsMending l.now windows choices log.now first c place 0 (M.now m.old) → IsExcuse fault) }
+    ensures lost { IfErr result (λ fault. M.honest m.new → LostIn (AreOfVolume l.now log.now) (M.now m.new).image fault) }
+    ensures shown { OnOk result ((records : List Placed) (first : Image) → M.honest m.new → IsCalmNow (M.now m.old) → GivesPages log.now records first → IsShowing l.now records first place (M.now m.old).image →
+        IsShowing l.now records first (place + 1) (M.now m.new).image) }
+    ensures not_shown { IfErr result (λ fault. (records : List Placed) (first : Image) → M.honest m.new → IsCalmNow (M.now m.old) → GivesPages log.now records first → IsShowing l.now records first place (M.now m.old).image →
+        LosesNone l.now records first fault) }
+{
+    let mut image = [0; 512];
+    match log.image_of(m, page, &mut image) {
+        Ok(true) => put_home(m, l, page, place, &image),
+        Ok(false) => Ok(()),
+        Err(fault) => Err(MountFault::from(fault)),
+    }
+}
+
+// Writes the last image of each page that the log has to its first home, or to its second, in ascending order,
+// by where these homes begin, when all before that are written.
+fn write_homes<M: Machine>(m: &mut M, l: &Layout, log: &Log, start: u32) -> Result<(), MountFault>
+    requires layout { log.now.layout ≡ l.now }
+    requires planned { plan l.now.kind l.now.sectors l.now.third l.now.pages ≡ Ok l.now }
+    requires start { IsHome l.now 0 start }
+    requires room { l.now.sectors ≤ (M.report m.old).sectors }
+
+    ensures disk { HealsDisk M.Machine (device_in device_of_mount result) m.old m.new }
+    ensures load { IfErr result IsLoadFault }
+    ensures most { M.tells m.new → (M.ledger m.new).written ≤ (M.ledger m.old).written + logged_count log.now l.now.pages }
+    ensures grows { OnOk result (M.tells m.new → (M.ledger m.old).written ≤ (M.ledger m.new).written) }
+    ensures keeps { M.honest m.new → Keeps l.now (M.now m.old) (M.now m.new) }
+    ensures homes { OnOk result (M.honest m.new → AreHomed l.now log.now start 0 (M.now m.old) → AreHomed l.now log.now (start + l.now.pages) 0 (M.now m.new)) }
+    ensures any_moment { (windows : List Run) (choices : List (List (List ℕ))) (first : At) (c : IsCompleted l.now windows choices log.now first) → M.honest m.new →
+        IsMending l.now windows choices log.now first c start 0 (M.now m.old) →
+        LeavesOnly M.moment M.left_since m.old m.new (Stays l.now windows choices first) }
+    ensures done { OnOk result ((windows : List Run) (choices : List (List (List ℕ))) (first : At) (c : IsCompleted l.now windows choices log.now first) → M.honest m.new →
+        IsMending l.now windows choices log.now first c start 0 (M.now m.old) →
+        IsMending l.now windows choices log.now first c (start + l.now.pages) 0 (M.now m.new)) }
+    ensures never_lost { IfErr result (λ fault. (windows : List Run) (choices : List (List (List ℕ))) (first : At) (c : IsCompleted l.now windows choices log.now first) → M.honest m.new →
+        IsMending l.now windows choices log.now first c start 0 (M.now m.old) → IsExcuse fault) }
+    ensures lost { IfErr result (λ fault. M.honest m.new → LostIn (AreOfVolume l.now log.now) (M.now m.new).image fault) }
+    ensures shown { OnOk result ((records : List Placed) (first : Image) → M.honest m.new → IsCalmNow (M.now m.old) → GivesPages log.now records first → IsShowing l.now records first start (M.now m.old).image →
+        IsShowing l.now records first (start + l.now.pages) (M.now m.new).image) }
+    ensures not_shown { IfErr result (λ fault. (records : List Placed) (first : Image) → M.honest m.new → IsCalmNow (M.now m.old) → GivesPages log.now records first → IsShowing l.now records first start (M.now m.old).image →
+        LosesNone l.now records first fault) }
+{
+    for page in 0..l.pages() {
+        write_logged(m, l, log, page, start + page)?;
+    }
+    Ok(())
+}
+
+// Writes the one of a page's homes that is damaged from the other, when the pages that the log has are written home,
+// and the others before it are healed.
 fn heal_home<M: Machine>(m: &mut M, l: &Layout, page: u32) -> Result<(), MountFault>
     requires planned { plan l.now.kind l.now.sectors l.now.third l.now.pages ≡ Ok l.now }
     requires page { page < l.now.pages }
@@ -71,13 +150,13 @@ fn heal_home<M: Machine>(m: &mut M, l: &Layout, page: u32) -> Result<(), MountFa
     ensures keeps { M.honest m.new → KeepsBut (home_a l.now page) (home_b l.now page) (M.now m.old) (M.now m.new) }
     ensures homes { OnOk result (M.honest m.new → HasBothHomes l.now (M.now m.new) page) }
     ensures any_moment { (windows : List Run) (choices : List (List (List ℕ))) (log : LogValue) (first : At) (c : IsCompleted l.now windows choices log first) → M.honest m.new →
-        IsMending l.now windows choices log first c page (M.now m.old) →
+        IsMending l.now windows choices log first c (home_b l.now l.now.pages) page (M.now m.old) →
         LeavesOnly M.moment M.left_since m.old m.new (Stays l.now windows choices first) }
     ensures exit { (windows : List Run) (choices : List (List (List ℕ))) (log : LogValue) (first : At) (c : IsCompleted l.now windows choices log first) → M.honest m.new →
-        IsMending l.now windows choices log first c page (M.now m.old) → Stays l.now windows choices first (M.now m.new) }
+        IsMending l.now windows choices log first c (home_b l.now l.now.pages) page (M.now m.old) → Stays l.now windows choices first (M.now m.new) }
     ensures done { OnOk result ((windows : List Run) (choices : List (List (List ℕ))) (log : LogValue) (first : At) (c : IsCompleted l.now windows choices log first) → M.honest m.new →
-        last_image page (records_by l.now c.clean log.anchor) ≡ None → IsMending l.now windows choices log first c page (M.now m.old) →
-        IsMending l.now windows choices log first c (page + 1) (M.now m.new)) }
+        last_image page (records_by l.now c.clean log.anchor) ≡ None → IsMending l.now windows choices log first c (home_b l.now l.now.pages) page (M.now m.old) →
+        IsMending l.now windows choices log first c (home_b l.now l.now.pages) (page + 1) (M.now m.new)) }
     ensures lost { IfErr result (λ fault. M.honest m.new → LostIn (AreHomes l.now) (M.now m.new).image fault) }
     ensures shown { OnOk result (M.honest m.new → IsCalmNow (M.now m.old) → ChangesHome l.now page (M.now m.old).image (M.now m.new).image (home_of l.now (M.now m.old).image page)) }
     ensures not_shown { IfErr result (λ fault. M.honest m.new → IsCalmNow (M.now m.old) → LosesHome l.now page (M.now m.old).image fault) }
@@ -88,9 +167,8 @@ fn heal_home<M: Machine>(m: &mut M, l: &Layout, page: u32) -> Result<(), MountFa
     }
 }
 
-// Writes a page home from the log, or where the log does not have it,
-// the one of its homes that is damaged from the other.
-fn mend_page<M: Machine>(m: &mut M, l: &Layout, log: &Log, page: u32) -> Result<(), MountFault>
+// Writes the one of a page's homes that is damaged from the other, where the log does not have the page.
+fn heal_other<M: Machine>(m: &mut M, l: &Layout, log: &Log, page: u32) -> Result<(), MountFault>
     requires layout { log.now.layout ≡ l.now }
     requires planned { plan l.now.kind l.now.sectors l.now.third l.now.pages ≡ Ok l.now }
     requires page { page < l.now.pages }
@@ -98,33 +176,65 @@ fn mend_page<M: Machine>(m: &mut M, l: &Layout, log: &Log, page: u32) -> Result<
 
     ensures disk { HealsDisk M.Machine (device_in device_of_mount result) m.old m.new }
     ensures load { IfErr result IsLoadFault }
-    ensures most { M.tells m.new → (M.ledger m.new).written ≤ (M.ledger m.old).written + 2 }
+    ensures most { M.tells m.new → (M.ledger m.new).written + one_if_some (slice_index_or log.now.slots page None) ≤ (M.ledger m.old).written + 1 }
     ensures grows { OnOk result (M.tells m.new → (M.ledger m.old).written ≤ (M.ledger m.new).written) }
-    ensures keeps { M.honest m.new → KeepsBut (home_a l.now page) (home_b l.now page) (M.now m.old) (M.now m.new) }
-    ensures homes { OnOk result (M.honest m.new → HasBothHomes l.now (M.now m.new) page) }
+    ensures keeps { M.honest m.new → Keeps l.now (M.now m.old) (M.now m.new) }
+    ensures homes { OnOk result (M.honest m.new → AreHomed l.now log.now (home_b l.now l.now.pages) page (M.now m.old) → AreHomed l.now log.now (home_b l.now l.now.pages) (page + 1) (M.now m.new)) }
     ensures any_moment { (windows : List Run) (choices : List (List (List ℕ))) (first : At) (c : IsCompleted l.now windows choices log.now first) → M.honest m.new →
-        IsMending l.now windows choices log.now first c page (M.now m.old) →
+        IsMending l.now windows choices log.now first c (home_b l.now l.now.pages) page (M.now m.old) →
         LeavesOnly M.moment M.left_since m.old m.new (Stays l.now windows choices first) }
     ensures done { OnOk result ((windows : List Run) (choices : List (List (List ℕ))) (first : At) (c : IsCompleted l.now windows choices log.now first) → M.honest m.new →
-        IsMending l.now windows choices log.now first c page (M.now m.old) →
-        IsMending l.now windows choices log.now first c (page + 1) (M.now m.new)) }
+        IsMending l.now windows choices log.now first c (home_b l.now l.now.pages) page (M.now m.old) →
+        IsMending l.now windows choices log.now first c (home_b l.now l.now.pages) (page + 1) (M.now m.new)) }
     ensures never_lost { IfErr result (λ fault. (windows : List Run) (choices : List (List (List ℕ))) (first : At) (c : IsCompleted l.now windows choices log.now first) → M.honest m.new →
-        IsMending l.now windows choices log.now first c page (M.now m.old) → IsExcuse fault) }
-    ensures lost { IfErr result (λ fault. M.honest m.new → LostIn (AreOfVolume l.now log.now) (M.now m.new).image fault) }
-    ensures shown { OnOk result ((records : List Placed) (first : Image) → M.honest m.new → IsCalmNow (M.now m.old) → GivesPages log.now records first → IsShowing l.now records first page (M.now m.old).image →
-        IsShowing l.now records first (page + 1) (M.now m.new).image) }
-    ensures not_shown { IfErr result (λ fault. (records : List Placed) (first : Image) → M.honest m.new → IsCalmNow (M.now m.old) → GivesPages log.now records first → IsShowing l.now records first page (M.now m.old).image →
+        IsMending l.now windows choices log.now first c (home_b l.now l.now.pages) page (M.now m.old) → IsExcuse fault) }
+    ensures lost { IfErr result (λ fault. M.honest m.new → LostIn (AreHomes l.now) (M.now m.new).image fault) }
+    ensures shown { OnOk result ((records : List Placed) (first : Image) → M.honest m.new → IsCalmNow (M.now m.old) → GivesPages log.now records first → IsShowing l.now records first (home_b l.now l.now.pages) (M.now m.old).image →
+        IsShowing l.now records first (home_b l.now l.now.pages) (M.now m.new).image) }
+    ensures not_shown { IfErr result (λ fault. (records : List Placed) (first : Image) → M.honest m.new → IsCalmNow (M.now m.old) → GivesPages log.now records first → IsShowing l.now records first (home_b l.now l.now.pages) (M.now m.old).image →
         LosesNone l.now records first fault) }
 {
-    let mut image = [0; 512];
-    match log.image_of(m, page, &mut image) {
-        Ok(true) => home_logged(m, l, page, &image),
-        Ok(false) => heal_home(m, l, page),
-        Err(fault) => Err(MountFault::from(fault)),
+    if log.has(page) {
+        Ok(())
+    } else {
+        heal_home(m, l, page)
     }
 }
 
-// Mends each page, in ascending order.
+// Heals the homes of each page that the log does not have, in ascending order, when the pages that it has are written
+// home.
+fn heal_others<M: Machine>(m: &mut M, l: &Layout, log: &Log) -> Result<(), MountFault>
+    requires layout { log.now.layout ≡ l.now }
+    requires planned { plan l.now.kind l.now.sectors l.now.third l.now.pages ≡ Ok l.now }
+    requires room { l.now.sectors ≤ (M.report m.old).sectors }
+
+    ensures disk { HealsDisk M.Machine (device_in device_of_mount result) m.old m.new }
+    ensures load { IfErr result IsLoadFault }
+    ensures most { M.tells m.new → (M.ledger m.new).written + logged_count log.now l.now.pages ≤ (M.ledger m.old).written + l.now.pages }
+    ensures grows { OnOk result (M.tells m.new → (M.ledger m.old).written ≤ (M.ledger m.new).written) }
+    ensures keeps { M.honest m.new → Keeps l.now (M.now m.old) (M.now m.new) }
+    ensures homes { OnOk result (M.honest m.new → AreHomed l.now log.now (home_b l.now l.now.pages) 0 (M.now m.old) → AreHomed l.now log.now (home_b l.now l.now.pages) l.now.pages (M.now m.new)) }
+    ensures any_moment { (windows : List Run) (choices : List (List (List ℕ))) (first : At) (c : IsCompleted l.now windows choices log.now first) → M.honest m.new →
+        IsMending l.now windows choices log.now first c (home_b l.now l.now.pages) 0 (M.now m.old) →
+        LeavesOnly M.moment M.left_since m.old m.new (Stays l.now windows choices first) }
+    ensures done { OnOk result ((windows : List Run) (choices : List (List (List ℕ))) (first : At) (c : IsCompleted l.now windows choices log.now first) → M.honest m.new →
+        IsMending l.now windows choices log.now first c (home_b l.now l.now.pages) 0 (M.now m.old) →
+        IsMending l.now windows choices log.now first c (home_b l.now l.now.pages) l.now.pages (M.now m.new)) }
+    ensures never_lost { IfErr result (λ fault. (windows : List Run) (choices : List (List (List ℕ))) (first : At) (c : IsCompleted l.now windows choices log.now first) → M.honest m.new →
+        IsMending l.now windows choices log.now first c (home_b l.now l.now.pages) 0 (M.now m.old) → IsExcuse fault) }
+    ensures lost { IfErr result (λ fault. M.honest m.new → LostIn (AreHomes l.now) (M.now m.new).image fault) }
+    ensures shown { OnOk result ((records : List Placed) (first : Image) → M.honest m.new → IsCalmNow (M.now m.old) → GivesPages log.now records first → IsShowing l.now records first (home_b l.now l.now.pages) (M.now m.old).image →
+        IsShowing l.now records first (home_b l.now l.now.pages) (M.now m.new).image) }
+    ensures not_shown { IfErr result (λ fault. (records : List Placed) (first : Image) → M.honest m.new → IsCalmNow (M.now m.old) → GivesPages log.now records first → IsShowing l.now records first (home_b l.now l.now.pages) (M.now m.old).image →
+        LosesNone l.now records first fault) }
+{
+    for page in 0..l.pages() {
+        heal_other(m, l, log, page)?;
+    }
+    Ok(())
+}
+
+// Writes the pages that the log has to their first homes, and then to their second, and heals the homes of the others.
 fn mend_pages<M: Machine>(m: &mut M, l: &Layout, log: &Log) -> Result<(), MountFault>
     requires layout { log.now.layout ≡ l.now }
     requires planned { plan l.now.kind l.now.sectors l.now.third l.now.pages ≡ Ok l.now }
@@ -139,16 +249,15 @@ fn mend_pages<M: Machine>(m: &mut M, l: &Layout, log: &Log) -> Result<(), MountF
     ensures any_moment { (windows : List Run) (choices : List (List (List ℕ))) (c : IsCompleted l.now windows choices log.now (M.now m.old)) → M.honest m.new →
         LeavesOnly M.moment M.left_since m.old m.new (Stays l.now windows choices (M.now m.old)) }
     ensures done { OnOk result ((windows : List Run) (choices : List (List (List ℕ))) (c : IsCompleted l.now windows choices log.now (M.now m.old)) → M.honest m.new →
-        IsMending l.now windows choices log.now (M.now m.old) c l.now.pages (M.now m.new)) }
+        IsMending l.now windows choices log.now (M.now m.old) c (home_b l.now l.now.pages) l.now.pages (M.now m.new)) }
     ensures never_lost { IfErr result (λ fault. (windows : List Run) (choices : List (List (List ℕ))) (c : IsCompleted l.now windows choices log.now (M.now m.old)) → M.honest m.new → IsExcuse fault) }
     ensures lost { IfErr result (λ fault. M.honest m.new → LostIn (AreOfVolume l.now log.now) (M.now m.new).image fault) }
-    ensures shown { OnOk result ((records : List Placed) → M.honest m.new → IsCalmNow (M.now m.old) → GivesPages log.now records (M.now m.old).image → IsShowing l.now records (M.now m.old).image l.now.pages (M.now m.new).image) }
+    ensures shown { OnOk result ((records : List Placed) → M.honest m.new → IsCalmNow (M.now m.old) → GivesPages log.now records (M.now m.old).image → IsShowing l.now records (M.now m.old).image (home_b l.now l.now.pages) (M.now m.new).image) }
     ensures not_shown { IfErr result (λ fault. (records : List Placed) → M.honest m.new → IsCalmNow (M.now m.old) → GivesPages log.now records (M.now m.old).image → LosesNone l.now records (M.now m.old).image fault) }
 {
-    for page in 0..l.pages() {
-        mend_page(m, l, log, page)?;
-    }
-    Ok(())
+    write_homes(m, l, log, l.home_a(0))?;
+    write_homes(m, l, log, l.home_b(0))?;
+    heal_others(m, l, log)
 }
 
 // Writes each root that is damaged or differs, when the pages are mended.
@@ -162,13 +271,13 @@ fn mend_roots<M: Machine>(m: &mut M, l: &Layout) -> Result<(), MountFault>
     ensures grows { OnOk result (M.tells m.new → (M.ledger m.old).written ≤ (M.ledger m.new).written) }
     ensures keeps { M.honest m.new → KeepsBut 0 4 (M.now m.old) (M.now m.new) }
     ensures any_moment { (windows : List Run) (choices : List (List (List ℕ))) (log : LogValue) (first : At) (c : IsCompleted l.now windows choices log first) → M.honest m.new →
-        IsMending l.now windows choices log first c l.now.pages (M.now m.old) →
+        IsMending l.now windows choices log first c (home_b l.now l.now.pages) l.now.pages (M.now m.old) →
         LeavesOnly M.moment M.left_since m.old m.new (Stays l.now windows choices first) }
     ensures done { OnOk result ((windows : List Run) (choices : List (List (List ℕ))) (log : LogValue) (first : At) (c : IsCompleted l.now windows choices log first) → M.honest m.new →
-        IsMending l.now windows choices log first c l.now.pages (M.now m.old) →
+        IsMending l.now windows choices log first c (home_b l.now l.now.pages) l.now.pages (M.now m.old) →
         IsMended l.now windows choices log first c (M.now m.new)) }
     ensures never_lost { IfErr result (λ fault. (windows : List Run) (choices : List (List (List ℕ))) (log : LogValue) (first : At) (c : IsCompleted l.now windows choices log first) → M.honest m.new →
-        IsMending l.now windows choices log first c l.now.pages (M.now m.old) → IsExcuse fault) }
+        IsMending l.now windows choices log first c (home_b l.now l.now.pages) l.now.pages (M.now m.old) → IsExcuse fault) }
     ensures lost { IfErr result (λ fault. M.honest m.new → LostIn AreRoots (M.now m.new).image fault) }
     ensures not_shown { IfErr result (λ fault. M.honest m.new → IsCalmNow (M.now m.old) → (HasNoRoot (M.now m.old).image → ⊥) → IsExcuse fault) }
 {

@@ -5,7 +5,7 @@ ghost use Rattle.volume_layout.specs.Layout.{plan};
 ghost use Rattle.sector_disk.specs.declared.sector.WeakRun.{WeakRun as Run};
 ghost use Rattle.sector_disk.specs.Image.{IsCalm};
 ghost use Rattle.sector_disk.specs.Calls.{HealsDisk, device_in};
-ghost use Rattle.sector_disk.specs.Machine.{LeavesOnly};
+ghost use Rattle.sector_disk.specs.Machine.{IsSynced, LeavesOnly};
 ghost use Rattle.fsd_formats.specs.declared.anchor.Anchor.{Anchor as Named};
 ghost use Rattle.fsd_sound.specs.Anchors.{anchor_of};
 ghost use Rattle.fsd_sound.specs.Lost.{AreCopiesOn, LostIn, LosesShown};
@@ -59,6 +59,9 @@ pub fn recover<M: Machine>(alloc: Global, m: &mut M, sectors: u32) -> Result<Set
 
     // The window that is present then was named: since the call began it was the next one.
     ensures named { OnOk result (M.honest m.new → IsNamedSince (M.left_since m.new) (M.moment m.old) (M.now m.new).windows.present) }
+
+    // All that it has written is on the disk then.
+    ensures synced { OnOk result (M.honest m.new → IsSynced (M.now m.new)) }
 
     // Each answer but a fault of the disk and want of memory says what the image was, as it was seen.
     ensures found { IfOk result (λ settled. M.honest m.new → IsSettledIn sectors settled.layout settled.log (M.now m.old) (M.now m.new)) }

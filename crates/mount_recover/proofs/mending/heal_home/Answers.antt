@@ -34,29 +34,29 @@ returns-in-Ok-clause-any_moment g c windows choices log first is h at =
     let M = g.M.Machine in
     let l = c.args.l.now in let now = M.now c.args.m.now in
     leaves_more M.moment M.left_since c.args.m.now c.heal_page.new.m (Heals (home_a l c.args.page) (home_b l c.args.page) now) (Stays l windows choices first)
-    (λ left heals. heals_stay l windows choices log first is c.args.page c.requires.page now at left heals) (c.heal_page.ensures.writes.any_moment h)
+    (λ left heals. heals_stay l windows choices log first is (home_b l l.pages) c.args.page now at c.args.page c.requires.page left heals) (c.heal_page.ensures.writes.any_moment h)
 
 pub returns-in-Err-clause-any_moment : goal.returns-in-Err-clause-any_moment
 returns-in-Err-clause-any_moment g c windows choices log first is h at =
     let M = g.M.Machine in
     let l = c.args.l.now in let now = M.now c.args.m.now in
     leaves_more M.moment M.left_since c.args.m.now c.heal_page.new.m (Heals (home_a l c.args.page) (home_b l c.args.page) now) (Stays l windows choices first)
-    (λ left heals. heals_stay l windows choices log first is c.args.page c.requires.page now at left heals) (c.heal_page.ensures.writes.any_moment h)
+    (λ left heals. heals_stay l windows choices log first is (home_b l l.pages) c.args.page now at c.args.page c.requires.page left heals) (c.heal_page.ensures.writes.any_moment h)
 
 pub returns-in-Ok-clause-exit : goal.returns-in-Ok-clause-exit
 returns-in-Ok-clause-exit g c windows choices log first is h at =
     let M = g.M.Machine in
-    heals_stay c.args.l.now windows choices log first is c.args.page c.requires.page (M.now c.args.m.now) at (M.now c.heal_page.new.m) (c.heal_page.ensures.writes.exit h)
+    heals_stay c.args.l.now windows choices log first is (home_b c.args.l.now c.args.l.now.pages) c.args.page (M.now c.args.m.now) at c.args.page c.requires.page (M.now c.heal_page.new.m) (c.heal_page.ensures.writes.exit h)
 
 pub returns-in-Err-clause-exit : goal.returns-in-Err-clause-exit
 returns-in-Err-clause-exit g c windows choices log first is h at =
     let M = g.M.Machine in
-    heals_stay c.args.l.now windows choices log first is c.args.page c.requires.page (M.now c.args.m.now) at (M.now c.heal_page.new.m) (c.heal_page.ensures.writes.exit h)
+    heals_stay c.args.l.now windows choices log first is (home_b c.args.l.now c.args.l.now.pages) c.args.page (M.now c.args.m.now) at c.args.page c.requires.page (M.now c.heal_page.new.m) (c.heal_page.ensures.writes.exit h)
 
 pub returns-in-Ok-clause-done : goal.returns-in-Ok-clause-done
 returns-in-Ok-clause-done g c windows choices log first is h none at =
     let M = g.M.Machine in
-    heals_next c.args.l.now windows choices log first is c.args.page c.requires.page (M.now c.args.m.now) at none c.in-Ok.field-0 (M.now c.heal_page.new.m) (c.in-Ok.ensures.done h)
+    heals_next c.args.l.now windows choices log first is (home_b c.args.l.now c.args.l.now.pages) c.args.page (M.now c.args.m.now) at c.requires.page none c.in-Ok.field-0 (M.now c.heal_page.new.m) (c.in-Ok.ensures.done h)
 
 pub returns-in-Ok-clause-shown : goal.returns-in-Ok-clause-shown
 returns-in-Ok-clause-shown g c h still =

@@ -2,6 +2,7 @@ use Rattle.std.proofs.Common.{◌≡◌, ◌<◌, ◌≤◌, ℕ, List, arith}
 use Rattle.std.proofs.lemmas.Result.{IfErr-weaker, on_ok_weaker}
 use Rattle.mount_recover.proofs.HomesLaws.{both_rooted}
 use Rattle.mount_recover.proofs.KeepsLaws.{keeps_on, keeps_roots}
+use Rattle.volume_layout.specs.Layout.{home_b}
 use Rattle.sector_disk.specs.declared.sector.WeakRun.{WeakRun}
 use Rattle.sector_disk.specs.Machine.{Moment}
 use Rattle.sector_disk.proofs.CallLaws.{heals_then, heals_told, told_up}
@@ -15,8 +16,9 @@ use Rattle.mount_recover.specs.Finding.{IsExcuse}
 use Rattle.mount_recover.specs.Mending.{IsLoadFault, IsCompleted, IsMending, IsMended, Stays}
 use Rattle.fsd_sound.specs.Mounting.{device_of_mount}
 use Rattle.mount_recover.specs.Showing.{GivesPages, HasNoRoot, LosesNone, shows_of}
-use Rattle.mount_recover.proofs.CalmLaws.{all_shown, excuse_loses, roots_kept, still_next}
+use Rattle.mount_recover.proofs.CalmLaws.{excuse_loses, still_next}
 use Rattle.mount_recover.proofs.FaultLaws.{handed_up}
+use Rattle.mount_recover.proofs.ShowingLaws.{all_shown, roots_kept}
 use Rattle.mount_recover.proofs.mending.mend.Goals as goal
 
 pub returns-in_err-mend_pages-clause-load : goal.returns-in_err-mend_pages-clause-load
@@ -40,7 +42,7 @@ pub returns-clause-done : goal.returns-clause-done
 returns-clause-done g c =
     let M = g.M.Machine in
     let l = c.args.l.now in let old = M.now c.args.m.now in let mid = M.now c.mend_pages.new.m in let new = M.now c.mend_roots.new.m in
-    on_ok_weaker {P = (windows : List WeakRun) (choices : List (List (List ℕ))) (log : LogValue) (first : Moment) (is : IsCompleted l windows choices log first) → M.honest c.mend_roots.new.m → IsMending l windows choices log first is l.pages mid → IsMended l windows choices log first is new} {Q = (windows : List WeakRun) (choices : List (List (List ℕ))) (is : IsCompleted l windows choices c.args.log.now old) → M.honest c.mend_roots.new.m → IsMended l windows choices c.args.log.now old is new} c.mend_roots.result
+    on_ok_weaker {P = (windows : List WeakRun) (choices : List (List (List ℕ))) (log : LogValue) (first : Moment) (is : IsCompleted l windows choices log first) → M.honest c.mend_roots.new.m → IsMending l windows choices log first is (home_b l l.pages) l.pages mid → IsMended l windows choices log first is new} {Q = (windows : List WeakRun) (choices : List (List (List ℕ))) (is : IsCompleted l windows choices c.args.log.now old) → M.honest c.mend_roots.new.m → IsMended l windows choices c.args.log.now old is new} c.mend_roots.result
     (λ done windows choices is h. done windows choices c.args.log.now old is h (c.in_ok-mend_pages.ensures.done windows choices is (c.mend_roots.ensures.disk.trust.honest h)))
     c.mend_roots.ensures.done
 
@@ -49,7 +51,7 @@ returns-clause-never_lost g c =
     let M = g.M.Machine in
     let l = c.args.l.now in let old = M.now c.args.m.now in let mid = M.now c.mend_pages.new.m in
     IfErr-weaker c.mend_roots.result
-    (λ fault. (windows : List WeakRun) (choices : List (List (List ℕ))) (log : LogValue) (first : Moment) (is : IsCompleted l windows choices log first) → M.honest c.mend_roots.new.m → IsMending l windows choices log first is l.pages mid → IsExcuse fault)
+    (λ fault. (windows : List WeakRun) (choices : List (List (List ℕ))) (log : LogValue) (first : Moment) (is : IsCompleted l windows choices log first) → M.honest c.mend_roots.new.m → IsMending l windows choices log first is (home_b l l.pages) l.pages mid → IsExcuse fault)
     (λ fault. (windows : List WeakRun) (choices : List (List (List ℕ))) (is : IsCompleted l windows choices c.args.log.now old) → M.honest c.mend_roots.new.m → IsExcuse fault)
     (λ fault excused windows choices is h. excused windows choices c.args.log.now old is h (c.in_ok-mend_pages.ensures.done windows choices is (c.mend_roots.ensures.disk.trust.honest h)))
     c.mend_roots.ensures.never_lost

@@ -1,128 +1,150 @@
-use Rattle.std.proofs.Common.{◌≡◌, ◌<◌, ℕ, List, None, subst, arith}
+use Rattle.std.proofs.Common.{inl, ◌+◌, ◌<◌, ℕ, List, refl, arith}
+use Rattle.std.proofs.lemmas.Result.{IfErr-weaker, on_ok_weaker}
+use Rattle.volume_layout.specs.Layout.{home_a, home_b}
 use Rattle.sector_disk.specs.declared.sector.WeakRun.{WeakRun}
-use Rattle.sector_disk.proofs.Moments.{started, then_on}
-use Rattle.sector_disk.proofs.CallLaws.{heals_then, heals_told, reads_as_heals, reads_none, told_up}
-use Rattle.mount_recover.specs.Finding.{IsExcuse}
-use Rattle.fsd_sound.specs.Lost.{LostIn}
-use Rattle.mount_recover.specs.Mending.{IsLoadFault, AreOfVolume, IsCompleted, IsMending, Stays}
+use Rattle.sector_disk.specs.Machine.{Moment}
+use Rattle.sector_disk.proofs.Moments.{then_on}
+use Rattle.fsd_files.specs.Disk.{Image}
 use Rattle.fsd_log.specs.Scan.{Placed}
-use Rattle.log_thirds.specs.Append.{IsCalmNow}
-use Rattle.fsd_sound.specs.Mounting.{device_of_mount}
 use Rattle.fsd_sound.specs.Homes.{HasBothHomes}
+use Rattle.log_thirds.specs.Append.{IsCalmNow}
+use Rattle.mount_recover.specs.Finding.{IsExcuse}
+use Rattle.mount_recover.specs.Mending.{AreHomed, IsCompleted, IsMending, Stays}
 use Rattle.mount_recover.specs.Showing.{GivesPages, IsShowing, LosesNone}
-use Rattle.mount_recover.proofs.CalmLaws.{still_next, showing_none}
+use Rattle.mount_recover.proofs.CalmLaws.{still_next}
 use Rattle.mount_recover.proofs.FaultLaws.{handed_up}
-use Rattle.mount_recover.proofs.HomesLaws.{both_next}
-use Rattle.mount_recover.proofs.KeepsLaws.{keeps_none, keeps_on, keeps_page}
-use Rattle.mount_recover.proofs.MendingLaws.{begin, here_stays}
+use Rattle.mount_recover.proofs.HomesLaws.{all_homed, count_most, homed_none, homed_further}
+use Rattle.mount_recover.proofs.MendingLaws.{begin_at, no_home_between, to_second, to_others}
+use Rattle.mount_recover.proofs.ShowingLaws.{showing_further, showing_none}
 use Rattle.mount_recover.proofs.mending.mend_pages.Goals as goal
 
-pub loop-page-init : goal.loop-page-init
-loop-page-init g c =
+-- ---- the first homes
+
+pub returns-in_err-write_homes-clause-most : goal.returns-in_err-write_homes-clause-most
+returns-in_err-write_homes-clause-most g c t = omega (arith, c.write_homes.ensures.most t, count_most c.args.log.now c.args.l.now.pages)
+
+pub returns-in_err-write_homes-clause-any_moment : goal.returns-in_err-write_homes-clause-any_moment
+returns-in_err-write_homes-clause-any_moment g c windows choices is h =
     let M = g.M.Machine in
-    let old = M.now c.args.m.now in record {
-      disk = reads_as_heals (reads_none c.args.m.now (λ at h left. g.met.M.Machine.only_now c.args.m.now at h left));
-      most = λ t. omega arith;
-      grows = λ t. omega arith;
-      keeps = λ h. keeps_none c.args.l.now old;
-      homes = λ h page lt. absurd (omega (arith, lt));
-      mending = λ windows choices is h. begin c.args.l.now windows choices c.args.log.now old is;
-      showing = λ records h still given. showing_none c.args.l.now records old.image;
-      moments = λ windows choices is h. started M.moment M.left_since c.args.m.now old (Stays c.args.l.now windows choices old) (λ left at. g.met.M.Machine.only_now c.args.m.now left h at)
-          (here_stays c.args.l.now windows choices c.args.log.now old is);
-    }
+    let l = c.args.l.now in let log = c.args.log.now in let old = M.now c.args.m.now in
+    c.write_homes.ensures.any_moment windows choices old is h (begin_at l windows choices log old is c.home_a.result c.home_a.ensures.place)
 
-pub loop-page-preserved : goal.loop-page-preserved
-loop-page-preserved g c =
+pub returns-in_err-write_homes-clause-never_lost : goal.returns-in_err-write_homes-clause-never_lost
+returns-in_err-write_homes-clause-never_lost g c =
     let M = g.M.Machine in
-    let old = M.now c.args.m.now in let l = c.args.l.now in let log = c.args.log.now in let so_far = c.loop-page.invariant in
-    let lt : c.loop-page.page < c.args.l.now.pages = omega (arith, c.loop-page-test.true, c.loop-page.auto.page-end, c.pages-page-end.ensures.value) in record {
-      disk = heals_then {fault = None} so_far.disk c.in_ok-mend_page.ensures.disk;
-      most = λ t. omega (arith, so_far.most (c.mend_page.ensures.disk.trust.tells t), c.mend_page.ensures.most t);
-      grows = λ t. omega (arith, so_far.grows (c.mend_page.ensures.disk.trust.tells t), c.in_ok-mend_page.ensures.grows t);
-      keeps = λ h. keeps_on l old (M.now c.loop-page.m) (M.now c.mend_page.new.m) (so_far.keeps (c.mend_page.ensures.disk.trust.honest h)) (keeps_page l c.loop-page.page lt (M.now c.loop-page.m) (M.now c.mend_page.new.m) (c.mend_page.ensures.keeps h));
-      homes = λ h. both_next l c.loop-page.page lt (M.now c.loop-page.m) (M.now c.mend_page.new.m) (c.mend_page.ensures.keeps h) (so_far.homes (c.mend_page.ensures.disk.trust.honest h)) (c.in_ok-mend_page.ensures.homes h);
-      mending = λ windows choices is h. c.in_ok-mend_page.ensures.done windows choices old is h (so_far.mending windows choices is (c.mend_page.ensures.disk.trust.honest h));
-      showing = λ records h still given.
-          let h1 = c.mend_page.ensures.disk.trust.honest h in
-          c.in_ok-mend_page.ensures.shown records old.image h (still_next old (M.now c.loop-page.m) (so_far.keeps h1).windows still) given (so_far.showing records h1 still given);
-      moments = λ windows choices is h. then_on M.moment M.left_since c.args.m.now c.loop-page.m c.mend_page.new.m (Stays l windows choices old) (so_far.moments windows choices is (c.mend_page.ensures.disk.trust.honest h))
-          (c.mend_page.ensures.any_moment windows choices old is h (so_far.mending windows choices is (c.mend_page.ensures.disk.trust.honest h)));
-    }
+    let l = c.args.l.now in let log = c.args.log.now in let old = M.now c.args.m.now in
+    handed_up (λ fault. (windows : List WeakRun) (choices : List (List (List ℕ))) (is : IsCompleted l windows choices log old) → M.honest c.write_homes.new.m → IsExcuse fault) c.from_residual.result c.in_err-write_homes.field-0.0 c.from_residual.ensures.1
+    (λ windows choices is h. c.in_err-write_homes.ensures.never_lost windows choices old is h (begin_at l windows choices log old is c.home_a.result c.home_a.ensures.place))
 
-pub returns-in_err-mend_page-clause-load : goal.returns-in_err-mend_page-clause-load
-returns-in_err-mend_page-clause-load g c = handed_up IsLoadFault c.from_residual.result c.in_err-mend_page.field-0.0 c.from_residual.ensures.1 c.in_err-mend_page.ensures.load
-
-pub returns-in_err-mend_page-clause-disk : goal.returns-in_err-mend_page-clause-disk
-returns-in_err-mend_page-clause-disk g c =
-    heals_told (told_up device_of_mount c.from_residual.result c.in_err-mend_page.field-0.0 c.from_residual.ensures.1) (heals_then c.loop-page.invariant.disk c.in_err-mend_page.ensures.disk)
-
-pub returns-in_err-mend_page-clause-keeps : goal.returns-in_err-mend_page-clause-keeps
-returns-in_err-mend_page-clause-keeps g c h =
+pub returns-in_err-write_homes-clause-not_shown : goal.returns-in_err-write_homes-clause-not_shown
+returns-in_err-write_homes-clause-not_shown g c =
     let M = g.M.Machine in
-    keeps_on c.args.l.now (M.now c.args.m.now) (M.now c.loop-page.m) (M.now c.mend_page.new.m) (c.loop-page.invariant.keeps (c.mend_page.ensures.disk.trust.honest h))
-    (keeps_page c.args.l.now c.loop-page.page (omega (arith, c.loop-page-test.true, c.loop-page.auto.page-end, c.pages-page-end.ensures.value)) (M.now c.loop-page.m) (M.now c.mend_page.new.m) (c.mend_page.ensures.keeps h))
+    let l = c.args.l.now in let log = c.args.log.now in let old = M.now c.args.m.now in
+    handed_up (λ fault. (records : List Placed) → M.honest c.write_homes.new.m → IsCalmNow old → GivesPages log records old.image → LosesNone l records old.image fault) c.from_residual.result c.in_err-write_homes.field-0.0 c.from_residual.ensures.1
+    (λ records h still given. c.in_err-write_homes.ensures.not_shown records old.image h still given (showing_none l records old.image c.home_a.result c.home_a.ensures.place))
 
-pub returns-in_err-mend_page-clause-any_moment : goal.returns-in_err-mend_page-clause-any_moment
-returns-in_err-mend_page-clause-any_moment g c windows choices is h =
+-- ---- the second homes
+
+pub returns-in_err-write_homes-2-clause-most : goal.returns-in_err-write_homes-2-clause-most
+returns-in_err-write_homes-2-clause-most g c t = omega (arith, c.write_homes-2.ensures.most t, c.write_homes.ensures.most (c.write_homes-2.ensures.disk.trust.tells t), count_most c.args.log.now c.args.l.now.pages)
+
+pub returns-in_err-write_homes-2-clause-any_moment : goal.returns-in_err-write_homes-2-clause-any_moment
+returns-in_err-write_homes-2-clause-any_moment g c windows choices is h =
     let M = g.M.Machine in
-    let old = M.now c.args.m.now in let so_far = c.loop-page.invariant in
-    let h1 = c.mend_page.ensures.disk.trust.honest h in
-    then_on M.moment M.left_since c.args.m.now c.loop-page.m c.mend_page.new.m (Stays c.args.l.now windows choices old) (so_far.moments windows choices is h1)
-    (c.mend_page.ensures.any_moment windows choices old is h (so_far.mending windows choices is h1))
+    let l = c.args.l.now in let log = c.args.log.now in let old = M.now c.args.m.now in
+    let h1 = c.write_homes-2.ensures.disk.trust.honest h in
+    then_on M.moment M.left_since c.args.m.now c.write_homes.new.m c.write_homes-2.new.m (Stays l windows choices old) (c.write_homes.ensures.any_moment windows choices old is h1 (begin_at l windows choices log old is c.home_a.result c.home_a.ensures.place))
+    (c.write_homes-2.ensures.any_moment windows choices old is h (to_second l windows choices log old is c.home_a.result c.home_b.result (M.now c.write_homes.new.m) c.home_a.ensures.place c.home_b.ensures.place (c.in_ok-write_homes.ensures.done windows choices old is h1 (begin_at l windows choices log old is c.home_a.result c.home_a.ensures.place))))
 
-pub returns-in_err-mend_page-clause-never_lost : goal.returns-in_err-mend_page-clause-never_lost
-returns-in_err-mend_page-clause-never_lost g c =
+pub returns-in_err-write_homes-2-clause-never_lost : goal.returns-in_err-write_homes-2-clause-never_lost
+returns-in_err-write_homes-2-clause-never_lost g c =
     let M = g.M.Machine in
-    let old = M.now c.args.m.now in let so_far = c.loop-page.invariant in
-    handed_up (λ fault. (windows : List WeakRun) (choices : List (List (List ℕ))) (is : IsCompleted c.args.l.now windows choices c.args.log.now old) → M.honest c.mend_page.new.m → IsExcuse fault)
-    c.from_residual.result c.in_err-mend_page.field-0.0 c.from_residual.ensures.1
-    (λ windows choices is h. c.in_err-mend_page.ensures.never_lost windows choices old is h (so_far.mending windows choices is (c.mend_page.ensures.disk.trust.honest h)))
+    let l = c.args.l.now in let log = c.args.log.now in let old = M.now c.args.m.now in
+    handed_up (λ fault. (windows : List WeakRun) (choices : List (List (List ℕ))) (is : IsCompleted l windows choices log old) → M.honest c.write_homes-2.new.m → IsExcuse fault) c.from_residual-in_err-write_homes-2.result c.in_err-write_homes-2.field-0.0 c.from_residual-in_err-write_homes-2.ensures.1
+    (λ windows choices is h. let h1 = c.write_homes-2.ensures.disk.trust.honest h in c.in_err-write_homes-2.ensures.never_lost windows choices old is h (to_second l windows choices log old is c.home_a.result c.home_b.result (M.now c.write_homes.new.m) c.home_a.ensures.place c.home_b.ensures.place (c.in_ok-write_homes.ensures.done windows choices old is h1 (begin_at l windows choices log old is c.home_a.result c.home_a.ensures.place))))
 
-pub returns-in_err-mend_page-clause-lost : goal.returns-in_err-mend_page-clause-lost
-returns-in_err-mend_page-clause-lost g c =
+pub returns-in_err-write_homes-2-clause-not_shown : goal.returns-in_err-write_homes-2-clause-not_shown
+returns-in_err-write_homes-2-clause-not_shown g c =
     let M = g.M.Machine in
-    handed_up (λ fault. M.honest c.mend_page.new.m → LostIn (AreOfVolume c.args.l.now c.args.log.now) (M.now c.mend_page.new.m).image fault) c.from_residual.result c.in_err-mend_page.field-0.0 c.from_residual.ensures.1
-    c.in_err-mend_page.ensures.lost
+    let l = c.args.l.now in let log = c.args.log.now in let old = M.now c.args.m.now in
+    handed_up (λ fault. (records : List Placed) → M.honest c.write_homes-2.new.m → IsCalmNow old → GivesPages log records old.image → LosesNone l records old.image fault) c.from_residual-in_err-write_homes-2.result c.in_err-write_homes-2.field-0.0 c.from_residual-in_err-write_homes-2.ensures.1
+    (λ records h still given. let h1 = c.write_homes-2.ensures.disk.trust.honest h in
+    c.in_err-write_homes-2.ensures.not_shown records old.image h (still_next old (M.now c.write_homes.new.m) (c.write_homes.ensures.keeps h1).windows still) given (showing_further l records old.image (c.home_a.result + l.pages) c.home_b.result (M.now c.write_homes.new.m).image (λ page within before. no_home_between l c.home_a.result c.home_b.result page (home_a l page) c.home_a.ensures.place c.home_b.ensures.place within (inl refl) before) (c.in_ok-write_homes.ensures.shown records old.image h1 still given (showing_none l records old.image c.home_a.result c.home_a.ensures.place))))
 
-pub returns-clause-done : goal.returns-clause-done
-returns-clause-done g c windows choices is h =
-    let M = g.M.Machine in
-    let old = M.now c.args.m.now in
-    let last : c.loop-page.page ≡ c.args.l.now.pages = omega (arith, c.loop-page-test.false, c.loop-page.auto.page-end, c.pages-page-end.ensures.value) in
-    let P : ℕ → Type 0 = λ k. IsMending c.args.l.now windows choices c.args.log.now old is k (M.now c.loop-page.m) in
-    subst P last (c.loop-page.invariant.mending windows choices is h)
-
-pub returns-clause-shown : goal.returns-clause-shown
-returns-clause-shown g c records h still given =
-    let M = g.M.Machine in
-    let old = M.now c.args.m.now in
-    let last : c.loop-page.page ≡ c.args.l.now.pages = omega (arith, c.loop-page-test.false, c.loop-page.auto.page-end, c.pages-page-end.ensures.value) in
-    let P : ℕ → Type 0 = λ k. IsShowing c.args.l.now records old.image k (M.now c.loop-page.m).image in
-    subst P last (c.loop-page.invariant.showing records h still given)
-
-pub returns-in_err-mend_page-clause-not_shown : goal.returns-in_err-mend_page-clause-not_shown
-returns-in_err-mend_page-clause-not_shown g c =
-    let M = g.M.Machine in
-    let old = M.now c.args.m.now in let so_far = c.loop-page.invariant in
-    handed_up (λ fault. (records : List Placed) → M.honest c.mend_page.new.m → IsCalmNow old → GivesPages c.args.log.now records old.image → LosesNone c.args.l.now records old.image fault)
-    c.from_residual.result c.in_err-mend_page.field-0.0 c.from_residual.ensures.1
-    (λ records h still given.
-    let h1 = c.mend_page.ensures.disk.trust.honest h in
-    c.in_err-mend_page.ensures.not_shown records old.image h (still_next old (M.now c.loop-page.m) (so_far.keeps h1).windows still) given (so_far.showing records h1 still given))
-
-pub returns-in_err-mend_page-clause-most : goal.returns-in_err-mend_page-clause-most
-returns-in_err-mend_page-clause-most g c t =
-    omega (arith, c.loop-page.invariant.most (c.mend_page.ensures.disk.trust.tells t), c.mend_page.ensures.most t, c.loop-page-test.true, c.loop-page.auto.page-end, c.pages-page-end.ensures.value)
+-- ---- the others
 
 pub returns-clause-most : goal.returns-clause-most
 returns-clause-most g c t =
-    let last : c.loop-page.page ≡ c.args.l.now.pages = omega (arith, c.loop-page-test.false, c.loop-page.auto.page-end, c.pages-page-end.ensures.value) in
-    omega (arith, c.loop-page.invariant.most t, last)
+    let t2 = c.heal_others.ensures.disk.trust.tells t in
+    omega (arith, c.heal_others.ensures.most t, c.write_homes-2.ensures.most t2, c.write_homes.ensures.most (c.write_homes-2.ensures.disk.trust.tells t2), count_most c.args.log.now c.args.l.now.pages)
 
 pub returns-clause-homes : goal.returns-clause-homes
-returns-clause-homes g c h =
+returns-clause-homes g c =
     let M = g.M.Machine in
-    let last : c.loop-page.page ≡ c.args.l.now.pages = omega (arith, c.loop-page-test.false, c.loop-page.auto.page-end, c.pages-page-end.ensures.value) in
-    let P : ℕ → Type 0 = λ k. (page : ℕ) → page < k → HasBothHomes c.args.l.now (M.now c.loop-page.m) page in
-    subst P last (c.loop-page.invariant.homes h)
+    let l = c.args.l.now in let log = c.args.log.now in let old = M.now c.args.m.now in
+    let two = M.now c.write_homes-2.new.m in let new = M.now c.heal_others.new.m in
+    on_ok_weaker {P = M.honest c.heal_others.new.m → AreHomed l log (home_b l l.pages) 0 two → AreHomed l log (home_b l l.pages) l.pages new} {Q = M.honest c.heal_others.new.m → (page : ℕ) → page < l.pages → HasBothHomes l new page} c.heal_others.result
+    (λ homes h.
+    let h2 = c.heal_others.ensures.disk.trust.honest h in let h1 = c.write_homes-2.ensures.disk.trust.honest h2 in
+    let first = c.in_ok-write_homes.ensures.homes h1 (homed_none l log c.home_a.result c.home_a.ensures.place old) in
+    let second = c.in_ok-write_homes-2.ensures.homes h2 (homed_further l log (c.home_a.result + l.pages) c.home_b.result 0 (M.now c.write_homes.new.m) (λ page s within home before. no_home_between l c.home_a.result c.home_b.result page s c.home_a.ensures.place c.home_b.ensures.place within home before) first) in
+    all_homed l log new (homes h (homed_further l log (c.home_b.result + l.pages) (home_b l l.pages) 0 two (λ page s within home before. omega (arith, c.home_b.ensures.place, before)) second)))
+    c.heal_others.ensures.homes
+
+pub returns-clause-any_moment : goal.returns-clause-any_moment
+returns-clause-any_moment g c windows choices is h =
+    let M = g.M.Machine in
+    let l = c.args.l.now in let log = c.args.log.now in let old = M.now c.args.m.now in
+    let h2 = c.heal_others.ensures.disk.trust.honest h in let h1 = c.write_homes-2.ensures.disk.trust.honest h2 in
+    then_on M.moment M.left_since c.args.m.now c.write_homes-2.new.m c.heal_others.new.m (Stays l windows choices old)
+    (then_on M.moment M.left_since c.args.m.now c.write_homes.new.m c.write_homes-2.new.m (Stays l windows choices old) (c.write_homes.ensures.any_moment windows choices old is h1 (begin_at l windows choices log old is c.home_a.result c.home_a.ensures.place))
+    (c.write_homes-2.ensures.any_moment windows choices old is h2 (to_second l windows choices log old is c.home_a.result c.home_b.result (M.now c.write_homes.new.m) c.home_a.ensures.place c.home_b.ensures.place (c.in_ok-write_homes.ensures.done windows choices old is h1 (begin_at l windows choices log old is c.home_a.result c.home_a.ensures.place)))))
+    (c.heal_others.ensures.any_moment windows choices old is h (to_others l windows choices log old is c.home_b.result (M.now c.write_homes-2.new.m) c.home_b.ensures.place (c.in_ok-write_homes-2.ensures.done windows choices old is h2 (to_second l windows choices log old is c.home_a.result c.home_b.result (M.now c.write_homes.new.m) c.home_a.ensures.place c.home_b.ensures.place (c.in_ok-write_homes.ensures.done windows choices old is h1 (begin_at l windows choices log old is c.home_a.result c.home_a.ensures.place))))))
+
+pub returns-clause-done : goal.returns-clause-done
+returns-clause-done g c =
+    let M = g.M.Machine in
+    let l = c.args.l.now in let log = c.args.log.now in let old = M.now c.args.m.now in
+    let two = M.now c.write_homes-2.new.m in let new = M.now c.heal_others.new.m in
+    on_ok_weaker {P = (windows : List WeakRun) (choices : List (List (List ℕ))) (first : Moment) (is : IsCompleted l windows choices log first) → M.honest c.heal_others.new.m → IsMending l windows choices log first is (home_b l l.pages) 0 two → IsMending l windows choices log first is (home_b l l.pages) l.pages new} {Q = (windows : List WeakRun) (choices : List (List (List ℕ))) (is : IsCompleted l windows choices log old) → M.honest c.heal_others.new.m → IsMending l windows choices log old is (home_b l l.pages) l.pages new} c.heal_others.result
+    (λ done windows choices is h.
+    let h2 = c.heal_others.ensures.disk.trust.honest h in let h1 = c.write_homes-2.ensures.disk.trust.honest h2 in
+    done windows choices old is h (to_others l windows choices log old is c.home_b.result (M.now c.write_homes-2.new.m) c.home_b.ensures.place (c.in_ok-write_homes-2.ensures.done windows choices old is h2 (to_second l windows choices log old is c.home_a.result c.home_b.result (M.now c.write_homes.new.m) c.home_a.ensures.place c.home_b.ensures.place (c.in_ok-write_homes.ensures.done windows choices old is h1 (begin_at l windows choices log old is c.home_a.result c.home_a.ensures.place))))))
+    c.heal_others.ensures.done
+
+pub returns-clause-never_lost : goal.returns-clause-never_lost
+returns-clause-never_lost g c =
+    let M = g.M.Machine in
+    let l = c.args.l.now in let log = c.args.log.now in let old = M.now c.args.m.now in
+    let two = M.now c.write_homes-2.new.m in
+    IfErr-weaker c.heal_others.result (λ fault. (windows : List WeakRun) (choices : List (List (List ℕ))) (first : Moment) (is : IsCompleted l windows choices log first) → M.honest c.heal_others.new.m → IsMending l windows choices log first is (home_b l l.pages) 0 two → IsExcuse fault)
+    (λ fault. (windows : List WeakRun) (choices : List (List (List ℕ))) (is : IsCompleted l windows choices log old) → M.honest c.heal_others.new.m → IsExcuse fault)
+    (λ fault excused windows choices is h.
+    let h2 = c.heal_others.ensures.disk.trust.honest h in let h1 = c.write_homes-2.ensures.disk.trust.honest h2 in
+    excused windows choices old is h (to_others l windows choices log old is c.home_b.result (M.now c.write_homes-2.new.m) c.home_b.ensures.place (c.in_ok-write_homes-2.ensures.done windows choices old is h2 (to_second l windows choices log old is c.home_a.result c.home_b.result (M.now c.write_homes.new.m) c.home_a.ensures.place c.home_b.ensures.place (c.in_ok-write_homes.ensures.done windows choices old is h1 (begin_at l windows choices log old is c.home_a.result c.home_a.ensures.place))))))
+    c.heal_others.ensures.never_lost
+
+pub returns-clause-shown : goal.returns-clause-shown
+returns-clause-shown g c =
+    let M = g.M.Machine in
+    let l = c.args.l.now in let log = c.args.log.now in let old = M.now c.args.m.now in
+    let two = M.now c.write_homes-2.new.m in let new = M.now c.heal_others.new.m in
+    on_ok_weaker {P = (records : List Placed) (first : Image) → M.honest c.heal_others.new.m → IsCalmNow two → GivesPages log records first → IsShowing l records first (home_b l l.pages) two.image → IsShowing l records first (home_b l l.pages) new.image} {Q = (records : List Placed) → M.honest c.heal_others.new.m → IsCalmNow old → GivesPages log records old.image → IsShowing l records old.image (home_b l l.pages) new.image} c.heal_others.result
+    (λ shown records h still given.
+    let h2 = c.heal_others.ensures.disk.trust.honest h in let h1 = c.write_homes-2.ensures.disk.trust.honest h2 in
+    let still_one = (still_next old (M.now c.write_homes.new.m) (c.write_homes.ensures.keeps h1).windows still) in
+    shown records old.image h (still_next (M.now c.write_homes.new.m) (M.now c.write_homes-2.new.m) (c.write_homes-2.ensures.keeps h2).windows still_one) given (showing_further l records old.image (c.home_b.result + l.pages) (home_b l l.pages) (M.now c.write_homes-2.new.m).image (λ page within before. omega (arith, c.home_b.ensures.place, within)) (c.in_ok-write_homes-2.ensures.shown records old.image h2 still_one given (showing_further l records old.image (c.home_a.result + l.pages) c.home_b.result (M.now c.write_homes.new.m).image (λ page within before. no_home_between l c.home_a.result c.home_b.result page (home_a l page) c.home_a.ensures.place c.home_b.ensures.place within (inl refl) before) (c.in_ok-write_homes.ensures.shown records old.image h1 still given (showing_none l records old.image c.home_a.result c.home_a.ensures.place))))))
+    c.heal_others.ensures.shown
+
+pub returns-clause-not_shown : goal.returns-clause-not_shown
+returns-clause-not_shown g c =
+    let M = g.M.Machine in
+    let l = c.args.l.now in let log = c.args.log.now in let old = M.now c.args.m.now in
+    let two = M.now c.write_homes-2.new.m in
+    IfErr-weaker c.heal_others.result (λ fault. (records : List Placed) (first : Image) → M.honest c.heal_others.new.m → IsCalmNow two → GivesPages log records first → IsShowing l records first (home_b l l.pages) two.image → LosesNone l records first fault)
+    (λ fault. (records : List Placed) → M.honest c.heal_others.new.m → IsCalmNow old → GivesPages log records old.image → LosesNone l records old.image fault)
+    (λ fault loses records h still given.
+    let h2 = c.heal_others.ensures.disk.trust.honest h in let h1 = c.write_homes-2.ensures.disk.trust.honest h2 in
+    let still_one = (still_next old (M.now c.write_homes.new.m) (c.write_homes.ensures.keeps h1).windows still) in
+    loses records old.image h (still_next (M.now c.write_homes.new.m) (M.now c.write_homes-2.new.m) (c.write_homes-2.ensures.keeps h2).windows still_one) given (showing_further l records old.image (c.home_b.result + l.pages) (home_b l l.pages) (M.now c.write_homes-2.new.m).image (λ page within before. omega (arith, c.home_b.ensures.place, within)) (c.in_ok-write_homes-2.ensures.shown records old.image h2 still_one given (showing_further l records old.image (c.home_a.result + l.pages) c.home_b.result (M.now c.write_homes.new.m).image (λ page within before. no_home_between l c.home_a.result c.home_b.result page (home_a l page) c.home_a.ensures.place c.home_b.ensures.place within (inl refl) before) (c.in_ok-write_homes.ensures.shown records old.image h1 still given (showing_none l records old.image c.home_a.result c.home_a.ensures.place))))))
+    c.heal_others.ensures.not_shown
