@@ -7,7 +7,7 @@ use Rattle.sector_disk.specs.declared.machine.Seen.{Seen}
 use Rattle.sector_disk.specs.declared.machine.Seen.TheVariants.{Whole, Damaged}
 use Rattle.sector_disk.specs.Machine.{Moment, Wears}
 use Rattle.sector_disk.specs.Image.{IsCalm}
-use Rattle.sector_disk.proofs.Calm.{calm_wears, calm_worn}
+use Rattle.sector_disk.proofs.Calm.{calm_worn}
 use Rattle.sector_disk.proofs.ResultLaws.{some_is}
 use Rattle.fsd_sound.specs.Homes.{home_of}
 use Rattle.twin_home.specs.Home.{ShowsHome}
@@ -24,7 +24,7 @@ module _ (l : Layout) (old mid new : Moment) (calm : IsCalm old.windows) (first 
   -- one page more
   pub more_there : ((page : ℕ) → page < n → IsSome (home_of l mid.image page)) → IsSome (home_of l new.image n) → (page : ℕ) → page < n + 1 → IsSome (home_of l new.image page)
   more_there there here page lt = elim (cases_lt page n) [
-    | inl before ↦ subst (λ (at : Moment). IsSome (home_of l at.image page)) (calm_wears old mid calm first ∙ sym (calm_wears old new calm then)) (there page before)
+    | inl before ↦ subst (λ (i : Image). IsSome (home_of l i page)) (calm_worn old.windows old.image mid.image calm first.image ∙ sym (calm_worn old.windows old.image new.image calm then.image)) (there page before)
     | inr from ↦ let same : n ≡ page = omega (arith, from, lt) in subst (λ (k : ℕ). IsSome (home_of l new.image k)) same here
   ]
 

@@ -186,7 +186,7 @@ module _ (log : LogValue) (s : ResidentValue) (images : List ℕ) (records : Lis
   spot_from = elim (spots log s.dirty images (length old.image) m.may).0.place [ inl here ↦ omega (arith, here.0) | inr there ↦ omega (arith, there.1, m.may.is_in.before) ]
 
   abbrev rest : Moment
-  rest = record { image = old.image; windows = at_rest windows; said = old.said }
+  rest = record old { windows = at_rest windows }
 
   narrow : IsApartNow (gap_of log.layout) rest
   narrow t d x y far = m.apart t (t + d) (omega (arith, far)) x y

@@ -13,7 +13,7 @@ module _ {D E : Type 0} (M : MachineGhosts D) (S : SourceGhosts E) (source : E) 
   -- what stood later stood as the earlier disk was worn
   pub stood_before : (a b : Moment) (page : ℕ) (bytes : List ℕ) → Wears a b → Stood M S source b page bytes → Stood M S source a page bytes
   stood_before a b page bytes worn s =
-      let at_end : Moment = record { image = s.image; windows = b.windows; said = b.said } in
+      let at_end : Moment = record b { image = s.image } in
       record {
         image = s.image;
         worn = (wears_on a b at_end worn (record { image = s.worn; windows = refl; said = refl })).image;

@@ -11,7 +11,7 @@ use Rattle.volume_layout.specs.declared.layout.Layout.{Layout}
 use Rattle.volume_layout.specs.Layout.{plan}
 use Rattle.sector_disk.specs.declared.machine.LoadFault.TheVariants as load
 use Rattle.sector_disk.specs.Image.{IsCalm, open_damage}
-use Rattle.sector_disk.specs.Machine.{Moment}
+use Rattle.sector_disk.specs.Machine.{Moment, Wears}
 use Rattle.fsd_files.specs.Disk.{Image}
 use Rattle.fsd_files.specs.Files.{Files}
 use Rattle.fsd_sound.specs.Homes.{home_of}
@@ -33,6 +33,7 @@ use Rattle.cached_table.specs.Opening.{IsNoTable, IsTableOf, home_pages}
 use Rattle.volume_state.specs.State.{Holds, state}
 use Rattle.volume_state.specs.Volume.{VolumeValue}
 use Rattle.table_volume.proofs.FreshLaws.{fresh_fits, fresh_holds}
+use Rattle.table_volume.proofs.KnownLaws.{opens_known}
 use Rattle.volume_state.proofs.ListLaws.{lists_of}
 
 -- ---- the pages at home are those that the image shows
@@ -111,7 +112,7 @@ calm_handed sectors i (Err told) fault is fails = subst (λ (f : MountFault). Mo
 
 -- ---- the parts of an opening
 
-module _ (l : Layout) (old mid : Moment) (same : mid ≡ old) (knows : KnowsHomes l old) where
+module _ (l : Layout) (old mid : Moment) (wears : Wears old mid) (knows : KnowsHomes l old) where
   pub opens : (r : Result VolumeValue MountFault) → IfOk r (λ v. KnowsHomes l mid → IsTableOf l (home_pages l mid.image) (opened_of v)) → IfErr r (λ fault. KnowsHomes l mid → IsNoTable l (home_pages l mid.image) fault) → OpensCalm l old r
-  opens (Ok v) table fails = (knows, subst (λ (x : Moment). KnowsHomes l x → IsTableOf l (home_pages l x.image) (opened_of v)) same table knows)
-  opens (Err fault) table fails = inr (knows, subst (λ (x : Moment). KnowsHomes l x → IsNoTable l (home_pages l x.image) fault) same fails knows)
+  opens (Ok v) table fails = (knows, opens_known l old mid wears knows (Ok v) table fails)
+  opens (Err fault) table fails = inr (knows, opens_known l old mid wears knows (Err fault) table fails)

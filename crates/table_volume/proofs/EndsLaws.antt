@@ -1,12 +1,12 @@
 -- How a mount of a sound disk ends.
-use Rattle.std.proofs.Common.{◌≡◌, ◌⊎◌, inl, inr, ⊎_elim, ℕ, ◌^◌, ◌<◌, List, Ok, Err, refl, sym, ap, subst}
+use Rattle.std.proofs.Common.{◌≡◌, ◌⊎◌, inl, inr, ⊎_elim, ℕ, ◌^◌, ◌<◌, ◌≤◌, List, Ok, Err, refl, sym, ap, subst, arith}
 use Rattle.std.specs.Prelude.{IfOk, IsErrAnd, Result}
 use Rattle.volume_layout.specs.declared.layout.Layout.{Layout}
 use Rattle.sector_disk.specs.declared.machine.Machine.{Ghosts as MachineGhosts}
 use Rattle.sector_disk.specs.declared.sector.WeakRun.{WeakRun}
 use Rattle.sector_disk.specs.Image.{AreShort, Windows}
-use Rattle.sector_disk.specs.Machine.{LeavesOnly, Moment, Wears}
-use Rattle.sector_disk.proofs.Moments.{leaves_more, then_on}
+use Rattle.sector_disk.specs.Machine.{IsHistory, IsSynced, LeavesOnly, Moment, Wears}
+use Rattle.sector_disk.proofs.Moments.{leaves_more, leaves_more_in, then_on}
 use Rattle.sector_disk.proofs.Wear.{worn_refl}
 use Rattle.fsd_files.specs.Files.{Change}
 use Rattle.fsd_sound.specs.Choices.{TellsChoices}
@@ -20,7 +20,7 @@ use Rattle.log_thirds.specs.LogValue.{LogValue}
 use Rattle.mount_recover.specs.Finding.{IsExcuse}
 use Rattle.mount_recover.specs.Recover.{IsFreshLog, IsRefusedFor, IsSettledIn}
 use Rattle.mount_recover.specs.Replay.{IsAfter, IsBefore, IsReplayed, IsUnturned, Replays, TurnsLast}
-use Rattle.volume_contract.specs.Mount.{EndsBefore, EndsSettled, ExcusesOf, FailsFor, IsSoundAt, SoundBefore, SoundSince}
+use Rattle.volume_contract.specs.Mount.{EndsBefore, EndsSettled, ExcusesOf, FailsFor, IsSoundAt, SoundAbout, SoundBefore, SoundSince}
 use Rattle.cached_table.specs.Homes.{KnowsHomes}
 use Rattle.table_volume.specs.Mounting.{IsAssembled, OpensKnown}
 use Rattle.volume_state.specs.State.{Holds, state}
@@ -36,8 +36,32 @@ module _ {D : Type 0} (moment : D → ℕ) (left_since : D → ℕ → Moment �
   leaves_both first second = record {
     later = first.later;
     each = λ c left. (first.each c left, second.each c left);
-    before = λ t c le left. ⊎_elim (λ was. inl was) (λ p. ⊎_elim (λ was. inl was) (λ q. inr (p, q)) (second.before t c le left)) (first.before t c le left);
+    before = λ t c le left. ⊎_elim (λ was. inl was) (λ p. ⊎_elim (λ was. inl was) (λ q. inr ((p.0, q.0), p.1)) (second.before t c le left)) (first.before t c le left);
   }
+
+-- ---- times
+
+-- At b all that was written is on the disk, and calls that only read lead from there to c.
+pub record ReadsSynced {D : Type 0} (M : MachineGhosts D) (b c : D) (mid new : Moment) : Type 0 where
+  pub dated : mid.time ≡ M.moment b
+  pub synced : IsSynced mid
+  pub before : IsHistory mid (M.left_since b)
+  pub behind : IsHistory new (M.left_since c)
+  pub only : (left : Moment) → M.left_since b (M.moment b) left → left ≡ mid
+  pub there : M.left_since c (M.moment b) mid
+  pub ends : M.left_since c (M.moment b) new
+  pub reads : LeavesOnly M.moment M.left_since b c (Wears mid)
+
+module _ {D : Type 0} (M : MachineGhosts D) (b c : D) (mid new : Moment) (is : ReadsSynced M b c mid new) where
+  -- each moment since has that sync behind it
+  synced_since : (left : Moment) → M.left_since c (M.moment b) left → M.moment b ≤ left.synced
+  synced_since left since = ⊎_elim (λ was. here (is.only left was)) (λ later. next later.1) (is.reads.before (M.moment b) left (omega arith) since)
+    where
+      here : left ≡ mid → M.moment b ≤ left.synced
+      here same = omega (arith, is.dated, is.synced, ap (λ (m : Moment). m.synced) same)
+
+      next : M.moment b < left.time → M.moment b ≤ left.synced
+      next later = omega (arith, is.dated, is.synced, is.behind.in_order (M.moment b) mid left is.there since (omega (arith, is.dated, later)))
 
 -- ---- before it settles
 
@@ -97,28 +121,32 @@ module _ (sectors : ℕ) (l : Layout) (windows : List WeakRun) (h : List Change)
     at_mid = record { image = worn_refl _ mid.image; windows = refl; said = refl }
 
     abbrev Each : Moment → Type 0
-    Each left = SoundBefore l windows h f old left ⊎ SoundSince l windows done.after.run h (count sectors l windows h f old begun lists log mid done short) old left
+    Each = SoundAbout (M.moment b) l windows done.after.run h f (count sectors l windows h f old begun lists log mid done short) old
 
-    each : (left : Moment) → Replays l windows lists.choices old left → TurnsLast old mid left → Each left
-    each left replays (inl still) = inl (moment_before left replays still)
-    each left replays (inr end) = inr (subst (SoundSince l windows done.after.run h (count sectors l windows h f old begun lists log mid done short) old) (sym end) (since mid at_mid))
+    each : ReadsSynced M b c mid new → (left : Moment) → M.left_since b (M.moment a) left → Replays l windows lists.choices old left → TurnsLast old mid left → Each left
+    each is left passed replays (inl still) = inl (moment_before left replays still, omega (arith, is.dated, (is.before.within (M.moment a) left passed).1))
+    each is left passed replays (inr end) = inr (subst (SoundSince l windows done.after.run h (count sectors l windows h f old begun lists log mid done short) old) (sym end) (since mid at_mid), omega (arith, is.dated, is.synced, ap (λ (m : Moment). m.synced) end))
 
     pub knows : KnowsHomes l mid
     knows = knows_settled sectors l windows h f old begun lists log mid done short
 
-    pub ends_settled : LeavesOnly M.moment M.left_since a b (Replays l windows lists.choices old) → LeavesOnly M.moment M.left_since a b (TurnsLast old mid) → LeavesOnly M.moment M.left_since b c (Wears mid)
+    pub ends_settled : LeavesOnly M.moment M.left_since a b (Replays l windows lists.choices old) → LeavesOnly M.moment M.left_since a b (TurnsLast old mid) → ReadsSynced M b c mid new
         → IsFreshLog l log → IsSettledIn sectors l log old mid → log.anchor.epoch < 2 ^ 32 → Wears mid new → (r : Result VolumeValue MountFault) → IfOk r (IsAssembled l log) → OpensKnown l mid r
         → IsNamedSince (M.left_since c) (M.moment a) mid.windows.present → EndsSettled state Holds l windows h f (M.left_since c) (M.moment a) (LeavesOnly M.moment M.left_since a c) old new r
-    ends_settled replays turns reads fresh is fits wears r assembled opens named = record {
+    ends_settled replays turns times fresh is fits wears r assembled opens named = record {
       count = count sectors l windows h f old begun lists log mid done short;
       prefix = (files_settled sectors l windows h f old begun lists log mid done short).prefix;
       next = done.after.run;
       named = subst (IsNamedSince (M.left_since c) (M.moment a)) (ap (λ (w : Windows). w.present) done.after.settled) named;
       known = known_new sectors l windows h f old begun lists log mid done short same exit.said exit.rest fresh is fits new wears;
+      at = M.moment b;
+      later = replays.later;
+      held = synced_since M b c mid new times new times.ends;
+      since = λ left passed. since left (times.reads.each left passed);
       moments = then_on M.moment M.left_since a b c Each
-          (leaves_more M.moment M.left_since a b (λ left. Replays l windows lists.choices old left × TurnsLast old mid left) Each (λ left both. each left both.0 both.1)
+          (leaves_more_in M.moment M.left_since mid a b (λ left. Replays l windows lists.choices old left × TurnsLast old mid left) Each times.before (λ left passed both. each times left passed both.0 both.1)
           (leaves_both M.moment M.left_since a b (Replays l windows lists.choices old) (TurnsLast old mid) replays turns))
-          (leaves_more M.moment M.left_since b c (Wears mid) Each (λ left worn. inr (since left worn)) reads);
+          (leaves_more_in M.moment M.left_since new b c (Wears mid) Each times.behind (λ left passed worn. inr (since left worn, synced_since M b c mid new times left passed)) times.reads);
       settled = settled_new sectors l windows h f old begun lists log mid done short same exit.said exit.rest fresh is fits new wears;
       ends = mounts_new sectors l windows h f old begun lists log mid done short same exit.said exit.rest fresh is fits new wears r assembled opens;
     }

@@ -51,7 +51,7 @@ module _ (v : VolumeValue) (k : Known) (old : Moment) (stands : Stands state Hol
   pub stands_written : AreShort old.windows → (j : Image) → SameLog k.mounted.volume.layout old.image j → IsMounted k.mounted k.windows k.changes (forced_of k) j → StandWritten (open_damage old.windows) j k.mounted.slices k.mounted.volume.drafts
       → (left : Moment) → HoldsImage old j left → Stands state Holds v k left
   stands_written short j same disk written left holds =
-      let mid : Moment = record { image = j; windows = old.windows; said = old.said } in
+      let mid : Moment = record old { image = j } in
       let here : Stands state Holds v k mid = record {
         fits = stands.fits;
         opened = stands.opened;

@@ -145,6 +145,10 @@ pub record SoundSince (l : Layout) (windows : List WeakRun) (run : WeakRun) (h :
   pub sound : IsSound l (windows ++ run ∷ []) (take n h) n left.image
   pub writes : WritesAsMount l (λ s. weak_of windows s || in_run run s) old left
 
+-- A moment of a mount that settled at this time: one up to it, or one since, with all that the mount wrote on the disk.
+abbrev pub SoundAbout : (at : ℕ) (l : Layout) (windows : List WeakRun) (run : WeakRun) (h : List Change) (f n : ℕ) (old left : Moment) → Type 0
+SoundAbout at l windows run h f n old left = (SoundBefore l windows h f old left × (left.time ≤ at)) ⊎ (SoundSince l windows run h n old left × (at ≤ left.synced))
+
 -- ---- its end
 
 -- The disk that settled, with run as its window, in the epoch behind that of the old one: it is this volume's, with
@@ -190,15 +194,20 @@ module _ {S : Type 0} (state : S → State) (has : S → Mounted → List Placed
     pub exit : SoundBefore l windows h f old new
     pub why : FailsFor (ExcusesOf old.image) result
 
-  -- It settled, with the files after the first n changes, all of them forced, and with one run, next, as the present
-  -- window at each moment since, which was named since the mount began: the volume is mounted, or its walk failed.
+  -- It settled at a time, with the files after the first n changes, all of them forced, and with one run, next, as the
+  -- present window at each moment since, which was named since the mount began: the volume is mounted, or its walk failed.
+  -- What was written up to then is on the disk.
   pub record EndsSettled (l : Layout) (windows : List WeakRun) (h : List Change) (f : ℕ) (Past : ℕ → Moment → Type 0) (began : ℕ) (Only : (Moment → Type 0) → Type 0) (old new : Moment) (result : Result S MountFault) : Type 0 where
     pub count : ℕ
     pub prefix : IsPrefixOf h f count
     pub next : WeakRun
     pub named : IsNamedSince Past began (Some next)
     pub known : Known
-    pub moments : Only (λ left. SoundBefore l windows h f old left ⊎ SoundSince l windows next h count old left)
+    pub at : ℕ
+    pub later : began ≤ at
+    pub held : at ≤ new.synced
+    pub since : (left : Moment) → Past at left → SoundSince l windows next h count old left
+    pub moments : Only (SoundAbout at l windows next h f count old)
     pub settled : Settled l windows next h count known old new
     pub ends : Mounts known new result
 

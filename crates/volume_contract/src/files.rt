@@ -62,6 +62,9 @@ pub struct Stat {
 
 /// A mounted volume. A call of a volume that is down does nothing: it answers Down.
 ///
+/// What is committed, by a force or by a call that needs one, is on the disk for certain behind a `sync` of the machine:
+/// up to there a stop may take back the last writes, in their order, and with them the last forces. A mount syncs.
+///
 /// One that is let go without a close keeps what was forced. Where a `?` may let it go, a caller over any volume asks for
 /// `V: Files<M> + Drop`. docs/LIBRARY.md has a whole program.
 pub trait Files<M: Machine>: Sized {
@@ -323,7 +326,8 @@ pub trait Files<M: Machine>: Sized {
         ensures state { Unholds held.place (state self.old) (state self.new) }
         ensures done { (k : Known) (now : Moment) → Stands state holds self.old k now → Stands state holds self.new (with_opened k (read_at k.opened held.place None)) now };
 
-    /// Commits all changes since the last force, where there were any. It takes no memory.
+    /// Commits all changes since the last force, where there were any. They are on the disk for certain behind a `sync` of
+    /// the machine. It takes no memory.
     fn force(&mut self, m: &mut M) -> Result<Forced, Refusal>
         requires { (state self.old).layout.sectors ≤ (M.report m.old).sectors }
         ensures order { Follows (force_steps (state self.old)) result }
@@ -340,7 +344,7 @@ pub trait Files<M: Machine>: Sized {
         ensures done { M.honest m.new → (k : Known) → Stands state holds self.old k (M.now m.old) →
             EndsForce state holds (λ met. force_outcome (volume_of k)) IsForced k self.new (M.now m.new) result };
 
-    /// A force, as time goes on.
+    /// A force, as time goes on. What it commits is on the disk for certain behind a `sync` of the machine.
     fn tick(&mut self, m: &mut M) -> Result<Forced, Refusal>
         requires { (state self.old).layout.sectors ≤ (M.report m.old).sectors }
         ensures order { Follows (force_steps (state self.old)) result }
@@ -414,7 +418,8 @@ pub trait Files<M: Machine>: Sized {
         ensures { result ≡ is_fresh (state self.now) };
 
     /// Writes both roots with layout 2, root 0 first, so that the volume bears runs of three adjacent sectors. Layout 2 is
-    /// `LayoutIs(2)`; where the disk fails, the volume is down, and sound by both layouts.
+    /// `LayoutIs(2)`; where the disk fails, the volume is down, and sound by both layouts. The roots are on the disk for
+    /// certain behind a `sync` of the machine.
     fn upgrade(&mut self, m: &mut M) -> Result<(), Refusal>
         requires room { (state self.old).layout.sectors ≤ (M.report m.old).sectors }
         requires fresh { IsTrue (is_fresh (state self.old)) }
@@ -427,7 +432,7 @@ pub trait Files<M: Machine>: Sized {
         ensures roots { OnOk result (M.honest m.new → RootsStand (state self.new) (M.now m.new)) }
         ensures done { M.honest m.new → (k : Known) → Stands state holds self.old k (M.now m.old) → EndsUpgrade state holds k self.new (M.now m.new) result };
 
-    /// Ends the use of a volume by a force.
+    /// Ends the use of a volume by a force. All is on the disk for certain behind a `sync` of the machine.
     fn close(self, m: &mut M) -> Result<(), Refusal>
         requires { (state self).layout.sectors ≤ (M.report m.old).sectors }
         ensures order { Follows (force_steps (state self)) result }

@@ -19,7 +19,7 @@ use Rattle.fsd_sound.specs.Mounted.{Mounted}
 use Rattle.volume_contract.specs.Ends.{Answered, MakesVersion, Reads}
 use Rattle.volume_contract.specs.State.{State, Known, Stands, volume_of}
 use Rattle.volume_example.specs.Filling.{HasBytes, HasPut, IsUnread}
-use Rattle.volume_example.specs.Forcing.{IsForGood}
+use Rattle.volume_example.specs.Forcing.{IsCommitted}
 use Rattle.volume_example.proofs.PutLaws.{IsMade, file_there, is_made, made_bytes}
 use Rattle.volume_example.proofs.ReadLaws.{gives_whole, is_unread}
 
@@ -50,9 +50,9 @@ module _ {S : Type 0} (state : S → State) (has : S → Mounted → List Placed
   pub unread_put : (now : Moment) → Wears at now → (old new : List ℕ) (why : Refusal) → Reads at.image now.image (find key_cmp key (volume_of made.after).files) (entry_of key (volume_of made.after).entries) 0 old new (Err why) → IsUnread now why
   unread_put now wears old new why reads = is_unread at now wears bytes file.0 made.entry old new made.written why (reads_it now.image old new (Err why) reads)
 
-  pub for_good : (new : S) (now : Moment) → Answered state has (λ met. force_outcome (volume_of made.after)) Forced [] made.after new now → IsForGood state has name bytes k new now key
+  pub committed : (new : S) (now : Moment) → Answered state has (λ met. force_outcome (volume_of made.after)) Forced [] made.after new now → IsCommitted state has name bytes k new now key
   unfolding file has_bytes
-  for_good new now answered =
+  committed new now answered =
       let after = answered.0 in
       let answers = answered.1 in
       let is = ap (λ (x : Outcome). x.1) answers.is in
@@ -66,3 +66,11 @@ module _ {S : Type 0} (state : S → State) (has : S → Mounted → List Placed
         };
         forced = omega (arith, none);
       }
+
+-- a call behind it that only reads
+pub still_committed : {S : Type 0} (state : S → State) (has : S → Mounted → List Placed → Type 0) (name bytes : List ℕ) (k : Known) (new : S) (mid now : Moment) (key : Key) → ((after : Known) → Stands state has new after mid → Stands state has new after now)
+    → IsCommitted state has name bytes k new mid key → IsCommitted state has name bytes k new now key
+still_committed state has name bytes k new mid now key stays is = record {
+  put = record { after = is.put.after; stands = stays is.put.after is.put.stands; changes = is.put.changes; version = is.put.version };
+  forced = is.forced;
+}

@@ -64,6 +64,15 @@ module _ {D S : Type 0} (M : Ghosts D) (state : S → State) (has : S → Mounte
           let back = read.trust.honest h in
           wear_leaves state has v k (M.now a) stands change (M.now b) left (short back) (put_part (M.now b) (put.exit back) k stands) wears
 
+  -- a sync behind both
+  pub then_syncs : (d : D) (fault : Option ℕ) → WritesDisk M None (LeavesOneMore state has v change) a c → (M.honest c → AreShort (M.now c).windows) → OnlyReads M fault c d → WritesDisk M fault (LeavesOneMore state has v change) a d
+  then_syncs d fault all short read = writes_then {P = LeavesOneMore state has v change} {Q = Wears} {R = LeavesOneMore state has v change} all (reads_as_writes {R = Wears} read (λ h left wears. wears)) (λ h left so. so) sync_part
+    where
+      sync_part : M.honest d → (left : Moment) → Wears (M.now c) left → LeavesOneMore state has v change (M.now a) left
+      sync_part h left wears k stands =
+          let back = read.trust.honest h in
+          wear_leaves state has v k (M.now a) stands change (M.now c) left (short back) (all.exit back k stands) wears
+
 -- a put that was refused leaves no more
 pub put_alone : {D S : Type 0} (M : Ghosts D) (state : S → State) (has : S → Mounted → List Placed → Type 0) (v : S) (may : Sectors) (change : Change) (a b : D) (fault : Option ℕ)
     → WritesDisk M fault (Leaves state has v may) a b → WritesDisk M fault (LeavesOneMore state has v change) a b

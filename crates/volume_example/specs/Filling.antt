@@ -15,7 +15,7 @@ use Rattle.fsd_sound.specs.Mounted.{Mounted}
 use Rattle.volume_contract.specs.Ends.{EndsRefused}
 use Rattle.volume_contract.specs.State.{State, Known, Stands, volume_of}
 use Rattle.volume_example.specs.declared.fault.Fault.{Fault}
-use Rattle.volume_example.specs.declared.fault.Fault.TheVariants.{Behind, Put}
+use Rattle.volume_example.specs.declared.fault.Fault.TheVariants.{Behind, Put, Unsynced}
 
 -- The volume has a version of this key with these bytes.
 pub record HasBytes (key : Key) (bytes : List ℕ) (k : Known) : Type 0 where
@@ -47,3 +47,4 @@ module _ {S : Type 0} (state : S → State) (has : S → Mounted → List Placed
   EndsRead name bytes k new now buf (Ok key) = HasPut name bytes k new now key × (buf ≡ bytes)
   EndsRead name bytes k new now buf (Err (Put why)) = IsNotPut name bytes k new now why
   EndsRead name bytes k new now buf (Err (Behind key why)) = HasPut name bytes k new now key × IsUnread now why
+  EndsRead name bytes k new now buf (Err (Unsynced key place)) = ⊥

@@ -3,12 +3,12 @@ use Rattle.std.specs.Prelude.{◌≡◌, ℕ, List, length, Some, Result, Ok, Er
 use Rattle.fsd_bytes.specs.declared.key.Key.{Key}
 use Rattle.fsd_bytes.specs.declared.refusal.Refusal.{Refusal}
 use Rattle.fsd_bytes.specs.declared.refusal.Refusal.TheVariants as Why
-use Rattle.sector_disk.specs.Machine.{Moment}
+use Rattle.sector_disk.specs.Machine.{IsSynced, Moment}
 use Rattle.fsd_log.specs.Scan.{Placed}
 use Rattle.fsd_sound.specs.Mounted.{Mounted}
 use Rattle.volume_contract.specs.State.{State, Known, forced_of}
 use Rattle.volume_example.specs.declared.fault.Fault.{Fault}
-use Rattle.volume_example.specs.declared.fault.Fault.TheVariants.{Behind, Put}
+use Rattle.volume_example.specs.declared.fault.Fault.TheVariants.{Behind, Put, Unsynced}
 use Rattle.volume_example.specs.Filling.{HasPut, IsNotPut}
 
 -- a volume that is down refuses, and tells where its force has failed
@@ -16,10 +16,15 @@ abbrev pub IsRefusedDown : ℕ → Result Key Fault → Type 0
 IsRefusedDown place result = result ≡ Err (Put (Why.Down place))
 
 module _ {S : Type 0} (state : S → State) (has : S → Mounted → List Placed → Type 0) where
-  -- It is put, and none of its changes waits: each stop from here on leaves it.
-  pub record IsForGood (name bytes : List ℕ) (k : Known) (new : S) (now : Moment) (key : Key) : Type 0 where
+  -- It is put, and none of its changes waits.
+  pub record IsCommitted (name bytes : List ℕ) (k : Known) (new : S) (now : Moment) (key : Key) : Type 0 where
     pub put : HasPut state has name bytes k new now key
     pub forced : forced_of put.after ≡ length put.after.changes
+
+  -- So it is, and all that was written is on the disk: each stop from here on leaves it.
+  pub record IsForGood (name bytes : List ℕ) (k : Known) (new : S) (now : Moment) (key : Key) : Type 0 where
+    pub committed : IsCommitted name bytes k new now key
+    pub synced : IsSynced now
 
   -- the force has failed at this place, and the volume is down
   abbrev pub IsDown : S → Refusal → Type 0
@@ -30,3 +35,4 @@ module _ {S : Type 0} (state : S → State) (has : S → Mounted → List Placed
   EndsForced name bytes k new now (Ok key) = IsForGood name bytes k new now key
   EndsForced name bytes k new now (Err (Put why)) = IsNotPut state has name bytes k new now why
   EndsForced name bytes k new now (Err (Behind key why)) = IsDown new why
+  EndsForced name bytes k new now (Err (Unsynced key place)) = IsCommitted name bytes k new now key

@@ -1,5 +1,6 @@
--- What a stop inside a call leaves that makes one version.
-use Rattle.std.specs.Prelude.{ℕ, List, [], ◌∷◌, ◌++◌, Option}
+-- What there is at each moment of a call that makes one version: a stop leaves the image of such a moment, or of an earlier
+-- one since the last sync.
+use Rattle.std.specs.Prelude.{ℕ, List, [], ◌∷◌, ◌++◌, Option, Some}
 use Rattle.sector_disk.specs.Machine.{Moment}
 use Rattle.fsd_log.specs.Scan.{Placed}
 use Rattle.fsd_files.specs.Files.{Change}
@@ -8,7 +9,7 @@ use Rattle.fsd_sound.specs.Sound.{EndIn, IsSound}
 use Rattle.volume_contract.specs.Ends.{device_of}
 use Rattle.volume_contract.specs.State.{State, Known, Stands, forced_of}
 use Rattle.volume_example.specs.declared.fault.Fault.{Fault}
-use Rattle.volume_example.specs.declared.fault.Fault.TheVariants.{Behind, Put}
+use Rattle.volume_example.specs.declared.fault.Fault.TheVariants.{Behind, Put, Unsynced}
 
 -- The image is sound for the changes before and this one behind them: a mount of it finds the files after some first ones of
 -- all these, with every one that was forced before.
@@ -24,3 +25,4 @@ LeavesOneMore state has s change old left = (k : Known) → Stands state has s k
 abbrev pub failed_at : Fault → Option ℕ
 failed_at (Put why) = device_of why
 failed_at (Behind key why) = device_of why
+failed_at (Unsynced key place) = Some place

@@ -1,17 +1,18 @@
 //! A version that is there for good.
-ghost use Rattle.std.specs.Prelude.{◌≡◌, ◌≤◌, ℕ, None, Some};
+ghost use Rattle.std.specs.Prelude.{◌≡◌, ◌≤◌, ℕ, None, Some, OnOk};
 ghost use Rattle.fsd_files.specs.Files.{Change};
-ghost use Rattle.sector_disk.specs.Calls.{WritesDisk, device_in};
+ghost use Rattle.sector_disk.specs.Calls.{OnlyReads, WritesDisk, device_in, failed_at as sync_failed_at};
+ghost use Rattle.sector_disk.specs.Machine.{IsSynced};
 ghost use Rattle.volume_contract.specs.State.{Known, Stands};
 ghost use Rattle.volume_example.specs.Forcing.{EndsForced, IsRefusedDown};
 ghost use Rattle.volume_example.specs.Stops.{LeavesOneMore, failed_at};
 
 use crate::fault::Fault;
 use fsd_bytes::{FileName, Key};
-use sector_disk::Machine;
+use sector_disk::{Failed, Machine};
 use volume_contract::Files;
 
-/// Makes a version with these bytes, and brings it to the disk with all that waited.
+/// Makes a version with these bytes, commits it with all that waited, and brings it to the disk: at Ok each stop leaves it.
 pub fn put_and_force<M: Machine, V: Files<M>>(
     v: &mut V,
     m: &mut M,
@@ -26,9 +27,23 @@ pub fn put_and_force<M: Machine, V: Files<M>>(
 {
     match v.put(m, name, None, bytes) {
         Ok(key) => match v.force(m) {
-            Ok(_) => Ok(key),
+            Ok(_) => match sync(m) {
+                Ok(()) => Ok(key),
+                Err(failed) => Err(Fault::Unsynced {
+                    key,
+                    place: failed.place,
+                }),
+            },
             Err(why) => Err(Fault::Behind { key, why }),
         },
         Err(why) => Err(Fault::Put(why)),
     }
+}
+
+// Brings all that was written to the disk.
+fn sync<M: Machine>(m: &mut M) -> Result<(), Failed>
+    ensures reads { OnlyReads M.Machine (device_in sync_failed_at result) m.old m.new }
+    ensures synced { OnOk result (M.honest m.new → IsSynced (M.now m.new)) }
+{
+    m.sync()
 }

@@ -2,7 +2,7 @@
 ghost use Rattle.std.specs.Prelude.{◌≡◌, ◌+◌, ◌≤◌, ◌<◌, Ok, OnOk, OnErr};
 ghost use Rattle.sector_disk.specs.Calls.{HealsDisk, WritesDisk, device_in, failed_at};
 ghost use Rattle.sector_disk.specs.Image.{with_sector};
-ghost use Rattle.sector_disk.specs.Machine.{Holds, wrote};
+ghost use Rattle.sector_disk.specs.Machine.{Holds, IsSynced, wrote};
 ghost use Rattle.sector_disk.specs.Written.{WroteMost};
 ghost use Rattle.volume_layout.specs.Layout.{plan};
 ghost use Rattle.version_data.specs.Writing.{WritesIn};
@@ -36,6 +36,9 @@ pub fn format<M: Machine>(m: &mut M, l: &Layout) -> Result<(), Failed>
 
     // On a new image an empty volume stands then, also as the window of the format has worn it.
     ensures done { OnOk result (M.honest m.new → IsNew (M.now m.old) → Formats l.now (M.now m.old) (M.now m.new)) }
+
+    // All of it is on the disk then: to settle is a sync.
+    ensures synced { OnOk result (M.honest m.new → IsSynced (M.now m.new)) }
 {
     m.healing(l.kind().longest())?;
     write_volume(m, l)?;

@@ -83,7 +83,7 @@ module _ (v : VolumeValue) (k : Known) (old left : Moment) (may : Sectors) (free
       ∙ sym (ap (λ (w : Walked). w.records) mounted.over.own.log.scanned)
 
   -- as they are written and nothing wears
-  stands_between : Stands state Holds v k (record { image = between; windows = old.windows; said = old.said })
+  stands_between : Stands state Holds v k (record old { image = between })
   stands_between = record {
     fits = stands.fits;
     opened = stands.opened;
@@ -106,7 +106,7 @@ module _ (v : VolumeValue) (k : Known) (old left : Moment) (may : Sectors) (free
       by s false is e = subst (λ (x : Sector). (sector_at left.image s ≡ x) ⊎ (IsTrue (open_damage old.windows s) × (sector_at left.image s ≡ Damaged))) (sym e) (writes.touches.others s is)
 
   pub stands_written : AreShort old.windows → Stands state Holds v k left
-  stands_written short = stands_worn v k (record { image = between; windows = old.windows; said = old.said }) left short (record { image = wears; windows = writes.windows }) stands_between
+  stands_written short = stands_worn v k (record old { image = between }) left short (record { image = wears; windows = writes.windows }) stands_between
 
   -- a stop leaves a sound disk
   pub leaves_written : AreShort old.windows → LeavesSound k may old left

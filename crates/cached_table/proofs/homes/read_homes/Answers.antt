@@ -1,8 +1,8 @@
 use Rattle.std.proofs.Common.{◌≡◌, ℕ, ◌<◌, sym, subst, rules}
 use Rattle.std.specs.Prelude.{IsSome}
-use Rattle.sector_disk.specs.Machine.{Moment}
+use Rattle.fsd_files.specs.Disk.{Image}
 use Rattle.sector_disk.proofs.CallLaws.{reads_then}
-use Rattle.sector_disk.proofs.Calm.{calm_wears}
+use Rattle.sector_disk.proofs.Calm.{calm_worn}
 use Rattle.fsd_sound.specs.Homes.{home_of}
 use Rattle.cached_table.proofs.HomeReadLaws.{calm_knows, more_there}
 use Rattle.cached_table.proofs.homes.read_homes.Goals as goal
@@ -28,4 +28,4 @@ returns-clause-there g c honest calm =
     let so_far = c.loop-page.invariant in
     let whole : c.loop-page.page ≡ l.pages = search rules in
     calm_knows l old calm
-    (λ page lt. subst (λ (at : Moment). IsSome (home_of l at.image page)) (calm_wears old now calm (so_far.reads.worn honest)) (so_far.there honest calm page (subst (λ (n : ℕ). page < n) (sym whole) lt)))
+    (λ page lt. subst (λ (i : Image). IsSome (home_of l i page)) (calm_worn old.windows old.image now.image calm (so_far.reads.worn honest).image) (so_far.there honest calm page (subst (λ (n : ℕ). page < n) (sym whole) lt)))

@@ -1,4 +1,3 @@
-use Rattle.sector_disk.proofs.Calm.{calm_wears}
 use Rattle.cached_table.specs.Homes.{KnowsHomes}
 use Rattle.table_volume.specs.Mounting.{opened_of}
 use Rattle.cached_table.specs.Opening.{IsNoTable, IsTableOf, home_pages}
@@ -13,7 +12,7 @@ returns-clause-calm g c honest calm =
     let l = c.args.settled.layout in
     let old = M.now c.args.m.now in let mid = M.now c.read_homes.new.m in
     let back = c.open_settled.ensures.reads.trust.honest honest in
-    opens l old mid (calm_wears old mid calm (c.read_homes.ensures.reads.worn back)) (c.in_ok-read_homes.ensures.there back calm) c.open_settled.result
+    opens l old mid (c.read_homes.ensures.reads.worn back) (c.in_ok-read_homes.ensures.there back calm) c.open_settled.result
     (IfOk-weaker c.open_settled.result (λ v. M.honest c.open_settled.new.m → KnowsHomes l mid → IsTableOf l (home_pages l mid.image) (opened_of v)) (λ v. KnowsHomes l mid → IsTableOf l (home_pages l mid.image) (opened_of v)) (λ v t. t honest) c.open_settled.ensures.table)
     (IfErr-weaker c.open_settled.result (λ fault. M.honest c.open_settled.new.m → KnowsHomes l mid → IsNoTable l (home_pages l mid.image) fault) (λ fault. KnowsHomes l mid → IsNoTable l (home_pages l mid.image) fault) (λ fault t. t honest) c.open_settled.ensures.no_table)
 

@@ -1,4 +1,4 @@
-use Rattle.std.proofs.Common.{◌≡◌, inl, inr, subst}
+use Rattle.std.proofs.Common.{◌≡◌, ◌≤◌, inl, inr, subst, arith}
 use Rattle.std.specs.Prelude.{IfOk}
 use Rattle.std.proofs.lemmas.Result.{IfErr-weaker, IfOk-weaker}
 use Rattle.volume_layout.specs.declared.layout.Layout.{Layout}
@@ -15,7 +15,7 @@ use Rattle.table_volume.specs.Mounting.{IsAssembled, OpensKnown}
 use Rattle.cached_table.specs.Opening.{IsOpenFault}
 use Rattle.volume_state.specs.State.{state}
 use Rattle.table_volume.proofs.CalmLaws.{calm_handed, fails_calm, mounts_calm}
-use Rattle.table_volume.proofs.EndsLaws.{ends_before, ends_settled, knows}
+use Rattle.table_volume.proofs.EndsLaws.{ReadsSynced, ends_before, ends_settled, knows}
 use Rattle.volume_state.proofs.MomentLaws.{lists_now, said_at, said_lists, shows_now}
 use Rattle.table_volume.proofs.HealsLaws.{anchors_read, homes_read}
 use Rattle.table_volume.proofs.MountLaws.{found_open, home_lost, is_new, refused_open, settled_in}
@@ -150,11 +150,23 @@ returns-clause-sound g c honest l windows h f begun =
     let lists_k = said_lists l old.image k by.said windows h f lists in
     let same : settled.layout ≡ k = by.took in
     let done = subst (λ (x : Layout). IsReplayed x windows lists.choices settled.log.anchor.epoch mid) same (c.in_ok-settled.ensures.done l windows lists.choices back shows) in
-    let known = subst (λ (x : Layout). KnowsHomes x mid → OpensKnown x mid c.open_read.result) same (c.open_read.ensures.known honest) in (
+    let known = subst (λ (x : Layout). KnowsHomes x mid → OpensKnown x mid c.open_read.result) same (c.open_read.ensures.known honest) in
+    let reads = c.open_read.ensures.reads.any_moment honest in
+    let at_mid : M.moment c.recover.new.m ≤ M.moment c.recover.new.m = omega arith in
+    let times : ReadsSynced M c.recover.new.m c.open_read.new.m mid new = record {
+      dated = g.met.M.Machine.dated c.recover.new.m back;
+      synced = c.in_ok-settled.ensures.synced back;
+      before = g.met.M.Machine.history c.recover.new.m back;
+      behind = g.met.M.Machine.history c.open_read.new.m honest;
+      only = λ left passed. g.met.M.Machine.only_now c.recover.new.m left back passed;
+      there = c.open_read.ensures.reads.since honest (M.moment c.recover.new.m) mid at_mid (g.met.M.Machine.counts_now c.recover.new.m (M.moment c.recover.new.m) back at_mid);
+      ends = g.met.M.Machine.counts_now c.open_read.new.m (M.moment c.recover.new.m) honest reads.later;
+      reads = reads;
+    } in (
       k,
       by.said,
       inr (ends_settled s k windows h f old begun_k lists_k M c.args.m.now c.recover.new.m c.open_read.new.m settled.log mid new done short by.exit
-          by.moments (c.recover.ensures.turns l windows lists.choices back shows) (c.open_read.ensures.reads.any_moment honest)
+          by.moments (c.recover.ensures.turns l windows lists.choices back shows) times
           (subst (λ (x : Layout). IsFreshLog x settled.log) same c.in_ok-settled.ensures.log) (subst (λ (x : Layout). IsSettledIn s x settled.log old mid) same (c.in_ok-settled.ensures.found back)) c.in_ok-settled.ensures.epoch
           (c.open_read.ensures.reads.worn honest) c.open_read.result (subst (λ (x : Layout). IfOk c.open_read.result (IsAssembled x settled.log)) same c.open_read.ensures.assembled)
           (known (knows s k windows h f old begun_k lists_k M c.args.m.now c.recover.new.m c.open_read.new.m settled.log mid new done short by.exit))
