@@ -6,15 +6,18 @@ use Rattle.sector_disk.specs.declared.machine.Attach.TheVariants.{Old}
 use Rattle.sector_disk.specs.declared.machine.Failed.{Failed}
 use Rattle.sector_disk.specs.declared.machine.Machine.{Ghosts}
 use Rattle.sector_disk.specs.declared.sector.WeakRun.{WeakRun}
-use Rattle.sector_disk.specs.Calls.{LeavesDisk}
+use Rattle.sector_disk.specs.Calls.{IsHeld, IsTimed, LeavesDisk, StopsOnly, stops}
 use Rattle.sector_disk.specs.Image.{AreShort}
-use Rattle.sector_disk.specs.Machine.{Before, DiskCause, Elapses, Finds, Ledger, LeavesOnly, Moment, OnlyWrites, Trusts, Utters, Wears, asked_for}
+use Rattle.sector_disk.specs.Machine.{Before, DiskCause, Elapses, Finds, IsSynced, Ledger, OnlyWrites, Trusts, Utters, Wears, asked_for}
 use Rattle.sector_disk.proofs.Holding.{trusts_on}
+use Rattle.sector_disk.proofs.Lags.{held_synced}
 use Rattle.fsd_files.specs.Files.{Change}
 use Rattle.fsd_texts.specs.declared.fault.Fault.TheVariants as Ends
 use Rattle.fsd_texts.specs.Text.{fault_text}
 use Rattle.fsd_runs.specs.declared.request.Request.{Request}
-use Rattle.fsd_runs.specs.Leaves.{LeavesRun}
+use Rattle.fsd_runs.specs.Errands.{IfMounts}
+use Rattle.fsd_runs.specs.Leaves.{IsSoundAsSaid, LeavesRun}
+use Rattle.fsd_runs.proofs.SafeLaws.{never_refused}
 use Rattle.volume_contract.specs.Mount.{IsSoundAt}
 use Rattle.volume_turns.specs.Answering.{SaysNoReply}
 use Rattle.volume_turns.specs.Causes.{FailsInput, SaysFault, SaysOfInput, TellsImage, is_of_fault}
@@ -23,12 +26,13 @@ use Rattle.volume_turns.specs.Status.{CountsNone, CountsRun, CountsTaking}
 use Rattle.volume_turns.proofs.AnsweringLaws.{fault_alone}
 use Rattle.volume_turns.proofs.CauseLaws.{input_since}
 use Rattle.volume_turns.proofs.LastLaws.{ends_fault}
+use Rattle.volume_turns.proofs.StatusLaws.{not_as}
 use Rattle.cfs_program.specs.Formatting.{AsksAll, AsksAtMost, CountsFaults}
-use Rattle.cfs_program.specs.Opening.{CountsReading, IsSoundDisk, TellsFound, is_from_outside, mount_asks}
+use Rattle.cfs_program.specs.Opening.{AcceptsSound, CountsReading, IsSoundDisk, TellsFound, is_from_outside, mount_asks}
 use Rattle.cfs_program.proofs.CountsLaws.{counts_failed, counts_opened, reading_of, reading_opened}
 use Rattle.cfs_program.proofs.EndedLaws.{ended_run}
 use Rattle.cfs_program.proofs.FoundLaws.{fails_attached, failed_not, tells_found, tells_unfound}
-use Rattle.cfs_program.proofs.OpeningLaws.{finds_keep, opened_run, sound_found}
+use Rattle.cfs_program.proofs.OpeningLaws.{finds_keep, opened_run, said_disk, sound_found}
 
 -- ---- over the image
 
@@ -38,6 +42,7 @@ pub record RunsFound {D : Type 0} (M : Ghosts D) (path : List ℕ) (sectors : �
   pub trust : Trusts (M.tells a) (M.tells b) (M.honest a) (M.honest b)
   pub asked : M.tells b → M.ledger b ≡ asked_for (M.ledger a) path Old
   pub found : M.honest b → Finds (M.now a) (M.now b)
+  pub synced : M.honest b → IsSynced (M.now b)
   pub size : M.honest b → sectors ≡ min (length (M.now b).image) (2 ^ 32 - 1)
   pub time : M.honest b → Elapses (M.moment a) (M.moment b) (M.left_since a) (M.left_since b) (Before (M.now a) (M.now b))
   pub runs : Trusts (M.tells b) (M.tells z) (M.honest b) (M.honest z)
@@ -83,17 +88,30 @@ module _ {D : Type 0} {M : Ghosts D} {path : List ℕ} {sectors : ℕ} {a b z : 
   pub found_says_input : M.tells z → SaysOfInput (M.ledger b).input (M.report b) (M.report z) (M.now z) → SaysOfInput (M.ledger a).input (M.report a) (M.report z) (M.now z)
   found_says_input t says = input_since (M.report a) (M.report b) (M.report z) (M.ledger a).input (M.ledger b).input (M.now z) x.cause.input (found_input t) says
 
-  -- over a sound disk
-  pub found_leaves : (request : Request) (input rest : List ℕ) (l : Layout) (windows : List WeakRun) (h : List Change) (f status : ℕ) → M.honest z → (M.honest a → AreShort (M.now a).windows) → ((left : Moment) → M.honest a → M.left_since a (M.moment a) left → left ≡ M.now a)
-      → IsSoundDisk l windows h f (M.now a)
-      → (IsSoundAt sectors l windows h f (M.now b) → LeavesRun request input rest l windows h f (M.left_since z) (M.moment b) (λ P. LeavesOnly M.moment M.left_since b z P) (M.report b) (M.report z) (M.now b) (M.now z) status)
-      → LeavesRun request input rest l windows h f (M.left_since z) (M.moment a) (λ P. LeavesOnly M.moment M.left_since a z P) (M.report a) (M.report z) (M.now a) (M.now z) status
-  found_leaves request input rest l windows h f status honest short only sound leaves =
-      let back = x.runs.honest honest in
-      let first = x.trust.honest back in
-      let found = x.found back in
-      opened_run M request input rest l windows h f a b z status sound (short first) (λ left was. only left first was) (x.time back) found none_rose
-      (leaves (sound_found l windows h f (M.now a) sound (short first) (M.now b) (finds_keep (M.now a) (M.now b) found) sectors (x.size back)))
+  -- over a sound disk, where the run behind the attach leaves it so
+  module _ (request : Request) (input rest : List ℕ) (status : ℕ) (honest : M.honest z) (short : M.honest a → AreShort (M.now a).windows) (timed : (m : D) → M.honest m → IsTimed M m)
+      (leaves : (l : Layout) (windows : List WeakRun) (h : List Change) (f : ℕ) → IsSoundAt sectors l windows h f (M.now b) → IsHeld M b (λ c. IsSoundAsSaid l windows h f (M.now b).image c.image)
+      → LeavesRun request input rest l windows h f (M.left_since z) (stops M z) (M.moment b) (StopsOnly M b z) (M.report b) (M.report z) (M.now b) (M.now z) status) where
+    back : M.honest b
+    back = x.runs.honest honest
+
+    -- all that is there behind an attach is on the disk
+    found_run : (l : Layout) (windows : List WeakRun) (h : List Change) (f : ℕ) → IsSoundDisk l windows h f (M.now a)
+        → LeavesRun request input rest l windows h f (M.left_since z) (stops M z) (M.moment b) (StopsOnly M b z) (M.report b) (M.report z) (M.now b) (M.now z) status
+    found_run l windows h f sound =
+        let at = sound_found l windows h f (M.now a) sound (short (x.trust.honest back)) (M.now b) (finds_keep (M.now a) (M.now b) (x.found back)) sectors (x.size back) in
+        leaves l windows h f at (held_synced M b (λ c. IsSoundAsSaid l windows h f (M.now b).image c.image) (timed b back) (x.synced back) (λ layout said. (said_disk l layout windows h f (M.now b) said (record { planned = at.planned; ends = at.ends; sound = at.sound })).sound))
+
+    pub found_leaves : (l : Layout) (windows : List WeakRun) (h : List Change) (f : ℕ) → IsSoundDisk l windows h f (M.now a) → IsHeld M a (λ c. IsSoundAsSaid l windows h f (M.now a).image c.image)
+        → LeavesRun request input rest l windows h f (M.left_since z) (stops M z) (M.moment a) (StopsOnly M a z) (M.report a) (M.report z) (M.now a) (M.now z) status
+    found_leaves l windows h f sound held =
+        let first = x.trust.honest back in
+        opened_run M request input rest l windows h f a b z status sound (short first) (timed a first) (timed b back) held (x.time back) (x.found back) none_rose (found_run l windows h f sound)
+
+    -- it is one that mounts
+    pub found_accepted : ((P : Type 0) → IfMounts request P → P) → AcceptsSound (M.now a) status
+    found_accepted mounts l windows h f sound =
+        mounts _ (never_refused request input rest l windows h f (M.left_since z) (stops M z) (M.moment b) (StopsOnly M b z) (M.report b) (M.report z) (M.now b) (M.now z) status) (found_run l windows h f sound)
 
 -- ---- by a line
 
@@ -142,15 +160,18 @@ module _ {D : Type 0} {M : Ghosts D} {path : List ℕ} {failed : Failed} {a b z 
   pub unfound_alone : M.honest z → SaysNoReply (M.now a) (M.now z) status
   unfound_alone h = fault_alone (Ends.Device failed.place) (M.now a) (M.now b) (M.now z) status (x.worn (x.says.trust.honest h)).said (x.ends h)
 
+  pub unfound_accepted : AcceptsSound (M.now a) status
+  unfound_accepted l windows h f sound three = not_as 3 4 status (λ e. omega (arith, e)) (λ e. omega (arith, e)) x.for three
+
   -- over a sound disk
-  pub unfound_leaves : (request : Request) (input rest : List ℕ) (l : Layout) (windows : List WeakRun) (h : List Change) (f : ℕ) → M.honest z → (M.honest a → AreShort (M.now a).windows) → ((left : Moment) → M.honest a → M.left_since a (M.moment a) left → left ≡ M.now a)
-      → IsSoundDisk l windows h f (M.now a)
-      → LeavesRun request input rest l windows h f (M.left_since z) (M.moment a) (λ P. LeavesOnly M.moment M.left_since a z P) (M.report a) (M.report z) (M.now a) (M.now z) status
-  unfound_leaves request input rest l windows h f honest short only sound =
+  pub unfound_leaves : (request : Request) (input rest : List ℕ) (l : Layout) (windows : List WeakRun) (h : List Change) (f : ℕ) → M.honest z → (M.honest a → AreShort (M.now a).windows) → ((m : D) → M.honest m → IsTimed M m)
+      → IsSoundDisk l windows h f (M.now a) → IsHeld M a (λ c. IsSoundAsSaid l windows h f (M.now a).image c.image)
+      → LeavesRun request input rest l windows h f (M.left_since z) (stops M z) (M.moment a) (StopsOnly M a z) (M.report a) (M.report z) (M.now a) (M.now z) status
+  unfound_leaves request input rest l windows h f honest short timed sound held =
       let back = x.says.trust.honest honest in
       let first = x.trust.honest back in
       let rose = x.cause.disk.failed in
       let disk = x.says.spares.disk in
       let output = x.cause.output in
-      ended_run M request input rest l windows h f a b z (Ends.Device failed.place) tt status sound (short first) (λ left was. only left first was) (x.time back) (x.worn back) x.says honest (x.ends honest)
+      ended_run M request input rest l windows h f a b z (Ends.Device failed.place) tt status sound (short first) (timed a first) (timed z honest) held (x.time back) (x.worn back) x.says honest (x.ends honest)
       (record { rose = omega (arith, rose, disk); told = told }) (omega (arith, output))

@@ -1,5 +1,5 @@
 -- A drill: what is said, piece by piece, and what is told of it.
-use Rattle.std.proofs.Common.{◌≡◌, ◌⊎◌, inl, inr, ℕ, suc, ◌+◌, ◌<◌, Bool, true, false, List, [], ◌∷◌, ◌++◌, take, drop, refl, sym, ◌∙◌, ap, subst, arith}
+use Rattle.std.proofs.Common.{◌≡◌, ◌⊎◌, inl, inr, ℕ, suc, ◌<◌, Bool, true, false, List, [], ◌∷◌, ◌++◌, take, drop, refl, sym, ◌∙◌, ap, subst, arith}
 use Rattle.std.specs.Prelude.{IsTrue}
 use Rattle.std.proofs.lemmas.Bool.{eq-eqb}
 use Rattle.std.proofs.lemmas.List.{append_assoc, append-nil, take-append-drop}
@@ -239,5 +239,5 @@ module _ {D : Type 0} (M : Ghosts D) where
       all = λ none h. tt;
       image = λ none h. tt;
       untouched = d.ages;
-      leaves = λ h l windows changes f sound. tt;
+      leaves = λ h l windows changes f sound held. tt;
     }

@@ -4,7 +4,7 @@ use Rattle.std.proofs.lemmas.Bool.{eq-eqb}
 use Rattle.volume_layout.specs.declared.layout.Layout.{Layout}
 use Rattle.sector_disk.specs.declared.machine.Machine.{Ghosts}
 use Rattle.sector_disk.specs.declared.sector.WeakRun.{WeakRun}
-use Rattle.sector_disk.specs.Calls.{Counts, LeavesDisk}
+use Rattle.sector_disk.specs.Calls.{Counts, IsHeld, IsTimed, LeavesDisk, Since, StopsOnly, stops}
 use Rattle.sector_disk.specs.Image.{AreShort, Windows}
 use Rattle.sector_disk.specs.Machine.{Before, Elapses, LeavesOnly, Moment, Rose, Wears, Utters}
 use Rattle.sector_disk.proofs.Moments.{goes_on, leaves_more, started, then_on}
@@ -16,18 +16,19 @@ use Rattle.fsd_texts.specs.declared.fault.Fault.TheVariants as Ends
 use Rattle.fsd_texts.specs.Text.{fault_text}
 use Rattle.fsd_runs.specs.declared.request.Request.{Request}
 use Rattle.fsd_runs.specs.Errands.{blank, fault_status}
-use Rattle.fsd_runs.specs.Leaves.{IsBroken, IsOutside, IsSpent, IsUnsaid, LeavesRun, LeftBefore, MayEnd, Unbegun}
+use Rattle.fsd_runs.specs.Leaves.{IsBroken, IsOutside, IsSoundAsSaid, IsSpent, IsUnsaid, LeavesRun, LeftBefore, MayEnd, Unbegun}
 use Rattle.volume_turns.specs.Status.{IsStatusBroken}
 use Rattle.volume_turns.specs.Line.{EndsWith, IsStatusAs, is_unsaid}
 use Rattle.cfs_program.specs.Opening.{IsSoundDisk}
-use Rattle.cfs_program.proofs.OpeningLaws.{left_start, left_worn}
+use Rattle.cfs_program.proofs.OpeningLaws.{left_start, left_worn, stops_before}
 
 pub failed_status : (status : ℕ) → IsStatusAs 4 status → IsStatusBroken status
 failed_status status (inl four) = inl (Ends.Device 0, tt, four)
 failed_status status (inr six) = inr six
 
 module _ {D : Type 0} (M : Ghosts D) (request : Request) (input rest : List ℕ) (l : Layout) (windows : List WeakRun) (h : List Change) (f : ℕ) (a b c : D) (why : Fault) (may : MayEnd why) (status : ℕ)
-    (sound : IsSoundDisk l windows h f (M.now a)) (short : AreShort (M.now a).windows) (first : LeavesOnly M.moment M.left_since a b (LeftBefore l windows h f (M.now a))) (worn : Wears (M.now a) (M.now b))
+    (sound : IsSoundDisk l windows h f (M.now a)) (short : AreShort (M.now a).windows) (at_a : IsTimed M a) (at_c : IsTimed M c) (held : IsHeld M a (λ c. IsSoundAsSaid l windows h f (M.now a).image c.image)) (since : Since M a b)
+    (first : LeavesOnly M.moment M.left_since a b (LeftBefore l windows h f (M.now a))) (worn : Wears (M.now a) (M.now b))
     (says : LeavesDisk M false (is_unsaid status) (Utters (fault_text why)) b c) (honest : M.honest c) (ends : EndsWith why (M.now b) (M.now c) status)
     (out : IsOutside request (M.report a) (M.report c) why) (later : (M.report a).output_faults ≤ (M.report b).output_faults) where
   ends_in : EndIn (M.now b).windows windows
@@ -55,13 +56,14 @@ module _ {D : Type 0} (M : Ghosts D) (request : Request) (input rest : List ℕ)
   ended (inl six) = inr (inl (unsaid six))
   ended (inr (is, all)) = inr (inr (broken is all.said))
 
-  pub ended_behind : LeavesRun request input rest l windows h f (M.left_since c) (M.moment a) (λ P. LeavesOnly M.moment M.left_since a c P) (M.report a) (M.report c) (M.now a) (M.now c) status
+  pub ended_behind : LeavesRun request input rest l windows h f (M.left_since c) (stops M c) (M.moment a) (StopsOnly M a c) (M.report a) (M.report c) (M.now a) (M.now c) status
   ended_behind = (
     l,
     inl refl,
     inl (record {
-      moments = then_on M.moment M.left_since a b c (LeftBefore l windows h f (M.now a)) first
-          (leaves_more M.moment M.left_since b c (Utters (fault_text why) (M.now b)) (LeftBefore l windows h f (M.now a)) saying (says.any_moment honest));
+      moments = stops_before M l windows h f (M.now a) a c at_a at_c (λ t m le left. says.since honest t m (omega (arith, le, first.later)) (since t m le left))
+          (then_on M.moment M.left_since a b c (LeftBefore l windows h f (M.now a)) first
+          (leaves_more M.moment M.left_since b c (Utters (fault_text why) (M.now b)) (LeftBefore l windows h f (M.now a)) saying (says.any_moment honest))) (λ m left. held m left l (inl refl));
       exit = saying (M.now c) (says.exit honest);
       ends = ended ends;
     }),
@@ -70,11 +72,11 @@ module _ {D : Type 0} (M : Ghosts D) (request : Request) (input rest : List ℕ)
 module _ {D : Type 0} (M : Ghosts D) (request : Request) (input rest : List ℕ) (l : Layout) (windows : List WeakRun) (h : List Change) (f : ℕ) (a b c : D) (why : Fault) (may : MayEnd why) (status : ℕ)
     (sound : IsSoundDisk l windows h f (M.now a)) (short : AreShort (M.now a).windows) where
   -- by an attach that failed
-  pub ended_run : (only : (left : Moment) → M.left_since a (M.moment a) left → left ≡ M.now a) → Elapses (M.moment a) (M.moment b) (M.left_since a) (M.left_since b) (Before (M.now a) (M.now b)) → Wears (M.now a) (M.now b)
+  pub ended_run : IsTimed M a → IsTimed M c → IsHeld M a (λ c. IsSoundAsSaid l windows h f (M.now a).image c.image) → Elapses (M.moment a) (M.moment b) (M.left_since a) (M.left_since b) (Before (M.now a) (M.now b)) → Wears (M.now a) (M.now b)
       → LeavesDisk M false (is_unsaid status) (Utters (fault_text why)) b c → M.honest c → EndsWith why (M.now b) (M.now c) status
       → IsOutside request (M.report a) (M.report c) why → (M.report a).output_faults ≤ (M.report b).output_faults
-      → LeavesRun request input rest l windows h f (M.left_since c) (M.moment a) (λ P. LeavesOnly M.moment M.left_since a c P) (M.report a) (M.report c) (M.now a) (M.now c) status
-  ended_run only time worn = ended_behind M request input rest l windows h f a b c why may status sound short first worn
+      → LeavesRun request input rest l windows h f (M.left_since c) (stops M c) (M.moment a) (StopsOnly M a c) (M.report a) (M.report c) (M.now a) (M.now c) status
+  ended_run at_a at_c held time worn = ended_behind M request input rest l windows h f a b c why may status sound short at_a at_c held time.keeps first worn
     where
       before : (left : Moment) → Before (M.now a) (M.now b) left → LeftBefore l windows h f (M.now a) left
       before left (inl wears) = left_worn l windows h f (M.now a) sound short left wears
@@ -82,4 +84,4 @@ module _ {D : Type 0} (M : Ghosts D) (request : Request) (input rest : List ℕ)
 
       first : LeavesOnly M.moment M.left_since a b (LeftBefore l windows h f (M.now a))
       first = goes_on M.moment M.left_since a a b (LeftBefore l windows h f (M.now a)) (Before (M.now a) (M.now b))
-          (started M.moment M.left_since a (M.now a) (LeftBefore l windows h f (M.now a)) only (left_start l windows h f (M.now a) sound short)) time before
+          (started M.moment M.left_since a (M.now a) (LeftBefore l windows h f (M.now a)) at_a.only (left_start l windows h f (M.now a) sound short)) time before

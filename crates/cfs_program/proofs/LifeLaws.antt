@@ -14,9 +14,12 @@ use Rattle.run_table.specs.declared.run.Run.{Run as SectorRun}
 use Rattle.run_table.specs.RunTable.{total}
 use Rattle.fsd_formats.specs.declared.entry.Entry.{Entry}
 use Rattle.fsd_formats.specs.NamePage.{sectors_for}
+use Rattle.sector_disk.specs.declared.memory.MemoryMachine.{MemoryMachine}
 use Rattle.sector_disk.specs.declared.sector.WeakRun.{WeakRun}
 use Rattle.sector_disk.specs.Image.{Windows}
-use Rattle.sector_disk.specs.Machine.{Moment, Report}
+use Rattle.sector_disk.specs.Machine.{LeavesOnly, Moment, Report, StopSince}
+use Rattle.sector_disk.specs.Memory.{memory_calls, memory_left, memory_now}
+use Rattle.sector_disk.specs.Past.{only_at_end}
 use Rattle.fsd_files.specs.Answers.{Met, enter_fault, entered_unless, keep_given, no_place, put_at, put_unless, size_fault}
 use Rattle.fsd_files.specs.Disk.{Image, Sectors, in_runs}
 use Rattle.fsd_files.specs.Files.{Change, File, Files, after, new_key}
@@ -35,7 +38,7 @@ use Rattle.fsd_runs.specs.declared.request.Request.{Request}
 use Rattle.fsd_runs.specs.declared.request.Request.TheVariants as Asks
 use Rattle.fsd_runs.specs.Commands.{answer, changes_of, version_line}
 use Rattle.fsd_runs.specs.Errands.{Cut, Turn, MayCut, alone, alone_ending, answered_so, blank, fault_status, reply_status}
-use Rattle.fsd_runs.specs.Leaves.{IsBroken, IsReplied, IsSpent, IsUndone, IsUnsaid, LeavesBy, LeavesMounted, LeavesRun, LeftSince, Unbegun}
+use Rattle.fsd_runs.specs.Leaves.{IsBroken, IsReplied, IsSoundAsSaid, IsSpent, IsUndone, IsUnsaid, LeavesBy, LeavesMounted, LeavesRun, LeftSince, Unbegun}
 use Rattle.fsd_runs.specs.Sessions.{Meeting, session_over}
 use Rattle.fsd_runs.specs.Runs.{Goes, IsCutAt, IsThrough, answered, changes_in, errand_in, run_end, run_status, run_turns, said_in, turn_of, turns_of}
 use Rattle.cfs_program.specs.Drill.{KeepsFirst, ListsPrefix, list_text, version_text}
@@ -97,7 +100,7 @@ kept_made l now planned holds = record {
 }
 
 -- the bytes that were said are left out, and a window that was only named
-pub kept_again : (h : List Change) (f : ℕ) (old new : Moment) → new ≡ record { image = old.image; windows = old.windows; said = [] } → KeepsFirst h f old → KeepsFirst h f new
+pub kept_again : (h : List Change) (f : ℕ) (old new : Moment) → new ≡ record { image = old.image; windows = old.windows; said = []; time = 0; synced = 0 } → KeepsFirst h f old → KeepsFirst h f new
 kept_again h f old new is k = subst (λ (m : Moment). KeepsFirst h f m) (sym is) (record {
   layout = k.layout;
   windows = k.windows;
@@ -107,6 +110,22 @@ kept_again h f old new is k = subst (λ (m : Moment). KeepsFirst h f m) (sym is)
   some = k.some;
   sound = record { planned = k.sound.planned; ends = record { last = k.sound.ends.last; some = k.sound.ends.some }; sound = k.sound.sound };
 })
+
+-- what a stop since a time may have left of a machine in memory
+abbrev pub memory_stops : MemoryMachine → ℕ → Moment → Type 0
+memory_stops m t left = StopSince (memory_left m) t left
+
+-- a stop at any moment since old leaves what has P
+abbrev pub MemoryStops : MemoryMachine → MemoryMachine → (Moment → Type 0) → Type 0
+MemoryStops old new P = LeavesOnly memory_calls memory_stops old new P
+
+-- of a machine of which nothing was asked yet all is on the disk
+pub held_again : (h : List Change) (f : ℕ) (m : MemoryMachine) (image : Image) (windows : Windows) → memory_now m ≡ record { image = image; windows = windows; said = []; time = 0; synced = 0 } → (k : KeepsFirst h f (memory_now m))
+    → (c : Moment) → memory_left m (memory_now m).synced c → IsSoundAsSaid k.layout k.windows (take k.made h) k.forced (memory_now m).image c.image
+held_again h f m image windows is k c left =
+    let all : (memory_now m).synced ≡ memory_calls m = ap (λ (x : Moment). x.synced) is ∙ sym (ap (λ (x : Moment). x.time) is) in
+    let same = only_at_end m.past.items (memory_now m) c (subst (λ (t : ℕ). memory_left m t c) all left) in
+    subst (λ (x : Moment). IsSoundAsSaid k.layout k.windows (take k.made h) k.forced (memory_now m).image x.image) (sym same) (λ layout said. (said_disk k.layout layout k.windows (take k.made h) k.forced (memory_now m) said k.sound).sound)
 
 -- ---- how a run ends
 
@@ -263,15 +282,15 @@ kept_mounted l windows next h g f made forced now planned settled sound is few s
   };
 }
 
-module _ (name : List ℕ) (byte : ℕ) (h : List Change) (old new : Moment) (k : KeepsFirst h (length h) old) (rest : List ℕ) (Past : ℕ → Moment → Type 0) (began : ℕ) (Only : (Moment → Type 0) → Type 0) (before after_it : Report) (result : ℕ) where
+module _ (name : List ℕ) (byte : ℕ) (h : List Change) (old new : Moment) (k : KeepsFirst h (length h) old) (rest : List ℕ) (Past Stops : ℕ → Moment → Type 0) (began : ℕ) (Only : (Moment → Type 0) → Type 0) (before after_it : Report) (result : ℕ) where
   abbrev more : List Change
   more = h ++ the_change name byte ∷ []
 
   abbrev Leaves : Type 0
-  Leaves = LeavesBy (the_request name byte) (byte ∷ []) rest k.layout k.windows (take k.made h) k.forced Past began Only before after_it old new result
+  Leaves = LeavesBy (the_request name byte) (byte ∷ []) rest k.layout k.windows (take k.made h) k.forced Past Stops began Only before after_it old new result
 
   abbrev Mounted : Type 0
-  Mounted = LeavesMounted (the_request name byte) (byte ∷ []) rest k.layout k.windows (take k.made h) k.forced Past began Only before after_it old new result
+  Mounted = LeavesMounted (the_request name byte) (byte ∷ []) rest k.layout k.windows (take k.made h) k.forced Past Stops began Only before after_it old new result
 
   long : length more ≡ length h + 1
   long = length-append h (the_change name byte ∷ [])
@@ -336,8 +355,8 @@ module _ (name : List ℕ) (byte : ℕ) (h : List Change) (old new : Moment) (k 
       by (inl none) = kept (length h) ((λ i. found.1 i ++ none i) ∙ append-nil h ∙ sym (take_all (length h) h (omega arith)) ∙ sym (take-append-le (length h) h (the_change name byte ∷ []) (omega arith))) (omega (arith, long))
       by (inr one) = kept (length more) ((λ i. found.1 i ++ one i) ∙ sym (take_all (length more) more (omega arith))) (omega arith)
 
-module _ (h : List Change) (f : ℕ) (old new : Moment) (k : KeepsFirst h f old) (rest : List ℕ) (Past : ℕ → Moment → Type 0) (began : ℕ) (Only : (Moment → Type 0) → Type 0) (before after_it : Report) (result : ℕ) where
-  listed_by : old.said ≡ [] → result ≡ 0 → LeavesBy (Asks.One all_versions) [] rest k.layout k.windows (take k.made h) k.forced Past began Only before after_it old new result → ListsPrefix h f new.said
+module _ (h : List Change) (f : ℕ) (old new : Moment) (k : KeepsFirst h f old) (rest : List ℕ) (Past Stops : ℕ → Moment → Type 0) (began : ℕ) (Only : (Moment → Type 0) → Type 0) (before after_it : Report) (result : ℕ) where
+  listed_by : old.said ≡ [] → result ≡ 0 → LeavesBy (Asks.One all_versions) [] rest k.layout k.windows (take k.made h) k.forced Past Stops began Only before after_it old new result → ListsPrefix h f new.said
   listed_by unsaid nought (inl u) = absurd (by u.ends)
     where
       by : IsSpent old new result ⊎ (IsUnsaid before after_it result ⊎ IsBroken (Asks.One all_versions) Unbegun before after_it (blank ∷ []) old new result) → ⊥
@@ -375,16 +394,16 @@ kept_by h f now k layout said = record {
   sound = said_disk k.layout layout k.windows (take k.made h) k.forced now said k.sound;
 }
 
-module _ (name : List ℕ) (byte : ℕ) (h : List Change) (old new : Moment) (k : KeepsFirst h (length h) old) (rest : List ℕ) (Past : ℕ → Moment → Type 0) (began : ℕ) (Only : (Moment → Type 0) → Type 0) (before after_it : Report) (result : ℕ) where
+module _ (name : List ℕ) (byte : ℕ) (h : List Change) (old new : Moment) (k : KeepsFirst h (length h) old) (rest : List ℕ) (Past Stops : ℕ → Moment → Type 0) (began : ℕ) (Only : (Moment → Type 0) → Type 0) (before after_it : Report) (result : ℕ) where
   abbrev LeavesPut : Type 0
-  LeavesPut = LeavesRun (the_request name byte) (byte ∷ []) rest k.layout k.windows (take k.made h) k.forced Past began Only before after_it old new result
+  LeavesPut = LeavesRun (the_request name byte) (byte ∷ []) rest k.layout k.windows (take k.made h) k.forced Past Stops began Only before after_it old new result
 
   pub kept_done : result ≡ 0 → LeavesPut → KeepsFirst (h ++ the_change name byte ∷ []) (length h + 1) new
-  kept_done nought (layout, said, leaves) = done_by name byte h old new (kept_by h (length h) old k layout said) rest Past began Only before after_it result nought leaves
+  kept_done nought (layout, said, leaves) = done_by name byte h old new (kept_by h (length h) old k layout said) rest Past Stops began Only before after_it result nought leaves
 
   pub kept_left : LeavesPut → KeepsFirst (h ++ the_change name byte ∷ []) (length h) new
-  kept_left (layout, said, leaves) = left_by name byte h old new (kept_by h (length h) old k layout said) rest Past began Only before after_it result leaves
+  kept_left (layout, said, leaves) = left_by name byte h old new (kept_by h (length h) old k layout said) rest Past Stops began Only before after_it result leaves
 
-module _ (h : List Change) (f : ℕ) (old new : Moment) (k : KeepsFirst h f old) (rest : List ℕ) (Past : ℕ → Moment → Type 0) (began : ℕ) (Only : (Moment → Type 0) → Type 0) (before after_it : Report) (result : ℕ) where
-  pub kept_listed : old.said ≡ [] → result ≡ 0 → LeavesRun (Asks.One all_versions) [] rest k.layout k.windows (take k.made h) k.forced Past began Only before after_it old new result → ListsPrefix h f new.said
-  kept_listed unsaid nought (layout, said, leaves) = listed_by h f old new (kept_by h f old k layout said) rest Past began Only before after_it result unsaid nought leaves
+module _ (h : List Change) (f : ℕ) (old new : Moment) (k : KeepsFirst h f old) (rest : List ℕ) (Past Stops : ℕ → Moment → Type 0) (began : ℕ) (Only : (Moment → Type 0) → Type 0) (before after_it : Report) (result : ℕ) where
+  pub kept_listed : old.said ≡ [] → result ≡ 0 → LeavesRun (Asks.One all_versions) [] rest k.layout k.windows (take k.made h) k.forced Past Stops began Only before after_it old new result → ListsPrefix h f new.said
+  kept_listed unsaid nought (layout, said, leaves) = listed_by h f old new (kept_by h f old k layout said) rest Past Stops began Only before after_it result unsaid nought leaves

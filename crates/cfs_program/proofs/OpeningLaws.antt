@@ -7,13 +7,15 @@ use Rattle.volume_layout.proofs.RootLaws.{planned_bounds}
 use Rattle.volume_layout.proofs.TurnedLaws.{planned_turned}
 use Rattle.sector_disk.specs.declared.machine.Machine.{Ghosts}
 use Rattle.sector_disk.specs.declared.sector.WeakRun.{WeakRun}
+use Rattle.sector_disk.specs.Calls.{IsHeld, IsTimed, Since, StopsOnly, stops}
 use Rattle.sector_disk.specs.Image.{AreShort, IsWorn, Windows, open_damage}
 use Rattle.sector_disk.specs.Machine.{Before, Elapses, Finds, LeavesOnly, Moment, Report, Rose, Wears}
+use Rattle.sector_disk.proofs.Lags.{shows_of, stops_by}
 use Rattle.sector_disk.proofs.Moments.{goes_on, leaves_more, started, then_on}
 use Rattle.sector_disk.proofs.Wear.{worn_trans}
 use Rattle.fsd_files.specs.Files.{Change}
 use Rattle.fsd_files.specs.Disk.{Image, in_runs}
-use Rattle.fsd_sound.specs.Sound.{IsSaid, weak_of}
+use Rattle.fsd_sound.specs.Sound.{IsSaid, IsSound, weak_of}
 use Rattle.fsd_sound.proofs.WindowLaws.{named_from}
 use Rattle.fsd_sound.proofs.MoreLaws.{wear_sound}
 use Rattle.fsd_sound.proofs.SaidLaws.{says_worn}
@@ -25,7 +27,7 @@ use Rattle.fsd_texts.specs.Text.{fault_text}
 use Rattle.fsd_runs.specs.declared.request.Request.{Request}
 use Rattle.fsd_runs.specs.declared.request.Request.TheVariants.{Put}
 use Rattle.fsd_runs.specs.Errands.{Cut, Turn}
-use Rattle.fsd_runs.specs.Leaves.{CutCause, IsBroken, IsOutside, IsReplied, IsSpent, IsUndone, IsUnsaid, LeavesBy, LeavesMounted, LeavesRun, LeavesUnmounted, Left, LeftBefore, LeftSince, SaysFault}
+use Rattle.fsd_runs.specs.Leaves.{CutCause, IsBroken, IsOutside, IsReplied, IsSoundAsSaid, IsSpent, IsUndone, IsUnsaid, LeavesBy, LeavesMounted, LeavesRun, LeavesUnmounted, Left, LeftBefore, LeftSince, SaysFault}
 use Rattle.fsd_runs.specs.Sessions.{session_over}
 use Rattle.fsd_runs.specs.Runs.{Goes, IsCutAt, IsThrough, Run, errand_in, run_end, run_status, run_turns, said_in}
 use Rattle.volume_contract.specs.Mount.{IsSoundAt}
@@ -143,21 +145,35 @@ module _ (l : Layout) (windows : List WeakRun) (h : List Change) (f : ℕ) (old 
       spent_or turns (inl x) = inl (spent_on new status x)
       spent_or turns (inr x) = inr (failed_on turns x)
 
+-- ---- what a stop leaves
+
+-- the image is that of an earlier moment, which is as sound
+module _ {D : Type 0} (M : Ghosts D) (l : Layout) (windows : List WeakRun) (h : List Change) (f : ℕ) (old : Moment) (a b : D) (at_a : IsTimed M a) (at_b : IsTimed M b) where
+  pub stops_before : Since M a b → LeavesOnly M.moment M.left_since a b (LeftBefore l windows h f old) → IsHeld M a (λ c. IsSound l windows h f c.image) → StopsOnly M a b (LeftBefore l windows h f old)
+  stops_before since run held = stops_by M a b (LeftBefore l windows h f old) (λ c. IsSound l windows h f c.image) at_a at_b since run held (LeftBefore l windows h f old) (λ c x. x) (λ last shown x left early lately is. left_shown last shown x (image_is shown is))
+    where
+      image_is : (shown : Moment) → IsSound l windows h f shown.image ⊎ LeftBefore l windows h f old shown → IsSound l windows h f shown.image
+      image_is shown (inl sound) = sound
+      image_is shown (inr left) = left.sound
+
+      left_shown : (last shown : Moment) → LeftBefore l windows h f old last → IsSound l windows h f shown.image → LeftBefore l windows h f old (shows_of shown last)
+      left_shown last shown x sound = record { present = x.present; part = x.part; said = x.said; fault = x.fault; sound = sound }
+
 -- ---- the whole
 
 module _ {D : Type 0} (M : Ghosts D) (request : Request) (input rest : List ℕ) (l : Layout) (windows : List WeakRun) (h : List Change) (f : ℕ) (a b c : D) (status : ℕ)
     (sound : IsSoundDisk l windows h f (M.now a)) (short : AreShort (M.now a).windows)
-    (ahead : LeavesOnly M.moment M.left_since a b (LeftBefore l windows h f (M.now a))) (found : Keeps (M.now a) (M.now b)) (same : CountsNone (M.report a) (M.report b)) where
-  opened_unmounted : LeavesUnmounted request l windows h f (λ P. LeavesOnly M.moment M.left_since b c P) (M.report b) (M.report c) (M.now b) (M.now c) status
-      → LeavesUnmounted request l windows h f (λ P. LeavesOnly M.moment M.left_since a c P) (M.report a) (M.report c) (M.now a) (M.now c) status
+    (ahead : StopsOnly M a b (LeftBefore l windows h f (M.now a))) (found : Keeps (M.now a) (M.now b)) (same : CountsNone (M.report a) (M.report b)) where
+  opened_unmounted : LeavesUnmounted request l windows h f (StopsOnly M b c) (M.report b) (M.report c) (M.now b) (M.now c) status
+      → LeavesUnmounted request l windows h f (StopsOnly M a c) (M.report a) (M.report c) (M.now a) (M.now c) status
   opened_unmounted u = record {
-    moments = then_on M.moment M.left_since a b c (LeftBefore l windows h f (M.now a)) ahead
-        (leaves_more M.moment M.left_since b c (LeftBefore l windows h f (M.now b)) (LeftBefore l windows h f (M.now a)) (before_on l windows h f (M.now a) sound short (M.now b) found) u.moments);
+    moments = then_on M.moment (stops M) a b c (LeftBefore l windows h f (M.now a)) ahead
+        (leaves_more M.moment (stops M) b c (LeftBefore l windows h f (M.now b)) (LeftBefore l windows h f (M.now a)) (before_on l windows h f (M.now a) sound short (M.now b) found) u.moments);
     exit = before_on l windows h f (M.now a) sound short (M.now b) found (M.now c) u.exit;
     ends = spent_or l windows h f (M.now a) sound short (M.now b) found request (M.report a) (M.report b) (M.report c) same (M.now c) status _ u.ends;
   }
 
-  module _ (m : LeavesMounted request input rest l windows h f (M.left_since c) (M.moment b) (λ P. LeavesOnly M.moment M.left_since b c P) (M.report b) (M.report c) (M.now b) (M.now c) status) where
+  module _ (m : LeavesMounted request input rest l windows h f (M.left_since c) (stops M c) (M.moment b) (StopsOnly M b c) (M.report b) (M.report c) (M.now b) (M.now c) status) where
     abbrev turns : List Turn
     turns = run_turns m.run
 
@@ -178,7 +194,7 @@ module _ {D : Type 0} (M : Ghosts D) (request : Request) (input rest : List ℕ)
     ends_on (inl (through, replied)) = inl (through, replied_on replied)
     ends_on (inr failed) = inr (failed_on l windows h f (M.now a) sound short (M.now b) found request (M.report a) (M.report b) (M.report c) same (M.now c) status turns failed)
 
-    opened_mounted : LeavesMounted request input rest l windows h f (M.left_since c) (M.moment a) (λ P. LeavesOnly M.moment M.left_since a c P) (M.report a) (M.report c) (M.now a) (M.now c) status
+    opened_mounted : LeavesMounted request input rest l windows h f (M.left_since c) (stops M c) (M.moment a) (StopsOnly M a c) (M.report a) (M.report c) (M.now a) (M.now c) status
     opened_mounted = record {
       count = m.count;
       prefix = m.prefix;
@@ -194,29 +210,30 @@ module _ {D : Type 0} (M : Ghosts D) (request : Request) (input rest : List ℕ)
       own = m.own;
       run = run_is;
       cause = cause_on m.run.cut input rest (M.report a) (M.report b) (M.report c) same m.cause;
-      moments = then_on M.moment M.left_since a b c (Left l windows m.next h f m.count turns (M.now a))
-          (leaves_more M.moment M.left_since a b (LeftBefore l windows h f (M.now a)) (Left l windows m.next h f m.count turns (M.now a)) (λ left x. inl x) ahead)
-          (leaves_more M.moment M.left_since b c (Left l windows m.next h f m.count turns (M.now b)) (Left l windows m.next h f m.count turns (M.now a)) (left_on l windows h f (M.now a) sound short (M.now b) found m.next m.count turns) m.moments);
+      moments = then_on M.moment (stops M) a b c (Left l windows m.next h f m.count turns (M.now a))
+          (leaves_more M.moment (stops M) a b (LeftBefore l windows h f (M.now a)) (Left l windows m.next h f m.count turns (M.now a)) (λ left x. inl x) ahead)
+          (leaves_more M.moment (stops M) b c (Left l windows m.next h f m.count turns (M.now b)) (Left l windows m.next h f m.count turns (M.now a)) (left_on l windows h f (M.now a) sound short (M.now b) found m.next m.count turns) m.moments);
       later = λ left was. since_on l windows h f (M.now a) sound short (M.now b) found m.next m.count turns left (m.later left was);
       exit = since_on l windows h f (M.now a) sound short (M.now b) found m.next m.count turns (M.now c) m.exit;
       ends = ends_on m.ends;
     }
 
-  found_by : LeavesBy request input rest l windows h f (M.left_since c) (M.moment b) (λ P. LeavesOnly M.moment M.left_since b c P) (M.report b) (M.report c) (M.now b) (M.now c) status
-      → LeavesBy request input rest l windows h f (M.left_since c) (M.moment a) (λ P. LeavesOnly M.moment M.left_since a c P) (M.report a) (M.report c) (M.now a) (M.now c) status
+  found_by : LeavesBy request input rest l windows h f (M.left_since c) (stops M c) (M.moment b) (StopsOnly M b c) (M.report b) (M.report c) (M.now b) (M.now c) status
+      → LeavesBy request input rest l windows h f (M.left_since c) (stops M c) (M.moment a) (StopsOnly M a c) (M.report a) (M.report c) (M.now a) (M.now c) status
   found_by (inl u) = inl (opened_unmounted u)
   found_by (inr m) = inr (opened_mounted m)
 
 module _ {D : Type 0} (M : Ghosts D) (request : Request) (input rest : List ℕ) (l : Layout) (windows : List WeakRun) (h : List Change) (f : ℕ) (a b c : D) (status : ℕ)
-    (sound : IsSoundDisk l windows h f (M.now a)) (short : AreShort (M.now a).windows) (only : (left : Moment) → M.left_since a (M.moment a) left → left ≡ M.now a)
+    (sound : IsSoundDisk l windows h f (M.now a)) (short : AreShort (M.now a).windows) (at_a : IsTimed M a) (at_b : IsTimed M b) (held : IsHeld M a (λ c. IsSound l windows h f c.image))
     (time : Elapses (M.moment a) (M.moment b) (M.left_since a) (M.left_since b) (Before (M.now a) (M.now b))) (found : Finds (M.now a) (M.now b)) (same : CountsNone (M.report a) (M.report b)) where
-  opened_by : LeavesBy request input rest l windows h f (M.left_since c) (M.moment b) (λ P. LeavesOnly M.moment M.left_since b c P) (M.report b) (M.report c) (M.now b) (M.now c) status
-      → LeavesBy request input rest l windows h f (M.left_since c) (M.moment a) (λ P. LeavesOnly M.moment M.left_since a c P) (M.report a) (M.report c) (M.now a) (M.now c) status
+  opened_by : LeavesBy request input rest l windows h f (M.left_since c) (stops M c) (M.moment b) (StopsOnly M b c) (M.report b) (M.report c) (M.now b) (M.now c) status
+      → LeavesBy request input rest l windows h f (M.left_since c) (stops M c) (M.moment a) (StopsOnly M a c) (M.report a) (M.report c) (M.now a) (M.now c) status
   opened_by =
       let keeps = finds_keep (M.now a) (M.now b) found in
       found_by M request input rest l windows h f a b c status sound short
+      (stops_before M l windows h f (M.now a) a b at_a at_b time.keeps
       (goes_on M.moment M.left_since a a b (LeftBefore l windows h f (M.now a)) (Before (M.now a) (M.now b))
-      (started M.moment M.left_since a (M.now a) (LeftBefore l windows h f (M.now a)) only (left_start l windows h f (M.now a) sound short)) time (left_attach l windows h f (M.now a) sound short (M.now b) keeps)) keeps same
+      (started M.moment M.left_since a (M.now a) (LeftBefore l windows h f (M.now a)) at_a.only (left_start l windows h f (M.now a) sound short)) time (left_attach l windows h f (M.now a) sound short (M.now b) keeps)) held) keeps same
 
 -- ---- by the layout that a root says
 
@@ -232,9 +249,9 @@ said_disk l layout windows h f now (inr (is, says)) sound =
 module _ {D : Type 0} (M : Ghosts D) (request : Request) (input rest : List ℕ) (l : Layout) (windows : List WeakRun) (h : List Change) (f : ℕ) (a b c : D) (status : ℕ)
     (sound : IsSoundDisk l windows h f (M.now a)) (short : AreShort (M.now a).windows) where
   -- behind an attach
-  pub opened_run : (only : (left : Moment) → M.left_since a (M.moment a) left → left ≡ M.now a) → Elapses (M.moment a) (M.moment b) (M.left_since a) (M.left_since b) (Before (M.now a) (M.now b)) → Finds (M.now a) (M.now b) → CountsNone (M.report a) (M.report b)
-      → LeavesRun request input rest l windows h f (M.left_since c) (M.moment b) (λ P. LeavesOnly M.moment M.left_since b c P) (M.report b) (M.report c) (M.now b) (M.now c) status
-      → LeavesRun request input rest l windows h f (M.left_since c) (M.moment a) (λ P. LeavesOnly M.moment M.left_since a c P) (M.report a) (M.report c) (M.now a) (M.now c) status
-  opened_run only time found same (layout, says, leaves) =
+  pub opened_run : IsTimed M a → IsTimed M b → IsHeld M a (λ c. IsSoundAsSaid l windows h f (M.now a).image c.image) → Elapses (M.moment a) (M.moment b) (M.left_since a) (M.left_since b) (Before (M.now a) (M.now b)) → Finds (M.now a) (M.now b) → CountsNone (M.report a) (M.report b)
+      → LeavesRun request input rest l windows h f (M.left_since c) (stops M c) (M.moment b) (StopsOnly M b c) (M.report b) (M.report c) (M.now b) (M.now c) status
+      → LeavesRun request input rest l windows h f (M.left_since c) (stops M c) (M.moment a) (StopsOnly M a c) (M.report a) (M.report c) (M.now a) (M.now c) status
+  opened_run at_a at_b held time found same (layout, says, leaves) =
       let said = said_before l layout (M.now a) (M.now b) (finds_keep (M.now a) (M.now b) found) says in
-      (layout, said, opened_by M request input rest layout windows h f a b c status (said_disk l layout windows h f (M.now a) said sound) short only time found same leaves)
+      (layout, said, opened_by M request input rest layout windows h f a b c status (said_disk l layout windows h f (M.now a) said sound) short at_a at_b (λ c left. held c left layout said) time found same leaves)

@@ -8,7 +8,7 @@ use Rattle.volume_layout.specs.declared.layout.Layout.{Layout}
 use Rattle.volume_layout.specs.declared.fault.LayoutFault.{LayoutFault}
 use Rattle.volume_layout.specs.Layout.{plan}
 use Rattle.sector_disk.specs.declared.machine.Machine.{Ghosts}
-use Rattle.sector_disk.specs.Calls.{Counts, LeavesDisk, SparesDisk}
+use Rattle.sector_disk.specs.Calls.{Counts, IsTimed, LeavesDisk, SparesDisk}
 use Rattle.sector_disk.specs.Image.{AreShort}
 use Rattle.sector_disk.specs.Machine.{Ledger, Moment, Report, Rose, Trusts, Utters}
 use Rattle.sector_disk.proofs.Holding.{wears_none}
@@ -104,7 +104,7 @@ module _ {D : Type 0} (M : Ghosts D) (path : List ℕ) (a b : D) (line : Line) (
     all = λ none h. tt;
     image = λ none h. not_as 0 2 result (λ e. omega (arith, e)) (λ e. omega (arith, e)) status none;
     untouched = λ h. untouched_by line (M.now a) (M.now b) (says.exit h);
-    leaves = λ h l windows changes f sound. tt;
+    leaves = λ h l windows changes f sound held. tt;
   }
 
 -- ---- refused memory, before anything is known of the words
@@ -183,7 +183,7 @@ input_spared request old new same = same
 
 module _ {D : Type 0} (M : Ghosts D) (request : Request) (path : List ℕ) (a b : D) (result : ℕ) (says : LeavesDisk M false (is_unsaid result) (Utters (fault_text Ends.Memory)) a b)
     (ledger : M.tells b → M.ledger b ≡ M.ledger a) (status : IsStatusAs 7 result) (ends : M.honest b → EndsWith Ends.Memory (M.now a) (M.now b) result)
-    (short : M.honest a → AreShort (M.now a).windows) (only : M.honest a → (left : Moment) → M.left_since a (M.moment a) left → left ≡ M.now a) where
+    (short : M.honest a → AreShort (M.now a).windows) (timed : (m : D) → M.honest m → IsTimed M m) where
   not_zero : result ≡ 0 → ⊥
   not_zero = not_as 0 7 result (λ e. omega (arith, e)) (λ e. omega (arith, e)) status
 
@@ -216,8 +216,8 @@ module _ {D : Type 0} (M : Ghosts D) (request : Request) (path : List ℕ) (a b 
     all = λ zero h. absurd (not_zero zero);
     image = λ zero h. absurd (not_zero zero);
     untouched = λ h. spares_image request (M.now a) (M.now b) (untouched_by (Lines.Ended Ends.Memory) (M.now a) (M.now b) (says.exit h));
-    leaves = λ h l windows changes f sound. if_mounts request _ (ended_run M request (input_for request (M.ledger a).input) (M.ledger b).input l windows changes f a a b Ends.Memory tt result sound
-        (short (says.trust.honest h)) (only (says.trust.honest h)) (record { later = omega arith; nothing_else = λ t c le was. inl was; keeps = λ t c le was. was }) (wears_none (M.now a)) says h (ends h) tt (omega arith));
+    leaves = λ h l windows changes f sound held. if_mounts request _ (ended_run M request (input_for request (M.ledger a).input) (M.ledger b).input l windows changes f a a b Ends.Memory tt result sound
+        (short (says.trust.honest h)) (timed a (says.trust.honest h)) (timed b h) held (record { later = omega arith; nothing_else = λ t c le was. inl was; keeps = λ t c le was. was }) (wears_none (M.now a)) says h (ends h) tt (omega arith));
   }
 
 -- ---- a format
@@ -290,5 +290,5 @@ ran_format M n t p kind path a b result status counts asks asked trust says made
   untouched = untouched;
   one = λ h. tt;
   rest = λ h. tt;
-  leaves = λ h l windows changes f sound. tt;
+  leaves = λ h l windows changes f sound held. tt;
 }

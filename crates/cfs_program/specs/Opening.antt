@@ -32,6 +32,10 @@ pub record IsSoundDisk (l : Layout) (windows : List WeakRun) (h : List Change) (
   pub ends : EndIn now.windows windows
   pub sound : IsSound l windows h f now.image
 
+-- 3 is no answer over a sound disk: nothing of it is refused as lost, as unsound or as no volume
+abbrev pub AcceptsSound : (old : Moment) → (result : ℕ) → Type 0
+AcceptsSound old result = (l : Layout) (windows : List WeakRun) (h : List Change) (f : ℕ) → IsSoundDisk l windows h f old → result ≡ 3 → ⊥
+
 -- A run that takes the input: where its status tells a fault of the disk or of the output, this is counted, and where
 -- it tells no call of the outside none is; a fault that was found in the volume may end one whose input has failed.
 pub record CountsReading (old new : Report) (status : ℕ) : Type 0 where

@@ -6,7 +6,8 @@ use Rattle.volume_layout.specs.declared.fault.LayoutFault.{LayoutFault}
 use Rattle.volume_layout.specs.Layout.{plan}
 use Rattle.sector_disk.specs.declared.machine.Machine.{Ghosts}
 use Rattle.sector_disk.specs.declared.sector.WeakRun.{WeakRun}
-use Rattle.sector_disk.specs.Machine.{Asked, LeavesOnly, Moment, Report, Rose, Trusts}
+use Rattle.sector_disk.specs.Calls.{IsHeld, StopsOnly, stops}
+use Rattle.sector_disk.specs.Machine.{Asked, Moment, Report, Rose, Trusts}
 use Rattle.fsd_files.specs.Files.{Change}
 use Rattle.fsd_texts.specs.declared.command.Command.{Command}
 use Rattle.fsd_texts.specs.declared.command.Command.TheVariants as Word
@@ -21,7 +22,7 @@ use Rattle.fsd_runs.specs.declared.request.Request.{Request}
 use Rattle.fsd_runs.specs.declared.request.Request.TheVariants.{Outside, BadField, Format, Put, One, Script, Generate, Drill}
 use Rattle.fsd_runs.specs.Commands.{reply_text}
 use Rattle.fsd_runs.specs.Errands.{IfMounts}
-use Rattle.fsd_runs.specs.Leaves.{LeavesRun, NoneRose}
+use Rattle.fsd_runs.specs.Leaves.{IsSoundAsSaid, LeavesRun, NoneRose}
 use Rattle.cfs_program.specs.Drill.{SaysDrill}
 use Rattle.cfs_program.specs.Formatting.{IsMadeBy, SaysFormat, SparesUnplanned, format_status, plan_asks}
 use Rattle.volume_contract.specs.State.{Ages}
@@ -31,7 +32,7 @@ use Rattle.volume_turns.specs.Causes.{FailsInput, HasSpent, HasVolume, SaysCause
 use Rattle.volume_turns.specs.Each.{SaysBadLine, SaysForced}
 use Rattle.volume_turns.specs.Status.{CountsInput, CountsNone, is_unfailed, is_quiet}
 use Rattle.volume_turns.specs.Steps.{MayLose}
-use Rattle.cfs_program.specs.Opening.{AsFound, AsksOrNot, IsSoundDisk, WritesFound, is_from_outside, mount_asks}
+use Rattle.cfs_program.specs.Opening.{AcceptsSound, AsFound, AsksOrNot, IsSoundDisk, WritesFound, is_from_outside, mount_asks}
 
 -- ---- statuses
 
@@ -200,15 +201,11 @@ SparesImage request old new = ⊤
 
 -- ---- a sound disk
 
--- so a request that mounts its image leaves each sound disk
-abbrev pub LeavesSound : Request → (input rest : List ℕ) → (Past : ℕ → Moment → Type 0) → (began : ℕ) → (Only : (Moment → Type 0) → Type 0) → (before after : Report) → (old new : Moment) → (result : ℕ) → Type 0
-LeavesSound request input rest Past began Only before after old new result =
-    (l : Layout) (windows : List WeakRun) (h : List Change) (f : ℕ) → IsSoundDisk l windows h f old →
-    IfMounts request (LeavesRun request (input_for request input) rest l windows h f Past began Only before after old new result)
-
--- 3 is no answer over a sound disk: nothing of it is refused as lost, as unsound or as no volume
-abbrev pub AcceptsSound : (old : Moment) → (result : ℕ) → Type 0
-AcceptsSound old result = (l : Layout) (windows : List WeakRun) (h : List Change) (f : ℕ) → IsSoundDisk l windows h f old → result ≡ 3 → ⊥
+-- so a request that mounts its image leaves each sound disk, where each moment since the last sync is as sound
+abbrev pub LeavesSound : Request → (input rest : List ℕ) → (Held : (Moment → Type 0) → Type 0) → (Past Stops : ℕ → Moment → Type 0) → (began : ℕ) → (Only : (Moment → Type 0) → Type 0) → (before after : Report) → (old new : Moment) → (result : ℕ) → Type 0
+LeavesSound request input rest Held Past Stops began Only before after old new result =
+    (l : Layout) (windows : List WeakRun) (h : List Change) (f : ℕ) → IsSoundDisk l windows h f old → Held (λ c. IsSoundAsSaid l windows h f old.image c.image) →
+    IfMounts request (LeavesRun request (input_for request input) rest l windows h f Past Stops began Only before after old new result)
 
 -- ---- the whole
 
@@ -240,5 +237,5 @@ pub record Ran {D : Type 0} (M : Ghosts D) (request : Request) (path : List ℕ)
   pub all : result ≡ 0 → M.honest b → SaysToEnd request (M.left_since b (M.moment a)) (M.ledger a).input (M.now a).said (M.now b)
   pub image : result ≡ 0 → M.honest b → HoldsAfter request (M.now b)
   pub untouched : M.honest b → SparesImage request (M.now a) (M.now b)
-  pub leaves : M.honest b → LeavesSound request (M.ledger a).input (M.ledger b).input (M.left_since b) (M.moment a) (λ P. LeavesOnly M.moment M.left_since a b P) (M.report a) (M.report b) (M.now a) (M.now b) result
+  pub leaves : M.honest b → LeavesSound request (M.ledger a).input (M.ledger b).input (IsHeld M a) (M.left_since b) (stops M b) (M.moment a) (StopsOnly M a b) (M.report a) (M.report b) (M.now a) (M.now b) result
   pub accepted : M.honest b → AcceptsSound (M.now a) result

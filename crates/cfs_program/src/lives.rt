@@ -174,7 +174,7 @@ fn list_all<W: Files<MemoryMachine> + Drop>(
     ensures { IfOk result (λ new. IsHonest new → (h : List Change) (f : ℕ) → IsKept h f m → ListsPrefix h f (memory_now new).said) }
 {
     let events = hurt_at_once(alloc, hurts)?;
-    list_by::<W>(alloc, m.again(events, Vec::new(alloc)))
+    list_by::<W>(alloc, m, events)
 }
 
 // These sectors are damaged just before the first call.
@@ -189,15 +189,15 @@ fn hurt_at_once(alloc: Global, hurts: &[u32]) -> Result<Vec<Event>, AllocError> 
     Ok(events)
 }
 
-// A list of all versions by a machine that has said nothing yet.
+// A list of all versions by a run of its own, as these events happen.
 fn list_by<W: Files<MemoryMachine> + Drop>(
     alloc: Global,
     m: MemoryMachine,
+    events: Vec<Event>,
 ) -> Result<MemoryMachine, AllocError>
-    requires { (memory_now m).said ≡ [] }
     ensures { IfOk result (λ new. IsHonest new → (h : List Change) (f : ℕ) → IsKept h f m → ListsPrefix h f (memory_now new).said) }
 {
-    let mut m = m;
+    let mut m = m.again(events, Vec::new(alloc));
     let all = Pattern::parse(b"*").unwrap();
     match run_command::<MemoryMachine, W>(alloc, &mut m, PATH, &Command::List(all)) {
         0 => Ok(m),

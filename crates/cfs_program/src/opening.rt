@@ -1,17 +1,18 @@
 //! A command over the image that it names.
 ghost use Rattle.std.specs.Prelude.{◌≡◌, ℕ, List, [], None, false, IsFalse, IsTrue};
 ghost use Rattle.sector_disk.specs.declared.sector.WeakRun.{WeakRun};
-ghost use Rattle.sector_disk.specs.Machine.{LeavesOnly, Trusts};
+ghost use Rattle.sector_disk.specs.Calls.{IsHeld, StopsOnly, stops};
+ghost use Rattle.sector_disk.specs.Machine.{Trusts};
 ghost use Rattle.volume_layout.specs.declared.layout.Layout.{Layout as Plan};
 ghost use Rattle.fsd_files.specs.Files.{Change};
-ghost use Rattle.fsd_runs.specs.Leaves.{LeavesRun};
+ghost use Rattle.fsd_runs.specs.Leaves.{IsSoundAsSaid, LeavesRun};
 ghost use Rattle.fsd_runs.specs.declared.request.Request.TheVariants.{One};
 ghost use Rattle.volume_turns.specs.Answering.{SaysOne};
 ghost use Rattle.volume_turns.specs.Causes.{SaysFault, is_of_fault};
 ghost use Rattle.volume_turns.specs.Status.{IsOneStatus};
 ghost use Rattle.volume_turns.specs.Steps.{MayLose};
 ghost use Rattle.cfs_program.specs.Formatting.{AsksAll, AsksAtMost, CountsFaults};
-ghost use Rattle.cfs_program.specs.Opening.{IsSoundDisk, TellsFound, WritesFound, is_from_outside, mount_asks};
+ghost use Rattle.cfs_program.specs.Opening.{AcceptsSound, IsSoundDisk, TellsFound, WritesFound, is_from_outside, mount_asks};
 
 use crate::replies::Alone;
 use fsd_texts::{Command, Fault, Line};
@@ -38,7 +39,8 @@ pub fn run_command<M: Machine, V: Files<M> + Drop>(
     ensures rest { M.honest m.new → WritesFound c.now (M.now m.old) (M.now m.new) }
     ensures last { IsTrue (is_of_fault result) → M.honest m.new → SaysFault (M.report m.new).fault_place (M.now m.new) result }
     ensures leaves { M.honest m.new → (rest : List ℕ) (l : Plan) (windows : List WeakRun) (h : List Change) (f : ℕ) → IsSoundDisk l windows h f (M.now m.old) →
-        LeavesRun (One c.now) [] rest l windows h f (M.left_since m.new) (M.moment m.old) (LeavesOnly M.moment M.left_since m.old m.new) (M.report m.old) (M.report m.new) (M.now m.old) (M.now m.new) result }
+        IsHeld M.Machine m.old (λ c. IsSoundAsSaid l windows h f (M.now m.old).image c.image) → LeavesRun (One c.now) [] rest l windows h f (M.left_since m.new) (stops M.Machine m.new) (M.moment m.old) (StopsOnly M.Machine m.old m.new) (M.report m.old) (M.report m.new) (M.now m.old) (M.now m.new) result }
+    ensures accepted { M.honest m.new → AcceptsSound (M.now m.old) result }
 {
     match m.attach(path, Attach::Old) {
         Ok(sectors) => run_one::<M, V, Alone>(alloc, m, sectors, c),

@@ -1,18 +1,19 @@
 //! A put of the input over the image that it names.
 ghost use Rattle.std.specs.Prelude.{◌≡◌, ◌≤◌, ◌++◌, None, false, IsFalse, List, [], length, ℕ, IsTrue};
 ghost use Rattle.sector_disk.specs.declared.sector.WeakRun.{WeakRun};
-ghost use Rattle.sector_disk.specs.Machine.{LeavesOnly, Trusts};
+ghost use Rattle.sector_disk.specs.Calls.{IsHeld, StopsOnly, stops};
+ghost use Rattle.sector_disk.specs.Machine.{Trusts};
 ghost use Rattle.volume_layout.specs.declared.layout.Layout.{Layout as Plan};
 ghost use Rattle.fsd_files.specs.Files.{Change};
 ghost use Rattle.fsd_texts.specs.Script.{max_input};
-ghost use Rattle.fsd_runs.specs.Leaves.{LeavesRun};
+ghost use Rattle.fsd_runs.specs.Leaves.{IsSoundAsSaid, LeavesRun};
 ghost use Rattle.fsd_runs.specs.declared.request.Request.TheVariants.{Put};
 ghost use Rattle.fsd_texts.specs.declared.command.Command.TheVariants as Word;
 ghost use Rattle.scrub.specs.Telling.{AreOfPage};
 ghost use Rattle.volume_turns.specs.Answering.{SaysOne};
 ghost use Rattle.volume_turns.specs.Causes.{FailsInput, SaysFault, SaysOfInput, is_of_fault};
 ghost use Rattle.volume_turns.specs.Status.{IsPutStatus};
-ghost use Rattle.cfs_program.specs.Opening.{AsksOrNot, CountsReading, IsSoundDisk, TellsFound, is_from_outside, mount_asks};
+ghost use Rattle.cfs_program.specs.Opening.{AcceptsSound, AsksOrNot, CountsReading, IsSoundDisk, TellsFound, is_from_outside, mount_asks};
 
 use crate::replies::Alone;
 use fsd_bytes::FileName;
@@ -44,7 +45,8 @@ pub fn run_input<M: Machine, V: Files<M> + Drop>(
     ensures one { M.honest m.new → SaysOne (Word.Put name.now (M.ledger m.old).input keep) (M.now m.old) (M.now m.new) result }
     ensures last { IsTrue (is_of_fault result) → M.honest m.new → SaysFault (M.report m.new).fault_place (M.now m.new) result }
     ensures leaves { M.honest m.new → (l : Plan) (windows : List WeakRun) (h : List Change) (f : ℕ) → IsSoundDisk l windows h f (M.now m.old) →
-        LeavesRun (Put name.now keep) (M.ledger m.old).input (M.ledger m.new).input l windows h f (M.left_since m.new) (M.moment m.old) (LeavesOnly M.moment M.left_since m.old m.new) (M.report m.old) (M.report m.new) (M.now m.old) (M.now m.new) result }
+        IsHeld M.Machine m.old (λ c. IsSoundAsSaid l windows h f (M.now m.old).image c.image) → LeavesRun (Put name.now keep) (M.ledger m.old).input (M.ledger m.new).input l windows h f (M.left_since m.new) (stops M.Machine m.new) (M.moment m.old) (StopsOnly M.Machine m.old m.new) (M.report m.old) (M.report m.new) (M.now m.old) (M.now m.new) result }
+    ensures accepted { M.honest m.new → AcceptsSound (M.now m.old) result }
 {
     match m.attach(path, Attach::Old) {
         Ok(sectors) => run_put::<M, V, Alone>(alloc, m, sectors, name.copied(), keep),

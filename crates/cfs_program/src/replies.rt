@@ -21,6 +21,11 @@ pub struct Alone;
 impl Says for Alone {
     ghost errand = { alone_replies };
 
+    // All is forced before a reply is said.
+    fn forces(_answer: &Answer) -> bool {
+        true
+    }
+
     fn text(alloc: Global, answer: &Answer) -> Result<Vec<u8>, AllocError> {
         match answer {
             Answer::Bytes { bytes, .. } => Vec::from_slice(alloc, bytes.as_slice()),
@@ -34,6 +39,10 @@ pub struct Scripted;
 
 impl Says for Scripted {
     ghost errand = { script_replies };
+
+    fn forces(answer: &Answer) -> bool {
+        matches!(answer, Answer::Forced)
+    }
 
     fn text(alloc: Global, answer: &Answer) -> Result<Vec<u8>, AllocError> {
         text_of(alloc, answer)

@@ -119,7 +119,7 @@ abbrev at_any : Moment → Type 0
 at_any t = ⊤
 
 stood : (said : List ℕ) (i : Image) → Stood at_any said i
-stood said i = record { moment = record { image = i; windows = record { present = None; next = None }; said = said }; passed = tt; image = refl; so_far = refl }
+stood said i = record { moment = record { image = i; windows = record { present = None; next = None }; said = said; time = 0; synced = 0 }; passed = tt; image = refl; so_far = refl }
 
 -- right behind a mount neither the serials nor the log are used up
 abbrev fresh_anchor : Anchor

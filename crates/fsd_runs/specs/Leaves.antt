@@ -196,11 +196,10 @@ pub record RaisesEpoch (windows : List WeakRun) (old from : Image) : Type 0 wher
 
 -- The mount settled at some time: it found the first n changes, every forced one among them, and the run went on from
 -- the image as it settled, in which both roots were its layout's. The window that it settled is next: it was named since
--- the run began, and is the present one
--- at each moment from then on and at the end. Each moment is what is said above; from that time on each is of the second
--- kind, and the images of the run are of these. Either all commands were begun, all is said and all changes are forced;
+-- the run began, and is the present one at each moment from then on and at the end. What a stop leaves is what is said
+-- above; from that time on it is of the second kind. The images of the run are of its moments, as reads show them. Either all commands were begun, all is said and all changes are forced;
 -- or a fault from outside has ended the run at once; or the output failed.
-pub record LeavesMounted (request : Request) (input rest : List ℕ) (l : Layout) (windows : List WeakRun) (h : List Change) (f : ℕ) (Past : ℕ → Moment → Type 0) (began : ℕ) (Only : (Moment → Type 0) → Type 0) (before after : Report) (old new : Moment) (result : ℕ) : Type 0 where
+pub record LeavesMounted (request : Request) (input rest : List ℕ) (l : Layout) (windows : List WeakRun) (h : List Change) (f : ℕ) (Past Stops : ℕ → Moment → Type 0) (began : ℕ) (Only : (Moment → Type 0) → Type 0) (before after : Report) (old new : Moment) (result : ℕ) : Type 0 where
   pub count : ℕ
   pub prefix : IsPrefixOf h f count
   pub next : WeakRun
@@ -216,17 +215,22 @@ pub record LeavesMounted (request : Request) (input rest : List ℕ) (l : Layout
   pub run : Run request input (windows ++ next ∷ []) (Past at) old.said volume from
   pub cause : CutCause run.cut input rest before after
   pub moments : Only (Left l windows next h f count (run_turns run) old)
-  pub later : (left : Moment) → Past at left → LeftSince l windows next h count (run_turns run) old left
+  pub later : (left : Moment) → Stops at left → LeftSince l windows next h count (run_turns run) old left
   pub exit : LeftSince l windows next h count (run_turns run) old new
   pub ends : (IsThrough run × IsReplied l windows next h count (run_turns run) (run_status run) (run_end run) old new result) ⊎ (IsUnsaid before after result ⊎ IsBroken request (IsUndone l (windows ++ next ∷ []) (take count h) count (run_turns run)) before after (run_turns run) old new result)
 
+-- sound by each layout that a root of the image says as it is read
+abbrev pub IsSoundAsSaid : Layout → List WeakRun → List Change → ℕ → (read : Image) → Image → Type 0
+IsSoundAsSaid l windows h f read i = (layout : Layout) → IsSaid l read layout → IsSound layout windows h f i
+
 -- A run over an image that is sound by this layout. The input is as it was, and rest what is left of it.
--- Past is what a stop from a time on may have left, and began the time at which the run began.
-abbrev pub LeavesBy : Request → (input rest : List ℕ) → Layout → List WeakRun → List Change → ℕ → (Past : ℕ → Moment → Type 0) → (began : ℕ) → (Only : (Moment → Type 0) → Type 0) → (before after : Report) → (old new : Moment) → (result : ℕ) → Type 0
-LeavesBy request input rest l windows h f Past began Only before after old new result =
-    LeavesUnmounted request l windows h f Only before after old new result ⊎ LeavesMounted request input rest l windows h f Past began Only before after old new result
+-- Past is what there was from a time on, Stops what a stop from a time on may have left, and began the time at which the
+-- run began.
+abbrev pub LeavesBy : Request → (input rest : List ℕ) → Layout → List WeakRun → List Change → ℕ → (Past Stops : ℕ → Moment → Type 0) → (began : ℕ) → (Only : (Moment → Type 0) → Type 0) → (before after : Report) → (old new : Moment) → (result : ℕ) → Type 0
+LeavesBy request input rest l windows h f Past Stops began Only before after old new result =
+    LeavesUnmounted request l windows h f Only before after old new result ⊎ LeavesMounted request input rest l windows h f Past Stops began Only before after old new result
 
 -- so it is by the layout that the mount has read: this one, or it turned, where a root says so
-abbrev pub LeavesRun : Request → (input rest : List ℕ) → Layout → List WeakRun → List Change → ℕ → (Past : ℕ → Moment → Type 0) → (began : ℕ) → (Only : (Moment → Type 0) → Type 0) → (before after : Report) → (old new : Moment) → (result : ℕ) → Type 0
-LeavesRun request input rest l windows h f Past began Only before after old new result =
-    (layout : Layout) × IsSaid l old.image layout × LeavesBy request input rest layout windows h f Past began Only before after old new result
+abbrev pub LeavesRun : Request → (input rest : List ℕ) → Layout → List WeakRun → List Change → ℕ → (Past Stops : ℕ → Moment → Type 0) → (began : ℕ) → (Only : (Moment → Type 0) → Type 0) → (before after : Report) → (old new : Moment) → (result : ℕ) → Type 0
+LeavesRun request input rest l windows h f Past Stops began Only before after old new result =
+    (layout : Layout) × IsSaid l old.image layout × LeavesBy request input rest layout windows h f Past Stops began Only before after old new result

@@ -235,6 +235,7 @@ said_by text a m b same (Err Output) says = tt
 pub says_so : (text : List ℕ) (old new : Moment) (r : Result (Unit {0}) End) → OnOk r (SaysAll text old new) → IfErr r (λ end. Unsaid old new end) → SaysBy text old new r
 says_so text old new (Ok x) all unsaid = all.said
 says_so text old new (Err (Stopped Ends.Memory)) all unsaid = unsaid.said
+says_so text old new (Err (Stopped (Ends.Device s))) all unsaid = unsaid.said
 says_so text old new (Err Output) all unsaid = tt
 says_so text old new (Err (Stopped fault)) all unsaid = absurd unsaid
 

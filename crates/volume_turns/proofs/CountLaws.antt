@@ -6,9 +6,9 @@ use Rattle.std.specs.List.{sum_by}
 use Rattle.std.proofs.lemmas.List.{append-nil}
 use Rattle.std.proofs.lemmas.List.Sums.{sum_by-cons}
 use Rattle.sector_disk.specs.declared.machine.Machine.{Ghosts}
-use Rattle.sector_disk.specs.Calls.{Since, WritesDisk}
+use Rattle.sector_disk.specs.Calls.{IsTimed, Since, WritesDisk}
 use Rattle.sector_disk.specs.Image.{AreShort, open_damage}
-use Rattle.sector_disk.specs.Machine.{LeavesOnly, Moment, Report, Utters}
+use Rattle.sector_disk.specs.Machine.{LeavesOnly, Moment, Report}
 use Rattle.sector_disk.proofs.CallLaws.{faults_then}
 use Rattle.sector_disk.proofs.Moments.{started}
 use Rattle.sector_disk.proofs.Wear.{worn_refl}
@@ -36,11 +36,12 @@ use Rattle.volume_turns.specs.Group.{is_worn_end}
 use Rattle.volume_turns.specs.Once.{ClosesAndSays, unit_of}
 use Rattle.volume_turns.specs.Seats.{DoesIn, IsAnsweredIn, Seated, SitsAt, StaysIn, known_of, seated, session_in}
 use Rattle.volume_turns.specs.Tally.{all_counted, counted, nothing}
-use Rattle.volume_turns.specs.Turns.{Follows, InRun, Told, Unheard, device_end, Runs, RunsFrom, SaysAll, Steps}
+use Rattle.volume_turns.specs.Steps.{StaysSound}
+use Rattle.volume_turns.specs.Turns.{Follows, OnDisk, Told, Unheard, device_end, Runs, RunsFrom, SaysAll, Steps, UttersBehind}
 use Rattle.volume_turns.proofs.GroupLaws.{group_all, group_all_mets, group_stop, group_worn}
 use Rattle.volume_turns.proofs.RunLaws.{from_both, from_both_mets, reply_is, runs_nil, runs_nil_mets, step_fault, step_ok, step_ok_met, step_unsaid}
 use Rattle.volume_turns.proofs.SeatLaws.{seat_wears}
-use Rattle.volume_turns.proofs.TurnLaws.{in_before, said_nothing}
+use Rattle.volume_turns.proofs.TurnLaws.{said_nothing, stays_stops}
 
 -- ---- counts
 
@@ -91,65 +92,72 @@ never x s c is = cc is
 module _ {S D : Type 0} (state : S → State) (has : S → Mounted → List Placed → Type 0) (M : Ghosts D)
     (wears : (s : S) (k : Known) (old new : Moment) → AreShort old.windows → Ages old new → Stands state has s k old → Stands state has s k new)
     (short : (m : D) → M.honest m → AreShort (M.now m).windows)
-    (counts_now : (m : D) (t : ℕ) → M.honest m → t ≤ M.moment m → M.left_since m t (M.now m))
-    (command : Command) (v w : S) (a m : D) (k : Seated) (from : Moment) (stood_from : SitsAt state has (v, no_desk) k from) (aged : Ages from (M.now a)) (stood : SitsAt state has (v, no_desk) k (M.now a))
-    (fault : Option ℕ) (disk : WritesDisk M fault (StaysIn state has (v, no_desk)) a m) (layout : (state w).layout ≡ (state v).layout) (honest : M.honest m) where
+    (timed : (m : D) → M.honest m → IsTimed M m)
+    (command : Command) (v w : S) (a m : D) (k : Seated) (f : ℕ) (from : Moment) (stood_from : SitsAt state has (v, no_desk) k from) (aged : Ages from (M.now a)) (stood : SitsAt state has (v, no_desk) k (M.now a))
+    (fault : Option ℕ) (disk : WritesDisk M fault (StaysIn state has (v, no_desk)) a m) (layout : (state w).layout ≡ (state v).layout) (honest : M.honest m) (held : OnDisk M (known_of k) f a) where
   abbrev plain : ScriptCommand
   plain = Plain command
 
   still : Since M m m
   still t left le was = was
 
-  module _ (only : (left : Moment) → M.left_since m (M.moment m) left → left ≡ M.now m) (after : Seated) (reply : Reply) (is : IsAnsweredIn plain (state v) k after (M.now a).image (M.now m).image reply) (stands : SitsAt state has (w, no_desk) after (M.now m)) where
-    run : LeavesOnly M.moment M.left_since m m (Utters (silent.says reply) (M.now m))
-    run = started M.moment M.left_since m (M.now m) (Utters (silent.says reply) (M.now m)) only (record { image = worn_refl (open_damage (M.now m).windows) (M.now m).image; windows = refl; heard = 0; said = sym (append-nil (M.now m).said) })
+  at_m : IsTimed M m
+  at_m = timed m honest
+
+  module _ (after : Seated) (reply : Reply) (is : IsAnsweredIn plain (state v) k after (M.now a).image (M.now m).image reply) (stands : SitsAt state has (w, no_desk) after (M.now m)) where
+    run : LeavesOnly M.moment M.left_since m m (UttersBehind (silent.forces reply) (silent.says reply) (M.now m))
+    run = started M.moment M.left_since m (M.now m) (UttersBehind (silent.forces reply) (silent.says reply) (M.now m)) at_m.only
+        (record { utters = record { image = worn_refl (open_damage (M.now m).windows) (M.now m).image; windows = refl; heard = 0; said = sym (append-nil (M.now m).said) }; synced = λ is. cc is })
 
     says : SaysAll (silent.says reply) (M.now m) (M.now m)
     says = record { ages = record { image = worn_refl (open_damage (M.now m).windows) (M.now m).image; windows = refl }; said = sym (append-nil (M.now m).said) }
 
-    met_is : (step_ok state has M wears short counts_now silent never plain (v, no_desk) (w, no_desk) a m m k from stood_from aged stood fault disk honest still after reply is stands layout run says).met ≡ is.met
-    met_is = step_ok_met state has M wears short counts_now silent never plain (v, no_desk) (w, no_desk) a m m k from stood_from aged stood fault disk honest still after reply is stands layout run says
+    synced : IsTrue (silent.forces reply) → (M.now m).time ≤ (M.now m).synced
+    synced is = cc is
 
-    pub counted_step : (t u : Counts) → u ≡ counted t plain reply → CountedStep state has M k from command a m w t u
+    met_is : (step_ok state has M wears short timed silent never plain (v, no_desk) (w, no_desk) a m m k f from stood_from aged stood fault disk honest still held after reply is stands layout at_m run says synced).met ≡ is.met
+    met_is = step_ok_met state has M wears short timed silent never plain (v, no_desk) (w, no_desk) a m m k f from stood_from aged stood fault disk honest still held after reply is stands layout at_m run says synced
+
+    pub counted_step : (t u : Counts) → u ≡ counted t plain reply → CountedStep state has M k f from command a m w t u
     counted_step t u counts = record {
-      step = step_ok state has M wears short counts_now silent never plain (v, no_desk) (w, no_desk) a m m k from stood_from aged stood fault disk honest still after reply is stands layout run says;
-      counts = counts ∙ ap (λ (r : Reply). counted t plain r) (sym (reply_is state has M wears short counts_now silent never plain (v, no_desk) (w, no_desk) a m m k from stood_from aged stood fault disk honest still after reply is stands))
+      step = step_ok state has M wears short timed silent never plain (v, no_desk) (w, no_desk) a m m k f from stood_from aged stood fault disk honest still held after reply is stands layout at_m run says synced;
+      counts = counts ∙ ap (λ (r : Reply). counted t plain r) (sym (reply_is state has M wears short timed silent never plain (v, no_desk) (w, no_desk) a m m k f from stood_from aged stood fault disk honest still held after reply is stands))
           ∙ ap (λ (x : Meeting). counted t plain (answer_in x (session_in k) plain).0) (sym met_is);
     }
 
     -- its bytes have no sum
-    pub counted_none : (why : Fault) → why ≡ Ends.Memory → (more : List ScriptCommand) → RunsFrom state has M silent k from (plain ∷ more) a m (w, no_desk) (Err (Stopped why))
-    counted_none why is_memory more = subst (λ (x : Fault). RunsFrom state has M silent k from (plain ∷ more) a m (w, no_desk) (Err (Stopped x))) (sym is_memory)
-        (step_unsaid state has M wears short counts_now silent never plain (v, no_desk) (w, no_desk) a m m k from stood_from aged stood fault disk honest still after reply is stands layout run (Stopped Ends.Memory)
+    pub counted_none : (why : Fault) → why ≡ Ends.Memory → (more : List ScriptCommand) → RunsFrom state has M silent k f from (plain ∷ more) a m (w, no_desk) (Err (Stopped why))
+    counted_none why is_memory more = subst (λ (x : Fault). RunsFrom state has M silent k f from (plain ∷ more) a m (w, no_desk) (Err (Stopped x))) (sym is_memory)
+        (step_unsaid state has M wears short timed silent never plain (v, no_desk) (w, no_desk) a m m k f from stood_from aged stood fault disk honest still held after reply is stands layout at_m run (Stopped Ends.Memory)
         (record { image = worn_refl (open_damage (M.now m).windows) (M.now m).image; windows = refl; said = refl }) more)
 
-  pub counted_fault : (why : Fault) → DoesIn state has plain (v, no_desk) (w, no_desk) k (M.now a) (M.now m) (Err why) → (more : List ScriptCommand) → RunsFrom state has M silent k from (plain ∷ more) a m (w, no_desk) (Err (Stopped why))
-  counted_fault why does more = step_fault state has M wears short counts_now silent never plain (v, no_desk) (w, no_desk) a m m k from stood_from aged stood fault disk honest still why does more
+  pub counted_fault : (why : Fault) → DoesIn state has plain (v, no_desk) (w, no_desk) k (M.now a) (M.now m) (Err why) → (more : List ScriptCommand) → RunsFrom state has M silent k f from (plain ∷ more) a m (w, no_desk) (Err (Stopped why))
+  counted_fault why does more = step_fault state has M wears short timed silent never plain (v, no_desk) (w, no_desk) a m m k f from stood_from aged stood fault disk honest still held why does more
 
 -- ---- one after another
 
 module _ {S D : Type 0} (state : S → State) (has : S → Mounted → List Placed → Type 0) (M : Ghosts D) where
   pub counted_nil : (v : S) (a : D) → ((s : S) (k : Known) (old new : Moment) → AreShort old.windows → Ages old new → Stands state has s k old → Stands state has s k new)
-      → (M.honest a → (left : Moment) → M.left_since a (M.moment a) left → left ≡ M.now a) → (M.honest a → (from : Moment) → Ages from (M.now a) → AreShort from.windows) → (t : Counts) → RunsCounted state has M [] v a v a t (Ok t)
-  counted_nil v a wears only short t honest k from stood aged = record {
-    ran = runs_nil state has M silent (v, no_desk) a wears only short honest k from stood aged;
-    counts = ap (λ (mets : List Meeting). all_counted t (answered mets (session_in k) [])) (sym (runs_nil_mets state has M silent (v, no_desk) a wears only short honest k from stood aged));
+      → (M.honest a → IsTimed M a) → (M.honest a → (from : Moment) → Ages from (M.now a) → AreShort from.windows) → (t : Counts) → RunsCounted state has M [] v a v a t (Ok t)
+  counted_nil v a wears timed short t honest k f from stood aged held = record {
+    ran = runs_nil state has M silent (v, no_desk) a wears timed short honest k f from stood aged held;
+    counts = ap (λ (mets : List Meeting). all_counted t (answered mets (session_in k) [])) (sym (runs_nil_mets state has M silent (v, no_desk) a wears timed short honest k f from stood aged held));
   }
 
   pub counted_then : (command : Command) (commands : List Command) (v w z : S) (a m b : D) (t u : Counts) (result : Result Counts End) → Follows M m b → (M.honest m → M.moment a ≤ M.moment m)
       → StepsCounted state has M command v a w m t (Ok u) → RunsCounted state has M commands w m z b u result → RunsCounted state has M (command ∷ commands) v a z b t result
-  counted_then command commands v w z a m b t u result follows later steps runs honest k from stood aged =
-      let one : CountedStep state has M k from command a m w t u = steps (follows.honest honest) k from stood aged in
-      let rest : CountedRun state has M one.step.after one.step.mid commands m b z u result = runs honest one.step.after one.step.mid one.step.stands one.step.ages in
-      let took : Runs state has M silent (all_plain commands) (w, no_desk) m (z, no_desk) b (unit_of result) = λ h x f s g. (runs h x f s g).ran in
-      let step : Steps state has M silent (Plain command) (v, no_desk) a (w, no_desk) m (Ok tt) = λ h x f s g. (steps h x f s g).step in
+  counted_then command commands v w z a m b t u result follows later steps runs honest k f from stood aged held =
+      let one : CountedStep state has M k f from command a m w t u = steps (follows.honest honest) k f from stood aged held in
+      let rest : CountedRun state has M one.step.after one.step.told one.step.mid commands m b z u result = runs honest one.step.after one.step.told one.step.mid one.step.stands one.step.ages one.step.held in
+      let took : Runs state has M silent (all_plain commands) (w, no_desk) m (z, no_desk) b (unit_of result) = λ h x n c s g d. (runs h x n c s g d).ran in
+      let step : Steps state has M silent (Plain command) (v, no_desk) a (w, no_desk) m (Ok tt) = λ h x n c s g d. (steps h x n c s g d).step in
       record {
-        ran = from_both state has M silent (Plain command) (all_plain commands) (v, no_desk) (w, no_desk) (z, no_desk) a m b (unit_of result) follows later step took honest k from stood aged;
-        counts = subst (λ (mets : List Meeting). IfOk result (λ x. x ≡ all_counted t (answered mets (session_in k) (all_plain (command ∷ commands))))) (sym (from_both_mets state has M silent (Plain command) (all_plain commands) (v, no_desk) (w, no_desk) (z, no_desk) a m b (unit_of result) follows later step took honest k from stood aged))
+        ran = from_both state has M silent (Plain command) (all_plain commands) (v, no_desk) (w, no_desk) (z, no_desk) a m b (unit_of result) follows later step took honest k f from stood aged held;
+        counts = subst (λ (mets : List Meeting). IfOk result (λ x. x ≡ all_counted t (answered mets (session_in k) (all_plain (command ∷ commands))))) (sym (from_both_mets state has M silent (Plain command) (all_plain commands) (v, no_desk) (w, no_desk) (z, no_desk) a m b (unit_of result) follows later step took honest k f from stood aged held))
             (on result one rest rest.counts);
       }
     where
-      on : (r : Result Counts End) (one : CountedStep state has M k from command a m w t u) (rest : CountedRun state has M one.step.after one.step.mid commands m b z u result)
+      on : (r : Result Counts End) (one : CountedStep state has M k f from command a m w t u) (rest : CountedRun state has M one.step.after one.step.told one.step.mid commands m b z u result)
           → IfOk r (λ x. x ≡ all_counted u (answered rest.ran.mets (session_in one.step.after) (all_plain commands)))
           → IfOk r (λ x. x ≡ all_counted t (answered (one.step.met ∷ rest.ran.mets) (session_in k) (all_plain (command ∷ commands))))
       on (Ok x) one rest is = is ∙ ap (λ (y : Session). all_counted u (answered rest.ran.mets y (all_plain commands))) one.step.is
@@ -158,44 +166,45 @@ module _ {S D : Type 0} (state : S → State) (has : S → Mounted → List Plac
 
   -- one that ends them
   pub counted_stop : (commands : List Command) (v z : S) (a b : D) (t : Counts) (end : End) → Runs state has M silent (all_plain commands) (v, no_desk) a (z, no_desk) b (Err end) → RunsCounted state has M commands v a z b t (Err end)
-  counted_stop commands v z a b t end runs honest k from stood aged = record { ran = runs honest k from stood aged; counts = tt }
+  counted_stop commands v z a b t end runs honest k f from stood aged held = record { ran = runs honest k f from stood aged held; counts = tt }
 
   -- memory was refused for the next of them
   pub counted_refused : (commands : List Command) (v : S) (a : D) → ((s : S) (k : Known) (old new : Moment) → AreShort old.windows → Ages old new → Stands state has s k old → Stands state has s k new)
-      → (M.honest a → (left : Moment) → M.left_since a (M.moment a) left → left ≡ M.now a) → (M.honest a → (from : Moment) → Ages from (M.now a) → AreShort from.windows) → Runs state has M silent (all_plain commands) (v, no_desk) a (v, no_desk) a (Err (Stopped Ends.Memory))
-  counted_refused commands v a wears only short honest k from stood aged =
+      → (M.honest a → IsTimed M a) → (M.honest a → (from : Moment) → Ages from (M.now a) → AreShort from.windows) → Runs state has M silent (all_plain commands) (v, no_desk) a (v, no_desk) a (Err (Stopped Ends.Memory))
+  counted_refused commands v a wears timed short honest k f from stood aged held =
       let now = seat_wears state has wears (v, no_desk) k from (M.now a) (short honest from aged) aged stood in
-      let sound = mounted_sound k.mounted k.windows k.changes (forced_of (known_of k)) (M.now a).image now.stands.disk in
+      let at = timed honest in
       record {
         mets = [];
         goes = λ t le. tt;
-        moments = λ rest. started M.moment M.left_since a (M.now a) (InRun (known_of k) rest (M.now a)) (only honest) (in_before (known_of k) rest (M.now a) (M.now a) (record { sound = sound; windows = refl; said = refl }));
-        ends = (tt, said_nothing (known_of k) Ends.Memory (M.now a) (M.now a) (record { sound = sound; windows = refl; said = refl }));
+        moments = λ rest. stays_stops M (known_of k) f a a at at (λ t left le was. was) (started M.moment M.left_since a (M.now a) (StaysSound (known_of k) (M.now a)) at.only
+            (record { sound = mounted_sound k.mounted k.windows k.changes (forced_of (known_of k)) (M.now a).image now.stands.disk; windows = refl; said = refl })) held rest;
+        ends = (tt, said_nothing M (known_of k) f Ends.Memory a a at held refl refl);
       }
 
 -- ---- with the force behind them
 
-module _ {S D : Type 0} (state : S → State) (has : S → Mounted → List Placed → Type 0) (M : Ghosts D) (k : Known) (commands : List Command) (a m b : D) (w : S) (since : Since M m b) (later : M.moment a ≤ M.moment m) where
+module _ {S D : Type 0} (state : S → State) (has : S → Mounted → List Placed → Type 0) (M : Ghosts D) (k : Known) (commands : List Command) (a m b : D) (w : S) (since : Since M m b) (later : M.moment a ≤ M.moment m) (timed : IsTimed M b) where
   abbrev Closing : Result (Option Counts) End → Type 0
-  Closing result = (x : Seated) → SitsAt state has (w, no_desk) x (M.now m) → ClosesAndSays M (known_of x) forced_turn.said m b (unit_of result)
+  Closing result = (x : Seated) (f : ℕ) → SitsAt state has (w, no_desk) x (M.now m) → OnDisk M (known_of x) f m → ClosesAndSays M (known_of x) f forced_turn.said m b (unit_of result)
 
   some_same : (t u : Counts) → Some t ≡ Some u → t ≡ u
   some_same t u is = cc is
 
-  pub counted_all : (tally : Counts) → CountedRun state has M (seated k no_clients) (M.now a) commands a m w nothing (Ok tally) → (result : Result (Option Counts) End) → IfOk result (λ x. x ≡ Some tally) → Closing result → CountedGroup M k commands a b result
+  pub counted_all : (tally : Counts) → CountedRun state has M (seated k no_clients) (forced_of k) (M.now a) commands a m w nothing (Ok tally) → (result : Result (Option Counts) End) → IfOk result (λ x. x ≡ Some tally) → Closing result → CountedGroup M k commands a b result
   counted_all tally run (Ok None) same closes = absurd (cc same)
   counted_all tally run (Ok (Some t)) same closes = record {
-    group = group_all state has M silent k (M.now a) (all_plain commands) a m b (w, no_desk) since later run.ran (Ok true) refl closes;
-    counts = some_same t tally same ∙ run.counts ∙ ap (λ (mets : List Meeting). all_counted nothing (answered mets (session_over (volume_of k)) (all_plain commands))) (sym (group_all_mets state has M silent k (M.now a) (all_plain commands) a m b (w, no_desk) since later run.ran (Ok true) refl closes));
+    group = group_all state has M silent k (M.now a) (all_plain commands) a m b (w, no_desk) since later timed run.ran (Ok true) refl closes;
+    counts = some_same t tally same ∙ run.counts ∙ ap (λ (mets : List Meeting). all_counted nothing (answered mets (session_over (volume_of k)) (all_plain commands))) (sym (group_all_mets state has M silent k (M.now a) (all_plain commands) a m b (w, no_desk) since later timed run.ran (Ok true) refl closes));
   }
-  counted_all tally run (Err end) same closes = record { group = group_all state has M silent k (M.now a) (all_plain commands) a m b (w, no_desk) since later run.ran (Err end) tt closes; counts = tt }
+  counted_all tally run (Err end) same closes = record { group = group_all state has M silent k (M.now a) (all_plain commands) a m b (w, no_desk) since later timed run.ran (Err end) tt closes; counts = tt }
 
-  pub counted_worn : (end : End) → is_worn_end end ≡ true → RunsFrom state has M silent (seated k no_clients) (M.now a) (all_plain commands) a m (w, no_desk) (Err end) → (result : Result (Option Counts) End) → IfOk result (λ x. x ≡ None) → Closing result → CountedGroup M k commands a b result
+  pub counted_worn : (end : End) → is_worn_end end ≡ true → RunsFrom state has M silent (seated k no_clients) (forced_of k) (M.now a) (all_plain commands) a m (w, no_desk) (Err end) → (result : Result (Option Counts) End) → IfOk result (λ x. x ≡ None) → Closing result → CountedGroup M k commands a b result
   counted_worn end worn ran (Ok (Some t)) same closes = absurd (cc same)
-  counted_worn end worn ran (Ok None) same closes = record { group = group_worn state has M silent k (M.now a) (all_plain commands) a m b (w, no_desk) since later end worn ran (Ok false) refl closes; counts = tt }
-  counted_worn end worn ran (Err other) same closes = record { group = group_worn state has M silent k (M.now a) (all_plain commands) a m b (w, no_desk) since later end worn ran (Err other) tt closes; counts = tt }
+  counted_worn end worn ran (Ok None) same closes = record { group = group_worn state has M silent k (M.now a) (all_plain commands) a m b (w, no_desk) since later timed end worn ran (Ok false) refl closes; counts = tt }
+  counted_worn end worn ran (Err other) same closes = record { group = group_worn state has M silent k (M.now a) (all_plain commands) a m b (w, no_desk) since later timed end worn ran (Err other) tt closes; counts = tt }
 
-  pub counted_broken : (end : End) → is_worn_end end ≡ false → RunsFrom state has M silent (seated k no_clients) (M.now a) (all_plain commands) a m (w, no_desk) (Err end) → CountedGroup M k commands a m (Err end)
+  pub counted_broken : (end : End) → is_worn_end end ≡ false → RunsFrom state has M silent (seated k no_clients) (forced_of k) (M.now a) (all_plain commands) a m (w, no_desk) (Err end) → CountedGroup M k commands a m (Err end)
   counted_broken end other ran = record { group = group_stop state has M silent k (M.now a) (all_plain commands) a m (w, no_desk) end other ran; counts = tt }
 
 -- ---- what is counted of faults

@@ -4,9 +4,9 @@ use Rattle.std.specs.Prelude.{◌==◌, if◌then◌else◌, IsSome, IsTrue, Res
 use Rattle.std.proofs.lemmas.Bool.{eq-eqb, eqb-true}
 use Rattle.fsd_texts.specs.Text.{fault_text, text}
 use Rattle.sector_disk.specs.declared.machine.Machine.{Ghosts}
-use Rattle.sector_disk.specs.Calls.{LeavesDisk, Since}
+use Rattle.sector_disk.specs.Calls.{IsTimed, LeavesDisk, Since, StopsOnly}
 use Rattle.sector_disk.specs.Image.{AreShort}
-use Rattle.sector_disk.specs.Machine.{LeavesOnly, Utters}
+use Rattle.sector_disk.specs.Machine.{Utters}
 use Rattle.fsd_files.specs.Desk.{Session}
 use Rattle.fsd_files.specs.Disk.{Image, in_runs}
 use Rattle.fsd_files.specs.Volume.{Volume}
@@ -22,7 +22,7 @@ use Rattle.fsd_runs.specs.declared.request.Request.TheVariants.{Generate}
 use Rattle.fsd_runs.specs.Errands.{Answered, Ending, Turn, blank, cut_ending, errand_of, forced_turn, generated_line, group_ending, line_turn}
 use Rattle.fsd_runs.specs.Sessions.{Meeting, session_over}
 use Rattle.fsd_runs.specs.Runs.{Goes, IsWornOut, WearsOut, answered, behind, turns_begun, turns_of}
-use Rattle.volume_contract.specs.State.{Known, volume_of}
+use Rattle.volume_contract.specs.State.{Known, forced_of, volume_of}
 use Rattle.volume_turns.specs.declared.turns.End.{End}
 use Rattle.volume_turns.specs.declared.turns.End.TheVariants.{Fault as Stopped, Output}
 use Rattle.volume_turns.specs.Generate.{all_plain, silent}
@@ -44,7 +44,7 @@ some_turn seed count input s = by (0 == length (all_plain (made_up seed count)))
     by true = refl
     by false = refl
 
-module _ {D : Type 0} (M : Ghosts D) (seed count : ℕ) (input rest : List ℕ) (k : Known) (a p b : D) (honest : M.honest b) (since : Since M p b) (short : AreShort (M.now p).windows) (ends : EndIn (M.now a).windows k.windows) (status : ℕ) where
+module _ {D : Type 0} (M : Ghosts D) (seed count : ℕ) (input rest : List ℕ) (k : Known) (a p b : D) (honest : M.honest b) (since : Since M p b) (short : AreShort (M.now p).windows) (ends : EndIn (M.now a).windows k.windows) (at_p : IsTimed M p) (at_b : IsTimed M b) (status : ℕ) where
   abbrev commands : List ScriptCommand
   commands = all_plain (made_up seed count)
 
@@ -72,7 +72,7 @@ module _ {D : Type 0} (M : Ghosts D) (seed count : ℕ) (input rest : List ℕ) 
     MayGo cut = (t : ℕ) → t ≤ M.moment a → Goes (in_runs k.windows) (M.left_since p t) (WornIf cut) silent (M.now a).said (M.now a).image v mets commands
 
     abbrev Leaves : Bool → Type 0
-    Leaves through = (more : List Turn) → LeavesOnly M.moment M.left_since a p (InRun k (turns ++ turns_behind through more) (M.now a))
+    Leaves through = (more : List Turn) → StopsOnly M a p (InRun k (forced_of k) (turns ++ turns_behind through more) (M.now a))
 
     on : (L : Volume → Image → Type 0) → (later : M.moment a ≤ M.moment p) → ((t : ℕ) → t ≤ M.moment a → Goes (in_runs k.windows) (M.left_since p t) L silent (M.now a).said (M.now a).image v mets commands)
         → (t : ℕ) → t ≤ M.moment a → Goes (in_runs k.windows) (M.left_since b t) L silent (M.now a).said (M.now a).image v mets commands
@@ -89,33 +89,33 @@ module _ {D : Type 0} (M : Ghosts D) (seed count : ℕ) (input rest : List ℕ) 
       turns_all : turns_of (errand_of (Generate seed count) input) mets v ≡ turns ++ turns_behind (is_through false mets commands) (line_turn (generated_line (answered mets v commands)) ∷ [])
       turns_all = turns_are silent v mets commands commands refl ending (line_turn (generated_line (answered mets v commands)) ∷ []) refl (is_through false mets commands) (ap (λ (n : ℕ). n == length commands) (sym known))
 
-      pub all_said : IsTrue (is_through false mets commands) → IsDone k front (behind mets v commands).volume (M.now a) (M.now p) → (line : Line) → line ≡ generated_line (answered mets v commands) → (M.report a).output_faults ≤ (M.report p).output_faults
+      pub all_said : IsTrue (is_through false mets commands) → IsDone M k front (behind mets v commands).volume a p → (line : Line) → line ≡ generated_line (answered mets v commands) → (M.report a).output_faults ≤ (M.report p).output_faults
           → LeavesDisk M false (is_unsaid status) (Utters (text line)) p b → EndsLast line 0 (M.now p) (M.now b) status → Over
       all_said through done line is counted says ended =
           let t = line_turn line in
           let split : turns ++ forced_turn ∷ t ∷ [] ≡ front ++ t ∷ [] = sym (append_assoc turns (forced_turn ∷ []) (t ∷ [])) in
           let turns_is : turns_of (errand_of (Generate seed count) input) mets v ≡ front ++ t ∷ [] =
           turns_all ∙ ap (λ (x : Bool). turns ++ turns_behind x (line_turn (generated_line (answered mets v commands)) ∷ [])) through ∙ ap (λ (l : Line). turns ++ forced_turn ∷ line_turn l ∷ []) (sym is) ∙ split in
-          let moments : LeavesOnly M.moment M.left_since a p (InRun k (front ++ t ∷ []) (M.now a)) =
-          subst (λ (x : List Turn). LeavesOnly M.moment M.left_since a p (InRun k x (M.now a))) split (subst (λ (x : Bool). LeavesOnly M.moment M.left_since a p (InRun k (turns ++ turns_behind x (t ∷ [])) (M.now a))) through (leaves (t ∷ []))) in
+          let moments : StopsOnly M a p (InRun k (forced_of k) (front ++ t ∷ []) (M.now a)) =
+          subst (λ (x : List Turn). StopsOnly M a p (InRun k (forced_of k) x (M.now a))) split (subst (λ (x : Bool). StopsOnly M a p (InRun k (forced_of k) (turns ++ turns_behind x (t ∷ [])) (M.now a))) through (leaves (t ∷ []))) in
           record {
             cut = None;
             may = tt;
             cause = tt;
-            finishes = finishes_last M (Generate seed count) (M.report a) k front line (behind mets v commands).volume 0 a p b moments done short ends counted status says honest (errand_of (Generate seed count) input) Always (WornIf false) mets tt turns_is (on (WornIf false) later goes)
+            finishes = finishes_last M (Generate seed count) (M.report a) k front line (behind mets v commands).volume 0 a p b moments done short ends at_p at_b counted status says honest (errand_of (Generate seed count) input) Always (WornIf false) mets tt turns_is (on (WornIf false) later goes)
                 (eqb-true (length mets) (length commands) through) refl refl ended;
           }
 
-      pub all_broken : (why : Fault) → Said k why turns (M.now a) (M.now p) → EndsAtOnce why → {T : Type 0} → Told {T = T} (M.report a) (M.report p) (Err (Stopped why)) → LeavesDisk M false (is_unsaid status) (Utters (fault_text why)) p b → EndsWith why (M.now p) (M.now b) status → Over
+      pub all_broken : (why : Fault) → Said M k (forced_of k) why turns a p → EndsAtOnce why → {T : Type 0} → Told {T = T} (M.report a) (M.report p) (Err (Stopped why)) → LeavesDisk M false (is_unsaid status) (Utters (fault_text why)) p b → EndsWith why (M.now p) (M.now b) status → Over
       all_broken why said once told says ended = record {
         cut = None;
         may = tt;
         cause = tt;
-        finishes = finishes_broken M (Generate seed count) (M.report a) k turns (is_through false mets commands) (line_turn (generated_line (answered mets v commands)) ∷ []) a p b (leaves (line_turn (generated_line (answered mets v commands)) ∷ [])) why said short ends once told status says honest ended
+        finishes = finishes_broken M (Generate seed count) (M.report a) k turns (is_through false mets commands) (line_turn (generated_line (answered mets v commands)) ∷ []) a p b (leaves (line_turn (generated_line (answered mets v commands)) ∷ [])) why said short ends at_p at_b once told status says honest ended
             (errand_of (Generate seed count) input) Always (WornIf false) mets tt turns_all (on (WornIf false) later goes);
       }
 
-      pub all_unsaid : {T : Type 0} → status ≡ 6 → Told {T = T} (M.report a) (M.report b) (Err Output) → LeavesOnly M.moment M.left_since a b (InRun k (turns ++ turns_behind (is_through false mets commands) (line_turn (generated_line (answered mets v commands)) ∷ [])) (M.now a)) → Over
+      pub all_unsaid : {T : Type 0} → status ≡ 6 → Told {T = T} (M.report a) (M.report b) (Err Output) → StopsOnly M a b (InRun k (forced_of k) (turns ++ turns_behind (is_through false mets commands) (line_turn (generated_line (answered mets v commands)) ∷ [])) (M.now a)) → Over
       all_unsaid six told moments = subst (λ (n : ℕ). RunsOut M (Generate seed count) input rest (M.report a) k a b n) (sym six) (record {
         cut = None;
         may = tt;
@@ -152,7 +152,7 @@ module _ {D : Type 0} (M : Ghosts D) (seed count : ℕ) (input rest : List ℕ) 
       went : (t : ℕ) → t ≤ M.moment a → Goes (in_runs k.windows) (M.left_since b t) (λ v i. IsWornOut v i) silent (M.now a).said (M.now a).image v mets done_commands
       went t le = goes_cut (in_runs k.windows) (M.left_since b t) silent (WornIf true) (λ v i. IsWornOut v i) (λ v i is. is) (M.now a).said (M.now a).image v mets commands (on (WornIf true) later_cut goes t le)
 
-      pub cut_said : IsDone k front (behind mets v commands).volume (M.now a) (M.now p) → (M.report a).output_faults ≤ (M.report p).output_faults
+      pub cut_said : IsDone M k front (behind mets v commands).volume a p → (M.report a).output_faults ≤ (M.report p).output_faults
           → LeavesDisk M false (is_unsaid status) (Utters (fault_text Ends.WornOut)) p b → EndsLast (Says.Ended Ends.WornOut) 9 (M.now p) (M.now b) status → Over
       cut_said done counted says ended =
           let split : turns ++ forced_turn ∷ last_line ∷ [] ≡ front ++ last_line ∷ [] = sym (append_assoc turns (forced_turn ∷ []) (last_line ∷ [])) in
@@ -160,19 +160,19 @@ module _ {D : Type 0} (M : Ghosts D) (seed count : ℕ) (input rest : List ℕ) 
             cut = Some (length mets, Ends.WornOut);
             may = tt;
             cause = tt;
-            finishes = finishes_last M (Generate seed count) (M.report a) k front (Says.Ended Ends.WornOut) (behind mets v commands).volume 9 a p b (subst (λ (x : List Turn). LeavesOnly M.moment M.left_since a p (InRun k x (M.now a))) split (leaves (last_line ∷ []))) done short ends counted status says honest
+            finishes = finishes_last M (Generate seed count) (M.report a) k front (Says.Ended Ends.WornOut) (behind mets v commands).volume 9 a p b (subst (λ (x : List Turn). StopsOnly M a p (InRun k (forced_of k) x (M.now a))) split (leaves (last_line ∷ []))) done short ends at_p at_b counted status says honest
                 (ended_as silent done_commands cut_short) Worn (λ v i. IsWornOut v i) mets worn_behind (turns_cut ∙ split) went (sym within) refl (ap (λ (x : Session). x.volume) (sym (behind_cut mets v commands))) ended;
           }
 
-      pub cut_broken : (why : Fault) → Said k why turns (M.now a) (M.now p) → EndsAtOnce why → {T : Type 0} → Told {T = T} (M.report a) (M.report p) (Err (Stopped why)) → LeavesDisk M false (is_unsaid status) (Utters (fault_text why)) p b → EndsWith why (M.now p) (M.now b) status → Over
+      pub cut_broken : (why : Fault) → Said M k (forced_of k) why turns a p → EndsAtOnce why → {T : Type 0} → Told {T = T} (M.report a) (M.report p) (Err (Stopped why)) → LeavesDisk M false (is_unsaid status) (Utters (fault_text why)) p b → EndsWith why (M.now p) (M.now b) status → Over
       cut_broken why said once told says ended = record {
         cut = Some (length mets, Ends.WornOut);
         may = tt;
         cause = tt;
-        finishes = finishes_broken M (Generate seed count) (M.report a) k turns true (last_line ∷ []) a p b (leaves (last_line ∷ [])) why said short ends once told status says honest ended (ended_as silent done_commands cut_short) Worn (λ v i. IsWornOut v i) mets worn_behind turns_cut went;
+        finishes = finishes_broken M (Generate seed count) (M.report a) k turns true (last_line ∷ []) a p b (leaves (last_line ∷ [])) why said short ends at_p at_b once told status says honest ended (ended_as silent done_commands cut_short) Worn (λ v i. IsWornOut v i) mets worn_behind turns_cut went;
       }
 
-      pub cut_unsaid : {T : Type 0} → status ≡ 6 → Told {T = T} (M.report a) (M.report b) (Err Output) → LeavesOnly M.moment M.left_since a b (InRun k (turns ++ forced_turn ∷ last_line ∷ []) (M.now a)) → Over
+      pub cut_unsaid : {T : Type 0} → status ≡ 6 → Told {T = T} (M.report a) (M.report b) (Err Output) → StopsOnly M a b (InRun k (forced_of k) (turns ++ forced_turn ∷ last_line ∷ []) (M.now a)) → Over
       cut_unsaid six told moments = subst (λ (n : ℕ). RunsOut M (Generate seed count) input rest (M.report a) k a b n) (sym six) (record {
         cut = Some (length mets, Ends.WornOut);
         may = tt;
@@ -189,7 +189,7 @@ module _ {D : Type 0} (M : Ghosts D) (seed count : ℕ) (input rest : List ℕ) 
       → LeavesDisk M false (is_unsaid status) (Utters (text line)) p b → EndsLast line 0 (M.now p) (M.now b) status → Over
   made_said tally g counts line is counted says ended = by g.cut g.goes g.moments g.ends
     where
-      by : (cut : Bool) → MayGo g.mets cut → Leaves g.mets (is_through cut g.mets commands) → EndsGroup silent k cut g.mets commands (M.now a) (M.now p) (Ok true) → Over
+      by : (cut : Bool) → MayGo g.mets cut → Leaves g.mets (is_through cut g.mets commands) → EndsGroup M silent k cut g.mets commands a p (Ok true) → Over
       by true goes leaves e = cc e.0
       by false goes leaves e = all_said g.mets goes leaves e.1 e.2 line (is ∙ ap (λ (t : Counts). Says.Generated t) counts ∙ line_is (answered g.mets v commands)) counted says ended
 
@@ -197,23 +197,23 @@ module _ {D : Type 0} (M : Ghosts D) (seed count : ℕ) (input rest : List ℕ) 
       → LeavesDisk M false (is_unsaid status) (Utters (fault_text Ends.WornOut)) p b → EndsLast (Says.Ended Ends.WornOut) 9 (M.now p) (M.now b) status → Over
   made_worn g counted says ended = by g.cut g.before g.goes g.moments g.ends
     where
-      by : (cut : Bool) → CutsOff cut g.mets v commands → MayGo g.mets cut → Leaves g.mets (is_through cut g.mets commands) → EndsGroup silent k cut g.mets commands (M.now a) (M.now p) (Ok false) → Over
+      by : (cut : Bool) → CutsOff cut g.mets v commands → MayGo g.mets cut → Leaves g.mets (is_through cut g.mets commands) → EndsGroup M silent k cut g.mets commands a p (Ok false) → Over
       by false worn goes leaves e = cc e.0
       by true worn goes leaves e = cut_said g.mets worn goes leaves e.2 counted says ended
 
   pub made_broken : (why : Fault) → Group (Err (Stopped why)) → {T : Type 0} → Told {T = T} (M.report a) (M.report p) (Err (Stopped why)) → LeavesDisk M false (is_unsaid status) (Utters (fault_text why)) p b → EndsWith why (M.now p) (M.now b) status → Over
   made_broken why g told says ended = by g.cut g.before g.goes g.moments g.ends
     where
-      by : (cut : Bool) → CutsOff cut g.mets v commands → MayGo g.mets cut → Leaves g.mets (is_through cut g.mets commands) → EndsGroup silent k cut g.mets commands (M.now a) (M.now p) (Err (Stopped why)) → Over
+      by : (cut : Bool) → CutsOff cut g.mets v commands → MayGo g.mets cut → Leaves g.mets (is_through cut g.mets commands) → EndsGroup M silent k cut g.mets commands a p (Err (Stopped why)) → Over
       by false worn goes leaves e = all_broken g.mets goes leaves why e.1 e.0 told says ended
       by true worn goes leaves e = cut_broken g.mets worn goes leaves why e.1 e.0 told says ended
 
 -- the output has failed in the group
-pub made_unsaid : {D T : Type 0} (M : Ghosts D) (seed count : ℕ) (input rest : List ℕ) (k : Known) (a b : D) → M.honest b → AreShort (M.now b).windows → EndIn (M.now a).windows k.windows → IsGroup M silent k (M.now a) (all_plain (made_up seed count)) a b (Err Output) → Told {T = T} (M.report a) (M.report b) (Err Output)
+pub made_unsaid : {D T : Type 0} (M : Ghosts D) (seed count : ℕ) (input rest : List ℕ) (k : Known) (a b : D) → M.honest b → AreShort (M.now b).windows → EndIn (M.now a).windows k.windows → IsTimed M b → IsGroup M silent k (M.now a) (all_plain (made_up seed count)) a b (Err Output) → Told {T = T} (M.report a) (M.report b) (Err Output)
     → RunsOut M (Generate seed count) input rest (M.report a) k a b 6
-made_unsaid M seed count input rest k a b honest short ends g told = by g.cut g.before g.goes g.moments
+made_unsaid M seed count input rest k a b honest short ends at_b g told = by g.cut g.before g.goes g.moments
   where
     by : (cut : Bool) → CutsOff cut g.mets (session_over (volume_of k)) (all_plain (made_up seed count)) → ((t : ℕ) → t ≤ M.moment a → Goes (in_runs k.windows) (M.left_since b t) (WornIf cut) silent (M.now a).said (M.now a).image (session_over (volume_of k)) g.mets (all_plain (made_up seed count)))
-        → ((more : List Turn) → LeavesOnly M.moment M.left_since a b (InRun k (turns_begun silent g.mets (session_over (volume_of k)) (all_plain (made_up seed count)) ++ turns_behind (is_through cut g.mets (all_plain (made_up seed count))) more) (M.now a))) → RunsOut M (Generate seed count) input rest (M.report a) k a b 6
-    by false worn goes leaves = all_unsaid M seed count input rest k a b b honest (λ t left le was. was) short ends 6 g.mets goes leaves refl told (leaves (line_turn (generated_line (answered g.mets (session_over (volume_of k)) (all_plain (made_up seed count)))) ∷ []))
-    by true worn goes leaves = cut_unsaid M seed count input rest k a b b honest (λ t left le was. was) short ends 6 g.mets worn goes leaves refl told (leaves (line_turn (Says.Ended Ends.WornOut) ∷ []))
+        → ((more : List Turn) → StopsOnly M a b (InRun k (forced_of k) (turns_begun silent g.mets (session_over (volume_of k)) (all_plain (made_up seed count)) ++ turns_behind (is_through cut g.mets (all_plain (made_up seed count))) more) (M.now a))) → RunsOut M (Generate seed count) input rest (M.report a) k a b 6
+    by false worn goes leaves = all_unsaid M seed count input rest k a b b honest (λ t left le was. was) short ends at_b at_b 6 g.mets goes leaves refl told (leaves (line_turn (generated_line (answered g.mets (session_over (volume_of k)) (all_plain (made_up seed count)))) ∷ []))
+    by true worn goes leaves = cut_unsaid M seed count input rest k a b b honest (λ t left le was. was) short ends at_b at_b 6 g.mets worn goes leaves refl told (leaves (line_turn (Says.Ended Ends.WornOut) ∷ []))

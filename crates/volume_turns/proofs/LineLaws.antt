@@ -21,7 +21,7 @@ use Rattle.volume_turns.specs.declared.turns.End.{End}
 use Rattle.volume_turns.specs.declared.turns.End.TheVariants.{Fault as Stopped, Output}
 use Rattle.volume_turns.specs.Once.{close_fault, fault_of}
 use Rattle.volume_turns.specs.Script.{SparesWanting}
-use Rattle.volume_turns.specs.Turns.{EndsAtOnce, WantsNone}
+use Rattle.volume_turns.specs.Turns.{EndsAtOnce, IsWant, WantsNone}
 
 -- ---- the turns of one command
 
@@ -53,6 +53,11 @@ excused i fault why = absurd why
 pub output_ends : {T : Type 0} (P : End → Type 0) → P Output → (r : Result T End) → IfErr r (λ end. end ≡ Output) → IfErr r P
 output_ends P at (Ok x) is = tt
 output_ends P at (Err end) is = subst P (sym is) at
+
+-- what wants none is no end by memory, nor by the numbers of a mount
+pub wants_not : {T : Type 0} (why : Fault) → IsWant why → (r : Result T End) → IfErr r WantsNone → r ≡ Err (Stopped why) → ⊥
+wants_not why want (Ok x) none is = cc is
+wants_not why want (Err end) none is = let same : end ≡ Stopped why = cc is in subst WantsNone same none want
 
 -- nor does a force
 pub close_wants : (why : Refusal) → IsLoss why → WantsNone (Stopped (close_fault why))

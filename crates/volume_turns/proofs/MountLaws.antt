@@ -21,7 +21,7 @@ use Rattle.fsd_texts.specs.declared.fault.Fault.TheVariants as Ends
 use Rattle.fsd_runs.specs.Errands.{Turn}
 use Rattle.fsd_runs.specs.Leaves.{IsUndone, Left, LeftSince, SaysFault}
 use Rattle.fsd_runs.specs.Runs.{Starts, changes_in, forced_in, said_in}
-use Rattle.volume_contract.specs.Mount.{SoundBefore, SoundSince, Settled}
+use Rattle.volume_contract.specs.Mount.{Settled}
 use Rattle.volume_contract.specs.State.{Known, volume_of, forced_of}
 use Rattle.volume_turns.specs.Turns.{InRun, Undone}
 use Rattle.volume_turns.proofs.TurnLaws.{newer_own, forced_none, next_as, says_nothing}
@@ -41,28 +41,32 @@ module _ (l : Layout) (windows : List WeakRun) (run : WeakRun) (h : List Change)
   pub known_length : length k.changes ≡ n
   known_length = ap (λ (x : List Change). length x) s.changes ∙ taken
 
-  known_forced : forced_of k ≡ n
+  pub known_forced : forced_of k ≡ n
   known_forced = let all = known_length in let none = s.fresh.unforced in omega (arith, all, none)
 
   -- ---- moments
 
-  pub before_left : (turns : List Turn) (left : Moment) → SoundBefore l windows h f old left → Left l windows run h f n turns old left
-  before_left turns left x = inl (record { present = x.present; part = []; said = x.said ∙ sym (append-nil old.said); fault = nothing_said; sound = x.sound })
+  pub before_left : (turns : List Turn) (left : Moment) → left.windows.present ≡ old.windows.present → left.said ≡ old.said → IsSound l windows h f left.image → Left l windows run h f n turns old left
+  before_left turns left present said sound = inl (record { present = present; part = []; said = said ∙ sym (append-nil old.said); fault = nothing_said; sound = sound })
 
-  pub since_left : (turns : List Turn) (left : Moment) → SoundSince l windows run h n old left → LeftSince l windows run h n turns old left
-  since_left turns left x = record {
-    settled = x.settled;
+  pub since_left : (turns : List Turn) (left : Moment) → left.windows ≡ record { present = Some run; next = None } → left.said ≡ old.said → IsSound l (windows ++ run ∷ []) (take n h) n left.image → LeftSince l windows run h n turns old left
+  since_left turns left settled said sound = record {
+    settled = settled;
     whole = 0;
     part = [];
-    said = x.said ∙ sym (append-nil old.said);
+    said = said ∙ sym (append-nil old.said);
     next = says_nothing (forced_in (take 1 turns) ≤ 0) (slice_get turns 0);
     forced = 0;
     enough = omega arith;
     sound = sound_to l l (windows ++ run ∷ []) (windows ++ run ∷ []) (take n h ++ changes_in (take 1 turns)) (take n h ++ changes_in (take 1 turns)) n (n + 0) left.image refl refl refl (omega arith)
-        (sound_more l (windows ++ run ∷ []) (take n h) (changes_in (take 1 turns)) n left.image x.sound);
+        (sound_more l (windows ++ run ∷ []) (take n h) (changes_in (take 1 turns)) n left.image sound);
   }
 
-  pub run_left : (turns : List Turn) (left : Moment) → InRun k turns mid left → LeftSince l windows run h n turns old left
+  -- what the mount found, as it is known
+  pub known_sound : (i : Image) → IsSound l (windows ++ run ∷ []) (take n h) n i → IsSound k.mounted.volume.layout k.windows k.changes (forced_of k) i
+  known_sound i sound = sound_to l k.mounted.volume.layout (windows ++ run ∷ []) k.windows (take n h) k.changes n (forced_of k) i (sym s.layout) (sym s.known) (sym s.changes) (sym known_forced) sound
+
+  pub run_left : (turns : List Turn) (left : Moment) → InRun k (forced_of k) turns mid left → LeftSince l windows run h n turns old left
   run_left turns left r = record {
     settled = r.windows ∙ s.settled;
     whole = r.whole;
@@ -80,7 +84,7 @@ module _ (l : Layout) (windows : List WeakRun) (run : WeakRun) (h : List Change)
       by false is = let none = forced_none (take r.whole turns) (sym is) in omega (arith, none)
 
   -- the turns said whole are all that was done
-  pub run_undone : (turns : List Turn) (whole : ℕ) (i : Image) → Undone k turns whole i → IsUndone l (windows ++ run ∷ []) (take n h) n turns whole i
+  pub run_undone : (turns : List Turn) (whole : ℕ) (i : Image) → Undone k (forced_of k) turns whole i → IsUndone l (windows ++ run ∷ []) (take n h) n turns whole i
   run_undone turns whole i u = record {
     forced = u.forced - n;
     enough = by (list_any (λ t. t.forces) (take whole turns)) refl;

@@ -1,28 +1,28 @@
 -- What one command leaves, from the mounted volume to the last line.
-use Rattle.std.proofs.Common.{◌≡◌, inl, inr, false, ℕ, suc, ◌≤◌, List, [], ◌∷◌, ◌++◌, length, take, None, refl, sym, ◌∙◌, subst, arith}
+use Rattle.std.proofs.Common.{◌≡◌, inl, inr, false, ℕ, ◌≤◌, List, [], ◌∷◌, length, None, refl, sym, ◌∙◌, arith}
 use Rattle.std.specs.Prelude.{IsSome, Result, Ok, Err, slice_get}
-use Rattle.std.proofs.lemmas.List.{append-nil, take_all}
+use Rattle.std.proofs.lemmas.List.{append-nil}
 use Rattle.fsd_texts.specs.Text.{fault_text}
 use Rattle.sector_disk.specs.declared.machine.Machine.{Ghosts}
-use Rattle.sector_disk.specs.Calls.{LeavesDisk, Since}
+use Rattle.sector_disk.specs.Calls.{IsTimed, LeavesDisk, Since}
 use Rattle.sector_disk.specs.Image.{AreShort}
-use Rattle.sector_disk.specs.Machine.{Moment, Utters}
+use Rattle.sector_disk.specs.Machine.{Utters}
 use Rattle.fsd_files.specs.Disk.{in_runs}
 use Rattle.fsd_files.specs.Desk.{Session}
-use Rattle.fsd_sound.specs.Sound.{EndIn, IsSound}
+use Rattle.fsd_sound.specs.Sound.{EndIn}
 use Rattle.fsd_texts.specs.declared.command.Command.{Command}
 use Rattle.fsd_texts.specs.declared.fault.Fault.{Fault}
 use Rattle.fsd_texts.specs.declared.script_command.ScriptCommand.TheVariants.{Plain}
 use Rattle.fsd_runs.specs.declared.request.Request.TheVariants.{One}
 use Rattle.fsd_runs.specs.Errands.{Turn, alone, errand_of}
-use Rattle.fsd_runs.specs.Sessions.{session_over}
-use Rattle.fsd_runs.specs.Runs.{Goes, IsCutAt, changes_in, turns_of}
-use Rattle.volume_contract.specs.State.{Known, volume_of}
+use Rattle.fsd_runs.specs.Sessions.{Meeting, session_over}
+use Rattle.fsd_runs.specs.Runs.{Goes, IsCutAt, turns_of}
+use Rattle.volume_contract.specs.State.{Known, forced_of, volume_of}
 use Rattle.volume_turns.specs.declared.turns.End.{End}
 use Rattle.volume_turns.specs.declared.turns.End.TheVariants.{Fault as Stopped, Output}
 use Rattle.volume_turns.specs.Line.{EndsWith, is_unsaid}
-use Rattle.volume_turns.specs.Once.{Anything, IsAlone, Spares}
-use Rattle.volume_turns.specs.Turns.{InRun, Told}
+use Rattle.volume_turns.specs.Once.{Anything, IsAlone, Unanswered}
+use Rattle.volume_turns.specs.Turns.{Told}
 use Rattle.volume_turns.specs.Whole.{Always, Halted, RunsOut}
 use Rattle.volume_turns.proofs.GroupEndLaws.{finishes_unsaid}
 use Rattle.volume_turns.proofs.GroupLaws.{goes_wider}
@@ -39,19 +39,19 @@ pub some_one : (c : Command) (s : Session) → IsSome (slice_get (turns_of (erra
 some_one c s = first_of (turns_of (alone c) [] s) (alone_length c [] s)
 
 -- where nothing of its one turn is said
-halted_one : (k : Known) (why : Fault) (turns : List Turn) → length turns ≡ 1 → (old now : Moment) → now.said ≡ old.said → Spares k why now.image → InRun k turns old now → Halted k why turns old now
-halted_one k why turns one old now quiet spares r =
-    let same : take (suc r.whole) turns ≡ take 1 turns = take_all (suc r.whole) turns (omega (arith, one)) ∙ sym (take_all 1 turns (omega (arith, one))) in
+halted_one : {D : Type 0} (M : Ghosts D) (c : Command) (k : Known) (mets : List Meeting) (why : Fault) (a b : D) → (M.now b).windows ≡ (M.now a).windows → Unanswered M c k mets why a b → Halted M k why (turns_of (alone c) mets (session_over (volume_of k))) a b
+halted_one M c k mets why a b windows u =
+    let turns = turns_of (alone c) mets (session_over (volume_of k)) in
     record {
-      windows = r.windows;
+      windows = windows;
       whole = 0;
-      more = first_of turns one;
-      said = quiet ∙ sym (append-nil old.said);
-      forced = r.forced;
-      least = r.least;
+      more = first_of turns (alone_length c mets (session_over (volume_of k)));
+      said = u.said ∙ sym (append-nil (M.now a).said);
+      forced = forced_of k;
+      least = omega arith;
       enough = λ any. absurd (cc any);
-      sound = subst (λ (ts : List Turn). IsSound k.mounted.volume.layout k.windows (k.changes ++ changes_in ts) r.forced now.image) same r.sound;
-      undone = λ is. none_done k turns now.image (spares is);
+      sound = u.held;
+      undone = λ is. none_done k (forced_of k) turns (M.now b).image (u.spared is);
     }
 
 module _ {D : Type 0} (M : Ghosts D) (c : Command) (rest : List ℕ) (k : Known) (a p b : D) (since : Since M p b) where
@@ -59,11 +59,11 @@ module _ {D : Type 0} (M : Ghosts D) (c : Command) (rest : List ℕ) (k : Known)
   went one t le = let later = one.moments.later in
       goes_wider (in_runs k.windows) (M.left_since p t) (M.left_since b t) (λ x was. since t x (omega (arith, le, later)) was) Anything (IsCutAt None) (λ v i is. tt) (alone c) (M.now a).said (M.now a).image (session_over (volume_of k)) one.mets (Plain c ∷ []) (one.goes t le)
 
-  pub one_broken : M.honest b → AreShort (M.now p).windows → EndIn (M.now a).windows k.windows → M.left_since p (M.moment a) (M.now p) → (why : Fault) → IsAlone M c k a p (Err (Stopped why)) → {T : Type 0} → Told {T = T} (M.report a) (M.report p) (Err (Stopped why))
+  pub one_broken : M.honest b → AreShort (M.now p).windows → EndIn (M.now a).windows k.windows → (M.now p).windows ≡ (M.now a).windows → IsTimed M p → IsTimed M b → (why : Fault) → IsAlone M c k a p (Err (Stopped why)) → {T : Type 0} → Told {T = T} (M.report a) (M.report p) (Err (Stopped why))
       → (status : ℕ) → LeavesDisk M false (is_unsaid status) (Utters (fault_text why)) p b → EndsWith why (M.now p) (M.now b) status → RunsOut M (One c) [] rest (M.report a) k a b status
-  one_broken honest short ends here why one told status says ended =
+  one_broken honest short ends windows at_p at_b why one told status says ended =
       let turns = turns_of (alone c) one.mets (session_over (volume_of k)) in
-      let halted = halted_one k why turns (alone_length c one.mets (session_over (volume_of k))) (M.now a) (M.now p) one.ends.1 one.ends.2 (one.moments.each (M.now p) here) in
+      let halted = halted_one M c k one.mets why a p windows one.ends in
       record {
         cut = None;
         may = tt;
@@ -72,8 +72,8 @@ module _ {D : Type 0} (M : Ghosts D) (c : Command) (rest : List ℕ) (k : Known)
           mets = one.mets;
           ahead = tt;
           goes = went one;
-          moments = broken_moments M (One c) (M.report a) k turns a p b one.moments why halted short ends one.ends.0 told status says honest ended;
-          ends = inr (broken_ends M (One c) (M.report a) k turns a p b one.moments why halted short ends one.ends.0 told status says honest ended);
+          moments = broken_moments M (One c) (M.report a) k turns a p b one.moments why halted short ends at_p at_b one.ends.once told status says honest ended;
+          ends = inr (broken_ends M (One c) (M.report a) k turns a p b one.moments why halted short ends at_p at_b one.ends.once told status says honest ended);
         };
       }
 

@@ -4,7 +4,7 @@ use Rattle.fsd_log.specs.Scan.{Placed}
 use Rattle.std.specs.Prelude.{if◌then◌else◌, nat_lt, IfSome, IsSome, slice_get}
 use Rattle.std.proofs.lemmas.List.{append-nil}
 use Rattle.sector_disk.specs.declared.machine.Machine.{Ghosts}
-use Rattle.sector_disk.specs.Calls.{Counts, LeavesDisk}
+use Rattle.sector_disk.specs.Calls.{Counts, IsTimed, LeavesDisk, StopsOnly, stops}
 use Rattle.sector_disk.specs.Image.{AreShort, Windows}
 use Rattle.sector_disk.specs.Machine.{LeavesOnly, Moment, Report, UsesDisk, Wears, Utters}
 use Rattle.sector_disk.proofs.Moments.{leaves_more, then_on}
@@ -28,12 +28,12 @@ use Rattle.fsd_runs.specs.Runs.{Goes, IsCutAt, IsCutBefore, changes_in, errand_i
 use Rattle.volume_contract.specs.State.{State, Ages, Known, Stands, forced_of, is_worn, volume_of}
 use Rattle.volume_turns.specs.Line.{EndsWith, is_unsaid}
 use Rattle.volume_turns.specs.Steps.{StaysSound}
-use Rattle.volume_turns.specs.Turns.{InRun, Undone}
+use Rattle.volume_turns.specs.Turns.{InRun, OnDisk, Undone}
 use Rattle.volume_turns.specs.Whole.{Finishes, Halted, RunsOut, SaysOut}
 use Rattle.volume_turns.proofs.HaltLaws.{stopped_ends, stopped_moments}
 use Rattle.volume_turns.proofs.OneLaws.{some_one}
 use Rattle.volume_turns.proofs.ScriptLaws.{in_from}
-use Rattle.volume_turns.proofs.TurnLaws.{in_before, none_done, worn_state}
+use Rattle.volume_turns.proofs.TurnLaws.{none_done, stays_held, stays_stops, worn_state}
 use Rattle.volume_turns.proofs.WholeLaws.{runs_on}
 
 -- ---- what a put asks for, by how long its input is
@@ -61,7 +61,7 @@ put_finds name keep input i j s met = by (nat_lt max_input (length input))
 
 module _ {S D : Type 0} (state : S → State) (has : S → Mounted → List Placed → Type 0) (M : Ghosts D) (name : List ℕ) (keep : Option ℕ) (input rest : List ℕ) (v : S) (k : Known) (a m b : D)
     (wears : (old new : Moment) → AreShort old.windows → Ages old new → Stands state has v k old → Stands state has v k new) (short : AreShort (M.now a).windows) (stands : Stands state has v k (M.now a))
-    (takes : Bool) (read : LeavesDisk M takes false Wears a m) (back : M.honest m) (status : ℕ) where
+    (on : OnDisk M k (forced_of k) a) (at_a : IsTimed M a) (at_m : IsTimed M m) (takes : Bool) (read : LeavesDisk M takes false Wears a m) (back : M.honest m) (status : ℕ) where
   abbrev e : Errand
   e = errand_of (Put name keep) input
 
@@ -76,8 +76,14 @@ module _ {S D : Type 0} (state : S → State) (has : S → Mounted → List Plac
       let now = wears (M.now a) left short (record { image = w.image; windows = w.windows }) stands in
       record { sound = mounted_sound k.mounted k.windows k.changes (forced_of k) left.image now.disk; windows = w.windows; said = w.said }
 
-  taking : (turns : List Turn) → LeavesOnly M.moment M.left_since a m (InRun k turns (M.now a))
-  taking turns = leaves_more M.moment M.left_since a m (Wears (M.now a)) (InRun k turns (M.now a)) (λ left w. in_before k turns (M.now a) left (stays left w)) (read.any_moment back)
+  stays_run : LeavesOnly M.moment M.left_since a m (StaysSound k (M.now a))
+  stays_run = leaves_more M.moment M.left_since a m (Wears (M.now a)) (StaysSound k (M.now a)) stays (read.any_moment back)
+
+  taking : (turns : List Turn) → StopsOnly M a m (InRun k (forced_of k) turns (M.now a))
+  taking turns = stays_stops M k (forced_of k) a m at_a at_m (read.since back) stays_run on turns
+
+  pub held_on : OnDisk M k (forced_of k) m
+  held_on = stays_held M k (forced_of k) a m at_a at_m (read.since back) stays_run on
 
   -- the run goes on from there
   module _ (unworn : is_worn (state v) ≡ false) (before : Report) where
@@ -97,10 +103,10 @@ module _ {S D : Type 0} (state : S → State) (has : S → Mounted → List Plac
       goes.2,
     )
 
-    abbrev Over : Moment → List Meeting → Type 0
-    Over old mets = SaysOut e k mets old (M.now b) status ⊎ (IsUnsaid before (M.report b) status ⊎ IsBroken (Put name keep) (Undone k (turns_of e mets (session_over (volume_of k)))) before (M.report b) (turns_of e mets (session_over (volume_of k))) old (M.now b) status)
+    abbrev Over : D → List Meeting → Type 0
+    Over x mets = SaysOut M e k mets x b status ⊎ (IsUnsaid before (M.report b) status ⊎ IsBroken (Put name keep) (Undone k (forced_of k) (turns_of e mets (session_over (volume_of k)))) before (M.report b) (turns_of e mets (session_over (volume_of k))) (M.now x) (M.now b) status)
 
-    ends_from : (mets : List Meeting) → Over (M.now m) mets → Over (M.now a) mets
+    ends_from : (mets : List Meeting) → Over m mets → Over a mets
     ends_from mets (inl out) = inl (record {
       through = out.through;
       gives = out.gives;
@@ -108,6 +114,7 @@ module _ {S D : Type 0} (state : S → State) (has : S → Mounted → List Plac
         windows = out.done.windows ∙ worn.windows;
         said = out.done.said ∙ ap (λ (x : List ℕ). x ++ said_in (turns_of e mets (session_over (volume_of k)))) worn.said;
         sound = out.done.sound;
+        held = out.done.held;
         tells = out.done.tells;
         lasts = out.done.lasts;
         roots = out.done.roots;
@@ -138,9 +145,9 @@ module _ {S D : Type 0} (state : S → State) (has : S → Mounted → List Plac
         goes = λ t le. let later = (read.any_moment back).later in
             subst (λ (x : List ℕ). Goes (in_runs k.windows) (M.left_since b t) (IsCutAt None) e x (M.now a).image (session_over (volume_of k)) f.mets e.commands) worn.said
             (goes_from (M.left_since b t) e (M.now m).said f.mets e.commands (put_finds name keep input) (f.goes t (omega (arith, le, later))));
-        moments = then_on M.moment M.left_since a m b (InRun k (turns_of e f.mets (session_over (volume_of k))) (M.now a)) (taking (turns_of e f.mets (session_over (volume_of k))))
-            (leaves_more M.moment M.left_since m b (InRun k (turns_of e f.mets (session_over (volume_of k))) (M.now m)) (InRun k (turns_of e f.mets (session_over (volume_of k))) (M.now a))
-            (λ left x. in_from k (M.now a) (M.now m) worn (turns_of e f.mets (session_over (volume_of k))) left x) f.moments);
+        moments = then_on M.moment (stops M) a m b (InRun k (forced_of k) (turns_of e f.mets (session_over (volume_of k))) (M.now a)) (taking (turns_of e f.mets (session_over (volume_of k))))
+            (leaves_more M.moment (stops M) m b (InRun k (forced_of k) (turns_of e f.mets (session_over (volume_of k))) (M.now m)) (InRun k (forced_of k) (turns_of e f.mets (session_over (volume_of k))) (M.now a))
+            (λ left x. in_from k (forced_of k) (M.now a) (M.now m) worn (turns_of e f.mets (session_over (volume_of k))) left x) f.moments);
         ends = ends_from f.mets f.ends;
       };
     }
@@ -158,12 +165,12 @@ module _ {S D : Type 0} (state : S → State) (has : S → Mounted → List Plac
       runs_on M (Put name keep) input rest (M.report a) (M.report m) (counted none) (read.spares.disk, read.spares.place) k a b status (from_there unworn (M.report m) r.cut r.may r.finishes)
 
   -- it ends there, by a fault of the input or for want of memory
-  module _ (why : Fault) (may : MayEnd why) (out : IsOutside (Put name keep) (M.report a) (M.report b) why) (says : LeavesDisk M false (is_unsaid status) (Utters (fault_text why)) m b) (honest : M.honest b)
+  module _ (why : Fault) (may : MayEnd why) (out : IsOutside (Put name keep) (M.report a) (M.report b) why) (says : LeavesDisk M false (is_unsaid status) (Utters (fault_text why)) m b) (honest : M.honest b) (at_b : IsTimed M b)
       (ended : EndsWith why (M.now m) (M.now b) status) where
     abbrev turns : List Turn
     turns = turns_of e [] (session_over (volume_of k))
 
-    halted : Halted k why turns (M.now a) (M.now m)
+    halted : Halted M k why turns a m
     halted = record {
       windows = worn.windows;
       whole = 0;
@@ -172,8 +179,8 @@ module _ {S D : Type 0} (state : S → State) (has : S → Mounted → List Plac
       forced = forced_of k;
       least = omega arith;
       enough = λ any. absurd (cc any);
-      sound = sound_more k.mounted.volume.layout k.windows k.changes (changes_in (take 1 turns)) (forced_of k) (M.now m).image (stays (M.now m) worn).sound;
-      undone = λ is. none_done k turns (M.now m).image (stays (M.now m) worn).sound;
+      sound = λ c left. sound_more k.mounted.volume.layout k.windows k.changes (changes_in (take 1 turns)) (forced_of k) c.image (held_on.each c left);
+      undone = λ is. none_done k (forced_of k) turns (M.now m).image (stays (M.now m) worn).sound;
     }
 
     short_there : AreShort (M.now m).windows
@@ -191,7 +198,7 @@ module _ {S D : Type 0} (state : S → State) (has : S → Mounted → List Plac
         mets = [];
         ahead = tt;
         goes = λ t le. tt;
-        moments = stopped_moments M (Put name keep) (M.report a) k turns a m b (taking turns) why halted short_there stands.ends may out later status says honest ended;
-        ends = inr (stopped_ends M (Put name keep) (M.report a) k turns a m b (taking turns) why halted short_there stands.ends may out later status says honest ended);
+        moments = stopped_moments M (Put name keep) (M.report a) k turns a m b (taking turns) why halted short_there stands.ends at_m at_b may out later status says honest ended;
+        ends = inr (stopped_ends M (Put name keep) (M.report a) k turns a m b (taking turns) why halted short_there stands.ends at_m at_b may out later status says honest ended);
       };
     }

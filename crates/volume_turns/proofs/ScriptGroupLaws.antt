@@ -5,7 +5,7 @@ use Rattle.fsd_log.specs.Scan.{Placed}
 use Rattle.std.specs.Prelude.{IfOk, nat_lt, ◌&&◌, Result, Ok, Err}
 use Rattle.std.proofs.lemmas.List.{take_all}
 use Rattle.sector_disk.specs.declared.machine.Machine.{Ghosts}
-use Rattle.sector_disk.specs.Calls.{Since}
+use Rattle.sector_disk.specs.Calls.{IsTimed, Since}
 use Rattle.sector_disk.specs.Image.{open_damage}
 use Rattle.sector_disk.specs.Machine.{Report, Rose}
 use Rattle.sector_disk.proofs.Wear.{worn_refl}
@@ -19,7 +19,7 @@ use Rattle.script_text.specs.Reading.{Reading, fresh, script_left}
 use Rattle.script_text.proofs.WholeLaws.{short_waits}
 use Rattle.fsd_files.specs.Desk.{no_clients}
 use Rattle.client_desk.specs.declared.client.Client.{Client}
-use Rattle.volume_contract.specs.State.{State, Ages, Known}
+use Rattle.volume_contract.specs.State.{State, Ages, Known, forced_of}
 use Rattle.volume_turns.specs.Seats.{Seated, SitsAt, known_of, seated}
 use Rattle.volume_turns.specs.declared.turns.End.{End}
 use Rattle.volume_turns.specs.declared.turns.End.TheVariants.{Fault as Stopped, Output}
@@ -28,6 +28,7 @@ use Rattle.volume_turns.specs.declared.script.Stop.TheVariants.{Ended, Input, Wo
 use Rattle.volume_turns.specs.Group.{is_worn_end}
 use Rattle.volume_turns.specs.Once.{ClosesAndSays, unit_of}
 use Rattle.volume_turns.specs.Script.{FailedGroup, FailsBehind, GroupsBy, Heard, RoseBy, Spells, WholeRead}
+use Rattle.volume_turns.specs.Turns.{OnDisk}
 use Rattle.volume_turns.proofs.GroupLaws.{group_all, group_all_cut, group_stop, group_worn}
 use Rattle.volume_turns.proofs.ScriptLaws.{spells_here}
 
@@ -56,18 +57,19 @@ taken_front a b last done x = ap (λ (s : Script). take (length done) s.0) (spel
 
 -- ---- the group
 
-module _ {S D : Type 0} (state : S → State) (has : S → Mounted → List Placed → Type 0) (M : Ghosts D) (e : Errand) (k : Known) (v w : S × List Client) (a m b : D) (since : Since M m b) (later : M.moment a ≤ M.moment m) (honest : M.honest m) (stands : SitsAt state has v (seated k no_clients) (M.now a)) where
+module _ {S D : Type 0} (state : S → State) (has : S → Mounted → List Placed → Type 0) (M : Ghosts D) (e : Errand) (k : Known) (v w : S × List Client) (a m b : D) (since : Since M m b) (later : M.moment a ≤ M.moment m) (timed : IsTimed M b) (honest : M.honest m) (stands : SitsAt state has v (seated k no_clients) (M.now a))
+    (disk : OnDisk M k (forced_of k) a) where
   abbrev input : List ℕ
   input = (M.ledger a).input
 
   abbrev Closing : Result Stop End → Type 0
-  Closing result = (x : Seated) → SitsAt state has w x (M.now m) → ClosesAndSays M (known_of x) forced_turn.said m b (unit_of result)
+  Closing result = (x : Seated) (f : ℕ) → SitsAt state has w x (M.now m) → OnDisk M (known_of x) f m → ClosesAndSays M (known_of x) f forced_turn.said m b (unit_of result)
 
   now : Ages (M.now a) (M.now a)
   now = record { image = worn_refl (open_damage (M.now a).windows) (M.now a).image; windows = refl }
 
   module _ (left : (M.ledger b).input ≡ (M.ledger m).input) (rose : Rose (M.report a).input_faults (M.report b).input_faults) (last : Reading) (few : last.end ≡ None → last.taken ≤ max_input) (f : FailsBehind state has M e fresh last v a w m)
-      (result : Result Bool End) (same : IfOk result (λ x. x ≡ true)) (closes : (x : Seated) → SitsAt state has w x (M.now m) → ClosesAndSays M (known_of x) forced_turn.said m b (unit_of result)) where
+      (result : Result Bool End) (same : IfOk result (λ x. x ≡ true)) (closes : (x : Seated) (f : ℕ) → SitsAt state has w x (M.now m) → OnDisk M (known_of x) f m → ClosesAndSays M (known_of x) f forced_turn.said m b (unit_of result)) where
     failed : FailedGroup M e k input (M.ledger b).input a b result
     failed = record {
       done = f.done;
@@ -76,8 +78,8 @@ module _ {S D : Type 0} (state : S → State) (has : S → Mounted → List Plac
       all = f.taken.all ∙ ap (λ (z : List ℕ). f.taken.bytes ++ z) (sym left);
       whole = taken_whole input (M.ledger m).input last f.done f.taken (let most = few f.still in let count = f.taken.count in omega (arith, most, count)) (short_waits last f.still f.short);
       rose = rose;
-      group = group_all state has M e k (M.now a) f.done a m b w since later (f.runs honest (seated k no_clients) (M.now a) stands now) result same closes;
-      uncut = group_all_cut state has M e k (M.now a) f.done a m b w since later (f.runs honest (seated k no_clients) (M.now a) stands now) result same closes;
+      group = group_all state has M e k (M.now a) f.done a m b w since later timed (f.runs honest (seated k no_clients) (forced_of k) (M.now a) stands now disk) result same closes;
+      uncut = group_all_cut state has M e k (M.now a) f.done a m b w since later timed (f.runs honest (seated k no_clients) (forced_of k) (M.now a) stands now disk) result same closes;
     }
 
   rose_on : (stop : Stop) → (M.report b).input_faults ≡ (M.report m).input_faults → RoseBy (M.report a) (M.report m) (Some stop) → RoseBy (M.report a) (M.report b) (Some stop)
@@ -88,20 +90,20 @@ module _ {S D : Type 0} (state : S → State) (has : S → Mounted → List Plac
   module _ (left : (M.ledger b).input ≡ (M.ledger m).input) (counted : (M.report b).input_faults ≡ (M.report m).input_faults) where
     pub group_stopped : (stop : Stop) (result : Result Stop End) → IfOk result (λ x. x ≡ stop) → RoseBy (M.report a) (M.report m) (Some stop) → WholeRead state has M e v a w m (Ok stop) → Closing result → GroupsBy M e k input (M.ledger b).input a b result
     group_stopped (Ended end) (Ok s) same rose x closes = subst (λ (y : Stop). GroupsBy M e k input (M.ledger b).input a b (Ok y)) (sym same)
-        (x.reads.0, group_all state has M e k (M.now a) (script_in input).0 a m b w since later (x.reads.1 honest (seated k no_clients) (M.now a) stands now) (Ok true) refl closes)
+        (x.reads.0, group_all state has M e k (M.now a) (script_in input).0 a m b w since later timed (x.reads.1 honest (seated k no_clients) (forced_of k) (M.now a) stands now disk) (Ok true) refl closes)
     group_stopped Input (Ok s) same rose x closes = subst (λ (y : Stop). GroupsBy M e k input (M.ledger b).input a b (Ok y)) (sym same) (failed left (rose_on Input counted rose) x.last x.few x.reads (Ok true) refl closes)
     group_stopped WornOut (Ok s) same rose x closes = absurd x.reads
-    group_stopped (Ended end) (Err why) same rose x closes = inl (group_all state has M e k (M.now a) (script_in input).0 a m b w since later (x.reads.1 honest (seated k no_clients) (M.now a) stands now) (Err why) tt closes)
+    group_stopped (Ended end) (Err why) same rose x closes = inl (group_all state has M e k (M.now a) (script_in input).0 a m b w since later timed (x.reads.1 honest (seated k no_clients) (forced_of k) (M.now a) stands now disk) (Err why) tt closes)
     group_stopped Input (Err why) same rose x closes = inr (failed left (rose_on Input counted rose) x.last x.few x.reads (Err why) tt closes)
     group_stopped WornOut (Err why) same rose x closes = absurd x.reads
 
   pub group_worn_out : (end : End) → is_worn_end end ≡ true → (result : Result Stop End) → IfOk result (λ x. x ≡ WornOut) → WholeRead state has M e v a w m (Err end) → Closing result → GroupsBy M e k input (M.ledger b).input a b result
   group_worn_out end worn (Ok s) same x closes = subst (λ (y : Stop). GroupsBy M e k input (M.ledger b).input a b (Ok y)) (sym same)
-      (group_worn state has M e k (M.now a) (script_in input).0 a m b w since later end worn (x.reads honest (seated k no_clients) (M.now a) stands now) (Ok false) refl closes)
-  group_worn_out end worn (Err why) same x closes = inl (group_worn state has M e k (M.now a) (script_in input).0 a m b w since later end worn (x.reads honest (seated k no_clients) (M.now a) stands now) (Err why) tt closes)
+      (group_worn state has M e k (M.now a) (script_in input).0 a m b w since later timed end worn (x.reads honest (seated k no_clients) (forced_of k) (M.now a) stands now disk) (Ok false) refl closes)
+  group_worn_out end worn (Err why) same x closes = inl (group_worn state has M e k (M.now a) (script_in input).0 a m b w since later timed end worn (x.reads honest (seated k no_clients) (forced_of k) (M.now a) stands now disk) (Err why) tt closes)
 
   pub group_broken : (end : End) → is_worn_end end ≡ false → WholeRead state has M e v a w m (Err end) → GroupsBy M e k input (M.ledger m).input a m (Err end)
-  group_broken end other x = inl (group_stop state has M e k (M.now a) (script_in input).0 a m w end other (x.reads honest (seated k no_clients) (M.now a) stands now))
+  group_broken end other x = inl (group_stop state has M e k (M.now a) (script_in input).0 a m w end other (x.reads honest (seated k no_clients) (forced_of k) (M.now a) stands now disk))
 
 -- what is counted up to there
 pub heard_worn : (a b : Report) (end : End) → is_worn_end end ≡ true → Heard {T = Stop} a b (Err end) → Heard {T = Unit {0}} a b (Ok tt)

@@ -5,7 +5,7 @@ use Rattle.std.proofs.lemmas.Bool.{eqb-false}
 use Rattle.std.proofs.Math.Dec.{eqb}
 use Rattle.volume_layout.specs.declared.layout.Layout.{Layout}
 use Rattle.sector_disk.specs.declared.machine.Machine.{Ghosts}
-use Rattle.sector_disk.specs.Calls.{Since}
+use Rattle.sector_disk.specs.Calls.{IsTimed, Since}
 use Rattle.sector_disk.specs.Image.{AreShort}
 use Rattle.sector_disk.specs.Machine.{Ledger, Report, Rose}
 use Rattle.fsd_sound.specs.Sound.{EndIn}
@@ -153,7 +153,7 @@ module _ {D : Type 0} (M : Ghosts D) (a p b : D) (status : ℕ) where
 
   -- ---- what is left at each moment
 
-  module _ (e : Errand) (says : e.says ≡ reply_text) (forces : e.forces ≡ is_forced) (k : Known) (back : M.honest p) (h : M.honest b) (since : Since M p b) (short : AreShort (M.now p).windows) (ends : EndIn (M.now a).windows k.windows) (same : M.ledger b ≡ M.ledger p) where
+  module _ (e : Errand) (says : e.says ≡ reply_text) (forces : e.forces ≡ is_forced) (k : Known) (back : M.honest p) (h : M.honest b) (since : Since M p b) (short : AreShort (M.now p).windows) (ends : EndIn (M.now a).windows k.windows) (at_p : IsTimed M p) (at_b : IsTimed M b) (same : M.ledger b ≡ M.ledger p) where
     abbrev input : List ℕ
     input = (M.ledger a).input
 
@@ -165,27 +165,27 @@ module _ {D : Type 0} (M : Ghosts D) (a p b : D) (status : ℕ) where
 
     pub script_runs : (ended : Result Stop End) → GroupsBy M e k input (M.ledger p).input a p ended → Heard {T = Stop} from mid ended → So ended → RunsOut M Script input rest from k a b status
     script_runs (Ok (Ended Done)) g heard x = still (λ y n. RunsOut M Script input (M.ledger y).input from k a y n) 0 x
-        (runs_ended e says forces M input (M.ledger p).input from mid k a p 0 Done g.0 (group_quiet M before k a p back short ends e (script_in input).0 g.1))
+        (runs_ended e says forces M input (M.ledger p).input from mid k a p 0 Done g.0 (group_quiet M before k a p back short ends at_p e (script_in input).0 g.1))
     script_runs (Ok (Ended (Bad bad))) g heard x = runs_ended e says forces M input rest from mid k a b status (Bad bad) g.0
-        (group_said M before k a p b h since short ends status e (script_in input).0 g.1 (Says.Bad bad) 2 heard.later x.says (x.ends h))
+        (group_said M before k a p b h since short ends at_p at_b status e (script_in input).0 g.1 (Says.Bad bad) 2 heard.later x.says (x.ends h))
     script_runs (Ok (Ended TooLong)) g heard x = runs_ended e says forces M input rest from mid k a b status TooLong g.0
-        (group_said M before k a p b h since short ends status e (script_in input).0 g.1 (Says.Ended Ends.InputTooLong) 5 heard.later x.says (x.ends h))
+        (group_said M before k a p b h since short ends at_p at_b status e (script_in input).0 g.1 (Says.Ended Ends.InputTooLong) 5 heard.later x.says (x.ends h))
     script_runs (Ok Input) f heard x = runs_failed e says forces M input rest from mid k a b status f.done f.front (subst (λ (n : ℕ). Rose from.input_faults n) (sym x.says.spares.input) f.rose)
         f.taken (f.all ∙ ap (λ (l : Ledger). f.taken ++ l.input) (sym same)) f.whole
-        (group_said M before k a p b h since short ends status e f.done f.group (Says.Ended Ends.Input) 5 heard.later x.says (x.ends h))
+        (group_said M before k a p b h since short ends at_p at_b status e f.done f.group (Says.Ended Ends.Input) 5 heard.later x.says (x.ends h))
     script_runs (Ok WornOut) g heard x = runs_worn e says forces M input rest from mid k a b status
-        (group_worn_said M before k a p b h since short ends status e (script_in input).0 g heard.later x.says (x.ends h))
+        (group_worn_said M before k a p b h since short ends at_p at_b status e (script_in input).0 g heard.later x.says (x.ends h))
     script_runs (Err (Stopped why)) (inl g) heard x = runs_either e says forces M input rest from mid k a b status
-        (λ more gives. group_fault M before k a p b h since short ends status e (script_in input).0 more gives why g (told_but from mid (Err (Stopped why)) heard) x.says (x.ends h))
+        (λ more gives. group_fault M before k a p b h since short ends at_p at_b status e (script_in input).0 more gives why g (told_but from mid (Err (Stopped why)) heard) x.says (x.ends h))
     script_runs (Err (Stopped why)) (inr f) heard x = runs_failed e says forces M input rest from mid k a b status f.done f.front (subst (λ (n : ℕ). Rose from.input_faults n) (sym x.says.spares.input) f.rose)
         f.taken (f.all ∙ ap (λ (l : Ledger). f.taken ++ l.input) (sym same)) f.whole
-        (group_fault_all M before k a p b h since short ends status e f.done (line_turn (Says.Ended Ends.Input) ∷ []) 5 why f.group f.uncut (told_but from mid (Err (Stopped why)) heard) x.says (x.ends h))
+        (group_fault_all M before k a p b h since short ends at_p at_b status e f.done (line_turn (Says.Ended Ends.Input) ∷ []) 5 why f.group f.uncut (told_but from mid (Err (Stopped why)) heard) x.says (x.ends h))
     script_runs (Err Output) g heard x = still (λ y n. RunsOut M Script input (M.ledger y).input from k a y n) 6 x (by g)
       where
         told : Told {T = Stop} before mid (Err Output)
         told = told_but from mid (Err Output) heard
 
         by : GroupsBy M e k input (M.ledger p).input a p (Err Output) → RunsOut M Script input (M.ledger p).input from k a p 6
-        by (inl g) = runs_either e says forces M input (M.ledger p).input from mid k a p 6 (λ more gives. group_unsaid M before k a p back short ends e (script_in input).0 more gives told g)
+        by (inl g) = runs_either e says forces M input (M.ledger p).input from mid k a p 6 (λ more gives. group_unsaid M before k a p back short ends at_p e (script_in input).0 more gives told g)
         by (inr f) = runs_failed e says forces M input (M.ledger p).input from mid k a p 6 f.done f.front f.rose f.taken f.all f.whole
-            (group_unsaid_all M before k a p back short ends e f.done (line_turn (Says.Ended Ends.Input) ∷ []) 5 told f.group f.uncut)
+            (group_unsaid_all M before k a p back short ends at_p e f.done (line_turn (Says.Ended Ends.Input) ∷ []) 5 told f.group f.uncut)

@@ -6,6 +6,7 @@ use Rattle.std.proofs.lemmas.List.{length-take, take-append-drop}
 use Rattle.sector_disk.specs.declared.machine.Machine.{Ghosts}
 use Rattle.sector_disk.specs.Image.{AreShort, Windows, open_damage, IsWorn}
 use Rattle.sector_disk.specs.Machine.{Ledger, LeavesOnly, Moment, Report, Rose, Wears}
+use Rattle.sector_disk.specs.Calls.{IsTimed, Since, stops}
 use Rattle.sector_disk.proofs.CallLaws.{faults_then}
 use Rattle.sector_disk.proofs.Moments.{leaves_more, started, then_on}
 use Rattle.sector_disk.proofs.Wear.{worn_trans}
@@ -36,13 +37,13 @@ use Rattle.volume_turns.specs.Turns.{Behind, EndsBy, Follows, InRun, Runs, RunsF
 use Rattle.volume_turns.proofs.EachLaws.{between_none, between_one, between_replies, between_then}
 use Rattle.volume_turns.proofs.RunLaws.{follows_then, runs_nil, runs_stop, runs_then}
 use Rattle.volume_turns.proofs.SeatLaws.{seat_wears}
-use Rattle.volume_turns.proofs.TurnLaws.{in_before, said_nothing}
+use Rattle.volume_turns.proofs.TurnLaws.{said_nothing, stays_held, stays_stops}
 use Rattle.volume_turns.proofs.CountLaws.{unheard_on}
 
 -- ---- a read in front of a run
 
-module _ (k : Known) (old mid : Moment) (w : Wears old mid) where
-  pub in_from : (turns : List Turn) (left : Moment) → InRun k turns mid left → InRun k turns old left
+module _ (k : Known) (f : ℕ) (old mid : Moment) (w : Wears old mid) where
+  pub in_from : (turns : List Turn) (left : Moment) → InRun k f turns mid left → InRun k f turns old left
   in_from turns left x = record {
     windows = x.windows ∙ w.windows;
     whole = x.whole;
@@ -55,8 +56,9 @@ module _ (k : Known) (old mid : Moment) (w : Wears old mid) where
     sound = x.sound;
   }
 
-  said_from : (why : Fault) (turns : List Turn) (now : Moment) → Said k why turns mid now → Said k why turns old now
-  said_from why turns now x = record {
+module _ {D : Type 0} (M : Ghosts D) (k : Known) (f : ℕ) (a m b : D) (w : Wears (M.now a) (M.now m)) where
+  said_from : (why : Fault) (turns : List Turn) → Said M k f why turns m b → Said M k f why turns a b
+  said_from why turns x = record {
     windows = x.windows ∙ w.windows;
     whole = x.whole;
     most = x.most;
@@ -82,32 +84,40 @@ module _ {S D : Type 0} (state : S → State) (has : S → Mounted → List Plac
         let now = seat_wears state has wears v k from left short (ages_on from old left aged w) stood in
         record { sound = mounted_sound k.mounted k.windows k.changes (forced_of (known_of k)) left.image now.stands.disk; windows = w.windows; said = w.said }
 
-  module _ (v : S × List Client) (a m : D) (worn : M.honest m → Wears (M.now a) (M.now m)) (read : M.honest m → LeavesOnly M.moment M.left_since a m (Wears (M.now a)))
-      (short : M.honest m → (from : Moment) → Ages from (M.now a) → AreShort from.windows) where
+  module _ (v : S × List Client) (a m : D) (trust : M.honest m → M.honest a) (timed : (x : D) → M.honest x → IsTimed M x) (worn : M.honest m → Wears (M.now a) (M.now m)) (read : M.honest m → LeavesOnly M.moment M.left_since a m (Wears (M.now a)))
+      (since : M.honest m → Since M a m) (short : M.honest m → (from : Moment) → Ages from (M.now a) → AreShort from.windows) where
     -- the same commands, from before the read on
     pub runs_read : (commands : List ScriptCommand) (z : S × List Client) (b : D) (result : Result (Unit {0}) End) → Follows M m b → Runs state has M e commands v m z b result → Runs state has M e commands v a z b result
-    runs_read commands z b result follows runs honest k from stood aged = record {
+    runs_read commands z b result follows runs honest k f from stood aged held = record {
       mets = r.mets;
       goes = λ t le. let later = (read back).later in
           subst (λ (x : List ℕ). Goes (in_runs k.windows) (M.left_since b t) (Behind result) e x from.image (session_in k) r.mets commands) w.said (r.goes t (omega (arith, le, later)));
-      moments = λ rest. then_on M.moment M.left_since a m b (InRun (known_of k) (turns_begun e r.mets (session_in k) commands ++ rest) (M.now a))
-          (leaves_more M.moment M.left_since a m (Wears (M.now a)) (InRun (known_of k) (turns_begun e r.mets (session_in k) commands ++ rest) (M.now a))
-          (λ left x. in_before (known_of k) (turns_begun e r.mets (session_in k) commands ++ rest) (M.now a) left (stays_so v k from (short back from aged) stood (M.now a) left aged x)) (read back))
-          (leaves_more M.moment M.left_since m b (InRun (known_of k) (turns_begun e r.mets (session_in k) commands ++ rest) (M.now m)) (InRun (known_of k) (turns_begun e r.mets (session_in k) commands ++ rest) (M.now a))
-          (λ left x. in_from (known_of k) (M.now a) (M.now m) w (turns_begun e r.mets (session_in k) commands ++ rest) left x) (r.moments rest));
+      moments = λ rest. then_on M.moment (stops M) a m b (InRun (known_of k) f (turns_begun e r.mets (session_in k) commands ++ rest) (M.now a))
+          (stays_stops M (known_of k) f a m at_a at_m (since back) stays held (turns_begun e r.mets (session_in k) commands ++ rest))
+          (leaves_more M.moment (stops M) m b (InRun (known_of k) f (turns_begun e r.mets (session_in k) commands ++ rest) (M.now m)) (InRun (known_of k) f (turns_begun e r.mets (session_in k) commands ++ rest) (M.now a))
+          (λ left x. in_from (known_of k) f (M.now a) (M.now m) w (turns_begun e r.mets (session_in k) commands ++ rest) left x) (r.moments rest));
       ends = by result r.ends;
     }
       where
         back : M.honest m
         back = follows.honest honest
 
+        at_a : IsTimed M a
+        at_a = timed a (trust back)
+
+        at_m : IsTimed M m
+        at_m = timed m back
+
         w : Wears (M.now a) (M.now m)
         w = worn back
 
-        r : RunsFrom state has M e k from commands m b z result
-        r = runs honest k from stood (ages_on from (M.now a) (M.now m) aged w)
+        stays : LeavesOnly M.moment M.left_since a m (StaysSound (known_of k) (M.now a))
+        stays = leaves_more M.moment M.left_since a m (Wears (M.now a)) (StaysSound (known_of k) (M.now a)) (λ left x. stays_so v k from (short back from aged) stood (M.now a) left aged x) (read back)
 
-        stands_so : StandsBehind state has e k r.mets commands z (M.now m) (M.now b) → StandsBehind state has e k r.mets commands z (M.now a) (M.now b)
+        r : RunsFrom state has M e k f from commands m b z result
+        r = runs honest k f from stood (ages_on from (M.now a) (M.now m) aged w) (stays_held M (known_of k) f a m at_a at_m (since back) stays held)
+
+        stands_so : StandsBehind state has M e k f r.mets commands z m b → StandsBehind state has M e k f r.mets commands z a b
         stands_so x = record {
           after = x.after;
           is = x.is;
@@ -116,28 +126,31 @@ module _ {S D : Type 0} (state : S → State) (has : S → Mounted → List Plac
           said = x.said ∙ ap (λ (y : List ℕ). y ++ said_in (turns_begun e r.mets (session_in k) commands)) w.said;
           open_windows = x.open_windows ∙ w.windows;
           layout = x.layout;
+          told = x.told;
           least = x.least;
           forced = x.forced;
+          held = x.held;
           stands = x.stands;
         }
 
-        by : (x : Result (Unit {0}) End) → EndsBy state has e k r.mets commands z (M.now m) (M.now b) x → EndsBy state has e k r.mets commands z (M.now a) (M.now b) x
+        by : (x : Result (Unit {0}) End) → EndsBy state has M e k f r.mets commands z m b x → EndsBy state has M e k f r.mets commands z a b x
         by (Ok x) is = (is.0, stands_so is.1)
         by (Err (Stopped Ends.WornOut)) is = (is.0, stands_so is.1)
         by (Err Output) is = tt
-        by (Err (Stopped why)) is = (is.0, said_from (known_of k) (M.now a) (M.now m) w why (turns_begun e r.mets (session_in k) commands) (M.now b) is.1)
+        by (Err (Stopped why)) is = (is.0, said_from M (known_of k) f a m b w why (turns_begun e r.mets (session_in k) commands) is.1)
 
   -- memory was refused for the next of them
-  pub runs_refused : (commands : List ScriptCommand) (v : S × List Client) (a : D) → (M.honest a → (left : Moment) → M.left_since a (M.moment a) left → left ≡ M.now a) → (M.honest a → (from : Moment) → Ages from (M.now a) → AreShort from.windows)
+  pub runs_refused : (commands : List ScriptCommand) (v : S × List Client) (a : D) → (M.honest a → IsTimed M a) → (M.honest a → (from : Moment) → Ages from (M.now a) → AreShort from.windows)
       → Runs state has M e commands v a v a (Err (Stopped Ends.Memory))
-  runs_refused commands v a only short honest k from stood aged =
+  runs_refused commands v a timed short honest k f from stood aged held =
       let now = seat_wears state has wears v k from (M.now a) (short honest from aged) aged stood in
-      let sound = mounted_sound k.mounted k.windows k.changes (forced_of (known_of k)) (M.now a).image now.stands.disk in
+      let at = timed honest in
       record {
         mets = [];
         goes = λ t le. tt;
-        moments = λ rest. started M.moment M.left_since a (M.now a) (InRun (known_of k) rest (M.now a)) (only honest) (in_before (known_of k) rest (M.now a) (M.now a) (record { sound = sound; windows = refl; said = refl }));
-        ends = (tt, said_nothing (known_of k) Ends.Memory (M.now a) (M.now a) (record { sound = sound; windows = refl; said = refl }));
+        moments = λ rest. stays_stops M (known_of k) f a a at at (λ t left le was. was) (started M.moment M.left_since a (M.now a) (StaysSound (known_of k) (M.now a)) at.only
+            (record { sound = mounted_sound k.mounted k.windows k.changes (forced_of (known_of k)) (M.now a).image now.stands.disk; windows = refl; said = refl })) held rest;
+        ends = (tt, said_nothing M (known_of k) f Ends.Memory a a at held refl refl);
       }
 
 -- ---- what is taken
@@ -210,19 +223,20 @@ module _ {S D : Type 0} (state : S → State) (has : S → Mounted → List Plac
 
 module _ {S D : Type 0} (state : S → State) (has : S → Mounted → List Placed → Type 0) (M : Ghosts D) (e : Errand)
     (wears : (s : S) (k : Known) (old new : Moment) → AreShort old.windows → Ages old new → Stands state has s k old → Stands state has s k new)
-    (short : (m : D) → M.honest m → AreShort (M.now m).windows) (only : (m : D) (left : Moment) → M.honest m → M.left_since m (M.moment m) left → left ≡ M.now m)
-    (v : S × List Client) (a m : D) (trust : M.honest m → M.honest a) (worn : M.honest m → Wears (M.now a) (M.now m)) (read : M.honest m → LeavesOnly M.moment M.left_since a m (Wears (M.now a))) where
+    (short : (m : D) → M.honest m → AreShort (M.now m).windows) (timed : (m : D) → M.honest m → IsTimed M m)
+    (v : S × List Client) (a m : D) (trust : M.honest m → M.honest a) (worn : M.honest m → Wears (M.now a) (M.now m)) (read : M.honest m → LeavesOnly M.moment M.left_since a m (Wears (M.now a)))
+    (since : M.honest m → Since M a m) where
   here : Follows M m m
   here = record { honest = λ h. h; since = λ h t left le was. was; later = λ h. omega arith }
 
   first : (commands : List ScriptCommand) (z : S × List Client) (b : D) (result : Result (Unit {0}) End) → Follows M m b → Runs state has M e commands v m z b result → Runs state has M e commands v a z b result
-  first = runs_read state has M e wears v a m worn read (λ h from aged. subst (λ (w : Windows). AreShort w) aged.windows (short a (trust h)))
+  first = runs_read state has M e wears v a m trust timed worn read since (λ h from aged. subst (λ (w : Windows). AreShort w) aged.windows (short a (trust h)))
 
   pub none_done : Runs state has M e [] v a v m (Ok tt)
-  none_done = first [] v m (Ok tt) here (runs_nil state has M e v m wears (λ h left was. only m left h was) (λ h from aged. subst (λ (w : Windows). AreShort w) aged.windows (short m h)))
+  none_done = first [] v m (Ok tt) here (runs_nil state has M e v m wears (timed m) (λ h from aged. subst (λ (w : Windows). AreShort w) aged.windows (short m h)))
 
   pub none_read : (commands : List ScriptCommand) → Runs state has M e commands v a v m (Err (Stopped Ends.Memory))
-  none_read commands = first commands v m (Err (Stopped Ends.Memory)) here (runs_refused state has M e wears commands v m (λ h left was. only m left h was) (λ h from aged. subst (λ (w : Windows). AreShort w) aged.windows (short m h)))
+  none_read commands = first commands v m (Err (Stopped Ends.Memory)) here (runs_refused state has M e wears commands v m (timed m) (λ h from aged. subst (λ (w : Windows). AreShort w) aged.windows (short m h)))
 
   module _ (r s : Reading) (command : ScriptCommand) (w : S × List Client) (b : D) (step : Follows M m b) where
     pub one_done : Spells (M.ledger a).input (M.ledger b).input r s (command ∷ []) → (M.honest b → M.moment m ≤ M.moment b) → Steps state has M e command v m w b (Ok tt)

@@ -3,6 +3,7 @@ use Rattle.std.proofs.Common.{◌≡◌, ℕ, List, [], Option, Some, refl, sym,
 use Rattle.std.specs.Prelude.{map, option_map, Result, Ok, Err}
 use Rattle.run_table.specs.declared.run.Run.{Run}
 use Rattle.sector_disk.specs.declared.machine.Machine.{Ghosts}
+use Rattle.sector_disk.specs.Calls.{stops}
 use Rattle.sector_disk.specs.Image.{AreShort}
 use Rattle.sector_disk.specs.Machine.{Moment}
 use Rattle.sector_disk.proofs.Moments.{leaves_more}
@@ -31,6 +32,7 @@ use Rattle.volume_turns.specs.declared.turns.End.TheVariants.{Fault as Stopped, 
 use Rattle.volume_turns.specs.Once.{ClosesAndSays, EndsClosed, InClose}
 use Rattle.volume_turns.specs.Seats.{DoesIn, IsAnsweredIn, Seated, SitsAt, StaysIn, known_of, seated, session_in}
 use Rattle.volume_turns.specs.Steps.{Does, IsAnswered, Stays, reply_of}
+use Rattle.volume_turns.specs.Turns.{OnDisk}
 
 -- a desk is the volume's still, where what is open stays
 pub desk_on : (s t : State) (desk : List Client) → t.layout ≡ s.layout → KeepsOpen s t → IsDesk s desk → IsDesk t desk
@@ -87,18 +89,23 @@ module _ {S : Type 0} (state : S → State) (has : S → Mounted → List Placed
 
 -- ---- what is open is given up
 
-module _ (k : Known) (o : Opened) (text : List ℕ) where
-  in_close_as : (old left : Moment) → InClose (with_opened k o) text old left → InClose k text old left
+module _ (k : Known) (o : Opened) (f : ℕ) (text : List ℕ) where
+  in_close_as : (old left : Moment) → InClose (with_opened k o) f text old left → InClose k f text old left
   in_close_as old left x = record { windows = x.windows; forced = x.forced; least = x.least; sound = x.sound; heard = x.heard; said = x.said; all = x.all }
 
-  ends_as : (old new : Moment) (r : Result (Unit {0}) End) → EndsClosed (with_opened k o) text old new r → EndsClosed k text old new r
-  ends_as old new (Ok x) is = record { windows = is.windows; said = is.said; sound = is.sound; tells = is.tells; lasts = is.lasts; roots = is.roots }
-  ends_as old new (Err (Stopped fault)) is = (is.0, is.1, in_close_as old new is.2)
-  ends_as old new (Err Output) is = tt
+  module _ {D : Type 0} (M : Ghosts D) (a b : D) where
+    ends_as : (r : Result (Unit {0}) End) → EndsClosed M (with_opened k o) f text a b r → EndsClosed M k f text a b r
+    ends_as (Ok x) is = record { windows = is.windows; said = is.said; sound = is.sound; held = is.held; tells = is.tells; lasts = is.lasts; roots = is.roots }
+    ends_as (Err (Stopped fault)) is = (is.0, record { windows = is.1.windows; said = is.1.said; held = is.1.held })
+    ends_as (Err Output) is = tt
 
-  -- its end is the same
-  pub closes_as : {D : Type 0} (M : Ghosts D) (a b : D) (r : Result (Unit {0}) End) → ClosesAndSays M (with_opened k o) text a b r → ClosesAndSays M k text a b r
-  closes_as M a b r x = record {
-    moments = leaves_more M.moment M.left_since a b (InClose (with_opened k o) text (M.now a)) (InClose k text (M.now a)) (in_close_as (M.now a)) x.moments;
-    ends = ends_as (M.now a) (M.now b) r x.ends;
-  }
+    -- its end is the same
+    pub closes_as : (r : Result (Unit {0}) End) → ClosesAndSays M (with_opened k o) f text a b r → ClosesAndSays M k f text a b r
+    closes_as r x = record {
+      moments = leaves_more M.moment (stops M) a b (InClose (with_opened k o) f text (M.now a)) (InClose k f text (M.now a)) (in_close_as (M.now a)) x.moments;
+      ends = ends_as r x.ends;
+    }
+
+    -- and so is what the disk has
+    pub on_disk_as : OnDisk M k f a → OnDisk M (with_opened k o) f a
+    on_disk_as on = record { most = on.most; each = on.each }

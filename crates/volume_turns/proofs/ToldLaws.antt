@@ -66,9 +66,10 @@ module _ (AreCopies : Layout → ℕ → ℕ → Type 0) (l : Layout) (i : Image
   pub read_told_so : (key : Key) (why : Refusal) (r : Result Answer Fault) → r ≡ read_ended_by key why → IsRefusedOn AreCopies l i why → IfErr r (IsToldOn AreCopies l i)
   read_told_so key why r by told = subst (λ (x : Result Answer Fault). IfErr x (IsToldOn AreCopies l i)) (sym by) (read_told key why told)
 
-  -- of a reply that is not said nothing is told but want of memory
+  -- of a reply that is not said nothing of the image is told
   unsaid_end : (old new : Moment) (why : Fault) → Unsaid old new (Stopped why) → IsToldOn AreCopies l i why
   unsaid_end old new Ends.Memory unsaid = tt
+  unsaid_end old new (Ends.Device s) unsaid = tt
   unsaid_end old new why unsaid = absurd unsaid
 
   pub unsaid_told : (old new : Moment) {T : Type 0} (r : Result T End) → IfErr r (λ end. Unsaid old new end) → (why : Fault) → r ≡ Err (Stopped why) → IsToldOn AreCopies l i why

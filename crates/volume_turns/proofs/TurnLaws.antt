@@ -7,7 +7,10 @@ use Rattle.std.proofs.lemmas.Bool.{le-leb, leb-true, cases_lt, or_left, or_right
 use Rattle.volume_layout.specs.declared.layout.Layout.{Layout}
 use Rattle.fsd_formats.specs.declared.anchor.Anchor.{Anchor}
 use Rattle.sector_disk.specs.declared.sector.WeakRun.{WeakRun}
-use Rattle.sector_disk.specs.Machine.{Moment}
+use Rattle.sector_disk.specs.declared.machine.Machine.{Ghosts}
+use Rattle.sector_disk.specs.Calls.{IsHeld, IsTimed, Since, StopsOnly}
+use Rattle.sector_disk.specs.Machine.{LeavesOnly, Moment}
+use Rattle.sector_disk.proofs.Lags.{held_by, held_more, shows_of, stops_by}
 use Rattle.fsd_log.specs.Scan.{Head, Walked, newer_of, is_newer, Placed}
 use Rattle.fsd_table.specs.Table.{Telling, told_in}
 use Rattle.fsd_files.specs.Disk.{Image, in_runs}
@@ -19,7 +22,7 @@ use Rattle.fsd_sound.specs.Shown.{told, shown, shown_by, scan_by}
 use Rattle.fsd_sound.specs.Sound.{IsSound, Tells, weak_of}
 use Rattle.sector_disk.proofs.Wear.{worn_refl}
 use Rattle.fsd_sound.proofs.MountedLaws.{mounted_sound}
-use Rattle.fsd_sound.proofs.MoreLaws.{sound_more}
+use Rattle.fsd_sound.proofs.MoreLaws.{sound_fewer, sound_more}
 use Rattle.fsd_texts.specs.declared.fault.Fault.{Fault}
 use Rattle.fsd_texts.specs.declared.fault.Fault.TheVariants as Ends
 use Rattle.fsd_runs.specs.Errands.{Turn}
@@ -27,8 +30,8 @@ use Rattle.fsd_runs.specs.Leaves.{SaysNext}
 use Rattle.fsd_runs.specs.Runs.{IsWornOut, changes_in, forced_in, said_in, last_count}
 use Rattle.volume_contract.specs.State.{State, Known, volume_of, forced_of, Stands, is_worn}
 use Rattle.volume_turns.specs.Steps.{StaysSound}
-use Rattle.volume_turns.specs.Once.{InClose}
-use Rattle.volume_turns.specs.Turns.{Carries, InRun, Said, Undone}
+use Rattle.volume_turns.specs.Once.{InClose, Unclosed}
+use Rattle.volume_turns.specs.Turns.{Carries, InRun, OnDisk, Said, Undone}
 
 -- ---- where a mount is worn out
 
@@ -114,42 +117,68 @@ any_at (t ∷ turns) (suc n) u is forces = or_right t.forces (list_any (λ x. x.
 
 -- ---- moments of one command
 
--- before anything is said
-pub in_before : (k : Known) (turns : List Turn) (old left : Moment) → StaysSound k old left → InRun k turns old left
-in_before k turns old left stays = record {
-  windows = stays.windows;
+-- before anything is said, over an image that is sound for the changes so far
+pub in_before_at : (k : Known) (f : ℕ) (turns : List Turn) (old left : Moment) → left.windows ≡ old.windows → left.said ≡ old.said → (n : ℕ) → f ≤ n → IsSound k.mounted.volume.layout k.windows k.changes n left.image → InRun k f turns old left
+in_before_at k f turns old left windows said n least sound = record {
+  windows = windows;
   whole = 0;
   part = [];
-  said = stays.said ∙ sym (append-nil old.said);
-  next = says_nothing (length k.changes + forced_in (take 1 turns) ≤ forced_of k) (slice_get turns 0);
-  forced = forced_of k;
-  least = omega arith;
+  said = said ∙ sym (append-nil old.said);
+  next = says_nothing (length k.changes + forced_in (take 1 turns) ≤ n) (slice_get turns 0);
+  forced = n;
+  least = least;
   enough = λ any. absurd (cc any);
-  sound = sound_more k.mounted.volume.layout k.windows k.changes (changes_in (take 1 turns)) (forced_of k) left.image stays.sound;
+  sound = sound_more k.mounted.volume.layout k.windows k.changes (changes_in (take 1 turns)) n left.image sound;
 }
 
--- no turn was begun
+-- before anything is said
+pub in_before : (k : Known) (f : ℕ) (turns : List Turn) (old left : Moment) → f ≤ forced_of k → StaysSound k old left → InRun k f turns old left
+in_before k f turns old left most stays = in_before_at k f turns old left stays.windows stays.said (forced_of k) most stays.sound
+
 -- none of some turns was done
-pub none_done : (k : Known) (turns : List Turn) (i : Image) → IsSound k.mounted.volume.layout k.windows k.changes (forced_of k) i → Undone k turns 0 i
-none_done k turns i sound = record {
-  forced = forced_of k;
+pub none_done : (k : Known) (f : ℕ) (turns : List Turn) (i : Image) → IsSound k.mounted.volume.layout k.windows k.changes f i → Undone k f turns 0 i
+none_done k f turns i sound = record {
+  forced = f;
   least = omega arith;
   enough = λ any. absurd (cc any);
-  sound = subst (λ (h : List Change). IsSound k.mounted.volume.layout k.windows h (forced_of k) i) (sym (append-nil k.changes)) sound;
+  sound = subst (λ (h : List Change). IsSound k.mounted.volume.layout k.windows h f i) (sym (append-nil k.changes)) sound;
 }
 
-pub said_nothing : (k : Known) (why : Fault) (old left : Moment) → StaysSound k old left → Said k why [] old left
-said_nothing k why old left stays = record {
-  windows = stays.windows;
-  whole = 0;
-  most = omega arith;
-  said = stays.said ∙ sym (append-nil old.said);
-  forced = forced_of k;
-  least = omega arith;
-  enough = λ any. absurd (cc any);
-  sound = subst (λ (h : List Change). IsSound k.mounted.volume.layout k.windows h (forced_of k) left.image) (sym (append-nil k.changes)) stays.sound;
-  undone = λ is. none_done k [] left.image stays.sound;
-}
+module _ {D : Type 0} (M : Ghosts D) where
+  -- what is there now is a moment since the last sync
+  pub now_held : (m : D) (P : Moment → Type 0) → IsTimed M m → IsHeld M m P → P (M.now m)
+  now_held m P timed held = held (M.now m) (timed.history.sooner (M.now m).synced (M.moment m) (M.now m) (let x = timed.history.synced (M.moment m) (M.now m) timed.here in let at = timed.dated in omega (arith, x, at)) timed.here)
+
+  -- a call that leaves the disk sound as it was
+  module _ (k : Known) (f : ℕ) (a m : D) (at_a : IsTimed M a) (at_m : IsTimed M m) (since : Since M a m) (run : LeavesOnly M.moment M.left_since a m (StaysSound k (M.now a))) (disk : OnDisk M k f a) where
+    abbrev IsSoundAs : Moment → Type 0
+    IsSoundAs c = IsSound k.mounted.volume.layout k.windows k.changes f c.image
+
+    sound_so : (c : Moment) → StaysSound k (M.now a) c → IsSoundAs c
+    sound_so c stays = sound_fewer k.mounted.volume.layout k.windows k.changes f (forced_of k) c.image disk.most stays.sound
+
+    pub stays_held : OnDisk M k f m
+    stays_held = record { most = disk.most; each = held_by M a m (StaysSound k (M.now a)) IsSoundAs at_a at_m since run disk.each IsSoundAs (λ c s. s) sound_so }
+
+    pub stays_stops : (turns : List Turn) → StopsOnly M a m (InRun k f turns (M.now a))
+    stays_stops turns = stops_by M a m (StaysSound k (M.now a)) IsSoundAs at_a at_m since run disk.each (InRun k f turns (M.now a))
+        (λ c stays. in_before k f turns (M.now a) c disk.most stays)
+        (λ last shown stays left sooner lately either. in_before_at k f turns (M.now a) (shows_of shown last) stays.windows stays.said f (omega arith) (⊎_elim (λ was. was) (sound_so shown) either))
+
+  -- no turn was begun
+  pub said_nothing : (k : Known) (f : ℕ) (why : Fault) (a b : D) → IsTimed M b → OnDisk M k f b → (M.now b).windows ≡ (M.now a).windows → (M.now b).said ≡ (M.now a).said → Said M k f why [] a b
+  said_nothing k f why a b timed disk windows said = record {
+    windows = windows;
+    whole = 0;
+    most = omega arith;
+    said = said ∙ sym (append-nil (M.now a).said);
+    forced = f;
+    least = omega arith;
+    enough = λ any. absurd (cc any);
+    sound = held_more M b (λ c. IsSound k.mounted.volume.layout k.windows k.changes f c.image) (λ c. IsSound k.mounted.volume.layout k.windows (k.changes ++ changes_in []) f c.image)
+        (λ c s. subst (λ (h : List Change). IsSound k.mounted.volume.layout k.windows h f c.image) (sym (append-nil k.changes)) s) disk.each;
+    undone = λ is. none_done k f [] (M.now b).image (now_held b (λ c. IsSound k.mounted.volume.layout k.windows k.changes f c.image) timed disk.each);
+  }
 
 one_turn : (t : Turn) (rest : List Turn) → changes_in (take 1 (t ∷ rest)) ≡ t.changes
 one_turn t rest = append-nil t.changes
@@ -161,68 +190,82 @@ no_or false is = is
 forced_one : (t : Turn) → IsTrue t.forces → forced_in (t ∷ []) ≡ length t.changes
 forced_one t is = ap (λ (b : Bool). cond b (length t.changes + 0) 0) (or_left t.forces false is) ∙ omega arith
 
-module _ (k after : Known) (t : Turn) (rest : List Turn) (layout : after.mounted.volume.layout ≡ k.mounted.volume.layout) (same : after.windows ≡ k.windows) (changes : after.changes ≡ k.changes ++ t.changes)
-    (f : ℕ) (least : forced_of k ≤ f) (old left : Moment) (windows : left.windows ≡ old.windows) (sound : IsSound after.mounted.volume.layout after.windows after.changes f left.image) where
-  sound_at : IsSound k.mounted.volume.layout k.windows (k.changes ++ t.changes) f left.image
-  sound_at =
-      subst (λ (h : List Change). IsSound k.mounted.volume.layout k.windows h f left.image) changes
-      (subst (λ (w : List WeakRun). IsSound k.mounted.volume.layout w after.changes f left.image) same
-      (subst (λ (l : Layout). IsSound l after.windows after.changes f left.image) layout sound))
+module _ (k after : Known) (t : Turn) (rest : List Turn) (layout : after.mounted.volume.layout ≡ k.mounted.volume.layout) (same : after.windows ≡ k.windows) (changes : after.changes ≡ k.changes ++ t.changes) (n : ℕ) (i : Image)
+    (sound : IsSound after.mounted.volume.layout after.windows after.changes n i) where
+  sound_as : IsSound k.mounted.volume.layout k.windows (k.changes ++ t.changes) n i
+  sound_as =
+      subst (λ (h : List Change). IsSound k.mounted.volume.layout k.windows h n i) changes
+      (subst (λ (w : List WeakRun). IsSound k.mounted.volume.layout w after.changes n i) same
+      (subst (λ (l : Layout). IsSound l after.windows after.changes n i) layout sound))
+
+  sound_one : IsSound k.mounted.volume.layout k.windows (k.changes ++ changes_in (take 1 (t ∷ rest))) n i
+  sound_one = subst (λ (c : List Change). IsSound k.mounted.volume.layout k.windows (k.changes ++ c) n i) (sym (one_turn t rest)) sound_as
+
+-- nothing of it is said, of which the changes may stand on the disk
+pub said_before : {D : Type 0} (M : Ghosts D) (k after : Known) (f : ℕ) (t : Turn) (rest : List Turn) → after.mounted.volume.layout ≡ k.mounted.volume.layout → after.windows ≡ k.windows → after.changes ≡ k.changes ++ t.changes → (a b : D)
+    → (M.now b).windows ≡ (M.now a).windows → IsHeld M b (λ c. IsSound after.mounted.volume.layout after.windows after.changes f c.image) → (why : Fault) → (why ≡ Ends.Memory → IsSound k.mounted.volume.layout k.windows k.changes f (M.now b).image)
+    → (M.now b).said ≡ (M.now a).said → Said M k f why (t ∷ rest) a b
+said_before M k after f t rest layout same changes a b windows held why stays said = record {
+  windows = windows;
+  whole = 0;
+  most = omega arith;
+  said = said ∙ sym (append-nil (M.now a).said);
+  forced = f;
+  least = omega arith;
+  enough = λ any. absurd (cc any);
+  sound = λ c left. sound_one k after t rest layout same changes f c.image (held c left);
+  undone = λ is. none_done k f (t ∷ rest) (M.now b).image (stays is);
+}
+
+module _ (k after : Known) (f : ℕ) (t : Turn) (rest : List Turn) (layout : after.mounted.volume.layout ≡ k.mounted.volume.layout) (same : after.windows ≡ k.windows) (changes : after.changes ≡ k.changes ++ t.changes)
+    (n : ℕ) (least : f ≤ n) (old left : Moment) (windows : left.windows ≡ old.windows) (sound : IsSound after.mounted.volume.layout after.windows after.changes n left.image) where
+  sound_at : IsSound k.mounted.volume.layout k.windows (k.changes ++ t.changes) n left.image
+  sound_at = sound_as k after t rest layout same changes n left.image sound
 
   -- a part of it is said
-  pub in_part : (part : List ℕ) → left.said ≡ old.said ++ part → SaysNext (length k.changes + forced_in (t ∷ []) ≤ f) (Some t) part → InRun k (t ∷ rest) old left
+  pub in_part : (part : List ℕ) → left.said ≡ old.said ++ part → SaysNext (length k.changes + forced_in (t ∷ []) ≤ n) (Some t) part → InRun k f (t ∷ rest) old left
   in_part part said next = record {
     windows = windows;
     whole = 0;
     part = part;
     said = said;
     next = next;
-    forced = f;
+    forced = n;
     least = least;
     enough = λ any. absurd (cc any);
-    sound = subst (λ (c : List Change). IsSound k.mounted.volume.layout k.windows (k.changes ++ c) f left.image) (sym (one_turn t rest)) sound_at;
+    sound = sound_one k after t rest layout same changes n left.image sound;
   }
 
-  -- nothing is said
-  pub said_before : (why : Fault) → (why ≡ Ends.Memory → IsSound k.mounted.volume.layout k.windows k.changes (forced_of k) left.image) → left.said ≡ old.said → Said k why (t ∷ rest) old left
-  said_before why stays said = record {
-    windows = windows;
-    whole = 0;
-    most = omega arith;
-    said = said ∙ sym (append-nil old.said);
-    forced = f;
-    least = least;
-    enough = λ any. absurd (cc any);
-    sound = subst (λ (c : List Change). IsSound k.mounted.volume.layout k.windows (k.changes ++ c) f left.image) (sym (one_turn t rest)) sound_at;
-    undone = λ is. none_done k (t ∷ rest) left.image (stays is);
-  }
+  -- nothing of it is said
+  pub in_unsaid : left.said ≡ old.said → InRun k f (t ∷ rest) old left
+  in_unsaid said = in_part [] (said ∙ sym (append-nil old.said)) (says_nothing (length k.changes + forced_in (t ∷ []) ≤ n) (Some t))
 
   -- that turn's changes and those before it are forced
-  forced_here : (IsTrue t.forces → f ≡ length after.changes) → IsTrue t.forces → length k.changes + forced_in (t ∷ []) ≤ f
+  forced_here : (IsTrue t.forces → n ≡ length after.changes) → IsTrue t.forces → length k.changes + forced_in (t ∷ []) ≤ n
   forced_here all is = let one = forced_one t is in let every = all is in let sum = length-append k.changes t.changes in let long = ap (λ (h : List Change). length h) changes in omega (arith, one, every, sum, long)
 
   -- all of it is said
-  pub in_whole : (IsTrue t.forces → f ≡ length after.changes) → left.said ≡ old.said ++ t.said → InRun k (t ∷ rest) old left
+  pub in_whole : (IsTrue t.forces → n ≡ length after.changes) → left.said ≡ old.said ++ t.said → InRun k f (t ∷ rest) old left
   in_whole all said = record {
     windows = windows;
     whole = 1;
     part = [];
     said = said ∙ ap (λ (b : List ℕ). old.said ++ b) (sym (append-nil (t.said ++ []) ∙ append-nil t.said));
-    next = says_nothing (length k.changes + forced_in (take 2 (t ∷ rest)) ≤ f) (slice_get (t ∷ rest) 1);
-    forced = f;
+    next = says_nothing (length k.changes + forced_in (take 2 (t ∷ rest)) ≤ n) (slice_get (t ∷ rest) 1);
+    forced = n;
     least = least;
     enough = λ any. let is = no_or t.forces any in let one = forced_one t is in let every = all is in let sum = length-append k.changes t.changes in let long = ap (λ (h : List Change). length h) changes in omega (arith, one, every, sum, long);
-    sound = subst (λ (h : List Change). IsSound k.mounted.volume.layout k.windows h f left.image) (append_assoc k.changes t.changes (changes_in (take 1 rest)))
-        (sound_more k.mounted.volume.layout k.windows (k.changes ++ t.changes) (changes_in (take 1 rest)) f left.image sound_at);
+    sound = subst (λ (h : List Change). IsSound k.mounted.volume.layout k.windows h n left.image) (append_assoc k.changes t.changes (changes_in (take 1 rest)))
+        (sound_more k.mounted.volume.layout k.windows (k.changes ++ t.changes) (changes_in (take 1 rest)) n left.image sound_at);
   }
 
   -- while it is said
-  pub in_saying_at : (IsTrue t.forces → f ≡ length after.changes) → (heard : ℕ) → left.said ≡ old.said ++ take heard t.said → InRun k (t ∷ rest) old left
+  pub in_saying_at : (IsTrue t.forces → n ≡ length after.changes) → (heard : ℕ) → left.said ≡ old.said ++ take heard t.said → InRun k f (t ∷ rest) old left
   in_saying_at all heard said = ⊎_elim (λ short. in_part (take heard t.said) said (inl ((heard, short, refl), λ some. forced_here all))) (λ long. in_whole all (said ∙ ap (λ (b : List ℕ). old.said ++ b) (take_all heard t.said long))) (cases_lt heard (length t.said))
 
-pub in_saying : (k after : Known) (t : Turn) (rest : List Turn) → Carries k after t → (old left : Moment) → left.windows ≡ old.windows → IsSound after.mounted.volume.layout after.windows after.changes (forced_of after) left.image → (heard : ℕ)
-    → left.said ≡ old.said ++ take heard t.said → InRun k (t ∷ rest) old left
-in_saying k after t rest c old left windows sound heard said = in_saying_at k after t rest c.layout c.windows c.changes (forced_of after) c.least old left windows sound c.all heard said
+pub in_saying : (k after : Known) (f g : ℕ) (t : Turn) (rest : List Turn) → Carries k after f g t → (old left : Moment) → left.windows ≡ old.windows → IsSound after.mounted.volume.layout after.windows after.changes g left.image → (heard : ℕ)
+    → left.said ≡ old.said ++ take heard t.said → InRun k f (t ∷ rest) old left
+in_saying k after f g t rest c old left windows sound heard said = in_saying_at k after f t rest c.layout c.windows c.changes g c.least old left windows sound c.all heard said
 
 -- ---- one turn, and those behind it
 
@@ -230,8 +273,8 @@ pub forced_none : (turns : List Turn) → IsFalse (list_any (λ u. u.forces) tur
 forced_none [] none = refl
 forced_none (t ∷ turns) none = ap (λ (b : Bool). cond b (length t.changes + forced_in turns) 0) none
 
-module _ (k after : Known) (t : Turn) (stood : Carries k after t) (front : List Turn) (f : ℕ) (least : forced_of after ≤ f) (enough : IsTrue (list_any (λ u. u.forces) front) → length after.changes + forced_in front ≤ f) where
-  on_from : (here : Bool) → here ≡ t.forces → (behind : Bool) → behind ≡ list_any (λ u. u.forces) front → IsTrue (here || behind) → length k.changes + cond (here || behind) (length t.changes + forced_in front) 0 ≤ f
+module _ (k after : Known) (f g : ℕ) (t : Turn) (stood : Carries k after f g t) (front : List Turn) (n : ℕ) (least : g ≤ n) (enough : IsTrue (list_any (λ u. u.forces) front) → length after.changes + forced_in front ≤ n) where
+  on_from : (here : Bool) → here ≡ t.forces → (behind : Bool) → behind ≡ list_any (λ u. u.forces) front → IsTrue (here || behind) → length k.changes + cond (here || behind) (length t.changes + forced_in front) 0 ≤ n
   on_from here is_here true is any =
       let e = enough (sym is) in
       let sum = length-append k.changes t.changes in
@@ -246,52 +289,56 @@ module _ (k after : Known) (t : Turn) (stood : Carries k after t) (front : List 
       omega (arith, none, all, sum, long, least)
   on_from false is_here false is any = absurd (cc any)
 
-  pub enough_from : IsTrue (list_any (λ u. u.forces) (t ∷ front)) → length k.changes + forced_in (t ∷ front) ≤ f
+  pub enough_from : IsTrue (list_any (λ u. u.forces) (t ∷ front)) → length k.changes + forced_in (t ∷ front) ≤ n
   enough_from any = on_from t.forces refl (list_any (λ u. u.forces) front) refl any
 
-module _ (k after : Known) (t : Turn) (turns : List Turn) (stood : Carries k after t) (old mid left : Moment) (windows : mid.windows ≡ old.windows) (said : mid.said ≡ old.said ++ t.said) (run : InRun after turns mid left) where
+module _ (k after : Known) (f g : ℕ) (t : Turn) (turns : List Turn) (stood : Carries k after f g t) (old mid left : Moment) (windows : mid.windows ≡ old.windows) (said : mid.said ≡ old.said ++ t.said) (run : InRun after g turns mid left) where
   abbrev front : List Turn
   front = take run.whole turns
 
-  pub in_behind : InRun k (t ∷ turns) old left
+  pub in_behind : InRun k f (t ∷ turns) old left
   in_behind = record {
     windows = run.windows ∙ windows;
     whole = suc run.whole;
     part = run.part;
     said = run.said ∙ ap (λ (b : List ℕ). b ++ (said_in front ++ run.part)) said ∙ append_assoc old.said t.said (said_in front ++ run.part) ∙ ap (λ (b : List ℕ). old.said ++ b) (sym (append_assoc t.said (said_in front) run.part));
     next = next_as (length after.changes + forced_in (take (suc run.whole) turns) ≤ run.forced) (length k.changes + forced_in (t ∷ take (suc run.whole) turns) ≤ run.forced) (slice_get turns run.whole) run.part
-        (λ u is forces x. enough_from k after t stood (take (suc run.whole) turns) run.forced run.least (λ any. x) (or_right t.forces (list_any (λ y. y.forces) (take (suc run.whole) turns)) (any_at turns run.whole u is forces))) run.next;
+        (λ u is forces x. enough_from k after f g t stood (take (suc run.whole) turns) run.forced run.least (λ any. x) (or_right t.forces (list_any (λ y. y.forces) (take (suc run.whole) turns)) (any_at turns run.whole u is forces))) run.next;
     forced = run.forced;
     least = let a = stood.least in let b = run.least in omega (arith, a, b);
-    enough = λ any. enough_from k after t stood front run.forced run.least run.enough any;
+    enough = λ any. enough_from k after f g t stood front run.forced run.least run.enough any;
     sound = subst (λ (h : List Change). IsSound k.mounted.volume.layout k.windows h run.forced left.image) (ap (λ (h : List Change). h ++ changes_in (take (suc run.whole) turns)) stood.changes ∙ append_assoc k.changes t.changes (changes_in (take (suc run.whole) turns)))
         (subst (λ (w : List WeakRun). IsSound k.mounted.volume.layout w (after.changes ++ changes_in (take (suc run.whole) turns)) run.forced left.image) stood.windows
         (subst (λ (l : Layout). IsSound l after.windows (after.changes ++ changes_in (take (suc run.whole) turns)) run.forced left.image) stood.layout run.sound));
   }
 
-module _ (k after : Known) (t : Turn) (turns : List Turn) (stood : Carries k after t) (old mid left : Moment) (windows : mid.windows ≡ old.windows) (said : mid.said ≡ old.said ++ t.said) (why : Fault) (x : Said after why turns mid left) where
-  undone_more : Undone after turns x.whole left.image → Undone k (t ∷ turns) (suc x.whole) left.image
+-- its changes, and those of more turns
+module _ (k after : Known) (f g : ℕ) (t : Turn) (stood : Carries k after f g t) (made : List Change) (n : ℕ) (i : Image) (sound : IsSound after.mounted.volume.layout after.windows (after.changes ++ made) n i) where
+  sound_behind_it : IsSound k.mounted.volume.layout k.windows (k.changes ++ (t.changes ++ made)) n i
+  sound_behind_it = subst (λ (h : List Change). IsSound k.mounted.volume.layout k.windows h n i) (ap (λ (h : List Change). h ++ made) stood.changes ∙ append_assoc k.changes t.changes made)
+      (subst (λ (w : List WeakRun). IsSound k.mounted.volume.layout w (after.changes ++ made) n i) stood.windows
+      (subst (λ (l : Layout). IsSound l after.windows (after.changes ++ made) n i) stood.layout sound))
+
+module _ {D : Type 0} (M : Ghosts D) (k after : Known) (f g : ℕ) (t : Turn) (turns : List Turn) (stood : Carries k after f g t) (a m b : D) (windows : (M.now m).windows ≡ (M.now a).windows) (said : (M.now m).said ≡ (M.now a).said ++ t.said)
+    (why : Fault) (x : Said M after g why turns m b) where
+  undone_more : Undone after g turns x.whole (M.now b).image → Undone k f (t ∷ turns) (suc x.whole) (M.now b).image
   undone_more u = record {
     forced = u.forced;
-    least = let a = stood.least in let b = u.least in omega (arith, a, b);
-    enough = λ any. enough_from k after t stood (take x.whole turns) u.forced u.least u.enough any;
-    sound = subst (λ (h : List Change). IsSound k.mounted.volume.layout k.windows h u.forced left.image) (ap (λ (h : List Change). h ++ changes_in (take x.whole turns)) stood.changes ∙ append_assoc k.changes t.changes (changes_in (take x.whole turns)))
-        (subst (λ (w : List WeakRun). IsSound k.mounted.volume.layout w (after.changes ++ changes_in (take x.whole turns)) u.forced left.image) stood.windows
-        (subst (λ (l : Layout). IsSound l after.windows (after.changes ++ changes_in (take x.whole turns)) u.forced left.image) stood.layout u.sound));
+    least = let p = stood.least in let q = u.least in omega (arith, p, q);
+    enough = λ any. enough_from k after f g t stood (take x.whole turns) u.forced u.least u.enough any;
+    sound = sound_behind_it k after f g t stood (changes_in (take x.whole turns)) u.forced (M.now b).image u.sound;
   }
 
-  pub said_more : Said k why (t ∷ turns) old left
+  pub said_more : Said M k f why (t ∷ turns) a b
   said_more = record {
     windows = x.windows ∙ windows;
     whole = suc x.whole;
     most = let most = x.most in omega (arith, most);
-    said = x.said ∙ ap (λ (b : List ℕ). b ++ said_in (take x.whole turns)) said ∙ append_assoc old.said t.said (said_in (take x.whole turns));
+    said = x.said ∙ ap (λ (b : List ℕ). b ++ said_in (take x.whole turns)) said ∙ append_assoc (M.now a).said t.said (said_in (take x.whole turns));
     forced = x.forced;
-    least = let a = stood.least in let b = x.least in omega (arith, a, b);
-    enough = λ any. enough_from k after t stood (take x.whole turns) x.forced x.least x.enough any;
-    sound = subst (λ (h : List Change). IsSound k.mounted.volume.layout k.windows h x.forced left.image) (ap (λ (h : List Change). h ++ changes_in (take (suc x.whole) turns)) stood.changes ∙ append_assoc k.changes t.changes (changes_in (take (suc x.whole) turns)))
-        (subst (λ (w : List WeakRun). IsSound k.mounted.volume.layout w (after.changes ++ changes_in (take (suc x.whole) turns)) x.forced left.image) stood.windows
-        (subst (λ (l : Layout). IsSound l after.windows (after.changes ++ changes_in (take (suc x.whole) turns)) x.forced left.image) stood.layout x.sound));
+    least = let p = stood.least in let q = x.least in omega (arith, p, q);
+    enough = λ any. enough_from k after f g t stood (take x.whole turns) x.forced x.least x.enough any;
+    sound = λ c left. sound_behind_it k after f g t stood (changes_in (take (suc x.whole) turns)) x.forced c.image (x.sound c left);
     undone = λ is. undone_more (x.undone is);
   }
 
@@ -326,16 +373,48 @@ pub forced_most : (turns : List Turn) → forced_in turns ≤ length (changes_in
 forced_most [] = omega arith
 forced_most (t ∷ turns) = forced_more t turns (forced_most turns) (list_any (λ u. u.forces) (t ∷ turns))
 
-module _ (k after : Known) (turns : List Turn) (t : Turn) (more : List Turn) (none : t.changes ≡ []) (layout : after.mounted.volume.layout ≡ k.mounted.volume.layout) (same : after.windows ≡ k.windows) (changes : after.changes ≡ k.changes ++ changes_in turns)
-    (least : forced_of k ≤ forced_of after) (enough : IsTrue (list_any (λ u. u.forces) turns) → length k.changes + forced_in turns ≤ forced_of after)
-    (old mid left : Moment) (mid_windows : mid.windows ≡ old.windows) (mid_said : mid.said ≡ old.said ++ said_in turns) (c : InClose after t.said mid left) where
+-- they are said, and not that turn
+module _ {D : Type 0} (M : Ghosts D) (k after : Known) (f g : ℕ) (turns : List Turn) (layout : after.mounted.volume.layout ≡ k.mounted.volume.layout) (same : after.windows ≡ k.windows) (changes : after.changes ≡ k.changes ++ changes_in turns)
+    (least : f ≤ g) (enough : IsTrue (list_any (λ u. u.forces) turns) → length k.changes + forced_in turns ≤ g)
+    (a m b : D) (mid_windows : (M.now m).windows ≡ (M.now a).windows) (mid_said : (M.now m).said ≡ (M.now a).said ++ said_in turns) (timed : IsTimed M b) (x : Unclosed M after g m b) where
+  unclosed_sound : (i : Image) → IsSound after.mounted.volume.layout after.windows after.changes g i → IsSound k.mounted.volume.layout k.windows (k.changes ++ changes_in turns) g i
+  unclosed_sound i sound =
+      subst (λ (h : List Change). IsSound k.mounted.volume.layout k.windows h g i) changes
+      (subst (λ (w : List WeakRun). IsSound k.mounted.volume.layout w after.changes g i) same
+      (subst (λ (l : Layout). IsSound l after.windows after.changes g i) layout sound))
+
+  every_enough : IsTrue (list_any (λ u. u.forces) (take (length turns) turns)) → length k.changes + forced_in (take (length turns) turns) ≤ g
+  every_enough any = subst (λ (x : List Turn). length k.changes + forced_in x ≤ g) (sym (take_all (length turns) turns (omega arith))) (enough (subst (λ (x : List Turn). IsTrue (list_any (λ u. u.forces) x)) (take_all (length turns) turns (omega arith)) any))
+
+  pub said_close : (why : Fault) → Said M k f why turns a b
+  said_close why = record {
+    windows = x.windows ∙ mid_windows;
+    whole = length turns;
+    most = omega arith;
+    said = x.said ∙ mid_said ∙ ap (λ (y : List Turn). (M.now a).said ++ said_in y) (sym (take_all (length turns) turns (omega arith)));
+    forced = g;
+    least = least;
+    enough = every_enough;
+    sound = λ c left. subst (λ (y : List Turn). IsSound k.mounted.volume.layout k.windows (k.changes ++ changes_in y) g c.image) (sym (take_all (suc (length turns)) turns (omega arith))) (unclosed_sound c.image (x.held c left));
+    undone = λ is. record {
+      forced = g;
+      least = least;
+      enough = every_enough;
+      sound = subst (λ (y : List Turn). IsSound k.mounted.volume.layout k.windows (k.changes ++ changes_in y) g (M.now b).image) (sym (take_all (length turns) turns (omega arith)))
+          (unclosed_sound (M.now b).image (now_held M b (λ c. IsSound after.mounted.volume.layout after.windows after.changes g c.image) timed x.held));
+    };
+  }
+
+module _ (k after : Known) (f g : ℕ) (turns : List Turn) (t : Turn) (more : List Turn) (none : t.changes ≡ []) (layout : after.mounted.volume.layout ≡ k.mounted.volume.layout) (same : after.windows ≡ k.windows) (changes : after.changes ≡ k.changes ++ changes_in turns)
+    (least : f ≤ g) (enough : IsTrue (list_any (λ u. u.forces) turns) → length k.changes + forced_in turns ≤ g)
+    (old mid left : Moment) (mid_windows : mid.windows ≡ old.windows) (mid_said : mid.said ≡ old.said ++ said_in turns) (c : InClose after g t.said mid left) where
   sound_behind : IsSound k.mounted.volume.layout k.windows (k.changes ++ changes_in turns) c.forced left.image
   sound_behind =
       subst (λ (h : List Change). IsSound k.mounted.volume.layout k.windows h c.forced left.image) changes
       (subst (λ (w : List WeakRun). IsSound k.mounted.volume.layout w after.changes c.forced left.image) same
       (subst (λ (l : Layout). IsSound l after.windows after.changes c.forced left.image) layout c.sound))
 
-  part_behind : SaysNext (length k.changes + forced_in (take (suc (length turns)) (turns ++ t ∷ more)) ≤ c.forced) (Some t) (take c.heard t.said) → InRun k (turns ++ t ∷ more) old left
+  part_behind : SaysNext (length k.changes + forced_in (take (suc (length turns)) (turns ++ t ∷ more)) ≤ c.forced) (Some t) (take c.heard t.said) → InRun k f (turns ++ t ∷ more) old left
   part_behind next = record {
     windows = c.windows ∙ mid_windows;
     whole = length turns;
@@ -359,7 +438,7 @@ module _ (k after : Known) (turns : List Turn) (t : Turn) (more : List Turn) (no
       let count = ap (λ (h : List Change). length h) (changes_at turns t more none) in
       omega (arith, all, sum, long_all, few, count)
 
-  whole_behind : (some : 0 < c.heard) → length t.said ≤ c.heard → InRun k (turns ++ t ∷ more) old left
+  whole_behind : (some : 0 < c.heard) → length t.said ≤ c.heard → InRun k f (turns ++ t ∷ more) old left
   whole_behind some long = record {
     windows = c.windows ∙ mid_windows;
     whole = suc (length turns);
@@ -374,36 +453,10 @@ module _ (k after : Known) (turns : List Turn) (t : Turn) (more : List Turn) (no
         (sound_more k.mounted.volume.layout k.windows (k.changes ++ changes_in turns) (changes_in (take 1 more)) c.forced left.image sound_behind);
   }
 
-  -- they are said, and not that turn
-  every_forced : forced_of k ≤ c.forced
-  every_forced = let x = c.least in omega (arith, least, x)
-
-  every_enough : IsTrue (list_any (λ u. u.forces) (take (length turns) turns)) → length k.changes + forced_in (take (length turns) turns) ≤ c.forced
-  every_enough any = subst (λ (x : List Turn). length k.changes + forced_in x ≤ c.forced) (sym (take_all (length turns) turns (omega arith)))
-      (let e = enough (subst (λ (x : List Turn). IsTrue (list_any (λ u. u.forces) x)) (take_all (length turns) turns (omega arith)) any) in let x = c.least in omega (arith, e, x))
-
-  pub said_close : (why : Fault) → left.said ≡ mid.said → Said k why turns old left
-  said_close why same = record {
-    windows = c.windows ∙ mid_windows;
-    whole = length turns;
-    most = omega arith;
-    said = same ∙ mid_said ∙ ap (λ (x : List Turn). old.said ++ said_in x) (sym (take_all (length turns) turns (omega arith)));
-    forced = c.forced;
-    least = every_forced;
-    enough = every_enough;
-    sound = subst (λ (x : List Turn). IsSound k.mounted.volume.layout k.windows (k.changes ++ changes_in x) c.forced left.image) (sym (take_all (suc (length turns)) turns (omega arith))) sound_behind;
-    undone = λ is. record {
-      forced = c.forced;
-      least = every_forced;
-      enough = every_enough;
-      sound = subst (λ (x : List Turn). IsSound k.mounted.volume.layout k.windows (k.changes ++ changes_in x) c.forced left.image) (sym (take_all (length turns) turns (omega arith))) sound_behind;
-    };
-  }
-
   -- while the volume is closed, and that turn is said
-  pub in_close : InRun k (turns ++ t ∷ more) old left
+  pub in_close : InRun k f (turns ++ t ∷ more) old left
   in_close = by c.heard refl
     where
-      by : (heard : ℕ) → heard ≡ c.heard → InRun k (turns ++ t ∷ more) old left
+      by : (heard : ℕ) → heard ≡ c.heard → InRun k f (turns ++ t ∷ more) old left
       by zero is = part_behind (subst (λ (x : ℕ). SaysNext (length k.changes + forced_in (take (suc (length turns)) (turns ++ t ∷ more)) ≤ c.forced) (Some t) (take x t.said)) is (says_nothing (length k.changes + forced_in (take (suc (length turns)) (turns ++ t ∷ more)) ≤ c.forced) (Some t)))
       by (suc n) is = ⊎_elim (λ short. part_behind (inl ((c.heard, short, refl), λ heard forces. all_forced (omega (arith, is))))) (λ long. whole_behind (omega (arith, is)) long) (cases_lt c.heard (length t.said))

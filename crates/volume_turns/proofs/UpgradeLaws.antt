@@ -14,9 +14,9 @@ use Rattle.fsd_bytes.specs.declared.refusal.Refusal.TheVariants as Why
 use Rattle.sector_disk.specs.declared.machine.Machine.{Ghosts}
 use Rattle.sector_disk.specs.declared.sector.WeakRun.{WeakRun}
 use Rattle.sector_disk.specs.declared.sector.Sector.TheVariants.{Whole, Damaged}
-use Rattle.sector_disk.specs.Calls.{Since, WritesDisk}
+use Rattle.sector_disk.specs.Calls.{IsTimed, Since, WritesDisk}
 use Rattle.sector_disk.specs.Image.{AllWorn, AreShort, IsWorn, Windows, open_damage, sector_at}
-use Rattle.sector_disk.specs.Machine.{LeavesOnly, Moment, Utters}
+use Rattle.sector_disk.specs.Machine.{LeavesOnly, Moment}
 use Rattle.fsd_log.specs.Scan.{Head, Placed}
 use Rattle.fsd_files.specs.Answers.{Met, Outcome, upgraded as upgrade_outcome_of}
 use Rattle.fsd_files.specs.Disk.{Image, Sectors, Has, Touches, nowhere}
@@ -44,12 +44,13 @@ use Rattle.volume_turns.specs.declared.turns.End.TheVariants.{Fault as Stopped}
 use Rattle.volume_turns.specs.Answering.{Answers, AnswersAlone, SaysBy}
 use Rattle.volume_turns.specs.Numbers.{GoesUp}
 use Rattle.volume_turns.specs.Once.{ClosesAndSaysBy, IsAlone, unit_of}
-use Rattle.volume_turns.specs.Steps.{Does, Stays, StaysSound, ended_by}
-use Rattle.volume_turns.specs.Turns.{SaysAll, Unsaid}
+use Rattle.scrub.specs.Telling.{AreOfPage}
+use Rattle.volume_turns.specs.Steps.{Does, IsToldOn, Stays, StaysSound, ended_by}
+use Rattle.volume_turns.specs.Turns.{OnDisk, SaysAll, Unsaid, UttersBehind}
 use Rattle.volume_turns.specs.Upgrade.{EndsState, is_upgraded}
 use Rattle.volume_turns.proofs.AnsweringLaws.{alone_closed, closed_by}
 use Rattle.volume_turns.proofs.NumberLaws.{goes_none}
-use Rattle.volume_turns.proofs.OnceLaws.{alone_closed_as, says_closed}
+use Rattle.volume_turns.proofs.OnceLaws.{alone_closed_as, alone_held, says_closed}
 
 -- ---- a volume that was just mounted
 
@@ -165,8 +166,8 @@ root_says l weak i s bytes whole (inr hurt) = absurd (let damaged : Whole bytes 
 module _ {S D : Type 0} (state : S → State) (has : S → Mounted → List Placed → Type 0) (M : Ghosts D)
     (wears : (s : S) (k : Known) (old new : Moment) → AreShort old.windows → Ages old new → Stands state has s k old → Stands state has s k new)
     (short : (m : D) → M.honest m → AreShort (M.now m).windows)
-    (counts_now : (m : D) (t : ℕ) → M.honest m → t ≤ M.moment m → M.left_since m t (M.now m))
-    (v w : S) (a m b : D) (k : Known) (none : k.opened ≡ none_open) (forced : (volume_of k).unforced ≡ 0) (stood : Stands state has v k (M.now a))
+    (timed : (m : D) → M.honest m → IsTimed M m)
+    (v w : S) (a m b : D) (k : Known) (none : k.opened ≡ none_open) (forced : (volume_of k).unforced ≡ 0) (stood : Stands state has v k (M.now a)) (on : OnDisk M k (forced_of k) a)
     (fault : Option ℕ) (disk : WritesDisk M fault (Stays state has v) a m) (honest : M.honest m) (since : Since M m b)
     (two : (state v).layout.kind ≡ Two) (three : state w ≡ with_three (state v)) (roots : RootsStand (state w) (M.now m)) (does : Does state has Word.Upgrade v w k (M.now a) (M.now m) (Ok Said.Upgraded)) where
   abbrev l : Layout
@@ -217,18 +218,19 @@ module _ {S D : Type 0} (state : S → State) (has : S → Mounted → List Plac
   own_roots : HasOwnRoots (volume_of after).layout (weak_of k.windows) (M.now m).image
   own_roots = subst (λ (ws : List WeakRun). HasOwnRoots (volume_of after).layout (weak_of ws) (M.now m).image) does.1.windows does.2.disk.over.own.roots
 
-  pub upgraded_alone : (text : List ℕ) → text ≡ reply_alone Reply.Upgraded → LeavesOnly M.moment M.left_since m b (Utters text (M.now m)) → (r : Result ℕ End) → (r ≡ Err (Stopped Ends.Memory) → b ≡ m) → IfOk r (λ status. status ≡ 0)
-      → OnOk (unit_of r) (SaysAll text (M.now m) (M.now b)) → IfErr (unit_of r) (λ end. Unsaid (M.now m) (M.now b) end) → IsAlone M Word.Upgrade k a b r
-  upgraded_alone text is run r undone gives all unsaid =
-      let closes = says_closed M m b k (volume_of after).layout text ends_in sound lasts own_roots (short m honest) run (unit_of r) all unsaid in
-      alone_closed_as state has M wears short counts_now Word.Upgrade v w a m b k none stood fault disk honest since after Reply.Upgraded does.1 does.2 k refl refl (sym (append-nil k.changes)) (omega arith) telling r undone gives
-      (subst (λ (x : List ℕ). ClosesAndSaysBy (volume_of after).layout M k x m b (unit_of r)) is closes)
+  pub upgraded_alone : (text : List ℕ) → text ≡ reply_alone Reply.Upgraded → M.honest b → LeavesOnly M.moment M.left_since m b (UttersBehind true text (M.now m)) → (r : Result ℕ End) → (r ≡ Err (Stopped Ends.Memory) → b ≡ m) → IfOk r (λ status. status ≡ 0)
+      → OnOk (unit_of r) (SaysAll text (M.now m) (M.now b)) → OnOk (unit_of r) ((M.now m).time ≤ (M.now b).synced) → IfErr (unit_of r) (λ end. Unsaid (M.now m) (M.now b) end) → IsAlone M Word.Upgrade k a b r
+  upgraded_alone text is honest_b run r undone gives all synced unsaid =
+      let held = alone_held state has M wears short timed Word.Upgrade v w a m b k none stood on fault disk honest since in
+      let closes = says_closed M m b k (forced_of k) (volume_of after).layout text ends_in sound lasts own_roots (short m honest) held (timed m honest) (timed b honest_b) since run (unit_of r) all synced unsaid in
+      alone_closed_as state has M wears short timed Word.Upgrade v w a m b k none stood on fault disk honest since after Reply.Upgraded does.1 does.2 k refl refl (sym (append-nil k.changes)) telling r undone gives
+      (subst (λ (x : List ℕ). ClosesAndSaysBy (volume_of after).layout M k (forced_of k) x m b (unit_of r)) is closes)
 
 -- what it says and writes, whatever the image
 pub upgraded_answers : (s t : State) (a m b : Moment) → m.windows ≡ a.windows → m.said ≡ a.said → Answers Word.Upgrade s t a m (Ok Said.Upgraded) → Ages m b → (r : Result ℕ End) → IfOk r (λ status. status ≡ 0) → SaysBy (reply_alone Reply.Upgraded) m b (unit_of r)
-    → ((why : Fault) → unit_of r ≡ Err (Stopped why) → ⊥) → AnswersAlone Word.Upgrade s a b r
-upgraded_answers s t a m b windows same answers ages r gives says unstopped =
+    → (unit_of r ≡ Err (Stopped Ends.WornOut) → ⊥) → ((why : Fault) → unit_of r ≡ Err (Stopped why) → IsToldOn AreOfPage s.layout b.image why) → AnswersAlone Word.Upgrade s a b r
+upgraded_answers s t a m b windows same answers ages r gives says unworn told =
     let still : Touches (force_writes s.layout) m m = record { size = refl; others = λ x out. inl refl } in
     let nothing : Touches nowhere m m = record { size = refl; others = λ x out. inl refl } in
     alone_closed Word.Upgrade s s a m windows same b Said.Upgraded r refl (record { replies = answers.replies; rest = answers.rest; still = refl; worn = λ is. absurd (cc is); numbers = goes_none 1 s s refl; told = tt }) gives
-    (closed_by s (reply_alone Reply.Upgraded) m m b (unit_of r) refl refl still (λ clean. nothing) ages says (λ is. unstopped Ends.WornOut is) (λ why is. absurd (unstopped why is)))
+    (closed_by s (reply_alone Reply.Upgraded) m m b (unit_of r) refl refl still (λ clean. nothing) ages says unworn told)

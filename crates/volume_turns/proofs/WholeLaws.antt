@@ -1,5 +1,5 @@
 -- What a whole run leaves: its mount, and what it did over the mounted volume.
-use Rattle.std.proofs.Common.{◌≡◌, ◌⊎◌, inl, inr, Bool, false, ℕ, ◌+◌, ◌≤◌, List, [], ◌∷◌, ◌++◌, length, take, Option, Some, None, refl, sym, ◌∙◌, ap, subst, arith, length-append}
+use Rattle.std.proofs.Common.{◌≡◌, ◌⊎◌, inl, inr, Bool, false, ℕ, ◌+◌, ◌<◌, ◌≤◌, List, [], ◌∷◌, ◌++◌, length, take, Option, Some, None, refl, sym, ◌∙◌, ap, subst, arith, length-append}
 use Rattle.fsd_log.specs.Scan.{Placed}
 use Rattle.std.specs.Prelude.{IsSome, Ok, Err, slice_get}
 use Rattle.std.proofs.lemmas.Bool.{eq-eqb}
@@ -7,9 +7,10 @@ use Rattle.std.proofs.lemmas.List.{append-nil}
 use Rattle.volume_layout.specs.declared.layout.Layout.{Layout}
 use Rattle.sector_disk.specs.declared.machine.Machine.{Ghosts}
 use Rattle.sector_disk.specs.declared.sector.WeakRun.{WeakRun}
-use Rattle.sector_disk.specs.Calls.{Counts, DiskFaults, LeavesDisk, Since}
-use Rattle.sector_disk.specs.Image.{AreShort, Windows}
+use Rattle.sector_disk.specs.Calls.{Counts, DiskFaults, IsHeld, IsTimed, LeavesDisk, Since, StopsOnly, stops}
+use Rattle.sector_disk.specs.Image.{AreShort, IsWorn, Windows, open_damage}
 use Rattle.sector_disk.specs.Machine.{LeavesOnly, Moment, Report, Rose, UsesDisk, Utters}
+use Rattle.sector_disk.proofs.Lags.{held_by, shows_of, stops_by}
 use Rattle.sector_disk.proofs.Moments.{leaves_more, started, then_on}
 use Rattle.fsd_files.specs.Disk.{Image, in_runs}
 use Rattle.fsd_files.specs.Desk.{Session}
@@ -24,7 +25,6 @@ use Rattle.fsd_sound.proofs.WindowLaws.{named_on}
 use Rattle.fsd_sound.specs.declared.fault.MountFault.{MountFault}
 use Rattle.fsd_sound.specs.declared.fault.MountFault.TheVariants as Refused
 use Rattle.fsd_sound.proofs.MoreLaws.{sound_more, wear_sound}
-use Rattle.fsd_sound.proofs.MountedLaws.{fresh_mounted, mounted_sound}
 use Rattle.fsd_sound.proofs.WindowLaws.{last_snoc}
 use Rattle.fsd_texts.specs.declared.fault.Fault.{Fault}
 use Rattle.fsd_texts.specs.declared.fault.Fault.TheVariants as Ends
@@ -35,18 +35,18 @@ use Rattle.fsd_runs.specs.Errands.{Cut, Turn, blank, errand_of, fault_status}
 use Rattle.fsd_runs.specs.Leaves.{CutCause, IsBroken, IsOutside, IsReplied, IsSpent, IsUndone, IsUnsaid, Left, LeavesBy, LeftBefore, LeftSince, Unbegun}
 use Rattle.fsd_runs.specs.Sessions.{session_over}
 use Rattle.fsd_runs.specs.Runs.{Goes, IsCutAt, IsThrough, Run, changes_in, errand_in, run_end, run_status, run_turns, said_in, turns_of}
-use Rattle.volume_contract.specs.Mount.{EndsBefore, EndsSettled, Excuses, ExcusesOf, MountsAs, Settled, SoundBefore, SoundSince}
+use Rattle.volume_contract.specs.Mount.{EndsBefore, EndsSettled, Excuses, ExcusesOf, MountsAs, Settled, SoundAbout, SoundBefore, SoundSince}
 use Rattle.volume_contract.specs.State.{State, Known, Stands, forced_of, none_open, volume_of}
 use Rattle.volume_turns.specs.declared.turns.End.TheVariants.{Fault as Stopped}
 use Rattle.volume_turns.specs.Line.{EndsWith, is_unsaid}
 use Rattle.volume_turns.specs.Once.{fault_of}
-use Rattle.volume_turns.specs.Turns.{EndsAtOnce, InRun, SaysAll, Told, Undone}
+use Rattle.volume_turns.specs.Turns.{EndsAtOnce, InRun, OnDisk, SaysAll, Told, Undone}
 use Rattle.volume_turns.specs.Whole.{Halted, RunsOut, SaysOut}
-use Rattle.volume_turns.proofs.HaltLaws.{broken_ends, broken_moments}
+use Rattle.volume_turns.proofs.HaltLaws.{broken_ends, broken_moments, stops_saying}
 use Rattle.volume_turns.proofs.LineLaws.{excused}
-use Rattle.volume_turns.proofs.MountLaws.{before_left, known_length, nothing_said, own_roots, run_left, run_undone, since_left, sound_to, starts}
+use Rattle.volume_turns.proofs.MountLaws.{before_left, known_length, known_sound, nothing_said, own_roots, run_left, run_undone, since_left, sound_to, starts}
 use Rattle.volume_turns.proofs.RunLaws.{told_fault}
-use Rattle.volume_turns.proofs.TurnLaws.{in_before, none_done}
+use Rattle.volume_turns.proofs.TurnLaws.{in_before_at, none_done, now_held}
 use Rattle.volume_turns.proofs.StatusLaws.{same_device}
 
 -- what was said before the mount is all that was said until it had settled
@@ -102,20 +102,80 @@ runs_on M request input rest a m uses faults k c b status r = record {
     ended (inr (inl u)) = inr (inl (unsaid_on a m (M.report b) uses faults status u))
     ended (inr (inr x)) = inr (inr (broken_on a m (M.report b) uses faults request x))
 
+-- ---- the mount, over what is held
+
+-- an image of a moment, with all else of the moment of the stop
+module _ {D : Type 0} (M : Ghosts D) (l : Layout) (windows : List WeakRun) (h : List Change) (f : ℕ) (a m : D) (at_a : IsTimed M a) (at_m : IsTimed M m) (mounts : Since M a m) (held : IsHeld M a (λ c. IsSound l windows h f c.image)) where
+  abbrev IsSoundStill : Moment → Type 0
+  IsSoundStill c = IsSound l windows h f c.image
+
+  -- it did not settle
+  module _ (mount : LeavesOnly M.moment M.left_since a m (SoundBefore l windows h f (M.now a))) where
+    abbrev During : Moment → Type 0
+    During c = SoundBefore l windows h f (M.now a) c
+
+    pub before_held : IsHeld M m (λ c. IsSound l windows h f c.image)
+    before_held = held_by M a m During IsSoundStill at_a at_m mounts mount held IsSoundStill (λ c x. x) (λ c x. x.sound)
+
+    of_before : (left : Moment) → left.windows.present ≡ (M.now a).windows.present → left.said ≡ (M.now a).said → IsSound l windows h f left.image → LeftBefore l windows h f (M.now a) left
+    of_before left present said sound = record { present = present; part = []; said = said ∙ sym (append-nil (M.now a).said); fault = nothing_said; sound = sound }
+
+    pub before_stops : StopsOnly M a m (LeftBefore l windows h f (M.now a))
+    before_stops = stops_by M a m During IsSoundStill at_a at_m mounts mount held (LeftBefore l windows h f (M.now a))
+        (λ c x. of_before c x.present x.said x.sound)
+        (λ last shown x left sooner lately either. of_before (shows_of shown last) x.present x.said (elim either [ inl was ↦ was | inr y ↦ y.sound ]))
+
+  -- it settled at this time
+  module _ (run : WeakRun) (n at : ℕ) (mount : LeavesOnly M.moment M.left_since a m (SoundAbout at l windows run h f n (M.now a))) (settled : (left : Moment) → M.left_since m at left → SoundSince l windows run h n (M.now a) left)
+      (Q : Moment → Type 0) (before : (left : Moment) → left.windows.present ≡ (M.now a).windows.present → left.said ≡ (M.now a).said → IsSound l windows h f left.image → Q left)
+      (since : (left : Moment) → left.windows ≡ record { present = Some run; next = None } → left.said ≡ (M.now a).said → IsSound l (windows ++ run ∷ []) (take n h) n left.image → Q left) where
+    abbrev About : Moment → Type 0
+    About c = SoundAbout at l windows run h f n (M.now a) c
+
+    one : (c : Moment) → About c → Q c
+    one c (inl x) = before c x.0.present x.0.said x.0.sound
+    one c (inr x) = since c x.0.settled x.0.said x.0.sound
+
+    -- an image of before the settling is none of a moment since
+    early : (last shown : Moment) → last.time ≤ at → M.left_since m last.synced shown → shown.time < last.time → IsSoundStill shown ⊎ About shown → IsSound l windows h f shown.image
+    early last shown le left sooner (inl was) = was
+    early last shown le left sooner (inr (inl x)) = x.0.sound
+    early last shown le left sooner (inr (inr x)) = let synced = at_m.history.synced last.synced shown left in let late = x.1 in absurd (omega (arith, synced, late, sooner, le))
+
+    both : (last shown : Moment) → About last → M.left_since m last.synced shown → shown.time < last.time → (M.moment a ≤ last.synced → About shown) → IsSoundStill shown ⊎ About shown → Q (shows_of shown last)
+    both last shown (inl x) left sooner lately either = before (shows_of shown last) x.0.present x.0.said (early last shown x.1 left sooner either)
+    both last shown (inr x) left sooner lately either = since (shows_of shown last) x.0.settled x.0.said (settled shown (at_m.history.sooner at last.synced shown x.1 left)).sound
+
+    pub settled_stops : StopsOnly M a m Q
+    settled_stops = stops_by M a m About IsSoundStill at_a at_m mounts mount held Q one both
+
 -- ---- it was mounted
 
+-- the disk behind a mount that settled
+pub settled_disk : {D : Type 0} (M : Ghosts D) (l : Layout) (windows : List WeakRun) (run : WeakRun) (h : List Change) (f n : ℕ) → IsPrefixOf h f n → (k : Known) (a m : D) → Settled l windows run h n k (M.now a) (M.now m) → (M.now m).said ≡ (M.now a).said → IsTimed M m → (at : ℕ) → at ≤ (M.now m).synced
+    → ((left : Moment) → M.left_since m at left → SoundSince l windows run h n (M.now a) left) → OnDisk M k (forced_of k) m
+settled_disk M l windows run h f n prefix k a m s quiet at_m at late settled = record {
+  most = omega arith;
+  each = λ c left. known_sound l windows run h f n prefix k (M.now a) (M.now m) s quiet c.image (settled c (at_m.history.sooner at (M.now m).synced c late left)).sound;
+}
+
 module _ {D : Type 0} (M : Ghosts D) (request : Request) (input rest : List ℕ) (l : Layout) (windows : List WeakRun) (run : WeakRun) (h : List Change) (f n : ℕ) (prefix : IsPrefixOf h f n) (k : Known) (a m b : D) (s : Settled l windows run h n k (M.now a) (M.now m)) (quiet : (M.now m).said ≡ (M.now a).said)
-    (mount : LeavesOnly M.moment M.left_since a m (λ left. SoundBefore l windows h f (M.now a) left ⊎ SoundSince l windows run h n (M.now a) left))
-    (named : IsNamedSince (M.left_since m) (M.moment a) (Some run)) (since : Since M m b) (here : M.left_since m (M.moment m) (M.now m)) (now : M.left_since b (M.moment m) (M.now b)) (status : ℕ) (r : RunsOut M request input rest (M.report a) k m b status) where
+    (at_a : IsTimed M a) (at_m : IsTimed M m) (mounts : Since M a m) (held : IsHeld M a (λ c. IsSound l windows h f c.image)) (at : ℕ) (mount : LeavesOnly M.moment M.left_since a m (SoundAbout at l windows run h f n (M.now a))) (settled_at : (left : Moment) → M.left_since m at left → SoundSince l windows run h n (M.now a) left)
+    (named : IsNamedSince (M.left_since m) (M.moment a) (Some run)) (since : Since M m b) (now : M.left_since b (M.moment m) (M.now b)) (status : ℕ) (r : RunsOut M request input rest (M.report a) k m b status) where
   abbrev turns : List Turn
   turns = turns_of (errand_in request input r.cut) r.finishes.mets (session_over (volume_of k))
 
-  on : (left : Moment) → InRun k turns (M.now m) left → LeftSince l windows run h n turns (M.now a) left
+  on : (left : Moment) → InRun k (forced_of k) turns (M.now m) left → LeftSince l windows run h n turns (M.now a) left
   on left x = run_left l windows run h f n prefix k (M.now a) (M.now m) s quiet turns left x
 
-  mount_left : LeavesOnly M.moment M.left_since a m (Left l windows run h f n turns (M.now a))
-  mount_left = leaves_more M.moment M.left_since a m (λ left. SoundBefore l windows h f (M.now a) left ⊎ SoundSince l windows run h n (M.now a) left) (Left l windows run h f n turns (M.now a))
-      (λ left x. elim x [ inl y ↦ before_left l windows run h f n prefix k (M.now a) (M.now m) s quiet turns left y | inr y ↦ inr (since_left l windows run h f n prefix k (M.now a) (M.now m) s quiet turns left y) ]) mount
+  mount_left : StopsOnly M a m (Left l windows run h f n turns (M.now a))
+  mount_left = settled_stops M l windows h f a m at_a at_m mounts held run n at mount settled_at (Left l windows run h f n turns (M.now a))
+      (λ left present said sound. before_left l windows run h f n prefix k (M.now a) (M.now m) s quiet turns left present said sound)
+      (λ left settled said sound. inr (since_left l windows run h f n prefix k (M.now a) (M.now m) s quiet turns left settled said sound))
+
+  -- what is there at the end is what a stop leaves then
+  stop_now : stops M b (M.moment m) (M.now b)
+  stop_now = record { last = M.now b; passed = now; shown = M.now b; held = inl refl; is = refl }
 
   abbrev run_is : Run request input (windows ++ run ∷ []) (M.left_since b (M.moment m)) (M.now a).said (volume_of k) (M.now m).image
   run_is = record {
@@ -127,7 +187,7 @@ module _ {D : Type 0} (M : Ghosts D) (request : Request) (input rest : List ℕ)
         (subst (λ (x : List WeakRun). Goes (in_runs x) (M.left_since b (M.moment m)) (IsCutAt r.cut) (errand_in request input r.cut) (M.now m).said (M.now m).image (session_over (volume_of k)) r.finishes.mets (errand_in request input r.cut).commands) s.known (r.finishes.goes (M.moment m) (omega arith)));
   }
 
-  replied : SaysOut (errand_in request input r.cut) k r.finishes.mets (M.now m) (M.now b) status → IsReplied l windows run h n turns (run_status run_is) (run_end run_is) (M.now a) (M.now b) status
+  replied : SaysOut M (errand_in request input r.cut) k r.finishes.mets m b status → IsReplied l windows run h n turns (run_status run_is) (run_end run_is) (M.now a) (M.now b) status
   replied out =
       let d = out.done in
       let all : length (k.changes ++ changes_in turns) ≡ n + length (changes_in turns) = let sum = length-append k.changes (changes_in turns) in let known = known_length l windows run h f n prefix k (M.now a) (M.now m) s quiet in omega (arith, sum, known) in
@@ -142,15 +202,15 @@ module _ {D : Type 0} (M : Ghosts D) (request : Request) (input rest : List ℕ)
       }
 
   abbrev Over : Type 0
-  Over = IsUnsaid (M.report a) (M.report b) status ⊎ IsBroken request (Undone k turns) (M.report a) (M.report b) turns (M.now m) (M.now b) status
+  Over = IsUnsaid (M.report a) (M.report b) status ⊎ IsBroken request (Undone k (forced_of k) turns) (M.report a) (M.report b) turns (M.now m) (M.now b) status
 
-  ended : SaysOut (errand_in request input r.cut) k r.finishes.mets (M.now m) (M.now b) status ⊎ Over
+  ended : SaysOut M (errand_in request input r.cut) k r.finishes.mets m b status ⊎ Over
       → (IsThrough run_is × IsReplied l windows run h n (run_turns run_is) (run_status run_is) (run_end run_is) (M.now a) (M.now b) status) ⊎ (IsUnsaid (M.report a) (M.report b) status ⊎ IsBroken request (IsUndone l (windows ++ run ∷ []) (take n h) n (run_turns run_is)) (M.report a) (M.report b) (run_turns run_is) (M.now a) (M.now b) status)
   ended (inl out) = inl (out.through, replied out)
   ended (inr (inl u)) = inr (inl u)
-  ended (inr (inr x)) = inr (inr (broken_on_said (M.report a) (M.report b) request (Undone k turns) (IsUndone l (windows ++ run ∷ []) (take n h) n turns) turns (M.now a) (M.now m) (M.now b) status quiet (λ whole i u. run_undone l windows run h f n prefix k (M.now a) (M.now m) s quiet turns whole i u) x))
+  ended (inr (inr x)) = inr (inr (broken_on_said (M.report a) (M.report b) request (Undone k (forced_of k) turns) (IsUndone l (windows ++ run ∷ []) (take n h) n turns) turns (M.now a) (M.now m) (M.now b) status quiet (λ whole i u. run_undone l windows run h f n prefix k (M.now a) (M.now m) s quiet turns whole i u) x))
 
-  pub mounted_run : LeavesBy request input rest l windows h f (M.left_since b) (M.moment a) (λ P. LeavesOnly M.moment M.left_since a b P) (M.report a) (M.report b) (M.now a) (M.now b) status
+  pub mounted_run : LeavesBy request input rest l windows h f (M.left_since b) (stops M b) (M.moment a) (StopsOnly M a b) (M.report a) (M.report b) (M.now a) (M.now b) status
   mounted_run = inr (record {
     count = n;
     prefix = prefix;
@@ -158,7 +218,7 @@ module _ {D : Type 0} (M : Ghosts D) (request : Request) (input rest : List ℕ)
     named = named_on (M.left_since m) (M.left_since b) (M.moment a) (M.moment m) (Some run) mount.later since named;
     at = M.moment m;
     from = (M.now m).image;
-    stood = record { moment = M.now m; passed = since (M.moment m) (M.now m) (omega arith) here; image = refl; so_far = quiet };
+    stood = record { moment = M.now m; passed = since (M.moment m) (M.now m) (omega arith) at_m.here; image = refl; so_far = quiet };
     settled = s.settled;
     raised = s.raised;
     volume = volume_of k;
@@ -166,10 +226,10 @@ module _ {D : Type 0} (M : Ghosts D) (request : Request) (input rest : List ℕ)
     own = own_roots l windows run h f n prefix k (M.now a) (M.now m) s quiet;
     run = run_is;
     cause = r.cause;
-    moments = then_on M.moment M.left_since a m b (Left l windows run h f n turns (M.now a)) mount_left
-        (leaves_more M.moment M.left_since m b (InRun k turns (M.now m)) (Left l windows run h f n turns (M.now a)) (λ left x. inr (on left x)) r.finishes.moments);
-    later = λ left past. on left (r.finishes.moments.each left past);
-    exit = on (M.now b) (r.finishes.moments.each (M.now b) now);
+    moments = then_on M.moment (stops M) a m b (Left l windows run h f n turns (M.now a)) mount_left
+        (leaves_more M.moment (stops M) m b (InRun k (forced_of k) turns (M.now m)) (Left l windows run h f n turns (M.now a)) (λ left x. inr (on left x)) r.finishes.moments);
+    later = λ left stop. on left (r.finishes.moments.each left stop);
+    exit = on (M.now b) (r.finishes.moments.each (M.now b) stop_now);
     ends = ended r.finishes.ends;
   })
 
@@ -182,7 +242,8 @@ at_once fault is = absurd is
 
 module _ {S D : Type 0} (state : S → State) (has : S → Mounted → List Placed → Type 0) (M : Ghosts D) (request : Request) (input rest : List ℕ) (l : Layout) (windows : List WeakRun) (h : List Change) (f : ℕ) (a m b : D) (at : EndIn (M.now a).windows windows)
     (fault : MountFault) (quiet : (M.now m).said ≡ (M.now a).said) (uses : UsesDisk (M.report a) (M.report m)) (faults : DiskFaults (device_of_mount fault) (M.report a) (M.report m)) (status : ℕ) (says : LeavesDisk M false (is_unsaid status) (Utters (fault_text (fault_of fault))) m b)
-    (honest : M.honest b) (short : AreShort (M.now m).windows) (ended : EndsWith (fault_of fault) (M.now m) (M.now b) status) where
+    (honest : M.honest b) (short : AreShort (M.now m).windows) (ended : EndsWith (fault_of fault) (M.now m) (M.now b) status) (at_a : IsTimed M a) (at_m : IsTimed M m) (at_b : IsTimed M b) (mounts : Since M a m)
+    (held : IsHeld M a (λ c. IsSound l windows h f c.image)) where
   abbrev why : Fault
   why = fault_of fault
 
@@ -216,17 +277,27 @@ module _ {S D : Type 0} (state : S → State) (has : S → Mounted → List Plac
     ends_in : EndIn (M.now m).windows windows
     ends_in = record { last = at.last ∙ sym u.exit.present; some = subst (λ (o : Option WeakRun). IsSome o) (sym u.exit.present) at.some }
 
-    before_only : (left : Moment) → SoundBefore l windows h f (M.now a) left → LeftBefore l windows h f (M.now a) left
-    before_only left x = record { present = x.present; part = []; said = x.said ∙ sym (append-nil (M.now a).said); fault = nothing_said; sound = x.sound }
-
-    on_line : (left : Moment) → Utters (fault_text why) (M.now m) left → LeftBefore l windows h f (M.now a) left
-    on_line left utters = record {
-      present = ap (λ (w : Windows). w.present) utters.windows ∙ u.exit.present;
-      part = take utters.heard (fault_text why);
-      said = utters.said ∙ ap (λ (x : List ℕ). x ++ take utters.heard (fault_text why)) quiet;
-      fault = (why, utters.heard, excused (M.now a).image fault u.why, refl);
-      sound = wear_sound l windows h f (M.now m).windows (M.now m).image left.image short ends_in utters.image u.exit.sound;
+    -- while its line is said
+    on_line : (left : Moment) → IsSound l windows h f left.image → left.windows ≡ (M.now m).windows → (heard : ℕ) → left.said ≡ (M.now m).said ++ take heard (fault_text why) → LeftBefore l windows h f (M.now a) left
+    on_line left sound same heard said = record {
+      present = ap (λ (w : Windows). w.present) same ∙ u.exit.present;
+      part = take heard (fault_text why);
+      said = said ∙ ap (λ (x : List ℕ). x ++ take heard (fault_text why)) quiet;
+      fault = (why, heard, excused (M.now a).image fault u.why, refl);
+      sound = sound;
     }
+
+    worn : (i : Image) → IsSound l windows h f (M.now m).image → IsWorn (open_damage (M.now m).windows) (M.now m).image i → IsSound l windows h f i
+    worn i sound wear = wear_sound l windows h f (M.now m).windows (M.now m).image i short ends_in wear sound
+
+    still_held : IsHeld M m (λ c. IsSound l windows h f c.image)
+    still_held = before_held M l windows h f a m at_a at_m mounts held u.moments
+
+    line_stops : StopsOnly M m b (LeftBefore l windows h f (M.now a))
+    line_stops = stops_saying M m b (fault_text why) (λ i. IsSound l windows h f i) at_m at_b (says.since honest) (says.any_moment honest) still_held worn (LeftBefore l windows h f (M.now a)) on_line
+
+    line_exit : Utters (fault_text why) (M.now m) (M.now b) → LeftBefore l windows h f (M.now a) (M.now b)
+    line_exit utters = on_line (M.now b) (worn (M.now b).image u.exit.sound utters.image) utters.windows utters.heard utters.said
 
     by_fault : (x : MountFault) → ExcusesOf (M.now a).image x → why ≡ fault_of x → status ≡ fault_status why → SaysAll (fault_text why) (M.now m) (M.now b)
         → IsSpent (M.now a) (M.now b) status ⊎ (IsUnsaid (M.report a) (M.report b) status ⊎ IsBroken request Unbegun (M.report a) (M.report b) (blank ∷ []) (M.now a) (M.now b) status)
@@ -245,16 +316,15 @@ module _ {S D : Type 0} (state : S → State) (has : S → Mounted → List Plac
     by_end (inl six) = inr (inl (unsaid six))
     by_end (inr (gives, all)) = by_fault fault u.why refl gives all
 
-    unmounted_run : LeavesBy request input rest l windows h f (M.left_since b) (M.moment a) (λ P. LeavesOnly M.moment M.left_since a b P) (M.report a) (M.report b) (M.now a) (M.now b) status
+    unmounted_run : LeavesBy request input rest l windows h f (M.left_since b) (stops M b) (M.moment a) (StopsOnly M a b) (M.report a) (M.report b) (M.now a) (M.now b) status
     unmounted_run = inl (record {
-      moments = then_on M.moment M.left_since a m b (LeftBefore l windows h f (M.now a)) (leaves_more M.moment M.left_since a m (SoundBefore l windows h f (M.now a)) (LeftBefore l windows h f (M.now a)) before_only u.moments)
-          (leaves_more M.moment M.left_since m b (Utters (fault_text why) (M.now m)) (LeftBefore l windows h f (M.now a)) on_line (says.any_moment honest));
-      exit = on_line (M.now b) (says.exit honest);
+      moments = then_on M.moment (stops M) a m b (LeftBefore l windows h f (M.now a)) (before_stops M l windows h f a m at_a at_m mounts held u.moments) line_stops;
+      exit = line_exit (says.exit honest);
       ends = by_end ended;
     })
 
   -- behind that, while its table was walked
-  module _ (here : M.left_since m (M.moment m) (M.now m)) (now : M.left_since b (M.moment m) (M.now b)) (only : (left : Moment) → M.left_since m (M.moment m) left → left ≡ M.now m)
+  module _ (now : M.left_since b (M.moment m) (M.now b))
       (some : (s : Session) → IsSome (slice_get (turns_of (errand_of request input) [] s) 0))
       (e : EndsSettled state has l windows h f (M.left_since m) (M.moment a) (λ P. LeavesOnly M.moment M.left_since a m P) (M.now a) (M.now m) (Err fault)) where
     abbrev k : Known
@@ -263,16 +333,22 @@ module _ {S D : Type 0} (state : S → State) (has : S → Mounted → List Plac
     abbrev all_turns : List Turn
     all_turns = turns_of (errand_of request input) [] (session_over (volume_of k))
 
+    disk : OnDisk M k (forced_of k) m
+    disk = settled_disk M l windows e.next h f e.count e.prefix k a m e.settled quiet at_m e.at e.held e.since
+
+    abbrev IsSoundNow : Moment → Type 0
+    IsSoundNow c = IsSound k.mounted.volume.layout k.windows k.changes (forced_of k) c.image
+
     sound : IsSound k.mounted.volume.layout k.windows k.changes (forced_of k) (M.now m).image
-    sound =
-        let mounted = fresh_mounted k.mounted k.windows k.changes (M.now m).image e.settled.fresh in
-        let all : length k.changes ≡ forced_of k = let none = e.settled.fresh.unforced in omega (arith, none) in
-        subst (λ (x : ℕ). IsSound k.mounted.volume.layout k.windows k.changes x (M.now m).image) all (mounted_sound k.mounted k.windows k.changes (length k.changes) (M.now m).image mounted)
+    sound = now_held M m IsSoundNow at_m disk.each
 
-    moments : LeavesOnly M.moment M.left_since m m (InRun k all_turns (M.now m))
-    moments = started M.moment M.left_since m (M.now m) (InRun k all_turns (M.now m)) only (in_before k all_turns (M.now m) (M.now m) (record { sound = sound; windows = refl; said = refl }))
+    moments : StopsOnly M m m (InRun k (forced_of k) all_turns (M.now m))
+    moments = stops_by M m m (λ c. c ≡ M.now m) IsSoundNow at_m at_m (λ t c le was. was) (started M.moment M.left_since m (M.now m) (λ c. c ≡ M.now m) at_m.only refl) disk.each (InRun k (forced_of k) all_turns (M.now m))
+        (λ c is. in_before_at k (forced_of k) all_turns (M.now m) c (ap (λ (x : Moment). x.windows) is) (ap (λ (x : Moment). x.said) is) (forced_of k) (omega arith) (subst IsSoundNow (sym is) sound))
+        (λ last shown is left sooner lately either. in_before_at k (forced_of k) all_turns (M.now m) (shows_of shown last) (ap (λ (x : Moment). x.windows) is) (ap (λ (x : Moment). x.said) is) (forced_of k) (omega arith)
+        (elim either [ inl was ↦ was | inr same ↦ subst IsSoundNow (sym same) sound ]))
 
-    halted : Halted k why all_turns (M.now m) (M.now m)
+    halted : Halted M k why all_turns m m
     halted = record {
       windows = refl;
       whole = 0;
@@ -281,8 +357,8 @@ module _ {S D : Type 0} (state : S → State) (has : S → Mounted → List Plac
       forced = forced_of k;
       least = omega arith;
       enough = λ any. absurd (cc any);
-      sound = sound_more k.mounted.volume.layout k.windows k.changes (changes_in (take 1 all_turns)) (forced_of k) (M.now m).image sound;
-      undone = λ is. none_done k all_turns (M.now m).image sound;
+      sound = λ c left. sound_more k.mounted.volume.layout k.windows k.changes (changes_in (take 1 all_turns)) (forced_of k) c.image (disk.each c left);
+      undone = λ is. none_done k (forced_of k) all_turns (M.now m).image sound;
     }
 
     ends_k : EndIn (M.now m).windows k.windows
@@ -303,27 +379,28 @@ module _ {S D : Type 0} (state : S → State) (has : S → Mounted → List Plac
         mets = [];
         ahead = tt;
         goes = λ t le. tt;
-        moments = broken_moments M request (M.report a) k all_turns m m b moments why halted short ends_k once told_is status says honest ended;
-        ends = inr (broken_ends M request (M.report a) k all_turns m m b moments why halted short ends_k once told_is status says honest ended);
+        moments = broken_moments M request (M.report a) k all_turns m m b moments why halted short ends_k at_m at_b once told_is status says honest ended;
+        ends = inr (broken_ends M request (M.report a) k all_turns m m b moments why halted short ends_k at_m at_b once told_is status says honest ended);
       };
     }
 
-    settled_run : LeavesBy request input rest l windows h f (M.left_since b) (M.moment a) (λ P. LeavesOnly M.moment M.left_since a b P) (M.report a) (M.report b) (M.now a) (M.now b) status
-    settled_run = mounted_run M request input rest l windows e.next h f e.count e.prefix k a m b e.settled quiet e.moments e.named (says.since honest) here now status runs
+    settled_run : LeavesBy request input rest l windows h f (M.left_since b) (stops M b) (M.moment a) (StopsOnly M a b) (M.report a) (M.report b) (M.now a) (M.now b) status
+    settled_run = mounted_run M request input rest l windows e.next h f e.count e.prefix k a m b e.settled quiet at_a at_m mounts held e.at e.moments e.since e.named (says.since honest) now status runs
 
-  pub refused_run : (here : M.left_since m (M.moment m) (M.now m)) (now : M.left_since b (M.moment m) (M.now b)) (only : (left : Moment) → M.left_since m (M.moment m) left → left ≡ M.now m)
+  pub refused_run : (now : M.left_since b (M.moment m) (M.now b))
       (some : (s : Session) → IsSome (slice_get (turns_of (errand_of request input) [] s) 0)) → MountsAs state has l windows h f (M.left_since m) (M.moment a) (λ P. LeavesOnly M.moment M.left_since a m P) (M.now a) (M.now m) (Err fault)
-      → LeavesBy request input rest l windows h f (M.left_since b) (M.moment a) (λ P. LeavesOnly M.moment M.left_since a b P) (M.report a) (M.report b) (M.now a) (M.now b) status
-  refused_run here now only some (inl u) = unmounted_run u
-  refused_run here now only some (inr e) = settled_run here now only some e
+      → LeavesBy request input rest l windows h f (M.left_since b) (stops M b) (M.moment a) (StopsOnly M a b) (M.report a) (M.report b) (M.now a) (M.now b) status
+  refused_run now some (inl u) = unmounted_run u
+  refused_run now some (inr e) = settled_run now some e
 
 -- what a request does over a volume that was just mounted
 pub joined_run : {S D : Type 0} (state : S → State) (has : S → Mounted → List Placed → Type 0) (M : Ghosts D) (request : Request) (input rest : List ℕ) (l : Layout) (windows : List WeakRun) (h : List Change) (f : ℕ) (a m b : D) (v : S)
-    → (M.now m).said ≡ (M.now a).said → UsesDisk (M.report a) (M.report m) → DiskFaults None (M.report a) (M.report m) → Since M m b → M.left_since m (M.moment m) (M.now m) → (M.moment m ≤ M.moment b → M.left_since b (M.moment m) (M.now b)) → (status : ℕ)
-    → MountsAs state has l windows h f (M.left_since m) (M.moment a) (λ P. LeavesOnly M.moment M.left_since a m P) (M.now a) (M.now m) (Ok v) → ((k : Known) → (volume_of k).unforced ≡ 0 → k.opened ≡ none_open → Stands state has v k (M.now m) → RunsOut M request input rest (M.report m) k m b status)
-    → LeavesBy request input rest l windows h f (M.left_since b) (M.moment a) (λ P. LeavesOnly M.moment M.left_since a b P) (M.report a) (M.report b) (M.now a) (M.now b) status
-joined_run state has M request input rest l windows h f a m b v quiet uses faults since here now status (inl u) does = absurd u.why
-joined_run state has M request input rest l windows h f a m b v quiet uses faults since here now status (inr e) does =
+    → (M.now m).said ≡ (M.now a).said → UsesDisk (M.report a) (M.report m) → DiskFaults None (M.report a) (M.report m) → IsTimed M a → IsTimed M m → Since M a m → Since M m b → IsHeld M a (λ c. IsSound l windows h f c.image) → (M.moment m ≤ M.moment b → M.left_since b (M.moment m) (M.now b)) → (status : ℕ)
+    → MountsAs state has l windows h f (M.left_since m) (M.moment a) (λ P. LeavesOnly M.moment M.left_since a m P) (M.now a) (M.now m) (Ok v)
+    → ((k : Known) → (volume_of k).unforced ≡ 0 → k.opened ≡ none_open → Stands state has v k (M.now m) → OnDisk M k (forced_of k) m → RunsOut M request input rest (M.report m) k m b status)
+    → LeavesBy request input rest l windows h f (M.left_since b) (stops M b) (M.moment a) (StopsOnly M a b) (M.report a) (M.report b) (M.now a) (M.now b) status
+joined_run state has M request input rest l windows h f a m b v quiet uses faults at_a at_m mounts since held now status (inl u) does = absurd u.why
+joined_run state has M request input rest l windows h f a m b v quiet uses faults at_a at_m mounts since held now status (inr e) does =
     let k = e.known in
-    let r = does k e.settled.fresh.unforced e.settled.opened e.ends in
-    mounted_run M request input rest l windows e.next h f e.count e.prefix k a m b e.settled quiet e.moments e.named since here (now r.finishes.moments.later) status (runs_on M request input rest (M.report a) (M.report m) uses faults k m b status r)
+    let r = does k e.settled.fresh.unforced e.settled.opened e.ends (settled_disk M l windows e.next h f e.count e.prefix k a m e.settled quiet at_m e.at e.held e.since) in
+    mounted_run M request input rest l windows e.next h f e.count e.prefix k a m b e.settled quiet at_a at_m mounts held e.at e.moments e.since e.named since (now r.finishes.moments.later) status (runs_on M request input rest (M.report a) (M.report m) uses faults k m b status r)

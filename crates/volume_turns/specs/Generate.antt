@@ -1,5 +1,5 @@
 -- Commands that are made up: they are done one after another with nothing said, and counted.
-use Rattle.std.specs.Prelude.{◌≡◌, Bool, true, false, List, [], ◌∷◌, map, Option, Some, None, Result, Ok, Err, IfOk, IfSome}
+use Rattle.std.specs.Prelude.{◌≡◌, ℕ, Bool, true, false, List, [], ◌∷◌, map, Option, Some, None, Result, Ok, Err, IfOk, IfSome}
 use Rattle.fsd_log.specs.Scan.{Placed}
 use Rattle.sector_disk.specs.declared.machine.Machine.{Ghosts}
 use Rattle.sector_disk.specs.Machine.{Moment}
@@ -17,9 +17,9 @@ use Rattle.volume_contract.specs.State.{State, Ages, Known, volume_of}
 use Rattle.volume_turns.specs.declared.turns.End.{End}
 use Rattle.volume_turns.specs.Group.{IsGroup}
 use Rattle.volume_turns.specs.Once.{unit_of}
-use Rattle.volume_turns.specs.Seats.{Seated, SitsAt, session_in}
+use Rattle.volume_turns.specs.Seats.{Seated, SitsAt, known_of, session_in}
 use Rattle.volume_turns.specs.Tally.{all_counted, counted, nothing}
-use Rattle.volume_turns.specs.Turns.{Runs, RunsFrom, StepsOk}
+use Rattle.volume_turns.specs.Turns.{OnDisk, Runs, RunsFrom, StepsOk}
 
 -- as a script has them
 abbrev pub all_plain : List Command → List ScriptCommand
@@ -31,26 +31,26 @@ silent = generated 0 0
 
 module _ {S : Type 0} (state : S → State) (has : S → Mounted → List Placed → Type 0) where
   -- A command is done, and counted by its answer.
-  pub record CountedStep {D : Type 0} (M : Ghosts D) (k : Seated) (from : Moment) (command : Command) (a b : D) (s : S) (t u : Counts) : Type 0 where
-    pub step : StepsOk state has M silent k from (Plain command) a b (s, no_desk)
+  pub record CountedStep {D : Type 0} (M : Ghosts D) (k : Seated) (f : ℕ) (from : Moment) (command : Command) (a b : D) (s : S) (t u : Counts) : Type 0 where
+    pub step : StepsOk state has M silent k f from (Plain command) a b (s, no_desk)
     pub counts : u ≡ counted t (Plain command) (answer_in step.met (session_in k) (Plain command)).0
 
-  abbrev pub StepsCountedBy : {D : Type 0} → (M : Ghosts D) → Seated → Moment → Command → (a b : D) → S → Counts → Result Counts End → Type 0
-  StepsCountedBy M k from command a b s t (Ok u) = CountedStep M k from command a b s t u
-  StepsCountedBy M k from command a b s t (Err end) = (more : List ScriptCommand) → RunsFrom state has M silent k from (Plain command ∷ more) a b (s, no_desk) (Err end)
+  abbrev pub StepsCountedBy : {D : Type 0} → (M : Ghosts D) → Seated → (f : ℕ) → Moment → Command → (a b : D) → S → Counts → Result Counts End → Type 0
+  StepsCountedBy M k f from command a b s t (Ok u) = CountedStep M k f from command a b s t u
+  StepsCountedBy M k f from command a b s t (Err end) = (more : List ScriptCommand) → RunsFrom state has M silent k f from (Plain command ∷ more) a b (s, no_desk) (Err end)
 
   abbrev pub StepsCounted : {D : Type 0} → (M : Ghosts D) → Command → (old : S) → (a : D) → (new : S) → (b : D) → Counts → Result Counts End → Type 0
   StepsCounted M command old a new b t result =
-      M.honest b → (k : Seated) (from : Moment) → SitsAt state has (old, no_desk) k from → Ages from (M.now a) → StepsCountedBy M k from command a b new t result
+      M.honest b → (k : Seated) (f : ℕ) (from : Moment) → SitsAt state has (old, no_desk) k from → Ages from (M.now a) → OnDisk M (known_of k) f a → StepsCountedBy M k f from command a b new t result
 
   -- Commands are done, and where all of them are they are counted.
-  pub record CountedRun {D : Type 0} (M : Ghosts D) (k : Seated) (from : Moment) (commands : List Command) (a b : D) (s : S) (t : Counts) (result : Result Counts End) : Type 0 where
-    pub ran : RunsFrom state has M silent k from (all_plain commands) a b (s, no_desk) (unit_of result)
+  pub record CountedRun {D : Type 0} (M : Ghosts D) (k : Seated) (f : ℕ) (from : Moment) (commands : List Command) (a b : D) (s : S) (t : Counts) (result : Result Counts End) : Type 0 where
+    pub ran : RunsFrom state has M silent k f from (all_plain commands) a b (s, no_desk) (unit_of result)
     pub counts : IfOk result (λ u. u ≡ all_counted t (answered ran.mets (session_in k) (all_plain commands)))
 
   abbrev pub RunsCounted : {D : Type 0} → (M : Ghosts D) → List Command → (old : S) → (a : D) → (new : S) → (b : D) → Counts → Result Counts End → Type 0
   RunsCounted M commands old a new b t result =
-      M.honest b → (k : Seated) (from : Moment) → SitsAt state has (old, no_desk) k from → Ages from (M.now a) → CountedRun M k from commands a b new t result
+      M.honest b → (k : Seated) (f : ℕ) (from : Moment) → SitsAt state has (old, no_desk) k from → Ages from (M.now a) → OnDisk M (known_of k) f a → CountedRun M k f from commands a b new t result
 
   -- the next of them, or that there is none, or what has ended them
   abbrev pub Draws : {D : Type 0} → (M : Ghosts D) → (before now : Making) → (old : S) → (a : D) → (new : S) → (b : D) → Counts → Result (Option Counts) End → Type 0

@@ -1,7 +1,8 @@
 -- A group of commands over a mounted volume: each is answered and said, then all is forced, and that is said.
 use Rattle.std.specs.Prelude.{◌≡◌, ⊤, ℕ, ◌≤◌, ◌==◌, ◌||◌, Bool, true, false, not, List, [], ◌∷◌, ◌++◌, length, slice_get, IsTrue, Result, Ok, Err}
 use Rattle.sector_disk.specs.declared.machine.Machine.{Ghosts}
-use Rattle.sector_disk.specs.Machine.{Moment, LeavesOnly}
+use Rattle.sector_disk.specs.Calls.{StopsOnly}
+use Rattle.sector_disk.specs.Machine.{Moment}
 use Rattle.fsd_files.specs.Desk.{Session}
 use Rattle.fsd_files.specs.Disk.{Image, in_runs}
 use Rattle.fsd_files.specs.Volume.{Volume}
@@ -13,7 +14,7 @@ use Rattle.fsd_runs.specs.Sessions.{Meeting, session_over}
 use Rattle.volume_turns.specs.declared.turns.End.{End}
 use Rattle.volume_turns.specs.declared.turns.End.TheVariants.{Fault as Stopped, Output}
 use Rattle.volume_turns.specs.Once.{IsDone}
-use Rattle.volume_contract.specs.State.{Known, volume_of}
+use Rattle.volume_contract.specs.State.{Known, volume_of, forced_of}
 use Rattle.volume_turns.specs.Turns.{InRun, EndsAtOnce, Said}
 
 -- where it cut the group off, the mount is worn out
@@ -36,11 +37,11 @@ abbrev pub turns_behind : (through : Bool) → (more : List Turn) → List Turn
 turns_behind true more = forced_turn ∷ more
 turns_behind false more = blank ∷ []
 
-abbrev pub EndsGroup : Errand → Known → (cut : Bool) → List Meeting → List ScriptCommand → (old new : Moment) → Result Bool End → Type 0
-EndsGroup e k cut mets commands old new (Ok all) =
-    (all ≡ not cut) × IsTrue (is_through cut mets commands) × IsDone k (turns_begun e mets (session_over (volume_of k)) commands ++ forced_turn ∷ []) (behind mets (session_over (volume_of k)) commands).volume old new
-EndsGroup e k cut mets commands old new (Err (Stopped fault)) = EndsAtOnce fault × Said k fault (turns_begun e mets (session_over (volume_of k)) commands) old new
-EndsGroup e k cut mets commands old new (Err Output) = ⊤
+abbrev pub EndsGroup : {D : Type 0} → (M : Ghosts D) → Errand → Known → (cut : Bool) → List Meeting → List ScriptCommand → (a b : D) → Result Bool End → Type 0
+EndsGroup M e k cut mets commands a b (Ok all) =
+    (all ≡ not cut) × IsTrue (is_through cut mets commands) × IsDone M k (turns_begun e mets (session_over (volume_of k)) commands ++ forced_turn ∷ []) (behind mets (session_over (volume_of k)) commands).volume a b
+EndsGroup M e k cut mets commands a b (Err (Stopped fault)) = EndsAtOnce fault × Said M k (forced_of k) fault (turns_begun e mets (session_over (volume_of k)) commands) a b
+EndsGroup M e k cut mets commands a b (Err Output) = ⊤
 
 -- Of a group from a moment on.
 pub record IsGroup {D : Type 0} (M : Ghosts D) (e : Errand) (k : Known) (from : Moment) (commands : List ScriptCommand) (a b : D) (result : Result Bool End) : Type 0 where
@@ -48,8 +49,8 @@ pub record IsGroup {D : Type 0} (M : Ghosts D) (e : Errand) (k : Known) (from : 
   pub cut : Bool
   pub before : CutsOff cut mets (session_over (volume_of k)) commands
   pub goes : (t : ℕ) → t ≤ M.moment a → Goes (in_runs k.windows) (M.left_since b t) (WornIf cut) e (M.now a).said from.image (session_over (volume_of k)) mets commands
-  pub moments : (more : List Turn) → LeavesOnly M.moment M.left_since a b (InRun k (turns_begun e mets (session_over (volume_of k)) commands ++ turns_behind (is_through cut mets commands) more) (M.now a))
-  pub ends : EndsGroup e k cut mets commands (M.now a) (M.now b) result
+  pub moments : (more : List Turn) → StopsOnly M a b (InRun k (forced_of k) (turns_begun e mets (session_over (volume_of k)) commands ++ turns_behind (is_through cut mets commands) more) (M.now a))
+  pub ends : EndsGroup M e k cut mets commands a b result
 
 abbrev pub is_worn_end : End → Bool
 is_worn_end (Stopped Ends.WornOut) = true

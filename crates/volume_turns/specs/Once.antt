@@ -5,7 +5,8 @@ use Rattle.fsd_bytes.specs.declared.refusal.Refusal.{Refusal}
 use Rattle.fsd_bytes.specs.declared.refusal.Refusal.TheVariants as Why
 use Rattle.sector_disk.specs.declared.machine.Machine.{Ghosts}
 use Rattle.sector_disk.specs.Image.{AllWorn}
-use Rattle.sector_disk.specs.Machine.{Moment, LeavesOnly}
+use Rattle.sector_disk.specs.Calls.{IsHeld, StopsOnly}
+use Rattle.sector_disk.specs.Machine.{Moment}
 use Rattle.fsd_files.specs.Desk.{Session}
 use Rattle.fsd_files.specs.Disk.{Image, in_runs}
 use Rattle.fsd_files.specs.Volume.{Volume}
@@ -45,43 +46,50 @@ close_fault why = Ends.Memory
 
 -- ---- the end of a volume, and a text behind it
 
--- Nothing is said before all is forced.
-pub record InClose (k : Known) (text : List ℕ) (old left : Moment) : Type 0 where
+-- Nothing is said before all is forced, and on the disk.
+pub record InClose (k : Known) (f : ℕ) (text : List ℕ) (old left : Moment) : Type 0 where
   pub windows : left.windows ≡ old.windows
   pub forced : ℕ
-  pub least : forced_of k ≤ forced
+  pub least : f ≤ forced
   pub sound : IsSound k.mounted.volume.layout k.windows k.changes forced left.image
   pub heard : ℕ
   pub said : left.said ≡ old.said ++ take heard text
   pub all : 0 < heard → forced ≡ length k.changes
 
 -- All is said. The disk's own table is the volume's, however it wears, and both roots are those of this layout.
-pub record SaysClosedBy (own : Layout) (k : Known) (text : List ℕ) (old new : Moment) : Type 0 where
-  pub windows : new.windows ≡ old.windows
-  pub said : new.said ≡ old.said ++ text
-  pub sound : IsSound k.mounted.volume.layout k.windows k.changes (length k.changes) new.image
-  pub tells : told k.mounted.volume.layout new.image ≡ Some (telling_of (volume_of k))
-  pub lasts : AllWorn (weak_of k.windows) (λ j. told k.mounted.volume.layout j ≡ Some (telling_of (volume_of k))) new.image
-  pub roots : HasOwnRoots own (weak_of k.windows) new.image
+pub record SaysClosedBy {D : Type 0} (own : Layout) (M : Ghosts D) (k : Known) (text : List ℕ) (a b : D) : Type 0 where
+  pub windows : (M.now b).windows ≡ (M.now a).windows
+  pub said : (M.now b).said ≡ (M.now a).said ++ text
+  pub sound : IsSound k.mounted.volume.layout k.windows k.changes (length k.changes) (M.now b).image
+  pub held : IsHeld M b (λ c. IsSound k.mounted.volume.layout k.windows k.changes (length k.changes) c.image)
+  pub tells : told k.mounted.volume.layout (M.now b).image ≡ Some (telling_of (volume_of k))
+  pub lasts : AllWorn (weak_of k.windows) (λ j. told k.mounted.volume.layout j ≡ Some (telling_of (volume_of k))) (M.now b).image
+  pub roots : HasOwnRoots own (weak_of k.windows) (M.now b).image
 
-abbrev pub EndsClosedBy : Layout → Known → List ℕ → (old new : Moment) → Result (Unit {0}) End → Type 0
-EndsClosedBy own k text old new (Ok x) = SaysClosedBy own k text old new
-EndsClosedBy own k text old new (Err (Stopped fault)) = EndsAtOnce fault × (new.said ≡ old.said) × InClose k text old new
-EndsClosedBy own k text old new (Err Output) = ⊤
+-- It failed before anything was said.
+pub record Unclosed {D : Type 0} (M : Ghosts D) (k : Known) (f : ℕ) (a b : D) : Type 0 where
+  pub windows : (M.now b).windows ≡ (M.now a).windows
+  pub said : (M.now b).said ≡ (M.now a).said
+  pub held : IsHeld M b (λ c. IsSound k.mounted.volume.layout k.windows k.changes f c.image)
 
-pub record ClosesAndSaysBy {D : Type 0} (own : Layout) (M : Ghosts D) (k : Known) (text : List ℕ) (a b : D) (result : Result (Unit {0}) End) : Type 0 where
-  pub moments : LeavesOnly M.moment M.left_since a b (InClose k text (M.now a))
-  pub ends : EndsClosedBy own k text (M.now a) (M.now b) result
+abbrev pub EndsClosedBy : {D : Type 0} → Layout → (M : Ghosts D) → Known → (f : ℕ) → List ℕ → (a b : D) → Result (Unit {0}) End → Type 0
+EndsClosedBy own M k f text a b (Ok x) = SaysClosedBy own M k text a b
+EndsClosedBy own M k f text a b (Err (Stopped fault)) = EndsAtOnce fault × Unclosed M k f a b
+EndsClosedBy own M k f text a b (Err Output) = ⊤
+
+pub record ClosesAndSaysBy {D : Type 0} (own : Layout) (M : Ghosts D) (k : Known) (f : ℕ) (text : List ℕ) (a b : D) (result : Result (Unit {0}) End) : Type 0 where
+  pub moments : StopsOnly M a b (InClose k f text (M.now a))
+  pub ends : EndsClosedBy own M k f text a b result
 
 -- and these are of the volume's own
-abbrev pub SaysClosed : Known → List ℕ → (old new : Moment) → Type 0
-SaysClosed k text old new = SaysClosedBy k.mounted.volume.layout k text old new
+abbrev pub SaysClosed : {D : Type 0} → (M : Ghosts D) → Known → List ℕ → (a b : D) → Type 0
+SaysClosed M k text a b = SaysClosedBy k.mounted.volume.layout M k text a b
 
-abbrev pub EndsClosed : Known → List ℕ → (old new : Moment) → Result (Unit {0}) End → Type 0
-EndsClosed k text old new result = EndsClosedBy k.mounted.volume.layout k text old new result
+abbrev pub EndsClosed : {D : Type 0} → (M : Ghosts D) → Known → (f : ℕ) → List ℕ → (a b : D) → Result (Unit {0}) End → Type 0
+EndsClosed M k f text a b result = EndsClosedBy k.mounted.volume.layout M k f text a b result
 
-abbrev pub ClosesAndSays : {D : Type 0} → (M : Ghosts D) → Known → List ℕ → (a b : D) → Result (Unit {0}) End → Type 0
-ClosesAndSays M k text a b result = ClosesAndSaysBy k.mounted.volume.layout M k text a b result
+abbrev pub ClosesAndSays : {D : Type 0} → (M : Ghosts D) → Known → (f : ℕ) → List ℕ → (a b : D) → Result (Unit {0}) End → Type 0
+ClosesAndSays M k f text a b result = ClosesAndSaysBy k.mounted.volume.layout M k f text a b result
 
 -- ---- one command
 
@@ -92,13 +100,14 @@ unit_of (Err end) = Err end
 
 -- All is said, and all is forced: the disk's own table is that of the volume behind it, however it wears, and both roots
 -- are those of its layout.
-pub record IsDone (k : Known) (turns : List Turn) (after : Volume) (old new : Moment) : Type 0 where
-  pub windows : new.windows ≡ old.windows
-  pub said : new.said ≡ old.said ++ said_in turns
-  pub sound : IsSound k.mounted.volume.layout k.windows (k.changes ++ changes_in turns) (length (k.changes ++ changes_in turns)) new.image
-  pub tells : told k.mounted.volume.layout new.image ≡ Some (telling_of after)
-  pub lasts : AllWorn (weak_of k.windows) (λ j. told k.mounted.volume.layout j ≡ Some (telling_of after)) new.image
-  pub roots : HasOwnRoots after.layout (weak_of k.windows) new.image
+pub record IsDone {D : Type 0} (M : Ghosts D) (k : Known) (turns : List Turn) (after : Volume) (a b : D) : Type 0 where
+  pub windows : (M.now b).windows ≡ (M.now a).windows
+  pub said : (M.now b).said ≡ (M.now a).said ++ said_in turns
+  pub sound : IsSound k.mounted.volume.layout k.windows (k.changes ++ changes_in turns) (length (k.changes ++ changes_in turns)) (M.now b).image
+  pub held : IsHeld M b (λ c. IsSound k.mounted.volume.layout k.windows (k.changes ++ changes_in turns) (length (k.changes ++ changes_in turns)) c.image)
+  pub tells : told k.mounted.volume.layout (M.now b).image ≡ Some (telling_of after)
+  pub lasts : AllWorn (weak_of k.windows) (λ j. told k.mounted.volume.layout j ≡ Some (telling_of after)) (M.now b).image
+  pub roots : HasOwnRoots after.layout (weak_of k.windows) (M.now b).image
 
 -- the status of its reply
 abbrev pub status_alone : Command → List Meeting → Session → ℕ
@@ -108,10 +117,17 @@ status_alone c mets s = (alone_ending (answered mets s (Plain c ∷ []))).status
 abbrev pub Spares : Known → Fault → Image → Type 0
 Spares k why i = why ≡ Ends.Memory → IsSound k.mounted.volume.layout k.windows k.changes (forced_of k) i
 
-abbrev pub EndsAlone : Command → Known → List Meeting → (old new : Moment) → Result ℕ End → Type 0
-EndsAlone c k mets old new (Ok status) = (length mets ≡ 1) × (status ≡ status_alone c mets (session_over (volume_of k))) × IsDone k (turns_of (alone c) mets (session_over (volume_of k))) (behind mets (session_over (volume_of k)) (Plain c ∷ [])).volume old new
-EndsAlone c k mets old new (Err (Stopped fault)) = EndsAtOnce fault × (new.said ≡ old.said) × Spares k fault new.image
-EndsAlone c k mets old new (Err Output) = ⊤
+-- It ended before its reply was said.
+pub record Unanswered {D : Type 0} (M : Ghosts D) (c : Command) (k : Known) (mets : List Meeting) (fault : Fault) (a b : D) : Type 0 where
+  pub once : EndsAtOnce fault
+  pub said : (M.now b).said ≡ (M.now a).said
+  pub spared : Spares k fault (M.now b).image
+  pub held : IsHeld M b (λ i. IsSound k.mounted.volume.layout k.windows (k.changes ++ changes_in (take 1 (turns_of (alone c) mets (session_over (volume_of k))))) (forced_of k) i.image)
+
+abbrev pub EndsAlone : {D : Type 0} → (M : Ghosts D) → Command → Known → List Meeting → (a b : D) → Result ℕ End → Type 0
+EndsAlone M c k mets a b (Ok status) = (length mets ≡ 1) × (status ≡ status_alone c mets (session_over (volume_of k))) × IsDone M k (turns_of (alone c) mets (session_over (volume_of k))) (behind mets (session_over (volume_of k)) (Plain c ∷ [])).volume a b
+EndsAlone M c k mets a b (Err (Stopped fault)) = Unanswered M c k mets fault a b
+EndsAlone M c k mets a b (Err Output) = ⊤
 
 abbrev pub Anything : Volume → Image → Type 0
 Anything v i = ⊤
@@ -119,5 +135,5 @@ Anything v i = ⊤
 pub record IsAlone {D : Type 0} (M : Ghosts D) (c : Command) (k : Known) (a b : D) (result : Result ℕ End) : Type 0 where
   pub mets : List Meeting
   pub goes : (t : ℕ) → t ≤ M.moment a → Goes (in_runs k.windows) (M.left_since b t) Anything (alone c) (M.now a).said (M.now a).image (session_over (volume_of k)) mets (Plain c ∷ [])
-  pub moments : LeavesOnly M.moment M.left_since a b (InRun k (turns_of (alone c) mets (session_over (volume_of k))) (M.now a))
-  pub ends : EndsAlone c k mets (M.now a) (M.now b) result
+  pub moments : StopsOnly M a b (InRun k (forced_of k) (turns_of (alone c) mets (session_over (volume_of k))) (M.now a))
+  pub ends : EndsAlone M c k mets a b result

@@ -1,10 +1,10 @@
 -- Commands one after another over a mounted volume, each with its reply said: what a stop leaves, and how they end.
-use Rattle.std.specs.Prelude.{◌≡◌, ⊤, ℕ, suc, ◌+◌, ◌≤◌, List, ◌∷◌, ◌++◌, length, take, slice_get, Option, None, Result, Ok, Err, IsTrue}
+use Rattle.std.specs.Prelude.{◌≡◌, ◌⊎◌, ⊤, Bool, ℕ, suc, ◌+◌, ◌≤◌, List, ◌∷◌, ◌++◌, length, take, slice_get, Option, None, Result, Ok, Err, IsTrue}
 use Rattle.volume_layout.specs.declared.layout.Layout.{Layout}
 use Rattle.fsd_log.specs.Scan.{Placed}
 use Rattle.std.specs.List.{flat_map, list_any}
 use Rattle.sector_disk.specs.declared.machine.Machine.{Ghosts}
-use Rattle.sector_disk.specs.Machine.{Moment, Report, Rose, LeavesOnly, Wears}
+use Rattle.sector_disk.specs.Machine.{Moment, Report, Rose, Utters, Wears}
 use Rattle.fsd_files.specs.Disk.{Image, in_runs}
 use Rattle.fsd_files.specs.Desk.{Session}
 use Rattle.fsd_files.specs.Replies.{Reply}
@@ -21,41 +21,53 @@ use Rattle.fsd_runs.specs.Sessions.{Meeting, answer_in}
 use Rattle.client_desk.specs.declared.client.Client.{Client}
 use Rattle.volume_turns.specs.declared.turns.End.{End}
 use Rattle.volume_turns.specs.declared.turns.End.TheVariants.{Fault as Stopped, Output}
-use Rattle.sector_disk.specs.Calls.{DiskFaults, Since}
+use Rattle.sector_disk.specs.Calls.{DiskFaults, IsHeld, Since, StopsOnly}
 use Rattle.volume_contract.specs.State.{State, Ages, Known, forced_of}
 use Rattle.volume_turns.specs.Seats.{Seated, SitsAt, known_of, session_in}
 use Rattle.volume_turns.specs.Steps.{IsOfCall, IsToldOn, device_told}
 
--- A moment of a run of these turns over a volume that stands so: some are said whole, and a part of what comes next.
--- The disk is sound for the changes of the turns said and of the one under way.
-pub record InRun (k : Known) (turns : List Turn) (old left : Moment) : Type 0 where
+-- What a stop leaves in a run of these turns over a volume that stands so, of whose changes so many were told as forced:
+-- some turns are said whole, and a part of what comes next. The disk is sound for the changes of the turns said and of the
+-- one under way.
+pub record InRun (k : Known) (f : ℕ) (turns : List Turn) (old left : Moment) : Type 0 where
   pub windows : left.windows ≡ old.windows
   pub whole : ℕ
   pub part : List ℕ
   pub said : left.said ≡ old.said ++ (said_in (take whole turns) ++ part)
   pub forced : ℕ
   pub next : SaysNext (length k.changes + forced_in (take (suc whole) turns) ≤ forced) (slice_get turns whole) part
-  pub least : forced_of k ≤ forced
+  pub least : f ≤ forced
   pub enough : IsTrue (list_any (λ t. t.forces) (take whole turns)) → length k.changes + forced_in (take whole turns) ≤ forced
   pub sound : IsSound k.mounted.volume.layout k.windows (k.changes ++ changes_in (take (suc whole) turns)) forced left.image
 
--- All of it is said, or none where memory was refused.
+-- Whichever of the moments since the last sync is on the disk, it is sound for the changes so far, with so many forced.
+pub record OnDisk {D : Type 0} (M : Ghosts D) (k : Known) (f : ℕ) (m : D) : Type 0 where
+  pub most : f ≤ forced_of k
+  pub each : IsHeld M m (λ c. IsSound k.mounted.volume.layout k.windows k.changes f c.image)
+
+-- Some first bytes of a text are said; where it is to stand behind a sync, none before one.
+pub record UttersBehind (syncs : Bool) (text : List ℕ) (old left : Moment) : Type 0 where
+  pub utters : Utters text old left
+  pub synced : IsTrue syncs → (left.said ≡ old.said) ⊎ (old.time ≤ left.synced)
+
+-- All of it is said, or none where memory was refused or the sync in front of it has failed.
 pub record SaysAll (text : List ℕ) (old new : Moment) : Type 0 where
   pub ages : Ages old new
   pub said : new.said ≡ old.said ++ text
 
 abbrev pub Unsaid : Moment → Moment → End → Type 0
 Unsaid old new (Stopped Ends.Memory) = Wears old new
+Unsaid old new (Stopped (Ends.Device s)) = Wears old new
 Unsaid old new Output = ⊤
 Unsaid old new end = ⊥
 
--- What stands behind a turn.
-pub record Carries (k after : Known) (t : Turn) : Type 0 where
+-- What stands behind a turn, in front of which so many changes were told as forced, and so many behind it.
+pub record Carries (k after : Known) (f g : ℕ) (t : Turn) : Type 0 where
   pub layout : after.mounted.volume.layout ≡ k.mounted.volume.layout
   pub windows : after.windows ≡ k.windows
   pub changes : after.changes ≡ k.changes ++ t.changes
-  pub least : forced_of k ≤ forced_of after
-  pub all : IsTrue t.forces → forced_of after ≡ length after.changes
+  pub least : f ≤ g
+  pub all : IsTrue t.forces → g ≡ length after.changes
 
 -- Nothing, or what a group that is cut off asks for: the mount is worn out.
 abbrev pub Behind : Result (Unit {0}) End → Volume → Image → Type 0
@@ -90,83 +102,89 @@ WantsNone (Stopped fault) = IsWant fault → ⊥
 WantsNone Output = ⊤
 
 -- The disk is sound for the changes of so many turns alone.
-pub record Undone (k : Known) (turns : List Turn) (whole : ℕ) (i : Image) : Type 0 where
+pub record Undone (k : Known) (f : ℕ) (turns : List Turn) (whole : ℕ) (i : Image) : Type 0 where
   pub forced : ℕ
-  pub least : forced_of k ≤ forced
+  pub least : f ≤ forced
   pub enough : IsTrue (list_any (λ t. t.forces) (take whole turns)) → length k.changes + forced_in (take whole turns) ≤ forced
   pub sound : IsSound k.mounted.volume.layout k.windows (k.changes ++ changes_in (take whole turns)) forced i
 
--- What was said is whole turns, and not all that were begun, or no more were. The disk is sound for the changes of
--- these and of the one behind them, where one was begun; for these alone, where memory was refused.
-pub record Said (k : Known) (why : Fault) (turns : List Turn) (old now : Moment) : Type 0 where
-  pub windows : now.windows ≡ old.windows
+-- What was said is whole turns, and not all that were begun, or no more were. Whichever of the moments since the last sync
+-- is on the disk, it is sound for the changes of these and of the one behind them, where one was begun; what is there now
+-- for these alone, where memory was refused.
+pub record Said {D : Type 0} (M : Ghosts D) (k : Known) (f : ℕ) (why : Fault) (turns : List Turn) (a b : D) : Type 0 where
+  pub windows : (M.now b).windows ≡ (M.now a).windows
   pub whole : ℕ
   pub most : whole ≤ length turns
-  pub said : now.said ≡ old.said ++ said_in (take whole turns)
+  pub said : (M.now b).said ≡ (M.now a).said ++ said_in (take whole turns)
   pub forced : ℕ
-  pub least : forced_of k ≤ forced
+  pub least : f ≤ forced
   pub enough : IsTrue (list_any (λ t. t.forces) (take whole turns)) → length k.changes + forced_in (take whole turns) ≤ forced
-  pub sound : IsSound k.mounted.volume.layout k.windows (k.changes ++ changes_in (take (suc whole) turns)) forced now.image
-  pub undone : why ≡ Ends.Memory → Undone k turns whole now.image
+  pub sound : IsHeld M b (λ c. IsSound k.mounted.volume.layout k.windows (k.changes ++ changes_in (take (suc whole) turns)) forced c.image)
+  pub undone : why ≡ Ends.Memory → Undone k f turns whole (M.now b).image
 
 abbrev pub turn_by : Errand → Session → ScriptCommand → Meeting → Turn
 turn_by e s command x = turn_of e (answered_so s command (answer_in x s command).0)
 
 module _ {S : Type 0} (state : S → State) (has : S → Mounted → List Placed → Type 0) where
   -- The commands that were begun are answered and said, and the volume stands behind them.
-  pub record StandsBehind (e : Errand) (k : Seated) (mets : List Meeting) (commands : List ScriptCommand) (s : S × List Client) (old now : Moment) : Type 0 where
+  pub record StandsBehind {D : Type 0} (M : Ghosts D) (e : Errand) (k : Seated) (f : ℕ) (mets : List Meeting) (commands : List ScriptCommand) (s : S × List Client) (a b : D) : Type 0 where
     pub after : Seated
     pub is : session_in after ≡ behind mets (session_in k) commands
     pub windows : after.windows ≡ k.windows
     pub changes : after.changes ≡ k.changes ++ changes_in (turns_begun e mets (session_in k) commands)
-    pub said : now.said ≡ old.said ++ said_in (turns_begun e mets (session_in k) commands)
-    pub open_windows : now.windows ≡ old.windows
+    pub said : (M.now b).said ≡ (M.now a).said ++ said_in (turns_begun e mets (session_in k) commands)
+    pub open_windows : (M.now b).windows ≡ (M.now a).windows
     pub layout : after.mounted.volume.layout ≡ k.mounted.volume.layout
-    pub least : forced_of (known_of k) ≤ forced_of (known_of after)
-    pub forced : IsTrue (list_any (λ t. t.forces) (turns_begun e mets (session_in k) commands)) → length k.changes + forced_in (turns_begun e mets (session_in k) commands) ≤ forced_of (known_of after)
-    pub stands : SitsAt state has s after now
+    -- so many changes are told as forced
+    pub told : ℕ
+    pub least : f ≤ told
+    pub forced : IsTrue (list_any (λ t. t.forces) (turns_begun e mets (session_in k) commands)) → length k.changes + forced_in (turns_begun e mets (session_in k) commands) ≤ told
+    pub held : OnDisk M (known_of after) told b
+    pub stands : SitsAt state has s after (M.now b)
 
-  abbrev pub EndsBy : Errand → Seated → List Meeting → List ScriptCommand → S × List Client → (old now : Moment) → Result (Unit {0}) End → Type 0
-  EndsBy e k mets commands s old now (Ok x) = (length mets ≡ length commands) × StandsBehind e k mets commands s old now
-  EndsBy e k mets commands s old now (Err (Stopped Ends.WornOut)) = WearsOut (behind mets (session_in k) commands) (slice_get commands (length mets)) × StandsBehind e k mets commands s old now
-  EndsBy e k mets commands s old now (Err (Stopped fault)) = EndsAtOnce fault × Said (known_of k) fault (turns_begun e mets (session_in k) commands) old now
-  EndsBy e k mets commands s old now (Err Output) = ⊤
+  abbrev pub EndsBy : {D : Type 0} → (M : Ghosts D) → Errand → Seated → (f : ℕ) → List Meeting → List ScriptCommand → S × List Client → (a b : D) → Result (Unit {0}) End → Type 0
+  EndsBy M e k f mets commands s a b (Ok x) = (length mets ≡ length commands) × StandsBehind M e k f mets commands s a b
+  EndsBy M e k f mets commands s a b (Err (Stopped Ends.WornOut)) = WearsOut (behind mets (session_in k) commands) (slice_get commands (length mets)) × StandsBehind M e k f mets commands s a b
+  EndsBy M e k f mets commands s a b (Err (Stopped fault)) = EndsAtOnce fault × Said M (known_of k) f fault (turns_begun e mets (session_in k) commands) a b
+  EndsBy M e k f mets commands s a b (Err Output) = ⊤
 
   -- The commands over the volume as it stood at a moment that has been worn since.
-  pub record RunsFrom {D : Type 0} (M : Ghosts D) (e : Errand) (k : Seated) (from : Moment) (commands : List ScriptCommand) (a b : D) (s : S × List Client) (result : Result (Unit {0}) End) : Type 0 where
+  pub record RunsFrom {D : Type 0} (M : Ghosts D) (e : Errand) (k : Seated) (f : ℕ) (from : Moment) (commands : List ScriptCommand) (a b : D) (s : S × List Client) (result : Result (Unit {0}) End) : Type 0 where
     pub mets : List Meeting
     pub goes : (t : ℕ) → t ≤ M.moment a → Goes (in_runs k.windows) (M.left_since b t) (Behind result) e (M.now a).said from.image (session_in k) mets commands
-    pub moments : (rest : List Turn) → LeavesOnly M.moment M.left_since a b (InRun (known_of k) (turns_begun e mets (session_in k) commands ++ rest) (M.now a))
-    pub ends : EndsBy e k mets commands s (M.now a) (M.now b) result
+    pub moments : (rest : List Turn) → StopsOnly M a b (InRun (known_of k) f (turns_begun e mets (session_in k) commands ++ rest) (M.now a))
+    pub ends : EndsBy M e k f mets commands s a b result
 
   abbrev pub Runs : {D : Type 0} → (M : Ghosts D) → Errand → List ScriptCommand → (old : S × List Client) → (a : D) → (new : S × List Client) → (b : D) → Result (Unit {0}) End → Type 0
   Runs M e commands old a new b result =
-      M.honest b → (k : Seated) (from : Moment) → SitsAt state has old k from → Ages from (M.now a) → RunsFrom M e k from commands a b new result
+      M.honest b → (k : Seated) (f : ℕ) (from : Moment) → SitsAt state has old k from → Ages from (M.now a) → OnDisk M (known_of k) f a → RunsFrom M e k f from commands a b new result
 
   -- ---- one command
 
   -- It is answered and said: the volume stands so before its reply is said, and since.
-  pub record StepsOk {D : Type 0} (M : Ghosts D) (e : Errand) (k : Seated) (from : Moment) (command : ScriptCommand) (a b : D) (s : S × List Client) : Type 0 where
+  pub record StepsOk {D : Type 0} (M : Ghosts D) (e : Errand) (k : Seated) (f : ℕ) (from : Moment) (command : ScriptCommand) (a b : D) (s : S × List Client) : Type 0 where
     pub met : Meeting
     pub after : Seated
     pub mid : Moment
     pub step : (t : ℕ) → t ≤ M.moment a → IsStep (in_runs k.windows) (M.left_since b t) (M.now a).said from.image mid.image (session_in k) command met
     pub is : session_in after ≡ (answer_in met (session_in k) command).1
-    pub carries : Carries (known_of k) (known_of after) (turn_by e (session_in k) command met)
+    pub told : ℕ
+    pub carries : Carries (known_of k) (known_of after) f told (turn_by e (session_in k) command met)
+    pub held : OnDisk M (known_of after) told b
     pub stands : SitsAt state has s after mid
     pub ages : Ages mid (M.now b)
     pub open_windows : (M.now b).windows ≡ (M.now a).windows
     pub said : (M.now b).said ≡ (M.now a).said ++ (turn_by e (session_in k) command met).said
-    pub moments : (rest : List Turn) → LeavesOnly M.moment M.left_since a b (InRun (known_of k) (turn_by e (session_in k) command met ∷ rest) (M.now a))
+    pub moments : (rest : List Turn) → StopsOnly M a b (InRun (known_of k) f (turn_by e (session_in k) command met ∷ rest) (M.now a))
 
   -- where it ends the run, it does so whatever commands would follow
-  abbrev pub StepsBy : {D : Type 0} → (M : Ghosts D) → Errand → Seated → Moment → ScriptCommand → (a b : D) → S × List Client → Result (Unit {0}) End → Type 0
-  StepsBy M e k from command a b s (Ok x) = StepsOk M e k from command a b s
-  StepsBy M e k from command a b s (Err end) = (more : List ScriptCommand) → RunsFrom M e k from (command ∷ more) a b s (Err end)
+  abbrev pub StepsBy : {D : Type 0} → (M : Ghosts D) → Errand → Seated → (f : ℕ) → Moment → ScriptCommand → (a b : D) → S × List Client → Result (Unit {0}) End → Type 0
+  StepsBy M e k f from command a b s (Ok x) = StepsOk M e k f from command a b s
+  StepsBy M e k f from command a b s (Err end) = (more : List ScriptCommand) → RunsFrom M e k f from (command ∷ more) a b s (Err end)
 
   abbrev pub Steps : {D : Type 0} → (M : Ghosts D) → Errand → ScriptCommand → (old : S × List Client) → (a : D) → (new : S × List Client) → (b : D) → Result (Unit {0}) End → Type 0
   Steps M e command old a new b result =
-      M.honest b → (k : Seated) (from : Moment) → SitsAt state has old k from → Ages from (M.now a) → StepsBy M e k from command a b new result
+      M.honest b → (k : Seated) (f : ℕ) (from : Moment) → SitsAt state has old k from → Ages from (M.now a) → OnDisk M (known_of k) f a → StepsBy M e k f from command a b new result
 
 -- ---- what is said over any image
 

@@ -2,7 +2,8 @@
 use Rattle.std.specs.Prelude.{◌≡◌, ◌⊎◌, ⊤, ℕ, suc, ◌+◌, ◌≤◌, List, ◌++◌, length, take, IsSome, IsTrue, slice_get}
 use Rattle.std.specs.List.{list_any}
 use Rattle.sector_disk.specs.declared.machine.Machine.{Ghosts}
-use Rattle.sector_disk.specs.Machine.{Moment, Report, LeavesOnly}
+use Rattle.sector_disk.specs.Calls.{IsHeld, StopsOnly}
+use Rattle.sector_disk.specs.Machine.{Report}
 use Rattle.fsd_files.specs.Disk.{Image, in_runs}
 use Rattle.fsd_files.specs.Desk.{Session}
 use Rattle.fsd_files.specs.Volume.{Volume}
@@ -20,18 +21,19 @@ use Rattle.volume_turns.specs.Turns.{InRun, Undone}
 
 -- ---- between two turns
 
--- Some of the turns are said whole, and more are to come, but for a fault. The disk is sound for their changes and those
--- of the next one; for theirs alone, where memory was refused.
-pub record Halted (k : Known) (why : Fault) (turns : List Turn) (old now : Moment) : Type 0 where
-  pub windows : now.windows ≡ old.windows
+-- Some of the turns are said whole, and more are to come, but for a fault. Whichever of the moments since the last sync is
+-- on the disk, it is sound for their changes and those of the next one; what is there now for theirs alone, where memory
+-- was refused.
+pub record Halted {D : Type 0} (M : Ghosts D) (k : Known) (why : Fault) (turns : List Turn) (a b : D) : Type 0 where
+  pub windows : (M.now b).windows ≡ (M.now a).windows
   pub whole : ℕ
   pub more : IsSome (slice_get turns whole)
-  pub said : now.said ≡ old.said ++ said_in (take whole turns)
+  pub said : (M.now b).said ≡ (M.now a).said ++ said_in (take whole turns)
   pub forced : ℕ
   pub least : forced_of k ≤ forced
   pub enough : IsTrue (list_any (λ t. t.forces) (take whole turns)) → length k.changes + forced_in (take whole turns) ≤ forced
-  pub sound : IsSound k.mounted.volume.layout k.windows (k.changes ++ changes_in (take (suc whole) turns)) forced now.image
-  pub undone : why ≡ Ends.Memory → Undone k turns whole now.image
+  pub sound : IsHeld M b (λ c. IsSound k.mounted.volume.layout k.windows (k.changes ++ changes_in (take (suc whole) turns)) forced c.image)
+  pub undone : why ≡ Ends.Memory → Undone k (forced_of k) turns whole (M.now b).image
 
 -- ---- to the end
 
@@ -40,10 +42,10 @@ abbrev pub Always : Session → Type 0
 Always s = ⊤
 
 -- All commands were begun, all is said and forced, and the status is given.
-pub record SaysOut (e : Errand) (k : Known) (mets : List Meeting) (old new : Moment) (status : ℕ) : Type 0 where
+pub record SaysOut {D : Type 0} (M : Ghosts D) (e : Errand) (k : Known) (mets : List Meeting) (a b : D) (status : ℕ) : Type 0 where
   pub through : length mets ≡ length e.commands
   pub gives : status ≡ (e.ends (answered mets (session_over (volume_of k)) e.commands)).status
-  pub done : IsDone k (turns_of e mets (session_over (volume_of k))) (behind mets (session_over (volume_of k)) e.commands).volume old new
+  pub done : IsDone M k (turns_of e mets (session_over (volume_of k))) (behind mets (session_over (volume_of k)) e.commands).volume a b
 
 -- The commands of an errand, from the mounted volume to the end, and what is so behind them: all is said, or the output failed, or a fault has
 -- ended it, which was counted since before.
@@ -51,8 +53,8 @@ pub record Finishes {D : Type 0} (M : Ghosts D) (request : Request) (e : Errand)
   pub mets : List Meeting
   pub ahead : Ahead (behind mets (session_over (volume_of k)) e.commands)
   pub goes : (t : ℕ) → t ≤ M.moment a → Goes (in_runs k.windows) (M.left_since b t) Last e (M.now a).said (M.now a).image (session_over (volume_of k)) mets e.commands
-  pub moments : LeavesOnly M.moment M.left_since a b (InRun k (turns_of e mets (session_over (volume_of k))) (M.now a))
-  pub ends : SaysOut e k mets (M.now a) (M.now b) status ⊎ (IsUnsaid before (M.report b) status ⊎ IsBroken request (Undone k (turns_of e mets (session_over (volume_of k)))) before (M.report b) (turns_of e mets (session_over (volume_of k))) (M.now a) (M.now b) status)
+  pub moments : StopsOnly M a b (InRun k (forced_of k) (turns_of e mets (session_over (volume_of k))) (M.now a))
+  pub ends : SaysOut M e k mets a b status ⊎ (IsUnsaid before (M.report b) status ⊎ IsBroken request (Undone k (forced_of k) (turns_of e mets (session_over (volume_of k)))) before (M.report b) (turns_of e mets (session_over (volume_of k))) (M.now a) (M.now b) status)
 
 -- A request over its mounted volume.
 pub record RunsOut {D : Type 0} (M : Ghosts D) (request : Request) (input rest : List ℕ) (before : Report) (k : Known) (a b : D) (status : ℕ) : Type 0 where

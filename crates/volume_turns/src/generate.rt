@@ -1,19 +1,19 @@
 //! Commands that are made up, from the mount to the line that tells what came of them.
 ghost use Rattle.std.specs.Prelude.{◌≡◌, ◌≤◌, ◌<◌, ◌+◌, ◌++◌, ◌^◌, ◌-◌, ℕ, List, None, Some, Ok, Err, false, OnOk, IfErr, IfOk, IfSome, IsTrue};
 ghost use Rattle.sector_disk.specs.declared.sector.WeakRun.{WeakRun};
-ghost use Rattle.sector_disk.specs.Calls.{Since};
-ghost use Rattle.sector_disk.specs.Machine.{LeavesOnly, OnlyWrites, Trusts};
+ghost use Rattle.sector_disk.specs.Calls.{Since, IsHeld, StopsOnly, stops};
+ghost use Rattle.sector_disk.specs.Machine.{OnlyWrites, Trusts};
 ghost use Rattle.volume_layout.specs.declared.layout.Layout.{Layout as Plan};
 ghost use Rattle.fsd_files.specs.Files.{Change};
 ghost use Rattle.fsd_texts.specs.Generator.{made_up};
 ghost use Rattle.fsd_texts.specs.declared.fault.Fault.TheVariants as Ends;
 ghost use Rattle.volume_turns.specs.declared.turns.End.TheVariants.{Fault as Stopped};
 ghost use Rattle.fsd_runs.specs.Errands.{forced_turn};
-ghost use Rattle.fsd_runs.specs.Leaves.{LeavesRun};
+ghost use Rattle.fsd_runs.specs.Leaves.{IsSoundAsSaid, LeavesRun};
 ghost use Rattle.fsd_runs.specs.declared.request.Request.TheVariants.{Generate};
 ghost use Rattle.client_desk.specs.Clients.{IsDesk, no_desk};
 ghost use Rattle.volume_contract.specs.Mount.{IsSoundAt};
-ghost use Rattle.volume_contract.specs.State.{Known, Stands, none_open};
+ghost use Rattle.volume_contract.specs.State.{Known, Stands, none_open, forced_of};
 ghost use Rattle.scrub.specs.Telling.{AreOfPage};
 ghost use Rattle.volume_turns.specs.Causes.{SaysFault, SaysMade, SaysOfCall, TellsImage, is_of_fault};
 ghost use Rattle.volume_turns.specs.Generate.{CountedGroup, Draws, RunsCounted, StepsCounted};
@@ -22,16 +22,16 @@ ghost use Rattle.volume_turns.specs.Once.{ClosesAndSays, unit_of};
 ghost use Rattle.volume_turns.specs.Status.{CountsRun, IsMadeStatus};
 ghost use Rattle.volume_turns.specs.Steps.{MayLose, is_upgrade};
 ghost use Rattle.volume_turns.specs.Tally.{nothing};
-ghost use Rattle.volume_turns.specs.Turns.{IsEndOfVolume, IsEndOn, KeepsSaid, Told, WantsNone};
+ghost use Rattle.volume_turns.specs.Turns.{IsEndOfVolume, IsEndOn, KeepsSaid, Told, WantsNone, OnDisk};
 ghost use Rattle.volume_turns.specs.Whole.{RunsOut};
 
 use crate::commands;
-use crate::line::{end_with, last_line, say_one};
+use crate::line::{end_with, last_line, say_forced};
 use crate::once::{close_fault, fault_of};
 use crate::tally::Tally;
 use crate::turns::{End, is_worn_end};
 use fsd_texts::{Command, Fault, Line};
-use script_text::Maker;
+use script_text::{Maker, lay_line};
 use sector_disk::Machine;
 use std::alloc::Global;
 use volume_contract::Files;
@@ -162,10 +162,13 @@ pub(crate) fn close_forced<M: Machine, V: Files<M>>(v: V, m: &mut M) -> Result<(
     ensures later { M.honest m.new → M.moment m.old ≤ M.moment m.new }
     ensures quiet { M.honest m.new → KeepsSaid (M.now m.old) (M.now m.new) result }
     ensures wants { (V.state v).down ≡ None → IfErr result WantsNone }
-    ensures closes { M.honest m.new → (k : Known) → Stands V.state V.holds v k (M.now m.old) → ClosesAndSays M.Machine k forced_turn.said m.old m.new result }
+    ensures closes { M.honest m.new → (k : Known) (f : ℕ) → Stands V.state V.holds v k (M.now m.old) → OnDisk M.Machine k f m.old → ClosesAndSays M.Machine k f forced_turn.said m.old m.new result }
 {
     match v.close(m) {
-        Ok(()) => say_one(m, &Line::Forced),
+        Ok(()) => {
+            let said = lay_line(&Line::Forced);
+            say_forced(m, said.as_slice())
+        }
         Err(why) => Err(End::Fault(close_fault(why))),
     }
 }
@@ -188,7 +191,7 @@ fn force_behind<M: Machine, V: Files<M>>(
     ensures later { M.honest m.new → M.moment m.old ≤ M.moment m.new }
     ensures same { IfOk result (λ x. x ≡ tally) }
     ensures quiet { M.honest m.new → KeepsSaid (M.now m.old) (M.now m.new) result }
-    ensures closes { M.honest m.new → (k : Known) → Stands V.state V.holds v k (M.now m.old) → ClosesAndSays M.Machine k forced_turn.said m.old m.new (unit_of result) }
+    ensures closes { M.honest m.new → (k : Known) (f : ℕ) → Stands V.state V.holds v k (M.now m.old) → OnDisk M.Machine k f m.old → ClosesAndSays M.Machine k f forced_turn.said m.old m.new (unit_of result) }
 {
     match close_forced(v, m) {
         Ok(()) => Ok(tally),
@@ -220,7 +223,7 @@ fn make_group<M: Machine, V: Files<M> + Drop>(
     ensures since { M.honest m.new → Since M.Machine m.old m.new }
     ensures later { M.honest m.new → M.moment m.old ≤ M.moment m.new }
     ensures quiet { M.honest m.new → KeepsSaid (M.now m.old) (M.now m.new) result }
-    ensures group { M.honest m.new → (k : Known) → k.opened ≡ none_open → Stands V.state V.holds v k (M.now m.old) → CountedGroup M.Machine k (made_up seed count) m.old m.new result }
+    ensures group { M.honest m.new → (k : Known) → k.opened ≡ none_open → Stands V.state V.holds v k (M.now m.old) → OnDisk M.Machine k (forced_of k) m.old → CountedGroup M.Machine k (made_up seed count) m.old m.new result }
 {
     let mut v = v;
     match make_up(alloc, &mut v, m, seed, count) {
@@ -255,7 +258,7 @@ fn generate_on<M: Machine, V: Files<M> + Drop>(
     ensures last { IsTrue (is_of_fault result) → M.honest m.new → SaysFault (M.report m.new).fault_place (M.now m.new) result }
     ensures spent { result ≡ 9 → M.honest m.new → MayWear count (V.state v) }
     ensures all { result ≡ 0 → M.honest m.new → SaysMade count (M.now m.old).said (M.now m.new) }
-    ensures runs { M.honest m.new → (input rest : List ℕ) (k : Known) → k.opened ≡ none_open → Stands V.state V.holds v k (M.now m.old) → RunsOut M.Machine (Generate seed count) input rest (M.report m.old) k m.old m.new result }
+    ensures runs { M.honest m.new → (input rest : List ℕ) (k : Known) → k.opened ≡ none_open → Stands V.state V.holds v k (M.now m.old) → OnDisk M.Machine k (forced_of k) m.old → RunsOut M.Machine (Generate seed count) input rest (M.report m.old) k m.old m.new result }
 {
     match make_group(alloc, v, m, seed, count) {
         Ok(Some(tally)) => last_line(m, &tally.line(), 0),
@@ -283,7 +286,7 @@ pub fn run_generate<M: Machine, V: Files<M> + Drop>(
     ensures last { IsTrue (is_of_fault result) → M.honest m.new → SaysFault (M.report m.new).fault_place (M.now m.new) result }
     ensures all { result ≡ 0 → M.honest m.new → SaysMade count (M.now m.old).said (M.now m.new) }
     ensures leaves { M.honest m.new → (input rest : List ℕ) (l : Plan) (windows : List WeakRun) (h : List Change) (f : ℕ) → IsSoundAt sectors l windows h f (M.now m.old) →
-        LeavesRun (Generate seed count) input rest l windows h f (M.left_since m.new) (M.moment m.old) (LeavesOnly M.moment M.left_since m.old m.new) (M.report m.old) (M.report m.new) (M.now m.old) (M.now m.new) result }
+        IsHeld M.Machine m.old (λ c. IsSoundAsSaid l windows h f (M.now m.old).image c.image) → LeavesRun (Generate seed count) input rest l windows h f (M.left_since m.new) (stops M.Machine m.new) (M.moment m.old) (StopsOnly M.Machine m.old m.new) (M.report m.old) (M.report m.new) (M.now m.old) (M.now m.new) result }
 {
     match V::mount(alloc, m, sectors) {
         Ok(v) => generate_on(alloc, v, m, seed, count),

@@ -1,17 +1,18 @@
 //! A version of the input's bytes, from the mount to its reply.
 ghost use Rattle.std.specs.Prelude.{◌≡◌, ◌≤◌, ◌<◌, ℕ, List, [], None, Option, false, length, IsTrue};
+ghost use Rattle.volume_turns.specs.Turns.{OnDisk};
 ghost use Rattle.sector_disk.specs.declared.sector.WeakRun.{WeakRun};
-ghost use Rattle.sector_disk.specs.Calls.{Since};
-ghost use Rattle.sector_disk.specs.Machine.{LeavesOnly, OnlyWrites, Report, Trusts};
+ghost use Rattle.sector_disk.specs.Calls.{Since, IsHeld, StopsOnly, stops};
+ghost use Rattle.sector_disk.specs.Machine.{OnlyWrites, Report, Trusts};
 ghost use Rattle.volume_layout.specs.declared.layout.Layout.{Layout as Plan};
 ghost use Rattle.fsd_files.specs.Files.{Change};
 ghost use Rattle.fsd_texts.specs.declared.command.Command.TheVariants as Word;
 ghost use Rattle.fsd_texts.specs.Script.{max_input};
 ghost use Rattle.fsd_runs.specs.Commands.{reply_alone};
-ghost use Rattle.fsd_runs.specs.Leaves.{LeavesRun};
+ghost use Rattle.fsd_runs.specs.Leaves.{IsSoundAsSaid, LeavesRun};
 ghost use Rattle.fsd_runs.specs.declared.request.Request.TheVariants.{Put};
 ghost use Rattle.volume_contract.specs.Mount.{IsSoundAt};
-ghost use Rattle.volume_contract.specs.State.{Known, Stands, is_worn, none_open, volume_of};
+ghost use Rattle.volume_contract.specs.State.{Known, Stands, is_worn, none_open, volume_of, forced_of};
 ghost use Rattle.volume_contract.specs.Upgrade.{is_fresh};
 ghost use Rattle.scrub.specs.Telling.{AreOfPage};
 ghost use Rattle.volume_turns.specs.Answering.{SaysNoReply, SaysOne};
@@ -44,8 +45,7 @@ fn refuse_input<M: Machine, V: Files<M>>(v: V, m: &mut M) -> u8
     ensures last { IsTrue (is_of_fault result) → M.honest m.new → SaysFault (M.report m.new).fault_place (M.now m.new) result }
     ensures fault { M.honest m.new → SaysNoReply (M.now m.old) (M.now m.new) result }
     ensures long { result ≡ 5 → M.honest m.new → (input : List ℕ) (old new : Report) → max_input < length input → SaysOfInput input old new (M.now m.new) }
-    ensures runs { M.honest m.new → (name : List ℕ) (keep : Option ℕ) (input rest : List ℕ) (k : Known) → max_input < length input → (volume_of k).unforced ≡ 0 → Stands V.state V.holds v k (M.now m.old) →
-        RunsOut M.Machine (Put name keep) input rest (M.report m.old) k m.old m.new result }
+    ensures runs { M.honest m.new → (name : List ℕ) (keep : Option ℕ) (input rest : List ℕ) (k : Known) → max_input < length input → (volume_of k).unforced ≡ 0 → Stands V.state V.holds v k (M.now m.old) → OnDisk M.Machine k (forced_of k) m.old → RunsOut M.Machine (Put name keep) input rest (M.report m.old) k m.old m.new result }
 {
     match v.close(m) {
         Ok(()) => last_line(m, &Line::Ended(Fault::InputTooLong), 5),
@@ -80,8 +80,7 @@ fn put_on<M: Machine, V: Files<M> + Drop, T: Says>(
     ensures unspent { result ≡ 9 → M.honest m.new → ⊥ }
     ensures last { IsTrue (is_of_fault result) → M.honest m.new → SaysFault (M.report m.new).fault_place (M.now m.new) result }
     ensures one { M.honest m.new → (V.state v).dirty ≡ [] → SaysOne (Word.Put name (M.ledger m.old).input keep) (M.now m.old) (M.now m.new) result }
-    ensures runs { M.honest m.new → (k : Known) → (volume_of k).unforced ≡ 0 → k.opened ≡ none_open → Stands V.state V.holds v k (M.now m.old) →
-        RunsOut M.Machine (Put name keep) (M.ledger m.old).input (M.ledger m.new).input (M.report m.old) k m.old m.new result }
+    ensures runs { M.honest m.new → (k : Known) → (volume_of k).unforced ≡ 0 → k.opened ≡ none_open → Stands V.state V.holds v k (M.now m.old) → OnDisk M.Machine k (forced_of k) m.old → RunsOut M.Machine (Put name keep) (M.ledger m.old).input (M.ledger m.new).input (M.report m.old) k m.old m.new result }
 {
     match read_input(alloc, m) {
         Ok(bytes) => one_on::<M, V, T>(alloc, v, m, &Command::Put { name, bytes, keep }),
@@ -114,7 +113,7 @@ pub fn run_put<M: Machine, V: Files<M> + Drop, T: Says>(
     ensures last { IsTrue (is_of_fault result) → M.honest m.new → SaysFault (M.report m.new).fault_place (M.now m.new) result }
     ensures one { M.honest m.new → SaysOne (Word.Put name (M.ledger m.old).input keep) (M.now m.old) (M.now m.new) result }
     ensures leaves { M.honest m.new → (l : Plan) (windows : List WeakRun) (h : List Change) (f : ℕ) → IsSoundAt sectors l windows h f (M.now m.old) →
-        LeavesRun (Put name keep) (M.ledger m.old).input (M.ledger m.new).input l windows h f (M.left_since m.new) (M.moment m.old) (LeavesOnly M.moment M.left_since m.old m.new) (M.report m.old) (M.report m.new) (M.now m.old) (M.now m.new) result }
+        IsHeld M.Machine m.old (λ c. IsSoundAsSaid l windows h f (M.now m.old).image c.image) → LeavesRun (Put name keep) (M.ledger m.old).input (M.ledger m.new).input l windows h f (M.left_since m.new) (stops M.Machine m.new) (M.moment m.old) (StopsOnly M.Machine m.old m.new) (M.report m.old) (M.report m.new) (M.now m.old) (M.now m.new) result }
 {
     match V::mount(alloc, m, sectors) {
         Ok(v) => put_on::<M, V, T>(alloc, v, m, name, keep),

@@ -1,5 +1,5 @@
 //! One command by itself over a mounted volume, to its reply.
-ghost use Rattle.std.specs.Prelude.{◌≡◌, ◌≤◌, None, Err, IfErr, IfOk, IsTrue, false};
+ghost use Rattle.std.specs.Prelude.{◌≡◌, ◌≤◌, None, Err, IfErr, IfOk, IsTrue, false, ℕ};
 ghost use Rattle.sector_disk.specs.Machine.{OnlyWrites, Trusts};
 ghost use Rattle.fsd_runs.specs.Commands.{reply_alone};
 ghost use Rattle.fsd_runs.specs.Errands.{reply_status};
@@ -7,16 +7,16 @@ ghost use Rattle.sector_disk.specs.Calls.{Since};
 ghost use Rattle.volume_turns.specs.Answering.{AnswersAlone, ClosesBy};
 ghost use Rattle.volume_turns.specs.Once.{ClosesAndSays, IsAlone, close_fault, fault_of, unit_of};
 ghost use Rattle.volume_turns.specs.Status.{IsStatusFrom};
-ghost use Rattle.volume_contract.specs.State.{Known, Stands, is_worn, none_open, volume_of};
+ghost use Rattle.volume_contract.specs.State.{Known, Stands, is_worn, none_open, volume_of, forced_of};
 ghost use Rattle.volume_contract.specs.Upgrade.{is_fresh};
 ghost use Rattle.volume_turns.specs.Steps.{is_upgrade, reply_of};
 ghost use Rattle.fsd_texts.specs.declared.fault.Fault.TheVariants as Ends;
 ghost use Rattle.volume_turns.specs.declared.turns.End.TheVariants.{Fault as Stopped};
-ghost use Rattle.volume_turns.specs.Turns.{IsEndOfVolume, Told, WantsNone};
+ghost use Rattle.volume_turns.specs.Turns.{IsEndOfVolume, Told, WantsNone, OnDisk};
 
 use crate::answer::Answer;
 use crate::commands;
-use crate::line::say_bytes;
+use crate::line::say_forced;
 use crate::turns::{End, Says};
 use crate::upgrade::upgrade_alone;
 use fsd_bytes::Refusal;
@@ -52,10 +52,10 @@ pub(crate) fn close_and_say<M: Machine, V: Files<M>>(
     ensures later { M.honest m.new → M.moment m.old ≤ M.moment m.new }
     ensures closing { M.honest m.new → ClosesBy (V.state v) text.now (M.now m.old) (M.now m.new) result }
     ensures wants { (V.state v).down ≡ None → IfErr result WantsNone }
-    ensures closes { M.honest m.new → (k : Known) → Stands V.state V.holds v k (M.now m.old) → ClosesAndSays M.Machine k text.now m.old m.new result }
+    ensures closes { M.honest m.new → (k : Known) (f : ℕ) → Stands V.state V.holds v k (M.now m.old) → OnDisk M.Machine k f m.old → ClosesAndSays M.Machine k f text.now m.old m.new result }
 {
     match v.close(m) {
-        Ok(()) => say_bytes(m, text),
+        Ok(()) => say_forced(m, text),
         Err(why) => Err(End::Fault(close_fault(why))),
     }
 }
@@ -91,7 +91,7 @@ pub(crate) fn close_as<M: Machine, V: Files<M> + Drop, T: Says>(
     ensures since { M.honest m.new → Since M.Machine m.old m.new }
     ensures later { M.honest m.new → M.moment m.old ≤ M.moment m.new }
     ensures closing { M.honest m.new → ClosesBy (V.state v) (T.errand.says (reply_of answer.now)) (M.now m.old) (M.now m.new) (unit_of result) }
-    ensures closes { M.honest m.new → (k : Known) → Stands V.state V.holds v k (M.now m.old) → ClosesAndSays M.Machine k (T.errand.says (reply_of answer.now)) m.old m.new (unit_of result) }
+    ensures closes { M.honest m.new → (k : Known) (f : ℕ) → Stands V.state V.holds v k (M.now m.old) → OnDisk M.Machine k f m.old → ClosesAndSays M.Machine k f (T.errand.says (reply_of answer.now)) m.old m.new (unit_of result) }
 {
     let Ok(text) = T::text(alloc, answer) else {
         return Err(End::Fault(Fault::Memory));
@@ -122,7 +122,7 @@ pub fn alone<M: Machine, V: Files<M> + Drop, T: Says>(
     ensures since { M.honest m.new → Since M.Machine m.old m.new }
     ensures later { M.honest m.new → M.moment m.old ≤ M.moment m.new }
     ensures answers { M.honest m.new → AnswersAlone c.now (V.state v) (M.now m.old) (M.now m.new) result }
-    ensures does { M.honest m.new → (k : Known) → (volume_of k).unforced ≡ 0 → k.opened ≡ none_open → Stands V.state V.holds v k (M.now m.old) → IsAlone M.Machine c.now k m.old m.new result }
+    ensures does { M.honest m.new → (k : Known) → (volume_of k).unforced ≡ 0 → k.opened ≡ none_open → Stands V.state V.holds v k (M.now m.old) → OnDisk M.Machine k (forced_of k) m.old → IsAlone M.Machine c.now k m.old m.new result }
 {
     match c {
         Command::Upgrade => upgrade_alone::<M, V, T>(alloc, v, m),
@@ -150,7 +150,7 @@ fn answer_alone<M: Machine, V: Files<M> + Drop, T: Says>(
     ensures since { M.honest m.new → Since M.Machine m.old m.new }
     ensures later { M.honest m.new → M.moment m.old ≤ M.moment m.new }
     ensures answers { M.honest m.new → AnswersAlone c.now (V.state v) (M.now m.old) (M.now m.new) result }
-    ensures does { M.honest m.new → (k : Known) → (volume_of k).unforced ≡ 0 → k.opened ≡ none_open → Stands V.state V.holds v k (M.now m.old) → IsAlone M.Machine c.now k m.old m.new result }
+    ensures does { M.honest m.new → (k : Known) → (volume_of k).unforced ≡ 0 → k.opened ≡ none_open → Stands V.state V.holds v k (M.now m.old) → OnDisk M.Machine k (forced_of k) m.old → IsAlone M.Machine c.now k m.old m.new result }
 {
     let mut v = v;
     match commands::answer(alloc, &mut v, m, c) {

@@ -1,11 +1,11 @@
 //! A script, from the mount to the last line.
 ghost use Rattle.std.specs.Prelude.{◌≡◌, ◌≤◌, ◌+◌, ◌++◌, List, [], ℕ, None, true, Ok, Err, OnErr, OnOk, IfErr, IfOk, IsTrue, Some};
-ghost use Rattle.sector_disk.specs.Calls.{Since};
-ghost use Rattle.sector_disk.specs.Machine.{LeavesOnly, OnlyWrites, Trusts};
+ghost use Rattle.sector_disk.specs.Calls.{Since, IsHeld, StopsOnly, stops};
+ghost use Rattle.sector_disk.specs.Machine.{OnlyWrites, Trusts};
 ghost use Rattle.sector_disk.specs.declared.sector.WeakRun.{WeakRun};
 ghost use Rattle.volume_layout.specs.declared.layout.Layout.{Layout as Plan};
 ghost use Rattle.fsd_files.specs.Files.{Change};
-ghost use Rattle.fsd_runs.specs.Leaves.{LeavesRun};
+ghost use Rattle.fsd_runs.specs.Leaves.{IsSoundAsSaid, LeavesRun};
 ghost use Rattle.fsd_runs.specs.declared.request.Request.TheVariants.{Script};
 ghost use Rattle.volume_contract.specs.Mount.{IsSoundAt};
 ghost use Rattle.scrub.specs.Telling.{AreOfPage};
@@ -17,7 +17,7 @@ ghost use Rattle.fsd_runs.specs.Commands.{reply_text};
 ghost use Rattle.fsd_runs.specs.Errands.{forced_turn, is_forced};
 ghost use Rattle.fsd_runs.specs.Sessions.{Meeting, answer_in};
 ghost use Rattle.client_desk.specs.Clients.{IsDesk, no_desk};
-ghost use Rattle.volume_contract.specs.State.{Known, Stands, none_open};
+ghost use Rattle.volume_contract.specs.State.{Known, Stands, none_open, forced_of};
 ghost use Rattle.volume_turns.specs.Causes.{FailsInput, SaysFault, SaysOfCall, SaysOfInput, TellsImage, is_of_fault};
 ghost use Rattle.volume_turns.specs.Each.{SaysBadLine, SaysBetween, SaysForced};
 ghost use Rattle.volume_turns.specs.Last.{EndsSo, ending_line, ending_status};
@@ -30,7 +30,7 @@ ghost use Rattle.fsd_texts.specs.declared.end.End.TheVariants.{Done};
 ghost use Rattle.volume_turns.specs.declared.script.Stop.TheVariants.{Ended, WornOut};
 ghost use Rattle.volume_turns.specs.declared.turns.End.TheVariants.{Fault as Stopped};
 ghost use Rattle.fsd_texts.specs.declared.fault.Fault.TheVariants as Ends;
-ghost use Rattle.volume_turns.specs.Turns.{BreaksWhole, IsEndOfVolume, IsEndOn, KeepsSaid, SaysWhole, Told, WantsNone};
+ghost use Rattle.volume_turns.specs.Turns.{BreaksWhole, IsEndOfVolume, IsEndOn, KeepsSaid, SaysWhole, Told, WantsNone, OnDisk};
 ghost use Rattle.volume_turns.specs.Script.{GoesOn, GroupsBy, Heard, Reads, RoseBy, SparesWanting, WholeRead};
 
 use crate::generate::close_forced;
@@ -165,7 +165,7 @@ fn group_read<M: Machine, V: Files<M> + Drop, T: Says>(
     ensures since { M.honest m.new → Since M.Machine m.old m.new }
     ensures later { M.honest m.new → M.moment m.old ≤ M.moment m.new }
     ensures broken { M.honest m.new → BreaksWhole T.errand.says (M.now m.old) (M.now m.new) result }
-    ensures group { M.honest m.new → (k : Known) → k.opened ≡ none_open → Stands V.state V.holds v k (M.now m.old) → GroupsBy M.Machine T.errand k (M.ledger m.old).input (M.ledger m.new).input m.old m.new result }
+    ensures group { M.honest m.new → (k : Known) → k.opened ≡ none_open → Stands V.state V.holds v k (M.now m.old) → OnDisk M.Machine k (forced_of k) m.old → GroupsBy M.Machine T.errand k (M.ledger m.old).input (M.ledger m.new).input m.old m.new result }
 {
     let mut v = v;
     let mut desk = Desk::new();
@@ -199,7 +199,7 @@ fn force_read<M: Machine, V: Files<M>>(v: V, desk: Desk, m: &mut M, stop: Stop) 
     ensures same { IfOk result (λ x. x ≡ stop) }
     ensures wants { (V.state v).down ≡ None → IfErr result WantsNone }
     ensures quiet { M.honest m.new → KeepsSaid (M.now m.old) (M.now m.new) result }
-    ensures closes { M.honest m.new → (k : Seated) → SitsAt V.state V.holds (v, desk) k (M.now m.old) → ClosesAndSays M.Machine (known_of k) forced_turn.said m.old m.new (unit_of result) }
+    ensures closes { M.honest m.new → (k : Seated) (f : ℕ) → SitsAt V.state V.holds (v, desk) k (M.now m.old) → OnDisk M.Machine (known_of k) f m.old → ClosesAndSays M.Machine (known_of k) f forced_turn.said m.old m.new (unit_of result) }
 {
     let mut v = v;
     desk.finish(&mut v);
@@ -274,7 +274,7 @@ fn script_on<M: Machine, V: Files<M> + Drop, T: Says>(alloc: Global, v: V, m: &m
     ensures spent { result ≡ 9 → M.honest m.new → MayWear (max_input + 1) (V.state v) }
     ensures all { result ≡ 0 → M.honest m.new → (t : ℕ) → t ≤ M.moment m.old →
         SaysForced reply_text (M.left_since m.new t) (script_in (M.ledger m.old).input).0 (M.now m.old).said (M.now m.new).said }
-    ensures runs { M.honest m.new → (k : Known) → k.opened ≡ none_open → Stands V.state V.holds v k (M.now m.old) → RunsOut M.Machine Script (M.ledger m.old).input (M.ledger m.new).input (M.report m.old) k m.old m.new result }
+    ensures runs { M.honest m.new → (k : Known) → k.opened ≡ none_open → Stands V.state V.holds v k (M.now m.old) → OnDisk M.Machine k (forced_of k) m.old → RunsOut M.Machine Script (M.ledger m.old).input (M.ledger m.new).input (M.report m.old) k m.old m.new result }
 {
     let ended = group_read::<M, V, T>(alloc, v, m);
     say_last(m, ended)
@@ -305,7 +305,7 @@ pub fn run_script<M: Machine, V: Files<M> + Drop, T: Says>(
     ensures all { result ≡ 0 → M.honest m.new → (t : ℕ) → t ≤ M.moment m.old →
         SaysForced reply_text (M.left_since m.new t) (script_in (M.ledger m.old).input).0 (M.now m.old).said (M.now m.new).said }
     ensures leaves { M.honest m.new → (l : Plan) (windows : List WeakRun) (h : List Change) (f : ℕ) → IsSoundAt sectors l windows h f (M.now m.old) →
-        LeavesRun Script (M.ledger m.old).input (M.ledger m.new).input l windows h f (M.left_since m.new) (M.moment m.old) (LeavesOnly M.moment M.left_since m.old m.new) (M.report m.old) (M.report m.new) (M.now m.old) (M.now m.new) result }
+        IsHeld M.Machine m.old (λ c. IsSoundAsSaid l windows h f (M.now m.old).image c.image) → LeavesRun Script (M.ledger m.old).input (M.ledger m.new).input l windows h f (M.left_since m.new) (stops M.Machine m.new) (M.moment m.old) (StopsOnly M.Machine m.old m.new) (M.report m.old) (M.report m.new) (M.now m.old) (M.now m.new) result }
 {
     match V::mount(alloc, m, sectors) {
         Ok(v) => script_on::<M, V, T>(alloc, v, m),

@@ -1,6 +1,6 @@
 //! One command with its reply, and why commands were not all done.
 ghost use Rattle.std.specs.Prelude.{◌≡◌, ◌≤◌, false, None, Err, OnOk, IfOk, IfErr, IsTrue};
-ghost use Rattle.sector_disk.specs.Machine.{LeavesOnly, OnlyWrites, Trusts, Utters};
+ghost use Rattle.sector_disk.specs.Machine.{LeavesOnly, OnlyWrites, Trusts};
 ghost use Rattle.fsd_files.specs.Desk.{Session};
 ghost use Rattle.fsd_texts.specs.declared.script_command.ScriptCommand.{ScriptCommand as Word};
 ghost use Rattle.fsd_runs.specs.Errands.{Errand};
@@ -14,9 +14,10 @@ ghost use Rattle.volume_turns.specs.Group.{is_worn_end};
 ghost use Rattle.volume_turns.specs.Numbers.{GoesUp, MayWear};
 ghost use Rattle.volume_turns.specs.Steps.{is_upgrade_in, reply_of};
 ghost use Rattle.volume_turns.specs.declared.turns.End.TheVariants.{Fault as Stopped};
-ghost use Rattle.volume_turns.specs.Turns.{IsEndOfVolume, IsEndOn, Steps, SaysAll, SaysWhole, Told, Unsaid};
+ghost use Rattle.volume_turns.specs.Turns.{IsEndOfVolume, IsEndOn, Steps, SaysAll, SaysWhole, Told, Unsaid, UttersBehind};
 
 use crate::answer::Answer;
+use crate::line::{say_bytes, say_forced};
 use crate::session;
 use client_desk::Desk;
 use fsd_texts::{Fault, ScriptCommand};
@@ -45,28 +46,34 @@ pub trait Says {
     /// The text of a reply, and whether all is forced once it is said.
     ghost errand: { Errand };
 
+    /// Whether an answer tells that all is forced.
+    fn forces(answer: &Answer) -> bool
+        ensures { result ≡ errand.forces (reply_of answer.now) };
+
     /// The text of an answer.
     fn text(alloc: Global, answer: &Answer) -> Result<Vec<u8>, AllocError>
         ensures { IfOk result (λ text. text.items ≡ errand.says (reply_of answer.now)) };
 }
 
-// Says a reply.
+// Says a reply; one that tells as forced behind a sync.
 pub(crate) fn say<M: Machine, T: Says>(alloc: Global, m: &mut M, answer: &Answer) -> Result<(), End>
     ensures told { Told (M.report m.old) (M.report m.new) result }
     ensures trust { Trusts (M.tells m.old) (M.tells m.new) (M.honest m.old) (M.honest m.new) }
     ensures ledger { M.tells m.new → M.ledger m.new ≡ M.ledger m.old }
     ensures fault { IfErr result IsEndOfVolume }
     ensures since { M.honest m.new → Since M.Machine m.old m.new }
-    ensures moments { M.honest m.new → LeavesOnly M.moment M.left_since m.old m.new (Utters (T.errand.says (reply_of answer.now)) (M.now m.old)) }
+    ensures moments { M.honest m.new → LeavesOnly M.moment M.left_since m.old m.new (UttersBehind (T.errand.forces (reply_of answer.now)) (T.errand.says (reply_of answer.now)) (M.now m.old)) }
+    ensures synced { OnOk result (IsTrue (T.errand.forces (reply_of answer.now)) → M.honest m.new → (M.now m.old).time ≤ (M.now m.new).synced) }
     ensures said { OnOk result (M.honest m.new → SaysAll (T.errand.says (reply_of answer.now)) (M.now m.old) (M.now m.new)) }
     ensures unsaid { IfErr result (λ end. M.honest m.new → Unsaid (M.now m.old) (M.now m.new) end) }
 {
     let Ok(text) = T::text(alloc, answer) else {
         return Err(End::Fault(Fault::Memory));
     };
-    match m.say(text.as_slice()) {
-        Ok(()) => Ok(()),
-        Err(_) => Err(End::Output),
+    if T::forces(answer) {
+        say_forced(m, text.as_slice())
+    } else {
+        say_bytes(m, text.as_slice())
     }
 }
 

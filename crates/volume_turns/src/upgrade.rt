@@ -7,7 +7,7 @@ ghost use Rattle.fsd_runs.specs.Errands.{reply_status};
 ghost use Rattle.sector_disk.specs.Calls.{Since, WritesDisk};
 ghost use Rattle.sector_disk.specs.Machine.{OnlyWrites, Trusts};
 ghost use Rattle.volume_contract.specs.Order.{is_idle, upgrade_steps};
-ghost use Rattle.volume_contract.specs.State.{Known, Stands, none_open, volume_of};
+ghost use Rattle.volume_contract.specs.State.{Known, Stands, none_open, volume_of, forced_of};
 ghost use Rattle.volume_contract.specs.Upgrade.{is_fresh};
 ghost use Rattle.volume_turns.specs.declared.turns.End.TheVariants.{Fault as Stopped};
 ghost use Rattle.volume_turns.specs.Answering.{Answers, AnswersAlone};
@@ -15,11 +15,11 @@ ghost use Rattle.volume_turns.specs.Once.{IsAlone};
 ghost use Rattle.volume_turns.specs.Reasons.{Because, HasWritten, most_written};
 ghost use Rattle.volume_turns.specs.Status.{IsStatusFrom};
 ghost use Rattle.volume_turns.specs.Steps.{Does, IsOfCall, Stays, device_by, reply_of};
-ghost use Rattle.volume_turns.specs.Turns.{IsEndOfVolume, Told};
+ghost use Rattle.volume_turns.specs.Turns.{IsEndOfVolume, Told, OnDisk};
 ghost use Rattle.volume_turns.specs.Upgrade.{EndsState, is_upgraded};
 
 use crate::answer::{Answer, ended_by};
-use crate::line::say_bytes;
+use crate::line::say_forced;
 use crate::once::close_as;
 use crate::turns::{End, Says};
 use fsd_texts::Fault;
@@ -75,7 +75,7 @@ pub(crate) fn upgrade_alone<M: Machine, V: Files<M> + Drop, T: Says>(
     ensures since { M.honest m.new → Since M.Machine m.old m.new }
     ensures later { M.honest m.new → M.moment m.old ≤ M.moment m.new }
     ensures answers { M.honest m.new → AnswersAlone Word.Upgrade (V.state v) (M.now m.old) (M.now m.new) result }
-    ensures does { M.honest m.new → (k : Known) → (volume_of k).unforced ≡ 0 → k.opened ≡ none_open → Stands V.state V.holds v k (M.now m.old) → IsAlone M.Machine Word.Upgrade k m.old m.new result }
+    ensures does { M.honest m.new → (k : Known) → (volume_of k).unforced ≡ 0 → k.opened ≡ none_open → Stands V.state V.holds v k (M.now m.old) → OnDisk M.Machine k (forced_of k) m.old → IsAlone M.Machine Word.Upgrade k m.old m.new result }
 {
     let Ok(text) = T::text(alloc, &Answer::Upgraded) else {
         return Err(End::Fault(Fault::Memory));
@@ -84,7 +84,7 @@ pub(crate) fn upgrade_alone<M: Machine, V: Files<M> + Drop, T: Says>(
     match upgrade(&mut v, m) {
         Ok(answer) => {
             if is_upgraded(&answer) {
-                match say_bytes(m, text.as_slice()) {
+                match say_forced(m, text.as_slice()) {
                     Ok(()) => Ok(0),
                     Err(end) => Err(end),
                 }

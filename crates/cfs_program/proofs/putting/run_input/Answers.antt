@@ -1,5 +1,5 @@
 use Rattle.std.proofs.Common.{None, false, ◌≤◌, inl, inr, length, List, ℕ, subst, arith}
-use Rattle.sector_disk.specs.Machine.{LeavesOnly}
+use Rattle.sector_disk.specs.Calls.{IsTimed, StopsOnly, stops}
 use Rattle.fsd_texts.specs.Script.{max_input}
 use Rattle.fsd_texts.specs.declared.command.Command.TheVariants as Word
 use Rattle.fsd_runs.specs.declared.request.Request.TheVariants.{Put}
@@ -8,9 +8,16 @@ use Rattle.volume_turns.specs.Answering.{SaysOne}
 use Rattle.volume_turns.proofs.AnsweringLaws.{one_since}
 use Rattle.volume_turns.proofs.StatusLaws.{as_not_low, not_as}
 use Rattle.scrub.specs.Telling.{AreOfPage}
-use Rattle.cfs_program.proofs.AttachLaws.{EndsUnfound, RunsFound, found_attaches, found_fails, found_image, found_input, found_leaves, found_reading, found_said, found_says_input, found_trust, unfound_alone, unfound_asks, unfound_image, unfound_last, unfound_leaves, unfound_outside, unfound_reading, unfound_trust}
+use Rattle.cfs_program.proofs.AttachLaws.{EndsUnfound, RunsFound, found_accepted, found_attaches, found_fails, found_image, found_input, found_leaves, found_reading, found_said, found_says_input, found_trust, unfound_accepted, unfound_alone, unfound_asks, unfound_image, unfound_last, unfound_leaves, unfound_outside, unfound_reading, unfound_trust}
 use Rattle.cfs_program.proofs.EndedLaws.{failed_status}
+use Rattle.cfs_program.proofs.putting.run_input.Given as given
 use Rattle.cfs_program.proofs.putting.run_input.Goals as goal
+
+-- what the laws of the machine say of its moments
+timed : (g : given.Over) (m : g.row.M.Denot) → g.M.Machine.honest m → IsTimed g.M.Machine m
+timed g m h =
+    let laws = g.met.M.Machine in
+    record { dated = laws.dated m h; history = laws.history m h; here = laws.counts_now m (g.M.Machine.moment m) h (omega arith); only = λ c left. laws.only_now m c h left }
 
 pub returns-in-Ok : goal.returns-in-Ok
 returns-in-Ok g c =
@@ -21,7 +28,7 @@ returns-in-Ok g c =
     let e = c.in-Ok.ensures in
     let does = c.run_put.ensures in
     let status = c.run_put.result in
-    let x : RunsFound M c.args.path.now c.in-Ok.sectors a b z = record { cause = e.cause; trust = e.trust; asked = e.asked; found = e.attached; size = e.size; time = e.time; runs = does.trust } in
+    let x : RunsFound M c.args.path.now c.in-Ok.sectors a b z = record { cause = e.cause; trust = e.trust; asked = e.asked; found = e.attached; synced = e.synced; size = e.size; time = e.time; runs = does.trust } in
     record {
       status = does.status;
       counts = found_reading x status does.counts;
@@ -38,10 +45,11 @@ returns-in-Ok g c =
           (subst (λ (name : List ℕ). SaysOne (Word.Put name (M.ledger b).input c.args.keep) (M.now a) (M.now z) status) c.copied.ensures
           (one_since _ (M.now a) (M.now b) (M.now z) status (found_said x h) (does.one h)));
       last = does.last;
-      leaves = λ h l windows changes f sound.
-          found_leaves x (Put c.args.name.now c.args.keep) (M.ledger a).input (M.ledger z).input l windows changes f status h (g.met.M.Machine.short a) (λ left h was. g.met.M.Machine.only_now a left h was) sound
-          (λ at. subst (λ (input : List ℕ). LeavesRun (Put c.args.name.now c.args.keep) input (M.ledger z).input l windows changes f (M.left_since z) (M.moment b) (λ P. LeavesOnly M.moment M.left_since b z P) (M.report b) (M.report z) (M.now b) (M.now z) status) (found_input x (g.met.M.Machine.honest_tells z h))
-          (subst (λ (name : List ℕ). LeavesRun (Put name c.args.keep) (M.ledger b).input (M.ledger z).input l windows changes f (M.left_since z) (M.moment b) (λ P. LeavesOnly M.moment M.left_since b z P) (M.report b) (M.report z) (M.now b) (M.now z) status) c.copied.ensures (does.leaves h l windows changes f at)));
+      leaves = λ h. found_leaves x (Put c.args.name.now c.args.keep) (M.ledger a).input (M.ledger z).input status h (g.met.M.Machine.short a) (timed g)
+          (λ l windows changes f at held.
+          subst (λ (input : List ℕ). LeavesRun (Put c.args.name.now c.args.keep) input (M.ledger z).input l windows changes f (M.left_since z) (stops M z) (M.moment b) (StopsOnly M b z) (M.report b) (M.report z) (M.now b) (M.now z) status) (found_input x (g.met.M.Machine.honest_tells z h))
+          (subst (λ (name : List ℕ). LeavesRun (Put name c.args.keep) (M.ledger b).input (M.ledger z).input l windows changes f (M.left_since z) (stops M z) (M.moment b) (StopsOnly M b z) (M.report b) (M.report z) (M.now b) (M.now z) status) c.copied.ensures (does.leaves h l windows changes f at held)));
+      accepted = λ h. found_accepted x (Put c.copied.result c.args.keep) (M.ledger b).input (M.ledger z).input status h (g.met.M.Machine.short a) (timed g) (does.leaves h) (λ P p. p);
     }
 
 pub returns-in-Err : goal.returns-in-Err
@@ -68,5 +76,6 @@ returns-in-Err g c =
       image = λ h. unfound_image x false AreOfPage None;
       one = λ h. inr (unfound_alone x h);
       last = unfound_last x;
-      leaves = λ h l windows changes f sound. unfound_leaves x (Put c.args.name.now c.args.keep) (M.ledger a).input (M.ledger z).input l windows changes f h (g.met.M.Machine.short a) (λ left h was. g.met.M.Machine.only_now a left h was) sound;
+      leaves = λ h l windows changes f sound held. unfound_leaves x (Put c.args.name.now c.args.keep) (M.ledger a).input (M.ledger z).input l windows changes f h (g.met.M.Machine.short a) (timed g) sound held;
+      accepted = λ h. unfound_accepted x;
     }

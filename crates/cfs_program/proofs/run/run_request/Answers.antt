@@ -1,8 +1,6 @@
-use Rattle.std.proofs.Common.{inl, Some, ap, []}
-use Rattle.sector_disk.specs.Machine.{LeavesOnly}
+use Rattle.std.proofs.Common.{inl, Some, ap}
 use Rattle.fsd_texts.specs.declared.line.Line.{Line}
-use Rattle.fsd_runs.specs.declared.request.Request.TheVariants.{BadField, Generate, One, Put, Script}
-use Rattle.fsd_runs.proofs.SafeLaws.{never_refused}
+use Rattle.fsd_runs.specs.declared.request.Request.TheVariants.{BadField}
 use Rattle.volume_turns.proofs.QuietLaws.{quiet_unfailed}
 use Rattle.volume_turns.proofs.StatusLaws.{one_not_five}
 use Rattle.cfs_program.proofs.AmongLaws.{command_complete, command_status, made_complete_is, made_not_five, made_status, put_complete_is, put_status, script_complete_is, script_low, script_status}
@@ -61,8 +59,8 @@ returns-in-One g c =
       last = e.last;
       image = λ zero h. tt;
       untouched = λ h. tt;
-      leaves = λ h l windows changes f sound. e.leaves h (M.ledger b).input l windows changes f sound;
-      accepted = λ h l windows changes f sound. never_refused (One c.in-One.c) [] (M.ledger b).input l windows changes f (M.left_since b) (M.moment a) (λ P. LeavesOnly M.moment M.left_since a b P) (M.report a) (M.report b) (M.now a) (M.now b) result (e.leaves h (M.ledger b).input l windows changes f sound);
+      leaves = λ h. e.leaves h (M.ledger b).input;
+      accepted = e.accepted;
     })
 
 pub returns-in-Put : goal.returns-in-Put
@@ -99,8 +97,8 @@ returns-in-Put g c =
       last = e.last;
       image = λ zero h. tt;
       untouched = λ h. tt;
-      leaves = λ h l windows changes f sound. e.leaves h l windows changes f sound;
-      accepted = λ h l windows changes f sound. never_refused (Put c.in-Put.name c.in-Put.keep) (M.ledger a).input (M.ledger b).input l windows changes f (M.left_since b) (M.moment a) (λ P. LeavesOnly M.moment M.left_since a b P) (M.report a) (M.report b) (M.now a) (M.now b) result (e.leaves h l windows changes f sound);
+      leaves = e.leaves;
+      accepted = e.accepted;
     })
 
 pub returns-in-Script : goal.returns-in-Script
@@ -137,8 +135,8 @@ returns-in-Script g c =
       last = e.last;
       image = λ zero h. tt;
       untouched = λ h. tt;
-      leaves = λ h l windows changes f sound. e.leaves h l windows changes f sound;
-      accepted = λ h l windows changes f sound. never_refused Script (M.ledger a).input (M.ledger b).input l windows changes f (M.left_since b) (M.moment a) (λ P. LeavesOnly M.moment M.left_since a b P) (M.report a) (M.report b) (M.now a) (M.now b) result (e.leaves h l windows changes f sound);
+      leaves = e.leaves;
+      accepted = e.accepted;
     })
 
 pub returns-in-Generate : goal.returns-in-Generate
@@ -175,8 +173,8 @@ returns-in-Generate g c =
       last = e.last;
       image = λ zero h. tt;
       untouched = λ h. tt;
-      leaves = λ h l windows changes f sound. e.leaves h (M.ledger b).input l windows changes f sound;
-      accepted = λ h l windows changes f sound. never_refused (Generate c.in-Generate.seed c.in-Generate.count) [] (M.ledger b).input l windows changes f (M.left_since b) (M.moment a) (λ P. LeavesOnly M.moment M.left_since a b P) (M.report a) (M.report b) (M.now a) (M.now b) result (e.leaves h (M.ledger b).input l windows changes f sound);
+      leaves = λ h. e.leaves h (M.ledger b).input;
+      accepted = e.accepted;
     })
 
 pub returns-in-Drill : goal.returns-in-Drill

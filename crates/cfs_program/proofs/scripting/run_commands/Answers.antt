@@ -1,5 +1,5 @@
 use Rattle.std.proofs.Common.{true, None, ◌≡◌, inl, inr, List, ℕ, subst, arith}
-use Rattle.sector_disk.specs.Machine.{LeavesOnly}
+use Rattle.sector_disk.specs.Calls.{IsTimed, StopsOnly, stops}
 use Rattle.fsd_texts.specs.declared.end.End.TheVariants.{Done}
 use Rattle.fsd_texts.specs.Script.{script_in}
 use Rattle.fsd_runs.specs.declared.request.Request.TheVariants.{Script}
@@ -9,9 +9,16 @@ use Rattle.fsd_runs.proofs.SessionLaws.{all_forced}
 use Rattle.volume_turns.specs.Each.{SaysBadLine, SaysForced}
 use Rattle.volume_turns.proofs.StatusLaws.{not_as}
 use Rattle.scrub.specs.Telling.{AreOfPage}
-use Rattle.cfs_program.proofs.AttachLaws.{EndsUnfound, RunsFound, found_attaches, found_fails, found_image, found_input, found_later, found_leaves, found_reading, found_said, found_says_input, found_trust, unfound_asks, unfound_image, unfound_last, unfound_leaves, unfound_outside, unfound_reading, unfound_trust}
+use Rattle.cfs_program.proofs.AttachLaws.{EndsUnfound, RunsFound, found_accepted, found_attaches, found_fails, found_image, found_input, found_later, found_leaves, found_reading, found_said, found_says_input, found_trust, unfound_accepted, unfound_asks, unfound_image, unfound_last, unfound_leaves, unfound_outside, unfound_reading, unfound_trust}
 use Rattle.cfs_program.proofs.EndedLaws.{failed_status}
+use Rattle.cfs_program.proofs.scripting.run_commands.Given as given
 use Rattle.cfs_program.proofs.scripting.run_commands.Goals as goal
+
+-- what the laws of the machine say of its moments
+timed : (g : given.Over) (m : g.row.M.Denot) → g.M.Machine.honest m → IsTimed g.M.Machine m
+timed g m h =
+    let laws = g.met.M.Machine in
+    record { dated = laws.dated m h; history = laws.history m h; here = laws.counts_now m (g.M.Machine.moment m) h (omega arith); only = λ c left. laws.only_now m c h left }
 
 pub run_script-requires-clause-lazily : goal.run_script-requires-clause-lazily
 run_script-requires-clause-lazily g c = λ x s command is. all_forced x s command is
@@ -25,7 +32,7 @@ returns-in-Ok g c =
     let e = c.in-Ok.ensures in
     let does = c.run_script.ensures in
     let status = c.run_script.result in
-    let x : RunsFound M c.args.path.now c.in-Ok.sectors a b z = record { cause = e.cause; trust = e.trust; asked = e.asked; found = e.attached; size = e.size; time = e.time; runs = does.trust } in
+    let x : RunsFound M c.args.path.now c.in-Ok.sectors a b z = record { cause = e.cause; trust = e.trust; asked = e.asked; found = e.attached; synced = e.synced; size = e.size; time = e.time; runs = does.trust } in
     record {
       status = does.status;
       counts = found_reading x status does.counts;
@@ -44,9 +51,11 @@ returns-in-Ok g c =
           subst (λ (before : List ℕ). SaysForced reply_text (M.left_since z (M.moment a)) (script_in (M.ledger a).input).0 before (M.now z).said) (found_said x h)
           (subst (λ (input : List ℕ). SaysForced reply_text (M.left_since z (M.moment a)) (script_in input).0 (M.now b).said (M.now z).said) (found_input x (g.met.M.Machine.honest_tells z h)) (does.all zero h (M.moment a) (found_later x h)));
       last = does.last;
-      leaves = λ h l windows changes f sound.
-          found_leaves x Script (M.ledger a).input (M.ledger z).input l windows changes f status h (g.met.M.Machine.short a) (λ left h was. g.met.M.Machine.only_now a left h was) sound
-          (λ at. subst (λ (input : List ℕ). LeavesRun Script input (M.ledger z).input l windows changes f (M.left_since z) (M.moment b) (λ P. LeavesOnly M.moment M.left_since b z P) (M.report b) (M.report z) (M.now b) (M.now z) status) (found_input x (g.met.M.Machine.honest_tells z h)) (does.leaves h l windows changes f at));
+      leaves = λ h. found_leaves x Script (M.ledger a).input (M.ledger z).input status h (g.met.M.Machine.short a) (timed g)
+          (λ l windows changes f at held.
+          subst (λ (input : List ℕ). LeavesRun Script input (M.ledger z).input l windows changes f (M.left_since z) (stops M z) (M.moment b) (StopsOnly M b z) (M.report b) (M.report z) (M.now b) (M.now z) status) (found_input x (g.met.M.Machine.honest_tells z h))
+          (does.leaves h l windows changes f at held));
+      accepted = λ h. found_accepted x Script (M.ledger b).input (M.ledger z).input status h (g.met.M.Machine.short a) (timed g) (does.leaves h) (λ P p. p);
     }
 
 pub returns-in-Err : goal.returns-in-Err
@@ -74,5 +83,6 @@ returns-in-Err g c =
       image = λ h. unfound_image x true AreOfPage None;
       all = λ zero h. absurd (not_as 0 4 status (λ e. omega (arith, e)) (λ e. omega (arith, e)) line.status zero);
       last = unfound_last x;
-      leaves = λ h l windows changes f sound. unfound_leaves x Script (M.ledger a).input (M.ledger z).input l windows changes f h (g.met.M.Machine.short a) (λ left h was. g.met.M.Machine.only_now a left h was) sound;
+      leaves = λ h l windows changes f sound held. unfound_leaves x Script (M.ledger a).input (M.ledger z).input l windows changes f h (g.met.M.Machine.short a) (timed g) sound held;
+      accepted = λ h. unfound_accepted x;
     }

@@ -9,11 +9,12 @@ use Rattle.client_desk.specs.Clients.{no_desk}
 use Rattle.volume_turns.specs.Seats.{known_of}
 use Rattle.volume_turns.proofs.SeatLaws.{desk_holds, desk_on, plain_does, seat_wears, stays_in}
 use Rattle.volume_turns.proofs.NumberLaws.{worn_may}
+use Rattle.volume_turns.proofs.SayLaws.{timed_by}
 use Rattle.volume_turns.proofs.CountLaws.{counted_fault, counted_none, counted_step}
 use Rattle.volume_turns.proofs.generate.do_counted.Goals as goal
 
 pub returns-in-Ok-count-clause-steps : goal.returns-in-Ok-count-clause-steps
-returns-in-Ok-count-clause-steps g c h k from stood aged =
+returns-in-Ok-count-clause-steps g c h k f from stood aged held =
     let V = g.V.Files in
     let M = g.M.Machine in
     let a = c.args.m.now in
@@ -24,11 +25,11 @@ returns-in-Ok-count-clause-steps g c h k from stood aged =
     let at = seat_wears V.state V.holds g.met.V.Files.wears (v, no_desk) k from (M.now a) (subst (λ (w : Windows). AreShort w) aged.windows (short a first)) aged stood in
     let w = c.answer.new.v in
     let does = plain_does V.state V.holds c.args.c.now v w no_desk k (M.now a) (M.now c.answer.new.m) at (desk_holds V.state V.holds v w no_desk k (M.now a) (M.now c.answer.new.m) at (desk_on (V.state v) (V.state c.answer.new.v) no_desk c.answer.ensures.layout c.answer.ensures.open c.requires.idle)) (Ok c.in-Ok.answer) (c.in-Ok.ensures.done h (known_of k) at.stands) in
-    counted_step V.state V.holds M g.met.V.Files.wears short g.met.M.Machine.counts_now c.args.c.now v c.answer.new.v a c.answer.new.m k from stood aged at _ disk c.in-Ok.ensures.layout h (λ left was. g.met.M.Machine.only_now c.answer.new.m left h was)
+    counted_step V.state V.holds M g.met.V.Files.wears short (timed_by M g.met.M.Machine.dated g.met.M.Machine.history g.met.M.Machine.counts_now g.met.M.Machine.only_now) c.args.c.now v c.answer.new.v a c.answer.new.m k f from stood aged at _ disk c.in-Ok.ensures.layout h held
     does.0 (reply_of c.in-Ok.answer) does.1 does.2 c.args.tally.now c.in-Ok-count.tally c.in-Ok-count.ensures.ok
 
 pub returns-in-Ok-clause-steps : goal.returns-in-Ok-clause-steps
-returns-in-Ok-clause-steps g c h k from stood aged =
+returns-in-Ok-clause-steps g c h k f from stood aged held =
     let V = g.V.Files in
     let M = g.M.Machine in
     let a = c.args.m.now in
@@ -39,11 +40,11 @@ returns-in-Ok-clause-steps g c h k from stood aged =
     let at = seat_wears V.state V.holds g.met.V.Files.wears (v, no_desk) k from (M.now a) (subst (λ (w : Windows). AreShort w) aged.windows (short a first)) aged stood in
     let w = c.answer.new.v in
     let does = plain_does V.state V.holds c.args.c.now v w no_desk k (M.now a) (M.now c.answer.new.m) at (desk_holds V.state V.holds v w no_desk k (M.now a) (M.now c.answer.new.m) at (desk_on (V.state v) (V.state c.answer.new.v) no_desk c.answer.ensures.layout c.answer.ensures.open c.requires.idle)) (Ok c.in-Ok.answer) (c.in-Ok.ensures.done h (known_of k) at.stands) in
-    counted_none V.state V.holds M g.met.V.Files.wears short g.met.M.Machine.counts_now c.args.c.now v c.answer.new.v a c.answer.new.m k from stood aged at _ disk c.in-Ok.ensures.layout h (λ left was. g.met.M.Machine.only_now c.answer.new.m left h was)
+    counted_none V.state V.holds M g.met.V.Files.wears short (timed_by M g.met.M.Machine.dated g.met.M.Machine.history g.met.M.Machine.counts_now g.met.M.Machine.only_now) c.args.c.now v c.answer.new.v a c.answer.new.m k f from stood aged at _ disk c.in-Ok.ensures.layout h held
     does.0 (reply_of c.in-Ok.answer) does.1 does.2 c.in-Err-count.fault c.in-Err-count.ensures.err
 
 pub returns-clause-steps : goal.returns-clause-steps
-returns-clause-steps g c h k from stood aged =
+returns-clause-steps g c h k f from stood aged held =
     let V = g.V.Files in
     let M = g.M.Machine in
     let a = c.args.m.now in
@@ -52,7 +53,7 @@ returns-clause-steps g c h k from stood aged =
     let first = disk.trust.honest h in
     let short = λ (m : g.row.M.Denot) (x : M.honest m). g.met.M.Machine.short m x in
     let at = seat_wears V.state V.holds g.met.V.Files.wears (v, no_desk) k from (M.now a) (subst (λ (w : Windows). AreShort w) aged.windows (short a first)) aged stood in
-    counted_fault V.state V.holds M g.met.V.Files.wears short g.met.M.Machine.counts_now c.args.c.now v c.answer.new.v a c.answer.new.m k from stood aged at _ disk c.in-Err.ensures.layout h c.in-Err.fault (plain_does V.state V.holds c.args.c.now v c.answer.new.v no_desk k (M.now a) (M.now c.answer.new.m) at (desk_holds V.state V.holds v c.answer.new.v no_desk k (M.now a) (M.now c.answer.new.m) at (desk_on (V.state v) (V.state c.answer.new.v) no_desk c.answer.ensures.layout c.answer.ensures.open c.requires.idle)) (Err c.in-Err.fault) (c.in-Err.ensures.done h (known_of k) at.stands))
+    counted_fault V.state V.holds M g.met.V.Files.wears short (timed_by M g.met.M.Machine.dated g.met.M.Machine.history g.met.M.Machine.counts_now g.met.M.Machine.only_now) c.args.c.now v c.answer.new.v a c.answer.new.m k f from stood aged at _ disk c.in-Err.ensures.layout h held c.in-Err.fault (plain_does V.state V.holds c.args.c.now v c.answer.new.v no_desk k (M.now a) (M.now c.answer.new.m) at (desk_holds V.state V.holds v c.answer.new.v no_desk k (M.now a) (M.now c.answer.new.m) at (desk_on (V.state v) (V.state c.answer.new.v) no_desk c.answer.ensures.layout c.answer.ensures.open c.requires.idle)) (Err c.in-Err.fault) (c.in-Err.ensures.done h (known_of k) at.stands))
 
 pub returns-in-Ok-clause-fault : goal.returns-in-Ok-clause-fault
 returns-in-Ok-clause-fault g c = subst IsOfCall (sym c.in-Err-count.ensures.err) tt

@@ -11,22 +11,23 @@ use Rattle.volume_turns.proofs.CountLaws.{counted_refused}
 use Rattle.volume_turns.proofs.NumberLaws.{ended, goes_none}
 use Rattle.fsd_runs.proofs.OtherLaws.{no_scrub}
 use Rattle.volume_turns.proofs.OtherLaws.{made_other, not_upgrade}
+use Rattle.volume_turns.proofs.SayLaws.{timed_by}
 use Rattle.volume_turns.proofs.ToldLaws.{end_of_page}
 use Rattle.volume_turns.proofs.generate.draw.Goals as goal
 
 pub returns-in-Ok-Some-clause-draws : goal.returns-in-Ok-Some-clause-draws
-returns-in-Ok-Some-clause-draws g c h k from stood aged =
+returns-in-Ok-Some-clause-draws g c h k f from stood aged held =
     let V = g.V.Files in
     let M = g.M.Machine in
     let made : made_left c.args.maker.now ≡ c.in-Ok-Some.c ∷ made_left c.next_command.new.self = subst (λ (o : Option Word). MakesNext (Ok o) c.args.maker.now c.next_command.new.self) c.in-Ok-Some.field-0-is c.in-Ok-Some.ensures in
-    subst (λ (cs : List Word). RunsFrom V.state V.holds M silent k from (all_plain cs) c.args.m.now c.do_counted.new.m (c.do_counted.new.v, no_desk) (Err c.in-Err-do_counted.end)) (sym made)
-    (c.in-Err-do_counted.ensures.steps h k from stood aged (all_plain (made_left c.next_command.new.self)))
+    subst (λ (cs : List Word). RunsFrom V.state V.holds M silent k f from (all_plain cs) c.args.m.now c.do_counted.new.m (c.do_counted.new.v, no_desk) (Err c.in-Err-do_counted.end)) (sym made)
+    (c.in-Err-do_counted.ensures.steps h k f from stood aged held (all_plain (made_left c.next_command.new.self)))
 
 pub returns-clause-draws : goal.returns-clause-draws
 returns-clause-draws g c =
     let M = g.M.Machine in
     let m = c.args.m.now in
-    counted_refused g.V.Files.state g.V.Files.holds M (made_left c.args.maker.now) c.args.v.now m g.met.V.Files.wears (λ h left was. g.met.M.Machine.only_now m left h was) (λ h from aged. subst (λ (w : Windows). AreShort w) aged.windows (g.met.M.Machine.short m h))
+    counted_refused g.V.Files.state g.V.Files.holds M (made_left c.args.maker.now) c.args.v.now m g.met.V.Files.wears (timed_by M g.met.M.Machine.dated g.met.M.Machine.history g.met.M.Machine.counts_now g.met.M.Machine.only_now m) (λ h from aged. subst (λ (w : Windows). AreShort w) aged.windows (g.met.M.Machine.short m h))
 
 -- ---- what is asked of it
 

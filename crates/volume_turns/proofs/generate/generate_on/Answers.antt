@@ -13,6 +13,7 @@ use Rattle.volume_turns.proofs.GenerateLaws.{made_broken, made_said, made_unsaid
 use Rattle.volume_turns.proofs.LastLaws.{ends_fault, fault_not, line_other, told_place}
 use Rattle.volume_turns.proofs.NumberLaws.{ended, made_all}
 use Rattle.volume_turns.proofs.RunLaws.{since_on, writes_on}
+use Rattle.volume_turns.proofs.SayLaws.{timed_by}
 use Rattle.volume_turns.proofs.StatusLaws.{all_is_made, call_of_volume, fault_counts, fault_is_made, fault_not_zero, line_counts, not_as, unsaid_counts, worn_is_made}
 use Rattle.volume_turns.proofs.WornLaws.{status_worn}
 use Rattle.volume_turns.proofs.generate.generate_on.Goals as goal
@@ -46,8 +47,8 @@ returns-in-Ok-Some g c =
       last = λ of h. line_other (M.report b).fault_place (M.now p) (M.now b) status c.line.result 0 refl (line.ends h) of;
       spent = λ nine h. absurd (not_as 9 0 status (differ 0 9 refl) (differ 6 9 refl) line.status nine);
       all = λ zero h. made_all c.args.count came.tally at.counts c.line.result c.line.ensures (M.now a) (M.now p) (M.now b) status (at.says (line.says.trust.honest h)) (line.ends h) zero;
-      runs = λ h input rest k none stands. let back = line.says.trust.honest h in let made = at.group back k none stands in
-          made_said M c.args.seed c.args.count input rest k a p b h (line.says.since h) (g.met.M.Machine.short p back) stands.ends status came.tally made.group made.counts c.line.result c.line.ensures at.told.later line.says (line.ends h);
+      runs = λ h input rest k none stands disk. let back = line.says.trust.honest h in let timed = timed_by M g.met.M.Machine.dated g.met.M.Machine.history g.met.M.Machine.counts_now g.met.M.Machine.only_now in let made = at.group back k none stands disk in
+          made_said M c.args.seed c.args.count input rest k a p b h (line.says.since h) (g.met.M.Machine.short p back) stands.ends (timed p back) (timed b h) status came.tally made.group made.counts c.line.result c.line.ensures at.told.later line.says (line.ends h);
     }
 
 -- the mount is worn out
@@ -73,8 +74,8 @@ returns-in-Ok-None g c =
       last = λ of h. ends_fault (M.report b).fault_place (M.now p) (M.now b) status Ends.WornOut tt (line.ends h) of;
       spent = λ nine h. came.ensures.used (ap came_to came.field-0-is) (line.says.trust.honest h);
       all = λ zero h. absurd (not_as 0 9 status (differ 9 0 refl) (differ 6 0 refl) line.status zero);
-      runs = λ h input rest k none stands. let back = line.says.trust.honest h in
-          made_worn M c.args.seed c.args.count input rest k a p b h (line.says.since h) (g.met.M.Machine.short p back) stands.ends status (at.group back k none stands).group at.told.later line.says (line.ends h);
+      runs = λ h input rest k none stands disk. let back = line.says.trust.honest h in let timed = timed_by M g.met.M.Machine.dated g.met.M.Machine.history g.met.M.Machine.counts_now g.met.M.Machine.only_now in
+          made_worn M c.args.seed c.args.count input rest k a p b h (line.says.since h) (g.met.M.Machine.short p back) stands.ends (timed p back) (timed b h) status (at.group back k none stands disk).group at.told.later line.says (line.ends h);
     }
 
 -- a fault has ended it
@@ -101,8 +102,8 @@ returns-in-Err-Fault g c =
       last = λ of h. ends_fault (M.report b).fault_place (M.now p) (M.now b) status came.why (told_place came.why (M.report a) (M.report p) (M.report b) at.told.disk line.says.spares.place) (line.ends h) of;
       spent = λ nine h. absurd (came.ensures.unworn (ap ended (came.field-0-is ∙ ap (λ (w : Fault). Stopped w) (status_worn came.why status line.status nine))));
       all = λ zero h. absurd (fault_not_zero came.why status line.status zero);
-      runs = λ h input rest k none stands. let back = line.says.trust.honest h in
-          made_broken M c.args.seed c.args.count input rest k a p b h (line.says.since h) (g.met.M.Machine.short p back) stands.ends status came.why (at.group back k none stands).group at.told line.says (line.ends h);
+      runs = λ h input rest k none stands disk. let back = line.says.trust.honest h in let timed = timed_by M g.met.M.Machine.dated g.met.M.Machine.history g.met.M.Machine.counts_now g.met.M.Machine.only_now in
+          made_broken M c.args.seed c.args.count input rest k a p b h (line.says.since h) (g.met.M.Machine.short p back) stands.ends (timed p back) (timed b h) status came.why (at.group back k none stands disk).group at.told line.says (line.ends h);
     }
 
 -- the output has failed
@@ -125,5 +126,5 @@ returns-in-Err-Output g c =
       last = λ of h. absurd (fault_not 6 6 refl of refl);
       spent = λ nine h. absurd (differ 6 9 refl nine);
       all = λ zero h. absurd (differ 6 0 refl zero);
-      runs = λ h input rest k none stands. made_unsaid M c.args.seed c.args.count input rest k a b h (g.met.M.Machine.short b h) stands.ends (at.group h k none stands).group at.told;
+      runs = λ h input rest k none stands disk. made_unsaid M c.args.seed c.args.count input rest k a b h (g.met.M.Machine.short b h) stands.ends (timed_by M g.met.M.Machine.dated g.met.M.Machine.history g.met.M.Machine.counts_now g.met.M.Machine.only_now b h) (at.group h k none stands disk).group at.told;
     }

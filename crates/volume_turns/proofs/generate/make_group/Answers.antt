@@ -9,11 +9,13 @@ use Rattle.volume_turns.specs.declared.turns.End.TheVariants.{Fault as Stopped}
 use Rattle.volume_turns.proofs.ApartLaws.{err_is, ok_apart}
 use Rattle.fsd_files.specs.Desk.{no_clients}
 use Rattle.client_desk.proofs.FinishLaws.{sits_fresh}
+use Rattle.volume_contract.specs.State.{forced_of}
 use Rattle.volume_turns.specs.Seats.{known_of, seated}
 use Rattle.volume_turns.proofs.CountLaws.{counted_all, counted_broken, counted_worn, told_end, told_more, told_worn_out}
 use Rattle.volume_turns.proofs.GroupLaws.{worn_is}
 use Rattle.volume_turns.proofs.NumberLaws.{counts_none, counts_on, ended, forced_behind, other_end, passed_on}
 use Rattle.volume_turns.proofs.RunLaws.{later_on, since_on}
+use Rattle.volume_turns.proofs.SayLaws.{timed_by}
 use Rattle.volume_turns.proofs.SaidLaws.{keeps_end, keeps_then}
 use Rattle.volume_turns.proofs.ToldLaws.{told_behind}
 use Rattle.volume_turns.proofs.generate.make_group.Goals as goal
@@ -45,8 +47,8 @@ returns-in-Ok g c =
       told = told_more (M.report a) (M.report m) (M.report b) tally result made.told done.told;
       used = λ is h. let no : None ≡ Some tally = passed_on (Some tally) None result done.same is in absurd (cc (no));
       counts = counts_on c.args.count tally made.counts result done.same;
-      group = λ h k none stands. let back = done.trust.honest h in
-          counted_all V.state V.holds M k commands a m b v (done.since h) (made.later back) tally (made.runs back (seated k no_clients) now (sits_fresh V.state V.holds k c.args.v now none stands) (record { image = worn_refl (open_damage now.windows) now.image; windows = refl })) result done.same (λ x at. done.closes h (known_of x) at.stands);
+      group = λ h k none stands disk. let back = done.trust.honest h in let timed = timed_by M g.met.M.Machine.dated g.met.M.Machine.history g.met.M.Machine.counts_now g.met.M.Machine.only_now in
+          counted_all V.state V.holds M k commands a m b v (done.since h) (made.later back) (timed b h) tally (made.runs back (seated k no_clients) (forced_of k) now (sits_fresh V.state V.holds k c.args.v now none stands) (record { image = worn_refl (open_damage now.windows) now.image; windows = refl }) disk) result done.same (λ x f at on. done.closes h (known_of x) f at.stands on);
     }
 
 -- the mount is worn out
@@ -79,8 +81,8 @@ returns-then-is_worn_end g c =
       told = told_more (M.report a) (M.report m) (M.report b) tt result (told_worn_out (M.report a) (M.report m) end worn made.told) done.told;
       used = λ is h. made.used (ap ended (worn_is end worn)) (done.trust.honest h);
       counts = counts_none c.args.count result done.same;
-      group = λ h k none stands. let back = done.trust.honest h in
-          counted_worn V.state V.holds M k commands a m b v (done.since h) (made.later back) end worn (made.runs back (seated k no_clients) now (sits_fresh V.state V.holds k c.args.v now none stands) (record { image = worn_refl (open_damage now.windows) now.image; windows = refl })).ran result done.same (λ x at. done.closes h (known_of x) at.stands);
+      group = λ h k none stands disk. let back = done.trust.honest h in let timed = timed_by M g.met.M.Machine.dated g.met.M.Machine.history g.met.M.Machine.counts_now g.met.M.Machine.only_now in
+          counted_worn V.state V.holds M k commands a m b v (done.since h) (made.later back) (timed b h) end worn (made.runs back (seated k no_clients) (forced_of k) now (sits_fresh V.state V.holds k c.args.v now none stands) (record { image = worn_refl (open_damage now.windows) now.image; windows = refl }) disk).ran result done.same (λ x f at on. done.closes h (known_of x) f at.stands on);
     }
 
 -- another fault has ended it
@@ -107,6 +109,6 @@ returns-else-is_worn_end g c =
       since = made.since;
       later = made.later;
       quiet = λ h. keeps_end now (M.now m) end (made.quiet h);
-      group = λ h k none stands.
-          counted_broken g.V.Files.state g.V.Files.holds M k (made_up c.args.seed c.args.count) a m m c.make_up.new.v (λ t left le was. was) (made.later h) end unworn (made.runs h (seated k no_clients) now (sits_fresh g.V.Files.state g.V.Files.holds k c.args.v now none stands) (record { image = worn_refl (open_damage now.windows) now.image; windows = refl })).ran;
+      group = λ h k none stands disk.
+          counted_broken g.V.Files.state g.V.Files.holds M k (made_up c.args.seed c.args.count) a m m c.make_up.new.v (λ t left le was. was) (made.later h) (timed_by M g.met.M.Machine.dated g.met.M.Machine.history g.met.M.Machine.counts_now g.met.M.Machine.only_now m h) end unworn (made.runs h (seated k no_clients) (forced_of k) now (sits_fresh g.V.Files.state g.V.Files.holds k c.args.v now none stands) (record { image = worn_refl (open_damage now.windows) now.image; windows = refl }) disk).ran;
     }

@@ -17,6 +17,7 @@ use Rattle.volume_turns.proofs.ApartLaws.{err_is, ok_apart}
 use Rattle.volume_turns.proofs.CountLaws.{counted_nil, counted_stop, counted_then, made_length, none_left, told_all, told_end, told_more, told_none}
 use Rattle.volume_turns.proofs.NumberLaws.{ended, goes_none, goes_then, may_before}
 use Rattle.volume_turns.proofs.RunLaws.{follows_then, later_on, since_on}
+use Rattle.volume_turns.proofs.SayLaws.{timed_by}
 use Rattle.volume_turns.proofs.generate.make_up.Goals as goal
 
 pub loop-init : goal.loop-init
@@ -113,7 +114,7 @@ returns-in-Ok-None g c =
       runs = was.rest c.draw.new.v b (Ok l.tally) (record { honest = does.trust.honest; since = does.since; later = does.later })
           (subst (λ (x : g.row.M.Denot). RunsCounted V.state V.holds M (made_left l.maker) l.v m c.draw.new.v x l.tally (Ok l.tally)) (sym does.draws.2)
           (subst (λ (z : g.row.V.Denot). RunsCounted V.state V.holds M (made_left l.maker) l.v m z m l.tally (Ok l.tally)) (sym does.draws.1)
-          (subst (λ (cs : List Word). RunsCounted V.state V.holds M cs l.v m l.v m l.tally (Ok l.tally)) (sym does.draws.0) (counted_nil V.state V.holds M l.v m g.met.V.Files.wears (λ h left was. g.met.M.Machine.only_now m left h was) (λ h from aged. subst (λ (w : Windows). AreShort w) aged.windows (g.met.M.Machine.short m h)) l.tally))));
+          (subst (λ (cs : List Word). RunsCounted V.state V.holds M cs l.v m l.v m l.tally (Ok l.tally)) (sym does.draws.0) (counted_nil V.state V.holds M l.v m g.met.V.Files.wears (timed_by M g.met.M.Machine.dated g.met.M.Machine.history g.met.M.Machine.counts_now g.met.M.Machine.only_now m) (λ h from aged. subst (λ (w : Windows). AreShort w) aged.windows (g.met.M.Machine.short m h)) l.tally))));
     }
 
 pub returns-in-Err : goal.returns-in-Err
@@ -166,5 +167,5 @@ returns g c =
       later = was.later;
       quiet = was.quiet;
       runs = was.rest l.v m (Ok l.tally) (record { honest = λ h. h; since = λ h t left le was. was; later = λ h. omega arith })
-          (subst (λ (cs : List Word). RunsCounted V.state V.holds M cs l.v m l.v m l.tally (Ok l.tally)) (sym (none_left (made_left l.maker) (omega (arith, left, most, ended)))) (counted_nil V.state V.holds M l.v m g.met.V.Files.wears (λ h left was. g.met.M.Machine.only_now m left h was) (λ h from aged. subst (λ (w : Windows). AreShort w) aged.windows (g.met.M.Machine.short m h)) l.tally));
+          (subst (λ (cs : List Word). RunsCounted V.state V.holds M cs l.v m l.v m l.tally (Ok l.tally)) (sym (none_left (made_left l.maker) (omega (arith, left, most, ended)))) (counted_nil V.state V.holds M l.v m g.met.V.Files.wears (timed_by M g.met.M.Machine.dated g.met.M.Machine.history g.met.M.Machine.counts_now g.met.M.Machine.only_now m) (λ h from aged. subst (λ (w : Windows). AreShort w) aged.windows (g.met.M.Machine.short m h)) l.tally));
     }

@@ -5,6 +5,7 @@ use Rattle.volume_turns.specs.Causes.{SaysMade}
 use Rattle.volume_turns.proofs.BehindLaws.{RefusedBy, RunsOver, over_counts, over_image, over_leaves, over_said, over_trust, over_writes, refused_counts, refused_image, refused_last, refused_leaves, refused_of, refused_trust, refused_writes}
 use Rattle.volume_turns.proofs.GenerateLaws.{some_turn}
 use Rattle.volume_turns.proofs.NumberLaws.{new_may}
+use Rattle.volume_turns.proofs.SayLaws.{timed_by}
 use Rattle.volume_turns.proofs.StatusLaws.{fault_is_made, fault_not_zero}
 use Rattle.client_desk.proofs.DeskLaws.{desk_fresh}
 use Rattle.volume_turns.proofs.generate.run_generate.Goals as goal
@@ -26,9 +27,9 @@ returns-in-Ok g c =
       image = λ h. over_image x false AreOfPage (Some c.args.count) c.generate_on.result h (λ three. does.says three h) (λ nine. new_may c.args.count (g.V.Files.state c.in-Ok.v) e.fresh (does.spent nine h));
       last = does.last;
       all = λ zero h. subst (λ (before : List ℕ). SaysMade c.args.count before (M.now c.generate_on.new.m)) (over_said x h) (does.all zero h);
-      leaves = λ h input rest l windows changes f at.
-          over_leaves x g.V.Files.holds (Generate c.args.seed c.args.count) input rest l windows changes f c.generate_on.result h does.since (λ y t. g.met.M.Machine.counts_now y t) (e.sound (does.trust.honest h) l windows changes f at)
-          (λ k none idle stands. does.runs h input rest k idle stands);
+      leaves = λ h input rest l windows changes f at held.
+          over_leaves x g.V.Files.holds (Generate c.args.seed c.args.count) input rest l windows changes f c.generate_on.result h does.since (λ y t. g.met.M.Machine.counts_now y t) (timed_by M g.met.M.Machine.dated g.met.M.Machine.history g.met.M.Machine.counts_now g.met.M.Machine.only_now) held (e.sound (does.trust.honest h) l windows changes f at)
+          (λ k none idle stands disk. does.runs h input rest k idle stands disk);
     }
 
 pub returns-in-Err : goal.returns-in-Err
@@ -48,7 +49,7 @@ returns-in-Err g c =
       image = refused_image x false AreOfPage (Some c.args.count);
       last = refused_last x;
       all = λ zero h. absurd (fault_not_zero why status line.status zero);
-      leaves = λ h input rest l windows changes f at.
+      leaves = λ h input rest l windows changes f at held.
           refused_leaves x g.V.Files.state g.V.Files.holds (Generate c.args.seed c.args.count) input rest l windows changes f h (g.met.M.Machine.short c.mount.new.m) (λ y t. g.met.M.Machine.counts_now y t)
-          (λ left back was. g.met.M.Machine.only_now c.mount.new.m left back was) at (e.sound (line.says.trust.honest h) l windows changes f at) (some_turn c.args.seed c.args.count input);
+          (timed_by M g.met.M.Machine.dated g.met.M.Machine.history g.met.M.Machine.counts_now g.met.M.Machine.only_now) at held (e.sound (line.says.trust.honest h) l windows changes f at) (some_turn c.args.seed c.args.count input);
     }

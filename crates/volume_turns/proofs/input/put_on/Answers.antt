@@ -12,8 +12,9 @@ use Rattle.volume_turns.proofs.AnsweringLaws.{fault_alone, no_reply_since, one_s
 use Rattle.volume_turns.proofs.CauseLaws.{call_since, says_input}
 use Rattle.volume_turns.proofs.InputLaws.{put_out}
 use Rattle.volume_turns.proofs.LastLaws.{ends_fault}
-use Rattle.volume_turns.proofs.PutLaws.{stands_on, taken_ended, taken_on}
+use Rattle.volume_turns.proofs.PutLaws.{held_on, stands_on, taken_ended, taken_on}
 use Rattle.volume_turns.proofs.RunLaws.{since_on}
+use Rattle.volume_turns.proofs.SayLaws.{timed_by}
 use Rattle.volume_turns.proofs.StatusLaws.{counts_taken, counts_untaken, fault_is_put, fault_not_low, long_is_put, not_as, one_is_put, one_not_five}
 use Rattle.volume_turns.proofs.input.put_on.Goals as goal
 
@@ -48,11 +49,15 @@ returns-in-Ok g c =
       one = λ h none. let back = does.trust.honest h in
           subst (λ (x : List ℕ). SaysOne (Word.Put c.args.name x c.args.keep) (M.now a) (M.now b) status) (came.whole (g.met.M.Machine.honest_tells m back))
           (one_since (Word.Put c.args.name bytes c.args.keep) (M.now a) (M.now m) (M.now b) status (read.exit back).said (does.one h none).says);
-      runs = λ h k none idle stands. let back = does.trust.honest h in let short = g.met.M.Machine.short a (read.trust.honest back) in
-          let there = stands_on V.state V.holds M c.args.name c.args.keep bytes rest c.args.v k a m b (g.met.V.Files.wears c.args.v k) short stands false read back status in
+      runs = λ h k none idle stands on. let back = does.trust.honest h in let short = g.met.M.Machine.short a (read.trust.honest back) in
+          let timed = timed_by M g.met.M.Machine.dated g.met.M.Machine.history g.met.M.Machine.counts_now g.met.M.Machine.only_now in
+          let at_a = timed a (read.trust.honest back) in
+          let at_m = timed m back in
+          let there = stands_on V.state V.holds M c.args.name c.args.keep bytes rest c.args.v k a m b (g.met.V.Files.wears c.args.v k) short stands on at_a at_m false read back status in
+          let held = held_on V.state V.holds M c.args.name c.args.keep bytes rest c.args.v k a m b (g.met.V.Files.wears c.args.v k) short stands on at_a at_m false read back status in
           subst (λ (x : List ℕ). RunsOut M (Put c.args.name c.args.keep) x rest (M.report a) k a b status) (came.whole (g.met.M.Machine.honest_tells m back))
-          (taken_on V.state V.holds M c.args.name c.args.keep bytes rest c.args.v k a m b (g.met.V.Files.wears c.args.v k) short stands false read back status refl c.requires.unworn
-          (put_out M c.args.name c.args.keep bytes rest came.few (M.report m) k m b status (does.runs h rest k none idle there)));
+          (taken_on V.state V.holds M c.args.name c.args.keep bytes rest c.args.v k a m b (g.met.V.Files.wears c.args.v k) short stands on at_a at_m false read back status refl c.requires.unworn
+          (put_out M c.args.name c.args.keep bytes rest came.few (M.report m) k m b status (does.runs h rest k none idle there held)));
     }
 
 pub returns-in-Err-TooLong : goal.returns-in-Err-TooLong
@@ -83,10 +88,14 @@ returns-in-Err-TooLong g c =
       unspent = λ nine h. does.unspent nine;
       last = does.last;
       one = λ h none. inr (no_reply_since (M.now a) (M.now m) (M.now b) status (read.exit (does.trust.honest h)).said (does.fault h));
-      runs = λ h k none idle stands. let back = does.trust.honest h in let short = g.met.M.Machine.short a (read.trust.honest back) in
-          let there = stands_on V.state V.holds M c.args.name c.args.keep input rest c.args.v k a m b (g.met.V.Files.wears c.args.v k) short stands false read back status in
-          taken_on V.state V.holds M c.args.name c.args.keep input rest c.args.v k a m b (g.met.V.Files.wears c.args.v k) short stands false read back status refl c.requires.unworn
-          (does.runs h c.args.name c.args.keep input rest k (came.long refl (g.met.M.Machine.honest_tells m back)) none there);
+      runs = λ h k none idle stands on. let back = does.trust.honest h in let short = g.met.M.Machine.short a (read.trust.honest back) in
+          let timed = timed_by M g.met.M.Machine.dated g.met.M.Machine.history g.met.M.Machine.counts_now g.met.M.Machine.only_now in
+          let at_a = timed a (read.trust.honest back) in
+          let at_m = timed m back in
+          let there = stands_on V.state V.holds M c.args.name c.args.keep input rest c.args.v k a m b (g.met.V.Files.wears c.args.v k) short stands on at_a at_m false read back status in
+          let held = held_on V.state V.holds M c.args.name c.args.keep input rest c.args.v k a m b (g.met.V.Files.wears c.args.v k) short stands on at_a at_m false read back status in
+          taken_on V.state V.holds M c.args.name c.args.keep input rest c.args.v k a m b (g.met.V.Files.wears c.args.v k) short stands on at_a at_m false read back status refl c.requires.unworn
+          (does.runs h c.args.name c.args.keep input rest k (came.long refl (g.met.M.Machine.honest_tells m back)) none there held);
     }
 
 pub returns-in-Err-Failed : goal.returns-in-Err-Failed
@@ -118,8 +127,9 @@ returns-in-Err-Failed g c =
       unspent = λ nine h. not_as 9 5 status (λ e. omega (arith, e)) (λ e. omega (arith, e)) line.status nine;
       last = λ of h. ends_fault (M.report b).fault_place (M.now m) (M.now b) status Ends.Input tt (line.ends h) of;
       one = λ h none. inr (fault_alone Ends.Input (M.now a) (M.now m) (M.now b) status (read.exit (line.says.trust.honest h)).said (line.ends h));
-      runs = λ h k none idle stands. let back = line.says.trust.honest h in
-          taken_ended V.state V.holds M c.args.name c.args.keep input rest c.args.v k a m b (g.met.V.Files.wears c.args.v k) (g.met.M.Machine.short a (read.trust.honest back)) stands true read back status Ends.Input tt rose line.says h (line.ends h);
+      runs = λ h k none idle stands on. let back = line.says.trust.honest h in
+          let timed = timed_by M g.met.M.Machine.dated g.met.M.Machine.history g.met.M.Machine.counts_now g.met.M.Machine.only_now in
+          taken_ended V.state V.holds M c.args.name c.args.keep input rest c.args.v k a m b (g.met.V.Files.wears c.args.v k) (g.met.M.Machine.short a (read.trust.honest back)) stands on (timed a (read.trust.honest back)) (timed m back) true read back status Ends.Input tt rose line.says h (timed b h) (line.ends h);
     }
 
 pub returns-in-Err-Memory : goal.returns-in-Err-Memory
@@ -150,6 +160,7 @@ returns-in-Err-Memory g c =
       unspent = λ nine h. not_as 9 7 status (λ e. omega (arith, e)) (λ e. omega (arith, e)) line.status nine;
       last = λ of h. ends_fault (M.report b).fault_place (M.now m) (M.now b) status Ends.Memory tt (line.ends h) of;
       one = λ h none. inr (fault_alone Ends.Memory (M.now a) (M.now m) (M.now b) status (read.exit (line.says.trust.honest h)).said (line.ends h));
-      runs = λ h k none idle stands. let back = line.says.trust.honest h in
-          taken_ended V.state V.holds M c.args.name c.args.keep input rest c.args.v k a m b (g.met.V.Files.wears c.args.v k) (g.met.M.Machine.short a (read.trust.honest back)) stands false read back status Ends.Memory tt tt line.says h (line.ends h);
+      runs = λ h k none idle stands on. let back = line.says.trust.honest h in
+          let timed = timed_by M g.met.M.Machine.dated g.met.M.Machine.history g.met.M.Machine.counts_now g.met.M.Machine.only_now in
+          taken_ended V.state V.holds M c.args.name c.args.keep input rest c.args.v k a m b (g.met.V.Files.wears c.args.v k) (g.met.M.Machine.short a (read.trust.honest back)) stands on (timed a (read.trust.honest back)) (timed m back) false read back status Ends.Memory tt tt line.says h (timed b h) (line.ends h);
     }

@@ -10,6 +10,7 @@ use Rattle.volume_turns.proofs.CauseLaws.{call_says, says_input}
 use Rattle.volume_turns.proofs.InputLaws.{close_of_call, device_close, refused_broken, refused_input}
 use Rattle.volume_turns.proofs.LastLaws.{ends_fault, told_place}
 use Rattle.volume_turns.proofs.RunLaws.{since_on, told_done, told_fault, writes_on}
+use Rattle.volume_turns.proofs.SayLaws.{timed_by}
 use Rattle.volume_turns.proofs.StatusLaws.{as_not_low, call_of_volume, fault_counts, fault_is_put, fault_not_five, fault_not_low, line_counts, long_is_put, not_as}
 use Rattle.volume_turns.proofs.ToldLaws.{close_told}
 use Rattle.volume_turns.proofs.WornLaws.{close_unworn, status_worn}
@@ -37,8 +38,9 @@ returns-in-Ok g c =
       last = λ of h. ends_fault (M.report b).fault_place (M.now m) (M.now b) status Ends.InputTooLong tt (line.ends h) of;
       fault = λ h. fault_alone Ends.InputTooLong (M.now a) (M.now m) (M.now b) status (disk.quiet (line.says.trust.honest h)) (line.ends h);
       long = λ five h input old new many. says_input Ends.InputTooLong input old new (M.now m) (M.now b) status many (line.ends h) five;
-      runs = λ h name keep input rest k many none stands. let back = line.says.trust.honest h in
-          refused_input V.state V.holds M name keep input rest many c.args.v a m b k stands (force_writes (V.state c.args.v).layout) _ disk back h (g.met.M.Machine.short m back) status (c.in-Ok.ensures.done back k stands) line.says (line.ends h);
+      runs = λ h name keep input rest k many none stands on. let back = line.says.trust.honest h in
+          let timed = timed_by M g.met.M.Machine.dated g.met.M.Machine.history g.met.M.Machine.counts_now g.met.M.Machine.only_now in
+          refused_input V.state V.holds M name keep input rest many c.args.v a m b k stands on timed (force_writes (V.state c.args.v).layout) _ disk back h (g.met.M.Machine.short m back) status none (c.in-Ok.ensures.done back k stands) line.says (line.ends h);
     }
 
 pub returns-in-Err : goal.returns-in-Err
@@ -69,6 +71,7 @@ returns-in-Err g c =
       last = λ of h. ends_fault (M.report b).fault_place (M.now m) (M.now b) status why (told_place why (M.report a) (M.report m) (M.report b) told.disk line.says.spares.place) (line.ends h) of;
       fault = λ h. fault_alone why (M.now a) (M.now m) (M.now b) status (disk.quiet (line.says.trust.honest h)) (line.ends h);
       long = λ five h input old new many. absurd (fault_not_five why status (call_of_volume why (close_of_call refused)) line.status five);
-      runs = λ h name keep input rest k many none stands. let back = line.says.trust.honest h in
-          refused_broken V.state V.holds M name keep input rest many c.args.v a m b k stands (force_writes s.layout) _ disk back h (g.met.M.Machine.short m back) status refused (e.done back k stands) told line.says (line.ends h);
+      runs = λ h name keep input rest k many none stands on. let back = line.says.trust.honest h in
+          let timed = timed_by M g.met.M.Machine.dated g.met.M.Machine.history g.met.M.Machine.counts_now g.met.M.Machine.only_now in
+          refused_broken V.state V.holds M name keep input rest many c.args.v a m b k stands on timed (force_writes s.layout) _ disk back h (g.met.M.Machine.short m back) status refused (e.done back k stands) told line.says (line.ends h);
     }

@@ -8,6 +8,7 @@ use Rattle.volume_turns.specs.Whole.{RunsOut}
 use Rattle.volume_turns.proofs.AnsweringLaws.{one_since}
 use Rattle.volume_turns.proofs.BehindLaws.{RefusedBy, RunsOver, over_attaches, over_fails, over_image, over_input, over_leaves, over_said, over_says_input, over_taking, over_trust, refused_alone, refused_image, refused_last, refused_leaves, refused_of, refused_taking, refused_trust, refused_writes}
 use Rattle.volume_turns.proofs.PutLaws.{some_put}
+use Rattle.volume_turns.proofs.SayLaws.{timed_by}
 use Rattle.volume_turns.proofs.StatusLaws.{fault_is_put, fault_not_five, fault_not_low}
 use Rattle.volume_turns.proofs.UpgradeLaws.{new_fresh}
 use Rattle.volume_turns.proofs.input.run_put.Goals as goal
@@ -35,9 +36,9 @@ returns-in-Ok g c =
       one = λ h.
           subst (λ (input : List ℕ). SaysOne (Word.Put c.args.name input c.args.keep) (M.now c.args.m.now) (M.now c.put_on.new.m) c.put_on.result) (over_input x (g.met.M.Machine.honest_tells c.put_on.new.m h))
           (one_since _ (M.now c.args.m.now) (M.now c.mount.new.m) (M.now c.put_on.new.m) c.put_on.result (over_said x h) (does.one h e.fresh.dirty));
-      leaves = λ h l windows changes f at.
-          over_leaves x g.V.Files.holds (Put c.args.name c.args.keep) (M.ledger c.args.m.now).input (M.ledger c.put_on.new.m).input l windows changes f c.put_on.result h does.since (λ y t. g.met.M.Machine.counts_now y t) (e.sound (does.trust.honest h) l windows changes f at)
-          (λ k none idle stands. subst (λ (input : List ℕ). RunsOut M (Put c.args.name c.args.keep) input (M.ledger c.put_on.new.m).input (M.report c.mount.new.m) k c.mount.new.m c.put_on.new.m c.put_on.result) (over_input x (g.met.M.Machine.honest_tells c.put_on.new.m h)) (does.runs h k none idle stands));
+      leaves = λ h l windows changes f at held.
+          over_leaves x g.V.Files.holds (Put c.args.name c.args.keep) (M.ledger c.args.m.now).input (M.ledger c.put_on.new.m).input l windows changes f c.put_on.result h does.since (λ y t. g.met.M.Machine.counts_now y t) (timed_by M g.met.M.Machine.dated g.met.M.Machine.history g.met.M.Machine.counts_now g.met.M.Machine.only_now) held (e.sound (does.trust.honest h) l windows changes f at)
+          (λ k none idle stands disk. subst (λ (input : List ℕ). RunsOut M (Put c.args.name c.args.keep) input (M.ledger c.put_on.new.m).input (M.report c.mount.new.m) k c.mount.new.m c.put_on.new.m c.put_on.result) (over_input x (g.met.M.Machine.honest_tells c.put_on.new.m h)) (does.runs h k none idle stands disk));
     }
 
 pub returns-in-Err : goal.returns-in-Err
@@ -61,7 +62,7 @@ returns-in-Err g c =
       image = refused_image x false AreOfPage None;
       last = refused_last x;
       one = λ h. inr (refused_alone x h);
-      leaves = λ h l windows changes f at.
+      leaves = λ h l windows changes f at held.
           refused_leaves x g.V.Files.state g.V.Files.holds (Put c.args.name c.args.keep) (M.ledger c.args.m.now).input (M.ledger c.end_with.new.m).input l windows changes f h (g.met.M.Machine.short c.mount.new.m) (λ y t. g.met.M.Machine.counts_now y t)
-          (λ left back was. g.met.M.Machine.only_now c.mount.new.m left back was) at (e.sound (line.says.trust.honest h) l windows changes f at) (some_put c.args.name c.args.keep (M.ledger c.args.m.now).input);
+          (timed_by M g.met.M.Machine.dated g.met.M.Machine.history g.met.M.Machine.counts_now g.met.M.Machine.only_now) at held (e.sound (line.says.trust.honest h) l windows changes f at) (some_put c.args.name c.args.keep (M.ledger c.args.m.now).input);
     }

@@ -1,9 +1,11 @@
 use Rattle.std.proofs.Common.{ℕ, List, subst, arith}
 use Rattle.fsd_files.specs.Replies.{Reply}
 use Rattle.fsd_runs.specs.Errands.{reply_status}
+use Rattle.volume_contract.specs.State.{forced_of}
 use Rattle.volume_turns.specs.Once.{ClosesAndSays, unit_of}
 use Rattle.volume_turns.specs.Steps.{reply_of}
-use Rattle.volume_turns.proofs.OnceLaws.{alone_answered, alone_fault}
+use Rattle.volume_turns.proofs.OnceLaws.{alone_answered, alone_fault, answered_held}
+use Rattle.volume_turns.proofs.SayLaws.{timed_by}
 use Rattle.volume_turns.specs.Status.{IsStatusFrom}
 use Rattle.volume_turns.proofs.StatusLaws.{status_at}
 use Rattle.volume_turns.specs.Answering.{ClosesBy}
@@ -11,21 +13,29 @@ use Rattle.volume_turns.proofs.AnsweringLaws.{alone_closed, alone_ended}
 use Rattle.volume_turns.proofs.once.answer_alone.Goals as goal
 
 pub returns-in-Ok-clause-does : goal.returns-in-Ok-clause-does
-returns-in-Ok-clause-does g c h k none idle stands =
+returns-in-Ok-clause-does g c h k none idle stands on =
     let V = g.V.Files in
     let M = g.M.Machine in
+    let v = c.args.v in
+    let w = c.answer.new.v in
+    let a = c.args.m.now in
+    let m = c.answer.new.m in
+    let b = c.close_as.new.m in
     let back = c.close_as.ensures.trust.honest h in
     let does = c.in-Ok.ensures.done back k stands in
     let reply = reply_of c.in-Ok.answer in
-    alone_answered V.state V.holds M g.met.V.Files.wears (λ m x. g.met.M.Machine.short m x) g.met.M.Machine.counts_now c.args.c.now c.args.v c.answer.new.v c.args.m.now c.answer.new.m c.close_as.new.m k idle stands _ c.in-Ok.ensures.disk back
-    (c.close_as.ensures.since h) does.0 reply does.1 does.2 c.in-Ok.ensures.layout c.close_as.result c.close_as.ensures.undone c.close_as.ensures.status
-    (subst (λ (says : Reply → List ℕ). ClosesAndSays M does.0 (says reply) c.answer.new.m c.close_as.new.m (unit_of c.close_as.result)) c.requires.says (c.close_as.ensures.closes h does.0 does.2))
+    let timed = timed_by M g.met.M.Machine.dated g.met.M.Machine.history g.met.M.Machine.counts_now g.met.M.Machine.only_now in
+    let held = answered_held V.state V.holds M g.met.V.Files.wears (λ x honest. g.met.M.Machine.short x honest) timed c.args.c.now v w a m b k idle stands on _ c.in-Ok.ensures.disk back (c.close_as.ensures.since h) does.0 reply does.1 does.2 c.in-Ok.ensures.layout in
+    alone_answered V.state V.holds M g.met.V.Files.wears (λ x honest. g.met.M.Machine.short x honest) timed c.args.c.now v w a m b k idle stands on _ c.in-Ok.ensures.disk back (c.close_as.ensures.since h) does.0 reply does.1 does.2 c.in-Ok.ensures.layout
+    c.close_as.result c.close_as.ensures.undone c.close_as.ensures.status
+    (subst (λ (says : Reply → List ℕ). ClosesAndSays M does.0 (forced_of k) (says reply) m b (unit_of c.close_as.result)) c.requires.says (c.close_as.ensures.closes h does.0 (forced_of k) does.2 held))
 
 pub returns-in-Err-clause-does : goal.returns-in-Err-clause-does
-returns-in-Err-clause-does g c h k none idle stands =
+returns-in-Err-clause-does g c h k none idle stands on =
     let V = g.V.Files in
     let M = g.M.Machine in
-    alone_fault V.state V.holds M g.met.V.Files.wears (λ m x. g.met.M.Machine.short m x) g.met.M.Machine.counts_now c.args.c.now c.args.v c.answer.new.v c.args.m.now c.answer.new.m c.answer.new.m k idle stands _ c.in-Err.ensures.disk h (λ t left le was. was)
+    let timed = timed_by M g.met.M.Machine.dated g.met.M.Machine.history g.met.M.Machine.counts_now g.met.M.Machine.only_now in
+    alone_fault V.state V.holds M g.met.V.Files.wears (λ m x. g.met.M.Machine.short m x) timed c.args.c.now c.args.v c.answer.new.v c.args.m.now c.answer.new.m c.answer.new.m k idle stands on _ c.in-Err.ensures.disk h (λ t left le was. was)
     c.in-Err.fault (λ is. c.requires.unworn) (c.in-Err.ensures.done h k stands)
 
 pub returns-in-Ok-clause-later : goal.returns-in-Ok-clause-later

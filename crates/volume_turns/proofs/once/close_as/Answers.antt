@@ -1,8 +1,27 @@
+use Rattle.std.proofs.Common.{ℕ, List, ◌∙◌, subst}
+use Rattle.std.specs.Prelude.{Result, Ok, Err}
+use Rattle.volume_turns.specs.declared.turns.End.{End}
+use Rattle.volume_turns.specs.Once.{ClosesAndSays}
 use Rattle.volume_turns.specs.Steps.{reply_of}
 use Rattle.volume_turns.proofs.OnceLaws.{close_unbegun}
+use Rattle.volume_turns.proofs.SayLaws.{timed_by}
 use Rattle.volume_turns.proofs.once.close_as.Goals as goal
 
 pub returns-in_default-clause-closes : goal.returns-in_default-clause-closes
-returns-in_default-clause-closes g c h k stands =
+returns-in_default-clause-closes g c h k f stands on =
     let V = g.V.Files in
-    close_unbegun V.state V.holds g.M.Machine c.args.v c.args.m.now k (g.T.Says.errand.says (reply_of c.args.answer.now)) (λ left was. g.met.M.Machine.only_now c.args.m.now left h was) stands
+    let M = g.M.Machine in
+    let timed = timed_by M g.met.M.Machine.dated g.met.M.Machine.history g.met.M.Machine.counts_now g.met.M.Machine.only_now in
+    close_unbegun V.state V.holds M c.args.v c.args.m.now k f (timed c.args.m.now h) stands on (g.T.Says.errand.says (reply_of c.args.answer.now))
+
+-- ---- its text is said
+
+pub returns-in-Ok-close_and_say-clause-closes : goal.returns-in-Ok-close_and_say-clause-closes
+returns-in-Ok-close_and_say-clause-closes g c h k f stands on =
+    let r : Result (Unit {0}) End = Ok tt in
+    subst (λ (x : List ℕ). ClosesAndSays g.M.Machine k f x c.args.m.now c.close_and_say.new.m r) (c.as_slice.ensures.value ∙ c.in-Ok.ensures) (c.in-Ok-close_and_say.ensures.closes h k f stands on)
+
+pub returns-clause-closes : goal.returns-clause-closes
+returns-clause-closes g c h k f stands on =
+    let r : Result (Unit {0}) End = Err c.in-Err.end in
+    subst (λ (x : List ℕ). ClosesAndSays g.M.Machine k f x c.args.m.now c.close_and_say.new.m r) (c.as_slice.ensures.value ∙ c.in-Ok.ensures) (c.in-Err.ensures.closes h k f stands on)

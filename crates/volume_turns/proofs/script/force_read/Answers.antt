@@ -9,7 +9,7 @@ use Rattle.volume_turns.specs.Seats.{known_of}
 use Rattle.volume_turns.specs.Turns.{IsEndOn}
 use Rattle.volume_turns.specs.declared.turns.End.TheVariants.{Fault as Stopped}
 use Rattle.volume_turns.proofs.NumberLaws.{ended}
-use Rattle.volume_turns.proofs.SeatLaws.{closes_as}
+use Rattle.volume_turns.proofs.SeatLaws.{closes_as, on_disk_as}
 use Rattle.volume_turns.proofs.script.force_read.Goals as goal
 
 pub close_forced-requires : goal.close_forced-requires
@@ -28,14 +28,18 @@ pub returns-in-Err-clause-wants : goal.returns-in-Err-clause-wants
 returns-in-Err-clause-wants g c up = c.in-Err.ensures.wants (ap (λ (s : State). s.down) c.finish.ensures.state.is ∙ up)
 
 pub returns-in-Ok-clause-closes : goal.returns-in-Ok-clause-closes
-returns-in-Ok-clause-closes g c h k sits =
+returns-in-Ok-clause-closes g c h k f sits on =
     let M = g.M.Machine in
-    closes_as (known_of k) none_open forced_turn.said M c.args.m.now c.close_forced.new.m _ (c.in-Ok.ensures.closes h (with_opened (known_of k) none_open) (c.finish.ensures.done (known_of k) k.clients (M.now c.args.m.now) sits))
+    let a = c.args.m.now in
+    closes_as (known_of k) none_open f forced_turn.said M a c.close_forced.new.m _
+    (c.in-Ok.ensures.closes h (with_opened (known_of k) none_open) f (c.finish.ensures.done (known_of k) k.clients (M.now a) sits) (on_disk_as (known_of k) none_open f forced_turn.said M a c.close_forced.new.m on))
 
 pub returns-in-Err-clause-closes : goal.returns-in-Err-clause-closes
-returns-in-Err-clause-closes g c h k sits =
+returns-in-Err-clause-closes g c h k f sits on =
     let M = g.M.Machine in
-    closes_as (known_of k) none_open forced_turn.said M c.args.m.now c.close_forced.new.m _ (c.in-Err.ensures.closes h (with_opened (known_of k) none_open) (c.finish.ensures.done (known_of k) k.clients (M.now c.args.m.now) sits))
+    let a = c.args.m.now in
+    closes_as (known_of k) none_open f forced_turn.said M a c.close_forced.new.m _
+    (c.in-Err.ensures.closes h (with_opened (known_of k) none_open) f (c.finish.ensures.done (known_of k) k.clients (M.now a) sits) (on_disk_as (known_of k) none_open f forced_turn.said M a c.close_forced.new.m on))
 
 -- ---- the force is said
 

@@ -21,6 +21,7 @@ use Rattle.volume_turns.proofs.LineLaws.{wanting_end, wanting_none, wanting_same
 use Rattle.volume_turns.proofs.NumberLaws.{ended, other_end, passed_on}
 use Rattle.volume_turns.proofs.RunLaws.{later_on, since_on}
 use Rattle.volume_turns.proofs.SaidLaws.{broken_by, worn_whole}
+use Rattle.volume_turns.proofs.SayLaws.{timed_by}
 use Rattle.volume_turns.proofs.ScriptGroupLaws.{group_broken, group_stopped, group_worn_out, heard_worn}
 use Rattle.volume_turns.proofs.ScriptLaws.{heard_of, heard_then, rose_forced}
 use Rattle.volume_turns.proofs.ToldLaws.{told_behind}
@@ -67,9 +68,10 @@ returns-in-Ok g c =
       since = since_on M a m b done.trust.honest read.since read.later done.since;
       later = later_on M a m b done.trust.honest read.later done.later;
       broken = λ h. broken_by g.T.Says.errand.says (M.now a) (M.now m) (M.now b) result (read.whole_replies (done.trust.honest h)) (done.quiet h);
-      group = λ h k none stands. let back = done.trust.honest h in
-          group_stopped V.state V.holds M g.T.Says.errand k (c.args.v, c.new-desk.result) (c.read_all.new.v, c.read_all.new.desk) a m b (done.since h) (read.later back) back (subst (λ (d : List Client). SitsAt V.state V.holds (c.args.v, d) (seated k no_clients) (M.now a)) (sym c.new-desk.ensures.idle) (sits_fresh V.state V.holds k c.args.v (M.now a) none stands)) (done.ledger (g.met.M.Machine.honest_tells b h)).input done.told.input
-          stop result done.same read.rose (read.reads (g.met.M.Machine.honest_tells m back)) (λ x at. done.closes h x at);
+      group = λ h k none stands disk. let back = done.trust.honest h in
+          let timed = timed_by M g.met.M.Machine.dated g.met.M.Machine.history g.met.M.Machine.counts_now g.met.M.Machine.only_now in
+          group_stopped V.state V.holds M g.T.Says.errand k (c.args.v, c.new-desk.result) (c.read_all.new.v, c.read_all.new.desk) a m b (done.since h) (read.later back) (timed b h) back (subst (λ (d : List Client). SitsAt V.state V.holds (c.args.v, d) (seated k no_clients) (M.now a)) (sym c.new-desk.ensures.idle) (sits_fresh V.state V.holds k c.args.v (M.now a) none stands)) disk (done.ledger (g.met.M.Machine.honest_tells b h)).input done.told.input
+          stop result done.same read.rose (read.reads (g.met.M.Machine.honest_tells m back)) (λ x f at on. done.closes h x f at on);
     }
 
 -- the mount is worn out
@@ -103,8 +105,9 @@ returns-then-is_worn_end g c =
       later = later_on M a m b done.trust.honest read.later done.later;
       broken = λ h. let says = g.T.Says.errand.says in
           broken_by says (M.now a) (M.now m) (M.now b) result (worn_whole says (M.now a) (M.now m) end worn (read.whole_replies (done.trust.honest h))) (done.quiet h);
-      group = λ h k none stands. let back = done.trust.honest h in
-          group_worn_out V.state V.holds M g.T.Says.errand k (c.args.v, c.new-desk.result) (c.read_all.new.v, c.read_all.new.desk) a m b (done.since h) (read.later back) back (subst (λ (d : List Client). SitsAt V.state V.holds (c.args.v, d) (seated k no_clients) (M.now a)) (sym c.new-desk.ensures.idle) (sits_fresh V.state V.holds k c.args.v (M.now a) none stands)) end worn result done.same (read.reads (g.met.M.Machine.honest_tells m back)) (λ x at. done.closes h x at);
+      group = λ h k none stands disk. let back = done.trust.honest h in
+          let timed = timed_by M g.met.M.Machine.dated g.met.M.Machine.history g.met.M.Machine.counts_now g.met.M.Machine.only_now in
+          group_worn_out V.state V.holds M g.T.Says.errand k (c.args.v, c.new-desk.result) (c.read_all.new.v, c.read_all.new.desk) a m b (done.since h) (read.later back) (timed b h) back (subst (λ (d : List Client). SitsAt V.state V.holds (c.args.v, d) (seated k no_clients) (M.now a)) (sym c.new-desk.ensures.idle) (sits_fresh V.state V.holds k c.args.v (M.now a) none stands)) disk end worn result done.same (read.reads (g.met.M.Machine.honest_tells m back)) (λ x f at on. done.closes h x f at on);
     }
 
 -- another fault has ended it
@@ -134,5 +137,6 @@ returns-else-is_worn_end g c =
       since = read.since;
       later = read.later;
       broken = read.whole_replies;
-      group = λ h k none stands. group_broken V.state V.holds M g.T.Says.errand k (c.args.v, c.new-desk.result) (c.read_all.new.v, c.read_all.new.desk) a m m (λ t left le was. was) (read.later h) h (subst (λ (d : List Client). SitsAt V.state V.holds (c.args.v, d) (seated k no_clients) (M.now a)) (sym c.new-desk.ensures.idle) (sits_fresh V.state V.holds k c.args.v (M.now a) none stands)) end unworn (read.reads (g.met.M.Machine.honest_tells m h));
+      group = λ h k none stands disk. let timed = timed_by M g.met.M.Machine.dated g.met.M.Machine.history g.met.M.Machine.counts_now g.met.M.Machine.only_now in
+          group_broken V.state V.holds M g.T.Says.errand k (c.args.v, c.new-desk.result) (c.read_all.new.v, c.read_all.new.desk) a m m (λ t left le was. was) (read.later h) (timed m h) h (subst (λ (d : List Client). SitsAt V.state V.holds (c.args.v, d) (seated k no_clients) (M.now a)) (sym c.new-desk.ensures.idle) (sits_fresh V.state V.holds k c.args.v (M.now a) none stands)) disk end unworn (read.reads (g.met.M.Machine.honest_tells m h));
     }

@@ -16,6 +16,7 @@ use Rattle.volume_turns.proofs.CauseLaws.{none_left}
 use Rattle.volume_turns.proofs.NumberLaws.{ended, goes_none}
 use Rattle.volume_turns.proofs.OtherLaws.{not_upgrade_in, read_other, spelled_other}
 use Rattle.volume_turns.proofs.SaidLaws.{no_replies, replies_then, whole_then}
+use Rattle.volume_turns.proofs.SayLaws.{timed_by}
 use Rattle.volume_turns.proofs.ToldLaws.{end_of_page_in}
 use Rattle.volume_turns.proofs.script.read_on.Goals as goal
 
@@ -28,7 +29,7 @@ returns-in-Ok-clause-reads g c t =
     let calls = c.next_command.ensures.calls in
     let back = c.step.ensures.trust.tells t in
     let moves = subst (λ (o : Option Word). Moves (Ok o) c.args.reader.now c.next_command.new.self (M.ledger a) (M.ledger m)) c.in-Ok-Some.field-0-is (c.in-Ok-Some.ensures.moves back) in
-    one_done V.state V.holds M g.T.Says.errand g.met.V.Files.wears (λ x h. g.met.M.Machine.short x h) (λ x left h was. g.met.M.Machine.only_now x left h was) (c.args.v.now, c.args.desk.now) a m calls.trust.honest calls.exit calls.any_moment
+    one_done V.state V.holds M g.T.Says.errand g.met.V.Files.wears (λ x h. g.met.M.Machine.short x h) (timed_by M g.met.M.Machine.dated g.met.M.Machine.history g.met.M.Machine.counts_now g.met.M.Machine.only_now) (c.args.v.now, c.args.desk.now) a m calls.trust.honest calls.exit calls.any_moment calls.since
     c.args.reader.now c.next_command.new.self c.in-Ok-Some.c (c.step.new.v, c.step.new.desk) c.step.new.m (record { honest = c.step.ensures.trust.honest; since = c.step.ensures.since; later = c.step.ensures.later })
     (moves_spells _ c.args.reader.now c.next_command.new.self (M.ledger a) (M.ledger m) (M.ledger c.step.new.m).input (c.in-Ok-Some.c ∷ []) (c.step.ensures.ledger t).input moves (λ rest ahead. ahead)) c.step.ensures.later c.in-Ok.ensures.steps
     (λ t h le. g.met.M.Machine.counts_now c.step.new.m t h le) c.in-Ok.ensures.once
@@ -43,7 +44,7 @@ returns-in-Ok-Some-clause-reads g c t =
     let back = c.step.ensures.trust.tells t in
     let now = script_left c.next_command.new.self (M.ledger m).input in
     let script = subst (λ (o : Option Word). Answers (Ok o) (script_left c.args.reader.now (M.ledger a).input) now) c.in-Ok-Some.field-0-is (c.in-Ok-Some.ensures.script back) in
-    one_stops V.state V.holds M g.T.Says.errand g.met.V.Files.wears (λ x h. g.met.M.Machine.short x h) (λ x left h was. g.met.M.Machine.only_now x left h was) (c.args.v.now, c.args.desk.now) a m calls.trust.honest calls.exit calls.any_moment
+    one_stops V.state V.holds M g.T.Says.errand g.met.V.Files.wears (λ x h. g.met.M.Machine.short x h) (timed_by M g.met.M.Machine.dated g.met.M.Machine.history g.met.M.Machine.counts_now g.met.M.Machine.only_now) (c.args.v.now, c.args.desk.now) a m calls.trust.honest calls.exit calls.any_moment calls.since
     c.args.reader.now c.next_command.new.self c.in-Ok-Some.c (c.step.new.v, c.step.new.desk) c.step.new.m (record { honest = c.step.ensures.trust.honest; since = c.step.ensures.since; later = c.step.ensures.later }) c.in-Err.end now script c.in-Err.ensures.steps
 
 pub returns-in-Ok-None-clause-reads : goal.returns-in-Ok-None-clause-reads
@@ -54,7 +55,7 @@ returns-in-Ok-None-clause-reads g c t =
     let m = c.next_command.new.m in
     let calls = c.next_command.ensures.calls in
     let script = subst (λ (o : Option Word). Answers (Ok o) (script_left c.args.reader.now (M.ledger a).input) (script_left c.next_command.new.self (M.ledger m).input)) c.in-Ok-None.field-0-is (c.in-Ok-None.ensures.script t) in
-    ended_so V.state V.holds M g.T.Says.errand g.met.V.Files.wears (λ x h. g.met.M.Machine.short x h) (λ x left h was. g.met.M.Machine.only_now x left h was) (c.args.v.now, c.args.desk.now) a m calls.trust.honest calls.exit calls.any_moment
+    ended_so V.state V.holds M g.T.Says.errand g.met.V.Files.wears (λ x h. g.met.M.Machine.short x h) (timed_by M g.met.M.Machine.dated g.met.M.Machine.history g.met.M.Machine.counts_now g.met.M.Machine.only_now) (c.args.v.now, c.args.desk.now) a m calls.trust.honest calls.exit calls.any_moment calls.since
     c.args.reader.now c.next_command.new.self _ script.0
 
 pub returns-in-Err-Bad-clause-reads : goal.returns-in-Err-Bad-clause-reads
@@ -66,7 +67,7 @@ returns-in-Err-Bad-clause-reads g c t =
     let calls = c.next_command.ensures.calls in
     let script = subst (λ (f : ScriptFault). Answers (Err f) (script_left c.args.reader.now (M.ledger a).input) (script_left c.next_command.new.self (M.ledger m).input)) c.in-Err-Bad.field-0-is (c.in-Err-Bad.ensures.script t) in
     subst (λ (x : BadLine). Reads V.state V.holds M g.T.Says.errand c.args.reader.now c.next_command.new.self (c.args.v.now, c.args.desk.now) a (c.args.v.now, c.args.desk.now) m (Ok (Some (Ended (Bad x))))) (sym c.in-Err-Bad.bad-is)
-    (ended_so V.state V.holds M g.T.Says.errand g.met.V.Files.wears (λ x h. g.met.M.Machine.short x h) (λ x left h was. g.met.M.Machine.only_now x left h was) (c.args.v.now, c.args.desk.now) a m calls.trust.honest calls.exit calls.any_moment
+    (ended_so V.state V.holds M g.T.Says.errand g.met.V.Files.wears (λ x h. g.met.M.Machine.short x h) (timed_by M g.met.M.Machine.dated g.met.M.Machine.history g.met.M.Machine.counts_now g.met.M.Machine.only_now) (c.args.v.now, c.args.desk.now) a m calls.trust.honest calls.exit calls.any_moment calls.since
     c.args.reader.now c.next_command.new.self _ script.0)
 
 pub returns-in-Err-TooLong-clause-reads : goal.returns-in-Err-TooLong-clause-reads
@@ -77,7 +78,7 @@ returns-in-Err-TooLong-clause-reads g c t =
     let m = c.next_command.new.m in
     let calls = c.next_command.ensures.calls in
     let script = subst (λ (f : ScriptFault). Answers (Err f) (script_left c.args.reader.now (M.ledger a).input) (script_left c.next_command.new.self (M.ledger m).input)) c.in-Err-TooLong.field-0-is (c.in-Err-TooLong.ensures.script t) in
-    ended_so V.state V.holds M g.T.Says.errand g.met.V.Files.wears (λ x h. g.met.M.Machine.short x h) (λ x left h was. g.met.M.Machine.only_now x left h was) (c.args.v.now, c.args.desk.now) a m calls.trust.honest calls.exit calls.any_moment
+    ended_so V.state V.holds M g.T.Says.errand g.met.V.Files.wears (λ x h. g.met.M.Machine.short x h) (timed_by M g.met.M.Machine.dated g.met.M.Machine.history g.met.M.Machine.counts_now g.met.M.Machine.only_now) (c.args.v.now, c.args.desk.now) a m calls.trust.honest calls.exit calls.any_moment calls.since
     c.args.reader.now c.next_command.new.self _ script.0
 
 pub returns-in-Err-Input-clause-heard : goal.returns-in-Err-Input-clause-heard
@@ -96,7 +97,7 @@ returns-in-Err-Input-clause-reads g c t =
     record {
       done = [];
       taken = moves_spells _ c.args.reader.now c.next_command.new.self (M.ledger a) (M.ledger m) (M.ledger m).input [] refl moves (λ rest ahead. ahead);
-      runs = none_done V.state V.holds M g.T.Says.errand g.met.V.Files.wears (λ x h. g.met.M.Machine.short x h) (λ x left h was. g.met.M.Machine.only_now x left h was) (c.args.v.now, c.args.desk.now) a m calls.trust.honest calls.exit calls.any_moment;
+      runs = none_done V.state V.holds M g.T.Says.errand g.met.V.Files.wears (λ x h. g.met.M.Machine.short x h) (timed_by M g.met.M.Machine.dated g.met.M.Machine.history g.met.M.Machine.counts_now g.met.M.Machine.only_now) (c.args.v.now, c.args.desk.now) a m calls.trust.honest calls.exit calls.any_moment calls.since;
       still = subst (λ (f : ScriptFault). c.next_command.new.self.end ≡ end_with (Err f)) c.in-Err-Input.field-0-is c.in-Err-Input.ensures.end;
       short = subst (λ (f : ScriptFault). NoneWaits (Err f) c.next_command.new.self.waiting) c.in-Err-Input.field-0-is c.in-Err-Input.ensures.waits;
     }
@@ -108,7 +109,7 @@ returns-clause-reads g c t =
     let a = c.args.m.now in
     let m = c.next_command.new.m in
     let calls = c.next_command.ensures.calls in
-    none_read V.state V.holds M g.T.Says.errand g.met.V.Files.wears (λ x h. g.met.M.Machine.short x h) (λ x left h was. g.met.M.Machine.only_now x left h was) (c.args.v.now, c.args.desk.now) a m calls.trust.honest calls.exit calls.any_moment
+    none_read V.state V.holds M g.T.Says.errand g.met.V.Files.wears (λ x h. g.met.M.Machine.short x h) (timed_by M g.met.M.Machine.dated g.met.M.Machine.history g.met.M.Machine.counts_now g.met.M.Machine.only_now) (c.args.v.now, c.args.desk.now) a m calls.trust.honest calls.exit calls.any_moment calls.since
     (script_left c.args.reader.now (M.ledger a).input).0
 
 -- ---- what is asked of a command

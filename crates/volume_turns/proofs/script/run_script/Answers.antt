@@ -9,6 +9,7 @@ use Rattle.volume_turns.specs.Whole.{RunsOut}
 use Rattle.volume_turns.proofs.BehindLaws.{RefusedBy, RunsOver, over_attaches, over_fails, over_image, over_input, over_leaves, over_said, over_says_input, over_taking, over_trust, refused_image, refused_last, refused_leaves, refused_of, refused_taking, refused_trust, refused_writes}
 use Rattle.volume_turns.proofs.NumberLaws.{new_may}
 use Rattle.volume_turns.proofs.ScriptRunLaws.{some_forced}
+use Rattle.volume_turns.proofs.SayLaws.{timed_by}
 use Rattle.volume_turns.proofs.StatusLaws.{fault_is_script, fault_not_bad, fault_not_five, fault_not_zero}
 use Rattle.client_desk.proofs.DeskLaws.{desk_fresh}
 use Rattle.volume_turns.proofs.script.run_script.Goals as goal
@@ -41,9 +42,9 @@ returns-in-Ok g c =
       all = λ zero h t le. let reached = e.disk.later (does.trust.honest h) in
           subst (λ (before : List ℕ). SaysForced reply_text (M.left_since b t) (script_in (M.ledger c.args.m.now).input).0 before (M.now b).said) (over_said x h)
           (subst (λ (input : List ℕ). SaysForced reply_text (M.left_since b t) (script_in input).0 (M.now m).said (M.now b).said) (over_input x (g.met.M.Machine.honest_tells b h)) (does.all zero h t (omega (arith, le, reached))));
-      leaves = λ h l windows changes f at.
-          over_leaves x g.V.Files.holds Script (M.ledger c.args.m.now).input (M.ledger b).input l windows changes f c.script_on.result h does.since (λ y t. g.met.M.Machine.counts_now y t) (e.sound (does.trust.honest h) l windows changes f at)
-          (λ k none idle stands. subst (λ (input : List ℕ). RunsOut M Script input (M.ledger b).input (M.report m) k m b c.script_on.result) (over_input x (g.met.M.Machine.honest_tells b h)) (does.runs h k idle stands));
+      leaves = λ h l windows changes f at held.
+          over_leaves x g.V.Files.holds Script (M.ledger c.args.m.now).input (M.ledger b).input l windows changes f c.script_on.result h does.since (λ y t. g.met.M.Machine.counts_now y t) (timed_by M g.met.M.Machine.dated g.met.M.Machine.history g.met.M.Machine.counts_now g.met.M.Machine.only_now) held (e.sound (does.trust.honest h) l windows changes f at)
+          (λ k none idle stands disk. subst (λ (input : List ℕ). RunsOut M Script input (M.ledger b).input (M.report m) k m b c.script_on.result) (over_input x (g.met.M.Machine.honest_tells b h)) (does.runs h k idle stands disk));
     }
 
 pub returns-in-Err : goal.returns-in-Err
@@ -68,7 +69,7 @@ returns-in-Err g c =
       image = refused_image x true AreOfPage None;
       last = refused_last x;
       all = λ zero h t le. absurd (fault_not_zero why status line.status zero);
-      leaves = λ h l windows changes f at.
+      leaves = λ h l windows changes f at held.
           refused_leaves x g.V.Files.state g.V.Files.holds Script (M.ledger c.args.m.now).input (M.ledger c.end_with.new.m).input l windows changes f h (g.met.M.Machine.short c.mount.new.m) (λ y t. g.met.M.Machine.counts_now y t)
-          (λ left back was. g.met.M.Machine.only_now c.mount.new.m left back was) at (e.sound (line.says.trust.honest h) l windows changes f at) (some_forced (M.ledger c.args.m.now).input);
+          (timed_by M g.met.M.Machine.dated g.met.M.Machine.history g.met.M.Machine.counts_now g.met.M.Machine.only_now) at held (e.sound (line.says.trust.honest h) l windows changes f at) (some_forced (M.ledger c.args.m.now).input);
     }

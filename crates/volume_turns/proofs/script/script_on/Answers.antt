@@ -8,16 +8,18 @@ use Rattle.volume_turns.specs.Each.{SaysForced}
 use Rattle.volume_turns.specs.Numbers.{MayWear}
 use Rattle.volume_turns.specs.Turns.{BreaksWhole}
 use Rattle.volume_turns.proofs.EachLaws.{forced_more, says_bad}
+use Rattle.volume_turns.proofs.SayLaws.{timed_by}
 use Rattle.volume_turns.proofs.ScriptLastLaws.{bad_so, done_so, input_fails, input_says, script_call, script_counts_so, script_last, script_runs, script_spent, script_status, status_as}
 use Rattle.volume_turns.proofs.script.script_on.Goals as goal
 
 pub returns-clause-runs : goal.returns-clause-runs
-returns-clause-runs g c h k idle stands =
+returns-clause-runs g c h k idle stands disk =
     let M = g.M.Machine in
     let p = c.group_read-ended.new.m in
     let back = c.say_last.ensures.trust.honest h in
-    script_runs M c.args.m.now p c.say_last.new.m c.say_last.result g.T.Says.errand c.requires.says c.requires.forces k back h (c.say_last.ensures.since h) (g.met.M.Machine.short p back) stands.ends (c.say_last.ensures.ledger (g.met.M.Machine.honest_tells c.say_last.new.m h))
-    c.group_read-ended.result (c.group_read-ended.ensures.group back k idle stands) c.group_read-ended.ensures.heard c.say_last.ensures.last
+    let timed = timed_by M g.met.M.Machine.dated g.met.M.Machine.history g.met.M.Machine.counts_now g.met.M.Machine.only_now in
+    script_runs M c.args.m.now p c.say_last.new.m c.say_last.result g.T.Says.errand c.requires.says c.requires.forces k back h (c.say_last.ensures.since h) (g.met.M.Machine.short p back) stands.ends (timed p back) (timed c.say_last.new.m h) (c.say_last.ensures.ledger (g.met.M.Machine.honest_tells c.say_last.new.m h))
+    c.group_read-ended.result (c.group_read-ended.ensures.group back k idle stands disk) c.group_read-ended.ensures.heard c.say_last.ensures.last
 
 pub returns-clause-status : goal.returns-clause-status
 returns-clause-status g c = script_status g.M.Machine c.args.m.now c.group_read-ended.new.m c.say_last.new.m c.say_last.result c.group_read-ended.result c.group_read-ended.ensures.fault c.say_last.ensures.last

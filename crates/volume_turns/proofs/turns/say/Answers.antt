@@ -1,61 +1,78 @@
-use Rattle.std.proofs.Common.{refl, ◌∙◌, arith}
-use Rattle.sector_disk.specs.Machine.{Utters}
+use Rattle.std.proofs.Common.{◌≡◌, inl, ◌∙◌, Bool, false, true, List, ℕ, refl, sym, subst, arith}
+use Rattle.sector_disk.specs.Machine.{LeavesOnly, Utters}
 use Rattle.sector_disk.proofs.Calls.{utters_same}
 use Rattle.sector_disk.proofs.Holding.{wears_none}
-use Rattle.sector_disk.proofs.Moments.{started}
+use Rattle.sector_disk.proofs.Moments.{leaves_more, started}
 use Rattle.volume_turns.specs.Steps.{reply_of}
-use Rattle.volume_turns.proofs.SayLaws.{said_moments, says_all, told_said, told_unsaid}
+use Rattle.volume_turns.specs.Turns.{IsEndOfVolume, SaysAll, Unsaid, UttersBehind}
+use Rattle.volume_turns.proofs.LineLaws.{output_ends}
+use Rattle.volume_turns.proofs.SayLaws.{on_ok_so, on_ok_then}
 use Rattle.volume_turns.proofs.turns.say.Goals as goal
 
 pub returns-in_default : goal.returns-in_default
 returns-in_default g c =
     let M = g.M.Machine in
     let a = c.args.m.now in
-    let reply = g.T.Says.errand.says (reply_of c.args.answer.now) in
+    let reply = reply_of c.args.answer.now in
+    let text = g.T.Says.errand.says reply in
+    let forces = g.T.Says.errand.forces reply in
     record {
       told = record { sectors = refl; disk = (refl, refl); input = refl; later = omega arith; output = refl };
       trust = record { tells = λ t. t; honest = λ h. h };
       ledger = λ t. refl;
       fault = tt;
       since = λ h t left le was. was;
-      moments = λ h. started M.moment M.left_since a (M.now a) (Utters reply (M.now a)) (λ left was. g.met.M.Machine.only_now a left h was) (utters_same reply (M.now a));
+      moments = λ h. started M.moment M.left_since a (M.now a) (UttersBehind forces text (M.now a)) (λ left was. g.met.M.Machine.only_now a left h was) (record { utters = utters_same text (M.now a); synced = λ is. inl refl });
+      synced = tt;
       said = tt;
       unsaid = λ h. wears_none (M.now a);
     }
 
-pub returns-in-Ok-say : goal.returns-in-Ok-say
-returns-in-Ok-say g c =
+-- behind a sync
+pub returns-then-forces : goal.returns-then-forces
+returns-then-forces g c =
     let M = g.M.Machine in
     let a = c.args.m.now in
-    let b = c.say.new.self in
-    let said = c.as_slice.result.now in
-    let reply = g.T.Says.errand.says (reply_of c.args.answer.now) in
+    let b = c.say_forced.new.m in
+    let reply = reply_of c.args.answer.now in
+    let text = g.T.Says.errand.says reply in
     let is = c.as_slice.ensures.value ∙ c.in-Ok.ensures in
-    let say = c.say.ensures in
+    let so : g.T.Says.errand.forces reply ≡ true = sym c.forces.ensures ∙ c.if-forces.true in
+    let said = c.say_forced.ensures in
+    let result = c.say_forced.result in
     record {
-      told = told_said (M.report a) (M.report b) c.in-Ok-say.field-0 tt c.in-Ok-say.ensures.cause;
-      trust = say.trust;
-      ledger = say.ledger;
-      fault = tt;
-      since = λ h. (say.time h).keeps;
-      moments = said_moments M a b (λ left h was. g.met.M.Machine.only_now a left h was) say.trust said reply is say.time;
-      said = λ h. says_all said reply (M.now a) (M.now b) is (c.in-Ok-say.ensures.said h);
-      unsaid = tt;
+      told = said.told;
+      trust = said.trust;
+      ledger = said.ledger;
+      fault = said.fault;
+      since = said.since;
+      moments = λ h. subst (λ (f : Bool). LeavesOnly M.moment M.left_since a b (UttersBehind f text (M.now a))) (sym so) (subst (λ (x : List ℕ). LeavesOnly M.moment M.left_since a b (UttersBehind true x (M.now a))) is (said.moments h));
+      synced = on_ok_then result (λ late all h. late h) said.synced;
+      said = on_ok_then result (λ all h. subst (λ (x : List ℕ). SaysAll x (M.now a) (M.now b)) is (all h)) said.said;
+      unsaid = said.unsaid;
     }
 
 pub returns : goal.returns
 returns g c =
     let M = g.M.Machine in
     let a = c.args.m.now in
-    let b = c.say.new.self in
-    let say = c.say.ensures in
+    let b = c.say_bytes.new.m in
+    let reply = reply_of c.args.answer.now in
+    let text = g.T.Says.errand.says reply in
+    let forces = g.T.Says.errand.forces reply in
+    let is = c.as_slice-else-forces.ensures.value ∙ c.in-Ok.ensures in
+    let none : forces ≡ false = sym c.forces.ensures ∙ c.if-forces.false in
+    let said = c.say_bytes.ensures in
+    let result = c.say_bytes.result in
     record {
-      told = told_unsaid (M.report a) (M.report b) c.in-Err.field-0 c.in-Err.ensures.cause;
-      trust = say.trust;
-      ledger = say.ledger;
-      fault = tt;
-      since = λ h. (say.time h).keeps;
-      moments = said_moments M a b (λ left h was. g.met.M.Machine.only_now a left h was) say.trust c.as_slice.result.now (g.T.Says.errand.says (reply_of c.args.answer.now)) (c.as_slice.ensures.value ∙ c.in-Ok.ensures) say.time;
-      said = tt;
-      unsaid = λ h. tt;
+      told = said.told;
+      trust = said.trust;
+      ledger = said.ledger;
+      fault = output_ends IsEndOfVolume tt result said.output;
+      since = said.since;
+      moments = λ h. leaves_more M.moment M.left_since a b (Utters text (M.now a)) (UttersBehind forces text (M.now a)) (λ left u. record { utters = u; synced = λ all. absurd (cc (all, none)) })
+          (subst (λ (x : List ℕ). LeavesOnly M.moment M.left_since a b (Utters x (M.now a))) is (said.moments h));
+      synced = on_ok_so result (λ all h. absurd (cc (all, none)));
+      said = on_ok_then result (λ all h. subst (λ (x : List ℕ). SaysAll x (M.now a) (M.now b)) is (all h)) said.said;
+      unsaid = output_ends (λ end. M.honest b → Unsaid (M.now a) (M.now b) end) (λ h. tt) result said.output;
     }

@@ -1,5 +1,5 @@
-use Rattle.std.proofs.Common.{◌≡◌, List, ap, subst}
-use Rattle.std.specs.Prelude.{Err}
+use Rattle.std.proofs.Common.{◌≡◌, ◌≤◌, List, ap, subst}
+use Rattle.std.specs.Prelude.{Err, IsTrue}
 use Rattle.fsd_texts.specs.declared.fault.Fault.{Fault}
 use Rattle.fsd_texts.specs.declared.fault.Fault.TheVariants as Ends
 use Rattle.sector_disk.specs.Image.{AreShort, Windows}
@@ -12,13 +12,14 @@ use Rattle.volume_turns.proofs.SeatLaws.{seat_wears}
 use Rattle.volume_turns.proofs.AnsweringLaws.{says_so}
 use Rattle.volume_turns.proofs.EachLaws.{once_by}
 use Rattle.volume_turns.proofs.SaidLaws.{no_replies, whole_by}
+use Rattle.volume_turns.proofs.SayLaws.{on_ok_then, timed_by}
 use Rattle.volume_turns.proofs.ToldLaws.{unsaid_on}
 use Rattle.volume_turns.proofs.WornLaws.{unsaid_unworn}
 use Rattle.volume_turns.proofs.NumberLaws.{worn_may}
 use Rattle.volume_turns.proofs.turns.step.Goals as goal
 
 pub returns-in-Ok-clause-steps : goal.returns-in-Ok-clause-steps
-returns-in-Ok-clause-steps g c h k from stood aged =
+returns-in-Ok-clause-steps g c h k f from stood aged held =
     let V = g.V.Files in
     let M = g.M.Machine in
     let a = c.args.m.now in
@@ -29,14 +30,15 @@ returns-in-Ok-clause-steps g c h k from stood aged =
     let short = λ (m : g.row.M.Denot) (x : M.honest m). g.met.M.Machine.short m x in
     let at = seat_wears V.state V.holds g.met.V.Files.wears v k from (M.now a) (subst (λ (w : Windows). AreShort w) aged.windows (short a first)) aged stood in
     let does = c.in-Ok.ensures.done back k at in
-    step_said V.state V.holds M g.met.V.Files.wears short g.met.M.Machine.counts_now g.T.Says.errand c.requires.lazily c.args.c.now v (c.answer_in.new.v, c.answer_in.new.desk) a c.answer_in.new.m c.say.new.m k from stood aged at _ c.in-Ok.ensures.disk back (c.say.ensures.since h)
-    does.0 (reply_of c.in-Ok.answer) does.1 does.2 c.in-Ok.ensures.layout (c.say.ensures.moments h) c.say.result (on_ok_said (SaysAll (g.T.Says.errand.says (reply_of c.in-Ok.answer)) (M.now c.answer_in.new.m) (M.now c.say.new.m)) c.say.result h c.say.ensures.said) (on_err_said (Unsaid (M.now c.answer_in.new.m) (M.now c.say.new.m)) c.say.result h c.say.ensures.unsaid)
+    step_said V.state V.holds M g.met.V.Files.wears short (timed_by M g.met.M.Machine.dated g.met.M.Machine.history g.met.M.Machine.counts_now g.met.M.Machine.only_now) g.T.Says.errand c.requires.lazily c.args.c.now v (c.answer_in.new.v, c.answer_in.new.desk) a c.answer_in.new.m c.say.new.m k f from stood aged at _ c.in-Ok.ensures.disk back (c.say.ensures.since h) held
+    does.0 (reply_of c.in-Ok.answer) does.1 does.2 c.in-Ok.ensures.layout (timed_by M g.met.M.Machine.dated g.met.M.Machine.history g.met.M.Machine.counts_now g.met.M.Machine.only_now c.say.new.m h) (c.say.ensures.moments h) c.say.result (on_ok_said (SaysAll (g.T.Says.errand.says (reply_of c.in-Ok.answer)) (M.now c.answer_in.new.m) (M.now c.say.new.m)) c.say.result h c.say.ensures.said)
+    (on_ok_then c.say.result (λ (x : IsTrue (g.T.Says.errand.forces (reply_of c.in-Ok.answer)) → M.honest c.say.new.m → (M.now c.answer_in.new.m).time ≤ (M.now c.say.new.m).synced) forces. x forces h) c.say.ensures.synced) (on_err_said (Unsaid (M.now c.answer_in.new.m) (M.now c.say.new.m)) c.say.result h c.say.ensures.unsaid)
 
 pub returns-in-Err-clause-told : goal.returns-in-Err-clause-told
 returns-in-Err-clause-told g c = told_fault (g.M.Machine.report c.args.m.now) (g.M.Machine.report c.answer_in.new.m) c.in-Err.fault c.in-Err.ensures.disk.uses c.in-Err.ensures.disk.faults
 
 pub returns-in-Err-clause-steps : goal.returns-in-Err-clause-steps
-returns-in-Err-clause-steps g c h k from stood aged =
+returns-in-Err-clause-steps g c h k f from stood aged held =
     let V = g.V.Files in
     let M = g.M.Machine in
     let a = c.args.m.now in
@@ -45,7 +47,7 @@ returns-in-Err-clause-steps g c h k from stood aged =
     let first = disk.trust.honest h in
     let short = λ (m : g.row.M.Denot) (x : M.honest m). g.met.M.Machine.short m x in
     let at = seat_wears V.state V.holds g.met.V.Files.wears v k from (M.now a) (subst (λ (w : Windows). AreShort w) aged.windows (short a first)) aged stood in
-    step_fault V.state V.holds M g.met.V.Files.wears short g.met.M.Machine.counts_now g.T.Says.errand c.requires.lazily c.args.c.now v (c.answer_in.new.v, c.answer_in.new.desk) a c.answer_in.new.m c.answer_in.new.m k from stood aged at _ disk h (λ t left le was. was)
+    step_fault V.state V.holds M g.met.V.Files.wears short (timed_by M g.met.M.Machine.dated g.met.M.Machine.history g.met.M.Machine.counts_now g.met.M.Machine.only_now) g.T.Says.errand c.requires.lazily c.args.c.now v (c.answer_in.new.v, c.answer_in.new.desk) a c.answer_in.new.m c.answer_in.new.m k f from stood aged at _ disk h (λ t left le was. was) held
     c.in-Err.fault (c.in-Err.ensures.done h k at)
 
 -- ---- what is said

@@ -1,45 +1,61 @@
 use Rattle.std.proofs.Common.{◌≡◌, ℕ, List, refl, sym, ◌∙◌, ap, subst}
-use Rattle.std.specs.Prelude.{Ok, Err}
+use Rattle.std.specs.Prelude.{Result, Ok, Err}
 use Rattle.fsd_files.specs.Replies.{Reply}
 use Rattle.fsd_texts.specs.declared.command.Command.TheVariants as Word
-use Rattle.volume_contract.specs.State.{State}
+use Rattle.fsd_texts.specs.declared.fault.Fault.TheVariants as Ends
+use Rattle.fsd_runs.specs.Commands.{reply_alone}
+use Rattle.scrub.specs.Telling.{AreOfPage}
+use Rattle.volume_contract.specs.State.{State, forced_of}
 use Rattle.volume_turns.specs.declared.answer.Answer.{Answer}
 use Rattle.volume_turns.specs.declared.answer.Answer.TheVariants as Said
 use Rattle.volume_turns.specs.declared.turns.End.{End}
-use Rattle.volume_turns.specs.declared.turns.End.TheVariants.{Output}
-use Rattle.volume_turns.specs.Answering.{Answers, AnswersAlone}
-use Rattle.volume_turns.specs.Once.{ClosesAndSays, IsAlone, unit_of}
+use Rattle.volume_turns.specs.declared.turns.End.TheVariants.{Fault as Stopped}
+use Rattle.volume_turns.specs.Answering.{Answers}
+use Rattle.volume_turns.specs.Once.{ClosesAndSays, unit_of}
 use Rattle.volume_turns.specs.Reasons.{BecauseUpgraded}
 use Rattle.volume_turns.specs.Steps.{Does, reply_of}
+use Rattle.volume_turns.specs.Turns.{WantsNone}
 use Rattle.volume_turns.specs.Upgrade.{EndsState}
-use Rattle.volume_turns.proofs.OnceLaws.{alone_answered, alone_fault, alone_unbegun}
+use Rattle.volume_turns.proofs.AnsweringLaws.{says_so}
+use Rattle.volume_turns.proofs.LineLaws.{wants_not}
+use Rattle.volume_turns.proofs.OnceLaws.{alone_answered, alone_fault, alone_unbegun, answered_held}
+use Rattle.volume_turns.proofs.SayLaws.{timed_by}
+use Rattle.volume_turns.proofs.ToldLaws.{unsaid_told}
 use Rattle.volume_turns.proofs.UpgradeLaws.{ends_done, ends_unworn, ends_upgraded, upgraded_alone, upgraded_answers}
 use Rattle.volume_turns.proofs.upgrade.upgrade_alone.Goals as goal
 
 pub returns-in_default-clause-does : goal.returns-in_default-clause-does
-returns-in_default-clause-does g c h k none idle stands =
+returns-in_default-clause-does g c h k none idle stands on =
     let V = g.V.Files in
-    alone_unbegun V.state V.holds g.M.Machine Word.Upgrade c.args.v c.args.m.now k (λ left was. g.met.M.Machine.only_now c.args.m.now left h was) stands
+    let M = g.M.Machine in
+    let timed = timed_by M g.met.M.Machine.dated g.met.M.Machine.history g.met.M.Machine.counts_now g.met.M.Machine.only_now in
+    alone_unbegun V.state V.holds M Word.Upgrade c.args.v c.args.m.now k (timed c.args.m.now h) stands on
 
 -- ---- it is done
 
-pub returns-in-Ok-say_bytes-clause-does : goal.returns-in-Ok-say_bytes-clause-does
-returns-in-Ok-say_bytes-clause-does g c h k none idle stands =
+pub returns-in-Ok-say_forced-clause-does : goal.returns-in-Ok-say_forced-clause-does
+returns-in-Ok-say_forced-clause-does g c h k none idle stands on =
     let V = g.V.Files in
     let M = g.M.Machine in
     let v = c.args.v in
     let w = c.upgrade.new.v in
     let a = c.args.m.now in
     let m = c.upgrade.new.m in
-    let b = c.say_bytes.new.m in
+    let b = c.say_forced.new.m in
     let e = c.in-Ok-upgrade.ensures in
-    let back = c.say_bytes.ensures.trust.honest h in
+    let say = c.say_forced.ensures in
+    let back = say.trust.honest h in
     let is : c.in-Ok-upgrade.answer ≡ Said.Upgraded = ends_upgraded c.in-Ok-upgrade.answer (sym c.is_upgraded.ensures ∙ c.if-is_upgraded.true) in
     let ends = subst (λ (x : Answer). EndsState (V.state v) (V.state w) (Ok x)) is e.ends in
     let because = subst (λ (x : Answer). BecauseUpgraded (V.state v) (V.state w) (M.now m) (reply_of x)) is (e.because back) in
     let does = subst (λ (x : Answer). Does V.state V.holds Word.Upgrade v w k (M.now a) (M.now m) (Ok x)) is (e.done back k stands) in
-    upgraded_alone V.state V.holds M g.met.V.Files.wears (λ x honest. g.met.M.Machine.short x honest) g.met.M.Machine.counts_now v w a m b k idle none stands _ e.disk back (c.say_bytes.ensures.since h) ends.0 ends.1 because.2 does
-    c.as_slice.result.now (c.as_slice.ensures.value ∙ c.in-Ok.ensures ∙ ap (λ (says : Reply → List ℕ). says Reply.Upgraded) c.requires.says) (c.say_bytes.ensures.moments h) (Ok 0) (λ wrong. absurd (cc wrong)) refl (c.in-Ok-say_bytes.ensures.said h) tt
+    let timed = timed_by M g.met.M.Machine.dated g.met.M.Machine.history g.met.M.Machine.counts_now g.met.M.Machine.only_now in
+    upgraded_alone V.state V.holds M g.met.V.Files.wears (λ x honest. g.met.M.Machine.short x honest) timed v w a m b k idle none stands on _ e.disk back (say.since h) ends.0 ends.1 because.2 does
+    c.as_slice.result.now (c.as_slice.ensures.value ∙ c.in-Ok.ensures ∙ ap (λ (says : Reply → List ℕ). says Reply.Upgraded) c.requires.says) h (say.moments h) (Ok 0) (λ wrong. absurd (cc wrong)) refl
+    (c.in-Ok-say_forced.ensures.said h) (c.in-Ok-say_forced.ensures.synced h) tt
+
+pub returns-then-is_upgraded-clause-undone : goal.returns-then-is_upgraded-clause-undone
+returns-then-is_upgraded-clause-undone g c is = let same : c.in-Err-say_forced.end ≡ Stopped Ends.Memory = cc is in absurd (subst WantsNone same c.in-Err-say_forced.ensures.wants tt)
 
 pub returns-then-is_upgraded-clause-answers : goal.returns-then-is_upgraded-clause-answers
 returns-then-is_upgraded-clause-answers g c h =
@@ -49,61 +65,73 @@ returns-then-is_upgraded-clause-answers g c h =
     let t = V.state c.upgrade.new.v in
     let a = c.args.m.now in
     let m = c.upgrade.new.m in
-    let b = c.say_bytes.new.m in
+    let b = c.say_forced.new.m in
     let e = c.in-Ok-upgrade.ensures in
-    let back = c.say_bytes.ensures.trust.honest h in
+    let back = c.say_forced.ensures.trust.honest h in
+    let end = c.in-Err-say_forced.end in
+    let r : Result (Unit {0}) End = Err end in
     let is : c.in-Ok-upgrade.answer ≡ Said.Upgraded = ends_upgraded c.in-Ok-upgrade.answer (sym c.is_upgraded.ensures ∙ c.if-is_upgraded.true) in
     let answers = subst (λ (x : Answer). Answers Word.Upgrade s t (M.now a) (M.now m) (Ok x)) is (e.answers back) in
-    let run = c.say_bytes.ensures.moments h in
-    let utters = run.each (M.now b) (g.met.M.Machine.counts_now b (M.moment m) h run.later) in
-    subst (λ (x : End). AnswersAlone Word.Upgrade s (M.now a) (M.now b) (Err x)) (sym c.in-Err-say_bytes.ensures.output)
-    (upgraded_answers s t (M.now a) (M.now m) (M.now b) (e.disk.windows back) (e.disk.quiet back) answers (record { image = utters.image; windows = utters.windows }) (Err Output) tt tt (λ why wrong. cc wrong))
+    let run = c.say_forced.ensures.moments h in
+    let utters = (run.each (M.now b) (g.met.M.Machine.counts_now b (M.moment m) h run.later)).utters in
+    let unsaid = c.in-Err-say_forced.ensures.unsaid h in
+    upgraded_answers s t (M.now a) (M.now m) (M.now b) (e.disk.windows back) (e.disk.quiet back) answers (record { image = utters.image; windows = utters.windows }) (Err end) tt
+    (says_so (reply_alone Reply.Upgraded) (M.now m) (M.now b) r tt unsaid) (wants_not Ends.WornOut tt r c.in-Err-say_forced.ensures.wants) (unsaid_told AreOfPage s.layout (M.now b).image (M.now m) (M.now b) r unsaid)
 
 pub returns-then-is_upgraded-clause-does : goal.returns-then-is_upgraded-clause-does
-returns-then-is_upgraded-clause-does g c h k none idle stands =
+returns-then-is_upgraded-clause-does g c h k none idle stands on =
     let V = g.V.Files in
     let M = g.M.Machine in
     let v = c.args.v in
     let w = c.upgrade.new.v in
     let a = c.args.m.now in
     let m = c.upgrade.new.m in
-    let b = c.say_bytes.new.m in
+    let b = c.say_forced.new.m in
     let e = c.in-Ok-upgrade.ensures in
-    let back = c.say_bytes.ensures.trust.honest h in
+    let say = c.say_forced.ensures in
+    let back = say.trust.honest h in
+    let end = c.in-Err-say_forced.end in
     let is : c.in-Ok-upgrade.answer ≡ Said.Upgraded = ends_upgraded c.in-Ok-upgrade.answer (sym c.is_upgraded.ensures ∙ c.if-is_upgraded.true) in
     let ends = subst (λ (x : Answer). EndsState (V.state v) (V.state w) (Ok x)) is e.ends in
     let because = subst (λ (x : Answer). BecauseUpgraded (V.state v) (V.state w) (M.now m) (reply_of x)) is (e.because back) in
     let does = subst (λ (x : Answer). Does V.state V.holds Word.Upgrade v w k (M.now a) (M.now m) (Ok x)) is (e.done back k stands) in
-    subst (λ (x : End). IsAlone M Word.Upgrade k a b (Err x)) (sym c.in-Err-say_bytes.ensures.output)
-    (upgraded_alone V.state V.holds M g.met.V.Files.wears (λ x honest. g.met.M.Machine.short x honest) g.met.M.Machine.counts_now v w a m b k idle none stands _ e.disk back (c.say_bytes.ensures.since h) ends.0 ends.1 because.2 does
-    c.as_slice.result.now (c.as_slice.ensures.value ∙ c.in-Ok.ensures ∙ ap (λ (says : Reply → List ℕ). says Reply.Upgraded) c.requires.says) (c.say_bytes.ensures.moments h) (Err Output) (λ wrong. absurd (cc wrong)) tt tt tt)
+    let timed = timed_by M g.met.M.Machine.dated g.met.M.Machine.history g.met.M.Machine.counts_now g.met.M.Machine.only_now in
+    upgraded_alone V.state V.holds M g.met.V.Files.wears (λ x honest. g.met.M.Machine.short x honest) timed v w a m b k idle none stands on _ e.disk back (say.since h) ends.0 ends.1 because.2 does
+    c.as_slice.result.now (c.as_slice.ensures.value ∙ c.in-Ok.ensures ∙ ap (λ (says : Reply → List ℕ). says Reply.Upgraded) c.requires.says) h (say.moments h) (Err end)
+    (λ is. let same : end ≡ Stopped Ends.Memory = cc is in absurd (subst WantsNone same c.in-Err-say_forced.ensures.wants tt)) tt tt tt (c.in-Err-say_forced.ensures.unsaid h)
 
 -- ---- it was done before
 
 pub returns-in-Ok-upgrade-clause-does : goal.returns-in-Ok-upgrade-clause-does
-returns-in-Ok-upgrade-clause-does g c h k none idle stands =
+returns-in-Ok-upgrade-clause-does g c h k none idle stands on =
     let V = g.V.Files in
     let M = g.M.Machine in
     let v = c.args.v in
     let w = c.upgrade.new.v in
+    let a = c.args.m.now in
+    let m = c.upgrade.new.m in
+    let b = c.close_as.new.m in
     let e = c.in-Ok-upgrade.ensures in
     let close = c.close_as.ensures in
     let back = close.trust.honest h in
     let done = ends_done (V.state v) (V.state w) c.in-Ok-upgrade.answer (sym c.is_upgraded.ensures ∙ c.if-is_upgraded.false) e.ends in
     let does = e.done back k stands in
     let reply = reply_of c.in-Ok-upgrade.answer in
-    alone_answered V.state V.holds M g.met.V.Files.wears (λ x honest. g.met.M.Machine.short x honest) g.met.M.Machine.counts_now Word.Upgrade v w c.args.m.now c.upgrade.new.m c.close_as.new.m k idle stands _ e.disk back (close.since h)
-    does.0 reply does.1 does.2 (ap (λ (x : State). x.layout) done.2) c.close_as.result close.undone close.status
-    (subst (λ (says : Reply → List ℕ). ClosesAndSays M does.0 (says reply) c.upgrade.new.m c.close_as.new.m (unit_of c.close_as.result)) c.requires.says (close.closes h does.0 does.2))
+    let layout = ap (λ (x : State). x.layout) done.2 in
+    let timed = timed_by M g.met.M.Machine.dated g.met.M.Machine.history g.met.M.Machine.counts_now g.met.M.Machine.only_now in
+    let held = answered_held V.state V.holds M g.met.V.Files.wears (λ x honest. g.met.M.Machine.short x honest) timed Word.Upgrade v w a m b k idle stands on _ e.disk back (close.since h) does.0 reply does.1 does.2 layout in
+    alone_answered V.state V.holds M g.met.V.Files.wears (λ x honest. g.met.M.Machine.short x honest) timed Word.Upgrade v w a m b k idle stands on _ e.disk back (close.since h) does.0 reply does.1 does.2 layout c.close_as.result close.undone close.status
+    (subst (λ (says : Reply → List ℕ). ClosesAndSays M does.0 (forced_of k) (says reply) m b (unit_of c.close_as.result)) c.requires.says (close.closes h does.0 (forced_of k) does.2 held))
 
 -- ---- a write of a root has failed
 
 pub returns-clause-does : goal.returns-clause-does
-returns-clause-does g c h k none idle stands =
+returns-clause-does g c h k none idle stands on =
     let V = g.V.Files in
     let M = g.M.Machine in
     let v = c.args.v in
     let w = c.upgrade.new.v in
     let e = c.in-Err.ensures in
-    alone_fault V.state V.holds M g.met.V.Files.wears (λ x honest. g.met.M.Machine.short x honest) g.met.M.Machine.counts_now Word.Upgrade v w c.args.m.now c.upgrade.new.m c.upgrade.new.m k idle stands _ e.disk h (λ t left le was. was)
+    let timed = timed_by M g.met.M.Machine.dated g.met.M.Machine.history g.met.M.Machine.counts_now g.met.M.Machine.only_now in
+    alone_fault V.state V.holds M g.met.V.Files.wears (λ x honest. g.met.M.Machine.short x honest) timed Word.Upgrade v w c.args.m.now c.upgrade.new.m c.upgrade.new.m k idle stands on _ e.disk h (λ t left le was. was)
     c.in-Err.fault (λ worn. absurd (ends_unworn (V.state v) (V.state w) c.in-Err.fault e.ends worn)) (e.done h k stands)

@@ -8,6 +8,7 @@ use Rattle.volume_turns.proofs.CauseLaws.{call_says}
 use Rattle.volume_turns.proofs.LastLaws.{ends_fault, fault_not, reply_not, told_place}
 use Rattle.volume_turns.proofs.OneLaws.{one_broken, one_said, one_unsaid}
 use Rattle.volume_turns.proofs.RunLaws.{since_on, writes_on}
+use Rattle.volume_turns.proofs.SayLaws.{timed_by}
 use Rattle.volume_turns.proofs.StatusLaws.{call_of_volume, counts_said, fault_counts, fault_is_one, from_not, unsaid_counts}
 use Rattle.volume_turns.proofs.WornLaws.{status_worn}
 use Rattle.volume_turns.proofs.whole.one_on.Goals as goal
@@ -32,7 +33,7 @@ returns-in-Ok g c =
       unspent = λ nine h. from_not 9 command status (omega arith) (λ e. omega (arith, e)) does.status nine;
       last = λ of h. absurd (reply_not command status does.status of);
       one = λ h none. one_replied command (g.V.Files.state c.args.v) (M.now a) (M.now b) none status (does.answers h);
-      runs = λ h rest k none idle stands. one_said M command rest k a b status (does.does h k none idle stands);
+      runs = λ h rest k none idle stands disk. one_said M command rest k a b status (does.does h k none idle stands disk);
     }
 
 -- a fault has ended it
@@ -62,8 +63,9 @@ returns-in-Err-Fault g c =
           cc (worn, c.requires.unworn);
       last = λ of h. ends_fault (M.report b).fault_place (M.now p) (M.now b) status came.why (told_place came.why (M.report a) (M.report p) (M.report b) does.told.disk line.says.spares.place) (line.ends h) of;
       one = λ h none. one_failed command s (M.now a) (M.now p) none (M.now b) came.why status (does.answers (line.says.trust.honest h)) (line.says.exit h) (line.ends h);
-      runs = λ h rest k none idle stands. let back = line.says.trust.honest h in
-          one_broken M command rest k a p b (line.says.since h) h (g.met.M.Machine.short p back) stands.ends (g.met.M.Machine.counts_now p (M.moment a) back (does.later back)) came.why (does.does back k none idle stands) does.told status line.says (line.ends h);
+      runs = λ h rest k none idle stands disk. let back = line.says.trust.honest h in
+          let timed = timed_by M g.met.M.Machine.dated g.met.M.Machine.history g.met.M.Machine.counts_now g.met.M.Machine.only_now in
+          one_broken M command rest k a p b (line.says.since h) h (g.met.M.Machine.short p back) stands.ends (does.answers back).windows (timed p back) (timed b h) came.why (does.does back k none idle stands disk) does.told status line.says (line.ends h);
     }
 
 -- the output has failed
@@ -85,5 +87,5 @@ returns-in-Err-Output g c =
       unspent = λ nine h. omega (arith, nine);
       last = λ of h. absurd (fault_not 6 6 refl of refl);
       one = λ h none. one_unheard command (g.V.Files.state c.args.v) (M.now a) (M.now b) none (does.answers h);
-      runs = λ h rest k none idle stands. one_unsaid M command rest k a b (does.does h k none idle stands) does.told;
+      runs = λ h rest k none idle stands disk. one_unsaid M command rest k a b (does.does h k none idle stands disk) does.told;
     }

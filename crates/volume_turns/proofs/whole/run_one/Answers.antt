@@ -3,6 +3,7 @@ use Rattle.fsd_runs.specs.declared.request.Request.TheVariants.{One}
 use Rattle.volume_turns.specs.Steps.{MayLose}
 use Rattle.volume_turns.proofs.OneLaws.{some_one}
 use Rattle.volume_turns.proofs.BehindLaws.{RefusedBy, RunsOver, over_counts, over_image, over_leaves, over_one, over_trust, over_writes, refused_counts, refused_image, refused_last, refused_leaves, refused_of, refused_one, refused_trust, refused_writes}
+use Rattle.volume_turns.proofs.SayLaws.{timed_by}
 use Rattle.volume_turns.proofs.StatusLaws.{fault_is_one}
 use Rattle.volume_turns.proofs.UpgradeLaws.{new_fresh}
 use Rattle.volume_turns.proofs.whole.run_one.Goals as goal
@@ -24,9 +25,9 @@ returns-in-Ok g c =
       image = λ h. over_image x false (MayLose c.args.c.now) None c.one_on.result h (λ three. does.says three h) (λ nine. does.unspent nine h);
       last = does.last;
       one = λ h. over_one x c.args.c.now c.one_on.result h (does.one h e.fresh.dirty);
-      leaves = λ h rest l windows changes f at.
-          over_leaves x g.V.Files.holds (One c.args.c.now) [] rest l windows changes f c.one_on.result h does.since (λ y t. g.met.M.Machine.counts_now y t) (e.sound (does.trust.honest h) l windows changes f at)
-          (λ k none idle stands. does.runs h rest k none idle stands);
+      leaves = λ h rest l windows changes f at held.
+          over_leaves x g.V.Files.holds (One c.args.c.now) [] rest l windows changes f c.one_on.result h does.since (λ y t. g.met.M.Machine.counts_now y t) (timed_by M g.met.M.Machine.dated g.met.M.Machine.history g.met.M.Machine.counts_now g.met.M.Machine.only_now) held (e.sound (does.trust.honest h) l windows changes f at)
+          (λ k none idle stands disk. does.runs h rest k none idle stands disk);
     }
 
 pub returns-in-Err : goal.returns-in-Err
@@ -46,7 +47,7 @@ returns-in-Err g c =
       image = refused_image x false (MayLose c.args.c.now) None;
       last = refused_last x;
       one = refused_one x c.args.c.now;
-      leaves = λ h rest l windows changes f at.
+      leaves = λ h rest l windows changes f at held.
           refused_leaves x g.V.Files.state g.V.Files.holds (One c.args.c.now) [] rest l windows changes f h (g.met.M.Machine.short c.mount.new.m) (λ y t. g.met.M.Machine.counts_now y t)
-          (λ left back was. g.met.M.Machine.only_now c.mount.new.m left back was) at (e.sound (line.says.trust.honest h) l windows changes f at) (some_one c.args.c.now);
+          (timed_by M g.met.M.Machine.dated g.met.M.Machine.history g.met.M.Machine.counts_now g.met.M.Machine.only_now) at held (e.sound (line.says.trust.honest h) l windows changes f at) (some_one c.args.c.now);
     }
