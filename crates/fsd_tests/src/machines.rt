@@ -69,7 +69,20 @@ pub(crate) fn run(
     line: &str,
     input: &[u8],
 ) -> Result<(MemoryMachine, u8), AllocError> {
-    let mut m = m.again(events.to_vec(alloc)?, input.to_vec(alloc)?);
+    run_behind(alloc, m, 0, events, line, input)
+}
+
+/// The same where the disk has lost what the last calls of the run before have written, so many of them or all since the
+/// last sync.
+pub(crate) fn run_behind(
+    alloc: Global,
+    m: MemoryMachine,
+    held: usize,
+    events: &[Event],
+    line: &str,
+    input: &[u8],
+) -> Result<(MemoryMachine, u8), AllocError> {
+    let mut m = m.left_behind(held, events.to_vec(alloc)?, input.to_vec(alloc)?);
     let words = words_of(alloc, line)?;
     let status = run_words::<MemoryMachine, Volume, Volume>(alloc, words.as_slice(), &mut m);
     Ok((m, status))

@@ -1,6 +1,7 @@
 //! A script of three forces that is stopped behind each sector that it writes, and a list that is stopped too and made
-//! again: it tells of a prefix of the changes, with each one that was forced.
-use crate::machines::{NEVER, formatted, hurt, hurt_late, run, weak};
+//! again: it tells of a prefix of the changes, with each one that was forced. So it does where the disk has held back what
+//! was written since the last sync, and lost some of it.
+use crate::machines::{NEVER, formatted, hurt, hurt_late, run, run_behind, weak};
 use sector_disk::{Event, MemoryMachine, Sector};
 use std::alloc::{AllocError, Global};
 use std::test::Fail;
@@ -59,8 +60,16 @@ fn may_stand(said: &[u8], listed: &[u8]) -> bool {
     }
 }
 
-// Whether the script, a list and one more go well with these events.
-fn goes_well(alloc: Global, m: MemoryMachine, events: [&[Event]; 3]) -> Result<bool, AllocError> {
+// How many calls a stop loses, if there are so many since the last sync.
+const HELD: [usize; 4] = [0, 1, 4, 1000];
+
+// Whether the script, a list and one more go well with these events, where each stop loses so many calls.
+fn goes_well(
+    alloc: Global,
+    m: MemoryMachine,
+    held: usize,
+    events: [&[Event]; 3],
+) -> Result<bool, AllocError> {
     let [changing, listing, last] = events;
     let (m, status) = run(
         alloc,
@@ -71,9 +80,9 @@ fn goes_well(alloc: Global, m: MemoryMachine, events: [&[Event]; 3]) -> Result<b
     )?;
     let first = are_first(m.said(), status);
     let said = m.said().to_vec(alloc)?;
-    let (m, status) = run(alloc, m, listing, LIST, b"")?;
+    let (m, status) = run_behind(alloc, m, held, listing, LIST, b"")?;
     let early = m.said().to_vec(alloc)?;
-    let (m, end) = run(alloc, m, last, LIST, b"")?;
+    let (m, end) = run_behind(alloc, m, held, last, LIST, b"")?;
     let same = early.as_slice() == m.said() || early.is_empty() && status == 6;
     Ok(m.honest() && first && same && end == 0 && may_stand(said.as_slice(), m.said()))
 }
@@ -84,6 +93,7 @@ fn wrong_stops(
     alloc: Global,
     image: &[Sector],
     pair: u32,
+    held: usize,
     worn: [Event; 2],
 ) -> Result<Option<(u64, u64)>, AllocError> {
     let [a, b] = worn;
@@ -92,7 +102,7 @@ fn wrong_stops(
             let m = weak(alloc, image, 2, [pair; 3])?;
             let first = [a, b, Event::Stop { after: changing }];
             let second = [a, b, Event::Stop { after: listing }];
-            if !goes_well(alloc, m, [&first, &second, &worn])? {
+            if !goes_well(alloc, m, held, [&first, &second, &worn])? {
                 return Ok(Some((changing, listing)));
             }
         }
@@ -103,16 +113,29 @@ fn wrong_stops(
 // The same where both sectors of a pair are damaged in each run.
 fn wrong_at(alloc: Global, image: &[Sector], pair: u32) -> Result<Option<(u64, u64)>, AllocError> {
     let other = pair.saturating_add(1);
-    let early = wrong_stops(alloc, image, pair, [hurt(pair), hurt(other)])?;
-    let late = wrong_stops(alloc, image, pair, [hurt_late(pair), hurt_late(other)])?;
-    Ok(early.or(late))
+    let mut wrong = None;
+    for held in [0, 1000] {
+        let early = wrong_stops(alloc, image, pair, held, [hurt(pair), hurt(other)])?;
+        let late = wrong_stops(
+            alloc,
+            image,
+            pair,
+            held,
+            [hurt_late(pair), hurt_late(other)],
+        )?;
+        wrong = wrong.or(early).or(late);
+    }
+    Ok(wrong)
 }
 
 #[test]
 fn a_stop_leaves_a_prefix(rt: HostRuntime) -> Result<(), Fail> {
     let alloc = rt.alloc();
     let image = formatted(alloc, FORMAT)?;
-    assert_eq!(rt; wrong_stops(alloc, image.as_slice(), 0, [NEVER; 2])?, None);
+    for held in HELD {
+        let wrong = wrong_stops(alloc, image.as_slice(), 0, held, [NEVER; 2])?;
+        assert_eq!(rt; wrong, None, "{held}");
+    }
     Ok(())
 }
 

@@ -2,7 +2,9 @@
 //! The roots stand at 0 and 4, the anchors at 8 and 12, the first record at 16, and the homes at 616 to 632 and at 636
 //! to 652.
 use crate::healing::{GETS, gets_say, twelve};
-use crate::machines::{NEVER, calm, first_wrong, formatted, hurt, hurt_late, run, weak};
+use crate::machines::{
+    NEVER, calm, first_wrong, formatted, hurt, hurt_late, run, run_behind, weak,
+};
 use sector_disk::{Event, MemoryMachine, Sector};
 use std::alloc::{AllocError, Global};
 use std::test::Fail;
@@ -165,19 +167,20 @@ fn says_so(first: (&[u8], u8), second: (&[u8], u8)) -> bool {
 }
 
 // Whether an upgrade, with a stop behind so many sectors, a list, an upgrade, a put and gets go well where a pair of
-// sectors wears in each run, and a run of three in the last.
+// sectors wears in each run, and a run of three in the last, and the first run has lost so many of its last calls.
 fn goes_well(
     alloc: Global,
     image: &[Sector],
     first: u32,
     worn: [Event; 2],
     after: u64,
+    held: usize,
 ) -> Result<bool, AllocError> {
     let [a, b] = worn;
     let m = weak(alloc, image, 3, [first; 3])?;
     let (m, begun) = run(alloc, m, &[a, b, Event::Stop { after }], UPGRADE, b"")?;
     let said = m.said().to_vec(alloc)?;
-    let (m, _) = run(alloc, m, &worn, LIST, b"")?;
+    let (m, _) = run_behind(alloc, m, held, &worn, LIST, b"")?;
     let same = m.said() == LISTED;
     let (m, status) = run(alloc, m, &worn, UPGRADE, b"")?;
     let right = says_so((said.as_slice(), begun), (m.said(), status));
@@ -194,9 +197,10 @@ fn wrong_stop(alloc: Global, image: &[Sector], first: u32) -> Result<Option<u64>
     for [a, b] in [[0, 0], [1, 1], [0, 1]] {
         let pair = [first.saturating_add(a), first.saturating_add(b)];
         for after in 0..11 {
-            let early = goes_well(alloc, image, first, pair.map(hurt), after)?;
-            let late = goes_well(alloc, image, first, pair.map(hurt_late), after)?;
-            if !early || !late {
+            let early = goes_well(alloc, image, first, pair.map(hurt), after, 0)?;
+            let late = goes_well(alloc, image, first, pair.map(hurt_late), after, 0)?;
+            let lost = goes_well(alloc, image, first, pair.map(hurt), after, 1000)?;
+            if !early || !late || !lost {
                 return Ok(Some(after));
             }
         }
