@@ -1,15 +1,28 @@
--- Slots that were read ahead.
-use Rattle.std.specs.Prelude.{◌≡◌, ◌⊎◌, ℕ, List}
+-- Slots that were read ahead, in blocks of 64.
+use Rattle.std.specs.Prelude.{◌≡◌, ◌/◌, ℕ, List, [], Some, None, nat_eq}
+use Rattle.std.specs.Map.{lookup}
 use Rattle.image_file.specs.declared.ahead.Ahead.{Ahead}
-use Rattle.image_file.specs.Stretch.{IsApart, IsPart, slot_in}
+use Rattle.image_file.specs.declared.stretch.Stretch.{Stretch}
+use Rattle.image_file.specs.Stretch.{Has, IsPart, slot_at}
+
+-- this block is none of them
+abbrev pub IsOut : List (ℕ × Stretch) → ℕ → Type 0
+IsOut blocks block = lookup (nat_eq block) blocks ≡ None
+
+-- it is this sector's slot in the block that has it
+abbrev pub GivesIn : List (ℕ × Stretch) → ℕ → List ℕ → Type 0
+GivesIn blocks sector slot = (s : Stretch) × (lookup (nat_eq (sector / 64)) blocks ≡ Some s) × Has s sector × (slot ≡ slot_at s sector)
+
+-- the blocks, with their numbers
+abbrev pub blocks_of : Ahead → List (ℕ × Stretch)
+blocks_of a = elim a.blocks [ None ↦ [] | Some blocks ↦ blocks.entries ]
 
 abbrev pub HasNone : Ahead → Type 0
-HasNone a = (a.one.count ≡ 0) × (a.other.count ≡ 0)
+HasNone a = blocks_of a ≡ []
 
--- none of them is of one of so many sectors
+-- no block has one of so many sectors
 abbrev pub AreApart : (first count : ℕ) → Ahead → Type 0
-AreApart first count a = IsApart first count a.one.first a.one.count × IsApart first count a.other.first a.other.count
+AreApart first count a = (sector : ℕ) → IsPart first count sector → IsOut (blocks_of a) (sector / 64)
 
--- it is this sector's slot in one of them
 abbrev pub Gives : Ahead → ℕ → List ℕ → Type 0
-Gives a sector slot = (IsPart a.one.first a.one.count sector × (slot ≡ slot_in a.one.first a.one.slots sector)) ⊎ (IsPart a.other.first a.other.count sector × (slot ≡ slot_in a.other.first a.other.slots sector))
+Gives a sector slot = GivesIn (blocks_of a) sector slot

@@ -1,12 +1,18 @@
 -- How what was written to a disk stands on it.
-use Rattle.std.specs.Prelude.{◌≡◌, ◌⊎◌, ℕ, Result}
+use Rattle.std.specs.Prelude.{◌≡◌, ◌⊎◌, ℕ, List, Option, Result, Some, IfSome, length}
 use Rattle.std.specs.Result.{IsErr}
+use Rattle.fsd_bytes.specs.Bytes.{sector_len}
+use Rattle.fsd_formats.specs.Slot.{slot_of}
 use Rattle.image_file.specs.declared.disk.Disk.{Disk}
 use Rattle.image_file.specs.declared.disk.Standing.TheVariants.{Synced, Unsynced, Broken}
 
--- all of it is there
+-- the system has been given all that was written
+abbrev pub IsGiven : Disk → Type 0
+IsGiven d = d.pending.count ≡ 0
+
+-- all of it is on the disk
 abbrev pub IsSynced : Disk → Type 0
-IsSynced d = d.standing ≡ Synced
+IsSynced d = (d.standing ≡ Synced) × IsGiven d
 
 -- but for one run of adjacent sectors, which ends in front of this one
 abbrev pub EndsAt : ℕ → Disk → Type 0
@@ -23,3 +29,7 @@ IsOpenAt sector d = IsSynced d ⊎ EndsAt sector d
 -- a call of a broken disk fails, and leaves it broken
 abbrev pub Fails : {T E : Type 0} → Disk → Disk → Result T E → Type 0
 Fails old new result = IsBroken old → IsErr result × IsBroken new
+
+-- what is read of a sector with this slot: the bytes that it spells, if there are any
+abbrev pub Reads : (sector : ℕ) → (slot : List ℕ) → Option (List ℕ) → Type 0
+Reads sector slot found = IfSome found (λ b. slot ≡ slot_of sector b) × ((b : List ℕ) → length b ≡ sector_len → slot ≡ slot_of sector b → found ≡ Some b)

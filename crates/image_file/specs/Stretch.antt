@@ -1,14 +1,19 @@
--- Adjacent slots, from that of a sector on.
-use Rattle.std.specs.Prelude.{ℕ, ◌+◌, ◌-◌, ◌*◌, ◌<◌, ◌≤◌, List, take, drop}
+-- The slots of adjacent sectors.
+use Rattle.std.specs.Prelude.{◌≡◌, ℕ, ◌+◌, ◌-◌, ◌*◌, ◌<◌, ◌≤◌, List, take, drop}
+use Rattle.image_file.specs.declared.stretch.Stretch.{Stretch}
 
--- the slot of this sector is one of them
+-- this sector is one of so many, from the first on
 abbrev pub IsPart : (first count sector : ℕ) → Type 0
 IsPart first count sector = (first ≤ sector) × (sector < first + count)
 
--- the slot in its place
-abbrev pub slot_in : (first : ℕ) → List ℕ → (sector : ℕ) → List ℕ
-slot_in first slots sector = take 520 (drop (520 * (sector - first)) slots)
+-- it has the slot of this sector
+abbrev pub Has : Stretch → ℕ → Type 0
+Has s sector = IsPart s.first s.count sector
 
--- none of them is one of so many others
-abbrev pub IsApart : (other many first count : ℕ) → Type 0
-IsApart other many first count = (sector : ℕ) → IsPart other many sector → IsPart first count sector → ⊥
+-- the slot in its place
+abbrev pub slot_at : Stretch → ℕ → List ℕ
+slot_at s sector = take 520 (drop (520 * (sector - s.first)) s.slots.items)
+
+-- this sector is the one behind it, unless it has none
+abbrev pub IsBehind : ℕ → Stretch → Type 0
+IsBehind sector s = 0 < s.count → s.first + s.count ≡ sector

@@ -1,33 +1,45 @@
 //! Slots of an image file that were read before they were asked for.
-ghost use Rattle.std.specs.Prelude.{◌≡◌, false, IsTrue};
-ghost use Rattle.image_file.specs.Ahead.{AreApart, Gives, HasNone};
+ghost use Rattle.std.specs.Prelude.{◌≡◌, ℕ, ◌+◌, ◌≤◌, ◌<◌, ◌^◌, false, IsTrue};
+ghost use Rattle.image_file.specs.Ahead.{AreApart, Gives, GivesIn, HasNone, IsOut};
 
 use crate::image::ImageFile;
 use crate::slot::SLOT_BYTES;
 use crate::stretch::{MOST_SLOTS, Stretch};
+use lru::LruCache;
+use std::alloc::Global;
 use std::io;
+use std::num::NonZeroUsize;
 
-// Slots that are read at once where no stretch ends; else there are MOST_SLOTS of them.
-const FEW_SLOTS: u32 = 8;
+// How many blocks there may be.
+const MOST_BLOCKS: usize = 80;
 
-/// Two stretches, so that two places of the file may be read in turn.
+/// Blocks of slots as the file gave them: block b has those of the sectors from 64 * b on, 64 or as many as the image
+/// has there. The least recently used one gives way to another.
 #[derive(Drop)]
 pub(crate) struct Ahead {
-    one: Stretch,
-    other: Stretch,
-    // Whether `one` was read last.
-    is_one: bool,
+    alloc: Global,
+    // None where memory for them was refused, or no image was attached yet.
+    blocks: Option<LruCache<u32, Stretch>>,
 }
 
 impl Ahead {
     /// None was read ahead.
-    pub(crate) fn new() -> Ahead
+    pub(crate) fn new(alloc: Global) -> Ahead
         ensures { HasNone result }
     {
         Ahead {
-            one: Stretch::new(),
-            other: Stretch::new(),
-            is_one: true,
+            alloc,
+            blocks: None,
+        }
+    }
+
+    /// Takes memory to keep blocks in order, if it is given. There are none of them.
+    pub(crate) fn begin(&mut self)
+        ensures { HasNone self.new }
+    {
+        self.drop_all();
+        if self.blocks.is_none() {
+            self.blocks = LruCache::new(self.alloc, NonZeroUsize::new(MOST_BLOCKS).unwrap()).ok();
         }
     }
 
@@ -35,19 +47,37 @@ impl Ahead {
     pub(crate) fn drop_all(&mut self)
         ensures { HasNone self.new }
     {
-        self.one.clear();
-        self.other.clear();
+        if let Some(blocks) = &mut self.blocks {
+            blocks.clear();
+        }
     }
 
-    /// Drops each stretch that has one of so many sectors.
+    /// Drops each block that has one of so many sectors; all of them where these lie in more than two.
     pub(crate) fn drop_at(&mut self, first: u32, count: usize)
+        requires { first + count < 2 ^ 32 }
         ensures { AreApart first count self.new }
     {
-        self.one.drop_at(first, count);
-        self.other.drop_at(first, count);
+        if let Some(blocks) = &mut self.blocks
+            && count > 0
+        {
+            let last = first + (count - 1) as u32;
+            drop_between(blocks, first / MOST_SLOTS, last / MOST_SLOTS);
+        }
     }
 
-    /// Gives the slot of a sector of an image with so many; where it is not there, some are read from it on.
+    /// Gives the slot of a sector, if it is there.
+    pub(crate) fn give(&mut self, sector: u32, slot: &mut [u8; SLOT_BYTES]) -> bool
+        ensures given { IsTrue result → Gives self.old sector slot.new }
+        ensures kept { result ≡ false → slot.new ≡ slot.old }
+    {
+        match &mut self.blocks {
+            Some(blocks) => give_in(blocks, sector, slot),
+            None => false,
+        }
+    }
+
+    /// Reads the slot of a sector of an image with so many, and has the block that it is in, if there is memory and the
+    /// file gives all of it.
     pub(crate) fn read(
         &mut self,
         image: &ImageFile,
@@ -55,43 +85,57 @@ impl Ahead {
         sector: u32,
         slot: &mut [u8; SLOT_BYTES],
     ) -> io::Result<()> {
-        if self.give(sector, slot) {
-            return Ok(());
-        }
-        self.fetch(image, sectors.saturating_sub(sector), sector);
+        self.fetch(image, sectors, sector / MOST_SLOTS);
         if self.give(sector, slot) {
             return Ok(());
         }
         image.read(sector, slot)
     }
 
-    // The slot of a sector, if it is there.
-    fn give(&mut self, sector: u32, slot: &mut [u8; SLOT_BYTES]) -> bool
-        ensures given { IsTrue result → Gives self.old sector slot.new }
-        ensures kept { result ≡ false → slot.new ≡ slot.old }
+    // Reads a block of an image with so many sectors.
+    fn fetch(&mut self, image: &ImageFile, sectors: u32, block: u32)
+        requires { block < 2 ^ 26 }
     {
-        if self.one.give(sector, slot) {
-            self.is_one = true;
-            return true;
+        let first = block * MOST_SLOTS;
+        let count = sectors.saturating_sub(first).min(MOST_SLOTS);
+        if let Some(blocks) = &mut self.blocks
+            && let Some(slots) = Stretch::read(self.alloc, image, first, count)
+        {
+            let _ = blocks.put(block, slots);
         }
-        if self.other.give(sector, slot) {
-            self.is_one = false;
-            return true;
-        }
-        false
     }
+}
 
-    // Reads some slots from that of a sector on, at most so many, in the place of the stretch that it stands behind,
-    // else of the one that was not read last.
-    fn fetch(&mut self, image: &ImageFile, most: u32, sector: u32) {
-        if self.one.ends_at(sector) {
-            self.one.fill(image, sector, most.min(MOST_SLOTS));
-        } else if self.other.ends_at(sector) {
-            self.other.fill(image, sector, most.min(MOST_SLOTS));
-        } else if self.is_one {
-            self.other.fill(image, sector, most.min(FEW_SLOTS));
-        } else {
-            self.one.fill(image, sector, most.min(FEW_SLOTS));
-        }
+// The slot of a sector, if a block has it.
+fn give_in(blocks: &mut LruCache<u32, Stretch>, sector: u32, slot: &mut [u8; SLOT_BYTES]) -> bool
+    ensures given { IsTrue result → GivesIn blocks.old.entries sector slot.new }
+    ensures kept { result ≡ false → slot.new ≡ slot.old }
+{
+    match blocks.get(&(sector / MOST_SLOTS)) {
+        Some(block) => block.give(sector, slot),
+        None => false,
+    }
+}
+
+// Drops the blocks from one to another, or all.
+fn drop_between(blocks: &mut LruCache<u32, Stretch>, first: u32, last: u32)
+    requires { first < 2 ^ 26 }
+    ensures { (block : ℕ) → first ≤ block → block ≤ last → IsOut blocks.new.entries block }
+{
+    if last > first + 1 {
+        blocks.clear();
+    } else {
+        drop_one(blocks, first);
+        drop_one(blocks, first + 1);
+    }
+}
+
+// Drops one block.
+fn drop_one(blocks: &mut LruCache<u32, Stretch>, block: u32)
+    ensures out { IsOut blocks.new.entries block }
+    ensures others { (other : ℕ) → IsOut blocks.old.entries other → IsOut blocks.new.entries other }
+{
+    if blocks.len() > 0 {
+        blocks.pop(&block);
     }
 }

@@ -1,13 +1,15 @@
 //! The image that is attached, with what was read ahead of it, and how what was written to it stands on the disk.
-ghost use Rattle.std.specs.Prelude.{◌≡◌, ◌⊎◌, ◌+◌, ◌≤◌, ◌/◌, length, IfOk, OnOk, OnErr};
-ghost use Rattle.sector_disk.specs.Machine.{GivesAsked};
-ghost use Rattle.image_file.specs.Ahead.{AreApart, HasNone};
-ghost use Rattle.image_file.specs.Disk.{EndsAt, Fails, IsBroken, IsOpenAt, IsSynced};
+ghost use Rattle.std.specs.Prelude.{◌≡◌, ℕ};
+ghost use Rattle.image_file.specs.Stretch.{IsBehind};
+ghost use Rattle.image_file.specs.declared.disk.Standing.TheVariants.{Synced, Unsynced};
 
 use crate::ahead::Ahead;
-use crate::image::{ImageFile, SLOTS_AT_ONCE};
-use crate::slot::{SLOT_BYTES, read_slot, slot_of};
+use crate::image::ImageFile;
+use crate::pending::extend;
+use crate::slot::{SLOT_BYTES, read_slot};
+use crate::stretch::Stretch;
 use sector_disk::{Attach, SECTOR_BYTES};
+use std::alloc::Global;
 use std::fs::File;
 use std::io;
 use std::io::ErrorKind;
@@ -16,37 +18,60 @@ use std::rt::Files;
 /// How what was written stands on the disk.
 #[derive(Drop)]
 pub(crate) enum Standing {
-    /// All of it is there.
+    /// All of it is there, and none waits in memory.
     Synced,
     /// But for one run of adjacent sectors, which was written upwards behind the last sync and ends in front of this
     /// sector.
     Unsynced(u64),
-    /// A sync has failed, so some of it may be lost.
+    /// The system did not take some of it, or did not sync it, so some of it may be lost.
     Broken,
 }
 
 /// The image that is attached, if one is, with what was read ahead of it.
 ///
-/// At most one run of adjacent sectors, written upwards, is not yet on the disk: a write that does not go on with it
-/// brings it there first. So what the disk has is always what stood at some earlier moment, where the sectors of a run
-/// reach it in ascending order. Once a sync has failed, each call fails.
-#[derive(Drop)]
+/// At most one run of adjacent sectors, written upwards, is not yet on the disk, and its last slots may wait in memory: a
+/// write that does not go on with it brings it there first. So what the disk has is always what stood at some earlier
+/// moment, where the sectors of a run reach it in ascending order. Once the system has not taken or not synced a run, each
+/// call fails. A disk that is dropped gives the system what waits.
 pub(crate) struct Disk {
     image: Option<ImageFile>,
     standing: Standing,
+    // The last slots of the run, which wait until the system is given them.
+    pending: Stretch,
     ahead: Ahead,
+    ghost synced: { standing ≡ Synced → pending.count ≡ 0 },
+    ghost run: { (next : ℕ) → standing ≡ Unsynced next → IsBehind next pending },
+}
+
+impl Drop for Disk {
+    fn drop(mut self) {
+        let _ = self.hand_over();
+        let Disk {
+            image: _,
+            standing: _,
+            pending: _,
+            ahead: _,
+        } = self;
+    }
 }
 
 impl Disk {
+    ghost use Rattle.std.specs.Prelude.{◌⊎◌, ◌+◌, ◌<◌, ◌≤◌, ◌/◌, ◌^◌, length, IfOk, OnOk, OnErr};
+    ghost use Rattle.sector_disk.specs.Machine.{GivesAsked};
+    ghost use Rattle.image_file.specs.Ahead.{AreApart, HasNone};
+    ghost use Rattle.image_file.specs.Stretch.{Has, slot_at};
+    ghost use Rattle.image_file.specs.Disk.{EndsAt, Fails, IsBroken, IsGiven, IsOpenAt, IsSynced, Reads};
+
     /// With no image.
-    pub(crate) fn new() -> Disk
+    pub(crate) fn new(alloc: Global) -> Disk
         ensures ahead { HasNone result.ahead }
         ensures synced { IsSynced result }
     {
         Disk {
             image: None,
             standing: Standing::Synced,
-            ahead: Ahead::new(),
+            pending: Stretch::new(alloc),
+            ahead: Ahead::new(alloc),
         }
     }
 
@@ -64,36 +89,39 @@ impl Disk {
         ensures synced { OnOk result (IsSynced self.new) }
         ensures broken { Fails self.old self.new result }
     {
-        self.ahead.drop_all();
+        self.ahead.begin();
         self.sync()?;
         self.detach();
+        self.pending.reserve();
         let (image, sectors) = ImageFile::attach(rt, path, how)?;
         self.image = Some(image);
         self.bring()?;
         Ok(sectors)
     }
 
-    /// Reads a sector of an image with so many, where its slot is whole.
+    /// Reads a sector of an image with so many, where its slot is whole: the slot that waits, where one does.
     pub(crate) fn read(&mut self, sectors: u32, sector: u32) -> io::Result<Option<[u8; 512]>>
-        ensures stands { self.new.standing ≡ self.old.standing }
+        ensures pending { Has self.old.pending sector → IfOk result (Reads sector (slot_at self.old.pending sector)) }
+        ensures stands { OnOk result (self.new.standing ≡ self.old.standing) }
+        ensures failed { OnErr result (IsBroken self.new ⊎ (self.new.standing ≡ self.old.standing)) }
         ensures broken { Fails self.old self.new result }
     {
         if matches!(self.standing, Standing::Broken) {
             return Err(ErrorKind::Other.into());
         }
-        let Some(image) = &self.image else {
-            return Err(ErrorKind::NotConnected.into());
-        };
         let mut slot = [0; 520];
-        self.ahead.read(image, sectors, sector, &mut slot)?;
+        if !self.pending.give(sector, &mut slot) {
+            self.read_slot(sectors, sector, &mut slot)?;
+        }
         Ok(read_slot(sector, &slot))
     }
 
     /// Writes the slots of sectors from one on, behind what was written before.
     pub(crate) fn write(&mut self, sector: u32, bytes: &[u8]) -> io::Result<()>
+        requires { sector + length bytes.now / 512 < 2 ^ 32 }
         ensures ahead { AreApart sector (length bytes.now / 512) self.new.ahead }
         ensures run { OnOk result (EndsAt (sector + length bytes.now / 512) self.new) }
-        ensures cut { OnErr result (IsBroken self.new ⊎ EndsAt (sector + length bytes.now / 512) self.new) }
+        ensures cut { OnErr result (IsBroken self.new ⊎ IsOpenAt sector self.new) }
         ensures broken { Fails self.old self.new result }
     {
         self.ahead.drop_at(sector, bytes.len() / SECTOR_BYTES);
@@ -127,13 +155,14 @@ impl Disk {
         }
     }
 
-    // Has the system bring to the disk all that was written to the image that is attached. Nothing else tells it as
-    // brought.
+    // Has the system bring to the disk all that was written to the image that is attached, what waits among it. Nothing
+    // else tells it as brought.
     fn bring(&mut self) -> io::Result<()>
         ensures ahead { self.new.ahead ≡ self.old.ahead }
         ensures synced { OnOk result (IsSynced self.new) }
         ensures failed { OnErr result (IsBroken self.new) }
     {
+        self.hand_over()?;
         self.standing = Standing::Broken;
         if let Some(image) = &self.image {
             image.sync()?;
@@ -142,13 +171,61 @@ impl Disk {
         Ok(())
     }
 
+    // Gives the system what waits.
+    fn hand_over(&mut self) -> io::Result<()>
+        ensures ahead { self.new.ahead ≡ self.old.ahead }
+        ensures given { OnOk result (IsGiven self.new) }
+        ensures stands { OnOk result (self.new.standing ≡ self.old.standing) }
+        ensures failed { OnErr result (IsBroken self.new) }
+    {
+        let written = match &self.image {
+            Some(image) => self.pending.write_out(image),
+            None => Err(ErrorKind::NotConnected.into()),
+        };
+        if written.is_err() {
+            self.standing = Standing::Broken;
+        }
+        written
+    }
+
     // Lets go of the image, all of which is on the disk.
     fn detach(&mut self)
         requires { IsSynced self.old }
         ensures ahead { self.new.ahead ≡ self.old.ahead }
-        ensures stands { self.new.standing ≡ self.old.standing }
+        ensures stands { IsSynced self.new }
     {
         self.image = None;
+    }
+
+    // Gives a slot that does not wait: one that was read ahead, or from the file behind all that was written.
+    fn read_slot(
+        &mut self,
+        sectors: u32,
+        sector: u32,
+        slot: &mut [u8; SLOT_BYTES],
+    ) -> io::Result<()>
+        ensures stands { OnOk result (self.new.standing ≡ self.old.standing) }
+        ensures failed { OnErr result (IsBroken self.new ⊎ (self.new.standing ≡ self.old.standing)) }
+    {
+        if self.ahead.give(sector, slot) {
+            return Ok(());
+        }
+        if self.image.is_none() {
+            return Err(ErrorKind::NotConnected.into());
+        }
+        self.hand_over()?;
+        self.ask_file(sectors, sector, slot)
+    }
+
+    // Gives a slot from the file, which has all that was written.
+    fn ask_file(&mut self, sectors: u32, sector: u32, slot: &mut [u8; SLOT_BYTES]) -> io::Result<()>
+        requires { IsGiven self.old }
+        ensures { self.new.standing ≡ self.old.standing }
+    {
+        match &self.image {
+            Some(image) => self.ahead.read(image, sectors, sector, slot),
+            None => Err(ErrorKind::NotConnected.into()),
+        }
     }
 
     // Brings the run to the disk, unless a write from a sector on goes on with it.
@@ -166,42 +243,18 @@ impl Disk {
 
     // Writes the slots of sectors from one on, which begin a run or go on with the one that there is.
     fn go_on(&mut self, sector: u32, bytes: &[u8]) -> io::Result<()>
-        requires { IsOpenAt sector self.old }
+        requires open { IsOpenAt sector self.old }
+        requires fits { sector + length bytes.now / 512 < 2 ^ 32 }
         ensures ahead { self.new.ahead ≡ self.old.ahead }
-        ensures run { EndsAt (sector + length bytes.now / 512) self.new }
+        ensures run { OnOk result (EndsAt (sector + length bytes.now / 512) self.new) }
+        ensures cut { OnErr result (IsBroken self.new ⊎ IsOpenAt sector self.new) }
     {
+        let Some(image) = &self.image else {
+            return Err(ErrorKind::NotConnected.into());
+        };
+        self.standing = Standing::Broken;
+        extend(&mut self.pending, image, sector, bytes)?;
         self.standing = Standing::Unsynced(u64::from(sector) + (bytes.len() / SECTOR_BYTES) as u64);
-        match &self.image {
-            Some(image) => write_at(image, sector, bytes),
-            None => Err(ErrorKind::NotConnected.into()),
-        }
+        Ok(())
     }
-}
-
-// Writes the slots of sectors from one on, upwards.
-fn write_at(image: &ImageFile, sector: u32, bytes: &[u8]) -> io::Result<()> {
-    let mut first = sector;
-    for some in bytes.chunks(SECTOR_BYTES * SLOTS_AT_ONCE) {
-        first = write_slots(image, first, some)?;
-    }
-    Ok(())
-}
-
-// Writes the slots of a few sectors at once, and tells the sector behind them.
-fn write_slots(image: &ImageFile, first: u32, bytes: &[u8]) -> io::Result<u32>
-    requires { length bytes.now ≤ 4096 }
-{
-    let mut slots = [0; SLOT_BYTES * SLOTS_AT_ONCE];
-    let mut sector = first;
-    for (slot, b) in slots
-        .chunks_exact_mut(SLOT_BYTES)
-        .zip(bytes.chunks_exact(SECTOR_BYTES))
-    {
-        let mut whole = [0; 512];
-        whole.copy_from_slice(b);
-        slot.copy_from_slice(&slot_of(sector, &whole));
-        sector = sector.wrapping_add(1);
-    }
-    image.write(first, &slots[..bytes.len() / SECTOR_BYTES * SLOT_BYTES])?;
-    Ok(sector)
 }

@@ -14,7 +14,7 @@ use std::rt::Files;
 /// Contracts see what it reports and no more. It answers for no content: `healing` and `settle` only bring what was
 /// written to the disk and forget what was read ahead, as no run of sectors is weak by anything that it does.
 #[derive(Drop)]
-pub struct FileMachine<R: Files<File = File> + Input + Print + Drop> {
+pub struct FileMachine<R: Files<File = File> + Input + Print + AllocGlobal + Drop> {
     rt: R,
     disk: Disk,
     sectors: u32,
@@ -25,7 +25,7 @@ pub struct FileMachine<R: Files<File = File> + Input + Print + Drop> {
     ghost small: { sectors < 2 ^ 32 },
 }
 
-impl<R: Files<File = File> + Input + Print + Drop> Model for FileMachine<R> {
+impl<R: Files<File = File> + Input + Print + AllocGlobal + Drop> Model for FileMachine<R> {
     ghost use Rattle.image_file.specs.FileMachine.{Told};
 
     ghost Value = { Told };
@@ -36,14 +36,15 @@ impl<R: Files<File = File> + Input + Print + Drop> Model for FileMachine<R> {
     } };
 }
 
-impl<R: Files<File = File> + Input + Print + Drop> FileMachine<R> {
+impl<R: Files<File = File> + Input + Print + AllocGlobal + Drop> FileMachine<R> {
     /// A machine with no image attached yet, over the files, the input and the output of a runtime.
     pub fn new(rt: R) -> Self
         ensures { result.report ≡ record { sectors = 0; fault_place = 0; disk_faults = 0; input_faults = 0; output_faults = 0 } }
     {
+        let disk = Disk::new(rt.alloc());
         FileMachine {
             rt,
-            disk: Disk::new(),
+            disk,
             sectors: 0,
             fault_place: 0,
             disk_faults: 0,
@@ -64,7 +65,7 @@ impl<R: Files<File = File> + Input + Print + Drop> FileMachine<R> {
     }
 }
 
-impl<R: Files<File = File> + Input + Print + Drop> Machine for FileMachine<R> {
+impl<R: Files<File = File> + Input + Print + AllocGlobal + Drop> Machine for FileMachine<R> {
     ghost report = { λ m. m.report };
 
     ghost tells = { λ _. ⊥ };

@@ -18,34 +18,48 @@
 //! the null device from then on, opened so that a read of it or a write to it still fails. That the image's file is
 //! none of them is proved of the number that it was opened under.
 //!
-//! **Syncs.** A write that answers Ok has given its slots to the system, and nothing is kept back in the program: each
-//! later read has them, in this run of the program and in the next one, also where this one is killed. On the disk they
-//! are behind a sync (`fdatasync`), and a power failure may take what was written since the last one. What each call does:
-//! - a write directly behind the last one goes on with its run of adjacent sectors, and syncs nothing;
-//! - a write elsewhere syncs the run first, where there is one, and begins another;
-//! - `sync`, `healing`, `settle` and `attach` sync the run first, where there is one;
+//! **Syncs.** A write that answers Ok is read as written from then on. Its slots are with the system, or wait in memory:
+//! the last ones of its run of adjacent sectors, 64 at most, so that the system is given a run by few calls. On the disk
+//! they are behind a sync (`fdatasync`). So a power failure may take what was written since the last sync, and where the
+//! program is killed what waits is lost. What each call does:
+//! - a write directly behind the last one goes on with its run, and syncs nothing; the system is given 64 slots as the
+//!   next one comes, and those that wait where memory for more is refused;
+//! - a write elsewhere first gives the system what waits and syncs the run, where there is one, and begins another;
+//! - `sync`, `healing`, `settle` and `attach` do the same, and begin none: behind an Ok of them nothing waits;
 //! - an attach also syncs the image that it has found or made: a run of the program that was killed may have written it;
-//! - `read`, `take` and `say` sync nothing.
+//! - `read` syncs nothing; where it asks the file, the system is first given what waits, so that the file has all that
+//!   was written;
+//! - `take` and `say` do nothing of this. A machine that is dropped gives the system what waits, and syncs nothing.
 //!
 //! **Why the order is kept.** All that was written before a run is on the disk when the run begins. So a power failure
 //! leaves the image of some moment since the last sync: some first sectors of the last run, as in the middle of a write,
 //! and all that came before. For this the sectors of a run are taken to reach the disk in ascending order, as those of
-//! one write of several sectors are.
+//! one write of several sectors are. Where the program alone is killed it is the same: what waits are the last sectors of
+//! the run, and the system has all that came before.
 //!
-//! **A sync that fails.** What was written since the last one may be lost, though its writes answered Ok. So the sync and
-//! each later call of the disk fail, each with its own place, and no sector is given, also of those that were read
-//! ahead. This lasts until the machine is dropped.
+//! **A sync that fails**, or a run that the system does not take. What was written since the last sync may be lost, though
+//! its writes answered Ok. So this call and each later one of the disk fail, each with its own place, which may not be that
+//! of the sector that was not written; and no sector is given, also of those that were read ahead. This lasts until the
+//! machine is dropped.
 //!
-//! **Read ahead.** A read of a sector whose slot is not in memory reads some slots at once, and more where it goes on
-//! behind others; reads of these ask the file no more, until they are written, or a window begins or ends (`attach`,
-//! `healing`, `settle`). A sector that has become damaged meanwhile is read as such later in the same window, so what an
+//! **Read ahead.** A read of a sector whose slot is not in memory reads a block of 64 slots at once, and up to 80 such
+//! blocks are kept, of which the least recently used one gives way; reads of these ask the file no more, until one of their
+//! sectors is written, or a window begins or ends (`attach`, `healing`, `settle`). A block that the file does not give
+//! whole is not kept. A sector that has become damaged meanwhile is read as such later in the same window, so what an
 //! honest disk does is what an honest machine may do.
+//!
+//! **Memory** is taken for blocks and for what waits, 2.7 MB at most. Where it is refused a sector is read or written by
+//! a call of its own, and no call fails for that.
 //!
 //! **What is trusted.** `FileMachine` meets the contract of `Machine` and tells nothing of content: no contract can say
 //! what a file, a disk or a terminal gives or takes. That slots are spelled and read as they should be is proved, and
 //! of the disk inside this crate what it tells as synced: all behind an Ok of `sync`, `healing`, `settle` and `attach`,
-//! and all but one run behind a write; and that it fails each call once a sync has failed. That it tells so only where
-//! the system has synced (`Disk::bring`), and that each call of the machine is one of the disk, is seen in the code.
+//! with nothing that waits, and all but one run behind a write; that what waits ends where that run does, each slot as it
+//! is spelled, and that a sector that waits is read from there; and that it fails each call once a sync has failed or a run
+//! was not taken. That it tells so only where the system has synced (`Disk::bring`, which an attach calls too) and was
+//! given what waits (`Stretch::write_out`), that each slot of a write waits or is given (`pending::extend`), and that each
+//! call of the machine is one of the disk, is seen in the code.
+//!
 //! These are taken on trust, and tried on a real file by the tests:
 //! - each slot is read and written in its own place;
 //! - a lock keeps other runs of the program away, and nothing else writes the file, the program's own output included;
@@ -53,7 +67,7 @@
 //!   file is found again under its name; where a sync of an earlier run has failed, that what reads show since is what the
 //!   disk has, which a system that kept the lost bytes in its memory would not do;
 //! - the sectors of a run of adjacent ones, which one write or several have written upwards, reach the disk in ascending
-//!   order, and none is lost where the program alone is stopped;
+//!   order, and none that the system has been given is lost where the program alone is stopped;
 //! - a write that fails or is stopped has put some first slots of it, and a run that a power failure cuts some first slots
 //!   of the run; no more of them are damaged, a torn one among them, than the open windows allow;
 //! - a file that grows, is written behind its end and cut back to its length has the bytes that it had;
@@ -65,6 +79,7 @@ mod ahead;
 mod disk;
 mod file_machine;
 mod image;
+mod pending;
 mod slot;
 mod stretch;
 

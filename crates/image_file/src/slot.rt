@@ -1,6 +1,6 @@
 //! The slot of a sector: its bytes, its number and a check.
-ghost use Rattle.std.specs.Prelude.{◌≡◌, ◌+◌, ◌≤◌, IfSome, ℕ, List, length, Some};
-ghost use Rattle.fsd_bytes.specs.Bytes.{sector_len};
+ghost use Rattle.std.specs.Prelude.{◌≡◌, ◌+◌, ◌++◌, ◌≤◌, IfSome, ℕ, List, length, Some};
+ghost use Rattle.fsd_bytes.specs.Bytes.{sector_len, u32};
 ghost use Rattle.fsd_formats.specs.Slot.{check_of, slot_of};
 ghost use Rattle.fsd_bytes.specs.Bytes.{with_bytes};
 
@@ -20,11 +20,21 @@ fn check_of(b: &[u8; 512]) -> u32
 }
 
 // Puts bytes in their place.
-fn put(slot: &mut [u8; 520], place: usize, bytes: &[u8])
-    requires { place + length bytes.now ≤ 520 }
+fn put(slot: &mut [u8], place: usize, bytes: &[u8])
+    requires { place + length bytes.now ≤ length slot.old }
     ensures { slot.new ≡ with_bytes place bytes.now slot.old }
 {
     slot[place..place + bytes.len()].copy_from_slice(bytes);
+}
+
+// What stands behind the bytes of sector `s` in its slot: its number, and the check of the bytes.
+fn end_of(s: u32, b: &[u8; 512]) -> [u8; 8]
+    ensures { result ≡ u32 s ++ u32 (check_of b.now) }
+{
+    let mut end = [0; 8];
+    put(&mut end, 0, &s.to_be_bytes());
+    put(&mut end, 4, &check_of(b).to_be_bytes());
+    end
 }
 
 /// The slot of sector `s` with the bytes `b`: the bytes at 0, the sector's number at 512 and the check at 516.
@@ -33,8 +43,7 @@ pub fn slot_of(s: u32, b: &[u8; 512]) -> [u8; 520]
 {
     let mut slot = [0; 520];
     put(&mut slot, 0, b);
-    put(&mut slot, 512, &s.to_be_bytes());
-    put(&mut slot, 516, &check_of(b).to_be_bytes());
+    put(&mut slot, 512, &end_of(s, b));
     slot
 }
 
@@ -46,5 +55,6 @@ pub fn read_slot(s: u32, x: &[u8; 520]) -> Option<[u8; 512]>
 {
     let mut b = [0; 512];
     b.copy_from_slice(&x[..512]);
-    if slot_of(s, &b) == *x { Some(b) } else { None }
+    let end = end_of(s, &b);
+    if x[512..] == end[..] { Some(b) } else { None }
 }

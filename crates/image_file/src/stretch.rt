@@ -1,40 +1,59 @@
-//! Some adjacent slots of an image file, as it gave them.
-ghost use Rattle.std.specs.Prelude.{◌≡◌, ◌⊎◌, ◌≤◌, false, IsTrue};
-ghost use Rattle.image_file.specs.Stretch.{IsApart, IsPart, slot_in};
+//! The slots of some adjacent sectors, in memory.
+ghost use Rattle.std.specs.Prelude.{◌≡◌, ◌*◌, length};
 
 use crate::image::ImageFile;
 use crate::slot::SLOT_BYTES;
+use std::alloc::Global;
+use std::io;
 
-/// Slots that there is room for.
-pub(crate) const MOST_SLOTS: u32 = 31;
+/// The most slots that a stretch has.
+pub(crate) const MOST_SLOTS: u32 = 64;
 
-/// Adjacent slots as the file gave them, from that of the sector `first` on, so many: there is room for 31, which is
-/// less than 16 KiB, since a machine lies on the stack.
+/// The slots of so many adjacent sectors, from `first` on.
 #[derive(Drop)]
 pub(crate) struct Stretch {
     first: u32,
     count: u32,
-    slots: [u8; 16120],
+    slots: Vec<u8>,
+    ghost whole: { length slots.items ≡ 520 * count },
 }
 
 impl Stretch {
-    /// None.
-    pub(crate) fn new() -> Stretch
+    ghost use Rattle.std.specs.Prelude.{◌⊎◌, ◌+◌, ◌<◌, ◌≤◌, ◌++◌, ◌^◌, Some, false, IsTrue, IfSome, OnOk, OnErr};
+    ghost use Rattle.image_file.specs.Stretch.{Has, IsBehind, slot_at};
+
+    /// None. It takes no memory.
+    pub(crate) fn new(alloc: Global) -> Stretch
         ensures { result.count ≡ 0 }
     {
         Stretch {
             first: 0,
             count: 0,
-            slots: [0; 16120],
+            slots: Vec::new(alloc),
         }
     }
 
-    /// The slot of a sector, if it is there.
+    /// The slots of so many sectors as the file gives them; none where it doesn't give them all, or memory is refused.
+    pub(crate) fn read(alloc: Global, image: &ImageFile, first: u32, count: u32) -> Option<Stretch>
+        requires { count ≤ 64 }
+        ensures { IfSome result (λ s. (s.first ≡ first) × (s.count ≡ count)) }
+    {
+        let mut slots = vec![in alloc; 0; SLOT_BYTES * count as usize].ok()?;
+        image.read(first, slots.as_mut_slice()).ok()?;
+        Some(Stretch {
+            first,
+            count,
+            slots,
+        })
+    }
+
+    /// The slot of a sector, if it has it.
     pub(crate) fn give(&self, sector: u32, slot: &mut [u8; SLOT_BYTES]) -> bool
-        ensures there { IsTrue result → IsPart self.now.first self.now.count sector × (slot.new ≡ slot_in self.now.first self.now.slots sector) }
+        ensures there { IsTrue result → Has self.now sector × (slot.new ≡ slot_at self.now sector) }
+        ensures absent { result ≡ false → Has self.now sector → ⊥ }
         ensures kept { result ≡ false → slot.new ≡ slot.old }
     {
-        if sector < self.first || sector - self.first >= self.count.min(MOST_SLOTS) {
+        if sector < self.first || sector - self.first >= self.count {
             return false;
         }
         let from = SLOT_BYTES * (sector - self.first) as usize;
@@ -42,39 +61,47 @@ impl Stretch {
         true
     }
 
-    /// Whether a sector is the one behind it.
-    pub(crate) fn ends_at(&self, sector: u32) -> bool {
-        self.count > 0 && sector >= self.count && sector - self.count == self.first
+    /// Takes memory for the most slots, if it is given.
+    pub(crate) fn reserve(&mut self)
+        ensures { (self.new.first ≡ self.old.first) × (self.new.count ≡ self.old.count) }
+    {
+        let _ = self.slots.reserve_exact(SLOT_BYTES * MOST_SLOTS as usize);
     }
 
-    /// Has these slots in the place of those that it had, or none where the file doesn't give them.
-    pub(crate) fn fill(&mut self, image: &ImageFile, first: u32, count: u32)
-        requires { count ≤ 31 }
-        ensures { (self.new.count ≡ 0) ⊎ ((self.new.first ≡ first) × (self.new.count ≡ count)) }
+    /// Has the slot of the sector behind it as well. Where it has the most, or memory is refused, it stays as it is.
+    pub(crate) fn push(&mut self, sector: u32, slot: &[u8; SLOT_BYTES]) -> bool
+        requires { IsBehind sector self.old }
+        ensures taken { IsTrue result → (self.new.count ≡ self.old.count + 1) × (self.new.slots.items ≡ self.old.slots.items ++ slot.now) }
+        ensures there { IsTrue result → Has self.new sector × (slot_at self.new sector ≡ slot.now) }
+        ensures behind { IsTrue result → IsBehind (sector + 1) self.new }
+        ensures kept { result ≡ false → (self.new.first ≡ self.old.first) × (self.new.count ≡ self.old.count) }
     {
-        self.count = 0;
-        let bytes = SLOT_BYTES * count as usize;
-        if image.read(first, &mut self.slots[..bytes]).is_ok() {
-            self.first = first;
-            self.count = count;
+        let first = self.first_before(sector);
+        if self.count >= MOST_SLOTS || self.slots.extend_from_slice(slot).is_err() {
+            return false;
         }
+        self.first = first;
+        self.count += 1;
+        true
     }
 
-    /// Drops all of it where it has one of so many slots.
-    pub(crate) fn drop_at(&mut self, first: u32, count: usize)
-        ensures { IsApart first count self.new.first self.new.count }
+    // Where it begins with a sector behind it as well.
+    fn first_before(&self, sector: u32) -> u32
+        requires { IsBehind sector self.now }
+        ensures { result + self.now.count ≡ sector }
     {
-        let end = u64::from(first).saturating_add(count as u64);
-        let own_end = u64::from(self.first) + u64::from(self.count);
-        if u64::from(self.first) < end && u64::from(first) < own_end {
+        if self.count == 0 { sector } else { self.first }
+    }
+
+    /// Writes its slots to the file, by one call, and has none.
+    pub(crate) fn write_out(&mut self, image: &ImageFile) -> io::Result<()>
+        ensures { OnOk result (self.new.count ≡ 0) }
+    {
+        if self.count > 0 {
+            image.write(self.first, self.slots.as_slice())?;
+            self.slots.clear();
             self.count = 0;
         }
-    }
-
-    /// Drops all of it.
-    pub(crate) fn clear(&mut self)
-        ensures { self.new.count ≡ 0 }
-    {
-        self.count = 0;
+        Ok(())
     }
 }
