@@ -1,10 +1,10 @@
 -- Bits of words: masks, ranges of bits, and the first of a kind.
-use Rattle.std.proofs.Common.{◌≡◌, ◌≢◌, ℕ, zero, suc, ◌+◌, ◌-◌, ◌*◌, ◌/◌, ◌%◌, ◌^◌, ◌<◌, ◌≤◌, min, max, Bool, true, false, not, ◌&&◌, ◌||◌, List, length, get_or, set, bit_and, bit_or, w64, refl, sym, ap, ◌∙◌, inl, inr, arith}
+use Rattle.std.proofs.Common.{◌≡◌, ◌≢◌, ℕ, zero, suc, ◌+◌, ◌-◌, ◌*◌, ◌/◌, ◌%◌, ◌^◌, ◌<◌, ◌≤◌, min, max, Bool, true, false, not, ◌&&◌, ◌||◌, List, length, get_or, set, take, bit_and, bit_or, w64, refl, sym, ap, ◌∙◌, inl, inr, arith}
 use Rattle.std.specs.Prelude.{nat_le, nat_lt, ◌==◌}
 use Rattle.std.specs.Int.{bit_at, bit_not, trailing_zeros}
 use Rattle.std.proofs.lemmas.Bool.{and_parts, cases_Bool, cases_lt, eqb-true, eqb-false, leb-true, leb-false, ltb-true, ltb-false, lt-ltb, le-leb, le-ltb}
 use Rattle.std.proofs.lemmas.Nat.Bits.{bit_at_and, bit_at_or, bit_at_not, bit_at-lt, bit_at_mask_inside, bit_at_mask_below, bit_at_ones, bit_at_ones_above, ones_shl, ones_shr, bit_at-trailing_zeros, bit_at-zero}
-use Rattle.std.proofs.lemmas.List.{get_or-set_same, get_or-set_other}
+use Rattle.std.proofs.lemmas.List.{get_or-set_same, get_or-set_other, get_or-take}
 use Rattle.sector_set.specs.Bits.{has_bit, is_set, in_range, agrees}
 
 -- ---- one bit
@@ -106,6 +106,11 @@ set_there words w v s ne = ap (λ (n : ℕ). has_bit n (s % 64)) (get_or-set_oth
 pub is_bit : (words : List ℕ) (w s : ℕ) → s / 64 ≡ w → is_set words s ≡ has_bit (get_or words w 0) (s % 64)
 unfolding is_set
 is_bit words w s e = ap (λ (n : ℕ). has_bit (get_or words n 0) (s % 64)) e
+
+-- the bits of a list's first words are the list's
+pub set_in_first : (words : List ℕ) (n s : ℕ) → s < 64 * n → is_set (take n words) s ≡ is_set words s
+unfolding is_set
+set_in_first words n s h = ap (λ (w : ℕ). has_bit w (s % 64)) (get_or-take n words (s / 64) 0 (omega arith))
 
 or_more : (o r : Bool) → ((o || (r && false)) || r) ≡ (o || (r && true))
 or_more true true = refl

@@ -1,15 +1,16 @@
 -- Sets as the bits of words.
-use Rattle.std.proofs.Common.{◌≡◌, ℕ, zero, suc, ◌+◌, ◌-◌, ◌*◌, ◌/◌, ◌%◌, ◌^◌, ◌<◌, ◌≤◌, min, Bool, true, false, not, ◌&&◌, ◌||◌, List, [], ◌∷◌, length, get_or, replicate, bit_and, refl, sym, subst, ap, ◌∙◌, inl, inr, arith}
+use Rattle.std.proofs.Common.{◌≡◌, ℕ, zero, suc, ◌+◌, ◌-◌, ◌*◌, ◌/◌, ◌%◌, ◌^◌, ◌<◌, ◌≤◌, min, Bool, true, false, not, ◌&&◌, ◌||◌, List, [], ◌∷◌, length, get_or, replicate, take, bit_and, refl, sym, subst, ap, ◌∙◌, inl, inr, arith}
 use Rattle.std.specs.Prelude.{nat_le, nat_lt, ◌==◌}
 use Rattle.std.proofs.lemmas.Bool.{cases_lt}
 use Rattle.std.proofs.lemmas.Bool.Decides.{nat_tests}
 use Rattle.std.proofs.lemmas.Nat.Bits.{bit_at-zero, shr_and_one}
-use Rattle.std.proofs.lemmas.List.{get_or_default}
+use Rattle.std.proofs.lemmas.List.{get_or_default, length-take-le}
 use Rattle.run_table.specs.declared.run.Run.{Run}
 use Rattle.run_table.specs.RunTable.{run_of}
 use Rattle.run_table.specs.Space.{contains, where_free, runs_of}
 use Rattle.sector_set.specs.Bits.{has_bit, is_set, in_range}
 use Rattle.sector_set.specs.SectorSet.{in_run, SectorsBelow, below, IsFirst}
+use Rattle.sector_set.proofs.BitLaws.{set_in_first}
 use Rattle.sector_set.proofs.FreeLaws.{where_same, contains_where, contains_range, no_run, first_run}
 
 pub same_below : (end : ℕ) (f g : ℕ → Bool) → ((s : ℕ) → s < end → f s ≡ g s) → below end f ≡ below end g
@@ -41,16 +42,17 @@ removed end r stop old new e h =
     ∙ ap (λ (b : Bool). b && not (in_range r.start stop s)) (sym (contains_below end (is_set old) s less))
     ∙ ap (λ (b : Bool). contains (where_free (is_set old) 0 end) s && not b) (ap (λ (n : ℕ). in_range r.start n s) e ∙ run_is_range r end s less))
 
--- the first of the words' bits that is of a kind, or the end
-pub first_below : (end at : ℕ) (words : List ℕ) (wanted : Bool) (found : ℕ) → end < 64 * length words → at ≤ end → at ≤ found
-    → ((s : ℕ) → at ≤ s → s < found → is_set words s ≡ not wanted) → (found < 64 * length words → is_set words found ≡ wanted)
-    → IsFirst end (contains (where_free (is_set words) 0 end)) at wanted (min found end)
-first_below end at words wanted found room low from before here = record {
+-- of the first `n` words' bits the first that is of a kind, or the end
+pub first_below : (all end at n : ℕ) (words : List ℕ) (wanted : Bool) (found : ℕ) → end < 64 * n → n ≤ length words → end ≤ all → at ≤ end → at ≤ found
+    → ((s : ℕ) → at ≤ s → s < found → is_set (take n words) s ≡ not wanted) → (found < 64 * length (take n words) → is_set (take n words) found ≡ wanted)
+    → IsFirst end (contains (where_free (is_set words) 0 all)) at wanted (min found end)
+first_below all end at n words wanted found room there inside low from before here = record {
   from = omega arith;
   to = omega arith;
-  before = λ s low high. contains_below end (is_set words) s (omega arith) ∙ before s low (omega arith);
+  before = λ s low high. contains_below all (is_set words) s (omega arith) ∙ sym (set_in_first words n s (omega arith)) ∙ before s low (omega arith);
   found = λ less. let same : min found end ≡ found = omega arith in
-      contains_below end (is_set words) (min found end) less ∙ ap (is_set words) same ∙ here (omega arith);
+      let many : length (take n words) ≡ n = length-take-le n words there in
+      contains_below all (is_set words) (min found end) (omega arith) ∙ ap (is_set words) same ∙ sym (set_in_first words n found (omega arith)) ∙ here (omega (arith, many));
 }
 
 pub none_from : (end at start : ℕ) (f : ℕ → Bool) → IsFirst end f at true start → start ≡ end → runs_of (where_free f at end) ≡ []

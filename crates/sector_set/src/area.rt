@@ -157,11 +157,12 @@ fn is_all(set: &SectorSet, from: u32, run: Run, wanted: bool) -> bool
     if run.length == 0 {
         return true;
     }
-    if run.start < from || run.start > set.end() {
+    let end = run.start as u64 + run.length as u64;
+    if run.start < from || end > set.end() as u64 {
         return false;
     }
-    let past = set.first(run.start, !wanted);
-    run.start as u64 + run.length as u64 <= past as u64
+    let end = end as u32;
+    set.first(run.start, end, !wanted) == end
 }
 
 // Takes the sectors of runs out of a set.

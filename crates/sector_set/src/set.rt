@@ -74,11 +74,11 @@ impl SectorSet {
         ensures first { IsFirstRun self.now at result }
         ensures within { IfSome result (λ r. (at ≤ r.start) × (1 ≤ r.length) × (r.start + r.length ≤ self.now.end)) }
     {
-        let start = self.first(at, true);
+        let start = self.first(at, self.end, true);
         if start == self.end {
             return None;
         }
-        let stop = self.first(start, false);
+        let stop = self.first(start, self.end, false);
         Some(Run {
             start,
             length: stop - start,
@@ -92,11 +92,13 @@ impl SectorSet {
         run.start.saturating_add(run.length).min(self.end)
     }
 
-    /// The first sector from `at` on that is in it, or that is not, else the end.
-    pub(crate) fn first(&self, at: u32, wanted: bool) -> u32
-        requires { at ≤ self.now.end }
-        ensures { IsFirst self.now.end (contains self.now.sectors) at wanted result }
+    /// The first sector from `at` on below `end` that is in it, or that is not, else `end`.
+    pub(crate) fn first(&self, at: u32, end: u32, wanted: bool) -> u32
+        requires order { at ≤ end }
+        requires within { end ≤ self.now.end }
+        ensures { IsFirst end (contains self.now.sectors) at wanted result }
     {
-        bits::first(&self.words, at as usize, wanted).min(self.end as usize) as u32
+        let words = &self.words[..end as usize / 64 + 1];
+        bits::first(words, at as usize, wanted).min(end as usize) as u32
     }
 }

@@ -6,6 +6,6 @@ use Rattle.sector_set.proofs.set.SectorSet.first.Goals as goal
 pub returns : goal.returns
 returns c =
     let whole : length c.self.inside.words.items ≡ c.self.inside.end / 64 + 1 = sym (ap length c.deref.ensures.value) ∙ c.deref.ensures.len ∙ c.self.invariant.0 in
-    let low : c.args.at ≤ c.self.inside.end = omega (arith, ap (λ (v : SectorsBelow). v.end) c.self.view_is) in
-    rw (← c.self.view_is, c.min.ensures) (first_below c.self.inside.end c.args.at c.self.inside.words.items c.args.wanted c.first.result
-    (omega arith) low c.first.ensures.bounds.0 (rw c.deref.ensures.value at c.first.ensures.before) (rw c.deref.ensures.value at c.first.ensures.found))
+    let inside : c.args.end ≤ c.self.inside.end = omega (arith, ap (λ (v : SectorsBelow). v.end) c.self.view_is, c.requires.within) in
+    rw (← c.self.view_is, c.min.ensures) (first_below c.self.inside.end c.args.end c.args.at (c.args.end / 64 + 1) c.self.inside.words.items c.args.wanted c.first.result
+    (omega arith) (omega arith) inside c.requires.order c.first.ensures.bounds.0 (rw c.deref.ensures.value at c.first.ensures.before) (rw c.deref.ensures.value at c.first.ensures.found))
