@@ -1,23 +1,28 @@
 -- Runs go on from what a stop leaves; and where no fault is counted a run says all, or that memory was refused.
-use Rattle.std.proofs.Common.{◌≡◌, ◌⊎◌, inl, inr, ℕ, zero, suc, ◌+◌, ◌≤◌, List, [], ◌∷◌, ◌++◌, length, take, Option, Some, None, refl, sym, ap, ◌∙◌, arith}
+use Rattle.std.proofs.Common.{◌≡◌, ◌⊎◌, inl, inr, ⊎_elim, ℕ, zero, suc, ◌+◌, ◌≤◌, List, [], ◌∷◌, ◌++◌, length, take, Option, Some, None, refl, sym, ap, ◌∙◌, arith}
 use Rattle.std.specs.Prelude.{min}
 use Rattle.std.specs.List.{last_or}
 use Rattle.std.proofs.lemmas.List.{length-take, take-append-le}
 use Rattle.volume_layout.specs.declared.layout.Layout.{Layout}
-use Rattle.volume_layout.specs.Layout.{IsFormOf}
+use Rattle.volume_layout.specs.Layout.{IsFormOf, turned}
+use Rattle.volume_layout.specs.Root.{root_bytes}
+use Rattle.sector_disk.specs.declared.sector.Sector.TheVariants.{Whole}
 use Rattle.sector_disk.specs.declared.sector.WeakRun.{WeakRun}
-use Rattle.sector_disk.specs.Image.{Windows}
-use Rattle.fsd_files.specs.Disk.{Image}
+use Rattle.sector_disk.specs.Image.{Windows, sector_at}
+use Rattle.fsd_files.specs.Disk.{Has, Image, Sectors}
+use Rattle.fsd_files.specs.Volume.{Volume}
 use Rattle.sector_disk.specs.Machine.{Moment, Report}
 use Rattle.fsd_files.specs.Files.{Change}
-use Rattle.fsd_sound.specs.Sound.{IsPrefixOf}
+use Rattle.fsd_sound.specs.Laid.{HasOwnRoots}
+use Rattle.fsd_sound.specs.Sound.{IsPrefixOf, IsRootAt, IsSaid, SaysTurned, weak_of}
+use Rattle.fsd_sound.proofs.TurnedLaws.{said_sound}
 use Rattle.fsd_texts.specs.declared.fault.Fault.{Fault}
 use Rattle.fsd_texts.specs.declared.fault.Fault.TheVariants as Ends
 use Rattle.fsd_texts.specs.Text.{fault_text, memory_text}
 use Rattle.fsd_runs.specs.declared.request.Request.{Request}
 use Rattle.fsd_runs.specs.declared.request.Request.TheVariants as Asks
 use Rattle.fsd_runs.specs.Errands.{Turn, fault_status}
-use Rattle.fsd_runs.specs.Leaves.{IsBroken, IsOutside, IsUnsaid, Left, NoneRose, SaysThen, StaysSound}
+use Rattle.fsd_runs.specs.Leaves.{IfOne, IsBroken, IsOutside, IsReplied, IsSoundAsSaid, IsUnsaid, Left, NoneRose, SaysThen, StaysSound}
 use Rattle.fsd_runs.specs.Runs.{changes_in}
 
 last_is : (windows : List WeakRun) (o : Option WeakRun) (run : WeakRun) → last_or o (windows ++ run ∷ []) ≡ Some run
@@ -51,11 +56,45 @@ left_stays l layout form windows run h f n turns old left prefix ends (inr s) =
       sound = s.sound;
     }
 
+-- ---- of one command
+
+pub one_more : (request : Request) {P Q : Type 0} → (P → Q) → IfOne request P → IfOne request Q
+one_more (Asks.One command) weaker fact = weaker fact
+one_more request weaker fact = tt
+
+-- ---- with the same machine
+
+-- a whole sector has the bytes that stand in it
+stands_as : (weak : Sectors) (i : Image) (bytes have : List ℕ) (s : ℕ) → Has weak i bytes s → sector_at i s ≡ Whole have → bytes ≡ have
+stands_as weak i bytes have s (inl stands) whole = cc (stands, whole)
+stands_as weak i bytes have s (inr (hurt, damaged)) whole = absurd (cc (damaged, whole))
+
+-- both of a disk's roots are as those of one that says the layout turned
+module _ (l own : Layout) (weak : Sectors) (i j : Image) (at_i : HasOwnRoots own weak i) (at_j : HasOwnRoots own weak j) (says : SaysTurned l i) where
+  root_is : root_bytes own ≡ root_bytes (turned l)
+  root_is = ⊎_elim (λ first. stands_as weak i (root_bytes own) (root_bytes (turned l)) 0 at_i.0 first) (λ second. stands_as weak i (root_bytes own) (root_bytes (turned l)) 4 at_i.1 second) says
+
+  root_there : (s : ℕ) → Has weak j (root_bytes own) s → IsRootAt l j s → sector_at j s ≡ Whole (root_bytes (turned l))
+  root_there s has root = root.1 ∙ ap (λ (bytes : List ℕ). Whole bytes) (sym (stands_as weak j (root_bytes own) root.0 s has root.1) ∙ root_is)
+
+  turned_there : IsRootAt l j 0 ⊎ IsRootAt l j 4 → SaysTurned l j
+  turned_there some = ⊎_elim (λ first. inl (root_there 0 at_j.0 first)) (λ second. inr (root_there 4 at_j.1 second)) some
+
+-- behind a run that has said all, what is held back is sound by each layout that is said
+pub replied_held : (l : Layout) (windows : List WeakRun) (run : WeakRun) (h : List Change) (n : ℕ) (turns : List Turn) (status : ℕ) (behind : Volume) (old new held : Moment) (result : ℕ)
+    → IsReplied l windows run h n turns status behind (λ P. P held) old new result
+    → IsSoundAsSaid l (windows ++ run ∷ []) (take n h ++ changes_in turns) (n + length (changes_in turns)) new.image held.image
+replied_held l windows run h n turns status behind old new held result x layout said = said_sound l (windows ++ run ∷ []) (take n h ++ changes_in turns) (n + length (changes_in turns)) held.image layout (there said) x.held
+  where
+    there : IsSaid l new.image layout → IsSaid l held.image layout
+    there (inl is) = inl is
+    there (inr (is, says)) = inr (is, turned_there l behind.layout (weak_of (windows ++ run ∷ [])) new.image held.image x.roots x.rooted says x.held.readable.roots.some)
+
 -- a run that neither says all nor has a fault counted says that memory was refused
-pub broken_by_memory : (request : Request) (Undone : ℕ → Image → Type 0) (before after : Report) (turns : List Turn) (old new : Moment) (result : ℕ) → NoneRose before after
-    → IsUnsaid before after result ⊎ IsBroken request Undone before after turns old new result → (result ≡ 7) × (x : SaysThen turns memory_text old new) × Undone x.whole new.image
-broken_by_memory request Undone before after turns old new result none (inl unsaid) = absurd (none.output unsaid.rose)
-broken_by_memory request Undone before after turns old new result none (inr broken) = by request broken.why broken.outside broken.ends broken.says broken.undone
+pub broken_by_memory : (request : Request) (Undone : ℕ → Image → Type 0) (UnderWay : ℕ → Type 0) (before after : Report) (turns : List Turn) (old new : Moment) (result : ℕ) → NoneRose before after
+    → IsUnsaid before after result ⊎ IsBroken request Undone UnderWay before after turns old new result → (result ≡ 7) × (x : SaysThen turns memory_text old new) × Undone x.whole new.image
+broken_by_memory request Undone UnderWay before after turns old new result none (inl unsaid) = absurd (none.output unsaid.rose)
+broken_by_memory request Undone UnderWay before after turns old new result none (inr broken) = by request broken.why broken.outside broken.ends broken.says broken.undone
   where
     by : (r : Request) (why : Fault) → IsOutside r before after why → result ≡ fault_status why → (x : SaysThen turns (fault_text why) old new) → (why ≡ Ends.Memory → Undone x.whole new.image)
         → (result ≡ 7) × (x : SaysThen turns memory_text old new) × Undone x.whole new.image

@@ -17,7 +17,7 @@ use Rattle.fsd_texts.specs.Script.{max_input, script_in}
 use Rattle.fsd_runs.specs.declared.request.Request.{Request}
 use Rattle.fsd_runs.specs.declared.request.Request.TheVariants as Asks
 use Rattle.fsd_runs.specs.Errands.{Answered, Cut, Errand, IfMounts, MayCut, Turn, alone, blank, errand_of, fault_status, nothing_but, reply_status, script_ending}
-use Rattle.fsd_runs.specs.Leaves.{IsBroken, IsOutside, IsReplied, IsUndone, IsSpent, IsUnsaid, LeavesBy, LeavesMounted, LeavesRun, LeavesUnmounted, Unbegun}
+use Rattle.fsd_runs.specs.Leaves.{IsBroken, IsOutside, IsReplied, IsUnderWay, IsUndone, IsSpent, IsUnsaid, LeavesBy, LeavesMounted, LeavesRun, LeavesUnmounted, Unbegun, Whatever}
 use Rattle.fsd_runs.specs.Runs.{IsThrough, answered, errand_in, run_end, run_status, run_turns}
 use Rattle.fsd_runs.specs.Sessions.{session_over}
 
@@ -76,9 +76,9 @@ in_otherwise request input (Some x) may otherwise done e = cut_otherwise request
 
 -- ---- the whole
 
-broken_otherwise : (request : Request) (Undone : ℕ → Image → Type 0) (before after : Report) (turns : List Turn) (old new : Moment) (result : ℕ) → IsUnsaid before after result ⊎ IsBroken request Undone before after turns old new result → NotThree result
-broken_otherwise request Undone before after turns old new result (inl unsaid) e = let six = unsaid.ends in absurd (omega (arith, e, six))
-broken_otherwise request Undone before after turns old new result (inr broken) e = by request broken.why broken.outside (sym broken.ends ∙ e)
+broken_otherwise : (request : Request) (Undone : ℕ → Image → Type 0) (UnderWay : ℕ → Type 0) (before after : Report) (turns : List Turn) (old new : Moment) (result : ℕ) → IsUnsaid before after result ⊎ IsBroken request Undone UnderWay before after turns old new result → NotThree result
+broken_otherwise request Undone UnderWay before after turns old new result (inl unsaid) e = let six = unsaid.ends in absurd (omega (arith, e, six))
+broken_otherwise request Undone UnderWay before after turns old new result (inr broken) e = by request broken.why broken.outside (sym broken.ends ∙ e)
   where
     by : (r : Request) (why : Fault) → IsOutside r before after why → NotThree (fault_status why)
     by r (Ends.Device s) outside e = absurd (omega (arith, e))
@@ -86,29 +86,29 @@ broken_otherwise request Undone before after turns old new result (inr broken) e
     by (Asks.Put name keep) Ends.Input outside e = absurd (omega (arith, e))
     by r why outside e = absurd outside
 
-module _ (request : Request) (input rest : List ℕ) (l : Layout) (windows : List WeakRun) (h : List Change) (f : ℕ) (Past Stops : ℕ → Moment → Type 0) (began : ℕ) (Only : (Moment → Type 0) → Type 0) (before after : Report) (old new : Moment) (result : ℕ) where
-  unmounted_otherwise : LeavesUnmounted request l windows h f Only before after old new result → NotThree result
+module _ (request : Request) (input rest : List ℕ) (l : Layout) (windows : List WeakRun) (h : List Change) (f : ℕ) (Past Stops : ℕ → Moment → Type 0) (began : ℕ) (Only Held : (Moment → Type 0) → Type 0) (before after : Report) (old new : Moment) (result : ℕ) where
+  unmounted_otherwise : LeavesUnmounted request l windows h f Only Held before after old new result → NotThree result
   unmounted_otherwise u e = by u.ends
     where
-      by : IsSpent old new result ⊎ (IsUnsaid before after result ⊎ IsBroken request Unbegun before after (blank ∷ []) old new result) → ⊥
+      by : IsSpent old new result ⊎ (IsUnsaid before after result ⊎ IsBroken request Unbegun Whatever before after (blank ∷ []) old new result) → ⊥
       by (inl spent) = let nine = spent.ends in omega (arith, e, nine)
-      by (inr other) = broken_otherwise request Unbegun before after (blank ∷ []) old new result other e
+      by (inr other) = broken_otherwise request Unbegun Whatever before after (blank ∷ []) old new result other e
 
-  mounted_otherwise : EndsOtherwise (errand_of request input) → LeavesMounted request input rest l windows h f Past Stops began Only before after old new result → NotThree result
+  mounted_otherwise : EndsOtherwise (errand_of request input) → LeavesMounted request input rest l windows h f Past Stops began Only Held before after old new result → NotThree result
   mounted_otherwise otherwise m e = by m.ends
     where
-      by : (IsThrough m.run × IsReplied l windows m.next h m.count (run_turns m.run) (run_status m.run) (run_end m.run) old new result)
-          ⊎ (IsUnsaid before after result ⊎ IsBroken request (IsUndone l (windows ++ m.next ∷ []) (take m.count h) m.count (run_turns m.run)) before after (run_turns m.run) old new result) → ⊥
+      by : (IsThrough m.run × IsReplied l windows m.next h m.count (run_turns m.run) (run_status m.run) (run_end m.run) Held old new result)
+          ⊎ (IsUnsaid before after result ⊎ IsBroken request (IsUndone l (windows ++ m.next ∷ []) (take m.count h) m.count (run_turns m.run)) (IsUnderWay l (windows ++ m.next ∷ []) (take m.count h) m.count (run_turns m.run) Held) before after (run_turns m.run) old new result) → ⊥
       by (inl through) = in_otherwise request input m.run.cut m.run.may otherwise (answered m.run.mets (session_over m.volume) (errand_in request input m.run.cut).commands) (sym through.1.ends ∙ e)
-      by (inr other) = broken_otherwise request (IsUndone l (windows ++ m.next ∷ []) (take m.count h) m.count (run_turns m.run)) before after (run_turns m.run) old new result other e
+      by (inr other) = broken_otherwise request (IsUndone l (windows ++ m.next ∷ []) (take m.count h) m.count (run_turns m.run)) (IsUnderWay l (windows ++ m.next ∷ []) (take m.count h) m.count (run_turns m.run) Held) before after (run_turns m.run) old new result other e
 
-  by_otherwise : EndsOtherwise (errand_of request input) → LeavesBy request input rest l windows h f Past Stops began Only before after old new result → NotThree result
+  by_otherwise : EndsOtherwise (errand_of request input) → LeavesBy request input rest l windows h f Past Stops began Only Held before after old new result → NotThree result
   by_otherwise otherwise (inl u) = unmounted_otherwise u
   by_otherwise otherwise (inr m) = mounted_otherwise otherwise m
 
-module _ (request : Request) (input rest : List ℕ) (l : Layout) (windows : List WeakRun) (h : List Change) (f : ℕ) (Past Stops : ℕ → Moment → Type 0) (began : ℕ) (Only : (Moment → Type 0) → Type 0) (before after : Report) (old new : Moment) (result : ℕ) where
-  run_otherwise : EndsOtherwise (errand_of request input) → LeavesRun request input rest l windows h f Past Stops began Only before after old new result → NotThree result
-  run_otherwise otherwise leaves = by_otherwise request input rest leaves.0 windows h f Past Stops began Only before after old new result otherwise leaves.2
+module _ (request : Request) (input rest : List ℕ) (l : Layout) (windows : List WeakRun) (h : List Change) (f : ℕ) (Past Stops : ℕ → Moment → Type 0) (began : ℕ) (Only Held : (Moment → Type 0) → Type 0) (before after : Report) (old new : Moment) (result : ℕ) where
+  run_otherwise : EndsOtherwise (errand_of request input) → LeavesRun request input rest l windows h f Past Stops began Only Held before after old new result → NotThree result
+  run_otherwise otherwise leaves = by_otherwise request input rest leaves.0 windows h f Past Stops began Only Held before after old new result otherwise leaves.2
 
-  pub never_refused : IfMounts request (LeavesRun request input rest l windows h f Past Stops began Only before after old new result → result ≡ 3 → ⊥)
-  never_refused = if_mounts request (EndsOtherwise (errand_of request input)) (LeavesRun request input rest l windows h f Past Stops began Only before after old new result → NotThree result) run_otherwise (errand_otherwise request input)
+  pub never_refused : IfMounts request (LeavesRun request input rest l windows h f Past Stops began Only Held before after old new result → result ≡ 3 → ⊥)
+  never_refused = if_mounts request (EndsOtherwise (errand_of request input)) (LeavesRun request input rest l windows h f Past Stops began Only Held before after old new result → NotThree result) run_otherwise (errand_otherwise request input)

@@ -6,7 +6,7 @@ use Rattle.volume_layout.specs.Layout.{IsFormOf}
 use Rattle.sector_disk.specs.declared.sector.WeakRun.{WeakRun}
 use Rattle.sector_disk.specs.Image.{IsWorn}
 use Rattle.sector_disk.specs.Machine.{DeviceFault, Moment, Report, Rose}
-use Rattle.fsd_files.specs.Disk.{Image}
+use Rattle.fsd_files.specs.Disk.{Image, Sectors}
 use Rattle.fsd_files.specs.Files.{Change}
 use Rattle.fsd_files.specs.Volume.{Volume}
 use Rattle.fsd_formats.specs.declared.anchor.Anchor.{Anchor}
@@ -22,7 +22,7 @@ use Rattle.fsd_texts.specs.declared.fault.Fault.TheVariants as Ends
 use Rattle.fsd_texts.specs.Script.{script_of}
 use Rattle.fsd_texts.specs.Text.{fault_text}
 use Rattle.fsd_runs.specs.declared.request.Request.{Request}
-use Rattle.fsd_runs.specs.declared.request.Request.TheVariants.{Put}
+use Rattle.fsd_runs.specs.declared.request.Request.TheVariants.{One, Put}
 use Rattle.fsd_runs.specs.Errands.{Cut, Turn, blank, fault_status}
 use Rattle.fsd_runs.specs.Runs.{IsThrough, Run, Starts, Stood, changes_in, forced_in, run_end, run_status, run_turns, said_in}
 
@@ -75,6 +75,16 @@ pub record LeftSince (l : Layout) (windows : List WeakRun) (run : WeakRun) (h : 
   pub enough : forced_in (take whole turns) ≤ forced
   pub sound : IsSound l (windows ++ run ∷ []) (take n h ++ changes_in (take (suc whole) turns)) (n + forced) left.image
 
+-- Of one command by itself: nothing is said but some first bytes of a fault's line, or none; or both roots are those of this
+-- layout.
+abbrev pub LeavesRoots : Layout → Sectors → (old left : Moment) → Type 0
+LeavesRoots own weak old left = ((part : List ℕ) × SaysFault part × (left.said ≡ old.said ++ part)) ⊎ HasOwnRoots own weak left.image
+
+-- where the words ask for one command by itself, which takes no input
+abbrev pub IfOne : Request → Type 0 → Type 0
+IfOne (One command) P = P
+IfOne request P = ⊤
+
 abbrev pub Left : Layout → List WeakRun → (run : WeakRun) → List Change → (f n : ℕ) → List Turn → (old left : Moment) → Type 0
 Left l windows run h f n turns old left = LeftBefore l windows h f old left ⊎ LeftSince l windows run h n turns old left
 
@@ -82,14 +92,17 @@ Left l windows run h f n turns old left = LeftBefore l windows h f old left ⊎ 
 
 -- The whole text is said, its status is given, and all changes are forced: the disk's own table is that of the volume
 -- behind them, in the places and with the serials that it gave, and both roots are those of its layout, which an upgrade
--- has turned. The present window is run still.
-pub record IsReplied (l : Layout) (windows : List WeakRun) (run : WeakRun) (h : List Change) (n : ℕ) (turns : List Turn) (status : ℕ) (behind : Volume) (old new : Moment) (result : ℕ) : Type 0 where
+-- has turned. Whichever of the moments since the last sync is on the disk has all of the changes too, and these roots. The
+-- present window is run still.
+pub record IsReplied (l : Layout) (windows : List WeakRun) (run : WeakRun) (h : List Change) (n : ℕ) (turns : List Turn) (status : ℕ) (behind : Volume) (Held : (Moment → Type 0) → Type 0) (old new : Moment) (result : ℕ) : Type 0 where
   pub ends : result ≡ status
   pub said : new.said ≡ old.said ++ said_in turns
   pub settled : new.windows ≡ record { present = Some run; next = None }
   pub sound : IsSound l (windows ++ run ∷ []) (take n h ++ changes_in turns) (n + length (changes_in turns)) new.image
+  pub held : Held (λ c. IsSound l (windows ++ run ∷ []) (take n h ++ changes_in turns) (n + length (changes_in turns)) c.image)
   pub tells : told l new.image ≡ Some (telling_of behind)
   pub roots : HasOwnRoots behind.layout (weak_of (windows ++ run ∷ [])) new.image
+  pub rooted : Held (λ c. HasOwnRoots behind.layout (weak_of (windows ++ run ∷ [])) c.image)
 
 -- some turns are said whole, not all of them, and then this
 pub record SaysThen (turns : List Turn) (bytes : List ℕ) (old new : Moment) : Type 0 where
@@ -112,18 +125,30 @@ pub record IsUndone (l : Layout) (windows : List WeakRun) (h : List Change) (n :
   pub enough : forced_in (take whole turns) ≤ forced
   pub sound : IsSound l windows (h ++ changes_in (take whole turns)) (n + forced) i
 
+-- Whichever of the moments since the last sync is on the disk, it is sound for the changes that were found, those of the
+-- turns that are said whole and those of the one under way, with those forced that are forced by what is said.
+pub record IsUnderWay (l : Layout) (windows : List WeakRun) (h : List Change) (n : ℕ) (turns : List Turn) (Held : (Moment → Type 0) → Type 0) (whole : ℕ) : Type 0 where
+  pub forced : ℕ
+  pub enough : forced_in (take whole turns) ≤ forced
+  pub sound : Held (λ c. IsSound l windows (h ++ changes_in (take (suc whole) turns)) (n + forced) c.image)
+
 -- A fault from outside has ended the run at once: its line is said behind some whole turns, and its status given.
--- Where memory was refused, what was under way has changed nothing.
-pub record IsBroken (request : Request) (Undone : (whole : ℕ) → Image → Type 0) (before after : Report) (turns : List Turn) (old new : Moment) (result : ℕ) : Type 0 where
+-- What is held back is of these turns and of the one under way. Where memory was refused, that one has changed nothing.
+pub record IsBroken (request : Request) (Undone : (whole : ℕ) → Image → Type 0) (UnderWay : (whole : ℕ) → Type 0) (before after : Report) (turns : List Turn) (old new : Moment) (result : ℕ) : Type 0 where
   pub why : Fault
   pub outside : IsOutside request before after why
   pub ends : result ≡ fault_status why
   pub says : SaysThen turns (fault_text why) old new
+  pub held : UnderWay says.whole
   pub undone : why ≡ Ends.Memory → Undone says.whole new.image
 
 -- so it is in front of the settling, where nothing was done
 abbrev pub Unbegun : (whole : ℕ) → Image → Type 0
 Unbegun whole i = whole ≡ 0
+
+-- whatever is held back
+abbrev pub Whatever : (whole : ℕ) → Type 0
+Whatever whole = ⊤
 
 -- the output failed, and nothing more is said
 pub record IsUnsaid (before after : Report) (result : ℕ) : Type 0 where
@@ -178,11 +203,13 @@ pub record IsSpent (old new : Moment) (result : ℕ) : Type 0 where
   pub said : new.said ≡ old.said ++ fault_text Ends.WornOut
 
 -- The mount did not settle: nothing is changed, and a fault is said, but where the output failed. It is one from
--- outside, or the image's epochs are used up.
-pub record LeavesUnmounted (request : Request) (l : Layout) (windows : List WeakRun) (h : List Change) (f : ℕ) (Only : (Moment → Type 0) → Type 0) (before after : Report) (old new : Moment) (result : ℕ) : Type 0 where
+-- outside, or the image's epochs are used up. Whichever of the moments since the last sync is on the disk, it is sound as
+-- it was.
+pub record LeavesUnmounted (request : Request) (l : Layout) (windows : List WeakRun) (h : List Change) (f : ℕ) (Only Held : (Moment → Type 0) → Type 0) (before after : Report) (old new : Moment) (result : ℕ) : Type 0 where
   pub moments : Only (LeftBefore l windows h f old)
   pub exit : LeftBefore l windows h f old new
-  pub ends : IsSpent old new result ⊎ (IsUnsaid before after result ⊎ IsBroken request Unbegun before after (blank ∷ []) old new result)
+  pub held : Held (λ c. IsSound l windows h f c.image)
+  pub ends : IsSpent old new result ⊎ (IsUnsaid before after result ⊎ IsBroken request Unbegun Whatever before after (blank ∷ []) old new result)
 
 -- The mount's epoch is the next one behind that of the image, as its weak run may have worn.
 abbrev pub AreNext : Option Anchor → Option Anchor → Type 0
@@ -197,9 +224,11 @@ pub record RaisesEpoch (windows : List WeakRun) (old from : Image) : Type 0 wher
 -- The mount settled at some time: it found the first n changes, every forced one among them, and the run went on from
 -- the image as it settled, in which both roots were its layout's. The window that it settled is next: it was named since
 -- the run began, and is the present one at each moment from then on and at the end. What a stop leaves is what is said
--- above; from that time on it is of the second kind. The images of the run are of its moments, as reads show them. Either all commands were begun, all is said and all changes are forced;
--- or a fault from outside has ended the run at once; or the output failed.
-pub record LeavesMounted (request : Request) (input rest : List ℕ) (l : Layout) (windows : List WeakRun) (h : List Change) (f : ℕ) (Past Stops : ℕ → Moment → Type 0) (began : ℕ) (Only : (Moment → Type 0) → Type 0) (before after : Report) (old new : Moment) (result : ℕ) : Type 0 where
+-- above; from that time on it is of the second kind. Where one command by itself has begun to say its reply, both roots are
+-- those of the layout behind it, which an upgrade has turned. The images of the run are of its moments, as reads show them.
+-- Either all commands were begun, all is said and all changes are forced; or a fault from outside has ended the run at once;
+-- or the output failed. Held is what each moment since the last sync has.
+pub record LeavesMounted (request : Request) (input rest : List ℕ) (l : Layout) (windows : List WeakRun) (h : List Change) (f : ℕ) (Past Stops : ℕ → Moment → Type 0) (began : ℕ) (Only Held : (Moment → Type 0) → Type 0) (before after : Report) (old new : Moment) (result : ℕ) : Type 0 where
   pub count : ℕ
   pub prefix : IsPrefixOf h f count
   pub next : WeakRun
@@ -216,8 +245,9 @@ pub record LeavesMounted (request : Request) (input rest : List ℕ) (l : Layout
   pub cause : CutCause run.cut input rest before after
   pub moments : Only (Left l windows next h f count (run_turns run) old)
   pub later : (left : Moment) → Stops at left → LeftSince l windows next h count (run_turns run) old left
+  pub rooted : IfOne request (Only (LeavesRoots (run_end run).layout (weak_of (windows ++ next ∷ [])) old))
   pub exit : LeftSince l windows next h count (run_turns run) old new
-  pub ends : (IsThrough run × IsReplied l windows next h count (run_turns run) (run_status run) (run_end run) old new result) ⊎ (IsUnsaid before after result ⊎ IsBroken request (IsUndone l (windows ++ next ∷ []) (take count h) count (run_turns run)) before after (run_turns run) old new result)
+  pub ends : (IsThrough run × IsReplied l windows next h count (run_turns run) (run_status run) (run_end run) Held old new result) ⊎ (IsUnsaid before after result ⊎ IsBroken request (IsUndone l (windows ++ next ∷ []) (take count h) count (run_turns run)) (IsUnderWay l (windows ++ next ∷ []) (take count h) count (run_turns run) Held) before after (run_turns run) old new result)
 
 -- sound by each layout that a root of the image says as it is read
 abbrev pub IsSoundAsSaid : Layout → List WeakRun → List Change → ℕ → (read : Image) → Image → Type 0
@@ -225,12 +255,12 @@ IsSoundAsSaid l windows h f read i = (layout : Layout) → IsSaid l read layout 
 
 -- A run over an image that is sound by this layout. The input is as it was, and rest what is left of it.
 -- Past is what there was from a time on, Stops what a stop from a time on may have left, and began the time at which the
--- run began.
-abbrev pub LeavesBy : Request → (input rest : List ℕ) → Layout → List WeakRun → List Change → ℕ → (Past Stops : ℕ → Moment → Type 0) → (began : ℕ) → (Only : (Moment → Type 0) → Type 0) → (before after : Report) → (old new : Moment) → (result : ℕ) → Type 0
-LeavesBy request input rest l windows h f Past Stops began Only before after old new result =
-    LeavesUnmounted request l windows h f Only before after old new result ⊎ LeavesMounted request input rest l windows h f Past Stops began Only before after old new result
+-- run began; Held is what each moment since the last sync has at the end.
+abbrev pub LeavesBy : Request → (input rest : List ℕ) → Layout → List WeakRun → List Change → ℕ → (Past Stops : ℕ → Moment → Type 0) → (began : ℕ) → (Only Held : (Moment → Type 0) → Type 0) → (before after : Report) → (old new : Moment) → (result : ℕ) → Type 0
+LeavesBy request input rest l windows h f Past Stops began Only Held before after old new result =
+    LeavesUnmounted request l windows h f Only Held before after old new result ⊎ LeavesMounted request input rest l windows h f Past Stops began Only Held before after old new result
 
 -- so it is by the layout that the mount has read: this one, or it turned, where a root says so
-abbrev pub LeavesRun : Request → (input rest : List ℕ) → Layout → List WeakRun → List Change → ℕ → (Past Stops : ℕ → Moment → Type 0) → (began : ℕ) → (Only : (Moment → Type 0) → Type 0) → (before after : Report) → (old new : Moment) → (result : ℕ) → Type 0
-LeavesRun request input rest l windows h f Past Stops began Only before after old new result =
-    (layout : Layout) × IsSaid l old.image layout × LeavesBy request input rest layout windows h f Past Stops began Only before after old new result
+abbrev pub LeavesRun : Request → (input rest : List ℕ) → Layout → List WeakRun → List Change → ℕ → (Past Stops : ℕ → Moment → Type 0) → (began : ℕ) → (Only Held : (Moment → Type 0) → Type 0) → (before after : Report) → (old new : Moment) → (result : ℕ) → Type 0
+LeavesRun request input rest l windows h f Past Stops began Only Held before after old new result =
+    (layout : Layout) × IsSaid l old.image layout × LeavesBy request input rest layout windows h f Past Stops began Only Held before after old new result

@@ -1,5 +1,5 @@
 //! Laws over the definitions: the functions do nothing, the contract of each is a law.
-ghost use Rattle.std.specs.Prelude.{◌≡◌, ◌⊎◌, ◌≤◌, ◌+◌, ℕ, List, [], ◌∷◌, None, length, map, fold};
+ghost use Rattle.std.specs.Prelude.{◌≡◌, ◌⊎◌, ◌≤◌, ◌+◌, ℕ, List, [], ◌∷◌, ◌++◌, None, length, map, take, fold};
 ghost use Rattle.std.specs.List.{last_or};
 ghost use Rattle.volume_layout.specs.declared.layout.Layout.{Layout};
 ghost use Rattle.volume_layout.specs.Layout.{IsFormOf};
@@ -8,11 +8,11 @@ ghost use Rattle.sector_disk.specs.Machine.{Moment, Report};
 ghost use Rattle.fsd_sound.specs.Sound.{IsPrefixOf};
 ghost use Rattle.fsd_texts.specs.Text.{memory_text};
 ghost use Rattle.fsd_runs.specs.declared.request.Request.{Request};
-ghost use Rattle.fsd_runs.specs.Leaves.{IsBroken, IsUndone, IsUnsaid, Left, NoneRose, SaysThen, StaysSound};
+ghost use Rattle.fsd_runs.specs.Leaves.{IsBroken, IsReplied, IsSoundAsSaid, IsUndone, IsUnsaid, Left, NoneRose, SaysThen, StaysSound, Whatever};
 ghost use Rattle.fsd_files.specs.Disk.{Image};
 ghost use Rattle.fsd_files.specs.Files.{Change, step};
 ghost use Rattle.fsd_files.specs.Desk.{Session};
-ghost use Rattle.fsd_files.specs.Volume.{HasReach};
+ghost use Rattle.fsd_files.specs.Volume.{HasReach, Volume};
 ghost use Rattle.fsd_texts.specs.declared.command.Command.{Command};
 ghost use Rattle.fsd_texts.specs.declared.script_command.ScriptCommand.{ScriptCommand};
 ghost use Rattle.fsd_texts.specs.declared.script_command.ScriptCommand.TheVariants.{Plain};
@@ -54,9 +54,17 @@ pub fn stops_leave_sound_disks()
         last_or None windows ≡ old.windows.present → Left layout windows run h f n turns old left → StaysSound l h f left }
 {}
 
+/// Whichever of the moments since the last sync is on the disk behind a run that has said all, it is sound for all of its
+/// changes, by each layout that a root of what is there says: so runs go on with one machine.
+pub fn replied_runs_go_on()
+    ensures { (l : Layout) (windows : List WeakRun) (run : WeakRun) (h : List Change) (n : ℕ) (turns : List Turn) (status : ℕ) (behind : Volume) (old new held : Moment) (result : ℕ) →
+        IsReplied l windows run h n turns status behind (λ P. P held) old new result →
+        IsSoundAsSaid l (windows ++ run ∷ []) (take n h ++ changes_in turns) (n + length (changes_in turns)) new.image held.image }
+{}
+
 /// Where no fault is counted, a run that does not say all says that memory was refused, and has changed nothing since
 /// what it has said whole.
 pub fn without_faults_memory_alone_is_refused()
     ensures { (request : Request) (l : Layout) (windows : List WeakRun) (g : List Change) (n : ℕ) (before after : Report) (turns : List Turn) (old new : Moment) (result : ℕ) → NoneRose before after →
-        IsUnsaid before after result ⊎ IsBroken request (IsUndone l windows g n turns) before after turns old new result → (result ≡ 7) × (x : SaysThen turns memory_text old new) × IsUndone l windows g n turns x.whole new.image }
+        IsUnsaid before after result ⊎ IsBroken request (IsUndone l windows g n turns) Whatever before after turns old new result → (result ≡ 7) × (x : SaysThen turns memory_text old new) × IsUndone l windows g n turns x.whole new.image }
 {}
