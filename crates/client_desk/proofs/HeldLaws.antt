@@ -14,7 +14,7 @@ use Rattle.fsd_files.specs.Replies.{Reply}
 use Rattle.fsd_files.specs.Volume.{is_in}
 use Rattle.fsd_runs.specs.Sessions.{HoldsRead, read_by}
 use Rattle.fsd_sound.specs.Mounted.{Mounted}
-use Rattle.volume_contract.specs.State.{Known, Reading as Held, State, readings, volume_of}
+use Rattle.volume_contract.specs.State.{Known, Reading as Held, State, readings}
 use Rattle.client_desk.specs.declared.client.Client.{Client}
 use Rattle.client_desk.specs.declared.client.Client.TheVariants.{Idle, Writing, Reading}
 use Rattle.client_desk.specs.Clients.{IsDesk, ReadsAt, client_at}

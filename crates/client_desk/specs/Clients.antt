@@ -1,18 +1,27 @@
 -- What a desk has in memory of its clients, over any machine.
-use Rattle.std.specs.Prelude.{◌≡◌, ◌⊎◌, ⊤, ℕ, ◌+◌, ◌-◌, ◌*◌, ◌/◌, min, ◌≤◌, ◌||◌, Bool, nat_lt, ◌==◌, List, [], ◌∷◌, ◌++◌, length, take, drop, Option, Some, None, IsSome, IsTrue, IsFalse, false, Result, Ok, Err, if◌then◌else◌, get_or, set, replicate, slice_index_or}
+use Rattle.std.specs.Prelude.{◌≡◌, ◌⊎◌, ⊤, ℕ, ◌+◌, ◌-◌, ◌*◌, ◌/◌, min, ◌≤◌, ◌||◌, Bool, nat_lt, ◌==◌, List, [], ◌∷◌, ◌++◌, length, take, drop, Option, Some, None, IsSome, IsTrue, IsFalse, false, Result, Ok, Err, if◌then◌else◌, get_or, set, replicate, slice_index_or, IfOk, MatchResult}
+use Rattle.volume_layout.specs.declared.layout.Layout.{Layout}
+use Rattle.volume_layout.specs.Layout.{is_data}
+use Rattle.sector_disk.specs.declared.machine.Machine.{Ghosts}
+use Rattle.sector_disk.specs.declared.sector.Sector.TheVariants.{Damaged}
+use Rattle.sector_disk.specs.Image.{sector_at}
 use Rattle.run_table.specs.declared.run.Run.{Run}
 use Rattle.run_table.specs.RunTable.{sectors_of}
 use Rattle.run_table.specs.Space.{contains}
 use Rattle.fsd_bytes.specs.declared.key.Key.{Key}
 use Rattle.fsd_bytes.specs.declared.refusal.Refusal.{Refusal}
 use Rattle.fsd_bytes.specs.declared.refusal.Refusal.TheVariants as Why
+use Rattle.fsd_formats.specs.declared.entry.Entry.{Entry}
 use Rattle.fsd_formats.specs.NamePage.{sectors_for}
 use Rattle.fsd_files.specs.Desk.{is_client}
-use Rattle.fsd_files.specs.Disk.{Sectors}
+use Rattle.fsd_files.specs.Disk.{Image, Sectors, Touches}
 use Rattle.fsd_files.specs.Kept.{data_sectors}
+use Rattle.volume_contract.specs.Absent.{LacksKey, ShowsReached}
+use Rattle.volume_contract.specs.Causes.{Causes}
+use Rattle.volume_contract.specs.Found.{HasEntry}
 use Rattle.volume_contract.specs.Order.{Keeps, Step, Test, reserve_steps, slices_steps, enter_steps, entry_steps, held_steps}
 use Rattle.volume_contract.specs.Pieces.{IsDraft, IsHeld, Enters, GivesBack, HoldsAt, Reserves, Unholds, in_leader}
-use Rattle.volume_contract.specs.State.{HasCounted, State, forces_first, most_readers, no_readers}
+use Rattle.volume_contract.specs.State.{Counted, HasCounted, State, downs, forces_first, most_readers, no_readers}
 use Rattle.client_desk.specs.declared.client.Creation.{Creation}
 use Rattle.client_desk.specs.declared.client.Reader.{Reader}
 use Rattle.client_desk.specs.declared.client.Client.{Client}
@@ -300,11 +309,12 @@ pub record StartsReading (i : ℕ) (key : Key) (len : ℕ) (clients after : List
   pub volume : HoldsAt reader.held old new
 
 -- The client has read so many bytes: those that were left, or as many as there was room for. It goes on behind them.
-pub record ReadsMore (i room n : ℕ) (clients after : List Client) : Type 0 where
+pub record ReadsMore (i room n : ℕ) (clients after : List Client) (old new : State) : Type 0 where
   pub reader : Reader
   pub was : client_at clients i ≡ Reading reader
   pub count : n ≡ min (reader.held.entry.length - reader.place) room
   pub desk : after ≡ set clients i (Reading (record reader { place = reader.place + n }))
+  pub volume : new ≡ old
 
 -- The client has given up what it had open, and has nothing open any more.
 pub record Ended (i : ℕ) (clients after : List Client) (old new : State) : Type 0 where
@@ -321,6 +331,37 @@ abbrev pub EndsAt : Refusal → (i : ℕ) → (clients after : List Client) → 
 EndsAt (Why.Device s) i clients after old new = Ended i clients after old new
 EndsAt (Why.Down s) i clients after old new = Ended i clients after old new
 EndsAt why i clients after old new = AllStays clients after old new
+
+-- ---- what a call promises over any machine
+
+-- The desk is still this volume's: an answer makes this of the clients and the volume, a refusal that.
+pub record KeepsDesk {T : Type 0} (answers : T → List Client → List Client → State → State → Type 0) (refuses : Refusal → List Client → List Client → State → State → Type 0) (clients after : List Client) (old new : State) (result : Result T Refusal) : Type 0 where
+  pub desk : IsDesk new after
+  pub kept : MatchResult result (λ x. answers x clients after old new) (λ why. refuses why clients after old new)
+
+-- So it is of a close, whose version has the name of the client's creation; the volume goes on.
+pub record KeepsClosing (i : ℕ) (steps : List Step) (clients after : List Client) (old new : State) (result : Result Key Refusal) : Type 0 where
+  pub desk : IsDesk new after
+  pub name : IfOk result (λ key. IsNamed (client_at clients i) key.name)
+  pub goes : Continues (downs result) old new
+  pub kept : MatchResult result (λ key. MakesVersion i clients after old new) (λ why. DeclinesAt steps why clients after old new)
+
+-- It writes only there, and so many sectors where it answers, no more where it is refused.
+pub record WritesWithin {D T : Type 0} (M : Ghosts D) (may : Sectors) (most : ℕ) (old new : D) (result : Result T Refusal) : Type 0 where
+  pub rest : M.honest new → Touches may (M.now old) (M.now new)
+  pub counted : M.tells new → Counted result most (M.ledger old) (M.ledger new)
+
+-- Why a version is opened or not: what is lost or unsound, that the pages lack the key, or that they have its entry,
+-- which has so many bytes.
+pub record CausesOpening {D : Type 0} (M : Ghosts D) (resident : ℕ → Option (List ℕ)) (s t : State) (old new : D) (key : Key) (result : Result ℕ Refusal) : Type 0 where
+  pub causes : Causes M resident s t old new result
+  pub absent : result ≡ Err Why.NoSuch → ShowsReached M resident s t old new (LacksKey key)
+  pub found : IfOk result (λ len. (e : Entry) × (e.key ≡ key) × (e.length ≡ len) × ShowsReached M resident s t old new (HasEntry e))
+
+-- The sector is one of the data area, and reads as damaged.
+pub record IsDamagedData (l : Layout) (i : Image) (s : ℕ) : Type 0 where
+  pub within : IsTrue (is_data l s)
+  pub damaged : sector_at i s ≡ Damaged
 
 -- ---- where all is given up
 

@@ -1,12 +1,8 @@
 //! The desk of a volume.
-ghost use Rattle.std.specs.Prelude.{◌≡◌, ◌<◌, ◌≤◌, ◌^◌, ◌||◌, ◌-◌, Err, IfOk, IfErr, IsTrue, List, [], ℕ, false, length, MatchResult, None, set};
-ghost use Rattle.volume_layout.specs.Layout.{is_data};
-ghost use Rattle.sector_disk.specs.declared.sector.Sector.TheVariants.{Damaged};
+ghost use Rattle.std.specs.Prelude.{◌≡◌, ◌<◌, ◌≤◌, ◌^◌, ◌||◌, ◌-◌, Err, IfOk, List, [], ℕ, false, length, MatchResult, None, set};
 ghost use Rattle.sector_disk.specs.Calls.{OnlyReads, WritesDisk, device_in};
-ghost use Rattle.sector_disk.specs.Image.{sector_at};
 ghost use Rattle.fsd_files.specs.Desk.{Open, Reads, Writes};
 ghost use Rattle.fsd_files.specs.Disk.{Touches};
-ghost use Rattle.fsd_formats.specs.declared.entry.Entry.{Entry as EntryOf};
 ghost use Rattle.fsd_formats.specs.NamePage.{sectors_for};
 ghost use Rattle.fsd_bytes.specs.declared.key.Key.{Key as KeyOf};
 ghost use Rattle.run_table.specs.declared.run.Run.{Run};
@@ -14,14 +10,12 @@ ghost use Rattle.fsd_bytes.specs.declared.key.Serial.{Serial};
 ghost use Rattle.fsd_bytes.specs.declared.refusal.Refusal.TheVariants as Why;
 ghost use Rattle.sector_disk.specs.Machine.{Moment};
 ghost use Rattle.fsd_sound.specs.Writes.{force_writes};
-ghost use Rattle.volume_contract.specs.Absent.{LacksKey, ShowsReached};
 ghost use Rattle.volume_contract.specs.Causes.{Causes};
 ghost use Rattle.volume_contract.specs.Ends.{device_of};
-ghost use Rattle.volume_contract.specs.Found.{HasEntry};
 ghost use Rattle.volume_contract.specs.Order.{Follows, Keeps, enter_steps, held_steps, slices_steps};
 ghost use Rattle.volume_contract.specs.Pieces.{reserve_len, with_opened};
-ghost use Rattle.volume_contract.specs.State.{Counted, GoesOn, HasCounted, Known, Leaves, Stands, State, downs, downs_for, forces_first, no_readers, none_open};
-ghost use Rattle.client_desk.specs.Clients.{AllStays, Continues, Continuing, CountsTo, DeclinesAt, Ended, EndsAt, EntersFor, HasRoom, IsWholeOne, IsWriter, LeavesNone, in_data, in_first, GivesUp, GoesTo, IsClient, IsDesk, IsNamed, IsOf, IsReader, MakesVersion, ReadsMore, StartsReading, StartsWriting, WritesMore, client_at, as_idle, as_reading, as_writing, begin_steps, close_steps, declared_at, done_steps, drop_steps, found, key_at, left_at, next_steps, no_desk, open_steps, piece_steps, place_of, too_long, too_short};
+ghost use Rattle.volume_contract.specs.State.{GoesOn, HasCounted, Known, Leaves, Stands, State, downs_for, forces_first, no_readers, none_open};
+ghost use Rattle.client_desk.specs.Clients.{AllStays, CausesOpening, Continuing, CountsTo, DeclinesAt, Ended, EndsAt, EntersFor, HasRoom, IsDamagedData, IsWholeOne, IsWriter, LeavesNone, in_data, in_first, GivesUp, GoesTo, IsClient, IsDesk, IsNamed, IsOf, IsReader, KeepsClosing, KeepsDesk, ReadsMore, StartsReading, StartsWriting, WritesMore, WritesWithin, client_at, as_idle, as_reading, as_writing, begin_steps, close_steps, declared_at, done_steps, drop_steps, found, key_at, left_at, next_steps, no_desk, open_steps, piece_steps, place_of, too_long, too_short};
 ghost use Rattle.client_desk.specs.Ends.{EndsBegin, EndsClose, EndsEntering, EndsPiece, EndsPieces, LeavesFor, LeavesOf, EndsDone, EndsDrop, EndsNext, EndsOpen, IsOpenIn, ReadsOn, Serves, Sits, given_up};
 
 use crate::client::{Client, Creation, Reader, end};
@@ -225,13 +219,10 @@ impl Desk {
     ) -> Result<(), Refusal>
         requires room { (V.state v.old).layout.sectors ≤ (M.report m.old).sectors }
         requires desk { IsDesk (V.state v.old) self.old }
-        ensures desk { IsDesk (V.state v.new) self.new }
         ensures order { Follows (begin_steps (V.state v.old) self.old c length) result }
         ensures disk { WritesDisk M.Machine (device_in device_of result) (Leaves V.state V.holds v.old (force_writes (V.state v.old).layout)) m.old m.new }
-        ensures rest { M.honest m.new → Touches (force_writes (V.state v.old).layout) (M.now m.old) (M.now m.new) }
-        ensures counted { M.tells m.new → Counted result (reserve_len (V.state v.old) (sectors_for length)) (M.ledger m.old) (M.ledger m.new) }
-        ensures kept { MatchResult result (λ x. StartsWriting (c - 1) name.now length self.old self.new (V.state v.old) (V.state v.new))
-            (λ why. DeclinesAt (begin_steps (V.state v.old) self.old c length) why self.old self.new (V.state v.old) (V.state v.new)) }
+        ensures writes { WritesWithin M.Machine (force_writes (V.state v.old).layout) (reserve_len (V.state v.old) (sectors_for length)) m.old m.new result }
+        ensures state { KeepsDesk (λ x. StartsWriting (c - 1) name.now length) (DeclinesAt (begin_steps (V.state v.old) self.old c length)) self.old self.new (V.state v.old) (V.state v.new) result }
         ensures causes { Causes M.Machine (V.resident v.old) (V.state v.old) (V.state v.new) m.old m.new result }
         ensures done { M.honest m.new → (k : Known) (clients : List Open) → Sits V.state V.holds v.old self.old k clients (M.now m.old) →
             EndsBegin V.state V.holds c name.now length k clients v.new self.new (M.now m.new) result }
@@ -292,11 +283,9 @@ impl Desk {
     ) -> Result<u32, Refusal>
         requires room { (V.state v.old).layout.sectors ≤ (M.report m.old).sectors }
         requires desk { IsDesk (V.state v.old) self.old }
-        ensures desk { IsDesk (V.state v.new) self.new }
         ensures order { Follows (piece_steps (V.state v.old) self.old c (length bytes.now)) result }
         ensures disk { WritesDisk M.Machine (device_in device_of result) (LeavesOf V.state V.holds v.old self.old (in_data (client_at self.old (c - 1)))) m.old m.new }
-        ensures kept { MatchResult result (λ total. WritesMore (c - 1) (length bytes.now) total self.old self.new (V.state v.old) (V.state v.new))
-            (λ why. EndsAt why (c - 1) self.old self.new (V.state v.old) (V.state v.new)) }
+        ensures state { KeepsDesk (WritesMore (c - 1) (length bytes.now)) (λ why. EndsAt why (c - 1)) self.old self.new (V.state v.old) (V.state v.new) result }
         ensures done { M.honest m.new → (k : Known) (clients : List Open) → Sits V.state V.holds v.old self.old k clients (M.now m.old) →
             EndsPiece V.state V.holds c bytes.now k clients v.new self.new (M.now m.new) result }
     {
@@ -338,16 +327,12 @@ impl Desk {
     ) -> Result<Key, Refusal>
         requires room { (V.state v.old).layout.sectors ≤ (M.report m.old).sectors }
         requires desk { IsDesk (V.state v.old) self.old }
-        ensures desk { IsDesk (V.state v.new) self.new }
         ensures order { Follows (close_steps (V.state v.old) self.old c) result }
         ensures disk { let client = client_at self.old (c - 1) in
             WritesDisk M.Machine (device_in device_of result) (Leaves V.state V.holds v.old (λ t. force_writes (V.state v.old).layout t || in_first client t)) m.old m.new }
         ensures rest { let client = client_at self.old (c - 1) in
             M.honest m.new → Touches (λ t. force_writes (V.state v.old).layout t || in_first client t) (M.now m.old) (M.now m.new) }
-        ensures name { IfOk result (λ key. IsNamed (client_at self.old (c - 1)) key.name) }
-        ensures state { Continues (downs result) (V.state v.old) (V.state v.new) }
-        ensures kept { MatchResult result (λ key. MakesVersion (c - 1) self.old self.new (V.state v.old) (V.state v.new))
-            (λ why. DeclinesAt (close_steps (V.state v.old) self.old c) why self.old self.new (V.state v.old) (V.state v.new)) }
+        ensures state { KeepsClosing (c - 1) (close_steps (V.state v.old) self.old c) self.old self.new (V.state v.old) (V.state v.new) result }
         ensures causes { Causes M.Machine (V.resident v.old) (V.state v.old) (V.state v.new) m.old m.new result }
         ensures done { M.honest m.new → (k : Known) (clients : List Open) → Sits V.state V.holds v.old self.old k clients (M.now m.old) →
             EndsClose V.state V.holds c k clients v.new self.new (M.now m.new) result }
@@ -396,13 +381,10 @@ impl Desk {
     ) -> Result<u32, Refusal>
         requires room { (V.state v.old).layout.sectors ≤ (M.report m.old).sectors }
         requires desk { IsDesk (V.state v.old) self.old }
-        ensures desk { IsDesk (V.state v.new) self.new }
         ensures order { Follows (open_steps (V.state v.old) self.old c) result }
         ensures disk { OnlyReads M.Machine (device_in device_of result) m.old m.new }
-        ensures absent { result ≡ Err Why.NoSuch → ShowsReached M.Machine (V.resident v.old) (V.state v.old) (V.state v.new) m.old m.new (LacksKey key.now) }
-        ensures found { IfOk result (λ len. (e : EntryOf) × (e.key ≡ key.now) × (e.length ≡ len) × ShowsReached M.Machine (V.resident v.old) (V.state v.old) (V.state v.new) m.old m.new (HasEntry e)) }
-        ensures kept { MatchResult result (λ len. StartsReading (c - 1) key.now len self.old self.new (V.state v.old) (V.state v.new)) (λ why. AllStays self.old self.new (V.state v.old) (V.state v.new)) }
-        ensures causes { Causes M.Machine (V.resident v.old) (V.state v.old) (V.state v.new) m.old m.new result }
+        ensures state { KeepsDesk (StartsReading (c - 1) key.now) (λ why. AllStays) self.old self.new (V.state v.old) (V.state v.new) result }
+        ensures causes { CausesOpening M.Machine (V.resident v.old) (V.state v.old) (V.state v.new) m.old m.new key.now result }
         ensures done { M.honest m.new → (k : Known) (clients : List Open) → Sits V.state V.holds v.old self.old k clients (M.now m.old) →
             EndsOpen V.state V.holds c key.now k clients v.new self.new (M.now m.new) result }
     {
@@ -429,13 +411,10 @@ impl Desk {
     ) -> Result<u32, Refusal>
         requires room { (V.state v.old).layout.sectors ≤ (M.report m.old).sectors }
         requires desk { IsDesk (V.state v.old) self.old }
-        ensures desk { IsDesk (V.state v.new) self.new }
         ensures order { Follows (next_steps (V.state v.old) self.old c) result }
         ensures disk { OnlyReads M.Machine (device_in device_of result) m.old m.new }
-        ensures state { V.state v.new ≡ V.state v.old }
-        ensures kept { MatchResult result (λ n. ReadsMore (c - 1) (length buf.old) n self.old self.new) (λ why. self.new ≡ self.old) }
-        ensures within { (s : ℕ) → result ≡ Err (Why.Damaged s) → M.honest m.new → IsTrue (is_data (V.state v.old).layout s) }
-        ensures damaged { (s : ℕ) → result ≡ Err (Why.Damaged s) → M.honest m.new → sector_at (M.now m.new).image s ≡ Damaged }
+        ensures state { KeepsDesk (ReadsMore (c - 1) (length buf.old)) (λ why. AllStays) self.old self.new (V.state v.old) (V.state v.new) result }
+        ensures damaged { (s : ℕ) → result ≡ Err (Why.Damaged s) → M.honest m.new → IsDamagedData (V.state v.old).layout (M.now m.new).image s }
         ensures done { M.honest m.new → (k : Known) (clients : List Open) → Sits V.state V.holds v.old self.old k clients (M.now m.old) →
             EndsNext V.state V.holds c (length buf.old) (M.now m.old).image (M.now m.new).image k clients buf.old buf.new v.new self.new (M.now m.new) result }
     {
@@ -629,8 +608,7 @@ fn next_of<M: Machine, V: Files<M>>(
     ensures state { V.state v.new ≡ V.state v.old }
     ensures client { MatchResult result.1 (λ n. GoesTo n client result.0) (λ why. result.0 ≡ client) }
     ensures count { IfOk result.1 (λ n. CountsTo (length buf.old) n client) }
-    ensures within { (s : ℕ) → result.1 ≡ Err (Why.Damaged s) → M.honest m.new → IsTrue (is_data (V.state v.old).layout s) }
-    ensures damaged { (s : ℕ) → result.1 ≡ Err (Why.Damaged s) → M.honest m.new → sector_at (M.now m.new).image s ≡ Damaged }
+    ensures damaged { (s : ℕ) → result.1 ≡ Err (Why.Damaged s) → M.honest m.new → IsDamagedData (V.state v.old).layout (M.now m.new).image s }
     ensures valid { IsClient result.0 }
     ensures done { M.honest m.new → (k : Known) → Stands V.state V.holds v.old k (M.now m.old) →
         (key : KeyOf) (runs : List Run) (bytes : List ℕ) (place : ℕ) → Serves k.opened client (Reads key runs bytes place) →

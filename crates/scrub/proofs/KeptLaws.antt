@@ -1,17 +1,14 @@
 -- What a scrub leaves of its volume's state, and how many sectors it has written.
-use Rattle.std.proofs.Common.{◌≡◌, inl, inr, ℕ, ◌+◌, ◌^◌, ◌-◌, Bool, true, false, List, [], ◌∷◌, length, refl, sym, ◌∙◌, ap, subst, arith}
-use Rattle.std.specs.Prelude.{min, nat_lt, IfErr, IfOk, MatchResult, None, Result, Ok, Err, option_map}
+use Rattle.std.proofs.Common.{◌≡◌, inl, inr, ℕ, ◌+◌, ◌^◌, ◌-◌, Bool, true, false, List, [], ◌∷◌, length, Option, Some, refl, sym, ◌∙◌, ap, subst, arith}
+use Rattle.std.specs.Prelude.{min, nat_lt, IfErr, IfOk, IsTrue, MatchResult, None, OnOk, Result, Ok, Err, option_map}
 use Rattle.std.proofs.lemmas.Bool.{ltb-false}
-use Rattle.volume_layout.specs.declared.layout.Layout.{Layout}
 use Rattle.fsd_bytes.specs.declared.refusal.Refusal.{Refusal}
 use Rattle.fsd_bytes.specs.declared.refusal.Refusal.TheVariants as Why
 use Rattle.sector_disk.specs.Machine.{Ledger, wrote}
-use Rattle.volume_contract.specs.Order.{Force, Heal, IsLookUp, Keeps, LookUp, Single, force_steps}
+use Rattle.volume_contract.specs.Order.{Force, Heal, IsLookUp, Keeps, LookUp, Single, Test, force_steps, is_idle}
 use Rattle.volume_contract.specs.State.{IsForced, State}
-use Rattle.fsd_files.specs.Disk.{Image}
 use Rattle.scrub.specs.declared.whole.Healed.{Healed}
 use Rattle.scrub.specs.Scrub.{WritesHealed, scrub_steps}
-use Rattle.scrub.specs.Telling.{TellsOn}
 
 -- ---- the state
 
@@ -46,9 +43,35 @@ module _ (s m t : State) (passes : option_map Why.Down s.down ≡ None) (forced 
   kept_all (Ok x) refuses = subst (λ (y : State). IsForced s y) (sym same) forced
   kept_all (Err why) refuses = kept_behind why refuses
 
--- it is told by the layout of before
-pub told_all : (Honest : Type 0) (l m : Layout) → m ≡ l → (i : Image) (r : Result Healed Refusal) → IfErr r (λ why. Honest → TellsOn m i why) → IfErr r (λ why. Honest → TellsOn l i why)
-told_all Honest l m same i r told = subst (λ (x : Layout). IfErr r (λ why. Honest → TellsOn x i why)) same told
+-- a volume that was up before a force is up behind it
+pub up_behind : (s m : State) → option_map Why.Down s.down ≡ None → IsForced s m → m.down ≡ None
+up_behind s m passes forced = ap (λ (x : State). x.down) forced.is ∙ none s.down passes
+  where
+    none : (d : Option ℕ) → option_map Why.Down d ≡ None → d ≡ None
+    none None is = refl
+    none (Some place) is = absurd (cc is)
+
+pub up_all : (r : Result Healed Refusal) (t : State) → t.down ≡ None → OnOk r (t.down ≡ None)
+up_all (Ok x) t up = up
+up_all (Err why) t up = tt
+
+-- and it has something to do
+pub up_busy : (s : State) → option_map Why.Down s.down ≡ None → IsTrue (is_idle (scrub_steps s)) → ⊥
+up_busy s passes is = by (option_map Why.Down s.down) (nat_lt 0 (length s.dirty)) passes is
+  where
+    by : (test : Option Refusal) (comes : Bool) → test ≡ None → IsTrue (is_idle (Test test ∷ Force comes ∷ Heal ∷ LookUp ∷ Single ∷ [])) → ⊥
+    by (Some why) comes none is = cc none
+    by None true none is = cc is
+    by None false none is = cc is
+
+-- where it has nothing to do, a force has nothing to do
+pub idle_first : (s : State) → IsTrue (is_idle (scrub_steps s)) → IsTrue (is_idle (force_steps s))
+idle_first s is = by (option_map Why.Down s.down) (nat_lt 0 (length s.dirty)) is
+  where
+    by : (test : Option Refusal) (comes : Bool) → IsTrue (is_idle (Test test ∷ Force comes ∷ Heal ∷ LookUp ∷ Single ∷ [])) → IsTrue (is_idle (Test test ∷ Force comes ∷ []))
+    by (Some why) comes is = refl
+    by None true is = absurd (cc is)
+    by None false is = refl
 
 -- ---- what is written
 

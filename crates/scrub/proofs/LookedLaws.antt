@@ -18,10 +18,7 @@ use Rattle.volume_contract.specs.State.{State, Known, Stands, volume_of}
 use Rattle.scrub.specs.Looking.{Adds, HasLooked}
 use Rattle.scrub.specs.Walk.{IsFromOutside}
 use Rattle.scrub.proofs.LookLaws.{data_append, data_both, data_one_more, picks_both, picks_on, some_both, some_of, some_within}
-use Rattle.scrub.proofs.WalkLaws.{walked_all, walked_at, walked_counted, walked_more, walked_none}
-
-pub looked_none : (entries : List Entry) (i : Image) → HasLooked entries 0 None i i []
-looked_none entries i = record { front = []; walked = walked_none entries; picks = refl }
+use Rattle.scrub.proofs.WalkLaws.{walked_all, walked_at, walked_counted, walked_more}
 
 module _ {S : Type 0} (state : S → State) (has : S → Mounted → List Placed → Type 0) (v : S) (k : Known) (now : Moment) (stands : Stands state has v k now)
     (may more_may : ℕ → Bool) (h i j : Image) (first : IsWorn may h i) (second : IsWorn more_may i j) (count : ℕ) (last : Option Key) (found : List (Key × ℕ)) (l : HasLooked (volume_of k).entries count last h i found) where

@@ -27,10 +27,9 @@ use Rattle.fsd_files.specs.Volume.{Volume, plans_of}
 use Rattle.fsd_files.specs.Waiting.{is_leader}
 use Rattle.fsd_files.proofs.ScrubLaws.{counts_as, picks_longer}
 use Rattle.fsd_sound.specs.Mounted.{Mounted}
-use Rattle.fsd_sound.specs.Sound.{IsSound, Tells, is_home, is_twin}
-use Rattle.fsd_sound.specs.Shown.{told}
+use Rattle.fsd_sound.specs.Sound.{IsSound, is_home, is_twin}
 use Rattle.fsd_sound.specs.Writes.{force_writes, mount_writes}
-use Rattle.fsd_table.specs.Table.{Telling}
+use Rattle.fsd_sound.proofs.MoreLaws.{sound_fewer}
 use Rattle.fsd_sound.proofs.MountedLaws.{mounted_sound}
 use Rattle.fsd_sound.proofs.WritesLaws.{data_elsewhere, elsewhere}
 use Rattle.volume_contract.specs.Ends.{Answers}
@@ -203,14 +202,6 @@ module _ {S : Type 0} (state : S → State) (has : S → Mounted → List Placed
 
 -- ---- behind the force
 
--- more is promised of fewer forced changes
-fewer_forced : (l : Layout) (windows : List WeakRun) (h : List Change) (f g : ℕ) (i : Image) → f ≤ g → IsSound l windows h g i → IsSound l windows h f i
-fewer_forced l windows h f g i le sound = record { readable = sound.readable; tells = λ j worn. by j (told l j) (sound.tells j worn) }
-  where
-    by : (j : Image) (t : Option Telling) → Tells l (in_runs windows) j h g t → Tells l (in_runs windows) j h f t
-    by j None none = none
-    by j (Some t) (n, prefix, described) = (n, record { forced = omega (arith, le, prefix.forced); made = prefix.made }, described)
-
 module _ (k after : Known) (forces : IsForcedFrom k after) where
   same_layout : after.mounted.volume.layout ≡ k.mounted.volume.layout
   same_layout = ap (λ (v : Volume). v.layout) forces.volume
@@ -233,7 +224,7 @@ module _ (k after : Known) (forces : IsForcedFrom k after) where
 
     pub behind_leaves : b.said ≡ a.said → (left : Moment) → LeavesSound after (heal_writes after) b left → LeavesSound k (heal_writes k) a left
     behind_leaves said left leaves = record {
-      sound = fewer_forced k.mounted.volume.layout k.windows k.changes (forced_of k) (forced_of after) left.image more_forced
+      sound = sound_fewer k.mounted.volume.layout k.windows k.changes (forced_of k) (forced_of after) left.image more_forced
           (subst (λ (x : Layout). IsSound x k.windows k.changes (forced_of after) left.image) same_layout
           (subst (λ (w : List WeakRun). IsSound after.mounted.volume.layout w k.changes (forced_of after) left.image) forces.windows
           (subst (λ (h : List Change). IsSound after.mounted.volume.layout after.windows h (forced_of after) left.image) forces.changes leaves.sound)));
@@ -288,6 +279,9 @@ force_leaves k l same a left leaves = record {
   said = leaves.said;
   touches = record { size = leaves.touches.size; others = λ s out. leaves.touches.others s (subst (λ (x : Layout). IsFalse (force_writes x s)) same (force_out k.mounted.volume.layout s (mount_part k s out))) };
 }
+
+pub force_within : (l : Layout) (a b : Moment) → Touches (force_writes l) a b → Touches (scrub_writes l) a b
+force_within l a b first = record { size = first.size; others = λ s out. first.others s (force_out l s (or_parts (mount_writes l s) (is_data l s) out).0) }
 
 pub force_rest : (l m : Layout) → m ≡ l → (a b c : Moment) → b.windows ≡ a.windows → Touches (force_writes l) a b → Touches (scrub_writes m) b c → Touches (scrub_writes l) a c
 force_rest l m same a b c windows first then =

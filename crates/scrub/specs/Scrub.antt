@@ -1,10 +1,11 @@
 -- What a scrub answers and leaves.
-use Rattle.std.specs.Prelude.{◌≡◌, ◌⊎◌, ℕ, ◌+◌, ◌-◌, ◌^◌, min, ◌||◌, nat_lt, List, [], ◌∷◌, length, Some, Result, Ok, Err}
+use Rattle.std.specs.Prelude.{◌≡◌, ◌⊎◌, ℕ, ◌+◌, ◌-◌, ◌^◌, min, ◌||◌, nat_lt, List, [], ◌∷◌, length, None, Some, Result, Ok, Err, IfErr, IfOk, IsTrue, MatchResult, OnOk}
 use Rattle.volume_layout.specs.declared.layout.Layout.{Layout}
 use Rattle.volume_layout.specs.Layout.{is_data}
 use Rattle.fsd_bytes.specs.declared.key.Key.{Key}
 use Rattle.fsd_bytes.specs.declared.refusal.Refusal.{Refusal}
 use Rattle.fsd_bytes.specs.declared.refusal.Refusal.TheVariants as Why
+use Rattle.sector_disk.specs.declared.machine.Machine.{Ghosts}
 use Rattle.sector_disk.specs.Machine.{Ledger, Moment}
 use Rattle.fsd_log.specs.Scan.{Placed}
 use Rattle.std.specs.List.{AllByRecursion}
@@ -16,9 +17,12 @@ use Rattle.fsd_files.specs.Volume.{forced}
 use Rattle.fsd_files.specs.Waiting.{is_leader}
 use Rattle.fsd_sound.specs.Mounted.{Mounted}
 use Rattle.fsd_sound.specs.Writes.{force_writes, mount_writes}
-use Rattle.volume_contract.specs.Order.{Step, Force, Heal, LookUp, Single, down}
-use Rattle.volume_contract.specs.State.{Known, LeavesSound, Stands, State, volume_of}
+use Rattle.volume_contract.specs.Healing.{TwinsStand}
+use Rattle.volume_contract.specs.Order.{Step, Force, Heal, Keeps, LookUp, Single, down, is_idle}
+use Rattle.volume_contract.specs.State.{IsForced, Known, LeavesSound, Stands, State, force_len, volume_of}
 use Rattle.scrub.specs.declared.whole.Healed.{Healed}
+use Rattle.scrub.specs.Looking.{AreDamaged}
+use Rattle.scrub.specs.Telling.{TellsOn}
 
 -- a force, what stands twice, look-ups, and sectors one by one
 abbrev pub scrub_steps : State → List Step
@@ -42,6 +46,25 @@ pub record WritesHealed (others : ℕ) (old new : Ledger) (told : ℕ) : Type 0 
 pub record KeepsOpen (old new : State) : Type 0 where
   pub unfinished : new.unfinished ≡ old.unfinished
   pub readers : new.readers ≡ old.readers
+
+-- Where it writes, and how many sectors where it answers; a volume that is down leaves the machine as it was.
+pub record WritesScrub {D : Type 0} (M : Ghosts D) (s : State) (old new : D) (result : Result Healed Refusal) : Type 0 where
+  pub rest : M.honest new → Touches (scrub_writes s.layout) (M.now old) (M.now new)
+  pub counted : IfOk result (λ healed. M.tells new → WritesHealed (force_len s) (M.ledger old) (M.ledger new) healed.sectors)
+  pub idle : IsTrue (is_idle (scrub_steps s)) → new ≡ old
+
+-- What it makes of a volume's state: a force alone changes it. Where it answers, the volume is up.
+pub record KeepsScrub (old new : State) (result : Result Healed Refusal) : Type 0 where
+  pub layout : new.layout ≡ old.layout
+  pub opened : KeepsOpen old new
+  pub kept : MatchResult result (λ x. IsForced old new) (λ why. Keeps (scrub_steps old) why old new)
+  pub up : OnOk result (new.down ≡ None)
+
+-- What it tells of any image: why it is refused, that twins stand where it answers, and which data sectors are damaged.
+pub record TellsScrub (l : Layout) (now : Moment) (found : List (Key × ℕ)) (result : Result Healed Refusal) : Type 0 where
+  pub told : IfErr result (TellsOn l now.image)
+  pub mended : OnOk result (TwinsStand l now)
+  pub damaged : AreDamaged l now.image found
 
 -- all changes are forced, and what is open stays
 pub record IsForcedFrom (k after : Known) : Type 0 where

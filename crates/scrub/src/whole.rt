@@ -1,13 +1,12 @@
 //! A whole scrub.
-ghost use Rattle.std.specs.Prelude.{◌≡◌, ◌≤◌, [], None, IfErr, IfOk, IsTrue, MatchResult, OnOk};
+ghost use Rattle.std.specs.Prelude.{◌≡◌, ◌≤◌, [], None, IfErr, IfOk, OnOk};
 ghost use Rattle.sector_disk.specs.Calls.{WritesDisk, device_in};
 ghost use Rattle.fsd_files.specs.Disk.{Touches};
 ghost use Rattle.volume_contract.specs.Ends.{device_of};
-ghost use Rattle.volume_contract.specs.Order.{Follows, IsLookUp, Keeps, is_idle};
-ghost use Rattle.volume_contract.specs.State.{IsForced, Known, Stands, force_len};
+ghost use Rattle.volume_contract.specs.Order.{Follows, IsLookUp};
+ghost use Rattle.volume_contract.specs.State.{Known, Stands};
 ghost use Rattle.volume_contract.specs.Healing.{TwinsStand};
-ghost use Rattle.scrub.specs.Looking.{AreDamaged};
-ghost use Rattle.scrub.specs.Scrub.{EndsHealed, EndsLooked, EndsScrub, KeepsOpen, LeavesScrubbed, WritesHealed, scrub_steps, scrub_writes};
+ghost use Rattle.scrub.specs.Scrub.{EndsHealed, EndsLooked, EndsScrub, KeepsScrub, LeavesScrubbed, TellsScrub, WritesHealed, WritesScrub, scrub_steps, scrub_writes};
 ghost use Rattle.scrub.specs.Telling.{TellsOn};
 
 use crate::data::look;
@@ -60,9 +59,7 @@ fn heal_and_look<M: Machine, V: Files<M>>(
     ensures rest { M.honest m.new → Touches (scrub_writes (V.state v.old).layout) (M.now m.old) (M.now m.new) }
     ensures counted { IfOk result (λ healed. M.tells m.new → WritesHealed 0 (M.ledger m.old) (M.ledger m.new) healed.sectors) }
     ensures state { V.state v.new ≡ V.state v.old }
-    ensures told { IfErr result (λ why. M.honest m.new → TellsOn (V.state v.old).layout (M.now m.new).image why) }
-    ensures mended { OnOk result (M.honest m.new → TwinsStand (V.state v.old).layout (M.now m.new)) }
-    ensures damaged { M.honest m.new → AreDamaged (V.state v.old).layout (M.now m.new).image found.new.items }
+    ensures tells { M.honest m.new → TellsScrub (V.state v.old).layout (M.now m.new) found.new.items result }
     ensures done { M.honest m.new → (k : Known) → Stands V.state V.holds v.old k (M.now m.old) → EndsLooked V.state V.holds k v.new (M.now m.old) (M.now m.new) found.new.items result }
 {
     match heal_all(v, m) {
@@ -85,16 +82,9 @@ pub fn scrub<M: Machine, V: Files<M>>(
     requires { (V.state v.old).layout.sectors ≤ (M.report m.old).sectors }
     ensures order { Follows (scrub_steps (V.state v.old)) result }
     ensures disk { WritesDisk M.Machine (device_in device_of result) (LeavesScrubbed V.state V.holds v.old) m.old m.new }
-    ensures rest { M.honest m.new → Touches (scrub_writes (V.state v.old).layout) (M.now m.old) (M.now m.new) }
-    ensures counted { IfOk result (λ healed. M.tells m.new → WritesHealed (force_len (V.state v.old)) (M.ledger m.old) (M.ledger m.new) healed.sectors) }
-    ensures layout { (V.state v.new).layout ≡ (V.state v.old).layout }
-    ensures open { KeepsOpen (V.state v.old) (V.state v.new) }
-    ensures kept { MatchResult result (λ x. IsForced (V.state v.old) (V.state v.new)) (λ why. Keeps (scrub_steps (V.state v.old)) why (V.state v.old) (V.state v.new)) }
-    ensures told { IfErr result (λ why. M.honest m.new → TellsOn (V.state v.old).layout (M.now m.new).image why) }
-    ensures mended { OnOk result (M.honest m.new → TwinsStand (V.state v.old).layout (M.now m.new)) }
-    ensures up { OnOk result ((V.state v.new).down ≡ None) }
-    ensures idle { IsTrue (is_idle (scrub_steps (V.state v.old))) → m.new ≡ m.old }
-    ensures damaged { M.honest m.new → AreDamaged (V.state v.old).layout (M.now m.new).image found.new.items }
+    ensures writes { WritesScrub M.Machine (V.state v.old) m.old m.new result }
+    ensures state { KeepsScrub (V.state v.old) (V.state v.new) result }
+    ensures tells { M.honest m.new → TellsScrub (V.state v.old).layout (M.now m.new) found.new.items result }
     ensures done { M.honest m.new → (k : Known) → Stands V.state V.holds v.old k (M.now m.old) → EndsScrub V.state V.holds k v.new (M.now m.old) (M.now m.new) found.new.items result }
 {
     found.clear();

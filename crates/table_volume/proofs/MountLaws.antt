@@ -1,15 +1,16 @@
 -- What a mount answers.
-use Rattle.std.proofs.Common.{◌≡◌, inl, inr, ℕ, ◌^◌, ◌<◌, false, not, ◌||◌, ◌&&◌, List, [], length, replicate, Some, None, Result, Ok, Err, refl, sym, ap, subst, ◌∙◌, arith}
+use Rattle.std.proofs.Common.{◌≡◌, inl, inr, ℕ, ◌^◌, ◌<◌, ◌≤◌, false, not, ◌||◌, ◌&&◌, List, [], length, replicate, Some, None, Result, Ok, Err, refl, sym, ap, subst, ◌∙◌, arith}
 use Rattle.std.specs.Prelude.{IfOk, IfSome, ◌==◌}
 use Rattle.std.proofs.Math.Bool.{or-false}
 use Rattle.std.proofs.lemmas.List.{ext_get_or, get_or-replicate, length-replicate}
 use Rattle.volume_layout.specs.declared.layout.Layout.{Layout}
-use Rattle.volume_layout.specs.Layout.{data_start}
+use Rattle.volume_layout.specs.Layout.{data_start, plan}
 use Rattle.run_table.specs.Space.{contains, runs_of, where_free}
 use Rattle.sector_set.specs.Area.{Area}
 use Rattle.sector_set.proofs.FreeLaws.{where_same}
 use Rattle.shadow_frees.specs.Readers.{is_held, unheld}
 use Rattle.shadow_frees.specs.Waits.{waits}
+use Rattle.sector_disk.specs.declared.machine.Machine.{Ghosts}
 use Rattle.sector_disk.specs.Image.{IsCalm, Windows}
 use Rattle.sector_disk.specs.Machine.{Moment, Wears}
 use Rattle.sector_disk.proofs.Calm.{calm_worn}
@@ -19,10 +20,10 @@ use Rattle.fsd_sound.specs.Lost.{AreCopiesOn, AreHomes, LostIn}
 use Rattle.fsd_sound.specs.Mounting.{EachBears, HasRoot}
 use Rattle.fsd_sound.specs.Roots.{root_of}
 use Rattle.fsd_sound.specs.declared.fault.MountFault.{MountFault}
-use Rattle.fsd_sound.specs.declared.fault.MountFault.TheVariants.{Device, Lost, Memory, Unsound}
+use Rattle.fsd_sound.specs.declared.fault.MountFault.TheVariants.{Device, Lost, Memory, NoAnchor, NotVolume, Unsound, WornOut}
 use Rattle.log_thirds.specs.LogValue.{LogValue}
-use Rattle.mount_recover.specs.Recover.{IsSettled, IsSettledIn}
-use Rattle.volume_contract.specs.Mount.{IsFound, IsRefused}
+use Rattle.mount_recover.specs.Recover.{IsNotUnsound, IsRefusedFor, IsSettled, IsSettledIn, LeavesAll}
+use Rattle.volume_contract.specs.Mount.{CountsMount, IsFound, IsRefused, KeepsAll, MountOpens}
 use Rattle.volume_contract.specs.State.{IsNew}
 use Rattle.table_volume.specs.Mounting.{IsAssembled, assembled, no_area, opened_of}
 use Rattle.cached_table.specs.Opening.{IsOpenFault}
@@ -83,15 +84,27 @@ module _ (l : Layout) (log : LogValue) (v : VolumeValue) (a : IsAssembled l log 
   pub is_new : IsNew (state v)
   is_new = subst (λ (x : VolumeValue). IsNew (state x)) (sym a.is) new_state
 
+  same_layout : v.layout ≡ l
+  same_layout = ap (λ (x : VolumeValue). x.layout) a.is
+
+  pub opens_new : {D : Type 0} (M : Ghosts D) (sectors : ℕ) (old new : D) → l.sectors ≤ sectors → plan l.kind l.sectors l.third l.pages ≡ Ok l → (M.tells new → CountsMount (state v) (M.ledger old) (M.ledger new)) → MountOpens M sectors (state v) old new
+  opens_new M sectors old new room planned counted = record {
+    room = subst (λ (k : Layout). k.sectors ≤ sectors) (sym same_layout) room;
+    planned = subst (λ (k : Layout). plan k.kind k.sectors k.third k.pages ≡ Ok k) (sym same_layout) planned;
+    fresh = is_new;
+    counted = counted;
+  }
+
 -- ---- what it found
 
-module _ (sectors : ℕ) (l : Layout) (log : LogValue) (old mid new : Moment) (is : IsSettledIn sectors l log old mid) (wears : Wears mid new) where
+module _ (sectors : ℕ) (l : Layout) (log : LogValue) (old mid new : Moment) (is : IsSettledIn sectors l log old mid) (wears : Wears mid new) (left : log.anchor.epoch < 2 ^ 32) where
   pub found_open : (v : VolumeValue) → IsAssembled l log v → IsFound sectors (state v) old new
   found_open v a = subst (λ (x : VolumeValue). IsFound sectors (state x) old new) (sym a.is) (record {
     seen = is.seen;
     from = is.from;
     anchor = is.settled.anchor;
     found = is.settled.found;
+    left = omega (arith, is.settled.epoch, left);
     next = is.settled.epoch;
     bears = subst (λ (w : Windows). IfSome w.present (EachBears sectors is.seen)) (sym wears.windows) is.bears;
   })
@@ -105,6 +118,29 @@ module _ (sectors : ℕ) (l : Layout) (log : LogValue) (old mid : Moment) (in_ep
   refused_open (Lost a b) open_fault = record { seen = is.seen; from = is.from; why = record { layout = l; anchor = is.settled.anchor; found = is.settled.found; epoch = omega (arith, is.settled.epoch, in_epoch) } }
   refused_open (Unsound s) open_fault = record { seen = is.seen; from = is.from; why = record { layout = l; anchor = is.settled.anchor; found = is.settled.found; epoch = omega (arith, is.settled.epoch, in_epoch) } }
   refused_open other open_fault = absurd open_fault
+
+-- what is refused before the pages are read at home
+pub refused_early : (sectors : ℕ) (old : Moment) (fault : MountFault) → IsNotUnsound fault → IsRefusedFor sectors fault old → IsRefused sectors fault old
+refused_early sectors old (Unsound s) none is = absurd none
+refused_early sectors old (Device s) none is = record { seen = is.seen; from = is.from; why = is.why }
+refused_early sectors old (Lost a b) none is = record { seen = is.seen; from = is.from; why = is.why }
+refused_early sectors old Memory none is = record { seen = is.seen; from = is.from; why = is.why }
+refused_early sectors old NotVolume none is = record { seen = is.seen; from = is.from; why = is.why }
+refused_early sectors old NoAnchor none is = record { seen = is.seen; from = is.from; why = is.why }
+refused_early sectors old WornOut none is = record { seen = is.seen; from = is.from; why = is.why }
+
+pub keeps_early : (old new : Moment) (fault : MountFault) → LeavesAll fault old new → KeepsAll fault old new
+keeps_early old new NotVolume leaves = leaves
+keeps_early old new NoAnchor leaves = leaves
+keeps_early old new WornOut leaves = leaves
+keeps_early old new other leaves = tt
+
+-- once they are, nothing is left to be kept
+pub keeps_open : (old new : Moment) (fault : MountFault) → IsOpenFault fault → KeepsAll fault old new
+keeps_open old new NotVolume open_fault = absurd open_fault
+keeps_open old new NoAnchor open_fault = absurd open_fault
+keeps_open old new WornOut open_fault = absurd open_fault
+keeps_open old new other open_fault = tt
 
 -- where nothing wears, what was seen is the image
 pub settled_in : (sectors : ℕ) (l : Layout) (log : LogValue) (old mid : Moment) → IsCalm old.windows → IsSettledIn sectors l log old mid → IsSettled sectors old.image l log

@@ -1,6 +1,6 @@
 -- What breaks a name table that reads alike at home however it wears.
 use Rattle.std.proofs.Common.{◌≡◌, ℕ, ◌+◌, ◌<◌, List, [], Option, Some, Ok, Err, sym, ap, subst, ◌∙◌, arith}
-use Rattle.std.specs.Prelude.{IfErr, IsErrAnd, Result, get_or}
+use Rattle.std.specs.Prelude.{IfErr, Result, get_or}
 use Rattle.std.specs.Option.{unwrap_or}
 use Rattle.volume_layout.specs.declared.layout.Layout.{Layout}
 use Rattle.sector_disk.specs.Image.{IsWorn, Windows, open_damage}
@@ -64,16 +64,7 @@ module _ (sectors : ℕ) (l : Layout) (old mid new : Moment) (root : HasRoot sec
   opens_unsound (Ok v) opens = tt
   opens_unsound (Err fault) opens = unsound_at fault opens
 
--- what is so of a fault wherever this is so
-pub err_under : (H : Type 0) (P : MountFault → Type 0) (r : Result VolumeValue MountFault) → (H → IfErr r P) → IfErr r (λ fault. H → P fault)
-err_under H P (Ok v) each = tt
-err_under H P (Err fault) each = each
-
 -- it fails for something else
-none_unsound : (sectors : ℕ) (old new : Moment) (fault : MountFault) → IsNotUnsound fault → UnsoundFor sectors old new fault
+pub none_unsound : (sectors : ℕ) (old new : Moment) (fault : MountFault) → IsNotUnsound fault → UnsoundFor sectors old new fault
 none_unsound sectors old new (Unsound s) none = absurd none
 none_unsound sectors old new other none = tt
-
-pub fails_sound : (H : Type 0) (sectors : ℕ) (old new : Moment) (r : Result VolumeValue MountFault) (fault : MountFault) → IsErrAnd r (λ told. told ≡ fault) → IsNotUnsound fault → IfErr r (λ told. H → UnsoundFor sectors old new told)
-fails_sound H sectors old new (Ok v) fault is none = absurd is
-fails_sound H sectors old new (Err told) fault is none = λ h. subst (UnsoundFor sectors old new) (sym is) (none_unsound sectors old new fault none)

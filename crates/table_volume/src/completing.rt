@@ -35,6 +35,7 @@ impl Volume {
         ensures good { IsTrue (is_entry result) }
         ensures same { draft.now ≡ draft_of result }
     {
+        // For the proof alone: a field that is read gives what the volume keeps.
         let _ = &self.layout;
         Entry {
             key: first_key(name),
@@ -56,6 +57,7 @@ impl Volume {
         ensures counted { M.tells m.new → Counted result 1 (M.ledger m.old) (M.ledger m.new) }
         ensures done { OnOk result (M.honest m.new → HasLeader (open_damage (M.now m.new).windows) (M.now m.new).image entry.now) }
     {
+        // For the proof alone: a field that is read gives what the volume keeps.
         let _ = &self.layout;
         match write_leader(m, entry) {
             Ok(()) => Ok(()),
@@ -88,6 +90,7 @@ impl Volume {
         ensures done { M.honest m.new → (bytes : List ℕ) (k : Known) → Stands state Holds self.old k (M.now m.old) → (before : List (Option (List ℕ))) → slices_in k.opened.drafts entry.runs ≡ Some before →
             entry.length ≡ length bytes → HasVersion (open_damage (M.now m.old).windows) (M.now m.old).image bytes entry → EndsComplete name.now keep bytes entry k self.new (M.now m.new) result }
     {
+        // For the proof alone: its own call tells what the cache keeps.
         let _whole = self.table.cache.dirty_list();
         let home_a = self.layout.home_a(0);
         let source = Newest::over(&self.log, &self.layout);
@@ -134,6 +137,7 @@ impl Volume {
             (bytes : List ℕ) → length bytes ≡ entry.length → slices_in k.opened.drafts entry.runs ≡ Some (slices_if true bytes) →
             EndsEnter state Holds (draft_of entry) name.now bytes keep k self.new (M.now m.new) result }
     {
+        // For the proof alone: a field that is read gives what the volume keeps.
         let _ = &self.layout;
         self.may_put(keep, 0)?;
         self.led(m, &entry)?;

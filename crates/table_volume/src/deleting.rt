@@ -1,20 +1,18 @@
 //! Taking a version out.
-ghost use Rattle.std.specs.Prelude.{◌≡◌, ◌<◌, ◌≤◌, ◌-◌, ◌^◌, All, IsTrue, MatchResult, None, false, Some, length};
-ghost use Rattle.sector_disk.specs.Calls.{OnlyReads, WritesDisk, device_in};
+ghost use Rattle.std.specs.Prelude.{◌≡◌, ◌<◌, ◌≤◌, ◌-◌, ◌^◌, All, IsTrue, None, Some, length};
+ghost use Rattle.sector_disk.specs.Calls.{OnlyReads, device_in};
 ghost use Rattle.shadow_frees.specs.Readers.{Agrees};
 ghost use Rattle.shadow_frees.specs.Waits.{AreIdle};
 ghost use Rattle.fsd_files.specs.Answers.{delete_outcome, entry_of};
 ghost use Rattle.fsd_files.specs.Files.{Change};
 ghost use Rattle.fsd_files.specs.Replies.{Deleted};
 ghost use Rattle.volume_contract.specs.Causes.{Causes};
-ghost use Rattle.volume_contract.specs.Ends.{Ends, device_of};
-ghost use Rattle.volume_contract.specs.Order.{Follows, Keeps, delete_steps, is_idle};
-ghost use Rattle.fsd_sound.specs.Writes.{force_writes};
-ghost use Rattle.volume_contract.specs.State.{Counted, GoesOn, HasCounted, Known, Leaves, Stands, change_len, downs, forces_first, volume_of};
+ghost use Rattle.volume_contract.specs.Ends.{device_of};
+ghost use Rattle.volume_contract.specs.Order.{Follows};
+ghost use Rattle.volume_contract.specs.State.{Known, Stands, volume_of};
 ghost use Rattle.volume_changes.specs.Ending.{Edits, EndsEdit, GivesUp, delete_tests, edit_steps, look_steps};
 ghost use Rattle.volume_state.specs.State.{Holds, resident, state};
 ghost use Rattle.volume_state.specs.Taken.{are_taken};
-ghost use Rattle.fsd_files.specs.Disk.{Touches};
 
 use crate::Volume;
 use crate::keeping::edit_refusal;
@@ -41,8 +39,8 @@ fn give_up(shadow: &mut Shadow, versions: &mut u32, cache: &Cache, runs: &Runs)
 }
 
 impl Volume {
-    // That a version may be taken out.
-    fn may_delete(&self) -> Result<(), Refusal>
+    /// That a version may be taken out.
+    pub(crate) fn may_delete(&self) -> Result<(), Refusal>
         ensures { Follows (delete_tests (state self.now)) result }
     {
         self.is_up()?;
@@ -66,10 +64,12 @@ impl Volume {
         ensures done { M.honest m.new → (k : Known) → Stands state Holds self.old k (M.now m.old) → entry_of entry.now.key (volume_of k).entries ≡ Some entry.now →
             EndsEdit (λ met. delete_outcome met (volume_of k) entry.now.key) (λ x. Deleted entry.now.key) (Change.Delete entry.now.key) k self.new (M.now m.new) result }
     {
+        // For the proof alone: its own call tells what the cache keeps.
         let _whole = self.table.cache.dirty_list();
         let home_a = self.layout.home_a(0);
         let source = Newest::over(&self.log, &self.layout);
         let done = self.table.take_out(m, &source, home_a, &entry.key);
+        // For the proof alone: its own call tells what the cache keeps.
         let _edited = self.table.cache.dirty_list();
         match done {
             Ok(()) => {
@@ -85,8 +85,8 @@ impl Volume {
         }
     }
 
-    // Takes the version with a key out.
-    fn delete_now<M: Machine>(&mut self, m: &mut M, key: &Key) -> Result<(), Refusal>
+    /// Takes the version with a key out.
+    pub(crate) fn delete_now<M: Machine>(&mut self, m: &mut M, key: &Key) -> Result<(), Refusal>
         requires room { self.old.layout.sectors ≤ (M.report m.old).sectors }
         requires up { self.old.down ≡ None }
         requires few { length self.old.cache.dirty ≤ 56 }
@@ -105,24 +105,5 @@ impl Volume {
             }
             None => Err(Refusal::NoSuch),
         }
-    }
-
-    /// Takes a version out.
-    pub fn delete<M: Machine>(&mut self, m: &mut M, key: &Key) -> Result<(), Refusal>
-        requires { (state self.old).layout.sectors ≤ (M.report m.old).sectors }
-        ensures order { Follows (delete_steps (state self.old)) result }
-        ensures disk { WritesDisk M.Machine (device_in device_of result) (Leaves state Holds self.old (force_writes (state self.old).layout)) m.old m.new }
-        ensures rest { M.honest m.new → Touches (force_writes (state self.old).layout) (M.now m.old) (M.now m.new) }
-        ensures counted { M.tells m.new → Counted result (change_len (state self.old)) (M.ledger m.old) (M.ledger m.new) }
-        ensures state { GoesOn (downs result) (state self.old) (state self.new) }
-        ensures idle { IsTrue (is_idle (delete_steps (state self.old))) → m.new ≡ m.old }
-        ensures kept { let s = state self.old in MatchResult result (λ x. HasCounted false (forces_first s) s (state self.new)) (λ why. Keeps (delete_steps s) why s (state self.new)) }
-        ensures causes { Causes M.Machine (resident self.old) (state self.old) (state self.new) m.old m.new result }
-        ensures done { M.honest m.new → (k : Known) → Stands state Holds self.old k (M.now m.old) →
-            Ends state Holds (λ met. delete_outcome met (volume_of k) key.now) (λ x. Deleted key.now) (Change.Delete key.now) k self.new (M.now m.new) result }
-    {
-        self.may_delete()?;
-        self.force_first(m)?;
-        self.delete_now(m, key)
     }
 }

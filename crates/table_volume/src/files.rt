@@ -1,13 +1,19 @@
 //! A volume as its callers see it.
 use crate::Volume;
+use crate::forcing::force_refusal;
+use crate::mounting::open_read;
 use crate::pieces::{sectors_of, small};
 use crate::reading::read_version;
 use fsd_bytes::{FileName, Key, Refusal};
 use fsd_formats::Entry;
 use fsd_sound::MountFault;
+use mount_recover::recover;
 use sector_disk::{Machine, Seen};
 use std::alloc::Global;
+use twin_home::{heal_twins, write_roots};
+use version_data::{heal_leader, read_slice, write_slices};
 use volume_contract::{Draft, Files, Forced, Held, Stat};
+use volume_layout::Kind;
 
 impl<M: Machine> Files<M> for Volume {
     ghost use Rattle.volume_state.specs.State.{Holds, resident, state};
@@ -24,7 +30,8 @@ impl<M: Machine> Files<M> for Volume {
     ghost shows = { λ v mounted records page bytes has there. has.pages page bytes there };
 
     fn mount(alloc: Global, m: &mut M, sectors: u32) -> Result<Self, MountFault> {
-        Volume::mount(alloc, m, sectors)
+        let settled = recover(alloc, m, sectors)?;
+        open_read(alloc, m, settled)
     }
 
     fn put(
@@ -34,27 +41,38 @@ impl<M: Machine> Files<M> for Volume {
         keep: Option<u32>,
         bytes: &[u8],
     ) -> Result<Key, Refusal> {
-        Volume::put(self, m, name, keep, bytes)
+        self.may_put(keep, bytes.len())?;
+        let draft = self.prepared(m, name, bytes)?;
+        self.entered(m, name, keep, draft)
     }
 
     fn delete(&mut self, m: &mut M, key: &Key) -> Result<(), Refusal> {
-        Volume::delete(self, m, key)
+        self.may_delete()?;
+        self.force_first(m)?;
+        self.delete_now(m, key)
     }
 
     fn set_keep(&mut self, m: &mut M, name: &FileName, keep: u32) -> Result<Key, Refusal> {
-        Volume::set_keep(self, m, name, keep)
+        self.may_keep(keep)?;
+        self.force_first(m)?;
+        self.keep_now(m, name, keep)
     }
 
     fn entry(&mut self, m: &mut M, key: &Key) -> Result<Entry, Refusal> {
-        Volume::entry(self, m, key)
+        self.version(m, key)
     }
 
     fn next_after(&mut self, m: &mut M, after: Option<&Key>) -> Result<Option<Entry>, Refusal> {
-        Volume::next_after(self, m, after)
+        // For the proof alone: a field that is read gives what the volume keeps.
+        let _ = &self.layout;
+        self.is_up()?;
+        let found = self.find_next(m, after)?;
+        self.met_found(found)
     }
 
     fn read(&mut self, m: &mut M, key: &Key, from: u32, buf: &mut [u8]) -> Result<u32, Refusal> {
-        Volume::read(self, m, key, from, buf)
+        let e = self.version(m, key)?;
+        read_version(m, &e, from, buf)
     }
 
     fn reserve(&mut self, m: &mut M, length: u64) -> Result<Draft, Refusal> {
@@ -71,7 +89,13 @@ impl<M: Machine> Files<M> for Volume {
         first: u32,
         bytes: &[u8],
     ) -> Result<(), Refusal> {
-        Volume::write_slices(self, m, draft, first, bytes)
+        // For the proof alone: a field that is read gives what the volume keeps.
+        let _ = &self.layout;
+        self.is_up()?;
+        match write_slices(m, &draft.runs, first, bytes) {
+            Ok(()) => Ok(()),
+            Err(failed) => Err(Refusal::Device(failed.place)),
+        }
     }
 
     fn enter(
@@ -81,7 +105,18 @@ impl<M: Machine> Files<M> for Volume {
         keep: Option<u32>,
         draft: Draft,
     ) -> Result<Key, (Draft, Refusal)> {
-        Volume::enter(self, m, name, keep, draft)
+        let entry = self.creation(name, &draft);
+        match self.finished(m, name, keep, entry) {
+            Ok(key) => {
+                let Draft {
+                    length: _,
+                    serial: _,
+                    runs: _,
+                } = draft;
+                Ok(key)
+            }
+            Err(refusal) => Err((draft, refusal)),
+        }
     }
 
     fn abandon(&mut self, draft: Draft) {
@@ -107,6 +142,7 @@ impl<M: Machine> Files<M> for Volume {
         from: u32,
         buf: &mut [u8],
     ) -> Result<u32, Refusal> {
+        // For the proof alone: a field that is read gives what the volume keeps.
         let _ = &self.layout;
         self.is_up()?;
         read_version(m, &held.entry, from, buf)
@@ -120,34 +156,75 @@ impl<M: Machine> Files<M> for Volume {
     }
 
     fn force(&mut self, m: &mut M) -> Result<Forced, Refusal> {
-        Volume::force(self, m)
+        self.force_all(m)
     }
 
     fn heal(&mut self, m: &mut M) -> Result<u32, Refusal> {
-        Volume::heal(self, m)
+        // For the proof alone: a field that is read gives what the volume keeps.
+        let _ = &self.layout;
+        self.is_up()?;
+        match heal_twins(m, &self.layout) {
+            Ok(count) => Ok(count),
+            Err(fault) => Err(force_refusal(fault)),
+        }
     }
 
     fn heal_leader(&mut self, m: &mut M, e: &Entry) -> Result<bool, Refusal> {
-        Volume::heal_leader(self, m, e)
+        self.is_up()?;
+        match heal_leader(m, e) {
+            Ok(written) => Ok(written),
+            Err(failed) => Err(Refusal::Device(failed.place)),
+        }
     }
 
     fn probe(&mut self, m: &mut M, e: &Entry, slice: u32) -> Result<Seen, Refusal> {
-        Volume::probe(self, m, e, slice)
+        self.is_up()?;
+        match read_slice(m, e, slice) {
+            Ok(seen) => Ok(seen),
+            Err(failed) => Err(Refusal::Device(failed.place)),
+        }
     }
 
     fn stat(&self) -> Stat {
-        Volume::stat(self)
+        Stat {
+            sectors: self.layout.sectors(),
+            free: self.map.free_count(),
+            waiting: self.shadow.waiting().all,
+            pages_free: self.table.free_pages.count(),
+            versions: self.versions,
+        }
     }
 
     fn fresh(&self) -> bool {
-        Volume::fresh(self)
+        self.log.next_number() == 1
+            && !self.log.has_pages()
+            && self.table.cache.dirty_list().len() == 0
     }
 
     fn upgrade(&mut self, m: &mut M) -> Result<(), Refusal> {
-        Volume::upgrade(self, m)
+        self.is_up()?;
+        match self.layout.kind() {
+            Kind::Two => {}
+            Kind::Three => return Err(Refusal::LayoutIs(2)),
+        }
+        let layout = self.layout.with_kind(Kind::Three);
+        match write_roots(m, &layout) {
+            Ok(()) => {
+                self.log.set_kind(Kind::Three);
+                self.layout = layout;
+                Ok(())
+            }
+            Err(failed) => {
+                self.down = Some(failed.place);
+                Err(Refusal::Device(failed.place))
+            }
+        }
     }
 
-    fn close(self, m: &mut M) -> Result<(), Refusal> {
-        Volume::close(self, m)
+    fn close(mut self, m: &mut M) -> Result<(), Refusal> {
+        match self.force_all(m) {
+            Ok(_) => Ok(()),
+            Err(refusal) => Err(refusal),
+        }
     }
 }

@@ -1,14 +1,13 @@
 //! Entries that are found in the table.
-ghost use Rattle.std.specs.Prelude.{◌≡◌, ◌<◌, ◌≤◌, Contains, Err, IfOk, IfErr, IfNone, IfSome, IsTrue, true};
-ghost use Rattle.fsd_bytes.specs.declared.refusal.Refusal.TheVariants as Why;
+ghost use Rattle.std.specs.Prelude.{◌≡◌, ◌<◌, ◌≤◌, Contains, IfOk, IfErr, IfNone, IfSome, IsTrue, true};
 ghost use Rattle.sector_disk.specs.Calls.{OnlyReads, device_in};
 ghost use Rattle.fsd_formats.specs.NamePage.{is_entry};
-ghost use Rattle.fsd_files.specs.Answers.{entry_of, entry_reply};
+ghost use Rattle.fsd_files.specs.Answers.{entry_of};
 ghost use Rattle.volume_contract.specs.Absent.{LacksKey, ShowsReached};
 ghost use Rattle.volume_contract.specs.Causes.{Causes, IsTaken};
-ghost use Rattle.volume_contract.specs.Ends.{Looks, device_of, found_one};
+ghost use Rattle.volume_contract.specs.Ends.{device_of};
 ghost use Rattle.volume_contract.specs.Found.{HasEntry};
-ghost use Rattle.volume_contract.specs.Order.{Follows, IsLookUp, entry_steps, is_idle};
+ghost use Rattle.volume_contract.specs.Order.{IsLookUp};
 ghost use Rattle.volume_contract.specs.State.{Known, Stands, volume_of};
 ghost use Rattle.cached_table.specs.Looking.{Finds};
 ghost use Rattle.volume_state.specs.State.{Holds, resident, state};
@@ -46,32 +45,11 @@ impl Volume {
         ensures there { IfOk result (λ found. IfSome found (λ f. ShowsReached M.Machine (resident self.old) (state self.old) (state self.new) m.old m.new (HasEntry f.entry))) }
         ensures met { IfOk result (λ found. IfSome found (λ f. Causes M.Machine (resident self.old) (state self.old) (state self.new) m.old m.new (met_entry self.new f.page f.entry))) }
     {
+        // For the proof alone: its own call tells what the cache keeps.
         let _whole = self.table.cache.dirty_list();
         let home_a = self.layout.home_a(0);
         let source = Newest::over(&self.log, &self.layout);
         let found = self.table.find(m, &source, home_a, key);
         told(found, home_a)
-    }
-
-    /// The entry of a version.
-    pub fn entry<M: Machine>(&mut self, m: &mut M, key: &Key) -> Result<Entry, Refusal>
-        requires { (state self.old).layout.sectors ≤ (M.report m.old).sectors }
-        ensures order { Follows (entry_steps (state self.old)) result }
-        ensures disk { OnlyReads M.Machine (device_in device_of result) m.old m.new }
-        ensures state { state self.new ≡ state self.old }
-        ensures idle { IsTrue (is_idle (entry_steps (state self.old))) → m.new ≡ m.old }
-        ensures key { IfOk result (λ e. e.key ≡ key.now) }
-        ensures taken { IfOk result (IsTaken (state self.new)) }
-        ensures stands { M.honest m.new → (k : Known) → Stands state Holds self.old k (M.now m.old) → Stands state Holds self.new k (M.now m.new) }
-        ensures causes { Causes M.Machine (resident self.old) (state self.old) (state self.new) m.old m.new result }
-        ensures absent { result ≡ Err Why.NoSuch → ShowsReached M.Machine (resident self.old) (state self.old) (state self.new) m.old m.new (LacksKey key.now) }
-        ensures found { IfOk result (λ e. ShowsReached M.Machine (resident self.old) (state self.old) (state self.new) m.old m.new (HasEntry e)) }
-        ensures done { M.honest m.new → (k : Known) → Stands state Holds self.old k (M.now m.old) → Looks (entry_reply (volume_of k) key.now) (found_one result) }
-    {
-        self.is_up()?;
-        match self.find(m, key)? {
-            Some(found) => self.met_entry(found.entry, found.page),
-            None => Err(Refusal::NoSuch),
-        }
     }
 }

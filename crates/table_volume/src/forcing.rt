@@ -3,10 +3,10 @@ ghost use Rattle.std.specs.Prelude.{◌≡◌, ◌≤◌, IfOk, IsFalse, IsTrue,
 ghost use Rattle.sector_disk.specs.Calls.{WritesDisk, device_in};
 ghost use Rattle.volume_contract.specs.Causes.{Causes};
 ghost use Rattle.volume_contract.specs.Logged.{AllLogged, KeepsPages};
-ghost use Rattle.volume_contract.specs.Ends.{device_of, Closes, EndsForce};
+ghost use Rattle.volume_contract.specs.Ends.{device_of, EndsForce};
 ghost use Rattle.fsd_sound.specs.Writes.{force_writes};
 ghost use Rattle.volume_contract.specs.State.{Counted, GoesOn, IsForced as HasForced, Known, Leaves, Stands, downs, enters_again, force_len, volume_of};
-ghost use Rattle.volume_contract.specs.Order.{Follows, Keeps, force_steps, is_idle, IsDevice};
+ghost use Rattle.volume_contract.specs.Order.{Follows, Keeps, force_steps, is_idle};
 ghost use Rattle.volume_state.specs.Behind.{IsBehind};
 ghost use Rattle.table_pages.specs.Bringing.{KeepsContent};
 ghost use Rattle.volume_state.specs.Forcing.{force_refusal, place_of};
@@ -44,7 +44,7 @@ fn place_of(fault: LoadFault) -> u32
 
 impl Volume {
     /// Commits all changes since the last force, where there were any. It takes no memory.
-    pub fn force<M: Machine>(&mut self, m: &mut M) -> Result<Forced, Refusal>
+    pub(crate) fn force_all<M: Machine>(&mut self, m: &mut M) -> Result<Forced, Refusal>
         requires { (state self.old).layout.sectors ≤ (M.report m.old).sectors }
         ensures order { Follows (force_steps (state self.old)) result }
         ensures disk { WritesDisk M.Machine (device_in device_of result) (Leaves state Holds self.old (force_writes (state self.old).layout)) m.old m.new }
@@ -72,9 +72,11 @@ impl Volume {
         if self.table.cache.dirty_list().len() == 0 {
             return Ok(Forced { pages: 0 });
         }
+        // For the proof alone: its own call tells what the log keeps.
         let _shape = self.log.layout();
         match Group::force_cached(m, &mut self.log, &mut self.table.cache, &mut self.room) {
             Ok(forced) => {
+                // For the proof alone: its own call tells what the log keeps.
                 let _fits = self.log.layout();
                 free_committed(&mut self.map, &mut self.shadow);
                 Ok(Forced {
@@ -85,24 +87,6 @@ impl Volume {
                 self.down = Some(place_of(fault));
                 Err(force_refusal(fault))
             }
-        }
-    }
-
-    /// Ends the use of a volume by a force.
-    pub fn close<M: Machine>(mut self, m: &mut M) -> Result<(), Refusal>
-        requires { (state self).layout.sectors ≤ (M.report m.old).sectors }
-        ensures order { Follows (force_steps (state self)) result }
-        ensures disk { WritesDisk M.Machine (device_in device_of result) (Leaves state Holds self (force_writes (state self).layout)) m.old m.new }
-        ensures rest { M.honest m.new → Touches (force_writes (state self).layout) (M.now m.old) (M.now m.new) }
-        ensures counted { M.tells m.new → Counted result (force_len (state self)) (M.ledger m.old) (M.ledger m.new) }
-        ensures counted_err { OnErr result (M.tells m.new → IsFalse (enters_again (state self)) → (M.ledger m.new).written ≡ (M.ledger m.old).written) }
-        ensures idle { IsTrue (is_idle (force_steps (state self))) → m.new ≡ m.old }
-        ensures causes { Causes M.Machine (resident self) (state self) (state self) m.old m.new result }
-        ensures done { M.honest m.new → (k : Known) → Stands state Holds self k (M.now m.old) → MatchResult result (λ x. Closes k (M.now m.new).image) (λ why. IsDevice why) }
-    {
-        match self.force(m) {
-            Ok(_) => Ok(()),
-            Err(refusal) => Err(refusal),
         }
     }
 }

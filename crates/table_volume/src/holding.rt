@@ -24,6 +24,7 @@ impl Volume {
         ensures stands { (k : Known) (now : Moment) (bytes : List ℕ) → Contains (volume_of k).entries entry.now → KeptIn now.image (in_runs k.windows) bytes entry.now.runs →
             Stands state Holds self.old k now → Stands state Holds self.new (with_opened k (read_at k.opened result (Some (record { runs = entry.now.runs; bytes = bytes })))) now }
     {
+        // For the proof alone: a field that is read gives what the volume keeps.
         let _ = &self.layout;
         self.shadow.hold(&entry.runs)
     }

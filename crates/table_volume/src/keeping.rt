@@ -1,17 +1,15 @@
 //! Another keep of a name's highest version.
-ghost use Rattle.std.specs.Prelude.{◌≡◌, ◌<◌, ◌≤◌, ◌-◌, ◌^◌, IfOk, Err, IsTrue, MatchResult, None, false, length};
+ghost use Rattle.std.specs.Prelude.{◌≡◌, ◌<◌, ◌≤◌, ◌-◌, ◌^◌, IfOk, Err, None, length};
 ghost use Rattle.fsd_bytes.specs.declared.refusal.Refusal.TheVariants as Why;
-ghost use Rattle.sector_disk.specs.Calls.{OnlyReads, WritesDisk, device_in};
+ghost use Rattle.sector_disk.specs.Calls.{OnlyReads, device_in};
 ghost use Rattle.fsd_files.specs.Answers.{keep_outcome};
 ghost use Rattle.fsd_files.specs.Files.{Change};
 ghost use Rattle.volume_contract.specs.Causes.{Causes};
-ghost use Rattle.volume_contract.specs.Ends.{Ends, device_of, kept_key};
-ghost use Rattle.volume_contract.specs.Order.{Follows, Keeps, is_idle, keep_steps};
-ghost use Rattle.fsd_sound.specs.Writes.{force_writes};
-ghost use Rattle.volume_contract.specs.State.{Counted, GoesOn, HasCounted, Known, Leaves, Stands, change_len, downs, forces_first, volume_of};
+ghost use Rattle.volume_contract.specs.Ends.{device_of, kept_key};
+ghost use Rattle.volume_contract.specs.Order.{Follows};
+ghost use Rattle.volume_contract.specs.State.{Known, Stands, volume_of};
 ghost use Rattle.volume_changes.specs.Ending.{Edits, EndsEdit, edit_refusal, edit_steps, keep_tests, kept_told, look_steps};
 ghost use Rattle.volume_state.specs.State.{HasEnoughFor, Holds, resident, state};
-ghost use Rattle.fsd_files.specs.Disk.{Touches};
 
 use crate::Volume;
 use fsd_bytes::{FileName, Key, Refusal};
@@ -44,8 +42,8 @@ fn kept_told(done: Result<Key, VersionFault>) -> Result<Key, Refusal>
 }
 
 impl Volume {
-    // That a keep may be set.
-    fn may_keep(&self, keep: u32) -> Result<(), Refusal>
+    /// That a keep may be set.
+    pub(crate) fn may_keep(&self, keep: u32) -> Result<(), Refusal>
         ensures { Follows (keep_tests (state self.now) keep) result }
     {
         self.is_up()?;
@@ -79,16 +77,18 @@ impl Volume {
         ensures done { M.honest m.new → (k : Known) → Stands state Holds self.old k (M.now m.old) →
             EndsEdit (λ met. keep_outcome met (volume_of k) name.now keep) (kept_key keep) (Change.SetKeep name.now keep) k self.new (M.now m.new) result }
     {
+        // For the proof alone: its own call tells what the cache keeps.
         let _whole = self.table.cache.dirty_list();
         let home_a = self.layout.home_a(0);
         let source = Newest::over(&self.log, &self.layout);
         let done = self.table.set_keep(m, &source, home_a, name, keep);
+        // For the proof alone: its own call tells what the cache keeps.
         let _edited = self.table.cache.dirty_list();
         kept_told(done)
     }
 
-    // Gives the highest version of a name another keep.
-    fn keep_now<M: Machine>(
+    /// Gives the highest version of a name another keep.
+    pub(crate) fn keep_now<M: Machine>(
         &mut self,
         m: &mut M,
         name: &FileName,
@@ -113,31 +113,5 @@ impl Volume {
             Some(_) => self.keep_found(m, name, keep),
             None => Err(Refusal::NoSuch),
         }
-    }
-
-    /// Sets the keep of a name's highest version, and answers its key.
-    pub fn set_keep<M: Machine>(
-        &mut self,
-        m: &mut M,
-        name: &FileName,
-        keep: u32,
-    ) -> Result<Key, Refusal>
-        requires { (state self.old).layout.sectors ≤ (M.report m.old).sectors }
-        ensures order { Follows (keep_steps (state self.old) keep) result }
-        ensures disk { WritesDisk M.Machine (device_in device_of result) (Leaves state Holds self.old (force_writes (state self.old).layout)) m.old m.new }
-        ensures rest { M.honest m.new → Touches (force_writes (state self.old).layout) (M.now m.old) (M.now m.new) }
-        ensures counted { M.tells m.new → Counted result (change_len (state self.old)) (M.ledger m.old) (M.ledger m.new) }
-        ensures state { GoesOn (downs result) (state self.old) (state self.new) }
-        ensures idle { IsTrue (is_idle (keep_steps (state self.old) keep)) → m.new ≡ m.old }
-        ensures kept { let s = state self.old in MatchResult result (λ x. HasCounted false (forces_first s) s (state self.new)) (λ why. Keeps (keep_steps s keep) why s (state self.new)) }
-        ensures name { IfOk result (λ key. key.name ≡ name.now) }
-        ensures memory { HasEnoughFor self.old name.now → result ≡ Err Why.Memory → ⊥ }
-        ensures causes { Causes M.Machine (resident self.old) (state self.old) (state self.new) m.old m.new result }
-        ensures done { M.honest m.new → (k : Known) → Stands state Holds self.old k (M.now m.old) →
-            Ends state Holds (λ met. keep_outcome met (volume_of k) name.now keep) (kept_key keep) (Change.SetKeep name.now keep) k self.new (M.now m.new) result }
-    {
-        self.may_keep(keep)?;
-        self.force_first(m)?;
-        self.keep_now(m, name, keep)
     }
 }

@@ -2,14 +2,12 @@
 #![tactic(auto)]
 
 mod completing;
-mod counting;
 mod deleting;
 mod entries;
 mod files;
 mod finding;
 mod forcing;
 mod freeing;
-mod healing;
 mod holding;
 mod keeping;
 mod making;
@@ -20,7 +18,6 @@ mod placing;
 mod putting;
 mod reading;
 mod storing;
-mod upgrading;
 mod volume;
 
 pub use volume::Volume;

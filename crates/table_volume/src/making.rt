@@ -53,6 +53,7 @@ impl Volume {
         ensures done { M.honest m.new → (bytes : List ℕ) (k : Known) → Stands state Holds self.old k (M.now m.old) → draft.length ≡ length bytes → HasVersion (open_damage (M.now m.old).windows) (M.now m.old).image bytes draft →
             EndsEnter name.now keep bytes draft k self.new (M.now m.new) result }
     {
+        // For the proof alone: its own call tells what the cache keeps.
         let _whole = self.table.cache.dirty_list();
         let home_a = self.layout.home_a(0);
         let source = Newest::over(&self.log, &self.layout);

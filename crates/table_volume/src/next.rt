@@ -1,18 +1,17 @@
 //! Entries by their order in the table.
-ghost use Rattle.std.specs.Prelude.{◌≡◌, ◌<◌, ◌≤◌, Contains, Err, IfOk, IfErr, IfNone, IfSome, IsTrue, option_map, true};
+ghost use Rattle.std.specs.Prelude.{◌≡◌, ◌<◌, ◌≤◌, Contains, Err, IfOk, IfErr, IfNone, IfSome, IsTrue, true};
 ghost use Rattle.std.specs.Option.{option_copied};
 ghost use Rattle.fsd_bytes.specs.declared.refusal.Refusal.TheVariants as Why;
 ghost use Rattle.sector_disk.specs.Calls.{OnlyReads, device_in};
 ghost use Rattle.fsd_formats.specs.declared.entry.Entry.{Entry as Listed};
 ghost use Rattle.fsd_formats.specs.NamePage.{is_entry};
-ghost use Rattle.fsd_files.specs.Answers.{entry_after, highest_entry, next_reply};
+ghost use Rattle.fsd_files.specs.Answers.{entry_after, highest_entry};
 ghost use Rattle.name_page.specs.Lookups.{is_after};
 ghost use Rattle.volume_contract.specs.Absent.{LacksLater, ShowsReached};
 ghost use Rattle.volume_contract.specs.Causes.{Causes, IsTaken};
-ghost use Rattle.volume_contract.specs.Ends.{IsLater, Looks, device_of};
+ghost use Rattle.volume_contract.specs.Ends.{device_of};
 ghost use Rattle.volume_contract.specs.Found.{ShowsReachedNext};
-ghost use Rattle.volume_contract.specs.Healing.{IsMet};
-ghost use Rattle.volume_contract.specs.Order.{Follows, IsLookUp, is_idle, next_steps};
+ghost use Rattle.volume_contract.specs.Order.{IsLookUp};
 ghost use Rattle.volume_contract.specs.State.{Known, Stands, volume_of};
 ghost use Rattle.cached_table.specs.Looking.{Finds};
 ghost use Rattle.volume_changes.specs.Meeting.{met_found};
@@ -28,8 +27,8 @@ use name_btree::FoundEntry;
 use sector_disk::Machine;
 
 impl Volume {
-    // The entry with the least later key, with the page of its leaf.
-    fn find_next<M: Machine>(
+    /// The entry with the least later key, with the page of its leaf.
+    pub(crate) fn find_next<M: Machine>(
         &mut self,
         m: &mut M,
         after: Option<&Key>,
@@ -51,6 +50,7 @@ impl Volume {
         ensures next { IfOk result (λ found. IfSome found (λ f. ShowsReachedNext M.Machine (resident self.old) (state self.old) (state self.new) m.old m.new (option_copied after.entry) f.entry)) }
         ensures met { IfOk result (λ found. IfSome found (λ f. Causes M.Machine (resident self.old) (state self.old) (state self.new) m.old m.new (met_entry self.new f.page f.entry))) }
     {
+        // For the proof alone: its own call tells what the cache keeps.
         let _whole = self.table.cache.dirty_list();
         let home_a = self.layout.home_a(0);
         let source = Newest::over(&self.log, &self.layout);
@@ -79,6 +79,7 @@ impl Volume {
         ensures causes { Causes M.Machine (resident self.old) (state self.old) (state self.new) m.old m.new result }
         ensures met { IfOk result (λ found. IfSome found (λ f. Causes M.Machine (resident self.old) (state self.old) (state self.new) m.old m.new (met_entry self.new f.page f.entry))) }
     {
+        // For the proof alone: its own call tells what the cache keeps.
         let _whole = self.table.cache.dirty_list();
         let home_a = self.layout.home_a(0);
         let source = Newest::over(&self.log, &self.layout);
@@ -86,8 +87,8 @@ impl Volume {
         told(found, home_a)
     }
 
-    // What was found, which is the table's only where its sectors are taken.
-    fn met_found(&self, found: Option<FoundEntry>) -> Result<Option<Entry>, Refusal>
+    /// What was found, which is the table's only where its sectors are taken.
+    pub(crate) fn met_found(&self, found: Option<FoundEntry>) -> Result<Option<Entry>, Refusal>
         requires { IfSome found (λ f. f.page < self.now.layout.pages) }
         ensures { result ≡ met_found self.now found }
     {
@@ -95,30 +96,5 @@ impl Volume {
             Some(found) => Ok(Some(self.met_entry(found.entry, found.page)?)),
             None => Ok(None),
         }
-    }
-
-    /// The entry of the version with the least later key, if there is one.
-    pub fn next_after<M: Machine>(
-        &mut self,
-        m: &mut M,
-        after: Option<&Key>,
-    ) -> Result<Option<Entry>, Refusal>
-        requires { (state self.old).layout.sectors ≤ (M.report m.old).sectors }
-        ensures order { Follows (next_steps (state self.old)) result }
-        ensures disk { OnlyReads M.Machine (device_in device_of result) m.old m.new }
-        ensures state { state self.new ≡ state self.old }
-        ensures idle { IsTrue (is_idle (next_steps (state self.old))) → m.new ≡ m.old }
-        ensures later { IfOk result (IsLater (option_map (λ key. key.now) after.entry)) }
-        ensures met { IfOk result (λ found. IfSome found (IsMet (state self.new))) }
-        ensures stands { M.honest m.new → (k : Known) → Stands state Holds self.old k (M.now m.old) → Stands state Holds self.new k (M.now m.new) }
-        ensures causes { Causes M.Machine (resident self.old) (state self.old) (state self.new) m.old m.new result }
-        ensures absent { IfOk result (λ found. IfNone found (ShowsReached M.Machine (resident self.old) (state self.old) (state self.new) m.old m.new (LacksLater (option_map (λ key. key.now) after.entry)))) }
-        ensures found { IfOk result (λ found. IfSome found (ShowsReachedNext M.Machine (resident self.old) (state self.old) (state self.new) m.old m.new (option_map (λ key. key.now) after.entry))) }
-        ensures done { M.honest m.new → (k : Known) → Stands state Holds self.old k (M.now m.old) → Looks (next_reply (volume_of k) (option_map (λ key. key.now) after.entry)) result }
-    {
-        let _ = &self.layout;
-        self.is_up()?;
-        let found = self.find_next(m, after)?;
-        self.met_found(found)
     }
 }

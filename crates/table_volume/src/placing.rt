@@ -56,12 +56,13 @@ impl Volume {
         ensures still { IsFalse (forces_for_place (state self.old) need) → self.new ≡ self.old }
         ensures done { M.honest m.new → (k : Known) → Stands state Holds self.old k (M.now m.old) → EndsPlace need k self.new (M.now m.new) result }
     {
+        // For the proof alone: a field that is read gives what the volume keeps.
         let _ = &self.layout;
         let place = self.chosen(need);
         if place.is_ok() || !self.waits() {
             return place;
         }
-        self.force(m)?;
+        self.force_all(m)?;
         self.chosen(need)
     }
 }

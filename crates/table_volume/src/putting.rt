@@ -1,5 +1,5 @@
 //! The making of versions.
-ghost use Rattle.std.specs.Prelude.{◌≡◌, ◌≤◌, ◌<◌, ◌+◌, ◌^◌, ◌||◌, IfOk, IfErr, IsTrue, MatchResult, None, OnOk, Some, length, true};
+ghost use Rattle.std.specs.Prelude.{◌≡◌, ◌≤◌, ◌<◌, ◌+◌, ◌^◌, ◌||◌, IfErr, IsTrue, MatchResult, None, OnOk, Some, length};
 ghost use Rattle.volume_layout.specs.Layout.{is_data};
 ghost use Rattle.run_table.specs.RunTable.{sectors_of};
 ghost use Rattle.run_table.specs.Space.{contains};
@@ -8,15 +8,13 @@ ghost use Rattle.sector_disk.specs.Image.{open_damage};
 ghost use Rattle.sector_set.specs.Area.{AreIn};
 ghost use Rattle.fsd_formats.specs.NamePage.{is_entry, max_length, sectors_for};
 ghost use Rattle.fsd_bytes.specs.Keys.{is_key};
-ghost use Rattle.fsd_files.specs.Answers.{HasVersion, keep_given, put_outcome, size_fault};
-ghost use Rattle.fsd_files.specs.Files.{Change};
+ghost use Rattle.fsd_files.specs.Answers.{HasVersion, keep_given, size_fault};
 ghost use Rattle.version_data.specs.Writing.{WritesIn};
-ghost use Rattle.volume_contract.specs.Causes.{Causes};
-ghost use Rattle.volume_contract.specs.Ends.{EndsPut, device_of};
-ghost use Rattle.volume_contract.specs.Order.{Follows, IsDeviceIn, Keeps, is_idle, put_steps};
-ghost use Rattle.volume_contract.specs.State.{Counted, GoesOn, HasCounted, Known, Leaves, Stands, downs, forces_first, forces_for_place, is_worn, put_len, put_writes, volume_of};
+ghost use Rattle.volume_contract.specs.Ends.{device_of};
+ghost use Rattle.volume_contract.specs.Order.{Follows, IsDeviceIn};
+ghost use Rattle.volume_contract.specs.State.{Counted, Known, Leaves, Stands, is_worn};
 ghost use Rattle.volume_state.specs.Placing.{IsPlace, drawn_known, drawn_volume, test_steps};
-ghost use Rattle.volume_state.specs.State.{Holds, resident, state};
+ghost use Rattle.volume_state.specs.State.{Holds, state};
 ghost use Rattle.fsd_files.specs.Disk.{Touches};
 
 use crate::Volume;
@@ -33,6 +31,7 @@ const FIRST_WORN: u32 = 4_294_967_280;
 pub(crate) fn first_key(name: &FileName) -> Key
     ensures { IsTrue (is_key result) }
 {
+    // For the proof alone: its own call tells what a name keeps.
     let _ = name.as_bytes();
     Key {
         name: name.copied(),
@@ -122,40 +121,12 @@ impl Volume {
         ensures stands { M.honest m.new → (k : Known) → Stands state Holds self.old k (M.now m.old) → Stands state Holds self.new (drawn_known k) (M.now m.new) }
         ensures done { OnOk result (M.honest m.new → HasVersion (open_damage (M.now m.new).windows) (M.now m.new).image bytes.now draft.now) }
     {
+        // For the proof alone: a field that is read gives what the volume keeps.
         let _ = &self.layout;
         self.draw();
         match write_version(m, draft, bytes) {
             Ok(()) => Ok(()),
             Err(failed) => Err(Refusal::Device(failed.place)),
         }
-    }
-
-    /// Makes a version with these bytes.
-    pub fn put<M: Machine>(
-        &mut self,
-        m: &mut M,
-        name: &FileName,
-        keep: Option<u32>,
-        bytes: &[u8],
-    ) -> Result<Key, Refusal>
-        requires { (state self.old).layout.sectors ≤ (M.report m.old).sectors }
-        ensures order { Follows (put_steps (state self.old) keep (length bytes.now)) result }
-        ensures disk { let may = put_writes (state self.old) (sectors_for (length bytes.now)) in
-            WritesDisk M.Machine (device_in device_of result) (Leaves state Holds self.old may) m.old m.new }
-        ensures rest { M.honest m.new → Touches (put_writes (state self.old) (sectors_for (length bytes.now))) (M.now m.old) (M.now m.new) }
-        ensures counted { M.tells m.new → Counted result (put_len (state self.old) (sectors_for (length bytes.now))) (M.ledger m.old) (M.ledger m.new) }
-        ensures state { GoesOn (downs result) (state self.old) (state self.new) }
-        ensures idle { IsTrue (is_idle (put_steps (state self.old) keep (length bytes.now))) → m.new ≡ m.old }
-        ensures name { IfOk result (λ key. key.name ≡ name.now) }
-        ensures kept { let s = state self.old in
-            MatchResult result (λ key. HasCounted true (forces_for_place s (sectors_for (length bytes.now)) || forces_first s) s (state self.new))
-            (λ why. Keeps (put_steps s keep (length bytes.now)) why s (state self.new)) }
-        ensures causes { Causes M.Machine (resident self.old) (state self.old) (state self.new) m.old m.new result }
-        ensures done { M.honest m.new → (k : Known) → Stands state Holds self.old k (M.now m.old) →
-            EndsPut state Holds (λ met. put_outcome met (volume_of k) name.now bytes.now keep) bytes.now (Change.Put name.now keep bytes.now) k self.new (M.now m.new) result }
-    {
-        self.may_put(keep, bytes.len())?;
-        let draft = self.prepared(m, name, bytes)?;
-        self.entered(m, name, keep, draft)
     }
 }

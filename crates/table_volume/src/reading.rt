@@ -1,6 +1,5 @@
 //! Bytes of versions.
 ghost use Rattle.std.specs.Prelude.{◌≡◌, ◌+◌, ◌^◌, ◌<◌, ◌≤◌, ℕ, All, Some, Err, IfOk, IfErr, IsTrue, length, true};
-ghost use Rattle.std.specs.FinMap.{find as file_of};
 ghost use Rattle.std.specs.List.{AllByRecursion};
 ghost use Rattle.volume_layout.specs.Layout.{is_data};
 ghost use Rattle.run_table.specs.RunTable.{sectors_of};
@@ -9,17 +8,16 @@ ghost use Rattle.fsd_bytes.specs.declared.refusal.Refusal.TheVariants as Why;
 ghost use Rattle.sector_disk.specs.declared.sector.Sector.TheVariants.{Damaged};
 ghost use Rattle.sector_disk.specs.Image.{sector_at};
 ghost use Rattle.sector_disk.specs.Calls.{OnlyReads, device_in};
-ghost use Rattle.fsd_bytes.specs.Keys.{key_cmp};
 ghost use Rattle.fsd_formats.specs.NamePage.{is_entry};
-ghost use Rattle.fsd_files.specs.Answers.{entry_of, entry_reply};
+ghost use Rattle.fsd_files.specs.Answers.{entry_reply};
 ghost use Rattle.fsd_files.specs.Disk.{Sectors};
 ghost use Rattle.fsd_files.specs.Files.{File};
 ghost use Rattle.fsd_files.specs.Kept.{IsWhole, KeptIn, range_sectors};
 ghost use Rattle.volume_contract.specs.Absent.{LacksKey, ShowsReached};
 ghost use Rattle.volume_contract.specs.Causes.{Causes, IsTaken};
 ghost use Rattle.volume_contract.specs.Ends.{Looks, Reads, count_in, device_of, found_one};
-ghost use Rattle.volume_contract.specs.Found.{HasEntry, HasRange};
-ghost use Rattle.volume_contract.specs.Order.{Follows, IsData, entry_steps, is_idle, read_steps};
+ghost use Rattle.volume_contract.specs.Found.{HasEntry};
+ghost use Rattle.volume_contract.specs.Order.{Follows, IsData, entry_steps, is_idle};
 ghost use Rattle.volume_contract.specs.State.{Known, Stands, volume_of};
 ghost use Rattle.volume_state.specs.State.{Holds, resident, state};
 ghost use Rattle.volume_state.specs.Taken.{are_taken};
@@ -50,40 +48,13 @@ impl Volume {
         ensures found { IfOk result (λ e. ShowsReached M.Machine (resident self.old) (state self.old) (state self.new) m.old m.new (HasEntry e)) }
         ensures done { M.honest m.new → (k : Known) → Stands state Holds self.old k (M.now m.old) → Looks (entry_reply (volume_of k) key.now) (found_one result) }
     {
+        // For the proof alone: a field that is read gives what the volume keeps.
         let _ = &self.layout;
         self.is_up()?;
         match self.find(m, key)? {
             Some(found) => self.met_entry(found.entry, found.page),
             None => Err(Refusal::NoSuch),
         }
-    }
-
-    /// Reads bytes of a version from a place on, as many as there are and the buffer has room for, and answers how
-    /// many. Where it is refused `buf` may have changed.
-    pub fn read<M: Machine>(
-        &mut self,
-        m: &mut M,
-        key: &Key,
-        from: u32,
-        buf: &mut [u8],
-    ) -> Result<u32, Refusal>
-        requires { (state self.old).layout.sectors ≤ (M.report m.old).sectors }
-        ensures order { Follows (read_steps (state self.old)) result }
-        ensures disk { OnlyReads M.Machine (device_in device_of result) m.old m.new }
-        ensures state { state self.new ≡ state self.old }
-        ensures idle { IsTrue (is_idle (read_steps (state self.old))) → m.new ≡ m.old }
-        ensures within { (s : ℕ) → result ≡ Err (Why.Damaged s) → M.honest m.new → IsTrue (is_data (state self.old).layout s) }
-        ensures damaged { (s : ℕ) → result ≡ Err (Why.Damaged s) → M.honest m.new → sector_at (M.now m.new).image s ≡ Damaged }
-        ensures most { IfOk result (λ count. count ≤ length buf.old) }
-        ensures stands { M.honest m.new → (k : Known) → Stands state Holds self.old k (M.now m.old) → Stands state Holds self.new k (M.now m.new) }
-        ensures causes { Causes M.Machine (resident self.old) (state self.old) (state self.new) m.old m.new result }
-        ensures absent { result ≡ Err Why.NoSuch → ShowsReached M.Machine (resident self.old) (state self.old) (state self.new) m.old m.new (LacksKey key.now) }
-        ensures found { IfOk result (λ count. ShowsReached M.Machine (resident self.old) (state self.old) (state self.new) m.old m.new (HasRange (state self.new) (M.now m.old).image key.now from buf.old buf.new count)) }
-        ensures done { M.honest m.new → (k : Known) → Stands state Holds self.old k (M.now m.old) →
-            Reads (M.now m.old).image (M.now m.new).image (file_of key_cmp key.now (volume_of k).files) (entry_of key.now (volume_of k).entries) from buf.old buf.new result }
-    {
-        let e = self.version(m, key)?;
-        read_version(m, &e, from, buf)
     }
 }
 

@@ -79,11 +79,12 @@ impl Volume {
         ensures resident { OnOk result (KeepsContent self.old.cache self.new.cache) }
         ensures done { M.honest m.new → (k : Known) → Stands state Holds self.old k (M.now m.old) → EndsForced k self.new (M.now m.new) result }
     {
+        // For the proof alone: a field that is read gives what the volume keeps.
         let _ = &self.layout;
         if !self.many_wait() {
             return Ok(());
         }
-        match self.force(m) {
+        match self.force_all(m) {
             Ok(_) => Ok(()),
             Err(refusal) => Err(refusal),
         }

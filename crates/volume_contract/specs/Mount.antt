@@ -1,9 +1,10 @@
 -- What a mount finds, why it is refused, and what it leaves.
-use Rattle.std.specs.Prelude.{◌≡◌, ◌⊎◌, ⊤, ℕ, ◌+◌, ◌*◌, ◌<◌, ◌≤◌, Bool, ◌||◌, List, [], ◌∷◌, ◌++◌, take, Some, None, IfSome, Result, Ok, Err}
+use Rattle.std.specs.Prelude.{◌≡◌, ◌⊎◌, ⊤, ℕ, ◌+◌, ◌*◌, ◌<◌, ◌≤◌, Bool, ◌||◌, List, [], ◌∷◌, ◌++◌, take, Some, None, IfSome, IfOk, IfErr, Result, Ok, Err}
 use Rattle.volume_layout.specs.declared.layout.Layout.{Layout}
 use Rattle.volume_layout.specs.Layout.{home_a, plan}
 use Rattle.fsd_formats.specs.declared.anchor.Anchor.{Anchor}
 use Rattle.fsd_formats.specs.Anchors.{anchor_bytes}
+use Rattle.sector_disk.specs.declared.machine.Machine.{Ghosts}
 use Rattle.sector_disk.specs.declared.sector.WeakRun.{WeakRun}
 use Rattle.sector_disk.specs.Image.{IsWorn, in_run, open_damage}
 use Rattle.sector_disk.specs.Machine.{Ledger, Moment, Wears}
@@ -20,12 +21,12 @@ use Rattle.fsd_sound.specs.Shown.{all_pages, each_of, shown}
 use Rattle.fsd_sound.specs.Sound.{EndIn, IsPrefixOf, IsSaid, IsSound, weak_of}
 use Rattle.fsd_sound.specs.declared.fault.MountFault.{MountFault}
 use Rattle.fsd_sound.specs.declared.fault.MountFault.TheVariants.{Device, Memory, NoAnchor, NotVolume, Unsound, WornOut}
-use Rattle.fsd_sound.specs.Lost.{LosesShown}
-use Rattle.fsd_sound.specs.Writes.{WritesAsMount}
+use Rattle.fsd_sound.specs.Lost.{AreCopiesOn, LosesShown, LostIn}
+use Rattle.fsd_sound.specs.Writes.{MountKeeps, WritesAsMount}
 use Rattle.fsd_sound.specs.Windows.{IsNamedSince}
 use Rattle.fsd_sound.specs.Mounting.{EachBears, HasNextEpoch, HasRoot, IsVolume, RefusedFor, last_epoch}
 use Rattle.fsd_runs.specs.Leaves.{RaisesEpoch}
-use Rattle.volume_contract.specs.State.{Fits, Known, ListsPages, Stands, State, none_open}
+use Rattle.volume_contract.specs.State.{Fits, IsNew, Known, ListsPages, Stands, State, none_open}
 
 -- ---- over any machine
 
@@ -33,15 +34,23 @@ use Rattle.volume_contract.specs.State.{Fits, Known, ListsPages, Stands, State, 
 abbrev pub CountsMount : State → Ledger → Ledger → Type 0
 CountsMount s old new = (old.written ≤ new.written) × (new.written ≤ old.written + (2 * s.layout.pages + 101))
 
+-- A volume just mounted lies on so many sectors, as its layout is planned, and nothing waits.
+pub record MountOpens {D : Type 0} (M : Ghosts D) (sectors : ℕ) (s : State) (old new : D) : Type 0 where
+  pub room : s.layout.sectors ≤ sectors
+  pub planned : plan s.layout.kind s.layout.sectors s.layout.third s.layout.pages ≡ Ok s.layout
+  pub fresh : IsNew s
+  pub counted : M.tells new → CountsMount s (M.ledger old) (M.ledger new)
+
 -- ---- what is found, and why a mount is refused: by an image that was seen, which the old one may be worn to
 
--- The layout is the image's root, and the epoch the one behind its anchor's. Each root of the image that counts bears the
+-- The layout is the image's root, and the epoch the one behind its anchor's, which was not the last. Each root of the image that counts bears the
 -- run of the window that the mount has settled.
 pub record IsFound (sectors : ℕ) (s : State) (old new : Moment) : Type 0 where
   pub seen : Image
   pub from : IsWorn (open_damage old.windows) old.image seen
   pub anchor : Anchor
   pub found : IsVolume sectors seen s.layout anchor
+  pub left : anchor.epoch < last_epoch
   pub next : s.serial.epoch ≡ anchor.epoch + 1
   pub bears : IfSome new.windows.present (EachBears sectors seen)
 
@@ -94,6 +103,24 @@ pub record IsUnsoundAt (sectors : ℕ) (old new : Moment) (s : ℕ) : Type 0 whe
 abbrev pub UnsoundFor : ℕ → (old new : Moment) → MountFault → Type 0
 UnsoundFor sectors old new (Unsound s) = IsUnsoundAt sectors old new s
 UnsoundFor sectors old new fault = ⊤
+
+-- ---- both, by the answer
+
+module _ {S : Type 0} (state : S → State) where
+  -- Each answer but a fault of the disk and want of memory says what the image was, as it was seen.
+  pub record MountTells (sectors : ℕ) (old new : Moment) (result : Result S MountFault) : Type 0 where
+    pub found : IfOk result (λ volume. IsFound sectors (state volume) old new)
+    pub refused : IfErr result (λ fault. IsRefused sectors fault old)
+    pub unchanged : IfErr result (λ fault. KeepsAll fault old new)
+    pub lost : IfErr result (λ fault. LostIn (AreCopiesOn sectors old) new.image fault)
+    pub unsound : IfErr result (λ fault. UnsoundFor sectors old new fault)
+
+  -- Of any image: the sectors that no mount writes stay but for wear. Once it is mounted both anchors are the volume's,
+  -- and each home of each page stands, but for what the open window may wear.
+  pub record MountHeals (sectors : ℕ) (old new : Moment) (result : Result S MountFault) : Type 0 where
+    pub rest : MountKeeps sectors old new
+    pub anchors : IfOk result (λ volume. HealsAnchors (state volume) new)
+    pub homes : IfOk result (λ volume. HealsHomes (state volume) new)
 
 -- ---- where nothing wears
 

@@ -2,7 +2,7 @@
 ghost use Rattle.std.specs.Prelude.{◌≡◌, ◌≤◌, ◌<◌, ◌+◌, ◌==◌, ◌||◌, ℕ, List, Option, Contains, length, true, false, Some, Ok, Err, IfOk, IfSome, IfNone, IfErr, OnOk, IsTrue, MatchResult, is_none, option_map, slice_index_or};
 ghost use Rattle.std.specs.List.{list_any};
 ghost use Rattle.volume_layout.specs.declared.layout.Layout.{Layout as Plan};
-ghost use Rattle.volume_layout.specs.Layout.{is_data, plan};
+ghost use Rattle.volume_layout.specs.Layout.{is_data};
 ghost use Rattle.sector_disk.specs.declared.sector.WeakRun.{WeakRun as Run};
 ghost use Rattle.sector_disk.specs.declared.sector.Sector.TheVariants.{Damaged};
 ghost use Rattle.sector_disk.specs.Image.{AreShort, IsCalm, open_damage, sector_at};
@@ -22,9 +22,8 @@ ghost use Rattle.fsd_files.specs.Kept.{data_sectors};
 ghost use Rattle.fsd_files.specs.Scrub.{CountsTwins, leader_place, FindsLeader, Sees, leader_count, slice_place};
 ghost use Rattle.fsd_sound.specs.Sound.{is_twin};
 ghost use Rattle.fsd_sound.specs.Mounted.{Mounted, image_at};
-ghost use Rattle.fsd_sound.specs.Lost.{AreCopiesOn, LostIn};
-ghost use Rattle.volume_contract.specs.State.{State, Known, Ages, volume_of, Stands, IsNew, GoesOn, HasEnough, HasCounted, IsForced as HasForced, Counted, Reading, downs, downs_for, Leaves, put_writes, force_len, change_len, put_len, forces_first, forces_for_place};
-ghost use Rattle.fsd_sound.specs.Writes.{MountKeeps, force_writes};
+ghost use Rattle.volume_contract.specs.State.{State, Known, Ages, volume_of, Stands, GoesOn, HasEnough, HasCounted, IsForced as HasForced, Counted, Reading, downs, downs_for, Leaves, put_writes, force_len, change_len, put_len, forces_first, forces_for_place};
+ghost use Rattle.fsd_sound.specs.Writes.{force_writes};
 ghost use Rattle.volume_contract.specs.Order.{Follows, IsDevice, Keeps, is_idle, put_steps, delete_steps, keep_steps, entry_steps, next_steps, read_steps, reserve_steps, slices_steps, enter_steps, held_steps, force_steps, heal_steps, single_steps, upgrade_steps, is_root, with_three};
 ghost use Rattle.volume_contract.specs.Pieces.{IsDraft, IsHeld, Reserves, GivesBack, Enters as EntersState, HoldsAt, Unholds, FitsDraft, reserve_len, slice_count, in_slices, in_leader, slices_in, slices_if, read_at, ended, with_opened, told, EndsReserve, EndsSlices, EndsEnter, EndsHold, ReadsHeld};
 ghost use Rattle.volume_contract.specs.Ends.{Ends, EndsPut, EndsForce, Closes, Looks, IsLater, count_in, found_one, Reads, kept_key, device_of};
@@ -34,7 +33,7 @@ ghost use Rattle.volume_contract.specs.Causes.{Causes, IsTaken};
 ghost use Rattle.volume_contract.specs.Healing.{IsMet, LeavesWith, LosesTwins, StandsStill, TwinsStand};
 ghost use Rattle.volume_contract.specs.Upgrade.{EndsUpgrade, RootsStand, is_fresh};
 ghost use Rattle.volume_contract.specs.Logged.{AllLogged, KeepsPages};
-ghost use Rattle.volume_contract.specs.Mount.{CountsMount, HealsAnchors, HealsHomes, IsFound, IsRefused, KeepsAll, UnsoundFor, MountsCalm, IsSoundAt, MountsSound};
+ghost use Rattle.volume_contract.specs.Mount.{MountOpens, MountTells, MountHeals, MountsCalm, IsSoundAt, MountsSound};
 ghost use Rattle.fsd_sound.specs.Mounting.{device_of_mount};
 
 use crate::token::{Draft, Held};
@@ -82,23 +81,9 @@ pub trait Files<M: Machine>: Sized {
         requires { sectors ≡ (M.report m.old).sectors }
 
         ensures disk { HealsDisk M.Machine (device_in device_of_mount result) m.old m.new }
-        ensures room { IfOk result (λ volume. (state volume).layout.sectors ≤ sectors) }
-        ensures planned { IfOk result (λ volume. let l = (state volume).layout in plan l.kind l.sectors l.third l.pages ≡ Ok l) }
-        ensures fresh { IfOk result (λ volume. IsNew (state volume)) }
-        ensures counted { IfOk result (λ volume. M.tells m.new → CountsMount (state volume) (M.ledger m.old) (M.ledger m.new)) }
-
-        // Each answer but a fault of the disk and want of memory says what the image was, as it was seen.
-        ensures found { IfOk result (λ volume. M.honest m.new → IsFound sectors (state volume) (M.now m.old) (M.now m.new)) }
-        ensures refused { IfErr result (λ fault. M.honest m.new → IsRefused sectors fault (M.now m.old)) }
-        ensures unchanged { IfErr result (λ fault. M.honest m.new → KeepsAll fault (M.now m.old) (M.now m.new)) }
-        ensures rest { M.honest m.new → MountKeeps sectors (M.now m.old) (M.now m.new) }
-        ensures lost { IfErr result (λ fault. M.honest m.new → LostIn (AreCopiesOn sectors (M.now m.old)) (M.now m.new).image fault) }
-        ensures unsound { IfErr result (λ fault. M.honest m.new → UnsoundFor sectors (M.now m.old) (M.now m.new) fault) }
-
-        // Of any image: both anchors are then the volume's, and each home of each page stands,
-        // but for what the open window may wear.
-        ensures anchors { IfOk result (λ volume. M.honest m.new → HealsAnchors (state volume) (M.now m.new)) }
-        ensures homes { IfOk result (λ volume. M.honest m.new → HealsHomes (state volume) (M.now m.new)) }
+        ensures opens { IfOk result (λ volume. MountOpens M.Machine sectors (state volume) m.old m.new) }
+        ensures tells { M.honest m.new → MountTells state sectors (M.now m.old) (M.now m.new) result }
+        ensures heals { M.honest m.new → MountHeals state sectors (M.now m.old) (M.now m.new) result }
 
         // Where nothing wears, an image is mounted as it shows its table,
         // and refused for it exactly where a page breaks.

@@ -55,7 +55,7 @@ impl Mounted {
     pub(crate) fn counting_anew(self, alloc: Global, events: &[Event]) -> Result<Mounted, Fail> {
         let Mounted { m, v } = self;
         let (m, sectors) = attached(alloc, m, events)?;
-        if v.stat().sectors > sectors {
+        if Files::<MemoryMachine>::stat(&v).sectors > sectors {
             return Err(Fail::new("the image has fewer sectors"));
         }
         Ok(Mounted { m, v })
@@ -163,7 +163,7 @@ impl Mounted {
 
     /// What it counts.
     pub(crate) fn stat(&self) -> Stat {
-        self.v.stat()
+        Files::<MemoryMachine>::stat(&self.v)
     }
 }
 

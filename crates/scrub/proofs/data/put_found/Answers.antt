@@ -21,6 +21,6 @@ pub returns-clause-ok : goal.returns-clause-ok
 returns-clause-ok c =
     let key = c.copied.ensures in
     let at : c.unwrap-sector.result ≡ slice_place c.args.e.now c.args.slice =
-    place_is c.args.e.now c.args.slice c.unwrap-sector.result c.requires.slice (sym c.sector.ensures ∙ c.unwrap-sector.ensures) in
+    place_is c.args.e.now c.args.slice c.unwrap-sector.result (sym c.sector.ensures ∙ c.unwrap-sector.ensures) in
     let items = c.in_ok-push.ensures.items in
     cc

@@ -1,7 +1,10 @@
-use Rattle.std.proofs.Common.{None, subst}
+use Rattle.std.proofs.Common.{ℕ, List, None, ap, sym, subst}
+use Rattle.fsd_bytes.specs.declared.key.Key.{Key}
+use Rattle.volume_layout.specs.declared.layout.Layout.{Layout}
 use Rattle.sector_disk.specs.Machine.{Wears}
 use Rattle.sector_disk.proofs.CallLaws.{reads_as_writes, writes_then}
 use Rattle.volume_contract.specs.State.{State}
+use Rattle.scrub.specs.Looking.{AreDamaged}
 use Rattle.scrub.specs.Telling.{TellsOn}
 use Rattle.scrub.specs.Scrub.{LeavesScrubbed}
 use Rattle.scrub.proofs.KeptLaws.{healed_read}
@@ -84,15 +87,38 @@ returns-in-Ok-look-clause-counted g c = λ t.
     let disk = c.in-Ok-look.ensures.disk in
     healed_read (M.ledger c.args.m.now) (M.ledger c.heal_all.new.m) (M.ledger c.look.new.m) 0 c.in-Ok.healed.sectors (disk.ledger t) (c.in-Ok.ensures.counted (disk.trust.tells t))
 
-pub returns-in-Err-look-clause-told : goal.returns-in-Err-look-clause-told
-returns-in-Err-look-clause-told g c = λ h. subst (λ (s : State). TellsOn s.layout (g.M.Machine.now c.look.new.m).image c.in-Err-look.why) c.in-Ok.ensures.state (c.in-Err-look.ensures.told h)
-
-pub returns-in-Ok-look-clause-mended : goal.returns-in-Ok-look-clause-mended
-returns-in-Ok-look-clause-mended g c = λ h.
+pub returns-in-Ok-look-clause-tells : goal.returns-in-Ok-look-clause-tells
+returns-in-Ok-look-clause-tells g c h =
     let M = g.M.Machine in
     let l = (g.V.Files.state c.args.v.now).layout in
     let a = M.now c.heal_all.new.m in
     let b = M.now c.look.new.m in
     let call = c.in-Ok-look.ensures in
     let worn = call.disk.worn h in
-    twins_then l a b worn.windows (worn_touches (is_data l) a b worn.image) (c.in-Ok.ensures.mended (call.disk.trust.honest h))
+    let same = ap (λ (s : State). s.layout) c.in-Ok.ensures.state in
+    record {
+      told = tt;
+      mended = twins_then l a b worn.windows (worn_touches (is_data l) a b worn.image) (c.in-Ok.ensures.mended (call.disk.trust.honest h));
+      damaged = subst (λ (x : Layout). AreDamaged x b.image c.look.new.found.items) same (call.damaged h);
+    }
+
+pub returns-in-Err-look-clause-tells : goal.returns-in-Err-look-clause-tells
+returns-in-Err-look-clause-tells g c h =
+    let image = (g.M.Machine.now c.look.new.m).image in
+    let call = c.in-Err-look.ensures in
+    let same = ap (λ (s : State). s.layout) c.in-Ok.ensures.state in
+    record {
+      told = subst (λ (x : Layout). TellsOn x image c.in-Err-look.why) same (call.told h);
+      mended = tt;
+      damaged = subst (λ (x : Layout). AreDamaged x image c.look.new.found.items) same (call.damaged h);
+    }
+
+pub returns-in-Err-clause-tells : goal.returns-in-Err-clause-tells
+returns-in-Err-clause-tells g c h =
+    let l = (g.V.Files.state c.args.v.now).layout in
+    let image = (g.M.Machine.now c.heal_all.new.m).image in
+    record {
+      told = c.in-Err.ensures.told h;
+      mended = tt;
+      damaged = subst (λ (found : List (Key × ℕ)). AreDamaged l image found) (sym c.requires.none) tt;
+    }

@@ -1,14 +1,14 @@
-use Rattle.std.proofs.Common.{subst}
-use Rattle.std.specs.Prelude.{OnOk}
+use Rattle.std.proofs.Common.{ℕ, List, sym, ap, ◌∙◌, subst}
+use Rattle.fsd_bytes.specs.declared.key.Key.{Key}
 use Rattle.volume_layout.specs.declared.layout.Layout.{Layout}
-use Rattle.volume_contract.specs.Healing.{TwinsStand}
 use Rattle.fsd_files.specs.Replies.{Forced}
 use Rattle.sector_disk.proofs.CallLaws.{writes_more, writes_then}
-use Rattle.scrub.specs.Scrub.{LeavesScrubbed}
-use Rattle.volume_contract.specs.State.{force_len}
-use Rattle.scrub.proofs.KeptLaws.{kept_all, kept_down, told_all, written_all}
+use Rattle.scrub.specs.Looking.{AreDamaged}
+use Rattle.scrub.specs.Scrub.{LeavesScrubbed, TellsScrub}
+use Rattle.volume_contract.specs.State.{State, force_len}
+use Rattle.scrub.proofs.KeptLaws.{idle_first, kept_all, kept_down, up_all, up_behind, up_busy, written_all}
 use Rattle.scrub.proofs.ToldLaws.{told_by}
-use Rattle.scrub.proofs.WholeLaws.{behind_leaves, force_leaves, force_rest, forced_from, scrub_ends}
+use Rattle.scrub.proofs.WholeLaws.{behind_leaves, force_leaves, force_rest, force_within, forced_from, scrub_ends}
 use Rattle.scrub.proofs.whole.scrub.Goals as goal
 
 pub returns-in-Ok-clause-disk : goal.returns-in-Ok-clause-disk
@@ -27,15 +27,6 @@ returns-in-Ok-clause-disk g c =
     let is = force.done back k stands in
     behind_leaves k is.0 (forced_from k is.0 Forced is.1) l stands.fits.layout a b (force.disk.windows back) (force.rest back) (force.disk.quiet back) left (leaves is.0 is.2))
 
-pub returns-in-Ok-clause-rest : goal.returns-in-Ok-clause-rest
-returns-in-Ok-clause-rest g c = λ h.
-    let V = g.V.Files in
-    let M = g.M.Machine in
-    let force = c.in-Ok.ensures in
-    let call = c.heal_and_look.ensures in
-    let back = call.disk.trust.honest h in
-    force_rest (V.state c.args.v.now).layout (V.state c.force.new.self).layout force.state.layout (M.now c.args.m.now) (M.now c.force.new.m) (M.now c.heal_and_look.new.m) (force.disk.windows back) (force.rest back) (call.rest h)
-
 pub returns-in-Ok-clause-done : goal.returns-in-Ok-clause-done
 returns-in-Ok-clause-done g c = λ h k stands.
     let V = g.V.Files in
@@ -53,35 +44,66 @@ returns-in-Err-clause-disk g c =
     writes_more {R = LeavesScrubbed V.state V.holds c.args.v.now} c.in-Err.ensures.disk
     (λ h left leaves k stands. force_leaves k (V.state c.args.v.now).layout stands.fits.layout (g.M.Machine.now c.args.m.now) left (leaves k stands))
 
--- ---- what is kept, written and told
+-- ---- what is written, kept and told
 
-pub returns-in-Ok-clause-kept : goal.returns-in-Ok-clause-kept
-returns-in-Ok-clause-kept g c =
-    let V = g.V.Files in
-    let call = c.heal_and_look.ensures in
-    kept_all (V.state c.args.v.now) (V.state c.force.new.self) (V.state c.heal_and_look.new.v) c.in-Ok.ensures.order.0 c.in-Ok.ensures.kept call.state c.heal_and_look.result call.refusal
-
-pub returns-in-Ok-clause-counted : goal.returns-in-Ok-clause-counted
-returns-in-Ok-clause-counted g c =
+pub returns-in-Ok-clause-writes : goal.returns-in-Ok-clause-writes
+returns-in-Ok-clause-writes g c =
     let M = g.M.Machine in
+    let s = g.V.Files.state c.args.v.now in
+    let force = c.in-Ok.ensures in
     let call = c.heal_and_look.ensures in
-    written_all (M.tells c.force.new.m) (M.tells c.heal_and_look.new.m) call.disk.trust.tells (M.ledger c.args.m.now) (M.ledger c.force.new.m) (M.ledger c.heal_and_look.new.m) (force_len (g.V.Files.state c.args.v.now)) c.in-Ok.ensures.counted c.heal_and_look.result call.counted
+    record {
+      rest = λ h.
+          let back = call.disk.trust.honest h in
+          force_rest s.layout (g.V.Files.state c.force.new.self).layout force.state.layout (M.now c.args.m.now) (M.now c.force.new.m) (M.now c.heal_and_look.new.m) (force.disk.windows back) (force.rest back) (call.rest h);
+      counted = written_all (M.tells c.force.new.m) (M.tells c.heal_and_look.new.m) call.disk.trust.tells (M.ledger c.args.m.now) (M.ledger c.force.new.m) (M.ledger c.heal_and_look.new.m) (force_len s) force.counted c.heal_and_look.result call.counted;
+      idle = λ is. absurd (up_busy s force.order.0 is);
+    }
 
-pub returns-in-Ok-clause-told : goal.returns-in-Ok-clause-told
-returns-in-Ok-clause-told g c =
+pub returns-in-Ok-clause-state : goal.returns-in-Ok-clause-state
+returns-in-Ok-clause-state g c =
     let V = g.V.Files in
-    told_all (g.M.Machine.honest c.heal_and_look.new.m) (V.state c.args.v.now).layout (V.state c.force.new.self).layout c.in-Ok.ensures.state.layout (g.M.Machine.now c.heal_and_look.new.m).image c.heal_and_look.result c.heal_and_look.ensures.told
+    let force = c.in-Ok.ensures in
+    let call = c.heal_and_look.ensures in
+    let same = call.state in
+    let goes = force.state in
+    record {
+      layout = ap (λ (s : State). s.layout) same ∙ goes.layout;
+      opened = record { unfinished = ap (λ (s : State). s.unfinished) same ∙ goes.unfinished; readers = ap (λ (s : State). s.readers) same ∙ goes.readers };
+      kept = kept_all (V.state c.args.v.now) (V.state c.force.new.self) (V.state c.heal_and_look.new.v) force.order.0 force.kept same c.heal_and_look.result call.refusal;
+      up = up_all c.heal_and_look.result (V.state c.heal_and_look.new.v) (ap (λ (s : State). s.down) same ∙ up_behind (V.state c.args.v.now) (V.state c.force.new.self) force.order.0 force.kept);
+    }
 
-pub returns-in-Err-clause-kept : goal.returns-in-Err-clause-kept
-returns-in-Err-clause-kept g c = let V = g.V.Files in kept_down c.in-Err.why (V.state c.args.v.now) (V.state c.force.new.self) c.in-Err.ensures.kept
+pub returns-in-Ok-clause-tells : goal.returns-in-Ok-clause-tells
+returns-in-Ok-clause-tells g c h =
+    let end = c.heal_and_look.new in
+    subst (λ (l : Layout). TellsScrub l (g.M.Machine.now end.m) end.found.items c.heal_and_look.result) c.in-Ok.ensures.state.layout (c.heal_and_look.ensures.tells h)
 
-pub returns-in-Err-clause-told : goal.returns-in-Err-clause-told
-returns-in-Err-clause-told g c = λ h.
+pub returns-in-Err-clause-writes : goal.returns-in-Err-clause-writes
+returns-in-Err-clause-writes g c = record {
+  rest = λ h. force_within (g.V.Files.state c.args.v.now).layout (g.M.Machine.now c.args.m.now) (g.M.Machine.now c.force.new.m) (c.in-Err.ensures.rest h);
+  counted = tt;
+  idle = λ is. c.in-Err.ensures.idle (idle_first (g.V.Files.state c.args.v.now) is);
+}
+
+pub returns-in-Err-clause-state : goal.returns-in-Err-clause-state
+returns-in-Err-clause-state g c =
     let V = g.V.Files in
-    told_by (V.state c.args.v.now) (V.state c.force.new.self) (V.resident c.args.v.now) (g.M.Machine.now c.args.m.now) (g.M.Machine.now c.force.new.m) c.in-Err.ensures.state.layout c.in-Err.why (c.in-Err.ensures.causes h)
+    let goes = c.in-Err.ensures.state in
+    record {
+      layout = goes.layout;
+      opened = record { unfinished = goes.unfinished; readers = goes.readers };
+      kept = kept_down c.in-Err.why (V.state c.args.v.now) (V.state c.force.new.self) c.in-Err.ensures.kept;
+      up = tt;
+    }
 
-pub returns-in-Ok-clause-mended : goal.returns-in-Ok-clause-mended
-returns-in-Ok-clause-mended g c =
+pub returns-in-Err-clause-tells : goal.returns-in-Err-clause-tells
+returns-in-Err-clause-tells g c h =
+    let V = g.V.Files in
     let M = g.M.Machine in
-    let end = c.heal_and_look.new.m in
-    subst (λ (l : Layout). OnOk c.heal_and_look.result (M.honest end → TwinsStand l (M.now end))) c.in-Ok.ensures.state.layout c.heal_and_look.ensures.mended
+    let force = c.in-Err.ensures in
+    record {
+      told = told_by (V.state c.args.v.now) (V.state c.force.new.self) (V.resident c.args.v.now) (M.now c.args.m.now) (M.now c.force.new.m) force.state.layout c.in-Err.why (force.causes h);
+      mended = tt;
+      damaged = subst (λ (found : List (Key × ℕ)). AreDamaged (V.state c.args.v.now).layout (M.now c.force.new.m).image found) (sym c.clear.ensures.items) tt;
+    }

@@ -71,8 +71,37 @@ returns-in-Ok-reserve-clause-done g c h k clients sits =
     (omega (arith, c.in-Ok.ensures.inside.0, length_is)) length_is (found_idle desk c.args.c i (sym c.in-Ok.ensures.is)) is_draft apart c.begun.ensures.name (ap (λ (y : Draft). y.length) c.begun.ensures.draft ∙ e.draft.0) c.begun.ensures.got
     sits (subst (λ (y : Draft). Begins V.state V.holds c.args.length k c.reserve.new.self (M.now c.reserve.new.m) y) (sym c.begun.ensures.draft) (e.done h k sits.stands))))
 
-pub returns-in-Ok-reserve-clause-desk : goal.returns-in-Ok-reserve-clause-desk
-returns-in-Ok-reserve-clause-desk g c =
+pub returns-in-Err-clause-writes : goal.returns-in-Err-clause-writes
+returns-in-Err-clause-writes g c =
+    record {
+      rest = λ h. record { size = refl; others = λ s out. inl refl };
+      counted = λ t. (omega arith, omega arith);
+    }
+
+pub returns-in-Err-reserve-clause-writes : goal.returns-in-Err-reserve-clause-writes
+returns-in-Err-reserve-clause-writes g c = record { rest = c.in-Err-reserve.ensures.rest; counted = c.in-Err-reserve.ensures.counted }
+
+pub returns-in-Ok-reserve-clause-writes : goal.returns-in-Ok-reserve-clause-writes
+returns-in-Ok-reserve-clause-writes g c = record { rest = c.in-Ok-reserve.ensures.rest; counted = c.in-Ok-reserve.ensures.counted }
+
+pub returns-in-Err-clause-state : goal.returns-in-Err-clause-state
+returns-in-Err-clause-state g c =
+    record {
+      desk = c.requires.desk;
+      kept = record { desk = refl; volume = inl (ap (λ (r : Result ℕ Refusal). fault_in r) (sym c.in-Err.ensures.is), refl) };
+    }
+
+pub returns-in-Err-reserve-clause-state : goal.returns-in-Err-reserve-clause-state
+returns-in-Err-reserve-clause-state g c =
+    let V = g.V.Files in
+    let goes = c.in-Err-reserve.ensures.state in
+    record {
+      desk = desk_same (V.state c.args.v.now) (V.state c.reserve.new.self) c.args.self.now (record { layout = goes.layout; unfinished = goes.unfinished; readers = goes.readers }) c.requires.desk;
+      kept = record { desk = refl; volume = inr (ap (λ (r : Result ℕ Refusal). fault_in r) (sym c.in-Ok.ensures.is), c.in-Err-reserve.ensures.kept) };
+    }
+
+pub returns-in-Ok-reserve-clause-state : goal.returns-in-Ok-reserve-clause-state
+returns-in-Ok-reserve-clause-state g c =
     let V = g.V.Files in
     let s = V.state c.args.v.now in
     let t = V.state c.reserve.new.self in
@@ -82,41 +111,20 @@ returns-in-Ok-reserve-clause-desk g c =
     let e = c.in-Ok-reserve.ensures in
     let is_draft : IsDraft t x.draft = subst (λ (y : Draft). IsDraft t y) (sym c.begun.ensures.draft) e.draft.1 in
     let takes : Takes x.draft.runs (with_drawn e.kept.middle) t = subst (λ (y : Draft). Takes y.runs (with_drawn e.kept.middle) t) (sym c.begun.ensures.draft) e.kept.takes in
-    subst (λ (w : V-of g). IsDesk (V.state w) c.set.new.self) (sym c.set.ensures.volume)
-    (subst (λ (y : List Client). IsDesk t y) (sym c.set.ensures.clients)
-    (desk_takes (with_drawn e.kept.middle) t desk i x (omega (arith, c.in-Ok.ensures.inside.0, c.in-Ok.ensures.inside.1))
-    (desk_same s (with_drawn e.kept.middle) desk (looks_middle s e.kept.middle e.kept.went) c.requires.desk)
-    (found_idle desk c.args.c i (sym c.in-Ok.ensures.is)).is takes is_draft))
-
-pub returns-in-Err-reserve-clause-desk : goal.returns-in-Err-reserve-clause-desk
-returns-in-Err-reserve-clause-desk g c =
-    let V = g.V.Files in
-    let goes = c.in-Err-reserve.ensures.state in
-    desk_same (V.state c.args.v.now) (V.state c.reserve.new.self) c.args.self.now (record { layout = goes.layout; unfinished = goes.unfinished; readers = goes.readers }) c.requires.desk
-
-pub returns-in-Ok-reserve-clause-kept : goal.returns-in-Ok-reserve-clause-kept
-returns-in-Ok-reserve-clause-kept g c =
-    let V = g.V.Files in
-    let s = V.state c.args.v.now in
-    let desk = c.args.self.now in
     let need = sectors_for c.args.length in
-    let x = c.begun.result in
-    let e = c.in-Ok-reserve.ensures in
     let at = found_idle desk c.args.c c.in-Ok.place (sym c.in-Ok.ensures.is) in
     record {
-      creation = x;
-      desk = c.set.ensures.clients ∙ ap (λ (n : ℕ). set desk n (Writing x)) at.place;
-      named = c.begun.ensures.name;
-      long = ap (λ (y : Draft). y.length) c.begun.ensures.draft ∙ e.draft.0;
-      none = c.begun.ensures.got;
-      volume = subst (λ (w : V-of g). Reserves need s (V.state w) x.draft) (sym c.set.ensures.volume) (subst (λ (y : Draft). Reserves need s (V.state c.reserve.new.self) y) (sym c.begun.ensures.draft) e.kept);
+      desk = subst (λ (w : V-of g). IsDesk (V.state w) c.set.new.self) (sym c.set.ensures.volume)
+          (subst (λ (y : List Client). IsDesk t y) (sym c.set.ensures.clients)
+          (desk_takes (with_drawn e.kept.middle) t desk i x (omega (arith, c.in-Ok.ensures.inside.0, c.in-Ok.ensures.inside.1))
+          (desk_same s (with_drawn e.kept.middle) desk (looks_middle s e.kept.middle e.kept.went) c.requires.desk)
+          (found_idle desk c.args.c i (sym c.in-Ok.ensures.is)).is takes is_draft));
+      kept = record {
+        creation = x;
+        desk = c.set.ensures.clients ∙ ap (λ (n : ℕ). set desk n (Writing x)) at.place;
+        named = c.begun.ensures.name;
+        long = ap (λ (y : Draft). y.length) c.begun.ensures.draft ∙ e.draft.0;
+        none = c.begun.ensures.got;
+        volume = subst (λ (w : V-of g). Reserves need s (V.state w) x.draft) (sym c.set.ensures.volume) (subst (λ (y : Draft). Reserves need s (V.state c.reserve.new.self) y) (sym c.begun.ensures.draft) e.kept);
+      };
     }
-
-pub returns-in-Err-clause-kept : goal.returns-in-Err-clause-kept
-returns-in-Err-clause-kept g c = record { desk = refl; volume = inl (ap (λ (r : Result ℕ Refusal). fault_in r) (sym c.in-Err.ensures.is), refl) }
-
-pub returns-in-Err-reserve-clause-kept : goal.returns-in-Err-reserve-clause-kept
-returns-in-Err-reserve-clause-kept g c = record { desk = refl; volume = inr (ap (λ (r : Result ℕ Refusal). fault_in r) (sym c.in-Ok.ensures.is), c.in-Err-reserve.ensures.kept) }
-
-pub returns-in-Err-clause-rest : goal.returns-in-Err-clause-rest
-returns-in-Err-clause-rest g c h = record { size = refl; others = λ s out. inl refl }

@@ -12,7 +12,7 @@ use Rattle.volume_contract.specs.Order.{Keeps, enter_steps}
 use Rattle.volume_contract.specs.State.{GoesOn, HasCounted, Leaves, downs_for, forces_first}
 use Rattle.client_desk.specs.declared.client.Client.{Client}
 use Rattle.client_desk.specs.declared.client.Client.TheVariants.{Idle}
-use Rattle.client_desk.specs.Clients.{client_at, EntersFor, fault_in, in_first, IsDesk, IsNamed, IsWholeOne, too_short}
+use Rattle.client_desk.specs.Clients.{Continues, client_at, EntersFor, fault_in, in_first, IsDesk, IsNamed, IsWholeOne, too_short}
 use Rattle.client_desk.specs.Ends.{Closes, EndsClose, EndsEntering}
 use Rattle.client_desk.proofs.CreationLaws.{close_done, close_failed, close_refused, close_short, leaves_as_was, serves_so, short_device, writes_as, writes_so}
 use Rattle.client_desk.proofs.DeskLaws.{desk_enters, desk_same, found_writing}
@@ -35,96 +35,7 @@ returns-in-Some-clause-done g c h k clients sits =
     let i = c.in-Ok.place in
     close_short V.state V.holds c.args.c i k clients c.args.v.now desk (g.M.Machine.now c.args.m.now) (found_writing desk c.args.c i (sym c.in-Ok.ensures.is)) sits c.in-Some.why (sym c.in-Some.ensures.is)
 
-pub returns-in-Ok-closed-clause-desk : goal.returns-in-Ok-closed-clause-desk
-returns-in-Ok-closed-clause-desk g c =
-    let V = g.V.Files in
-    let desk = c.args.self.now in
-    let i = c.in-Ok.place in
-    let x = c.close_of-client.result.0 in
-    let w = c.close_of-client.new.v in
-    let s = V.state c.args.v.now in
-    let at = found_writing desk c.args.c i (sym c.in-Ok.ensures.is) in
-    let idle = subst (λ (r : Result Key Refusal). MatchResult r (λ key. x ≡ Idle) (λ why. x ≡ c.take.result)) c.in-Ok-closed.is c.close_of-client.ensures.client in
-    let enters = subst (λ (r : Result Key Refusal). MatchResult r (λ key. EntersFor c.take.result s (V.state w)) (λ why. GoesOn (downs_for why) s (V.state w))) c.in-Ok-closed.is c.close_of-client.ensures.state in
-    let so = subst (λ (z : Client). EntersFor z s (V.state w)) (c.take.ensures.client ∙ at.is.1) enters in
-    let self = clients_are desk c.take.new.self c.set.new.self i x c.set.ensures.clients c.take.ensures.clients ∙ ap (λ (z : Client). set desk i z) idle in
-    subst (λ (u : V-of g). IsDesk (V.state u) c.set.new.self) (sym c.set.ensures.volume)
-    (subst (λ (y : List Client). IsDesk (V.state w) y) (sym self)
-    (desk_enters s (V.state w) desk i at.is.0 (omega (arith, c.in-Ok.ensures.inside.0, c.in-Ok.ensures.inside.1)) c.requires.desk at.is.1 so))
-
-pub returns-in-Err-closed-clause-desk : goal.returns-in-Err-closed-clause-desk
-returns-in-Err-closed-clause-desk g c =
-    let V = g.V.Files in
-    let desk = c.args.self.now in
-    let i = c.in-Ok.place in
-    let x = c.close_of-client.result.0 in
-    let w = c.close_of-client.new.v in
-    let s = V.state c.args.v.now in
-    let back = subst (λ (r : Result Key Refusal). MatchResult r (λ key. x ≡ Idle) (λ why. x ≡ c.take.result)) c.in-Err-closed.is c.close_of-client.ensures.client in
-    let goes = subst (λ (r : Result Key Refusal). MatchResult r (λ key. EntersFor c.take.result s (V.state w)) (λ why. GoesOn (downs_for why) s (V.state w))) c.in-Err-closed.is c.close_of-client.ensures.state in
-    let self = clients_are desk c.take.new.self c.set.new.self i x c.set.ensures.clients c.take.ensures.clients ∙ ap (λ (z : Client). set desk i z) (back ∙ c.take.ensures.client) ∙ set-get_or desk i Idle in
-    subst (λ (u : V-of g). IsDesk (V.state u) c.set.new.self) (sym c.set.ensures.volume)
-    (subst (λ (y : List Client). IsDesk (V.state w) y) (sym self)
-    (desk_same s (V.state w) desk (record { layout = goes.layout; unfinished = goes.unfinished; readers = goes.readers }) c.requires.desk))
-
 -- ---- what it keeps
-
-pub returns-in-Err-clause-kept : goal.returns-in-Err-clause-kept
-returns-in-Err-clause-kept g c = record { desk = refl; volume = inl (ap (λ (r : Result ℕ Refusal). fault_in r) (sym c.in-Err.ensures.is), refl) }
-
-pub returns-in-Some-clause-kept : goal.returns-in-Some-clause-kept
-returns-in-Some-clause-kept g c =
-    let desk = c.args.self.now in
-    let at = found_writing desk c.args.c c.in-Ok.place (sym c.in-Ok.ensures.is) in
-    record {
-      desk = refl;
-      volume = inr (
-        ap (λ (r : Result ℕ Refusal). fault_in r) (sym c.in-Ok.ensures.is),
-        inl (ap (λ (n : ℕ). too_short (client_at desk n)) (sym at.place) ∙ sym c.in-Some.ensures.is, refl),
-      );
-    }
-
-pub returns-in-Ok-closed-clause-kept : goal.returns-in-Ok-closed-clause-kept
-returns-in-Ok-closed-clause-kept g c =
-    let V = g.V.Files in
-    let desk = c.args.self.now in
-    let i = c.in-Ok.place in
-    let x = c.close_of-client.result.0 in
-    let w = c.close_of-client.new.v in
-    let s = V.state c.args.v.now in
-    let at = found_writing desk c.args.c i (sym c.in-Ok.ensures.is) in
-    let idle = subst (λ (r : Result Key Refusal). MatchResult r (λ key. x ≡ Idle) (λ why. x ≡ c.take.result)) c.in-Ok-closed.is c.close_of-client.ensures.client in
-    let enters = subst (λ (r : Result Key Refusal). MatchResult r (λ key. EntersFor c.take.result s (V.state w)) (λ why. GoesOn (downs_for why) s (V.state w))) c.in-Ok-closed.is c.close_of-client.ensures.state in
-    let counted = subst (λ (r : Result Key Refusal). MatchResult r (λ key. HasCounted false (forces_first s) s (V.state w)) (λ why. Keeps (enter_steps s None (in_first c.take.result)) why s (V.state w))) c.in-Ok-closed.is c.close_of-client.ensures.kept in
-    record {
-      desk = clients_are desk c.take.new.self c.set.new.self i x c.set.ensures.clients c.take.ensures.clients ∙ ap (λ (z : Client). set desk i z) idle ∙ ap (λ (n : ℕ). set desk n Idle) at.place;
-      volume = subst (λ (u : V-of g). EntersFor (client_at desk (c.args.c - 1)) s (V.state u)) (sym c.set.ensures.volume) (subst (λ (z : Client). EntersFor z s (V.state w)) (c.take.ensures.client ∙ ap (λ (n : ℕ). client_at desk n) at.place) enters);
-      counted = subst (λ (u : V-of g). HasCounted false (forces_first s) s (V.state u)) (sym c.set.ensures.volume) counted;
-    }
-
-pub returns-in-Err-closed-clause-kept : goal.returns-in-Err-closed-clause-kept
-returns-in-Err-closed-clause-kept g c =
-    let V = g.V.Files in
-    let desk = c.args.self.now in
-    let i = c.in-Ok.place in
-    let x = c.close_of-client.result.0 in
-    let w = c.close_of-client.new.v in
-    let s = V.state c.args.v.now in
-    let why = c.in-Err-closed.why in
-    let at = found_writing desk c.args.c i (sym c.in-Ok.ensures.is) in
-    let back = subst (λ (r : Result Key Refusal). MatchResult r (λ key. x ≡ Idle) (λ z. x ≡ c.take.result)) c.in-Err-closed.is c.close_of-client.ensures.client in
-    let keeps = subst (λ (r : Result Key Refusal). MatchResult r (λ key. HasCounted false (forces_first s) s (V.state w)) (λ z. Keeps (enter_steps s None (in_first c.take.result)) z s (V.state w))) c.in-Err-closed.is c.close_of-client.ensures.kept in
-    record {
-      desk = clients_are desk c.take.new.self c.set.new.self i x c.set.ensures.clients c.take.ensures.clients ∙ ap (λ (z : Client). set desk i z) (back ∙ c.take.ensures.client) ∙ set-get_or desk i Idle;
-      volume = inr (
-        ap (λ (r : Result ℕ Refusal). fault_in r) (sym c.in-Ok.ensures.is),
-        inr (
-          ap (λ (n : ℕ). too_short (client_at desk n)) (sym at.place) ∙ sym c.in-None.ensures.is,
-          subst (λ (u : V-of g). Keeps (enter_steps s None (in_first (client_at desk (c.args.c - 1)))) why s (V.state u)) (sym c.set.ensures.volume)
-              (subst (λ (z : Client). Keeps (enter_steps s None (in_first z)) why s (V.state w)) (c.take.ensures.client ∙ ap (λ (n : ℕ). client_at desk n) at.place) keeps),
-        ),
-      );
-    }
 
 -- ---- what it answers
 
@@ -246,9 +157,89 @@ returns-in-Err-closed-clause-rest g c h =
     subst (λ (z : Client). Touches (λ t. force_writes (V.state c.args.v.now).layout t || in_first z t) (M.now c.args.m.now) (M.now c.close_of-client.new.m))
     (c.take.ensures.client ∙ ap (λ (n : ℕ). client_at desk n) at.place) (c.close_of-client.ensures.rest h)
 
-pub returns-in-Ok-closed-clause-name : goal.returns-in-Ok-closed-clause-name
-returns-in-Ok-closed-clause-name g c =
+pub returns-in-Err-clause-state : goal.returns-in-Err-clause-state
+returns-in-Err-clause-state g c =
+    record {
+      desk = c.requires.desk;
+      name = tt;
+      goes = record { layout = refl; epoch = refl; down = inl refl };
+      kept = record { desk = refl; volume = inl (ap (λ (r : Result ℕ Refusal). fault_in r) (sym c.in-Err.ensures.is), refl) };
+    }
+
+pub returns-in-Some-clause-state : goal.returns-in-Some-clause-state
+returns-in-Some-clause-state g c =
     let desk = c.args.self.now in
     let at = found_writing desk c.args.c c.in-Ok.place (sym c.in-Ok.ensures.is) in
-    subst (λ (z : Client). IsNamed z c.in-Ok-closed.key.name) (c.take.ensures.client ∙ ap (λ (n : ℕ). client_at desk n) at.place)
-    (subst (λ (r : Result Key Refusal). IfOk r (λ (key : Key). IsNamed c.take.result key.name)) c.in-Ok-closed.is c.close_of-client.ensures.name)
+    record {
+      desk = c.requires.desk;
+      name = tt;
+      goes = record { layout = refl; epoch = refl; down = inl refl };
+      kept = record {
+        desk = refl;
+        volume = inr (
+          ap (λ (r : Result ℕ Refusal). fault_in r) (sym c.in-Ok.ensures.is),
+          inl (ap (λ (n : ℕ). too_short (client_at desk n)) (sym at.place) ∙ sym c.in-Some.ensures.is, refl),
+        );
+      };
+    }
+
+pub returns-in-Ok-closed-clause-state : goal.returns-in-Ok-closed-clause-state
+returns-in-Ok-closed-clause-state g c =
+    let V = g.V.Files in
+    let desk = c.args.self.now in
+    let i = c.in-Ok.place in
+    let x = c.close_of-client.result.0 in
+    let w = c.close_of-client.new.v in
+    let s = V.state c.args.v.now in
+    let at = found_writing desk c.args.c i (sym c.in-Ok.ensures.is) in
+    let idle = subst (λ (r : Result Key Refusal). MatchResult r (λ key. x ≡ Idle) (λ why. x ≡ c.take.result)) c.in-Ok-closed.is c.close_of-client.ensures.client in
+    let enters = subst (λ (r : Result Key Refusal). MatchResult r (λ key. EntersFor c.take.result s (V.state w)) (λ why. GoesOn (downs_for why) s (V.state w))) c.in-Ok-closed.is c.close_of-client.ensures.state in
+    let so = subst (λ (z : Client). EntersFor z s (V.state w)) (c.take.ensures.client ∙ at.is.1) enters in
+    let self = clients_are desk c.take.new.self c.set.new.self i x c.set.ensures.clients c.take.ensures.clients ∙ ap (λ (z : Client). set desk i z) idle in
+    let counted = subst (λ (r : Result Key Refusal). MatchResult r (λ key. HasCounted false (forces_first s) s (V.state w)) (λ why. Keeps (enter_steps s None (in_first c.take.result)) why s (V.state w))) c.in-Ok-closed.is c.close_of-client.ensures.kept in
+    record {
+      desk = subst (λ (u : V-of g). IsDesk (V.state u) c.set.new.self) (sym c.set.ensures.volume)
+          (subst (λ (y : List Client). IsDesk (V.state w) y) (sym self)
+          (desk_enters s (V.state w) desk i at.is.0 (omega (arith, c.in-Ok.ensures.inside.0, c.in-Ok.ensures.inside.1)) c.requires.desk at.is.1 so));
+      name = subst (λ (z : Client). IsNamed z c.in-Ok-closed.key.name) (c.take.ensures.client ∙ ap (λ (n : ℕ). client_at desk n) at.place)
+          (subst (λ (r : Result Key Refusal). IfOk r (λ (key : Key). IsNamed c.take.result key.name)) c.in-Ok-closed.is c.close_of-client.ensures.name);
+      goes = subst (λ (u : V-of g). Continues None s (V.state u)) (sym c.set.ensures.volume) (record { layout = so.layout; epoch = so.epoch; down = inl so.down });
+      kept = record {
+        desk = clients_are desk c.take.new.self c.set.new.self i x c.set.ensures.clients c.take.ensures.clients ∙ ap (λ (z : Client). set desk i z) idle ∙ ap (λ (n : ℕ). set desk n Idle) at.place;
+        volume = subst (λ (u : V-of g). EntersFor (client_at desk (c.args.c - 1)) s (V.state u)) (sym c.set.ensures.volume) (subst (λ (z : Client). EntersFor z s (V.state w)) (c.take.ensures.client ∙ ap (λ (n : ℕ). client_at desk n) at.place) enters);
+        counted = subst (λ (u : V-of g). HasCounted false (forces_first s) s (V.state u)) (sym c.set.ensures.volume) counted;
+      };
+    }
+
+pub returns-in-Err-closed-clause-state : goal.returns-in-Err-closed-clause-state
+returns-in-Err-closed-clause-state g c =
+    let V = g.V.Files in
+    let desk = c.args.self.now in
+    let i = c.in-Ok.place in
+    let x = c.close_of-client.result.0 in
+    let w = c.close_of-client.new.v in
+    let s = V.state c.args.v.now in
+    let back = subst (λ (r : Result Key Refusal). MatchResult r (λ key. x ≡ Idle) (λ z. x ≡ c.take.result)) c.in-Err-closed.is c.close_of-client.ensures.client in
+    let goes = subst (λ (r : Result Key Refusal). MatchResult r (λ key. EntersFor c.take.result s (V.state w)) (λ why. GoesOn (downs_for why) s (V.state w))) c.in-Err-closed.is c.close_of-client.ensures.state in
+    let self = clients_are desk c.take.new.self c.set.new.self i x c.set.ensures.clients c.take.ensures.clients ∙ ap (λ (z : Client). set desk i z) (back ∙ c.take.ensures.client) ∙ set-get_or desk i Idle in
+    let why = c.in-Err-closed.why in
+    let at = found_writing desk c.args.c i (sym c.in-Ok.ensures.is) in
+    let keeps = subst (λ (r : Result Key Refusal). MatchResult r (λ key. HasCounted false (forces_first s) s (V.state w)) (λ z. Keeps (enter_steps s None (in_first c.take.result)) z s (V.state w))) c.in-Err-closed.is c.close_of-client.ensures.kept in
+    record {
+      desk = subst (λ (u : V-of g). IsDesk (V.state u) c.set.new.self) (sym c.set.ensures.volume)
+          (subst (λ (y : List Client). IsDesk (V.state w) y) (sym self)
+          (desk_same s (V.state w) desk (record { layout = goes.layout; unfinished = goes.unfinished; readers = goes.readers }) c.requires.desk));
+      name = tt;
+      goes = subst (λ (u : V-of g). Continues (downs_for why) s (V.state u)) (sym c.set.ensures.volume) (record { layout = goes.layout; epoch = goes.epoch; down = goes.down });
+      kept = record {
+        desk = clients_are desk c.take.new.self c.set.new.self i x c.set.ensures.clients c.take.ensures.clients ∙ ap (λ (z : Client). set desk i z) (back ∙ c.take.ensures.client) ∙ set-get_or desk i Idle;
+        volume = inr (
+          ap (λ (r : Result ℕ Refusal). fault_in r) (sym c.in-Ok.ensures.is),
+          inr (
+            ap (λ (n : ℕ). too_short (client_at desk n)) (sym at.place) ∙ sym c.in-None.ensures.is,
+            subst (λ (u : V-of g). Keeps (enter_steps s None (in_first (client_at desk (c.args.c - 1)))) why s (V.state u)) (sym c.set.ensures.volume)
+                (subst (λ (z : Client). Keeps (enter_steps s None (in_first z)) why s (V.state w)) (c.take.ensures.client ∙ ap (λ (n : ℕ). client_at desk n) at.place) keeps),
+          ),
+        );
+      };
+    }

@@ -33,36 +33,6 @@ returns-in-Some-clause-done g c h k clients sits =
     let i = c.in-Ok.place in
     piece_long V.state V.holds c.args.c i k clients c.args.v.now desk (g.M.Machine.now c.args.m.now) (found_writing desk c.args.c i (sym c.in-Ok.ensures.is)) sits c.args.bytes.now c.in-Some.why (sym c.in-Some.ensures.is)
 
-pub returns-in-Ok-came-clause-desk : goal.returns-in-Ok-came-clause-desk
-returns-in-Ok-came-clause-desk g c =
-    let V = g.V.Files in
-    let desk = c.args.self.now in
-    let i = c.in-Ok.place in
-    let x = c.piece_of-client.result.0 in
-    let w = c.piece_of-client.new.v in
-    let n = c.in-Ok-came.total in
-    let went = subst (λ (r : Result ℕ Refusal). MatchResult r (λ m. (V.state w ≡ V.state c.args.v.now) × Continuing (length c.args.bytes.now) m c.take.result x) (λ why. GivesUp c.take.result (V.state c.args.v.now) (V.state w) × (x ≡ Idle))) c.in-Ok-came.is c.piece_of-client.ensures.client in
-    let goes = subst (λ (z : Client). Continuing (length c.args.bytes.now) n z x) c.take.ensures.client went.1 in
-    let same = ap (λ (u : V-of g). V.state u) c.set.ensures.volume ∙ went.0 in
-    subst (λ (s : State). IsDesk s c.set.new.self) (sym same)
-    (subst (λ (y : List Client). IsDesk (V.state c.args.v.now) y) (sym (clients_are desk c.take.new.self c.set.new.self i x c.set.ensures.clients c.take.ensures.clients))
-    (desk_writes (V.state c.args.v.now) desk i x (omega (arith, c.in-Ok.ensures.inside.0, c.in-Ok.ensures.inside.1)) c.requires.desk (continues_on (length c.args.bytes.now) n (client_at desk i) x goes)))
-
-pub returns-in-Err-came-clause-desk : goal.returns-in-Err-came-clause-desk
-returns-in-Err-came-clause-desk g c =
-    let V = g.V.Files in
-    let desk = c.args.self.now in
-    let i = c.in-Ok.place in
-    let x = c.piece_of-client.result.0 in
-    let w = c.piece_of-client.new.v in
-    let s = V.state c.args.v.now in
-    let went = subst (λ (r : Result ℕ Refusal). MatchResult r (λ m. (V.state w ≡ V.state c.args.v.now) × Continuing (length c.args.bytes.now) m c.take.result x) (λ why. GivesUp c.take.result (V.state c.args.v.now) (V.state w) × (x ≡ Idle))) c.in-Err-came.is c.piece_of-client.ensures.client in
-    let gives = subst (λ (z : Client). GivesUp z s (V.state w)) c.take.ensures.client went.0 in
-    let self = clients_are desk c.take.new.self c.set.new.self i x c.set.ensures.clients c.take.ensures.clients ∙ ap (λ (z : Client). set desk i z) went.1 in
-    subst (λ (u : V-of g). IsDesk (V.state u) c.set.new.self) (sym c.set.ensures.volume)
-    (subst (λ (y : List Client). IsDesk (V.state w) y) (sym self)
-    (desk_ends s (V.state w) desk i (omega (arith, c.in-Ok.ensures.inside.0, c.in-Ok.ensures.inside.1)) c.requires.desk gives))
-
 pub returns-in-Ok-came-clause-done : goal.returns-in-Ok-came-clause-done
 returns-in-Ok-came-clause-done g c h k clients sits =
     let V = g.V.Files in
@@ -153,52 +123,70 @@ returns-in-Err-came-clause-disk g c =
     writes_more (subst (λ (r : Result ℕ Refusal). WritesDisk M (device_in device_of r) (LeavesFor V.state V.holds c.args.v.now x (in_data x)) c.args.m.now c.piece_of-client.new.m) c.in-Err-came.is c.piece_of-client.ensures.disk)
     (λ h left leaves. leaves_of V.state V.holds c.args.v.now desk c.in-Ok.place c.args.c x (M.now c.args.m.now) left c.take.ensures.client at.place leaves)
 
-pub returns-in-Err-clause-kept : goal.returns-in-Err-clause-kept
-returns-in-Err-clause-kept g c =
+pub returns-in-Err-clause-state : goal.returns-in-Err-clause-state
+returns-in-Err-clause-state g c =
     let s = g.V.Files.state c.args.v.now in
     let desk = c.args.self.now in
-    client_stays c.args.c (c.args.c - 1) desk desk s s c.in-Err.why (writing_fault desk c.args.c c.in-Err.why (sym c.in-Err.ensures.is)) (record { desk = refl; volume = refl })
+    record {
+      desk = c.requires.desk;
+      kept = client_stays c.args.c (c.args.c - 1) desk desk s s c.in-Err.why (writing_fault desk c.args.c c.in-Err.why (sym c.in-Err.ensures.is)) (record { desk = refl; volume = refl });
+    }
 
-pub returns-in-Some-clause-kept : goal.returns-in-Some-clause-kept
-returns-in-Some-clause-kept g c =
+pub returns-in-Some-clause-state : goal.returns-in-Some-clause-state
+returns-in-Some-clause-state g c =
     let s = g.V.Files.state c.args.v.now in
     let desk = c.args.self.now in
-    long_stays (c.args.c - 1) (length c.args.bytes.now) desk desk s s (client_at desk c.in-Ok.place) c.in-Some.why (sym c.in-Some.ensures.is) (record { desk = refl; volume = refl })
+    record {
+      desk = c.requires.desk;
+      kept = long_stays (c.args.c - 1) (length c.args.bytes.now) desk desk s s (client_at desk c.in-Ok.place) c.in-Some.why (sym c.in-Some.ensures.is) (record { desk = refl; volume = refl });
+    }
 
-pub returns-in-Err-came-clause-kept : goal.returns-in-Err-came-clause-kept
-returns-in-Err-came-clause-kept g c =
-    let V = g.V.Files in
-    let desk = c.args.self.now in
-    let i = c.in-Ok.place in
-    let x = c.piece_of-client.result.0 in
-    let w = c.piece_of-client.new.v in
-    let s = V.state c.args.v.now in
-    let at = found_writing desk c.args.c i (sym c.in-Ok.ensures.is) in
-    let went = subst (λ (r : Result ℕ Refusal). MatchResult r (λ m. (V.state w ≡ V.state c.args.v.now) × Continuing (length c.args.bytes.now) m c.take.result x) (λ why. GivesUp c.take.result (V.state c.args.v.now) (V.state w) × (x ≡ Idle))) c.in-Err-came.is c.piece_of-client.ensures.client in
-    let gives = subst (λ (z : Client). GivesUp z s (V.state w)) c.take.ensures.client went.0 in
-    let self = clients_are desk c.take.new.self c.set.new.self i x c.set.ensures.clients c.take.ensures.clients ∙ ap (λ (z : Client). set desk i z) went.1 in
-    let comes : Comes (slices_steps s (in_data c.take.result)) c.in-Err-came.why = subst (λ (r : Result ℕ Refusal). Follows (slices_steps s (in_data c.take.result)) r) c.in-Err-came.is c.piece_of-client.ensures.order in
-    subst (λ (n : ℕ). EndsAt c.in-Err-came.why n desk c.set.new.self s (V.state c.set.new.v)) at.place
-    (broken_at s (in_data c.take.result) i desk c.set.new.self s (V.state c.set.new.v) c.in-Err-came.why comes
-    (record { desk = self; volume = subst (λ (u : V-of g). GivesUp (client_at desk i) s (V.state u)) (sym c.set.ensures.volume) gives }))
-
-pub returns-in-Ok-came-clause-kept : goal.returns-in-Ok-came-clause-kept
-returns-in-Ok-came-clause-kept g c =
+pub returns-in-Ok-came-clause-state : goal.returns-in-Ok-came-clause-state
+returns-in-Ok-came-clause-state g c =
     let V = g.V.Files in
     let desk = c.args.self.now in
     let i = c.in-Ok.place in
     let x = c.piece_of-client.result.0 in
     let w = c.piece_of-client.new.v in
     let n = c.in-Ok-came.total in
-    let at = found_writing desk c.args.c i (sym c.in-Ok.ensures.is) in
     let went = subst (λ (r : Result ℕ Refusal). MatchResult r (λ m. (V.state w ≡ V.state c.args.v.now) × Continuing (length c.args.bytes.now) m c.take.result x) (λ why. GivesUp c.take.result (V.state c.args.v.now) (V.state w) × (x ≡ Idle))) c.in-Ok-came.is c.piece_of-client.ensures.client in
-    let goes = subst (λ (z : Client). Continuing (length c.args.bytes.now) n z x) (c.take.ensures.client ∙ at.is.1) went.1 in
+    let goes = subst (λ (z : Client). Continuing (length c.args.bytes.now) n z x) c.take.ensures.client went.1 in
+    let same = ap (λ (u : V-of g). V.state u) c.set.ensures.volume ∙ went.0 in
+    let at = found_writing desk c.args.c i (sym c.in-Ok.ensures.is) in
+    let grown = subst (λ (z : Client). Continuing (length c.args.bytes.now) n z x) (c.take.ensures.client ∙ at.is.1) went.1 in
     record {
-      before = at.is.0;
-      was = ap (λ (m : ℕ). client_at desk m) (sym at.place) ∙ at.is.1;
-      creation = goes.0;
-      desk = clients_are desk c.take.new.self c.set.new.self i x c.set.ensures.clients c.take.ensures.clients ∙ ap (λ (z : Client). set desk i z) goes.1 ∙ ap (λ (m : ℕ). set desk m (Writing goes.0)) at.place;
-      grows = goes.2;
-      got = goes.3;
-      volume = ap (λ (u : V-of g). V.state u) c.set.ensures.volume ∙ went.0;
+      desk = subst (λ (s : State). IsDesk s c.set.new.self) (sym same)
+          (subst (λ (y : List Client). IsDesk (V.state c.args.v.now) y) (sym (clients_are desk c.take.new.self c.set.new.self i x c.set.ensures.clients c.take.ensures.clients))
+          (desk_writes (V.state c.args.v.now) desk i x (omega (arith, c.in-Ok.ensures.inside.0, c.in-Ok.ensures.inside.1)) c.requires.desk (continues_on (length c.args.bytes.now) n (client_at desk i) x goes)));
+      kept = record {
+        before = at.is.0;
+        was = ap (λ (m : ℕ). client_at desk m) (sym at.place) ∙ at.is.1;
+        creation = grown.0;
+        desk = clients_are desk c.take.new.self c.set.new.self i x c.set.ensures.clients c.take.ensures.clients ∙ ap (λ (z : Client). set desk i z) grown.1 ∙ ap (λ (m : ℕ). set desk m (Writing grown.0)) at.place;
+        grows = grown.2;
+        got = grown.3;
+        volume = ap (λ (u : V-of g). V.state u) c.set.ensures.volume ∙ went.0;
+      };
+    }
+
+pub returns-in-Err-came-clause-state : goal.returns-in-Err-came-clause-state
+returns-in-Err-came-clause-state g c =
+    let V = g.V.Files in
+    let desk = c.args.self.now in
+    let i = c.in-Ok.place in
+    let x = c.piece_of-client.result.0 in
+    let w = c.piece_of-client.new.v in
+    let s = V.state c.args.v.now in
+    let went = subst (λ (r : Result ℕ Refusal). MatchResult r (λ m. (V.state w ≡ V.state c.args.v.now) × Continuing (length c.args.bytes.now) m c.take.result x) (λ why. GivesUp c.take.result (V.state c.args.v.now) (V.state w) × (x ≡ Idle))) c.in-Err-came.is c.piece_of-client.ensures.client in
+    let gives = subst (λ (z : Client). GivesUp z s (V.state w)) c.take.ensures.client went.0 in
+    let self = clients_are desk c.take.new.self c.set.new.self i x c.set.ensures.clients c.take.ensures.clients ∙ ap (λ (z : Client). set desk i z) went.1 in
+    let at = found_writing desk c.args.c i (sym c.in-Ok.ensures.is) in
+    let comes : Comes (slices_steps s (in_data c.take.result)) c.in-Err-came.why = subst (λ (r : Result ℕ Refusal). Follows (slices_steps s (in_data c.take.result)) r) c.in-Err-came.is c.piece_of-client.ensures.order in
+    record {
+      desk = subst (λ (u : V-of g). IsDesk (V.state u) c.set.new.self) (sym c.set.ensures.volume)
+          (subst (λ (y : List Client). IsDesk (V.state w) y) (sym self)
+          (desk_ends s (V.state w) desk i (omega (arith, c.in-Ok.ensures.inside.0, c.in-Ok.ensures.inside.1)) c.requires.desk gives));
+      kept = subst (λ (n : ℕ). EndsAt c.in-Err-came.why n desk c.set.new.self s (V.state c.set.new.v)) at.place
+          (broken_at s (in_data c.take.result) i desk c.set.new.self s (V.state c.set.new.v) c.in-Err-came.why comes
+          (record { desk = self; volume = subst (λ (u : V-of g). GivesUp (client_at desk i) s (V.state u)) (sym c.set.ensures.volume) gives }));
     }

@@ -39,12 +39,12 @@ returns-then-not-many_wait-clause-done g c h k stands = ends_not c.args.self.now
 
 pub returns-in-Err-clause-forces : goal.returns-in-Err-clause-forces
 returns-in-Err-clause-forces g c =
-    forces_failed (state c.args.self.now) (state c.force.new.self) (sym c.many_wait.ensures ∙ c.if-not-many_wait.false) c.in-Err.refusal c.requires.up c.in-Err.ensures.state c.in-Err.ensures.order c.in-Err.ensures.kept
+    forces_failed (state c.args.self.now) (state c.force_all.new.self) (sym c.many_wait.ensures ∙ c.if-not-many_wait.false) c.in-Err.refusal c.requires.up c.in-Err.ensures.state c.in-Err.ensures.order c.in-Err.ensures.kept
 
 pub returns-in-Err-clause-counted : goal.returns-in-Err-clause-counted
 returns-in-Err-clause-counted g c tells =
     let a = g.M.Machine.ledger c.args.m.now in
-    let b = g.M.Machine.ledger c.force.new.m in
+    let b = g.M.Machine.ledger c.force_all.new.m in
     subst (λ (x : Bool). Counted {T = Forced} (Err c.in-Err.refusal) (cond x (force_len (state c.args.self.now)) 0) a b) (sym (sym c.many_wait.ensures ∙ c.if-not-many_wait.false)) (c.in-Err.ensures.counted tells)
 
 pub returns-in-Err-clause-idle : goal.returns-in-Err-clause-idle
@@ -52,12 +52,12 @@ returns-in-Err-clause-idle g c idle = absurd (cc (subst (λ (b : Bool). is_idle 
 
 pub returns-in-Err-clause-done : goal.returns-in-Err-clause-done
 returns-in-Err-clause-done g c h k stands =
-    ends_down_first Forced (λ met. force_outcome (volume_of k)) IsForced c.in-Err.refusal k c.force.new.self (g.M.Machine.now c.force.new.m) (c.in-Err.ensures.done h k stands)
+    ends_down_first Forced (λ met. force_outcome (volume_of k)) IsForced c.in-Err.refusal k c.force_all.new.self (g.M.Machine.now c.force_all.new.m) (c.in-Err.ensures.done h k stands)
 
 -- ---- it has ended
 
 pub returns-in-Ok-clause-forces : goal.returns-in-Ok-clause-forces
-returns-in-Ok-clause-forces g c = forces_done (state c.args.self.now) (state c.force.new.self) (sym c.many_wait.ensures ∙ c.if-not-many_wait.false) c.in-Ok.ensures.state c.in-Ok.ensures.kept
+returns-in-Ok-clause-forces g c = forces_done (state c.args.self.now) (state c.force_all.new.self) (sym c.many_wait.ensures ∙ c.if-not-many_wait.false) c.in-Ok.ensures.state c.in-Ok.ensures.kept
 
 pub returns-in-Ok-clause-counted : goal.returns-in-Ok-clause-counted
 returns-in-Ok-clause-counted g c tells =
@@ -68,17 +68,17 @@ pub returns-in-Ok-clause-idle : goal.returns-in-Ok-clause-idle
 returns-in-Ok-clause-idle g c idle = absurd (cc (subst (λ (b : Bool). is_idle (Force b ∷ []) ≡ true) (sym c.many_wait.ensures ∙ c.if-not-many_wait.false) idle))
 
 pub returns-in-Ok-clause-free : goal.returns-in-Ok-clause-free
-returns-in-Ok-clause-free g c s there = freed_has c.args.self.now c.force.new.self (subst IsWhole c.self.view_is c.self.invariant) c.in-Ok.ensures.kept s there
+returns-in-Ok-clause-free g c s there = freed_has c.args.self.now c.force_all.new.self (subst IsWhole c.self.view_is c.self.invariant) c.in-Ok.ensures.kept s there
 
 pub returns-in-Ok-clause-done : goal.returns-in-Ok-clause-done
 returns-in-Ok-clause-done g c h k stands =
-    ends_forced c.args.self.now c.force.new.self k (g.M.Machine.now c.args.m.now) (g.M.Machine.now c.force.new.m) (sym c.many_wait.ensures ∙ c.if-not-many_wait.false) stands (c.in-Ok.ensures.done h k stands)
+    ends_forced c.args.self.now c.force_all.new.self k (g.M.Machine.now c.args.m.now) (g.M.Machine.now c.force_all.new.m) (sym c.many_wait.ensures ∙ c.if-not-many_wait.false) stands (c.in-Ok.ensures.done h k stands)
 
 pub returns-then-not-many_wait-clause-few : goal.returns-then-not-many_wait-clause-few
 returns-then-not-many_wait-clause-few g c = few_not (state c.args.self.now) (sym c.many_wait.ensures ∙ c.if-not-many_wait.true)
 
 pub returns-in-Ok-clause-few : goal.returns-in-Ok-clause-few
-returns-in-Ok-clause-few g c = few_forced (state c.args.self.now) (state c.force.new.self) c.in-Ok.ensures.kept
+returns-in-Ok-clause-few g c = few_forced (state c.args.self.now) (state c.force_all.new.self) c.in-Ok.ensures.kept
 
 pub returns-then-not-many_wait-clause-resident : goal.returns-then-not-many_wait-clause-resident
 returns-then-not-many_wait-clause-resident g c = record { there = λ page is. is; accepted = λ pages page x is. is }

@@ -54,44 +54,44 @@ returns-then-is_ok-clause-done g c h k stands =
 
 -- ---- the force has failed
 
-pub returns-in_err-force-clause-places : goal.returns-in_err-force-clause-places
-returns-in_err-force-clause-places g c =
+pub returns-in_err-force_all-clause-places : goal.returns-in_err-force_all-clause-places
+returns-in_err-force_all-clause-places g c =
     let s = state c.args.self.now in
     let none = none_now s c.args.need c.chosen-place.result c.chosen-place.ensures.place (sym c.is_ok.ensures.value ∙ c.if-is_ok.false) in
     let waits = sym c.waits.ensures ∙ c.if-not-waits.false in
-    handed (Places c.args.need s (state c.force.new.self)) c.from_residual.result c.in_err-force.field-0.0 c.from_residual.ensures.1
-    (places_down s (state c.force.new.self) c.args.need none waits c.in_err-force.field-0.0 c.requires.up c.in_err-force.ensures.state c.in_err-force.ensures.order c.in_err-force.ensures.kept)
+    handed (Places c.args.need s (state c.force_all.new.self)) c.from_residual.result c.in_err-force_all.field-0.0 c.from_residual.ensures.1
+    (places_down s (state c.force_all.new.self) c.args.need none waits c.in_err-force_all.field-0.0 c.requires.up c.in_err-force_all.ensures.state c.in_err-force_all.ensures.order c.in_err-force_all.ensures.kept)
 
-pub returns-in_err-force-clause-disk : goal.returns-in_err-force-clause-disk
-returns-in_err-force-clause-disk g c = writes_told (told_up device_of c.from_residual.result c.in_err-force.field-0.0 c.from_residual.ensures.1) c.in_err-force.ensures.disk
+pub returns-in_err-force_all-clause-disk : goal.returns-in_err-force_all-clause-disk
+returns-in_err-force_all-clause-disk g c = writes_told (told_up device_of c.from_residual.result c.in_err-force_all.field-0.0 c.from_residual.ensures.1) c.in_err-force_all.ensures.disk
 
-pub returns-in_err-force-clause-counted : goal.returns-in_err-force-clause-counted
-returns-in_err-force-clause-counted g c tells =
+pub returns-in_err-force_all-clause-counted : goal.returns-in_err-force_all-clause-counted
+returns-in_err-force_all-clause-counted g c tells =
     let s = state c.args.self.now in
     let a = g.M.Machine.ledger c.args.m.now in
-    let b = g.M.Machine.ledger c.force.new.m in
-    let why = c.in_err-force.field-0.0 in
+    let b = g.M.Machine.ledger c.force_all.new.m in
+    let why = c.in_err-force_all.field-0.0 in
     let none = none_now s c.args.need c.chosen-place.result c.chosen-place.ensures.place (sym c.is_ok.ensures.value ∙ c.if-is_ok.false) in
     let waits = sym c.waits.ensures ∙ c.if-not-waits.false in
     handed (λ r. Counted r (place_len s c.args.need) a b) c.from_residual.result why c.from_residual.ensures.1
-    (subst (λ (n : ℕ). Counted {T = Forced} (Err why) n a b) (sym (place_forced_len s c.args.need none waits)) (c.in_err-force.ensures.counted tells))
+    (subst (λ (n : ℕ). Counted {T = Forced} (Err why) n a b) (sym (place_forced_len s c.args.need none waits)) (c.in_err-force_all.ensures.counted tells))
 
-pub returns-in_err-force-clause-idle : goal.returns-in_err-force-clause-idle
-returns-in_err-force-clause-idle g c idle =
+pub returns-in_err-force_all-clause-idle : goal.returns-in_err-force_all-clause-idle
+returns-in_err-force_all-clause-idle g c idle =
     let s = state c.args.self.now in
     let none = none_now s c.args.need c.chosen-place.result c.chosen-place.ensures.place (sym c.is_ok.ensures.value ∙ c.if-is_ok.false) in
     absurd (busy_place s c.args.need none (sym c.waits.ensures ∙ c.if-not-waits.false) idle)
 
-pub returns-in_err-force-clause-causes : goal.returns-in_err-force-clause-causes
-returns-in_err-force-clause-causes g c =
+pub returns-in_err-force_all-clause-causes : goal.returns-in_err-force_all-clause-causes
+returns-in_err-force_all-clause-causes g c =
     let v = c.args.self.now in
-    handed_cause g.M.Machine (resident v) (state v) (state c.force.new.self) c.args.m.now c.force.new.m c.in_err-force.field-0.0 c.from_residual.result c.from_residual.ensures.1 c.in_err-force.ensures.causes
+    handed_cause g.M.Machine (resident v) (state v) (state c.force_all.new.self) c.args.m.now c.force_all.new.m c.in_err-force_all.field-0.0 c.from_residual.result c.from_residual.ensures.1 c.in_err-force_all.ensures.causes
 
-pub returns-in_err-force-clause-done : goal.returns-in_err-force-clause-done
-returns-in_err-force-clause-done g c h k stands =
-    let now = g.M.Machine.now c.force.new.m in
-    handed (EndsPlace c.args.need k c.force.new.self now) c.from_residual.result c.in_err-force.field-0.0 c.from_residual.ensures.1
-    (ends_down Forced c.args.need (λ met. force_outcome (volume_of k)) IsForced c.in_err-force.field-0.0 k c.force.new.self now (c.in_err-force.ensures.done h k stands))
+pub returns-in_err-force_all-clause-done : goal.returns-in_err-force_all-clause-done
+returns-in_err-force_all-clause-done g c h k stands =
+    let now = g.M.Machine.now c.force_all.new.m in
+    handed (EndsPlace c.args.need k c.force_all.new.self now) c.from_residual.result c.in_err-force_all.field-0.0 c.from_residual.ensures.1
+    (ends_down Forced c.args.need (λ met. force_outcome (volume_of k)) IsForced c.in_err-force_all.field-0.0 k c.force_all.new.self now (c.in_err-force_all.ensures.done h k stands))
 
 -- ---- behind the force
 
@@ -100,19 +100,19 @@ returns-clause-places g c =
     let s = state c.args.self.now in
     let none = none_now s c.args.need c.chosen-place.result c.chosen-place.ensures.place (sym c.is_ok.ensures.value ∙ c.if-is_ok.false) in
     let waits = sym c.waits.ensures ∙ c.if-not-waits.false in
-    places_then c.args.self.now c.force.new.self c.args.need none waits c.chosen.result c.chosen.ensures.place c.in_ok-force.ensures.state c.in_ok-force.ensures.kept
+    places_then c.args.self.now c.force_all.new.self c.args.need none waits c.chosen.result c.chosen.ensures.place c.in_ok-force_all.ensures.state c.in_ok-force_all.ensures.kept
 
 pub returns-clause-disk : goal.returns-clause-disk
-returns-clause-disk g c = writes_told (place_tells (state c.force.new.self) c.args.need c.chosen.result c.chosen.ensures.place) c.in_ok-force.ensures.disk
+returns-clause-disk g c = writes_told (place_tells (state c.force_all.new.self) c.args.need c.chosen.result c.chosen.ensures.place) c.in_ok-force_all.ensures.disk
 
 pub returns-clause-counted : goal.returns-clause-counted
 returns-clause-counted g c tells =
     let s = state c.args.self.now in
     let a = g.M.Machine.ledger c.args.m.now in
-    let b = g.M.Machine.ledger c.force.new.m in
+    let b = g.M.Machine.ledger c.force_all.new.m in
     let none = none_now s c.args.need c.chosen-place.result c.chosen-place.ensures.place (sym c.is_ok.ensures.value ∙ c.if-is_ok.false) in
     let waits = sym c.waits.ensures ∙ c.if-not-waits.false in
-    subst (λ (n : ℕ). Counted c.chosen.result n a b) (sym (place_forced_len s c.args.need none waits)) (counted_as c.chosen.result _ a b (c.in_ok-force.ensures.counted tells))
+    subst (λ (n : ℕ). Counted c.chosen.result n a b) (sym (place_forced_len s c.args.need none waits)) (counted_as c.chosen.result _ a b (c.in_ok-force_all.ensures.counted tells))
 
 pub returns-clause-idle : goal.returns-clause-idle
 returns-clause-idle g c idle =
@@ -123,15 +123,15 @@ returns-clause-idle g c idle =
 pub returns-clause-causes : goal.returns-clause-causes
 returns-clause-causes g c =
     let v = c.args.self.now in
-    let w = c.force.new.self in
-    place_causes g.M.Machine (resident v) (state v) (state w) (state w) c.args.m.now c.force.new.m c.args.need c.chosen.result c.chosen.ensures.place
+    let w = c.force_all.new.self in
+    place_causes g.M.Machine (resident v) (state v) (state w) (state w) c.args.m.now c.force_all.new.m c.args.need c.chosen.result c.chosen.ensures.place
 
 pub returns-clause-done : goal.returns-clause-done
 returns-clause-done g c h k stands =
     let s = state c.args.self.now in
     let none = none_now s c.args.need c.chosen-place.result c.chosen-place.ensures.place (sym c.is_ok.ensures.value ∙ c.if-is_ok.false) in
     let waits = sym c.waits.ensures ∙ c.if-not-waits.false in
-    ends_then c.args.self.now c.force.new.self c.args.need none waits c.chosen.result c.chosen.ensures.place k (g.M.Machine.now c.args.m.now) (g.M.Machine.now c.force.new.m) stands (c.in_ok-force.ensures.done h k stands)
+    ends_then c.args.self.now c.force_all.new.self c.args.need none waits c.chosen.result c.chosen.ensures.place k (g.M.Machine.now c.args.m.now) (g.M.Machine.now c.force_all.new.m) stands (c.in_ok-force_all.ensures.done h k stands)
 
 -- ---- what is known behind it
 
@@ -139,10 +139,10 @@ pub returns-then-is_ok-clause-behind : goal.returns-then-is_ok-clause-behind
 returns-then-is_ok-clause-behind g c = ok_as _ c.chosen-place.result (λ h. behind_itself (state c.args.self.now) (resident c.args.self.now) (g.M.Machine.now c.args.m.now))
 
 pub returns-clause-behind : goal.returns-clause-behind
-returns-clause-behind g c = ok_as _ c.chosen.result c.in_ok-force.ensures.behind
+returns-clause-behind g c = ok_as _ c.chosen.result c.in_ok-force_all.ensures.behind
 
-pub returns-in_err-force-clause-still : goal.returns-in_err-force-clause-still
-returns-in_err-force-clause-still g c never =
+pub returns-in_err-force_all-clause-still : goal.returns-in_err-force_all-clause-still
+returns-in_err-force_all-clause-still g c never =
     let s = state c.args.self.now in
     let none = none_now s c.args.need c.chosen-place.result c.chosen-place.ensures.place (sym c.is_ok.ensures.value ∙ c.if-is_ok.false) in
     let waits = sym c.waits.ensures ∙ c.if-not-waits.false in

@@ -1,0 +1,226 @@
+use Rattle.std.proofs.Common.{ℕ, true, ◌||◌, [], ◌∷◌, length, subst, sym, ◌∙◌}
+use Rattle.std.specs.Prelude.{MatchResult}
+use Rattle.sector_disk.specs.Machine.{Wears}
+use Rattle.sector_disk.proofs.CallLaws.{reads_as_writes, told_up, writes_none, writes_then, writes_told}
+use Rattle.fsd_formats.specs.NamePage.{sectors_for}
+use Rattle.fsd_files.specs.Answers.{keep_given, put_outcome}
+use Rattle.fsd_files.specs.Files.{Change}
+use Rattle.volume_contract.specs.Ends.{EndsPut, device_of}
+use Rattle.volume_contract.specs.Order.{Follows, Keeps, put_steps}
+use Rattle.volume_contract.specs.State.{Counted, GoesOn, HasCounted, Leaves, downs, forces_first, forces_for_place, put_len, put_writes, volume_of}
+use Rattle.volume_state.specs.Placing.{IsPlace, store_steps}
+use Rattle.volume_state.specs.State.{Holds, resident, state}
+use Rattle.volume_changes.proofs.BehindForce.{change_counts, is_up}
+use Rattle.volume_changes.proofs.BehindLaws.{causes_behind}
+use Rattle.volume_changes.proofs.CauseLaws.{handed_cause}
+use Rattle.volume_state.proofs.NoPlaceLaws.{ends_as_put}
+use Rattle.volume_state.proofs.PrepareLaws.{last}
+use Rattle.volume_changes.proofs.PutEnds.{keep_small, leaves_entering, length_small, number_ready, put_counts, put_ends, put_goes, layout_stays, slots_stay, serials_left, up_ready}
+use Rattle.volume_changes.proofs.PutLaws.{ends_tested, prepare_idle, prepared_kept, prepared_order, put_order, tested_kept, tested_order}
+use Rattle.volume_state.proofs.RangeLaws.{handed}
+use Rattle.volume_state.proofs.StepLaws.{idle_front}
+use Rattle.volume_state.proofs.StoreLaws.{busy_store, touches_read}
+use Rattle.volume_changes.proofs.TestedLaws.{put_places, put_test_cause}
+use Rattle.volume_state.proofs.WrittenLaws.{leaves_still}
+use Rattle.volume_state.proofs.ForceMomentLaws.{touches_none}
+use Rattle.table_volume.proofs.files.VolumeFiles.put.Goals as goal
+
+-- ---- a test refuses
+
+pub returns-in_err-may_put-clause-order : goal.returns-in_err-may_put-clause-order
+returns-in_err-may_put-clause-order g c =
+    let s = state c.args.self.now in
+    let len = length c.args.bytes.now in
+    let why = c.in_err-may_put.field-0.0 in
+    handed (Follows (put_steps s c.args.keep len)) c.from_residual.result why c.from_residual.ensures.1 (tested_order s c.args.keep len why c.in_err-may_put.ensures)
+
+pub returns-in_err-may_put-clause-disk : goal.returns-in_err-may_put-clause-disk
+returns-in_err-may_put-clause-disk g c =
+    let v = c.args.self.now in
+    let at = c.args.m.now in
+    let len = length c.args.bytes.now in
+    let why = c.in_err-may_put.field-0.0 in
+    let may = put_writes (state v) (sectors_for len) in
+    writes_told (told_up device_of c.from_residual.result why c.from_residual.ensures.1 ∙ put_places (state v) c.args.keep len why c.in_err-may_put.ensures)
+    (writes_none at (λ left h is. g.met.M.Machine.only_now at left h is) (Leaves state Holds v may) (λ h. leaves_still v (g.M.Machine.now at) may))
+
+pub returns-in_err-may_put-clause-kept : goal.returns-in_err-may_put-clause-kept
+returns-in_err-may_put-clause-kept g c =
+    let s = state c.args.self.now in
+    let len = length c.args.bytes.now in
+    let why = c.in_err-may_put.field-0.0 in
+    handed (λ r. MatchResult r (λ key. HasCounted true (forces_for_place s (sectors_for len) || forces_first s) s s) (λ x. Keeps (put_steps s c.args.keep len) x s s)) c.from_residual.result why c.from_residual.ensures.1
+    (tested_kept s c.args.keep len why c.in_err-may_put.ensures)
+
+pub returns-in_err-may_put-clause-causes : goal.returns-in_err-may_put-clause-causes
+returns-in_err-may_put-clause-causes g c =
+    let v = c.args.self.now in
+    let at = c.args.m.now in
+    let why = c.in_err-may_put.field-0.0 in
+    handed_cause g.M.Machine (resident v) (state v) (state v) at at why c.from_residual.result c.from_residual.ensures.1
+    (λ honest. put_test_cause (state v) c.args.keep (length c.args.bytes.now) (resident v) (g.M.Machine.now at) (g.M.Machine.now at) why c.in_err-may_put.ensures)
+
+pub returns-in_err-may_put-clause-done : goal.returns-in_err-may_put-clause-done
+returns-in_err-may_put-clause-done g c h k stands =
+    let v = c.args.self.now in
+    let name = c.args.name.now in
+    let bytes = c.args.bytes.now in
+    let keep = c.args.keep in
+    let now = g.M.Machine.now c.args.m.now in
+    let why = c.in_err-may_put.field-0.0 in
+    handed (EndsPut state Holds (λ met. put_outcome met (volume_of k) name bytes keep) bytes (Change.Put name keep bytes) k v now) c.from_residual.result why c.from_residual.ensures.1
+    (ends_tested v name bytes keep k now why c.in_err-may_put.ensures stands)
+
+-- ---- it is not prepared
+
+pub prepared-requires-clause-most : goal.prepared-requires-clause-most
+prepared-requires-clause-most g c = length_small (keep_given c.args.keep) (length c.args.bytes.now) c.in_ok-may_put.ensures.1.0
+
+pub prepared-requires-clause-up : goal.prepared-requires-clause-up
+prepared-requires-clause-up g c = is_up c.args.self.now.down c.in_ok-may_put.ensures.0
+
+pub prepared-requires-clause-serials : goal.prepared-requires-clause-serials
+prepared-requires-clause-serials g c = serials_left (state c.args.self.now) c.in_ok-may_put.ensures.1.1.0
+
+pub returns-in_err-draft-clause-order : goal.returns-in_err-draft-clause-order
+returns-in_err-draft-clause-order g c =
+    let s = state c.args.self.now in
+    let len = length c.args.bytes.now in
+    let why = c.in_err-draft.field-0.0 in
+    handed (Follows (put_steps s c.args.keep len)) c.from_residual-in_err-draft.result why c.from_residual-in_err-draft.ensures.1 (prepared_order s c.args.keep len c.in_ok-may_put.ensures why c.in_err-draft.ensures.prepares.order)
+
+pub returns-in_err-draft-clause-disk : goal.returns-in_err-draft-clause-disk
+returns-in_err-draft-clause-disk g c = writes_told (told_up device_of c.from_residual-in_err-draft.result c.in_err-draft.field-0.0 c.from_residual-in_err-draft.ensures.1) c.in_err-draft.ensures.disk
+
+pub returns-in_err-draft-clause-counted : goal.returns-in_err-draft-clause-counted
+returns-in_err-draft-clause-counted g c tells =
+    let n = put_len (state c.args.self.now) (sectors_for (length c.args.bytes.now)) in
+    handed (λ r. Counted r n (g.M.Machine.ledger c.args.m.now) (g.M.Machine.ledger c.prepared.new.m)) c.from_residual-in_err-draft.result c.in_err-draft.field-0.0 c.from_residual-in_err-draft.ensures.1 (c.in_err-draft.ensures.counted tells)
+
+pub returns-in_err-draft-clause-state : goal.returns-in_err-draft-clause-state
+returns-in_err-draft-clause-state g c =
+    handed (λ r. GoesOn (downs r) (state c.args.self.now) (state c.prepared.new.self)) c.from_residual-in_err-draft.result c.in_err-draft.field-0.0 c.from_residual-in_err-draft.ensures.1 c.in_err-draft.ensures.prepares.state
+
+pub returns-in_err-draft-clause-idle : goal.returns-in_err-draft-clause-idle
+returns-in_err-draft-clause-idle g c idle = c.in_err-draft.ensures.idle (prepare_idle (state c.args.self.now) c.args.keep (length c.args.bytes.now) c.in_ok-may_put.ensures idle)
+
+pub returns-in_err-draft-clause-kept : goal.returns-in_err-draft-clause-kept
+returns-in_err-draft-clause-kept g c =
+    let s = state c.args.self.now in
+    let t = state c.prepared.new.self in
+    let len = length c.args.bytes.now in
+    let why = c.in_err-draft.field-0.0 in
+    handed (λ r. MatchResult r (λ key. HasCounted true (forces_for_place s (sectors_for len) || forces_first s) s t) (λ x. Keeps (put_steps s c.args.keep len) x s t)) c.from_residual-in_err-draft.result why c.from_residual-in_err-draft.ensures.1
+    (prepared_kept s c.args.keep len c.in_ok-may_put.ensures t why c.in_err-draft.ensures.prepares.kept)
+
+pub returns-in_err-draft-clause-causes : goal.returns-in_err-draft-clause-causes
+returns-in_err-draft-clause-causes g c =
+    let v = c.args.self.now in
+    handed_cause g.M.Machine (resident v) (state v) (state c.prepared.new.self) c.args.m.now c.prepared.new.m c.in_err-draft.field-0.0 c.from_residual-in_err-draft.result c.from_residual-in_err-draft.ensures.1 c.in_err-draft.ensures.causes
+
+pub returns-in_err-draft-clause-done : goal.returns-in_err-draft-clause-done
+returns-in_err-draft-clause-done g c h k stands =
+    let name = c.args.name.now in
+    let bytes = c.args.bytes.now in
+    let keep = c.args.keep in
+    let new = c.prepared.new.self in
+    let now = g.M.Machine.now c.prepared.new.m in
+    let why = c.in_err-draft.field-0.0 in
+    handed (EndsPut state Holds (λ met. put_outcome met (volume_of k) name bytes keep) bytes (Change.Put name keep bytes) k new now) c.from_residual-in_err-draft.result why c.from_residual-in_err-draft.ensures.1
+    (ends_as_put (state c.args.self.now) name bytes keep k new now c.in_ok-may_put.ensures.1.0 stands.fits why c.in_err-draft.ensures.prepares.order (c.in_err-draft.ensures.done h k stands))
+
+-- ---- it is prepared
+
+pub entered-requires-clause-up : goal.entered-requires-clause-up
+entered-requires-clause-up g c =
+    up_ready (state c.args.self.now) (state c.prepared.new.self) c.args.keep (length c.args.bytes.now) c.in_ok-may_put.ensures c.in_ok-draft.draft c.in_ok-draft.ensures.prepares (is_up c.args.self.now.down c.in_ok-may_put.ensures.0)
+
+pub entered-requires-clause-numbered : goal.entered-requires-clause-numbered
+entered-requires-clause-numbered g c =
+    number_ready (state c.args.self.now) (state c.prepared.new.self) c.args.keep (length c.args.bytes.now) c.in_ok-may_put.ensures c.in_ok-draft.draft c.in_ok-draft.ensures.prepares
+
+pub entered-requires-clause-keep : goal.entered-requires-clause-keep
+entered-requires-clause-keep g c = keep_small c.args.keep (length c.args.bytes.now) c.in_ok-may_put.ensures.1.0
+
+pub entered-requires-clause-place : goal.entered-requires-clause-place
+entered-requires-clause-place g c = subst (λ (n : ℕ). IsPlace c.prepared.new.self.map (sectors_for n) c.in_ok-draft.draft.runs) (sym c.in_ok-draft.ensures.length) c.in_ok-draft.ensures.place
+
+pub returns-clause-order : goal.returns-clause-order
+returns-clause-order g c =
+    put_order (state c.args.self.now) c.args.keep (length c.args.bytes.now) c.in_ok-may_put.ensures (state c.prepared.new.self) c.in_ok-draft.ensures.prepares.kept.went c.entered.result c.entered.ensures.order
+
+pub returns-clause-disk : goal.returns-clause-disk
+returns-clause-disk g c =
+    let M = g.M.Machine in
+    let v = c.args.self.now in
+    let mid = c.prepared.new.self in
+    let need = sectors_for (length c.args.bytes.now) in
+    let old = M.now c.args.m.now in
+    let now = M.now c.prepared.new.m in
+    let first = c.in_ok-draft.ensures.disk in
+    let reads = c.entered.ensures.disk in
+    writes_then {Q = Wears} first (reads_as_writes {R = Wears} reads (λ h left wears. wears)) (λ h left leaves. leaves)
+    (λ h left wears.
+    let back = reads.trust.honest h in
+    leaves_entering v mid need old now left (g.met.M.Machine.short c.prepared.new.m back) (first.windows back) (first.quiet back) (λ k stands. (c.in_ok-draft.ensures.done back k stands).0) (first.exit back) wears)
+
+pub returns-clause-counted : goal.returns-clause-counted
+returns-clause-counted g c tells =
+    let M = g.M.Machine in
+    let reads = c.entered.ensures.disk in
+    change_counts (put_len (state c.args.self.now) (sectors_for (length c.args.bytes.now))) (M.ledger c.args.m.now) (M.ledger c.prepared.new.m) (M.ledger c.entered.new.m) c.entered.result
+    (c.in_ok-draft.ensures.counted (reads.trust.tells tells)) (reads.ledger tells)
+
+pub returns-clause-state : goal.returns-clause-state
+returns-clause-state g c =
+    put_goes (state c.args.self.now) (state c.prepared.new.self) c.args.keep (length c.args.bytes.now) c.in_ok-may_put.ensures c.in_ok-draft.draft c.in_ok-draft.ensures.prepares (state c.entered.new.self) c.entered.result c.entered.ensures.enters
+
+pub returns-clause-idle : goal.returns-clause-idle
+returns-clause-idle g c idle =
+    let s = state c.args.self.now in
+    let len = length c.args.bytes.now in
+    let order = c.in_ok-draft.ensures.prepares.order in
+    absurd (busy_store s (sectors_for len) (order.1).0 (idle_front (store_steps s (sectors_for len)) (last s (sectors_for len) ∷ []) (prepare_idle s c.args.keep len c.in_ok-may_put.ensures idle)))
+
+pub returns-clause-kept : goal.returns-clause-kept
+returns-clause-kept g c =
+    put_counts (state c.args.self.now) (state c.prepared.new.self) c.args.keep (length c.args.bytes.now) c.in_ok-may_put.ensures c.in_ok-draft.draft c.in_ok-draft.ensures.prepares (state c.entered.new.self) c.entered.result c.entered.ensures.order
+    c.entered.ensures.enters
+
+pub returns-clause-causes : goal.returns-clause-causes
+returns-clause-causes g c =
+    let v = c.args.self.now in
+    let mid = c.prepared.new.self in
+    let s = state v in
+    let m = state mid in
+    let t = state c.entered.new.self in
+    let len = length c.args.bytes.now in
+    let tests = c.in_ok-may_put.ensures in
+    let prepares = c.in_ok-draft.ensures.prepares in
+    let reads = c.entered.ensures.disk in
+    causes_behind g.M.Machine s m t (resident v) (resident mid) c.args.m.now c.prepared.new.m c.entered.new.m (λ h. c.in_ok-draft.ensures.behind (reads.trust.honest h))
+    (slots_stay s m c.args.keep len tests c.in_ok-draft.draft prepares t c.entered.result c.entered.ensures.enters) (layout_stays s m c.args.keep len tests c.in_ok-draft.draft prepares t c.entered.result c.entered.ensures.enters)
+    (λ h. reads.worn h) c.entered.result c.entered.ensures.causes
+
+pub returns-clause-done : goal.returns-clause-done
+returns-clause-done g c h k stands =
+    let M = g.M.Machine in
+    let v = c.args.self.now in
+    let mid = c.prepared.new.self in
+    let e = c.in_ok-draft.draft in
+    let bytes = c.args.bytes.now in
+    let ready = c.in_ok-draft.ensures.done (c.entered.ensures.disk.trust.honest h) k stands in
+    let p = ready.0 in
+    put_ends v mid c.args.name.now bytes c.args.keep k (M.now c.args.m.now) (M.now c.prepared.new.m) e c.in_ok-may_put.ensures.1.0 stands.fits c.in_ok-draft.ensures.prepares.kept p c.entered.new.self (M.now c.entered.new.m)
+    c.in_ok-draft.ensures.place.count c.in_ok-draft.ensures.length c.entered.result (c.entered.ensures.done h bytes p.after p.stands c.in_ok-draft.ensures.length ready.1)
+
+pub returns-in_err-may_put-clause-rest : goal.returns-in_err-may_put-clause-rest
+returns-in_err-may_put-clause-rest g c h = touches_none (put_writes (state c.args.self.now) (sectors_for (length c.args.bytes.now))) (g.M.Machine.now c.args.m.now)
+
+pub returns-clause-rest : goal.returns-clause-rest
+returns-clause-rest g c h =
+    let M = g.M.Machine in
+    let first = c.in_ok-draft.ensures in
+    let reads = c.entered.ensures.disk in
+    let back = reads.trust.honest h in
+    touches_read (put_writes (state c.args.self.now) (sectors_for (length c.args.bytes.now))) (M.now c.args.m.now) (M.now c.prepared.new.m) (M.now c.entered.new.m) (first.disk.windows back) (first.rest back) (reads.worn h)
