@@ -91,19 +91,19 @@ module _ {D : Type 0} {M : Ghosts D} {path : List ℕ} {sectors : ℕ} {a b z : 
   -- over a sound disk, where the run behind the attach leaves it so
   module _ (request : Request) (input rest : List ℕ) (status : ℕ) (honest : M.honest z) (short : M.honest a → AreShort (M.now a).windows) (timed : (m : D) → M.honest m → IsTimed M m)
       (leaves : (l : Layout) (windows : List WeakRun) (h : List Change) (f : ℕ) → IsSoundAt sectors l windows h f (M.now b) → IsHeld M b (λ c. IsSoundAsSaid l windows h f (M.now b).image c.image)
-      → LeavesRun request input rest l windows h f (M.left_since z) (stops M z) (M.moment b) (StopsOnly M b z) (M.report b) (M.report z) (M.now b) (M.now z) status) where
+      → LeavesRun request input rest l windows h f (M.left_since z) (stops M z) (M.moment b) (StopsOnly M b z) (IsHeld M z) (M.report b) (M.report z) (M.now b) (M.now z) status) where
     back : M.honest b
     back = x.runs.honest honest
 
     -- all that is there behind an attach is on the disk
     found_run : (l : Layout) (windows : List WeakRun) (h : List Change) (f : ℕ) → IsSoundDisk l windows h f (M.now a)
-        → LeavesRun request input rest l windows h f (M.left_since z) (stops M z) (M.moment b) (StopsOnly M b z) (M.report b) (M.report z) (M.now b) (M.now z) status
+        → LeavesRun request input rest l windows h f (M.left_since z) (stops M z) (M.moment b) (StopsOnly M b z) (IsHeld M z) (M.report b) (M.report z) (M.now b) (M.now z) status
     found_run l windows h f sound =
         let at = sound_found l windows h f (M.now a) sound (short (x.trust.honest back)) (M.now b) (finds_keep (M.now a) (M.now b) (x.found back)) sectors (x.size back) in
         leaves l windows h f at (held_synced M b (λ c. IsSoundAsSaid l windows h f (M.now b).image c.image) (timed b back) (x.synced back) (λ layout said. (said_disk l layout windows h f (M.now b) said (record { planned = at.planned; ends = at.ends; sound = at.sound })).sound))
 
     pub found_leaves : (l : Layout) (windows : List WeakRun) (h : List Change) (f : ℕ) → IsSoundDisk l windows h f (M.now a) → IsHeld M a (λ c. IsSoundAsSaid l windows h f (M.now a).image c.image)
-        → LeavesRun request input rest l windows h f (M.left_since z) (stops M z) (M.moment a) (StopsOnly M a z) (M.report a) (M.report z) (M.now a) (M.now z) status
+        → LeavesRun request input rest l windows h f (M.left_since z) (stops M z) (M.moment a) (StopsOnly M a z) (IsHeld M z) (M.report a) (M.report z) (M.now a) (M.now z) status
     found_leaves l windows h f sound held =
         let first = x.trust.honest back in
         opened_run M request input rest l windows h f a b z status sound (short first) (timed a first) (timed b back) held (x.time back) (x.found back) none_rose (found_run l windows h f sound)
@@ -111,7 +111,7 @@ module _ {D : Type 0} {M : Ghosts D} {path : List ℕ} {sectors : ℕ} {a b z : 
     -- it is one that mounts
     pub found_accepted : ((P : Type 0) → IfMounts request P → P) → AcceptsSound (M.now a) status
     found_accepted mounts l windows h f sound =
-        mounts _ (never_refused request input rest l windows h f (M.left_since z) (stops M z) (M.moment b) (StopsOnly M b z) (M.report b) (M.report z) (M.now b) (M.now z) status) (found_run l windows h f sound)
+        mounts _ (never_refused request input rest l windows h f (M.left_since z) (stops M z) (M.moment b) (StopsOnly M b z) (IsHeld M z) (M.report b) (M.report z) (M.now b) (M.now z) status) (found_run l windows h f sound)
 
 -- ---- by a line
 
@@ -166,7 +166,7 @@ module _ {D : Type 0} {M : Ghosts D} {path : List ℕ} {failed : Failed} {a b z 
   -- over a sound disk
   pub unfound_leaves : (request : Request) (input rest : List ℕ) (l : Layout) (windows : List WeakRun) (h : List Change) (f : ℕ) → M.honest z → (M.honest a → AreShort (M.now a).windows) → ((m : D) → M.honest m → IsTimed M m)
       → IsSoundDisk l windows h f (M.now a) → IsHeld M a (λ c. IsSoundAsSaid l windows h f (M.now a).image c.image)
-      → LeavesRun request input rest l windows h f (M.left_since z) (stops M z) (M.moment a) (StopsOnly M a z) (M.report a) (M.report z) (M.now a) (M.now z) status
+      → LeavesRun request input rest l windows h f (M.left_since z) (stops M z) (M.moment a) (StopsOnly M a z) (IsHeld M z) (M.report a) (M.report z) (M.now a) (M.now z) status
   unfound_leaves request input rest l windows h f honest short timed sound held =
       let back = x.says.trust.honest honest in
       let first = x.trust.honest back in

@@ -5,16 +5,14 @@ use Rattle.std.proofs.lemmas.Bool.{eq-eqb}
 use Rattle.std.proofs.lemmas.List.{append_assoc, append-nil, take-append-drop}
 use Rattle.sector_disk.specs.declared.machine.Machine.{Ghosts}
 use Rattle.sector_disk.specs.Calls.{Counts, LeavesDisk, SparesDisk}
-use Rattle.sector_disk.specs.Image.{IsWorn, Windows, open_damage}
 use Rattle.sector_disk.specs.Machine.{Ledger, Moment, Report, Rose, Says, Trusts, Utters}
-use Rattle.sector_disk.proofs.Wear.{worn_trans}
 use Rattle.fsd_texts.specs.declared.fault.Fault.TheVariants as Ends
 use Rattle.fsd_texts.specs.declared.line.Line.TheVariants as Lines
 use Rattle.fsd_texts.specs.Text.{memory_text, text}
 use Rattle.fsd_runs.specs.declared.request.Request.TheVariants.{Drill}
-use Rattle.volume_contract.specs.State.{Ages}
 use Rattle.volume_turns.specs.Line.{EndsWith, IsStatusAs, is_unsaid}
 use Rattle.volume_turns.proofs.QuietLaws.{quiet_unfailed}
+use Rattle.volume_turns.proofs.ReasonLaws.{ages_then}
 use Rattle.cfs_program.specs.Drill.{Begins, Drills, IsListOf, SaysDrill, SaysLives, Speaks, all_lives}
 use Rattle.cfs_program.specs.Program.{Ran, is_one_of}
 use Rattle.cfs_program.proofs.AmongLaws.{one_at}
@@ -22,12 +20,6 @@ use Rattle.cfs_program.proofs.CountsLaws.{input_alone, spares_none}
 use Rattle.cfs_program.proofs.FormatLaws.{untouched_by}
 
 -- ---- one after the other
-
-ages_then : (a b c : Moment) → Ages a b → Ages b c → Ages a c
-ages_then a b c first second = record {
-  image = worn_trans (open_damage a.windows) a.image b.image c.image first.image (subst (λ (w : Windows). IsWorn (open_damage w) b.image c.image) first.windows second.image);
-  windows = second.windows ∙ first.windows;
-}
 
 begins_by : (bytes : List ℕ) (old new : Moment) → Utters bytes old new → Begins bytes old new
 begins_by bytes old new u = record { part = take u.heard bytes; rest = drop u.heard bytes; whole = sym (take-append-drop u.heard bytes); said = u.said }

@@ -7,16 +7,17 @@ use Rattle.sector_disk.specs.declared.sector.WeakRun.{WeakRun}
 use Rattle.sector_disk.specs.Calls.{Counts, IsHeld, IsTimed, LeavesDisk, Since, StopsOnly, stops}
 use Rattle.sector_disk.specs.Image.{AreShort, Windows}
 use Rattle.sector_disk.specs.Machine.{Before, Elapses, LeavesOnly, Moment, Rose, Wears, Utters}
+use Rattle.sector_disk.proofs.Lags.{held_by}
 use Rattle.sector_disk.proofs.Moments.{goes_on, leaves_more, started, then_on}
 use Rattle.fsd_files.specs.Files.{Change}
-use Rattle.fsd_sound.specs.Sound.{EndIn}
+use Rattle.fsd_sound.specs.Sound.{EndIn, IsSound}
 use Rattle.fsd_sound.proofs.MoreLaws.{wear_sound}
 use Rattle.fsd_texts.specs.declared.fault.Fault.{Fault}
 use Rattle.fsd_texts.specs.declared.fault.Fault.TheVariants as Ends
 use Rattle.fsd_texts.specs.Text.{fault_text}
 use Rattle.fsd_runs.specs.declared.request.Request.{Request}
 use Rattle.fsd_runs.specs.Errands.{blank, fault_status}
-use Rattle.fsd_runs.specs.Leaves.{IsBroken, IsOutside, IsSoundAsSaid, IsSpent, IsUnsaid, LeavesRun, LeftBefore, MayEnd, Unbegun}
+use Rattle.fsd_runs.specs.Leaves.{IsBroken, IsOutside, IsSoundAsSaid, IsSpent, IsUnsaid, LeavesRun, LeftBefore, MayEnd, Unbegun, Whatever}
 use Rattle.volume_turns.specs.Status.{IsStatusBroken}
 use Rattle.volume_turns.specs.Line.{EndsWith, IsStatusAs, is_unsaid}
 use Rattle.cfs_program.specs.Opening.{IsSoundDisk}
@@ -49,22 +50,29 @@ module _ {D : Type 0} (M : Ghosts D) (request : Request) (input rest : List ℕ)
       let rose : Rose (M.report b).output_faults (M.report c).output_faults = subst (λ (x : Bool). Counts x (M.report b).output_faults (M.report c).output_faults) (eq-eqb status 6 six) says.spares.output in
       record { ends = six; rose = omega (arith, later, rose) }
 
-  broken : status ≡ fault_status why → (M.now c).said ≡ (M.now b).said ++ fault_text why → IsBroken request Unbegun (M.report a) (M.report c) (blank ∷ []) (M.now a) (M.now c) status
-  broken is all = record { why = why; outside = out; ends = is; says = record { whole = 0; more = refl; said = all ∙ ap (λ (s : List ℕ). s ++ fault_text why) worn.said }; undone = λ is. refl }
+  broken : status ≡ fault_status why → (M.now c).said ≡ (M.now b).said ++ fault_text why → IsBroken request Unbegun Whatever (M.report a) (M.report c) (blank ∷ []) (M.now a) (M.now c) status
+  broken is all = record { why = why; outside = out; ends = is; says = record { whole = 0; more = refl; said = all ∙ ap (λ (s : List ℕ). s ++ fault_text why) worn.said }; held = tt; undone = λ is. refl }
 
-  ended : EndsWith why (M.now b) (M.now c) status → IsSpent (M.now a) (M.now c) status ⊎ (IsUnsaid (M.report a) (M.report c) status ⊎ IsBroken request Unbegun (M.report a) (M.report c) (blank ∷ []) (M.now a) (M.now c) status)
+  ended : EndsWith why (M.now b) (M.now c) status → IsSpent (M.now a) (M.now c) status ⊎ (IsUnsaid (M.report a) (M.report c) status ⊎ IsBroken request Unbegun Whatever (M.report a) (M.report c) (blank ∷ []) (M.now a) (M.now c) status)
   ended (inl six) = inr (inl (unsaid six))
   ended (inr (is, all)) = inr (inr (broken is all.said))
 
-  pub ended_behind : LeavesRun request input rest l windows h f (M.left_since c) (stops M c) (M.moment a) (StopsOnly M a c) (M.report a) (M.report c) (M.now a) (M.now c) status
+  -- from the beginning to the end of its line
+  both : Since M a c
+  both t m le left = says.since honest t m (omega (arith, le, first.later)) (since t m le left)
+
+  run : LeavesOnly M.moment M.left_since a c (LeftBefore l windows h f (M.now a))
+  run = then_on M.moment M.left_since a b c (LeftBefore l windows h f (M.now a)) first
+      (leaves_more M.moment M.left_since b c (Utters (fault_text why) (M.now b)) (LeftBefore l windows h f (M.now a)) saying (says.any_moment honest))
+
+  pub ended_behind : LeavesRun request input rest l windows h f (M.left_since c) (stops M c) (M.moment a) (StopsOnly M a c) (IsHeld M c) (M.report a) (M.report c) (M.now a) (M.now c) status
   ended_behind = (
     l,
     inl refl,
     inl (record {
-      moments = stops_before M l windows h f (M.now a) a c at_a at_c (λ t m le left. says.since honest t m (omega (arith, le, first.later)) (since t m le left))
-          (then_on M.moment M.left_since a b c (LeftBefore l windows h f (M.now a)) first
-          (leaves_more M.moment M.left_since b c (Utters (fault_text why) (M.now b)) (LeftBefore l windows h f (M.now a)) saying (says.any_moment honest))) (λ m left. held m left l (inl refl));
+      moments = stops_before M l windows h f (M.now a) a c at_a at_c both run (λ m left. held m left l (inl refl));
       exit = saying (M.now c) (says.exit honest);
+      held = held_by M a c (LeftBefore l windows h f (M.now a)) (λ m. IsSound l windows h f m.image) at_a at_c both run (λ m left. held m left l (inl refl)) (λ m. IsSound l windows h f m.image) (λ m was. was) (λ m left. left.sound);
       ends = ended ends;
     }),
   )
@@ -75,7 +83,7 @@ module _ {D : Type 0} (M : Ghosts D) (request : Request) (input rest : List ℕ)
   pub ended_run : IsTimed M a → IsTimed M c → IsHeld M a (λ c. IsSoundAsSaid l windows h f (M.now a).image c.image) → Elapses (M.moment a) (M.moment b) (M.left_since a) (M.left_since b) (Before (M.now a) (M.now b)) → Wears (M.now a) (M.now b)
       → LeavesDisk M false (is_unsaid status) (Utters (fault_text why)) b c → M.honest c → EndsWith why (M.now b) (M.now c) status
       → IsOutside request (M.report a) (M.report c) why → (M.report a).output_faults ≤ (M.report b).output_faults
-      → LeavesRun request input rest l windows h f (M.left_since c) (stops M c) (M.moment a) (StopsOnly M a c) (M.report a) (M.report c) (M.now a) (M.now c) status
+      → LeavesRun request input rest l windows h f (M.left_since c) (stops M c) (M.moment a) (StopsOnly M a c) (IsHeld M c) (M.report a) (M.report c) (M.now a) (M.now c) status
   ended_run at_a at_c held time worn = ended_behind M request input rest l windows h f a b c why may status sound short at_a at_c held time.keeps first worn
     where
       before : (left : Moment) → Before (M.now a) (M.now b) left → LeftBefore l windows h f (M.now a) left

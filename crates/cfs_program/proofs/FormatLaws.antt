@@ -5,7 +5,10 @@ use Rattle.sector_disk.specs.declared.sector.Sector.{Sector}
 use Rattle.sector_disk.specs.declared.sector.Sector.TheVariants.{Damaged}
 use Rattle.sector_disk.specs.declared.sector.WeakRun.{WeakRun}
 use Rattle.sector_disk.specs.Image.{IsWorn, Windows, in_run, open_damage, sector_at}
-use Rattle.sector_disk.specs.Machine.{Makes, Moment, Utters}
+use Rattle.sector_disk.specs.declared.machine.Machine.{Ghosts}
+use Rattle.sector_disk.specs.Calls.{IsHeld, IsTimed, Since}
+use Rattle.sector_disk.specs.Machine.{IsSynced, LeavesOnly, Makes, Moment, Utters}
+use Rattle.sector_disk.proofs.Lags.{held_by, held_synced}
 use Rattle.sector_disk.proofs.Wear.{worn_trans}
 use Rattle.volume_layout.specs.declared.layout.Layout.{Layout}
 use Rattle.volume_layout.specs.Kinds.{longest_of}
@@ -67,6 +70,12 @@ made_of l count old mid new H (Err e) makes done = tt
 
 pub untouched_by : (line : Line) (old new : Moment) → Utters (text line) old new → Ages old new
 untouched_by line old new utters = record { image = utters.image; windows = utters.windows }
+
+-- whichever of the moments since the last sync is on the disk behind it, the volume stands
+pub holds_behind : {D : Type 0} (M : Ghosts D) (l : Layout) (line : Line) (m b : D) → IsTimed M m → IsTimed M b → Since M m b → LeavesOnly M.moment M.left_since m b (Utters (text line) (M.now m)) → IsSynced (M.now m) → HoldsVolume l (M.now m) → IsHeld M b (λ c. HoldsVolume l c)
+holds_behind M l line m b at_m at_b since run synced holds =
+    held_by M m b (Utters (text line) (M.now m)) (λ c. HoldsVolume l c) at_m at_b since run (held_synced M m (λ c. HoldsVolume l c) at_m synced holds)
+    (λ c. HoldsVolume l c) (λ c was. was) (λ c utters. holds_on l (M.now m) c holds (untouched_by line (M.now m) c utters))
 
 may_say : (planned : Result Layout LayoutFault) (place status : ℕ) (bytes : List ℕ) → SaysFor planned place status bytes → MaySay planned place bytes
 may_say planned place status bytes (inl (is, all)) = inl all

@@ -1,7 +1,7 @@
 -- What the runs of a life leave of its puts, and what its list says.
 use Rattle.std.proofs.Common.{◌≡◌, ◌⊎◌, inl, inr, ℕ, suc, ◌+◌, ◌≤◌, List, [], ◌∷◌, ◌++◌, length, take, filter, Option, Some, None, refl, sym, ap, subst, ◌∙◌, arith}
 use Rattle.std.specs.Prelude.{IsSome, Ok}
-use Rattle.std.specs.List.{flat_map, last_or}
+use Rattle.std.specs.List.{flat_map}
 use Rattle.std.proofs.lemmas.List.{append-nil, length-append, length-take, take-append-le, take-take, take_all}
 use Rattle.volume_layout.specs.declared.layout.Layout.{Layout}
 use Rattle.volume_layout.specs.Layout.{plan}
@@ -27,6 +27,7 @@ use Rattle.fsd_files.specs.Kept.{IsEntryOf, Lists}
 use Rattle.fsd_files.specs.Replies.{Reply}
 use Rattle.fsd_files.specs.Volume.{Volume, drawn, forced_for_place, forced_if, place_for}
 use Rattle.fsd_sound.specs.Sound.{IsPrefixOf, IsSaid, IsSound}
+use Rattle.fsd_sound.proofs.WindowLaws.{last_snoc}
 use Rattle.fsd_texts.specs.declared.command.Command.{Command}
 use Rattle.fsd_texts.specs.declared.command.Command.TheVariants as Word
 use Rattle.fsd_texts.specs.declared.fault.Fault.{Fault}
@@ -38,7 +39,7 @@ use Rattle.fsd_runs.specs.declared.request.Request.{Request}
 use Rattle.fsd_runs.specs.declared.request.Request.TheVariants as Asks
 use Rattle.fsd_runs.specs.Commands.{answer, changes_of, version_line}
 use Rattle.fsd_runs.specs.Errands.{Cut, Turn, MayCut, alone, alone_ending, answered_so, blank, fault_status, reply_status}
-use Rattle.fsd_runs.specs.Leaves.{IsBroken, IsReplied, IsSoundAsSaid, IsSpent, IsUndone, IsUnsaid, LeavesBy, LeavesMounted, LeavesRun, LeftSince, Unbegun}
+use Rattle.fsd_runs.specs.Leaves.{IsBroken, IsReplied, IsSoundAsSaid, IsSpent, IsUnderWay, IsUndone, IsUnsaid, LeavesBy, LeavesMounted, LeavesRun, LeftSince, Unbegun, Whatever}
 use Rattle.fsd_runs.specs.Sessions.{Meeting, session_over}
 use Rattle.fsd_runs.specs.Runs.{Goes, IsCutAt, IsThrough, answered, changes_in, errand_in, run_end, run_status, run_turns, said_in, turn_of, turns_of}
 use Rattle.cfs_program.specs.Drill.{KeepsFirst, ListsPrefix, list_text, version_text}
@@ -78,10 +79,6 @@ list_is files entries lists =
 few_taken : (n made : ℕ) (h : List Change) → n ≤ length (take made h) → (n ≤ made) × (n ≤ length h)
 few_taken n made h le = let long = length-take made h in (omega (arith, long, le), omega (arith, long, le))
 
-last_is : (windows : List WeakRun) (o : Option WeakRun) (run : WeakRun) → last_or o (windows ++ run ∷ []) ≡ Some run
-last_is [] o run = refl
-last_is (w ∷ windows) o run = last_is windows (Some w) run
-
 -- ---- a format
 
 pub kept_made : (l : Layout) (now : Moment) → plan l.kind l.sectors l.third l.pages ≡ Ok l → HoldsVolume l now → KeepsFirst [] 0 now
@@ -119,6 +116,10 @@ memory_stops m t left = StopSince (memory_left m) t left
 abbrev pub MemoryStops : MemoryMachine → MemoryMachine → (Moment → Type 0) → Type 0
 MemoryStops old new P = LeavesOnly memory_calls memory_stops old new P
 
+-- each moment since the last sync has P
+abbrev pub MemoryHeld : MemoryMachine → (Moment → Type 0) → Type 0
+MemoryHeld m P = (c : Moment) → memory_left m (memory_now m).synced c → P c
+
 -- of a machine of which nothing was asked yet all is on the disk
 pub held_again : (h : List Change) (f : ℕ) (m : MemoryMachine) (image : Image) (windows : Windows) → memory_now m ≡ record { image = image; windows = windows; said = []; time = 0; synced = 0 } → (k : KeepsFirst h f (memory_now m))
     → (c : Moment) → memory_left m (memory_now m).synced c → IsSoundAsSaid k.layout k.windows (take k.made h) k.forced (memory_now m).image c.image
@@ -140,9 +141,9 @@ fault_not_zero Ends.InputTooLong e = omega (arith, e)
 fault_not_zero Ends.Memory e = omega (arith, e)
 fault_not_zero Ends.WornOut e = omega (arith, e)
 
-broken_not_zero : (request : Request) (Undone : ℕ → Image → Type 0) (before after : Report) (turns : List Turn) (old new : Moment) (result : ℕ) → IsUnsaid before after result ⊎ IsBroken request Undone before after turns old new result → result ≡ 0 → ⊥
-broken_not_zero request Undone before now turns old new result (inl unsaid) nought = let six = unsaid.ends in omega (arith, nought, six)
-broken_not_zero request Undone before now turns old new result (inr broken) nought = fault_not_zero broken.why (sym broken.ends ∙ nought)
+broken_not_zero : (request : Request) (Undone : ℕ → Image → Type 0) (Way : ℕ → Type 0) (before after : Report) (turns : List Turn) (old new : Moment) (result : ℕ) → IsUnsaid before after result ⊎ IsBroken request Undone Way before after turns old new result → result ≡ 0 → ⊥
+broken_not_zero request Undone Way before now turns old new result (inl unsaid) nought = let six = unsaid.ends in omega (arith, nought, six)
+broken_not_zero request Undone Way before now turns old new result (inr broken) nought = fault_not_zero broken.why (sym broken.ends ∙ nought)
 
 -- ---- one command
 
@@ -277,20 +278,20 @@ kept_mounted l windows next h g f made forced now planned settled sound is few s
   some = some;
   sound = record {
     planned = planned;
-    ends = record { last = last_is windows None next ∙ sym (ap (λ (w : Windows). w.present) settled); some = subst (λ (w : Windows). IsSome w.present) (sym settled) refl };
+    ends = record { last = last_snoc None windows next ∙ sym (ap (λ (w : Windows). w.present) settled); some = subst (λ (w : Windows). IsSome w.present) (sym settled) refl };
     sound = subst (λ (x : List Change). IsSound l (windows ++ next ∷ []) x forced now.image) is sound;
   };
 }
 
-module _ (name : List ℕ) (byte : ℕ) (h : List Change) (old new : Moment) (k : KeepsFirst h (length h) old) (rest : List ℕ) (Past Stops : ℕ → Moment → Type 0) (began : ℕ) (Only : (Moment → Type 0) → Type 0) (before after_it : Report) (result : ℕ) where
+module _ (name : List ℕ) (byte : ℕ) (h : List Change) (old new : Moment) (k : KeepsFirst h (length h) old) (rest : List ℕ) (Past Stops : ℕ → Moment → Type 0) (began : ℕ) (Only Held : (Moment → Type 0) → Type 0) (before after_it : Report) (result : ℕ) where
   abbrev more : List Change
   more = h ++ the_change name byte ∷ []
 
   abbrev Leaves : Type 0
-  Leaves = LeavesBy (the_request name byte) (byte ∷ []) rest k.layout k.windows (take k.made h) k.forced Past Stops began Only before after_it old new result
+  Leaves = LeavesBy (the_request name byte) (byte ∷ []) rest k.layout k.windows (take k.made h) k.forced Past Stops began Only Held before after_it old new result
 
   abbrev Mounted : Type 0
-  Mounted = LeavesMounted (the_request name byte) (byte ∷ []) rest k.layout k.windows (take k.made h) k.forced Past Stops began Only before after_it old new result
+  Mounted = LeavesMounted (the_request name byte) (byte ∷ []) rest k.layout k.windows (take k.made h) k.forced Past Stops began Only Held before after_it old new result
 
   long : length more ≡ length h + 1
   long = length-append h (the_change name byte ∷ [])
@@ -306,13 +307,13 @@ module _ (name : List ℕ) (byte : ℕ) (h : List Change) (old new : Moment) (k 
   done_by : result ≡ 0 → Leaves → KeepsFirst more (length h + 1) new
   done_by nought (inl u) = absurd (by u.ends)
     where
-      by : IsSpent old new result ⊎ (IsUnsaid before after_it result ⊎ IsBroken (the_request name byte) Unbegun before after_it (blank ∷ []) old new result) → ⊥
+      by : IsSpent old new result ⊎ (IsUnsaid before after_it result ⊎ IsBroken (the_request name byte) Unbegun Whatever before after_it (blank ∷ []) old new result) → ⊥
       by (inl spent) = let nine = spent.ends in omega (arith, nought, nine)
-      by (inr other) = broken_not_zero (the_request name byte) Unbegun before after_it (blank ∷ []) old new result other nought
+      by (inr other) = broken_not_zero (the_request name byte) Unbegun Whatever before after_it (blank ∷ []) old new result other nought
   done_by nought (inr m) = by m.ends
     where
-      by : (IsThrough m.run × IsReplied k.layout k.windows m.next (take k.made h) m.count (run_turns m.run) (run_status m.run) (run_end m.run) old new result)
-          ⊎ (IsUnsaid before after_it result ⊎ IsBroken (the_request name byte) (IsUndone k.layout (k.windows ++ m.next ∷ []) (take m.count (take k.made h)) m.count (run_turns m.run)) before after_it (run_turns m.run) old new result)
+      by : (IsThrough m.run × IsReplied k.layout k.windows m.next (take k.made h) m.count (run_turns m.run) (run_status m.run) (run_end m.run) Held old new result)
+          ⊎ (IsUnsaid before after_it result ⊎ IsBroken (the_request name byte) (IsUndone k.layout (k.windows ++ m.next ∷ []) (take m.count (take k.made h)) m.count (run_turns m.run)) (IsUnderWay k.layout (k.windows ++ m.next ∷ []) (take m.count (take k.made h)) m.count (run_turns m.run) Held) before after_it (run_turns m.run) old new result)
           → KeepsFirst more (length h + 1) new
       by (inl (through, replied)) =
           let found = all_found m.count m.prefix in
@@ -322,7 +323,7 @@ module _ (name : List ℕ) (byte : ℕ) (h : List Change) (old new : Moment) (k 
           let both : take m.count (take k.made h) ++ changes_in (run_turns m.run) ≡ more = λ i. found.1 i ++ one i in
           kept_mounted k.layout k.windows m.next more (take m.count (take k.made h) ++ changes_in (run_turns m.run)) (length h + 1) (length more) (m.count + length (changes_in (run_turns m.run))) new k.sound.planned replied.settled replied.sound
           (both ∙ sym (take_all (length more) more (omega arith))) (omega arith) (omega (arith, count, single))
-      by (inr other) = absurd (broken_not_zero (the_request name byte) (IsUndone k.layout (k.windows ++ m.next ∷ []) (take m.count (take k.made h)) m.count (run_turns m.run)) before after_it (run_turns m.run) old new result other nought)
+      by (inr other) = absurd (broken_not_zero (the_request name byte) (IsUndone k.layout (k.windows ++ m.next ∷ []) (take m.count (take k.made h)) m.count (run_turns m.run)) (IsUnderWay k.layout (k.windows ++ m.next ∷ []) (take m.count (take k.made h)) m.count (run_turns m.run) Held) before after_it (run_turns m.run) old new result other nought)
 
   left_by : Leaves → KeepsFirst more (length h) new
   left_by (inl u) = record {
@@ -355,17 +356,17 @@ module _ (name : List ℕ) (byte : ℕ) (h : List Change) (old new : Moment) (k 
       by (inl none) = kept (length h) ((λ i. found.1 i ++ none i) ∙ append-nil h ∙ sym (take_all (length h) h (omega arith)) ∙ sym (take-append-le (length h) h (the_change name byte ∷ []) (omega arith))) (omega (arith, long))
       by (inr one) = kept (length more) ((λ i. found.1 i ++ one i) ∙ sym (take_all (length more) more (omega arith))) (omega arith)
 
-module _ (h : List Change) (f : ℕ) (old new : Moment) (k : KeepsFirst h f old) (rest : List ℕ) (Past Stops : ℕ → Moment → Type 0) (began : ℕ) (Only : (Moment → Type 0) → Type 0) (before after_it : Report) (result : ℕ) where
-  listed_by : old.said ≡ [] → result ≡ 0 → LeavesBy (Asks.One all_versions) [] rest k.layout k.windows (take k.made h) k.forced Past Stops began Only before after_it old new result → ListsPrefix h f new.said
+module _ (h : List Change) (f : ℕ) (old new : Moment) (k : KeepsFirst h f old) (rest : List ℕ) (Past Stops : ℕ → Moment → Type 0) (began : ℕ) (Only Held : (Moment → Type 0) → Type 0) (before after_it : Report) (result : ℕ) where
+  listed_by : old.said ≡ [] → result ≡ 0 → LeavesBy (Asks.One all_versions) [] rest k.layout k.windows (take k.made h) k.forced Past Stops began Only Held before after_it old new result → ListsPrefix h f new.said
   listed_by unsaid nought (inl u) = absurd (by u.ends)
     where
-      by : IsSpent old new result ⊎ (IsUnsaid before after_it result ⊎ IsBroken (Asks.One all_versions) Unbegun before after_it (blank ∷ []) old new result) → ⊥
+      by : IsSpent old new result ⊎ (IsUnsaid before after_it result ⊎ IsBroken (Asks.One all_versions) Unbegun Whatever before after_it (blank ∷ []) old new result) → ⊥
       by (inl spent) = let nine = spent.ends in omega (arith, nought, nine)
-      by (inr other) = broken_not_zero (Asks.One all_versions) Unbegun before after_it (blank ∷ []) old new result other nought
+      by (inr other) = broken_not_zero (Asks.One all_versions) Unbegun Whatever before after_it (blank ∷ []) old new result other nought
   listed_by unsaid nought (inr m) = by m.ends
     where
-      by : (IsThrough m.run × IsReplied k.layout k.windows m.next (take k.made h) m.count (run_turns m.run) (run_status m.run) (run_end m.run) old new result)
-          ⊎ (IsUnsaid before after_it result ⊎ IsBroken (Asks.One all_versions) (IsUndone k.layout (k.windows ++ m.next ∷ []) (take m.count (take k.made h)) m.count (run_turns m.run)) before after_it (run_turns m.run) old new result)
+      by : (IsThrough m.run × IsReplied k.layout k.windows m.next (take k.made h) m.count (run_turns m.run) (run_status m.run) (run_end m.run) Held old new result)
+          ⊎ (IsUnsaid before after_it result ⊎ IsBroken (Asks.One all_versions) (IsUndone k.layout (k.windows ++ m.next ∷ []) (take m.count (take k.made h)) m.count (run_turns m.run)) (IsUnderWay k.layout (k.windows ++ m.next ∷ []) (take m.count (take k.made h)) m.count (run_turns m.run) Held) before after_it (run_turns m.run) old new result)
           → ListsPrefix h f new.said
       by (inl (through, replied)) =
           let found = found_of h f old k m.count m.prefix in
@@ -379,7 +380,7 @@ module _ (h : List Change) (f : ℕ) (old new : Moment) (k : KeepsFirst h f old)
                 ∙ list_is m.volume.files m.volume.entries m.starts.described.lists
                 ∙ ap list_text files;
           }
-      by (inr other) = absurd (broken_not_zero (Asks.One all_versions) (IsUndone k.layout (k.windows ++ m.next ∷ []) (take m.count (take k.made h)) m.count (run_turns m.run)) before after_it (run_turns m.run) old new result other nought)
+      by (inr other) = absurd (broken_not_zero (Asks.One all_versions) (IsUndone k.layout (k.windows ++ m.next ∷ []) (take m.count (take k.made h)) m.count (run_turns m.run)) (IsUnderWay k.layout (k.windows ++ m.next ∷ []) (take m.count (take k.made h)) m.count (run_turns m.run) Held) before after_it (run_turns m.run) old new result other nought)
 
 -- ---- by the layout that a root says
 
@@ -394,16 +395,16 @@ kept_by h f now k layout said = record {
   sound = said_disk k.layout layout k.windows (take k.made h) k.forced now said k.sound;
 }
 
-module _ (name : List ℕ) (byte : ℕ) (h : List Change) (old new : Moment) (k : KeepsFirst h (length h) old) (rest : List ℕ) (Past Stops : ℕ → Moment → Type 0) (began : ℕ) (Only : (Moment → Type 0) → Type 0) (before after_it : Report) (result : ℕ) where
+module _ (name : List ℕ) (byte : ℕ) (h : List Change) (old new : Moment) (k : KeepsFirst h (length h) old) (rest : List ℕ) (Past Stops : ℕ → Moment → Type 0) (began : ℕ) (Only Held : (Moment → Type 0) → Type 0) (before after_it : Report) (result : ℕ) where
   abbrev LeavesPut : Type 0
-  LeavesPut = LeavesRun (the_request name byte) (byte ∷ []) rest k.layout k.windows (take k.made h) k.forced Past Stops began Only before after_it old new result
+  LeavesPut = LeavesRun (the_request name byte) (byte ∷ []) rest k.layout k.windows (take k.made h) k.forced Past Stops began Only Held before after_it old new result
 
   pub kept_done : result ≡ 0 → LeavesPut → KeepsFirst (h ++ the_change name byte ∷ []) (length h + 1) new
-  kept_done nought (layout, said, leaves) = done_by name byte h old new (kept_by h (length h) old k layout said) rest Past Stops began Only before after_it result nought leaves
+  kept_done nought (layout, said, leaves) = done_by name byte h old new (kept_by h (length h) old k layout said) rest Past Stops began Only Held before after_it result nought leaves
 
   pub kept_left : LeavesPut → KeepsFirst (h ++ the_change name byte ∷ []) (length h) new
-  kept_left (layout, said, leaves) = left_by name byte h old new (kept_by h (length h) old k layout said) rest Past Stops began Only before after_it result leaves
+  kept_left (layout, said, leaves) = left_by name byte h old new (kept_by h (length h) old k layout said) rest Past Stops began Only Held before after_it result leaves
 
-module _ (h : List Change) (f : ℕ) (old new : Moment) (k : KeepsFirst h f old) (rest : List ℕ) (Past Stops : ℕ → Moment → Type 0) (began : ℕ) (Only : (Moment → Type 0) → Type 0) (before after_it : Report) (result : ℕ) where
-  pub kept_listed : old.said ≡ [] → result ≡ 0 → LeavesRun (Asks.One all_versions) [] rest k.layout k.windows (take k.made h) k.forced Past Stops began Only before after_it old new result → ListsPrefix h f new.said
-  kept_listed unsaid nought (layout, said, leaves) = listed_by h f old new (kept_by h f old k layout said) rest Past Stops began Only before after_it result unsaid nought leaves
+module _ (h : List Change) (f : ℕ) (old new : Moment) (k : KeepsFirst h f old) (rest : List ℕ) (Past Stops : ℕ → Moment → Type 0) (began : ℕ) (Only Held : (Moment → Type 0) → Type 0) (before after_it : Report) (result : ℕ) where
+  pub kept_listed : old.said ≡ [] → result ≡ 0 → LeavesRun (Asks.One all_versions) [] rest k.layout k.windows (take k.made h) k.forced Past Stops began Only Held before after_it old new result → ListsPrefix h f new.said
+  kept_listed unsaid nought (layout, said, leaves) = listed_by h f old new (kept_by h f old k layout said) rest Past Stops began Only Held before after_it result unsaid nought leaves

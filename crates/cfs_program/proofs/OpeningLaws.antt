@@ -14,7 +14,7 @@ use Rattle.sector_disk.proofs.Lags.{shows_of, stops_by}
 use Rattle.sector_disk.proofs.Moments.{goes_on, leaves_more, started, then_on}
 use Rattle.sector_disk.proofs.Wear.{worn_trans}
 use Rattle.fsd_files.specs.Files.{Change}
-use Rattle.fsd_files.specs.Disk.{Image, in_runs}
+use Rattle.fsd_files.specs.Disk.{Image, Sectors, in_runs}
 use Rattle.fsd_sound.specs.Sound.{IsSaid, IsSound, weak_of}
 use Rattle.fsd_sound.proofs.WindowLaws.{named_from}
 use Rattle.fsd_sound.proofs.MoreLaws.{wear_sound}
@@ -27,7 +27,8 @@ use Rattle.fsd_texts.specs.Text.{fault_text}
 use Rattle.fsd_runs.specs.declared.request.Request.{Request}
 use Rattle.fsd_runs.specs.declared.request.Request.TheVariants.{Put}
 use Rattle.fsd_runs.specs.Errands.{Cut, Turn}
-use Rattle.fsd_runs.specs.Leaves.{CutCause, IsBroken, IsOutside, IsReplied, IsSoundAsSaid, IsSpent, IsUndone, IsUnsaid, LeavesBy, LeavesMounted, LeavesRun, LeavesUnmounted, Left, LeftBefore, LeftSince, SaysFault}
+use Rattle.fsd_runs.specs.Leaves.{CutCause, IsBroken, IsOutside, IsReplied, IsSoundAsSaid, IsSpent, IsUnderWay, IsUndone, IsUnsaid, LeavesBy, LeavesMounted, LeavesRoots, LeavesRun, LeavesUnmounted, Left, LeftBefore, LeftSince, SaysFault}
+use Rattle.fsd_runs.proofs.LeaveLaws.{one_more}
 use Rattle.fsd_runs.specs.Sessions.{session_over}
 use Rattle.fsd_runs.specs.Runs.{Goes, IsCutAt, IsThrough, Run, errand_in, run_end, run_status, run_turns, said_in}
 use Rattle.volume_contract.specs.Mount.{IsSoundAt}
@@ -108,6 +109,10 @@ module _ (l : Layout) (windows : List WeakRun) (h : List Change) (f : ℕ) (old 
     left_on run n turns left (inl x) = inl (before_on left x)
     left_on run n turns left (inr x) = inr (since_on run n turns left x)
 
+    roots_on : (own : Layout) (weak : Sectors) (left : Moment) → LeavesRoots own weak at left → LeavesRoots own weak old left
+    roots_on own weak left (inl (part, fault, said)) = inl (part, fault, said ∙ ap (λ (s : List ℕ). s ++ part) found.said)
+    roots_on own weak left (inr roots) = inr roots
+
     -- the disk that the mount finds
     pub sound_found : (count : ℕ) → count ≡ min (length at.image) (2 ^ 32 - 1) → IsSoundAt count l windows h f at
     sound_found count size =
@@ -128,20 +133,21 @@ module _ (l : Layout) (windows : List WeakRun) (h : List Change) (f : ℕ) (old 
       unsaid_on : IsUnsaid b c status → IsUnsaid a c status
       unsaid_on x = record { ends = x.ends; rose = rose_on a.output_faults b.output_faults c.output_faults same.output x.rose }
 
-      broken_on : {Undone : ℕ → Image → Type 0} (turns : List Turn) → IsBroken request Undone b c turns at new status → IsBroken request Undone a c turns old new status
+      broken_on : {Undone : ℕ → Image → Type 0} {Way : ℕ → Type 0} (turns : List Turn) → IsBroken request Undone Way b c turns at new status → IsBroken request Undone Way a c turns old new status
       broken_on turns x = record {
         why = x.why;
         outside = outside_on request a b c x.why same x.outside;
         ends = x.ends;
         says = record { whole = x.says.whole; more = x.says.more; said = x.says.said ∙ ap (λ (s : List ℕ). s ++ (said_in (take x.says.whole turns) ++ fault_text x.why)) found.said };
+        held = x.held;
         undone = x.undone;
       }
 
-      failed_on : {Undone : ℕ → Image → Type 0} (turns : List Turn) → IsUnsaid b c status ⊎ IsBroken request Undone b c turns at new status → IsUnsaid a c status ⊎ IsBroken request Undone a c turns old new status
+      failed_on : {Undone : ℕ → Image → Type 0} {Way : ℕ → Type 0} (turns : List Turn) → IsUnsaid b c status ⊎ IsBroken request Undone Way b c turns at new status → IsUnsaid a c status ⊎ IsBroken request Undone Way a c turns old new status
       failed_on turns (inl x) = inl (unsaid_on x)
       failed_on turns (inr x) = inr (broken_on turns x)
 
-      spent_or : {Undone : ℕ → Image → Type 0} (turns : List Turn) → IsSpent at new status ⊎ (IsUnsaid b c status ⊎ IsBroken request Undone b c turns at new status) → IsSpent old new status ⊎ (IsUnsaid a c status ⊎ IsBroken request Undone a c turns old new status)
+      spent_or : {Undone : ℕ → Image → Type 0} {Way : ℕ → Type 0} (turns : List Turn) → IsSpent at new status ⊎ (IsUnsaid b c status ⊎ IsBroken request Undone Way b c turns at new status) → IsSpent old new status ⊎ (IsUnsaid a c status ⊎ IsBroken request Undone Way a c turns old new status)
       spent_or turns (inl x) = inl (spent_on new status x)
       spent_or turns (inr x) = inr (failed_on turns x)
 
@@ -164,16 +170,17 @@ module _ {D : Type 0} (M : Ghosts D) (l : Layout) (windows : List WeakRun) (h : 
 module _ {D : Type 0} (M : Ghosts D) (request : Request) (input rest : List ℕ) (l : Layout) (windows : List WeakRun) (h : List Change) (f : ℕ) (a b c : D) (status : ℕ)
     (sound : IsSoundDisk l windows h f (M.now a)) (short : AreShort (M.now a).windows)
     (ahead : StopsOnly M a b (LeftBefore l windows h f (M.now a))) (found : Keeps (M.now a) (M.now b)) (same : CountsNone (M.report a) (M.report b)) where
-  opened_unmounted : LeavesUnmounted request l windows h f (StopsOnly M b c) (M.report b) (M.report c) (M.now b) (M.now c) status
-      → LeavesUnmounted request l windows h f (StopsOnly M a c) (M.report a) (M.report c) (M.now a) (M.now c) status
+  opened_unmounted : LeavesUnmounted request l windows h f (StopsOnly M b c) (IsHeld M c) (M.report b) (M.report c) (M.now b) (M.now c) status
+      → LeavesUnmounted request l windows h f (StopsOnly M a c) (IsHeld M c) (M.report a) (M.report c) (M.now a) (M.now c) status
   opened_unmounted u = record {
     moments = then_on M.moment (stops M) a b c (LeftBefore l windows h f (M.now a)) ahead
         (leaves_more M.moment (stops M) b c (LeftBefore l windows h f (M.now b)) (LeftBefore l windows h f (M.now a)) (before_on l windows h f (M.now a) sound short (M.now b) found) u.moments);
     exit = before_on l windows h f (M.now a) sound short (M.now b) found (M.now c) u.exit;
+    held = u.held;
     ends = spent_or l windows h f (M.now a) sound short (M.now b) found request (M.report a) (M.report b) (M.report c) same (M.now c) status _ u.ends;
   }
 
-  module _ (m : LeavesMounted request input rest l windows h f (M.left_since c) (stops M c) (M.moment b) (StopsOnly M b c) (M.report b) (M.report c) (M.now b) (M.now c) status) where
+  module _ (m : LeavesMounted request input rest l windows h f (M.left_since c) (stops M c) (M.moment b) (StopsOnly M b c) (IsHeld M c) (M.report b) (M.report c) (M.now b) (M.now c) status) where
     abbrev turns : List Turn
     turns = run_turns m.run
 
@@ -186,15 +193,24 @@ module _ {D : Type 0} (M : Ghosts D) (request : Request) (input rest : List ℕ)
       goes = subst (λ (base : List ℕ). Goes (in_runs (windows ++ m.next ∷ [])) (M.left_since c m.at) (IsCutAt m.run.cut) (errand_in request input m.run.cut) base m.from (session_over m.volume) m.run.mets (errand_in request input m.run.cut).commands) found.said m.run.goes;
     }
 
-    replied_on : IsReplied l windows m.next h m.count turns (run_status m.run) (run_end m.run) (M.now b) (M.now c) status → IsReplied l windows m.next h m.count turns (run_status m.run) (run_end m.run) (M.now a) (M.now c) status
-    replied_on x = record { ends = x.ends; said = x.said ∙ ap (λ (s : List ℕ). s ++ said_in turns) found.said; settled = x.settled; sound = x.sound; tells = x.tells; roots = x.roots }
+    replied_on : IsReplied l windows m.next h m.count turns (run_status m.run) (run_end m.run) (IsHeld M c) (M.now b) (M.now c) status → IsReplied l windows m.next h m.count turns (run_status m.run) (run_end m.run) (IsHeld M c) (M.now a) (M.now c) status
+    replied_on x = record { ends = x.ends; said = x.said ∙ ap (λ (s : List ℕ). s ++ said_in turns) found.said; settled = x.settled; sound = x.sound; held = x.held; tells = x.tells; roots = x.roots; rooted = x.rooted }
 
-    ends_on : (IsThrough m.run × IsReplied l windows m.next h m.count turns (run_status m.run) (run_end m.run) (M.now b) (M.now c) status) ⊎ (IsUnsaid (M.report b) (M.report c) status ⊎ IsBroken request (IsUndone l (windows ++ m.next ∷ []) (take m.count h) m.count turns) (M.report b) (M.report c) turns (M.now b) (M.now c) status)
-        → (IsThrough run_is × IsReplied l windows m.next h m.count (run_turns run_is) (run_status run_is) (run_end run_is) (M.now a) (M.now c) status) ⊎ (IsUnsaid (M.report a) (M.report c) status ⊎ IsBroken request (IsUndone l (windows ++ m.next ∷ []) (take m.count h) m.count (run_turns run_is)) (M.report a) (M.report c) (run_turns run_is) (M.now a) (M.now c) status)
+    ends_on : (IsThrough m.run × IsReplied l windows m.next h m.count turns (run_status m.run) (run_end m.run) (IsHeld M c) (M.now b) (M.now c) status) ⊎ (IsUnsaid (M.report b) (M.report c) status ⊎ IsBroken request (IsUndone l (windows ++ m.next ∷ []) (take m.count h) m.count turns) (IsUnderWay l (windows ++ m.next ∷ []) (take m.count h) m.count turns (IsHeld M c)) (M.report b) (M.report c) turns (M.now b) (M.now c) status)
+        → (IsThrough run_is × IsReplied l windows m.next h m.count (run_turns run_is) (run_status run_is) (run_end run_is) (IsHeld M c) (M.now a) (M.now c) status) ⊎ (IsUnsaid (M.report a) (M.report c) status ⊎ IsBroken request (IsUndone l (windows ++ m.next ∷ []) (take m.count h) m.count (run_turns run_is)) (IsUnderWay l (windows ++ m.next ∷ []) (take m.count h) m.count (run_turns run_is) (IsHeld M c)) (M.report a) (M.report c) (run_turns run_is) (M.now a) (M.now c) status)
     ends_on (inl (through, replied)) = inl (through, replied_on replied)
     ends_on (inr failed) = inr (failed_on l windows h f (M.now a) sound short (M.now b) found request (M.report a) (M.report b) (M.report c) same (M.now c) status turns failed)
 
-    opened_mounted : LeavesMounted request input rest l windows h f (M.left_since c) (stops M c) (M.moment a) (StopsOnly M a c) (M.report a) (M.report c) (M.now a) (M.now c) status
+    -- what is said, and where both roots stand
+    abbrev Rooted : Moment → Moment → Type 0
+    Rooted old left = LeavesRoots (run_end m.run).layout (weak_of (windows ++ m.next ∷ [])) old left
+
+    rooted_on : StopsOnly M b c (Rooted (M.now b)) → StopsOnly M a c (Rooted (M.now a))
+    rooted_on run = then_on M.moment (stops M) a b c (Rooted (M.now a))
+        (leaves_more M.moment (stops M) a b (LeftBefore l windows h f (M.now a)) (Rooted (M.now a)) (λ left x. inl (x.part, x.fault, x.said)) ahead)
+        (leaves_more M.moment (stops M) b c (Rooted (M.now b)) (Rooted (M.now a)) (roots_on l windows h f (M.now a) sound short (M.now b) found (run_end m.run).layout (weak_of (windows ++ m.next ∷ []))) run)
+
+    opened_mounted : LeavesMounted request input rest l windows h f (M.left_since c) (stops M c) (M.moment a) (StopsOnly M a c) (IsHeld M c) (M.report a) (M.report c) (M.now a) (M.now c) status
     opened_mounted = record {
       count = m.count;
       prefix = m.prefix;
@@ -214,20 +230,21 @@ module _ {D : Type 0} (M : Ghosts D) (request : Request) (input rest : List ℕ)
           (leaves_more M.moment (stops M) a b (LeftBefore l windows h f (M.now a)) (Left l windows m.next h f m.count turns (M.now a)) (λ left x. inl x) ahead)
           (leaves_more M.moment (stops M) b c (Left l windows m.next h f m.count turns (M.now b)) (Left l windows m.next h f m.count turns (M.now a)) (left_on l windows h f (M.now a) sound short (M.now b) found m.next m.count turns) m.moments);
       later = λ left was. since_on l windows h f (M.now a) sound short (M.now b) found m.next m.count turns left (m.later left was);
+      rooted = one_more request rooted_on m.rooted;
       exit = since_on l windows h f (M.now a) sound short (M.now b) found m.next m.count turns (M.now c) m.exit;
       ends = ends_on m.ends;
     }
 
-  found_by : LeavesBy request input rest l windows h f (M.left_since c) (stops M c) (M.moment b) (StopsOnly M b c) (M.report b) (M.report c) (M.now b) (M.now c) status
-      → LeavesBy request input rest l windows h f (M.left_since c) (stops M c) (M.moment a) (StopsOnly M a c) (M.report a) (M.report c) (M.now a) (M.now c) status
+  found_by : LeavesBy request input rest l windows h f (M.left_since c) (stops M c) (M.moment b) (StopsOnly M b c) (IsHeld M c) (M.report b) (M.report c) (M.now b) (M.now c) status
+      → LeavesBy request input rest l windows h f (M.left_since c) (stops M c) (M.moment a) (StopsOnly M a c) (IsHeld M c) (M.report a) (M.report c) (M.now a) (M.now c) status
   found_by (inl u) = inl (opened_unmounted u)
   found_by (inr m) = inr (opened_mounted m)
 
 module _ {D : Type 0} (M : Ghosts D) (request : Request) (input rest : List ℕ) (l : Layout) (windows : List WeakRun) (h : List Change) (f : ℕ) (a b c : D) (status : ℕ)
     (sound : IsSoundDisk l windows h f (M.now a)) (short : AreShort (M.now a).windows) (at_a : IsTimed M a) (at_b : IsTimed M b) (held : IsHeld M a (λ c. IsSound l windows h f c.image))
     (time : Elapses (M.moment a) (M.moment b) (M.left_since a) (M.left_since b) (Before (M.now a) (M.now b))) (found : Finds (M.now a) (M.now b)) (same : CountsNone (M.report a) (M.report b)) where
-  opened_by : LeavesBy request input rest l windows h f (M.left_since c) (stops M c) (M.moment b) (StopsOnly M b c) (M.report b) (M.report c) (M.now b) (M.now c) status
-      → LeavesBy request input rest l windows h f (M.left_since c) (stops M c) (M.moment a) (StopsOnly M a c) (M.report a) (M.report c) (M.now a) (M.now c) status
+  opened_by : LeavesBy request input rest l windows h f (M.left_since c) (stops M c) (M.moment b) (StopsOnly M b c) (IsHeld M c) (M.report b) (M.report c) (M.now b) (M.now c) status
+      → LeavesBy request input rest l windows h f (M.left_since c) (stops M c) (M.moment a) (StopsOnly M a c) (IsHeld M c) (M.report a) (M.report c) (M.now a) (M.now c) status
   opened_by =
       let keeps = finds_keep (M.now a) (M.now b) found in
       found_by M request input rest l windows h f a b c status sound short
@@ -250,8 +267,8 @@ module _ {D : Type 0} (M : Ghosts D) (request : Request) (input rest : List ℕ)
     (sound : IsSoundDisk l windows h f (M.now a)) (short : AreShort (M.now a).windows) where
   -- behind an attach
   pub opened_run : IsTimed M a → IsTimed M b → IsHeld M a (λ c. IsSoundAsSaid l windows h f (M.now a).image c.image) → Elapses (M.moment a) (M.moment b) (M.left_since a) (M.left_since b) (Before (M.now a) (M.now b)) → Finds (M.now a) (M.now b) → CountsNone (M.report a) (M.report b)
-      → LeavesRun request input rest l windows h f (M.left_since c) (stops M c) (M.moment b) (StopsOnly M b c) (M.report b) (M.report c) (M.now b) (M.now c) status
-      → LeavesRun request input rest l windows h f (M.left_since c) (stops M c) (M.moment a) (StopsOnly M a c) (M.report a) (M.report c) (M.now a) (M.now c) status
+      → LeavesRun request input rest l windows h f (M.left_since c) (stops M c) (M.moment b) (StopsOnly M b c) (IsHeld M c) (M.report b) (M.report c) (M.now b) (M.now c) status
+      → LeavesRun request input rest l windows h f (M.left_since c) (stops M c) (M.moment a) (StopsOnly M a c) (IsHeld M c) (M.report a) (M.report c) (M.now a) (M.now c) status
   opened_run at_a at_b held time found same (layout, says, leaves) =
       let said = said_before l layout (M.now a) (M.now b) (finds_keep (M.now a) (M.now b) found) says in
       (layout, said, opened_by M request input rest layout windows h f a b c status (said_disk l layout windows h f (M.now a) said sound) short at_a at_b (λ c left. held c left layout said) time found same leaves)

@@ -8,7 +8,7 @@ use Rattle.volume_layout.specs.declared.layout.Layout.{Layout}
 use Rattle.volume_layout.specs.declared.fault.LayoutFault.{LayoutFault}
 use Rattle.volume_layout.specs.Layout.{plan}
 use Rattle.sector_disk.specs.declared.machine.Machine.{Ghosts}
-use Rattle.sector_disk.specs.Calls.{Counts, IsTimed, LeavesDisk, SparesDisk}
+use Rattle.sector_disk.specs.Calls.{Counts, IsHeld, IsTimed, LeavesDisk, SparesDisk}
 use Rattle.sector_disk.specs.Image.{AreShort}
 use Rattle.sector_disk.specs.Machine.{Ledger, Moment, Report, Rose, Trusts, Utters}
 use Rattle.sector_disk.proofs.Holding.{wears_none}
@@ -261,7 +261,7 @@ format_asked (Err why) path old new result status asks all inside = none asks.at
 pub ran_format : {D : Type 0} (M : Ghosts D) (n t p : ℕ) (kind : Kind) (path : List ℕ) (a b : D) (result : ℕ) → IsFormatStatus (plan kind n t p) result → CountsFaults (M.report a) (M.report b) result
     → (M.tells b → AsksAtMost (plan_asks (plan kind n t p) path) (M.ledger a) (M.ledger b)) → (result ≡ 0 → M.tells b → AsksAll (plan_asks (plan kind n t p) path) (M.ledger a) (M.ledger b))
     → Trusts (M.tells a) (M.tells b) (M.honest a) (M.honest b) → (M.honest b → SaysFormat (plan kind n t p) (M.report b).fault_place (M.now a) (M.now b) result)
-    → (result ≡ 0 → M.honest b → IsMadeBy (plan kind n t p) (M.now b)) → (M.honest b → SparesUnplanned (plan kind n t p) (M.now a) (M.now b)) → Ran M (Format n t p kind) path a b result
+    → (result ≡ 0 → M.honest b → IsMadeBy (plan kind n t p) (IsHeld M b)) → (M.honest b → SparesUnplanned (plan kind n t p) (M.now a) (M.now b)) → Ran M (Format n t p kind) path a b result
 ran_format M n t p kind path a b result status counts asks asked trust says made untouched = record {
   status = format_status_is (plan kind n t p) result status;
   complete = λ none. format_complete (plan kind n t p) result status (λ four. none.disk (counts.disk four)) (λ six. none.output (counts.output six));

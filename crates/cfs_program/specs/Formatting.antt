@@ -29,10 +29,10 @@ pub record MakesVolume (l : Layout) (old new : Moment) : Type 0 where
   pub holds : HoldsVolume l new
   pub said : new.said ≡ old.said
 
--- the image after status 0: a volume of the plan's numbers
-abbrev pub IsMadeBy : Result Layout LayoutFault → Moment → Type 0
-IsMadeBy (Ok l) new = HoldsVolume l new
-IsMadeBy (Err why) new = ⊥
+-- after status 0: whichever of the moments since the last sync is on the disk, it is a volume of the plan's numbers
+abbrev pub IsMadeBy : Result Layout LayoutFault → (Held : (Moment → Type 0) → Type 0) → Type 0
+IsMadeBy (Ok l) Held = Held (λ c. HoldsVolume l c)
+IsMadeBy (Err why) Held = ⊥
 
 -- a plan that is refused leaves the disk as it was
 abbrev pub SparesUnplanned : Result Layout LayoutFault → (old new : Moment) → Type 0

@@ -184,12 +184,13 @@ abbrev pub WritesAlone : Request → (old new : Moment) → Type 0
 WritesAlone (One command) old new = WritesFound command old new
 WritesAlone request old new = ⊤
 
--- after status 0
-abbrev pub HoldsAfter : Request → Moment → Type 0
-HoldsAfter Outside new = ⊥
-HoldsAfter (BadField cause) new = ⊥
-HoldsAfter (Format n t p kind) new = IsMadeBy (plan kind n t p) new
-HoldsAfter request new = ⊤
+-- After status 0, by what each moment since the last sync has, the present one among them: so a stop behind a format leaves
+-- its volume.
+abbrev pub HoldsAfter : Request → (Held : (Moment → Type 0) → Type 0) → Type 0
+HoldsAfter Outside Held = ⊥
+HoldsAfter (BadField cause) Held = ⊥
+HoldsAfter (Format n t p kind) Held = IsMadeBy (plan kind n t p) Held
+HoldsAfter request Held = ⊤
 
 -- a request that asks for no attach leaves the disk as it was
 abbrev pub SparesImage : Request → (old new : Moment) → Type 0
@@ -201,11 +202,12 @@ SparesImage request old new = ⊤
 
 -- ---- a sound disk
 
--- so a request that mounts its image leaves each sound disk, where each moment since the last sync is as sound
-abbrev pub LeavesSound : Request → (input rest : List ℕ) → (Held : (Moment → Type 0) → Type 0) → (Past Stops : ℕ → Moment → Type 0) → (began : ℕ) → (Only : (Moment → Type 0) → Type 0) → (before after : Report) → (old new : Moment) → (result : ℕ) → Type 0
-LeavesSound request input rest Held Past Stops began Only before after old new result =
-    (l : Layout) (windows : List WeakRun) (h : List Change) (f : ℕ) → IsSoundDisk l windows h f old → Held (λ c. IsSoundAsSaid l windows h f old.image c.image) →
-    IfMounts request (LeavesRun request (input_for request input) rest l windows h f Past Stops began Only before after old new result)
+-- So a request that mounts its image leaves each sound disk, where each moment since the last sync is as sound.
+-- First is what each of them has as the run begins, and Held what each has at its end.
+abbrev pub LeavesSound : Request → (input rest : List ℕ) → (First : (Moment → Type 0) → Type 0) → (Past Stops : ℕ → Moment → Type 0) → (began : ℕ) → (Only Held : (Moment → Type 0) → Type 0) → (before after : Report) → (old new : Moment) → (result : ℕ) → Type 0
+LeavesSound request input rest First Past Stops began Only Held before after old new result =
+    (l : Layout) (windows : List WeakRun) (h : List Change) (f : ℕ) → IsSoundDisk l windows h f old → First (λ c. IsSoundAsSaid l windows h f old.image c.image) →
+    IfMounts request (LeavesRun request (input_for request input) rest l windows h f Past Stops began Only Held before after old new result)
 
 -- ---- the whole
 
@@ -235,7 +237,7 @@ pub record Ran {D : Type 0} (M : Ghosts D) (request : Request) (path : List ℕ)
   pub last : IsTrue (is_of_fault result) → M.honest b → IfMounts request (SaysFault (M.report b).fault_place (M.now b) result)
   pub spent : result ≡ 9 → M.honest b → AsFound (HasSpent (made_for request)) (M.now a)
   pub all : result ≡ 0 → M.honest b → SaysToEnd request (M.left_since b (M.moment a)) (M.ledger a).input (M.now a).said (M.now b)
-  pub image : result ≡ 0 → M.honest b → HoldsAfter request (M.now b)
+  pub image : result ≡ 0 → M.honest b → HoldsAfter request (IsHeld M b)
   pub untouched : M.honest b → SparesImage request (M.now a) (M.now b)
-  pub leaves : M.honest b → LeavesSound request (M.ledger a).input (M.ledger b).input (IsHeld M a) (M.left_since b) (stops M b) (M.moment a) (StopsOnly M a b) (M.report a) (M.report b) (M.now a) (M.now b) result
+  pub leaves : M.honest b → LeavesSound request (M.ledger a).input (M.ledger b).input (IsHeld M a) (M.left_since b) (stops M b) (M.moment a) (StopsOnly M a b) (IsHeld M b) (M.report a) (M.report b) (M.now a) (M.now b) result
   pub accepted : M.honest b → AcceptsSound (M.now a) result

@@ -1,7 +1,7 @@
 //! The command `format`.
 ghost use Rattle.std.specs.Prelude.{◌≡◌, Ok, OnOk};
-ghost use Rattle.sector_disk.specs.Calls.{device_in, failed_at};
-ghost use Rattle.sector_disk.specs.Machine.{Trusts};
+ghost use Rattle.sector_disk.specs.Calls.{IsHeld, device_in, failed_at};
+ghost use Rattle.sector_disk.specs.Machine.{IsSynced, Trusts};
 ghost use Rattle.volume_layout.specs.Layout.{plan};
 ghost use Rattle.cfs_program.specs.Formatting.{AsksAll, AsksAtMost, CountsFaults, IsFormatStatus, IsMadeBy, MakesVolume, SaysFormat, SparesUnplanned, UsesAttach, plan_asks};
 
@@ -27,7 +27,7 @@ pub fn run_format<M: Machine>(
     ensures asked { result ≡ 0 → M.tells m.new → AsksAll (plan_asks (plan kind sectors third pages) path.now) (M.ledger m.old) (M.ledger m.new) }
     ensures trust { Trusts (M.tells m.old) (M.tells m.new) (M.honest m.old) (M.honest m.new) }
     ensures says { M.honest m.new → SaysFormat (plan kind sectors third pages) (M.report m.new).fault_place (M.now m.old) (M.now m.new) result }
-    ensures made { result ≡ 0 → M.honest m.new → IsMadeBy (plan kind sectors third pages) (M.now m.new) }
+    ensures made { result ≡ 0 → M.honest m.new → IsMadeBy (plan kind sectors third pages) (IsHeld M.Machine m.new) }
     ensures untouched { M.honest m.new → SparesUnplanned (plan kind sectors third pages) (M.now m.old) (M.now m.new) }
 {
     match plan_of(sectors, third, pages, kind) {
@@ -51,7 +51,7 @@ fn make<M: Machine>(m: &mut M, path: &str, l: &Layout) -> u8
     ensures asked { result ≡ 0 → M.tells m.new → AsksAll (plan_asks (Ok l.now) path.now) (M.ledger m.old) (M.ledger m.new) }
     ensures trust { Trusts (M.tells m.old) (M.tells m.new) (M.honest m.old) (M.honest m.new) }
     ensures says { M.honest m.new → SaysFormat (Ok l.now) (M.report m.new).fault_place (M.now m.old) (M.now m.new) result }
-    ensures made { result ≡ 0 → M.honest m.new → IsMadeBy (Ok l.now) (M.now m.new) }
+    ensures made { result ≡ 0 → M.honest m.new → IsMadeBy (Ok l.now) (IsHeld M.Machine m.new) }
 {
     let sectors = l.sectors();
     let free = sectors - l.data_start();
@@ -69,6 +69,7 @@ fn make_volume<M: Machine>(m: &mut M, path: &str, l: &Layout) -> Result<(), Fail
     ensures asked { OnOk result (M.tells m.new → AsksAll (plan_asks (Ok l.now) path.now) (M.ledger m.old) (M.ledger m.new)) }
     ensures quiet { M.honest m.new → (M.now m.new).said ≡ (M.now m.old).said }
     ensures made { OnOk result (M.honest m.new → MakesVolume l.now (M.now m.old) (M.now m.new)) }
+    ensures synced { OnOk result (M.honest m.new → IsSynced (M.now m.new)) }
 {
     match m.attach(path, Attach::New(l.sectors())) {
         Ok(_) => format(m, l),

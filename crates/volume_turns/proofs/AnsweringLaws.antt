@@ -356,9 +356,9 @@ behind_mount (Word.Put name bytes keep) sectors s a m b found windows rest = tt
 behind_mount (Word.List pattern) sectors s a m b found windows rest = touches_ages m b windows rest
 behind_mount (Word.Get key) sectors s a m b found windows rest = touches_ages m b windows rest
 behind_mount Word.Stat sectors s a m b found windows rest = touches_ages m b windows rest
-behind_mount Word.Scrub sectors s a m b found windows rest = inr (record { seen = found.seen; from = found.from; layout = s.layout; anchor = found.anchor; found = found.found }, rest)
+behind_mount Word.Scrub sectors s a m b found windows rest = inr (record { seen = found.seen; from = found.from; layout = s.layout; anchor = found.anchor; found = found.found; left = found.left }, rest)
 behind_mount Word.Upgrade sectors s a m b found windows rest = rest
-behind_mount command sectors s a m b found windows rest = inr (record { seen = found.seen; from = found.from; layout = s.layout; anchor = found.anchor; found = found.found }, rest)
+behind_mount command sectors s a m b found windows rest = inr (record { seen = found.seen; from = found.from; layout = s.layout; anchor = found.anchor; found = found.found; left = found.left }, rest)
 
 behind_nothing : (command : Command) (sectors : ℕ) (a m b : Moment) → Ages m b → WritesBehind command sectors a m b
 behind_nothing (Word.Put name bytes keep) sectors a m b ages = tt

@@ -92,7 +92,7 @@ module _ {S D : Type 0} {state : S → State} {M : Ghosts D} {sectors : ℕ} {v 
       → ((y : D) (t : ℕ) → M.honest y → t ≤ M.moment y → M.left_since y t (M.now y)) → ((y : D) → M.honest y → IsTimed M y) → IsHeld M a (λ c. IsSoundAsSaid l windows h f (M.now a).image c.image)
       → MountsSound state has l windows h f (M.left_since m) (M.moment a) (λ P. LeavesOnly M.moment M.left_since a m P) (M.now a) (M.now m) (Ok v)
       → ((k : Known) → (volume_of k).unforced ≡ 0 → k.opened ≡ none_open → Stands state has v k (M.now m) → OnDisk M k (forced_of k) m → RunsOut M request input rest (M.report m) k m b status)
-      → LeavesRun request input rest l windows h f (M.left_since b) (stops M b) (M.moment a) (StopsOnly M a b) (M.report a) (M.report b) (M.now a) (M.now b) status
+      → LeavesRun request input rest l windows h f (M.left_since b) (stops M b) (M.moment a) (StopsOnly M a b) (IsHeld M b) (M.report a) (M.report b) (M.now a) (M.now b) status
   over_leaves has request input rest l windows h f status honest since counts_now timed held sound runs =
       let back = x.trust.honest honest in
       let first = x.disk.trust.honest back in (
@@ -152,7 +152,7 @@ module _ {D : Type 0} {M : Ghosts D} {sectors : ℕ} {fault : MountFault} {why :
   pub refused_leaves : {S : Type 0} (state : S → State) (has : S → Mounted → List Placed → Type 0) (request : Request) (input rest : List ℕ) (l : Layout) (windows : List WeakRun) (h : List Change) (f : ℕ) → M.honest b → (M.honest m → AreShort (M.now m).windows)
       → ((y : D) (t : ℕ) → M.honest y → t ≤ M.moment y → M.left_since y t (M.now y)) → ((y : D) → M.honest y → IsTimed M y) → IsSoundAt sectors l windows h f (M.now a) → IsHeld M a (λ c. IsSoundAsSaid l windows h f (M.now a).image c.image)
       → MountsSound state has l windows h f (M.left_since m) (M.moment a) (λ P. LeavesOnly M.moment M.left_since a m P) (M.now a) (M.now m) (Err fault) → ((s : Session) → IsSome (slice_get (turns_of (errand_of request input) [] s) 0))
-      → LeavesRun request input rest l windows h f (M.left_since b) (stops M b) (M.moment a) (StopsOnly M a b) (M.report a) (M.report b) (M.now a) (M.now b) status
+      → LeavesRun request input rest l windows h f (M.left_since b) (stops M b) (M.moment a) (StopsOnly M a b) (IsHeld M b) (M.report a) (M.report b) (M.now a) (M.now b) status
   refused_leaves state has request input rest l windows h f honest short counts_now timed at held sound some =
       let back = x.says.trust.honest honest in
       let first = x.disk.trust.honest back in

@@ -33,7 +33,7 @@ use Rattle.volume_turns.specs.Numbers.{GoesUp}
 use Rattle.volume_turns.specs.Steps.{IsRefusedOn, IsToldOn, device_by, ended_by, reply_of}
 use Rattle.volume_turns.proofs.AnsweringLaws.{each}
 use Rattle.volume_turns.proofs.OrderLaws.{Never, few_best, never, passes_worn, refuses_worn, starts_up}
-use Rattle.volume_turns.proofs.StatusLaws.{look_up_ends, loss_looks}
+use Rattle.volume_turns.proofs.StatusLaws.{device_looks, look_up_ends, loss_looks}
 use Rattle.volume_turns.proofs.StepLaws.{same_device}
 use Rattle.volume_turns.proofs.ToldLaws.{told_so}
 use Rattle.volume_turns.proofs.WornLaws.{look_up_worn}
@@ -90,10 +90,6 @@ Declines c call i Breaks why = CallMayReply c call i (Reply.Refused why) ⊎ Bre
 -- the disk or the table told it, or the mount is worn out
 abbrev pub EndsRun : State → Refusal → Type 0
 EndsRun s why = IsLookUp why ⊎ ((why ≡ Why.WornOut) × IsTrue (is_worn s))
-
-device_looks : (why : Refusal) → IsDevice why → IsLookUp why
-device_looks (Why.Device s) is = tt
-device_looks why is = absurd is
 
 pub look_up_more : (c : ℕ) (call : Call) (i : Image) (s : State) (why : Refusal) → Declines c call i IsLookUp why → Declines c call i (EndsRun s) why
 look_up_more c call i s why (inl said) = inl said

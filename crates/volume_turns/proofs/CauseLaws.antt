@@ -76,7 +76,7 @@ call_says script AreCopies layout before why of old new status behind worn told 
 -- ---- a mount
 
 has_volume : (sectors : ℕ) (s : State) (old mounted : Moment) → IsFound sectors s old mounted → HasVolume sectors old
-has_volume sectors s old mounted f = record { seen = f.seen; from = f.from; layout = s.layout; anchor = f.anchor; found = f.found }
+has_volume sectors s old mounted f = record { seen = f.seen; from = f.from; layout = s.layout; anchor = f.anchor; found = f.found; left = f.left }
 
 -- what was said of it as the mount ended was said before
 pub call_since : (script : Bool) (AreCopies : Layout → ℕ → ℕ → Type 0) (layout : Layout) (before now : List ℕ) (new : Moment) → now ≡ before → SaysOfCall script AreCopies layout now new → SaysOfCall script AreCopies layout before new

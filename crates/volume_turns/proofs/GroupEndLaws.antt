@@ -13,6 +13,7 @@ use Rattle.fsd_files.specs.Desk.{Session}
 use Rattle.fsd_files.specs.Disk.{Image, Sectors, in_runs}
 use Rattle.fsd_files.specs.Files.{Change}
 use Rattle.fsd_files.specs.Volume.{Volume}
+use Rattle.fsd_sound.specs.Laid.{HasOwnRoots}
 use Rattle.fsd_sound.specs.Mounted.{telling_of}
 use Rattle.fsd_sound.specs.Shown.{told}
 use Rattle.fsd_sound.specs.Sound.{EndIn, IsSound, weak_of}
@@ -33,7 +34,7 @@ use Rattle.volume_turns.specs.declared.turns.End.TheVariants.{Fault as Stopped, 
 use Rattle.volume_turns.specs.Line.{EndsLast, EndsWith, is_unsaid}
 use Rattle.volume_turns.specs.Once.{IsDone}
 use Rattle.volume_turns.specs.Turns.{EndsAtOnce, InRun, Said, SaysAll, Told, Undone}
-use Rattle.volume_turns.specs.Whole.{Finishes, Halted, SaysOut}
+use Rattle.volume_turns.specs.Whole.{Finishes, Halted, SaysOut, UnderWay}
 use Rattle.volume_turns.proofs.HaltLaws.{broken_ends, broken_moments, ends_mid, held_behind, said_halts, said_halts_forced, said_halts_whole, says_part, sound_worn, stops_saying}
 use Rattle.volume_turns.proofs.OnceLaws.{roots_worn}
 use Rattle.volume_turns.proofs.TurnLaws.{forced_most, now_held, says_nothing}
@@ -198,11 +199,18 @@ module _ {D : Type 0} (M : Ghosts D) (k : Known) (front : List Turn) (line : Lin
     line_held : IsHeld M b (λ c. IsSoundStill c.image)
     line_held = held_behind M m b (text line) IsSoundStill at_m at_b (says.since honest) (says.any_moment honest) halted.sound worn
 
+    own_worn : (i : Image) → HasOwnRoots after.layout (weak_of k.windows) (M.now m).image → IsWorn (open_damage (M.now m).windows) (M.now m).image i → HasOwnRoots after.layout (weak_of k.windows) i
+    own_worn i roots wear = roots_worn after.layout (weak_of k.windows) (M.now m).image i (open_is_weak (M.now m).windows k.windows (M.now m).image i (ends_mid M k turns a m halted short ends) wear) roots
+
+    line_rooted : IsHeld M b (λ c. HasOwnRoots after.layout (weak_of k.windows) c.image)
+    line_rooted = held_behind M m b (text line) (λ i. HasOwnRoots after.layout (weak_of k.windows) i) at_m at_b (says.since honest) (says.any_moment honest) d.rooted own_worn
+
     done_last : SaysAll (text line) (M.now m) (M.now b) → IsDone M k turns after a b
     done_last all =
         let wears = open_is_weak (M.now m).windows k.windows (M.now m).image (M.now b).image (ends_mid M k turns a m halted short ends) all.ages.image in
         record {
           windows = all.ages.windows ∙ d.windows;
+          rooted = line_rooted;
           said = all_said (M.now b).said all.said;
           sound = sound_all (M.now b).image (now_held M b (λ c. IsSoundStill c.image) at_b line_held);
           held = λ c left. sound_all c.image (line_held c left);
@@ -239,7 +247,7 @@ module _ {D : Type 0} (M : Ghosts D) (request : Request) (before : Report) (k : 
   }
     where
       by : ((status ≡ gives) × IsDone M k (front ++ line_turn line ∷ []) after a b) ⊎ IsUnsaid before (M.report b) status
-          → SaysOut M e k mets a b status ⊎ (IsUnsaid before (M.report b) status ⊎ IsBroken request (Undone k (forced_of k) (turns_of e mets (session_over (volume_of k)))) before (M.report b) (turns_of e mets (session_over (volume_of k))) (M.now a) (M.now b) status)
+          → SaysOut M e k mets a b status ⊎ (IsUnsaid before (M.report b) status ⊎ IsBroken request (Undone k (forced_of k) (turns_of e mets (session_over (volume_of k)))) (UnderWay M k (turns_of e mets (session_over (volume_of k))) b) before (M.report b) (turns_of e mets (session_over (volume_of k))) (M.now a) (M.now b) status)
       by (inl done) = inl (record {
         through = through;
         gives = done.0 ∙ gives_is;
@@ -264,7 +272,7 @@ finishes_broken M request before k front through more a m b moments why said sho
       ahead = ahead;
       goes = goes;
       moments = subst (λ (ts : List Turn). StopsOnly M a b (InRun k (forced_of k) ts (M.now a))) (sym is) (broken_moments M request before k turns a m b moments why halted short ends at_m at_b once told status says honest ended);
-      ends = inr (subst (λ (ts : List Turn). IsUnsaid before (M.report b) status ⊎ IsBroken request (Undone k (forced_of k) ts) before (M.report b) ts (M.now a) (M.now b) status) (sym is) (broken_ends M request before k turns a m b moments why halted short ends at_m at_b once told status says honest ended));
+      ends = inr (subst (λ (ts : List Turn). IsUnsaid before (M.report b) status ⊎ IsBroken request (Undone k (forced_of k) ts) (UnderWay M k ts b) before (M.report b) ts (M.now a) (M.now b) status) (sym is) (broken_ends M request before k turns a m b moments why halted short ends at_m at_b once told status says honest ended));
     }
 
 -- the output has failed

@@ -69,7 +69,7 @@ module _ {S D : Type 0} (state : S → State) (has : S → Mounted → List Plac
     module _ (behind_it : StandsBehind state has M e (seated k no_clients) (forced_of k) ran.mets commands w a m) (result : Result Bool End) (at_text : ClosesAndSays M (known_of behind_it.after) behind_it.told forced_turn.said m b (unit_of result)) where
       both : (more : List Turn) → StopsOnly M a b (InRun k (forced_of k) (turns ++ forced_turn ∷ more) (M.now a))
       both more = then_on M.moment (stops M) a m b (InRun k (forced_of k) (turns ++ forced_turn ∷ more) (M.now a)) (ran.moments (forced_turn ∷ more))
-          (leaves_more M.moment (stops M) m b (InClose (known_of behind_it.after) behind_it.told forced_turn.said (M.now m)) (InRun k (forced_of k) (turns ++ forced_turn ∷ more) (M.now a))
+          (leaves_more M.moment (stops M) m b (InClose behind_it.after.mounted.volume.layout (known_of behind_it.after) behind_it.told forced_turn.said (M.now m)) (InRun k (forced_of k) (turns ++ forced_turn ∷ more) (M.now a))
           (λ left c. in_close k (known_of behind_it.after) (forced_of k) behind_it.told turns forced_turn more refl behind_it.layout behind_it.windows behind_it.changes behind_it.least behind_it.forced (M.now a) (M.now m) left behind_it.open_windows behind_it.said c) at_text.moments)
 
       all_changes : behind_it.after.changes ≡ k.changes ++ changes_in (turns ++ forced_turn ∷ [])
@@ -80,6 +80,9 @@ module _ {S D : Type 0} (state : S → State) (has : S → Mounted → List Plac
       sound_all i sound = subst (λ (h : List Change). IsSound k.mounted.volume.layout k.windows h (length h) i) all_changes
           (subst (λ (x : List WeakRun). IsSound k.mounted.volume.layout x behind_it.after.changes (length behind_it.after.changes) i) behind_it.windows
           (subst (λ (l : Layout). IsSound l behind_it.after.windows behind_it.after.changes (length behind_it.after.changes) i) behind_it.layout sound))
+
+      own_as : (i : Image) → HasOwnRoots behind_it.after.mounted.volume.layout (weak_of behind_it.after.windows) i → HasOwnRoots (behind ran.mets (session_over (volume_of k)) commands).volume.layout (weak_of k.windows) i
+      own_as i own = subst (λ (x : Session). HasOwnRoots x.volume.layout (weak_of k.windows) i) behind_it.is (subst (λ (x : List WeakRun). HasOwnRoots behind_it.after.mounted.volume.layout (weak_of x) i) behind_it.windows own)
 
       done : SaysClosed M (known_of behind_it.after) forced_turn.said m b → IsDone M k (turns ++ forced_turn ∷ []) (behind ran.mets (session_over (volume_of k)) commands).volume a b
       done c =
@@ -92,7 +95,8 @@ module _ {S D : Type 0} (state : S → State) (has : S → Mounted → List Plac
             lasts = subst (λ (x : List WeakRun). AllWorn (weak_of x) (λ j. told k.mounted.volume.layout j ≡ Some (telling_of (behind ran.mets (session_over (volume_of k)) commands).volume)) (M.now b).image) behind_it.windows
                 (subst (λ (l : Layout). AllWorn (weak_of behind_it.after.windows) (λ j. told l j ≡ Some (telling_of (behind ran.mets (session_over (volume_of k)) commands).volume)) (M.now b).image) behind_it.layout
                 (subst (λ (x : Session). AllWorn (weak_of behind_it.after.windows) (λ j. told behind_it.after.mounted.volume.layout j ≡ Some (telling_of x.volume)) (M.now b).image) behind_it.is c.lasts));
-            roots = subst (λ (x : Session). HasOwnRoots x.volume.layout (weak_of k.windows) (M.now b).image) behind_it.is (subst (λ (x : List WeakRun). HasOwnRoots behind_it.after.mounted.volume.layout (weak_of x) (M.now b).image) behind_it.windows c.roots);
+            roots = own_as (M.now b).image c.roots;
+            rooted = λ d left. own_as d.image (c.rooted d left);
           }
 
       said_all : (why : Fault) → Unclosed M (known_of behind_it.after) behind_it.told m b → Said M k (forced_of k) why turns a b

@@ -24,7 +24,7 @@ use Rattle.volume_contract.specs.State.{Known, forced_of}
 use Rattle.volume_turns.specs.declared.turns.End.TheVariants.{Fault as Stopped}
 use Rattle.volume_turns.specs.Line.{EndsWith, is_unsaid}
 use Rattle.volume_turns.specs.Turns.{EndsAtOnce, InRun, Said, SaysAll, Told, Undone}
-use Rattle.volume_turns.specs.Whole.{Halted}
+use Rattle.volume_turns.specs.Whole.{Halted, UnderWay}
 use Rattle.volume_turns.proofs.LineLaws.{at_once_ends, next_fault}
 use Rattle.volume_turns.proofs.TurnLaws.{now_held}
 
@@ -156,7 +156,7 @@ module _ {D : Type 0} (M : Ghosts D) (request : Request) (before : Report) (k : 
       let rose : Rose (M.report m).output_faults (M.report b).output_faults = subst (λ (x : Bool). Counts x (M.report m).output_faults (M.report b).output_faults) (eq-eqb status 6 six) says.spares.output in
       record { ends = six; rose = omega (arith, later, rose) }
 
-  broken : status ≡ fault_status why → SaysAll (fault_text why) (M.now m) (M.now b) → IsBroken request (Undone k (forced_of k) turns) before (M.report b) turns (M.now a) (M.now b) status
+  broken : status ≡ fault_status why → SaysAll (fault_text why) (M.now m) (M.now b) → IsBroken request (Undone k (forced_of k) turns) (UnderWay M k turns b) before (M.report b) turns (M.now a) (M.now b) status
   broken gives all = record {
     why = why;
     outside = out;
@@ -166,6 +166,13 @@ module _ {D : Type 0} (M : Ghosts D) (request : Request) (before : Report) (k : 
       more = halted.more;
       said = all.said ∙ ap (λ (x : List ℕ). x ++ fault_text why) halted.said ∙ append_assoc (M.now a).said (said_in (take halted.whole turns)) (fault_text why);
     };
+    held = record {
+      forced = halted.forced;
+      least = halted.least;
+      enough = halted.enough;
+      sound = held_behind M m b (fault_text why) (λ i. IsSound k.mounted.volume.layout k.windows (k.changes ++ changes_in (take (suc halted.whole) turns)) halted.forced i) at_m at_b (says.since honest) (says.any_moment honest) halted.sound
+          (λ i sound worn. sound_worn M k turns a m halted short ends (k.changes ++ changes_in (take (suc halted.whole) turns)) halted.forced i sound worn);
+    };
     undone = λ is. let u = halted.undone is in record {
       forced = u.forced;
       least = u.least;
@@ -174,11 +181,11 @@ module _ {D : Type 0} (M : Ghosts D) (request : Request) (before : Report) (k : 
     };
   }
 
-  by_end : EndsWith why (M.now m) (M.now b) status → IsUnsaid before (M.report b) status ⊎ IsBroken request (Undone k (forced_of k) turns) before (M.report b) turns (M.now a) (M.now b) status
+  by_end : EndsWith why (M.now m) (M.now b) status → IsUnsaid before (M.report b) status ⊎ IsBroken request (Undone k (forced_of k) turns) (UnderWay M k turns b) before (M.report b) turns (M.now a) (M.now b) status
   by_end (inl six) = inl (unsaid six)
   by_end (inr (gives, all)) = inr (broken gives all)
 
-  pub stopped_ends : IsUnsaid before (M.report b) status ⊎ IsBroken request (Undone k (forced_of k) turns) before (M.report b) turns (M.now a) (M.now b) status
+  pub stopped_ends : IsUnsaid before (M.report b) status ⊎ IsBroken request (Undone k (forced_of k) turns) (UnderWay M k turns b) before (M.report b) turns (M.now a) (M.now b) status
   stopped_ends = by_end ended
 
 -- ---- a fault that ends a run at once
@@ -196,5 +203,5 @@ module _ {D T : Type 0} (M : Ghosts D) (request : Request) (before : Report) (k 
   pub broken_moments : StopsOnly M a b (InRun k (forced_of k) turns (M.now a))
   broken_moments = stopped_moments M request before k turns a m b moments why halted short ends at_m at_b (at_once_ends why once) (outside why once refl) told.later status says honest ended
 
-  pub broken_ends : IsUnsaid before (M.report b) status ⊎ IsBroken request (Undone k (forced_of k) turns) before (M.report b) turns (M.now a) (M.now b) status
+  pub broken_ends : IsUnsaid before (M.report b) status ⊎ IsBroken request (Undone k (forced_of k) turns) (UnderWay M k turns b) before (M.report b) turns (M.now a) (M.now b) status
   broken_ends = stopped_ends M request before k turns a m b moments why halted short ends at_m at_b (at_once_ends why once) (outside why once refl) told.later status says honest ended

@@ -6,18 +6,19 @@ use Rattle.std.specs.Prelude.{if◌then◌else◌, nat_lt, Err}
 use Rattle.std.proofs.lemmas.Bool.{lt-ltb, ltb-true}
 use Rattle.std.proofs.lemmas.List.{append-nil}
 use Rattle.sector_disk.specs.declared.machine.Machine.{Ghosts}
-use Rattle.sector_disk.specs.Calls.{IsTimed, LeavesDisk, StopsOnly, WritesDisk, stops}
+use Rattle.sector_disk.specs.Calls.{IsTimed, LeavesDisk, OnlyReads, StopsOnly}
 use Rattle.sector_disk.specs.Image.{AreShort}
-use Rattle.sector_disk.specs.Machine.{Moment, Report, Utters}
+use Rattle.sector_disk.specs.Machine.{IsSynced, LeavesOnly, Moment, Report, Utters, Wears}
+use Rattle.sector_disk.proofs.Lags.{held_synced}
 use Rattle.sector_disk.proofs.Moments.{leaves_more}
-use Rattle.sector_disk.proofs.Wear.{AllWorn-here}
 use Rattle.fsd_bytes.specs.declared.refusal.Refusal.{Refusal}
 use Rattle.fsd_bytes.specs.declared.refusal.Refusal.TheVariants as Why
 use Rattle.fsd_files.specs.Disk.{Image, in_runs}
 use Rattle.fsd_files.specs.Files.{Change}
-use Rattle.fsd_sound.specs.Mounted.{Mounted, telling_of}
-use Rattle.fsd_sound.specs.Shown.{told}
+use Rattle.fsd_sound.specs.Laid.{HasOwnRoots}
+use Rattle.fsd_sound.specs.Mounted.{IsMounted, Mounted}
 use Rattle.fsd_sound.specs.Sound.{IsSound, weak_of}
+use Rattle.fsd_sound.proofs.MountedLaws.{mounted_lasts, mounted_sound, mounted_tells}
 use Rattle.fsd_texts.specs.declared.command.Command.{Command}
 use Rattle.fsd_texts.specs.declared.command.Command.TheVariants as Word
 use Rattle.fsd_texts.specs.declared.fault.Fault.{Fault}
@@ -29,20 +30,18 @@ use Rattle.fsd_runs.specs.Errands.{Cut, Errand, MayCut, Turn, alone, errand_of, 
 use Rattle.fsd_runs.specs.Leaves.{IsBroken, IsOutside}
 use Rattle.fsd_runs.specs.Sessions.{session_over}
 use Rattle.fsd_runs.specs.Runs.{IsCutAt, errand_in}
-use Rattle.volume_contract.specs.Ends.{Closes, device_of}
-use Rattle.volume_contract.specs.Order.{IsDevice}
-use Rattle.volume_contract.specs.State.{State, Known, Leaves, Stands, forced_of, volume_of}
+use Rattle.volume_contract.specs.Ends.{device_of}
+use Rattle.volume_contract.specs.State.{State, Ages, Known, Stands, forced_of, volume_of}
 use Rattle.volume_turns.specs.declared.turns.End.TheVariants.{Fault as Stopped}
 use Rattle.volume_turns.specs.Line.{EndsLast, EndsWith, is_unsaid}
-use Rattle.volume_turns.specs.Once.{InClose, IsDone, close_fault}
-use Rattle.volume_turns.specs.Steps.{IsOfCall, device_told}
+use Rattle.volume_turns.specs.Once.{IsDone, close_fault}
+use Rattle.volume_turns.specs.Steps.{IsOfCall, StaysSound, device_told}
 use Rattle.volume_turns.specs.Turns.{InRun, OnDisk, Told}
 use Rattle.volume_turns.specs.Whole.{Always, Finishes, RunsOut}
 use Rattle.volume_turns.proofs.GroupEndLaws.{finishes_last}
 use Rattle.volume_turns.proofs.GroupLaws.{goes_wider}
 use Rattle.volume_turns.proofs.HaltLaws.{broken_ends, broken_moments, said_halts}
-use Rattle.volume_turns.proofs.OnceLaws.{close_held, close_moments, device_ends}
-use Rattle.volume_turns.proofs.TurnLaws.{in_close, said_nothing}
+use Rattle.volume_turns.proofs.TurnLaws.{said_nothing, stays_held, stays_stops}
 
 -- ---- what a put of the input asks for
 
@@ -63,8 +62,8 @@ outside_put name keep c before after (Ends.Device s) o = o
 outside_put name keep c before after Ends.Memory o = tt
 outside_put name keep c before after why o = absurd o
 
-broken_put : (name : List ℕ) (keep : Option ℕ) (c : Command) (before after : Report) {Over : ℕ → Image → Type 0} {turns : List Turn} {old new : Moment} {result : ℕ} → IsBroken (One c) Over before after turns old new result → IsBroken (Put name keep) Over before after turns old new result
-broken_put name keep c before after x = record { why = x.why; outside = outside_put name keep c before after x.why x.outside; ends = x.ends; says = x.says; undone = x.undone }
+broken_put : (name : List ℕ) (keep : Option ℕ) (c : Command) (before after : Report) {Over : ℕ → Image → Type 0} {Way : ℕ → Type 0} {turns : List Turn} {old new : Moment} {result : ℕ} → IsBroken (One c) Over Way before after turns old new result → IsBroken (Put name keep) Over Way before after turns old new result
+broken_put name keep c before after x = record { why = x.why; outside = outside_put name keep c before after x.why x.outside; ends = x.ends; says = x.says; held = x.held; undone = x.undone }
 
 module _ {D : Type 0} (M : Ghosts D) (name : List ℕ) (keep : Option ℕ) (input rest : List ℕ) (few : length input ≤ max_input) (before : Report) (k : Known) (a b : D) (status : ℕ) where
   abbrev c : Command
@@ -79,6 +78,7 @@ module _ {D : Type 0} (M : Ghosts D) (name : List ℕ) (keep : Option ℕ) (inpu
     cut = None;
     may = tt;
     cause = tt;
+    rooted = tt;
     finishes = subst (λ (x : Errand). Finishes M (Put name keep) x Always (IsCutAt None) before k a b status) (sym (same_errand r.cut r.may)) (record {
       mets = r.finishes.mets;
       ahead = tt;
@@ -88,14 +88,14 @@ module _ {D : Type 0} (M : Ghosts D) (name : List ℕ) (keep : Option ℕ) (inpu
     });
   }
     where
-      over : {A B : Type 0} {Over : ℕ → Image → Type 0} {turns : List Turn} {old new : Moment} → A ⊎ (B ⊎ IsBroken (One c) Over before (M.report b) turns old new status) → A ⊎ (B ⊎ IsBroken (Put name keep) Over before (M.report b) turns old new status)
+      over : {A B : Type 0} {Over : ℕ → Image → Type 0} {Way : ℕ → Type 0} {turns : List Turn} {old new : Moment} → A ⊎ (B ⊎ IsBroken (One c) Over Way before (M.report b) turns old new status) → A ⊎ (B ⊎ IsBroken (Put name keep) Over Way before (M.report b) turns old new status)
       over (inl x) = inl x
       over (inr (inl u)) = inr (inl u)
       over (inr (inr x)) = inr (inr (broken_put name keep c before (M.report b) x))
 
--- ---- an input that is too long
+-- ---- the fault of a close
 
--- the place of the disk that a close's fault tells
+-- the place of the disk that it tells
 pub device_close : (why : Refusal) → device_of why ≡ device_told (close_fault why)
 device_close (Why.Device s) = refl
 device_close why = refl
@@ -104,8 +104,11 @@ pub close_of_call : (why : Refusal) → IsOfCall (close_fault why)
 close_of_call (Why.Device s) = tt
 close_of_call why = tt
 
-module _ {S D : Type 0} (state : S → State) (has : S → Mounted → List Placed → Type 0) (M : Ghosts D) (name : List ℕ) (keep : Option ℕ) (input rest : List ℕ) (many : max_input < length input) (v : S) (a m b : D) (k : Known) (stands : Stands state has v k (M.now a)) (on : OnDisk M k (forced_of k) a) (timed : (x : D) → M.honest x → IsTimed M x)
-    (may : ℕ → Bool) (fault : Option ℕ) (disk : WritesDisk M fault (Leaves state has v may) a m) (back : M.honest m) (honest : M.honest b) (short : AreShort (M.now m).windows) (status : ℕ) where
+-- ---- an input that is too long
+
+module _ {S D : Type 0} (state : S → State) (has : S → Mounted → List Placed → Type 0) (M : Ghosts D) (name : List ℕ) (keep : Option ℕ) (input rest : List ℕ) (many : max_input < length input) (v : S) (a m b : D) (k : Known)
+    (wears : (old new : Moment) → AreShort old.windows → Ages old new → Stands state has v k old → Stands state has v k new) (stands : Stands state has v k (M.now a)) (on : OnDisk M k (forced_of k) a) (short : (x : D) → M.honest x → AreShort (M.now x).windows) (timed : (x : D) → M.honest x → IsTimed M x)
+    (fault : Option ℕ) (reads : OnlyReads M fault a m) (back : M.honest m) (honest : M.honest b) (status : ℕ) where
   abbrev none : Errand
   none = nothing_but Ends.InputTooLong
 
@@ -113,60 +116,77 @@ module _ {S D : Type 0} (state : S → State) (has : S → Mounted → List Plac
   t = line_turn (Says.Ended Ends.InputTooLong)
 
   at_a : IsTimed M a
-  at_a = timed a (disk.trust.honest back)
+  at_a = timed a (reads.trust.honest back)
 
   at_m : IsTimed M m
   at_m = timed m back
 
+  worn : Wears (M.now a) (M.now m)
+  worn = reads.worn back
+
+  stands_in : (left : Moment) → Wears (M.now a) left → Stands state has v k left
+  stands_in left w = wears (M.now a) left (short a (reads.trust.honest back)) (record { image = w.image; windows = w.windows }) stands
+
+  stays : (left : Moment) → Wears (M.now a) left → StaysSound k (M.now a) left
+  stays left w = record { sound = mounted_sound k.mounted k.windows k.changes (forced_of k) left.image (stands_in left w).disk; windows = w.windows; said = w.said }
+
+  stays_run : LeavesOnly M.moment M.left_since a m (StaysSound k (M.now a))
+  stays_run = leaves_more M.moment M.left_since a m (Wears (M.now a)) (StaysSound k (M.now a)) stays (reads.any_moment back)
+
   moments : StopsOnly M a m (InRun k (forced_of k) (t ∷ []) (M.now a))
-  moments = leaves_more M.moment (stops M) a m (InClose k (forced_of k) t.said (M.now a)) (InRun k (forced_of k) (t ∷ []) (M.now a))
-      (λ left c. in_close k k (forced_of k) (forced_of k) [] t [] refl refl refl (sym (append-nil k.changes)) (omega arith) (λ any. absurd (cc any)) (M.now a) (M.now a) left refl (sym (append-nil (M.now a).said)) c)
-      (close_moments state has M v a m m k (forced_of k) stands on t.said may fault disk back at_a at_m)
+  moments = stays_stops M k (forced_of k) a m at_a at_m (reads.since back) stays_run on (t ∷ [])
 
   held : OnDisk M k (forced_of k) m
-  held = close_held state has M v a m m k (forced_of k) stands on t.said may fault disk back at_a at_m
+  held = stays_held M k (forced_of k) a m at_a at_m (reads.since back) stays_run on
 
   abbrev Over : Type 0
   Over = RunsOut M (Put name keep) input rest (M.report a) k a b status
 
-  pub refused_input : (volume_of k).unforced ≡ 0 → Closes k (M.now m).image → LeavesDisk M false (is_unsaid status) (Utters (fault_text Ends.InputTooLong)) m b → EndsLast (Says.Ended Ends.InputTooLong) 5 (M.now m) (M.now b) status → Over
-  refused_input forced closes says ended = record {
+  pub refused_input : (volume_of k).unforced ≡ 0 → IsSynced (M.now m) → LeavesDisk M false (is_unsaid status) (Utters (fault_text Ends.InputTooLong)) m b → EndsLast (Says.Ended Ends.InputTooLong) 5 (M.now m) (M.now b) status → Over
+  refused_input forced synced says ended = record {
     cut = None;
     may = tt;
     cause = tt;
+    rooted = tt;
     finishes = subst (λ (x : Errand). Finishes M (Put name keep) x Always (IsCutAt None) (M.report a) k a b status) (sym (asks_none name keep input many))
-        (finishes_last M (Put name keep) (M.report a) k [] (Says.Ended Ends.InputTooLong) (volume_of k) 5 a m b moments done short stands.ends at_m (timed b honest) (let same = disk.uses.output in omega (arith, same)) status says honest none Always (IsCutAt None) [] tt refl (λ t le. tt) refl refl refl ended);
+        (finishes_last M (Put name keep) (M.report a) k [] (Says.Ended Ends.InputTooLong) (volume_of k) 5 a m b moments done (short m back) stands.ends at_m (timed b honest) (let same = reads.uses.output in omega (arith, same)) status says honest none Always (IsCutAt None) [] tt refl (λ t le. tt) refl refl refl ended);
   }
     where
-      no_more : (i : Image) → IsSound k.mounted.volume.layout k.windows k.changes (length k.changes) i → IsSound k.mounted.volume.layout k.windows (k.changes ++ []) (length (k.changes ++ [])) i
-      no_more i sound = subst (λ (h : List Change). IsSound k.mounted.volume.layout k.windows h (length h) i) (sym (append-nil k.changes)) sound
-
       all : forced_of k ≡ length k.changes
       all = omega (arith, forced)
 
+      sound_all : (i : Image) → IsSound k.mounted.volume.layout k.windows k.changes (forced_of k) i → IsSound k.mounted.volume.layout k.windows (k.changes ++ []) (length (k.changes ++ [])) i
+      sound_all i sound = subst (λ (h : List Change). IsSound k.mounted.volume.layout k.windows h (length h) i) (sym (append-nil k.changes)) (subst (λ (n : ℕ). IsSound k.mounted.volume.layout k.windows k.changes n i) all sound)
+
+      there : IsMounted k.mounted k.windows k.changes (forced_of k) (M.now m).image
+      there = (stands_in (M.now m) worn).disk
+
       done : IsDone M k [] (volume_of k) a m
       done = record {
-        windows = disk.windows back;
-        said = disk.quiet back ∙ sym (append-nil (M.now a).said);
-        sound = no_more (M.now m).image closes.sound;
-        held = λ c left. no_more c.image (subst (λ (n : ℕ). IsSound k.mounted.volume.layout k.windows k.changes n c.image) all (held.each c left));
-        tells = AllWorn-here (weak_of k.windows) (λ j. told k.mounted.volume.layout j ≡ Some (telling_of (volume_of k))) (M.now m).image closes.tells;
-        lasts = closes.tells;
-        roots = closes.roots;
+        windows = worn.windows;
+        said = worn.said ∙ sym (append-nil (M.now a).said);
+        sound = sound_all (M.now m).image (stays (M.now m) worn).sound;
+        held = λ c left. sound_all c.image (held.each c left);
+        tells = mounted_tells k.mounted k.windows k.changes (forced_of k) (M.now m).image there forced;
+        lasts = mounted_lasts k.mounted k.windows k.changes (forced_of k) (M.now m).image there forced;
+        roots = there.over.own.roots;
+        rooted = held_synced M m (λ c. HasOwnRoots k.mounted.volume.layout (weak_of k.windows) c.image) at_m synced there.over.own.roots;
       }
 
-  pub refused_broken : (why : Refusal) → IsDevice why → Told {T = Unit {0}} (M.report a) (M.report m) (Err (Stopped (close_fault why))) → LeavesDisk M false (is_unsaid status) (Utters (fault_text (close_fault why))) m b → EndsWith (close_fault why) (M.now m) (M.now b) status → Over
-  refused_broken why is told says ended =
-      let halted = said_halts M k (close_fault why) [] t [] refl a m (said_nothing M k (forced_of k) (close_fault why) a m at_m held (disk.windows back) (disk.quiet back)) in
+  pub refused_broken : (place : ℕ) → Told {T = Unit {0}} (M.report a) (M.report m) (Err (Stopped (Ends.Device place))) → LeavesDisk M false (is_unsaid status) (Utters (fault_text (Ends.Device place))) m b → EndsWith (Ends.Device place) (M.now m) (M.now b) status → Over
+  refused_broken place told says ended =
+      let why = Ends.Device place in
+      let halted = said_halts M k why [] t [] refl a m (said_nothing M k (forced_of k) why a m at_m held worn.windows worn.said) in
       record {
         cut = None;
         may = tt;
         cause = tt;
+        rooted = tt;
         finishes = subst (λ (x : Errand). Finishes M (Put name keep) x Always (IsCutAt None) (M.report a) k a b status) (sym (asks_none name keep input many)) (record {
           mets = [];
           ahead = tt;
           goes = λ t le. tt;
-          moments = broken_moments M (Put name keep) (M.report a) k (t ∷ []) a m b moments (close_fault why) halted short stands.ends at_m (timed b honest) (device_ends why is) told status says honest ended;
-          ends = inr (broken_ends M (Put name keep) (M.report a) k (t ∷ []) a m b moments (close_fault why) halted short stands.ends at_m (timed b honest) (device_ends why is) told status says honest ended);
+          moments = broken_moments M (Put name keep) (M.report a) k (t ∷ []) a m b moments why halted (short m back) stands.ends at_m (timed b honest) tt told status says honest ended;
+          ends = inr (broken_ends M (Put name keep) (M.report a) k (t ∷ []) a m b moments why halted (short m back) stands.ends at_m (timed b honest) tt told status says honest ended);
         });
       }

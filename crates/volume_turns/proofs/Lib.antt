@@ -9,6 +9,7 @@ pub mod CallReadLaws
 pub mod CallWornLaws
 pub mod CauseLaws
 pub mod CountLaws
+pub mod DidLaws
 pub mod EachLaws
 pub mod GenerateLaws
 pub mod GroupEndLaws

@@ -4,7 +4,9 @@ use Rattle.std.specs.Prelude.{slice_get, IfSome}
 use Rattle.std.specs.List.{list_any}
 use Rattle.std.proofs.lemmas.List.{append-nil, length-take}
 use Rattle.volume_layout.specs.declared.layout.Layout.{Layout}
+use Rattle.sector_disk.specs.declared.machine.Machine.{Ghosts}
 use Rattle.sector_disk.specs.declared.sector.WeakRun.{WeakRun}
+use Rattle.sector_disk.specs.Calls.{IsHeld}
 use Rattle.sector_disk.specs.Machine.{Moment}
 use Rattle.fsd_formats.specs.declared.anchor.Anchor.{Anchor}
 use Rattle.fsd_files.specs.Disk.{Image, in_runs}
@@ -19,11 +21,12 @@ use Rattle.fsd_sound.proofs.MoreLaws.{sound_more}
 use Rattle.fsd_sound.proofs.MountedLaws.{fresh_mounted, mounted_tells}
 use Rattle.fsd_texts.specs.declared.fault.Fault.TheVariants as Ends
 use Rattle.fsd_runs.specs.Errands.{Turn}
-use Rattle.fsd_runs.specs.Leaves.{IsUndone, Left, LeftSince, SaysFault}
+use Rattle.fsd_runs.specs.Leaves.{IsUnderWay, IsUndone, Left, LeftSince, SaysFault}
 use Rattle.fsd_runs.specs.Runs.{Starts, changes_in, forced_in, said_in}
 use Rattle.volume_contract.specs.Mount.{Settled}
 use Rattle.volume_contract.specs.State.{Known, volume_of, forced_of}
 use Rattle.volume_turns.specs.Turns.{InRun, Undone}
+use Rattle.volume_turns.specs.Whole.{UnderWay}
 use Rattle.volume_turns.proofs.TurnLaws.{newer_own, forced_none, next_as, says_nothing}
 
 -- the same, said of equals
@@ -90,6 +93,19 @@ module _ (l : Layout) (windows : List WeakRun) (run : WeakRun) (h : List Change)
     enough = by (list_any (λ t. t.forces) (take whole turns)) refl;
     sound = sound_to k.mounted.volume.layout l k.windows (windows ++ run ∷ []) (k.changes ++ changes_in (take whole turns)) (take n h ++ changes_in (take whole turns)) u.forced (n + (u.forced - n)) i
         s.layout s.known (ap (λ (x : List Change). x ++ changes_in (take whole turns)) s.changes) (let least = u.least in let known = known_forced in omega (arith, least, known)) u.sound;
+  }
+    where
+      by : (b : Bool) → b ≡ list_any (λ t. t.forces) (take whole turns) → forced_in (take whole turns) ≤ u.forced - n
+      by true is = let e = u.enough (sym is) in let all = known_length in omega (arith, e, all)
+      by false is = let none = forced_none (take whole turns) (sym is) in omega (arith, none)
+
+  -- and so it is of what is held back
+  pub run_under_way : {D : Type 0} (M : Ghosts D) (turns : List Turn) (b : D) (whole : ℕ) → UnderWay M k turns b whole → IsUnderWay l (windows ++ run ∷ []) (take n h) n turns (IsHeld M b) whole
+  run_under_way M turns b whole u = record {
+    forced = u.forced - n;
+    enough = by (list_any (λ t. t.forces) (take whole turns)) refl;
+    sound = λ c left. sound_to k.mounted.volume.layout l k.windows (windows ++ run ∷ []) (k.changes ++ changes_in (take (suc whole) turns)) (take n h ++ changes_in (take (suc whole) turns)) u.forced (n + (u.forced - n)) c.image
+        s.layout s.known (ap (λ (x : List Change). x ++ changes_in (take (suc whole) turns)) s.changes) (let least = u.least in let known = known_forced in omega (arith, least, known)) (u.sound c left);
   }
     where
       by : (b : Bool) → b ≡ list_any (λ t. t.forces) (take whole turns) → forced_in (take whole turns) ≤ u.forced - n

@@ -1,6 +1,6 @@
 -- How far commands bring the numbers of a mount.
 use Rattle.std.proofs.Common.{◌≡◌, ◌⊎◌, inl, inr, ℕ, suc, ◌+◌, ◌≤◌, Bool, true, false, cond, List, [], ◌∷◌, ◌++◌, length, Option, Some, None, refl, sym, ◌∙◌, ap, subst, arith}
-use Rattle.std.specs.Prelude.{◌&&◌, ◌||◌, ◌==◌, not, nat_le, nat_lt, IfErr, IfOk, IfSome, IsTrue, OnOk, Result, Ok, Err}
+use Rattle.std.specs.Prelude.{◌&&◌, ◌||◌, ◌==◌, not, nat_le, nat_lt, IfOk, IfSome, IsTrue, OnOk, Result, Ok, Err}
 use Rattle.std.proofs.lemmas.Bool.{leb-true}
 use Rattle.fsd_bytes.specs.declared.refusal.Refusal.{Refusal}
 use Rattle.fsd_bytes.specs.declared.refusal.Refusal.TheVariants as Why
@@ -17,7 +17,7 @@ use Rattle.fsd_texts.specs.Text.{text}
 use Rattle.volume_contract.specs.Order.{Step, Draw, Force, IsDownBy, Keeps, Passes, Refuses, Roots, delete_steps, force_steps, keep_steps, put_steps, with_drawn, with_three}
 use Rattle.volume_contract.specs.State.{HasCounted, IsDownAt, IsForced, IsNew, State, enters_again, forces_first, forces_for_place, is_worn, moved_on, numbered}
 use Rattle.volume_turns.specs.declared.turns.End.{End}
-use Rattle.volume_turns.specs.declared.turns.End.TheVariants.{Fault as Stopped, Output}
+use Rattle.volume_turns.specs.declared.turns.End.TheVariants.{Fault as Stopped}
 use Rattle.volume_turns.specs.Causes.{SaysMade}
 use Rattle.volume_turns.specs.Group.{is_worn_end}
 use Rattle.volume_turns.specs.Line.{EndsLast}
@@ -186,10 +186,6 @@ new_may many s new (inr worn) = let one : s.head.number ≡ 1 = ap (λ (x : Head
 
 pub other_end : (end : End) → is_worn_end end ≡ false → end ≡ Stopped Ends.WornOut → ⊥
 other_end end other is = let no : is_worn_end (Stopped Ends.WornOut) ≡ false = subst (λ (e : End). is_worn_end e ≡ false) is other in cc no
-
--- an end by the output alone is not one by a worn-out mount
-pub output_unworn : {T : Type 0} (r : Result T End) → (IfErr r (λ end. end ≡ Output)) → r ≡ Err (Stopped Ends.WornOut) → ⊥
-output_unworn {T = T} r only is = let no : Stopped Ends.WornOut ≡ Output = subst (λ (x : Result T End). IfErr x (λ end. end ≡ Output)) is only in cc no
 
 -- what is passed on
 pub passed_on : {T : Type 0} (x y : T) (r : Result T End) → IfOk r (λ z. z ≡ x) → r ≡ Ok y → y ≡ x

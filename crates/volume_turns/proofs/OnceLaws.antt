@@ -1,7 +1,7 @@
 -- One command by itself.
-use Rattle.std.proofs.Common.{◌+◌, ◌≡◌, ⊎_elim, ℕ, zero, suc, ◌≤◌, Bool, true, false, List, [], ◌∷◌, ◌++◌, length, take, Option, Some, refl, sym, ◌∙◌, ap, subst, arith, length-append}
+use Rattle.std.proofs.Common.{◌+◌, ◌≡◌, inl, inr, ⊎_elim, ℕ, zero, suc, ◌≤◌, Bool, true, false, List, [], ◌∷◌, ◌++◌, length, take, Option, Some, refl, sym, ◌∙◌, ap, subst, arith, length-append}
 use Rattle.fsd_log.specs.Scan.{Placed}
-use Rattle.std.specs.Prelude.{Result, Ok, Err, OnOk, IfOk, IfErr}
+use Rattle.std.specs.Prelude.{⊤, Result, Ok, Err, OnOk, IfOk, IfErr}
 use Rattle.std.proofs.lemmas.List.{append-nil}
 use Rattle.volume_layout.specs.declared.layout.Layout.{Layout}
 use Rattle.volume_layout.specs.Root.{root_bytes}
@@ -44,7 +44,7 @@ use Rattle.sector_disk.specs.Calls.{IsHeld, IsTimed, Since, StopsOnly, WritesDis
 use Rattle.client_desk.specs.Clients.{no_desk}
 use Rattle.client_desk.proofs.FinishLaws.{sits_fresh}
 use Rattle.volume_contract.specs.Ends.{Closes}
-use Rattle.volume_turns.specs.Once.{Anything, close_fault, InClose, SaysClosedBy, EndsClosedBy, ClosesAndSays, ClosesAndSaysBy, IsDone, EndsAlone, IsAlone, Unclosed, unit_of}
+use Rattle.volume_turns.specs.Once.{Anything, close_fault, InClose, SaysClosedBy, EndsClosedBy, ClosesAndSays, ClosesAndSaysBy, IsDone, EndsAlone, IsAlone, SaysRooted, Unclosed, unit_of}
 use Rattle.volume_contract.specs.Order.{IsDevice}
 use Rattle.volume_contract.specs.State.{State, Ages, Known, volume_of, forced_of, Stands, Leaves, is_worn, none_open}
 use Rattle.volume_turns.specs.Seats.{IsAnsweredIn, Seated, SitsAt, StaysIn, seated, session_in}
@@ -83,10 +83,13 @@ module _ {D : Type 0} (M : Ghosts D) (k : Known) (f : ℕ) (own : Layout) (text 
   fewer : (c : Moment) → UttersBehind true text (M.now m) c → IsSoundFor f c
   fewer c u = sound_fewer k.mounted.volume.layout k.windows k.changes f (length k.changes) c.image most (worn c u)
 
+  rooted : (c : Moment) → UttersBehind true text (M.now m) c → HasOwnRoots own (weak_of k.windows) c.image
+  rooted c u = roots_worn own (weak_of k.windows) (M.now m).image c.image (open_is_weak (M.now m).windows k.windows (M.now m).image c.image ends u.utters.image) roots
+
   said_so : (last : Moment) (u : UttersBehind true text (M.now m) last) → last.said ≡ (M.now a).said ++ take u.utters.heard text
   said_so last u = u.utters.said ∙ ap (λ (x : List ℕ). x ++ take u.utters.heard text) quiet
 
-  saying_closed : (shown last : Moment) → UttersBehind true text (M.now m) last → UttersBehind true text (M.now m) shown → InClose k f text (M.now a) (shows_of shown last)
+  saying_closed : (shown last : Moment) → UttersBehind true text (M.now m) last → UttersBehind true text (M.now m) shown → InClose own k f text (M.now a) (shows_of shown last)
   saying_closed shown last u s = record {
     windows = u.utters.windows ∙ windows;
     forced = length k.changes;
@@ -95,10 +98,11 @@ module _ {D : Type 0} (M : Ghosts D) (k : Known) (f : ℕ) (own : Layout) (text 
     heard = u.utters.heard;
     said = said_so last u;
     all = λ some. refl;
+    roots = λ some. rooted shown s;
   }
 
   -- nothing is said yet
-  saying_none : (shown last : Moment) → UttersBehind true text (M.now m) last → last.said ≡ (M.now m).said → IsSoundFor f shown → InClose k f text (M.now a) (shows_of shown last)
+  saying_none : (shown last : Moment) → UttersBehind true text (M.now m) last → last.said ≡ (M.now m).said → IsSoundFor f shown → InClose own k f text (M.now a) (shows_of shown last)
   saying_none shown last u none s = record {
     windows = u.utters.windows ∙ windows;
     forced = f;
@@ -107,15 +111,19 @@ module _ {D : Type 0} (M : Ghosts D) (k : Known) (f : ℕ) (own : Layout) (text 
     heard = 0;
     said = none ∙ quiet ∙ sym (append-nil (M.now a).said);
     all = λ some. absurd (omega (arith, some));
+    roots = λ some. absurd (omega (arith, some));
   }
 
-  pub saying_moments : StopsOnly M m b (InClose k f text (M.now a))
-  saying_moments = stops_by M m b (UttersBehind true text (M.now m)) (IsSoundFor f) at_m at_b since run disk.each (InClose k f text (M.now a)) (λ c u. saying_closed c c u u)
+  pub saying_moments : StopsOnly M m b (InClose own k f text (M.now a))
+  saying_moments = stops_by M m b (UttersBehind true text (M.now m)) (IsSoundFor f) at_m at_b since run disk.each (InClose own k f text (M.now a)) (λ c u. saying_closed c c u u)
       (λ last shown u left sooner lately either. ⊎_elim (λ none. saying_none shown last u none (⊎_elim (λ was. was) (fewer shown) either))
       (λ synced. saying_closed shown last u (lately (let dated = at_m.dated in omega (arith, synced, dated)))) (u.synced refl))
 
   said_held : (M.now m).time ≤ (M.now b).synced → IsHeld M b (IsSoundFor (length k.changes))
   said_held synced c left = worn c (run.each c (at_b.history.sooner (M.moment m) (M.now b).synced c (let dated = at_m.dated in omega (arith, synced, dated)) left))
+
+  said_rooted : (M.now m).time ≤ (M.now b).synced → IsHeld M b (λ c. HasOwnRoots own (weak_of k.windows) c.image)
+  said_rooted synced c left = rooted c (run.each c (at_b.history.sooner (M.moment m) (M.now b).synced c (let dated = at_m.dated in omega (arith, synced, dated)) left))
 
   unclosed : Wears (M.now m) (M.now b) → Unclosed M k f a b
   unclosed w = record { windows = w.windows ∙ windows; said = w.said ∙ quiet; held = held_by M m b (UttersBehind true text (M.now m)) (IsSoundFor f) at_m at_b since run disk.each (IsSoundFor f) (λ c s. s) fewer }
@@ -131,6 +139,7 @@ module _ {D : Type 0} (M : Ghosts D) (k : Known) (f : ℕ) (own : Layout) (text 
         tells = tells (M.now b).image weak;
         lasts = AllWorn-worn (weak_of k.windows) (λ j. told k.mounted.volume.layout j ≡ Some (telling_of (volume_of k))) (M.now m).image (M.now b).image weak tells;
         roots = roots_worn own (weak_of k.windows) (M.now m).image (M.now b).image weak roots;
+        rooted = said_rooted synced;
       }
   said_closed (Err (Stopped Ends.Memory)) says synced unsaid = (tt, unclosed unsaid)
   said_closed (Err (Stopped (Ends.Device s))) says synced unsaid = (tt, unclosed unsaid)
@@ -142,12 +151,12 @@ module _ {S D : Type 0} (state : S → State) (has : S → Mounted → List Plac
   closing_run : LeavesOnly M.moment M.left_since a m (StaysSound k (M.now a))
   closing_run = leaves_more M.moment M.left_since a m (Leaves state has v may (M.now a)) (StaysSound k (M.now a)) (λ left leaves. let l = leaves k stands in record { sound = l.sound; windows = l.windows; said = l.said }) (disk.any_moment honest)
 
-  closing : (n : ℕ) → f ≤ n → (shown last : Moment) → StaysSound k (M.now a) last → IsSound k.mounted.volume.layout k.windows k.changes n shown.image → InClose k f text (M.now a) (shows_of shown last)
+  closing : (n : ℕ) → f ≤ n → (shown last : Moment) → StaysSound k (M.now a) last → IsSound k.mounted.volume.layout k.windows k.changes n shown.image → InClose k.mounted.volume.layout k f text (M.now a) (shows_of shown last)
   closing n least shown last stays sound =
-      record { windows = stays.windows; forced = n; least = least; sound = sound; heard = 0; said = stays.said ∙ sym (append-nil (M.now a).said); all = λ some. absurd (omega (arith, some)) }
+      record { windows = stays.windows; forced = n; least = least; sound = sound; heard = 0; said = stays.said ∙ sym (append-nil (M.now a).said); all = λ some. absurd (omega (arith, some)); roots = λ some. absurd (omega (arith, some)) }
 
-  pub close_moments : StopsOnly M a m (InClose k f text (M.now a))
-  close_moments = stops_by M a m (StaysSound k (M.now a)) (λ c. IsSound k.mounted.volume.layout k.windows k.changes f c.image) at_a at_m (disk.since honest) closing_run on.each (InClose k f text (M.now a))
+  pub close_moments : StopsOnly M a m (InClose k.mounted.volume.layout k f text (M.now a))
+  close_moments = stops_by M a m (StaysSound k (M.now a)) (λ c. IsSound k.mounted.volume.layout k.windows k.changes f c.image) at_a at_m (disk.since honest) closing_run on.each (InClose k.mounted.volume.layout k f text (M.now a))
       (λ c stays. closing (forced_of k) on.most c c stays stays.sound)
       (λ last shown stays left sooner lately either. ⊎_elim (λ was. closing f (omega arith) shown last stays was) (λ now. closing (forced_of k) on.most shown last stays now.sound) either)
 
@@ -161,8 +170,8 @@ module _ {S D : Type 0} (state : S → State) (has : S → Mounted → List Plac
     ends_in : EndIn (M.now m).windows k.windows
     ends_in = subst (λ (w : Windows). EndIn w k.windows) (sym (disk.windows honest)) stands.ends
 
-    both : StopsOnly M a b (InClose k f text (M.now a))
-    both = then_on M.moment (stops M) a m b (InClose k f text (M.now a)) close_moments
+    both : StopsOnly M a b (InClose k.mounted.volume.layout k f text (M.now a))
+    both = then_on M.moment (stops M) a m b (InClose k.mounted.volume.layout k f text (M.now a)) close_moments
         (saying_moments M k f k.mounted.volume.layout text a m b (disk.windows honest) (disk.quiet honest) ends_in closes.sound closes.tells closes.roots short close_held at_m at_b since run)
 
     pub close_said : (r : Result (Unit {0}) End) → OnOk r (SaysAll text (M.now m) (M.now b)) → OnOk r ((M.now m).time ≤ (M.now b).synced) → IfErr r (λ end. Unsaid (M.now m) (M.now b) end) → ClosesAndSays M k f text a b r
@@ -182,6 +191,11 @@ says_closed M m b k f own text ends sound tells roots short disk at_m at_b since
 
 -- ---- what was not begun
 
+-- a run of calls that says nothing
+quiet_stops : {D : Type 0} (M : Ghosts D) (a m : D) (k : Known) (own : Layout) → IsTimed M a → IsTimed M m → Since M a m → LeavesOnly M.moment M.left_since a m (StaysSound k (M.now a)) → StopsOnly M a m (SaysRooted own k (M.now a))
+quiet_stops M a m k own at_a at_m since run =
+    stops_by M a m (StaysSound k (M.now a)) (λ c. ⊤) at_a at_m since run (λ c left. tt) (SaysRooted own k (M.now a)) (λ c stays. inl stays.said) (λ last shown stays left sooner lately either. inl stays.said)
+
 -- it leaves all as it is
 module _ {S D : Type 0} (state : S → State) (has : S → Mounted → List Placed → Type 0) (M : Ghosts D) (v : S) (a : D) (k : Known) (f : ℕ) (at_a : IsTimed M a) (stands : Stands state has v k (M.now a)) (on : OnDisk M k f a) where
   still : Since M a a
@@ -193,18 +207,22 @@ module _ {S D : Type 0} (state : S → State) (has : S → Mounted → List Plac
   none_run : LeavesOnly M.moment M.left_since a a (StaysSound k (M.now a))
   none_run = started M.moment M.left_since a (M.now a) (StaysSound k (M.now a)) at_a.only (record { sound = sound_here; windows = refl; said = refl })
 
-  none_at : (text : List ℕ) (n : ℕ) → f ≤ n → (shown last : Moment) → StaysSound k (M.now a) last → IsSound k.mounted.volume.layout k.windows k.changes n shown.image → InClose k f text (M.now a) (shows_of shown last)
+  none_at : (text : List ℕ) (n : ℕ) → f ≤ n → (shown last : Moment) → StaysSound k (M.now a) last → IsSound k.mounted.volume.layout k.windows k.changes n shown.image → InClose k.mounted.volume.layout k f text (M.now a) (shows_of shown last)
   none_at text n least shown last stays sound =
-      record { windows = stays.windows; forced = n; least = least; sound = sound; heard = 0; said = stays.said ∙ sym (append-nil (M.now a).said); all = λ some. absurd (omega (arith, some)) }
+      record { windows = stays.windows; forced = n; least = least; sound = sound; heard = 0; said = stays.said ∙ sym (append-nil (M.now a).said); all = λ some. absurd (omega (arith, some)); roots = λ some. absurd (omega (arith, some)) }
 
   -- what it would say was refused memory before it ended
   pub close_unbegun : (text : List ℕ) → ClosesAndSays M k f text a a (Err (Stopped Ends.Memory))
   close_unbegun text = record {
-    moments = stops_by M a a (StaysSound k (M.now a)) (λ c. IsSound k.mounted.volume.layout k.windows k.changes f c.image) at_a at_a still none_run on.each (InClose k f text (M.now a))
+    moments = stops_by M a a (StaysSound k (M.now a)) (λ c. IsSound k.mounted.volume.layout k.windows k.changes f c.image) at_a at_a still none_run on.each (InClose k.mounted.volume.layout k f text (M.now a))
         (λ c stays. none_at text (forced_of k) on.most c c stays stays.sound)
         (λ last shown stays left sooner lately either. ⊎_elim (λ was. none_at text f (omega arith) shown last stays was) (λ now. none_at text (forced_of k) on.most shown last stays now.sound) either);
     ends = (tt, record { windows = refl; said = refl; held = on.each });
   }
+
+  -- nothing is said
+  pub rooted_unbegun : (own : Layout) → StopsOnly M a a (SaysRooted own k (M.now a))
+  rooted_unbegun own = quiet_stops M a a k own at_a at_a still none_run
 
   -- and so was one command
   pub stops_unbegun : (turns : List Turn) → StopsOnly M a a (InRun k f turns (M.now a))
@@ -220,6 +238,7 @@ alone_unbegun state has M command v a k at_a stands on = record {
   mets = [];
   goes = λ t le. tt;
   moments = stops_unbegun state has M v a k (forced_of k) at_a stands on (blank ∷ []);
+  rooted = rooted_unbegun state has M v a k (forced_of k) at_a stands on (volume_of k).layout;
   ends = record { once = tt; said = refl; spared = λ is. sound_here state has M v a k (forced_of k) at_a stands on; held = held_none M k (forced_of k) a on.each };
 }
 
@@ -258,6 +277,9 @@ module _ {S D : Type 0} (state : S → State) (has : S → Mounted → List Plac
   before : (turns : List Turn) → StopsOnly M a m (InRun k (forced_of k) turns (M.now a))
   before turns = stays_stops M k (forced_of k) a m at_a at_m (disk.since honest) stays_run on turns
 
+  quiet_before : (own : Layout) → StopsOnly M a m (SaysRooted own k (M.now a))
+  quiet_before own = quiet_stops M a m k own at_a at_m (disk.since honest) stays_run
+
   -- what the disk has is sound as it was
   pub alone_held : OnDisk M k (forced_of k) m
   alone_held = stays_held M k (forced_of k) a m at_a at_m (disk.since honest) stays_run on
@@ -270,6 +292,7 @@ module _ {S D : Type 0} (state : S → State) (has : S → Mounted → List Plac
     mets = [];
     goes = λ t le. tt;
     moments = before (blank ∷ []);
+    rooted = quiet_before (volume_of k).layout;
     ends = record { once = once; said = disk.quiet honest; spared = λ is. spared; held = held_none M k (forced_of k) m alone_held.each };
   }
 
@@ -313,7 +336,7 @@ module _ {S D : Type 0} (state : S → State) (has : S → Mounted → List Plac
 
     -- its reply is said behind what has these changes, all of them forced
     module _ (n : Known) (layout : n.mounted.volume.layout ≡ k.mounted.volume.layout) (windows : n.windows ≡ k.windows) (changes : n.changes ≡ k.changes ++ turn.changes) (telling : telling_of (volume_of n) ≡ telling_of (volume_of after)) where
-      on_close : (left : Moment) → InClose n (forced_of k) (reply_alone reply) (M.now m) left → InRun k (forced_of k) (turn ∷ []) (M.now a) left
+      on_close : (left : Moment) → InClose (volume_of after).layout n (forced_of k) (reply_alone reply) (M.now m) left → InRun k (forced_of k) (turn ∷ []) (M.now a) left
       on_close left c = by c.heard refl
         where
           same_windows : left.windows ≡ (M.now a).windows
@@ -338,6 +361,17 @@ module _ {S D : Type 0} (state : S → State) (has : S → Mounted → List Plac
           (subst (λ (x : List WeakRun). IsSound k.mounted.volume.layout x n.changes (f n.changes) i) windows
           (subst (λ (l : Layout). IsSound l n.windows n.changes (f n.changes) i) layout sound))
 
+      own_as : (i : Image) → HasOwnRoots (volume_of after).layout (weak_of n.windows) i → HasOwnRoots out.volume.layout (weak_of k.windows) i
+      own_as i own = subst (λ (x : Session). HasOwnRoots x.volume.layout (weak_of k.windows) i) session_same (subst (λ (x : List WeakRun). HasOwnRoots (volume_of after).layout (weak_of x) i) windows own)
+
+      -- its roots stand before the first byte
+      on_rooted : (left : Moment) → InClose (volume_of after).layout n (forced_of k) (reply_alone reply) (M.now m) left → SaysRooted out.volume.layout k (M.now a) left
+      on_rooted left c = by c.heard refl
+        where
+          by : (heard : ℕ) → heard ≡ c.heard → SaysRooted out.volume.layout k (M.now a) left
+          by zero none = inl (c.said ∙ ap (λ (x : ℕ). (M.now m).said ++ take x (reply_alone reply)) (sym none) ∙ append-nil (M.now m).said ∙ disk.quiet honest)
+          by (suc heard) some = inr (own_as left.image (c.roots (omega (arith, some))))
+
       done : SaysClosedBy (volume_of after).layout M n (reply_alone reply) m b → IsDone M k (turn ∷ []) out.volume a b
       done c =
           record {
@@ -349,7 +383,8 @@ module _ {S D : Type 0} (state : S → State) (has : S → Mounted → List Plac
             lasts = subst (λ (x : List WeakRun). AllWorn (weak_of x) (λ j. told k.mounted.volume.layout j ≡ Some (telling_of out.volume)) (M.now b).image) windows
                 (subst (λ (l : Layout). AllWorn (weak_of n.windows) (λ j. told l j ≡ Some (telling_of out.volume)) (M.now b).image) layout
                 (subst (λ (x : Telling). AllWorn (weak_of n.windows) (λ j. told n.mounted.volume.layout j ≡ Some x) (M.now b).image) telling_same c.lasts));
-            roots = subst (λ (x : Session). HasOwnRoots x.volume.layout (weak_of k.windows) (M.now b).image) session_same (subst (λ (x : List WeakRun). HasOwnRoots (volume_of after).layout (weak_of x) (M.now b).image) windows c.roots);
+            roots = own_as (M.now b).image c.roots;
+            rooted = λ x left. own_as x.image (c.rooted x left);
           }
 
       ended : (r : Result ℕ End) → (r ≡ Err (Stopped Ends.Memory) → b ≡ m) → IfOk r (λ status. status ≡ reply_status reply) → EndsClosedBy (volume_of after).layout M n (forced_of k) (reply_alone reply) m b (unit_of r) → EndsAlone M command k (is_in.met ∷ []) a b r
@@ -367,7 +402,9 @@ module _ {S D : Type 0} (state : S → State) (has : S → Mounted → List Plac
         mets = is_in.met ∷ [];
         goes = goes;
         moments = then_on M.moment (stops M) a m b (InRun k (forced_of k) (turn ∷ []) (M.now a)) (before (turn ∷ []))
-            (leaves_more M.moment (stops M) m b (InClose n (forced_of k) (reply_alone reply) (M.now m)) (InRun k (forced_of k) (turn ∷ []) (M.now a)) on_close c.moments);
+            (leaves_more M.moment (stops M) m b (InClose (volume_of after).layout n (forced_of k) (reply_alone reply) (M.now m)) (InRun k (forced_of k) (turn ∷ []) (M.now a)) on_close c.moments);
+        rooted = then_on M.moment (stops M) a m b (SaysRooted out.volume.layout k (M.now a)) (quiet_before out.volume.layout)
+            (leaves_more M.moment (stops M) m b (InClose (volume_of after).layout n (forced_of k) (reply_alone reply) (M.now m)) (SaysRooted out.volume.layout k (M.now a)) on_rooted c.moments);
         ends = ended r undone gives c.ends;
       }
 

@@ -1,33 +1,37 @@
 -- What one command leaves, from the mounted volume to the last line.
-use Rattle.std.proofs.Common.{◌≡◌, inl, inr, false, ℕ, ◌≤◌, List, [], ◌∷◌, length, None, refl, sym, ◌∙◌, arith}
-use Rattle.std.specs.Prelude.{IsSome, Result, Ok, Err, slice_get}
+use Rattle.std.proofs.Common.{◌≡◌, inl, inr, false, ℕ, ◌≤◌, List, [], ◌∷◌, ◌++◌, length, take, None, refl, sym, ◌∙◌, ap, arith}
+use Rattle.std.specs.Prelude.{⊤, IsSome, Result, Ok, Err, slice_get}
 use Rattle.std.proofs.lemmas.List.{append-nil}
 use Rattle.fsd_texts.specs.Text.{fault_text}
 use Rattle.sector_disk.specs.declared.machine.Machine.{Ghosts}
-use Rattle.sector_disk.specs.Calls.{IsTimed, LeavesDisk, Since}
+use Rattle.sector_disk.specs.Calls.{IsTimed, LeavesDisk, Since, StopsOnly, stops}
 use Rattle.sector_disk.specs.Image.{AreShort}
-use Rattle.sector_disk.specs.Machine.{Utters}
+use Rattle.sector_disk.specs.Machine.{LeavesOnly, Moment, Utters}
+use Rattle.sector_disk.proofs.Lags.{shows_of, stops_by}
+use Rattle.sector_disk.proofs.Moments.{leaves_more, then_on}
+use Rattle.volume_layout.specs.declared.layout.Layout.{Layout}
 use Rattle.fsd_files.specs.Disk.{in_runs}
 use Rattle.fsd_files.specs.Desk.{Session}
-use Rattle.fsd_sound.specs.Sound.{EndIn}
+use Rattle.fsd_sound.specs.Sound.{EndIn, weak_of}
 use Rattle.fsd_texts.specs.declared.command.Command.{Command}
 use Rattle.fsd_texts.specs.declared.fault.Fault.{Fault}
+use Rattle.fsd_texts.specs.declared.fault.Fault.TheVariants as Ends
 use Rattle.fsd_texts.specs.declared.script_command.ScriptCommand.TheVariants.{Plain}
 use Rattle.fsd_runs.specs.declared.request.Request.TheVariants.{One}
 use Rattle.fsd_runs.specs.Errands.{Turn, alone, errand_of}
+use Rattle.fsd_runs.specs.Leaves.{LeavesRoots, MayEnd}
 use Rattle.fsd_runs.specs.Sessions.{Meeting, session_over}
-use Rattle.fsd_runs.specs.Runs.{Goes, IsCutAt, turns_of}
+use Rattle.fsd_runs.specs.Runs.{Goes, IsCutAt, behind, turns_of}
 use Rattle.volume_contract.specs.State.{Known, forced_of, volume_of}
 use Rattle.volume_turns.specs.declared.turns.End.{End}
 use Rattle.volume_turns.specs.declared.turns.End.TheVariants.{Fault as Stopped, Output}
 use Rattle.volume_turns.specs.Line.{EndsWith, is_unsaid}
-use Rattle.volume_turns.specs.Once.{Anything, IsAlone, Unanswered}
+use Rattle.volume_turns.specs.Once.{Anything, IsAlone, SaysRooted, Unanswered}
 use Rattle.volume_turns.specs.Turns.{Told}
 use Rattle.volume_turns.specs.Whole.{Always, Halted, RunsOut}
-use Rattle.volume_turns.proofs.GroupEndLaws.{finishes_unsaid}
 use Rattle.volume_turns.proofs.GroupLaws.{goes_wider}
 use Rattle.volume_turns.proofs.HaltLaws.{broken_ends, broken_moments}
-use Rattle.volume_turns.proofs.LineLaws.{alone_length}
+use Rattle.volume_turns.proofs.LineLaws.{alone_length, at_once_ends}
 use Rattle.volume_turns.proofs.TurnLaws.{none_done}
 
 first_of : (turns : List Turn) → length turns ≡ 1 → IsSome (slice_get turns 0)
@@ -54,6 +58,36 @@ halted_one M c k mets why a b windows u =
       undone = λ is. none_done k (forced_of k) turns (M.now b).image (u.spared is);
     }
 
+-- ---- its roots
+
+-- nothing is said, or its roots stand
+says_roots : (own : Layout) (k : Known) (old left : Moment) → SaysRooted own k old left → LeavesRoots own (weak_of k.windows) old left
+says_roots own k old left (inl none) = inl ([], (Ends.Memory, 0, tt, refl), none ∙ sym (append-nil old.said))
+says_roots own k old left (inr roots) = inr roots
+
+one_rooted : {D : Type 0} (M : Ghosts D) (k : Known) (own : Layout) (a b : D) → StopsOnly M a b (SaysRooted own k (M.now a)) → StopsOnly M a b (LeavesRoots own (weak_of k.windows) (M.now a))
+one_rooted M k own a b run = leaves_more M.moment (stops M) a b (SaysRooted own k (M.now a)) (LeavesRoots own (weak_of k.windows) (M.now a)) (says_roots own k (M.now a)) run
+
+-- the line of a fault is said behind it, where nothing else was
+module _ {D : Type 0} (M : Ghosts D) (k : Known) (own : Layout) (a p b : D) (why : Fault) (may : MayEnd why) (quiet : (M.now p).said ≡ (M.now a).said) where
+  abbrev Rooted : Moment → Type 0
+  Rooted left = LeavesRoots own (weak_of k.windows) (M.now a) left
+
+  on_line : (left : Moment) (heard : ℕ) → left.said ≡ (M.now p).said ++ take heard (fault_text why) → Rooted left
+  on_line left heard said = inl (take heard (fault_text why), (why, heard, may, refl), said ∙ ap (λ (x : List ℕ). x ++ take heard (fault_text why)) quiet)
+
+  pub fault_line : IsTimed M p → IsTimed M b → Since M p b → LeavesOnly M.moment M.left_since p b (Utters (fault_text why) (M.now p)) → StopsOnly M p b Rooted
+  fault_line at_p at_b since line = stops_by M p b (Utters (fault_text why) (M.now p)) (λ c. ⊤) at_p at_b since line (λ c left. tt) Rooted (λ c utters. on_line c utters.heard utters.said)
+      (λ last shown utters left sooner lately either. on_line (shows_of shown last) utters.heard utters.said)
+
+  fault_rooted : IsTimed M p → IsTimed M b → Since M p b → LeavesOnly M.moment M.left_since p b (Utters (fault_text why) (M.now p)) → StopsOnly M a p (SaysRooted own k (M.now a)) → StopsOnly M a b Rooted
+  fault_rooted at_p at_b since line run = then_on M.moment (stops M) a p b Rooted (one_rooted M k own a p run) (fault_line at_p at_b since line)
+
+-- ---- to the last line
+
+abbrev one_end : Command → Known → List Meeting → Layout
+one_end c k mets = (behind mets (session_over (volume_of k)) (Plain c ∷ [])).volume.layout
+
 module _ {D : Type 0} (M : Ghosts D) (c : Command) (rest : List ℕ) (k : Known) (a p b : D) (since : Since M p b) where
   went : {r : Result ℕ End} → (one : IsAlone M c k a p r) → (t : ℕ) → t ≤ M.moment a → Goes (in_runs k.windows) (M.left_since b t) (IsCutAt None) (alone c) (M.now a).said (M.now a).image (session_over (volume_of k)) one.mets (Plain c ∷ [])
   went one t le = let later = one.moments.later in
@@ -75,6 +109,7 @@ module _ {D : Type 0} (M : Ghosts D) (c : Command) (rest : List ℕ) (k : Known)
           moments = broken_moments M (One c) (M.report a) k turns a p b one.moments why halted short ends at_p at_b one.ends.once told status says honest ended;
           ends = inr (broken_ends M (One c) (M.report a) k turns a p b one.moments why halted short ends at_p at_b one.ends.once told status says honest ended);
         };
+        rooted = fault_rooted M k (one_end c k one.mets) a p b why (at_once_ends why one.ends.once) one.ends.said at_p at_b since (says.any_moment honest) one.rooted;
       }
 
 module _ {D : Type 0} (M : Ghosts D) (c : Command) (rest : List ℕ) (k : Known) (a b : D) where
@@ -93,6 +128,7 @@ module _ {D : Type 0} (M : Ghosts D) (c : Command) (rest : List ℕ) (k : Known)
       moments = one.moments;
       ends = inl (record { through = one.ends.0; gives = one.ends.1; done = one.ends.2 });
     };
+    rooted = one_rooted M k (one_end c k one.mets) a b one.rooted;
   }
 
   pub one_unsaid : {T : Type 0} → IsAlone M c k a b (Err Output) → Told {T = T} (M.report a) (M.report b) (Err Output) → RunsOut M (One c) [] rest (M.report a) k a b 6
@@ -100,5 +136,12 @@ module _ {D : Type 0} (M : Ghosts D) (c : Command) (rest : List ℕ) (k : Known)
     cut = None;
     may = tt;
     cause = tt;
-    finishes = finishes_unsaid M (One c) (M.report a) k (turns_of (alone c) one.mets (session_over (volume_of k))) a b one.moments told (alone c) Always (IsCutAt None) one.mets tt refl (went M c rest k a b b still one);
+    finishes = record {
+      mets = one.mets;
+      ahead = tt;
+      goes = went M c rest k a b b still one;
+      moments = one.moments;
+      ends = inr (inl (record { ends = refl; rose = told.output }));
+    };
+    rooted = one_rooted M k (one_end c k one.mets) a b one.rooted;
   }

@@ -29,7 +29,7 @@ use Rattle.volume_contract.specs.State.{State, Ages, Known, Stands, forced_of, i
 use Rattle.volume_turns.specs.Line.{EndsWith, is_unsaid}
 use Rattle.volume_turns.specs.Steps.{StaysSound}
 use Rattle.volume_turns.specs.Turns.{InRun, OnDisk, Undone}
-use Rattle.volume_turns.specs.Whole.{Finishes, Halted, RunsOut, SaysOut}
+use Rattle.volume_turns.specs.Whole.{Finishes, Halted, RunsOut, SaysOut, UnderWay}
 use Rattle.volume_turns.proofs.HaltLaws.{stopped_ends, stopped_moments}
 use Rattle.volume_turns.proofs.OneLaws.{some_one}
 use Rattle.volume_turns.proofs.ScriptLaws.{in_from}
@@ -104,7 +104,7 @@ module _ {S D : Type 0} (state : S → State) (has : S → Mounted → List Plac
     )
 
     abbrev Over : D → List Meeting → Type 0
-    Over x mets = SaysOut M e k mets x b status ⊎ (IsUnsaid before (M.report b) status ⊎ IsBroken (Put name keep) (Undone k (forced_of k) (turns_of e mets (session_over (volume_of k)))) before (M.report b) (turns_of e mets (session_over (volume_of k))) (M.now x) (M.now b) status)
+    Over x mets = SaysOut M e k mets x b status ⊎ (IsUnsaid before (M.report b) status ⊎ IsBroken (Put name keep) (Undone k (forced_of k) (turns_of e mets (session_over (volume_of k)))) (UnderWay M k (turns_of e mets (session_over (volume_of k))) b) before (M.report b) (turns_of e mets (session_over (volume_of k))) (M.now x) (M.now b) status)
 
     ends_from : (mets : List Meeting) → Over m mets → Over a mets
     ends_from mets (inl out) = inl (record {
@@ -118,6 +118,7 @@ module _ {S D : Type 0} (state : S → State) (has : S → Mounted → List Plac
         tells = out.done.tells;
         lasts = out.done.lasts;
         roots = out.done.roots;
+        rooted = out.done.rooted;
       };
     })
     ends_from mets (inr (inl u)) = inr (inl u)
@@ -130,6 +131,7 @@ module _ {S D : Type 0} (state : S → State) (has : S → Mounted → List Plac
         more = x.says.more;
         said = x.says.said ∙ ap (λ (y : List ℕ). y ++ (said_in (take x.says.whole (turns_of e mets (session_over (volume_of k)))) ++ fault_text x.why)) worn.said;
       };
+      held = x.held;
       undone = x.undone;
     }))
 
@@ -139,6 +141,7 @@ module _ {S D : Type 0} (state : S → State) (has : S → Mounted → List Plac
       cut = None;
       may = tt;
       cause = tt;
+      rooted = tt;
       finishes = record {
         mets = f.mets;
         ahead = tt;
@@ -194,6 +197,7 @@ module _ {S D : Type 0} (state : S → State) (has : S → Mounted → List Plac
       cut = None;
       may = tt;
       cause = tt;
+      rooted = tt;
       finishes = record {
         mets = [];
         ahead = tt;

@@ -26,7 +26,7 @@ use Rattle.volume_turns.proofs.ListLaws.{fitting_more}
 -- ---- what is written
 
 module _ (n : ℕ) (old new : Ledger) where
-  ended_up_to : (why : Refusal) → IsUpTo n old new → HasWritten n old new (ended_by why)
+  pub ended_up_to : (why : Refusal) → IsUpTo n old new → HasWritten n old new (ended_by why)
   ended_up_to (Why.Device s) x = x
   ended_up_to (Why.Down s) x = x
   ended_up_to (Why.Lost a b) x = x

@@ -1,12 +1,12 @@
 -- What one call of the input or of the output keeps.
-use Rattle.std.proofs.Common.{◌≡◌, ℕ, ◌≤◌, Bool, true, false, List, ◌++◌, take, inl, inr, ap, sym, subst, ◌∙◌, arith}
+use Rattle.std.proofs.Common.{◌≡◌, ℕ, ◌≤◌, Bool, true, false, List, ◌++◌, take, inl, inr, Option, ap, sym, subst, ◌∙◌, arith}
 use Rattle.std.specs.Prelude.{OnOk, Result, Ok, Err}
 use Rattle.std.proofs.lemmas.List.{append-nil}
 use Rattle.sector_disk.specs.declared.machine.Failed.{Failed}
 use Rattle.sector_disk.specs.declared.machine.Machine.{Ghosts}
-use Rattle.sector_disk.specs.Calls.{IsTimed, LeavesDisk, Since, SparesDisk}
+use Rattle.sector_disk.specs.Calls.{DiskFaults, IsTimed, LeavesDisk, OnlyReads, Since, SparesDisk}
 use Rattle.sector_disk.specs.Image.{IsWorn, Windows, open_damage}
-use Rattle.sector_disk.specs.Machine.{DiskCause, Elapses, InputCause, IsHistory, IsSynced, LeavesOnly, Moment, OutputCause, Report, Says, Trusts, Utters, Wears}
+use Rattle.sector_disk.specs.Machine.{DiskCause, Elapses, InputCause, IsHistory, IsSynced, LeavesOnly, Moment, OutputCause, Report, Says, Trusts, UsesDisk, Utters, Wears}
 use Rattle.sector_disk.proofs.Calls.{utters_same}
 use Rattle.sector_disk.proofs.Holding.{wears_none}
 use Rattle.sector_disk.proofs.Moments.{goes_on, leaves_more, leaves_more_in, started, then_on}
@@ -94,6 +94,19 @@ pub utters_none : (text : List ℕ) (old left : Moment) → Wears old left → U
 utters_none text old left w = record {
   utters = record { image = w.image; windows = w.windows; heard = 0; said = w.said ∙ sym (append-nil old.said) };
   synced = λ is. inl w.said;
+}
+
+-- a sync is a call that only reads
+pub synced_reads : {D : Type 0} (M : Ghosts D) (a b : D) (fault : Option ℕ) → UsesDisk (M.report a) (M.report b) → DiskFaults fault (M.report a) (M.report b) → Trusts (M.tells a) (M.tells b) (M.honest a) (M.honest b) → (M.tells b → M.ledger b ≡ M.ledger a) → (M.honest b → Wears (M.now a) (M.now b))
+    → (M.honest b → Elapses (M.moment a) (M.moment b) (M.left_since a) (M.left_since b) (Wears (M.now a))) → (M.honest a → IsTimed M a) → OnlyReads M fault a b
+synced_reads M a b fault uses faults trust ledger worn time timed = record {
+  uses = uses;
+  faults = faults;
+  trust = trust;
+  ledger = ledger;
+  worn = worn;
+  since = λ h. (time h).keeps;
+  any_moment = λ h. goes_on M.moment M.left_since a a b (Wears (M.now a)) (Wears (M.now a)) (started M.moment M.left_since a (M.now a) (Wears (M.now a)) (timed (trust.honest h)).only (wears_none (M.now a))) (time h) (λ c now. now);
 }
 
 module _ (text : List ℕ) (old mid left : Moment) (w : Wears old mid) where

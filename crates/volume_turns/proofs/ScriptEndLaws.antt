@@ -53,13 +53,13 @@ outside_in a p b (Ends.Device s) o = record { rose = o.rose; told = o.told }
 outside_in a p b Ends.Memory o = tt
 outside_in a p b why o = absurd o
 
-broken_in : (a p b : Report) {Over : ℕ → Image → Type 0} {turns : List Turn} {old new : Moment} {status : ℕ} → IsBroken Script Over (but_input a p) b turns old new status → IsBroken Script Over a b turns old new status
-broken_in a p b x = record { why = x.why; outside = outside_in a p b x.why x.outside; ends = x.ends; says = x.says; undone = x.undone }
+broken_in : (a p b : Report) {Over : ℕ → Image → Type 0} {Way : ℕ → Type 0} {turns : List Turn} {old new : Moment} {status : ℕ} → IsBroken Script Over Way (but_input a p) b turns old new status → IsBroken Script Over Way a b turns old new status
+broken_in a p b x = record { why = x.why; outside = outside_in a p b x.why x.outside; ends = x.ends; says = x.says; held = x.held; undone = x.undone }
 
 pub finishes_in : {D : Type 0} (M : Ghosts D) (e : Errand) (Ahead : Session → Type 0) (Last : Volume → Image → Type 0) (x p : Report) (k : Known) (a b : D) (status : ℕ) → Finishes M Script e Ahead Last (but_input x p) k a b status → Finishes M Script e Ahead Last x k a b status
 finishes_in M e Ahead Last x p k a b status f = record { mets = f.mets; ahead = f.ahead; goes = f.goes; moments = f.moments; ends = ended f.ends }
   where
-    ended : {All : Type 0} {Over : ℕ → Image → Type 0} {turns : List Turn} {old new : Moment} → All ⊎ (IsUnsaid (but_input x p) (M.report b) status ⊎ IsBroken Script Over (but_input x p) (M.report b) turns old new status) → All ⊎ (IsUnsaid x (M.report b) status ⊎ IsBroken Script Over x (M.report b) turns old new status)
+    ended : {All : Type 0} {Over : ℕ → Image → Type 0} {Way : ℕ → Type 0} {turns : List Turn} {old new : Moment} → All ⊎ (IsUnsaid (but_input x p) (M.report b) status ⊎ IsBroken Script Over Way (but_input x p) (M.report b) turns old new status) → All ⊎ (IsUnsaid x (M.report b) status ⊎ IsBroken Script Over Way x (M.report b) turns old new status)
     ended (inl out) = inl out
     ended (inr (inl u)) = inr (inl (record { ends = u.ends; rose = u.rose }))
     ended (inr (inr y)) = inr (inr (broken_in x p (M.report b) y))

@@ -49,6 +49,7 @@ module _ (e : Errand) (says : e.says ≡ reply_text) (forces : e.forces ≡ is_f
       cut = None;
       may = tt;
       cause = tt;
+      rooted = tt;
       finishes = subst (λ (y : Errand). Finishes M Script y Always (WornIf false) x k a b status) (as_spoken (script_in input).0 (λ done. script_ending (script_in input).1)) (finishes_in M _ Always (WornIf false) x p k a b status f);
     }
 
@@ -60,6 +61,7 @@ module _ (e : Errand) (says : e.says ≡ reply_text) (forces : e.forces ≡ is_f
       cut = Some (w.count, Ends.WornOut);
       may = tt;
       cause = tt;
+      rooted = tt;
       finishes = subst (λ (y : Errand). Finishes M Script y (λ s. WearsOut s (slice_get (script_in input).0 w.count)) (λ v i. IsWornOut v i) x k a b status) (as_spoken (take w.count (script_in input).0) (λ done. cut_ending Ends.WornOut)) (finishes_in M _ (λ s. WearsOut s (slice_get (script_in input).0 w.count)) (λ v i. IsWornOut v i) x p k a b status w.finishes);
     }
 
@@ -69,6 +71,7 @@ module _ (e : Errand) (says : e.says ≡ reply_text) (forces : e.forces ≡ is_f
       cut = Some (length done, Ends.Input);
       may = tt;
       cause = record { rose = rose; taken = taken; all = all; commands = whole };
+      rooted = tt;
       finishes = subst (λ (cs : List ScriptCommand). Finishes M Script (ended_as spoken cs (λ d. cut_ending Ends.Input)) Always (WornIf false) x k a b status) (sym front)
           (subst (λ (y : Errand). Finishes M Script y Always (WornIf false) x k a b status) (as_spoken done (λ d. cut_ending Ends.Input)) (finishes_in M _ Always (WornIf false) x p k a b status f));
     }

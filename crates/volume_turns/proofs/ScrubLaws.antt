@@ -13,7 +13,7 @@ use Rattle.fsd_files.specs.Replies.{Reply}
 use Rattle.fsd_sound.specs.Mounted.{Mounted}
 use Rattle.fsd_texts.specs.declared.command.Command.TheVariants as Word
 use Rattle.fsd_runs.specs.Errands.{reply_status}
-use Rattle.volume_contract.specs.Order.{Comes, Force, Heal, IsDevice, IsLookUp, Keeps, LookUp, Single}
+use Rattle.volume_contract.specs.Order.{Comes, Force, Heal, IsLookUp, Keeps, LookUp, Single}
 use Rattle.volume_contract.specs.State.{Known, State}
 use Rattle.scrub.specs.declared.whole.Healed.{Healed}
 use Rattle.scrub.specs.Looking.{AreDamaged}
@@ -25,13 +25,9 @@ use Rattle.volume_turns.specs.Steps.{Does, Stays, ended_by}
 use Rattle.volume_turns.proofs.AnsweringLaws.{data_inside}
 use Rattle.volume_turns.proofs.NumberLaws.{goes_by, keeps_goes, one_force}
 use Rattle.volume_turns.proofs.OrderLaws.{starts_up}
-use Rattle.volume_turns.proofs.StatusLaws.{loss_looks}
+use Rattle.volume_turns.proofs.StatusLaws.{device_looks, loss_looks}
 
 -- ---- what it refuses
-
-device_looks : (why : Refusal) → IsDevice why → IsLookUp why
-device_looks (Why.Device s) is = tt
-device_looks why is = absurd is
 
 pub scrub_looks : (s : State) → s.down ≡ None → (why : Refusal) → Comes (scrub_steps s) why → IsLookUp why
 scrub_looks s up why comes =

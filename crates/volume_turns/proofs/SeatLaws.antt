@@ -90,19 +90,19 @@ module _ {S : Type 0} (state : S → State) (has : S → Mounted → List Placed
 -- ---- what is open is given up
 
 module _ (k : Known) (o : Opened) (f : ℕ) (text : List ℕ) where
-  in_close_as : (old left : Moment) → InClose (with_opened k o) f text old left → InClose k f text old left
-  in_close_as old left x = record { windows = x.windows; forced = x.forced; least = x.least; sound = x.sound; heard = x.heard; said = x.said; all = x.all }
+  in_close_as : (old left : Moment) → InClose k.mounted.volume.layout (with_opened k o) f text old left → InClose k.mounted.volume.layout k f text old left
+  in_close_as old left x = record { windows = x.windows; forced = x.forced; least = x.least; sound = x.sound; heard = x.heard; said = x.said; all = x.all; roots = x.roots }
 
   module _ {D : Type 0} (M : Ghosts D) (a b : D) where
     ends_as : (r : Result (Unit {0}) End) → EndsClosed M (with_opened k o) f text a b r → EndsClosed M k f text a b r
-    ends_as (Ok x) is = record { windows = is.windows; said = is.said; sound = is.sound; held = is.held; tells = is.tells; lasts = is.lasts; roots = is.roots }
+    ends_as (Ok x) is = record { windows = is.windows; said = is.said; sound = is.sound; held = is.held; tells = is.tells; lasts = is.lasts; roots = is.roots; rooted = is.rooted }
     ends_as (Err (Stopped fault)) is = (is.0, record { windows = is.1.windows; said = is.1.said; held = is.1.held })
     ends_as (Err Output) is = tt
 
     -- its end is the same
     pub closes_as : (r : Result (Unit {0}) End) → ClosesAndSays M (with_opened k o) f text a b r → ClosesAndSays M k f text a b r
     closes_as r x = record {
-      moments = leaves_more M.moment (stops M) a b (InClose (with_opened k o) f text (M.now a)) (InClose k f text (M.now a)) (in_close_as (M.now a)) x.moments;
+      moments = leaves_more M.moment (stops M) a b (InClose k.mounted.volume.layout (with_opened k o) f text (M.now a)) (InClose k.mounted.volume.layout k f text (M.now a)) (in_close_as (M.now a)) x.moments;
       ends = ends_as r x.ends;
     }
 

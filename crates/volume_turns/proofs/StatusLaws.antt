@@ -7,7 +7,7 @@ use Rattle.sector_disk.specs.Machine.{Ledger, OnlyWrites, Report, Rose, UsesDisk
 use Rattle.fsd_bytes.specs.declared.key.Key.{Key}
 use Rattle.fsd_bytes.specs.declared.refusal.Refusal.{Refusal}
 use Rattle.fsd_bytes.specs.declared.refusal.Refusal.TheVariants as Why
-use Rattle.volume_contract.specs.Order.{Comes, Force, IsLookUp, IsLoss, down}
+use Rattle.volume_contract.specs.Order.{Comes, Force, IsDevice, IsLookUp, IsLoss, down}
 use Rattle.volume_contract.specs.State.{State}
 use Rattle.volume_turns.proofs.OrderLaws.{force_loss}
 use Rattle.fsd_sound.specs.declared.fault.MountFault.{MountFault}
@@ -81,6 +81,10 @@ pub loss_looks : (why : Refusal) → IsLoss why → IsLookUp why
 loss_looks (Why.Device s) is = tt
 loss_looks (Why.Lost x y) is = tt
 loss_looks why is = absurd is
+
+pub device_looks : (why : Refusal) → IsDevice why → IsLookUp why
+device_looks (Why.Device s) is = tt
+device_looks why is = absurd is
 
 pub force_ends : (P : Answer → Type 0) (s : State) → s.down ≡ None → (comes_one : Bool) (why : Refusal) → Comes (down s ∷ Force comes_one ∷ []) why → (r : Result Answer Fault) → r ≡ ended_by why → IfOk r P
 force_ends P s up comes_one why comes r is = look_up_ends P why r is (loss_looks why (force_loss s up comes_one why comes))

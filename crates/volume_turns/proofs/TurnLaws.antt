@@ -263,10 +263,6 @@ module _ (k after : Known) (f : ℕ) (t : Turn) (rest : List Turn) (layout : aft
   pub in_saying_at : (IsTrue t.forces → n ≡ length after.changes) → (heard : ℕ) → left.said ≡ old.said ++ take heard t.said → InRun k f (t ∷ rest) old left
   in_saying_at all heard said = ⊎_elim (λ short. in_part (take heard t.said) said (inl ((heard, short, refl), λ some. forced_here all))) (λ long. in_whole all (said ∙ ap (λ (b : List ℕ). old.said ++ b) (take_all heard t.said long))) (cases_lt heard (length t.said))
 
-pub in_saying : (k after : Known) (f g : ℕ) (t : Turn) (rest : List Turn) → Carries k after f g t → (old left : Moment) → left.windows ≡ old.windows → IsSound after.mounted.volume.layout after.windows after.changes g left.image → (heard : ℕ)
-    → left.said ≡ old.said ++ take heard t.said → InRun k f (t ∷ rest) old left
-in_saying k after f g t rest c old left windows sound heard said = in_saying_at k after f t rest c.layout c.windows c.changes g c.least old left windows sound c.all heard said
-
 -- ---- one turn, and those behind it
 
 pub forced_none : (turns : List Turn) → IsFalse (list_any (λ u. u.forces) turns) → forced_in turns ≡ 0
@@ -405,9 +401,9 @@ module _ {D : Type 0} (M : Ghosts D) (k after : Known) (f g : ℕ) (turns : List
     };
   }
 
-module _ (k after : Known) (f g : ℕ) (turns : List Turn) (t : Turn) (more : List Turn) (none : t.changes ≡ []) (layout : after.mounted.volume.layout ≡ k.mounted.volume.layout) (same : after.windows ≡ k.windows) (changes : after.changes ≡ k.changes ++ changes_in turns)
+module _ {own : Layout} (k after : Known) (f g : ℕ) (turns : List Turn) (t : Turn) (more : List Turn) (none : t.changes ≡ []) (layout : after.mounted.volume.layout ≡ k.mounted.volume.layout) (same : after.windows ≡ k.windows) (changes : after.changes ≡ k.changes ++ changes_in turns)
     (least : f ≤ g) (enough : IsTrue (list_any (λ u. u.forces) turns) → length k.changes + forced_in turns ≤ g)
-    (old mid left : Moment) (mid_windows : mid.windows ≡ old.windows) (mid_said : mid.said ≡ old.said ++ said_in turns) (c : InClose after g t.said mid left) where
+    (old mid left : Moment) (mid_windows : mid.windows ≡ old.windows) (mid_said : mid.said ≡ old.said ++ said_in turns) (c : InClose own after g t.said mid left) where
   sound_behind : IsSound k.mounted.volume.layout k.windows (k.changes ++ changes_in turns) c.forced left.image
   sound_behind =
       subst (λ (h : List Change). IsSound k.mounted.volume.layout k.windows h c.forced left.image) changes

@@ -30,9 +30,10 @@ use Rattle.fsd_texts.specs.declared.fault.Fault.{Fault}
 use Rattle.fsd_texts.specs.declared.fault.Fault.TheVariants as Ends
 use Rattle.fsd_texts.specs.Text.{fault_text}
 use Rattle.fsd_runs.specs.declared.request.Request.{Request}
-use Rattle.fsd_runs.specs.declared.request.Request.TheVariants.{Put}
+use Rattle.fsd_runs.specs.declared.request.Request.TheVariants.{One, Put}
 use Rattle.fsd_runs.specs.Errands.{Cut, Turn, blank, errand_of, fault_status}
-use Rattle.fsd_runs.specs.Leaves.{CutCause, IsBroken, IsOutside, IsReplied, IsSpent, IsUndone, IsUnsaid, Left, LeavesBy, LeftBefore, LeftSince, Unbegun}
+use Rattle.fsd_runs.specs.Leaves.{CutCause, IfOne, IsBroken, IsOutside, IsReplied, IsSpent, IsUnderWay, IsUndone, IsUnsaid, LeavesBy, LeavesRoots, Left, LeftBefore, LeftSince, Unbegun, Whatever}
+use Rattle.fsd_runs.proofs.LeaveLaws.{one_more}
 use Rattle.fsd_runs.specs.Sessions.{session_over}
 use Rattle.fsd_runs.specs.Runs.{Goes, IsCutAt, IsThrough, Run, changes_in, errand_in, run_end, run_status, run_turns, said_in, turns_of}
 use Rattle.volume_contract.specs.Mount.{EndsBefore, EndsSettled, Excuses, ExcusesOf, MountsAs, Settled, SoundAbout, SoundBefore, SoundSince}
@@ -41,17 +42,18 @@ use Rattle.volume_turns.specs.declared.turns.End.TheVariants.{Fault as Stopped}
 use Rattle.volume_turns.specs.Line.{EndsWith, is_unsaid}
 use Rattle.volume_turns.specs.Once.{fault_of}
 use Rattle.volume_turns.specs.Turns.{EndsAtOnce, InRun, OnDisk, SaysAll, Told, Undone}
-use Rattle.volume_turns.specs.Whole.{Halted, RunsOut, SaysOut}
-use Rattle.volume_turns.proofs.HaltLaws.{broken_ends, broken_moments, stops_saying}
-use Rattle.volume_turns.proofs.LineLaws.{excused}
-use Rattle.volume_turns.proofs.MountLaws.{before_left, known_length, known_sound, nothing_said, own_roots, run_left, run_undone, since_left, sound_to, starts}
+use Rattle.volume_turns.specs.Whole.{Halted, RunsOut, SaysOut, UnderWay}
+use Rattle.volume_turns.proofs.HaltLaws.{broken_ends, broken_moments, held_behind, stops_saying}
+use Rattle.volume_turns.proofs.LineLaws.{at_once_ends, excused}
+use Rattle.volume_turns.proofs.OneLaws.{fault_line}
+use Rattle.volume_turns.proofs.MountLaws.{before_left, known_length, known_sound, nothing_said, own_roots, run_left, run_under_way, run_undone, since_left, sound_to, starts}
 use Rattle.volume_turns.proofs.RunLaws.{told_fault}
 use Rattle.volume_turns.proofs.TurnLaws.{in_before_at, none_done, now_held}
 use Rattle.volume_turns.proofs.StatusLaws.{same_device}
 
 -- what was said before the mount is all that was said until it had settled
-broken_on_said : (a b : Report) (request : Request) (Over Now : ℕ → Image → Type 0) (turns : List Turn) (old mid new : Moment) (status : ℕ) → mid.said ≡ old.said → ((whole : ℕ) (i : Image) → Over whole i → Now whole i) → IsBroken request Over a b turns mid new status → IsBroken request Now a b turns old new status
-broken_on_said a b request Over Now turns old mid new status quiet on x = record {
+broken_on_said : (a b : Report) (request : Request) (Over Now : ℕ → Image → Type 0) (Way To : ℕ → Type 0) (turns : List Turn) (old mid new : Moment) (status : ℕ) → mid.said ≡ old.said → ((whole : ℕ) (i : Image) → Over whole i → Now whole i) → ((whole : ℕ) → Way whole → To whole) → IsBroken request Over Way a b turns mid new status → IsBroken request Now To a b turns old new status
+broken_on_said a b request Over Now Way To turns old mid new status quiet on held x = record {
   why = x.why;
   outside = x.outside;
   ends = x.ends;
@@ -60,8 +62,13 @@ broken_on_said a b request Over Now turns old mid new status quiet on x = record
     more = x.says.more;
     said = x.says.said ∙ ap (λ (y : List ℕ). y ++ (said_in (take x.says.whole turns) ++ fault_text x.why)) quiet;
   };
+  held = held x.says.whole x.held;
   undone = λ is. on x.says.whole new.image (x.undone is);
 }
+
+one_so : (request : Request) {P : Type 0} → P → IfOne request P
+one_so (One command) fact = fact
+one_so request fact = tt
 
 -- ---- what is counted, from before the mount on
 
@@ -75,8 +82,8 @@ module _ (a m b : Report) (uses : UsesDisk a m) (faults : DiskFaults None a m) w
   outside_on (Put name keep) Ends.Input o = subst (λ (n : ℕ). Rose n b.input_faults) uses.input o
   outside_on request why o = absurd o
 
-  pub broken_on : (request : Request) {Over : ℕ → Image → Type 0} {turns : List Turn} {old new : Moment} {status : ℕ} → IsBroken request Over m b turns old new status → IsBroken request Over a b turns old new status
-  broken_on request x = record { why = x.why; outside = outside_on request x.why x.outside; ends = x.ends; says = x.says; undone = x.undone }
+  pub broken_on : (request : Request) {Over : ℕ → Image → Type 0} {Way : ℕ → Type 0} {turns : List Turn} {old new : Moment} {status : ℕ} → IsBroken request Over Way m b turns old new status → IsBroken request Over Way a b turns old new status
+  broken_on request x = record { why = x.why; outside = outside_on request x.why x.outside; ends = x.ends; says = x.says; held = x.held; undone = x.undone }
 
   pub cause_on : (cut : Cut) (input rest : List ℕ) → CutCause cut input rest m b → CutCause cut input rest a b
   cause_on None input rest cause = tt
@@ -95,9 +102,10 @@ runs_on M request input rest a m uses faults k c b status r = record {
   may = r.may;
   cause = cause_on a m (M.report b) uses faults r.cut input rest r.cause;
   finishes = record { mets = r.finishes.mets; ahead = r.finishes.ahead; goes = r.finishes.goes; moments = r.finishes.moments; ends = ended r.finishes.ends };
+  rooted = r.rooted;
 }
   where
-    ended : {All : Type 0} {Over : ℕ → Image → Type 0} {turns : List Turn} {old new : Moment} → All ⊎ (IsUnsaid m (M.report b) status ⊎ IsBroken request Over m (M.report b) turns old new status) → All ⊎ (IsUnsaid a (M.report b) status ⊎ IsBroken request Over a (M.report b) turns old new status)
+    ended : {All : Type 0} {Over : ℕ → Image → Type 0} {Way : ℕ → Type 0} {turns : List Turn} {old new : Moment} → All ⊎ (IsUnsaid m (M.report b) status ⊎ IsBroken request Over Way m (M.report b) turns old new status) → All ⊎ (IsUnsaid a (M.report b) status ⊎ IsBroken request Over Way a (M.report b) turns old new status)
     ended (inl out) = inl out
     ended (inr (inl u)) = inr (inl (unsaid_on a m (M.report b) uses faults status u))
     ended (inr (inr x)) = inr (inr (broken_on a m (M.report b) uses faults request x))
@@ -187,30 +195,56 @@ module _ {D : Type 0} (M : Ghosts D) (request : Request) (input rest : List ℕ)
         (subst (λ (x : List WeakRun). Goes (in_runs x) (M.left_since b (M.moment m)) (IsCutAt r.cut) (errand_in request input r.cut) (M.now m).said (M.now m).image (session_over (volume_of k)) r.finishes.mets (errand_in request input r.cut).commands) s.known (r.finishes.goes (M.moment m) (omega arith)));
   }
 
-  replied : SaysOut M (errand_in request input r.cut) k r.finishes.mets m b status → IsReplied l windows run h n turns (run_status run_is) (run_end run_is) (M.now a) (M.now b) status
+  -- what is sound, and has its roots, behind the mount
+  sound_as : (i : Image) → IsSound k.mounted.volume.layout k.windows (k.changes ++ changes_in turns) (length (k.changes ++ changes_in turns)) i → IsSound l (windows ++ run ∷ []) (take n h ++ changes_in turns) (n + length (changes_in turns)) i
+  sound_as i sound =
+      let all : length (k.changes ++ changes_in turns) ≡ n + length (changes_in turns) = let sum = length-append k.changes (changes_in turns) in let known = known_length l windows run h f n prefix k (M.now a) (M.now m) s quiet in omega (arith, sum, known) in
+      sound_to k.mounted.volume.layout l k.windows (windows ++ run ∷ []) (k.changes ++ changes_in turns) (take n h ++ changes_in turns) (length (k.changes ++ changes_in turns)) (n + length (changes_in turns)) i s.layout s.known (ap (λ (x : List Change). x ++ changes_in turns) s.changes) all sound
+
+  own_as : (i : Image) → HasOwnRoots (run_end run_is).layout (weak_of k.windows) i → HasOwnRoots (run_end run_is).layout (weak_of (windows ++ run ∷ [])) i
+  own_as i own = subst (λ (x : List WeakRun). HasOwnRoots (run_end run_is).layout (weak_of x) i) s.known own
+
+  -- what is said, and where both roots stand
+  abbrev Rooted : Moment → Type 0
+  Rooted left = LeavesRoots (run_end run_is).layout (weak_of (windows ++ run ∷ [])) (M.now a) left
+
+  mount_quiet : StopsOnly M a m Rooted
+  mount_quiet = settled_stops M l windows h f a m at_a at_m mounts held run n at mount settled_at Rooted
+      (λ left present said sound. inl ([], nothing_said, said ∙ sym (append-nil (M.now a).said))) (λ left settled said sound. inl ([], nothing_said, said ∙ sym (append-nil (M.now a).said)))
+
+  roots_on : (left : Moment) → LeavesRoots (run_end run_is).layout (weak_of k.windows) (M.now m) left → Rooted left
+  roots_on left (inl (part, fault, said)) = inl (part, fault, said ∙ ap (λ (x : List ℕ). x ++ part) quiet)
+  roots_on left (inr own) = inr (own_as left.image own)
+
+  rooted_stops : StopsOnly M m b (LeavesRoots (run_end run_is).layout (weak_of k.windows) (M.now m)) → StopsOnly M a b Rooted
+  rooted_stops on_line = then_on M.moment (stops M) a m b Rooted mount_quiet
+      (leaves_more M.moment (stops M) m b (LeavesRoots (run_end run_is).layout (weak_of k.windows) (M.now m)) Rooted roots_on on_line)
+
+  replied : SaysOut M (errand_in request input r.cut) k r.finishes.mets m b status → IsReplied l windows run h n turns (run_status run_is) (run_end run_is) (IsHeld M b) (M.now a) (M.now b) status
   replied out =
       let d = out.done in
-      let all : length (k.changes ++ changes_in turns) ≡ n + length (changes_in turns) = let sum = length-append k.changes (changes_in turns) in let known = known_length l windows run h f n prefix k (M.now a) (M.now m) s quiet in omega (arith, sum, known) in
       record {
         ends = out.gives;
         said = d.said ∙ ap (λ (x : List ℕ). x ++ said_in turns) quiet;
         settled = d.windows ∙ s.settled;
-        sound = sound_to k.mounted.volume.layout l k.windows (windows ++ run ∷ []) (k.changes ++ changes_in turns) (take n h ++ changes_in turns) (length (k.changes ++ changes_in turns)) (n + length (changes_in turns)) (M.now b).image
-            s.layout s.known (ap (λ (x : List Change). x ++ changes_in turns) s.changes) all d.sound;
+        sound = sound_as (M.now b).image d.sound;
+        held = λ c left. sound_as c.image (d.held c left);
         tells = subst (λ (x : Layout). told x (M.now b).image ≡ Some (telling_of (run_end run_is))) s.layout d.tells;
-        roots = subst (λ (x : List WeakRun). HasOwnRoots (run_end run_is).layout (weak_of x) (M.now b).image) s.known d.roots;
+        roots = own_as (M.now b).image d.roots;
+        rooted = λ c left. own_as c.image (d.rooted c left);
       }
 
   abbrev Over : Type 0
-  Over = IsUnsaid (M.report a) (M.report b) status ⊎ IsBroken request (Undone k (forced_of k) turns) (M.report a) (M.report b) turns (M.now m) (M.now b) status
+  Over = IsUnsaid (M.report a) (M.report b) status ⊎ IsBroken request (Undone k (forced_of k) turns) (UnderWay M k turns b) (M.report a) (M.report b) turns (M.now m) (M.now b) status
 
   ended : SaysOut M (errand_in request input r.cut) k r.finishes.mets m b status ⊎ Over
-      → (IsThrough run_is × IsReplied l windows run h n (run_turns run_is) (run_status run_is) (run_end run_is) (M.now a) (M.now b) status) ⊎ (IsUnsaid (M.report a) (M.report b) status ⊎ IsBroken request (IsUndone l (windows ++ run ∷ []) (take n h) n (run_turns run_is)) (M.report a) (M.report b) (run_turns run_is) (M.now a) (M.now b) status)
+      → (IsThrough run_is × IsReplied l windows run h n (run_turns run_is) (run_status run_is) (run_end run_is) (IsHeld M b) (M.now a) (M.now b) status) ⊎ (IsUnsaid (M.report a) (M.report b) status ⊎ IsBroken request (IsUndone l (windows ++ run ∷ []) (take n h) n (run_turns run_is)) (IsUnderWay l (windows ++ run ∷ []) (take n h) n (run_turns run_is) (IsHeld M b)) (M.report a) (M.report b) (run_turns run_is) (M.now a) (M.now b) status)
   ended (inl out) = inl (out.through, replied out)
   ended (inr (inl u)) = inr (inl u)
-  ended (inr (inr x)) = inr (inr (broken_on_said (M.report a) (M.report b) request (Undone k (forced_of k) turns) (IsUndone l (windows ++ run ∷ []) (take n h) n turns) turns (M.now a) (M.now m) (M.now b) status quiet (λ whole i u. run_undone l windows run h f n prefix k (M.now a) (M.now m) s quiet turns whole i u) x))
+  ended (inr (inr x)) = inr (inr (broken_on_said (M.report a) (M.report b) request (Undone k (forced_of k) turns) (IsUndone l (windows ++ run ∷ []) (take n h) n turns) (UnderWay M k turns b) (IsUnderWay l (windows ++ run ∷ []) (take n h) n turns (IsHeld M b)) turns (M.now a) (M.now m) (M.now b) status quiet
+      (λ whole i u. run_undone l windows run h f n prefix k (M.now a) (M.now m) s quiet turns whole i u) (λ whole u. run_under_way l windows run h f n prefix k (M.now a) (M.now m) s quiet M turns b whole u) x))
 
-  pub mounted_run : LeavesBy request input rest l windows h f (M.left_since b) (stops M b) (M.moment a) (StopsOnly M a b) (M.report a) (M.report b) (M.now a) (M.now b) status
+  pub mounted_run : LeavesBy request input rest l windows h f (M.left_since b) (stops M b) (M.moment a) (StopsOnly M a b) (IsHeld M b) (M.report a) (M.report b) (M.now a) (M.now b) status
   mounted_run = inr (record {
     count = n;
     prefix = prefix;
@@ -230,6 +264,7 @@ module _ {D : Type 0} (M : Ghosts D) (request : Request) (input rest : List ℕ)
         (leaves_more M.moment (stops M) m b (InRun k (forced_of k) turns (M.now m)) (Left l windows run h f n turns (M.now a)) (λ left x. inr (on left x)) r.finishes.moments);
     later = λ left stop. on left (r.finishes.moments.each left stop);
     exit = on (M.now b) (r.finishes.moments.each (M.now b) stop_now);
+    rooted = one_more request rooted_stops r.rooted;
     ends = ended r.finishes.ends;
   })
 
@@ -263,12 +298,13 @@ module _ {S D : Type 0} (state : S → State) (has : S → Mounted → List Plac
       let later = told_is.later in
       record { ends = six; rose = omega (arith, later, rose) }
 
-  broken : IsOutside request (M.report a) (M.report b) why → status ≡ fault_status why → SaysAll (fault_text why) (M.now m) (M.now b) → IsBroken request Unbegun (M.report a) (M.report b) (blank ∷ []) (M.now a) (M.now b) status
+  broken : IsOutside request (M.report a) (M.report b) why → status ≡ fault_status why → SaysAll (fault_text why) (M.now m) (M.now b) → IsBroken request Unbegun Whatever (M.report a) (M.report b) (blank ∷ []) (M.now a) (M.now b) status
   broken out gives all = record {
     why = why;
     outside = out;
     ends = gives;
     says = record { whole = 0; more = refl; said = all.said ∙ ap (λ (x : List ℕ). x ++ fault_text why) quiet };
+    held = tt;
     undone = λ is. refl;
   }
 
@@ -300,7 +336,7 @@ module _ {S D : Type 0} (state : S → State) (has : S → Mounted → List Plac
     line_exit utters = on_line (M.now b) (worn (M.now b).image u.exit.sound utters.image) utters.windows utters.heard utters.said
 
     by_fault : (x : MountFault) → ExcusesOf (M.now a).image x → why ≡ fault_of x → status ≡ fault_status why → SaysAll (fault_text why) (M.now m) (M.now b)
-        → IsSpent (M.now a) (M.now b) status ⊎ (IsUnsaid (M.report a) (M.report b) status ⊎ IsBroken request Unbegun (M.report a) (M.report b) (blank ∷ []) (M.now a) (M.now b) status)
+        → IsSpent (M.now a) (M.now b) status ⊎ (IsUnsaid (M.report a) (M.report b) status ⊎ IsBroken request Unbegun Whatever (M.report a) (M.report b) (blank ∷ []) (M.now a) (M.now b) status)
     by_fault Refused.WornOut last is gives all = inl (record {
       anchor = last.anchor;
       taken = last.taken;
@@ -312,14 +348,15 @@ module _ {S D : Type 0} (state : S → State) (has : S → Mounted → List Plac
     by_fault Refused.Memory excuse is gives all = inr (inr (broken (outside why (subst EndsAtOnce (sym is) tt) refl) gives all))
     by_fault x excuse is gives all = absurd excuse
 
-    by_end : EndsWith why (M.now m) (M.now b) status → IsSpent (M.now a) (M.now b) status ⊎ (IsUnsaid (M.report a) (M.report b) status ⊎ IsBroken request Unbegun (M.report a) (M.report b) (blank ∷ []) (M.now a) (M.now b) status)
+    by_end : EndsWith why (M.now m) (M.now b) status → IsSpent (M.now a) (M.now b) status ⊎ (IsUnsaid (M.report a) (M.report b) status ⊎ IsBroken request Unbegun Whatever (M.report a) (M.report b) (blank ∷ []) (M.now a) (M.now b) status)
     by_end (inl six) = inr (inl (unsaid six))
     by_end (inr (gives, all)) = by_fault fault u.why refl gives all
 
-    unmounted_run : LeavesBy request input rest l windows h f (M.left_since b) (stops M b) (M.moment a) (StopsOnly M a b) (M.report a) (M.report b) (M.now a) (M.now b) status
+    unmounted_run : LeavesBy request input rest l windows h f (M.left_since b) (stops M b) (M.moment a) (StopsOnly M a b) (IsHeld M b) (M.report a) (M.report b) (M.now a) (M.now b) status
     unmounted_run = inl (record {
       moments = then_on M.moment (stops M) a m b (LeftBefore l windows h f (M.now a)) (before_stops M l windows h f a m at_a at_m mounts held u.moments) line_stops;
       exit = line_exit (says.exit honest);
+      held = held_behind M m b (fault_text why) (λ i. IsSound l windows h f i) at_m at_b (says.since honest) (says.any_moment honest) still_held worn;
       ends = by_end ended;
     })
 
@@ -382,14 +419,15 @@ module _ {S D : Type 0} (state : S → State) (has : S → Mounted → List Plac
         moments = broken_moments M request (M.report a) k all_turns m m b moments why halted short ends_k at_m at_b once told_is status says honest ended;
         ends = inr (broken_ends M request (M.report a) k all_turns m m b moments why halted short ends_k at_m at_b once told_is status says honest ended);
       };
+      rooted = one_so request (fault_line M k (volume_of k).layout m m b why (at_once_ends why once) refl at_m at_b (says.since honest) (says.any_moment honest));
     }
 
-    settled_run : LeavesBy request input rest l windows h f (M.left_since b) (stops M b) (M.moment a) (StopsOnly M a b) (M.report a) (M.report b) (M.now a) (M.now b) status
+    settled_run : LeavesBy request input rest l windows h f (M.left_since b) (stops M b) (M.moment a) (StopsOnly M a b) (IsHeld M b) (M.report a) (M.report b) (M.now a) (M.now b) status
     settled_run = mounted_run M request input rest l windows e.next h f e.count e.prefix k a m b e.settled quiet at_a at_m mounts held e.at e.moments e.since e.named (says.since honest) now status runs
 
   pub refused_run : (now : M.left_since b (M.moment m) (M.now b))
       (some : (s : Session) → IsSome (slice_get (turns_of (errand_of request input) [] s) 0)) → MountsAs state has l windows h f (M.left_since m) (M.moment a) (λ P. LeavesOnly M.moment M.left_since a m P) (M.now a) (M.now m) (Err fault)
-      → LeavesBy request input rest l windows h f (M.left_since b) (stops M b) (M.moment a) (StopsOnly M a b) (M.report a) (M.report b) (M.now a) (M.now b) status
+      → LeavesBy request input rest l windows h f (M.left_since b) (stops M b) (M.moment a) (StopsOnly M a b) (IsHeld M b) (M.report a) (M.report b) (M.now a) (M.now b) status
   refused_run now some (inl u) = unmounted_run u
   refused_run now some (inr e) = settled_run now some e
 
@@ -398,7 +436,7 @@ pub joined_run : {S D : Type 0} (state : S → State) (has : S → Mounted → L
     → (M.now m).said ≡ (M.now a).said → UsesDisk (M.report a) (M.report m) → DiskFaults None (M.report a) (M.report m) → IsTimed M a → IsTimed M m → Since M a m → Since M m b → IsHeld M a (λ c. IsSound l windows h f c.image) → (M.moment m ≤ M.moment b → M.left_since b (M.moment m) (M.now b)) → (status : ℕ)
     → MountsAs state has l windows h f (M.left_since m) (M.moment a) (λ P. LeavesOnly M.moment M.left_since a m P) (M.now a) (M.now m) (Ok v)
     → ((k : Known) → (volume_of k).unforced ≡ 0 → k.opened ≡ none_open → Stands state has v k (M.now m) → OnDisk M k (forced_of k) m → RunsOut M request input rest (M.report m) k m b status)
-    → LeavesBy request input rest l windows h f (M.left_since b) (stops M b) (M.moment a) (StopsOnly M a b) (M.report a) (M.report b) (M.now a) (M.now b) status
+    → LeavesBy request input rest l windows h f (M.left_since b) (stops M b) (M.moment a) (StopsOnly M a b) (IsHeld M b) (M.report a) (M.report b) (M.now a) (M.now b) status
 joined_run state has M request input rest l windows h f a m b v quiet uses faults at_a at_m mounts since held now status (inl u) does = absurd u.why
 joined_run state has M request input rest l windows h f a m b v quiet uses faults at_a at_m mounts since held now status (inr e) does =
     let k = e.known in

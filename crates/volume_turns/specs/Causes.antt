@@ -7,7 +7,7 @@ use Rattle.sector_disk.specs.Machine.{Moment, Report, Rose}
 use Rattle.fsd_formats.specs.declared.anchor.Anchor.{Anchor}
 use Rattle.fsd_files.specs.Disk.{Image}
 use Rattle.fsd_sound.specs.Lost.{AreCopiesOn, LostIn}
-use Rattle.fsd_sound.specs.Mounting.{IsVolume}
+use Rattle.fsd_sound.specs.Mounting.{IsVolume, last_epoch}
 use Rattle.fsd_sound.specs.Writes.{MountKeeps}
 use Rattle.fsd_sound.specs.declared.fault.MountFault.{MountFault}
 use Rattle.fsd_sound.specs.declared.fault.MountFault.TheVariants.{WornOut}
@@ -28,13 +28,14 @@ use Rattle.volume_turns.specs.Turns.{SaysReplies}
 
 -- ---- it was mounted
 
--- A root and an anchor of the image were seen, as it may be worn.
+-- A root and an anchor of the image were seen, as it may be worn, and an epoch is left behind its own.
 pub record HasVolume (sectors : ℕ) (old : Moment) : Type 0 where
   pub seen : Image
   pub from : IsWorn (open_damage old.windows) old.image seen
   pub layout : Layout
   pub anchor : Anchor
   pub found : IsVolume sectors seen layout anchor
+  pub left : anchor.epoch < last_epoch
 
 -- the statuses of a run that has done what it was asked for, or was refused it, or could not take its input
 abbrev pub is_of_mounted : ℕ → Bool

@@ -1,6 +1,7 @@
 pub mod Answering
 pub mod Calls
 pub mod Causes
+pub mod Did
 pub mod Each
 pub mod Generate
 pub mod Group

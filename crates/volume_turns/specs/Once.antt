@@ -1,5 +1,5 @@
 -- One command by itself: it is done, all is forced, and then its reply is said.
-use Rattle.std.specs.Prelude.{◌≡◌, ⊤, ℕ, ◌<◌, ◌≤◌, List, [], ◌∷◌, ◌++◌, length, take, Some, Result, Ok, Err}
+use Rattle.std.specs.Prelude.{◌≡◌, ◌⊎◌, ⊤, ℕ, ◌<◌, ◌≤◌, List, [], ◌∷◌, ◌++◌, length, take, Some, Result, Ok, Err}
 use Rattle.volume_layout.specs.declared.layout.Layout.{Layout}
 use Rattle.fsd_bytes.specs.declared.refusal.Refusal.{Refusal}
 use Rattle.fsd_bytes.specs.declared.refusal.Refusal.TheVariants as Why
@@ -46,8 +46,8 @@ close_fault why = Ends.Memory
 
 -- ---- the end of a volume, and a text behind it
 
--- Nothing is said before all is forced, and on the disk.
-pub record InClose (k : Known) (f : ℕ) (text : List ℕ) (old left : Moment) : Type 0 where
+-- Nothing is said before all is forced, and on the disk, and both roots are those of this layout there.
+pub record InClose (own : Layout) (k : Known) (f : ℕ) (text : List ℕ) (old left : Moment) : Type 0 where
   pub windows : left.windows ≡ old.windows
   pub forced : ℕ
   pub least : f ≤ forced
@@ -55,8 +55,10 @@ pub record InClose (k : Known) (f : ℕ) (text : List ℕ) (old left : Moment) :
   pub heard : ℕ
   pub said : left.said ≡ old.said ++ take heard text
   pub all : 0 < heard → forced ≡ length k.changes
+  pub roots : 0 < heard → HasOwnRoots own (weak_of k.windows) left.image
 
--- All is said. The disk's own table is the volume's, however it wears, and both roots are those of this layout.
+-- All is said. The disk's own table is the volume's, however it wears, and both roots are those of this layout, whichever
+-- of the moments since the last sync is on the disk.
 pub record SaysClosedBy {D : Type 0} (own : Layout) (M : Ghosts D) (k : Known) (text : List ℕ) (a b : D) : Type 0 where
   pub windows : (M.now b).windows ≡ (M.now a).windows
   pub said : (M.now b).said ≡ (M.now a).said ++ text
@@ -65,6 +67,7 @@ pub record SaysClosedBy {D : Type 0} (own : Layout) (M : Ghosts D) (k : Known) (
   pub tells : told k.mounted.volume.layout (M.now b).image ≡ Some (telling_of (volume_of k))
   pub lasts : AllWorn (weak_of k.windows) (λ j. told k.mounted.volume.layout j ≡ Some (telling_of (volume_of k))) (M.now b).image
   pub roots : HasOwnRoots own (weak_of k.windows) (M.now b).image
+  pub rooted : IsHeld M b (λ c. HasOwnRoots own (weak_of k.windows) c.image)
 
 -- It failed before anything was said.
 pub record Unclosed {D : Type 0} (M : Ghosts D) (k : Known) (f : ℕ) (a b : D) : Type 0 where
@@ -78,7 +81,7 @@ EndsClosedBy own M k f text a b (Err (Stopped fault)) = EndsAtOnce fault × Uncl
 EndsClosedBy own M k f text a b (Err Output) = ⊤
 
 pub record ClosesAndSaysBy {D : Type 0} (own : Layout) (M : Ghosts D) (k : Known) (f : ℕ) (text : List ℕ) (a b : D) (result : Result (Unit {0}) End) : Type 0 where
-  pub moments : StopsOnly M a b (InClose k f text (M.now a))
+  pub moments : StopsOnly M a b (InClose own k f text (M.now a))
   pub ends : EndsClosedBy own M k f text a b result
 
 -- and these are of the volume's own
@@ -99,7 +102,7 @@ unit_of (Ok x) = Ok tt
 unit_of (Err end) = Err end
 
 -- All is said, and all is forced: the disk's own table is that of the volume behind it, however it wears, and both roots
--- are those of its layout.
+-- are those of its layout. Whichever of the moments since the last sync is on the disk has all that too, and these roots.
 pub record IsDone {D : Type 0} (M : Ghosts D) (k : Known) (turns : List Turn) (after : Volume) (a b : D) : Type 0 where
   pub windows : (M.now b).windows ≡ (M.now a).windows
   pub said : (M.now b).said ≡ (M.now a).said ++ said_in turns
@@ -108,6 +111,7 @@ pub record IsDone {D : Type 0} (M : Ghosts D) (k : Known) (turns : List Turn) (a
   pub tells : told k.mounted.volume.layout (M.now b).image ≡ Some (telling_of after)
   pub lasts : AllWorn (weak_of k.windows) (λ j. told k.mounted.volume.layout j ≡ Some (telling_of after)) (M.now b).image
   pub roots : HasOwnRoots after.layout (weak_of k.windows) (M.now b).image
+  pub rooted : IsHeld M b (λ c. HasOwnRoots after.layout (weak_of k.windows) c.image)
 
 -- the status of its reply
 abbrev pub status_alone : Command → List Meeting → Session → ℕ
@@ -132,8 +136,13 @@ EndsAlone M c k mets a b (Err Output) = ⊤
 abbrev pub Anything : Volume → Image → Type 0
 Anything v i = ⊤
 
+-- Nothing was said yet, or both roots are those of this layout.
+abbrev pub SaysRooted : Layout → Known → (old left : Moment) → Type 0
+SaysRooted own k old left = (left.said ≡ old.said) ⊎ HasOwnRoots own (weak_of k.windows) left.image
+
 pub record IsAlone {D : Type 0} (M : Ghosts D) (c : Command) (k : Known) (a b : D) (result : Result ℕ End) : Type 0 where
   pub mets : List Meeting
   pub goes : (t : ℕ) → t ≤ M.moment a → Goes (in_runs k.windows) (M.left_since b t) Anything (alone c) (M.now a).said (M.now a).image (session_over (volume_of k)) mets (Plain c ∷ [])
   pub moments : StopsOnly M a b (InRun k (forced_of k) (turns_of (alone c) mets (session_over (volume_of k))) (M.now a))
+  pub rooted : StopsOnly M a b (SaysRooted (behind mets (session_over (volume_of k)) (Plain c ∷ [])).volume.layout k (M.now a))
   pub ends : EndsAlone M c k mets a b result

@@ -7,12 +7,12 @@ use Rattle.sector_disk.specs.Machine.{Report}
 use Rattle.fsd_files.specs.Disk.{Image, in_runs}
 use Rattle.fsd_files.specs.Desk.{Session}
 use Rattle.fsd_files.specs.Volume.{Volume}
-use Rattle.fsd_sound.specs.Sound.{IsSound}
+use Rattle.fsd_sound.specs.Sound.{IsSound, weak_of}
 use Rattle.fsd_texts.specs.declared.fault.Fault.{Fault}
 use Rattle.fsd_texts.specs.declared.fault.Fault.TheVariants as Ends
 use Rattle.fsd_runs.specs.declared.request.Request.{Request}
 use Rattle.fsd_runs.specs.Errands.{Cut, Errand, MayCut, Turn, errand_of}
-use Rattle.fsd_runs.specs.Leaves.{CutCause, IsBroken, IsUnsaid}
+use Rattle.fsd_runs.specs.Leaves.{CutCause, IfOne, IsBroken, IsUnsaid, LeavesRoots}
 use Rattle.fsd_runs.specs.Runs.{Goes, IsCutAt, IsCutBefore, answered, behind, changes_in, errand_in, forced_in, said_in, turns_of}
 use Rattle.fsd_runs.specs.Sessions.{Meeting, session_over}
 use Rattle.volume_contract.specs.State.{Known, volume_of, forced_of}
@@ -35,6 +35,14 @@ pub record Halted {D : Type 0} (M : Ghosts D) (k : Known) (why : Fault) (turns :
   pub sound : IsHeld M b (λ c. IsSound k.mounted.volume.layout k.windows (k.changes ++ changes_in (take (suc whole) turns)) forced c.image)
   pub undone : why ≡ Ends.Memory → Undone k (forced_of k) turns whole (M.now b).image
 
+-- Whichever of the moments since the last sync is on the disk, it is sound for the changes of so many turns and of the one
+-- behind them.
+pub record UnderWay {D : Type 0} (M : Ghosts D) (k : Known) (turns : List Turn) (b : D) (whole : ℕ) : Type 0 where
+  pub forced : ℕ
+  pub least : forced_of k ≤ forced
+  pub enough : IsTrue (list_any (λ t. t.forces) (take whole turns)) → length k.changes + forced_in (take whole turns) ≤ forced
+  pub sound : IsHeld M b (λ c. IsSound k.mounted.volume.layout k.windows (k.changes ++ changes_in (take (suc whole) turns)) forced c.image)
+
 -- ---- to the end
 
 -- whatever it is
@@ -54,11 +62,13 @@ pub record Finishes {D : Type 0} (M : Ghosts D) (request : Request) (e : Errand)
   pub ahead : Ahead (behind mets (session_over (volume_of k)) e.commands)
   pub goes : (t : ℕ) → t ≤ M.moment a → Goes (in_runs k.windows) (M.left_since b t) Last e (M.now a).said (M.now a).image (session_over (volume_of k)) mets e.commands
   pub moments : StopsOnly M a b (InRun k (forced_of k) (turns_of e mets (session_over (volume_of k))) (M.now a))
-  pub ends : SaysOut M e k mets a b status ⊎ (IsUnsaid before (M.report b) status ⊎ IsBroken request (Undone k (forced_of k) (turns_of e mets (session_over (volume_of k)))) before (M.report b) (turns_of e mets (session_over (volume_of k))) (M.now a) (M.now b) status)
+  pub ends : SaysOut M e k mets a b status ⊎ (IsUnsaid before (M.report b) status ⊎ IsBroken request (Undone k (forced_of k) (turns_of e mets (session_over (volume_of k)))) (UnderWay M k (turns_of e mets (session_over (volume_of k))) b) before (M.report b) (turns_of e mets (session_over (volume_of k))) (M.now a) (M.now b) status)
 
--- A request over its mounted volume.
+-- A request over its mounted volume. Where one command by itself has begun to say its reply, both roots are those of the
+-- layout behind it.
 pub record RunsOut {D : Type 0} (M : Ghosts D) (request : Request) (input rest : List ℕ) (before : Report) (k : Known) (a b : D) (status : ℕ) : Type 0 where
   pub cut : Cut
   pub may : MayCut request cut
   pub cause : CutCause cut input rest before (M.report b)
   pub finishes : Finishes M request (errand_in request input cut) (λ s. IsCutBefore cut s (errand_of request input).commands) (IsCutAt cut) before k a b status
+  pub rooted : IfOne request (StopsOnly M a b (LeavesRoots (behind finishes.mets (session_over (volume_of k)) (errand_in request input cut).commands).volume.layout (weak_of k.windows) (M.now a)))

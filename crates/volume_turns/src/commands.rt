@@ -1,16 +1,16 @@
 //! One command over a mounted volume.
-ghost use Rattle.std.specs.Prelude.{◌≡◌, ◌≤◌, length, false, None, OnOk, IfErr, IfOk, IfSome};
+ghost use Rattle.std.specs.Prelude.{◌≡◌, ◌≤◌, false, None, IfErr, IfOk, IfSome};
 ghost use Rattle.fsd_formats.specs.NamePage.{max_length, sectors_for};
 ghost use Rattle.fsd_files.specs.Answers.{entry_of};
 ghost use Rattle.fsd_texts.specs.declared.command.Command.TheVariants as Word;
 ghost use Rattle.fsd_runs.specs.Errands.{reply_status};
-ghost use Rattle.sector_disk.specs.Calls.{OnlyReads, WritesDisk};
+ghost use Rattle.sector_disk.specs.Calls.{OnlyReads};
 ghost use Rattle.volume_contract.specs.State.{Known, Stands, volume_of};
-ghost use Rattle.scrub.specs.Scrub.{KeepsOpen};
 ghost use Rattle.volume_turns.specs.Answering.{Answers};
-ghost use Rattle.volume_turns.specs.Reasons.{Because, HasWritten, HasWrittenBy, most_written};
+ghost use Rattle.volume_turns.specs.Did.{Did};
+ghost use Rattle.volume_turns.specs.Reasons.{Because, HasWrittenBy};
 ghost use Rattle.volume_turns.specs.Status.{IsStatusFrom};
-ghost use Rattle.volume_turns.specs.Steps.{Does, IsOfCall, Stays, device_by, is_upgrade, reply_of};
+ghost use Rattle.volume_turns.specs.Steps.{Does, IsOfCall, device_by, is_upgrade, reply_of};
 
 use crate::answer::{Answer, ended_by, read_ended_by};
 use crate::listing::list;
@@ -31,17 +31,7 @@ pub(crate) fn put<M: Machine, V: Files<M>>(
 ) -> Result<Answer, Fault>
     requires room { (V.state v.old).layout.sectors ≤ (M.report m.old).sectors }
     requires up { (V.state v.old).down ≡ None }
-    ensures layout { (V.state v.new).layout ≡ (V.state v.old).layout }
-    ensures open { KeepsOpen (V.state v.old) (V.state v.new) }
-    ensures up { OnOk result ((V.state v.new).down ≡ None) }
-    ensures disk { WritesDisk M.Machine (device_by result) (Stays V.state V.holds v.old) m.old m.new }
-    ensures fault { IfErr result IsOfCall }
-    ensures status { IfOk result (λ a. reply_status (reply_of a) ≤ 1) }
-    ensures answers { M.honest m.new → Answers (Word.Put name.now bytes.now keep) (V.state v.old) (V.state v.new) (M.now m.old) (M.now m.new) result }
-    ensures written { M.tells m.new → HasWritten (most_written (Word.Put name.now bytes.now keep) (V.state v.old)) (M.ledger m.old) (M.ledger m.new) result }
-    ensures because { M.honest m.new → IfOk result (λ a. Because V.state V.resident (Word.Put name.now bytes.now keep) (V.state v.old) (V.state v.new) (M.now m.old) (M.now m.new) (reply_of a)) }
-    ensures done { M.honest m.new → (k : Known) → Stands V.state V.holds v.old k (M.now m.old) →
-        Does V.state V.holds (Word.Put name.now bytes.now keep) v.old v.new k (M.now m.old) (M.now m.new) result }
+    ensures { Did M.Machine V.state V.holds V.resident (Word.Put name.now bytes.now keep) v.old v.new m.old m.new result }
 {
     match v.put(m, name, keep, bytes) {
         Ok(key) => Ok(Answer::Made {
@@ -60,17 +50,7 @@ pub(crate) fn delete<M: Machine, V: Files<M>>(
 ) -> Result<Answer, Fault>
     requires room { (V.state v.old).layout.sectors ≤ (M.report m.old).sectors }
     requires up { (V.state v.old).down ≡ None }
-    ensures layout { (V.state v.new).layout ≡ (V.state v.old).layout }
-    ensures open { KeepsOpen (V.state v.old) (V.state v.new) }
-    ensures up { OnOk result ((V.state v.new).down ≡ None) }
-    ensures disk { WritesDisk M.Machine (device_by result) (Stays V.state V.holds v.old) m.old m.new }
-    ensures fault { IfErr result IsOfCall }
-    ensures status { IfOk result (λ a. reply_status (reply_of a) ≤ 1) }
-    ensures answers { M.honest m.new → Answers (Word.Delete key.now) (V.state v.old) (V.state v.new) (M.now m.old) (M.now m.new) result }
-    ensures written { M.tells m.new → HasWritten (most_written (Word.Delete key.now) (V.state v.old)) (M.ledger m.old) (M.ledger m.new) result }
-    ensures because { M.honest m.new → IfOk result (λ a. Because V.state V.resident (Word.Delete key.now) (V.state v.old) (V.state v.new) (M.now m.old) (M.now m.new) (reply_of a)) }
-    ensures done { M.honest m.new → (k : Known) → Stands V.state V.holds v.old k (M.now m.old) →
-        Does V.state V.holds (Word.Delete key.now) v.old v.new k (M.now m.old) (M.now m.new) result }
+    ensures { Did M.Machine V.state V.holds V.resident (Word.Delete key.now) v.old v.new m.old m.new result }
 {
     match v.delete(m, key) {
         Ok(()) => Ok(Answer::Deleted(key.copied())),
@@ -87,17 +67,7 @@ pub(crate) fn set_keep<M: Machine, V: Files<M>>(
 ) -> Result<Answer, Fault>
     requires room { (V.state v.old).layout.sectors ≤ (M.report m.old).sectors }
     requires up { (V.state v.old).down ≡ None }
-    ensures layout { (V.state v.new).layout ≡ (V.state v.old).layout }
-    ensures open { KeepsOpen (V.state v.old) (V.state v.new) }
-    ensures up { OnOk result ((V.state v.new).down ≡ None) }
-    ensures disk { WritesDisk M.Machine (device_by result) (Stays V.state V.holds v.old) m.old m.new }
-    ensures fault { IfErr result IsOfCall }
-    ensures status { IfOk result (λ a. reply_status (reply_of a) ≤ 1) }
-    ensures answers { M.honest m.new → Answers (Word.Keep name.now keep) (V.state v.old) (V.state v.new) (M.now m.old) (M.now m.new) result }
-    ensures written { M.tells m.new → HasWritten (most_written (Word.Keep name.now keep) (V.state v.old)) (M.ledger m.old) (M.ledger m.new) result }
-    ensures because { M.honest m.new → IfOk result (λ a. Because V.state V.resident (Word.Keep name.now keep) (V.state v.old) (V.state v.new) (M.now m.old) (M.now m.new) (reply_of a)) }
-    ensures done { M.honest m.new → (k : Known) → Stands V.state V.holds v.old k (M.now m.old) →
-        Does V.state V.holds (Word.Keep name.now keep) v.old v.new k (M.now m.old) (M.now m.new) result }
+    ensures { Did M.Machine V.state V.holds V.resident (Word.Keep name.now keep) v.old v.new m.old m.new result }
 {
     match v.set_keep(m, name, keep) {
         Ok(key) => Ok(Answer::Kept { key, keep }),
@@ -109,17 +79,7 @@ pub(crate) fn set_keep<M: Machine, V: Files<M>>(
 pub(crate) fn force<M: Machine, V: Files<M>>(v: &mut V, m: &mut M) -> Result<Answer, Fault>
     requires room { (V.state v.old).layout.sectors ≤ (M.report m.old).sectors }
     requires up { (V.state v.old).down ≡ None }
-    ensures layout { (V.state v.new).layout ≡ (V.state v.old).layout }
-    ensures open { KeepsOpen (V.state v.old) (V.state v.new) }
-    ensures up { OnOk result ((V.state v.new).down ≡ None) }
-    ensures disk { WritesDisk M.Machine (device_by result) (Stays V.state V.holds v.old) m.old m.new }
-    ensures fault { IfErr result IsOfCall }
-    ensures status { IfOk result (λ a. reply_status (reply_of a) ≡ 0) }
-    ensures answers { M.honest m.new → Answers Word.Force (V.state v.old) (V.state v.new) (M.now m.old) (M.now m.new) result }
-    ensures written { M.tells m.new → HasWritten (most_written Word.Force (V.state v.old)) (M.ledger m.old) (M.ledger m.new) result }
-    ensures because { M.honest m.new → IfOk result (λ a. Because V.state V.resident Word.Force (V.state v.old) (V.state v.new) (M.now m.old) (M.now m.new) (reply_of a)) }
-    ensures done { M.honest m.new → (k : Known) → Stands V.state V.holds v.old k (M.now m.old) →
-        Does V.state V.holds Word.Force v.old v.new k (M.now m.old) (M.now m.new) result }
+    ensures { Did M.Machine V.state V.holds V.resident Word.Force v.old v.new m.old m.new result }
 {
     match v.force(m) {
         Ok(_) => Ok(Answer::Forced),
@@ -131,17 +91,7 @@ pub(crate) fn force<M: Machine, V: Files<M>>(v: &mut V, m: &mut M) -> Result<Ans
 pub(crate) fn tick<M: Machine, V: Files<M>>(v: &mut V, m: &mut M) -> Result<Answer, Fault>
     requires room { (V.state v.old).layout.sectors ≤ (M.report m.old).sectors }
     requires up { (V.state v.old).down ≡ None }
-    ensures layout { (V.state v.new).layout ≡ (V.state v.old).layout }
-    ensures open { KeepsOpen (V.state v.old) (V.state v.new) }
-    ensures up { OnOk result ((V.state v.new).down ≡ None) }
-    ensures disk { WritesDisk M.Machine (device_by result) (Stays V.state V.holds v.old) m.old m.new }
-    ensures fault { IfErr result IsOfCall }
-    ensures status { IfOk result (λ a. reply_status (reply_of a) ≡ 0) }
-    ensures answers { M.honest m.new → Answers Word.Tick (V.state v.old) (V.state v.new) (M.now m.old) (M.now m.new) result }
-    ensures written { M.tells m.new → HasWritten (most_written Word.Tick (V.state v.old)) (M.ledger m.old) (M.ledger m.new) result }
-    ensures because { M.honest m.new → IfOk result (λ a. Because V.state V.resident Word.Tick (V.state v.old) (V.state v.new) (M.now m.old) (M.now m.new) (reply_of a)) }
-    ensures done { M.honest m.new → (k : Known) → Stands V.state V.holds v.old k (M.now m.old) →
-        Does V.state V.holds Word.Tick v.old v.new k (M.now m.old) (M.now m.new) result }
+    ensures { Did M.Machine V.state V.holds V.resident Word.Tick v.old v.new m.old m.new result }
 {
     match v.tick(m) {
         Ok(_) => Ok(Answer::Forced),
@@ -158,17 +108,7 @@ pub(crate) fn get<M: Machine, V: Files<M>>(
 ) -> Result<Answer, Fault>
     requires room { (V.state v.old).layout.sectors ≤ (M.report m.old).sectors }
     requires up { (V.state v.old).down ≡ None }
-    ensures layout { (V.state v.new).layout ≡ (V.state v.old).layout }
-    ensures open { KeepsOpen (V.state v.old) (V.state v.new) }
-    ensures up { OnOk result ((V.state v.new).down ≡ None) }
-    ensures disk { WritesDisk M.Machine (device_by result) (Stays V.state V.holds v.old) m.old m.new }
-    ensures fault { IfErr result IsOfCall }
-    ensures status { IfOk result (λ a. IsStatusFrom (Word.Get key.now) (reply_status (reply_of a))) }
-    ensures answers { M.honest m.new → Answers (Word.Get key.now) (V.state v.old) (V.state v.new) (M.now m.old) (M.now m.new) result }
-    ensures written { M.tells m.new → HasWritten (most_written (Word.Get key.now) (V.state v.old)) (M.ledger m.old) (M.ledger m.new) result }
-    ensures because { M.honest m.new → IfOk result (λ a. Because V.state V.resident (Word.Get key.now) (V.state v.old) (V.state v.new) (M.now m.old) (M.now m.new) (reply_of a)) }
-    ensures done { M.honest m.new → (k : Known) → Stands V.state V.holds v.old k (M.now m.old) →
-        Does V.state V.holds (Word.Get key.now) v.old v.new k (M.now m.old) (M.now m.new) result }
+    ensures { Did M.Machine V.state V.holds V.resident (Word.Get key.now) v.old v.new m.old m.new result }
 {
     match v.entry(m, key) {
         Ok(entry) => read_whole(alloc, v, m, key, entry.length),
@@ -186,14 +126,12 @@ fn read_whole<M: Machine, V: Files<M>>(
 ) -> Result<Answer, Fault>
     requires room { (V.state v.old).layout.sectors ≤ (M.report m.old).sectors }
     requires up { (V.state v.old).down ≡ None }
-    ensures layout { (V.state v.new).layout ≡ (V.state v.old).layout }
-    ensures open { KeepsOpen (V.state v.old) (V.state v.new) }
-    ensures up { OnOk result ((V.state v.new).down ≡ None) }
+    ensures state { V.state v.new ≡ V.state v.old }
     ensures disk { OnlyReads M.Machine (device_by result) m.old m.new }
     ensures fault { IfErr result IsOfCall }
     ensures status { IfOk result (λ a. IsStatusFrom (Word.Get key.now) (reply_status (reply_of a))) }
     ensures answers { M.honest m.new → Answers (Word.Get key.now) (V.state v.old) (V.state v.new) (M.now m.old) (M.now m.new) result }
-    ensures written { M.tells m.new → HasWritten (most_written (Word.Get key.now) (V.state v.old)) (M.ledger m.old) (M.ledger m.new) result }
+    ensures written { M.tells m.new → HasWrittenBy (Word.Get key.now) (V.state v.old) (M.ledger m.old) (M.ledger m.new) result }
     ensures because { M.honest m.new → IfOk result (λ a. Because V.state V.resident (Word.Get key.now) (V.state v.old) (V.state v.new) (M.now m.old) (M.now m.new) (reply_of a)) }
     ensures done { M.honest m.new → (k : Known) → Stands V.state V.holds v.old k (M.now m.old) → IfSome (entry_of key.now (volume_of k).entries) (λ e. e.length ≡ length) →
         Does V.state V.holds (Word.Get key.now) v.old v.new k (M.now m.old) (M.now m.new) result }
@@ -220,17 +158,7 @@ pub(crate) fn answer<M: Machine, V: Files<M>>(
     requires room { (V.state v.old).layout.sectors ≤ (M.report m.old).sectors }
     requires up { (V.state v.old).down ≡ None }
     requires other { is_upgrade c.now ≡ false }
-    ensures layout { (V.state v.new).layout ≡ (V.state v.old).layout }
-    ensures open { KeepsOpen (V.state v.old) (V.state v.new) }
-    ensures up { OnOk result ((V.state v.new).down ≡ None) }
-    ensures disk { WritesDisk M.Machine (device_by result) (Stays V.state V.holds v.old) m.old m.new }
-    ensures fault { IfErr result IsOfCall }
-    ensures status { IfOk result (λ a. IsStatusFrom c.now (reply_status (reply_of a))) }
-    ensures answers { M.honest m.new → Answers c.now (V.state v.old) (V.state v.new) (M.now m.old) (M.now m.new) result }
-    ensures written { M.tells m.new → HasWrittenBy c.now (V.state v.old) (M.ledger m.old) (M.ledger m.new) result }
-    ensures because { M.honest m.new → IfOk result (λ a. Because V.state V.resident c.now (V.state v.old) (V.state v.new) (M.now m.old) (M.now m.new) (reply_of a)) }
-    ensures done { M.honest m.new → (k : Known) → Stands V.state V.holds v.old k (M.now m.old) →
-        Does V.state V.holds c.now v.old v.new k (M.now m.old) (M.now m.new) result }
+    ensures { Did M.Machine V.state V.holds V.resident c.now v.old v.new m.old m.new result }
 {
     match c {
         Command::Put { name, bytes, keep } => put(v, m, name, *keep, bytes.as_slice()),
@@ -250,17 +178,7 @@ pub(crate) fn answer<M: Machine, V: Files<M>>(
 fn scrub_all<M: Machine, V: Files<M>>(alloc: Global, v: &mut V, m: &mut M) -> Result<Answer, Fault>
     requires room { (V.state v.old).layout.sectors ≤ (M.report m.old).sectors }
     requires up { (V.state v.old).down ≡ None }
-    ensures layout { (V.state v.new).layout ≡ (V.state v.old).layout }
-    ensures open { KeepsOpen (V.state v.old) (V.state v.new) }
-    ensures up { OnOk result ((V.state v.new).down ≡ None) }
-    ensures disk { WritesDisk M.Machine (device_by result) (Stays V.state V.holds v.old) m.old m.new }
-    ensures fault { IfErr result IsOfCall }
-    ensures status { IfOk result (λ a. IsStatusFrom Word.Scrub (reply_status (reply_of a))) }
-    ensures answers { M.honest m.new → Answers Word.Scrub (V.state v.old) (V.state v.new) (M.now m.old) (M.now m.new) result }
-    ensures written { M.tells m.new → HasWrittenBy Word.Scrub (V.state v.old) (M.ledger m.old) (M.ledger m.new) result }
-    ensures because { M.honest m.new → IfOk result (λ a. Because V.state V.resident Word.Scrub (V.state v.old) (V.state v.new) (M.now m.old) (M.now m.new) (reply_of a)) }
-    ensures done { M.honest m.new → (k : Known) → Stands V.state V.holds v.old k (M.now m.old) →
-        Does V.state V.holds Word.Scrub v.old v.new k (M.now m.old) (M.now m.new) result }
+    ensures { Did M.Machine V.state V.holds V.resident Word.Scrub v.old v.new m.old m.new result }
 {
     let mut found = Vec::new(alloc);
     match scrub(v, m, &mut found) {
@@ -274,15 +192,8 @@ fn scrub_all<M: Machine, V: Files<M>>(alloc: Global, v: &mut V, m: &mut M) -> Re
 
 // What it counts.
 fn count<M: Machine, V: Files<M>>(v: &mut V, m: &mut M) -> Result<Answer, Fault>
-    ensures same { v.new ≡ v.old }
-    ensures disk { WritesDisk M.Machine (device_by result) (Stays V.state V.holds v.old) m.old m.new }
-    ensures fault { IfErr result IsOfCall }
-    ensures status { IfOk result (λ a. reply_status (reply_of a) ≡ 0) }
-    ensures answers { M.honest m.new → Answers Word.Stat (V.state v.old) (V.state v.new) (M.now m.old) (M.now m.new) result }
-    ensures written { M.tells m.new → HasWritten (most_written Word.Stat (V.state v.old)) (M.ledger m.old) (M.ledger m.new) result }
-    ensures because { M.honest m.new → IfOk result (λ a. Because V.state V.resident Word.Stat (V.state v.old) (V.state v.new) (M.now m.old) (M.now m.new) (reply_of a)) }
-    ensures done { M.honest m.new → (k : Known) → Stands V.state V.holds v.old k (M.now m.old) →
-        Does V.state V.holds Word.Stat v.old v.new k (M.now m.old) (M.now m.new) result }
+    requires up { (V.state v.old).down ≡ None }
+    ensures { Did M.Machine V.state V.holds V.resident Word.Stat v.old v.new m.old m.new result }
 {
     Ok(Answer::Counts(v.stat()))
 }

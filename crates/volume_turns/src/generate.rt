@@ -286,7 +286,7 @@ pub fn run_generate<M: Machine, V: Files<M> + Drop>(
     ensures last { IsTrue (is_of_fault result) → M.honest m.new → SaysFault (M.report m.new).fault_place (M.now m.new) result }
     ensures all { result ≡ 0 → M.honest m.new → SaysMade count (M.now m.old).said (M.now m.new) }
     ensures leaves { M.honest m.new → (input rest : List ℕ) (l : Plan) (windows : List WeakRun) (h : List Change) (f : ℕ) → IsSoundAt sectors l windows h f (M.now m.old) →
-        IsHeld M.Machine m.old (λ c. IsSoundAsSaid l windows h f (M.now m.old).image c.image) → LeavesRun (Generate seed count) input rest l windows h f (M.left_since m.new) (stops M.Machine m.new) (M.moment m.old) (StopsOnly M.Machine m.old m.new) (M.report m.old) (M.report m.new) (M.now m.old) (M.now m.new) result }
+        IsHeld M.Machine m.old (λ c. IsSoundAsSaid l windows h f (M.now m.old).image c.image) → LeavesRun (Generate seed count) input rest l windows h f (M.left_since m.new) (stops M.Machine m.new) (M.moment m.old) (StopsOnly M.Machine m.old m.new) (IsHeld M.Machine m.new) (M.report m.old) (M.report m.new) (M.now m.old) (M.now m.new) result }
 {
     match V::mount(alloc, m, sectors) {
         Ok(v) => generate_on(alloc, v, m, seed, count),

@@ -21,7 +21,7 @@ ghost use Rattle.volume_turns.specs.Status.{CountsRun, CountsTaking, IsPutStatus
 ghost use Rattle.volume_turns.specs.Whole.{RunsOut};
 
 use crate::line::{end_with, last_line};
-use crate::once::{close_fault, fault_of};
+use crate::once::fault_of;
 use crate::taking::{InputFault, read_input};
 use crate::turns::Says;
 use crate::whole::one_on;
@@ -31,9 +31,9 @@ use sector_disk::Machine;
 use std::alloc::Global;
 use volume_contract::Files;
 
-// Ends the use of a mounted volume, and says that the input is too long. It gives the status.
-fn refuse_input<M: Machine, V: Files<M>>(v: V, m: &mut M) -> u8
-    requires room { (V.state v).layout.sectors ≤ (M.report m.old).sectors }
+// Says that the input is too long, and gives the status. Nothing was changed, so there is nothing to force; what the
+// mount wrote is brought to the disk.
+fn refuse_input<M: Machine, V: Files<M> + Drop>(v: V, m: &mut M) -> u8
     ensures ledger { M.tells m.new → OnlyWrites (M.ledger m.old) (M.ledger m.new) }
     ensures status { IsPutStatus result }
     ensures unmade { result ≤ 1 → ⊥ }
@@ -47,9 +47,9 @@ fn refuse_input<M: Machine, V: Files<M>>(v: V, m: &mut M) -> u8
     ensures long { result ≡ 5 → M.honest m.new → (input : List ℕ) (old new : Report) → max_input < length input → SaysOfInput input old new (M.now m.new) }
     ensures runs { M.honest m.new → (name : List ℕ) (keep : Option ℕ) (input rest : List ℕ) (k : Known) → max_input < length input → (volume_of k).unforced ≡ 0 → Stands V.state V.holds v k (M.now m.old) → OnDisk M.Machine k (forced_of k) m.old → RunsOut M.Machine (Put name keep) input rest (M.report m.old) k m.old m.new result }
 {
-    match v.close(m) {
+    match m.sync() {
         Ok(()) => last_line(m, &Line::Ended(Fault::InputTooLong), 5),
-        Err(why) => end_with(m, close_fault(why)),
+        Err(failed) => end_with(m, Fault::Device(failed.place)),
     }
 }
 
@@ -113,7 +113,7 @@ pub fn run_put<M: Machine, V: Files<M> + Drop, T: Says>(
     ensures last { IsTrue (is_of_fault result) → M.honest m.new → SaysFault (M.report m.new).fault_place (M.now m.new) result }
     ensures one { M.honest m.new → SaysOne (Word.Put name (M.ledger m.old).input keep) (M.now m.old) (M.now m.new) result }
     ensures leaves { M.honest m.new → (l : Plan) (windows : List WeakRun) (h : List Change) (f : ℕ) → IsSoundAt sectors l windows h f (M.now m.old) →
-        IsHeld M.Machine m.old (λ c. IsSoundAsSaid l windows h f (M.now m.old).image c.image) → LeavesRun (Put name keep) (M.ledger m.old).input (M.ledger m.new).input l windows h f (M.left_since m.new) (stops M.Machine m.new) (M.moment m.old) (StopsOnly M.Machine m.old m.new) (M.report m.old) (M.report m.new) (M.now m.old) (M.now m.new) result }
+        IsHeld M.Machine m.old (λ c. IsSoundAsSaid l windows h f (M.now m.old).image c.image) → LeavesRun (Put name keep) (M.ledger m.old).input (M.ledger m.new).input l windows h f (M.left_since m.new) (stops M.Machine m.new) (M.moment m.old) (StopsOnly M.Machine m.old m.new) (IsHeld M.Machine m.new) (M.report m.old) (M.report m.new) (M.now m.old) (M.now m.new) result }
 {
     match V::mount(alloc, m, sectors) {
         Ok(v) => put_on::<M, V, T>(alloc, v, m, name, keep),

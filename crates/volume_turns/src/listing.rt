@@ -2,19 +2,17 @@
 ghost use Rattle.std.specs.Prelude.{◌≡◌, ◌≤◌, ◌++◌, [], ◌∷◌, None, OnOk, IfOk, IfErr, IfNone, MatchResult};
 ghost use Rattle.fsd_files.specs.Answers.{next_reply};
 ghost use Rattle.fsd_texts.specs.declared.command.Command.TheVariants as Word;
-ghost use Rattle.sector_disk.specs.Calls.{OnlyReads, WritesDisk, device_in};
+ghost use Rattle.sector_disk.specs.Calls.{OnlyReads, device_in};
 ghost use Rattle.volume_contract.specs.Absent.{LacksLater, ShowsReached};
 ghost use Rattle.volume_contract.specs.Ends.{Looks, device_of};
 ghost use Rattle.volume_contract.specs.Order.{Follows, IsLookUp, next_steps};
 ghost use Rattle.volume_contract.specs.State.{Known, Stands, volume_of};
-ghost use Rattle.volume_turns.specs.Answering.{Answers};
-ghost use Rattle.scrub.specs.Scrub.{KeepsOpen};
 ghost use Rattle.scrub.specs.Telling.{AreOfPage};
 ghost use Rattle.scrub.specs.Walk.{IsFromOutside};
+ghost use Rattle.volume_turns.specs.Did.{Did};
 ghost use Rattle.volume_turns.specs.Listing.{fitting};
-ghost use Rattle.volume_turns.specs.Reasons.{Because, HasWritten, ListsAll, most_written};
-ghost use Rattle.fsd_runs.specs.Errands.{reply_status};
-ghost use Rattle.volume_turns.specs.Steps.{Does, IsOfCall, IsRefusedOn, Stays, device_by, reply_of};
+ghost use Rattle.volume_turns.specs.Reasons.{ListsAll};
+ghost use Rattle.volume_turns.specs.Steps.{IsRefusedOn};
 
 use crate::answer::{Answer, ended_by};
 use fsd_bytes::{Key, Pattern, Refusal};
@@ -99,17 +97,7 @@ pub(crate) fn list<M: Machine, V: Files<M>>(
 ) -> Result<Answer, Fault>
     requires room { (V.state v.old).layout.sectors ≤ (M.report m.old).sectors }
     requires up { (V.state v.old).down ≡ None }
-    ensures layout { (V.state v.new).layout ≡ (V.state v.old).layout }
-    ensures open { KeepsOpen (V.state v.old) (V.state v.new) }
-    ensures up { OnOk result ((V.state v.new).down ≡ None) }
-    ensures disk { WritesDisk M.Machine (device_by result) (Stays V.state V.holds v.old) m.old m.new }
-    ensures fault { IfErr result IsOfCall }
-    ensures status { IfOk result (λ a. reply_status (reply_of a) ≡ 0) }
-    ensures answers { M.honest m.new → Answers (Word.List pattern.now) (V.state v.old) (V.state v.new) (M.now m.old) (M.now m.new) result }
-    ensures written { M.tells m.new → HasWritten (most_written (Word.List pattern.now) (V.state v.old)) (M.ledger m.old) (M.ledger m.new) result }
-    ensures because { M.honest m.new → IfOk result (λ a. Because V.state V.resident (Word.List pattern.now) (V.state v.old) (V.state v.new) (M.now m.old) (M.now m.new) (reply_of a)) }
-    ensures done { M.honest m.new → (k : Known) → Stands V.state V.holds v.old k (M.now m.old) →
-        Does V.state V.holds (Word.List pattern.now) v.old v.new k (M.now m.old) (M.now m.new) result }
+    ensures { Did M.Machine V.state V.holds V.resident (Word.List pattern.now) v.old v.new m.old m.new result }
 {
     match collect(alloc, v, m, pattern) {
         Ok(entries) => Ok(Answer::Listed(entries)),

@@ -4,7 +4,8 @@ use Rattle.fsd_texts.specs.declared.fault.Fault.TheVariants as Ends
 use Rattle.fsd_texts.specs.declared.line.Line.TheVariants as Lines
 use Rattle.fsd_texts.specs.Text.{fault_text, format_line, text}
 use Rattle.std.specs.Prelude.{Ok, ◌-◌}
-use Rattle.cfs_program.proofs.FormatLaws.{format_said, holds_on, untouched_by}
+use Rattle.volume_turns.proofs.SayLaws.{timed_by}
+use Rattle.cfs_program.proofs.FormatLaws.{format_said, holds_behind}
 use Rattle.cfs_program.proofs.CountsLaws.{made_counts, made_failed}
 use Rattle.cfs_program.proofs.formatting.make.Goals as goal
 
@@ -21,8 +22,12 @@ returns-in-Ok-clause-says g c h =
 pub returns-in-Ok-clause-made : goal.returns-in-Ok-clause-made
 returns-in-Ok-clause-made g c zero h =
     let M = g.M.Machine in
+    let m = c.make_volume.new.m in
+    let b = c.last_line.new.m in
     let says = c.last_line.ensures.says in
-    holds_on c.args.l.now (M.now c.make_volume.new.m) (M.now c.last_line.new.m) (c.in-Ok.ensures.made (says.trust.honest h)).holds (untouched_by (Lines.Formatted c.sectors-sectors.result (c.sectors-sectors.result - c.data_start.result)) (M.now c.make_volume.new.m) (M.now c.last_line.new.m) (says.exit h))
+    let back = says.trust.honest h in
+    let timed = timed_by M g.met.M.Machine.dated g.met.M.Machine.history g.met.M.Machine.counts_now g.met.M.Machine.only_now in
+    holds_behind M c.args.l.now (Lines.Formatted c.sectors-sectors.result (c.sectors-sectors.result - c.data_start.result)) m b (timed m back) (timed b h) (says.since h) (says.any_moment h) (c.in-Ok.ensures.synced back) (c.in-Ok.ensures.made back).holds
 
 -- ---- what is counted
 

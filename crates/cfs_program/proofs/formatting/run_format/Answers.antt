@@ -2,6 +2,7 @@ use Rattle.std.proofs.Common.{sym, ◌∙◌, subst}
 use Rattle.std.specs.Prelude.{Result}
 use Rattle.volume_layout.specs.declared.layout.Layout.{Layout}
 use Rattle.volume_layout.specs.declared.fault.LayoutFault.{LayoutFault}
+use Rattle.sector_disk.specs.Calls.{IsHeld}
 use Rattle.cfs_program.specs.Formatting.{IsMadeBy, SaysFormat}
 use Rattle.std.proofs.Common.{refl, arith}
 use Rattle.std.proofs.Common.{inl, Err}
@@ -18,7 +19,7 @@ returns-in-Ok-clause-says g c h =
 pub returns-in-Ok-clause-made : goal.returns-in-Ok-clause-made
 returns-in-Ok-clause-made g c zero h =
     let M = g.M.Machine in
-    subst (λ (planned : Result Layout LayoutFault). IsMadeBy planned (M.now c.make.new.m)) (sym c.in-Ok.is ∙ c.plan_of.ensures) (c.make.ensures.made zero h)
+    subst (λ (planned : Result Layout LayoutFault). IsMadeBy planned (IsHeld M c.make.new.m)) (sym c.in-Ok.is ∙ c.plan_of.ensures) (c.make.ensures.made zero h)
 
 -- ---- what is counted
 

@@ -1,23 +1,17 @@
 use Rattle.std.proofs.Common.{ℕ, List, Some, false, subst, inr, arith, []}
-use Rattle.sector_disk.specs.Calls.{IsTimed}
 use Rattle.fsd_runs.specs.declared.request.Request.TheVariants.{Generate}
 use Rattle.volume_turns.specs.Causes.{SaysMade}
 use Rattle.volume_turns.proofs.StatusLaws.{not_as}
+use Rattle.volume_turns.proofs.SayLaws.{timed_by}
 use Rattle.scrub.specs.Telling.{AreOfPage}
 use Rattle.cfs_program.proofs.AttachLaws.{EndsUnfound, RunsFound, found_accepted, found_asked, found_asks, found_counts, found_image, found_leaves, found_said, found_trust, unfound_accepted, unfound_asks, unfound_counts, unfound_image, unfound_last, unfound_leaves, unfound_outside, unfound_trust}
 use Rattle.cfs_program.proofs.EndedLaws.{failed_status}
-use Rattle.cfs_program.proofs.making.run_made_up.Given as given
 use Rattle.cfs_program.proofs.making.run_made_up.Goals as goal
-
--- what the laws of the machine say of its moments
-timed : (g : given.Over) (m : g.row.M.Denot) → g.M.Machine.honest m → IsTimed g.M.Machine m
-timed g m h =
-    let laws = g.met.M.Machine in
-    record { dated = laws.dated m h; history = laws.history m h; here = laws.counts_now m (g.M.Machine.moment m) h (omega arith); only = λ c left. laws.only_now m c h left }
 
 pub returns-in-Ok : goal.returns-in-Ok
 returns-in-Ok g c =
     let M = g.M.Machine in
+    let timed = timed_by M g.met.M.Machine.dated g.met.M.Machine.history g.met.M.Machine.counts_now g.met.M.Machine.only_now in
     let a = c.args.m.now in
     let b = c.attach.new.self in
     let z = c.run_generate.new.m in
@@ -34,13 +28,14 @@ returns-in-Ok g c =
       image = λ h. found_image x false AreOfPage (Some c.args.count) status h (does.image h);
       all = λ zero h. subst (λ (before : List ℕ). SaysMade c.args.count before (M.now z)) (found_said x h) (does.all zero h);
       last = does.last;
-      leaves = λ h rest. found_leaves x (Generate c.args.seed c.args.count) [] rest status h (g.met.M.Machine.short a) (timed g) (does.leaves h [] rest);
-      accepted = λ h. found_accepted x (Generate c.args.seed c.args.count) [] [] status h (g.met.M.Machine.short a) (timed g) (does.leaves h [] []) (λ P p. p);
+      leaves = λ h rest. found_leaves x (Generate c.args.seed c.args.count) [] rest status h (g.met.M.Machine.short a) timed (does.leaves h [] rest);
+      accepted = λ h. found_accepted x (Generate c.args.seed c.args.count) [] [] status h (g.met.M.Machine.short a) timed (does.leaves h [] []) (λ P p. p);
     }
 
 pub returns-in-Err : goal.returns-in-Err
 returns-in-Err g c =
     let M = g.M.Machine in
+    let timed = timed_by M g.met.M.Machine.dated g.met.M.Machine.history g.met.M.Machine.counts_now g.met.M.Machine.only_now in
     let a = c.args.m.now in
     let b = c.attach.new.self in
     let z = c.last_line.new.m in
@@ -58,6 +53,6 @@ returns-in-Err g c =
       image = λ h. unfound_image x false AreOfPage (Some c.args.count);
       all = λ zero h. absurd (not_as 0 4 status (λ e. omega (arith, e)) (λ e. omega (arith, e)) line.status zero);
       last = unfound_last x;
-      leaves = λ h rest l windows changes f sound held. unfound_leaves x (Generate c.args.seed c.args.count) [] rest l windows changes f h (g.met.M.Machine.short a) (timed g) sound held;
+      leaves = λ h rest l windows changes f sound held. unfound_leaves x (Generate c.args.seed c.args.count) [] rest l windows changes f h (g.met.M.Machine.short a) timed sound held;
       accepted = λ h. unfound_accepted x;
     }

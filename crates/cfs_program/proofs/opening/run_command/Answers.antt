@@ -1,25 +1,19 @@
-use Rattle.std.proofs.Common.{None, false, inl, inr, [], arith}
-use Rattle.sector_disk.specs.Calls.{IsTimed}
+use Rattle.std.proofs.Common.{None, false, inl, inr, []}
 use Rattle.fsd_texts.specs.declared.fault.Fault.TheVariants as Ends
 use Rattle.fsd_texts.specs.declared.line.Line.TheVariants as Lines
 use Rattle.fsd_runs.specs.declared.request.Request.TheVariants.{One}
 use Rattle.volume_turns.proofs.AnsweringLaws.{one_since}
 use Rattle.volume_turns.specs.Steps.{MayLose}
+use Rattle.volume_turns.proofs.SayLaws.{timed_by}
 use Rattle.cfs_program.proofs.AttachLaws.{EndsUnfound, RunsFound, found_accepted, found_asked, found_asks, found_counts, found_image, found_leaves, found_said, found_trust, unfound_accepted, unfound_alone, unfound_asks, unfound_counts, unfound_image, unfound_last, unfound_leaves, unfound_outside, unfound_trust}
 use Rattle.cfs_program.proofs.EndedLaws.{failed_status}
 use Rattle.cfs_program.proofs.FoundLaws.{untouched_unfound, writes_found}
-use Rattle.cfs_program.proofs.opening.run_command.Given as given
 use Rattle.cfs_program.proofs.opening.run_command.Goals as goal
-
--- what the laws of the machine say of its moments
-timed : (g : given.Over) (m : g.row.M.Denot) → g.M.Machine.honest m → IsTimed g.M.Machine m
-timed g m h =
-    let laws = g.met.M.Machine in
-    record { dated = laws.dated m h; history = laws.history m h; here = laws.counts_now m (g.M.Machine.moment m) h (omega arith); only = λ c left. laws.only_now m c h left }
 
 pub returns-in-Ok : goal.returns-in-Ok
 returns-in-Ok g c =
     let M = g.M.Machine in
+    let timed = timed_by M g.met.M.Machine.dated g.met.M.Machine.history g.met.M.Machine.counts_now g.met.M.Machine.only_now in
     let a = c.args.m.now in
     let b = c.attach.new.self in
     let z = c.run_one.new.m in
@@ -37,13 +31,14 @@ returns-in-Ok g c =
       one = λ h. one_since c.args.c.now (M.now a) (M.now b) (M.now z) status (found_said x h) (does.one h).says;
       rest = λ h. let back = does.trust.honest h in writes_found c.args.c.now (M.now a) (M.now b) (M.now z) c.in-Ok.sectors (e.attached back) (e.size back) (does.one h).rest;
       last = does.last;
-      leaves = λ h rest. found_leaves x (One c.args.c.now) [] rest status h (g.met.M.Machine.short a) (timed g) (does.leaves h rest);
-      accepted = λ h. found_accepted x (One c.args.c.now) [] [] status h (g.met.M.Machine.short a) (timed g) (does.leaves h []) (λ P p. p);
+      leaves = λ h rest. found_leaves x (One c.args.c.now) [] rest status h (g.met.M.Machine.short a) timed (does.leaves h rest);
+      accepted = λ h. found_accepted x (One c.args.c.now) [] [] status h (g.met.M.Machine.short a) timed (does.leaves h []) (λ P p. p);
     }
 
 pub returns-in-Err : goal.returns-in-Err
 returns-in-Err g c =
     let M = g.M.Machine in
+    let timed = timed_by M g.met.M.Machine.dated g.met.M.Machine.history g.met.M.Machine.counts_now g.met.M.Machine.only_now in
     let a = c.args.m.now in
     let b = c.attach.new.self in
     let z = c.last_line.new.m in
@@ -62,6 +57,6 @@ returns-in-Err g c =
       one = λ h. inr (unfound_alone x h);
       rest = λ h. inl (untouched_unfound (Lines.Ended (Ends.Device c.in-Err.failed.place)) (M.now a) (M.now b) (M.now z) (e.failed (line.says.trust.honest h)) (line.says.exit h));
       last = unfound_last x;
-      leaves = λ h rest l windows changes f sound held. unfound_leaves x (One c.args.c.now) [] rest l windows changes f h (g.met.M.Machine.short a) (timed g) sound held;
+      leaves = λ h rest l windows changes f sound held. unfound_leaves x (One c.args.c.now) [] rest l windows changes f h (g.met.M.Machine.short a) timed sound held;
       accepted = λ h. unfound_accepted x;
     }

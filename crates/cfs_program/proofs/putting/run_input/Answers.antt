@@ -1,5 +1,5 @@
 use Rattle.std.proofs.Common.{None, false, ◌≤◌, inl, inr, length, List, ℕ, subst, arith}
-use Rattle.sector_disk.specs.Calls.{IsTimed, StopsOnly, stops}
+use Rattle.sector_disk.specs.Calls.{IsHeld, StopsOnly, stops}
 use Rattle.fsd_texts.specs.Script.{max_input}
 use Rattle.fsd_texts.specs.declared.command.Command.TheVariants as Word
 use Rattle.fsd_runs.specs.declared.request.Request.TheVariants.{Put}
@@ -7,21 +7,16 @@ use Rattle.fsd_runs.specs.Leaves.{LeavesRun}
 use Rattle.volume_turns.specs.Answering.{SaysOne}
 use Rattle.volume_turns.proofs.AnsweringLaws.{one_since}
 use Rattle.volume_turns.proofs.StatusLaws.{as_not_low, not_as}
+use Rattle.volume_turns.proofs.SayLaws.{timed_by}
 use Rattle.scrub.specs.Telling.{AreOfPage}
 use Rattle.cfs_program.proofs.AttachLaws.{EndsUnfound, RunsFound, found_accepted, found_attaches, found_fails, found_image, found_input, found_leaves, found_reading, found_said, found_says_input, found_trust, unfound_accepted, unfound_alone, unfound_asks, unfound_image, unfound_last, unfound_leaves, unfound_outside, unfound_reading, unfound_trust}
 use Rattle.cfs_program.proofs.EndedLaws.{failed_status}
-use Rattle.cfs_program.proofs.putting.run_input.Given as given
 use Rattle.cfs_program.proofs.putting.run_input.Goals as goal
-
--- what the laws of the machine say of its moments
-timed : (g : given.Over) (m : g.row.M.Denot) → g.M.Machine.honest m → IsTimed g.M.Machine m
-timed g m h =
-    let laws = g.met.M.Machine in
-    record { dated = laws.dated m h; history = laws.history m h; here = laws.counts_now m (g.M.Machine.moment m) h (omega arith); only = λ c left. laws.only_now m c h left }
 
 pub returns-in-Ok : goal.returns-in-Ok
 returns-in-Ok g c =
     let M = g.M.Machine in
+    let timed = timed_by M g.met.M.Machine.dated g.met.M.Machine.history g.met.M.Machine.counts_now g.met.M.Machine.only_now in
     let a = c.args.m.now in
     let b = c.attach.new.self in
     let z = c.run_put.new.m in
@@ -45,16 +40,17 @@ returns-in-Ok g c =
           (subst (λ (name : List ℕ). SaysOne (Word.Put name (M.ledger b).input c.args.keep) (M.now a) (M.now z) status) c.copied.ensures
           (one_since _ (M.now a) (M.now b) (M.now z) status (found_said x h) (does.one h)));
       last = does.last;
-      leaves = λ h. found_leaves x (Put c.args.name.now c.args.keep) (M.ledger a).input (M.ledger z).input status h (g.met.M.Machine.short a) (timed g)
+      leaves = λ h. found_leaves x (Put c.args.name.now c.args.keep) (M.ledger a).input (M.ledger z).input status h (g.met.M.Machine.short a) timed
           (λ l windows changes f at held.
-          subst (λ (input : List ℕ). LeavesRun (Put c.args.name.now c.args.keep) input (M.ledger z).input l windows changes f (M.left_since z) (stops M z) (M.moment b) (StopsOnly M b z) (M.report b) (M.report z) (M.now b) (M.now z) status) (found_input x (g.met.M.Machine.honest_tells z h))
-          (subst (λ (name : List ℕ). LeavesRun (Put name c.args.keep) (M.ledger b).input (M.ledger z).input l windows changes f (M.left_since z) (stops M z) (M.moment b) (StopsOnly M b z) (M.report b) (M.report z) (M.now b) (M.now z) status) c.copied.ensures (does.leaves h l windows changes f at held)));
-      accepted = λ h. found_accepted x (Put c.copied.result c.args.keep) (M.ledger b).input (M.ledger z).input status h (g.met.M.Machine.short a) (timed g) (does.leaves h) (λ P p. p);
+          subst (λ (input : List ℕ). LeavesRun (Put c.args.name.now c.args.keep) input (M.ledger z).input l windows changes f (M.left_since z) (stops M z) (M.moment b) (StopsOnly M b z) (IsHeld M z) (M.report b) (M.report z) (M.now b) (M.now z) status) (found_input x (g.met.M.Machine.honest_tells z h))
+          (subst (λ (name : List ℕ). LeavesRun (Put name c.args.keep) (M.ledger b).input (M.ledger z).input l windows changes f (M.left_since z) (stops M z) (M.moment b) (StopsOnly M b z) (IsHeld M z) (M.report b) (M.report z) (M.now b) (M.now z) status) c.copied.ensures (does.leaves h l windows changes f at held)));
+      accepted = λ h. found_accepted x (Put c.copied.result c.args.keep) (M.ledger b).input (M.ledger z).input status h (g.met.M.Machine.short a) timed (does.leaves h) (λ P p. p);
     }
 
 pub returns-in-Err : goal.returns-in-Err
 returns-in-Err g c =
     let M = g.M.Machine in
+    let timed = timed_by M g.met.M.Machine.dated g.met.M.Machine.history g.met.M.Machine.counts_now g.met.M.Machine.only_now in
     let a = c.args.m.now in
     let b = c.attach.new.self in
     let z = c.last_line.new.m in
@@ -76,6 +72,6 @@ returns-in-Err g c =
       image = λ h. unfound_image x false AreOfPage None;
       one = λ h. inr (unfound_alone x h);
       last = unfound_last x;
-      leaves = λ h l windows changes f sound held. unfound_leaves x (Put c.args.name.now c.args.keep) (M.ledger a).input (M.ledger z).input l windows changes f h (g.met.M.Machine.short a) (timed g) sound held;
+      leaves = λ h l windows changes f sound held. unfound_leaves x (Put c.args.name.now c.args.keep) (M.ledger a).input (M.ledger z).input l windows changes f h (g.met.M.Machine.short a) timed sound held;
       accepted = λ h. unfound_accepted x;
     }

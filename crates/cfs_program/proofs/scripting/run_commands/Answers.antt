@@ -1,31 +1,22 @@
 use Rattle.std.proofs.Common.{true, None, ◌≡◌, inl, inr, List, ℕ, subst, arith}
-use Rattle.sector_disk.specs.Calls.{IsTimed, StopsOnly, stops}
+use Rattle.sector_disk.specs.Calls.{IsHeld, StopsOnly, stops}
 use Rattle.fsd_texts.specs.declared.end.End.TheVariants.{Done}
 use Rattle.fsd_texts.specs.Script.{script_in}
 use Rattle.fsd_runs.specs.declared.request.Request.TheVariants.{Script}
 use Rattle.fsd_runs.specs.Commands.{reply_text}
 use Rattle.fsd_runs.specs.Leaves.{LeavesRun}
-use Rattle.fsd_runs.proofs.SessionLaws.{all_forced}
 use Rattle.volume_turns.specs.Each.{SaysBadLine, SaysForced}
 use Rattle.volume_turns.proofs.StatusLaws.{not_as}
+use Rattle.volume_turns.proofs.SayLaws.{timed_by}
 use Rattle.scrub.specs.Telling.{AreOfPage}
 use Rattle.cfs_program.proofs.AttachLaws.{EndsUnfound, RunsFound, found_accepted, found_attaches, found_fails, found_image, found_input, found_later, found_leaves, found_reading, found_said, found_says_input, found_trust, unfound_accepted, unfound_asks, unfound_image, unfound_last, unfound_leaves, unfound_outside, unfound_reading, unfound_trust}
 use Rattle.cfs_program.proofs.EndedLaws.{failed_status}
-use Rattle.cfs_program.proofs.scripting.run_commands.Given as given
 use Rattle.cfs_program.proofs.scripting.run_commands.Goals as goal
-
--- what the laws of the machine say of its moments
-timed : (g : given.Over) (m : g.row.M.Denot) → g.M.Machine.honest m → IsTimed g.M.Machine m
-timed g m h =
-    let laws = g.met.M.Machine in
-    record { dated = laws.dated m h; history = laws.history m h; here = laws.counts_now m (g.M.Machine.moment m) h (omega arith); only = λ c left. laws.only_now m c h left }
-
-pub run_script-requires-clause-lazily : goal.run_script-requires-clause-lazily
-run_script-requires-clause-lazily g c = λ x s command is. all_forced x s command is
 
 pub returns-in-Ok : goal.returns-in-Ok
 returns-in-Ok g c =
     let M = g.M.Machine in
+    let timed = timed_by M g.met.M.Machine.dated g.met.M.Machine.history g.met.M.Machine.counts_now g.met.M.Machine.only_now in
     let a = c.args.m.now in
     let b = c.attach.new.self in
     let z = c.run_script.new.m in
@@ -51,16 +42,17 @@ returns-in-Ok g c =
           subst (λ (before : List ℕ). SaysForced reply_text (M.left_since z (M.moment a)) (script_in (M.ledger a).input).0 before (M.now z).said) (found_said x h)
           (subst (λ (input : List ℕ). SaysForced reply_text (M.left_since z (M.moment a)) (script_in input).0 (M.now b).said (M.now z).said) (found_input x (g.met.M.Machine.honest_tells z h)) (does.all zero h (M.moment a) (found_later x h)));
       last = does.last;
-      leaves = λ h. found_leaves x Script (M.ledger a).input (M.ledger z).input status h (g.met.M.Machine.short a) (timed g)
+      leaves = λ h. found_leaves x Script (M.ledger a).input (M.ledger z).input status h (g.met.M.Machine.short a) timed
           (λ l windows changes f at held.
-          subst (λ (input : List ℕ). LeavesRun Script input (M.ledger z).input l windows changes f (M.left_since z) (stops M z) (M.moment b) (StopsOnly M b z) (M.report b) (M.report z) (M.now b) (M.now z) status) (found_input x (g.met.M.Machine.honest_tells z h))
+          subst (λ (input : List ℕ). LeavesRun Script input (M.ledger z).input l windows changes f (M.left_since z) (stops M z) (M.moment b) (StopsOnly M b z) (IsHeld M z) (M.report b) (M.report z) (M.now b) (M.now z) status) (found_input x (g.met.M.Machine.honest_tells z h))
           (does.leaves h l windows changes f at held));
-      accepted = λ h. found_accepted x Script (M.ledger b).input (M.ledger z).input status h (g.met.M.Machine.short a) (timed g) (does.leaves h) (λ P p. p);
+      accepted = λ h. found_accepted x Script (M.ledger b).input (M.ledger z).input status h (g.met.M.Machine.short a) timed (does.leaves h) (λ P p. p);
     }
 
 pub returns-in-Err : goal.returns-in-Err
 returns-in-Err g c =
     let M = g.M.Machine in
+    let timed = timed_by M g.met.M.Machine.dated g.met.M.Machine.history g.met.M.Machine.counts_now g.met.M.Machine.only_now in
     let a = c.args.m.now in
     let b = c.attach.new.self in
     let z = c.last_line.new.m in
@@ -83,6 +75,6 @@ returns-in-Err g c =
       image = λ h. unfound_image x true AreOfPage None;
       all = λ zero h. absurd (not_as 0 4 status (λ e. omega (arith, e)) (λ e. omega (arith, e)) line.status zero);
       last = unfound_last x;
-      leaves = λ h l windows changes f sound held. unfound_leaves x Script (M.ledger a).input (M.ledger z).input l windows changes f h (g.met.M.Machine.short a) (timed g) sound held;
+      leaves = λ h l windows changes f sound held. unfound_leaves x Script (M.ledger a).input (M.ledger z).input l windows changes f h (g.met.M.Machine.short a) timed sound held;
       accepted = λ h. unfound_accepted x;
     }

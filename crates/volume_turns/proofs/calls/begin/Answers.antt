@@ -23,7 +23,7 @@ use Rattle.volume_turns.proofs.calls.begin.Goals as goal
 pub returns-in-Ok-clause-layout : goal.returns-in-Ok-clause-layout
 returns-in-Ok-clause-layout g c =
     let V = g.V.Files in
-    let kept = c.in-Ok.ensures.kept in
+    let kept = c.in-Ok.ensures.state.kept in
     (reserves_continues (sectors_for c.args.length) (V.state c.args.v.now) (V.state c.begin.new.v) kept.creation.draft kept.volume).layout
 
 pub returns-in-Ok-clause-up : goal.returns-in-Ok-clause-up
@@ -31,7 +31,7 @@ returns-in-Ok-clause-up g c =
     let V = g.V.Files in
     let s = V.state c.args.v.now in
     let t = V.state c.begin.new.v in
-    let kept = c.in-Ok.ensures.kept in
+    let kept = c.in-Ok.ensures.state.kept in
     still_up s t (reserves_continues (sectors_for c.args.length) s t kept.creation.draft kept.volume) c.requires.up
 
 pub returns-in-Ok-clause-disk : goal.returns-in-Ok-clause-disk
@@ -44,7 +44,7 @@ pub returns-in-Ok-clause-answers : goal.returns-in-Ok-clause-answers
 returns-in-Ok-clause-answers g c h =
     let V = g.V.Files in
     let s = V.state c.args.v.now in
-    let kept = c.in-Ok.ensures.kept in
+    let kept = c.in-Ok.ensures.state.kept in
     record {
       replies = (refl, test_client as_idle c.args.desk.now c.args.client c.in-Ok.ensures.order.0, begin_fits s c.args.desk.now c.args.client c.args.length c.in-Ok.ensures.order);
       worn = λ is. absurd (cc is);
@@ -56,7 +56,7 @@ pub returns-in-Ok-clause-done : goal.returns-in-Ok-clause-done
 returns-in-Ok-clause-done g c h k sits =
     let V = g.V.Files in
     let M = g.M.Machine in
-    answers_does V.state V.holds c.args.client (Calls.Begin c.args.name.now c.args.length) c.args.v.now c.begin.new.v c.args.desk.now c.begin.new.self k (M.now c.args.m.now) (M.now c.begin.new.m) c.in-Ok.ensures.desk
+    answers_does V.state V.holds c.args.client (Calls.Begin c.args.name.now c.args.length) c.args.v.now c.begin.new.v c.args.desk.now c.begin.new.self k (M.now c.args.m.now) (M.now c.begin.new.m) c.in-Ok.ensures.state.desk
     (λ s. begin_outcome s c.args.client c.args.name.now c.args.length) (record { met = met_none; held = [] }) refl tt (Reply.Begun c.args.client) [] refl
     (λ may. begin_through (V.state c.args.v.now) c.args.desk.now c.args.client c.args.length c.in-Ok.ensures.order) (c.in-Ok.ensures.done h (known_of k) k.clients sits)
 
@@ -66,14 +66,14 @@ pub returns-in-Err-clause-layout : goal.returns-in-Err-clause-layout
 returns-in-Err-clause-layout g c =
     let V = g.V.Files in
     let s = V.state c.args.v.now in
-    (keeps_continues (begin_steps s c.args.desk.now c.args.client c.args.length) tt c.in-Err.why s (V.state c.begin.new.v) c.in-Err.ensures.kept.volume).layout
+    (keeps_continues (begin_steps s c.args.desk.now c.args.client c.args.length) tt c.in-Err.why s (V.state c.begin.new.v) c.in-Err.ensures.state.kept.volume).layout
 
 pub returns-in-Err-clause-up : goal.returns-in-Err-clause-up
 returns-in-Err-clause-up g c =
     let V = g.V.Files in
     let s = V.state c.args.v.now in
     let t = V.state c.begin.new.v in
-    ended_up s t c.in-Err.why (keeps_continues (begin_steps s c.args.desk.now c.args.client c.args.length) tt c.in-Err.why s t c.in-Err.ensures.kept.volume) c.requires.up c.ended_by.result c.ended_by.ensures.is
+    ended_up s t c.in-Err.why (keeps_continues (begin_steps s c.args.desk.now c.args.client c.args.length) tt c.in-Err.why s t c.in-Err.ensures.state.kept.volume) c.requires.up c.ended_by.result c.ended_by.ensures.is
 
 pub returns-in-Err-clause-disk : goal.returns-in-Err-clause-disk
 returns-in-Err-clause-disk g c =
@@ -97,7 +97,7 @@ returns-in-Err-clause-answers g c h =
     let len = c.args.length in
     let call = Calls.Begin c.args.name.now len in
     let why = c.in-Err.why in
-    let keeps = c.in-Err.ensures.kept.volume in
+    let keeps = c.in-Err.ensures.state.kept.volume in
     declined_answers client call s t (M.now c.args.m.now) (M.now c.begin.new.m) why c.ended_by.result c.ended_by.ensures.is
     (begin_declines s c.requires.up desk client (M.now c.begin.new.m).image why c.args.name.now len c.in-Err.ensures.order)
     (begin_goes s t desk client why len keeps)
@@ -110,7 +110,7 @@ returns-in-Err-clause-done g c h k sits =
     let name = c.args.name.now in
     let len = c.args.length in
     subst (λ (r : Result Answer Fault). DoesIn V.state V.holds (OfClient c.args.client (Calls.Begin name len)) (c.args.v.now, c.args.desk.now) (c.begin.new.v, c.begin.new.self) k (M.now c.args.m.now) (M.now c.begin.new.m) r) (sym c.ended_by.ensures.is)
-    (begin_does V.state V.holds c.args.client c.args.v.now c.begin.new.v c.args.desk.now c.begin.new.self k (M.now c.args.m.now) (M.now c.begin.new.m) c.in-Err.ensures.desk c.in-Err.why c.requires.up sits name len
+    (begin_does V.state V.holds c.args.client c.args.v.now c.begin.new.v c.args.desk.now c.begin.new.self k (M.now c.args.m.now) (M.now c.begin.new.m) c.in-Err.ensures.state.desk c.in-Err.why c.requires.up sits name len
     c.in-Err.ensures.order (c.in-Err.ensures.done h (known_of k) k.clients sits))
 
 -- ---- it takes no memory

@@ -39,7 +39,7 @@ returns-in-Ok-clause-answers g c h =
     record {
       replies = test_client as_writing c.args.desk.now c.args.client c.in-Ok.ensures.order.0;
       worn = λ is. absurd (cc is);
-      numbers = counted_goes false (forces_first s) s (V.state c.close.new.v) c.in-Ok.ensures.kept.counted;
+      numbers = counted_goes false (forces_first s) s (V.state c.close.new.v) c.in-Ok.ensures.state.kept.counted;
       told = tt;
     }
 
@@ -55,8 +55,8 @@ returns-in-Ok-clause-done g c h k sits =
     let sectors : c.sectors_made-sectors.result ≡ sectors_for e.len =
     c.sectors_made-sectors.ensures ∙ ap (λ (o : Option ℕ). sectors_made o) c.declared.ensures
     ∙ made_is k.opened desk k.clients client (sits.each (client - 1)) is_client e.name e.len e.runs e.serial e.bytes e.was in
-    subst (λ (n : ℕ). AnswersSo V.state V.holds client Calls.Close c.args.v.now c.close.new.v desk c.close.new.self k (M.now c.args.m.now) (M.now c.close.new.m) c.in-Ok.ensures.desk (Reply.Made key n)) (sym sectors)
-    (answers_does V.state V.holds client Calls.Close c.args.v.now c.close.new.v desk c.close.new.self k (M.now c.args.m.now) (M.now c.close.new.m) c.in-Ok.ensures.desk
+    subst (λ (n : ℕ). AnswersSo V.state V.holds client Calls.Close c.args.v.now c.close.new.v desk c.close.new.self k (M.now c.args.m.now) (M.now c.close.new.m) c.in-Ok.ensures.state.desk (Reply.Made key n)) (sym sectors)
+    (answers_does V.state V.holds client Calls.Close c.args.v.now c.close.new.v desk c.close.new.self k (M.now c.args.m.now) (M.now c.close.new.m) c.in-Ok.ensures.state.desk
     (λ s. close_outcome e.met s client) (record { met = e.met; held = [] }) refl tt (Reply.Made key (sectors_for e.len)) (Change.Put e.name None e.bytes ∷ [])
     (changes_are k.opened desk k.clients client (sits.each (client - 1)) is_client e.name e.len e.runs e.serial e.bytes e.was key (sectors_for e.len))
     (λ may. close_through (V.state c.args.v.now) desk client c.in-Ok.ensures.order) e.answers)
@@ -85,13 +85,13 @@ returns-in-Err-clause-answers g c h =
     let why = c.in-Err.why in
     declined_answers client Calls.Close s t (M.now c.args.m.now) (M.now c.close.new.m) why c.ended_by.result c.ended_by.ensures.is
     (close_declines s c.requires.up desk client (M.now c.close.new.m).image why c.in-Err.ensures.order)
-    (close_goes s t desk client why c.in-Err.ensures.kept.volume)
-    (told_of s t (V.resident c.args.v.now) (M.now c.args.m.now) (M.now c.close.new.m) c.in-Err.ensures.state.layout why (c.in-Err.ensures.causes h))
+    (close_goes s t desk client why c.in-Err.ensures.state.kept.volume)
+    (told_of s t (V.resident c.args.v.now) (M.now c.args.m.now) (M.now c.close.new.m) c.in-Err.ensures.state.goes.layout why (c.in-Err.ensures.causes h))
 
 pub returns-in-Err-clause-done : goal.returns-in-Err-clause-done
 returns-in-Err-clause-done g c h k sits =
     let V = g.V.Files in
     let M = g.M.Machine in
     subst (λ (r : Result Answer Fault). DoesIn V.state V.holds (OfClient c.args.client Calls.Close) (c.args.v.now, c.args.desk.now) (c.close.new.v, c.close.new.self) k (M.now c.args.m.now) (M.now c.close.new.m) r) (sym c.ended_by.ensures.is)
-    (close_does V.state V.holds c.args.client c.args.v.now c.close.new.v c.args.desk.now c.close.new.self k (M.now c.args.m.now) (M.now c.close.new.m) c.in-Err.ensures.desk c.in-Err.why c.requires.up sits
+    (close_does V.state V.holds c.args.client c.args.v.now c.close.new.v c.args.desk.now c.close.new.self k (M.now c.args.m.now) (M.now c.close.new.m) c.in-Err.ensures.state.desk c.in-Err.why c.requires.up sits
     c.in-Err.ensures.order (c.in-Err.ensures.done h (known_of k) k.clients sits))

@@ -13,11 +13,7 @@ use Rattle.volume_turns.specs.Steps.{device_by}
 use Rattle.volume_turns.proofs.CallKeepLaws.{gives_continues, gives_goes, still_up}
 use Rattle.volume_turns.proofs.CallLaws.{answers_does, met_none, refused_so, says_refused, none_stays}
 use Rattle.volume_turns.proofs.CallOrderLaws.{drop_refuses, drop_spares, idle_said, spared_by, test_client}
-use Rattle.volume_turns.proofs.calls.drop_draft.Given as given
 use Rattle.volume_turns.proofs.calls.drop_draft.Goals as goal
-
-abbrev V-of : (g : given.Over) → Type 0
-V-of g = g.row.V.Denot
 
 -- ---- it is given up
 
@@ -78,7 +74,7 @@ returns-in-Err-clause-answers g c h =
     let refuses = drop_refuses c.args.desk.now c.args.client c.in-Err.why c.in-Err.ensures.order in
     let said = c.ended_by.ensures.is ∙ idle_said c.args.client c.in-Err.why refuses in
     subst (λ (r : Result Answer Fault). AnswersIn (OfClient c.args.client Calls.Drop) s t now now r) (sym said)
-    (says_refused c.args.client Calls.Drop s t now now c.in-Err.why refuses (ap (λ (x : V-of g). V.state x) c.in-Err.ensures.kept.0))
+    (says_refused c.args.client Calls.Drop s t now now c.in-Err.why refuses (ap (λ (x : g.row.V.Denot). V.state x) c.in-Err.ensures.kept.0))
 
 pub returns-in-Err-clause-done : goal.returns-in-Err-clause-done
 returns-in-Err-clause-done g c h k sits =

@@ -41,7 +41,7 @@ returns-in-Ok-next-clause-answers g c h =
     record {
       replies = (refl, test_client as_reading desk client c.in-Ok-next.ensures.order.0, omega (arith, size, room, c.in-Ok.ensures.len, c.as_mut_slice.ensures.len, c.next.auto.buf));
       worn = λ is. absurd (cc is);
-      numbers = goes_none 1 (V.state c.args.v.now) (V.state c.next.new.v) c.in-Ok-next.ensures.state;
+      numbers = goes_none 1 (V.state c.args.v.now) (V.state c.next.new.v) c.in-Ok-next.ensures.state.kept.volume;
       told = tt;
     }
 
@@ -59,8 +59,8 @@ returns-in-Ok-next-clause-done g c h k sits =
     let asked : length c.as_mut_slice.result.now ≡ room_for (left_at desk (place_of client)) len = omega (arith, room, c.in-Ok.ensures.len, c.as_mut_slice.ensures.len) in
     let full : length buf ≡ room_for (left_at desk (place_of client)) len = omega (arith, asked, c.next.auto.buf) in
     let gives = c.in-Ok-next.ensures.done h (known_of k) k.clients sits in
-    subst (λ (b : List ℕ). AnswersSo V.state V.holds client (Calls.Next len) v c.next.new.v desk c.next.new.self k (M.now c.args.m.now) (M.now c.next.new.m) c.in-Ok-next.ensures.desk (Reply.Given client b)) (sym items)
-    (given_does V.state V.holds client v c.next.new.v desk c.next.new.self k (M.now c.args.m.now) (M.now c.next.new.m) c.in-Ok-next.ensures.desk Why.Memory (sits.each (client - 1)) len c.as_mut_slice.result.now buf
+    subst (λ (b : List ℕ). AnswersSo V.state V.holds client (Calls.Next len) v c.next.new.v desk c.next.new.self k (M.now c.args.m.now) (M.now c.next.new.m) c.in-Ok-next.ensures.state.desk (Reply.Given client b)) (sym items)
+    (given_does V.state V.holds client v c.next.new.v desk c.next.new.self k (M.now c.args.m.now) (M.now c.next.new.m) c.in-Ok-next.ensures.state.desk Why.Memory (sits.each (client - 1)) len c.as_mut_slice.result.now buf
     (test_client as_reading desk client c.in-Ok-next.ensures.order.0) c.in-Ok-next.field-0 full
     (subst (λ (n : ℕ). EndsNext V.state V.holds client n (M.now c.args.m.now).image (M.now c.next.new.m).image (known_of k) k.clients c.as_mut_slice.result.now buf c.next.new.v c.next.new.self (M.now c.next.new.m) (Ok c.in-Ok-next.field-0)) asked gives))
 
@@ -81,7 +81,7 @@ returns-in-Err-clause-disk g c =
     let M = g.M.Machine in
     let v = c.args.v.now in
     let s = V.state v in
-    let refuses = next_refused s c.requires.up c.args.desk.now c.next.new.self c.args.client c.in-Err.why c.key.result c.next_ended_by.result c.in-Err.ensures.order c.in-Err.ensures.kept c.key.ensures c.next_ended_by.ensures.is in
+    let refuses = next_refused s c.requires.up c.args.desk.now c.next.new.self c.args.client c.in-Err.why c.key.result c.next_ended_by.result c.in-Err.ensures.order c.in-Err.ensures.state.kept.desk c.key.ensures c.next_ended_by.ensures.is in
     writes_told (next_device c.args.client c.args.desk.now c.in-Err.why c.next_ended_by.result refuses)
     (reads_stay V.state V.holds M c.args.m.now c.next.new.m (device_of c.in-Err.why) c.args.v.now c.args.desk.now (λ k left. g.met.V.Files.wears c.args.v.now k (M.now c.args.m.now) left) (g.met.M.Machine.short c.args.m.now) c.in-Err.ensures.disk)
 
@@ -96,14 +96,14 @@ returns-in-Err-clause-answers g c h =
     let r = c.next_ended_by.result in
     let e = c.in-Err.ensures in
     let image = (M.now c.next.new.m).image in
-    let refuses = next_refused s c.requires.up c.args.desk.now c.next.new.self c.args.client c.in-Err.why c.key.result c.next_ended_by.result c.in-Err.ensures.order c.in-Err.ensures.kept c.key.ensures c.next_ended_by.ensures.is in
+    let refuses = next_refused s c.requires.up c.args.desk.now c.next.new.self c.args.client c.in-Err.why c.key.result c.next_ended_by.result c.in-Err.ensures.order c.in-Err.ensures.state.kept.desk c.key.ensures c.next_ended_by.ensures.is in
     let room : s.layout.sectors ≤ length image = omega (arith, c.requires.room, e.disk.uses.sectors, g.met.M.Machine.sized c.next.new.m h) in
     let gone : (t : ℕ) → why ≡ Why.Damaged t → HasDamaged image t = λ t is.
-    let err = ap (λ (w : Refusal). Err w) is in (data_inside s.layout t (length image) (e.within t err h) room, e.damaged t err h) in
+    let err = ap (λ (w : Refusal). Err w) is in let hurt = e.damaged t err h in (data_inside s.layout t (length image) hurt.within room, hurt.damaged) in
     record {
       replies = next_replies client desk why r c.args.len image gone refuses;
       worn = λ is. absurd (next_unworn client desk why r refuses is);
-      numbers = goes_none 1 s (V.state c.next.new.v) e.state;
+      numbers = goes_none 1 s (V.state c.next.new.v) e.state.kept.volume;
       told = next_told client desk why r AreOfPage s.layout image refuses;
     }
 
@@ -118,8 +118,8 @@ returns-in-Err-clause-done g c h k sits =
     let len = c.args.len in
     let room : c.room_for-room.result ≡ room_for (left_at desk (place_of client)) len = c.room_for-room.ensures ∙ ap (λ (o : Option ℕ). room_for o len) c.left.ensures in
     let asked : length c.as_mut_slice.result.now ≡ room_for (left_at desk (place_of client)) len = omega (arith, room, c.in-Ok.ensures.len, c.as_mut_slice.ensures.len) in
-    let refuses = next_refused s c.requires.up c.args.desk.now c.next.new.self c.args.client c.in-Err.why c.key.result c.next_ended_by.result c.in-Err.ensures.order c.in-Err.ensures.kept c.key.ensures c.next_ended_by.ensures.is in
+    let refuses = next_refused s c.requires.up c.args.desk.now c.next.new.self c.args.client c.in-Err.why c.key.result c.next_ended_by.result c.in-Err.ensures.order c.in-Err.ensures.state.kept.desk c.key.ensures c.next_ended_by.ensures.is in
     let failed : Result ℕ Refusal = Err c.in-Err.why in
-    next_does V.state V.holds client v c.next.new.v desk c.next.new.self k (M.now c.args.m.now) (M.now c.next.new.m) c.in-Err.ensures.desk c.in-Err.why (sits.each (client - 1)) len c.as_mut_slice.result.now c.next.new.buf c.next_ended_by.result refuses
+    next_does V.state V.holds client v c.next.new.v desk c.next.new.self k (M.now c.args.m.now) (M.now c.next.new.m) c.in-Err.ensures.state.desk c.in-Err.why (sits.each (client - 1)) len c.as_mut_slice.result.now c.next.new.buf c.next_ended_by.result refuses
     (subst (λ (n : ℕ). EndsNext V.state V.holds client n (M.now c.args.m.now).image (M.now c.next.new.m).image (known_of k) k.clients c.as_mut_slice.result.now c.next.new.buf c.next.new.v c.next.new.self (M.now c.next.new.m) failed) asked
     (c.in-Err.ensures.done h (known_of k) k.clients sits))

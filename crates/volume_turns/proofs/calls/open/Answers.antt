@@ -27,7 +27,7 @@ use Rattle.volume_turns.proofs.calls.open.Goals as goal
 pub returns-in-Ok-clause-layout : goal.returns-in-Ok-clause-layout
 returns-in-Ok-clause-layout g c =
     let V = g.V.Files in
-    let kept = c.in-Ok.ensures.kept in
+    let kept = c.in-Ok.ensures.state.kept in
     (holds_continues kept.reader.held (V.state c.args.v.now) (V.state c.open_key.new.v) kept.volume).layout
 
 pub returns-in-Ok-clause-up : goal.returns-in-Ok-clause-up
@@ -35,7 +35,7 @@ returns-in-Ok-clause-up g c =
     let V = g.V.Files in
     let s = V.state c.args.v.now in
     let t = V.state c.open_key.new.v in
-    let kept = c.in-Ok.ensures.kept in
+    let kept = c.in-Ok.ensures.state.kept in
     still_up s t (holds_continues kept.reader.held s t kept.volume) c.requires.up
 
 pub returns-in-Ok-clause-disk : goal.returns-in-Ok-clause-disk
@@ -48,7 +48,7 @@ returns-in-Ok-clause-disk g c =
 pub returns-in-Ok-clause-answers : goal.returns-in-Ok-clause-answers
 returns-in-Ok-clause-answers g c h =
     let V = g.V.Files in
-    let kept = c.in-Ok.ensures.kept in
+    let kept = c.in-Ok.ensures.state.kept in
     record {
       replies = (refl, test_client as_idle c.args.desk.now c.args.client c.in-Ok.ensures.order.0);
       worn = λ is. absurd (cc is);
@@ -60,7 +60,7 @@ pub returns-in-Ok-clause-because : goal.returns-in-Ok-clause-because
 returns-in-Ok-clause-because g c h =
     let V = g.V.Files in
     let M = g.M.Machine in
-    let found = c.in-Ok.ensures.found in
+    let found = c.in-Ok.ensures.causes.found in
     (found.0, found.1, found.2, record { by = c.args.v.now; same = refl; from = M.now c.args.m.now; aged = ages_here (M.now c.args.m.now); shows = found.3 h })
 
 pub returns-in-Ok-clause-done : goal.returns-in-Ok-clause-done
@@ -68,7 +68,7 @@ returns-in-Ok-clause-done g c h k sits =
     let V = g.V.Files in
     let M = g.M.Machine in
     let e = c.in-Ok.ensures.done h (known_of k) k.clients sits in
-    answers_does V.state V.holds c.args.client (Calls.Open c.args.key.now) c.args.v.now c.open_key.new.v c.args.desk.now c.open_key.new.self k (M.now c.args.m.now) (M.now c.open_key.new.m) c.in-Ok.ensures.desk
+    answers_does V.state V.holds c.args.client (Calls.Open c.args.key.now) c.args.v.now c.open_key.new.v c.args.desk.now c.open_key.new.self k (M.now c.args.m.now) (M.now c.open_key.new.m) c.in-Ok.ensures.state.desk
     (λ s. open_outcome e.held s c.args.client c.args.key.now) (record { met = met_none; held = e.held }) refl tt (Reply.Opened c.args.client c.in-Ok.length) [] refl (λ may. cc may) e.answers
 
 -- ---- it is refused
@@ -97,8 +97,8 @@ returns-in-Err-clause-answers g c h =
     let image = (M.now c.open_key.new.m).image in
     declined_answers client call s t (M.now c.args.m.now) (M.now c.open_key.new.m) why c.ended_by.result c.ended_by.ensures.is
     (look_up_more client call image s why (open_declines s c.requires.up c.args.desk.now client image why c.args.key.now c.in-Err.ensures.order))
-    (goes_none 1 s t c.in-Err.ensures.kept.volume)
-    (told_of s t (V.resident c.args.v.now) (M.now c.args.m.now) (M.now c.open_key.new.m) (ap (λ (x : State). x.layout) c.in-Err.ensures.kept.volume) why (c.in-Err.ensures.causes h))
+    (goes_none 1 s t c.in-Err.ensures.state.kept.volume)
+    (told_of s t (V.resident c.args.v.now) (M.now c.args.m.now) (M.now c.open_key.new.m) (ap (λ (x : State). x.layout) c.in-Err.ensures.state.kept.volume) why (c.in-Err.ensures.causes.causes h))
 
 pub returns-in-Err-clause-because : goal.returns-in-Err-clause-because
 returns-in-Err-clause-because g c h =
@@ -107,7 +107,7 @@ returns-in-Err-clause-because g c h =
     let s = V.state c.args.v.now in
     let a = M.now c.args.m.now in
     no_reason (λ x. BecauseOpened V.state V.resident c.args.key.now s (V.state c.open_key.new.v) a (M.now c.open_key.new.m) (reply_of x)) c.in-Err.why c.ended_by.result c.ended_by.ensures.is
-    (λ is. record { by = c.args.v.now; same = refl; from = a; aged = ages_here a; shows = c.in-Err.ensures.absent (ap err is) h })
+    (λ is. record { by = c.args.v.now; same = refl; from = a; aged = ages_here a; shows = c.in-Err.ensures.causes.absent (ap err is) h })
   where
     err : Refusal → Result ℕ Refusal
     err why = Err why
@@ -118,6 +118,6 @@ returns-in-Err-clause-done g c h k sits =
     let M = g.M.Machine in
     let key = c.args.key.now in
     subst (λ (r : Result Answer Fault). DoesIn V.state V.holds (OfClient c.args.client (Calls.Open key)) (c.args.v.now, c.args.desk.now) (c.open_key.new.v, c.open_key.new.self) k (M.now c.args.m.now) (M.now c.open_key.new.m) r) (sym c.ended_by.ensures.is)
-    (open_does V.state V.holds c.args.client c.args.v.now c.open_key.new.v c.args.desk.now c.open_key.new.self k (M.now c.args.m.now) (M.now c.open_key.new.m) c.in-Err.ensures.desk c.in-Err.why key
+    (open_does V.state V.holds c.args.client c.args.v.now c.open_key.new.v c.args.desk.now c.open_key.new.self k (M.now c.args.m.now) (M.now c.open_key.new.m) c.in-Err.ensures.state.desk c.in-Err.why key
     (c.in-Err.ensures.done h (known_of k) k.clients sits)
     (open_unworn (V.state c.args.v.now) c.requires.up c.args.desk.now c.args.client c.in-Err.why key c.in-Err.ensures.order))

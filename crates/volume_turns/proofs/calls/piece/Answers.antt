@@ -28,9 +28,9 @@ pub returns-in-Ok-clause-answers : goal.returns-in-Ok-clause-answers
 returns-in-Ok-clause-answers g c h =
     let V = g.V.Files in
     record {
-      replies = (refl, test_client as_writing c.args.desk.now c.args.client c.in-Ok.ensures.order.0, let kept = c.in-Ok.ensures.kept in omega (arith, kept.got, kept.grows.got));
+      replies = (refl, test_client as_writing c.args.desk.now c.args.client c.in-Ok.ensures.order.0, let kept = c.in-Ok.ensures.state.kept in omega (arith, kept.got, kept.grows.got));
       worn = λ is. absurd (cc is);
-      numbers = goes_none 1 (V.state c.args.v.now) (V.state c.piece.new.v) c.in-Ok.ensures.kept.volume;
+      numbers = goes_none 1 (V.state c.args.v.now) (V.state c.piece.new.v) c.in-Ok.ensures.state.kept.volume;
       told = tt;
     }
 
@@ -38,7 +38,7 @@ pub returns-in-Ok-clause-done : goal.returns-in-Ok-clause-done
 returns-in-Ok-clause-done g c h k sits =
     let V = g.V.Files in
     let M = g.M.Machine in
-    answers_does V.state V.holds c.args.client (Calls.Piece c.args.bytes.now) c.args.v.now c.piece.new.v c.args.desk.now c.piece.new.self k (M.now c.args.m.now) (M.now c.piece.new.m) c.in-Ok.ensures.desk
+    answers_does V.state V.holds c.args.client (Calls.Piece c.args.bytes.now) c.args.v.now c.piece.new.v c.args.desk.now c.piece.new.self k (M.now c.args.m.now) (M.now c.piece.new.m) c.in-Ok.ensures.state.desk
     (λ s. piece_outcome s c.args.client c.args.bytes.now) (record { met = met_none; held = [] }) refl tt (Reply.Took c.args.client c.in-Ok.sum) [] refl (λ may. cc may) (c.in-Ok.ensures.done h (known_of k) k.clients sits)
 
 -- ---- it is refused
@@ -46,14 +46,14 @@ returns-in-Ok-clause-done g c h k sits =
 pub returns-in-Err-clause-layout : goal.returns-in-Err-clause-layout
 returns-in-Err-clause-layout g c =
     let V = g.V.Files in
-    (piece_continues c.in-Err.why (c.args.client - 1) c.args.desk.now c.piece.new.self (V.state c.args.v.now) (V.state c.piece.new.v) c.in-Err.ensures.kept).layout
+    (piece_continues c.in-Err.why (c.args.client - 1) c.args.desk.now c.piece.new.self (V.state c.args.v.now) (V.state c.piece.new.v) c.in-Err.ensures.state.kept).layout
 
 pub returns-in-Err-clause-up : goal.returns-in-Err-clause-up
 returns-in-Err-clause-up g c =
     let V = g.V.Files in
     let s = V.state c.args.v.now in
     let t = V.state c.piece.new.v in
-    still_ended_up s t (piece_continues c.in-Err.why (c.args.client - 1) c.args.desk.now c.piece.new.self s t c.in-Err.ensures.kept) c.requires.up c.ended_by.result
+    still_ended_up s t (piece_continues c.in-Err.why (c.args.client - 1) c.args.desk.now c.piece.new.self s t c.in-Err.ensures.state.kept) c.requires.up c.ended_by.result
 
 pub returns-in-Err-clause-disk : goal.returns-in-Err-clause-disk
 returns-in-Err-clause-disk g c =
@@ -77,7 +77,7 @@ returns-in-Err-clause-answers g c h =
     let declines = piece_declines s c.requires.up c.args.desk.now client image why c.args.bytes.now c.in-Err.ensures.order in
     declined_answers client call s t (g.M.Machine.now c.args.m.now) (g.M.Machine.now c.piece.new.m) why c.ended_by.result c.ended_by.ensures.is
     (device_more client call image s why declines)
-    (piece_goes why (client - 1) c.args.desk.now c.piece.new.self s t c.in-Err.ensures.kept)
+    (piece_goes why (client - 1) c.args.desk.now c.piece.new.self s t c.in-Err.ensures.state.kept)
     (declined_told client call image s why declines s.layout)
 
 pub returns-in-Err-clause-done : goal.returns-in-Err-clause-done
@@ -89,7 +89,7 @@ returns-in-Err-clause-done g c h k sits =
     let bytes = c.args.bytes.now in
     let why = c.in-Err.why in
     subst (λ (r : Result Answer Fault). DoesIn V.state V.holds (OfClient client (Calls.Piece bytes)) (c.args.v.now, c.args.desk.now) (c.piece.new.v, c.piece.new.self) k (M.now c.args.m.now) (M.now c.piece.new.m) r) (sym c.ended_by.ensures.is)
-    (piece_does V.state V.holds client c.args.v.now c.piece.new.v c.args.desk.now c.piece.new.self k (M.now c.args.m.now) (M.now c.piece.new.m) c.in-Err.ensures.desk why bytes
+    (piece_does V.state V.holds client c.args.v.now c.piece.new.v c.args.desk.now c.piece.new.self k (M.now c.args.m.now) (M.now c.piece.new.m) c.in-Err.ensures.state.desk why bytes
     (piece_declines s c.requires.up c.args.desk.now client [] why bytes c.in-Err.ensures.order) (c.in-Err.ensures.done h (known_of k) k.clients sits))
 
 -- ---- it takes no memory

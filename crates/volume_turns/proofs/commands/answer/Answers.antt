@@ -21,11 +21,8 @@ returns-in-Tick g c = rw c.in-Tick.is c.tick.ensures
 pub returns-in-List : goal.returns-in-List
 returns-in-List g c = rw c.in-List.is c.list.ensures
 
-pub returns-in-Stat-clause-status : goal.returns-in-Stat-clause-status
-returns-in-Stat-clause-status g c = rw c.in-Stat.is c.count.ensures.status
-
-pub returns-in-Stat-clause-answers : goal.returns-in-Stat-clause-answers
-returns-in-Stat-clause-answers g c = rw c.in-Stat.is c.count.ensures.answers
+pub returns-in-Stat : goal.returns-in-Stat
+returns-in-Stat g c = rw c.in-Stat.is c.count.ensures
 
 pub returns-in-Scrub : goal.returns-in-Scrub
 returns-in-Scrub g c = rw c.in-Scrub.is c.scrub_all.ensures

@@ -1,92 +1,58 @@
-use Rattle.std.proofs.Common.{ℕ, false, [], ◌∷◌, ◌∙◌, sym, ap, subst, refl, Option}
-use Rattle.std.specs.Prelude.{IfOk, Result, IsFalse}
+use Rattle.std.proofs.Common.{false, [], ◌∷◌, sym, subst, refl, arith}
 use Rattle.fsd_bytes.specs.declared.key.Key.{Key}
 use Rattle.fsd_bytes.specs.declared.refusal.Refusal.{Refusal}
 use Rattle.fsd_files.specs.Answers.{delete_outcome}
 use Rattle.fsd_files.specs.Files.{Change}
 use Rattle.fsd_files.specs.Replies.{Reply}
-use Rattle.fsd_texts.specs.declared.command.Command.TheVariants as Word
-use Rattle.fsd_texts.specs.declared.fault.Fault.{Fault}
-use Rattle.scrub.specs.Telling.{AreOfPage}
-use Rattle.volume_turns.specs.declared.answer.Answer.{Answer}
-use Rattle.sector_disk.specs.Calls.{WritesDisk}
-use Rattle.volume_contract.specs.Order.{Comes, down}
-use Rattle.volume_contract.specs.State.{forces_first, volume_of, is_worn, change_len}
 use Rattle.fsd_sound.specs.Writes.{force_writes}
-use Rattle.volume_turns.specs.Steps.{Does, IsAnswered, Stays, device_by, reply_of}
-use Rattle.sector_disk.proofs.CallLaws.{writes_more}
-use Rattle.volume_turns.proofs.OrderLaws.{delete_all, delete_down, delete_unworn, delete_worn, delete_through}
-use Rattle.volume_turns.proofs.StepLaws.{same_device, less_touched, answered_does, refused_does}
-use Rattle.volume_turns.proofs.StatusLaws.{refused_low}
-use Rattle.volume_turns.specs.Answering.{MayReply}
+use Rattle.fsd_texts.specs.declared.command.Command.TheVariants as Word
+use Rattle.volume_contract.specs.Order.{Comes, down}
+use Rattle.volume_contract.specs.State.{forces_first, volume_of}
+use Rattle.volume_turns.specs.Steps.{IsAnswered}
 use Rattle.volume_turns.proofs.AnsweringLaws.{delete_refused}
-use Rattle.volume_turns.proofs.ToldLaws.{told_of, told_so}
-use Rattle.volume_turns.proofs.WornLaws.{told_worn}
+use Rattle.volume_turns.proofs.DidLaws.{answered_did, leaves_stay, refused_did}
 use Rattle.volume_turns.proofs.NumberLaws.{counted_goes, delete_goes}
-use Rattle.volume_turns.proofs.ReasonLaws.{no_reason, refused_written}
+use Rattle.volume_turns.proofs.OrderLaws.{delete_all, delete_down, delete_unworn, delete_worn, delete_through}
+use Rattle.volume_turns.proofs.StepLaws.{answered_does, refused_does}
 use Rattle.volume_turns.proofs.commands.delete.Goals as goal
 
-pub returns-in-Ok-clause-disk : goal.returns-in-Ok-clause-disk
-returns-in-Ok-clause-disk g c =
+pub returns-in-Ok : goal.returns-in-Ok
+returns-in-Ok g c =
     let V = g.V.Files in
+    let M = g.M.Machine in
     let v = c.args.v.now in
-    writes_more c.in-Ok.ensures.disk (λ h left. less_touched V.state V.holds v (force_writes (V.state v).layout) (g.M.Machine.now c.args.m.now) left)
-
-pub returns-in-Err-clause-disk : goal.returns-in-Err-clause-disk
-returns-in-Err-clause-disk g c =
-    let V = g.V.Files in
-    let v = c.args.v.now in
+    let w = c.delete.new.self in
+    let a = c.args.m.now in
+    let b = c.delete.new.m in
     let s = V.state v in
-    subst (λ (f : Option ℕ). WritesDisk g.M.Machine f (Stays V.state V.holds v) c.args.m.now c.delete.new.m) (same_device c.in-Err.why (delete_down s c.requires.up c.in-Err.why c.in-Err.ensures.order) ∙ ap (λ (r : Result Answer Fault). device_by r) (sym c.ended_by.ensures.is))
-    (writes_more c.in-Err.ensures.disk (λ h left. less_touched V.state V.holds v (force_writes s.layout) (g.M.Machine.now c.args.m.now) left))
+    let key = c.args.key.now in
+    let e = c.in-Ok.ensures in
+    answered_did M V.state V.holds a b V.resident (Word.Delete key) v w e.rest tt (counted_goes false (forces_first s) s (V.state w) e.kept)
+    _ c.requires.up e.state (leaves_stay M V.state V.holds a b v (force_writes s.layout) e.disk) (omega arith) (λ h. c.copied.ensures) e.counted (λ h. tt)
+    (λ h k stands.
+    let ends = e.done h k stands in
+    let is = answered_does V.state V.holds (Word.Delete key) v w k (M.now a) (M.now b) (λ met. delete_outcome met (volume_of k) key) (λ met. refl) (λ met. tt) (Reply.Deleted key) (Change.Delete key ∷ []) refl ends.0 ends.1 (λ may. delete_through s e.order) in
+    (ends.0, subst (λ (x : Key). IsAnswered (Word.Delete key) s k ends.0 (M.now a).image (M.now b).image (Reply.Deleted x)) (sym c.copied.ensures) is, ends.2))
 
-pub returns-in-Ok-clause-done : goal.returns-in-Ok-clause-done
-returns-in-Ok-clause-done g c h k stands =
+pub returns-in-Err : goal.returns-in-Err
+returns-in-Err g c =
     let V = g.V.Files in
     let M = g.M.Machine in
-    let s = V.state c.args.v.now in
-    let e = c.in-Ok.ensures.done h k stands in
-    let unworn : IsFalse (is_worn s) = delete_through s c.in-Ok.ensures.order in
-    let is = answered_does V.state V.holds (Word.Delete c.args.key.now) c.args.v.now c.delete.new.self k (M.now c.args.m.now) (M.now c.delete.new.m) (λ met. delete_outcome met (volume_of k) c.args.key.now) (λ met. refl) (λ met. tt) (Reply.Deleted c.args.key.now) (Change.Delete c.args.key.now ∷ []) refl e.0 e.1 (λ may. unworn) in
-    (e.0, subst (λ (key : Key). IsAnswered (Word.Delete c.args.key.now) s k e.0 (M.now c.args.m.now).image (M.now c.delete.new.m).image (Reply.Deleted key)) (sym c.copied.ensures) is, e.2)
-
-pub returns-in-Err-clause-done : goal.returns-in-Err-clause-done
-returns-in-Err-clause-done g c h k stands =
-    let V = g.V.Files in
-    let M = g.M.Machine in
-    let s = V.state c.args.v.now in
+    let v = c.args.v.now in
+    let w = c.delete.new.self in
+    let a = c.args.m.now in
+    let b = c.delete.new.m in
+    let s = V.state v in
+    let up = c.requires.up in
+    let key = c.args.key.now in
     let why = c.in-Err.why in
-    let order = c.in-Err.ensures.order in
-    subst (λ (r : Result Answer Fault). Does V.state V.holds (Word.Delete c.args.key.now) c.args.v.now c.delete.new.self k (M.now c.args.m.now) (M.now c.delete.new.m) r) (sym c.ended_by.ensures.is)
-    (refused_does V.state V.holds (Word.Delete c.args.key.now) c.args.v.now c.delete.new.self k (M.now c.args.m.now) (M.now c.delete.new.m) (λ met. delete_outcome met (volume_of k) c.args.key.now) (λ met. refl) (λ met. tt) why refl
-    (λ other may. delete_unworn s c.requires.up why order other)
-    (λ is. record { may = refl; worn = delete_worn s c.requires.up (subst (λ (x : Refusal). Comes (down s ∷ delete_all s) x) is order) })
-    (c.in-Err.ensures.done h k stands))
-
-pub returns-in-Err-clause-status : goal.returns-in-Err-clause-status
-returns-in-Err-clause-status g c = refused_low c.in-Err.why c.ended_by.result c.ended_by.ensures.said
-
-pub returns-in-Ok-clause-answers : goal.returns-in-Ok-clause-answers
-returns-in-Ok-clause-answers g c h = record { replies = c.copied.ensures; rest = c.in-Ok.ensures.rest h; still = tt; worn = λ is. absurd (cc is); numbers = let s = g.V.Files.state c.args.v.now in let t = g.V.Files.state c.delete.new.self in counted_goes false (forces_first s) s t c.in-Ok.ensures.kept; told = tt }
-
-pub returns-in-Err-clause-answers : goal.returns-in-Err-clause-answers
-returns-in-Err-clause-answers g c h = record {
-  replies = subst (λ (r : Result Answer Fault). IfOk r (λ a. MayReply (Word.Delete c.args.key.now) (g.M.Machine.now c.delete.new.m).image (reply_of a))) (sym c.ended_by.ensures.is)
-      (delete_refused (g.V.Files.state c.args.v.now) c.requires.up c.in-Err.why c.args.key.now (g.M.Machine.now c.delete.new.m).image c.in-Err.ensures.order);
-  rest = c.in-Err.ensures.rest h;
-  still = tt;
-  worn = let s = g.V.Files.state c.args.v.now in told_worn s (down s ∷ delete_all s) c.in-Err.why c.ended_by.result c.ended_by.ensures.is c.in-Err.ensures.order (λ comes. delete_worn s c.requires.up comes);
-  numbers = let s = g.V.Files.state c.args.v.now in let t = g.V.Files.state c.delete.new.self in delete_goes s t c.in-Err.why c.in-Err.ensures.kept;
-  told = told_so AreOfPage (g.V.Files.state c.args.v.now).layout (g.M.Machine.now c.delete.new.m).image c.in-Err.why c.ended_by.result c.ended_by.ensures.is
-      (told_of (g.V.Files.state c.args.v.now) (g.V.Files.state c.delete.new.self) (g.V.Files.resident c.args.v.now) (g.M.Machine.now c.args.m.now) (g.M.Machine.now c.delete.new.m) c.in-Err.ensures.state.layout c.in-Err.why (c.in-Err.ensures.causes h));
-}
-
--- ---- what is written
-
-pub returns-in-Err-clause-written : goal.returns-in-Err-clause-written
-returns-in-Err-clause-written g c t =
-    let s = g.V.Files.state c.args.v.now in
-    refused_written (change_len s) (g.M.Machine.ledger c.args.m.now) (g.M.Machine.ledger c.delete.new.m) c.in-Err.why c.ended_by.result c.ended_by.ensures.is (c.in-Err.ensures.counted t)
-
-pub returns-in-Err-clause-because : goal.returns-in-Err-clause-because
-returns-in-Err-clause-because g c h = no_reason (λ a. Unit {0}) c.in-Err.why c.ended_by.result c.ended_by.ensures.is tt
+    let e = c.in-Err.ensures in
+    rw c.ended_by.ensures.is
+    (refused_did M V.state V.holds a b V.resident (Word.Delete key) v w e.rest tt (delete_goes s (V.state w) why e.kept)
+    (down s ∷ delete_all s) why up e.order (delete_down s up why e.order) (λ comes. delete_worn s up comes) e.state (leaves_stay M V.state V.holds a b v (force_writes s.layout) e.disk) e.causes
+    (omega arith) (λ h. delete_refused s up why key (M.now b).image e.order) e.counted (λ h. tt)
+    (λ h k stands.
+    refused_does V.state V.holds (Word.Delete key) v w k (M.now a) (M.now b) (λ met. delete_outcome met (volume_of k) key) (λ met. refl) (λ met. tt) why refl
+    (λ other may. delete_unworn s up why e.order other)
+    (λ is. record { may = refl; worn = delete_worn s up (subst (λ (x : Refusal). Comes (down s ∷ delete_all s) x) is e.order) })
+    (e.done h k stands)))

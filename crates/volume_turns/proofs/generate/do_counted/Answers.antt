@@ -24,7 +24,7 @@ returns-in-Ok-count-clause-steps g c h k f from stood aged held =
     let short = λ (m : g.row.M.Denot) (x : M.honest m). g.met.M.Machine.short m x in
     let at = seat_wears V.state V.holds g.met.V.Files.wears (v, no_desk) k from (M.now a) (subst (λ (w : Windows). AreShort w) aged.windows (short a first)) aged stood in
     let w = c.answer.new.v in
-    let does = plain_does V.state V.holds c.args.c.now v w no_desk k (M.now a) (M.now c.answer.new.m) at (desk_holds V.state V.holds v w no_desk k (M.now a) (M.now c.answer.new.m) at (desk_on (V.state v) (V.state c.answer.new.v) no_desk c.answer.ensures.layout c.answer.ensures.open c.requires.idle)) (Ok c.in-Ok.answer) (c.in-Ok.ensures.done h (known_of k) at.stands) in
+    let does = plain_does V.state V.holds c.args.c.now v w no_desk k (M.now a) (M.now c.answer.new.m) at (desk_holds V.state V.holds v w no_desk k (M.now a) (M.now c.answer.new.m) at (desk_on (V.state v) (V.state c.answer.new.v) no_desk c.answer.ensures.layout c.answer.ensures.opened c.requires.idle)) (Ok c.in-Ok.answer) (c.in-Ok.ensures.done h (known_of k) at.stands) in
     counted_step V.state V.holds M g.met.V.Files.wears short (timed_by M g.met.M.Machine.dated g.met.M.Machine.history g.met.M.Machine.counts_now g.met.M.Machine.only_now) c.args.c.now v c.answer.new.v a c.answer.new.m k f from stood aged at _ disk c.in-Ok.ensures.layout h held
     does.0 (reply_of c.in-Ok.answer) does.1 does.2 c.args.tally.now c.in-Ok-count.tally c.in-Ok-count.ensures.ok
 
@@ -39,7 +39,7 @@ returns-in-Ok-clause-steps g c h k f from stood aged held =
     let short = λ (m : g.row.M.Denot) (x : M.honest m). g.met.M.Machine.short m x in
     let at = seat_wears V.state V.holds g.met.V.Files.wears (v, no_desk) k from (M.now a) (subst (λ (w : Windows). AreShort w) aged.windows (short a first)) aged stood in
     let w = c.answer.new.v in
-    let does = plain_does V.state V.holds c.args.c.now v w no_desk k (M.now a) (M.now c.answer.new.m) at (desk_holds V.state V.holds v w no_desk k (M.now a) (M.now c.answer.new.m) at (desk_on (V.state v) (V.state c.answer.new.v) no_desk c.answer.ensures.layout c.answer.ensures.open c.requires.idle)) (Ok c.in-Ok.answer) (c.in-Ok.ensures.done h (known_of k) at.stands) in
+    let does = plain_does V.state V.holds c.args.c.now v w no_desk k (M.now a) (M.now c.answer.new.m) at (desk_holds V.state V.holds v w no_desk k (M.now a) (M.now c.answer.new.m) at (desk_on (V.state v) (V.state c.answer.new.v) no_desk c.answer.ensures.layout c.answer.ensures.opened c.requires.idle)) (Ok c.in-Ok.answer) (c.in-Ok.ensures.done h (known_of k) at.stands) in
     counted_none V.state V.holds M g.met.V.Files.wears short (timed_by M g.met.M.Machine.dated g.met.M.Machine.history g.met.M.Machine.counts_now g.met.M.Machine.only_now) c.args.c.now v c.answer.new.v a c.answer.new.m k f from stood aged at _ disk c.in-Ok.ensures.layout h held
     does.0 (reply_of c.in-Ok.answer) does.1 does.2 c.in-Err-count.fault c.in-Err-count.ensures.err
 
@@ -53,7 +53,7 @@ returns-clause-steps g c h k f from stood aged held =
     let first = disk.trust.honest h in
     let short = λ (m : g.row.M.Denot) (x : M.honest m). g.met.M.Machine.short m x in
     let at = seat_wears V.state V.holds g.met.V.Files.wears (v, no_desk) k from (M.now a) (subst (λ (w : Windows). AreShort w) aged.windows (short a first)) aged stood in
-    counted_fault V.state V.holds M g.met.V.Files.wears short (timed_by M g.met.M.Machine.dated g.met.M.Machine.history g.met.M.Machine.counts_now g.met.M.Machine.only_now) c.args.c.now v c.answer.new.v a c.answer.new.m k f from stood aged at _ disk c.in-Err.ensures.layout h held c.in-Err.fault (plain_does V.state V.holds c.args.c.now v c.answer.new.v no_desk k (M.now a) (M.now c.answer.new.m) at (desk_holds V.state V.holds v c.answer.new.v no_desk k (M.now a) (M.now c.answer.new.m) at (desk_on (V.state v) (V.state c.answer.new.v) no_desk c.answer.ensures.layout c.answer.ensures.open c.requires.idle)) (Err c.in-Err.fault) (c.in-Err.ensures.done h (known_of k) at.stands))
+    counted_fault V.state V.holds M g.met.V.Files.wears short (timed_by M g.met.M.Machine.dated g.met.M.Machine.history g.met.M.Machine.counts_now g.met.M.Machine.only_now) c.args.c.now v c.answer.new.v a c.answer.new.m k f from stood aged at _ disk c.in-Err.ensures.layout h held c.in-Err.fault (plain_does V.state V.holds c.args.c.now v c.answer.new.v no_desk k (M.now a) (M.now c.answer.new.m) at (desk_holds V.state V.holds v c.answer.new.v no_desk k (M.now a) (M.now c.answer.new.m) at (desk_on (V.state v) (V.state c.answer.new.v) no_desk c.answer.ensures.layout c.answer.ensures.opened c.requires.idle)) (Err c.in-Err.fault) (c.in-Err.ensures.done h (known_of k) at.stands))
 
 pub returns-in-Ok-clause-fault : goal.returns-in-Ok-clause-fault
 returns-in-Ok-clause-fault g c = subst IsOfCall (sym c.in-Err-count.ensures.err) tt
@@ -105,10 +105,10 @@ returns-clause-used g c is h =
 -- ---- nobody has anything open
 
 pub returns-in-Ok-count-clause-idle : goal.returns-in-Ok-count-clause-idle
-returns-in-Ok-count-clause-idle g c = desk_on (g.V.Files.state c.args.v.now) (g.V.Files.state c.answer.new.v) no_desk c.answer.ensures.layout c.answer.ensures.open c.requires.idle
+returns-in-Ok-count-clause-idle g c = desk_on (g.V.Files.state c.args.v.now) (g.V.Files.state c.answer.new.v) no_desk c.answer.ensures.layout c.answer.ensures.opened c.requires.idle
 
 pub returns-in-Ok-clause-idle : goal.returns-in-Ok-clause-idle
-returns-in-Ok-clause-idle g c = desk_on (g.V.Files.state c.args.v.now) (g.V.Files.state c.answer.new.v) no_desk c.answer.ensures.layout c.answer.ensures.open c.requires.idle
+returns-in-Ok-clause-idle g c = desk_on (g.V.Files.state c.args.v.now) (g.V.Files.state c.answer.new.v) no_desk c.answer.ensures.layout c.answer.ensures.opened c.requires.idle
 
 pub returns-clause-idle : goal.returns-clause-idle
-returns-clause-idle g c = desk_on (g.V.Files.state c.args.v.now) (g.V.Files.state c.answer.new.v) no_desk c.answer.ensures.layout c.answer.ensures.open c.requires.idle
+returns-clause-idle g c = desk_on (g.V.Files.state c.args.v.now) (g.V.Files.state c.answer.new.v) no_desk c.answer.ensures.layout c.answer.ensures.opened c.requires.idle

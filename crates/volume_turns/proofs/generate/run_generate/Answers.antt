@@ -11,20 +11,20 @@ use Rattle.client_desk.proofs.DeskLaws.{desk_fresh}
 use Rattle.volume_turns.proofs.generate.run_generate.Goals as goal
 
 pub generate_on-requires-clause-idle : goal.generate_on-requires-clause-idle
-generate_on-requires-clause-idle g c = let fresh = c.in-Ok.ensures.fresh in desk_fresh (g.V.Files.state c.in-Ok.v) fresh.unfinished fresh.readers
+generate_on-requires-clause-idle g c = let fresh = c.in-Ok.ensures.opens.fresh in desk_fresh (g.V.Files.state c.in-Ok.v) fresh.unfinished fresh.readers
 
 pub returns-in-Ok : goal.returns-in-Ok
 returns-in-Ok g c =
     let M = g.M.Machine in
     let e = c.in-Ok.ensures in
     let does = c.generate_on.ensures in
-    let x : RunsOver g.V.Files.state M c.args.sectors c.in-Ok.v c.args.m.now c.mount.new.m c.generate_on.new.m = record { disk = e.disk; fresh = e.fresh; found = e.found; rest = e.rest; trust = does.trust } in
+    let x : RunsOver g.V.Files.state M c.args.sectors c.in-Ok.v c.args.m.now c.mount.new.m c.generate_on.new.m = record { disk = e.disk; fresh = e.opens.fresh; found = λ h. (e.tells h).found; rest = λ h. (e.heals h).rest; trust = does.trust } in
     record {
       ledger = λ t. over_writes x t (does.ledger t);
       status = does.status;
       counts = over_counts x does.counts;
       trust = over_trust x;
-      image = λ h. over_image x false AreOfPage (Some c.args.count) c.generate_on.result h (λ three. does.says three h) (λ nine. new_may c.args.count (g.V.Files.state c.in-Ok.v) e.fresh (does.spent nine h));
+      image = λ h. over_image x false AreOfPage (Some c.args.count) c.generate_on.result h (λ three. does.says three h) (λ nine. new_may c.args.count (g.V.Files.state c.in-Ok.v) e.opens.fresh (does.spent nine h));
       last = does.last;
       all = λ zero h. subst (λ (before : List ℕ). SaysMade c.args.count before (M.now c.generate_on.new.m)) (over_said x h) (does.all zero h);
       leaves = λ h input rest l windows changes f at held.
@@ -40,7 +40,7 @@ returns-in-Err g c =
     let line = c.end_with.ensures in
     let status = c.end_with.result in
     let x : RefusedBy M c.args.sectors c.in-Err.fault why c.args.m.now c.mount.new.m c.end_with.new.m status =
-    record { disk = e.disk; refused = e.refused; kept = e.unchanged; rest = e.rest; lost = e.lost; unsound = e.unsound; is = c.fault_of.ensures; says = line.says; ends = line.ends; for = line.status } in
+    record { disk = e.disk; refused = λ h. (e.tells h).refused; kept = λ h. (e.tells h).unchanged; rest = λ h. (e.heals h).rest; lost = λ h. (e.tells h).lost; unsound = λ h. (e.tells h).unsound; is = c.fault_of.ensures; says = line.says; ends = line.ends; for = line.status } in
     record {
       ledger = λ t. refused_writes x t (line.ledger t);
       status = fault_is_made why status (refused_of x) line.status;

@@ -14,14 +14,14 @@ use Rattle.volume_turns.proofs.UpgradeLaws.{new_fresh}
 use Rattle.volume_turns.proofs.input.run_put.Goals as goal
 
 pub put_on-requires-clause-fresh : goal.put_on-requires-clause-fresh
-put_on-requires-clause-fresh g c = new_fresh (g.V.Files.state c.in-Ok.v) c.in-Ok.ensures.fresh
+put_on-requires-clause-fresh g c = new_fresh (g.V.Files.state c.in-Ok.v) c.in-Ok.ensures.opens.fresh
 
 pub returns-in-Ok : goal.returns-in-Ok
 returns-in-Ok g c =
     let M = g.M.Machine in
     let e = c.in-Ok.ensures in
     let does = c.put_on.ensures in
-    let x : RunsOver g.V.Files.state M c.args.sectors c.in-Ok.v c.args.m.now c.mount.new.m c.put_on.new.m = record { disk = e.disk; fresh = e.fresh; found = e.found; rest = e.rest; trust = does.trust } in
+    let x : RunsOver g.V.Files.state M c.args.sectors c.in-Ok.v c.args.m.now c.mount.new.m c.put_on.new.m = record { disk = e.disk; fresh = e.opens.fresh; found = λ h. (e.tells h).found; rest = λ h. (e.heals h).rest; trust = does.trust } in
     record {
       attaches = λ t. over_attaches x t (does.attaches t);
       status = does.status;
@@ -35,7 +35,7 @@ returns-in-Ok g c =
       last = does.last;
       one = λ h.
           subst (λ (input : List ℕ). SaysOne (Word.Put c.args.name input c.args.keep) (M.now c.args.m.now) (M.now c.put_on.new.m) c.put_on.result) (over_input x (g.met.M.Machine.honest_tells c.put_on.new.m h))
-          (one_since _ (M.now c.args.m.now) (M.now c.mount.new.m) (M.now c.put_on.new.m) c.put_on.result (over_said x h) (does.one h e.fresh.dirty));
+          (one_since _ (M.now c.args.m.now) (M.now c.mount.new.m) (M.now c.put_on.new.m) c.put_on.result (over_said x h) (does.one h e.opens.fresh.dirty));
       leaves = λ h l windows changes f at held.
           over_leaves x g.V.Files.holds (Put c.args.name c.args.keep) (M.ledger c.args.m.now).input (M.ledger c.put_on.new.m).input l windows changes f c.put_on.result h does.since (λ y t. g.met.M.Machine.counts_now y t) (timed_by M g.met.M.Machine.dated g.met.M.Machine.history g.met.M.Machine.counts_now g.met.M.Machine.only_now) held (e.sound (does.trust.honest h) l windows changes f at)
           (λ k none idle stands disk. subst (λ (input : List ℕ). RunsOut M (Put c.args.name c.args.keep) input (M.ledger c.put_on.new.m).input (M.report c.mount.new.m) k c.mount.new.m c.put_on.new.m c.put_on.result) (over_input x (g.met.M.Machine.honest_tells c.put_on.new.m h)) (does.runs h k none idle stands disk));
@@ -49,7 +49,7 @@ returns-in-Err g c =
     let line = c.end_with.ensures in
     let status = c.end_with.result in
     let x : RefusedBy M c.args.sectors c.in-Err.fault why c.args.m.now c.mount.new.m c.end_with.new.m status =
-    record { disk = e.disk; refused = e.refused; kept = e.unchanged; rest = e.rest; lost = e.lost; unsound = e.unsound; is = c.fault_of.ensures; says = line.says; ends = line.ends; for = line.status } in
+    record { disk = e.disk; refused = λ h. (e.tells h).refused; kept = λ h. (e.tells h).unchanged; rest = λ h. (e.heals h).rest; lost = λ h. (e.tells h).lost; unsound = λ h. (e.tells h).unsound; is = c.fault_of.ensures; says = line.says; ends = line.ends; for = line.status } in
     record {
       attaches = λ t. (refused_writes x t (line.ledger t)).attaches;
       status = fault_is_put why status (refused_of x) line.status;

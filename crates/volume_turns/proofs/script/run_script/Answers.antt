@@ -15,7 +15,7 @@ use Rattle.client_desk.proofs.DeskLaws.{desk_fresh}
 use Rattle.volume_turns.proofs.script.run_script.Goals as goal
 
 pub script_on-requires-clause-idle : goal.script_on-requires-clause-idle
-script_on-requires-clause-idle g c = let fresh = c.in-Ok.ensures.fresh in desk_fresh (g.V.Files.state c.in-Ok.v) fresh.unfinished fresh.readers
+script_on-requires-clause-idle g c = let fresh = c.in-Ok.ensures.opens.fresh in desk_fresh (g.V.Files.state c.in-Ok.v) fresh.unfinished fresh.readers
 
 pub returns-in-Ok : goal.returns-in-Ok
 returns-in-Ok g c =
@@ -24,7 +24,7 @@ returns-in-Ok g c =
     let b = c.script_on.new.m in
     let e = c.in-Ok.ensures in
     let does = c.script_on.ensures in
-    let x : RunsOver g.V.Files.state M c.args.sectors c.in-Ok.v c.args.m.now c.mount.new.m c.script_on.new.m = record { disk = e.disk; fresh = e.fresh; found = e.found; rest = e.rest; trust = does.trust } in
+    let x : RunsOver g.V.Files.state M c.args.sectors c.in-Ok.v c.args.m.now c.mount.new.m c.script_on.new.m = record { disk = e.disk; fresh = e.opens.fresh; found = λ h. (e.tells h).found; rest = λ h. (e.heals h).rest; trust = does.trust } in
     record {
       attaches = λ t. over_attaches x t (does.attaches t);
       status = does.status;
@@ -37,7 +37,7 @@ returns-in-Ok g c =
           subst (λ (before : List ℕ). SaysBadLine (M.left_since b t) (M.ledger c.args.m.now).input before (M.now b)) (over_said x h)
           (subst (λ (input : List ℕ). SaysBadLine (M.left_since b t) input (M.now m).said (M.now b)) (over_input x (g.met.M.Machine.honest_tells b h)) (does.bad two h t (omega (arith, le, reached))));
       trust = over_trust x;
-      image = λ h. over_image x true AreOfPage None c.script_on.result h (λ three. does.says three h) (λ nine. let many = new_may (max_input + 1) (g.V.Files.state c.in-Ok.v) e.fresh (does.spent nine h) in omega (arith, many));
+      image = λ h. over_image x true AreOfPage None c.script_on.result h (λ three. does.says three h) (λ nine. let many = new_may (max_input + 1) (g.V.Files.state c.in-Ok.v) e.opens.fresh (does.spent nine h) in omega (arith, many));
       last = does.last;
       all = λ zero h t le. let reached = e.disk.later (does.trust.honest h) in
           subst (λ (before : List ℕ). SaysForced reply_text (M.left_since b t) (script_in (M.ledger c.args.m.now).input).0 before (M.now b).said) (over_said x h)
@@ -55,7 +55,7 @@ returns-in-Err g c =
     let line = c.end_with.ensures in
     let status = c.end_with.result in
     let x : RefusedBy M c.args.sectors c.in-Err.fault why c.args.m.now c.mount.new.m c.end_with.new.m status =
-    record { disk = e.disk; refused = e.refused; kept = e.unchanged; rest = e.rest; lost = e.lost; unsound = e.unsound; is = c.fault_of.ensures; says = line.says; ends = line.ends; for = line.status } in
+    record { disk = e.disk; refused = λ h. (e.tells h).refused; kept = λ h. (e.tells h).unchanged; rest = λ h. (e.heals h).rest; lost = λ h. (e.tells h).lost; unsound = λ h. (e.tells h).unsound; is = c.fault_of.ensures; says = line.says; ends = line.ends; for = line.status } in
     record {
       attaches = λ t. (refused_writes x t (line.ledger t)).attaches;
       status = fault_is_script why status (refused_of x) line.status;

@@ -13,7 +13,7 @@ returns-in-Plain g c =
     let old = M.now c.args.m.now in
     let now = M.now c.answer.new.m in
     let does = c.answer.ensures in
-    let of = desk_on (V.state v) (V.state w) desk does.layout does.open c.requires.desk in
+    let of = desk_on (V.state v) (V.state w) desk does.layout does.opened c.requires.desk in
     rw c.in-Plain.is (record {
       layout = does.layout;
       up = does.up;

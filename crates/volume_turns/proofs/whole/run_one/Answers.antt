@@ -9,14 +9,14 @@ use Rattle.volume_turns.proofs.UpgradeLaws.{new_fresh}
 use Rattle.volume_turns.proofs.whole.run_one.Goals as goal
 
 pub one_on-requires-clause-fresh : goal.one_on-requires-clause-fresh
-one_on-requires-clause-fresh g c = new_fresh (g.V.Files.state c.in-Ok.v) c.in-Ok.ensures.fresh
+one_on-requires-clause-fresh g c = new_fresh (g.V.Files.state c.in-Ok.v) c.in-Ok.ensures.opens.fresh
 
 pub returns-in-Ok : goal.returns-in-Ok
 returns-in-Ok g c =
     let M = g.M.Machine in
     let e = c.in-Ok.ensures in
     let does = c.one_on.ensures in
-    let x : RunsOver g.V.Files.state M c.args.sectors c.in-Ok.v c.args.m.now c.mount.new.m c.one_on.new.m = record { disk = e.disk; fresh = e.fresh; found = e.found; rest = e.rest; trust = does.trust } in
+    let x : RunsOver g.V.Files.state M c.args.sectors c.in-Ok.v c.args.m.now c.mount.new.m c.one_on.new.m = record { disk = e.disk; fresh = e.opens.fresh; found = λ h. (e.tells h).found; rest = λ h. (e.heals h).rest; trust = does.trust } in
     record {
       ledger = λ t. over_writes x t (does.ledger t);
       status = does.status;
@@ -24,7 +24,7 @@ returns-in-Ok g c =
       trust = over_trust x;
       image = λ h. over_image x false (MayLose c.args.c.now) None c.one_on.result h (λ three. does.says three h) (λ nine. does.unspent nine h);
       last = does.last;
-      one = λ h. over_one x c.args.c.now c.one_on.result h (does.one h e.fresh.dirty);
+      one = λ h. over_one x c.args.c.now c.one_on.result h (does.one h e.opens.fresh.dirty);
       leaves = λ h rest l windows changes f at held.
           over_leaves x g.V.Files.holds (One c.args.c.now) [] rest l windows changes f c.one_on.result h does.since (λ y t. g.met.M.Machine.counts_now y t) (timed_by M g.met.M.Machine.dated g.met.M.Machine.history g.met.M.Machine.counts_now g.met.M.Machine.only_now) held (e.sound (does.trust.honest h) l windows changes f at)
           (λ k none idle stands disk. does.runs h rest k none idle stands disk);
@@ -38,7 +38,7 @@ returns-in-Err g c =
     let line = c.end_with.ensures in
     let status = c.end_with.result in
     let x : RefusedBy M c.args.sectors c.in-Err.fault why c.args.m.now c.mount.new.m c.end_with.new.m status =
-    record { disk = e.disk; refused = e.refused; kept = e.unchanged; rest = e.rest; lost = e.lost; unsound = e.unsound; is = c.fault_of.ensures; says = line.says; ends = line.ends; for = line.status } in
+    record { disk = e.disk; refused = λ h. (e.tells h).refused; kept = λ h. (e.tells h).unchanged; rest = λ h. (e.heals h).rest; lost = λ h. (e.tells h).lost; unsound = λ h. (e.tells h).unsound; is = c.fault_of.ensures; says = line.says; ends = line.ends; for = line.status } in
     record {
       ledger = λ t. refused_writes x t (line.ledger t);
       status = fault_is_one c.args.c.now why status (refused_of x) line.status;
