@@ -8,8 +8,8 @@ const FORMAT: &str = "cfs format v 2048 256 64";
 
 const SCRIPT: &str = "cfs script v";
 
-// These bytes one behind another.
-fn joined(alloc: Global, parts: &[&[u8]]) -> Result<Vec<u8>, AllocError> {
+/// These bytes one behind another.
+pub(crate) fn joined(alloc: Global, parts: &[&[u8]]) -> Result<Vec<u8>, AllocError> {
     let mut all = Vec::new(alloc);
     for part in parts {
         for byte in part.iter() {

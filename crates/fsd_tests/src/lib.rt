@@ -47,4 +47,6 @@ mod upgrades;
 #[cfg(test)]
 mod waiting;
 #[cfg(test)]
+mod watched;
+#[cfg(test)]
 mod wear;
