@@ -1,25 +1,27 @@
 -- A force that comes round to the log's first third.
-use Rattle.std.specs.Prelude.{◌≡◌, ⊤, false, ℕ, ◌<◌, List, [], ◌∷◌, length, Ok}
+use Rattle.std.specs.Prelude.{◌≡◌, ⊤, false, ℕ, ◌+◌, ◌*◌, ◌<◌, List, [], ◌∷◌, length, Ok}
 use Rattle.volume_layout.specs.declared.layout.Layout.{Layout}
 use Rattle.volume_layout.specs.Layout.{plan}
 use Rattle.volume_layout.specs.Kinds.{gap_of}
 use Rattle.sector_disk.specs.declared.sector.WeakRun.{WeakRun}
 use Rattle.sector_disk.specs.Image.{sector_at}
-use Rattle.sector_disk.specs.Damage.{LostCause}
+use Rattle.sector_disk.specs.Damage.{IsDevice, LostCause}
 use Rattle.sector_disk.specs.declared.machine.LoadFault.{LoadFault}
 use Rattle.sector_disk.specs.declared.machine.LoadFault.TheVariants.{Device, Lost}
-use Rattle.sector_disk.specs.Machine.{Moment, Holds}
-use Rattle.fsd_log.specs.Scan.{Placed}
+use Rattle.sector_disk.specs.declared.machine.Machine.{Ghosts}
+use Rattle.sector_disk.specs.Machine.{Moment, Holds, wrote}
+use Rattle.sector_disk.specs.Written.{WroteMost}
+use Rattle.fsd_log.specs.Scan.{HasRoom, Placed}
 use Rattle.fsd_files.specs.Disk.{Image}
 use Rattle.fsd_sound.specs.Laid.{HasOwnLog}
 use Rattle.fsd_sound.specs.Mounted.{image_at}
 use Rattle.fsd_sound.specs.Sound.{EndIn, ShowsPages, weak_of}
-use Rattle.log_thirds.specs.Append.{IsIndexed, LastLiesIn}
+use Rattle.log_thirds.specs.Append.{IsIndexed, LastLiesIn, stamp_now}
 use Rattle.log_thirds.specs.Images.{AreOfLogged}
 use Rattle.log_thirds.specs.LogValue.{LogValue, FitsLayout}
 use Rattle.log_thirds.specs.Moving.{moved, records_moved}
 use Rattle.group_commit.specs.Force.{MayWrite, KeepsOutside}
-use Rattle.group_commit.specs.Room.{goes_before}
+use Rattle.group_commit.specs.Room.{goes_before, log_before, pages_in_first, sectors_before}
 use Rattle.fsd_sound.specs.Windows.{IsApart}
 use Rattle.fsd_sound.specs.Homes.{IsAtHome}
 
@@ -82,3 +84,44 @@ pub record HasRoomNow (log : LogValue) (disk : List (List ℕ)) (windows : List 
   pub records : List Placed
   pub over : OwnsLog log records disk windows new.image
   pub outside : KeepsOutside log.layout old new
+
+-- ---- what the calls that come round to it say
+
+-- Some of the homes are written. A page is lost only where both sectors of its last image in the log read damaged, and
+-- over a disk that shows pages none is.
+pub record HomesInPart {D : Type 0} (M : Ghosts D) (log : LogValue) (most : ℕ) (old new : D) (fault : LoadFault) : Type 0 where
+  pub counted : M.tells new → WroteMost most (M.ledger old) (M.ledger new)
+  pub lost : M.honest new → LosesLogged log (M.now new).image fault
+  pub never_lost : (records : List Placed) (disk : List (List ℕ)) (windows : List WeakRun) → M.honest new → MayHome log windows (M.now old) →
+      OwnsLog log records disk windows (M.now old).image → IsDevice fault
+
+-- The homes and both anchors are written, and the log is what lies behind the first third.
+pub record Enters {D : Type 0} (M : Ghosts D) (log after : LogValue) (old new : D) : Type 0 where
+  pub past : after ≡ moved log
+  pub counted : M.tells new → M.ledger new ≡ wrote (M.ledger old) (2 * pages_in_first log + 2)
+  pub shows : (records : List Placed) (disk : List (List ℕ)) (windows : List WeakRun) → M.honest new → MayHome log windows (M.now old) →
+      OwnsLog log records disk windows (M.now old).image → IsEntered log records disk windows (M.now old) (M.now new)
+
+-- The log is as it was.
+pub record EntersNot {D : Type 0} (M : Ghosts D) (log after : LogValue) (old new : D) (fault : LoadFault) : Type 0 where
+  pub kept : after ≡ log
+  pub homes : HomesInPart M log (2 * pages_in_first log + 2) old new fault
+
+-- There is room in the log for a record of so many pages.
+pub record MakesRoom {D : Type 0} (M : Ghosts D) (log after : LogValue) (count : ℕ) (old new : D) : Type 0 where
+  pub past : after ≡ log_before log count
+  pub room : HasRoom after.layout count after.head
+  pub counted : M.tells new → (M.ledger new).written ≡ (M.ledger old).written + sectors_before log count
+  pub shows : (records : List Placed) (disk : List (List ℕ)) (windows : List WeakRun) → M.honest new → MayHome log windows (M.now old) →
+      OwnsLog log records disk windows (M.now old).image → HasRoomNow after disk windows (M.now old) (M.now new)
+
+-- The log is as it was, and such a record would enter its first third.
+pub record MakesNoRoom {D : Type 0} (M : Ghosts D) (log after : LogValue) (count : ℕ) (old new : D) (fault : LoadFault) : Type 0 where
+  pub kept : after ≡ log
+  pub enters : goes_before log count ≡ false
+  pub homes : HomesInPart M log (sectors_before log count) old new fault
+
+-- The layout and the next record's stamp stay.
+pub record KeepsForm (log after : LogValue) : Type 0 where
+  pub layout : after.layout ≡ log.layout
+  pub stamp : stamp_now after ≡ stamp_now log

@@ -1,4 +1,5 @@
 pub mod Cached
+pub mod Commit
 pub mod Entering
 pub mod Force
 pub mod Forces

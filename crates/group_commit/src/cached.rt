@@ -1,9 +1,8 @@
 //! The force of the dirty pages of a cache.
-ghost use Rattle.std.specs.Prelude.{◌≡◌, ◌⊎◌, ◌<◌, ◌≤◌, ◌^◌, ◌-◌, ◌+◌, ℕ, true, List, [], length, take, slice_index, Some, ◌*◌, IsTrue, EachIndex, IfSome, IfOk, IfErr, OnOk, OnErr};
+ghost use Rattle.std.specs.Prelude.{◌≡◌, ◌<◌, ◌≤◌, ◌^◌, ◌-◌, ◌+◌, ℕ, true, List, [], length, take, slice_index, Some, ◌*◌, IsTrue, EachIndex, IfSome, IfOk, IfErr, OnOk};
 ghost use Rattle.sector_disk.specs.Damage.{IsDevice};
 ghost use Rattle.sector_disk.specs.declared.sector.WeakRun.{WeakRun};
 ghost use Rattle.sector_disk.specs.Calls.{WritesDisk, device_in, load_failed_at};
-ghost use Rattle.sector_disk.specs.Written.{WroteMost};
 ghost use Rattle.fsd_log.specs.Judged.{slice_of};
 ghost use Rattle.fsd_log.specs.Scan.{Placed};
 ghost use Rattle.fsd_sound.specs.Sound.{EndIn};
@@ -12,14 +11,14 @@ ghost use Rattle.volume_layout.specs.Kinds.{gap_of};
 ghost use Rattle.fsd_formats.specs.Record.{max_pages, AreStamped, are_pages, record_len};
 ghost use Rattle.fsd_log.specs.Laid.{slices};
 ghost use Rattle.log_thirds.specs.Append.{stamp_now, log_with};
-ghost use Rattle.page_cache.specs.Cache.{IsCache, IsResident, bytes_of, cleaned};
+ghost use Rattle.page_cache.specs.Cache.{IsCache, IsResident, bytes_of};
 ghost use Rattle.group_commit.specs.Resident.{IsImageOf, stamped};
 ghost use Rattle.group_commit.specs.Room.{log_before, sectors_before};
-ghost use Rattle.group_commit.specs.Entering.{RecordCause, LosesLogged};
-ghost use Rattle.group_commit.specs.Force.{sectors_written, stamped_by, log_forced, StandsOver, Committed, KeepsOutside};
+ghost use Rattle.group_commit.specs.Commit.{ForceFails, Forces, RecordFails};
+ghost use Rattle.group_commit.specs.Force.{StandsOver, Committed, KeepsOutside};
 ghost use Rattle.group_commit.specs.Logged.{StandsLogged};
 ghost use Rattle.group_commit.specs.Newest.{KnowsImages};
-ghost use Rattle.group_commit.specs.Cached.{AgreesWith, AreWaiting, CacheLeaves, FramesLeave, HasImages, ascending_of, stamped_for, stamped_frames, with_waiting};
+ghost use Rattle.group_commit.specs.Cached.{AgreesWith, AreWaiting, CacheLeaves, FramesLeave, HasImages, ascending_of, stamped_frames};
 
 use crate::force::{Forced, Group};
 use crate::frames::{lay_frames, stamp_frames};
@@ -61,13 +60,10 @@ fn write_frames<M: Machine>(
     requires sectors { log.old.layout.sectors ≤ (M.report m.old).sectors }
     ensures disk { WritesDisk M.Machine (device_in load_failed_at result) (FramesLeave log.old cache.old waiting.now) m.old m.new }
     ensures rest { M.honest m.new → KeepsOutside log.old.layout (M.now m.old) (M.now m.new) }
-    ensures cause { IfErr result (RecordCause log.old (length waiting.now)) }
     ensures counted { OnOk result (M.tells m.new → (M.ledger m.new).written ≡ (M.ledger m.old).written + (sectors_before log.old (length waiting.now) + record_len (gap_of log.old.layout) (length waiting.now))) }
-    ensures counted_err { OnErr result (M.tells m.new → WroteMost (sectors_before log.old (length waiting.now)) (M.ledger m.old) (M.ledger m.new)) }
     ensures cache { cache.new ≡ stamped_frames (stamp_now log.old) waiting.now cache.old }
     ensures past { OnOk result (log.new ≡ log_with (log_before log.old (length waiting.now)) waiting.now) }
-    ensures past_err { OnErr result ((log.new ≡ log.old) ⊎ ((log.new ≡ log_before log.old (length waiting.now)) × (M.tells m.new → (M.ledger m.new).written ≡ (M.ledger m.old).written + sectors_before log.old (length waiting.now)))) }
-    ensures lost { IfErr result (λ fault. M.honest m.new → LosesLogged log.old (M.now m.new).image fault) }
+    ensures failed { IfErr result (RecordFails M.Machine log.old log.new (length waiting.now) m.old m.new) }
     ensures never_lost { IfErr result (λ fault. (pages : List (List ℕ)) (windows : List WeakRun) (records : List Placed) (disk : List (List ℕ)) →
         AgreesWith log.old.layout cache.old pages → M.honest m.new → EndIn (M.now m.old).windows windows →
         StandsOver log.old records disk (record { pages = pages; dirty = waiting.now }) windows (M.now m.old).image →
@@ -103,31 +99,10 @@ fn force_waiting<M: Machine>(
     requires sectors { log.old.layout.sectors ≤ (M.report m.old).sectors }
     ensures disk { WritesDisk M.Machine (device_in load_failed_at result) (CacheLeaves log.old cache.old) m.old m.new }
     ensures rest { M.honest m.new → KeepsOutside log.old.layout (M.now m.old) (M.now m.new) }
-    ensures cause { IfErr result (RecordCause log.old (length cache.old.dirty)) }
-    ensures pages { IfOk result (λ forced. forced.pages ≡ length cache.old.dirty) }
-    ensures counted { OnOk result (M.tells m.new → (M.ledger m.new).written ≡ (M.ledger m.old).written + sectors_written log.old cache.old.dirty) }
-    ensures counted_err { OnErr result (M.tells m.new → WroteMost (sectors_before log.old (length cache.old.dirty)) (M.ledger m.old) (M.ledger m.new)) }
     ensures idle { cache.old.dirty ≡ [] → m.new ≡ m.old }
-    ensures cache { OnOk result (cache.new ≡ cleaned (stamped_for log.old cache.old)) }
-    ensures cache_err { OnErr result (cache.new ≡ stamped_for log.old cache.old) }
-    ensures log { OnOk result (log.new ≡ log_forced log.old (ascending_of cache.old.dirty)) }
-    ensures log_err { OnErr result ((log.new ≡ log.old) ⊎ ((log.new ≡ log_before log.old (length cache.old.dirty)) × (M.tells m.new → (M.ledger m.new).written ≡ (M.ledger m.old).written + sectors_before log.old (length cache.old.dirty)))) }
     ensures layout { log.new.layout ≡ log.old.layout }
-    ensures lost { IfErr result (λ fault. M.honest m.new → LosesLogged log.old (M.now m.new).image fault) }
-    ensures never_lost { IfErr result (λ fault. (pages : List (List ℕ)) (windows : List WeakRun) (records : List Placed) (disk : List (List ℕ)) →
-        AgreesWith log.old.layout cache.old pages → M.honest m.new → EndIn (M.now m.old).windows windows →
-        StandsOver log.old records disk (with_waiting cache.old pages) windows (M.now m.old).image →
-        KnowsImages log.old (M.now m.old).image → IsDevice fault) }
-    ensures done { OnOk result ((pages : List (List ℕ)) (windows : List WeakRun) (records : List Placed) (disk : List (List ℕ)) →
-        AgreesWith log.old.layout cache.old pages → M.honest m.new → EndIn (M.now m.old).windows windows →
-        StandsOver log.old records disk (with_waiting cache.old pages) windows (M.now m.old).image →
-        KnowsImages log.old (M.now m.old).image →
-        Committed log.new (record { pages = stamped_by log.old (with_waiting cache.old pages); dirty = [] }) windows (M.now m.new).image) }
-    ensures knows { OnOk result ((pages : List (List ℕ)) (windows : List WeakRun) (records : List Placed) (disk : List (List ℕ)) →
-        AgreesWith log.old.layout cache.old pages → M.honest m.new → EndIn (M.now m.old).windows windows →
-        StandsOver log.old records disk (with_waiting cache.old pages) windows (M.now m.old).image →
-        KnowsImages log.old (M.now m.old).image → KnowsImages log.new (M.now m.new).image) }
-    ensures logged { OnOk result (M.honest m.new → (page : ℕ) (bytes : List ℕ) → IsTrue (contains cache.old.dirty page) → bytes_of cache.new page ≡ Some bytes → StandsLogged log.new (M.now m.new) page bytes) }
+    ensures done { IfOk result (Forces M.Machine log.old log.new cache.old cache.new m.old m.new) }
+    ensures failed { IfErr result (ForceFails M.Machine log.old log.new cache.old cache.new m.old m.new) }
 {
     let count = waiting.len();
     if count == 0 {
@@ -165,46 +140,10 @@ impl Group {
 
         // Whatever the disk shows, the roots, the map and the data stay but for wear.
         ensures rest { M.honest m.new → KeepsOutside log.old.layout (M.now m.old) (M.now m.new) }
-        ensures cause { IfErr result (RecordCause log.old (length cache.old.dirty)) }
-
-        ensures pages { IfOk result (λ forced. forced.pages ≡ length cache.old.dirty) }
-        ensures counted { OnOk result (M.tells m.new → (M.ledger m.new).written ≡ (M.ledger m.old).written + sectors_written log.old cache.old.dirty) }
-        ensures counted_err { OnErr result (M.tells m.new → WroteMost (sectors_before log.old (length cache.old.dirty)) (M.ledger m.old) (M.ledger m.new)) }
         ensures idle { cache.old.dirty ≡ [] → m.new ≡ m.old }
-
-        // The frames of the dirty pages are stamped, and they are dirty no more; behind a fault they still are.
-        ensures cache { OnOk result (cache.new ≡ cleaned (stamped_for log.old cache.old)) }
-        ensures cache_err { OnErr result (cache.new ≡ stamped_for log.old cache.old) }
-        ensures log { OnOk result (log.new ≡ log_forced log.old (ascending_of cache.old.dirty)) }
-
-        // Behind a fault the log is the old one; or, where the write of the record itself failed,
-        // the one that it goes behind.
-        ensures log_err { OnErr result ((log.new ≡ log.old) ⊎ ((log.new ≡ log_before log.old (length cache.old.dirty)) × (M.tells m.new → (M.ledger m.new).written ≡ (M.ledger m.old).written + sectors_before log.old (length cache.old.dirty)))) }
         ensures layout { log.new.layout ≡ log.old.layout }
-
-        // A page is lost only where both sectors of its last image in the log read damaged,
-        // and over a disk that shows pages none is.
-        ensures lost { IfErr result (λ fault. M.honest m.new → LosesLogged log.old (M.now m.new).image fault) }
-        ensures never_lost { IfErr result (λ fault. (pages : List (List ℕ)) (windows : List WeakRun) (records : List Placed) (disk : List (List ℕ)) →
-            AgreesWith log.old.layout cache.old pages → M.honest m.new → EndIn (M.now m.old).windows windows →
-            StandsOver log.old records disk (with_waiting cache.old pages) windows (M.now m.old).image →
-            KnowsImages log.old (M.now m.old).image → IsDevice fault) }
-
-        // At the end it shows them as they are now.
-        ensures done { OnOk result ((pages : List (List ℕ)) (windows : List WeakRun) (records : List Placed) (disk : List (List ℕ)) →
-            AgreesWith log.old.layout cache.old pages → M.honest m.new → EndIn (M.now m.old).windows windows →
-            StandsOver log.old records disk (with_waiting cache.old pages) windows (M.now m.old).image →
-            KnowsImages log.old (M.now m.old).image →
-            Committed log.new (record { pages = stamped_by log.old (with_waiting cache.old pages); dirty = [] }) windows (M.now m.new).image) }
-
-        // And the log knows where each page's last image lies, as it did before.
-        ensures knows { OnOk result ((pages : List (List ℕ)) (windows : List WeakRun) (records : List Placed) (disk : List (List ℕ)) →
-            AgreesWith log.old.layout cache.old pages → M.honest m.new → EndIn (M.now m.old).windows windows →
-            StandsOver log.old records disk (with_waiting cache.old pages) windows (M.now m.old).image →
-            KnowsImages log.old (M.now m.old).image → KnowsImages log.new (M.now m.new).image) }
-
-        // Whatever the disk shows, the bytes of each page that was dirty stand in the log.
-        ensures logged { OnOk result (M.honest m.new → (page : ℕ) (bytes : List ℕ) → IsTrue (contains cache.old.dirty page) → bytes_of cache.new page ≡ Some bytes → StandsLogged log.new (M.now m.new) page bytes) }
+        ensures done { IfOk result (Forces M.Machine log.old log.new cache.old cache.new m.old m.new) }
+        ensures failed { IfErr result (ForceFails M.Machine log.old log.new cache.old cache.new m.old m.new) }
     {
         let waiting = ascending(cache.dirty_list().as_slice());
         force_waiting(m, log, cache, waiting.as_slice(), room)

@@ -1,18 +1,17 @@
 //! Entering the log's first third again: its pages are written home, and then the anchor moves on.
-ghost use Rattle.std.specs.Prelude.{◌≡◌, ◌≢◌, true, false, ◌<◌, ◌≤◌, ◌+◌, ◌*◌, ◌^◌, ℕ, List, None, slice_index_or, IfErr, OnOk, OnErr};
+ghost use Rattle.std.specs.Prelude.{◌≡◌, ◌≢◌, true, ◌<◌, ◌≤◌, ◌+◌, ◌*◌, ℕ, List, None, slice_index_or, IfErr, OnOk, OnErr};
 ghost use Rattle.sector_disk.specs.Damage.{IsDevice};
 ghost use Rattle.sector_disk.specs.declared.sector.WeakRun.{WeakRun};
 ghost use Rattle.sector_disk.specs.Calls.{WritesDisk, device_in, load_failed_at};
 ghost use Rattle.sector_disk.specs.Machine.{Moment, wrote};
 ghost use Rattle.sector_disk.specs.Written.{WroteMost};
 ghost use Rattle.fsd_formats.specs.Record.{max_pages};
-ghost use Rattle.fsd_log.specs.Scan.{Placed, HasRoom};
+ghost use Rattle.fsd_log.specs.Scan.{Placed};
 ghost use Rattle.log_thirds.specs.Append.{LastLiesIn};
-ghost use Rattle.log_thirds.specs.Moving.{moved, EndsInLastThird};
-ghost use Rattle.log_thirds.specs.Append.{stamp_now};
-ghost use Rattle.group_commit.specs.Room.{goes_before, log_before, pages_in_first, sectors_before};
+ghost use Rattle.log_thirds.specs.Moving.{EndsInLastThird};
+ghost use Rattle.group_commit.specs.Room.{goes_before, pages_in_first};
 ghost use Rattle.group_commit.specs.Force.{KeepsOutside};
-ghost use Rattle.group_commit.specs.Entering.{HasRoomNow, ShowsHoming, ShowsStill, OwnsLog, IsHoming, IsEntered, MayHome, LosesLogged};
+ghost use Rattle.group_commit.specs.Entering.{Enters, EntersNot, HomesInPart, IsHoming, KeepsForm, LosesLogged, MakesNoRoom, MakesRoom, MayHome, OwnsLog, ShowsHoming, ShowsStill};
 
 use log_thirds::{Log, Place};
 use sector_disk::{LoadFault, Machine};
@@ -50,12 +49,9 @@ fn home_third<M: Machine>(m: &mut M, log: &Log, third: u32) -> Result<(), LoadFa
     ensures disk { WritesDisk M.Machine (device_in load_failed_at result) (ShowsStill log.now) m.old m.new }
     ensures rest { M.honest m.new → KeepsOutside log.now.layout (M.now m.old) (M.now m.new) }
     ensures counted { OnOk result (M.tells m.new → M.ledger m.new ≡ wrote (M.ledger m.old) (2 * pages_in_first log.now)) }
-    ensures counted_err { OnErr result (M.tells m.new → WroteMost (2 * pages_in_first log.now) (M.ledger m.old) (M.ledger m.new)) }
     ensures done { OnOk result ((records : List Placed) (disk : List (List ℕ)) (windows : List WeakRun) → M.honest m.new → MayHome log.now windows (M.now m.old) →
         OwnsLog log.now records disk windows (M.now m.old).image → IsHoming log.now records disk windows (M.now m.old) log.now.layout.pages (M.now m.new)) }
-    ensures lost { IfErr result (λ fault. M.honest m.new → LosesLogged log.now (M.now m.new).image fault) }
-    ensures never_lost { IfErr result (λ fault. (records : List Placed) (disk : List (List ℕ)) (windows : List WeakRun) → M.honest m.new → MayHome log.now windows (M.now m.old) →
-        OwnsLog log.now records disk windows (M.now m.old).image → IsDevice fault) }
+    ensures failed { IfErr result (HomesInPart M.Machine log.now (2 * pages_in_first log.now) m.old m.new) }
 {
     let _layout = log.layout();
     let mut from = 0;
@@ -77,15 +73,8 @@ pub(crate) fn enter_third<M: Machine>(m: &mut M, log: &mut Log, third: u32) -> R
     requires sectors { log.old.layout.sectors ≤ (M.report m.old).sectors }
     ensures disk { WritesDisk M.Machine (device_in load_failed_at result) (ShowsStill log.old) m.old m.new }
     ensures rest { M.honest m.new → KeepsOutside log.old.layout (M.now m.old) (M.now m.new) }
-    ensures counted { OnOk result (M.tells m.new → M.ledger m.new ≡ wrote (M.ledger m.old) (2 * pages_in_first log.old + 2)) }
-    ensures counted_err { OnErr result (M.tells m.new → WroteMost (2 * pages_in_first log.old + 2) (M.ledger m.old) (M.ledger m.new)) }
-    ensures done { OnOk result ((records : List Placed) (disk : List (List ℕ)) (windows : List WeakRun) → M.honest m.new → MayHome log.old windows (M.now m.old) →
-        OwnsLog log.old records disk windows (M.now m.old).image → IsEntered log.old records disk windows (M.now m.old) (M.now m.new)) }
-    ensures lost { IfErr result (λ fault. M.honest m.new → LosesLogged log.old (M.now m.new).image fault) }
-    ensures never_lost { IfErr result (λ fault. (records : List Placed) (disk : List (List ℕ)) (windows : List WeakRun) → M.honest m.new → MayHome log.old windows (M.now m.old) →
-        OwnsLog log.old records disk windows (M.now m.old).image → IsDevice fault) }
-    ensures past { OnOk result (log.new ≡ moved log.old) }
-    ensures kept { OnErr result (log.new ≡ log.old) }
+    ensures done { OnOk result (Enters M.Machine log.old log.new m.old m.new) }
+    ensures failed { IfErr result (EntersNot M.Machine log.old log.new m.old m.new) }
 {
     let _layout = log.layout();
     home_third(m, log, third)?;
@@ -100,20 +89,10 @@ pub fn make_room<M: Machine>(m: &mut M, log: &mut Log, count: u32) -> Result<(),
     requires sectors { log.old.layout.sectors ≤ (M.report m.old).sectors }
     ensures disk { WritesDisk M.Machine (device_in load_failed_at result) (ShowsStill log.old) m.old m.new }
     ensures rest { M.honest m.new → KeepsOutside log.old.layout (M.now m.old) (M.now m.new) }
-    ensures counted { OnOk result (M.tells m.new → (M.ledger m.new).written ≡ (M.ledger m.old).written + sectors_before log.old count) }
-    ensures counted_err { OnErr result (M.tells m.new → WroteMost (sectors_before log.old count) (M.ledger m.old) (M.ledger m.new)) }
-    ensures done { OnOk result ((records : List Placed) (disk : List (List ℕ)) (windows : List WeakRun) → M.honest m.new → MayHome log.old windows (M.now m.old) →
-        OwnsLog log.old records disk windows (M.now m.old).image → HasRoomNow log.new disk windows (M.now m.old) (M.now m.new)) }
-    ensures lost { IfErr result (λ fault. M.honest m.new → LosesLogged log.old (M.now m.new).image fault) }
-    ensures never_lost { IfErr result (λ fault. (records : List Placed) (disk : List (List ℕ)) (windows : List WeakRun) → M.honest m.new → MayHome log.old windows (M.now m.old) →
-        OwnsLog log.old records disk windows (M.now m.old).image → IsDevice fault) }
     ensures idle { goes_before log.old count ≡ true → m.new ≡ m.old }
-    ensures enters { OnErr result (goes_before log.old count ≡ false) }
-    ensures past { OnOk result (log.new ≡ log_before log.old count) }
-    ensures room { OnOk result (HasRoom log.new.layout count log.new.head) }
-    ensures layout { log.new.layout ≡ log.old.layout }
-    ensures stamp { stamp_now log.new ≡ stamp_now log.old }
-    ensures kept { OnErr result (log.new ≡ log.old) }
+    ensures form { KeepsForm log.old log.new }
+    ensures done { OnOk result (MakesRoom M.Machine log.old log.new count m.old m.new) }
+    ensures failed { IfErr result (MakesNoRoom M.Machine log.old log.new count m.old m.new) }
 {
     let _layout = log.layout();
     match log.room(count) {

@@ -1,9 +1,8 @@
 //! The record of the images that are laid.
-ghost use Rattle.std.specs.Prelude.{◌≡◌, ◌⊎◌, ◌<◌, ◌≤◌, ◌^◌, ◌-◌, ◌+◌, ◌*◌, ℕ, List, [], length, take, slice_index, IsTrue, EachIndex, IfErr, OnOk, OnErr};
+ghost use Rattle.std.specs.Prelude.{◌≡◌, ◌<◌, ◌≤◌, ◌^◌, ◌-◌, ◌+◌, ◌*◌, ℕ, List, [], length, take, slice_index, IsTrue, EachIndex, IfErr, OnOk};
 ghost use Rattle.sector_disk.specs.Damage.{IsDevice};
 ghost use Rattle.sector_disk.specs.declared.sector.WeakRun.{WeakRun};
 ghost use Rattle.sector_disk.specs.Calls.{WritesDisk, device_in, load_failed_at};
-ghost use Rattle.sector_disk.specs.Written.{WroteMost};
 ghost use Rattle.volume_layout.specs.Kinds.{gap_of};
 ghost use Rattle.fsd_formats.specs.Record.{AreStamped, are_pages, record_len};
 ghost use Rattle.fsd_log.specs.Judged.{slice_of};
@@ -13,7 +12,7 @@ ghost use Rattle.fsd_sound.specs.Sound.{EndIn};
 ghost use Rattle.log_thirds.specs.Append.{stamp_now, log_with};
 ghost use Rattle.group_commit.specs.Resident.{stamped};
 ghost use Rattle.group_commit.specs.Room.{log_before, sectors_before};
-ghost use Rattle.group_commit.specs.Entering.{RecordCause, LosesLogged};
+ghost use Rattle.group_commit.specs.Commit.{RecordFails};
 ghost use Rattle.group_commit.specs.Force.{StandsOver, Committed, KeepsOutside};
 ghost use Rattle.group_commit.specs.Logged.{StandsLogged};
 ghost use Rattle.group_commit.specs.Newest.{KnowsImages};
@@ -37,12 +36,9 @@ pub(crate) fn write_record<M: Machine>(
     requires long { 512 * length dirty.now ≤ length room.now }
     ensures disk { WritesDisk M.Machine (device_in load_failed_at result) (RecordLeaves log.old dirty.now room.now) m.old m.new }
     ensures rest { M.honest m.new → KeepsOutside log.old.layout (M.now m.old) (M.now m.new) }
-    ensures cause { IfErr result (RecordCause log.old (length dirty.now)) }
     ensures counted { OnOk result (M.tells m.new → (M.ledger m.new).written ≡ (M.ledger m.old).written + (sectors_before log.old (length dirty.now) + record_len (gap_of log.old.layout) (length dirty.now))) }
-    ensures counted_err { OnErr result (M.tells m.new → WroteMost (sectors_before log.old (length dirty.now)) (M.ledger m.old) (M.ledger m.new)) }
     ensures past { OnOk result (log.new ≡ log_with (log_before log.old (length dirty.now)) dirty.now) }
-    ensures past_err { OnErr result ((log.new ≡ log.old) ⊎ ((log.new ≡ log_before log.old (length dirty.now)) × (M.tells m.new → (M.ledger m.new).written ≡ (M.ledger m.old).written + sectors_before log.old (length dirty.now)))) }
-    ensures lost { IfErr result (λ fault. M.honest m.new → LosesLogged log.old (M.now m.new).image fault) }
+    ensures failed { IfErr result (RecordFails M.Machine log.old log.new (length dirty.now) m.old m.new) }
     ensures never_lost { IfErr result (λ fault. (pages : List (List ℕ)) (windows : List WeakRun) (records : List Placed) (disk : List (List ℕ)) →
         HasImages log.old dirty.now room.now pages → M.honest m.new → EndIn (M.now m.old).windows windows →
         StandsOver log.old records disk (record { pages = pages; dirty = dirty.now }) windows (M.now m.old).image →

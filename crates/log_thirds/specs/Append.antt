@@ -2,7 +2,8 @@
 use Rattle.std.specs.Prelude.{◌≡◌, ◌⊎◌, IsTrue, ◌<◌, ◌≤◌, ℕ, ◌+◌, ◌*◌, false, List, [], ◌∷◌, ◌++◌, length, slice_index_or, None}
 use Rattle.fsd_formats.specs.Record.{Stamp, record_len}
 use Rattle.sector_disk.specs.Image.{stand, open_damage, AllWorn}
-use Rattle.sector_disk.specs.Machine.{Moment, Holds}
+use Rattle.sector_disk.specs.declared.machine.Machine.{Ghosts}
+use Rattle.sector_disk.specs.Machine.{LeavesOnly, Moment, Holds, wrote}
 use Rattle.fsd_log.specs.Laid.{laid_bytes, slices}
 use Rattle.fsd_log.specs.Scan.{Head, Placed, Walked, IsLog, place_of, tape, scan, spot_for}
 use Rattle.log_thirds.specs.Disk.{reads}
@@ -106,6 +107,39 @@ pub record AppendsWorn (log : LogValue) (records : List Placed) (pages images : 
   pub part : StandsInPart (place_of log.layout log.anchor.third (spot_for log.layout (length pages) log.head).at) (laid_bytes (gap_of log.layout) (stamp_now log) pages images) (record_len (gap_of log.layout) (length pages)) old left
   pub absent : part.stood ≤ 3 + (gap_of log.layout) + length pages → scan_of log left ≡ record { records = records; head = log.head }
   pub either : (scan_of log left ≡ record { records = records; head = log.head }) ⊎ (scan_of log left ≡ record { records = records ++ next_record log pages images ∷ []; head = head_past log (length pages) })
+
+-- ---- what the call that writes a record says
+
+-- where on the disk the record of so many pages goes
+abbrev pub record_place : LogValue → (n : ℕ) → ℕ
+record_place log n = place_of log.layout log.anchor.third (spot_for log.layout n log.head).at
+
+-- the record's sectors, one behind another
+abbrev pub record_bytes : LogValue → (pages images : List ℕ) → List ℕ
+record_bytes log pages images = laid_bytes (gap_of log.layout) (stamp_now log) pages images
+
+-- some first sectors of the record stand over the old image
+abbrev pub WritesRecord : LogValue → (pages images : List ℕ) → Moment → Moment → Type 0
+WritesRecord log pages images = StandsInPart (record_place log (length pages)) (record_bytes log pages images) (record_len (gap_of log.layout) (length pages))
+
+-- However sectors wear, whatever is left of the old moment is the old log, or the one with the record.
+abbrev pub LeavesLog : {D : Type 0} → Ghosts D → LogValue → (pages images : List ℕ) → (old new : D) → Type 0
+LeavesLog M log pages images old new =
+    (records : List Placed) → M.honest new → IsLogWorn log records (M.now old) → LeavesOnly M.moment M.left_since old new (AppendsWorn log records pages images (M.now old))
+
+-- The record is counted and stands whole, and the log has it behind the others, however sectors wear.
+pub record Appends {D : Type 0} (M : Ghosts D) (log after : LogValue) (pages images : List ℕ) (old new : D) : Type 0 where
+  pub past : after ≡ log_with log pages
+  pub counted : M.tells new → M.ledger new ≡ wrote (M.ledger old) (record_len (gap_of log.layout) (length pages))
+  pub stands : M.honest new → Holds (M.now old) (stand (M.now old).image (record_place log (length pages)) (record_bytes log pages images) (record_len (gap_of log.layout) (length pages))) (M.now new)
+  pub worn : (records : List Placed) → M.honest new → IsApartNow (gap_of log.layout) (M.now old) → IsLogWorn log records (M.now old)
+      → IsLogWorn after (records ++ next_record log pages images ∷ []) (M.now new)
+  pub indexed : (records : List Placed) → IsIndexed log records → IsIndexed after (records ++ next_record log pages images ∷ [])
+
+-- The log is as it was, and nothing is counted.
+pub record AppendsNone {D : Type 0} (M : Ghosts D) (log after : LogValue) (old new : D) : Type 0 where
+  pub kept : after ≡ log
+  pub counted : M.tells new → M.ledger new ≡ M.ledger old
 
 -- what is told of a record's place
 abbrev pub GoesAt : LogValue → ℕ → Place → Type 0

@@ -3,6 +3,7 @@ pub mod Append
 pub mod Copies
 pub mod Disk
 pub mod Firsts
+pub mod Giving
 pub mod Images
 pub mod LogValue
 pub mod Moves

@@ -1,14 +1,15 @@
 -- A log whose anchor moves on by a third.
-use Rattle.std.specs.Prelude.{ℕ, ◌+◌, ◌*◌, ◌<◌, List, map, filter, nat_le, nat_lt, Option, None, if◌then◌else◌}
+use Rattle.std.specs.Prelude.{◌≡◌, ℕ, ◌+◌, ◌*◌, ◌<◌, List, map, filter, nat_le, nat_lt, Option, None, if◌then◌else◌}
 use Rattle.volume_layout.specs.Shape.{Shape}
 use Rattle.volume_layout.specs.Layout.{third_start}
-use Rattle.sector_disk.specs.Machine.{Moment}
+use Rattle.sector_disk.specs.declared.machine.Machine.{Ghosts}
+use Rattle.sector_disk.specs.Machine.{Holds, LeavesOnly, Moment, wrote}
 use Rattle.fsd_formats.specs.declared.anchor.Anchor.{Anchor}
 use Rattle.fsd_log.specs.Scan.{Placed}
 use Rattle.log_thirds.specs.declared.slots.Slot.{Slot}
 use Rattle.log_thirds.specs.Slots.{lies_in}
-use Rattle.log_thirds.specs.Anchoring.{AnchorsIn}
-use Rattle.log_thirds.specs.Append.{IsLogWorn}
+use Rattle.log_thirds.specs.Anchoring.{AnchorsIn, with_anchors}
+use Rattle.log_thirds.specs.Append.{IsIndexed, IsLogWorn}
 use Rattle.log_thirds.specs.Moves.{back, head_back}
 use Rattle.log_thirds.specs.LogValue.{LogValue}
 
@@ -53,3 +54,18 @@ pub record MovesWorn (log : LogValue) (records : List Placed) (old left : Moment
   pub part : AnchorsIn (moved_anchor log) old left
   pub before : IsLogWorn log records left
   pub behind : IsLogWorn (moved log) (records_moved log.layout records) left
+
+-- ---- what the call that moves it says
+
+-- However sectors wear, whatever is left of the old moment is the log by the old anchor and by the new one.
+abbrev pub LeavesMoved : {D : Type 0} → Ghosts D → LogValue → (old new : D) → Type 0
+LeavesMoved M log old new =
+    (records : List Placed) → M.honest new → IsIndexed log records → IsLogWorn log records (M.now old) → LeavesOnly M.moment M.left_since old new (MovesWorn log records (M.now old))
+
+-- The new anchor is counted and stands at both places, and the log is what lies behind the first third.
+pub record Moves {D : Type 0} (M : Ghosts D) (log after : LogValue) (old new : D) : Type 0 where
+  pub past : after ≡ moved log
+  pub counted : M.tells new → M.ledger new ≡ wrote (M.ledger old) 2
+  pub stands : M.honest new → Holds (M.now old) (with_anchors (moved_anchor log) (M.now old).image 1 1) (M.now new)
+  pub worn : (records : List Placed) → M.honest new → IsIndexed log records → IsLogWorn log records (M.now old) → IsLogWorn after (records_moved log.layout records) (M.now new)
+  pub indexed : (records : List Placed) → M.honest new → IsIndexed log records → IsLogWorn log records (M.now old) → IsIndexed after (records_moved log.layout records)

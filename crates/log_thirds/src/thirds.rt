@@ -63,27 +63,27 @@ impl Model for Log {
 
 impl Log {
     ghost use Rattle.std.specs.List.{list_any};
-    ghost use Rattle.std.specs.Prelude.{◌≡◌, ◌≤◌, ◌<◌, ◌↔◌, ◌+◌, ◌-◌, ◌*◌, ◌^◌, ◌++◌, ◌∷◌, [], List, is_some, length, Some, None, Ok, Err, true, false, if◌then◌else◌, replicate, slice_index_or, IsTrue, IfErr, IfOk, IfSome, IfNone, OnOk, OnErr};
+    ghost use Rattle.std.specs.Prelude.{◌≡◌, ◌≤◌, ◌<◌, ◌↔◌, ◌+◌, ◌-◌, ◌*◌, ◌^◌, [], List, is_some, length, Some, None, Ok, Err, true, false, replicate, slice_index_or, IsTrue, IfErr, IfOk, IfSome, IfNone, OnOk, OnErr};
     ghost use Rattle.sector_disk.specs.Calls.{OnlyReads, WritesDisk, device_in, failed_at, load_failed_at};
-    ghost use Rattle.sector_disk.specs.Damage.{IsDevice, LostCause};
     ghost use Rattle.sector_disk.specs.declared.sector.Sector.{Sector};
     ghost use Rattle.sector_disk.specs.Image.{stand, IsWorn, open_damage};
-    ghost use Rattle.log_thirds.specs.Seen.{ScansOn, LogOn};
-    ghost use Rattle.sector_disk.specs.Machine.{LeavesOnly, Holds, wrote};
-    ghost use Rattle.volume_layout.specs.Kinds.{gap_of};
+    ghost use Rattle.log_thirds.specs.Seen.{ScansOn};
+    ghost use Rattle.sector_disk.specs.Machine.{Holds, wrote};
+    ghost use Rattle.sector_disk.specs.Written.{WroteMost};
     ghost use Rattle.fsd_formats.specs.Record.{max_pages, are_pages, AreStamped};
     ghost use Rattle.log_record.specs.declared.judging.TheConstants.{RECORD_BYTES};
-    ghost use Rattle.fsd_log.specs.Laid.{laid_bytes, slices};
+    ghost use Rattle.fsd_log.specs.Laid.{slices};
     ghost use Rattle.fsd_log.specs.Scan.{Placed, HasRoom, spot_for, place_of};
     ghost use Rattle.log_thirds.specs.LogValue.{FitsLayout};
     ghost use Rattle.log_thirds.specs.Slots.{IsLeastIn, NoneLiesIn};
     ghost use Rattle.volume_layout.specs.Layout.{third_start};
-    ghost use Rattle.log_thirds.specs.Images.{NamesSlot, AreLogged, StandsAt, GivesLast};
+    ghost use Rattle.log_thirds.specs.Images.{StandsAt};
+    ghost use Rattle.log_thirds.specs.Giving.{GivesImage, LacksImage, LosesImage, Scans};
     ghost use Rattle.fsd_log.specs.Images.{last_image};
     ghost use Rattle.log_thirds.specs.Copies.{copies_count, IsLast};
-    ghost use Rattle.log_thirds.specs.Append.{IsCalmNow, IsApartNow, IsLogWorn, AppendsWorn, stamp_now, next_record, log_with, of_kind, HasNoPages, scan_of, GoesAt, IsIndexed, StandsInPart, IsLeastOfThird, NoneOfThird};
+    ghost use Rattle.log_thirds.specs.Append.{Appends, AppendsNone, GoesAt, HasNoPages, IsIndexed, IsLeastOfThird, LeavesLog, NoneOfThird, StandsInPart, WritesRecord, of_kind, stamp_now};
     ghost use Rattle.log_thirds.specs.Anchoring.{AnchorsIn, with_anchors, next_epoch, in_next_epoch};
-    ghost use Rattle.log_thirds.specs.Moving.{moved_anchor, moved, records_moved, EndsInLastThird, MovesWorn};
+    ghost use Rattle.log_thirds.specs.Moving.{EndsInLastThird, LeavesMoved, Moves, moved_anchor};
     ghost use Rattle.log_thirds.specs.Reading.{SeesAnchor, SeesLastEpoch, log_failed_at, read_failed_at};
 
     /// The form of the next records. The log holds no record yet.
@@ -191,10 +191,7 @@ impl Log {
         ensures reads { OnlyReads M.Machine (device_in log_failed_at result) m.old m.new }
         ensures no_anchor { result ≡ Err LogFault.NoAnchor → M.honest m.new → SeesAnchor (M.now m.old) None }
         ensures worn_out { result ≡ Err LogFault.WornOut → M.honest m.new → SeesLastEpoch (M.now m.old) }
-        ensures layout { IfOk result (λ log. log.layout ≡ layout.now) }
-        ensures anchor { IfOk result (λ log. M.honest m.new → SeesAnchor (M.now m.old) (Some log.anchor)) }
-        ensures epoch { IfOk result (λ log. log.anchor.epoch < 2 ^ 32 - 1) }
-        ensures seen { IfOk result (λ log. (j : List Sector) → M.honest m.new → IsWorn (open_damage (M.now m.old).windows) j (M.now m.old).image → LogOn log (open_damage (M.now m.old).windows) j (M.now m.new).image) }
+        ensures found { IfOk result (Scans M.Machine layout.now m.old m.new) }
     {
         let _sectors = layout.sectors();
         let anchor = match find_anchor(m) {
@@ -310,20 +307,10 @@ impl Log {
         requires sectors { self.now.layout.sectors ≤ (M.report m.old).sectors }
         ensures reads { OnlyReads M.Machine (device_in load_failed_at result) m.old m.new }
         ensures absent { (result ≡ Ok false) ↔ (slice_index_or self.now.slots page None ≡ None) }
-        ensures named { IfErr result (NamesSlot (slice_index_or self.now.slots page None)) }
-        ensures lost { IfErr result (λ fault. M.honest m.new → LostCause (AreLogged self.now page) (M.now m.new).image fault) }
         ensures whole { result ≡ Ok true → M.honest m.new → StandsAt (slice_index_or self.now.slots page None) (M.now m.old).image buf.new }
-        ensures image { IfOk result (λ there. (records : List Placed) → M.honest m.new → IsCalmNow (M.now m.old) → IsIndexed self.now records → (scan_of self.now (M.now m.old)).records ≡ records
-            → last_image page records ≡ (if there then Some buf.new else None)) }
-        ensures never_lost { IfErr result (λ fault. (records : List Placed) → M.honest m.new → IsCalmNow (M.now m.old) → IsIndexed self.now records → (scan_of self.now (M.now m.old)).records ≡ records → IsDevice fault) }
-
-        // Where nothing wears, it is enough that the page's own sectors still give its image, whatever a scan gives.
-        ensures given { IfOk result (λ there. (records : List Placed) → M.honest m.new → IsCalmNow (M.now m.old) → IsIndexed self.now records → GivesLast self.now records page (M.now m.old).image
-            → last_image page records ≡ (if there then Some buf.new else None)) }
-        ensures none_lost { IfErr result (λ fault. (records : List Placed) → M.honest m.new → IsCalmNow (M.now m.old) → IsIndexed self.now records → GivesLast self.now records page (M.now m.old).image → IsDevice fault) }
-        ensures nowhere { result ≡ Ok false → (records : List Placed) → IsIndexed self.now records → last_image page records ≡ None }
-        ensures kept { result ≡ Ok false → buf.new ≡ buf.old }
-        ensures kept_err { OnErr result (buf.new ≡ buf.old) }
+        ensures gives { IfOk result (GivesImage M.Machine self.now page m.old m.new buf.new) }
+        ensures lacks { result ≡ Ok false → LacksImage self.now page buf.old buf.new }
+        ensures failed { IfErr result (LosesImage M.Machine self.now page m.old m.new buf.old buf.new) }
     {
         match self.slots[page as usize] {
             Some(slot) => match read_slot(m, slot, page, self.anchor.epoch) {
@@ -395,22 +382,11 @@ impl Log {
         requires room { HasRoom self.old.layout (length pages.now) self.old.head }
         requires numbered { self.old.head.number < 2 ^ 32 - 1 }
         requires sectors { self.old.layout.sectors ≤ (M.report m.old).sectors }
-        ensures writes { WritesDisk M.Machine (device_in failed_at result)
-            (StandsInPart (place_of self.old.layout self.old.anchor.third (spot_for self.old.layout (length pages.now) self.old.head).at)
-            (laid_bytes (gap_of self.old.layout) (stamp_now self.old) pages.now images.now) (2 * length pages.now + (5 + 2 * gap_of self.old.layout))) m.old m.new }
-        ensures counted { OnOk result (M.tells m.new → M.ledger m.new ≡ wrote (M.ledger m.old) (2 * length pages.now + (5 + 2 * gap_of self.old.layout))) }
-        ensures counted_err { OnErr result (M.tells m.new → M.ledger m.new ≡ M.ledger m.old) }
-        ensures worn_moment { (records : List Placed) → M.honest m.new → IsLogWorn self.old records (M.now m.old)
-            → LeavesOnly M.moment M.left_since m.old m.new (AppendsWorn self.old records pages.now images.now (M.now m.old)) }
-        ensures worn_done { OnOk result ((records : List Placed) → M.honest m.new → IsApartNow (gap_of self.old.layout) (M.now m.old) → IsLogWorn self.old records (M.now m.old)
-            → IsLogWorn self.new (records ++ next_record self.old pages.now images.now ∷ []) (M.now m.new)) }
-        ensures stands { OnOk result (M.honest m.new → Holds (M.now m.old)
-            (stand (M.now m.old).image (place_of self.old.layout self.old.anchor.third (spot_for self.old.layout (length pages.now) self.old.head).at)
-            (laid_bytes (gap_of self.old.layout) (stamp_now self.old) pages.now images.now) (2 * length pages.now + (5 + 2 * gap_of self.old.layout))) (M.now m.new)) }
+        ensures writes { WritesDisk M.Machine (device_in failed_at result) (WritesRecord self.old pages.now images.now) m.old m.new }
+        ensures worn_moment { LeavesLog M.Machine self.old pages.now images.now m.old m.new }
         ensures shape { FitsLayout self.old }
-        ensures past { OnOk result (self.new ≡ log_with self.old pages.now) }
-        ensures indexed { OnOk result ((records : List Placed) → IsIndexed self.old records → IsIndexed self.new (records ++ next_record self.old pages.now images.now ∷ [])) }
-        ensures kept { OnErr result (self.new ≡ self.old) }
+        ensures done { OnOk result (Appends M.Machine self.old self.new pages.now images.now m.old m.new) }
+        ensures failed { OnErr result (AppendsNone M.Machine self.old self.new m.old m.new) }
     {
         let (at, end) = self.spot(pages.len() as u32);
         let place = self.place(at);
@@ -476,17 +452,9 @@ impl Log {
         requires ends { EndsInLastThird self.old }
         requires sectors { self.old.layout.sectors ≤ (M.report m.old).sectors }
         ensures writes { WritesDisk M.Machine (device_in failed_at result) (AnchorsIn (moved_anchor self.old)) m.old m.new }
-        ensures counted { OnOk result (M.tells m.new → M.ledger m.new ≡ wrote (M.ledger m.old) 2) }
-        ensures least { M.tells m.new → (M.ledger m.old).written ≤ (M.ledger m.new).written }
-        ensures most { M.tells m.new → (M.ledger m.new).written ≤ (M.ledger m.old).written + 2 }
-        ensures done { OnOk result (M.honest m.new → Holds (M.now m.old) (with_anchors (moved_anchor self.old) (M.now m.old).image 1 1) (M.now m.new)) }
-        ensures worn_moment { (records : List Placed) → M.honest m.new → IsIndexed self.old records → IsLogWorn self.old records (M.now m.old)
-            → LeavesOnly M.moment M.left_since m.old m.new (MovesWorn self.old records (M.now m.old)) }
-        ensures worn_done { OnOk result ((records : List Placed) → M.honest m.new → IsIndexed self.old records → IsLogWorn self.old records (M.now m.old)
-            → IsLogWorn self.new (records_moved self.old.layout records) (M.now m.new)) }
-        ensures indexed { OnOk result ((records : List Placed) → M.honest m.new → IsIndexed self.old records → IsLogWorn self.old records (M.now m.old)
-            → IsIndexed self.new (records_moved self.old.layout records)) }
-        ensures past { OnOk result (self.new ≡ moved self.old) }
+        ensures counted { M.tells m.new → WroteMost 2 (M.ledger m.old) (M.ledger m.new) }
+        ensures worn_moment { LeavesMoved M.Machine self.old m.old m.new }
+        ensures done { OnOk result (Moves M.Machine self.old self.new m.old m.new) }
         ensures kept { OnErr result (self.new ≡ self.old) }
     {
         let third = self.layout.third();

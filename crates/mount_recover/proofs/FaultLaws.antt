@@ -24,7 +24,7 @@ use Rattle.fsd_sound.specs.Lost.{AreHomes, LostIn}
 use Rattle.sector_disk.specs.Machine.{Moment, Wears}
 use Rattle.mount_recover.specs.Recover.{IsNotUnsound, LeavesAll}
 use Rattle.fsd_sound.specs.Mounting.{device_of_mount}
-use Rattle.mount_recover.specs.Mending.{IsLoadFault, AreRoots}
+use Rattle.mount_recover.specs.Mending.{AreRoots, IsLoadFault}
 use Rattle.fsd_sound.specs.Mounting.{load_fault_of}
 
 pub if_err_both : {T : Type 0} (r : Result T MountFault) (P Q R : MountFault → Type 0) → ((fault : MountFault) → P fault → Q fault → R fault) → IfErr r P → IfErr r Q → IfErr r R
@@ -75,6 +75,20 @@ module _ (l : Layout) (windows : List WeakRun) (narrow : IsNarrow (weak_of windo
 pub handed_up : {T : Type 0} (P : MountFault → Type 0) (r : Result T MountFault) (fault : MountFault) → IsErrAnd r (λ told. told ≡ fault) → P fault → IfErr r P
 handed_up P (Ok x) fault is holds = tt
 handed_up P (Err told) fault is holds = subst P (sym is) holds
+
+-- by the end: what holds of each value, and of each fault of which this is known
+pub by_end : {T : Type 0} (P : Result T MountFault → Type 0) (Q : MountFault → Type 0) (r : Result T MountFault) → ((x : T) → P (Ok x)) → ((fault : MountFault) → Q fault → P (Err fault)) → IfErr r Q → P r
+by_end P Q (Ok x) done failed known = done x
+by_end P Q (Err fault) done failed known = failed fault known
+
+-- what is lost of some copies is lost of more
+pub lost_more : (P Q : ℕ → ℕ → Type 0) (image : Image) (fault : MountFault) → ((a b : ℕ) → P a b → Q a b) → LostIn P image fault → LostIn Q image fault
+lost_more P Q image (Lost a b) more lost = record { copies = more a b lost.copies; first = lost.first; second = lost.second }
+lost_more P Q image other more lost = tt
+
+pub load_lost : (P Q : ℕ → ℕ → Type 0) (image : Image) (fault : LoadFault) (told : MountFault) → told ≡ load_fault_of fault → ((a b : ℕ) → P a b → Q a b) → LostCause P image fault → LostIn Q image told
+load_lost P Q image (load.Device s) told is more lost = subst (LostIn Q image) (sym is) tt
+load_lost P Q image (load.Lost a b) told is more lost = subst (LostIn Q image) (sym is) (record { copies = more a b lost.copies; first = lost.first; second = lost.second })
 
 -- a fault of a load, of which the place is told
 pub load_told : (fault : LoadFault) (told : MountFault) → told ≡ load_fault_of fault → device_of_mount told ≡ load_failed_at fault

@@ -13,4 +13,5 @@ mod RootLaws
 mod SeenLaws
 mod ShowingLaws
 mod SlotLaws
+mod StepLaws
 mod TurningLaws

@@ -1,7 +1,8 @@
 -- What a mount finds before it writes.
-use Rattle.std.specs.Prelude.{◌≡◌, ◌≤◌, ⊤, ℕ, Option, Some, None, IsSome}
+use Rattle.std.specs.Prelude.{◌≡◌, ◌-◌, ◌<◌, ◌≤◌, ◌^◌, ⊤, ℕ, Ok, Option, Some, None, IsSome}
 use Rattle.volume_layout.specs.declared.layout.Layout.{Layout}
 use Rattle.volume_layout.specs.Kinds.{longest_of}
+use Rattle.volume_layout.specs.Layout.{plan}
 use Rattle.sector_disk.specs.Image.{IsWorn, open_damage, sector_at}
 use Rattle.sector_disk.specs.Machine.{Moment}
 use Rattle.fsd_files.specs.Disk.{Image}
@@ -30,6 +31,16 @@ NotFoundFor sectors i (Device s) = ⊤
 NotFoundFor sectors i Memory = ⊤
 NotFoundFor sectors i (Lost a b) = ⊥
 NotFoundFor sectors i (Unsound s) = ⊥
+
+-- What is found can be mounted: the layout is a planned one that lies on so many sectors, the log is its, in an epoch that
+-- is not the last, and a run of two sectors or more may be named, of no more than the layout bears.
+pub record IsMountable (sectors : ℕ) (l : Layout) (log : LogValue) (longest : ℕ) : Type 0 where
+  pub room : l.sectors ≤ sectors
+  pub layout : log.layout ≡ l
+  pub planned : plan l.kind l.sectors l.third l.pages ≡ Ok l
+  pub epoch : log.anchor.epoch < 2 ^ 32 - 1
+  pub short : longest ≤ longest_of l.kind
+  pub least : 2 ≤ longest
 
 -- An image was seen, which the old one may be worn to and that may be worn to the new one:
 -- it has this root, and this log.

@@ -4,3 +4,5 @@ pub mod Recover
 pub mod Replay
 pub mod Mending
 pub mod Showing
+pub mod Told
+pub mod Steps

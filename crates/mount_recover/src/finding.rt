@@ -1,10 +1,8 @@
 //! What a mount finds before it writes: the roots, and the log behind the newer anchor.
-ghost use Rattle.std.specs.Prelude.{◌≡◌, ◌-◌, ◌<◌, ◌≤◌, ◌^◌, Ok, IfOk, IfErr};
-ghost use Rattle.volume_layout.specs.Kinds.{longest_of};
-ghost use Rattle.volume_layout.specs.Layout.{plan};
+ghost use Rattle.std.specs.Prelude.{◌≡◌, IfOk, IfErr};
 ghost use Rattle.sector_disk.specs.Calls.{OnlyReads, device_in};
 ghost use Rattle.fsd_sound.specs.Mounting.{HasRoot};
-ghost use Rattle.mount_recover.specs.Finding.{mount_fault_of, IsBorneFound, IsNotFound};
+ghost use Rattle.mount_recover.specs.Finding.{mount_fault_of, IsBorneFound, IsMountable, IsNotFound};
 ghost use Rattle.mount_recover.specs.Recover.{IsNotUnsound};
 ghost use Rattle.fsd_sound.specs.Mounting.{device_of_mount};
 
@@ -44,13 +42,7 @@ pub(crate) fn find_volume<M: Machine>(
 
     ensures reads { OnlyReads M.Machine (device_in device_of_mount result) m.old m.new }
     ensures sound { IfErr result IsNotUnsound }
-    ensures room { IfOk result (λ found. found.layout.sectors ≤ sectors) }
-    ensures layout { IfOk result (λ found. found.log.layout ≡ found.layout) }
-    ensures planned { IfOk result (λ found. plan found.layout.kind found.layout.sectors found.layout.third found.layout.pages ≡ Ok found.layout) }
-    ensures epoch { IfOk result (λ found. found.log.anchor.epoch < 2 ^ 32 - 1) }
-
-    ensures short { IfOk result (λ found. found.longest ≤ longest_of found.layout.kind) }
-    ensures least { IfOk result (λ found. 2 ≤ found.longest) }
+    ensures found { IfOk result (λ found. IsMountable sectors found.layout found.log found.longest) }
 
     // The layout is that of a root of the image, also where sectors wear.
     ensures root { IfOk result (λ found. M.honest m.new → HasRoot sectors (M.now m.old).image found.layout) }

@@ -13,11 +13,12 @@ ghost use Rattle.fsd_sound.specs.Shown.{records_by};
 ghost use Rattle.log_thirds.specs.Append.{IsCalmNow};
 ghost use Rattle.log_thirds.specs.LogValue.{LogValue};
 ghost use Rattle.mount_recover.specs.Finding.{IsExcuse};
-ghost use Rattle.fsd_sound.specs.Lost.{AreHomes, LostIn};
+ghost use Rattle.fsd_sound.specs.Lost.{AreHomes};
 ghost use Rattle.mount_recover.specs.Mending.{IsLoadFault, AreOfVolume, AreOfAll, AreRoots, IsHome, IsCompleted, IsMending, IsMended, AreHomed, Stays, Keeps, KeepsBut, logged_count, one_if_some};
 ghost use Rattle.fsd_sound.specs.Homes.{HasBothHomes, HasSome};
 ghost use Rattle.fsd_sound.specs.Mounting.{device_of_mount};
-ghost use Rattle.mount_recover.specs.Showing.{GivesPages, ChangesHome, HasNoRoot, IsShowing, LosesNone, LosesHome, shows_of};
+ghost use Rattle.mount_recover.specs.Steps.{MendsOn, MendsCopies, ShowOrAreLost};
+ghost use Rattle.mount_recover.specs.Showing.{GivesPages, ChangesHome, HasNoRoot, IsShowing, LosesNone, LosesHome};
 
 use fsd_sound::MountFault;
 use log_thirds::Log;
@@ -74,10 +75,8 @@ fn write_logged<M: Machine>(
     requires home { IsHome l.now page place }
     requires room { l.now.sectors ≤ (M.report m.old).sectors }
 
-    ensures disk { HealsDisk M.Machine (device_in device_of_mount result) m.old m.new }
-    ensures load { IfErr result IsLoadFault }
+    ensures mends { MendsCopies M.Machine (AreOfVolume l.now log.now) m.old m.new result }
     ensures most { M.tells m.new → (M.ledger m.new).written ≤ (M.ledger m.old).written + one_if_some (slice_index_or log.now.slots page None) }
-    ensures grows { OnOk result (M.tells m.new → (M.ledger m.old).written ≤ (M.ledger m.new).written) }
     ensures keeps { M.honest m.new → KeepsBut place place (M.now m.old) (M.now m.new) }
     ensures homes { OnOk result (M.honest m.new → AreHomed l.now log.now place 0 (M.now m.old) → AreHomed l.now log.now (place + 1) 0 (M.now m.new)) }
     ensures any_moment { (windows : List Run) (choices : List (List (List ℕ))) (first : At) (c : IsCompleted l.now windows choices log.now first) → M.honest m.new →
@@ -88,7 +87,6 @@ fn write_logged<M: Machine>(
         IsMending l.now windows choices log.now first c (place + 1) 0 (M.now m.new)) }
     ensures never_lost { IfErr result (λ fault. (windows : List Run) (choices : List (List (List ℕ))) (first : At) (c : IsCompleted l.now windows choices log.now first) → M.honest m.new →
         IsMending l.now windows choices log.now first c place 0 (M.now m.old) → IsExcuse fault) }
-    ensures lost { IfErr result (λ fault. M.honest m.new → LostIn (AreOfVolume l.now log.now) (M.now m.new).image fault) }
     ensures shown { OnOk result ((records : List Placed) (first : Image) → M.honest m.new → IsCalmNow (M.now m.old) → GivesPages log.now records first → IsShowing l.now records first place (M.now m.old).image →
         IsShowing l.now records first (place + 1) (M.now m.new).image) }
     ensures not_shown { IfErr result (λ fault. (records : List Placed) (first : Image) → M.honest m.new → IsCalmNow (M.now m.old) → GivesPages log.now records first → IsShowing l.now records first place (M.now m.old).image →
@@ -110,10 +108,8 @@ fn write_homes<M: Machine>(m: &mut M, l: &Layout, log: &Log, start: u32) -> Resu
     requires start { IsHome l.now 0 start }
     requires room { l.now.sectors ≤ (M.report m.old).sectors }
 
-    ensures disk { HealsDisk M.Machine (device_in device_of_mount result) m.old m.new }
-    ensures load { IfErr result IsLoadFault }
+    ensures mends { MendsCopies M.Machine (AreOfVolume l.now log.now) m.old m.new result }
     ensures most { M.tells m.new → (M.ledger m.new).written ≤ (M.ledger m.old).written + logged_count log.now l.now.pages }
-    ensures grows { OnOk result (M.tells m.new → (M.ledger m.old).written ≤ (M.ledger m.new).written) }
     ensures keeps { M.honest m.new → Keeps l.now (M.now m.old) (M.now m.new) }
     ensures homes { OnOk result (M.honest m.new → AreHomed l.now log.now start 0 (M.now m.old) → AreHomed l.now log.now (start + l.now.pages) 0 (M.now m.new)) }
     ensures any_moment { (windows : List Run) (choices : List (List (List ℕ))) (first : At) (c : IsCompleted l.now windows choices log.now first) → M.honest m.new →
@@ -124,7 +120,6 @@ fn write_homes<M: Machine>(m: &mut M, l: &Layout, log: &Log, start: u32) -> Resu
         IsMending l.now windows choices log.now first c (start + l.now.pages) 0 (M.now m.new)) }
     ensures never_lost { IfErr result (λ fault. (windows : List Run) (choices : List (List (List ℕ))) (first : At) (c : IsCompleted l.now windows choices log.now first) → M.honest m.new →
         IsMending l.now windows choices log.now first c start 0 (M.now m.old) → IsExcuse fault) }
-    ensures lost { IfErr result (λ fault. M.honest m.new → LostIn (AreOfVolume l.now log.now) (M.now m.new).image fault) }
     ensures shown { OnOk result ((records : List Placed) (first : Image) → M.honest m.new → IsCalmNow (M.now m.old) → GivesPages log.now records first → IsShowing l.now records first start (M.now m.old).image →
         IsShowing l.now records first (start + l.now.pages) (M.now m.new).image) }
     ensures not_shown { IfErr result (λ fault. (records : List Placed) (first : Image) → M.honest m.new → IsCalmNow (M.now m.old) → GivesPages log.now records first → IsShowing l.now records first start (M.now m.old).image →
@@ -143,10 +138,8 @@ fn heal_home<M: Machine>(m: &mut M, l: &Layout, page: u32) -> Result<(), MountFa
     requires page { page < l.now.pages }
     requires room { l.now.sectors ≤ (M.report m.old).sectors }
 
-    ensures disk { HealsDisk M.Machine (device_in device_of_mount result) m.old m.new }
-    ensures load { IfErr result IsLoadFault }
+    ensures mends { MendsCopies M.Machine (AreHomes l.now) m.old m.new result }
     ensures most { M.tells m.new → (M.ledger m.new).written ≤ (M.ledger m.old).written + 1 }
-    ensures grows { OnOk result (M.tells m.new → (M.ledger m.old).written ≤ (M.ledger m.new).written) }
     ensures keeps { M.honest m.new → KeepsBut (home_a l.now page) (home_b l.now page) (M.now m.old) (M.now m.new) }
     ensures homes { OnOk result (M.honest m.new → HasBothHomes l.now (M.now m.new) page) }
     ensures any_moment { (windows : List Run) (choices : List (List (List ℕ))) (log : LogValue) (first : At) (c : IsCompleted l.now windows choices log first) → M.honest m.new →
@@ -157,7 +150,6 @@ fn heal_home<M: Machine>(m: &mut M, l: &Layout, page: u32) -> Result<(), MountFa
     ensures done { OnOk result ((windows : List Run) (choices : List (List (List ℕ))) (log : LogValue) (first : At) (c : IsCompleted l.now windows choices log first) → M.honest m.new →
         last_image page (records_by l.now c.clean log.anchor) ≡ None → IsMending l.now windows choices log first c (home_b l.now l.now.pages) page (M.now m.old) →
         IsMending l.now windows choices log first c (home_b l.now l.now.pages) (page + 1) (M.now m.new)) }
-    ensures lost { IfErr result (λ fault. M.honest m.new → LostIn (AreHomes l.now) (M.now m.new).image fault) }
     ensures shown { OnOk result (M.honest m.new → IsCalmNow (M.now m.old) → ChangesHome l.now page (M.now m.old).image (M.now m.new).image (home_of l.now (M.now m.old).image page)) }
     ensures not_shown { IfErr result (λ fault. M.honest m.new → IsCalmNow (M.now m.old) → LosesHome l.now page (M.now m.old).image fault) }
 {
@@ -174,10 +166,8 @@ fn heal_other<M: Machine>(m: &mut M, l: &Layout, log: &Log, page: u32) -> Result
     requires page { page < l.now.pages }
     requires room { l.now.sectors ≤ (M.report m.old).sectors }
 
-    ensures disk { HealsDisk M.Machine (device_in device_of_mount result) m.old m.new }
-    ensures load { IfErr result IsLoadFault }
+    ensures mends { MendsCopies M.Machine (AreHomes l.now) m.old m.new result }
     ensures most { M.tells m.new → (M.ledger m.new).written + one_if_some (slice_index_or log.now.slots page None) ≤ (M.ledger m.old).written + 1 }
-    ensures grows { OnOk result (M.tells m.new → (M.ledger m.old).written ≤ (M.ledger m.new).written) }
     ensures keeps { M.honest m.new → Keeps l.now (M.now m.old) (M.now m.new) }
     ensures homes { OnOk result (M.honest m.new → AreHomed l.now log.now (home_b l.now l.now.pages) page (M.now m.old) → AreHomed l.now log.now (home_b l.now l.now.pages) (page + 1) (M.now m.new)) }
     ensures any_moment { (windows : List Run) (choices : List (List (List ℕ))) (first : At) (c : IsCompleted l.now windows choices log.now first) → M.honest m.new →
@@ -188,7 +178,6 @@ fn heal_other<M: Machine>(m: &mut M, l: &Layout, log: &Log, page: u32) -> Result
         IsMending l.now windows choices log.now first c (home_b l.now l.now.pages) (page + 1) (M.now m.new)) }
     ensures never_lost { IfErr result (λ fault. (windows : List Run) (choices : List (List (List ℕ))) (first : At) (c : IsCompleted l.now windows choices log.now first) → M.honest m.new →
         IsMending l.now windows choices log.now first c (home_b l.now l.now.pages) page (M.now m.old) → IsExcuse fault) }
-    ensures lost { IfErr result (λ fault. M.honest m.new → LostIn (AreHomes l.now) (M.now m.new).image fault) }
     ensures shown { OnOk result ((records : List Placed) (first : Image) → M.honest m.new → IsCalmNow (M.now m.old) → GivesPages log.now records first → IsShowing l.now records first (home_b l.now l.now.pages) (M.now m.old).image →
         IsShowing l.now records first (home_b l.now l.now.pages) (M.now m.new).image) }
     ensures not_shown { IfErr result (λ fault. (records : List Placed) (first : Image) → M.honest m.new → IsCalmNow (M.now m.old) → GivesPages log.now records first → IsShowing l.now records first (home_b l.now l.now.pages) (M.now m.old).image →
@@ -208,10 +197,8 @@ fn heal_others<M: Machine>(m: &mut M, l: &Layout, log: &Log) -> Result<(), Mount
     requires planned { plan l.now.kind l.now.sectors l.now.third l.now.pages ≡ Ok l.now }
     requires room { l.now.sectors ≤ (M.report m.old).sectors }
 
-    ensures disk { HealsDisk M.Machine (device_in device_of_mount result) m.old m.new }
-    ensures load { IfErr result IsLoadFault }
+    ensures mends { MendsCopies M.Machine (AreHomes l.now) m.old m.new result }
     ensures most { M.tells m.new → (M.ledger m.new).written + logged_count log.now l.now.pages ≤ (M.ledger m.old).written + l.now.pages }
-    ensures grows { OnOk result (M.tells m.new → (M.ledger m.old).written ≤ (M.ledger m.new).written) }
     ensures keeps { M.honest m.new → Keeps l.now (M.now m.old) (M.now m.new) }
     ensures homes { OnOk result (M.honest m.new → AreHomed l.now log.now (home_b l.now l.now.pages) 0 (M.now m.old) → AreHomed l.now log.now (home_b l.now l.now.pages) l.now.pages (M.now m.new)) }
     ensures any_moment { (windows : List Run) (choices : List (List (List ℕ))) (first : At) (c : IsCompleted l.now windows choices log.now first) → M.honest m.new →
@@ -222,7 +209,6 @@ fn heal_others<M: Machine>(m: &mut M, l: &Layout, log: &Log) -> Result<(), Mount
         IsMending l.now windows choices log.now first c (home_b l.now l.now.pages) l.now.pages (M.now m.new)) }
     ensures never_lost { IfErr result (λ fault. (windows : List Run) (choices : List (List (List ℕ))) (first : At) (c : IsCompleted l.now windows choices log.now first) → M.honest m.new →
         IsMending l.now windows choices log.now first c (home_b l.now l.now.pages) 0 (M.now m.old) → IsExcuse fault) }
-    ensures lost { IfErr result (λ fault. M.honest m.new → LostIn (AreHomes l.now) (M.now m.new).image fault) }
     ensures shown { OnOk result ((records : List Placed) (first : Image) → M.honest m.new → IsCalmNow (M.now m.old) → GivesPages log.now records first → IsShowing l.now records first (home_b l.now l.now.pages) (M.now m.old).image →
         IsShowing l.now records first (home_b l.now l.now.pages) (M.now m.new).image) }
     ensures not_shown { IfErr result (λ fault. (records : List Placed) (first : Image) → M.honest m.new → IsCalmNow (M.now m.old) → GivesPages log.now records first → IsShowing l.now records first (home_b l.now l.now.pages) (M.now m.old).image →
@@ -240,10 +226,8 @@ fn mend_pages<M: Machine>(m: &mut M, l: &Layout, log: &Log) -> Result<(), MountF
     requires planned { plan l.now.kind l.now.sectors l.now.third l.now.pages ≡ Ok l.now }
     requires room { l.now.sectors ≤ (M.report m.old).sectors }
 
-    ensures disk { HealsDisk M.Machine (device_in device_of_mount result) m.old m.new }
-    ensures load { IfErr result IsLoadFault }
+    ensures mends { MendsCopies M.Machine (AreOfVolume l.now log.now) m.old m.new result }
     ensures most { M.tells m.new → (M.ledger m.new).written ≤ (M.ledger m.old).written + 2 * l.now.pages }
-    ensures grows { OnOk result (M.tells m.new → (M.ledger m.old).written ≤ (M.ledger m.new).written) }
     ensures keeps { M.honest m.new → Keeps l.now (M.now m.old) (M.now m.new) }
     ensures homes { OnOk result (M.honest m.new → (page : ℕ) → page < l.now.pages → HasBothHomes l.now (M.now m.new) page) }
     ensures any_moment { (windows : List Run) (choices : List (List (List ℕ))) (c : IsCompleted l.now windows choices log.now (M.now m.old)) → M.honest m.new →
@@ -251,7 +235,6 @@ fn mend_pages<M: Machine>(m: &mut M, l: &Layout, log: &Log) -> Result<(), MountF
     ensures done { OnOk result ((windows : List Run) (choices : List (List (List ℕ))) (c : IsCompleted l.now windows choices log.now (M.now m.old)) → M.honest m.new →
         IsMending l.now windows choices log.now (M.now m.old) c (home_b l.now l.now.pages) l.now.pages (M.now m.new)) }
     ensures never_lost { IfErr result (λ fault. (windows : List Run) (choices : List (List (List ℕ))) (c : IsCompleted l.now windows choices log.now (M.now m.old)) → M.honest m.new → IsExcuse fault) }
-    ensures lost { IfErr result (λ fault. M.honest m.new → LostIn (AreOfVolume l.now log.now) (M.now m.new).image fault) }
     ensures shown { OnOk result ((records : List Placed) → M.honest m.new → IsCalmNow (M.now m.old) → GivesPages log.now records (M.now m.old).image → IsShowing l.now records (M.now m.old).image (home_b l.now l.now.pages) (M.now m.new).image) }
     ensures not_shown { IfErr result (λ fault. (records : List Placed) → M.honest m.new → IsCalmNow (M.now m.old) → GivesPages log.now records (M.now m.old).image → LosesNone l.now records (M.now m.old).image fault) }
 {
@@ -265,10 +248,8 @@ fn mend_roots<M: Machine>(m: &mut M, l: &Layout) -> Result<(), MountFault>
     requires planned { plan l.now.kind l.now.sectors l.now.third l.now.pages ≡ Ok l.now }
     requires room { l.now.sectors ≤ (M.report m.old).sectors }
 
-    ensures disk { HealsDisk M.Machine (device_in device_of_mount result) m.old m.new }
-    ensures load { IfErr result IsLoadFault }
+    ensures mends { MendsCopies M.Machine AreRoots m.old m.new result }
     ensures most { M.tells m.new → (M.ledger m.new).written ≤ (M.ledger m.old).written + 2 }
-    ensures grows { OnOk result (M.tells m.new → (M.ledger m.old).written ≤ (M.ledger m.new).written) }
     ensures keeps { M.honest m.new → KeepsBut 0 4 (M.now m.old) (M.now m.new) }
     ensures any_moment { (windows : List Run) (choices : List (List (List ℕ))) (log : LogValue) (first : At) (c : IsCompleted l.now windows choices log first) → M.honest m.new →
         IsMending l.now windows choices log first c (home_b l.now l.now.pages) l.now.pages (M.now m.old) →
@@ -278,7 +259,6 @@ fn mend_roots<M: Machine>(m: &mut M, l: &Layout) -> Result<(), MountFault>
         IsMended l.now windows choices log first c (M.now m.new)) }
     ensures never_lost { IfErr result (λ fault. (windows : List Run) (choices : List (List (List ℕ))) (log : LogValue) (first : At) (c : IsCompleted l.now windows choices log first) → M.honest m.new →
         IsMending l.now windows choices log first c (home_b l.now l.now.pages) l.now.pages (M.now m.old) → IsExcuse fault) }
-    ensures lost { IfErr result (λ fault. M.honest m.new → LostIn AreRoots (M.now m.new).image fault) }
     ensures not_shown { IfErr result (λ fault. M.honest m.new → IsCalmNow (M.now m.old) → (HasNoRoot (M.now m.old).image → ⊥) → IsExcuse fault) }
 {
     match heal_root(m, l) {
@@ -293,24 +273,18 @@ pub(crate) fn mend<M: Machine>(m: &mut M, l: &Layout, log: &Log) -> Result<(), M
     requires planned { plan l.now.kind l.now.sectors l.now.third l.now.pages ≡ Ok l.now }
     requires room { l.now.sectors ≤ (M.report m.old).sectors }
 
-    ensures disk { HealsDisk M.Machine (device_in device_of_mount result) m.old m.new }
-    ensures load { IfErr result IsLoadFault }
+    ensures mends { MendsCopies M.Machine (AreOfAll l.now log.now) m.old m.new result }
     ensures most { M.tells m.new → (M.ledger m.new).written ≤ (M.ledger m.old).written + (2 * l.now.pages + 2) }
-    ensures grows { OnOk result (M.tells m.new → (M.ledger m.old).written ≤ (M.ledger m.new).written) }
     ensures keeps { M.honest m.new → Keeps l.now (M.now m.old) (M.now m.new) }
     ensures homes { OnOk result (M.honest m.new → (page : ℕ) → page < l.now.pages → HasBothHomes l.now (M.now m.new) page) }
-    ensures any_moment { (windows : List Run) (choices : List (List (List ℕ))) (c : IsCompleted l.now windows choices log.now (M.now m.old)) → M.honest m.new →
-        LeavesOnly M.moment M.left_since m.old m.new (Stays l.now windows choices (M.now m.old)) }
-    ensures done { OnOk result ((windows : List Run) (choices : List (List (List ℕ))) (c : IsCompleted l.now windows choices log.now (M.now m.old)) → M.honest m.new →
-        IsMended l.now windows choices log.now (M.now m.old) c (M.now m.new)) }
-    ensures never_lost { IfErr result (λ fault. (windows : List Run) (choices : List (List (List ℕ))) (c : IsCompleted l.now windows choices log.now (M.now m.old)) → M.honest m.new → IsExcuse fault) }
-    ensures lost { IfErr result (λ fault. M.honest m.new → LostIn (AreOfAll l.now log.now) (M.now m.new).image fault) }
 
-    // Of any image on which nothing wears: each page stands at home then as the image showed it.
-    ensures shown { OnOk result ((records : List Placed) → M.honest m.new → IsCalmNow (M.now m.old) → GivesPages log.now records (M.now m.old).image →
-        (page : ℕ) → page < l.now.pages → home_of l.now (M.now m.new).image page ≡ shows_of l.now records (M.now m.old).image page) }
-    ensures not_shown { IfErr result (λ fault. (records : List Placed) → M.honest m.new → IsCalmNow (M.now m.old) → GivesPages log.now records (M.now m.old).image → (HasNoRoot (M.now m.old).image → ⊥) →
-        LosesNone l.now records (M.now m.old).image fault) }
+    // Of an image that shows a volume, and on which each record of the log is whole.
+    ensures goes_on { (windows : List Run) (choices : List (List (List ℕ))) (c : IsCompleted l.now windows choices log.now (M.now m.old)) → M.honest m.new →
+        MendsOn M.Machine l.now windows choices (M.now m.old) (IsMended l.now windows choices log.now (M.now m.old) c (M.now m.new)) m.old m.new result }
+
+    // Of any image on which nothing wears.
+    ensures shown { (records : List Placed) → M.honest m.new → IsCalmNow (M.now m.old) → GivesPages log.now records (M.now m.old).image →
+        ShowOrAreLost l.now records (M.now m.old).image (M.now m.new).image result }
 {
     mend_pages(m, l, log)?;
     mend_roots(m, l)

@@ -58,7 +58,8 @@ impl Cache {
     ghost use Rattle.sector_disk.specs.Calls.{OnlyReads, device_in};
     ghost use Rattle.page_cache.specs.Cache.{held, bytes_of, pins_of, busy, frame_for, is_one_of, IsResident, IsCache, KeepsNewest, no_pages, used, entered, with_pins, with_dirty, cleaned};
     ghost use Rattle.page_cache.specs.Accepted.{content_in};
-    ghost use Rattle.page_cache.specs.Fetch.{fetch_failed_at, LostCause, IsNotLost};
+    ghost use Rattle.page_cache.specs.Fetch.{fetch_failed_at};
+    ghost use Rattle.page_cache.specs.Fetched.{KeepsFrames, TakesIn, TakesNone};
     ghost use Rattle.page_cache.specs.Lends.{LendsBytes, LendsFrames};
     ghost use Rattle.page_cache.specs.declared.cache.TheConstants.{MOST_DIRTY};
 
@@ -93,20 +94,13 @@ impl Cache {
         ensures hit { IfSome (held self.old page) (λ h. (result ≡ Ok h.frame) × (self.new ≡ used page self.old) × (m.new ≡ m.old)) }
 
         // Another enters, with what the source gave.
-        ensures frame { held self.old page ≡ None → IfOk result (λ frame. frame ≡ frame_for self.old) }
-        ensures entered { held self.old page ≡ None → OnOk result ((bytes : List ℕ) × (self.new ≡ entered page bytes self.old)) }
-        ensures whole { held self.old page ≡ None → OnOk result (M.honest m.new → IfSome (bytes_of self.new page) (S.stands source.now page (M.now m.old).image)) }
-        ensures given { held self.old page ≡ None → OnOk result (M.honest m.new → S.knows source.now (M.now m.old) →
-            S.newest source.now (M.now m.old).image page ≡ bytes_of self.new page) }
+        ensures enters { held self.old page ≡ None → IfOk result (TakesIn M.Machine S.PageSource source.now page m.old m.new self.old self.new) }
         ensures newest { OnOk result (M.honest m.new → S.knows source.now (M.now m.old) →
             KeepsNewest (S.newest source.now (M.now m.old).image) self.old self.new) }
 
         ensures reads { OnlyReads M.Machine (device_in fetch_failed_at result) m.old m.new }
-        ensures lost { IfErr result (λ fault. M.honest m.new → LostCause (S.copies source.now page) (M.now m.new).image fault) }
-        ensures never_lost { IfErr result (λ fault. M.honest m.new → S.knows source.now (M.now m.old) → IsNotLost fault) }
-        ensures kept { OnErr result (self.new ≡ self.old) }
-        ensures busy { busy self.new ≡ busy self.old }
-        ensures frames { self.new.frames ≡ self.old.frames }
+        ensures failed { IfErr result (TakesNone M.Machine S.PageSource source.now page m.old m.new self.old self.new) }
+        ensures frames { KeepsFrames self.old self.new }
     {
         match self.hit(page) {
             Some(frame) => Ok(frame),
@@ -137,20 +131,13 @@ impl Cache {
         requires sectors { S.sectors source.now ≤ (M.report m.old).sectors }
         requires room { busy self.old < self.old.frames }
 
-        ensures frame { IfOk result (λ frame. frame ≡ frame_for self.old) }
-        ensures entered { OnOk result ((bytes : List ℕ) × (self.new ≡ entered page bytes self.old)) }
-        ensures whole { OnOk result (M.honest m.new → IfSome (bytes_of self.new page) (S.stands source.now page (M.now m.old).image)) }
-        ensures given { OnOk result (M.honest m.new → S.knows source.now (M.now m.old) →
-            S.newest source.now (M.now m.old).image page ≡ bytes_of self.new page) }
+        ensures enters { IfOk result (TakesIn M.Machine S.PageSource source.now page m.old m.new self.old self.new) }
         ensures newest { OnOk result (M.honest m.new → S.knows source.now (M.now m.old) →
             KeepsNewest (S.newest source.now (M.now m.old).image) self.old self.new) }
 
         ensures reads { OnlyReads M.Machine (device_in fetch_failed_at result) m.old m.new }
-        ensures lost { IfErr result (λ fault. M.honest m.new → LostCause (S.copies source.now page) (M.now m.new).image fault) }
-        ensures never_lost { IfErr result (λ fault. M.honest m.new → S.knows source.now (M.now m.old) → IsNotLost fault) }
-        ensures kept { OnErr result (self.new ≡ self.old) }
-        ensures busy { busy self.new ≡ busy self.old }
-        ensures frames { self.new.frames ≡ self.old.frames }
+        ensures failed { IfErr result (TakesNone M.Machine S.PageSource source.now page m.old m.new self.old self.new) }
+        ensures frames { KeepsFrames self.old self.new }
     {
         let mut bytes = [0; 512];
         source.load(m, page, &mut bytes)?;

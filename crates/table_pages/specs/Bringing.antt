@@ -1,5 +1,5 @@
 -- What is left where pages are brought into the cache, and why one is not brought.
-use Rattle.std.specs.Prelude.{◌≡◌, ◌⊎◌, ℕ, ◌+◌, ◌%◌, ◌^◌, ◌<◌, ◌≤◌, Bool, true, false, List, Option, None, length, count_by, nat_eq, slice_index_or, Some}
+use Rattle.std.specs.Prelude.{◌≡◌, ◌⊎◌, ℕ, ◌+◌, ◌%◌, ◌^◌, ◌<◌, ◌≤◌, Bool, true, false, List, Option, None, length, count_by, nat_eq, slice_index_or, Some, IsSome}
 use Rattle.fsd_bytes.specs.declared.refusal.Refusal.{Refusal}
 use Rattle.fsd_bytes.specs.declared.refusal.Refusal.TheVariants.{Device, Lost, Memory}
 use Rattle.fsd_formats.specs.NamePage.{Content}
@@ -88,3 +88,16 @@ IsRefused free c page = (slice_index_or free page false ≡ true) ⊎ (IsResiden
 -- the sector of its home A
 abbrev pub home_in : (home_a page : ℕ) → ℕ
 home_in home_a page = (home_a + page) % 2 ^ 32
+
+-- ---- what the call that brings a page in use says
+
+-- The page is not free, it is in the cache, and the grammar accepts it.
+pub record IsBrought (free : List Bool) (c : CacheValue) (page : ℕ) : Type 0 where
+  pub there : IsResident c page
+  pub used : slice_index_or free page false ≡ false
+  pub accepted : IsSome (content_in c (length free) page)
+
+-- A page at hand takes nothing of the machine, and no memory.
+pub record TakesNothing {D : Type 0} (refusal : Option Refusal) (m m' : D) (old new : CacheValue) : Type 0 where
+  pub hit : IsHit m m' old new
+  pub memory : refusal ≡ Some Memory → ⊥

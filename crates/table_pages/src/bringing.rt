@@ -1,11 +1,10 @@
 //! Pages of the table that are brought into the cache and kept there.
-ghost use Rattle.std.specs.Prelude.{◌≡◌, ◌⊎◌, ℕ, ◌+◌, ◌-◌, ◌^◌, ◌<◌, ◌≤◌, ◌++◌, ◌∷◌, [], Err, true, false, IfErr, MatchResult, OnOk, IsSome, length, count_by, nat_eq, slice_index_or, Some};
+ghost use Rattle.std.specs.Prelude.{◌≡◌, ◌⊎◌, ℕ, ◌+◌, ◌-◌, ◌^◌, ◌<◌, ◌≤◌, ◌++◌, ◌∷◌, [], Err, true, false, IfErr, MatchResult, OnOk, length, count_by, nat_eq, slice_index_or};
 ghost use Rattle.arrayvec.specs.ArrayVec.{array_vec_len};
-ghost use Rattle.fsd_bytes.specs.declared.refusal.Refusal.TheVariants.{Memory, Unsound};
+ghost use Rattle.fsd_bytes.specs.declared.refusal.Refusal.TheVariants.{Unsound};
 ghost use Rattle.name_page.specs.Pages.{IsOuter, outer_in};
 ghost use Rattle.page_cache.specs.Cache.{IsResident, pins_of, with_pins};
-ghost use Rattle.page_cache.specs.Accepted.{content_in};
-ghost use Rattle.table_pages.specs.Bringing.{HasRoom, OnlyPins, FetchesOnly, IsAtHand, IsRefused, home_in, refusal_for, IsHit};
+ghost use Rattle.table_pages.specs.Bringing.{FetchesOnly, HasRoom, IsAtHand, IsBrought, IsHit, IsRefused, OnlyPins, TakesNothing, home_in, refusal_for};
 
 use crate::free::FreePages;
 use arrayvec::ArrayVec;
@@ -61,11 +60,8 @@ pub fn bring_used<M: Machine, S: PageSource>(
     requires room { HasRoom 1 cache.old }
     ensures fetches { FetchesOnly M.Machine S.PageSource source.now (outer_in result) m.old m.new cache.old cache.new }
     ensures pins { (q : ℕ) → pins_of cache.new q ≡ pins_of cache.old q }
-    ensures there { OnOk result (IsResident cache.new page) }
-    ensures hit { IsAtHand free.now cache.old page → IsHit m.old m.new cache.old cache.new }
-    ensures memory { IsAtHand free.now cache.old page → outer_in result ≡ Some Memory → ⊥ }
-    ensures used { OnOk result (slice_index_or free.now page false ≡ false) }
-    ensures accepted { OnOk result (IsSome (content_in cache.new (length free.now) page)) }
+    ensures at_hand { IsAtHand free.now cache.old page → TakesNothing (outer_in result) m.old m.new cache.old cache.new }
+    ensures done { OnOk result (IsBrought free.now cache.new page) }
     ensures spare { slice_index_or free.now page false ≡ true → result ≡ Err (Unsound (home_in home_a page)) }
     ensures cause { IfErr result (λ refusal. IsOuter refusal ⊎ ((refusal ≡ Unsound (home_in home_a page)) × IsRefused free.now cache.new page)) }
 {

@@ -18,7 +18,7 @@ use Rattle.sector_disk.proofs.Wear.{stand_worn, worn_damaged, worn_trans, worn_w
 use Rattle.fsd_files.specs.Scrub.{ReadsDamaged}
 use Rattle.twin_home.specs.Home.{WritesPart}
 use Rattle.twin_home.proofs.WriteLaws.{torn_part}
-use Rattle.twin_home.specs.Heal.{ReadsCopy, ReadsBoth, Mends, Heals, Mended, SetsRoot, SetsRoots, HealsRoots, RootsIn, NeedsRoot, RootsHealed, TellsCopies, WasWhole}
+use Rattle.twin_home.specs.Heal.{LosesBoth, ReadsCopy, ReadsBoth, Mends, Heals, Mended, SetsRoot, SetsRoots, HealsRoots, RootsIn, NeedsRoot, RootsHealed, TellsCopies, WasWhole}
 
 -- a moment that is only worn
 pub still : (old left : Moment) → Wears old left → Holds old old.image left
@@ -56,12 +56,17 @@ module _ (old mid : Moment) (wears : Wears old mid) (place twin : ℕ) (bytes : 
   pub mended : (new : Moment) → ReadsDamaged old place → Holds mid (stand mid.image place bytes 1) new → Mended place twin old new
   mended new hurt done = record { hurt = hurt; bytes = bytes; long = long; whole = whole; stands = holds_on old mid new old.image place bytes 1 (still old mid wears) done }
 
--- what is so of an Ok's value, and of any Ok, makes the rest
-pub if_ok_both : {T E : Type 0} (P : T → Type 0) (Q : Type 0) (R : T → Type 0) (r : Result T E) → IfOk r P → OnOk r Q → ((x : T) → P x → Q → R x) → IfOk r R
-if_ok_both P Q R (Ok x) p q more = more x p q
-if_ok_both P Q R (Err e) p q more = tt
+-- one copy was written, and what was then so of any Ok makes the rest
+pub one_healed : {E : Type 0} (P Q : Type 0) (R : ℕ → Type 0) (r : Result ℕ E) → IfOk r (λ count. count ≡ 1) → OnOk r P → OnOk r Q → ((count : ℕ) → count ≡ 1 → P → Q → R count) → IfOk r R
+one_healed P Q R (Ok count) one p q more = more count one p q
+one_healed P Q R (Err e) one p q more = tt
 
 -- a fault of the disk tells no other copies, and nothing as lost
+pub device_loses : {D T : Type 0} (M : Ghosts D) (a b : ℕ) (new : D) (r : Result T LoadFault) → IfErr r IsDevice → IfErr r (LosesBoth M a b new)
+device_loses M a b new (Ok x) device = tt
+device_loses M a b new (Err (Device place)) device = record { copies = tt; lost = λ h. tt }
+device_loses M a b new (Err (Lost x y)) device = absurd device
+
 pub device_copies : {T : Type 0} (a b : ℕ) (r : Result T LoadFault) → IfErr r IsDevice → IfErr r (TellsCopies a b)
 device_copies a b (Ok x) device = tt
 device_copies a b (Err (Device place)) device = tt

@@ -4,7 +4,9 @@ use Rattle.sector_disk.specs.declared.sector.Sector.TheVariants.{Whole, Damaged}
 use Rattle.sector_disk.specs.declared.machine.LoadFault.{LoadFault}
 use Rattle.sector_disk.specs.declared.machine.LoadFault.TheVariants.{Device, Lost}
 use Rattle.sector_disk.specs.Image.{sector_at, stand}
-use Rattle.sector_disk.specs.Machine.{Moment, Holds}
+use Rattle.sector_disk.specs.declared.machine.Machine.{Ghosts}
+use Rattle.sector_disk.specs.Damage.{LostCause}
+use Rattle.sector_disk.specs.Machine.{Moment, Holds, wrote}
 use Rattle.fsd_files.specs.Scrub.{ReadsDamaged}
 use Rattle.twin_home.specs.Home.{WritesPart}
 
@@ -53,6 +55,18 @@ AreCopies a b x y = (x ≡ a) × (y ≡ b)
 abbrev pub TellsCopies : (a b : ℕ) → LoadFault → Type 0
 TellsCopies a b (Device place) = ⊤
 TellsCopies a b (Lost x y) = AreCopies a b x y
+
+module _ {D : Type 0} (M : Ghosts D) (a b : ℕ) where
+  -- So many of two copies were written from the other, one at most, and the count is told.
+  pub record HealsOne (old new : D) (count : ℕ) : Type 0 where
+    pub few : count ≤ 1
+    pub counted : M.tells new → M.ledger new ≡ wrote (M.ledger old) count
+    pub done : M.honest new → Healed a b count (M.now old) (M.now new)
+
+  -- What is lost is told by these two copies, and both are damaged.
+  pub record LosesBoth (new : D) (fault : LoadFault) : Type 0 where
+    pub copies : TellsCopies a b fault
+    pub lost : M.honest new → LostCause (AreCopies a b) (M.now new).image fault
 
 -- ---- roots
 

@@ -7,7 +7,7 @@ ghost use Rattle.sector_disk.specs.Machine.{Holds, wrote};
 ghost use Rattle.volume_layout.specs.Layout.{home_a, home_b};
 ghost use Rattle.volume_layout.specs.Root.{root_bytes};
 ghost use Rattle.twin_home.specs.Home.{WritesPart};
-ghost use Rattle.twin_home.specs.Heal.{AreCopies, ReadsBoth, Heals, Healed, TellsCopies, SetsRoot, SetsRoots, HealsRoots, RootsHealed};
+ghost use Rattle.twin_home.specs.Heal.{AreCopies, HealsOne, LosesBoth, ReadsBoth, Heals, TellsCopies, SetsRoot, SetsRoots, HealsRoots, RootsHealed};
 
 use sector_disk::{Failed, LoadFault, Machine, read_sector, write_sectors};
 use volume_layout::{Layout, root_bytes};
@@ -51,12 +51,9 @@ fn heal_copies<M: Machine>(m: &mut M, a: u32, b: u32) -> Result<u32, LoadFault>
     requires second { b < (M.report m.old).sectors }
 
     ensures writes { WritesDisk M.Machine (device_in load_failed_at result) (Heals a b) m.old m.new }
-    ensures copies { IfErr result (TellsCopies a b) }
-    ensures few { IfOk result (λ count. count ≤ 1) }
-    ensures counted { IfOk result (λ count. M.tells m.new → M.ledger m.new ≡ wrote (M.ledger m.old) count) }
     ensures most { M.tells m.new → (M.ledger m.new).written ≤ (M.ledger m.old).written + 1 }
-    ensures done { IfOk result (λ count. M.honest m.new → Healed a b count (M.now m.old) (M.now m.new)) }
-    ensures lost { IfErr result (λ fault. M.honest m.new → LostCause (AreCopies a b) (M.now m.new).image fault) }
+    ensures healed { IfOk result (HealsOne M.Machine a b m.old m.new) }
+    ensures failed { IfErr result (LosesBoth M.Machine a b m.new) }
 {
     match read_both(m, a, b)? {
         (Some(_), Some(_)) => Ok(0),
@@ -73,12 +70,9 @@ pub fn heal_page<M: Machine>(m: &mut M, l: &Layout, page: u32) -> Result<u32, Lo
     requires room { l.now.sectors ≤ (M.report m.old).sectors }
 
     ensures writes { WritesDisk M.Machine (device_in load_failed_at result) (Heals (home_a l.now page) (home_b l.now page)) m.old m.new }
-    ensures copies { IfErr result (TellsCopies (home_a l.now page) (home_b l.now page)) }
-    ensures few { IfOk result (λ count. count ≤ 1) }
-    ensures counted { IfOk result (λ count. M.tells m.new → M.ledger m.new ≡ wrote (M.ledger m.old) count) }
     ensures most { M.tells m.new → (M.ledger m.new).written ≤ (M.ledger m.old).written + 1 }
-    ensures done { IfOk result (λ count. M.honest m.new → Healed (home_a l.now page) (home_b l.now page) count (M.now m.old) (M.now m.new)) }
-    ensures lost { IfErr result (λ fault. M.honest m.new → LostCause (AreCopies (home_a l.now page) (home_b l.now page)) (M.now m.new).image fault) }
+    ensures healed { IfOk result (HealsOne M.Machine (home_a l.now page) (home_b l.now page) m.old m.new) }
+    ensures failed { IfErr result (LosesBoth M.Machine (home_a l.now page) (home_b l.now page) m.new) }
 {
     heal_copies(m, l.home_a(page), l.home_b(page))
 }
@@ -89,12 +83,9 @@ pub fn heal_roots<M: Machine>(m: &mut M) -> Result<u32, LoadFault>
     requires room { 4 < (M.report m.old).sectors }
 
     ensures writes { WritesDisk M.Machine (device_in load_failed_at result) (Heals 0 4) m.old m.new }
-    ensures copies { IfErr result (TellsCopies 0 4) }
-    ensures few { IfOk result (λ count. count ≤ 1) }
-    ensures counted { IfOk result (λ count. M.tells m.new → M.ledger m.new ≡ wrote (M.ledger m.old) count) }
     ensures most { M.tells m.new → (M.ledger m.new).written ≤ (M.ledger m.old).written + 1 }
-    ensures done { IfOk result (λ count. M.honest m.new → Healed 0 4 count (M.now m.old) (M.now m.new)) }
-    ensures lost { IfErr result (λ fault. M.honest m.new → LostCause (AreCopies 0 4) (M.now m.new).image fault) }
+    ensures healed { IfOk result (HealsOne M.Machine 0 4 m.old m.new) }
+    ensures failed { IfErr result (LosesBoth M.Machine 0 4 m.new) }
 {
     heal_copies(m, 0, 4)
 }
@@ -105,12 +96,9 @@ pub fn heal_anchor<M: Machine>(m: &mut M) -> Result<u32, LoadFault>
     requires room { 12 < (M.report m.old).sectors }
 
     ensures writes { WritesDisk M.Machine (device_in load_failed_at result) (Heals 8 12) m.old m.new }
-    ensures copies { IfErr result (TellsCopies 8 12) }
-    ensures few { IfOk result (λ count. count ≤ 1) }
-    ensures counted { IfOk result (λ count. M.tells m.new → M.ledger m.new ≡ wrote (M.ledger m.old) count) }
     ensures most { M.tells m.new → (M.ledger m.new).written ≤ (M.ledger m.old).written + 1 }
-    ensures done { IfOk result (λ count. M.honest m.new → Healed 8 12 count (M.now m.old) (M.now m.new)) }
-    ensures lost { IfErr result (λ fault. M.honest m.new → LostCause (AreCopies 8 12) (M.now m.new).image fault) }
+    ensures healed { IfOk result (HealsOne M.Machine 8 12 m.old m.new) }
+    ensures failed { IfErr result (LosesBoth M.Machine 8 12 m.new) }
 {
     heal_copies(m, 8, 12)
 }

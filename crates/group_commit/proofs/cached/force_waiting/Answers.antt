@@ -1,4 +1,4 @@
-use Rattle.std.proofs.Common.{◌≡◌, ◌≤◌, ◌+◌, ◌⊎◌, ⊎_elim, ℕ, true, List, [], length, Some, None, refl, sym, ap, subst, ◌∙◌, arith, rules}
+use Rattle.std.proofs.Common.{◌≡◌, ◌≤◌, ◌+◌, ⊎_elim, ℕ, true, List, [], length, Some, None, refl, sym, ap, subst, ◌∙◌, arith, rules}
 use Rattle.volume_layout.specs.Kinds.{gap_of}
 use Rattle.run_table.specs.Space.{contains}
 use Rattle.fsd_formats.specs.Record.{record_len}
@@ -7,11 +7,10 @@ use Rattle.log_thirds.specs.Append.{stamp_now}
 use Rattle.page_cache.specs.Cache.{CacheValue, bytes_of, cleaned}
 use Rattle.sector_disk.specs.Calls.{WritesDisk, load_failed_at}
 use Rattle.sector_disk.proofs.CallLaws.{writes_none}
-use Rattle.sector_disk.specs.Written.{WroteMost}
 use Rattle.group_commit.specs.Cached.{CacheLeaves, FramesLeave, ascending_of}
-use Rattle.group_commit.specs.Entering.{RecordCause}
+use Rattle.group_commit.specs.Commit.{RecordFails}
 use Rattle.group_commit.specs.Force.{log_forced}
-use Rattle.group_commit.specs.Room.{log_before, sectors_before}
+use Rattle.group_commit.specs.Room.{sectors_before}
 use Rattle.group_commit.proofs.CachedLaws.{all_accepted, all_stamped, all_there, before_layout, forced_some, idle_cache, idle_done, idle_leaves, idle_written, is_dirty, is_waiting, none_dirty, so_many, written_some}
 use Rattle.group_commit.proofs.OutsideLaws.{outside_none}
 use Rattle.group_commit.proofs.cached.force_waiting.Goals as goal
@@ -35,23 +34,20 @@ returns-then-count-eq0 g c =
     record {
       disk = writes_none c.args.m.now (λ left h now. g.met.M.Machine.only_now c.args.m.now left h now) (CacheLeaves log cache) (λ h. idle_leaves cache valid waiting are none log (g.M.Machine.now c.args.m.now));
       rest = λ h. outside_none log.layout (g.M.Machine.now c.args.m.now);
-      cause = tt;
-      pages = omega (arith, none, so_many cache valid waiting are);
-      counted = λ tells. omega (arith, idle_written cache valid waiting are none log);
-      counted_err = tt;
       idle = λ clean. refl;
-      cache = idle_cache cache valid waiting are none log;
-      cache_err = tt;
-      log = sym (ap (λ (ys : List ℕ). log_forced log (ascending_of ys)) (none_dirty cache valid waiting are none));
-      log_err = tt;
       layout = refl;
-      lost = tt;
-      never_lost = tt;
-      done = λ pages windows records disk agrees h ends over known. idle_done cache valid waiting are none log pages windows records disk (g.M.Machine.now c.args.m.now).image over;
-      knows = λ pages windows records disk agrees h ends over known. known;
-      logged = λ h page bytes is has.
-          let nowhere : contains [] page ≡ true = subst (λ (ys : List ℕ). contains ys page ≡ true) (none_dirty cache valid waiting are none) is in
-          absurd (cc nowhere);
+      done = record {
+        pages = omega (arith, none, so_many cache valid waiting are);
+        cache = idle_cache cache valid waiting are none log;
+        past = sym (ap (λ (ys : List ℕ). log_forced log (ascending_of ys)) (none_dirty cache valid waiting are none));
+        counted = λ tells. omega (arith, idle_written cache valid waiting are none log);
+        shows = λ pages windows records disk agrees h ends over known. idle_done cache valid waiting are none log pages windows records disk (g.M.Machine.now c.args.m.now).image over;
+        knows = λ pages windows records disk agrees h ends over known. known;
+        logged = λ h page bytes is has.
+            let nowhere : contains [] page ≡ true = subst (λ (ys : List ℕ). contains ys page ≡ true) (none_dirty cache valid waiting are none) is in
+            absurd (cc nowhere);
+      };
+      failed = tt;
     }
 
 pub returns-in-Ok : goal.returns-in-Ok
@@ -64,22 +60,19 @@ returns-in-Ok g c =
     record {
       disk = subst (λ (pages : List ℕ). WritesDisk g.M.Machine None (FramesLeave log cache pages) c.args.m.now c.write_frames.new.m) are wrote.disk;
       rest = wrote.rest;
-      cause = tt;
-      pages = many;
-      counted = λ tells. wrote.counted tells
-          ∙ ap (λ (k : ℕ). (g.M.Machine.ledger c.args.m.now).written + k) ((λ i. sectors_before log (many i) + record_len (gap_of c.args.log.now.layout) (many i)) ∙ sym (written_some log cache.dirty (omega (arith, some, many))));
-      counted_err = tt;
       idle = λ clean. absurd (omega (arith, some, many, ap length clean));
-      cache = c.cleaned.ensures ∙ ap cleaned (wrote.cache ∙ all_stamped cache valid waiting are (stamp_now log));
-      cache_err = tt;
-      log = wrote.past ∙ sym (forced_some log waiting some) ∙ ap (log_forced log) are;
-      log_err = tt;
       layout = ap (λ (l : LogValue). l.layout) wrote.past ∙ before_layout log (length waiting);
-      lost = tt;
-      never_lost = tt;
-      done = rw (← are) wrote.done;
-      knows = rw (← are) wrote.knows;
-      logged = λ h page bytes is has. wrote.logged h page bytes (is_waiting cache valid waiting are page is) (subst (λ (v : CacheValue). bytes_of v page ≡ Some bytes) c.cleaned.ensures has);
+      done = record {
+        pages = many;
+        cache = c.cleaned.ensures ∙ ap cleaned (wrote.cache ∙ all_stamped cache valid waiting are (stamp_now log));
+        past = wrote.past ∙ sym (forced_some log waiting some) ∙ ap (log_forced log) are;
+        counted = λ tells. wrote.counted tells
+            ∙ ap (λ (k : ℕ). (g.M.Machine.ledger c.args.m.now).written + k) ((λ i. sectors_before log (many i) + record_len (gap_of c.args.log.now.layout) (many i)) ∙ sym (written_some log cache.dirty (omega (arith, some, many))));
+        shows = rw (← are) wrote.done;
+        knows = rw (← are) wrote.knows;
+        logged = λ h page bytes is has. wrote.logged h page bytes (is_waiting cache valid waiting are page is) (subst (λ (v : CacheValue). bytes_of v page ≡ Some bytes) c.cleaned.ensures has);
+      };
+      failed = tt;
     }
 
 pub returns-in-Err : goal.returns-in-Err
@@ -93,19 +86,12 @@ returns-in-Err g c =
     record {
       disk = subst (λ (pages : List ℕ). WritesDisk M (load_failed_at c.in-Err.fault) (FramesLeave log cache pages) c.args.m.now c.write_frames.new.m) are failed.disk;
       rest = failed.rest;
-      cause = subst (λ (n : ℕ). RecordCause log n c.in-Err.fault) many failed.cause;
-      pages = tt;
-      counted = tt;
-      counted_err = λ tells. subst (λ (n : ℕ). WroteMost (sectors_before log n) (M.ledger c.args.m.now) (M.ledger c.write_frames.new.m)) many (failed.counted_err tells);
       idle = λ clean. absurd (omega (arith, some, many, ap length clean));
-      cache = tt;
-      cache_err = failed.cache ∙ all_stamped cache valid waiting are (stamp_now log);
-      log = tt;
-      log_err = subst (λ (n : ℕ). (c.write_frames.new.log ≡ log) ⊎ ((c.write_frames.new.log ≡ log_before log n) × (M.tells c.write_frames.new.m → (M.ledger c.write_frames.new.m).written ≡ (M.ledger c.args.m.now).written + sectors_before log n))) many failed.past_err;
-      layout = ⊎_elim (λ same. ap (λ (l : LogValue). l.layout) same) (λ before. ap (λ (l : LogValue). l.layout) before.0 ∙ before_layout log (length waiting)) failed.past_err;
-      lost = failed.lost;
-      never_lost = rw (← are) failed.never_lost;
+      layout = ⊎_elim (λ same. ap (λ (l : LogValue). l.layout) same) (λ before. ap (λ (l : LogValue). l.layout) before.0 ∙ before_layout log (length waiting)) failed.failed.past;
       done = tt;
-      knows = tt;
-      logged = tt;
+      failed = record {
+        cache = failed.cache ∙ all_stamped cache valid waiting are (stamp_now log);
+        write = subst (λ (n : ℕ). RecordFails M log c.write_frames.new.log n c.args.m.now c.write_frames.new.m c.in-Err.fault) many failed.failed;
+        never_lost = rw (← are) failed.never_lost;
+      };
     }

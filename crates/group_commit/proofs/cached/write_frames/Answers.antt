@@ -10,6 +10,9 @@ use Rattle.group_commit.proofs.cached.write_frames.Goals as goal
 pub returns-clause-disk : goal.returns-clause-disk
 returns-clause-disk g c = writes_more c.write_record.ensures.disk (λ h left leaves pages agrees. leaves pages (let has : HasImages c.args.log.now c.args.waiting.now c.as_slice.result.now pages = search rules in has))
 
+pub returns-clause-failed : goal.returns-clause-failed
+returns-clause-failed g c = c.write_record.ensures.failed
+
 pub returns-clause-never_lost : goal.returns-clause-never_lost
 returns-clause-never_lost g c =
     IfErr-weaker c.write_record.result _ _

@@ -128,7 +128,7 @@ returns-in_err-image_of-clause-lost g c =
     let image = (M.now c.image_of.new.m).image in
     handed_up (λ fault. M.honest c.image_of.new.m → LosesLogged log image fault) c.from_residual.result c.in_err-image_of.field-0.0 c.from_residual.ensures.1
     (λ h. cause_as (AreLogged log c.args.page) (AreOfLogged log) image c.in_err-image_of.field-0.0
-    (λ a b logged. record { page = c.args.page; within = c.requires.page; logged = logged }) (c.in_err-image_of.ensures.lost h))
+    (λ a b logged. record { page = c.args.page; within = c.requires.page; logged = logged }) (c.in_err-image_of.ensures.failed.lost h))
 
 pub returns-in_err-image_of-clause-counted_err : goal.returns-in_err-image_of-clause-counted_err
 returns-in_err-image_of-clause-counted_err g c =
@@ -144,7 +144,7 @@ returns-in_err-image_of-clause-never_lost g c =
     handed_up (λ fault. (records : List Placed) (disk : List (List ℕ)) (windows : List WeakRun) (old : Moment) (n : ℕ) → M.honest c.image_of.new.m → MayHome log windows old → IsHoming log records disk windows old n now → IsDevice fault)
     c.from_residual.result c.in_err-image_of.field-0.0 c.from_residual.ensures.1
     (λ records disk windows old n h may at.
-    slot_not_lost log records disk windows old may n now at c.args.page (M.now c.image_of.new.m) (c.in_err-image_of.ensures.reads.worn h) c.in_err-image_of.field-0.0 (c.in_err-image_of.ensures.lost h))
+    slot_not_lost log records disk windows old may n now at c.args.page (M.now c.image_of.new.m) (c.in_err-image_of.ensures.reads.worn h) c.in_err-image_of.field-0.0 (c.in_err-image_of.ensures.failed.lost h))
 
 pub returns-in_err-image_of-clause-rest : goal.returns-in_err-image_of-clause-rest
 returns-in_err-image_of-clause-rest g c h =

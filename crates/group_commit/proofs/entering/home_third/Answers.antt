@@ -1,17 +1,13 @@
 use Rattle.std.proofs.Common.{◌*◌, ◌+◌, ℕ, List, refl, ap, subst, ◌∙◌, arith}
 use Rattle.volume_layout.specs.Layout.{third_start}
-use Rattle.sector_disk.specs.Damage.{IsDevice}
-use Rattle.sector_disk.specs.declared.sector.WeakRun.{WeakRun}
 use Rattle.sector_disk.specs.Machine.{Ledger, wrote}
-use Rattle.sector_disk.specs.Written.{WroteMost}
 use Rattle.sector_disk.specs.Calls.{load_failed_at}
 use Rattle.sector_disk.proofs.CallLaws.{told_up, writes_none, writes_then, writes_told}
 use Rattle.sector_disk.proofs.Holding.{wears_none}
-use Rattle.sector_disk.proofs.ResultLaws.{err_as}
 use Rattle.fsd_log.specs.Scan.{Placed}
 use Rattle.log_thirds.specs.Append.{IsIndexed, IsLeastOfThird, NoneOfThird}
 use Rattle.log_thirds.specs.Slots.{IsLeastIn, NoneLiesIn}
-use Rattle.group_commit.specs.Entering.{ShowsStill, OwnsLog, MayHome}
+use Rattle.group_commit.specs.Entering.{HomesInPart, ShowsStill}
 use Rattle.group_commit.specs.Room.{pages_in_first}
 use Rattle.group_commit.proofs.CountLaws.{count_next, count_done, count_part, wrote_on, wrote_twice, wrote_none, handed_up}
 use Rattle.group_commit.proofs.HomingLaws.{begin, stays, all_homed}
@@ -69,27 +65,22 @@ returns-in_err-home_page-in-Some-clause-disk g c =
     (writes_then so_far.disk writes (λ h left so. so) (λ h left shows records disk windows may over.
     shows records disk windows old c.loop-page.from may ((least records over.indexed).lies) (so_far.homing records disk windows (writes.trust.honest h) may over)))
 
-pub returns-in_err-home_page-in-Some-clause-never_lost : goal.returns-in_err-home_page-in-Some-clause-never_lost
-returns-in_err-home_page-in-Some-clause-never_lost g c =
+pub returns-in_err-home_page-in-Some-clause-failed : goal.returns-in_err-home_page-in-Some-clause-failed
+returns-in_err-home_page-in-Some-clause-failed g c =
     let M = g.M.Machine in
-    let old = M.now c.args.m.now in
     let log = c.args.log.now in
     let so_far = c.loop-page.invariant in
-    handed_up (λ fault. (records : List Placed) (disk : List (List ℕ)) (windows : List WeakRun) → M.honest c.home_page.new.m → MayHome log windows old → OwnsLog log records disk windows old.image → IsDevice fault)
-    c.from_residual.result c.in_err-home_page-in-Some.field-0.0 c.from_residual.ensures.1
-    (λ records disk windows h may over. c.in_err-home_page-in-Some.ensures.never_lost records disk windows old c.loop-page.from h may (so_far.homing records disk windows (c.in_err-home_page-in-Some.ensures.disk.trust.honest h) may over))
-
-pub returns-in_err-home_page-in-Some-clause-counted_err : goal.returns-in_err-home_page-in-Some-clause-counted_err
-returns-in_err-home_page-in-Some-clause-counted_err g c =
-    let M = g.M.Machine in
-    let log = c.args.log.now in
     let start = third_start log.layout log.anchor.third in
     let slot = subst (λ (t : ℕ). IsLeastIn log.slots c.loop-page.from (third_start log.layout t) log.layout.third c.in-Some.page) c.requires.first c.in-Some.ensures.slot in
     let next = count_next log.slots c.loop-page.from start log.layout.third c.in-Some.page slot in
     let part = count_part log.slots start log.layout.third (c.in-Some.page + 1) in
     let said = c.in_err-home_page-in-Some.ensures in
-    err_as (M.tells c.home_page.new.m → WroteMost (2 * pages_in_first log) (M.ledger c.args.m.now) (M.ledger c.home_page.new.m)) c.from_residual.result
-    (λ t. wrote_on (M.ledger c.args.m.now) (M.ledger c.loop-page.m) (M.ledger c.home_page.new.m) _ 2 _ (ap (λ (l : Ledger). l.written) (c.loop-page.invariant.counted (said.disk.trust.tells t))) (said.counted_err t) (omega (arith, next, part)))
+    handed_up (HomesInPart M log (2 * pages_in_first log) c.args.m.now c.home_page.new.m) c.from_residual.result c.in_err-home_page-in-Some.field-0.0 c.from_residual.ensures.1
+    (record {
+      counted = λ t. wrote_on (M.ledger c.args.m.now) (M.ledger c.loop-page.m) (M.ledger c.home_page.new.m) _ 2 _ (ap (λ (l : Ledger). l.written) (so_far.counted (said.disk.trust.tells t))) (said.counted_err t) (omega (arith, next, part));
+      lost = said.lost;
+      never_lost = λ records disk windows h may over. said.never_lost records disk windows (M.now c.args.m.now) c.loop-page.from h may (so_far.homing records disk windows (said.disk.trust.honest h) may over);
+    })
 
 pub returns-in-None-clause-counted : goal.returns-in-None-clause-counted
 returns-in-None-clause-counted g c t =

@@ -1,31 +1,19 @@
-use Rattle.std.proofs.Common.{◌≡◌, ◌+◌, ◌*◌, ℕ, List, false, sym, subst}
-use Rattle.std.proofs.lemmas.Result.{on_err_weaker}
-use Rattle.sector_disk.specs.declared.sector.WeakRun.{WeakRun}
+use Rattle.std.proofs.Common.{◌∙◌, ◌+◌, ◌*◌, ℕ, sym, ap, subst, rules}
+use Rattle.std.proofs.lemmas.Result.{IfErr-weaker, on_ok_weaker}
+use Rattle.sector_disk.specs.Machine.{Ledger}
 use Rattle.sector_disk.proofs.CallLaws.{writes_none}
 use Rattle.sector_disk.proofs.Holding.{wears_none}
-use Rattle.sector_disk.proofs.ResultLaws.{err_as}
-use Rattle.fsd_log.specs.Scan.{Placed}
+use Rattle.fsd_log.specs.Scan.{HasRoom}
 use Rattle.log_thirds.specs.LogValue.{LogValue}
 use Rattle.log_thirds.specs.Moving.{moved, records_moved}
-use Rattle.group_commit.specs.Entering.{ShowsStill, OwnsLog, IsEntered, HasRoomNow, MayHome}
+use Rattle.group_commit.specs.Entering.{OwnsLog, ShowsStill}
 use Rattle.group_commit.specs.Force.{KeepsOutside}
 use Rattle.group_commit.proofs.HomingLaws.{begin, stays}
 use Rattle.group_commit.proofs.OutsideLaws.{outside_none}
-use Rattle.group_commit.proofs.RoomLaws.{before_again, on_ok_both, first_again}
-use Rattle.group_commit.specs.Room.{goes_before, pages_in_first, sectors_before}
+use Rattle.group_commit.proofs.RoomLaws.{before_again, first_again, form_either, moved_again}
+use Rattle.group_commit.specs.Room.{pages_in_first, sectors_before}
 use Rattle.group_commit.proofs.CountLaws.{wrote_at}
 use Rattle.group_commit.proofs.entering.make_room.Goals as goal
-
-pub returns-in-FirstThird-clause-enters : goal.returns-in-FirstThird-clause-enters
-returns-in-FirstThird-clause-enters g c =
-    err_as (goes_before c.args.log.now c.args.count ≡ false) c.enter_third.result (first_again c.args.log.now c.args.count c.in-FirstThird.ensures.0.0 c.in-FirstThird.ensures.0.1)
-
-pub returns-in-FirstThird-clause-counted_err : goal.returns-in-FirstThird-clause-counted_err
-returns-in-FirstThird-clause-counted_err g c =
-    let M = g.M.Machine in
-    let log = c.args.log.now in
-    let again = first_again log c.args.count c.in-FirstThird.ensures.0.0 c.in-FirstThird.ensures.0.1 in
-    on_err_weaker c.enter_third.result (λ most t. wrote_at (2 * pages_in_first log + 2) (sectors_before log c.args.count) (M.ledger c.args.m.now) (M.ledger c.enter_third.new.m) (sym (before_again log c.args.count again)) (most t)) c.enter_third.ensures.counted_err
 
 pub returns-in-FirstThird-clause-done : goal.returns-in-FirstThird-clause-done
 returns-in-FirstThird-clause-done g c =
@@ -33,18 +21,64 @@ returns-in-FirstThird-clause-done g c =
     let old = M.now c.args.m.now in
     let new = M.now c.enter_third.new.m in
     let log = c.args.log.now in
-    on_ok_both (c.enter_third.new.log ≡ moved log)
-    ((records : List Placed) (disk : List (List ℕ)) (windows : List WeakRun) → M.honest c.enter_third.new.m → MayHome log windows old → OwnsLog log records disk windows old.image → IsEntered log records disk windows old new)
-    ((records : List Placed) (disk : List (List ℕ)) (windows : List WeakRun) → M.honest c.enter_third.new.m → MayHome log windows old → OwnsLog log records disk windows old.image → HasRoomNow c.enter_third.new.log disk windows old new)
-    c.enter_third.result
-    (λ past done records disk windows h may over.
-    let is = done records disk windows h may over in
-    record {
-      records = records_moved log.layout records;
-      over = subst (λ (x : LogValue). OwnsLog x (records_moved log.layout records) disk windows new.image) (sym past) is.over;
-      outside = subst (λ (x : LogValue). KeepsOutside x.layout old new) (sym past) is.outside;
+    let count = c.args.count in
+    let again = first_again log count c.in-FirstThird.ensures.0.0 c.in-FirstThird.ensures.0.1 in
+    let room : HasRoom (moved log).layout count (moved log).head = search rules in
+    on_ok_weaker c.enter_third.result
+    (λ is. record {
+      past = is.past ∙ sym (moved_again log count again);
+      room = subst (λ (x : LogValue). HasRoom x.layout count x.head) (sym is.past) room;
+      counted = λ t. ap (λ (l : Ledger). l.written) (is.counted t) ∙ ap (λ (n : ℕ). (M.ledger c.args.m.now).written + n) (sym (before_again log count again));
+      shows = λ records disk windows h may over.
+          let entered = is.shows records disk windows h may over in
+          record {
+            records = records_moved log.layout records;
+            over = subst (λ (x : LogValue). OwnsLog x (records_moved log.layout records) disk windows new.image) (sym is.past) entered.over;
+            outside = subst (λ (x : LogValue). KeepsOutside x.layout old new) (sym is.past) entered.outside;
+          };
     })
-    c.enter_third.ensures.past c.enter_third.ensures.done
+    c.enter_third.ensures.done
+
+pub returns-in-FirstThird-clause-failed : goal.returns-in-FirstThird-clause-failed
+returns-in-FirstThird-clause-failed g c =
+    let M = g.M.Machine in
+    let log = c.args.log.now in
+    let count = c.args.count in
+    let again = first_again log count c.in-FirstThird.ensures.0.0 c.in-FirstThird.ensures.0.1 in
+    IfErr-weaker c.enter_third.result _ _
+    (λ fault is. record {
+      kept = is.kept;
+      enters = again;
+      homes = record {
+        counted = λ t. wrote_at (2 * pages_in_first log + 2) (sectors_before log count) (M.ledger c.args.m.now) (M.ledger c.enter_third.new.m) (sym (before_again log count again)) (is.homes.counted t);
+        lost = is.homes.lost;
+        never_lost = is.homes.never_lost;
+      };
+    })
+    c.enter_third.ensures.failed
+
+pub returns-in-FirstThird-clause-form : goal.returns-in-FirstThird-clause-form
+returns-in-FirstThird-clause-form g c =
+    form_either c.enter_third.result c.args.log.now c.enter_third.new.log (on_ok_weaker c.enter_third.result (λ is. is.past) c.enter_third.ensures.done)
+    (IfErr-weaker c.enter_third.result _ _ (λ fault is. is.kept) c.enter_third.ensures.failed)
+
+pub returns-in-Here-clause-done : goal.returns-in-Here-clause-done
+returns-in-Here-clause-done g c =
+    record {
+      past = search rules;
+      room = search rules;
+      counted = search rules;
+      shows = λ records disk windows h may over. record { records = records; over = over; outside = outside_none c.args.log.now.layout (g.M.Machine.now c.args.m.now) };
+    }
+
+pub returns-in-NextThird-clause-done : goal.returns-in-NextThird-clause-done
+returns-in-NextThird-clause-done g c =
+    record {
+      past = search rules;
+      room = search rules;
+      counted = search rules;
+      shows = λ records disk windows h may over. record { records = records; over = over; outside = outside_none c.args.log.now.layout (g.M.Machine.now c.args.m.now) };
+    }
 
 pub returns-in-Here-clause-disk : goal.returns-in-Here-clause-disk
 returns-in-Here-clause-disk g c =

@@ -1,27 +1,26 @@
-use Rattle.std.proofs.Common.{◌≡◌, ◌+◌, ◌*◌, ℕ, None, List, [], length, get_or, take, sym, ap, subst, ◌∙◌, arith}
+use Rattle.std.proofs.Common.{◌≡◌, ◌+◌, ◌*◌, ℕ, None, inl, inr, List, [], length, get_or, take, sym, ap, subst, ◌∙◌, arith}
 use Rattle.std.proofs.lemmas.List.{length-take-le}
 use Rattle.volume_layout.specs.declared.layout.Layout.{Layout}
 use Rattle.volume_layout.specs.Kinds.{gap_of}
 use Rattle.fsd_formats.specs.Record.{Stamp, are_pages, record_len, AreStamped}
 use Rattle.fsd_log.specs.Judged.{slice_of}
-use Rattle.fsd_log.specs.Laid.{laid_bytes, slices}
+use Rattle.fsd_log.specs.Laid.{slices}
 use Rattle.sector_disk.specs.declared.machine.LoadFault.TheVariants.{Device}
 use Rattle.sector_disk.specs.Damage.{IsDevice}
 use Rattle.group_commit.proofs.CountLaws.{handed_up, wrote_on, wrote_same}
-use Rattle.fsd_log.specs.Scan.{Placed, place_of, spot_for}
+use Rattle.fsd_log.specs.Scan.{Placed}
 use Rattle.sector_disk.specs.declared.sector.WeakRun.{WeakRun}
 use Rattle.sector_disk.specs.Calls.{load_failed_at}
-use Rattle.sector_disk.specs.Machine.{Moment}
-use Rattle.sector_disk.specs.Written.{WroteMost}
+use Rattle.sector_disk.specs.Machine.{Ledger, Moment}
 use Rattle.sector_disk.proofs.CallLaws.{told_up, writes_more, writes_then, writes_told}
 use Rattle.fsd_sound.specs.Sound.{EndIn, BearsLast, weak_of}
 use Rattle.log_thirds.specs.LogValue.{LogValue}
-use Rattle.log_thirds.specs.Append.{IsApartNow, StandsInPart, stamp_now, log_with}
+use Rattle.log_thirds.specs.Append.{IsApartNow, WritesRecord, log_with, stamp_now}
 use Rattle.log_thirds.proofs.MomentLaws.{MayAppend, all_small}
 use Rattle.sector_disk.specs.Image.{open_damage}
 use Rattle.sector_disk.proofs.Wear.{worn_refl, slice_in_front}
-use Rattle.sector_disk.proofs.ResultLaws.{err_as}
-use Rattle.group_commit.specs.Entering.{HasRoomNow, LosesLogged, MayHome, ShowsStill}
+use Rattle.group_commit.specs.Commit.{RecordFails}
+use Rattle.group_commit.specs.Entering.{HasRoomNow, MayHome, ShowsStill}
 use Rattle.group_commit.specs.Force.{StandsOver, Committed, KeepsOutside}
 use Rattle.group_commit.specs.Cached.{HasImages, RecordLeaves}
 use Rattle.group_commit.specs.Logged.{StandsLogged}
@@ -29,6 +28,7 @@ use Rattle.group_commit.specs.Newest.{KnowsImages}
 use Rattle.group_commit.specs.Resident.{ResidentValue, stamped}
 use Rattle.group_commit.specs.Room.{sectors_before}
 use Rattle.group_commit.proofs.ImageLaws.{IsRecordOf}
+use Rattle.group_commit.proofs.RoomLaws.{record_cause}
 use Rattle.group_commit.proofs.RoundLaws.{may_home, owns, making, stands, commits_on, ends_then}
 use Rattle.group_commit.proofs.ForceLaws.{MayForce, commits, committed, log_in_window}
 use Rattle.group_commit.proofs.LoggedLaws.{stands_logged}
@@ -63,7 +63,7 @@ made : (g : given.Over) (c : After-append g) (pages : List (List ℕ)) (windows 
     → StandsOver c.args.log.now records disk (s g c pages) windows (g.M.Machine.now c.args.m.now).image → KnowsImages c.args.log.now (g.M.Machine.now c.args.m.now).image
     → HasRoomNow c.make_room.new.log disk windows (g.M.Machine.now c.args.m.now) (g.M.Machine.now c.make_room.new.m)
 made g c pages windows records disk h ends over known =
-    c.in_ok-make_room.ensures.done records disk windows (c.append.ensures.writes.trust.honest h) (home_here g c windows over.shows.readable.borne ends) (owns c.args.log.now (s g c pages) records disk windows (g.M.Machine.now c.args.m.now) over known)
+    c.in_ok-make_room.ensures.done.shows records disk windows (c.append.ensures.writes.trust.honest h) (home_here g c windows over.shows.readable.borne ends) (owns c.args.log.now (s g c pages) records disk windows (g.M.Machine.now c.args.m.now) over known)
 
 -- the log takes the record, whatever the disk shows
 may_append : (g : given.Over) (c : After-append g) → g.M.Machine.honest c.append.new.m → MayAppend c.make_room.new.log c.args.dirty.now (images g c) (length (g.M.Machine.now c.make_room.new.m).image)
@@ -75,13 +75,13 @@ may_append g c h =
       one_of = shape.third;
       is_in = shape.is_in;
       epoch = shape.epoch;
-      number = omega (arith, ap (λ (t : Stamp). t.number) c.make_room.ensures.stamp, c.requires.numbered);
-      accepted = ap (λ (l : Layout). are_pages l.pages c.args.dirty.now) c.make_room.ensures.layout ∙ c.requires.accepted;
+      number = omega (arith, ap (λ (t : Stamp). t.number) c.make_room.ensures.form.stamp, c.requires.numbered);
+      accepted = ap (λ (l : Layout). are_pages l.pages c.args.dirty.now) c.make_room.ensures.form.layout ∙ c.requires.accepted;
       small = all_small c.args.dirty.now (λ k. omega (arith, c.type_inv.dirty k));
       bytes = length-take-le (512 * length c.args.dirty.now) c.args.room.now c.requires.long;
-      stamped = subst (λ (t : Stamp). AreStamped t c.args.dirty.now (slices (length c.args.dirty.now) (images g c))) (sym c.make_room.ensures.stamp) c.requires.stamped;
-      room = c.in_ok-make_room.ensures.room;
-      sized = omega (arith, shape.inside, ap (λ (l : Layout). l.sectors) c.make_room.ensures.layout, c.requires.sectors, c.make_room.ensures.disk.uses.sectors, g.met.M.Machine.sized c.make_room.new.m h1);
+      stamped = subst (λ (t : Stamp). AreStamped t c.args.dirty.now (slices (length c.args.dirty.now) (images g c))) (sym c.make_room.ensures.form.stamp) c.requires.stamped;
+      room = c.in_ok-make_room.ensures.done.room;
+      sized = omega (arith, shape.inside, ap (λ (l : Layout). l.sectors) c.make_room.ensures.form.layout, c.requires.sectors, c.make_room.ensures.disk.uses.sectors, g.met.M.Machine.sized c.make_room.new.m h1);
     }
 
 may : (g : given.Over) (c : After-append g) (pages : List (List ℕ)) (has : Have g c pages) (windows : List WeakRun) (records : List Placed) (disk : List (List ℕ)) (h : g.M.Machine.honest c.append.new.m) (ends : EndIn (g.M.Machine.now c.args.m.now).windows windows)
@@ -96,24 +96,24 @@ may g c pages has windows records disk h ends over known =
     let room = made g c pages windows records disk h ends over known in
     record {
       may = may_append g c h;
-      of = subst (λ (t : Stamp). IsRecordOf t c.args.dirty.now (stamped t c.args.dirty.now pages) (images g c)) (sym c.make_room.ensures.stamp) (laid g c pages has);
-      table = has.table ∙ ap (λ (l : Layout). l.pages) (sym c.make_room.ensures.layout);
+      of = subst (λ (t : Stamp). IsRecordOf t c.args.dirty.now (stamped t c.args.dirty.now pages) (images g c)) (sym c.make_room.ensures.form.stamp) (laid g c pages has);
+      table = has.table ∙ ap (λ (l : Layout). l.pages) (sym c.make_room.ensures.form.layout);
       few = omega (arith, c.append.ensures.shape.pages);
-      apart = subst (λ (l : Layout). IsApart (gap_of l) (weak_of windows)) (sym c.make_room.ensures.layout) (home_here g c windows over.shows.readable.borne ends).apart;
-      ends = ends_then log (s g c pages) records disk windows (M.now c.args.m.now) over after mid room c.make_room.ensures.layout c.make_room.ensures.stamp (c.make_room.ensures.disk.windows h1) (c.make_room.ensures.disk.quiet h1) ends;
-      over = stands log (s g c pages) records disk windows (M.now c.args.m.now) over after mid room c.make_room.ensures.layout c.make_room.ensures.stamp (c.make_room.ensures.disk.windows h1) (c.make_room.ensures.disk.quiet h1);
+      apart = subst (λ (l : Layout). IsApart (gap_of l) (weak_of windows)) (sym c.make_room.ensures.form.layout) (home_here g c windows over.shows.readable.borne ends).apart;
+      ends = ends_then log (s g c pages) records disk windows (M.now c.args.m.now) over after mid room c.make_room.ensures.form.layout c.make_room.ensures.form.stamp (c.make_room.ensures.disk.windows h1) (c.make_room.ensures.disk.quiet h1) ends;
+      over = stands log (s g c pages) records disk windows (M.now c.args.m.now) over after mid room c.make_room.ensures.form.layout c.make_room.ensures.form.stamp (c.make_room.ensures.disk.windows h1) (c.make_room.ensures.disk.quiet h1);
     }
 
 -- whatever the append leaves, the pages as they were or as they are now are shown
 shown : (g : given.Over) (c : After-append g) (left : Moment) → g.M.Machine.honest c.append.new.m
-    → StandsInPart (place_of c.make_room.new.log.layout c.make_room.new.log.anchor.third (spot_for c.make_room.new.log.layout (length c.args.dirty.now) c.make_room.new.log.head).at) (laid_bytes (gap_of c.make_room.new.log.layout) (stamp_now c.make_room.new.log) c.args.dirty.now (images g c)) (record_len (gap_of c.make_room.new.log.layout) (length c.args.dirty.now)) (g.M.Machine.now c.make_room.new.m) left
+    → WritesRecord c.make_room.new.log c.args.dirty.now (images g c) (g.M.Machine.now c.make_room.new.m) left
     → RecordLeaves c.args.log.now c.args.dirty.now c.args.room.now (g.M.Machine.now c.args.m.now) left
 shown g c left h part pages has windows records disk ends over known =
     let M = g.M.Machine in
     let room = made g c pages windows records disk h ends over known in
     let writes = c.in_ok-make_room.ensures.disk in
     let h1 = c.append.ensures.writes.trust.honest h in
-    commits_on c.args.log.now (s g c pages) records disk windows (M.now c.args.m.now) over c.make_room.new.log (M.now c.make_room.new.m) room c.make_room.ensures.layout c.make_room.ensures.stamp (writes.windows h1) (writes.quiet h1) left
+    commits_on c.args.log.now (s g c pages) records disk windows (M.now c.args.m.now) over c.make_room.new.log (M.now c.make_room.new.m) room c.make_room.ensures.form.layout c.make_room.ensures.form.stamp (writes.windows h1) (writes.quiet h1) left
     (commits c.make_room.new.log (s g c pages) (images g c) room.records disk windows (M.now c.make_room.new.m) (may g c pages has windows records disk h ends over known) left part)
 
 -- and while room is made those as they were
@@ -135,11 +135,11 @@ rest_made g c h =
     let writes = c.append.ensures.writes in
     let h1 = writes.trust.honest h in
     outside_then c.args.log.now.layout (M.now c.args.m.now) mid new (c.make_room.ensures.disk.windows h1) (c.make_room.ensures.rest h1)
-    (subst (λ (l : Layout). KeepsOutside l mid new) c.make_room.ensures.layout (outside_record after c.args.dirty.now (images g c) mid new (may_append g c h) (writes.exit h)))
+    (subst (λ (l : Layout). KeepsOutside l mid new) c.make_room.ensures.form.layout (outside_record after c.args.dirty.now (images g c) mid new (may_append g c h) (writes.exit h)))
 
 pub append-requires-clause-stamped : goal.append-requires-clause-stamped
 append-requires-clause-stamped g c =
-    subst (λ (t : Stamp). AreStamped t c.args.dirty.now (slices (length c.args.dirty.now) (take (512 * length c.args.dirty.now) c.args.room.now))) (sym c.make_room.ensures.stamp) c.requires.stamped
+    subst (λ (t : Stamp). AreStamped t c.args.dirty.now (slices (length c.args.dirty.now) (take (512 * length c.args.dirty.now) c.args.room.now))) (sym c.make_room.ensures.form.stamp) c.requires.stamped
 
 -- ---- where no room was made
 
@@ -164,27 +164,46 @@ returns-in_err-make_room-clause-never_lost g c =
     handed_up (λ fault. (pages : List (List ℕ)) (windows : List WeakRun) (records : List Placed) (disk : List (List ℕ)) → HasImages log c.args.dirty.now c.args.room.now pages → M.honest c.make_room.new.m → EndIn old.windows windows
     → StandsOver log records disk (record { pages = pages; dirty = c.args.dirty.now }) windows old.image → KnowsImages log old.image → IsDevice fault)
     c.from_residual.result c.in_err-make_room.field-0.0 c.from_residual.ensures.1
-    (λ pages windows records disk has h ends over known. c.in_err-make_room.ensures.never_lost records disk windows h
+    (λ pages windows records disk has h ends over known. c.in_err-make_room.ensures.failed.homes.never_lost records disk windows h
     (may_home log c.layout-layout.result.now windows old c.layout-layout.ensures.value c.pages-pages.ensures.planned c.layout-layout.ensures.shape over.shows.readable.borne ends)
     (owns log (record { pages = pages; dirty = c.args.dirty.now }) records disk windows old over known))
 
-pub returns-in_err-append-clause-lost : goal.returns-in_err-append-clause-lost
-returns-in_err-append-clause-lost g c =
-    let M = g.M.Machine in
-    handed_up (λ fault. M.honest c.append.new.m → LosesLogged c.args.log.now (M.now c.append.new.m).image fault) c.from_residual-in_err-append.result (Device c.in_err-append.field-0.0.place) c.from_residual-in_err-append.ensures.1 (λ h. tt)
+pub returns-in_err-make_room-clause-failed : goal.returns-in_err-make_room-clause-failed
+returns-in_err-make_room-clause-failed g c =
+    let log = c.args.log.now in
+    let n = length c.args.dirty.now in
+    let failed = c.in_err-make_room.ensures.failed in
+    handed_up (RecordFails g.M.Machine log c.make_room.new.log n c.args.m.now c.make_room.new.m) c.from_residual.result c.in_err-make_room.field-0.0 c.from_residual.ensures.1
+    (record { cause = record_cause log n failed.enters c.in_err-make_room.field-0.0; past = inl failed.kept; counted = failed.homes.counted; lost = failed.homes.lost })
 
-pub returns-in_err-make_room-clause-counted_err : goal.returns-in_err-make_room-clause-counted_err
-returns-in_err-make_room-clause-counted_err g c =
+pub returns-in_err-append-clause-failed : goal.returns-in_err-append-clause-failed
+returns-in_err-append-clause-failed g c =
     let M = g.M.Machine in
-    err_as (M.tells c.make_room.new.m → WroteMost (sectors_before c.args.log.now (length c.args.dirty.now)) (M.ledger c.args.m.now) (M.ledger c.make_room.new.m)) c.from_residual.result (λ t. c.in_err-make_room.ensures.counted_err t)
+    let log = c.args.log.now in
+    let n = length c.args.dirty.now in
+    let before = sectors_before log n in
+    let made = c.in_ok-make_room.ensures.done in
+    let failed = c.in_err-append.ensures.failed in
+    let back = c.in_err-append.ensures.writes.trust.tells in
+    handed_up (RecordFails M log c.append.new.self n c.args.m.now c.append.new.m) c.from_residual-in_err-append.result (Device c.in_err-append.field-0.0.place) c.from_residual-in_err-append.ensures.1
+    (record {
+      cause = tt;
+      past = inr (failed.kept ∙ made.past, λ t. ap (λ (l : Ledger). l.written) (failed.counted t) ∙ made.counted (back t));
+      counted = λ t. wrote_on (M.ledger c.args.m.now) (M.ledger c.make_room.new.m) (M.ledger c.append.new.m) before 0 before
+          (made.counted (back t)) (wrote_same (M.ledger c.make_room.new.m) (M.ledger c.append.new.m) 0 (failed.counted t)) (omega arith);
+      lost = λ h. tt;
+    })
 
-pub returns-in_err-append-clause-counted_err : goal.returns-in_err-append-clause-counted_err
-returns-in_err-append-clause-counted_err g c =
+pub returns-clause-past : goal.returns-clause-past
+returns-clause-past g c = c.in_ok-append.ensures.done.past ∙ ap (λ (x : LogValue). log_with x c.args.dirty.now) c.in_ok-make_room.ensures.done.past
+
+pub returns-clause-counted : goal.returns-clause-counted
+returns-clause-counted g c t =
     let M = g.M.Machine in
-    let before = sectors_before c.args.log.now (length c.args.dirty.now) in
-    err_as (M.tells c.append.new.m → WroteMost before (M.ledger c.args.m.now) (M.ledger c.append.new.m)) c.from_residual-in_err-append.result
-    (λ t. wrote_on (M.ledger c.args.m.now) (M.ledger c.make_room.new.m) (M.ledger c.append.new.m) before 0 before
-    (c.in_ok-make_room.ensures.counted (c.in_err-append.ensures.writes.trust.tells t)) (wrote_same (M.ledger c.make_room.new.m) (M.ledger c.append.new.m) 0 (c.in_err-append.ensures.counted_err t)) (omega arith))
+    let n = length c.args.dirty.now in
+    let written = ap (λ (l : Ledger). l.written) (c.in_ok-append.ensures.done.counted t) in
+    let len = ap (λ (l : Layout). record_len (gap_of l) n) c.make_room.ensures.form.layout in
+    omega (arith, written, len, c.in_ok-make_room.ensures.done.counted (c.in_ok-append.ensures.writes.trust.tells t))
 
 pub returns-in_err-append-clause-disk : goal.returns-in_err-append-clause-disk
 returns-in_err-append-clause-disk g c =
@@ -208,10 +227,10 @@ returns-clause-done g c pages windows records disk has h ends over known =
     let after = c.make_room.new.log in
     let room = made g c1 pages windows records disk h ends over known in
     let is = may g c1 pages has windows records disk h ends over known in
-    let past : c.append.new.self ≡ log_with after dirty = c.in_ok-append.ensures.past in
-    let done = committed after (s g c1 pages) (images g c1) room.records disk windows mid is (M.now c.append.new.m) (c.in_ok-append.ensures.stands h) in
+    let past : c.append.new.self ≡ log_with after dirty = c.in_ok-append.ensures.done.past in
+    let done = committed after (s g c1 pages) (images g c1) room.records disk windows mid is (M.now c.append.new.m) (c.in_ok-append.ensures.done.stands h) in
     subst (λ (x : LogValue). Committed x (record { pages = stamped (stamp_now log) dirty pages; dirty = [] }) windows image) (sym past)
-    (subst (λ (t : Stamp). Committed (log_with after dirty) (record { pages = stamped t dirty pages; dirty = [] }) windows image) c.make_room.ensures.stamp (record { records = done.records; stands = done.stands }))
+    (subst (λ (t : Stamp). Committed (log_with after dirty) (record { pages = stamped t dirty pages; dirty = [] }) windows image) c.make_room.ensures.form.stamp (record { records = done.records; stands = done.stands }))
 
 -- what the machine may wear now lies no farther apart than the last window's run
 apart_now : (gap : ℕ) (windows : List WeakRun) (at : Moment) → EndIn at.windows windows → IsApart gap (weak_of windows) → IsApartNow gap at
@@ -229,8 +248,8 @@ returns-clause-knows g c pages windows records disk has h ends over kept =
     let room = made g c1 pages windows records disk h ends over kept in
     let is = may g c1 pages has windows records disk h ends over kept in
     let before = log_in_window after (s g c1 pages) room.records disk windows mid is.few c.append.ensures.shape.epoch c.append.ensures.shape.third is.apart is.ends is.over in
-    let then = c.in_ok-append.ensures.worn_done room.records h (apart_now (gap_of after.layout) windows mid is.ends is.apart) before in
-    knows_log c.append.new.self _ new (then new.image (worn_refl (open_damage new.windows) new.image)) (c.in_ok-append.ensures.indexed room.records room.over.indexed)
+    let then = c.in_ok-append.ensures.done.worn room.records h (apart_now (gap_of after.layout) windows mid is.ends is.apart) before in
+    knows_log c.append.new.self _ new (then new.image (worn_refl (open_damage new.windows) new.image)) (c.in_ok-append.ensures.done.indexed room.records room.over.indexed)
 
 pub returns-clause-logged : goal.returns-clause-logged
 returns-clause-logged g c h k lt =
@@ -240,9 +259,9 @@ returns-clause-logged g c h k lt =
     let after = c.make_room.new.log in
     let new = M.now c.append.new.m in
     let page : ℕ = get_or c.args.dirty.now k 0 in
-    subst (λ (x : LogValue). StandsLogged x new page (slice_of c.args.room.now k)) (sym c.in_ok-append.ensures.past)
+    subst (λ (x : LogValue). StandsLogged x new page (slice_of c.args.room.now k)) (sym c.in_ok-append.ensures.done.past)
     (subst (StandsLogged (log_with after dirty) new page) (slice_in_front c.args.room.now (length dirty) k lt)
-    (stands_logged after dirty (images g c1) (M.now c.make_room.new.m) new (may_append g c1 h) k lt c.append.ensures.shape.table (c.in_ok-append.ensures.stands h)))
+    (stands_logged after dirty (images g c1) (M.now c.make_room.new.m) new (may_append g c1 h) k lt c.append.ensures.shape.table (c.in_ok-append.ensures.done.stands h)))
 
 pub returns-clause-rest : goal.returns-clause-rest
 returns-clause-rest g c h = rest_made g (goal.at.returns-clause-rest g c).After-append h

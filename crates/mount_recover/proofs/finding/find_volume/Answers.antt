@@ -32,7 +32,7 @@ returns-in-Ok-scan-clause-seen g c h =
     let wears = c.find_roots.ensures.reads.worn h1 in
     let seen = c.in-Ok.ensures.seen h1 in
     found_so c.args.sectors roots.first roots.second old mid wears seen c.in-Some.layout (sym c.taken.ensures ∙ c.in-Some.is) c.longest.result c.longest.ensures.first c.longest.ensures.second
-    c.in-Ok-scan.log (M.now c.scan.new.m) c.in-Ok-scan.ensures.layout (c.in-Ok-scan.ensures.seen seen.seen h (seen_now c.args.sectors roots.first roots.second old mid wears seen c.in-Some.layout (sym c.taken.ensures ∙ c.in-Some.is)))
+    c.in-Ok-scan.log (M.now c.scan.new.m) c.in-Ok-scan.ensures.found.layout (c.in-Ok-scan.ensures.found.seen seen.seen h (seen_now c.args.sectors roots.first roots.second old mid wears seen c.in-Some.layout (sym c.taken.ensures ∙ c.in-Some.is)))
 
 pub returns-in-Err-scan-clause-refused : goal.returns-in-Err-scan-clause-refused
 returns-in-Err-scan-clause-refused g c h =

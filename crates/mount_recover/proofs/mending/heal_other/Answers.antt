@@ -28,8 +28,8 @@ use Rattle.mount_recover.proofs.mending.heal_other.Goals as goal
 
 -- ---- a page that the log has
 
-pub returns-then-has-clause-disk : goal.returns-then-has-clause-disk
-returns-then-has-clause-disk g c = reads_as_heals (reads_none c.args.m.now (λ at h left. g.met.M.Machine.only_now c.args.m.now at h left))
+pub returns-then-has-clause-mends : goal.returns-then-has-clause-mends
+returns-then-has-clause-mends g c = record { disk = reads_as_heals (reads_none c.args.m.now (λ at h left. g.met.M.Machine.only_now c.args.m.now at h left)); load = tt; lost = tt; grows = λ t. omega arith }
 
 pub returns-then-has-clause-keeps : goal.returns-then-has-clause-keeps
 returns-then-has-clause-keeps g c h = keeps_none c.args.l.now (g.M.Machine.now c.args.m.now)
@@ -59,6 +59,9 @@ returns-then-has-clause-done g c windows choices first is h at =
     heal_skips l windows choices log first is (home_b l l.pages) c.args.page old at (slot_has l windows choices log first is c.requires.layout c.args.page c.requires.page (home_b l l.pages) c.args.page old at has)
 
 -- ---- a page that it does not have
+
+pub returns-else-has-clause-mends : goal.returns-else-has-clause-mends
+returns-else-has-clause-mends g c = c.heal_home.ensures.mends
 
 pub returns-else-has-clause-keeps : goal.returns-else-has-clause-keeps
 returns-else-has-clause-keeps g c h =
@@ -101,7 +104,7 @@ returns-else-has-clause-never_lost g c =
     let stays = c.heal_home.ensures.exit windows choices log first is h at in
     cause_excused (AreHomes l) new.image fault
     (homes_serve l windows (narrow l windows choices log first is) choices new.image (stays_show l windows choices log first is new stays)) cause (lost h))
-    c.heal_home.ensures.load c.heal_home.ensures.lost
+    c.heal_home.ensures.mends.load c.heal_home.ensures.mends.lost
 
 pub returns-else-has-clause-shown : goal.returns-else-has-clause-shown
 returns-else-has-clause-shown g c =

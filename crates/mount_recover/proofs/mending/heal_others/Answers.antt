@@ -3,14 +3,13 @@ use Rattle.volume_layout.specs.Layout.{home_b}
 use Rattle.sector_disk.specs.declared.sector.WeakRun.{WeakRun}
 use Rattle.sector_disk.specs.Machine.{Moment}
 use Rattle.sector_disk.proofs.Moments.{started, then_on}
-use Rattle.sector_disk.proofs.CallLaws.{heals_then, heals_told, reads_as_heals, reads_none, told_up}
+use Rattle.sector_disk.proofs.CallLaws.{heals_then, reads_as_heals, reads_none}
 use Rattle.mount_recover.specs.Finding.{IsExcuse}
-use Rattle.fsd_sound.specs.Lost.{AreHomes, LostIn}
-use Rattle.mount_recover.specs.Mending.{IsLoadFault, AreHomed, IsCompleted, IsMending, Stays, logged_count}
+use Rattle.fsd_sound.specs.Lost.{AreHomes}
+use Rattle.mount_recover.specs.Mending.{AreHomed, IsCompleted, IsMending, Stays, logged_count}
 use Rattle.fsd_files.specs.Disk.{Image}
 use Rattle.fsd_log.specs.Scan.{Placed}
 use Rattle.log_thirds.specs.Append.{IsCalmNow}
-use Rattle.fsd_sound.specs.Mounting.{device_of_mount}
 use Rattle.mount_recover.specs.Showing.{GivesPages, IsShowing, LosesNone}
 use Rattle.mount_recover.proofs.CalmLaws.{still_next}
 use Rattle.mount_recover.proofs.FaultLaws.{handed_up}
@@ -18,6 +17,7 @@ use Rattle.mount_recover.proofs.KeepsLaws.{keeps_none, keeps_on}
 use Rattle.mount_recover.proofs.MendingLaws.{stays}
 use Rattle.sector_disk.proofs.Holding.{wears_none}
 use Rattle.mount_recover.proofs.HomesLaws.{count_next, count_within_rest}
+use Rattle.mount_recover.proofs.StepLaws.{mends_up}
 use Rattle.mount_recover.proofs.mending.heal_others.Goals as goal
 
 pub loop-page-init : goal.loop-page-init
@@ -41,39 +41,40 @@ loop-page-preserved g c =
     let old = M.now c.args.m.now in let l = c.args.l.now in let log = c.args.log.now in let so_far = c.loop-page.invariant in
     let mid = M.now c.loop-page.m in let new = M.now c.heal_other.new.m in
     let lt : c.loop-page.page < c.args.l.now.pages = omega (arith, c.loop-page-test.true, c.loop-page.auto.page-end, c.pages-page-end.ensures.value) in record {
-      disk = heals_then {fault = None} so_far.disk c.in_ok-heal_other.ensures.disk;
-      most = λ t. omega (arith, so_far.most (c.heal_other.ensures.disk.trust.tells t), c.heal_other.ensures.most t, count_next log c.loop-page.page);
-      grows = λ t. omega (arith, so_far.grows (c.heal_other.ensures.disk.trust.tells t), c.in_ok-heal_other.ensures.grows t);
-      keeps = λ h. keeps_on l old mid new (so_far.keeps (c.heal_other.ensures.disk.trust.honest h)) (c.heal_other.ensures.keeps h);
-      homes = λ h at. (c.in_ok-heal_other.ensures.homes h (so_far.homes (c.heal_other.ensures.disk.trust.honest h) at));
-      mending = λ windows choices first is h at. (c.in_ok-heal_other.ensures.done windows choices first is h (so_far.mending windows choices first is (c.heal_other.ensures.disk.trust.honest h) at));
+      disk = heals_then {fault = None} so_far.disk c.in_ok-heal_other.ensures.mends.disk;
+      most = λ t. omega (arith, so_far.most (c.heal_other.ensures.mends.disk.trust.tells t), c.heal_other.ensures.most t, count_next log c.loop-page.page);
+      grows = λ t. omega (arith, so_far.grows (c.heal_other.ensures.mends.disk.trust.tells t), c.in_ok-heal_other.ensures.mends.grows t);
+      keeps = λ h. keeps_on l old mid new (so_far.keeps (c.heal_other.ensures.mends.disk.trust.honest h)) (c.heal_other.ensures.keeps h);
+      homes = λ h at. (c.in_ok-heal_other.ensures.homes h (so_far.homes (c.heal_other.ensures.mends.disk.trust.honest h) at));
+      mending = λ windows choices first is h at. (c.in_ok-heal_other.ensures.done windows choices first is h (so_far.mending windows choices first is (c.heal_other.ensures.mends.disk.trust.honest h) at));
       showing = λ records first h still given at.
-          let h1 = c.heal_other.ensures.disk.trust.honest h in
+          let h1 = c.heal_other.ensures.mends.disk.trust.honest h in
           (c.in_ok-heal_other.ensures.shown records first h (still_next old mid (so_far.keeps h1).windows still) given (so_far.showing records first h1 still given at));
-      moments = λ windows choices first is h at. let h1 = c.heal_other.ensures.disk.trust.honest h in
+      moments = λ windows choices first is h at. let h1 = c.heal_other.ensures.mends.disk.trust.honest h in
           then_on M.moment M.left_since c.args.m.now c.loop-page.m c.heal_other.new.m (Stays l windows choices first) (so_far.moments windows choices first is h1 at)
           (c.heal_other.ensures.any_moment windows choices first is h (so_far.mending windows choices first is h1 at));
     }
 
-pub returns-in_err-heal_other-clause-load : goal.returns-in_err-heal_other-clause-load
-returns-in_err-heal_other-clause-load g c = handed_up IsLoadFault c.from_residual.result c.in_err-heal_other.field-0.0 c.from_residual.ensures.1 c.in_err-heal_other.ensures.load
+pub returns-in_err-heal_other-clause-mends : goal.returns-in_err-heal_other-clause-mends
+returns-in_err-heal_other-clause-mends g c =
+    let so_far = c.loop-page.invariant in let failed = c.in_err-heal_other.ensures.mends in
+    mends_up g.M.Machine (AreHomes c.args.l.now) c.args.m.now c.heal_other.new.m c.from_residual.result c.in_err-heal_other.field-0.0 c.from_residual.ensures.1 (heals_then so_far.disk failed.disk) failed.load failed.lost
 
-pub returns-in_err-heal_other-clause-disk : goal.returns-in_err-heal_other-clause-disk
-returns-in_err-heal_other-clause-disk g c =
-    heals_told (told_up device_of_mount c.from_residual.result c.in_err-heal_other.field-0.0 c.from_residual.ensures.1) (heals_then c.loop-page.invariant.disk c.in_err-heal_other.ensures.disk)
+pub returns-clause-mends : goal.returns-clause-mends
+returns-clause-mends g c = let so_far = c.loop-page.invariant in record { disk = so_far.disk; load = tt; lost = tt; grows = so_far.grows }
 
 pub returns-in_err-heal_other-clause-keeps : goal.returns-in_err-heal_other-clause-keeps
 returns-in_err-heal_other-clause-keeps g c h =
     let M = g.M.Machine in
     let l = c.args.l.now in let mid = M.now c.loop-page.m in let new = M.now c.heal_other.new.m in
     let lt : c.loop-page.page < c.args.l.now.pages = omega (arith, c.loop-page-test.true, c.loop-page.auto.page-end, c.pages-page-end.ensures.value) in
-    keeps_on l (M.now c.args.m.now) mid new (c.loop-page.invariant.keeps (c.heal_other.ensures.disk.trust.honest h)) (c.heal_other.ensures.keeps h)
+    keeps_on l (M.now c.args.m.now) mid new (c.loop-page.invariant.keeps (c.heal_other.ensures.mends.disk.trust.honest h)) (c.heal_other.ensures.keeps h)
 
 pub returns-in_err-heal_other-clause-any_moment : goal.returns-in_err-heal_other-clause-any_moment
 returns-in_err-heal_other-clause-any_moment g c windows choices first is h at =
     let M = g.M.Machine in
     let so_far = c.loop-page.invariant in
-    let h1 = c.heal_other.ensures.disk.trust.honest h in
+    let h1 = c.heal_other.ensures.mends.disk.trust.honest h in
     then_on M.moment M.left_since c.args.m.now c.loop-page.m c.heal_other.new.m (Stays c.args.l.now windows choices first) (so_far.moments windows choices first is h1 at)
     (c.heal_other.ensures.any_moment windows choices first is h (so_far.mending windows choices first is h1 at))
 
@@ -83,13 +84,7 @@ returns-in_err-heal_other-clause-never_lost g c =
     let l = c.args.l.now in let old = M.now c.args.m.now in let so_far = c.loop-page.invariant in
     handed_up (λ fault. (windows : List WeakRun) (choices : List (List (List ℕ))) (first : Moment) (is : IsCompleted l windows choices c.args.log.now first) → M.honest c.heal_other.new.m → IsMending l windows choices c.args.log.now first is (home_b c.args.l.now c.args.l.now.pages) 0 old → IsExcuse fault)
     c.from_residual.result c.in_err-heal_other.field-0.0 c.from_residual.ensures.1
-    (λ windows choices first is h at. c.in_err-heal_other.ensures.never_lost windows choices first is h (so_far.mending windows choices first is (c.heal_other.ensures.disk.trust.honest h) at))
-
-pub returns-in_err-heal_other-clause-lost : goal.returns-in_err-heal_other-clause-lost
-returns-in_err-heal_other-clause-lost g c =
-    let M = g.M.Machine in
-    handed_up (λ fault. M.honest c.heal_other.new.m → LostIn (AreHomes c.args.l.now) (M.now c.heal_other.new.m).image fault) c.from_residual.result c.in_err-heal_other.field-0.0 c.from_residual.ensures.1
-    c.in_err-heal_other.ensures.lost
+    (λ windows choices first is h at. c.in_err-heal_other.ensures.never_lost windows choices first is h (so_far.mending windows choices first is (c.heal_other.ensures.mends.disk.trust.honest h) at))
 
 pub returns-in_err-heal_other-clause-not_shown : goal.returns-in_err-heal_other-clause-not_shown
 returns-in_err-heal_other-clause-not_shown g c =
@@ -98,13 +93,13 @@ returns-in_err-heal_other-clause-not_shown g c =
     handed_up (λ fault. (records : List Placed) (first : Image) → M.honest c.heal_other.new.m → IsCalmNow old → GivesPages c.args.log.now records first → IsShowing l records first (home_b c.args.l.now c.args.l.now.pages) old.image → LosesNone l records first fault)
     c.from_residual.result c.in_err-heal_other.field-0.0 c.from_residual.ensures.1
     (λ records first h still given at.
-    let h1 = c.heal_other.ensures.disk.trust.honest h in
+    let h1 = c.heal_other.ensures.mends.disk.trust.honest h in
     c.in_err-heal_other.ensures.not_shown records first h (still_next old (M.now c.loop-page.m) (so_far.keeps h1).windows still) given (so_far.showing records first h1 still given at))
 
 pub returns-in_err-heal_other-clause-most : goal.returns-in_err-heal_other-clause-most
 returns-in_err-heal_other-clause-most g c t =
     let lt : c.loop-page.page < c.args.l.now.pages = omega (arith, c.loop-page-test.true, c.loop-page.auto.page-end, c.pages-page-end.ensures.value) in
-    omega (arith, c.loop-page.invariant.most (c.heal_other.ensures.disk.trust.tells t), c.heal_other.ensures.most t, count_next c.args.log.now c.loop-page.page, count_within_rest c.args.log.now c.loop-page.page c.args.l.now.pages lt)
+    omega (arith, c.loop-page.invariant.most (c.heal_other.ensures.mends.disk.trust.tells t), c.heal_other.ensures.most t, count_next c.args.log.now c.loop-page.page, count_within_rest c.args.log.now c.loop-page.page c.args.l.now.pages lt)
 
 pub returns-clause-done : goal.returns-clause-done
 returns-clause-done g c windows choices first is h at =

@@ -1,4 +1,4 @@
-use Rattle.std.proofs.Common.{inl, ◌+◌, ◌<◌, ℕ, List, refl, arith}
+use Rattle.std.proofs.Common.{inl, inr, Ok, ◌+◌, ◌<◌, ℕ, List, refl, arith}
 use Rattle.std.proofs.lemmas.Result.{IfErr-weaker, on_ok_weaker}
 use Rattle.volume_layout.specs.Layout.{home_a, home_b}
 use Rattle.sector_disk.specs.declared.sector.WeakRun.{WeakRun}
@@ -6,19 +6,27 @@ use Rattle.sector_disk.specs.Machine.{Moment}
 use Rattle.sector_disk.proofs.Moments.{then_on}
 use Rattle.fsd_files.specs.Disk.{Image}
 use Rattle.fsd_log.specs.Scan.{Placed}
+use Rattle.sector_disk.proofs.CallLaws.{heals_then}
 use Rattle.fsd_sound.specs.Homes.{HasBothHomes}
+use Rattle.fsd_sound.specs.Lost.{AreHomes, LostIn}
 use Rattle.log_thirds.specs.Append.{IsCalmNow}
 use Rattle.mount_recover.specs.Finding.{IsExcuse}
-use Rattle.mount_recover.specs.Mending.{AreHomed, IsCompleted, IsMending, Stays}
+use Rattle.mount_recover.specs.Mending.{AreHomed, AreOfVolume, IsCompleted, IsMending, Stays}
 use Rattle.mount_recover.specs.Showing.{GivesPages, IsShowing, LosesNone}
 use Rattle.mount_recover.proofs.CalmLaws.{still_next}
-use Rattle.mount_recover.proofs.FaultLaws.{handed_up}
+use Rattle.mount_recover.proofs.FaultLaws.{handed_up, lost_more}
+use Rattle.mount_recover.proofs.StepLaws.{mends_on, mends_up}
 use Rattle.mount_recover.proofs.HomesLaws.{all_homed, count_most, homed_none, homed_further}
 use Rattle.mount_recover.proofs.MendingLaws.{begin_at, no_home_between, to_second, to_others}
 use Rattle.mount_recover.proofs.ShowingLaws.{showing_further, showing_none}
 use Rattle.mount_recover.proofs.mending.mend_pages.Goals as goal
 
 -- ---- the first homes
+
+pub returns-in_err-write_homes-clause-mends : goal.returns-in_err-write_homes-clause-mends
+returns-in_err-write_homes-clause-mends g c =
+    let failed = c.in_err-write_homes.ensures.mends in
+    mends_up g.M.Machine (AreOfVolume c.args.l.now c.args.log.now) c.args.m.now c.write_homes.new.m c.from_residual.result c.in_err-write_homes.field-0.0 c.from_residual.ensures.1 failed.disk failed.load failed.lost
 
 pub returns-in_err-write_homes-clause-most : goal.returns-in_err-write_homes-clause-most
 returns-in_err-write_homes-clause-most g c t = omega (arith, c.write_homes.ensures.most t, count_most c.args.log.now c.args.l.now.pages)
@@ -45,14 +53,20 @@ returns-in_err-write_homes-clause-not_shown g c =
 
 -- ---- the second homes
 
+pub returns-in_err-write_homes-2-clause-mends : goal.returns-in_err-write_homes-2-clause-mends
+returns-in_err-write_homes-2-clause-mends g c =
+    let failed = c.in_err-write_homes-2.ensures.mends in
+    mends_up g.M.Machine (AreOfVolume c.args.l.now c.args.log.now) c.args.m.now c.write_homes-2.new.m c.from_residual-in_err-write_homes-2.result c.in_err-write_homes-2.field-0.0 c.from_residual-in_err-write_homes-2.ensures.1
+    (heals_then c.in_ok-write_homes.ensures.mends.disk failed.disk) failed.load failed.lost
+
 pub returns-in_err-write_homes-2-clause-most : goal.returns-in_err-write_homes-2-clause-most
-returns-in_err-write_homes-2-clause-most g c t = omega (arith, c.write_homes-2.ensures.most t, c.write_homes.ensures.most (c.write_homes-2.ensures.disk.trust.tells t), count_most c.args.log.now c.args.l.now.pages)
+returns-in_err-write_homes-2-clause-most g c t = omega (arith, c.write_homes-2.ensures.most t, c.write_homes.ensures.most (c.write_homes-2.ensures.mends.disk.trust.tells t), count_most c.args.log.now c.args.l.now.pages)
 
 pub returns-in_err-write_homes-2-clause-any_moment : goal.returns-in_err-write_homes-2-clause-any_moment
 returns-in_err-write_homes-2-clause-any_moment g c windows choices is h =
     let M = g.M.Machine in
     let l = c.args.l.now in let log = c.args.log.now in let old = M.now c.args.m.now in
-    let h1 = c.write_homes-2.ensures.disk.trust.honest h in
+    let h1 = c.write_homes-2.ensures.mends.disk.trust.honest h in
     then_on M.moment M.left_since c.args.m.now c.write_homes.new.m c.write_homes-2.new.m (Stays l windows choices old) (c.write_homes.ensures.any_moment windows choices old is h1 (begin_at l windows choices log old is c.home_a.result c.home_a.ensures.place))
     (c.write_homes-2.ensures.any_moment windows choices old is h (to_second l windows choices log old is c.home_a.result c.home_b.result (M.now c.write_homes.new.m) c.home_a.ensures.place c.home_b.ensures.place (c.in_ok-write_homes.ensures.done windows choices old is h1 (begin_at l windows choices log old is c.home_a.result c.home_a.ensures.place))))
 
@@ -61,22 +75,35 @@ returns-in_err-write_homes-2-clause-never_lost g c =
     let M = g.M.Machine in
     let l = c.args.l.now in let log = c.args.log.now in let old = M.now c.args.m.now in
     handed_up (λ fault. (windows : List WeakRun) (choices : List (List (List ℕ))) (is : IsCompleted l windows choices log old) → M.honest c.write_homes-2.new.m → IsExcuse fault) c.from_residual-in_err-write_homes-2.result c.in_err-write_homes-2.field-0.0 c.from_residual-in_err-write_homes-2.ensures.1
-    (λ windows choices is h. let h1 = c.write_homes-2.ensures.disk.trust.honest h in c.in_err-write_homes-2.ensures.never_lost windows choices old is h (to_second l windows choices log old is c.home_a.result c.home_b.result (M.now c.write_homes.new.m) c.home_a.ensures.place c.home_b.ensures.place (c.in_ok-write_homes.ensures.done windows choices old is h1 (begin_at l windows choices log old is c.home_a.result c.home_a.ensures.place))))
+    (λ windows choices is h. let h1 = c.write_homes-2.ensures.mends.disk.trust.honest h in c.in_err-write_homes-2.ensures.never_lost windows choices old is h (to_second l windows choices log old is c.home_a.result c.home_b.result (M.now c.write_homes.new.m) c.home_a.ensures.place c.home_b.ensures.place (c.in_ok-write_homes.ensures.done windows choices old is h1 (begin_at l windows choices log old is c.home_a.result c.home_a.ensures.place))))
 
 pub returns-in_err-write_homes-2-clause-not_shown : goal.returns-in_err-write_homes-2-clause-not_shown
 returns-in_err-write_homes-2-clause-not_shown g c =
     let M = g.M.Machine in
     let l = c.args.l.now in let log = c.args.log.now in let old = M.now c.args.m.now in
     handed_up (λ fault. (records : List Placed) → M.honest c.write_homes-2.new.m → IsCalmNow old → GivesPages log records old.image → LosesNone l records old.image fault) c.from_residual-in_err-write_homes-2.result c.in_err-write_homes-2.field-0.0 c.from_residual-in_err-write_homes-2.ensures.1
-    (λ records h still given. let h1 = c.write_homes-2.ensures.disk.trust.honest h in
+    (λ records h still given. let h1 = c.write_homes-2.ensures.mends.disk.trust.honest h in
     c.in_err-write_homes-2.ensures.not_shown records old.image h (still_next old (M.now c.write_homes.new.m) (c.write_homes.ensures.keeps h1).windows still) given (showing_further l records old.image (c.home_a.result + l.pages) c.home_b.result (M.now c.write_homes.new.m).image (λ page within before. no_home_between l c.home_a.result c.home_b.result page (home_a l page) c.home_a.ensures.place c.home_b.ensures.place within (inl refl) before) (c.in_ok-write_homes.ensures.shown records old.image h1 still given (showing_none l records old.image c.home_a.result c.home_a.ensures.place))))
 
 -- ---- the others
 
+pub returns-clause-mends : goal.returns-clause-mends
+returns-clause-mends g c =
+    let M = g.M.Machine in
+    let l = c.args.l.now in let log = c.args.log.now in let image = (M.now c.heal_others.new.m).image in
+    let first = c.in_ok-write_homes.ensures.mends in let second = c.in_ok-write_homes-2.ensures.mends in let others = c.heal_others.ensures.mends in
+    let both = mends_on M (AreOfVolume l log) c.args.m.now c.write_homes.new.m c.write_homes-2.new.m (Ok tt) first.disk first.grows second in
+    mends_on M (AreOfVolume l log) c.args.m.now c.write_homes-2.new.m c.heal_others.new.m c.heal_others.result both.disk both.grows (record {
+      disk = others.disk;
+      load = others.load;
+      lost = IfErr-weaker c.heal_others.result (λ fault. M.honest c.heal_others.new.m → LostIn (AreHomes l) image fault) (λ fault. M.honest c.heal_others.new.m → LostIn (AreOfVolume l log) image fault) (λ fault lost h. lost_more (AreHomes l) (AreOfVolume l log) image fault (λ a b are. inr are) (lost h)) others.lost;
+      grows = others.grows;
+    })
+
 pub returns-clause-most : goal.returns-clause-most
 returns-clause-most g c t =
-    let t2 = c.heal_others.ensures.disk.trust.tells t in
-    omega (arith, c.heal_others.ensures.most t, c.write_homes-2.ensures.most t2, c.write_homes.ensures.most (c.write_homes-2.ensures.disk.trust.tells t2), count_most c.args.log.now c.args.l.now.pages)
+    let t2 = c.heal_others.ensures.mends.disk.trust.tells t in
+    omega (arith, c.heal_others.ensures.most t, c.write_homes-2.ensures.most t2, c.write_homes.ensures.most (c.write_homes-2.ensures.mends.disk.trust.tells t2), count_most c.args.log.now c.args.l.now.pages)
 
 pub returns-clause-homes : goal.returns-clause-homes
 returns-clause-homes g c =
@@ -85,7 +112,7 @@ returns-clause-homes g c =
     let two = M.now c.write_homes-2.new.m in let new = M.now c.heal_others.new.m in
     on_ok_weaker {P = M.honest c.heal_others.new.m → AreHomed l log (home_b l l.pages) 0 two → AreHomed l log (home_b l l.pages) l.pages new} {Q = M.honest c.heal_others.new.m → (page : ℕ) → page < l.pages → HasBothHomes l new page} c.heal_others.result
     (λ homes h.
-    let h2 = c.heal_others.ensures.disk.trust.honest h in let h1 = c.write_homes-2.ensures.disk.trust.honest h2 in
+    let h2 = c.heal_others.ensures.mends.disk.trust.honest h in let h1 = c.write_homes-2.ensures.mends.disk.trust.honest h2 in
     let first = c.in_ok-write_homes.ensures.homes h1 (homed_none l log c.home_a.result c.home_a.ensures.place old) in
     let second = c.in_ok-write_homes-2.ensures.homes h2 (homed_further l log (c.home_a.result + l.pages) c.home_b.result 0 (M.now c.write_homes.new.m) (λ page s within home before. no_home_between l c.home_a.result c.home_b.result page s c.home_a.ensures.place c.home_b.ensures.place within home before) first) in
     all_homed l log new (homes h (homed_further l log (c.home_b.result + l.pages) (home_b l l.pages) 0 two (λ page s within home before. omega (arith, c.home_b.ensures.place, before)) second)))
@@ -95,7 +122,7 @@ pub returns-clause-any_moment : goal.returns-clause-any_moment
 returns-clause-any_moment g c windows choices is h =
     let M = g.M.Machine in
     let l = c.args.l.now in let log = c.args.log.now in let old = M.now c.args.m.now in
-    let h2 = c.heal_others.ensures.disk.trust.honest h in let h1 = c.write_homes-2.ensures.disk.trust.honest h2 in
+    let h2 = c.heal_others.ensures.mends.disk.trust.honest h in let h1 = c.write_homes-2.ensures.mends.disk.trust.honest h2 in
     then_on M.moment M.left_since c.args.m.now c.write_homes-2.new.m c.heal_others.new.m (Stays l windows choices old)
     (then_on M.moment M.left_since c.args.m.now c.write_homes.new.m c.write_homes-2.new.m (Stays l windows choices old) (c.write_homes.ensures.any_moment windows choices old is h1 (begin_at l windows choices log old is c.home_a.result c.home_a.ensures.place))
     (c.write_homes-2.ensures.any_moment windows choices old is h2 (to_second l windows choices log old is c.home_a.result c.home_b.result (M.now c.write_homes.new.m) c.home_a.ensures.place c.home_b.ensures.place (c.in_ok-write_homes.ensures.done windows choices old is h1 (begin_at l windows choices log old is c.home_a.result c.home_a.ensures.place)))))
@@ -108,7 +135,7 @@ returns-clause-done g c =
     let two = M.now c.write_homes-2.new.m in let new = M.now c.heal_others.new.m in
     on_ok_weaker {P = (windows : List WeakRun) (choices : List (List (List ℕ))) (first : Moment) (is : IsCompleted l windows choices log first) → M.honest c.heal_others.new.m → IsMending l windows choices log first is (home_b l l.pages) 0 two → IsMending l windows choices log first is (home_b l l.pages) l.pages new} {Q = (windows : List WeakRun) (choices : List (List (List ℕ))) (is : IsCompleted l windows choices log old) → M.honest c.heal_others.new.m → IsMending l windows choices log old is (home_b l l.pages) l.pages new} c.heal_others.result
     (λ done windows choices is h.
-    let h2 = c.heal_others.ensures.disk.trust.honest h in let h1 = c.write_homes-2.ensures.disk.trust.honest h2 in
+    let h2 = c.heal_others.ensures.mends.disk.trust.honest h in let h1 = c.write_homes-2.ensures.mends.disk.trust.honest h2 in
     done windows choices old is h (to_others l windows choices log old is c.home_b.result (M.now c.write_homes-2.new.m) c.home_b.ensures.place (c.in_ok-write_homes-2.ensures.done windows choices old is h2 (to_second l windows choices log old is c.home_a.result c.home_b.result (M.now c.write_homes.new.m) c.home_a.ensures.place c.home_b.ensures.place (c.in_ok-write_homes.ensures.done windows choices old is h1 (begin_at l windows choices log old is c.home_a.result c.home_a.ensures.place))))))
     c.heal_others.ensures.done
 
@@ -120,7 +147,7 @@ returns-clause-never_lost g c =
     IfErr-weaker c.heal_others.result (λ fault. (windows : List WeakRun) (choices : List (List (List ℕ))) (first : Moment) (is : IsCompleted l windows choices log first) → M.honest c.heal_others.new.m → IsMending l windows choices log first is (home_b l l.pages) 0 two → IsExcuse fault)
     (λ fault. (windows : List WeakRun) (choices : List (List (List ℕ))) (is : IsCompleted l windows choices log old) → M.honest c.heal_others.new.m → IsExcuse fault)
     (λ fault excused windows choices is h.
-    let h2 = c.heal_others.ensures.disk.trust.honest h in let h1 = c.write_homes-2.ensures.disk.trust.honest h2 in
+    let h2 = c.heal_others.ensures.mends.disk.trust.honest h in let h1 = c.write_homes-2.ensures.mends.disk.trust.honest h2 in
     excused windows choices old is h (to_others l windows choices log old is c.home_b.result (M.now c.write_homes-2.new.m) c.home_b.ensures.place (c.in_ok-write_homes-2.ensures.done windows choices old is h2 (to_second l windows choices log old is c.home_a.result c.home_b.result (M.now c.write_homes.new.m) c.home_a.ensures.place c.home_b.ensures.place (c.in_ok-write_homes.ensures.done windows choices old is h1 (begin_at l windows choices log old is c.home_a.result c.home_a.ensures.place))))))
     c.heal_others.ensures.never_lost
 
@@ -131,7 +158,7 @@ returns-clause-shown g c =
     let two = M.now c.write_homes-2.new.m in let new = M.now c.heal_others.new.m in
     on_ok_weaker {P = (records : List Placed) (first : Image) → M.honest c.heal_others.new.m → IsCalmNow two → GivesPages log records first → IsShowing l records first (home_b l l.pages) two.image → IsShowing l records first (home_b l l.pages) new.image} {Q = (records : List Placed) → M.honest c.heal_others.new.m → IsCalmNow old → GivesPages log records old.image → IsShowing l records old.image (home_b l l.pages) new.image} c.heal_others.result
     (λ shown records h still given.
-    let h2 = c.heal_others.ensures.disk.trust.honest h in let h1 = c.write_homes-2.ensures.disk.trust.honest h2 in
+    let h2 = c.heal_others.ensures.mends.disk.trust.honest h in let h1 = c.write_homes-2.ensures.mends.disk.trust.honest h2 in
     let still_one = (still_next old (M.now c.write_homes.new.m) (c.write_homes.ensures.keeps h1).windows still) in
     shown records old.image h (still_next (M.now c.write_homes.new.m) (M.now c.write_homes-2.new.m) (c.write_homes-2.ensures.keeps h2).windows still_one) given (showing_further l records old.image (c.home_b.result + l.pages) (home_b l l.pages) (M.now c.write_homes-2.new.m).image (λ page within before. omega (arith, c.home_b.ensures.place, within)) (c.in_ok-write_homes-2.ensures.shown records old.image h2 still_one given (showing_further l records old.image (c.home_a.result + l.pages) c.home_b.result (M.now c.write_homes.new.m).image (λ page within before. no_home_between l c.home_a.result c.home_b.result page (home_a l page) c.home_a.ensures.place c.home_b.ensures.place within (inl refl) before) (c.in_ok-write_homes.ensures.shown records old.image h1 still given (showing_none l records old.image c.home_a.result c.home_a.ensures.place))))))
     c.heal_others.ensures.shown
@@ -144,7 +171,7 @@ returns-clause-not_shown g c =
     IfErr-weaker c.heal_others.result (λ fault. (records : List Placed) (first : Image) → M.honest c.heal_others.new.m → IsCalmNow two → GivesPages log records first → IsShowing l records first (home_b l l.pages) two.image → LosesNone l records first fault)
     (λ fault. (records : List Placed) → M.honest c.heal_others.new.m → IsCalmNow old → GivesPages log records old.image → LosesNone l records old.image fault)
     (λ fault loses records h still given.
-    let h2 = c.heal_others.ensures.disk.trust.honest h in let h1 = c.write_homes-2.ensures.disk.trust.honest h2 in
+    let h2 = c.heal_others.ensures.mends.disk.trust.honest h in let h1 = c.write_homes-2.ensures.mends.disk.trust.honest h2 in
     let still_one = (still_next old (M.now c.write_homes.new.m) (c.write_homes.ensures.keeps h1).windows still) in
     loses records old.image h (still_next (M.now c.write_homes.new.m) (M.now c.write_homes-2.new.m) (c.write_homes-2.ensures.keeps h2).windows still_one) given (showing_further l records old.image (c.home_b.result + l.pages) (home_b l l.pages) (M.now c.write_homes-2.new.m).image (λ page within before. omega (arith, c.home_b.ensures.place, within)) (c.in_ok-write_homes-2.ensures.shown records old.image h2 still_one given (showing_further l records old.image (c.home_a.result + l.pages) c.home_b.result (M.now c.write_homes.new.m).image (λ page within before. no_home_between l c.home_a.result c.home_b.result page (home_a l page) c.home_a.ensures.place c.home_b.ensures.place within (inl refl) before) (c.in_ok-write_homes.ensures.shown records old.image h1 still given (showing_none l records old.image c.home_a.result c.home_a.ensures.place))))))
     c.heal_others.ensures.not_shown

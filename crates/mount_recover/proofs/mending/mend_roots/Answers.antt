@@ -7,19 +7,21 @@ use Rattle.twin_home.specs.Heal.{HealsRoots}
 use Rattle.mount_recover.specs.Mending.{Stays, AreRoots}
 use Rattle.mount_recover.specs.Finding.{IsExcuse}
 use Rattle.mount_recover.proofs.CalmLaws.{roots_lose}
-use Rattle.mount_recover.proofs.FaultLaws.{load_excused, load_not_lost, is_load, load_told, roots_serve}
+use Rattle.mount_recover.proofs.FaultLaws.{load_excused, load_lost, load_not_lost, is_load, load_told, roots_serve}
 use Rattle.mount_recover.proofs.KeepsLaws.{but_roots}
 use Rattle.mount_recover.proofs.MendingLaws.{roots_stay, roots_done, narrow, stays_show}
 use Rattle.mount_recover.proofs.mending.mend_roots.Goals as goal
 
-pub returns-in-Err-clause-load : goal.returns-in-Err-clause-load
-returns-in-Err-clause-load g c = is_load c.in-Err.fault c.from.result c.from.ensures
+pub returns-in-Ok-clause-mends : goal.returns-in-Ok-clause-mends
+returns-in-Ok-clause-mends g c = record { disk = writes_as_heals c.in-Ok.ensures.writes; load = tt; lost = tt; grows = λ t. omega (arith, c.in-Ok.ensures.counted t) }
 
-pub returns-in-Ok-clause-disk : goal.returns-in-Ok-clause-disk
-returns-in-Ok-clause-disk g c = writes_as_heals c.in-Ok.ensures.writes
-
-pub returns-in-Err-clause-disk : goal.returns-in-Err-clause-disk
-returns-in-Err-clause-disk g c = heals_told (load_told c.in-Err.fault c.from.result c.from.ensures) (writes_as_heals c.in-Err.ensures.writes)
+pub returns-in-Err-clause-mends : goal.returns-in-Err-clause-mends
+returns-in-Err-clause-mends g c = record {
+  disk = heals_told (load_told c.in-Err.fault c.from.result c.from.ensures) (writes_as_heals c.in-Err.ensures.writes);
+  load = is_load c.in-Err.fault c.from.result c.from.ensures;
+  lost = λ h. load_lost _ AreRoots (g.M.Machine.now c.heal_root.new.m).image c.in-Err.fault c.from.result c.from.ensures (λ a b are. are) (c.in-Err.ensures.lost h);
+  grows = tt;
+}
 
 pub returns-in-Ok-clause-any_moment : goal.returns-in-Ok-clause-any_moment
 returns-in-Ok-clause-any_moment g c windows choices log first is h at =
@@ -67,6 +69,3 @@ returns-in-Err-clause-not_shown g c h still some =
     let room : 4 < length (M.now c.args.m.now).image = omega (arith, sized, bounds.third_least, bounds.sectors_least, c.requires.room) in
     subst IsExcuse (sym c.from.ensures) (load_excused c.in-Err.fault
     (roots_lose (root_bytes c.args.l.now) (M.now c.args.m.now) (M.now c.heal_root.new.m) room still (run.each (M.now c.heal_root.new.m) (g.met.M.Machine.counts_now c.heal_root.new.m (M.moment c.args.m.now) h run.later)) some c.in-Err.fault (c.in-Err.ensures.lost h)))
-
-pub returns-in-Ok-clause-grows : goal.returns-in-Ok-clause-grows
-returns-in-Ok-clause-grows g c t = omega (arith, c.in-Ok.ensures.counted t)

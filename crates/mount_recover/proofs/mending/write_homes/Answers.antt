@@ -2,14 +2,12 @@ use Rattle.std.proofs.Common.{◌≡◌, ◌+◌, ◌<◌, ◌≤◌, ℕ, List,
 use Rattle.sector_disk.specs.declared.sector.WeakRun.{WeakRun}
 use Rattle.sector_disk.specs.Machine.{Moment}
 use Rattle.sector_disk.proofs.Moments.{started, then_on}
-use Rattle.sector_disk.proofs.CallLaws.{heals_then, heals_told, reads_as_heals, reads_none, told_up}
+use Rattle.sector_disk.proofs.CallLaws.{heals_then, reads_as_heals, reads_none}
 use Rattle.mount_recover.specs.Finding.{IsExcuse}
-use Rattle.fsd_sound.specs.Lost.{LostIn}
-use Rattle.mount_recover.specs.Mending.{IsLoadFault, AreHomed, AreOfVolume, IsCompleted, IsMending, Stays, logged_count}
+use Rattle.mount_recover.specs.Mending.{AreHomed, AreOfVolume, IsCompleted, IsMending, Stays, logged_count}
 use Rattle.fsd_files.specs.Disk.{Image}
 use Rattle.fsd_log.specs.Scan.{Placed}
 use Rattle.log_thirds.specs.Append.{IsCalmNow}
-use Rattle.fsd_sound.specs.Mounting.{device_of_mount}
 use Rattle.mount_recover.specs.Showing.{GivesPages, IsShowing, LosesNone}
 use Rattle.mount_recover.proofs.CalmLaws.{still_next}
 use Rattle.mount_recover.proofs.FaultLaws.{handed_up}
@@ -18,6 +16,7 @@ use Rattle.mount_recover.proofs.MendingLaws.{further, home_next, stays}
 use Rattle.sector_disk.proofs.Holding.{wears_none}
 use Rattle.mount_recover.proofs.HomesLaws.{count_next, count_within, homed_further}
 use Rattle.mount_recover.proofs.ShowingLaws.{showing_further}
+use Rattle.mount_recover.proofs.StepLaws.{mends_up}
 use Rattle.mount_recover.proofs.mending.write_homes.Goals as goal
 
 pub write_logged-requires-clause-home : goal.write_logged-requires-clause-home
@@ -44,39 +43,40 @@ loop-page-preserved g c =
     let old = M.now c.args.m.now in let l = c.args.l.now in let log = c.args.log.now in let so_far = c.loop-page.invariant in
     let mid = M.now c.loop-page.m in let new = M.now c.write_logged.new.m in
     let lt : c.loop-page.page < c.args.l.now.pages = omega (arith, c.loop-page-test.true, c.loop-page.auto.page-end, c.pages-page-end.ensures.value) in record {
-      disk = heals_then {fault = None} so_far.disk c.in_ok-write_logged.ensures.disk;
-      most = λ t. omega (arith, so_far.most (c.write_logged.ensures.disk.trust.tells t), c.write_logged.ensures.most t, count_next log c.loop-page.page);
-      grows = λ t. omega (arith, so_far.grows (c.write_logged.ensures.disk.trust.tells t), c.in_ok-write_logged.ensures.grows t);
-      keeps = λ h. keeps_on l old mid new (so_far.keeps (c.write_logged.ensures.disk.trust.honest h)) (keeps_home l c.loop-page.page lt (c.args.start + c.loop-page.page) (home_next l c.args.start c.loop-page.page c.requires.start) mid new (c.write_logged.ensures.keeps h));
-      homes = λ h at. homed_further l log (c.args.start + c.loop-page.page + 1) (c.args.start + (c.loop-page.page + 1)) 0 new (λ page s within home before. omega (arith, before)) (c.in_ok-write_logged.ensures.homes h (so_far.homes (c.write_logged.ensures.disk.trust.honest h) at));
-      mending = λ windows choices first is h at. further l windows choices log first is (c.args.start + c.loop-page.page + 1) (c.args.start + (c.loop-page.page + 1)) 0 new (λ page s within home before. omega (arith, before)) (c.in_ok-write_logged.ensures.done windows choices first is h (so_far.mending windows choices first is (c.write_logged.ensures.disk.trust.honest h) at));
+      disk = heals_then {fault = None} so_far.disk c.in_ok-write_logged.ensures.mends.disk;
+      most = λ t. omega (arith, so_far.most (c.write_logged.ensures.mends.disk.trust.tells t), c.write_logged.ensures.most t, count_next log c.loop-page.page);
+      grows = λ t. omega (arith, so_far.grows (c.write_logged.ensures.mends.disk.trust.tells t), c.in_ok-write_logged.ensures.mends.grows t);
+      keeps = λ h. keeps_on l old mid new (so_far.keeps (c.write_logged.ensures.mends.disk.trust.honest h)) (keeps_home l c.loop-page.page lt (c.args.start + c.loop-page.page) (home_next l c.args.start c.loop-page.page c.requires.start) mid new (c.write_logged.ensures.keeps h));
+      homes = λ h at. homed_further l log (c.args.start + c.loop-page.page + 1) (c.args.start + (c.loop-page.page + 1)) 0 new (λ page s within home before. omega (arith, before)) (c.in_ok-write_logged.ensures.homes h (so_far.homes (c.write_logged.ensures.mends.disk.trust.honest h) at));
+      mending = λ windows choices first is h at. further l windows choices log first is (c.args.start + c.loop-page.page + 1) (c.args.start + (c.loop-page.page + 1)) 0 new (λ page s within home before. omega (arith, before)) (c.in_ok-write_logged.ensures.done windows choices first is h (so_far.mending windows choices first is (c.write_logged.ensures.mends.disk.trust.honest h) at));
       showing = λ records first h still given at.
-          let h1 = c.write_logged.ensures.disk.trust.honest h in
+          let h1 = c.write_logged.ensures.mends.disk.trust.honest h in
           showing_further l records first (c.args.start + c.loop-page.page + 1) (c.args.start + (c.loop-page.page + 1)) new.image (λ page within before. omega (arith, before)) (c.in_ok-write_logged.ensures.shown records first h (still_next old mid (so_far.keeps h1).windows still) given (so_far.showing records first h1 still given at));
-      moments = λ windows choices first is h at. let h1 = c.write_logged.ensures.disk.trust.honest h in
+      moments = λ windows choices first is h at. let h1 = c.write_logged.ensures.mends.disk.trust.honest h in
           then_on M.moment M.left_since c.args.m.now c.loop-page.m c.write_logged.new.m (Stays l windows choices first) (so_far.moments windows choices first is h1 at)
           (c.write_logged.ensures.any_moment windows choices first is h (so_far.mending windows choices first is h1 at));
     }
 
-pub returns-in_err-write_logged-clause-load : goal.returns-in_err-write_logged-clause-load
-returns-in_err-write_logged-clause-load g c = handed_up IsLoadFault c.from_residual.result c.in_err-write_logged.field-0.0 c.from_residual.ensures.1 c.in_err-write_logged.ensures.load
+pub returns-in_err-write_logged-clause-mends : goal.returns-in_err-write_logged-clause-mends
+returns-in_err-write_logged-clause-mends g c =
+    let so_far = c.loop-page.invariant in let failed = c.in_err-write_logged.ensures.mends in
+    mends_up g.M.Machine (AreOfVolume c.args.l.now c.args.log.now) c.args.m.now c.write_logged.new.m c.from_residual.result c.in_err-write_logged.field-0.0 c.from_residual.ensures.1 (heals_then so_far.disk failed.disk) failed.load failed.lost
 
-pub returns-in_err-write_logged-clause-disk : goal.returns-in_err-write_logged-clause-disk
-returns-in_err-write_logged-clause-disk g c =
-    heals_told (told_up device_of_mount c.from_residual.result c.in_err-write_logged.field-0.0 c.from_residual.ensures.1) (heals_then c.loop-page.invariant.disk c.in_err-write_logged.ensures.disk)
+pub returns-clause-mends : goal.returns-clause-mends
+returns-clause-mends g c = let so_far = c.loop-page.invariant in record { disk = so_far.disk; load = tt; lost = tt; grows = so_far.grows }
 
 pub returns-in_err-write_logged-clause-keeps : goal.returns-in_err-write_logged-clause-keeps
 returns-in_err-write_logged-clause-keeps g c h =
     let M = g.M.Machine in
     let l = c.args.l.now in let mid = M.now c.loop-page.m in let new = M.now c.write_logged.new.m in
     let lt : c.loop-page.page < c.args.l.now.pages = omega (arith, c.loop-page-test.true, c.loop-page.auto.page-end, c.pages-page-end.ensures.value) in
-    keeps_on l (M.now c.args.m.now) mid new (c.loop-page.invariant.keeps (c.write_logged.ensures.disk.trust.honest h)) (keeps_home l c.loop-page.page lt (c.args.start + c.loop-page.page) (home_next l c.args.start c.loop-page.page c.requires.start) mid new (c.write_logged.ensures.keeps h))
+    keeps_on l (M.now c.args.m.now) mid new (c.loop-page.invariant.keeps (c.write_logged.ensures.mends.disk.trust.honest h)) (keeps_home l c.loop-page.page lt (c.args.start + c.loop-page.page) (home_next l c.args.start c.loop-page.page c.requires.start) mid new (c.write_logged.ensures.keeps h))
 
 pub returns-in_err-write_logged-clause-any_moment : goal.returns-in_err-write_logged-clause-any_moment
 returns-in_err-write_logged-clause-any_moment g c windows choices first is h at =
     let M = g.M.Machine in
     let so_far = c.loop-page.invariant in
-    let h1 = c.write_logged.ensures.disk.trust.honest h in
+    let h1 = c.write_logged.ensures.mends.disk.trust.honest h in
     then_on M.moment M.left_since c.args.m.now c.loop-page.m c.write_logged.new.m (Stays c.args.l.now windows choices first) (so_far.moments windows choices first is h1 at)
     (c.write_logged.ensures.any_moment windows choices first is h (so_far.mending windows choices first is h1 at))
 
@@ -86,13 +86,7 @@ returns-in_err-write_logged-clause-never_lost g c =
     let l = c.args.l.now in let old = M.now c.args.m.now in let so_far = c.loop-page.invariant in
     handed_up (λ fault. (windows : List WeakRun) (choices : List (List (List ℕ))) (first : Moment) (is : IsCompleted l windows choices c.args.log.now first) → M.honest c.write_logged.new.m → IsMending l windows choices c.args.log.now first is c.args.start 0 old → IsExcuse fault)
     c.from_residual.result c.in_err-write_logged.field-0.0 c.from_residual.ensures.1
-    (λ windows choices first is h at. c.in_err-write_logged.ensures.never_lost windows choices first is h (so_far.mending windows choices first is (c.write_logged.ensures.disk.trust.honest h) at))
-
-pub returns-in_err-write_logged-clause-lost : goal.returns-in_err-write_logged-clause-lost
-returns-in_err-write_logged-clause-lost g c =
-    let M = g.M.Machine in
-    handed_up (λ fault. M.honest c.write_logged.new.m → LostIn (AreOfVolume c.args.l.now c.args.log.now) (M.now c.write_logged.new.m).image fault) c.from_residual.result c.in_err-write_logged.field-0.0 c.from_residual.ensures.1
-    c.in_err-write_logged.ensures.lost
+    (λ windows choices first is h at. c.in_err-write_logged.ensures.never_lost windows choices first is h (so_far.mending windows choices first is (c.write_logged.ensures.mends.disk.trust.honest h) at))
 
 pub returns-in_err-write_logged-clause-not_shown : goal.returns-in_err-write_logged-clause-not_shown
 returns-in_err-write_logged-clause-not_shown g c =
@@ -101,13 +95,13 @@ returns-in_err-write_logged-clause-not_shown g c =
     handed_up (λ fault. (records : List Placed) (first : Image) → M.honest c.write_logged.new.m → IsCalmNow old → GivesPages c.args.log.now records first → IsShowing l records first c.args.start old.image → LosesNone l records first fault)
     c.from_residual.result c.in_err-write_logged.field-0.0 c.from_residual.ensures.1
     (λ records first h still given at.
-    let h1 = c.write_logged.ensures.disk.trust.honest h in
+    let h1 = c.write_logged.ensures.mends.disk.trust.honest h in
     c.in_err-write_logged.ensures.not_shown records first h (still_next old (M.now c.loop-page.m) (so_far.keeps h1).windows still) given (so_far.showing records first h1 still given at))
 
 pub returns-in_err-write_logged-clause-most : goal.returns-in_err-write_logged-clause-most
 returns-in_err-write_logged-clause-most g c t =
     let lt : c.loop-page.page < c.args.l.now.pages = omega (arith, c.loop-page-test.true, c.loop-page.auto.page-end, c.pages-page-end.ensures.value) in
-    omega (arith, c.loop-page.invariant.most (c.write_logged.ensures.disk.trust.tells t), c.write_logged.ensures.most t, count_next c.args.log.now c.loop-page.page, count_within c.args.log.now c.loop-page.page c.args.l.now.pages lt)
+    omega (arith, c.loop-page.invariant.most (c.write_logged.ensures.mends.disk.trust.tells t), c.write_logged.ensures.most t, count_next c.args.log.now c.loop-page.page, count_within c.args.log.now c.loop-page.page c.args.l.now.pages lt)
 
 pub returns-clause-done : goal.returns-clause-done
 returns-clause-done g c windows choices first is h at =

@@ -1,6 +1,7 @@
-use Rattle.std.proofs.Common.{◌≡◌, ◌+◌, ◌≤◌, ℕ, Bool, List, Some, None, Ok, refl, sym, ap, subst, ◌∙◌, arith}
+use Rattle.std.proofs.Common.{◌≡◌, inl, ◌+◌, ◌<◌, ◌≤◌, ℕ, Bool, List, Some, None, Ok, refl, sym, ap, subst, ◌∙◌, arith}
 use Rattle.std.specs.Prelude.{if◌then◌else◌, slice_index_or}
 use Rattle.std.proofs.lemmas.Result.{IfErr-weaker, on_ok_weaker}
+use Rattle.volume_layout.specs.declared.layout.Layout.{Layout}
 use Rattle.sector_disk.specs.declared.sector.WeakRun.{WeakRun}
 use Rattle.sector_disk.specs.Machine.{Ledger, Moment, Wears}
 use Rattle.sector_disk.proofs.CallLaws.{heals_then, heals_told, reads_as_heals}
@@ -18,7 +19,7 @@ use Rattle.fsd_sound.specs.Lost.{LostIn}
 use Rattle.mount_recover.specs.Mending.{AreHomed, AreOfVolume, IsCompleted, IsMending, LacksPage, Stays}
 use Rattle.mount_recover.specs.Showing.{GivesPages, IsShowing, LosesNone}
 use Rattle.mount_recover.proofs.CalmLaws.{still_worn, still_next, given_on, device_loses, excuse_loses}
-use Rattle.mount_recover.proofs.FaultLaws.{excuse_lost, load_excused, is_load, load_told}
+use Rattle.mount_recover.proofs.FaultLaws.{excuse_lost, load_excused, load_lost, is_load, load_told}
 use Rattle.mount_recover.proofs.HomesLaws.{count_has, homed_put, homed_skip}
 use Rattle.mount_recover.proofs.KeepsLaws.{but_read, but_then}
 use Rattle.mount_recover.proofs.MendingLaws.{stays, still, not_none, put_none}
@@ -26,17 +27,29 @@ use Rattle.mount_recover.proofs.ShowingLaws.{showing_skip}
 use Rattle.mount_recover.proofs.SlotLaws.{slot_gives, slot_not_lost, slot_none}
 use Rattle.mount_recover.proofs.mending.write_logged.Goals as goal
 
-pub returns-in-Err-clause-load : goal.returns-in-Err-clause-load
-returns-in-Err-clause-load g c = is_load c.in-Err.fault c.from.result c.from.ensures
+pub returns-in-Ok-true-clause-mends : goal.returns-in-Ok-true-clause-mends
+returns-in-Ok-true-clause-mends g c =
+    let M = g.M.Machine in
+    let new = M.now c.put_home.new.m in
+    record {
+      disk = heals_then (reads_as_heals c.in-Ok-true.ensures.reads) c.put_home.ensures.disk;
+      load = c.put_home.ensures.load;
+      lost = IfErr-weaker c.put_home.result IsExcuse (λ fault. M.honest c.put_home.new.m → LostIn (AreOfVolume c.args.l.now c.args.log.now) new.image fault)
+          (λ fault excuse h. excuse_lost (AreOfVolume c.args.l.now c.args.log.now) new.image fault excuse) c.put_home.ensures.never_lost;
+      grows = on_ok_weaker {P = M.tells c.put_home.new.m → (M.ledger c.image_of.new.m).written ≤ (M.ledger c.put_home.new.m).written} {Q = M.tells c.put_home.new.m → (M.ledger c.args.m.now).written ≤ (M.ledger c.put_home.new.m).written} c.put_home.result
+          (λ grows t. omega (arith, grows t, ap (λ (x : Ledger). x.written) (c.image_of.ensures.reads.ledger (c.put_home.ensures.disk.trust.tells t)))) c.put_home.ensures.grows;
+    }
 
-pub returns-in-Ok-true-clause-disk : goal.returns-in-Ok-true-clause-disk
-returns-in-Ok-true-clause-disk g c = heals_then (reads_as_heals c.in-Ok-true.ensures.reads) c.put_home.ensures.disk
+pub returns-in-Ok-false-clause-mends : goal.returns-in-Ok-false-clause-mends
+returns-in-Ok-false-clause-mends g c = record { disk = reads_as_heals c.in-Ok-false.ensures.reads; load = tt; lost = tt; grows = λ t. omega (arith, ap (λ (x : Ledger). x.written) (c.image_of.ensures.reads.ledger t)) }
 
-pub returns-in-Ok-false-clause-disk : goal.returns-in-Ok-false-clause-disk
-returns-in-Ok-false-clause-disk g c = reads_as_heals c.in-Ok-false.ensures.reads
-
-pub returns-in-Err-clause-disk : goal.returns-in-Err-clause-disk
-returns-in-Err-clause-disk g c = heals_told (load_told c.in-Err.fault c.from.result c.from.ensures) (reads_as_heals c.in-Err.ensures.reads)
+pub returns-in-Err-clause-mends : goal.returns-in-Err-clause-mends
+returns-in-Err-clause-mends g c = record {
+  disk = heals_told (load_told c.in-Err.fault c.from.result c.from.ensures) (reads_as_heals c.in-Err.ensures.reads);
+  load = is_load c.in-Err.fault c.from.result c.from.ensures;
+  lost = λ h. load_lost _ (AreOfVolume c.args.l.now c.args.log.now) (g.M.Machine.now c.image_of.new.m).image c.in-Err.fault c.from.result c.from.ensures (λ a b logged. inl (record { page = c.args.page; within = subst (λ (k : Layout). c.args.page < k.pages) (sym c.requires.layout) c.requires.page; logged = logged })) (c.in-Err.ensures.failed.lost h);
+  grows = tt;
+}
 
 pub returns-in-Ok-true-clause-any_moment : goal.returns-in-Ok-true-clause-any_moment
 returns-in-Ok-true-clause-any_moment g c windows choices first is h at =
@@ -68,12 +81,6 @@ returns-in-Ok-true-clause-never_lost g c =
     (λ fault. (windows : List WeakRun) (choices : List (List (List ℕ))) (first : Moment) (is : IsCompleted c.args.l.now windows choices c.args.log.now first) → M.honest c.put_home.new.m → IsMending c.args.l.now windows choices c.args.log.now first is c.args.place 0 (M.now c.args.m.now) → IsExcuse fault)
     (λ fault excuse windows choices first is h at. excuse) c.put_home.ensures.never_lost
 
-pub returns-in-Ok-true-clause-lost : goal.returns-in-Ok-true-clause-lost
-returns-in-Ok-true-clause-lost g c =
-    let M = g.M.Machine in
-    IfErr-weaker c.put_home.result IsExcuse (λ fault. M.honest c.put_home.new.m → LostIn (AreOfVolume c.args.l.now c.args.log.now) (M.now c.put_home.new.m).image fault)
-    (λ fault excuse h. excuse_lost (AreOfVolume c.args.l.now c.args.log.now) (M.now c.put_home.new.m).image fault excuse) c.put_home.ensures.never_lost
-
 pub returns-in-Ok-false-clause-any_moment : goal.returns-in-Ok-false-clause-any_moment
 returns-in-Ok-false-clause-any_moment g c windows choices first is h at =
     let M = g.M.Machine in
@@ -85,7 +92,7 @@ returns-in-Ok-false-clause-done g c windows choices first is h at =
     let M = g.M.Machine in
     let l = c.args.l.now in let log = c.args.log.now in let now = M.now c.args.m.now in let read = M.now c.image_of.new.m in
     put_none l windows choices log first is c.args.place 0 read (still l windows choices log first is c.args.place 0 now at read (c.image_of.ensures.reads.worn h)) c.args.page c.requires.page c.args.place c.requires.home refl
-    (slot_none l windows choices log first is c.requires.layout c.args.page c.requires.page c.args.place 0 now at (c.in-Ok-false.ensures.nowhere (λ i. Ok (c.in-Ok-false.field-0-test i))))
+    (slot_none l windows choices log first is c.requires.layout c.args.page c.requires.page c.args.place 0 now at (c.in-Ok-false.ensures.lacks (λ i. Ok (c.in-Ok-false.field-0-test i))).nowhere)
 
 pub returns-in-Err-clause-any_moment : goal.returns-in-Err-clause-any_moment
 returns-in-Err-clause-any_moment g c windows choices first is h at =
@@ -98,7 +105,7 @@ returns-in-Err-clause-never_lost g c windows choices first is h at =
     let M = g.M.Machine in
     let l = c.args.l.now in let log = c.args.log.now in let now = M.now c.args.m.now in
     subst IsExcuse (sym c.from.ensures) (load_excused c.in-Err.fault
-    (slot_not_lost l windows choices log first is c.requires.layout c.args.page c.requires.page c.args.place 0 now at (M.now c.image_of.new.m) (c.image_of.ensures.reads.worn h) c.in-Err.fault (c.in-Err.ensures.lost h)))
+    (slot_not_lost l windows choices log first is c.requires.layout c.args.page c.requires.page c.args.place 0 now at (M.now c.image_of.new.m) (c.image_of.ensures.reads.worn h) c.in-Err.fault (c.in-Err.ensures.failed.lost h)))
 
 pub returns-in-Ok-true-clause-shown : goal.returns-in-Ok-true-clause-shown
 returns-in-Ok-true-clause-shown g c =
@@ -110,7 +117,7 @@ returns-in-Ok-true-clause-shown g c =
     let worn = c.image_of.ensures.reads.worn h1 in
     let same = still_worn now now.image read.image still worn.image in
     let here = subst (IsShowing l records first c.args.place) (sym same) at in
-    let logged = c.in-Ok-true.ensures.given records h1 still given.indexed (given_on l log c.requires.layout records first now.image c.args.page at.front given) in
+    let logged = c.in-Ok-true.ensures.gives.given records h1 still given.indexed (given_on l log c.requires.layout records first now.image c.args.page at.front given) in
     let is : last_image c.args.page records ≡ Some c.image_of.new.buf = logged ∙ ap (λ (b : Bool). if b then Some c.image_of.new.buf else None) c.in-Ok-true.field-0-test in
     done records first h (still_next now read worn.windows still) is here)
     c.put_home.ensures.shown
@@ -127,13 +134,13 @@ returns-in-Ok-false-clause-shown g c records first h still given at =
     let M = g.M.Machine in
     let l = c.args.l.now in let now = M.now c.args.m.now in let read = M.now c.image_of.new.m in
     let here = subst (IsShowing l records first c.args.place) (sym (still_worn now now.image read.image still (c.image_of.ensures.reads.worn h).image)) at in
-    showing_skip l records first c.args.page c.requires.page c.args.place c.requires.home read.image here (c.in-Ok-false.ensures.nowhere (λ i. Ok (c.in-Ok-false.field-0-test i)) records given.indexed)
+    showing_skip l records first c.args.page c.requires.page c.args.place c.requires.home read.image here ((c.in-Ok-false.ensures.lacks (λ i. Ok (c.in-Ok-false.field-0-test i))).nowhere records given.indexed)
 
 pub returns-in-Err-clause-not_shown : goal.returns-in-Err-clause-not_shown
 returns-in-Err-clause-not_shown g c records first h still given at =
     let M = g.M.Machine in
     let l = c.args.l.now in let log = c.args.log.now in let now = M.now c.args.m.now in
-    device_loses l records first c.in-Err.fault c.from.result c.from.ensures (c.in-Err.ensures.none_lost records h still given.indexed (given_on l log c.requires.layout records first now.image c.args.page at.front given))
+    device_loses l records first c.in-Err.fault c.from.result c.from.ensures (c.in-Err.ensures.failed.none_lost records h still given.indexed (given_on l log c.requires.layout records first now.image c.args.page at.front given))
 
 pub returns-in-Ok-true-clause-keeps : goal.returns-in-Ok-true-clause-keeps
 returns-in-Ok-true-clause-keeps g c h =
@@ -171,12 +178,3 @@ returns-in-Ok-false-clause-most g c t = omega (arith, ap (λ (x : Ledger). x.wri
 
 pub returns-in-Err-clause-most : goal.returns-in-Err-clause-most
 returns-in-Err-clause-most g c t = omega (arith, ap (λ (x : Ledger). x.written) (c.image_of.ensures.reads.ledger t))
-
-pub returns-in-Ok-true-clause-grows : goal.returns-in-Ok-true-clause-grows
-returns-in-Ok-true-clause-grows g c =
-    let M = g.M.Machine in
-    let read = λ (t : M.tells c.put_home.new.m). c.image_of.ensures.reads.ledger (c.put_home.ensures.disk.trust.tells t) in
-    on_ok_weaker {P = M.tells c.put_home.new.m → (M.ledger c.image_of.new.m).written ≤ (M.ledger c.put_home.new.m).written} {Q = M.tells c.put_home.new.m → (M.ledger c.args.m.now).written ≤ (M.ledger c.put_home.new.m).written} c.put_home.result (λ grows t. omega (arith, grows t, ap (λ (x : Ledger). x.written) (read t))) c.put_home.ensures.grows
-
-pub returns-in-Ok-false-clause-grows : goal.returns-in-Ok-false-clause-grows
-returns-in-Ok-false-clause-grows g c t = omega (arith, ap (λ (x : Ledger). x.written) (c.image_of.ensures.reads.ledger t))

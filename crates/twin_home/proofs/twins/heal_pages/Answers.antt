@@ -18,16 +18,16 @@ loop-page-preserved g c =
       disk = writes_then so_far.disk one.writes
           (λ h left heals. pages_within l page (page + 1) old left (omega arith) heals)
           (λ h left heals. pages_next l page (page + 1) old mid left refl (so_far.disk.exit (one.writes.trust.honest h)) heals);
-      few = omega (arith, so_far.few, one.few);
-      counted = λ t. wrote_on _ _ _ _ _ _ (so_far.counted (one.writes.trust.tells t)) (one.counted t) refl;
+      few = omega (arith, so_far.few, one.healed.few);
+      counted = λ t. wrote_on _ _ _ _ _ _ (so_far.counted (one.writes.trust.tells t)) (one.healed.counted t) refl;
       healed = λ h. let h1 = one.writes.trust.honest h in
-          homes_counted l page (page + 1) c.loop-page.count c.in_ok-count.field-0 (c.loop-page.count + c.in_ok-count.field-0) old mid new refl lt refl (so_far.disk.exit h1) (so_far.healed h1) (one.done h);
+          homes_counted l page (page + 1) c.loop-page.count c.in_ok-count.field-0 (c.loop-page.count + c.in_ok-count.field-0) old mid new refl lt refl (so_far.disk.exit h1) (so_far.healed h1) (one.healed.done h);
       mended = λ h. let h1 = one.writes.trust.honest h in
           let bounds = planned_bounds l c.pages-page-end.ensures.planned in
           let sized = g.met.M.Machine.sized c.loop-page.m h1 in
           let room = so_far.disk.uses.sectors in
           homes_next l page (page + 1) mid new refl (one.writes.exit h) (so_far.mended h1)
-          (healed_stand (home_a l page) (home_b l page) c.in_ok-count.field-0 mid new (one.done h)
+          (healed_stand (home_a l page) (home_b l page) c.in_ok-count.field-0 mid new (one.healed.done h)
           (omega (arith, lt, sized, room, bounds.sectors_least, c.requires.room)) (omega (arith, lt, sized, room, bounds.sectors_least, c.requires.room)));
     }
 

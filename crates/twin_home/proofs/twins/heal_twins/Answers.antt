@@ -49,7 +49,7 @@ returns-clause-healed g c h =
     let roots = c.in_ok-roots.ensures in let anchors = c.in_ok-anchors.ensures in let pages = c.in_ok-pages.ensures in
     let h2 = pages.writes.trust.honest h in let h1 = anchors.writes.trust.honest h2 in
     twins_counted c.args.l.now (M.now c.args.m.now) (M.now c.heal_roots.new.m) (M.now c.heal_anchor.new.m) (M.now c.heal_pages.new.m) (roots.writes.exit h1) (anchors.writes.exit h2)
-    c.in_ok-roots.roots c.in_ok-anchors.anchors c.in_ok-pages.pages (c.in_ok-roots.roots + c.in_ok-anchors.anchors + c.in_ok-pages.pages) refl (roots.done h1) (anchors.done h2) (pages.healed h)
+    c.in_ok-roots.roots c.in_ok-anchors.anchors c.in_ok-pages.pages (c.in_ok-roots.roots + c.in_ok-anchors.anchors + c.in_ok-pages.pages) refl (roots.healed.done h1) (anchors.healed.done h2) (pages.healed h)
 
 pub returns-clause-mended : goal.returns-clause-mended
 returns-clause-mended g c h =
@@ -59,4 +59,4 @@ returns-clause-mended g c h =
     let bounds = planned_bounds c.args.l.now c.requires.planned in
     let sized = g.met.M.Machine.sized c.args.m.now h0 in
     twins_stand c.args.l.now (M.now c.args.m.now) (M.now c.heal_roots.new.m) (M.now c.heal_anchor.new.m) (M.now c.heal_pages.new.m) (roots.writes.exit h1) (anchors.writes.exit h2)
-    c.in_ok-roots.roots c.in_ok-anchors.anchors (omega (arith, sized, c.requires.room, bounds.sectors_least)) (roots.done h1) (anchors.done h2) (pages.writes.exit h) (pages.mended h)
+    c.in_ok-roots.roots c.in_ok-anchors.anchors (omega (arith, sized, c.requires.room, bounds.sectors_least)) (roots.healed.done h1) (anchors.healed.done h2) (pages.writes.exit h) (pages.mended h)

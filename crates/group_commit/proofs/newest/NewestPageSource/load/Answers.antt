@@ -16,7 +16,7 @@ returns-in_err-image_of-clause-never_lost g c =
     rw told.1 (λ h knows.
     let known : KnowsPages log (M.now c.args.m.now) = subst (λ (x : LogValue). KnowsPages x (M.now c.args.m.now)) (sym c.self.view_is) knows in
     let within : c.args.page < log.layout.pages = subst (λ (x : LogValue). c.args.page < x.layout.pages) (sym c.self.view_is) c.requires.page in
-    subst IsDevice (sym told.2) (logged_lost log c.args.page within (M.now c.args.m.now) known (M.now c.image_of.new.m).image (kept.reads.worn h).image c.in_err-image_of.field-0.0 (kept.lost h)))
+    subst IsDevice (sym told.2) (logged_lost log c.args.page within (M.now c.args.m.now) known (M.now c.image_of.new.m).image (kept.reads.worn h).image c.in_err-image_of.field-0.0 (kept.failed.lost h)))
 
 pub returns-then-branch-clause-newest : goal.returns-then-branch-clause-newest
 returns-then-branch-clause-newest g c h knows =

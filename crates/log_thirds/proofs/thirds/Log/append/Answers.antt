@@ -126,15 +126,10 @@ returns-in_err-write_record g c =
     let writes = written M c.args.m.now c.write_record.new.m c.args.pages.now c.args.images.now _ _ _ (written_at g p) failed.writes in
     rw (told.1, told.2) (record {
       writes = writes;
-      counted = tt;
-      counted_err = failed.counted_err;
       worn_moment = any_moment M c.args.m.now c.write_record.new.m c.args.pages.now c.args.images.now log _ writes (may_now g p small);
-      worn_done = tt;
-      stands = tt;
       shape = shape g p;
-      past = tt;
-      indexed = tt;
-      kept = c.self.view_is;
+      done = tt;
+      failed = record { kept = c.self.view_is; counted = failed.counted_err };
     })
 
 pub returns : goal.returns
@@ -161,20 +156,21 @@ returns g c =
     λ i. record { layout = (c.self.view_is i).layout; anchor = (c.self.view_is i).anchor; head = record { number = (c.self.view_is i).head.number + 1; at = c.spot-at.ensures.at i + sectors i; end = c.spot-at.ensures.end i }; firsts = firsts i; slots = slots i; copies = (c.self.view_is i).copies } in
     record {
       writes = writes;
-      counted = subst (λ (gap : ℕ). M.tells c.write_record.new.m → M.ledger c.write_record.new.m ≡ Rattle.sector_disk.specs.Machine.wrote (M.ledger c.args.m.now) (record_len gap (length pages))) (gap_is g p) wrote.counted;
-      counted_err = tt;
       worn_moment = any_moment M c.args.m.now c.write_record.new.m pages c.args.images.now log None writes (may_now g p small);
-      worn_done = λ records h narrow is_log. subst (λ (x : LogValue). IsLogWorn x (records ++ next_record log pages c.args.images.now ∷ []) new) (sym same)
-          (worn_appended log pages c.args.images.now (length old.image) (may_now g p small (writes.trust.honest h)) old refl records is_log new narrow (stands h));
-      stands = stands;
       shape = shape g p;
-      past = same;
-      indexed = λ records are. subst (λ (x : LogValue). IsIndexed x (records ++ next_record log pages c.args.images.now ∷ [])) (sym same)
-          (record {
-            slots = slots_more log.layout log.anchor.third records (next_record log pages c.args.images.now) log.slots are.slots;
-            firsts = firsts_more log.layout.third log.anchor.first records (next_record log pages c.args.images.now) log.firsts are.firsts;
-          });
-      kept = tt;
+      done = record {
+        past = same;
+        counted = subst (λ (gap : ℕ). M.tells c.write_record.new.m → M.ledger c.write_record.new.m ≡ Rattle.sector_disk.specs.Machine.wrote (M.ledger c.args.m.now) (record_len gap (length pages))) (gap_is g p) wrote.counted;
+        stands = stands;
+        worn = λ records h narrow is_log. subst (λ (x : LogValue). IsLogWorn x (records ++ next_record log pages c.args.images.now ∷ []) new) (sym same)
+            (worn_appended log pages c.args.images.now (length old.image) (may_now g p small (writes.trust.honest h)) old refl records is_log new narrow (stands h));
+        indexed = λ records are. subst (λ (x : LogValue). IsIndexed x (records ++ next_record log pages c.args.images.now ∷ [])) (sym same)
+            (record {
+              slots = slots_more log.layout log.anchor.third records (next_record log pages c.args.images.now) log.slots are.slots;
+              firsts = firsts_more log.layout.third log.anchor.first records (next_record log pages c.args.images.now) log.firsts are.firsts;
+            });
+      };
+      failed = tt;
     }
 
 pub invariant_of-self-2 : goal.invariant_of-self-2

@@ -89,16 +89,13 @@ returns-in-Ok-Some g c =
     record {
       reads = read.reads;
       absent = (λ same. absurd (there_nowhere same), λ none. absurd (some_there g p slot is none));
-      named = tt;
-      lost = tt;
       whole = λ there h. subst (λ (o : Option Slot). StandsAt o (g.M.Machine.now c.args.m.now).image c.in-Ok-Some.image) (sym (at_page g p slot is)) (stands_there (g.M.Machine.now c.args.m.now) slot c.args.page c.args.self.now.anchor.epoch c.in-Ok-Some.image (sees h));
-      image = λ records h calm are same. given_is g p slot is records are calm _ (sees h) (by_scan g p slot is records are same);
-      never_lost = tt;
-      given = λ records h calm are gives. given_is g p slot is records are calm _ (sees h) (by_sectors g p slot is records are gives);
-      none_lost = tt;
-      nowhere = λ same. absurd (there_nowhere same);
-      kept = λ same. absurd (there_nowhere same);
-      kept_err = tt;
+      gives = record {
+        image = λ records h calm are same. given_is g p slot is records are calm _ (sees h) (by_scan g p slot is records are same);
+        given = λ records h calm are gives. given_is g p slot is records are calm _ (sees h) (by_sectors g p slot is records are gives);
+      };
+      lacks = λ same. absurd (there_nowhere same);
+      failed = tt;
     }
 
 pub returns-in-Ok-None : goal.returns-in-Ok-None
@@ -111,18 +108,18 @@ returns-in-Ok-None g c =
     record {
       reads = read.reads;
       absent = (λ same. absurd (err_ok _ false same), λ none. absurd (some_there g p slot is none));
-      named = record { number = slot.number; is = at_page g p slot is };
-      lost = λ h. lost_as (LiesAt (Some slot)) slot.place slot.copy (AreLogged c.args.self.now c.args.page) (g.M.Machine.now c.read_slot.new.m).image
-          (λ lies. record { lies = record { number = lies.number; is = at_page g p slot is ∙ lies.is }; in_record = in_record g p slot is })
-          (read.lost (ap (λ (o : Option (List ℕ)). Ok o) c.in-Ok-None.field-0-is) h);
       whole = λ same. absurd (err_ok _ true same);
-      image = tt;
-      never_lost = λ records h calm are same. absurd (never_none g p slot is records are calm (sees h) (by_scan g p slot is records are same));
-      given = tt;
-      none_lost = λ records h calm are gives. absurd (never_none g p slot is records are calm (sees h) (by_sectors g p slot is records are gives));
-      nowhere = λ same. absurd (err_ok _ false same);
-      kept = λ same. absurd (err_ok _ false same);
-      kept_err = refl;
+      gives = tt;
+      lacks = λ same. absurd (err_ok _ false same);
+      failed = record {
+        named = record { number = slot.number; is = at_page g p slot is };
+        lost = λ h. lost_as (LiesAt (Some slot)) slot.place slot.copy (AreLogged c.args.self.now c.args.page) (g.M.Machine.now c.read_slot.new.m).image
+            (λ lies. record { lies = record { number = lies.number; is = at_page g p slot is ∙ lies.is }; in_record = in_record g p slot is })
+            (read.lost (ap (λ (o : Option (List ℕ)). Ok o) c.in-Ok-None.field-0-is) h);
+        never_lost = λ records h calm are same. absurd (never_none g p slot is records are calm (sees h) (by_scan g p slot is records are same));
+        none_lost = λ records h calm are gives. absurd (never_none g p slot is records are calm (sees h) (by_sectors g p slot is records are gives));
+        kept = refl;
+      };
     }
 
 pub returns-in-Err : goal.returns-in-Err
@@ -131,16 +128,16 @@ returns-in-Err g c =
     record {
       reads = c.in-Err.ensures.reads;
       absent = (λ same. absurd (err_ok _ false same), λ none. absurd (some_there g p c.in-Some.slot c.in-Some.is none));
-      named = tt;
-      lost = λ h. tt;
       whole = λ same. absurd (err_ok _ true same);
-      image = tt;
-      never_lost = λ records h calm are same. tt;
-      given = tt;
-      none_lost = λ records h calm are gives. tt;
-      nowhere = λ same. absurd (err_ok _ false same);
-      kept = λ same. absurd (err_ok _ false same);
-      kept_err = refl;
+      gives = tt;
+      lacks = λ same. absurd (err_ok _ false same);
+      failed = record {
+        named = tt;
+        lost = λ h. tt;
+        never_lost = λ records h calm are same. tt;
+        none_lost = λ records h calm are gives. tt;
+        kept = refl;
+      };
     }
 
 pub returns-in-None : goal.returns-in-None
@@ -151,14 +148,11 @@ returns-in-None g c =
     record {
       reads = reads_none c.args.m.now (λ l h left. g.met.M.Machine.only_now c.args.m.now l h left);
       absent = (λ same. none, λ same. refl);
-      named = tt;
-      lost = tt;
       whole = λ same. absurd (there_nowhere (sym same));
-      image = λ records h calm are same. nowhere records are;
-      never_lost = tt;
-      given = λ records h calm are gives. nowhere records are;
-      none_lost = tt;
-      nowhere = λ same records are. nowhere records are;
-      kept = λ same. refl;
-      kept_err = tt;
+      gives = record {
+        image = λ records h calm are same. nowhere records are;
+        given = λ records h calm are gives. nowhere records are;
+      };
+      lacks = λ same. record { nowhere = nowhere; kept = refl };
+      failed = tt;
     }

@@ -84,14 +84,9 @@ returns-in_err-write_anchor g c =
     let p = err_from_is_err_and c.from_residual.result c.from_residual.ensures.1 in
     rw (p.1, p.2) (record {
       writes = anchored g.M.Machine _ _ _ _ _ (anchor_is g w) failed.writes;
-      counted = tt;
-      least = failed.least;
-      most = failed.most;
-      done = tt;
+      counted = λ t. record { no_fewer = failed.least t; no_more = failed.most t };
       worn_moment = any_moment g w;
-      worn_done = tt;
-      indexed = tt;
-      past = tt;
+      done = tt;
       kept = refl;
     })
 
@@ -112,15 +107,16 @@ returns g c =
     λ i. record { layout = (c.self.view_is i).layout; anchor = anchor i; head = record { number = (c.self.view_is i).head.number; at = (c.self.view_is i).head.at - by i; end = (c.self.view_is i).head.end - by i }; firsts = record { second = (c.self.view_is i).firsts.last; last = (c.self.view_is i).head.number }; slots = slots i; copies = (c.self.view_is i).copies } in
     record {
       writes = anchored M None _ _ _ _ anchor wrote.writes;
-      counted = wrote.counted;
-      least = wrote.least;
-      most = wrote.most;
-      done = holds;
+      counted = λ t. record { no_fewer = wrote.least t; no_more = wrote.most t };
       worn_moment = any_moment g w;
-      worn_done = λ records h indexed stands. subst (λ (x : LogValue). IsLogWorn x (records_moved log.layout records) new) (sym same) (moves g w records new h (moved_part log old new (holds h)) indexed stands).behind;
-      indexed = λ records h indexed stands. subst (λ (x : LogValue). IsIndexed x (records_moved log.layout records)) (sym same)
-          (indexed_moved log (may g w) records indexed.firsts old.image (stands old.image (worn_refl (open_damage old.windows) old.image)) indexed.slots);
-      past = same;
+      done = record {
+        past = same;
+        counted = wrote.counted;
+        stands = holds;
+        worn = λ records h indexed stands. subst (λ (x : LogValue). IsLogWorn x (records_moved log.layout records) new) (sym same) (moves g w records new h (moved_part log old new (holds h)) indexed stands).behind;
+        indexed = λ records h indexed stands. subst (λ (x : LogValue). IsIndexed x (records_moved log.layout records)) (sym same)
+            (indexed_moved log (may g w) records indexed.firsts old.image (stands old.image (worn_refl (open_damage old.windows) old.image)) indexed.slots);
+      };
       kept = tt;
     }
 

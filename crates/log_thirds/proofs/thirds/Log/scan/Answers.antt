@@ -1,8 +1,8 @@
-use Rattle.std.proofs.Common.{◌≡◌, Option, Some, Result, Err, subst, ap, sym, ◌∙◌}
+use Rattle.std.proofs.Common.{◌≡◌, Option, Some, Result, Err, subst, ap, rules, sym, ◌∙◌}
 use Rattle.fsd_formats.specs.declared.anchor.Anchor.{Anchor}
 use Rattle.sector_disk.proofs.CallLaws.{reads_then, reads_told}
 use Rattle.sector_disk.specs.Image.{Windows, IsWorn, open_damage}
-use Rattle.log_thirds.specs.Reading.{log_fault_of}
+use Rattle.log_thirds.specs.Reading.{SeesAnchor, log_fault_of}
 use Rattle.log_thirds.specs.Seen.{AnchorsOn, ScansOn}
 use Rattle.log_thirds.specs.declared.fault.LogFault.{LogFault}
 use Rattle.log_thirds.specs.declared.fault.LogFault.TheVariants.{NoAnchor, WornOut}
@@ -25,18 +25,24 @@ returns-in-Err-clause-worn_out g c same h = (read_fault c.in-Err.fault c.log_fau
 pub returns-in-Ok-clause-reads : goal.returns-in-Ok-clause-reads
 returns-in-Ok-clause-reads g c = reads_then c.in-Ok-Some.ensures.reads c.in-Ok.ensures.reads
 
-pub returns-in-Ok-clause-seen : goal.returns-in-Ok-clause-seen
-returns-in-Ok-clause-seen g c j h jw =
+pub returns-in-Ok-clause-found : goal.returns-in-Ok-clause-found
+returns-in-Ok-clause-found g c =
     let M = g.M.Machine in
     let old = M.now c.args.m.now in
     let mid = M.now c.find_anchor.new.m in
-    let h1 = c.scan_by.ensures.reads.trust.honest h in
-    let same = (c.find_anchor.ensures.reads.worn h1).windows in
-    let found = c.in-Ok-Some.ensures.seen j h1 jw in
-    let first = subst (λ (o : Option Anchor). AnchorsOn (open_damage old.windows) j mid.image o) (c.in-Ok-Some.field-0-is ∙ ap (λ (a : Anchor). Some a) (sym c.in-Ok.ensures.anchor)) found in
-    let to_mid = subst (λ (w : Windows). IsWorn (open_damage w) first.image mid.image) (sym same) first.to in
-    let scans = subst (λ (w : Windows). ScansOn c.in-Ok.log (open_damage w) first.image (M.now c.scan_by.new.m).image) same (c.in-Ok.ensures.seen first.image h to_mid) in
-    log_seen c.in-Ok.log (open_damage old.windows) j mid.image (M.now c.scan_by.new.m).image first scans
+    record {
+      layout = c.in-Ok.ensures.layout;
+      epoch = search rules;
+      anchor = λ h. subst (λ (o : Option Anchor). SeesAnchor old o) (c.in-Ok-Some.field-0-is ∙ ap (λ (a : Anchor). Some a) (sym c.in-Ok.ensures.anchor)) (c.in-Ok-Some.ensures.sees (c.scan_by.ensures.reads.trust.honest h));
+      seen = λ j h jw.
+          let h1 = c.scan_by.ensures.reads.trust.honest h in
+          let same = (c.find_anchor.ensures.reads.worn h1).windows in
+          let found = c.in-Ok-Some.ensures.seen j h1 jw in
+          let first = subst (λ (o : Option Anchor). AnchorsOn (open_damage old.windows) j mid.image o) (c.in-Ok-Some.field-0-is ∙ ap (λ (a : Anchor). Some a) (sym c.in-Ok.ensures.anchor)) found in
+          let to_mid = subst (λ (w : Windows). IsWorn (open_damage w) first.image mid.image) (sym same) first.to in
+          let scans = subst (λ (w : Windows). ScansOn c.in-Ok.log (open_damage w) first.image (M.now c.scan_by.new.m).image) same (c.in-Ok.ensures.seen first.image h to_mid) in
+          log_seen c.in-Ok.log (open_damage old.windows) j mid.image (M.now c.scan_by.new.m).image first scans;
+    }
 
 pub returns-in-Err-scan_by-clause-reads : goal.returns-in-Err-scan_by-clause-reads
 returns-in-Err-scan_by-clause-reads g c = reads_told c.log_fault-in-Err-scan_by.ensures.place (reads_then c.in-Ok-Some.ensures.reads c.in-Err-scan_by.ensures.reads)

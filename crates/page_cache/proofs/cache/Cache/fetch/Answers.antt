@@ -21,17 +21,11 @@ returns-in-Some g c =
     let there = some_held (held c.args.self.now c.args.page) c.in-Some.frame is in
     record {
       hit = hit_of (held c.args.self.now c.args.page) c.in-Some.frame _ _ is c.hit.ensures.used refl;
-      frame = λ none. absurd (there none);
-      entered = λ none. absurd (there none);
-      whole = λ none. absurd (there none);
-      given = λ none. absurd (there none);
+      enters = λ none. absurd (there none);
       newest = λ h knows. c.hit.ensures.newest (g.S.PageSource.newest c.args.source.now (g.M.Machine.now c.args.m.now).image);
       reads = reads_none c.args.m.now (λ l h left. g.met.M.Machine.only_now c.args.m.now l h left);
-      lost = tt;
-      never_lost = tt;
-      kept = tt;
-      busy = c.hit.ensures.busy;
-      frames = ap (λ (x : CacheValue). x.frames) c.hit.ensures.used;
+      failed = tt;
+      frames = record { in_use = c.hit.ensures.busy; frames = ap (λ (x : CacheValue). x.frames) c.hit.ensures.used };
     }
 
 pub returns-in-None : goal.returns-in-None
@@ -42,15 +36,9 @@ returns-in-None g c =
     let brought = c.bring.ensures in
     rw (← same) (record {
       hit = rw here tt;
-      frame = λ none. brought.frame;
-      entered = λ none. brought.entered;
-      whole = λ none. brought.whole;
-      given = λ none. brought.given;
+      enters = λ none. brought.enters;
       newest = brought.newest;
       reads = brought.reads;
-      lost = brought.lost;
-      never_lost = brought.never_lost;
-      kept = brought.kept;
-      busy = brought.busy;
+      failed = brought.failed;
       frames = brought.frames;
     })

@@ -50,7 +50,7 @@ keep-requires g c =
     let same = c.bring_used.ensures.pins c.args.page in
     let few = room_pins 1 c.args.self.now.cache.now (room g (goal.at.keep-requires g c).After-bring_used) c.args.page in
     let more = c.requires.more in
-    (omega arith, (c.in-Ok.ensures.there, (omega (arith, same, few), omega (arith, more))))
+    (omega arith, (c.in-Ok.ensures.done.there, (omega (arith, same, few), omega (arith, more))))
 
 pub invariant_of-self : goal.invariant_of-self
 invariant_of-self g c =
@@ -58,7 +58,7 @@ invariant_of-self g c =
     let mid = c.bring_used.new.cache in
     let more = c.requires.more in
     let kept = kept_reached g.M.Machine g.S.PageSource t.source.now t.made_over.value t.made_with.value c.bring_used.new.m mid t.free.now t.reached.items t.spares.items t.promised
-    (brought g (goal.at.invariant_of-self g c).After-bring_used) c.keep.new.cache c.args.page c.keep.ensures.pinned c.in-Ok.ensures.there (omega (arith, more)) in
+    (brought g (goal.at.invariant_of-self g c).After-bring_used) c.keep.new.cache c.args.page c.keep.ensures.pinned c.in-Ok.ensures.done.there (omega (arith, more)) in
     record { kept = subst (λ (reached : List ℕ). IsKept g.M.Machine g.S.PageSource t.made_over.value t.made_with.value c.bring_used.new.m c.keep.new.cache t.source.now t.free.now reached t.spares.items t.promised) (sym c.keep.ensures.noted) kept }
 
 pub invariant_of-self-in-Err : goal.invariant_of-self-in-Err
@@ -73,7 +73,7 @@ fetches g c =
     let set = c.keep.ensures.pinned in
     fetches_pins g.M.Machine g.S.PageSource t.source.now None t.m.now c.bring_used.new.m t.cache.now mid c.keep.new.cache c.in-Ok.ensures.fetches
     (set_only mid c.keep.new.cache page (pins_of mid page + 1) set)
-    (λ q. let more = kept_pins mid c.keep.new.cache page set c.in-Ok.ensures.there q in omega (arith, more))
+    (λ q. let more = kept_pins mid c.keep.new.cache page set c.in-Ok.ensures.done.there q in omega (arith, more))
 
 pub returns-in-Ok-clause-outside : goal.returns-in-Ok-clause-outside
 returns-in-Ok-clause-outside g c =
@@ -105,10 +105,10 @@ returns-in-Ok-clause-accepted g c =
     let mid = c.bring_used.new.cache in
     let new = c.keep.new.cache in
     let only = set_only mid new page (pins_of mid page + 1) c.keep.ensures.pinned in
-    let there : IsResident new page = only_there mid new only page c.in-Ok.ensures.there in
+    let there : IsResident new page = only_there mid new only page c.in-Ok.ensures.done.there in
     let is = page_in new (given_by g.M.Machine g.S.PageSource t.source.now c.bring_used.new.m) (length t.free.now) page there (within_free t page c.requires.within) in
     let same : content_in new (length t.free.now) page ≡ content_in mid (length t.free.now) page = ap (λ o. option_and_then (read_page page (length t.free.now)) o) (only.bytes page) in
-    subst (λ o. IsSome o) (sym (is ∙ same)) c.in-Ok.ensures.accepted
+    subst (λ o. IsSome o) (sym (is ∙ same)) c.in-Ok.ensures.done.accepted
 
 pub returns-in-Err-clause-kept : goal.returns-in-Err-clause-kept
 returns-in-Err-clause-kept g c = fetched_keeps c.args.self.now (outer_in c.bring_used.result) c.bring_used.new.m c.bring_used.new.cache c.bring_used.ensures.fetches
@@ -155,7 +155,7 @@ returns-in-Ok-clause-memory g c = λ hand.
     let mid = c.bring_used.new.cache in
     let new = c.keep.new.cache in
     let only = set_only mid new c.args.page (pins_of mid c.args.page + 1) c.keep.ensures.pinned in
-    let before = c.in-Ok.ensures.hit (at_hand t c.args.page hand) in
+    let before = (c.in-Ok.ensures.at_hand (at_hand t c.args.page hand)).hit in
     let hit : IsHit t.m.now c.bring_used.new.m t.cache.now new = record { machine = before.machine; bytes = λ q. only.bytes q ∙ before.bytes q } in
     record { images = hit_images t c.bring_used.new.m new hit; spares = refl; stays = λ q is. (is.0, same_there t.cache.now new hit.bytes q is.1); enough = λ is. cc is }
 
@@ -163,6 +163,6 @@ pub returns-in-Err-clause-memory : goal.returns-in-Err-clause-memory
 returns-in-Err-clause-memory g c = λ hand.
     let t = c.args.self.now in
     let new = c.bring_used.new.cache in
-    let at = at_hand t c.args.page hand in
-    let hit = c.in-Err.ensures.hit at in
-    record { images = hit_images t c.bring_used.new.m new hit; spares = refl; stays = λ q is. (is.0, same_there t.cache.now new hit.bytes q is.1); enough = c.in-Err.ensures.memory at }
+    let taken = c.in-Err.ensures.at_hand (at_hand t c.args.page hand) in
+    let hit = taken.hit in
+    record { images = hit_images t c.bring_used.new.m new hit; spares = refl; stays = λ q is. (is.0, same_there t.cache.now new hit.bytes q is.1); enough = taken.memory }
