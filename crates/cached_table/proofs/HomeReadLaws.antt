@@ -1,7 +1,6 @@
 -- Pages that are read from home, and stay there where nothing wears.
-use Rattle.std.proofs.Common.{◌≡◌, ℕ, ◌<◌, List, Some, None, sym, subst, ◌∙◌, inl, inr, ◌+◌, ap, arith}
+use Rattle.std.proofs.Common.{◌≡◌, ℕ, ◌<◌, List, Some, None, sym, subst, ◌∙◌, ap}
 use Rattle.std.specs.Prelude.{IsSome}
-use Rattle.std.proofs.lemmas.Bool.{cases_lt}
 use Rattle.volume_layout.specs.declared.layout.Layout.{Layout}
 use Rattle.sector_disk.specs.declared.machine.Seen.{Seen}
 use Rattle.sector_disk.specs.declared.machine.Seen.TheVariants.{Whole, Damaged}
@@ -19,14 +18,6 @@ pub calm_knows : (l : Layout) (at : Moment) → IsCalm at.windows → ((page : �
 calm_knows l at calm there page lt =
     let is = some_is (home_of l at.image page) (there page lt) in
     record { bytes = is.0; stays = λ i worn. ap (λ (j : Image). home_of l j page) (calm_worn at.windows at.image i calm worn) ∙ is.1 }
-
-module _ (l : Layout) (old mid new : Moment) (calm : IsCalm old.windows) (first : Wears old mid) (then : Wears old new) (n : ℕ) where
-  -- one page more
-  pub more_there : ((page : ℕ) → page < n → IsSome (home_of l mid.image page)) → IsSome (home_of l new.image n) → (page : ℕ) → page < n + 1 → IsSome (home_of l new.image page)
-  more_there there here page lt = elim (cases_lt page n) [
-    | inl before ↦ subst (λ (i : Image). IsSome (home_of l i page)) (calm_worn old.windows old.image mid.image calm first.image ∙ sym (calm_worn old.windows old.image new.image calm then.image)) (there page before)
-    | inr from ↦ let same : n ≡ page = omega (arith, from, lt) in subst (λ (k : ℕ). IsSome (home_of l new.image k)) same here
-  ]
 
 module _ (l k : Layout) (same : k ≡ l) (old new : Moment) (worn : Wears old new) (page : ℕ) (lt : page < l.pages) (knows : KnowsHomes l old) where
   still : home_of l new.image page ≡ home_by l old.image page

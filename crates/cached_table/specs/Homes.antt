@@ -1,12 +1,10 @@
 -- What a mount reads from home, and what it knows of what stands there.
-use Rattle.std.specs.Prelude.{◌≡◌, ◌<◌, ⊤, ℕ, nat_lt, if◌then◌else◌, List, Option, Some, None}
+use Rattle.std.specs.Prelude.{◌≡◌, ◌<◌, ℕ, nat_lt, if◌then◌else◌, List, Option, Some, None}
 use Rattle.volume_layout.specs.declared.layout.Layout.{Layout}
 use Rattle.sector_disk.specs.Image.{IsWorn, open_damage}
 use Rattle.sector_disk.specs.Machine.{Moment}
 use Rattle.fsd_files.specs.Disk.{Image}
 use Rattle.fsd_sound.specs.Homes.{home_of}
-use Rattle.fsd_sound.specs.declared.fault.MountFault.{MountFault}
-use Rattle.fsd_sound.specs.declared.fault.MountFault.TheVariants.{Device, Lost}
 
 -- of a page of the layout what stands at home
 abbrev pub home_by : Layout → Image → (page : ℕ) → Option (List ℕ)
@@ -20,9 +18,3 @@ pub record StaysAtHome (l : Layout) (at : Moment) (page : ℕ) : Type 0 where
 -- each page does
 abbrev pub KnowsHomes : Layout → Moment → Type 0
 KnowsHomes l at = (page : ℕ) → page < l.pages → StaysAtHome l at page
-
--- a page couldn't be read
-abbrev pub IsUnread : MountFault → Type 0
-IsUnread (Device s) = ⊤
-IsUnread (Lost a b) = ⊤
-IsUnread fault = ⊥

@@ -1,13 +1,4 @@
 //! The pages at home, as a source.
-ghost use Rattle.std.specs.Prelude.{◌<◌, ◌≤◌, IfErr, IsSome, OnOk};
-ghost use Rattle.sector_disk.specs.Calls.{OnlyReads, device_in};
-ghost use Rattle.sector_disk.specs.Image.{IsCalm};
-ghost use Rattle.fsd_sound.specs.Homes.{home_of};
-ghost use Rattle.fsd_sound.specs.Lost.{AreHomes, LostIn};
-ghost use Rattle.fsd_sound.specs.Mounting.{device_of_mount};
-ghost use Rattle.cached_table.specs.Homes.{IsUnread, KnowsHomes};
-
-use fsd_sound::MountFault;
 use page_cache::PageSource;
 use sector_disk::{LoadFault, Machine, Seen};
 use std::marker::Model;
@@ -70,38 +61,4 @@ impl PageSource for Homes {
             }),
         }
     }
-}
-
-// Sees that a page is whole in one of its homes.
-fn read_one<M: Machine>(m: &mut M, l: &Layout, page: u32) -> Result<(), MountFault>
-    requires page { page < l.now.pages }
-    requires sectors { l.now.sectors ≤ (M.report m.old).sectors }
-    ensures reads { OnlyReads M.Machine (device_in device_of_mount result) m.old m.new }
-    ensures cause { IfErr result IsUnread }
-    ensures lost { IfErr result (λ fault. M.honest m.new → LostIn (AreHomes l.now) (M.now m.new).image fault) }
-    ensures there { OnOk result (M.honest m.new → IsSome (home_of l.now (M.now m.new).image page)) }
-{
-    let mut bytes = [0; 512];
-    match read_home(m, l, page, &mut bytes) {
-        Ok(Seen::Whole) => Ok(()),
-        Ok(Seen::Damaged) => Err(MountFault::Lost {
-            a: l.home_a(page),
-            b: l.home_b(page),
-        }),
-        Err(failed) => Err(MountFault::Device(failed.place)),
-    }
-}
-
-/// Sees that each page is whole in one of its homes.
-pub fn read_homes<M: Machine>(m: &mut M, l: &Layout) -> Result<(), MountFault>
-    requires sectors { l.now.sectors ≤ (M.report m.old).sectors }
-    ensures reads { OnlyReads M.Machine (device_in device_of_mount result) m.old m.new }
-    ensures cause { IfErr result IsUnread }
-    ensures lost { IfErr result (λ fault. M.honest m.new → LostIn (AreHomes l.now) (M.now m.new).image fault) }
-    ensures there { OnOk result (M.honest m.new → IsCalm (M.now m.old).windows → KnowsHomes l.now (M.now m.old)) }
-{
-    for page in 0..l.pages() {
-        read_one(m, l, page)?;
-    }
-    Ok(())
 }

@@ -9,7 +9,6 @@ mod opening;
 mod surveying;
 mod table;
 
-pub use homes::read_homes;
 pub use looking::told;
 pub use opening::{Opened, open_table};
 pub use table::CachedTable;

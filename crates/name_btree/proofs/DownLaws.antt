@@ -1,6 +1,6 @@
 -- The way to a place goes to the child between whose keys the place stands.
 use Rattle.std.proofs.Common.{◌≡◌, ◌∙◌, ◌+◌, inl, inr, ℕ, zero, suc, Bool, true, false, cond, List, [], ◌∷◌, Option, Some, None, refl, sym, ap, subst, arith}
-use Rattle.std.specs.Prelude.{IfNone, IfSome}
+use Rattle.std.specs.Prelude.{IfSome}
 use Rattle.std.specs.List.{Contains}
 use Rattle.fsd_bytes.specs.declared.key.Key.{Key}
 use Rattle.fsd_formats.specs.declared.entry.Entry.{Entry}
@@ -18,7 +18,6 @@ use Rattle.name_page.specs.Looks.{Looks, Shows}
 use Rattle.name_page.specs.Pages.{Step, is_spare, IsReached}
 use Rattle.name_page.proofs.LookLaws.{agrees_at, agrees_before, agrees_now}
 use Rattle.name_btree.specs.declared.descent.Found.{Found}
-use Rattle.name_btree.specs.declared.lookup.FoundEntry.{FoundEntry}
 use Rattle.name_btree.specs.declared.descent.Neighbour.{Neighbour}
 use Rattle.name_btree.specs.declared.descent.Way.{Way}
 use Rattle.name_btree.specs.Descent.{way_to, GoesTo, HasNeighbours, IsNeighbour, LeadsDown}
@@ -221,10 +220,3 @@ other_left mid s name c leaf found n last is looks beside at low b other = recor
 }
 
 -- ---- what has another name
-
-pub unless_named : (P : Type 0) (f : FoundEntry) (b : Bool) (r : Option FoundEntry) → r ≡ cond b (Some f) None → (b ≡ false → P) → IfNone r P
-unless_named P f b r is h = subst (λ (o : Option FoundEntry). IfNone o P) (sym is) (by b h)
-  where
-    by : (b : Bool) → (b ≡ false → P) → IfNone (cond b (Some f) None) P
-    by true h = tt
-    by false h = h refl

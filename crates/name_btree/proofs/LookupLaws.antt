@@ -3,6 +3,7 @@ use Rattle.std.proofs.Common.{◌≡◌, ℕ, suc, Bool, true, false, cond, not,
 use Rattle.std.specs.Prelude.{find, map, slice_get, Result, Ok, Err, IfOk, IfErr, IfSome}
 use Rattle.std.specs.List.{list_all, AllByRecursion, Contains, position_or_len}
 use Rattle.std.specs.Cmp.{Equal-is}
+use Rattle.std.specs.Option.{MatchOption}
 use Rattle.std.specs.FinMap.{slice_cmp-IsAntisymmetric, nat_cmp-IsAntisymmetric}
 use Rattle.std.specs.Ordering.{nat_cmp}
 use Rattle.std.specs.Cmp.Lexicographic.{slice_cmp}
@@ -151,6 +152,19 @@ if_named P f b r is h = subst (λ (o : Option FoundEntry). IfSome o P) (sym is) 
     by : (b : Bool) → (b ≡ true → P f) → IfSome (cond b (Some f) None) P
     by true h = h refl
     by false h = tt
+
+-- what is told of it, and of another
+pub told_named : (A : Type 0) (P : FoundEntry → Type 0) (f : FoundEntry) (b : Bool) (r : Option FoundEntry) → r ≡ cond b (Some f) None → (b ≡ true → P f) → (b ≡ false → A) → MatchOption r A P
+told_named A P f b r is h other = subst (λ (o : Option FoundEntry). MatchOption o A P) (sym is) (by b h other)
+  where
+    by : (b : Bool) → (b ≡ true → P f) → (b ≡ false → A) → MatchOption (cond b (Some f) None) A P
+    by true h other = h refl
+    by false h other = other refl
+
+-- what holds of each entry that is told
+pub each_told : (A : Type 0) (P Q : FoundEntry → Type 0) (r : Option FoundEntry) → ((f : FoundEntry) → P f → Q f) → MatchOption r A P → IfSome r Q
+each_told A P Q None h told = tt
+each_told A P Q (Some f) h told = h f told
 
 pub named_entry : (f : FoundEntry) (b : Bool) (r : Option FoundEntry) → r ≡ cond b (Some f) None → entry_of r ≡ cond b (Some f.entry) None
 named_entry f b r is = ap entry_of is ∙ by b

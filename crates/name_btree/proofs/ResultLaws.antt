@@ -1,6 +1,14 @@
 -- What is known of a result, for more or less.
-use Rattle.std.specs.Prelude.{Result, Ok, Err, IfOk, IfErr}
+use Rattle.std.specs.Prelude.{Option, Some, None, Result, Ok, Err, IfOk, IfErr, IfSome, IfNone}
+use Rattle.std.specs.Option.{MatchOption}
+use Rattle.fsd_formats.specs.declared.entry.Entry.{Entry}
+use Rattle.fsd_table.specs.Table.{BreaksTable}
+use Rattle.name_page.specs.declared.pages.Pages.{Ghosts}
+use Rattle.name_page.specs.Pages.{Step}
 use Rattle.name_btree.specs.declared.fault.TreeFault.{TreeFault}
+use Rattle.name_btree.specs.declared.lookup.FoundEntry.{FoundEntry}
+use Rattle.name_btree.specs.Fault.{BarsTable, FailsLookup, HasCause, IsOnWay, ShowsCause}
+use Rattle.name_btree.specs.Lookup.{IsMetAs}
 
 pub ok_more : {X : Type 0} (r : Result X TreeFault) (P Q : X → Type 0) → ((x : X) → P x → Q x) → IfOk r P → IfOk r Q
 ok_more (Ok x) P Q f h = f x h
@@ -9,3 +17,26 @@ ok_more (Err fault) P Q f h = tt
 pub err_more : {X : Type 0} (r : Result X TreeFault) (P Q : TreeFault → Type 0) → ((fault : TreeFault) → P fault → Q fault) → IfErr r P → IfErr r Q
 err_more (Ok x) P Q f h = tt
 err_more (Err fault) P Q f h = f fault h
+
+-- ---- what a look-up tells
+
+-- of each entry that is told
+pub told_each : (s : Step) (A : Type 0) (Suits : Entry → Type 0) (Q : FoundEntry → Type 0) (r : Result (Option FoundEntry) TreeFault) → ((f : FoundEntry) → IsMetAs s Suits f → Q f) → IfOk r (λ found. MatchOption found A (IsMetAs s Suits)) → IfOk r (λ found. IfSome found Q)
+told_each s A Suits Q (Ok None) h told = tt
+told_each s A Suits Q (Ok (Some f)) h told = h f told
+told_each s A Suits Q (Err fault) h told = tt
+
+-- where none is
+pub told_none : (s : Step) (A : Type 0) (Suits : Entry → Type 0) (r : Result (Option FoundEntry) TreeFault) → IfOk r (λ found. MatchOption found A (IsMetAs s Suits)) → IfOk r (λ found. IfNone found A)
+told_none s A Suits (Ok None) told = told
+told_none s A Suits (Ok (Some f)) told = tt
+told_none s A Suits (Err fault) told = tt
+
+-- why it fails
+pub failed_cause : {D X : Type 0} (P : Ghosts D) (old new : D) (r : Result X TreeFault) → IfErr r (FailsLookup P old new) → IfErr r (HasCause (P.step new) (BreaksTable (P.step new).images) (BarsTable (P.step new)))
+failed_cause P old new (Ok x) h = tt
+failed_cause P old new (Err fault) h = h.cause
+
+pub failed_shown : {D X : Type 0} (P : Ghosts D) (old new : D) (r : Result X TreeFault) → IfErr r (FailsLookup P old new) → IfErr r (ShowsCause (P.step new) BreaksTable IsOnWay)
+failed_shown P old new (Ok x) h = tt
+failed_shown P old new (Err fault) h = h.shown

@@ -1,5 +1,5 @@
 -- Why a call of the table fails.
-use Rattle.std.specs.Prelude.{◌≡◌, ℕ, ◌+◌, ◌⊎◌, Bool, true, false, List, Option, Some, None, Result, Ok, Err, ◌<◌, ⊤}
+use Rattle.std.specs.Prelude.{◌≡◌, ℕ, ◌+◌, ◌⊎◌, Bool, true, false, List, length, Option, Some, None, Result, Ok, Err, ◌<◌, ⊤}
 use Rattle.std.specs.List.{Contains, AllByRecursion}
 use Rattle.fsd_bytes.specs.declared.refusal.Refusal.{Refusal}
 use Rattle.fsd_bytes.specs.declared.refusal.Refusal.TheVariants.{Unsound, NameTableFull}
@@ -41,6 +41,11 @@ IsOnWay pages page = (visit : Visit) × Contains (visits pages) visit × (visit.
 abbrev pub BarsTable : Step → ℕ → Type 0
 BarsTable s page = BreaksTable s.images page ⊎ ((is_spare s.spares page ≡ true) × IsOnWay s.images page)
 
+-- a page that is named is one of so many
+abbrev pub IsAmong : ℕ → TreeFault → Type 0
+IsAmong pages (Pages refusal) = ⊤
+IsAmong pages (Broken page) = page < pages
+
 -- why a call of the table fails: where the outside is trusted, the page that it names breaks the table, or is spare
 abbrev pub FailsTable : {D : Type 0} (P : Ghosts D) (new : D) → TreeFault → Type 0
 FailsTable P new = HasCause (P.step new) (λ page. P.trusted new → BreaksTable (P.step new).images page) (λ page. P.trusted new → BarsTable (P.step new) page)
@@ -64,6 +69,17 @@ FailsBy s Breaks (Broken page) = (images : List (List ℕ)) → Agrees images s 
 abbrev pub ShowsCause : Step → (Breaks IsThere : List (List ℕ) → ℕ → Type 0) → TreeFault → Type 0
 ShowsCause s Breaks IsThere (Pages refusal) = IsOuter refusal ⊎ ((page : ℕ) × (refusal ≡ Unsound (home_of s page)) × IsBarred s page × Shows s (λ pages. IsThere pages page))
 ShowsCause s Breaks IsThere (Broken page) = Shows s (λ pages. Breaks pages page)
+
+-- why a way fails: the cause, and what was reached shows it
+pub record FailsShown (s : Step) (Breaks : List (List ℕ) → ℕ → Type 0) (Bars : ℕ → Type 0) (IsThere : List (List ℕ) → ℕ → Type 0) (fault : TreeFault) : Type 0 where
+  pub cause : HasCause s (Breaks s.images) Bars fault
+  pub shown : ShowsCause s Breaks IsThere fault
+
+-- why a look-up fails: a page that is named is one of the table, and breaks it or may not be reached
+pub record FailsLookup {D : Type 0} (P : Ghosts D) (old new : D) (fault : TreeFault) : Type 0 where
+  pub among : 0 < length (P.step old).images → IsAmong (length (P.step old).images) fault
+  pub cause : HasCause (P.step new) (BreaksTable (P.step new).images) (BarsTable (P.step new)) fault
+  pub shown : ShowsCause (P.step new) BreaksTable IsOnWay fault
 
 -- no page breaks anything
 abbrev pub Never : ℕ → Type 0
@@ -113,7 +129,9 @@ BarsBelow s above start page = IsVisited s.images (above + 1) start → BarsTabl
 abbrev pub BarsBeside : Step → Neighbour → ℕ → Type 0
 BarsBeside s n page = IsNeighbour s.images n → BarsTable s page
 
--- a page that is named is one of so many
-abbrev pub IsAmong : ℕ → TreeFault → Type 0
-IsAmong pages (Pages refusal) = ⊤
-IsAmong pages (Broken page) = page < pages
+-- the same of a way from page 0, and of one below a child beside the way
+abbrev pub FailsDown : Step → TreeFault → Type 0
+FailsDown s = FailsShown s BreaksTable (BarsTable s) IsOnWay
+
+abbrev pub FailsBeside : Step → Neighbour → TreeFault → Type 0
+FailsBeside s n = FailsShown s (λ pages. BreaksBeside pages n) (BarsBeside s n) (λ pages. IsBeside pages n)

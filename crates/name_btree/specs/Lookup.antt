@@ -1,24 +1,28 @@
 -- What a look-up finds.
 use Rattle.std.specs.Prelude.{◌≡◌, ℕ, ◌+◌, ◌⊎◌, Bool, true, false, List, [], ◌∷◌, ◌++◌, Option, Some, None, IfSome, option_map}
 use Rattle.std.specs.Option.{MatchOption}
-use Rattle.std.specs.List.{Contains}
+use Rattle.std.specs.List.{AllByRecursion, Contains}
 use Rattle.fsd_bytes.specs.declared.key.Key.{Key}
 use Rattle.fsd_formats.specs.declared.entry.Entry.{Entry}
-use Rattle.fsd_formats.specs.NamePage.{Leaf}
+use Rattle.fsd_formats.specs.NamePage.{is_entry, FitsEntry, Leaf}
 use Rattle.fsd_table.specs.declared.child.Child.{Child}
-use Rattle.fsd_table.specs.Pages.{content_fits, page_at}
+use Rattle.fsd_table.specs.Pages.{content_fits, not_below, page_at}
 use Rattle.fsd_table.specs.Table.{IsVisited, Visit, visits}
 use Rattle.fsd_table.specs.Tree.{table_of, IsTree}
 use Rattle.name_page.specs.Cut.{after_cut, is_before}
+use Rattle.name_page.specs.declared.cut.Cut.{Cut}
 use Rattle.name_page.specs.declared.cut.Cut.TheVariants.{Named, UpTo}
-use Rattle.name_page.specs.Lookups.{entry_after, entry_with, last_that, same_name}
+use Rattle.name_page.specs.Lookups.{entry_after, entry_with, is_after, last_that, same_name}
 use Rattle.name_page.specs.Looks.{Shows}
 use Rattle.name_page.specs.Pages.{Step, is_spare, IsReached}
 use Rattle.name_btree.specs.declared.descent.Found.{Found}
+use Rattle.name_btree.specs.declared.descent.FoundLeaf.{FoundLeaf}
 use Rattle.name_btree.specs.declared.descent.Neighbour.{Neighbour}
+use Rattle.name_btree.specs.declared.fault.TreeFault.{TreeFault}
 use Rattle.name_btree.specs.declared.lookup.FoundEntry.{FoundEntry}
-use Rattle.name_btree.specs.Descent.{IsNeighbour, LeadsDown}
-use Rattle.name_btree.specs.Fault.{IsOnWay}
+use Rattle.name_btree.specs.Descent.{BeginsWith, EndsWith, HasNeighbours, IsNeighbour, IsPlace, LeadsDown}
+use Rattle.name_btree.specs.Fault.{BarsBelow, BreaksBelow, FailsShown, IsOnWay}
+use Rattle.name_btree.specs.Replace.{IsLeafAt}
 
 -- the entry without its leaf
 abbrev pub entry_of : Option FoundEntry → Option Entry
@@ -110,6 +114,42 @@ pub record IsFirstBeside (s : Step) (n : Neighbour) (first : Entry) : Type 0 whe
   pub path : Shows s (λ pages. IsNeighbour pages n → IsVisited pages depth leaf)
   pub low : leaf.low ≡ n.child.low
 
+-- ---- what a way finds
+
+-- the leaf at a place below a child that so many pages stand above, and what stands beside the way
+pub record IsFoundBelow (old new : Step) (cut : Cut) (above : ℕ) (start : Child) (found : Found) : Type 0 where
+  pub reached : IsReached new found.page
+  pub used : is_spare old.spares found.page ≡ false
+  pub leaf : page_at new.images found.page ≡ Some (Leaf found.entries)
+  pub way : Shows new (λ pages. HasInPlace pages above start found.page)
+  pub least : AllByRecursion (λ e. not_below start.low e.key ≡ true) found.entries
+  pub next : IfSome found.next (BeginsBehind (is_before cut))
+  pub at : Shows new (λ pages. IsLeafAt cut pages start found)
+  pub place : Shows new (λ pages. IsPlace (is_before cut) pages start found)
+  pub beside : Shows new (λ pages. HasNeighbours pages above start found)
+  pub from : (leaf : Child) × IsLedFrom new (is_before cut) above start found leaf
+
+-- why it is not found
+abbrev pub FailsBelow : Step → (above : ℕ) → Child → TreeFault → Type 0
+FailsBelow s above start = FailsShown s (λ pages. BreaksBelow pages above start) (BarsBelow s above start) (λ pages. IsBelow pages above start)
+
+-- the first entry below a child beside the way
+pub record IsFirstBelow (s : Step) (n : Neighbour) (f : FoundEntry) : Type 0 where
+  pub there : StandsIn s f
+  pub way : IsLedBeside s n f
+  pub fits : FitsEntry f.entry
+  pub least : not_below n.child.low f.entry.key ≡ true
+  pub first : Shows s (λ pages. BeginsWith pages n.child f.entry)
+  pub beside : IsFirstBeside s n f.entry
+
+-- and the last
+pub record IsLastBelow (s : Step) (n : Neighbour) (f : FoundEntry) : Type 0 where
+  pub there : StandsIn s f
+  pub way : IsLedBeside s n f
+  pub fits : FitsEntry f.entry
+  pub last : Shows s (λ pages. EndsWith pages n.child f.entry)
+  pub beside : IsLastBeside s n f.entry
+
 -- ---- where nothing is found
 
 -- a leaf that was read; what was reached shows that the way to the place leads to it, along a path from page 0
@@ -122,6 +162,15 @@ pub record IsLeafBy (s : Step) (before : Key → Bool) (leaf : Child) (entries :
 -- the leaf to which the way to the place leads, by its page
 abbrev pub HasLeafBy : Step → (Key → Bool) → (page : ℕ) → List Entry → Type 0
 HasLeafBy s before page entries = (leaf : Child) × (leaf.page ≡ page) × IsLeafBy s before leaf entries
+
+-- the leaf at a key, which has what the table has there
+pub record IsFoundLeaf (old new : Step) (key : Key) (found : FoundLeaf) : Type 0 where
+  pub reached : IsReached new found.page
+  pub used : is_spare old.spares found.page ≡ false
+  pub leaf : page_at new.images found.page ≡ Some (Leaf found.entries)
+  pub way : Shows new (λ pages. IsInPlace pages found.page)
+  pub holds : Shows new (λ pages. HoldsAt key pages found.entries)
+  pub at : HasLeafBy new (is_before (UpTo key)) found.page found.entries
 
 -- no entry of the leaf at a key has the key
 pub record ShowsAbsent (s : Step) (key : Key) : Type 0 where
@@ -177,3 +226,29 @@ pub record ShowsNext (s : Step) (after : Option Key) (e : Entry) : Type 0 where
   pub entries : List Entry
   pub at : IsLeafBy s (is_before (after_cut after)) leaf entries
   pub first : MatchOption (entry_after after entries) (HasRight s leaf e) (λ x. x ≡ e)
+
+-- ---- what a look-up tells
+
+-- An entry that was found: a leaf that was reached has it, what was reached shows that a path leads there, it is one by
+-- the grammar, and it is what was looked for.
+pub record IsMetAs (s : Step) (Suits : Entry → Type 0) (f : FoundEntry) : Type 0 where
+  pub there : StandsIn s f
+  pub way : IsLedTo s f
+  pub entry : is_entry f.entry ≡ true
+  pub fits : FitsEntry f.entry
+  pub suits : Suits f.entry
+
+-- it is the next one where it was met, and later
+pub record IsNextAfter (s : Step) (after : Option Key) (e : Entry) : Type 0 where
+  pub next : ShowsNext s after e
+  pub later : is_after after e.key ≡ true
+
+-- an entry as it was looked for, or, where none is told, what shows that
+abbrev pub TellsAt : Step → Key → Option FoundEntry → Type 0
+TellsAt s key found = MatchOption found (ShowsAbsent s key) (IsMetAs s (λ e. e.key ≡ key))
+
+abbrev pub TellsNewest : Step → (name : List ℕ) → Option FoundEntry → Type 0
+TellsNewest s name found = MatchOption found (ShowsNoVersion s name) (IsMetAs s (λ e. e.key.name ≡ name))
+
+abbrev pub TellsNext : Step → (after : Option Key) → Option FoundEntry → Type 0
+TellsNext s after found = MatchOption found (ShowsNoneAfter s after) (IsMetAs s (IsNextAfter s after))

@@ -1,5 +1,5 @@
 -- The pages that a look-up meets, where they are in memory.
-use Rattle.std.specs.Prelude.{◌≡◌, ℕ, zero, suc, ◌-◌, Bool, true, false, List, [], Option, Some, None, IfSome}
+use Rattle.std.specs.Prelude.{◌≡◌, ℕ, zero, suc, ◌-◌, Bool, true, false, List, [], Option, Some, None, IfSome, IfOk, Result}
 use Rattle.std.specs.List.{AllByRecursion, Contains, list_any}
 use Rattle.fsd_formats.specs.declared.entry.Entry.{Entry}
 use Rattle.fsd_formats.specs.NamePage.{Content, Leaf, Interior}
@@ -16,7 +16,10 @@ use Rattle.name_page.specs.declared.pages.Pages.{Ghosts}
 use Rattle.name_page.specs.Pages.{is_spare, NeedsNoMemory}
 use Rattle.name_btree.specs.declared.descent.Found.{Found}
 use Rattle.name_btree.specs.declared.descent.Neighbour.{Neighbour}
+use Rattle.name_btree.specs.declared.fault.TreeFault.{TreeFault}
+use Rattle.name_btree.specs.declared.lookup.FoundEntry.{FoundEntry}
 use Rattle.name_btree.specs.Descent.{way_to}
+use Rattle.name_btree.specs.Fault.{outer_told}
 
 -- what is met from a child beside the way on, down its last children
 abbrev pub met_beside : (at : ℕ → Option Content) → Option Neighbour → List ℕ
@@ -71,3 +74,22 @@ module _ {D : Type 0} (P : Ghosts D) where
   -- the same from page 0
   abbrev pub HasWayTo : Entry → D → Type 0
   HasWayTo e t = Leads max_height t e top
+
+  -- ---- where all that is met is in memory
+
+  -- A way to a leaf takes no memory. Where no entry of the leaf stands before the place, all that is met beside it is
+  -- there too; the next way to an entry that it has found leads to the same leaf.
+  pub record StaysBelow (before : Key → Bool) (above : ℕ) (start : Child) (old new : D) (result : Result Found TreeFault) : Type 0 where
+    pub none : TakesNone (outer_told result) old new
+    pub left : IfOk result (λ found. HasNone before found.entries → HasAll old (met_beside (page_at (P.step old).images) found.previous))
+    pub back : IfOk result (λ found. LeadsBack above start new found)
+
+  -- the search for the last entry below a child beside the way takes none, and leads there again
+  pub record StaysBeside (n : Neighbour) (old new : D) (result : Result FoundEntry TreeFault) : Type 0 where
+    pub none : TakesNone (outer_told result) old new
+    pub back : IfOk result (λ last. Leads (max_height - n.above) new last.entry n.child)
+
+  -- a search takes none, and the way to the entry that it has found is there then
+  pub record StaysOnPath (old new : D) (result : Result (Option FoundEntry) TreeFault) : Type 0 where
+    pub none : TakesNone (outer_told result) old new
+    pub back : IfOk result (λ found. IfSome found (λ f. HasWayTo f.entry new))

@@ -1,12 +1,11 @@
 //! Pages that are reached.
-ghost use Rattle.std.specs.Prelude.{◌≡◌, ◌+◌, ◌<◌, ◌≤◌, IfOk, IfErr, OnOk, Some, length, false, true};
-ghost use Rattle.fsd_table.specs.Pages.{page_at, content_fits};
+ghost use Rattle.std.specs.Prelude.{◌≡◌, ◌+◌, ◌<◌, ◌≤◌, IfOk, IfErr, OnOk, length};
 ghost use Rattle.name_page.specs.Node.{content_of};
-ghost use Rattle.name_btree.specs.Still.{HasRefusal};
-ghost use Rattle.name_btree.specs.Fault.{outer_told, HasCause, IsMisfit, Never, BarsPage, ShowsMisfit};
+ghost use Rattle.name_btree.specs.Still.{IsRead, IsReadChild, FailsPage, FailsChild};
+ghost use Rattle.name_btree.specs.Fault.{outer_told};
 ghost use Rattle.name_btree.specs.Path.{TakesNone};
 ghost use Rattle.name_page.specs.Looks.{OnlyReaches};
-ghost use Rattle.name_page.specs.Pages.{reaches, is_spare, IsReached};
+ghost use Rattle.name_page.specs.Pages.{reaches};
 
 use crate::fault::TreeFault;
 use fsd_table::Child;
@@ -18,12 +17,9 @@ fn read_at<T: Pages>(t: &mut T, page: u32, node: &mut Node) -> Result<(), TreeFa
     requires within { page < length (T.step t.old).images }
     ensures calls { OnlyReaches T.Pages (outer_told result) t.old t.new }
     ensures reaches { reaches (T.step t.old) ≤ reaches (T.step t.new) + 1 }
-    ensures reached { OnOk result (IsReached (T.step t.new) page) }
-    ensures used { OnOk result (is_spare (T.step t.old).spares page ≡ false) }
-    ensures node { OnOk result (page_at (T.step t.new).images page ≡ Some (content_of node.new)) }
+    ensures read { OnOk result (IsRead (T.step t.old) (T.step t.new) page (content_of node.new)) }
     ensures memory { T.in_memory t.old page → TakesNone T.Pages (outer_told result) t.old t.new }
-    ensures fault { IfErr result (HasCause (T.step t.new) Never (BarsPage (T.step t.new) page)) }
-    ensures refused { IfErr result (HasRefusal (T.step t.old) (T.step t.new)) }
+    ensures failed { IfErr result (FailsPage (T.step t.old) (T.step t.new) page) }
 {
     match t.reach(page) {
         Ok(()) => {
@@ -40,12 +36,9 @@ pub(crate) fn node_at<T: Pages>(t: &mut T, page: u32) -> Result<Node, TreeFault>
     requires within { page < length (T.step t.old).images }
     ensures calls { OnlyReaches T.Pages (outer_told result) t.old t.new }
     ensures reaches { reaches (T.step t.old) ≤ reaches (T.step t.new) + 1 }
-    ensures reached { OnOk result (IsReached (T.step t.new) page) }
-    ensures used { OnOk result (is_spare (T.step t.old).spares page ≡ false) }
-    ensures node { IfOk result (λ node. page_at (T.step t.new).images page ≡ Some (content_of node)) }
+    ensures read { IfOk result (λ node. IsRead (T.step t.old) (T.step t.new) page (content_of node)) }
     ensures memory { T.in_memory t.old page → TakesNone T.Pages (outer_told result) t.old t.new }
-    ensures fault { IfErr result (HasCause (T.step t.new) Never (BarsPage (T.step t.new) page)) }
-    ensures refused { IfErr result (HasRefusal (T.step t.old) (T.step t.new)) }
+    ensures failed { IfErr result (FailsPage (T.step t.old) (T.step t.new) page) }
 {
     let mut node = Node::Free;
     match read_at(t, page, &mut node) {
@@ -64,14 +57,9 @@ pub(crate) fn read_child<T: Pages>(
     requires { 0 < reaches (T.step t.old) }
     ensures calls { OnlyReaches T.Pages (outer_told result) t.old t.new }
     ensures reaches { reaches (T.step t.old) ≤ reaches (T.step t.new) + 1 }
-    ensures reached { OnOk result (IsReached (T.step t.new) child.now.page) }
-    ensures used { OnOk result (is_spare (T.step t.old).spares child.now.page ≡ false) }
-    ensures node { OnOk result (page_at (T.step t.new).images child.now.page ≡ Some (content_of node.new)) }
+    ensures read { OnOk result (IsReadChild (T.step t.old) (T.step t.new) child.now (content_of node.new)) }
     ensures memory { T.in_memory t.old child.now.page → TakesNone T.Pages (outer_told result) t.old t.new }
-    ensures fits { OnOk result (content_fits child.now.low child.now.high (Some (content_of node.new)) ≡ true) }
-    ensures fault { IfErr result (HasCause (T.step t.new) (IsMisfit (T.step t.new).images child.now) (BarsPage (T.step t.new) child.now.page)) }
-    ensures shown { IfErr result (ShowsMisfit (T.step t.new) child.now) }
-    ensures refused { IfErr result (HasRefusal (T.step t.old) (T.step t.new)) }
+    ensures failed { IfErr result (FailsChild (T.step t.old) (T.step t.new) child.now) }
 {
     if child.page >= t.count() {
         return Err(TreeFault::Broken(child.page));
@@ -88,14 +76,9 @@ pub(crate) fn child_node<T: Pages>(t: &mut T, child: &Child) -> Result<Node, Tre
     requires { 0 < reaches (T.step t.old) }
     ensures calls { OnlyReaches T.Pages (outer_told result) t.old t.new }
     ensures reaches { reaches (T.step t.old) ≤ reaches (T.step t.new) + 1 }
-    ensures reached { OnOk result (IsReached (T.step t.new) child.now.page) }
-    ensures used { OnOk result (is_spare (T.step t.old).spares child.now.page ≡ false) }
-    ensures node { IfOk result (λ node. page_at (T.step t.new).images child.now.page ≡ Some (content_of node)) }
+    ensures read { IfOk result (λ node. IsReadChild (T.step t.old) (T.step t.new) child.now (content_of node)) }
     ensures memory { T.in_memory t.old child.now.page → TakesNone T.Pages (outer_told result) t.old t.new }
-    ensures fits { IfOk result (λ node. content_fits child.now.low child.now.high (Some (content_of node)) ≡ true) }
-    ensures fault { IfErr result (HasCause (T.step t.new) (IsMisfit (T.step t.new).images child.now) (BarsPage (T.step t.new) child.now.page)) }
-    ensures shown { IfErr result (ShowsMisfit (T.step t.new) child.now) }
-    ensures refused { IfErr result (HasRefusal (T.step t.old) (T.step t.new)) }
+    ensures failed { IfErr result (FailsChild (T.step t.old) (T.step t.new) child.now) }
 {
     let mut node = Node::Free;
     match read_child(t, child, &mut node) {

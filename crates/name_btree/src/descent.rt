@@ -1,21 +1,19 @@
 //! The way to a leaf.
-ghost use Rattle.std.specs.List.{AllByRecursion, Contains};
-ghost use Rattle.std.specs.Prelude.{◌≡◌, ◌+◌, ◌-◌, ◌<◌, ◌≤◌, IfOk, IfErr, IfSome, MatchResult, Some, length, drop, slice_get, true, false};
+ghost use Rattle.std.specs.List.{Contains};
+ghost use Rattle.std.specs.Prelude.{◌≡◌, ◌+◌, ◌-◌, ◌<◌, ◌≤◌, IfOk, IfErr, MatchResult, Some, length, drop, slice_get, false};
 ghost use Rattle.fsd_formats.specs.declared.entry.Entry.{Entry};
-ghost use Rattle.fsd_formats.specs.NamePage.{Leaf};
 ghost use Rattle.fsd_table.specs.declared.child.Child.{Child};
-ghost use Rattle.fsd_table.specs.Pages.{children, not_below, page_at};
-ghost use Rattle.fsd_table.specs.Table.{max_height, BreaksTable};
+ghost use Rattle.fsd_table.specs.Pages.{children};
+ghost use Rattle.fsd_table.specs.Table.{max_height};
 ghost use Rattle.fsd_forest.specs.Ways.{end_of};
 ghost use Rattle.name_page.specs.Cut.{is_before};
 ghost use Rattle.name_page.specs.declared.cut.Cut.TheVariants.{UpTo};
-ghost use Rattle.name_btree.specs.Descent.{way_to, IsPlace, HasNeighbours};
-ghost use Rattle.name_btree.specs.Fault.{outer_told, HasCause, BreaksBelow, BarsBelow, BarsTable, IsOnWay, ShowsCause, is_inner};
-ghost use Rattle.name_btree.specs.Lookup.{BeginsBehind, HasInPlace, HasLeafBy, HoldsAt, IsBelow, IsInPlace, IsLedFrom};
-ghost use Rattle.name_btree.specs.Replace.{IsLeafAt};
-ghost use Rattle.name_btree.specs.Path.{TakesNone, HasAll, HasMet, HasNone, Leads, LeadsBack, met_beside};
-ghost use Rattle.name_page.specs.Looks.{OnlyReaches, Shows};
-ghost use Rattle.name_page.specs.Pages.{reaches, is_spare, IsReached};
+ghost use Rattle.name_btree.specs.Descent.{way_to};
+ghost use Rattle.name_btree.specs.Fault.{outer_told, FailsDown, is_inner};
+ghost use Rattle.name_btree.specs.Lookup.{FailsBelow, IsFoundBelow, IsFoundLeaf};
+ghost use Rattle.name_btree.specs.Path.{HasMet, Leads, StaysBelow};
+ghost use Rattle.name_page.specs.Looks.{OnlyReaches};
+ghost use Rattle.name_page.specs.Pages.{reaches};
 
 use crate::child::{child_node, read_child};
 use crate::fault::TreeFault;
@@ -135,24 +133,10 @@ pub(crate) fn leaf_below<T: Pages>(
     requires { 6 ≤ reaches (T.step t.old) }
     ensures calls { OnlyReaches T.Pages (outer_told result) t.old t.new }
     ensures reaches { reaches (T.step t.old) ≤ reaches (T.step t.new) + 6 }
-    ensures reached { IfOk result (λ found. IsReached (T.step t.new) found.page) }
-    ensures used { IfOk result (λ found. is_spare (T.step t.old).spares found.page ≡ false) }
-    ensures leaf { IfOk result (λ found. page_at (T.step t.new).images found.page ≡ Some (Leaf found.entries)) }
-    ensures way { IfOk result (λ found. Shows (T.step t.new) (λ pages. HasInPlace pages above start found.page)) }
-    ensures least { IfOk result (λ found. AllByRecursion (λ e. not_below start.low e.key ≡ true) found.entries) }
-    ensures next { IfOk result (λ found. IfSome found.next (BeginsBehind (is_before cut.now))) }
-    ensures at { IfOk result (λ found. Shows (T.step t.new) (λ pages. IsLeafAt cut.now pages start found)) }
-    ensures place { IfOk result (λ found. Shows (T.step t.new) (λ pages. IsPlace (is_before cut.now) pages start found)) }
-    ensures beside { IfOk result (λ found. Shows (T.step t.new) (λ pages. HasNeighbours pages above start found)) }
-    ensures from { IfOk result (λ found. (leaf : Child) × IsLedFrom (T.step t.new) (is_before cut.now) above start found leaf) }
-    // Where all that it meets is in memory it takes none,
-    // and the next way to an entry that it has found leads to the same leaf.
-    ensures memory { HasMet T.Pages above (is_before cut.now) start t.old → TakesNone T.Pages (outer_told result) t.old t.new }
-    ensures left { HasMet T.Pages above (is_before cut.now) start t.old → IfOk result (λ found. HasNone (is_before cut.now) found.entries → HasAll T.Pages t.old (met_beside (page_at (T.step t.old).images) found.previous)) }
-    ensures back { HasMet T.Pages above (is_before cut.now) start t.old → IfOk result (λ found. LeadsBack T.Pages above start t.new found) }
+    ensures found { IfOk result (IsFoundBelow (T.step t.old) (T.step t.new) cut.now above start) }
+    ensures memory { HasMet T.Pages above (is_before cut.now) start t.old → StaysBelow T.Pages (is_before cut.now) above start t.old t.new result }
     ensures again { (e : Entry) → cut.now ≡ UpTo e.key → Leads T.Pages (max_height - above) t.old e start → MatchResult result (λ found. Contains found.entries e) (λ fault. is_inner fault ≡ false) }
-    ensures fault { IfErr result (HasCause (T.step t.new) (BreaksBelow (T.step t.new).images above start) (BarsBelow (T.step t.new) above start)) }
-    ensures shown { IfErr result (ShowsCause (T.step t.new) (λ pages. BreaksBelow pages above start) (λ pages. IsBelow pages above start)) }
+    ensures failed { IfErr result (FailsBelow (T.step t.new) above start) }
 {
     let mut way = Way {
         child: start,
@@ -188,14 +172,8 @@ pub(crate) fn leaf_at<T: Pages>(t: &mut T, key: &Key) -> Result<FoundLeaf, TreeF
     requires { 6 ≤ reaches (T.step t.old) }
     ensures calls { OnlyReaches T.Pages (outer_told result) t.old t.new }
     ensures reaches { reaches (T.step t.old) ≤ reaches (T.step t.new) + 6 }
-    ensures reached { IfOk result (λ leaf. IsReached (T.step t.new) leaf.page) }
-    ensures used { IfOk result (λ leaf. is_spare (T.step t.old).spares leaf.page ≡ false) }
-    ensures leaf { IfOk result (λ leaf. page_at (T.step t.new).images leaf.page ≡ Some (Leaf leaf.entries)) }
-    ensures way { IfOk result (λ leaf. Shows (T.step t.new) (λ pages. IsInPlace pages leaf.page)) }
-    ensures holds { IfOk result (λ leaf. Shows (T.step t.new) (λ pages. HoldsAt key.now pages leaf.entries)) }
-    ensures at { IfOk result (λ leaf. HasLeafBy (T.step t.new) (is_before (UpTo key.now)) leaf.page leaf.entries) }
-    ensures fault { IfErr result (HasCause (T.step t.new) (BreaksTable (T.step t.new).images) (BarsTable (T.step t.new))) }
-    ensures shown { IfErr result (ShowsCause (T.step t.new) BreaksTable IsOnWay) }
+    ensures found { IfOk result (IsFoundLeaf (T.step t.old) (T.step t.new) key.now) }
+    ensures failed { IfErr result (FailsDown (T.step t.new)) }
 {
     let mut child = top();
     for _ in 0..6u32 {

@@ -1,10 +1,10 @@
 //! Pages that are to be written, and such that are to be spare, once nothing can fail any more.
-ghost use Rattle.std.specs.Prelude.{◌≡◌, ◌+◌, ◌-◌, ◌<◌, ◌≤◌, List, [], ◌∷◌, ◌++◌, IfOk, IfErr, OnOk, Some, None, length, true, false};
+ghost use Rattle.std.specs.Prelude.{◌≡◌, ◌+◌, ◌<◌, ◌≤◌, List, [], ◌∷◌, IfOk, IfErr, None, length, true, false};
 ghost use Rattle.std.specs.List.{AllByRecursion};
 ghost use Rattle.run_table.specs.Space.{all_differ};
 ghost use Rattle.fsd_formats.specs.NamePage.{Leaf, Interior, is_page, FitsEntry, FitsSeparator};
-ghost use Rattle.fsd_table.specs.Pages.{page_at, content_fits};
-ghost use Rattle.name_btree.specs.Draft.{IsDraft, with_freed, drafted, committed, freed, last_sheet, AreSheets, MayGo, IsDrafted};
+ghost use Rattle.fsd_table.specs.Pages.{page_at};
+ghost use Rattle.name_btree.specs.Draft.{IsDraft, with_freed, drafted, committed, freed, last_sheet, AreSheets, MayGo, IsDrafted, IsSeen, IsSeenChild};
 ghost use Rattle.name_btree.specs.Fault.{outer_told, FailsBy, IsMisfit};
 ghost use Rattle.name_btree.specs.Grown.{Takes};
 ghost use Rattle.fsd_formats.specs.declared.entry.Entry.{Entry};
@@ -12,7 +12,7 @@ ghost use Rattle.fsd_formats.specs.NamePage as grammar;
 ghost use Rattle.name_page.specs.Node.{content_of};
 ghost use Rattle.name_page.specs.Text.{IsTextOf};
 ghost use Rattle.name_page.specs.declared.pages.TheConstants.{MOST_CHANGED};
-ghost use Rattle.name_page.specs.Looks.{OnlyReaches, Shows};
+ghost use Rattle.name_page.specs.Looks.{OnlyReaches};
 ghost use Rattle.name_page.specs.Pages.{reaches, changes, is_spare, with_page, IsReached, MayChange};
 
 use crate::child::node_at;
@@ -123,10 +123,8 @@ impl Draft {
         requires sheets { AreSheets (T.step t.old) self.now.sheets.items }
         ensures calls { OnlyReaches T.Pages (outer_told result) t.old t.new }
         ensures reaches { reaches (T.step t.old) ≤ reaches (T.step t.new) + 1 }
-        ensures reached { OnOk result (IsReached (T.step t.new) page) }
         ensures sheets { AreSheets (T.step t.new) self.now.sheets.items }
-        ensures used { OnOk result (is_spare (T.step t.old).spares page ≡ false) }
-        ensures node { IfOk result (λ node. Shows (T.step t.new) (λ pages. page_at (drafted self.now.sheets.items pages) page ≡ Some (content_of node))) }
+        ensures read { IfOk result (λ node. IsSeen (T.step t.old) (T.step t.new) self.now.sheets.items page (content_of node)) }
         ensures fault { IfErr result (FailsBy (T.step t.new) (λ pages other. (other ≡ page) × (page_at (drafted self.now.sheets.items pages) page ≡ None))) }
     {
         match last_sheet(self.sheets.as_slice(), page) {
@@ -141,11 +139,8 @@ impl Draft {
         requires sheets { AreSheets (T.step t.old) self.now.sheets.items }
         ensures calls { OnlyReaches T.Pages (outer_told result) t.old t.new }
         ensures reaches { reaches (T.step t.old) ≤ reaches (T.step t.new) + 1 }
-        ensures reached { OnOk result (IsReached (T.step t.new) child.now.page) }
         ensures sheets { AreSheets (T.step t.new) self.now.sheets.items }
-        ensures used { OnOk result (is_spare (T.step t.old).spares child.now.page ≡ false) }
-        ensures node { IfOk result (λ node. Shows (T.step t.new) (λ pages. page_at (drafted self.now.sheets.items pages) child.now.page ≡ Some (content_of node))) }
-        ensures fits { IfOk result (λ node. content_fits child.now.low child.now.high (Some (content_of node)) ≡ true) }
+        ensures read { IfOk result (λ node. IsSeenChild (T.step t.old) (T.step t.new) self.now.sheets.items child.now (content_of node)) }
         ensures fault { IfErr result (FailsBy (T.step t.new) (λ pages. IsMisfit (drafted self.now.sheets.items pages) child.now)) }
     {
         if child.page >= t.count() {

@@ -1,18 +1,17 @@
 //! Looking up entries.
-ghost use Rattle.std.specs.Prelude.{◌≡◌, ◌+◌, ◌-◌, ◌<◌, ◌≤◌, ℕ, IfOk, IfErr, IfSome, IfNone, Some, None, length, find, true, not, if◌then◌else◌};
+ghost use Rattle.std.specs.Prelude.{◌≡◌, ◌+◌, ◌≤◌, ℕ, IfOk, IfErr, IfSome, Some, None, find, not, if◌then◌else◌};
 ghost use Rattle.std.specs.Option.{option_copied};
-ghost use Rattle.fsd_formats.specs.NamePage.{is_entry, FitsEntry};
-ghost use Rattle.fsd_table.specs.Pages.{not_below, page_at};
-ghost use Rattle.fsd_table.specs.Table.{max_height, top, BreaksTable};
+ghost use Rattle.fsd_formats.specs.NamePage.{FitsEntry};
+ghost use Rattle.fsd_table.specs.Pages.{page_at};
+ghost use Rattle.fsd_table.specs.Table.{top};
 ghost use Rattle.fsd_table.specs.Tree.{IsTree, table_of};
 ghost use Rattle.name_page.specs.Cut.{after_cut, is_before};
-ghost use Rattle.name_btree.specs.Descent.{BeginsWith, EndsWith};
-ghost use Rattle.name_btree.specs.Fault.{outer_told, HasCause, BreaksBeside, BarsBeside, BarsTable, IsAmong, IsBeside, IsOnWay, ShowsCause};
-ghost use Rattle.name_btree.specs.Path.{TakesNone, HasAll, HasPath, HasWayTo, Leads, met_beside};
-ghost use Rattle.name_page.specs.Lookups.{entry_with, entry_after, highest_of, last_that, same_name, is_after};
-ghost use Rattle.name_btree.specs.Lookup.{entry_of, StandsIn, IsFirstBeside, IsLastBeside, IsLedTo, IsLedBeside, ShowsAbsent, ShowsNext, ShowsNoneAfter, ShowsNoVersion};
+ghost use Rattle.name_btree.specs.Fault.{outer_told, FailsBeside, FailsLookup};
+ghost use Rattle.name_btree.specs.Path.{HasAll, HasPath, StaysBeside, StaysOnPath, met_beside};
+ghost use Rattle.name_page.specs.Lookups.{entry_with, entry_after, highest_of, last_that, same_name};
+ghost use Rattle.name_btree.specs.Lookup.{entry_of, IsFirstBelow, IsLastBelow, TellsAt, TellsNewest, TellsNext};
 ghost use Rattle.name_page.specs.declared.pages.TheConstants.{MOST_REACHED};
-ghost use Rattle.name_page.specs.Looks.{OnlyReaches, Shows};
+ghost use Rattle.name_page.specs.Looks.{OnlyReaches};
 ghost use Rattle.name_page.specs.Pages.{reaches};
 
 use crate::descent::{Neighbour, leaf_at, leaf_below};
@@ -57,16 +56,9 @@ pub fn find<T: Pages>(t: &mut T, key: &Key) -> Result<Option<FoundEntry>, TreeFa
     requires { MOST_REACHED ≤ reaches (T.step t.old) }
     ensures calls { OnlyReaches T.Pages (outer_told result) t.old t.new }
     ensures reaches { reaches (T.step t.old) ≤ reaches (T.step t.new) + 6 }
-    ensures among { 0 < length (T.step t.old).images → IfErr result (IsAmong (length (T.step t.old).images)) }
-    ensures there { IfOk result (λ found. IfSome found (StandsIn (T.step t.new))) }
-    ensures way { IfOk result (λ found. IfSome found (IsLedTo (T.step t.new))) }
-    ensures entry { IfOk result (λ found. IfSome found (λ f. is_entry f.entry ≡ true)) }
-    ensures fits { IfOk result (λ found. IfSome found (λ f. FitsEntry f.entry)) }
-    ensures key { IfOk result (λ found. IfSome found (λ f. f.entry.key ≡ key.now)) }
-    ensures absent { IfOk result (λ found. IfNone found (ShowsAbsent (T.step t.new) key.now)) }
+    ensures told { IfOk result (TellsAt (T.step t.new) key.now) }
     ensures found { IfOk result (λ found. T.trusted t.new → (height : ℕ) → IsTree (T.step t.old).images height → entry_of found ≡ entry_with key.now (table_of (T.step t.old).images height)) }
-    ensures fault { IfErr result (HasCause (T.step t.new) (BreaksTable (T.step t.new).images) (BarsTable (T.step t.new))) }
-    ensures shown { IfErr result (ShowsCause (T.step t.new) BreaksTable IsOnWay) }
+    ensures failed { IfErr result (FailsLookup T.Pages t.old t.new) }
 {
     let found = leaf_at(t, key)?;
     match entry_in(&found.entries, key) {
@@ -122,14 +114,8 @@ fn first_below<T: Pages>(t: &mut T, next: Neighbour) -> Result<FoundEntry, TreeF
     requires { 6 ≤ reaches (T.step t.old) }
     ensures calls { OnlyReaches T.Pages (outer_told result) t.old t.new }
     ensures reaches { reaches (T.step t.old) ≤ reaches (T.step t.new) + 6 }
-    ensures there { IfOk result (StandsIn (T.step t.new)) }
-    ensures way { IfOk result (IsLedBeside (T.step t.new) next) }
-    ensures fits { IfOk result (λ first. FitsEntry first.entry) }
-    ensures least { IfOk result (λ first. not_below next.child.low first.entry.key ≡ true) }
-    ensures first { IfOk result (λ first. Shows (T.step t.new) (λ pages. BeginsWith pages next.child first.entry)) }
-    ensures beside { IfOk result (λ first. IsFirstBeside (T.step t.new) next first.entry) }
-    ensures fault { IfErr result (HasCause (T.step t.new) (BreaksBeside (T.step t.new).images next) (BarsBeside (T.step t.new) next)) }
-    ensures shown { IfErr result (ShowsCause (T.step t.new) (λ pages. BreaksBeside pages next) (λ pages. IsBeside pages next)) }
+    ensures found { IfOk result (IsFirstBelow (T.step t.new) next) }
+    ensures failed { IfErr result (FailsBeside (T.step t.new) next) }
 {
     let found = leaf_below(t, next.child, next.above, &Cut::Start)?;
     if found.entries.len() == 0 {
@@ -146,15 +132,9 @@ fn last_below<T: Pages>(t: &mut T, previous: Neighbour) -> Result<FoundEntry, Tr
     requires { 6 ≤ reaches (T.step t.old) }
     ensures calls { OnlyReaches T.Pages (outer_told result) t.old t.new }
     ensures reaches { reaches (T.step t.old) ≤ reaches (T.step t.new) + 6 }
-    ensures there { IfOk result (StandsIn (T.step t.new)) }
-    ensures way { IfOk result (IsLedBeside (T.step t.new) previous) }
-    ensures fits { IfOk result (λ last. FitsEntry last.entry) }
-    ensures memory { HasAll T.Pages t.old (met_beside (page_at (T.step t.old).images) (Some previous)) → TakesNone T.Pages (outer_told result) t.old t.new }
-    ensures back { HasAll T.Pages t.old (met_beside (page_at (T.step t.old).images) (Some previous)) → IfOk result (λ last. Leads T.Pages (max_height - previous.above) t.new last.entry previous.child) }
-    ensures last { IfOk result (λ last. Shows (T.step t.new) (λ pages. EndsWith pages previous.child last.entry)) }
-    ensures beside { IfOk result (λ last. IsLastBeside (T.step t.new) previous last.entry) }
-    ensures fault { IfErr result (HasCause (T.step t.new) (BreaksBeside (T.step t.new).images previous) (BarsBeside (T.step t.new) previous)) }
-    ensures shown { IfErr result (ShowsCause (T.step t.new) (λ pages. BreaksBeside pages previous) (λ pages. IsBeside pages previous)) }
+    ensures found { IfOk result (IsLastBelow (T.step t.new) previous) }
+    ensures memory { HasAll T.Pages t.old (met_beside (page_at (T.step t.old).images) (Some previous)) → StaysBeside T.Pages previous t.old t.new result }
+    ensures failed { IfErr result (FailsBeside (T.step t.new) previous) }
 {
     let found = leaf_below(t, previous.child, previous.above, &Cut::End)?;
     let count = found.entries.len();
@@ -183,18 +163,10 @@ pub fn next_after<T: Pages>(t: &mut T, after: Option<&Key>) -> Result<Option<Fou
     requires { MOST_REACHED ≤ reaches (T.step t.old) }
     ensures calls { OnlyReaches T.Pages (outer_told result) t.old t.new }
     ensures reaches { reaches (T.step t.old) ≤ reaches (T.step t.new) + 12 }
-    ensures among { 0 < length (T.step t.old).images → IfErr result (IsAmong (length (T.step t.old).images)) }
-    ensures there { IfOk result (λ found. IfSome found (StandsIn (T.step t.new))) }
-    ensures way { IfOk result (λ found. IfSome found (IsLedTo (T.step t.new))) }
-    ensures entry { IfOk result (λ found. IfSome found (λ f. is_entry f.entry ≡ true)) }
-    ensures fits { IfOk result (λ found. IfSome found (λ f. FitsEntry f.entry)) }
-    ensures absent { IfOk result (λ found. IfNone found (ShowsNoneAfter (T.step t.new) (option_copied after.entry))) }
-    ensures next { IfOk result (λ found. IfSome found (λ f. ShowsNext (T.step t.new) (option_copied after.entry) f.entry)) }
-    ensures later { IfOk result (λ found. IfSome found (λ f. is_after (option_copied after.entry) f.entry.key ≡ true)) }
+    ensures told { IfOk result (TellsNext (T.step t.new) (option_copied after.entry)) }
     ensures found { IfOk result (λ found. T.trusted t.new → (height : ℕ) → IsTree (T.step t.old).images height
         → entry_of found ≡ entry_after (option_copied after.entry) (table_of (T.step t.old).images height)) }
-    ensures fault { IfErr result (HasCause (T.step t.new) (BreaksTable (T.step t.new).images) (BarsTable (T.step t.new))) }
-    ensures shown { IfErr result (ShowsCause (T.step t.new) BreaksTable IsOnWay) }
+    ensures failed { IfErr result (FailsLookup T.Pages t.old t.new) }
 {
     let cut = cut_after(after);
     let found = leaf_below(t, top(), 0, &cut)?;
@@ -214,18 +186,10 @@ pub fn highest<T: Pages>(t: &mut T, name: &FileName) -> Result<Option<FoundEntry
     requires { MOST_REACHED ≤ reaches (T.step t.old) }
     ensures calls { OnlyReaches T.Pages (outer_told result) t.old t.new }
     ensures reaches { reaches (T.step t.old) ≤ reaches (T.step t.new) + 12 }
-    ensures among { 0 < length (T.step t.old).images → IfErr result (IsAmong (length (T.step t.old).images)) }
-    ensures there { IfOk result (λ found. IfSome found (StandsIn (T.step t.new))) }
-    ensures way { IfOk result (λ found. IfSome found (IsLedTo (T.step t.new))) }
-    ensures entry { IfOk result (λ found. IfSome found (λ f. is_entry f.entry ≡ true)) }
-    ensures fits { IfOk result (λ found. IfSome found (λ f. FitsEntry f.entry)) }
-    ensures memory { HasPath T.Pages name.now t.old → TakesNone T.Pages (outer_told result) t.old t.new }
-    ensures back { HasPath T.Pages name.now t.old → IfOk result (λ found. IfSome found (λ f. HasWayTo T.Pages f.entry t.new)) }
-    ensures absent { IfOk result (λ found. IfNone found (ShowsNoVersion (T.step t.new) name.now)) }
-    ensures name { IfOk result (λ found. IfSome found (λ f. f.entry.key.name ≡ name.now)) }
+    ensures memory { HasPath T.Pages name.now t.old → StaysOnPath T.Pages t.old t.new result }
+    ensures told { IfOk result (TellsNewest (T.step t.new) name.now) }
     ensures found { IfOk result (λ found. T.trusted t.new → (height : ℕ) → IsTree (T.step t.old).images height → entry_of found ≡ highest_of name.now (table_of (T.step t.old).images height)) }
-    ensures fault { IfErr result (HasCause (T.step t.new) (BreaksTable (T.step t.new).images) (BarsTable (T.step t.new))) }
-    ensures shown { IfErr result (ShowsCause (T.step t.new) BreaksTable IsOnWay) }
+    ensures failed { IfErr result (FailsLookup T.Pages t.old t.new) }
 {
     let cut = Cut::Named(name.copied());
     let found = leaf_below(t, top(), 0, &cut)?;

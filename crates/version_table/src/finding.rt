@@ -1,8 +1,7 @@
 //! Versions that are looked up to be taken out or changed.
-ghost use Rattle.std.specs.Prelude.{◌≡◌, ◌<◌, ◌≤◌, IfOk, IfErr, Err, Some, None, true, length};
+ghost use Rattle.std.specs.Prelude.{◌≡◌, ◌<◌, ◌≤◌, IfOk, IfErr, Err, Some, None, length};
 ghost use Rattle.fsd_files.specs.Answers.{entry_of, highest_entry};
-ghost use Rattle.fsd_formats.specs.NamePage.{is_entry, FitsEntry};
-ghost use Rattle.name_btree.specs.Lookup.{StandsIn, IsLedTo, ShowsAbsent, ShowsNoVersion};
+ghost use Rattle.name_btree.specs.Lookup.{IsMetAs, ShowsAbsent, ShowsNoVersion};
 ghost use Rattle.name_btree.specs.Path.{TakesNone, HasPath, HasWayTo};
 ghost use Rattle.name_page.specs.declared.pages.TheConstants.{MOST_REACHED};
 ghost use Rattle.name_page.specs.Looks.{NeedsNoMore, OnlyWalks};
@@ -19,11 +18,7 @@ pub fn version_at<T: Pages>(t: &mut T, key: &Key) -> Result<FoundEntry, VersionF
     requires { MOST_REACHED ≤ (T.step t.old).most_reached }
     ensures walks { OnlyWalks T.Pages (outer_met result) t.old t.new }
     ensures among { 0 < length (T.step t.old).images → IfErr result (IsInside (length (T.step t.old).images)) }
-    ensures there { IfOk result (StandsIn (T.step t.new)) }
-    ensures way { IfOk result (IsLedTo (T.step t.new)) }
-    ensures entry { IfOk result (λ found. is_entry found.entry ≡ true) }
-    ensures fits { IfOk result (λ found. FitsEntry found.entry) }
-    ensures key { IfOk result (λ found. found.entry.key ≡ key.now) }
+    ensures met { IfOk result (IsMetAs (T.step t.new) (λ e. e.key ≡ key.now)) }
     ensures found { IfOk result (λ found. OfTable T.Pages t.old t.new (λ table. entry_of key.now table ≡ Some found.entry)) }
     ensures absent { result ≡ Err VersionFault.NoSuch → ShowsAbsent (T.step t.new) key.now }
     ensures fault { IfErr result (FailsLook T.Pages t.new (OfTable T.Pages t.old t.new (λ table. entry_of key.now table ≡ None)) ⊥) }
@@ -45,11 +40,7 @@ pub fn newest<T: Pages>(t: &mut T, name: &FileName) -> Result<FoundEntry, Versio
     ensures full { NeedsNoMore T.Pages (outer_met result) t.old t.new }
     ensures back { HasPath T.Pages name.now t.old → IfOk result (λ found. HasWayTo T.Pages found.entry t.new) }
     ensures among { 0 < length (T.step t.old).images → IfErr result (IsInside (length (T.step t.old).images)) }
-    ensures there { IfOk result (StandsIn (T.step t.new)) }
-    ensures way { IfOk result (IsLedTo (T.step t.new)) }
-    ensures entry { IfOk result (λ found. is_entry found.entry ≡ true) }
-    ensures fits { IfOk result (λ found. FitsEntry found.entry) }
-    ensures name { IfOk result (λ found. found.entry.key.name ≡ name.now) }
+    ensures met { IfOk result (IsMetAs (T.step t.new) (λ e. e.key.name ≡ name.now)) }
     ensures found { IfOk result (λ found. OfTable T.Pages t.old t.new (λ table. highest_entry name.now table ≡ Some found.entry)) }
     ensures absent { result ≡ Err VersionFault.NoSuch → ShowsNoVersion (T.step t.new) name.now }
     ensures fault { IfErr result (FailsLook T.Pages t.new (OfTable T.Pages t.old t.new (λ table. highest_entry name.now table ≡ None)) ⊥) }

@@ -9,6 +9,15 @@ use Rattle.cached_table.proofs.changing.keep_at.Goals as goal
 pub set_keep-requires-clause-there : goal.set_keep-requires-clause-there
 set_keep-requires-clause-there g c = there_now g.T.Pages c.args.t.now c.newest.new.t c.in_ok-found.ensures.walks c.args.name.now c.in_ok-found.found.entry c.in_ok-found.ensures.found
 
+pub set_keep-requires-clause-entry : goal.set_keep-requires-clause-entry
+set_keep-requires-clause-entry g c = c.in_ok-found.ensures.met.entry
+
+pub set_keep-requires-clause-fits : goal.set_keep-requires-clause-fits
+set_keep-requires-clause-fits g c = c.in_ok-found.ensures.met.fits
+
+pub returns-in-Ok-clause-name : goal.returns-in-Ok-clause-name
+returns-in-Ok-clause-name g c = c.in_ok-found.ensures.met.suits
+
 pub returns-in-Ok-clause-calls : goal.returns-in-Ok-clause-calls
 returns-in-Ok-clause-calls g c = edits_then g.T.Pages g.met.T.Pages.then c.args.t.now c.newest.new.t c.set_keep.new.t (walks_edits g.T.Pages c.args.t.now c.newest.new.t c.in_ok-found.ensures.walks) c.in-Ok.ensures.calls
 

@@ -9,6 +9,7 @@ use Rattle.name_btree.specs.Calls.{without_page, IsFormed}
 use Rattle.name_btree.specs.Lookup.{entry_of}
 use Rattle.name_btree.proofs.LookupLaws.{ok_alone, err_alone}
 use Rattle.name_btree.proofs.BeginLaws.{begun_reaches, begun_changes, allowed_begun, begun_edits, refused_edits, looked_up, changed_by}
+use Rattle.name_btree.proofs.ResultLaws.{err_more}
 use Rattle.name_btree.proofs.CallLaws.{begins_renewed, begins_refused, looks_up, changes_to, table_excused, insert_excused}
 use Rattle.name_btree.proofs.calls.carry_out.Goals as goal
 
@@ -19,7 +20,7 @@ returns-in-Find-clause-carried g c =
     let b = begins_renewed G c.args.t.now c.begin.new.self sp.stays sp.step in
     let e = c.find.ensures in
     rw (c.in-Find.is, c.without_page.ensures)
-    (looks_up G c.args.t.now c.begin.new.self c.find.new.t b (Find c.in-Find.key) (λ table. refl) (without_page c.find.result) e.calls (ok_alone c.find.result _ e.found) (err_alone c.find.result _ e.fault))
+    (looks_up G c.args.t.now c.begin.new.self c.find.new.t b (Find c.in-Find.key) (λ table. refl) (without_page c.find.result) e.calls (ok_alone c.find.result _ e.found) (err_alone c.find.result _ (err_more c.find.result _ _ (λ fault h. h.cause) e.failed)))
 
 pub returns-in-Highest-clause-carried : goal.returns-in-Highest-clause-carried
 returns-in-Highest-clause-carried g c =
@@ -28,7 +29,7 @@ returns-in-Highest-clause-carried g c =
     let b = begins_renewed G c.args.t.now c.begin.new.self sp.stays sp.step in
     let e = c.highest.ensures in
     rw (c.in-Highest.is, c.without_page-in-Highest.ensures)
-    (looks_up G c.args.t.now c.begin.new.self c.highest.new.t b (Highest c.in-Highest.name) (λ table. refl) (without_page c.highest.result) e.calls (ok_alone c.highest.result _ e.found) (err_alone c.highest.result _ e.fault))
+    (looks_up G c.args.t.now c.begin.new.self c.highest.new.t b (Highest c.in-Highest.name) (λ table. refl) (without_page c.highest.result) e.calls (ok_alone c.highest.result _ e.found) (err_alone c.highest.result _ (err_more c.highest.result _ _ (λ fault h. h.cause) e.failed)))
 
 pub returns-in-NextAfter-clause-carried : goal.returns-in-NextAfter-clause-carried
 returns-in-NextAfter-clause-carried g c =
@@ -39,7 +40,7 @@ returns-in-NextAfter-clause-carried g c =
     let found = subst (λ (key : Option Key). IfOk c.next_after.result (λ found. G.trusted c.next_after.new.t → (height : ℕ) → IsTree (G.step c.begin.new.self).images height → entry_of found ≡ entry_after key (table_of (G.step c.begin.new.self).images height)))
     c.as_ref.ensures.value e.found in
     rw (c.in-NextAfter.is, c.without_page-in-NextAfter.ensures)
-    (looks_up G c.args.t.now c.begin.new.self c.next_after.new.t b (NextAfter c.in-NextAfter.key) (λ table. refl) (without_page c.next_after.result) e.calls (ok_alone c.next_after.result _ found) (err_alone c.next_after.result _ e.fault))
+    (looks_up G c.args.t.now c.begin.new.self c.next_after.new.t b (NextAfter c.in-NextAfter.key) (λ table. refl) (without_page c.next_after.result) e.calls (ok_alone c.next_after.result _ found) (err_alone c.next_after.result _ (err_more c.next_after.result _ _ (λ fault h. h.cause) e.failed)))
 
 pub returns-in-Insert-clause-carried : goal.returns-in-Insert-clause-carried
 returns-in-Insert-clause-carried g c =

@@ -1,4 +1,4 @@
-use Rattle.std.proofs.Common.{◌≡◌, ◌∙◌, ◌++◌, ◌∷◌, [], ◌||◌, Bool, true, false, List, ℕ, refl, sym, ap, subst, arith, ◌<◌, ◌^◌}
+use Rattle.std.proofs.Common.{◌≡◌, ◌∙◌, ◌++◌, ◌∷◌, [], ◌||◌, Bool, true, false, List, ℕ, refl, sym, ap, subst, arith, rules, ◌<◌, ◌^◌}
 use Rattle.std.specs.Prelude.{◌==◌, IsTrue}
 use Rattle.std.proofs.lemmas.List.Folds.{list_any-append}
 use Rattle.fsd_bytes.specs.declared.refusal.Refusal.{Refusal}
@@ -14,11 +14,15 @@ node_in-requires g c =
     let small : c.args.page < 2 ^ 32 = omega arith in
     seen_some pages c.args.page c.look.result.now small (omega (arith, g.met.T.Pages.small c.reach.new.self)) c.look.ensures c.in-Ok.ensures.accepted
 
-pub returns-in-Ok-clause-node : goal.returns-in-Ok-clause-node
-returns-in-Ok-clause-node g c =
+pub returns-in-Ok-clause-read : goal.returns-in-Ok-clause-read
+returns-in-Ok-clause-read g c =
     let pages = (g.T.Pages.step c.reach.new.self).images in
     let small : c.args.page < 2 ^ 32 = omega arith in
-    seen pages c.args.page c.look.result.now small (omega (arith, g.met.T.Pages.small c.reach.new.self)) c.look.ensures c.in-Ok.ensures.accepted ∙ c.node_in.ensures
+    record {
+      reached = search rules;
+      used = search rules;
+      node = seen pages c.args.page c.look.result.now small (omega (arith, g.met.T.Pages.small c.reach.new.self)) c.look.ensures c.in-Ok.ensures.accepted ∙ c.node_in.ensures;
+    }
 
 -- ---- the step has reached a page, or was refused one
 

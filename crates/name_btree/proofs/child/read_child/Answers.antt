@@ -17,14 +17,13 @@ returns-then-child-count g c =
     record {
       calls = reaches_still P t (g.met.T.Pages.still t);
       reaches = omega arith;
-      reached = tt;
-      used = tt;
-      node = tt;
+      read = tt;
       memory = λ there. memory_still P t;
-      fits = tt;
-      fault = (refl, ap (content_fits child.low child.high) (past_end (P.step t).images child.page past));
-      shown = λ pages agrees. (refl, ap (content_fits child.low child.high) (past_end pages child.page (omega (arith, agrees.count, past))));
-      refused = tt;
+      failed = record {
+        cause = (refl, ap (content_fits child.low child.high) (past_end (P.step t).images child.page past));
+        shown = λ pages agrees. (refl, ap (content_fits child.low child.high) (past_end pages child.page (omega (arith, agrees.count, past))));
+        refused = tt;
+      };
     }
 
 pub returns-in_err-read_at : goal.returns-in_err-read_at
@@ -37,14 +36,13 @@ returns-in_err-read_at g c =
     rw (p.1, p.2) (record {
       calls = failed.calls;
       reaches = failed.reaches;
-      reached = tt;
-      used = tt;
-      node = tt;
+      read = tt;
       memory = failed.memory;
-      fits = tt;
-      fault = cause_map s Never (IsMisfit s.images child) (BarsPage s child.page) (BarsPage s child.page) (λ page never. absurd never) (λ page bars. bars) fault failed.fault;
-      shown = none_shown s child fault failed.fault;
-      refused = failed.refused;
+      failed = record {
+        cause = cause_map s Never (IsMisfit s.images child) (BarsPage s child.page) (BarsPage s child.page) (λ page never. absurd never) (λ page bars. bars) fault failed.failed.cause;
+        shown = none_shown s child fault failed.failed.cause;
+        refused = failed.failed.refused;
+      };
     })
 
 pub returns-then-not-node_fits : goal.returns-then-not-node_fits
@@ -53,18 +51,17 @@ returns-then-not-node_fits g c =
     let child = c.args.child.now in
     let found = c.in_ok-read_at.ensures in
     let no = sym c.node_fits.ensures ∙ c.if-not-node_fits.true in
-    let used : is_spare s.spares child.page ≡ false = ap (λ (x : List Bool). is_spare x child.page) found.calls.looks.spares ∙ found.used in
+    let used : is_spare s.spares child.page ≡ false = ap (λ (x : List Bool). is_spare x child.page) found.calls.looks.spares ∙ found.read.used in
     record {
       calls = found.calls;
       reaches = found.reaches;
-      reached = tt;
-      used = tt;
-      node = tt;
+      read = tt;
       memory = found.memory;
-      fits = tt;
-      fault = (refl, ap (content_fits child.low child.high) found.node ∙ no);
-      shown = λ pages agrees. (refl, ap (content_fits child.low child.high) (agrees_at s pages child.page found.reached used agrees ∙ found.node) ∙ no);
-      refused = tt;
+      failed = record {
+        cause = (refl, ap (content_fits child.low child.high) found.read.node ∙ no);
+        shown = λ pages agrees. (refl, ap (content_fits child.low child.high) (agrees_at s pages child.page found.read.reached used agrees ∙ found.read.node) ∙ no);
+        refused = tt;
+      };
     }
 
 pub returns : goal.returns
@@ -73,12 +70,7 @@ returns g c =
     record {
       calls = found.calls;
       reaches = found.reaches;
-      reached = found.reached;
-      used = found.used;
-      node = found.node;
+      read = record { reached = found.read.reached; used = found.read.used; node = found.read.node; fits = sym c.node_fits.ensures ∙ c.if-not-node_fits.false };
       memory = found.memory;
-      fits = sym c.node_fits.ensures ∙ c.if-not-node_fits.false;
-      fault = tt;
-      shown = tt;
-      refused = tt;
+      failed = tt;
     }

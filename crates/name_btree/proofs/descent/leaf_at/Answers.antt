@@ -1,4 +1,4 @@
-use Rattle.std.proofs.Common.{◌≡◌, ◌∙◌, ◌<◌, ◌≤◌, ℕ, Bool, List, Some, true, false, take, drop, ap, subst, arith}
+use Rattle.std.proofs.Common.{◌≡◌, ◌∙◌, ◌<◌, ◌≤◌, Bool, List, Some, true, false, take, drop, ap, subst, sym, arith}
 use Rattle.std.specs.List.{AllByRecursion}
 use Rattle.std.proofs.lemmas.Result.{err_from_is_err_and}
 use Rattle.fsd_bytes.specs.declared.key.Key.{Key}
@@ -32,9 +32,9 @@ loop-preserved g c =
     let e = c.ways_before-i.ensures in
     let low : c.loop.counter < 6 = omega arith in
     let calls = c.in_ok-read_child.ensures.calls in
-    let used : is_spare s.spares w.page ≡ false = ap (λ (x : List Bool). is_spare x w.page) calls.looks.spares ∙ c.in_ok-read_child.ensures.used in
+    let used : is_spare s.spares w.page ≡ false = ap (λ (x : List Bool). is_spare x w.page) calls.looks.spares ∙ c.in_ok-read_child.ensures.read.used in
     let at : Shows s (λ pages. page_at pages w.page ≡ Some (Interior ways.0 ways.1)) =
-    λ pages is. agrees_at s pages w.page c.in_ok-read_child.ensures.reached used is ∙ c.in_ok-read_child.ensures.node ∙ ap (λ (n : Node). Some (content_of n)) c.in-Interior.is in
+    λ pages is. agrees_at s pages w.page c.in_ok-read_child.ensures.read.reached used is ∙ c.in_ok-read_child.ensures.read.node ∙ ap (λ (n : Node). Some (content_of n)) c.in-Interior.is in
     let passed = subst (λ (k : Key). AllByRecursion (λ (x : Separator). is_before (UpTo k) x.key ≡ true) (take i ways.1)) c.copied.ensures e.before in
     let left = subst (λ (k : Key). AllByRecursion (λ (x : Separator). is_before (UpTo k) x.key ≡ false) (drop i ways.1)) c.copied.ensures e.behind in
     record {
@@ -49,59 +49,49 @@ returns-in_err-read_child-clause-calls g c =
     let p = err_from_is_err_and c.from_residual.result c.from_residual.ensures.1 in
     rw (p.1, p.2) (reaches_then g.T.Pages g.met.T.Pages.then c.args.t.now c.loop.t c.read_child.new.t c.loop.invariant.calls c.in_err-read_child.ensures.calls)
 
-pub returns-in_err-read_child-clause-fault : goal.returns-in_err-read_child-clause-fault
-returns-in_err-read_child-clause-fault g c =
+pub returns-in_err-read_child-clause-failed : goal.returns-in_err-read_child-clause-failed
+returns-in_err-read_child-clause-failed g c =
     let s = g.T.Pages.step c.read_child.new.t in
+    let old = g.T.Pages.step c.loop.t in
+    let fault = c.in_err-read_child.field-0.0 in
+    let looks = c.in_err-read_child.ensures.calls.looks in
+    let failed = c.in_err-read_child.ensures.failed in
     let p = err_from_is_err_and c.from_residual.result c.from_residual.ensures.1 in
-    rw (p.1, p.2) (alone_fault c.args.key.now (g.T.Pages.step c.loop.t) s c.loop.counter c.loop.child c.in_err-read_child.ensures.calls.looks c.loop.invariant.way c.in_err-read_child.field-0.0 c.in_err-read_child.ensures.fault)
-
-pub returns-in_err-read_child-clause-shown : goal.returns-in_err-read_child-clause-shown
-returns-in_err-read_child-clause-shown g c =
-    let s = g.T.Pages.step c.read_child.new.t in
-    let p = err_from_is_err_and c.from_residual.result c.from_residual.ensures.1 in
-    rw (p.1, p.2) (alone_shown c.args.key.now (g.T.Pages.step c.loop.t) s c.loop.counter c.loop.child c.in_err-read_child.ensures.calls.looks c.loop.invariant.way c.in_err-read_child.field-0.0 c.in_err-read_child.ensures.fault c.in_err-read_child.ensures.shown)
+    rw (p.1, p.2) (record {
+      cause = alone_fault c.args.key.now old s c.loop.counter c.loop.child looks c.loop.invariant.way fault failed.cause;
+      shown = alone_shown c.args.key.now old s c.loop.counter c.loop.child looks c.loop.invariant.way fault failed.cause failed.shown;
+    })
 
 pub returns-in-Leaf-clause-calls : goal.returns-in-Leaf-clause-calls
 returns-in-Leaf-clause-calls g c = reaches_then g.T.Pages g.met.T.Pages.then c.args.t.now c.loop.t c.read_child.new.t c.loop.invariant.calls c.in_ok-read_child.ensures.calls
 
-pub returns-in-Leaf-clause-way : goal.returns-in-Leaf-clause-way
-returns-in-Leaf-clause-way g c =
+pub returns-in-Leaf-clause-found : goal.returns-in-Leaf-clause-found
+returns-in-Leaf-clause-found g c =
+    let old = g.T.Pages.step c.loop.t in
     let s = g.T.Pages.step c.read_child.new.t in
     let w = c.loop.child in
-    let e = c.in_ok-read_child.ensures in
-    let used : is_spare s.spares w.page ≡ false = ap (λ (x : List Bool). is_spare x w.page) e.calls.looks.spares ∙ e.used in
-    alone_led c.args.key.now (g.T.Pages.step c.loop.t) s c.loop.counter w e.calls.looks c.loop.invariant.way
-    (λ pages is. ap (content_fits w.low w.high) (agrees_at s pages w.page e.reached used is ∙ e.node) ∙ e.fits)
+    let looks = c.in_ok-read_child.ensures.calls.looks in
+    let r = c.in_ok-read_child.ensures.read in
+    let way = c.loop.invariant.way in
+    let entries = c.in-Leaf.entries in
+    let used : is_spare s.spares w.page ≡ false = ap (λ (x : List Bool). is_spare x w.page) looks.spares ∙ r.used in
+    let has : page_at s.images w.page ≡ Some (Leaf entries) = r.node ∙ ap (λ (n : Node). Some (content_of n)) c.in-Leaf.is in
+    let at : Shows s (λ pages. page_at pages w.page ≡ Some (Leaf entries)) = λ pages is. agrees_at s pages w.page r.reached used is ∙ has in
+    record {
+      reached = r.reached;
+      used = ap (λ (x : List Bool). is_spare x w.page) (sym c.loop.invariant.calls.looks.spares) ∙ r.used;
+      leaf = has;
+      way = alone_led c.args.key.now old s c.loop.counter w looks way (λ pages is. ap (content_fits w.low w.high) (agrees_at s pages w.page r.reached used is ∙ r.node) ∙ r.fits);
+      holds = alone_holds c.args.key.now old s c.loop.counter w looks way entries at;
+      at = alone_leaf c.args.key.now old s c.loop.counter w looks way entries r.reached used has (subst (λ (n : Node). content_fits w.low w.high (Some (content_of n)) ≡ true) c.in-Leaf.is r.fits);
+    }
 
-pub returns-in-Leaf-clause-holds : goal.returns-in-Leaf-clause-holds
-returns-in-Leaf-clause-holds g c =
-    let s = g.T.Pages.step c.read_child.new.t in
-    let page : ℕ = c.loop.child.page in
-    let calls = c.in_ok-read_child.ensures.calls in
-    let used : is_spare s.spares page ≡ false = ap (λ (x : List Bool). is_spare x page) calls.looks.spares ∙ c.in_ok-read_child.ensures.used in
-    let at : Shows s (λ pages. page_at pages page ≡ Some (Leaf c.in-Leaf.entries)) =
-    λ pages is. agrees_at s pages page c.in_ok-read_child.ensures.reached used is ∙ c.in_ok-read_child.ensures.node ∙ ap (λ (n : Node). Some (content_of n)) c.in-Leaf.is in
-    alone_holds c.args.key.now (g.T.Pages.step c.loop.t) s c.loop.counter c.loop.child calls.looks c.loop.invariant.way c.in-Leaf.entries at
-
-pub returns-in-Leaf-clause-at : goal.returns-in-Leaf-clause-at
-returns-in-Leaf-clause-at g c =
-    let s = g.T.Pages.step c.read_child.new.t in
-    let page : ℕ = c.loop.child.page in
-    let e = c.in_ok-read_child.ensures in
-    let used : is_spare s.spares page ≡ false = ap (λ (x : List Bool). is_spare x page) e.calls.looks.spares ∙ e.used in
-    alone_leaf c.args.key.now (g.T.Pages.step c.loop.t) s c.loop.counter c.loop.child e.calls.looks c.loop.invariant.way c.in-Leaf.entries e.reached used (e.node ∙ ap (λ (n : Node). Some (content_of n)) c.in-Leaf.is)
-    (subst (λ (n : Node). content_fits c.loop.child.low c.loop.child.high (Some (content_of n)) ≡ true) c.in-Leaf.is e.fits)
-
-pub returns-clause-fault : goal.returns-clause-fault
-returns-clause-fault g c =
+pub returns-clause-failed : goal.returns-clause-failed
+returns-clause-failed g c =
     let s = g.T.Pages.step c.loop.t in
     let deep : 6 ≤ c.loop.counter = omega arith in
-    alone_deep c.args.key.now s c.loop.counter c.loop.child c.loop.invariant.way deep s.images (agrees_now s)
+    let shown = alone_deep c.args.key.now s c.loop.counter c.loop.child c.loop.invariant.way deep in
+    record { cause = shown s.images (agrees_now s); shown = shown }
 
 pub returns-clause-reaches : goal.returns-clause-reaches
 returns-clause-reaches g c = omega (arith, c.loop.invariant.reaches, c.loop.invariant.most)
-
-pub returns-clause-shown : goal.returns-clause-shown
-returns-clause-shown g c =
-    let deep : 6 ≤ c.loop.counter = omega arith in
-    alone_deep c.args.key.now (g.T.Pages.step c.loop.t) c.loop.counter c.loop.child c.loop.invariant.way deep

@@ -45,21 +45,17 @@ loop-above-init g c =
       again = λ e same h. h;
     }
 
-pub returns-in_err-child_node-clause-fault : goal.returns-in_err-child_node-clause-fault
-returns-in_err-child_node-clause-fault g c =
-    let new = c.child_node.new.t in
-    let s = g.T.Pages.step new in
-    let fault = c.in_err-child_node.field-0.0 in
-    let on = c.loop-above.invariant.visited s.images (agrees_before (g.T.Pages.step c.loop-above.t) s s.images c.in_err-child_node.ensures.calls.looks (agrees_now s)) in
-    let p = err_from_is_err_and c.from_residual.result c.from_residual.ensures.1 in
-    rw (p.1, p.2) (misfit_below s fault c.args.above c.args.start c.loop-above.above c.loop-above.way on c.in_err-child_node.ensures.fault)
-
-pub returns-in_err-child_node-clause-shown : goal.returns-in_err-child_node-clause-shown
-returns-in_err-child_node-clause-shown g c =
+pub returns-in_err-child_node-clause-failed : goal.returns-in_err-child_node-clause-failed
+returns-in_err-child_node-clause-failed g c =
     let s = g.T.Pages.step c.child_node.new.t in
+    let fault = c.in_err-child_node.field-0.0 in
+    let failed = c.in_err-child_node.ensures.failed in
     let on : Shows s (λ pages. IsVisitedWay pages c.args.above c.args.start c.loop-above.above c.loop-above.way) = λ pages agrees. c.loop-above.invariant.visited pages (agrees_before (g.T.Pages.step c.loop-above.t) s pages c.in_err-child_node.ensures.calls.looks agrees) in
     let p = err_from_is_err_and c.from_residual.result c.from_residual.ensures.1 in
-    rw (p.1, p.2) (shown_below s c.in_err-child_node.field-0.0 c.args.above c.args.start c.loop-above.above c.loop-above.way on c.in_err-child_node.ensures.fault c.in_err-child_node.ensures.shown)
+    rw (p.1, p.2) (record {
+      cause = misfit_below s fault c.args.above c.args.start c.loop-above.above c.loop-above.way (on s.images (agrees_now s)) failed.cause;
+      shown = shown_below s fault c.args.above c.args.start c.loop-above.above c.loop-above.way on failed.cause failed.shown;
+    })
 
 pub returns-in_err-child_node-clause-calls : goal.returns-in_err-child_node-clause-calls
 returns-in_err-child_node-clause-calls g c =
@@ -69,66 +65,45 @@ returns-in_err-child_node-clause-calls g c =
 pub returns-in-Leaf-clause-calls : goal.returns-in-Leaf-clause-calls
 returns-in-Leaf-clause-calls g c = reaches_then g.T.Pages g.met.T.Pages.then c.args.t.now c.loop-above.t c.child_node.new.t c.loop-above.invariant.calls c.in_ok-child_node.ensures.calls
 
-pub returns-in-Leaf-clause-place : goal.returns-in-Leaf-clause-place
-returns-in-Leaf-clause-place g c = λ pages is.
+-- the leaf at the place, and what stands beside the way
+pub returns-in-Leaf-clause-found : goal.returns-in-Leaf-clause-found
+returns-in-Leaf-clause-found g c =
     let s = g.T.Pages.step c.child_node.new.t in
-    let page : ℕ = c.loop-above.way.child.page in
-    let used : is_spare s.spares page ≡ false = ap (λ (x : List Bool). is_spare x page) c.in_ok-child_node.ensures.calls.looks.spares ∙ c.in_ok-child_node.ensures.used in
-    let before = agrees_before (g.T.Pages.step c.loop-above.t) s pages c.in_ok-child_node.ensures.calls.looks is in
-    let at : page_at pages page ≡ Some (Leaf c.in-Leaf.entries) =
-    agrees_at s pages page c.in_ok-child_node.ensures.reached used is ∙ c.in_ok-child_node.ensures.node ∙ ap (λ (n : Node). Some (content_of n)) c.in-Leaf.is in
-    way_ends (is_before c.args.cut.now) pages c.args.start (c.loop-above.above - c.args.above) c.loop-above.way c.in-Leaf.entries at (c.loop-above.invariant.way pages before)
-
-pub returns-in-Leaf-clause-at : goal.returns-in-Leaf-clause-at
-returns-in-Leaf-clause-at g c = λ pages is.
-    let s = g.T.Pages.step c.child_node.new.t in
-    let page : ℕ = c.loop-above.way.child.page in
-    let used : is_spare s.spares page ≡ false = ap (λ (x : List Bool). is_spare x page) c.in_ok-child_node.ensures.calls.looks.spares ∙ c.in_ok-child_node.ensures.used in
-    let before = agrees_before (g.T.Pages.step c.loop-above.t) s pages c.in_ok-child_node.ensures.calls.looks is in
-    let at : page_at pages page ≡ Some (Leaf c.in-Leaf.entries) =
-    agrees_at s pages page c.in_ok-child_node.ensures.reached used is ∙ c.in_ok-child_node.ensures.node ∙ ap (λ (n : Node). Some (content_of n)) c.in-Leaf.is in
-    path_ends c.args.cut.now pages c.args.start c.loop-above.way c.in-Leaf.entries at (c.loop-above.invariant.path pages before)
-
-pub returns-in-Leaf-clause-way : goal.returns-in-Leaf-clause-way
-returns-in-Leaf-clause-way g c = λ pages is v.
-    let before = agrees_before (g.T.Pages.step c.loop-above.t) (g.T.Pages.step c.child_node.new.t) pages c.in_ok-child_node.ensures.calls.looks is in
-    let d = c.loop-above.way.child in
-    let s = g.T.Pages.step c.child_node.new.t in
-    let e = c.in_ok-child_node.ensures in
-    let used : is_spare s.spares d.page ≡ false = ap (λ (x : List Bool). is_spare x d.page) e.calls.looks.spares ∙ e.used in
-    (visit_of pages (c.loop-above.above + 1) d, (c.loop-above.invariant.visited pages before v).0, refl, ap (content_fits d.low d.high) (agrees_at s pages d.page e.reached used is ∙ e.node) ∙ e.fits)
-
-pub returns-in-Leaf-clause-least : goal.returns-in-Leaf-clause-least
-returns-in-Leaf-clause-least g c =
-    let w = c.loop-above.way in
-    leaf_least (is_before c.args.cut.now) w c.in-Leaf.entries c.args.start.low (subst (λ (n : Node). content_fits w.child.low w.child.high (Some (content_of n)) ≡ true) c.in-Leaf.is c.in_ok-child_node.ensures.fits) c.loop-above.invariant.narrow
-
-pub returns-in-Leaf-clause-next : goal.returns-in-Leaf-clause-next
-returns-in-Leaf-clause-next g c = c.loop-above.invariant.narrow.next
-
-pub returns-in-Leaf-clause-beside : goal.returns-in-Leaf-clause-beside
-returns-in-Leaf-clause-beside g c = λ pages is v.
-    let before = agrees_before (g.T.Pages.step c.loop-above.t) (g.T.Pages.step c.child_node.new.t) pages c.in_ok-child_node.ensures.calls.looks is in
-    (c.loop-above.invariant.visited pages before v).1
-
-pub returns-in-Leaf-clause-from : goal.returns-in-Leaf-clause-from
-returns-in-Leaf-clause-from g c =
-    let s = g.T.Pages.step c.child_node.new.t in
+    let looks = c.in_ok-child_node.ensures.calls.looks in
     let is = c.loop-above.invariant in
     let w = c.loop-above.way in
-    let old : (pages : List (List ℕ)) → Agrees pages s → Agrees pages (g.T.Pages.step c.loop-above.t) = λ pages agrees. agrees_before (g.T.Pages.step c.loop-above.t) s pages c.in_ok-child_node.ensures.calls.looks agrees in (
-      c.loop-above.way.child,
-      record {
-        page = refl;
-        below = c.loop-above.above;
-        way = λ pages agrees. is.down.way pages (old pages agrees);
-        path = λ pages agrees v. (is.visited pages (old pages agrees) v).0;
-        low = is.down.low;
-        high = is.down.high;
-        left = is.down.left;
-        fits = subst (λ (n : Node). content_fits w.child.low w.child.high (Some (content_of n)) ≡ true) c.in-Leaf.is c.in_ok-child_node.ensures.fits;
-      },
-    )
+    let d = w.child in
+    let r = c.in_ok-child_node.ensures.read in
+    let entries = c.in-Leaf.entries in
+    let used : is_spare s.spares d.page ≡ false = ap (λ (x : List Bool). is_spare x d.page) looks.spares ∙ r.used in
+    let has : page_at s.images d.page ≡ Some (Leaf entries) = r.node ∙ ap (λ (n : Node). Some (content_of n)) c.in-Leaf.is in
+    let at : Shows s (λ pages. page_at pages d.page ≡ Some (Leaf entries)) = λ pages agrees. agrees_at s pages d.page r.reached used agrees ∙ has in
+    let fits = subst (λ (n : Node). content_fits d.low d.high (Some (content_of n)) ≡ true) c.in-Leaf.is r.fits in
+    let old : (pages : List (List ℕ)) → Agrees pages s → Agrees pages (g.T.Pages.step c.loop-above.t) = λ pages agrees. agrees_before (g.T.Pages.step c.loop-above.t) s pages looks agrees in
+    record {
+      reached = r.reached;
+      used = ap (λ (x : List Bool). is_spare x d.page) (sym is.calls.looks.spares) ∙ r.used;
+      leaf = has;
+      way = λ pages agrees v. (visit_of pages (c.loop-above.above + 1) d, (is.visited pages (old pages agrees) v).0, refl, ap (content_fits d.low d.high) (agrees_at s pages d.page r.reached used agrees ∙ r.node) ∙ r.fits);
+      least = leaf_least (is_before c.args.cut.now) w entries c.args.start.low fits is.narrow;
+      next = is.narrow.next;
+      at = λ pages agrees. path_ends c.args.cut.now pages c.args.start w entries (at pages agrees) (is.path pages (old pages agrees));
+      place = λ pages agrees. way_ends (is_before c.args.cut.now) pages c.args.start (c.loop-above.above - c.args.above) w entries (at pages agrees) (is.way pages (old pages agrees));
+      beside = λ pages agrees v. (is.visited pages (old pages agrees) v).1;
+      from = (
+        d,
+        record {
+          page = refl;
+          below = c.loop-above.above;
+          way = λ pages agrees. is.down.way pages (old pages agrees);
+          path = λ pages agrees v. (is.visited pages (old pages agrees) v).0;
+          low = is.down.low;
+          high = is.down.high;
+          left = is.down.left;
+          fits = fits;
+        },
+      );
+    }
 
 pub loop-above-preserved : goal.loop-above-preserved
 loop-above-preserved g c =
@@ -141,9 +116,9 @@ loop-above-preserved g c =
     let least = c.loop-above.invariant.least in
     let one : gone + 1 ≡ (above + 1) - c.args.above = omega arith in
     let ways = c.in-Interior.ways in
-    let used : is_spare s.spares w.child.page ≡ false = ap (λ (x : List Bool). is_spare x w.child.page) c.in_ok-child_node.ensures.calls.looks.spares ∙ c.in_ok-child_node.ensures.used in
+    let used : is_spare s.spares w.child.page ≡ false = ap (λ (x : List Bool). is_spare x w.child.page) c.in_ok-child_node.ensures.calls.looks.spares ∙ c.in_ok-child_node.ensures.read.used in
     let at : Shows s (λ pages. page_at pages w.child.page ≡ Some (Interior ways.0 ways.1)) =
-    λ pages is. agrees_at s pages w.child.page c.in_ok-child_node.ensures.reached used is ∙ c.in_ok-child_node.ensures.node ∙ ap (λ (n : Node). Some (content_of n)) c.in-Interior.is in
+    λ pages is. agrees_at s pages w.child.page c.in_ok-child_node.ensures.read.reached used is ∙ c.in_ok-child_node.ensures.read.node ∙ ap (λ (n : Node). Some (content_of n)) c.in-Interior.is in
     let old : (pages : List (List ℕ)) → Agrees pages s → Agrees pages (g.T.Pages.step c.loop-above.t) = λ pages is. agrees_before (g.T.Pages.step c.loop-above.t) s pages c.in_ok-child_node.ensures.calls.looks is in
     let new : Way = c.way_to-way.result in
     let is = sym c.way_to-way.ensures in
@@ -151,7 +126,7 @@ loop-above-preserved g c =
     let first = c.args.t.now in
     let mid = c.child_node.new.t in
     let low = c.loop-above-test.true in
-    let here : page_at s.images w.child.page ≡ Some (Interior ways.0 ways.1) = c.in_ok-child_node.ensures.node ∙ ap (λ (n : Node). Some (content_of n)) c.in-Interior.is in
+    let here : page_at s.images w.child.page ≡ Some (Interior ways.0 ways.1) = c.in_ok-child_node.ensures.read.node ∙ ap (λ (n : Node). Some (content_of n)) c.in-Interior.is in
     let takes : HasMet P c.args.above before start first → TakesNone P None c.loop-above.t mid = λ has.
     c.in_ok-child_node.ensures.memory (met_here P before first above w c.loop-above.t low (c.loop-above.invariant.memory has)) in
     record {
@@ -159,7 +134,7 @@ loop-above-preserved g c =
       most = omega (arith, c.loop-above-test.true);
       calls = reaches_then g.T.Pages g.met.T.Pages.then c.args.t.now c.loop-above.t c.child_node.new.t c.loop-above.invariant.calls c.in_ok-child_node.ensures.calls;
       reaches = omega (arith, c.child_node.ensures.reaches, c.loop-above.invariant.reaches);
-      narrow = subst (Narrows before start.low) is (way_narrows before (above + 1) w ways.0 ways.1 start.low (subst (λ (n : Node). content_fits w.child.low w.child.high (Some (content_of n)) ≡ true) c.in-Interior.is c.in_ok-child_node.ensures.fits) c.loop-above.invariant.narrow);
+      narrow = subst (Narrows before start.low) is (way_narrows before (above + 1) w ways.0 ways.1 start.low (subst (λ (n : Node). content_fits w.child.low w.child.high (Some (content_of n)) ≡ true) c.in-Interior.is c.in_ok-child_node.ensures.read.fits) c.loop-above.invariant.narrow);
       path = λ pages seen. subst (λ (x : Way). IsPath c.args.cut.now pages start x.child) is (path_down c.args.cut.now pages start (above + 1) w ways.0 ways.1 (at pages seen) (c.loop-above.invariant.path pages (old pages seen)));
       way = λ pages seen. subst (λ (n : ℕ). IsOnWay before pages start n new) one
           (subst (λ (x : Way). IsOnWay before pages start (gone + 1) x) is
@@ -173,7 +148,7 @@ loop-above-preserved g c =
           (record {
             there = (takes has).stays w.child.page (met_here P before first above w c.loop-above.t low (c.loop-above.invariant.memory has));
             used = used;
-            fits = subst (λ (n : Node). content_fits w.child.low w.child.high (Some (content_of n)) ≡ true) c.in-Interior.is c.in_ok-child_node.ensures.fits;
+            fits = subst (λ (n : Node). content_fits w.child.low w.child.high (Some (content_of n)) ≡ true) c.in-Interior.is c.in_ok-child_node.ensures.read.fits;
             has = here;
           }));
       again = λ e same h.
@@ -184,16 +159,16 @@ loop-above-preserved g c =
           subst (λ (x : Way). Leads P (max_height - (above + 1)) first e x.child) same_way (lead_down P first mid e above w ways.0 ways.1 low none here (c.loop-above.invariant.again e same h));
     }
 
-pub returns-clause-fault : goal.returns-clause-fault
-returns-clause-fault g c =
+pub returns-clause-failed : goal.returns-clause-failed
+returns-clause-failed g c =
     let s = g.T.Pages.step c.loop-above.t in
-    deep_below s.images c.args.above c.args.start c.loop-above.above c.loop-above.way (c.loop-above.invariant.visited s.images (agrees_now s)) c.loop-above-test.false
+    record {
+      cause = deep_below s.images c.args.above c.args.start c.loop-above.above c.loop-above.way (c.loop-above.invariant.visited s.images (agrees_now s)) c.loop-above-test.false;
+      shown = deep_shown s c.args.above c.args.start c.loop-above.above c.loop-above.way c.loop-above.invariant.visited c.loop-above-test.false;
+    }
 
 pub returns-clause-reaches : goal.returns-clause-reaches
 returns-clause-reaches g c = omega (arith, c.loop-above.invariant.reaches, c.loop-above.invariant.most)
-
-pub returns-clause-shown : goal.returns-clause-shown
-returns-clause-shown g c = deep_shown (g.T.Pages.step c.loop-above.t) c.args.above c.args.start c.loop-above.above c.loop-above.way c.loop-above.invariant.visited c.loop-above-test.false
 
 -- ---- memory is not wanting
 
@@ -204,7 +179,7 @@ returns-in_err-child_node-clause-memory g c = λ has.
     let is = c.loop-above.invariant.memory has in
     let takes = c.in_err-child_node.ensures.memory (met_here P before c.args.t.now c.loop-above.above c.loop-above.way c.loop-above.t c.loop-above-test.true is) in
     let p = err_from_is_err_and c.from_residual.result c.from_residual.ensures.1 in
-    rw (p.1, p.2) (memory_then P c.args.t.now c.loop-above.t c.child_node.new.t is.none takes)
+    rw (p.1, p.2) (record { none = memory_then P c.args.t.now c.loop-above.t c.child_node.new.t is.none takes; left = tt; back = tt })
 
 pub returns-in_err-child_node-clause-again : goal.returns-in_err-child_node-clause-again
 returns-in_err-child_node-clause-again g c = λ e same h.
@@ -216,40 +191,29 @@ returns-in_err-child_node-clause-again g c = λ e same h.
     let takes = c.in_err-child_node.ensures.memory (met_here P before first c.loop-above.above c.loop-above.way c.loop-above.t c.loop-above-test.true is) in
     let p = err_from_is_err_and c.from_residual.result c.from_residual.ensures.1 in
     rw (p.1, p.2) (lead_outer P _ first c.child_node.new.t e c.loop-above.above c.loop-above.way.child c.in_err-child_node.field-0.0 c.loop-above-test.true
-    (memory_then P first c.loop-above.t c.child_node.new.t is.none takes) (c.loop-above.invariant.again e same h) c.in_err-child_node.ensures.fault)
+    (memory_then P first c.loop-above.t c.child_node.new.t is.none takes) (c.loop-above.invariant.again e same h) c.in_err-child_node.ensures.failed.cause)
 
 pub returns-in-Leaf-clause-memory : goal.returns-in-Leaf-clause-memory
 returns-in-Leaf-clause-memory g c = λ has.
     let P = g.T.Pages in
-    let is = c.loop-above.invariant.memory has in
-    let takes = c.in_ok-child_node.ensures.memory (met_here P (is_before c.args.cut.now) c.args.t.now c.loop-above.above c.loop-above.way c.loop-above.t c.loop-above-test.true is) in
-    memory_then P c.args.t.now c.loop-above.t c.child_node.new.t is.none takes
-
-pub returns-in-Leaf-clause-left : goal.returns-in-Leaf-clause-left
-returns-in-Leaf-clause-left g c = λ has none.
-    let P = g.T.Pages in
     let before = is_before c.args.cut.now in
     let w = c.loop-above.way in
+    let r = c.in_ok-child_node.ensures.read in
     let is = c.loop-above.invariant.memory has in
-    let takes = c.in_ok-child_node.ensures.memory (met_here P before c.args.t.now c.loop-above.above w c.loop-above.t c.loop-above-test.true is) in
-    met_left P before c.args.t.now c.loop-above.above w c.loop-above.t c.loop-above-test.true is c.child_node.new.t takes c.in-Leaf.entries
-    (c.in_ok-child_node.ensures.node ∙ ap (λ (n : Node). Some (content_of n)) c.in-Leaf.is) none
-
-pub returns-in-Leaf-clause-back : goal.returns-in-Leaf-clause-back
-returns-in-Leaf-clause-back g c = λ has.
-    let P = g.T.Pages in
-    let before = is_before c.args.cut.now in
-    let w = c.loop-above.way in
-    let s = g.T.Pages.step c.child_node.new.t in
-    let there = met_here P before c.args.t.now c.loop-above.above w c.loop-above.t c.loop-above-test.true (c.loop-above.invariant.memory has) in
+    let there = met_here P before c.args.t.now c.loop-above.above w c.loop-above.t c.loop-above-test.true is in
     let takes = c.in_ok-child_node.ensures.memory there in
-    let read : IsReadSafe P c.child_node.new.t w.child (Leaf c.in-Leaf.entries) = record {
+    let node = r.node ∙ ap (λ (n : Node). Some (content_of n)) c.in-Leaf.is in
+    let safe : IsReadSafe P c.child_node.new.t w.child (Leaf c.in-Leaf.entries) = record {
       there = takes.stays w.child.page there;
-      used = ap (λ (x : List Bool). is_spare x w.child.page) c.in_ok-child_node.ensures.calls.looks.spares ∙ c.in_ok-child_node.ensures.used;
-      fits = subst (λ (n : Node). content_fits w.child.low w.child.high (Some (content_of n)) ≡ true) c.in-Leaf.is c.in_ok-child_node.ensures.fits;
-      has = c.in_ok-child_node.ensures.node ∙ ap (λ (n : Node). Some (content_of n)) c.in-Leaf.is;
+      used = ap (λ (x : List Bool). is_spare x w.child.page) c.in_ok-child_node.ensures.calls.looks.spares ∙ r.used;
+      fits = subst (λ (n : Node). content_fits w.child.low w.child.high (Some (content_of n)) ≡ true) c.in-Leaf.is r.fits;
+      has = node;
     } in
-    back_ends P c.args.above c.args.start c.loop-above.above w c.loop-above.t c.child_node.new.t c.loop-above-test.true takes (c.loop-above.invariant.back has) c.in-Leaf.entries read w.next
+    record {
+      none = memory_then P c.args.t.now c.loop-above.t c.child_node.new.t is.none takes;
+      left = λ none. met_left P before c.args.t.now c.loop-above.above w c.loop-above.t c.loop-above-test.true is c.child_node.new.t takes c.in-Leaf.entries node none;
+      back = back_ends P c.args.above c.args.start c.loop-above.above w c.loop-above.t c.child_node.new.t c.loop-above-test.true takes (c.loop-above.invariant.back has) c.in-Leaf.entries safe w.next;
+    }
 
 pub returns-in-Leaf-clause-again : goal.returns-in-Leaf-clause-again
 returns-in-Leaf-clause-again g c = λ e same h.
@@ -260,10 +224,10 @@ returns-in-Leaf-clause-again g c = λ e same h.
     let is = c.loop-above.invariant.memory has in
     let takes = c.in_ok-child_node.ensures.memory (met_here P (is_before c.args.cut.now) first c.loop-above.above w c.loop-above.t c.loop-above-test.true is) in
     lead_ends P first c.child_node.new.t e c.loop-above.above w.child c.in-Leaf.entries c.loop-above-test.true (memory_then P first c.loop-above.t c.child_node.new.t is.none takes)
-    (c.in_ok-child_node.ensures.node ∙ ap (λ (n : Node). Some (content_of n)) c.in-Leaf.is) (c.loop-above.invariant.again e same h)
+    (c.in_ok-child_node.ensures.read.node ∙ ap (λ (n : Node). Some (content_of n)) c.in-Leaf.is) (c.loop-above.invariant.again e same h)
 
 pub returns-clause-memory : goal.returns-clause-memory
-returns-clause-memory g c = λ has. (c.loop-above.invariant.memory has).none
+returns-clause-memory g c = λ has. record { none = (c.loop-above.invariant.memory has).none; left = tt; back = tt }
 
 pub returns-clause-again : goal.returns-clause-again
 returns-clause-again g c = λ e same h. absurd (lead_high g.T.Pages c.args.t.now e c.loop-above.above c.loop-above.way.child (omega (arith, c.loop-above-test.false)) (c.loop-above.invariant.again e same h))

@@ -70,7 +70,7 @@ returns-then-below-eq0 g t c =
       grown = tt;
       fault = λ images agrees.
           let pages = drafted sheets images in
-          let at : page_at pages child.page ≡ Some (Interior ways.0 ways.1) = looked.node images agrees ∙ ap (λ (n : Node). Some (content_of n)) c.in-Interior.is in
+          let at : page_at pages child.page ≡ Some (Interior ways.0 ways.1) = looked.read.node images agrees ∙ ap (λ (n : Node). Some (content_of n)) c.in-Interior.is in
           let m = middle_is e.key c.copied.result pages child c.child_at-below.result ways.0 ways.1 i at c.copied.ensures c.ways_before-i.ensures.within c.ways_before-i.ensures.before c.ways_before-i.ensures.behind c.child_at-below.ensures in
           zero_below e pages c.args.levels child ways.0 ways.1 i 0 at m.around (ap (λ (d : Child). d.page) (sym m.is) ∙ c.if-below-eq0.true);
     }
@@ -85,10 +85,10 @@ insert_here-requires g t c =
       more = omega (arith, ap length looks.changed, looks.most_changed, c.requires.changes);
       room = omega (arith, c.requires.room);
       sheets = looked.sheets;
-      reached = looked.reached;
-      used = ap (λ (x : List Bool). is_spare x child.page) looks.spares ∙ looked.used;
-      leaf = λ images agrees. looked.node images agrees ∙ ap (λ (n : Node). Some (content_of n)) c.in-Leaf.is;
-      keys = sym (ap (λ (n : Node). content_fits child.low child.high (Some (content_of n))) c.in-Leaf.is) ∙ looked.fits;
+      reached = looked.read.reached;
+      used = ap (λ (x : List Bool). is_spare x child.page) looks.spares ∙ looked.read.used;
+      leaf = λ images agrees. looked.read.node images agrees ∙ ap (λ (n : Node). Some (content_of n)) c.in-Leaf.is;
+      keys = sym (ap (λ (n : Node). content_fits child.low child.high (Some (content_of n))) c.in-Leaf.is) ∙ looked.read.fits;
       inside = c.requires.inside;
       entry = c.requires.entry;
       fits = c.requires.fits;
@@ -105,7 +105,7 @@ insert_below-requires g t c κs within =
     let levels = c.args.levels in
     let ways = c.in-Interior.ways in
     let i = c.ways_before-i.result in
-    let at : page_at pages child.page ≡ Some (Interior ways.0 ways.1) = c.in_ok-entries.ensures.node looked.images (agrees_now looked) ∙ ap (λ (n : Node). Some (content_of n)) c.in-Interior.is in
+    let at : page_at pages child.page ≡ Some (Interior ways.0 ways.1) = c.in_ok-entries.ensures.read.node looked.images (agrees_now looked) ∙ ap (λ (n : Node). Some (content_of n)) c.in-Interior.is in
     let m = middle_is e.key c.copied.result pages child c.child_at-below.result ways.0 ways.1 i at c.copied.ensures c.ways_before-i.ensures.within c.ways_before-i.ensures.before c.ways_before-i.ensures.behind c.child_at-below.ensures in
     let d = c.child_at-below.result in
     let inside : is_inside d e.key ≡ true = inside_middle e.key child d ways.0 ways.1 i m c.requires.inside in
@@ -149,7 +149,7 @@ returns-in_err-grown-in-Interior g t c =
           (λ images page agrees h.
           let before = agrees_before (G.step mid) (G.step new) images calls.looks agrees in
           let pages = drafted sheets images in
-          let at : page_at pages child.page ≡ Some (Interior ways.0 ways.1) = looked.node images before ∙ ap (λ (n : Node). Some (content_of n)) c.in-Interior.is in
+          let at : page_at pages child.page ≡ Some (Interior ways.0 ways.1) = looked.read.node images before ∙ ap (λ (n : Node). Some (content_of n)) c.in-Interior.is in
           let m = middle_is e.key c.copied.result pages child below ways.0 ways.1 i at c.copied.ensures c.ways_before-i.ensures.within c.ways_before-i.ensures.before c.ways_before-i.ensures.behind c.child_at-below.ensures in
           let here = subst (λ (d : Child). BreaksGrowth e pages (levels - 1) d page) m.is h in
           subst (λ (n : ℕ). BreaksGrowth e pages n child page) up (growth_below e pages (levels - 1) child ways.0 ways.1 i page at m.around here)) c.in_err-grown-in-Interior.field-0.0 found.fault;
@@ -166,7 +166,7 @@ grow_above-requires-clause-ways g t c =
     let levels = c.args.levels in
     let ways = c.in-Interior.ways in
     let i = c.ways_before-i.result in
-    let at : page_at pages child.page ≡ Some (Interior ways.0 ways.1) = c.in_ok-entries.ensures.node looked.images (agrees_now looked) ∙ ap (λ (n : Node). Some (content_of n)) c.in-Interior.is in
+    let at : page_at pages child.page ≡ Some (Interior ways.0 ways.1) = c.in_ok-entries.ensures.read.node looked.images (agrees_now looked) ∙ ap (λ (n : Node). Some (content_of n)) c.in-Interior.is in
     let is = at_is_page pages child.page (Interior ways.0 ways.1) at in
     let count : length pages ≡ length (g.T.Pages.step c.insert_below.new.t).images = drafted_length sheets looked.images ∙ sym c.in_ok-grown-in-Interior.ensures.calls.edits.count in
     subst (λ (n : ℕ). is_page child.page n (Interior ways.0 ways.1) ≡ true) count is
@@ -182,7 +182,7 @@ grow_above-requires-clause-divided g t c =
     let levels = c.args.levels in
     let ways = c.in-Interior.ways in
     let i = c.ways_before-i.result in
-    let at : page_at pages child.page ≡ Some (Interior ways.0 ways.1) = c.in_ok-entries.ensures.node looked.images (agrees_now looked) ∙ ap (λ (n : Node). Some (content_of n)) c.in-Interior.is in
+    let at : page_at pages child.page ≡ Some (Interior ways.0 ways.1) = c.in_ok-entries.ensures.read.node looked.images (agrees_now looked) ∙ ap (λ (n : Node). Some (content_of n)) c.in-Interior.is in
     let m = middle_is e.key c.copied.result pages child c.child_at-below.result ways.0 ways.1 i at c.copied.ensures c.ways_before-i.ensures.within c.ways_before-i.ensures.before c.ways_before-i.ensures.behind c.child_at-below.ensures in
     let between = g.T.Pages.step c.insert_below.new.t in
     subst (λ (d : Child). IsDivided d c.in_ok-grown-in-Interior.grown) m.is (c.in_ok-grown-in-Interior.ensures.grown between.images (agrees_now between)).divided
@@ -211,7 +211,7 @@ returns-in-Leaf-clause-grown g t c =
     (λ grown. Shows last (λ pages. Grows e (with_images pages step) (with_images pages last) (drafted sheets pages) (drafted s1 pages) c.args.levels child grown))
     (λ grown h images agrees.
     let before = c.insert_here.ensures.calls.agrees images agrees in
-    let at : page_at (drafted sheets images) child.page ≡ Some (Leaf c.in-Leaf.entries) = c.in_ok-entries.ensures.node images before ∙ ap (λ (n : Node). Some (content_of n)) c.in-Leaf.is in
+    let at : page_at (drafted sheets images) child.page ≡ Some (Leaf c.in-Leaf.entries) = c.in_ok-entries.ensures.read.node images before ∙ ap (λ (n : Node). Some (content_of n)) c.in-Leaf.is in
     let takes = takes_looked images step looked (before.count ∙ looks.count) looks in
     leaf_grows e (with_images images step) (with_images images last) (drafted sheets images) (drafted s1 images) c.args.levels child grown c.in-Leaf.entries at
     (grows_looked e (with_images images step) (with_images images looked) (with_images images last) sheets (drafted s1 images) 0 child grown takes looks.spares (h images before))) c.insert_here.ensures.grows
@@ -228,7 +228,7 @@ returns-in-Leaf-clause-fault g t c =
     err_grows c.insert_here.result (λ fault. (page : ℕ) × (fault ≡ Broken page) × Shows looked (λ pages. BreaksGrowth e (drafted sheets pages) 0 child page)) (FailsBy last B)
     (λ fault h. broken_by last B fault h.0 h.1 (λ images agrees.
     let before = c.insert_here.ensures.calls.agrees images agrees in
-    let at : page_at (drafted sheets images) child.page ≡ Some (Leaf c.in-Leaf.entries) = c.in_ok-entries.ensures.node images before ∙ ap (λ (n : Node). Some (content_of n)) c.in-Leaf.is in
+    let at : page_at (drafted sheets images) child.page ≡ Some (Leaf c.in-Leaf.entries) = c.in_ok-entries.ensures.read.node images before ∙ ap (λ (n : Node). Some (content_of n)) c.in-Leaf.is in
     leaf_growth e (drafted sheets images) c.args.levels child c.in-Leaf.entries h.0 at (h.2 images before))) c.insert_here.ensures.fault
 
 pub returns-in_ok-grown-in-Interior-clause-calls : goal.returns-in_ok-grown-in-Interior-clause-calls
@@ -261,10 +261,10 @@ returns-in_ok-grown-in-Interior-clause-grown g t c = λ images agrees.
     let levels = c.args.levels in
     let grown = c.in_ok-grown-in-Interior.grown in
     let pages = drafted sheets images in
-    let at : page_at pages child.page ≡ Some (Interior ways.0 ways.1) = c.in_ok-entries.ensures.node images before ∙ ap (λ (n : Node). Some (content_of n)) c.in-Interior.is in
+    let at : page_at pages child.page ≡ Some (Interior ways.0 ways.1) = c.in_ok-entries.ensures.read.node images before ∙ ap (λ (n : Node). Some (content_of n)) c.in-Interior.is in
     let m = middle_is e.key c.copied.result pages child c.child_at-below.result ways.0 ways.1 i at c.copied.ensures c.ways_before-i.ensures.within c.ways_before-i.ensures.before c.ways_before-i.ensures.behind c.child_at-below.ensures in
     let fits : keys_fit child.low child.high (separator_keys ways.1) ≡ true =
-    sym (ap (λ (n : Node). content_fits child.low child.high (Some (content_of n))) c.in-Interior.is) ∙ c.in_ok-entries.ensures.fits in
+    sym (ap (λ (n : Node). content_fits child.low child.high (Some (content_of n))) c.in-Interior.is) ∙ c.in_ok-entries.ensures.read.fits in
     let takes = takes_looked images step0 looked0 (before.count ∙ looks.count) looks in
     let lower = grows_looked e step looked between sheets (drafted s1 images) (levels - 1) c.child_at-below.result grown takes looks.spares (c.in_ok-grown-in-Interior.ensures.grown images agrees2) in
     let middle = subst (λ (d : Child). Grows e step between pages (drafted s1 images) (levels - 1) d grown) m.is lower in
@@ -282,7 +282,7 @@ returns-in_ok-grown-in-Interior-clause-reached g t c =
     let before = c.in_ok-grown-in-Interior.ensures.calls.agrees last.images agrees2 in
     let lower = (c.in_ok-grown-in-Interior.ensures.grown last.images agrees2).takes in
     let upper = (c.grow_above.ensures.grown last.images agrees2.count).takes in
-    upper.reached page (lower.reached page (reached_over last.images looked page before.count c.in_ok-entries.ensures.reached))
+    upper.reached page (lower.reached page (reached_over last.images looked page before.count c.in_ok-entries.ensures.read.reached))
 
 pub returns-in_ok-grown-in-Interior-clause-used : goal.returns-in_ok-grown-in-Interior-clause-used
 returns-in_ok-grown-in-Interior-clause-used g t c =
@@ -293,7 +293,7 @@ returns-in_ok-grown-in-Interior-clause-used g t c =
     let agrees2 = c.grow_above.ensures.calls.agrees last.images (agrees_now last) in
     let lower = (c.in_ok-grown-in-Interior.ensures.grown last.images agrees2).takes in
     let upper = (c.grow_above.ensures.grown last.images agrees2.count).takes in
-    let here = ap (λ (x : List Bool). is_spare x page) c.in_ok-entries.ensures.calls.looks.spares ∙ c.in_ok-entries.ensures.used in
+    let here = ap (λ (x : List Bool). is_spare x page) c.in_ok-entries.ensures.calls.looks.spares ∙ c.in_ok-entries.ensures.read.used in
     used_over between last _ page upper (used_over looked between _ page lower here)
 
 pub returns-in-Leaf-clause-drawn : goal.returns-in-Leaf-clause-drawn
@@ -350,7 +350,7 @@ returns-in-Leaf-clause-reached g t c =
     let page : ℕ = c.args.child.now.page in
     let P : Grown → Type 0 = λ (grown : Grown). Over looked (λ pages. IsGrown (with_images pages looked) (with_images pages last) s0 s1 page grown) in
     let count : length last.images ≡ length looked.images = c.insert_here.ensures.calls.edits.count in
-    grown_on c.insert_here.result P (IsReached last page) (λ grown h. (h last.images count).takes.reached page (reached_over last.images looked page count c.in_ok-entries.ensures.reached)) c.insert_here.ensures.grown
+    grown_on c.insert_here.result P (IsReached last page) (λ grown h. (h last.images count).takes.reached page (reached_over last.images looked page count c.in_ok-entries.ensures.read.reached)) c.insert_here.ensures.grown
 
 pub returns-in-Leaf-clause-used : goal.returns-in-Leaf-clause-used
 returns-in-Leaf-clause-used g t c =
@@ -361,7 +361,7 @@ returns-in-Leaf-clause-used g t c =
     let page : ℕ = c.args.child.now.page in
     let P : Grown → Type 0 = λ (grown : Grown). Over looked (λ pages. IsGrown (with_images pages looked) (with_images pages last) s0 s1 page grown) in
     let count : length last.images ≡ length looked.images = c.insert_here.ensures.calls.edits.count in
-    let here : is_spare looked.spares page ≡ false = ap (λ (x : List Bool). is_spare x page) c.in_ok-entries.ensures.calls.looks.spares ∙ c.in_ok-entries.ensures.used in
+    let here : is_spare looked.spares page ≡ false = ap (λ (x : List Bool). is_spare x page) c.in_ok-entries.ensures.calls.looks.spares ∙ c.in_ok-entries.ensures.read.used in
     grown_on c.insert_here.result P (is_spare last.spares page ≡ false) (λ grown h. used_over (with_images last.images looked) last _ page (h last.images count).takes here) c.insert_here.ensures.grown
 
 -- ---- a page above

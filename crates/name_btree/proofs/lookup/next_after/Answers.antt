@@ -1,9 +1,8 @@
-use Rattle.std.proofs.Common.{◌≡◌, ◌∙◌, length, refl, sym, subst, true, not, ap, List, ℕ, Option, arith}
+use Rattle.std.proofs.Common.{◌≡◌, ◌∙◌, length, refl, sym, subst, not, ap, List, ℕ, Option, arith}
 use Rattle.std.specs.Prelude.{Err, IfSome}
 use Rattle.fsd_formats.specs.declared.entry.Entry.{Entry}
 use Rattle.fsd_formats.specs.NamePage.{FitsEntry}
-use Rattle.fsd_table.specs.Pages.{not_below}
-use Rattle.name_btree.specs.Lookup.{BeginsBehind, EndsBeside, HasRight, IsFirstBeside, IsLeafBy, IsLedBeside}
+use Rattle.name_btree.specs.Lookup.{BeginsBehind, EndsBeside, HasRight, IsFirstBelow, IsLeafBy}
 use Rattle.name_btree.proofs.DownLaws.{leaf_by, leaf_later, right_of}
 use Rattle.name_btree.proofs.LookupLaws.{find_contains, stands_in, good_entry, led_to, led_next, later_in_leaf, later_in_next}
 use Rattle.std.specs.Option.{MatchOption, option_copied}
@@ -12,9 +11,10 @@ use Rattle.fsd_table.specs.Table.{top}
 use Rattle.name_page.specs.Cut.{is_before}
 use Rattle.name_page.specs.declared.cut.Cut.{Cut}
 use Rattle.name_btree.specs.declared.descent.Neighbour.{Neighbour}
+use Rattle.name_btree.specs.declared.lookup.FoundEntry.{FoundEntry}
 use Rattle.name_page.specs.Looks.{Shows}
 use Rattle.name_page.proofs.LookLaws.{reaches_then, shows_trusted, agrees_before, agrees_now}
-use Rattle.name_btree.specs.Fault.{HasCause, BreaksBeside, BarsBeside, BarsTable, IsBeside, ShowsCause}
+use Rattle.name_btree.specs.Fault.{BarsTable, FailsBeside}
 use Rattle.name_btree.specs.Descent.{IsPlace, BeginsWith}
 use Rattle.name_btree.proofs.NextLaws.{cut_tests, next_in_leaf, next_at_end, next_in_next}
 use Rattle.std.proofs.lemmas.Result.{err_from_is_err_and}
@@ -28,7 +28,7 @@ returns-in-Some-clause-found g c = λ trusted.
     let found = c.in_ok-found.found in
     let cut = c.cut_after-cut.result in
     let Q : List (List ℕ) → Type 0 = λ (x : List (List ℕ)). IsPlace (is_before cut) x c.top.result found in
-    let seen : Q pages = shows_trusted g.T.Pages Q c.args.t.now c.leaf_below.new.t c.in_ok-found.ensures.calls c.in_ok-found.ensures.place trusted in
+    let seen : Q pages = shows_trusted g.T.Pages Q c.args.t.now c.leaf_below.new.t c.in_ok-found.ensures.calls c.in_ok-found.ensures.found.place trusted in
     let P : Child → Type 0 = λ (d : Child). IsPlace (is_before cut) pages d found in
     let place : P top = subst P c.top.ensures seen in
     next_in_leaf (option_copied c.args.after) cut pages found c.in-Some.entry c.cut_after-cut.ensures place (sym c.first_behind.ensures.first ∙ c.in-Some.is)
@@ -40,14 +40,14 @@ returns-in_ok-first_below-in-Some-next-clause-found g c = λ trusted.
     let found = c.in_ok-found.found in
     let cut = c.cut_after-cut.result in
     let Q : List (List ℕ) → Type 0 = λ (x : List (List ℕ)). IsPlace (is_before cut) x c.top.result found in
-    let seen : Q pages = shows_trusted g.T.Pages Q c.args.t.now c.leaf_below.new.t c.in_ok-found.ensures.calls c.in_ok-found.ensures.place (second.calls.trust trusted) in
+    let seen : Q pages = shows_trusted g.T.Pages Q c.args.t.now c.leaf_below.new.t c.in_ok-found.ensures.calls c.in_ok-found.ensures.found.place (second.calls.trust trusted) in
     let P : Child → Type 0 = λ (d : Child). IsPlace (is_before cut) pages d found in
     let place : P top = subst P c.top.ensures seen in
     let e = c.in_ok-first_below-in-Some-next.field-0.entry in
     let new = c.first_below.new.t in
     let both = reaches_then g.T.Pages g.met.T.Pages.then c.args.t.now c.leaf_below.new.t new c.in_ok-found.ensures.calls second.calls in
     let B : Neighbour → Type 0 = λ (n : Neighbour). Shows (g.T.Pages.step new) (λ x. BeginsWith x n.child e) in
-    let here : B c.in-Some-next.next = subst B c.in-Some-next.next-is second.first in
+    let here : B c.in-Some-next.next = subst B c.in-Some-next.next-is second.found.first in
     let begin = shows_trusted g.T.Pages (λ x. BeginsWith x c.in-Some-next.next.child e) c.args.t.now new both here trusted in
     next_in_next (option_copied c.args.after) cut pages found c.in-Some-next.next e c.cut_after-cut.ensures c.in-Some-next.is place begin (sym c.first_behind.ensures.first ∙ c.in_default.is)
 
@@ -57,23 +57,23 @@ returns-in-None-clause-found g c = λ trusted.
     let found = c.in_ok-found.found in
     let cut = c.cut_after-cut.result in
     let Q : List (List ℕ) → Type 0 = λ (x : List (List ℕ)). IsPlace (is_before cut) x c.top.result found in
-    let seen : Q pages = shows_trusted g.T.Pages Q c.args.t.now c.leaf_below.new.t c.in_ok-found.ensures.calls c.in_ok-found.ensures.place trusted in
+    let seen : Q pages = shows_trusted g.T.Pages Q c.args.t.now c.leaf_below.new.t c.in_ok-found.ensures.calls c.in_ok-found.ensures.found.place trusted in
     let P : Child → Type 0 = λ (d : Child). IsPlace (is_before cut) pages d found in
     let place : P top = subst P c.top.ensures seen in
     next_at_end (option_copied c.args.after) cut pages found c.cut_after-cut.ensures c.in-None.is place (sym c.first_behind.ensures.first ∙ c.in_default.is)
 
 -- the leaf behind the key was reached, which is the last, and no entry of it is after the key
-pub returns-in-None-clause-absent : goal.returns-in-None-clause-absent
-returns-in-None-clause-absent g c =
+pub returns-in-None-clause-told : goal.returns-in-None-clause-told
+returns-in-None-clause-told g c =
     let old = g.T.Pages.step c.args.t.now in
     let s = g.T.Pages.step c.leaf_below.new.t in
     let after = option_copied c.args.after in
     let found = c.in_ok-found.found in
     let cut = c.cut_after-cut.result in
-    let e = c.in_ok-found.ensures in
+    let e = c.in_ok-found.ensures.found in
     let leaf : Child = e.from.0 in
     let led = e.from.1 in
-    let at = leaf_by old s (is_before cut) 0 c.top.result found e.reached e.used e.calls.looks.spares e.leaf leaf led refl c.top.ensures in
+    let at = leaf_by old s (is_before cut) 0 c.top.result found e.reached e.used c.in_ok-found.ensures.calls.looks.spares e.leaf leaf led refl c.top.ensures in
     record {
       leaf = leaf;
       entries = found.entries;
@@ -83,86 +83,69 @@ returns-in-None-clause-absent g c =
     }
 
 -- the first entry behind the key, in that leaf or the one right of it
-pub returns-in-Some-clause-next : goal.returns-in-Some-clause-next
-returns-in-Some-clause-next g c =
+pub returns-in-Some-clause-told : goal.returns-in-Some-clause-told
+returns-in-Some-clause-told g c =
+    let old = g.T.Pages.step c.args.t.now in
     let s = g.T.Pages.step c.leaf_below.new.t in
     let after = option_copied c.args.after in
     let found = c.in_ok-found.found in
     let cut = c.cut_after-cut.result in
-    let e = c.in_ok-found.ensures in
+    let spares = c.in_ok-found.ensures.calls.looks.spares in
+    let e = c.in_ok-found.ensures.found in
     let leaf : Child = e.from.0 in
-    let at = leaf_by (g.T.Pages.step c.args.t.now) s (is_before cut) 0 c.top.result found e.reached e.used e.calls.looks.spares e.leaf leaf e.from.1 refl c.top.ensures in
-    let is = sym (cut_tests after cut c.cut_after-cut.ensures found.entries) ∙ sym c.first_behind.ensures.first ∙ c.in-Some.is in
+    let f : FoundEntry = record { entry = c.in-Some.entry; page = found.page } in
+    let first = sym c.first_behind.ensures.first ∙ c.in-Some.is in
+    let there = stands_in old s found.page found.entries f.entry e.reached e.used spares e.leaf (find_contains (λ x. not (is_before cut x.key)) found.entries f.entry first) in
+    let at = leaf_by old s (is_before cut) 0 c.top.result found e.reached e.used spares e.leaf leaf e.from.1 refl c.top.ensures in
+    let is = sym (cut_tests after cut c.cut_after-cut.ensures found.entries) ∙ first in
     record {
-      leaf = leaf;
-      entries = found.entries;
-      at = subst (λ (k : Cut). IsLeafBy s (is_before k) leaf found.entries) c.cut_after-cut.ensures at;
-      first = subst (λ (o : Option Entry). MatchOption o (HasRight s leaf c.in-Some.entry) (λ x. x ≡ c.in-Some.entry)) (sym is) refl;
+      there = there;
+      way = led_to s c.top.result f c.top.ensures e.way;
+      entry = good_entry s f there;
+      fits = subst (λ (o : Option Entry). IfSome o FitsEntry) c.in-Some.is c.first_behind.ensures.fits;
+      suits = record {
+        next = record {
+          leaf = leaf;
+          entries = found.entries;
+          at = subst (λ (k : Cut). IsLeafBy s (is_before k) leaf found.entries) c.cut_after-cut.ensures at;
+          first = subst (λ (o : Option Entry). MatchOption o (HasRight s leaf f.entry) (λ x. x ≡ f.entry)) (sym is) refl;
+        };
+        later = later_in_leaf after cut found.entries f.entry c.cut_after-cut.ensures first;
+      };
     }
 
-pub returns-in_ok-first_below-in-Some-next-clause-next : goal.returns-in_ok-first_below-in-Some-next-clause-next
-returns-in_ok-first_below-in-Some-next-clause-next g c =
+pub returns-in_ok-first_below-in-Some-next-clause-told : goal.returns-in_ok-first_below-in-Some-next-clause-told
+returns-in_ok-first_below-in-Some-next-clause-told g c =
     let mid = g.T.Pages.step c.leaf_below.new.t in
     let s = g.T.Pages.step c.first_below.new.t in
     let after = option_copied c.args.after in
     let found = c.in_ok-found.found in
     let cut = c.cut_after-cut.result in
-    let e = c.in_ok-found.ensures in
-    let second = c.in_ok-first_below-in-Some-next.ensures in
-    let leaf : Child = e.from.0 in
-    let first : Entry = c.in_ok-first_below-in-Some-next.field-0.entry in
-    let at = leaf_by (g.T.Pages.step c.args.t.now) mid (is_before cut) 0 c.top.result found e.reached e.used e.calls.looks.spares e.leaf leaf e.from.1 refl c.top.ensures in
-    let is = sym (cut_tests after cut c.cut_after-cut.ensures found.entries) ∙ sym c.first_behind.ensures.first ∙ c.in_default.is in
-    let beside = subst (λ (n : Neighbour). IsFirstBeside s n first) c.in-Some-next.next-is second.beside in
-    record {
-      leaf = leaf;
-      entries = found.entries;
-      at = subst (λ (k : Cut). IsLeafBy s (is_before k) leaf found.entries) c.cut_after-cut.ensures (leaf_later mid s (is_before cut) leaf found.entries second.calls.looks at);
-      first = subst (λ (o : Option Entry). MatchOption o (HasRight s leaf first) (λ x. x ≡ first)) (sym is)
-          (right_of mid s c.top.result leaf found c.in-Some-next.next first c.top.ensures second.calls.looks e.beside c.in-Some-next.is e.from.1.high beside);
-    }
-
-pub returns-in-Some-clause-there : goal.returns-in-Some-clause-there
-returns-in-Some-clause-there g c =
-    let e = c.in_ok-found.ensures in
-    let leaf = c.in_ok-found.found in
-    let cut = c.cut_after-cut.result in
-    stands_in (g.T.Pages.step c.args.t.now) (g.T.Pages.step c.leaf_below.new.t) leaf.page leaf.entries c.in-Some.entry e.reached e.used e.calls.looks.spares e.leaf
-    (find_contains (λ x. not (is_before cut x.key)) leaf.entries c.in-Some.entry (sym c.first_behind.ensures.first ∙ c.in-Some.is))
-
-pub returns-in-Some-clause-way : goal.returns-in-Some-clause-way
-returns-in-Some-clause-way g c = led_to (g.T.Pages.step c.leaf_below.new.t) c.top.result (record { entry = c.in-Some.entry; page = c.in_ok-found.found.page }) c.top.ensures c.in_ok-found.ensures.way
-
-pub returns-in-Some-clause-entry : goal.returns-in-Some-clause-entry
-returns-in-Some-clause-entry g c = good_entry (g.T.Pages.step c.leaf_below.new.t) (record { entry = c.in-Some.entry; page = c.in_ok-found.found.page }) (returns-in-Some-clause-there g c)
-
-pub returns-in-Some-clause-fits : goal.returns-in-Some-clause-fits
-returns-in-Some-clause-fits g c = subst (λ (o : Option Entry). IfSome o FitsEntry) c.in-Some.is c.first_behind.ensures.fits
-
-pub returns-in-Some-clause-later : goal.returns-in-Some-clause-later
-returns-in-Some-clause-later g c =
-    later_in_leaf (option_copied c.args.after) c.cut_after-cut.result c.in_ok-found.found.entries c.in-Some.entry c.cut_after-cut.ensures (sym c.first_behind.ensures.first ∙ c.in-Some.is)
-
-pub returns-in_ok-first_below-in-Some-next-clause-way : goal.returns-in_ok-first_below-in-Some-next-clause-way
-returns-in_ok-first_below-in-Some-next-clause-way g c =
-    let mid = g.T.Pages.step c.leaf_below.new.t in
-    let s = g.T.Pages.step c.first_below.new.t in
-    let f = c.in_ok-first_below-in-Some-next.field-0 in
-    let second = c.in_ok-first_below-in-Some-next.ensures in
-    let led = subst (λ (n : Neighbour). IsLedBeside s n f) c.in-Some-next.next-is second.way in
-    led_next mid s c.top.result c.in_ok-found.found c.top.ensures second.calls.looks c.in_ok-found.ensures.beside c.in-Some-next.next f led c.in-Some-next.is
-
-pub returns-in_ok-first_below-in-Some-next-clause-entry : goal.returns-in_ok-first_below-in-Some-next-clause-entry
-returns-in_ok-first_below-in-Some-next-clause-entry g c = good_entry (g.T.Pages.step c.first_below.new.t) c.in_ok-first_below-in-Some-next.field-0 c.in_ok-first_below-in-Some-next.ensures.there
-
-pub returns-in_ok-first_below-in-Some-next-clause-later : goal.returns-in_ok-first_below-in-Some-next-clause-later
-returns-in_ok-first_below-in-Some-next-clause-later g c =
-    let cut = c.cut_after-cut.result in
+    let e = c.in_ok-found.ensures.found in
+    let looks = c.in_ok-first_below-in-Some-next.ensures.calls.looks in
     let n : Neighbour = c.in-Some-next.next in
     let f = c.in_ok-first_below-in-Some-next.field-0 in
-    let begins = subst (λ (o : Option Neighbour). IfSome o (BeginsBehind (is_before cut))) c.in-Some-next.is c.in_ok-found.ensures.next in
-    let least = subst (λ (m : Neighbour). not_below m.child.low f.entry.key ≡ true) c.in-Some-next.next-is c.in_ok-first_below-in-Some-next.ensures.least in
-    later_in_next (option_copied c.args.after) cut n f.entry c.cut_after-cut.ensures begins least
+    let second = subst (λ (m : Neighbour). IsFirstBelow s m f) c.in-Some-next.next-is c.in_ok-first_below-in-Some-next.ensures.found in
+    let leaf : Child = e.from.0 in
+    let at = leaf_by (g.T.Pages.step c.args.t.now) mid (is_before cut) 0 c.top.result found e.reached e.used c.in_ok-found.ensures.calls.looks.spares e.leaf leaf e.from.1 refl c.top.ensures in
+    let is = sym (cut_tests after cut c.cut_after-cut.ensures found.entries) ∙ sym c.first_behind.ensures.first ∙ c.in_default.is in
+    let begins = subst (λ (o : Option Neighbour). IfSome o (BeginsBehind (is_before cut))) c.in-Some-next.is e.next in
+    record {
+      there = second.there;
+      way = led_next mid s c.top.result found c.top.ensures looks e.beside n f second.way c.in-Some-next.is;
+      entry = good_entry s f second.there;
+      fits = second.fits;
+      suits = record {
+        next = record {
+          leaf = leaf;
+          entries = found.entries;
+          at = subst (λ (k : Cut). IsLeafBy s (is_before k) leaf found.entries) c.cut_after-cut.ensures (leaf_later mid s (is_before cut) leaf found.entries looks at);
+          first = subst (λ (o : Option Entry). MatchOption o (HasRight s leaf f.entry) (λ x. x ≡ f.entry)) (sym is)
+              (right_of mid s c.top.result leaf found n f.entry c.top.ensures looks e.beside c.in-Some-next.is e.from.1.high second.beside);
+        };
+        later = later_in_next after cut n f.entry c.cut_after-cut.ensures begins second.least;
+      };
+    }
 
 pub returns-in_ok-first_below-in-Some-next-clause-calls : goal.returns-in_ok-first_below-in-Some-next-clause-calls
 returns-in_ok-first_below-in-Some-next-clause-calls g c = reaches_then g.T.Pages g.met.T.Pages.then c.args.t.now c.leaf_below.new.t c.first_below.new.t c.in_ok-found.ensures.calls c.in_ok-first_below-in-Some-next.ensures.calls
@@ -174,22 +157,18 @@ returns-in_err-found g c =
     let s = g.T.Pages.step c.leaf_below.new.t in
     let fault = c.in_err-found.field-0.0 in
     let failed = c.in_err-found.ensures in
-    let breaks = top_breaks s fault c.top.result c.top.ensures failed.fault in
+    let breaks = top_breaks s fault c.top.result c.top.ensures failed.failed.cause in
     let p = err_from_is_err_and c.from_residual.result c.from_residual.ensures.1 in
     rw (p.1, p.2) (record {
       calls = failed.calls;
       reaches = omega (arith, failed.reaches);
-      among = λ some. fails_among {X = ℕ} (Err fault) s (BarsTable s) (length (g.T.Pages.step c.args.t.now).images) failed.calls.looks.count some breaks;
-      there = tt;
-      way = tt;
-      entry = tt;
-      fits = tt;
-      absent = tt;
-      next = tt;
-      later = tt;
+      told = tt;
       found = tt;
-      fault = breaks;
-      shown = shown_top s fault c.top.result c.top.ensures failed.shown;
+      failed = record {
+        among = λ some. fails_among {X = ℕ} (Err fault) s (BarsTable s) (length (g.T.Pages.step c.args.t.now).images) failed.calls.looks.count some breaks;
+        cause = breaks;
+        shown = shown_top s fault c.top.result c.top.ensures failed.failed.shown;
+      };
     })
 
 pub returns-in_err-first_below-in-Some-next : goal.returns-in_err-first_below-in-Some-next
@@ -202,23 +181,18 @@ returns-in_err-first_below-in-Some-next g c =
     let looked = c.in_ok-found.ensures in
     let failed = c.in_err-first_below-in-Some-next.ensures in
     let looks = failed.calls.looks in
-    let P : Neighbour → Type 0 = λ (n : Neighbour). HasCause s (BreaksBeside s.images n) (BarsBeside s n) fault in
-    let Q : Neighbour → Type 0 = λ (n : Neighbour). ShowsCause s (λ pages. BreaksBeside pages n) (λ pages. IsBeside pages n) fault in
-    let beside = looked.beside s.images (agrees_before (g.T.Pages.step mid) s s.images looks (agrees_now s)) in
-    let breaks = next_breaks s c.top.result c.in_ok-found.found c.top.ensures beside n fault (subst P c.in-Some-next.next-is failed.fault) c.in-Some-next.is in
+    let beside = looked.found.beside s.images (agrees_before (g.T.Pages.step mid) s s.images looks (agrees_now s)) in
+    let why = subst (λ (n : Neighbour). FailsBeside s n fault) c.in-Some-next.next-is failed.failed in
+    let breaks = next_breaks s c.top.result c.in_ok-found.found c.top.ensures beside n fault why.cause c.in-Some-next.is in
     let p = err_from_is_err_and c.from_residual-in_err-first_below-in-Some-next.result c.from_residual-in_err-first_below-in-Some-next.ensures.1 in
     rw (p.1, p.2) (record {
       calls = reaches_then g.T.Pages g.met.T.Pages.then c.args.t.now mid new looked.calls failed.calls;
       reaches = omega (arith, looked.reaches, failed.reaches);
-      among = λ some. fails_among {X = ℕ} (Err fault) s (BarsTable s) (length (g.T.Pages.step c.args.t.now).images) (looks.count ∙ looked.calls.looks.count) some breaks;
-      there = tt;
-      way = tt;
-      entry = tt;
-      fits = tt;
-      absent = tt;
-      next = tt;
-      later = tt;
+      told = tt;
       found = tt;
-      fault = breaks;
-      shown = shown_next (g.T.Pages.step mid) s c.top.result c.in_ok-found.found c.top.ensures looks looked.beside n c.in-Some-next.is fault (subst Q c.in-Some-next.next-is failed.shown);
+      failed = record {
+        among = λ some. fails_among {X = ℕ} (Err fault) s (BarsTable s) (length (g.T.Pages.step c.args.t.now).images) (looks.count ∙ looked.calls.looks.count) some breaks;
+        cause = breaks;
+        shown = shown_next (g.T.Pages.step mid) s c.top.result c.in_ok-found.found c.top.ensures looks looked.found.beside n c.in-Some-next.is fault why.shown;
+      };
     })

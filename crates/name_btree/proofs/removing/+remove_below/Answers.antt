@@ -89,7 +89,7 @@ returns-in_err-trimmed-in-Interior g t c =
           (λ images page agrees h.
           let agrees1 = agrees_before s1 (G.step new) images calls.looks agrees in
           let pages : List (List ℕ) = drafted draft.sheets.items images in
-          let at : page_at pages child.page ≡ Some (Interior ways.0 ways.1) = looked.node images agrees1 ∙ ap (λ (n : Node). Some (content_of n)) c.in-Interior.is in
+          let at : page_at pages child.page ≡ Some (Interior ways.0 ways.1) = looked.read.node images agrees1 ∙ ap (λ (n : Node). Some (content_of n)) c.in-Interior.is in
           let before = subst (λ (k : Key). AllByRecursion (λ s. is_before (UpTo k) s.key ≡ true) (take i ways.1)) c.copied.ensures c.ways_before-i.ensures.before in
           let behind = subst (λ (k : Key). AllByRecursion (λ s. is_before (UpTo k) s.key ≡ false) (drop i ways.1)) c.copied.ensures c.ways_before-i.ensures.behind in
           breaks_above images key draft c.args.levels child ways.0 ways.1 i below_child page at c.ways_before-i.ensures.within before behind c.child_at-below.ensures h)
@@ -100,7 +100,7 @@ pub entries_without-left-requires : goal.entries_without-left-requires
 entries_without-left-requires g t c =
     let mid_step = g.T.Pages.step c.child_node.new.t in
     let pages : List (List ℕ) = drafted c.args.draft.now.sheets.items mid_step.images in
-    few_in_leaf pages c.args.child.now.page c.in-Leaf.entries (c.in_ok-entries.ensures.node mid_step.images (agrees_now mid_step) ∙ ap (λ (n : Node). Some (content_of n)) c.in-Leaf.is)
+    few_in_leaf pages c.args.child.now.page c.in-Leaf.entries (c.in_ok-entries.ensures.read.node mid_step.images (agrees_now mid_step) ∙ ap (λ (n : Node). Some (content_of n)) c.in-Leaf.is)
 
 pub trim_leaf-requires-clause-draft : goal.trim_leaf-requires-clause-draft
 trim_leaf-requires-clause-draft g t c =
@@ -111,7 +111,7 @@ pub trim_leaf-requires-clause-entries : goal.trim_leaf-requires-clause-entries
 trim_leaf-requires-clause-entries g t c =
     let mid_step = g.T.Pages.step c.child_node.new.t in
     let pages : List (List ℕ) = drafted c.args.draft.now.sheets.items mid_step.images in
-    let at : page_at pages c.args.child.now.page ≡ Some (Leaf c.in-Leaf.entries) = c.in_ok-entries.ensures.node mid_step.images (agrees_now mid_step) ∙ ap (λ (n : Node). Some (content_of n)) c.in-Leaf.is in
+    let at : page_at pages c.args.child.now.page ≡ Some (Leaf c.in-Leaf.entries) = c.in_ok-entries.ensures.read.node mid_step.images (agrees_now mid_step) ∙ ap (λ (n : Node). Some (content_of n)) c.in-Leaf.is in
     let are = without_leaf pages c.args.child.now.page c.args.key.now c.in-Leaf.entries c.entries_without-left.result.items at c.entries_without-left.ensures.entries in
     record { each = are.0; ascend = are.1; fits = c.entries_without-left.ensures.fits }
 
@@ -119,7 +119,7 @@ pub trim_leaf-requires-clause-most : goal.trim_leaf-requires-clause-most
 trim_leaf-requires-clause-most g t c =
     let mid_step = g.T.Pages.step c.child_node.new.t in
     let pages : List (List ℕ) = drafted c.args.draft.now.sheets.items mid_step.images in
-    let at : page_at pages c.args.child.now.page ≡ Some (Leaf c.in-Leaf.entries) = c.in_ok-entries.ensures.node mid_step.images (agrees_now mid_step) ∙ ap (λ (n : Node). Some (content_of n)) c.in-Leaf.is in
+    let at : page_at pages c.args.child.now.page ≡ Some (Leaf c.in-Leaf.entries) = c.in_ok-entries.ensures.read.node mid_step.images (agrees_now mid_step) ∙ ap (λ (n : Node). Some (content_of n)) c.in-Leaf.is in
     let entries = c.in-Leaf.entries in
     let most = leaf_most c.args.child.now.page (length pages) entries (at_is_page pages c.args.child.now.page (Leaf entries) at) in
     omega (arith, ap used_by c.entries_without-left.ensures.entries, without_used c.args.key.now entries, most)
@@ -160,8 +160,8 @@ trim_above-requires-clause-ways g t c =
     let ways = c.in-Interior.ways in
     let mid_step = g.T.Pages.step c.child_node.new.t in
     let pages : List (List ℕ) = drafted c.args.draft.now.sheets.items mid_step.images in
-    let at : page_at pages c.args.child.now.page ≡ Some (Interior c.in-Interior.ways.0 c.in-Interior.ways.1) = c.in_ok-entries.ensures.node mid_step.images (agrees_now mid_step) ∙ ap (λ (n : Node). Some (content_of n)) c.in-Interior.is in
-    let fit = sym (ap (λ (n : Node). content_fits child.low child.high (Some (content_of n))) c.in-Interior.is) ∙ c.in_ok-entries.ensures.fits in
+    let at : page_at pages c.args.child.now.page ≡ Some (Interior c.in-Interior.ways.0 c.in-Interior.ways.1) = c.in_ok-entries.ensures.read.node mid_step.images (agrees_now mid_step) ∙ ap (λ (n : Node). Some (content_of n)) c.in-Interior.is in
+    let fit = sym (ap (λ (n : Node). content_fits child.low child.high (Some (content_of n))) c.in-Interior.is) ∙ c.in_ok-entries.ensures.read.fits in
     let has = page_ways child.page (length pages) ways.0 ways.1 (at_is_page pages child.page (Interior ways.0 ways.1) at) in
     let count : length pages ≡ length (g.T.Pages.step c.remove_below.new.t).images = drafted_length c.args.draft.now.sheets.items mid_step.images ∙ sym c.remove_below.ensures.calls.looks.count in
     subst (λ (n : ℕ). IsOpened n child ways.0 ways.1) count (record { ways = has.ways; within = fit; least = has.least; most = has.most })
@@ -174,8 +174,8 @@ returns-in-Leaf-clause-left g t c =
     let items = c.entries_without-left.result.items in
     let mid_step = g.T.Pages.step c.child_node.new.t in
     let pages : List (List ℕ) = drafted c.args.draft.now.sheets.items mid_step.images in
-    let at : page_at pages c.args.child.now.page ≡ Some (Leaf c.in-Leaf.entries) = c.in_ok-entries.ensures.node mid_step.images (agrees_now mid_step) ∙ ap (λ (n : Node). Some (content_of n)) c.in-Leaf.is in
-    let fit = sym (ap (λ (n : Node). content_fits child.low child.high (Some (content_of n))) c.in-Leaf.is) ∙ c.in_ok-entries.ensures.fits in
+    let at : page_at pages c.args.child.now.page ≡ Some (Leaf c.in-Leaf.entries) = c.in_ok-entries.ensures.read.node mid_step.images (agrees_now mid_step) ∙ ap (λ (n : Node). Some (content_of n)) c.in-Leaf.is in
+    let fit = sym (ap (λ (n : Node). content_fits child.low child.high (Some (content_of n))) c.in-Leaf.is) ∙ c.in_ok-entries.ensures.read.fits in
     let is = c.entries_without-left.ensures.entries in
     let are = without_leaf pages child.page c.args.key.now entries items at is in
     let few : AreEntries items = record { each = are.0; ascend = are.1; fits = c.entries_without-left.ensures.fits } in
@@ -190,8 +190,8 @@ returns-in-Leaf-clause-trimmed g t c = λ images agrees level most around.
     let child = c.args.child.now in
     let left = c.trim_leaf.result in
     let items = c.entries_without-left.result.items in
-    let at = c.in_ok-entries.ensures.node images agrees ∙ ap (λ (n : Node). Some (content_of n)) c.in-Leaf.is in
-    let fit = sym (ap (λ (n : Node). content_fits child.low child.high (Some (content_of n))) c.in-Leaf.is) ∙ c.in_ok-entries.ensures.fits in
+    let at = c.in_ok-entries.ensures.read.node images agrees ∙ ap (λ (n : Node). Some (content_of n)) c.in-Leaf.is in
+    let fit = sym (ap (λ (n : Node). content_fits child.low child.high (Some (content_of n))) c.in-Leaf.is) ∙ c.in_ok-entries.ensures.read.fits in
     leaf_trimmed (with_images images new) c.args.key.now draft draft2 level child c.in-Leaf.entries items left at c.entries_without-left.ensures.entries fit c.trim_leaf.ensures.freed
     (leaf_over new images agrees.count draft.sheets.items draft2.sheets.items child.page items left c.trim_leaf.ensures.put) around
 
@@ -222,8 +222,8 @@ returns-in_ok-trimmed-in-Interior-clause-left g t c =
     let below = c.in_ok-trimmed-in-Interior.trimmed in
     let mid_step = g.T.Pages.step c.child_node.new.t in
     let pages : List (List ℕ) = drafted c.args.draft.now.sheets.items mid_step.images in
-    let at : page_at pages c.args.child.now.page ≡ Some (Interior c.in-Interior.ways.0 c.in-Interior.ways.1) = c.in_ok-entries.ensures.node mid_step.images (agrees_now mid_step) ∙ ap (λ (n : Node). Some (content_of n)) c.in-Interior.is in
-    let fit = sym (ap (λ (n : Node). content_fits child.low child.high (Some (content_of n))) c.in-Interior.is) ∙ c.in_ok-entries.ensures.fits in
+    let at : page_at pages c.args.child.now.page ≡ Some (Interior c.in-Interior.ways.0 c.in-Interior.ways.1) = c.in_ok-entries.ensures.read.node mid_step.images (agrees_now mid_step) ∙ ap (λ (n : Node). Some (content_of n)) c.in-Interior.is in
+    let fit = sym (ap (λ (n : Node). content_fits child.low child.high (Some (content_of n))) c.in-Interior.is) ∙ c.in_ok-entries.ensures.read.fits in
     let has = page_ways child.page (length pages) ways.0 ways.1 (at_is_page pages child.page (Interior ways.0 ways.1) at) in
     let opened : IsOpened (length pages) child ways.0 ways.1 = record { ways = has.ways; within = fit; least = has.least; most = has.most } in
     let o = subst (λ (n : ℕ). IsOpened n child ways.0 ways.1) (drafted_length c.args.draft.now.sheets.items mid_step.images ∙ c.child_node.ensures.calls.looks.count) opened in
@@ -250,8 +250,8 @@ returns-in_ok-trimmed-in-Interior-clause-trimmed g t c =
     let agrees2 = agrees_before s2 s images c.trim_above.ensures.calls.looks agrees in
     let agrees1 = agrees_before s1 s2 images c.in_ok-trimmed-in-Interior.ensures.calls.looks agrees2 in
     let pages : List (List ℕ) = drafted draft.sheets.items images in
-    let at : page_at pages child.page ≡ Some (Interior ways.0 ways.1) = c.in_ok-entries.ensures.node images agrees1 ∙ ap (λ (n : Node). Some (content_of n)) c.in-Interior.is in
-    let fit = sym (ap (λ (n : Node). content_fits child.low child.high (Some (content_of n))) c.in-Interior.is) ∙ c.in_ok-entries.ensures.fits in
+    let at : page_at pages child.page ≡ Some (Interior ways.0 ways.1) = c.in_ok-entries.ensures.read.node images agrees1 ∙ ap (λ (n : Node). Some (content_of n)) c.in-Interior.is in
+    let fit = sym (ap (λ (n : Node). content_fits child.low child.high (Some (content_of n))) c.in-Interior.is) ∙ c.in_ok-entries.ensures.read.fits in
     let has = page_ways child.page (length pages) ways.0 ways.1 (at_is_page pages child.page (Interior ways.0 ways.1) at) in
     let opened : IsOpened (length pages) child ways.0 ways.1 = record { ways = has.ways; within = fit; least = has.least; most = has.most } in
     let before = subst (λ (k : Key). AllByRecursion (λ s. is_before (UpTo k) s.key ≡ true) (take i ways.1)) c.copied.ensures c.ways_before-i.ensures.before in
@@ -287,8 +287,8 @@ returns-in_ok-trimmed-in-Interior-clause-fault g t c =
     let agrees2 = agrees_before s2 s images c.trim_above.ensures.calls.looks agrees in
     let agrees1 = agrees_before s1 s2 images c.in_ok-trimmed-in-Interior.ensures.calls.looks agrees2 in
     let pages : List (List ℕ) = drafted draft.sheets.items images in
-    let at : page_at pages child.page ≡ Some (Interior ways.0 ways.1) = c.in_ok-entries.ensures.node images agrees1 ∙ ap (λ (n : Node). Some (content_of n)) c.in-Interior.is in
-    let fit = sym (ap (λ (n : Node). content_fits child.low child.high (Some (content_of n))) c.in-Interior.is) ∙ c.in_ok-entries.ensures.fits in
+    let at : page_at pages child.page ≡ Some (Interior ways.0 ways.1) = c.in_ok-entries.ensures.read.node images agrees1 ∙ ap (λ (n : Node). Some (content_of n)) c.in-Interior.is in
+    let fit = sym (ap (λ (n : Node). content_fits child.low child.high (Some (content_of n))) c.in-Interior.is) ∙ c.in_ok-entries.ensures.read.fits in
     let has = page_ways child.page (length pages) ways.0 ways.1 (at_is_page pages child.page (Interior ways.0 ways.1) at) in
     let opened : IsOpened (length pages) child ways.0 ways.1 = record { ways = has.ways; within = fit; least = has.least; most = has.most } in
     let before = subst (λ (k : Key). AllByRecursion (λ s. is_before (UpTo k) s.key ≡ true) (take i ways.1)) c.copied.ensures c.ways_before-i.ensures.before in
@@ -334,12 +334,12 @@ returns-in-Leaf-clause-sheets g t c =
 pub trim_leaf-requires-clause-page : goal.trim_leaf-requires-clause-page
 trim_leaf-requires-clause-page g t c =
     let e = c.in_ok-entries.ensures in
-    record { reached = e.reached; used = ap (λ (x : List Bool). is_spare x c.args.child.now.page) c.child_node.ensures.calls.looks.spares ∙ e.used }
+    record { reached = e.read.reached; used = ap (λ (x : List Bool). is_spare x c.args.child.now.page) c.child_node.ensures.calls.looks.spares ∙ e.read.used }
 
 pub returns-in-Leaf-clause-page : goal.returns-in-Leaf-clause-page
 returns-in-Leaf-clause-page g t c =
     let e = c.in_ok-entries.ensures in
-    record { reached = e.reached; used = ap (λ (x : List Bool). is_spare x c.args.child.now.page) c.child_node.ensures.calls.looks.spares ∙ e.used }
+    record { reached = e.read.reached; used = ap (λ (x : List Bool). is_spare x c.args.child.now.page) c.child_node.ensures.calls.looks.spares ∙ e.read.used }
 
 pub trim_above-requires-clause-page : goal.trim_above-requires-clause-page
 trim_above-requires-clause-page g t c =
@@ -347,7 +347,7 @@ trim_above-requires-clause-page g t c =
     let page : ℕ = c.args.child.now.page in
     let looks = c.in_ok-trimmed-in-Interior.ensures.calls.looks in
     page_kept (g.T.Pages.step c.child_node.new.t) (g.T.Pages.step c.remove_below.new.t) page looks.reached looks.spares
-    (record { reached = e.reached; used = ap (λ (x : List Bool). is_spare x page) c.child_node.ensures.calls.looks.spares ∙ e.used })
+    (record { reached = e.read.reached; used = ap (λ (x : List Bool). is_spare x page) c.child_node.ensures.calls.looks.spares ∙ e.read.used })
 
 pub returns-in_ok-trimmed-in-Interior-clause-page : goal.returns-in_ok-trimmed-in-Interior-clause-page
 returns-in_ok-trimmed-in-Interior-clause-page g t c =
@@ -360,7 +360,7 @@ returns-in_ok-trimmed-in-Interior-clause-page g t c =
     let looks = c.trim_above.ensures.calls.looks in
     ok_on c.trim_above.result (λ left. Shows s (λ pages. IsMended (with_images pages s) c.remove_below.new.draft c.trim_above.new.draft c.args.child.now ways.0 ways.1 c.ways_before-i.result below left)) (MayHave s page)
     (λ left m. page_kept (g.T.Pages.step c.child_node.new.t) s page (λ q h. looks.reached q (first.reached q h)) (looks.spares ∙ first.spares)
-    (record { reached = e.reached; used = ap (λ (x : List Bool). is_spare x page) c.child_node.ensures.calls.looks.spares ∙ e.used })) c.trim_above.ensures.mended
+    (record { reached = e.read.reached; used = ap (λ (x : List Bool). is_spare x page) c.child_node.ensures.calls.looks.spares ∙ e.read.used })) c.trim_above.ensures.mended
 
 pub trim_above-requires-clause-more : goal.trim_above-requires-clause-more
 trim_above-requires-clause-more g t c = omega (arith, c.requires.more, c.child_node.ensures.reaches, c.remove_below.ensures.reaches, c.if-levels-gt0.true)

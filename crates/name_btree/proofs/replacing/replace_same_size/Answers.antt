@@ -26,14 +26,14 @@ use Rattle.name_btree.proofs.ReplaceLaws.{as_long_there}
 use Rattle.name_btree.proofs.replacing.replace_same_size.Goals as goal
 
 pub put_among-list-requires-clause-few : goal.put_among-list-requires-clause-few
-put_among-list-requires-clause-few g c = few_in_leaf (g.T.Pages.step c.leaf_below.new.t).images c.in-Ok.found.page c.in-Ok.found.entries c.in-Ok.ensures.leaf
+put_among-list-requires-clause-few g c = few_in_leaf (g.T.Pages.step c.leaf_below.new.t).images c.in-Ok.found.page c.in-Ok.found.entries c.in-Ok.ensures.found.leaf
 
 pub put_leaf-requires-clause-accepted : goal.put_leaf-requires-clause-accepted
 put_leaf-requires-clause-accepted g c =
     let found = c.in-Ok.found in
     let same : c.as_slice.result.now ≡ map _ found.entries = c.as_slice.ensures.value ∙ c.put_among-list.ensures.put in
     ap (λ (xs : List Entry). is_page found.page 0 (Leaf xs)) same
-    ∙ put_is_page (g.T.Pages.step c.leaf_below.new.t).images found.page c.args.entry.now found.entries c.in-Ok.ensures.leaf c.requires.entry (c.has_as_long.ensures.long c.if-not-has_as_long.false)
+    ∙ put_is_page (g.T.Pages.step c.leaf_below.new.t).images found.page c.args.entry.now found.entries c.in-Ok.ensures.found.leaf c.requires.entry (c.has_as_long.ensures.long c.if-not-has_as_long.false)
 
 pub returns-in-Err-clause-kept : goal.returns-in-Err-clause-kept
 returns-in-Err-clause-kept g c = c.fault_of.ensures.calls c.args.t.now (reaches_walks g.T.Pages c.args.t.now c.leaf_below.new.t c.in-Err.ensures.calls)
@@ -50,7 +50,7 @@ returns-in-Err-clause-fault g c =
     let old = c.args.t.now in
     let mid = c.leaf_below.new.t in
     let fails : FailsTree G mid c.in-Err.fault =
-    fails_tree G mid c.in-Err.fault (top_breaks (G.step mid) c.in-Err.fault c.top.result c.top.ensures c.in-Err.ensures.fault) in
+    fails_tree G mid c.in-Err.fault (top_breaks (G.step mid) c.in-Err.fault c.top.result c.top.ensures c.in-Err.ensures.failed.cause) in
     c.fault_of.ensures.cause fails
 
 pub returns-then-not-has_as_long-clause-kept : goal.returns-then-not-has_as_long-clause-kept
@@ -76,7 +76,7 @@ returns-then-not-has_as_long-clause-fault g c =
     let pages = (G.step old).images in
     let fails : FailsTree G mid (Broken found.page) = λ trusted.
     let P : List (List ℕ) → Type 0 = λ (x : List (List ℕ)). IsPlace (is_before (UpTo c.copied.result)) x c.top.result found in
-    let seen : P pages = shows_trusted G P old mid calls c.in-Ok.ensures.place trusted in
+    let seen : P pages = shows_trusted G P old mid calls c.in-Ok.ensures.found.place trusted in
     let by_key : Key → Type 0 = λ (k : Key). IsPlace (is_before (UpTo k)) pages c.top.result found in
     let by_top : Child → Type 0 = λ (d : Child). IsPlace (is_before (UpTo c.args.entry.now.key)) pages d found in
     let place = subst by_top c.top.ensures (subst by_key c.copied.ensures seen) in
@@ -90,7 +90,7 @@ returns-clause-calls g c =
 
 pub returns-clause-written : goal.returns-clause-written
 returns-clause-written g c =
-    written_one g.T.Pages g.met.T.Pages.trust c.args.t.now c.leaf_below.new.t c.put_leaf.new.t c.in-Ok.found.page _ c.in-Ok.ensures.calls c.put_leaf.ensures.outside c.put_leaf.ensures.written c.in-Ok.ensures.reached.0 c.in-Ok.ensures.used
+    written_one g.T.Pages g.met.T.Pages.trust c.args.t.now c.leaf_below.new.t c.put_leaf.new.t c.in-Ok.found.page _ c.in-Ok.ensures.calls c.put_leaf.ensures.outside c.put_leaf.ensures.written c.in-Ok.ensures.found.reached.0 c.in-Ok.ensures.found.used
 
 pub returns-clause-tree : goal.returns-clause-tree
 returns-clause-tree g c = λ trusted.
@@ -104,7 +104,7 @@ returns-clause-tree g c = λ trusted.
     let t = law.trust mid new _ c.put_leaf.ensures.outside trusted in
     let pages = (G.step old).images in
     let P : List (List ℕ) → Type 0 = λ (x : List (List ℕ)). IsLeafAt (UpTo c.copied.result) x c.top.result found in
-    let seen : P pages = shows_trusted G P old mid calls c.in-Ok.ensures.at t in
+    let seen : P pages = shows_trusted G P old mid calls c.in-Ok.ensures.found.at t in
     let by_key : Key → Type 0 = λ (k : Key). IsLeafAt (UpTo k) pages c.top.result found in
     let by_top : Child → Type 0 = λ (d : Child). IsLeafAt (UpTo c.args.entry.now.key) pages d found in
     let at = subst by_top c.top.ensures (subst by_key c.copied.ensures seen) in
@@ -123,7 +123,7 @@ returns-clause-replaced g c = λ trusted.
     let t = law.trust mid new _ c.put_leaf.ensures.outside trusted in
     let pages = (G.step old).images in
     let P : List (List ℕ) → Type 0 = λ (x : List (List ℕ)). IsLeafAt (UpTo c.copied.result) x c.top.result found in
-    let seen : P pages = shows_trusted G P old mid calls c.in-Ok.ensures.at t in
+    let seen : P pages = shows_trusted G P old mid calls c.in-Ok.ensures.found.at t in
     let by_key : Key → Type 0 = λ (k : Key). IsLeafAt (UpTo k) pages c.top.result found in
     let by_top : Child → Type 0 = λ (d : Child). IsLeafAt (UpTo c.args.entry.now.key) pages d found in
     let at = subst by_top c.top.ensures (subst by_key c.copied.ensures seen) in
@@ -149,7 +149,7 @@ returns-clause-pages g c =
     let mid = g.T.Pages.step c.leaf_below.new.t in
     let new = g.T.Pages.step c.put_leaf.new.t in
     let written = c.put_leaf.ensures.written in
-    pages_then old mid new (written_count mid new c.in-Ok.found.page _ written) (looks_pages old mid c.in-Ok.ensures.calls.looks) (written_pages mid new c.in-Ok.found.page _ written c.in-Ok.ensures.reached.0)
+    pages_then old mid new (written_count mid new c.in-Ok.found.page _ written) (looks_pages old mid c.in-Ok.ensures.calls.looks) (written_pages mid new c.in-Ok.found.page _ written c.in-Ok.ensures.found.reached.0)
 
 pub returns-in-Err-clause-pages : goal.returns-in-Err-clause-pages
 returns-in-Err-clause-pages g c =
@@ -171,7 +171,7 @@ returns-in-Err-clause-memory g c = λ old long way wants.
     let same : UpTo c.copied.result ≡ UpTo old.key = ap (λ (k : Key). UpTo k) (c.copied.ensures ∙ sym long.key) in
     let lead : Leads P max_height t old c.top.result = subst (Leads P max_height t old) (sym c.top.ensures) way in
     let has = subst (λ (k : Cut). HasMet P 0 (is_before k) c.top.result t) (sym same) (lead_met P max_height t old c.top.result [] lead) in
-    (c.in-Err.ensures.memory has).enough (ap outer_of (sym (c.fault_of.ensures.outer (c.in-Err.ensures.again old same lead))) ∙ wants)
+    (c.in-Err.ensures.memory has).none.enough (ap outer_of (sym (c.fault_of.ensures.outer (c.in-Err.ensures.again old same lead))) ∙ wants)
 
 pub returns-then-not-has_as_long-clause-memory : goal.returns-then-not-has_as_long-clause-memory
 returns-then-not-has_as_long-clause-memory g c = λ old long way wants.
@@ -181,7 +181,7 @@ returns-then-not-has_as_long-clause-memory g c = λ old long way wants.
     let same : UpTo c.copied.result ≡ UpTo old.key = ap (λ (k : Key). UpTo k) (c.copied.ensures ∙ sym long.key) in
     let lead : Leads P max_height t old c.top.result = subst (Leads P max_height t old) (sym c.top.ensures) way in
     c.has_as_long.ensures.not c.if-not-has_as_long.true
-    (as_long_there (P.step c.leaf_below.new.t).images found.page found.entries c.args.entry.now old c.in-Ok.ensures.leaf (c.in-Ok.ensures.again old same lead) long)
+    (as_long_there (P.step c.leaf_below.new.t).images found.page found.entries c.args.entry.now old c.in-Ok.ensures.found.leaf (c.in-Ok.ensures.again old same lead) long)
 
 pub returns-clause-memory : goal.returns-clause-memory
 returns-clause-memory g c = λ old long way is. cc is

@@ -29,7 +29,7 @@ pub listed-requires : goal.listed-requires
 listed-requires g c =
     let pages : List (List ℕ) = drafted c.args.draft.now.sheets.items (g.T.Pages.step c.child_node.new.t).images in
     let page : ℕ = c.child_at-neighbour.result.page in
-    let at : page_at pages page ≡ Some (Leaf c.in-Leaf.others) = c.in_ok-others.ensures.node (g.T.Pages.step c.child_node.new.t).images (agrees_now (g.T.Pages.step c.child_node.new.t)) ∙ ap (λ (n : Node). Some (content_of n)) c.in-Leaf.is in
+    let at : page_at pages page ≡ Some (Leaf c.in-Leaf.others) = c.in_ok-others.ensures.read.node (g.T.Pages.step c.child_node.new.t).images (agrees_now (g.T.Pages.step c.child_node.new.t)) ∙ ap (λ (n : Node). Some (content_of n)) c.in-Leaf.is in
     few_in_leaf pages page c.in-Leaf.others at
 
 pub put_leaves-requires : goal.put_leaves-requires
@@ -46,16 +46,16 @@ put_leaves-requires g c =
     let few = c.args.few.now.items in
     let cs : List Child = children ways.0 above.low above.high ways.1 in
     let pages : List (List ℕ) = drafted c.args.draft.now.sheets.items new.images in
-    let at : page_at pages neighbour.page ≡ Some (Leaf others) = c.in_ok-others.ensures.node (g.T.Pages.step c.child_node.new.t).images (agrees_now (g.T.Pages.step c.child_node.new.t)) ∙ ap (λ (n : Node). Some (content_of n)) c.in-Leaf.is in
+    let at : page_at pages neighbour.page ≡ Some (Leaf others) = c.in_ok-others.ensures.read.node (g.T.Pages.step c.child_node.new.t).images (agrees_now (g.T.Pages.step c.child_node.new.t)) ∙ ap (λ (n : Node). Some (content_of n)) c.in-Leaf.is in
     let sides = sides_are above ways.0 ways.1 pair is c.args.i child neighbour c.pair_with-pair.ensures.place (child_at ways.0 above.low above.high ways.1 c.args.i c.requires.within) (ap (slice_get cs) (sym c.neighbour_of.ensures) ∙ c.child_at-neighbour.ensures) in
     let fits = subst (AllByRecursion FitsEntry) c.listed.ensures.entries c.listed.ensures.fits in
     let has = page_entries neighbour.page (length pages) others (at_is_page pages neighbour.page (Leaf others) at) fits in
-    let within = sym (ap (λ (n : Node). content_fits neighbour.low neighbour.high (Some (content_of n))) c.in-Leaf.is) ∙ c.in_ok-others.ensures.fits in
+    let within = sym (ap (λ (n : Node). content_fits neighbour.low neighbour.high (Some (content_of n))) c.in-Leaf.is) ∙ c.in_ok-others.ensures.read.fits in
     let both = leaves_at (length old.images) ways.0 above ways.1 pair is c.requires.ways c.args.i child neighbour sides few others c.requires.few has c.if-neighbour-ne0.true within in
     let list : List Entry = c.as_slice-in-Leaf-2.result.now in
     let kept = c.child_node.ensures.calls.looks.reached in
     let child_may = page_kept old new child.page kept c.child_node.ensures.calls.looks.spares c.requires.below in
-    let other_may : MayHave new neighbour.page = record { reached = c.in_ok-others.ensures.reached; used = ap (λ (x : List Bool). is_spare x neighbour.page) c.child_node.ensures.calls.looks.spares ∙ c.in_ok-others.ensures.used } in
+    let other_may : MayHave new neighbour.page = record { reached = c.in_ok-others.ensures.read.reached; used = ap (λ (x : List Bool). is_spare x neighbour.page) c.child_node.ensures.calls.looks.spares ∙ c.in_ok-others.ensures.read.used } in
     let joined : list ≡ entries_at c.args.i few others = c.as_slice-in-Leaf-2.ensures.value ∙ c.leaves_joined-list.ensures
     ∙ ap (λ (xs : List Entry). entries_at c.args.i xs c.as_slice-in-Leaf.result.now) c.as_slice.ensures.value ∙ ap (entries_at c.args.i few) (c.as_slice-in-Leaf.ensures.value ∙ c.listed.ensures.entries) in
     let all = subst (AreBothLeaves above ways.0 ways.1 pair) (sym joined) both in
@@ -96,7 +96,7 @@ returns-in-Leaf-clause-mended g c = λ images agrees.
       neighbour = c.child_at-neighbour.result;
       there = ap (slice_get cs) (sym c.neighbour_of.ensures) ∙ c.child_at-neighbour.ensures;
       others = others;
-      has = c.in_ok-others.ensures.node images agrees ∙ ap (λ (n : Node). Some (content_of n)) c.in-Leaf.is;
+      has = c.in_ok-others.ensures.read.node images agrees ∙ ap (λ (n : Node). Some (content_of n)) c.in-Leaf.is;
       mended = leaves_over new images agrees.count draft c.put_leaves.new.draft above.page ways.0 ways.1 pair c.put_leaves.result _ put;
     }
 

@@ -29,7 +29,7 @@ ways_joined-requires-clause-others g c =
     let pages : List (List ℕ) = drafted c.args.draft.now.sheets.items (g.T.Pages.step c.child_node.new.t).images in
     let page : ℕ = c.child_at-neighbour.result.page in
     let others = c.in-Interior.others in
-    let at : page_at pages page ≡ Some (Interior others.0 others.1) = c.in_ok-others.ensures.node (g.T.Pages.step c.child_node.new.t).images (agrees_now (g.T.Pages.step c.child_node.new.t)) ∙ ap (λ (n : Node). Some (content_of n)) c.in-Interior.is in
+    let at : page_at pages page ≡ Some (Interior others.0 others.1) = c.in_ok-others.ensures.read.node (g.T.Pages.step c.child_node.new.t).images (agrees_now (g.T.Pages.step c.child_node.new.t)) ∙ ap (λ (n : Node). Some (content_of n)) c.in-Interior.is in
     few_separators pages page others.0 others.1 at
 
 pub ways_cut-cut-requires : goal.ways_cut-cut-requires
@@ -38,7 +38,7 @@ ways_cut-cut-requires g c =
     let neighbour = c.child_at-neighbour.result in
     let others = c.in-Interior.others in
     let few = c.args.few.now.items in
-    let at : page_at pages neighbour.page ≡ Some (Interior others.0 others.1) = c.in_ok-others.ensures.node (g.T.Pages.step c.child_node.new.t).images (agrees_now (g.T.Pages.step c.child_node.new.t)) ∙ ap (λ (n : Node). Some (content_of n)) c.in-Interior.is in
+    let at : page_at pages neighbour.page ≡ Some (Interior others.0 others.1) = c.in_ok-others.ensures.read.node (g.T.Pages.step c.child_node.new.t).images (agrees_now (g.T.Pages.step c.child_node.new.t)) ∙ ap (λ (n : Node). Some (content_of n)) c.in-Interior.is in
     let least : 4 ≤ length others.1 = least_of_page neighbour.page (length pages) others.0 others.1 c.if-neighbour-ne0.true (at_is_page pages neighbour.page (Interior others.0 others.1) at) in
     let is : c.as_slice.result.now ≡ ways_at c.args.i c.get.result.key c.args.first few others.0 others.1 = c.as_slice.ensures.value ∙ c.in-Some.ensures.list in
     omega (arith, ap length is, ways_count c.args.i c.get.result.key c.args.first few others.0 others.1, least)
@@ -60,10 +60,10 @@ put_interiors-requires g c =
     let cs : List Child = children ways.0 above.low above.high ways.1 in
     let sheets = c.args.draft.now.sheets.items in
     let pages : List (List ℕ) = drafted sheets new.images in
-    let at : page_at pages neighbour.page ≡ Some (Interior others.0 others.1) = c.in_ok-others.ensures.node (g.T.Pages.step c.child_node.new.t).images (agrees_now (g.T.Pages.step c.child_node.new.t)) ∙ ap (λ (n : Node). Some (content_of n)) c.in-Interior.is in
+    let at : page_at pages neighbour.page ≡ Some (Interior others.0 others.1) = c.in_ok-others.ensures.read.node (g.T.Pages.step c.child_node.new.t).images (agrees_now (g.T.Pages.step c.child_node.new.t)) ∙ ap (λ (n : Node). Some (content_of n)) c.in-Interior.is in
     let page = subst (λ (n : ℕ). is_page neighbour.page n (Interior others.0 others.1) ≡ true) (drafted_length sheets new.images ∙ c.child_node.ensures.calls.looks.count) (at_is_page pages neighbour.page (Interior others.0 others.1) at) in
     let sides = sides_are above ways.0 ways.1 pair is c.args.i child neighbour c.pair_with-pair.ensures.place (child_at ways.0 above.low above.high ways.1 c.args.i c.requires.within) (ap (slice_get cs) (sym c.neighbour_of.ensures) ∙ c.child_at-neighbour.ensures) in
-    let within = sym (ap (λ (n : Node). content_fits neighbour.low neighbour.high (Some (content_of n))) c.in-Interior.is) ∙ c.in_ok-others.ensures.fits in
+    let within = sym (ap (λ (n : Node). content_fits neighbour.low neighbour.high (Some (content_of n))) c.in-Interior.is) ∙ c.in_ok-others.ensures.read.fits in
     let both = ways_found p ways.0 above ways.1 pair is c.requires.ways c.args.i child neighbour sides c.args.first few others.0 others.1 c.requires.few page within
     c.get.result c.get.ensures.there c.in-Some.ensures.behind c.in-Some.joined.first list c.in-Some.ensures.first c.in-Some.ensures.list in
     let count : 5 ≤ length list =
@@ -71,7 +71,7 @@ put_interiors-requires g c =
     let kept = c.child_node.ensures.calls.looks.reached in
     let spares = c.child_node.ensures.calls.looks.spares in
     let child_may = page_kept old new child.page kept spares c.requires.below in
-    let other_may : MayHave new neighbour.page = record { reached = c.in_ok-others.ensures.reached; used = ap (λ (x : List Bool). is_spare x neighbour.page) spares ∙ c.in_ok-others.ensures.used } in
+    let other_may : MayHave new neighbour.page = record { reached = c.in_ok-others.ensures.read.reached; used = ap (λ (x : List Bool). is_spare x neighbour.page) spares ∙ c.in_ok-others.ensures.read.used } in
     record {
       room = search rules;
       freed = search rules;
@@ -102,7 +102,7 @@ returns-in-Some-clause-mended g c = λ images agrees.
     let others = c.in-Interior.others in
     let few = c.args.few.now.items in
     let draft = c.args.draft.now in
-    let at = c.in_ok-others.ensures.node images agrees ∙ ap (λ (n : Node). Some (content_of n)) c.in-Interior.is in
+    let at = c.in_ok-others.ensures.read.node images agrees ∙ ap (λ (n : Node). Some (content_of n)) c.in-Interior.is in
     let same = same_of c.get.result is.between (sym c.get.ensures.there ∙ is.there) in
     let is_list : c.in-Some.joined.list.items ≡ ways_at c.args.i is.between.key c.args.first few others.0 others.1 = c.in-Some.ensures.list ∙ ap (λ (s : Separator). ways_at c.args.i s.key c.args.first few others.0 others.1) same in
     let put = subst (λ (n : ℕ). AreWaysMended new draft c.put_interiors.new.draft above.page ways.0 ways.1 pair n (ways_at c.args.i is.between.key c.args.first few others.0 others.1) c.put_interiors.result)

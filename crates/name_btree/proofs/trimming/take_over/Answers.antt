@@ -21,7 +21,7 @@ put_on_top-requires g c =
     let sheets = c.args.draft.now.sheets.items in
     let pages : List (List ℕ) = drafted sheets new.images in
     let node = c.in_ok-node.node in
-    let at = c.in_ok-node.ensures.node new.images (agrees_now new) in
+    let at = c.in_ok-node.ensures.read.node new.images (agrees_now new) in
     let length_is : length pages ≡ length new.images = drafted_length sheets new.images in
     let page = subst (λ (n : ℕ). is_page c.args.child n (content_of node) ≡ true) length_is (at_is_page pages c.args.child (content_of node) at) in
     let kept = c.node_at.ensures.calls.looks.reached in
@@ -42,7 +42,7 @@ returns-clause-taken g c = λ images agrees.
     let put = subst (λ (xs : List Sheet). IsDrafted new before xs 0 (content_of c.in_ok-node.node)) (sym c.free.ensures.sheets) c.put_on_top.ensures.put in
     record {
       content = content_of c.in_ok-node.node;
-      was = c.in_ok-node.ensures.node images agrees;
+      was = c.in_ok-node.ensures.read.node images agrees;
       now = drafted_over new images agrees.count before c.free.new.self.sheets.items 0 (content_of c.in_ok-node.node) put;
       freed = c.free.ensures.freed ∙ ap (with_freed c.args.child) c.put_on_top.ensures.freed;
     }

@@ -38,20 +38,20 @@ walk_below-returns-in_default-clause-fault g t c = λ trusted.
     let level = c.args.level in
     let marks = c.args.reached.now in
     let pages = (g.T.Pages.step c.child_node.new.t).images in
-    let is = c.in_ok-entries.ensures.node in
+    let is = c.in_ok-entries.ensures.read.node in
     elim c.in_default.branch [
       | walk_below-in_default-via-in-Leaf+else-level-eq0 w ↦
           leaf_breaks level pages child marks w.in-Leaf.entries (is ∙ ap (λ (n : Node). Some (content_of n)) w.in-Leaf.is) (omega (arith, w.if-level-eq0.false))
       | walk_below-in_default-via-in-Interior+else-level-gt0 w ↦
           interior_breaks level pages child marks w.in-Interior.ways.0 w.in-Interior.ways.1 (is ∙ ap (λ (n : Node). Some (content_of n)) w.in-Interior.is) (omega (arith, w.if-level-gt0.false))
       | walk_below-in_default-via-in_default w ↦
-          absurd (let none : false ≡ true = ap (λ (n : Node). content_fits child.low child.high (Some (content_of n))) (sym w.in_default.is) ∙ c.in_ok-entries.ensures.fits in cc)
+          absurd (let none : false ≡ true = ap (λ (n : Node). content_fits child.low child.high (Some (content_of n))) (sym w.in_default.is) ∙ c.in_ok-entries.ensures.read.fits in cc)
     ]
 
 pub walk_below-returns-in_err-entries-clause-fault : goal.walk_below-returns-in_err-entries-clause-fault
 walk_below-returns-in_err-entries-clause-fault g t c =
     let p = err_from_is_err_and c.from_residual.result c.from_residual.ensures.1 in
-    rw (p.1, p.2) (walk_here g.T.Pages c.child_node.new.t c.in_err-entries.field-0.0 c.args.level c.args.child.now c.args.reached.now c.in_err-entries.ensures.fault)
+    rw (p.1, p.2) (walk_here g.T.Pages c.child_node.new.t c.in_err-entries.field-0.0 c.args.level c.args.child.now c.args.reached.now c.in_err-entries.ensures.failed.cause)
 
 pub walk_below-walk_children-requires : goal.walk_below-walk_children-requires
 walk_below-walk_children-requires g t c κs within =
@@ -63,7 +63,7 @@ walk_below-walk_children-requires g t c κs within =
     let mid = c.child_node.new.t in
     let so = rest_reaches G law.then law.trust old c.rest.new.self mid c.rest.ensures.outside c.rest.ensures.step c.in_ok-entries.ensures.calls in
     let pages = (G.step mid).images in
-    let at : page_at pages child.page ≡ Some (Interior ways.0 ways.1) = c.in_ok-entries.ensures.node ∙ ap (λ (n : Node). Some (content_of n)) c.in-Interior.is in
+    let at : page_at pages child.page ≡ Some (Interior ways.0 ways.1) = c.in_ok-entries.ensures.read.node ∙ ap (λ (n : Node). Some (content_of n)) c.in-Interior.is in
     let few : length ways.1 ≤ 9 = few_separators pages child.page ways.0 ways.1 at in
     let more : 0 < (G.step mid).most_reached = subst (λ (n : ℕ). 0 < n) (sym so.most_reached) c.requires.more in
     let low : c.args.level - 1 ≤ 4 = omega arith in
@@ -94,18 +94,18 @@ walk_below-returns-in-Interior-clause-walked g t c =
     let s = G.step old in
     let cs : List Child = children ways.0 child.low child.high ways.1 in
     let fits : keys_fit child.low child.high (separator_keys ways.1) ≡ true =
-    sym (ap (λ (n : Node). content_fits child.low child.high (Some (content_of n))) c.in-Interior.is) ∙ c.in_ok-entries.ensures.fits in
+    sym (ap (λ (n : Node). content_fits child.low child.high (Some (content_of n))) c.in-Interior.is) ∙ c.in_ok-entries.ensures.read.fits in
     let yes : c.is_new.result ≡ true = cc in
     let unmarked : not (is_marked before child.page) ≡ true = sym c.is_new.ensures.new ∙ yes in
     let marks : c.is_new.new.reached ≡ slice_set before child.page true = c.is_new.ensures.marks ∙ ap (λ (b : Bool). cond b (slice_set before child.page true) before) yes in
-    let used : is_spare s.spares child.page ≡ false = ap (λ (x : Step). is_spare x.spares child.page) (sym c.rest.ensures.step) ∙ c.in_ok-entries.ensures.used in
+    let used : is_spare s.spares child.page ≡ false = ap (λ (x : Step). is_spare x.spares child.page) (sym c.rest.ensures.step) ∙ c.in_ok-entries.ensures.read.used in
     let up : suc (level - 1) ≡ level = omega arith in
     let first = c.walk_children.ensures.calls in
     ok_more c.walk_children.result (λ n. G.trusted new → AreWalked (G.step mid).spares (level - 1) (G.step mid).images cs c.is_new.new.reached after n) (λ n. G.trusted new → IsWalked s.spares level s.images child before after n)
     (λ n w trusted.
     let t = first.trust trusted in
     let at : page_at s.images child.page ≡ Some (Interior ways.0 ways.1) =
-    ap (λ (p : List (List ℕ)). page_at p child.page) (sym (so.stays t)) ∙ c.in_ok-entries.ensures.node ∙ ap (λ (n : Node). Some (content_of n)) c.in-Interior.is in
+    ap (λ (p : List (List ℕ)). page_at p child.page) (sym (so.stays t)) ∙ c.in_ok-entries.ensures.read.node ∙ ap (λ (n : Node). Some (content_of n)) c.in-Interior.is in
     let a = subst (λ (x : List (List ℕ)). AreWalked (G.step mid).spares (level - 1) x cs c.is_new.new.reached after n) (so.stays t) (w trusted) in
     let b = subst (λ (x : List Bool). AreWalked x (level - 1) s.images cs c.is_new.new.reached after n) so.spares a in
     above_walked s.spares (level - 1) level s.images child ways.0 ways.1 before after n up at fits unmarked used (subst (λ (m : List Bool). AreWalked s.spares (level - 1) s.images cs m after n) marks b)) c.walk_children.ensures.walked
@@ -129,7 +129,7 @@ walk_below-returns-in-Interior-clause-fault g t c =
     let up : suc (level - 1) ≡ level = omega arith in
     let comes : G.trusted new → ComesTo pages level (child ∷ []) before → ComesTo pages (level - 1) cs c.is_new.new.reached = λ trusted w.
     let at : page_at pages child.page ≡ Some (Interior ways.0 ways.1) =
-    ap (λ (p : List (List ℕ)). page_at p child.page) (c.walk_children.ensures.calls.stays trusted) ∙ c.in_ok-entries.ensures.node ∙ ap (λ (n : Node). Some (content_of n)) c.in-Interior.is in
+    ap (λ (p : List (List ℕ)). page_at p child.page) (c.walk_children.ensures.calls.stays trusted) ∙ c.in_ok-entries.ensures.read.node ∙ ap (λ (n : Node). Some (content_of n)) c.in-Interior.is in
     subst (ComesTo pages (level - 1) cs) (sym marks) (comes_below (level - 1) level pages child ways.0 ways.1 before up at w) in
     err_more c.walk_children.result (FailsWalk G new (level - 1) cs c.is_new.new.reached) (FailsWalk G new level (child ∷ []) before)
     (λ fault h. walk_map G new fault level (level - 1) (child ∷ []) cs before c.is_new.new.reached comes h) c.walk_children.ensures.fault
@@ -222,7 +222,7 @@ walk_below-returns-in_err-entries-clause-among g t c = λ here.
     let s = g.T.Pages.step new in
     let child = c.args.child.now in
     let p = err_from_is_err_and c.from_residual.result c.from_residual.ensures.1 in
-    rw (p.1, p.2) (misfit_among s (BarsPage s child.page) (length (g.T.Pages.step c.args.t.now).images) child c.in_err-entries.field-0.0 here c.in_err-entries.ensures.fault)
+    rw (p.1, p.2) (misfit_among s (BarsPage s child.page) (length (g.T.Pages.step c.args.t.now).images) child c.in_err-entries.field-0.0 here c.in_err-entries.ensures.failed.cause)
 
 pub walk_below-returns-in-Interior-clause-among : goal.walk_below-returns-in-Interior-clause-among
 walk_below-returns-in-Interior-clause-among g t c = λ here.
@@ -233,7 +233,7 @@ walk_below-returns-in-Interior-clause-among g t c = λ here.
     let so : OnlyWalks G None old mid = rest_reaches G law.then law.trust old c.rest.new.self mid c.rest.ensures.outside c.rest.ensures.step c.in_ok-entries.ensures.calls in
     let child = c.args.child.now in
     let ways = c.in-Interior.ways in
-    let kids = ways_within (G.step mid).images child.page ways.0 ways.1 child.low child.high (c.in_ok-entries.ensures.node ∙ ap (λ (n : Node). Some (content_of n)) c.in-Interior.is) in
+    let kids = ways_within (G.step mid).images child.page ways.0 ways.1 child.low child.high (c.in_ok-entries.ensures.read.node ∙ ap (λ (n : Node). Some (content_of n)) c.in-Interior.is) in
     subst (λ (n : ℕ). IfErr c.walk_children.result (IsAmong n)) so.count (c.walk_children.ensures.among kids)
 
 pub walk_children-returns-in_err-more-clause-among : goal.walk_children-returns-in_err-more-clause-among
@@ -325,7 +325,7 @@ walk_below-returns-in_err-entries-clause-refused g t c =
     let new = step c.child_node.new.t in
     let fault = c.in_err-entries.field-0.0 in
     let p = err_from_is_err_and c.from_residual.result c.from_residual.ensures.1 in
-    rw (p.1, p.2) (refused_rested (step c.args.t.now) new fault (subst (λ (s : Step). HasRefusal s new fault) c.rest.ensures.step c.in_err-entries.ensures.refused))
+    rw (p.1, p.2) (refused_rested (step c.args.t.now) new fault (subst (λ (s : Step). HasRefusal s new fault) c.rest.ensures.step c.in_err-entries.ensures.failed.refused))
 
 pub walk_below-returns-in-Interior-clause-refused : goal.walk_below-returns-in-Interior-clause-refused
 walk_below-returns-in-Interior-clause-refused g t c = c.walk_children.ensures.refused

@@ -42,7 +42,7 @@ returns-in_err-child_node-clause-fault g c =
     let child = c.loop-level.child in
     let on : G.trusted new → IsDown (G.step new).images c.loop-level.level child = λ t. subst (λ (p : List (List ℕ)). IsDown p c.loop-level.level child) (sym (all.stays t)) (c.loop-level.invariant.down (so.trust t)) in
     let p = err_from_is_err_and c.from_residual.result c.from_residual.ensures.1 in
-    rw (p.1, p.2) (down_breaks G new c.in_err-child_node.field-0.0 c.loop-level.level child on c.in_err-child_node.ensures.fault)
+    rw (p.1, p.2) (down_breaks G new c.in_err-child_node.field-0.0 c.loop-level.level child on c.in_err-child_node.ensures.failed.cause)
 
 pub returns-in-Leaf-clause-level : goal.returns-in-Leaf-clause-level
 returns-in-Leaf-clause-level g c = λ t.
@@ -55,7 +55,7 @@ returns-in-Leaf-clause-level g c = λ t.
     let pages = (G.step old).images in
     let page : ℕ = c.loop-level.child.page in
     let at : page_at pages page ≡ Some (Leaf c.in-Leaf.field-0) =
-    ap (λ (p : List (List ℕ)). page_at p page) (sym (all.stays t)) ∙ c.in_ok-child_node.ensures.node ∙ ap (λ (n : Node). Some (content_of n)) c.in-Leaf.is in
+    ap (λ (p : List (List ℕ)). page_at p page) (sym (all.stays t)) ∙ c.in_ok-child_node.ensures.read.node ∙ ap (λ (n : Node). Some (content_of n)) c.in-Leaf.is in
     down_ends pages c.loop-level.level c.loop-level.child c.in-Leaf.field-0 at c.loop-level-test.true (c.loop-level.invariant.down (so.trust t))
 
 pub loop-level-preserved : goal.loop-level-preserved
@@ -73,13 +73,13 @@ loop-level-preserved g c =
       calls = all;
       memory = no_more_then G old c.loop-level.t new c.loop-level.invariant.memory (no_more_rested G c.loop-level.t c.rest.new.self new c.rest.ensures.memory c.in_ok-child_node.ensures.calls.memory);
       within = λ some.
-          let at = c.in_ok-child_node.ensures.node ∙ ap (λ (n : Node). Some (content_of n)) c.in-Interior.is in
+          let at = c.in_ok-child_node.ensures.read.node ∙ ap (λ (n : Node). Some (content_of n)) c.in-Interior.is in
           let kids = ways_within (G.step new).images child.page ways.0 ways.1 child.low child.high at in
           let next = c.child_at-child.result in
           subst (λ (n : ℕ). next.page < n) all.count (all_at (IsWithin (length (G.step new).images)) (children ways.0 child.low child.high ways.1) 0 next c.child_at-child.ensures kids);
       down = λ t.
           let at : page_at pages child.page ≡ Some (Interior ways.0 ways.1) =
-          ap (λ (p : List (List ℕ)). page_at p child.page) (sym (all.stays t)) ∙ c.in_ok-child_node.ensures.node ∙ ap (λ (n : Node). Some (content_of n)) c.in-Interior.is in
+          ap (λ (p : List (List ℕ)). page_at p child.page) (sym (all.stays t)) ∙ c.in_ok-child_node.ensures.read.node ∙ ap (λ (n : Node). Some (content_of n)) c.in-Interior.is in
           down_first pages c.loop-level.level child c.child_at-child.result ways.0 ways.1 at c.child_at-child.ensures c.loop-level-test.true (c.loop-level.invariant.down (so.trust t));
     }
 
@@ -100,7 +100,7 @@ returns-in_err-child_node-clause-among g c = λ some.
     let s = g.T.Pages.step new in
     let child = c.loop-level.child in
     let p = err_from_is_err_and c.from_residual.result c.from_residual.ensures.1 in
-    rw (p.1, p.2) (misfit_among s (BarsPage s child.page) (length (g.T.Pages.step c.args.t.now).images) child c.in_err-child_node.field-0.0 (c.loop-level.invariant.within some) c.in_err-child_node.ensures.fault)
+    rw (p.1, p.2) (misfit_among s (BarsPage s child.page) (length (g.T.Pages.step c.args.t.now).images) child c.in_err-child_node.field-0.0 (c.loop-level.invariant.within some) c.in_err-child_node.ensures.failed.cause)
 
 pub returns-in-Free-clause-among : goal.returns-in-Free-clause-among
 returns-in-Free-clause-among g c = λ some. c.loop-level.invariant.within some
@@ -140,7 +140,7 @@ returns-in_err-child_node-clause-refused g c =
     let new = step c.child_node.new.t in
     let fault = c.in_err-child_node.field-0.0 in
     let p = err_from_is_err_and c.from_residual.result c.from_residual.ensures.1 in
-    rw (p.1, p.2) (refused_rested (step c.loop-level.t) new fault (subst (λ (s : Step). HasRefusal s new fault) c.rest.ensures.step c.in_err-child_node.ensures.refused))
+    rw (p.1, p.2) (refused_rested (step c.loop-level.t) new fault (subst (λ (s : Step). HasRefusal s new fault) c.rest.ensures.step c.in_err-child_node.ensures.failed.refused))
 
 -- ---- the other ways out
 
@@ -155,7 +155,7 @@ returns-in-Free-clause-calls g c =
 pub returns-in-Free-clause-fault : goal.returns-in-Free-clause-fault
 returns-in-Free-clause-fault g c = λ trusted.
     let child = c.loop-level.child in
-    absurd (let none : false ≡ true = ap (λ (n : Node). content_fits child.low child.high (Some (content_of n))) (sym c.in-Free.is) ∙ c.in_ok-child_node.ensures.fits in cc)
+    absurd (let none : false ≡ true = ap (λ (n : Node). content_fits child.low child.high (Some (content_of n))) (sym c.in-Free.is) ∙ c.in_ok-child_node.ensures.read.fits in cc)
 
 pub returns-in-Leaf-clause-calls : goal.returns-in-Leaf-clause-calls
 returns-in-Leaf-clause-calls g c =

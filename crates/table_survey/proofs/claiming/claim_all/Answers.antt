@@ -1,9 +1,7 @@
 use Rattle.std.proofs.Common.{◌≡◌, ◌∙◌, ◌<◌, ◌≤◌, ℕ, List, Option, Some, length, true, refl, sym, ap, subst, arith}
-use Rattle.std.specs.Prelude.{IfSome}
 use Rattle.std.specs.Option.{option_copied}
 use Rattle.std.proofs.lemmas.Result.{err_from_is_err_and}
 use Rattle.fsd_bytes.specs.declared.key.Key.{Key}
-use Rattle.fsd_formats.specs.NamePage.{is_entry}
 use Rattle.fsd_table.specs.Tree.{IsTree, table_of}
 use Rattle.fsd_table.proofs.BoundLaws.{entries_ascend}
 use Rattle.fsd_table.specs.Table.{top}
@@ -13,9 +11,8 @@ use Rattle.name_page.specs.Lookups.{is_after}
 use Rattle.name_page.specs.declared.pages.TheConstants.{MOST_REACHED}
 use Rattle.name_page.proofs.LookLaws.{reaches_still, reaches_walks, rest_reaches, walks_then, shows_now}
 use Rattle.name_btree.specs.declared.fault.TreeFault.{TreeFault}
-use Rattle.name_btree.specs.declared.lookup.FoundEntry.{FoundEntry}
 use Rattle.name_btree.specs.Fault.{outer_of, IsAmong, IsOnWay}
-use Rattle.name_btree.specs.Lookup.{entry_of, StandsIn, IsInPlace, IsLedTo}
+use Rattle.name_btree.specs.Lookup.{entry_of, IsInPlace, TellsNext}
 use Rattle.name_btree.proofs.WithinLaws.{among_since}
 use Rattle.run_table.specs.Space.{contains}
 use Rattle.sector_set.specs.Area.{Area, IsOwn, area}
@@ -62,12 +59,12 @@ returns-in_err-found-clause-among g c = λ some.
     let n = length (G.step c.args.t.now).images in
     let same : m ≡ n = ap (λ (s : Step). length s.images) c.rest.ensures.step ∙ c.loop-found.invariant.calls.count in
     let p = err_from_is_err_and c.from_residual.result c.from_residual.ensures.1 in
-    rw (p.1, p.2) (among_since m n c.in_err-found.field-0.0 same c.in_err-found.ensures.among some)
+    rw (p.1, p.2) (among_since m n c.in_err-found.field-0.0 same c.in_err-found.ensures.failed.among some)
 
 pub returns-in_err-found-clause-fault : goal.returns-in_err-found-clause-fault
 returns-in_err-found-clause-fault g c =
     let p = err_from_is_err_and c.from_residual.result c.from_residual.ensures.1 in
-    rw (p.1, p.2) (look_up_fails g.T.Pages c.next_after.new.t c.in_err-found.field-0.0 c.args.map.now c.in_err-found.ensures.fault)
+    rw (p.1, p.2) (look_up_fails g.T.Pages c.next_after.new.t c.in_err-found.field-0.0 c.args.map.now c.in_err-found.ensures.failed.cause)
 
 -- ---- nothing is left
 
@@ -119,7 +116,7 @@ returns-in_err-claim-clause-among g c = λ some.
     let so = rest_reaches G law.then law.trust c.loop-found.t c.rest.new.self new c.rest.ensures.outside c.rest.ensures.step look.calls in
     let all = walks_then G law.then old c.loop-found.t new c.loop-found.invariant.calls so in
     let f = c.in-Some.found in
-    let there : StandsIn (G.step new) f = subst (λ (o : Option FoundEntry). IfSome o (StandsIn (G.step new))) c.in-Some.is look.there in
+    let there = (subst (TellsNext (G.step new) (option_copied c.as_ref.result)) c.in-Some.is look.told).there in
     let n = length (G.step old).images in
     let within : f.page < n = subst (λ (k : ℕ). f.page < k) all.count there.reached.0 in
     let p = err_from_is_err_and c.from_residual-in_err-claim.result c.from_residual-in_err-claim.ensures.1 in
@@ -139,12 +136,11 @@ returns-in_err-claim-clause-fault g c =
     let after = c.loop-found.after in
     let now = c.loop-found.map in
     let start = c.args.map.now in
-    let there : StandsIn s f = subst (λ (o : Option FoundEntry). IfSome o (StandsIn s)) c.in-Some.is look.there in
-    let led : IsLedTo s f = subst (λ (o : Option FoundEntry). IfSome o (IsLedTo s)) c.in-Some.is look.way in
-    let place = shows_now (λ pages. IsInPlace pages f.page) s led in
+    let met = subst (TellsNext s (option_copied c.as_ref.result)) c.in-Some.is look.told in
+    let there = met.there in
+    let place = shows_now (λ pages. IsInPlace pages f.page) s met.way in
     let way : IsOnWay s.images f.page = (place.0, place.1, place.2) in
-    let late = subst (λ (o : Option FoundEntry). IfSome o (λ x. is_after (option_copied c.as_ref.result) x.entry.key ≡ true)) c.in-Some.is look.later in
-    let later : is_after after f.entry.key ≡ true = subst (λ (a : Option Key). is_after a f.entry.key ≡ true) c.as_ref.ensures.value late in
+    let later : is_after after f.entry.key ≡ true = subst (λ (a : Option Key). is_after a f.entry.key ≡ true) c.as_ref.ensures.value met.suits.later in
     let p = err_from_is_err_and c.from_residual-in_err-claim.result c.from_residual-in_err-claim.ensures.1 in
     rw (p.1, p.2) (subst (FailsClaims G start new) (sym c.in_err-claim.ensures.fault.0) (λ trusted l whole height tree.
     let same = all.stays trusted in
@@ -158,8 +154,8 @@ returns-in_err-claim-clause-fault g c =
 pub loop-found-smaller : goal.loop-found-smaller
 loop-found-smaller g c =
     let e = c.in-Some.found.entry in
-    let entry : is_entry e ≡ true = subst (λ (o : Option FoundEntry). IfSome o (λ f. is_entry f.entry ≡ true)) c.in-Some.is c.in_ok-found.ensures.entry in
-    entry_fewer c.loop-found.map c.claim.new.map e c.loop-found.invariant.own c.in_ok-claim.ensures.free c.in_ok-claim.ensures.taken entry
+    let met = subst (TellsNext (g.T.Pages.step c.next_after.new.t) (option_copied c.as_ref.result)) c.in-Some.is c.in_ok-found.ensures.told in
+    entry_fewer c.loop-found.map c.claim.new.map e c.loop-found.invariant.own c.in_ok-claim.ensures.free c.in_ok-claim.ensures.taken met.entry
 
 pub loop-found-preserved : goal.loop-found-preserved
 loop-found-preserved g c =

@@ -1,9 +1,9 @@
 use Rattle.std.proofs.Common.{◌∙◌, ℕ, Ok, None, Option, Result, Some, ap, arith, subst}
-use Rattle.std.specs.Prelude.{IfNone, IfOk, IfSome}
+use Rattle.std.specs.Prelude.{IfOk, IfSome}
 use Rattle.name_btree.specs.declared.fault.TreeFault.{TreeFault}
 use Rattle.name_btree.specs.declared.lookup.FoundEntry.{FoundEntry}
 use Rattle.name_btree.specs.Fault.{IsAmong}
-use Rattle.name_btree.specs.Lookup.{ShowsNoVersion}
+use Rattle.name_btree.specs.Lookup.{TellsNewest}
 use Rattle.name_btree.specs.Path.{HasWayTo}
 use Rattle.fsd_files.specs.Answers.{highest_entry}
 use Rattle.name_page.specs.Lookups.{highest_of}
@@ -23,7 +23,7 @@ pub returns-in-Err-clause-walks : goal.returns-in-Err-clause-walks
 returns-in-Err-clause-walks g c = rest_reaches g.T.Pages g.met.T.Pages.then g.met.T.Pages.trust c.args.t.now c.rest.new.self c.highest.new.t c.rest.ensures.outside c.rest.ensures.step c.in-Err.ensures.calls
 
 pub returns-in-Err-clause-among : goal.returns-in-Err-clause-among
-returns-in-Err-clause-among g c = among_rested g.T.Pages c.args.t.now c.rest.new.self c.highest.new.t c.rest.ensures.step (λ (pages : ℕ). IsAmong pages c.in-Err.fault) c.in-Err.ensures.among
+returns-in-Err-clause-among g c = among_rested g.T.Pages c.args.t.now c.rest.new.self c.highest.new.t c.rest.ensures.step (λ (pages : ℕ). IsAmong pages c.in-Err.fault) c.in-Err.ensures.failed.among
 
 pub highest-requires : goal.highest-requires
 highest-requires g c = omega (arith, c.requires, ap reaches c.rest.ensures.step)
@@ -38,23 +38,30 @@ returns-in-Ok-None-clause-fault g c =
     let name = c.args.name.now in
     found_rested g.T.Pages c.args.t.now c.rest.new.self c.highest.new.t c.rest.ensures.step (highest_of name) (highest_entry name) (highest_is name) c.highest.result None (c.in-Ok-None.is ∙ ap Ok c.in-Ok-None.field-0-is) c.highest.ensures.found
 
+pub returns-in-Ok-Some-clause-met : goal.returns-in-Ok-Some-clause-met
+returns-in-Ok-Some-clause-met g c =
+    subst (λ (r : Result (Option FoundEntry) TreeFault). IfOk r (TellsNewest (g.T.Pages.step c.highest.new.t) c.args.name.now)) (c.in-Ok-Some.is ∙ ap Ok c.in-Ok-Some.field-0-is) c.highest.ensures.told
+
+pub returns-in-Err-clause-fault : goal.returns-in-Err-clause-fault
+returns-in-Err-clause-fault g c = c.in-Err.ensures.failed.cause
+
 -- ---- memory is not wanting
 
 pub returns-in-Ok-Some-clause-memory : goal.returns-in-Ok-Some-clause-memory
-returns-in-Ok-Some-clause-memory g c = λ path. memory_then g.T.Pages c.args.t.now c.rest.new.self c.highest.new.t c.rest.ensures.memory (rw c.in-Ok-Some.is at (c.highest.ensures.memory (path_later g.T.Pages c.args.t.now c.rest.new.self c.rest.ensures.memory c.args.name.now path)))
+returns-in-Ok-Some-clause-memory g c = λ path. memory_then g.T.Pages c.args.t.now c.rest.new.self c.highest.new.t c.rest.ensures.memory (rw c.in-Ok-Some.is at (c.highest.ensures.memory (path_later g.T.Pages c.args.t.now c.rest.new.self c.rest.ensures.memory c.args.name.now path)).none)
 
 pub returns-in-Ok-None-clause-memory : goal.returns-in-Ok-None-clause-memory
-returns-in-Ok-None-clause-memory g c = λ path. memory_then g.T.Pages c.args.t.now c.rest.new.self c.highest.new.t c.rest.ensures.memory (rw c.in-Ok-None.is at (c.highest.ensures.memory (path_later g.T.Pages c.args.t.now c.rest.new.self c.rest.ensures.memory c.args.name.now path)))
+returns-in-Ok-None-clause-memory g c = λ path. memory_then g.T.Pages c.args.t.now c.rest.new.self c.highest.new.t c.rest.ensures.memory (rw c.in-Ok-None.is at (c.highest.ensures.memory (path_later g.T.Pages c.args.t.now c.rest.new.self c.rest.ensures.memory c.args.name.now path)).none)
 
 pub returns-in-Err-clause-memory : goal.returns-in-Err-clause-memory
-returns-in-Err-clause-memory g c = λ path. memory_then g.T.Pages c.args.t.now c.rest.new.self c.highest.new.t c.rest.ensures.memory (rw c.in-Err.is at (c.highest.ensures.memory (path_later g.T.Pages c.args.t.now c.rest.new.self c.rest.ensures.memory c.args.name.now path)))
+returns-in-Err-clause-memory g c = λ path. memory_then g.T.Pages c.args.t.now c.rest.new.self c.highest.new.t c.rest.ensures.memory (rw c.in-Err.is at (c.highest.ensures.memory (path_later g.T.Pages c.args.t.now c.rest.new.self c.rest.ensures.memory c.args.name.now path)).none)
 
 pub returns-in-Ok-Some-clause-back : goal.returns-in-Ok-Some-clause-back
 returns-in-Ok-Some-clause-back g c = λ path.
     let P = g.T.Pages in
     let new = c.highest.new.t in
     subst (λ (r : Result (Option FoundEntry) TreeFault). IfOk r (λ found. IfSome found (λ f. HasWayTo P f.entry new))) (c.in-Ok-Some.is ∙ ap Ok c.in-Ok-Some.field-0-is)
-    (c.highest.ensures.back (path_later P c.args.t.now c.rest.new.self c.rest.ensures.memory c.args.name.now path))
+    (c.highest.ensures.memory (path_later P c.args.t.now c.rest.new.self c.rest.ensures.memory c.args.name.now path)).back
 
 pub returns-in-Ok-Some-clause-full : goal.returns-in-Ok-Some-clause-full
 returns-in-Ok-Some-clause-full g c = no_more_rested g.T.Pages c.args.t.now c.rest.new.self c.highest.new.t c.rest.ensures.memory (rw c.in-Ok-Some.is at c.highest.ensures.calls.memory)
@@ -69,7 +76,7 @@ returns-in-Err-clause-full g c = no_more_rested g.T.Pages c.args.t.now c.rest.ne
 
 pub returns-in-Ok-None-clause-absent : goal.returns-in-Ok-None-clause-absent
 returns-in-Ok-None-clause-absent g c = λ told.
-    subst (λ (r : Result (Option FoundEntry) TreeFault). IfOk r (λ found. IfNone found (ShowsNoVersion (g.T.Pages.step c.highest.new.t) c.args.name.now))) (c.in-Ok-None.is ∙ ap Ok c.in-Ok-None.field-0-is) c.highest.ensures.absent
+    subst (λ (r : Result (Option FoundEntry) TreeFault). IfOk r (TellsNewest (g.T.Pages.step c.highest.new.t) c.args.name.now)) (c.in-Ok-None.is ∙ ap Ok c.in-Ok-None.field-0-is) c.highest.ensures.told
 
 pub returns-in-Ok-Some-clause-absent : goal.returns-in-Ok-Some-clause-absent
 returns-in-Ok-Some-clause-absent g c = λ told. absurd (cc told)

@@ -1,18 +1,17 @@
-use Rattle.std.proofs.Common.{◌≡◌, ◌∙◌, ℕ, List, [], None, Some, true, ap, sym, arith}
+use Rattle.std.proofs.Common.{◌≡◌, ◌∙◌, ℕ, List, [], None, Some, ap, subst, sym, arith}
 use Rattle.std.proofs.lemmas.Result.{err_from_is_err_and}
 use Rattle.fsd_formats.specs.declared.entry.Entry.{Entry}
-use Rattle.fsd_formats.specs.NamePage.{FitsEntry, is_entry}
 use Rattle.fsd_table.specs.Tree.{table_of}
 use Rattle.name_page.specs.Lookups.{entry_after, same_name}
 use Rattle.name_page.specs.Pages.{reaches}
 use Rattle.name_page.proofs.LookLaws.{reaches_still, reaches_walks, rest_reaches}
 use Rattle.name_btree.specs.declared.lookup.FoundEntry.{FoundEntry}
 use Rattle.name_btree.specs.Fault.{IsAmong}
-use Rattle.name_btree.specs.Lookup.{IsLedTo, StandsIn, entry_of}
+use Rattle.name_btree.specs.Lookup.{IsMetAs, IsNextAfter, TellsNext, entry_of}
 use Rattle.name_btree.proofs.LookupLaws.{if_named, one_name}
 use Rattle.version_table.specs.Met.{IsMet, leaving_of}
 use Rattle.version_table.specs.Versions.{IsFirst, versions_behind}
-use Rattle.version_table.proofs.OldestLaws.{next_named, next_none, of_some}
+use Rattle.version_table.proofs.OldestLaws.{next_named, next_none}
 use Rattle.version_table.proofs.StepLaws.{among_rested, of_rested, tree_ascends}
 use Rattle.version_table.proofs.oldest.next_version.Goals as goal
 
@@ -24,7 +23,7 @@ returns-in_err-found g c =
     let P = g.T.Pages in
     let e = c.in_err-found.ensures in
     let p = err_from_is_err_and c.from_residual.result c.from_residual.ensures.1 in
-    rw (p.1, p.2) (record { walks = rest_reaches P g.met.T.Pages.then g.met.T.Pages.trust c.args.t.now c.rest.new.self c.next_after.new.t c.rest.ensures.outside c.rest.ensures.step e.calls; among = among_rested P c.args.t.now c.rest.new.self c.next_after.new.t c.rest.ensures.step (λ (pages : ℕ). IsAmong pages c.in_err-found.field-0.0) e.among; met = tt; found = tt; fault = e.fault; shown = e.shown })
+    rw (p.1, p.2) (record { walks = rest_reaches P g.met.T.Pages.then g.met.T.Pages.trust c.args.t.now c.rest.new.self c.next_after.new.t c.rest.ensures.outside c.rest.ensures.step e.calls; among = among_rested P c.args.t.now c.rest.new.self c.next_after.new.t c.rest.ensures.step (λ (pages : ℕ). IsAmong pages c.in_err-found.field-0.0) e.failed.among; met = tt; found = tt; fault = e.failed.cause; shown = e.failed.shown })
 
 pub returns-in-Some : goal.returns-in-Some
 returns-in-Some g c =
@@ -35,6 +34,7 @@ returns-in-Some g c =
     let key = c.args.key.now in
     let f = c.in-Some.found in
     let e = c.in_ok-found.ensures in
+    let told : IsMetAs (P.step now) (IsNextAfter (P.step now) (Some key)) f = subst (TellsNext (P.step now) (Some key)) c.in-Some.is e.told in
     let walks = rest_reaches P g.met.T.Pages.then g.met.T.Pages.trust a b now c.rest.ensures.outside c.rest.ensures.step e.calls in
     record {
       walks = walks;
@@ -43,10 +43,10 @@ returns-in-Some g c =
         at = now;
         before = walks;
         after = reaches_walks P now now (reaches_still P now (g.met.T.Pages.still now));
-        stands = of_some (StandsIn (P.step now)) c.in_ok-found.field-0 f c.in-Some.is e.there;
-        way = of_some (IsLedTo (P.step now)) c.in_ok-found.field-0 f c.in-Some.is e.way;
-        entry = of_some (λ (x : FoundEntry). is_entry x.entry ≡ true) c.in_ok-found.field-0 f c.in-Some.is e.entry;
-        fits = of_some (λ (x : FoundEntry). FitsEntry x.entry) c.in_ok-found.field-0 f c.in-Some.is e.fits;
+        stands = told.there;
+        way = told.way;
+        entry = told.entry;
+        fits = told.fits;
         named = one_name f.entry.key.name key.name same;
       });
       found = of_rested P a b now c.rest.ensures.step (λ (table : List Entry). IsFirst key table c.named.result) (λ trusted height tree.

@@ -1,6 +1,7 @@
-use Rattle.std.proofs.Common.{◌≡◌, ◌≤◌, ◌<◌, ℕ, List, None, ap, refl, subst, sym, arith}
+use Rattle.std.proofs.Common.{◌≡◌, ◌≤◌, ◌<◌, ℕ, List, None, ap, refl, subst, sym, true, arith}
 use Rattle.std.specs.Prelude.{IsNone}
 use Rattle.fsd_formats.specs.declared.entry.Entry.{Entry}
+use Rattle.fsd_formats.specs.NamePage.{is_entry}
 use Rattle.fsd_table.specs.Tree.{table_of}
 use Rattle.fsd_table.proofs.BoundLaws.{all_weaker}
 use Rattle.fsd_files.specs.Answers.{highest_entry}
@@ -10,6 +11,7 @@ use Rattle.name_page.specs.Pages.{reaches}
 use Rattle.name_page.proofs.LookLaws.{rest_reaches, walks_then}
 use Rattle.name_btree.specs.Fault.{IsAmong}
 use Rattle.name_btree.specs.Lookup.{entry_of as found_entry}
+use Rattle.name_btree.proofs.LookupLaws.{each_told}
 use Rattle.version_table.specs.Met.{IsMet, entries_left}
 use Rattle.version_table.specs.Table.{OfTable}
 use Rattle.version_table.specs.Versions.{oldest_beyond, versions_of}
@@ -32,7 +34,7 @@ high g c =
     found_rested g.T.Pages c.args.t.now c.rest.new.self c.highest.new.t c.rest.ensures.step (highest_of name) (highest_entry name) (highest_is name) c.highest.result c.in-Ok.highest c.in-Ok.is c.highest.ensures.found
 
 keep_small : (g : given.Over) (c : In-Some g) → c.in-Some.next.1 ≤ 999
-keep_small g c = subst (λ (keep : ℕ). keep ≤ 999) (sym c.in-Some.ensures.keep) (keep_within c.args.given c.in-Ok.highest c.requires.given c.in-Ok.ensures.entry)
+keep_small g c = subst (λ (keep : ℕ). keep ≤ 999) (sym c.in-Some.ensures.keep) (keep_within c.args.given c.in-Ok.highest c.requires.given (each_told _ _ (λ f. is_entry f.entry ≡ true) c.in-Ok.highest (λ f met. met.entry) c.in-Ok.ensures.told))
 
 pub highest-requires : goal.highest-requires
 highest-requires g c = omega (arith, c.requires.more, ap reaches c.rest.ensures.step)
@@ -41,7 +43,7 @@ pub returns-in-Err : goal.returns-in-Err
 returns-in-Err g c =
     let P = g.T.Pages in
     let e = c.in-Err.ensures in
-    record { walks = rest_reaches P g.met.T.Pages.then g.met.T.Pages.trust c.args.t.now c.rest.new.self c.highest.new.t c.rest.ensures.outside c.rest.ensures.step e.calls; among = among_rested P c.args.t.now c.rest.new.self c.highest.new.t c.rest.ensures.step (λ (pages : ℕ). IsAmong pages c.in-Err.fault) e.among; name = tt; version = tt; keep = tt; met = tt; planned = tt; ready = tt; fault = e.fault; shown = e.shown }
+    record { walks = rest_reaches P g.met.T.Pages.then g.met.T.Pages.trust c.args.t.now c.rest.new.self c.highest.new.t c.rest.ensures.outside c.rest.ensures.step e.calls; among = among_rested P c.args.t.now c.rest.new.self c.highest.new.t c.rest.ensures.step (λ (pages : ℕ). IsAmong pages c.in-Err.fault) e.failed.among; name = tt; version = tt; keep = tt; met = tt; planned = tt; ready = tt; fault = e.failed.cause; shown = e.failed.shown }
 
 pub returns-in-None : goal.returns-in-None
 returns-in-None g c =

@@ -28,11 +28,8 @@ returns-in_err-node g c =
     rw (p.1, p.2) (record {
       calls = failed.calls;
       reaches = failed.reaches;
-      reached = tt;
       sheets = c.node_at.ensures.sheets;
-      used = tt;
-      node = tt;
-      fits = tt;
+      read = tt;
       fault = fails_by_map new B (λ pages. IsMisfit (drafted sheets pages) child) (λ images page is h. (h.0, ap (content_fits child.low child.high) h.1)) c.in_err-node.field-0.0 failed.fault;
     })
 
@@ -44,12 +41,9 @@ returns-then-not-node_fits g c =
     record {
       calls = found.calls;
       reaches = found.reaches;
-      reached = tt;
       sheets = c.node_at.ensures.sheets;
-      used = tt;
-      node = tt;
-      fits = tt;
-      fault = λ images agrees. (refl, ap (content_fits child.low child.high) (found.node images agrees) ∙ no);
+      read = tt;
+      fault = λ images agrees. (refl, ap (content_fits child.low child.high) (found.read.node images agrees) ∙ no);
     }
 
 pub returns : goal.returns
@@ -60,10 +54,7 @@ returns g c =
     record {
       calls = found.calls;
       reaches = found.reaches;
-      reached = found.reached;
       sheets = c.node_at.ensures.sheets;
-      used = found.used;
-      node = found.node;
-      fits = yes;
+      read = record { reached = found.read.reached; used = found.read.used; node = found.read.node; fits = yes };
       fault = tt;
     }
