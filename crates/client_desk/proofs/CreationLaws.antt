@@ -15,7 +15,7 @@ use Rattle.fsd_files.specs.Answers.{Met, Outcome}
 use Rattle.fsd_files.specs.Desk.{Open, Nothing, Writes, close_by, close_outcome, closed_as, drop_outcome, most_clients, piece_by, piece_outcome, with_client}
 use Rattle.fsd_files.specs.Disk.{Sectors}
 use Rattle.fsd_files.specs.Pieces.{enter_outcome}
-use Rattle.fsd_files.specs.Replies.{Refused, Made, Took, Dropped}
+use Rattle.fsd_files.specs.declared.reply.Reply.TheVariants.{Refused, Made, Took, Dropped}
 use Rattle.fsd_sound.specs.Mounted.{Mounted, forces_by_itself}
 use Rattle.fsd_sound.proofs.MountedLaws.{mounted_sound}
 use Rattle.volume_contract.specs.Ends.{Answers as AnswersOf, EndsRefused, Unchanged, device_of}

@@ -10,7 +10,7 @@ use Rattle.fsd_bytes.specs.declared.key.Key.{Key}
 use Rattle.sector_disk.specs.Machine.{Moment}
 use Rattle.fsd_log.specs.Scan.{Placed}
 use Rattle.fsd_files.specs.Desk.{Answered, Open, Nothing, Writes, Reads, Session}
-use Rattle.fsd_files.specs.Replies.{Reply}
+use Rattle.fsd_files.specs.declared.reply.Reply.{Reply}
 use Rattle.fsd_files.specs.Volume.{is_in}
 use Rattle.fsd_runs.specs.Sessions.{HoldsRead, read_by}
 use Rattle.fsd_sound.specs.Mounted.{Mounted}

@@ -21,7 +21,8 @@ use Rattle.fsd_files.specs.Disk.{Image}
 use Rattle.fsd_files.specs.Kept.{range_sectors}
 use Rattle.fsd_files.specs.Desk.{Answered, Open, Nothing, Writes, Reads, Session, begin_by, begin_outcome, begun_with, done_by, done_outcome, drop_by, drop_outcome, is_client, most_clients, open_by, open_outcome, opened_by, opened_with, next_by, next_count, next_outcome}
 use Rattle.fsd_files.specs.Files.{Change, File}
-use Rattle.fsd_files.specs.Replies.{Reply, Refused, Begun, Dropped, Opened as HasOpened, Done, Given, DamagedAt}
+use Rattle.fsd_files.specs.declared.reply.Reply.{Reply}
+use Rattle.fsd_files.specs.declared.reply.Reply.TheVariants.{Refused, Begun, Dropped, Opened as HasOpened, Done, Given, DamagedAt}
 use Rattle.fsd_files.specs.Volume.{Volume}
 use Rattle.fsd_sound.specs.Mounted.{Mounted}
 use Rattle.volume_contract.specs.Ends.{device_of}

@@ -1,10 +1,6 @@
 -- What a desk has in memory of its clients, over any machine.
 use Rattle.std.specs.Prelude.{◌≡◌, ◌⊎◌, ⊤, ℕ, ◌+◌, ◌-◌, ◌*◌, ◌/◌, min, ◌≤◌, ◌||◌, Bool, nat_lt, ◌==◌, List, [], ◌∷◌, ◌++◌, length, take, drop, Option, Some, None, IsSome, IsTrue, IsFalse, false, Result, Ok, Err, if◌then◌else◌, get_or, set, replicate, slice_index_or, IfOk, MatchResult}
-use Rattle.volume_layout.specs.declared.layout.Layout.{Layout}
-use Rattle.volume_layout.specs.Layout.{is_data}
 use Rattle.sector_disk.specs.declared.machine.Machine.{Ghosts}
-use Rattle.sector_disk.specs.declared.sector.Sector.TheVariants.{Damaged}
-use Rattle.sector_disk.specs.Image.{sector_at}
 use Rattle.run_table.specs.declared.run.Run.{Run}
 use Rattle.run_table.specs.RunTable.{sectors_of}
 use Rattle.run_table.specs.Space.{contains}
@@ -14,14 +10,14 @@ use Rattle.fsd_bytes.specs.declared.refusal.Refusal.TheVariants as Why
 use Rattle.fsd_formats.specs.declared.entry.Entry.{Entry}
 use Rattle.fsd_formats.specs.NamePage.{sectors_for}
 use Rattle.fsd_files.specs.Desk.{is_client}
-use Rattle.fsd_files.specs.Disk.{Image, Sectors, Touches}
+use Rattle.fsd_files.specs.Disk.{Sectors}
 use Rattle.fsd_files.specs.Kept.{data_sectors}
 use Rattle.volume_contract.specs.Absent.{LacksKey, ShowsReached}
 use Rattle.volume_contract.specs.Causes.{Causes}
 use Rattle.volume_contract.specs.Found.{HasEntry}
 use Rattle.volume_contract.specs.Order.{Keeps, Step, Test, reserve_steps, slices_steps, enter_steps, entry_steps, held_steps}
 use Rattle.volume_contract.specs.Pieces.{IsDraft, IsHeld, Enters, GivesBack, HoldsAt, Reserves, Unholds, in_leader}
-use Rattle.volume_contract.specs.State.{Counted, HasCounted, State, downs, forces_first, most_readers, no_readers}
+use Rattle.volume_contract.specs.State.{HasCounted, State, downs, forces_first, most_readers, no_readers}
 use Rattle.client_desk.specs.declared.client.Creation.{Creation}
 use Rattle.client_desk.specs.declared.client.Reader.{Reader}
 use Rattle.client_desk.specs.declared.client.Client.{Client}
@@ -346,22 +342,12 @@ pub record KeepsClosing (i : ℕ) (steps : List Step) (clients after : List Clie
   pub goes : Continues (downs result) old new
   pub kept : MatchResult result (λ key. MakesVersion i clients after old new) (λ why. DeclinesAt steps why clients after old new)
 
--- It writes only there, and so many sectors where it answers, no more where it is refused.
-pub record WritesWithin {D T : Type 0} (M : Ghosts D) (may : Sectors) (most : ℕ) (old new : D) (result : Result T Refusal) : Type 0 where
-  pub rest : M.honest new → Touches may (M.now old) (M.now new)
-  pub counted : M.tells new → Counted result most (M.ledger old) (M.ledger new)
-
 -- Why a version is opened or not: what is lost or unsound, that the pages lack the key, or that they have its entry,
 -- which has so many bytes.
 pub record CausesOpening {D : Type 0} (M : Ghosts D) (resident : ℕ → Option (List ℕ)) (s t : State) (old new : D) (key : Key) (result : Result ℕ Refusal) : Type 0 where
   pub causes : Causes M resident s t old new result
   pub absent : result ≡ Err Why.NoSuch → ShowsReached M resident s t old new (LacksKey key)
   pub found : IfOk result (λ len. (e : Entry) × (e.key ≡ key) × (e.length ≡ len) × ShowsReached M resident s t old new (HasEntry e))
-
--- The sector is one of the data area, and reads as damaged.
-pub record IsDamagedData (l : Layout) (i : Image) (s : ℕ) : Type 0 where
-  pub within : IsTrue (is_data l s)
-  pub damaged : sector_at i s ≡ Damaged
 
 -- ---- where all is given up
 

@@ -15,7 +15,8 @@ use Rattle.fsd_files.specs.Desk.{Answered, Open, Nothing, Writes, Reads, Session
 use Rattle.fsd_files.specs.Disk.{Image, Sectors}
 use Rattle.fsd_files.specs.Files.{Change}
 use Rattle.fsd_files.specs.Kept.{range_sectors}
-use Rattle.fsd_files.specs.Replies.{Reply, Refused, Made, Begun, Took, Dropped, Opened as HasOpened, Given, Done, DamagedAt}
+use Rattle.fsd_files.specs.declared.reply.Reply.{Reply}
+use Rattle.fsd_files.specs.declared.reply.Reply.TheVariants.{Refused, Made, Begun, Took, Dropped, Opened as HasOpened, Given, Done, DamagedAt}
 use Rattle.fsd_sound.specs.Mounted.{Mounted, forces_by_itself}
 use Rattle.fsd_files.specs.Pieces.{enter_outcome}
 use Rattle.fsd_runs.specs.Sessions.{HoldsRead}

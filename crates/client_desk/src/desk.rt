@@ -14,8 +14,9 @@ ghost use Rattle.volume_contract.specs.Causes.{Causes};
 ghost use Rattle.volume_contract.specs.Ends.{device_of};
 ghost use Rattle.volume_contract.specs.Order.{Follows, Keeps, enter_steps, held_steps, slices_steps};
 ghost use Rattle.volume_contract.specs.Pieces.{reserve_len, with_opened};
-ghost use Rattle.volume_contract.specs.State.{GoesOn, HasCounted, Known, Leaves, Stands, State, downs_for, forces_first, no_readers, none_open};
-ghost use Rattle.client_desk.specs.Clients.{AllStays, CausesOpening, Continuing, CountsTo, DeclinesAt, Ended, EndsAt, EntersFor, HasRoom, IsDamagedData, IsWholeOne, IsWriter, LeavesNone, in_data, in_first, GivesUp, GoesTo, IsClient, IsDesk, IsNamed, IsOf, IsReader, KeepsClosing, KeepsDesk, ReadsMore, StartsReading, StartsWriting, WritesMore, WritesWithin, client_at, as_idle, as_reading, as_writing, begin_steps, close_steps, declared_at, done_steps, drop_steps, found, key_at, left_at, next_steps, no_desk, open_steps, piece_steps, place_of, too_long, too_short};
+ghost use Rattle.volume_contract.specs.State.{GoesOn, HasCounted, Known, Leaves, Stands, State, downs_for, forces_first, no_readers, none_open, WritesWithin};
+ghost use Rattle.volume_contract.specs.Telling.{IsDamagedData};
+ghost use Rattle.client_desk.specs.Clients.{AllStays, CausesOpening, Continuing, CountsTo, DeclinesAt, Ended, EndsAt, EntersFor, HasRoom, IsWholeOne, IsWriter, LeavesNone, in_data, in_first, GivesUp, GoesTo, IsClient, IsDesk, IsNamed, IsOf, IsReader, KeepsClosing, KeepsDesk, ReadsMore, StartsReading, StartsWriting, WritesMore, client_at, as_idle, as_reading, as_writing, begin_steps, close_steps, declared_at, done_steps, drop_steps, found, key_at, left_at, next_steps, no_desk, open_steps, piece_steps, place_of, too_long, too_short};
 ghost use Rattle.client_desk.specs.Ends.{EndsBegin, EndsClose, EndsEntering, EndsPiece, EndsPieces, LeavesFor, LeavesOf, EndsDone, EndsDrop, EndsNext, EndsOpen, IsOpenIn, ReadsOn, Serves, Sits, given_up};
 
 use crate::client::{Client, Creation, Reader, end};

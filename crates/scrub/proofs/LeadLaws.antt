@@ -23,7 +23,7 @@ use Rattle.sector_disk.specs.Image.{IsWorn, Windows, open_damage, sector_at}
 use Rattle.sector_disk.specs.Machine.{Moment, Wears}
 use Rattle.fsd_files.specs.Answers.{entry_after}
 use Rattle.fsd_files.specs.Disk.{Has, Image, SectorWorn, Sectors, Touches}
-use Rattle.fsd_files.specs.Replies.{Found}
+use Rattle.fsd_files.specs.declared.reply.Reply.TheVariants.{Found}
 use Rattle.fsd_files.specs.Scrub.{CountsLeaders, NeedsLeader, StandsLed, leader_place, FindsLeader, leader_count}
 use Rattle.fsd_files.specs.Space.{Apart}
 use Rattle.fsd_files.specs.Volume.{plans_of}

@@ -14,7 +14,7 @@ use Rattle.fsd_log.specs.Scan.{Placed}
 use Rattle.fsd_files.specs.Answers.{entry_after}
 use Rattle.fsd_files.specs.Files.{Files}
 use Rattle.fsd_files.specs.Kept.{Lists}
-use Rattle.fsd_files.specs.Replies.{Found}
+use Rattle.fsd_files.specs.declared.reply.Reply.TheVariants.{Found}
 use Rattle.fsd_files.proofs.HistoryLaws.{after_in_order}
 use Rattle.fsd_files.proofs.ListingLaws.{lists_length}
 use Rattle.fsd_table.proofs.KeyLaws.{lt_itself, lt_not_back}

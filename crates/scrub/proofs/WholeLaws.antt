@@ -20,7 +20,7 @@ use Rattle.fsd_files.specs.Answers.{HasLeader, Outcome, force_outcome}
 use Rattle.fsd_files.specs.Disk.{Image, SectorWorn, Sectors, Touches, in_runs}
 use Rattle.fsd_files.specs.Files.{Change}
 use Rattle.fsd_files.specs.Kept.{IsWhole}
-use Rattle.fsd_files.specs.Replies.{Reply}
+use Rattle.fsd_files.specs.declared.reply.Reply.{Reply}
 use Rattle.fsd_files.specs.Scrub.{CountsHealed, CountsTwins, NeedsLeader, Picks, PicksSome, StandsLed, all_data, leader_place}
 use Rattle.fsd_files.specs.Space.{Apart}
 use Rattle.fsd_files.specs.Volume.{Volume, plans_of}

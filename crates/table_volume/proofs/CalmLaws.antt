@@ -1,55 +1,40 @@
 -- A mount where nothing wears.
-use Rattle.std.proofs.Common.{◌≡◌, inl, inr, ℕ, ◌<◌, List, [], length, map, Option, Some, None, Result, Ok, Err, refl, sym, ap, subst, ◌∙◌, arith}
-use Rattle.std.specs.Prelude.{IfErr, IfOk, IsErrAnd, IsSome, option_and_then}
+use Rattle.std.proofs.Common.{◌≡◌, ℕ, ◌<◌, List, [], length, map, Option, Some, Result, Ok, Err, sym, ap, subst, ◌∙◌, arith}
+use Rattle.std.specs.Prelude.{IfOk, IsErrAnd, option_and_then}
 use Rattle.std.specs.Option.{unwrap_or}
 use Rattle.std.proofs.lemmas.List.{length-map}
 use Rattle.sector_disk.proofs.Wear.{worn_refl}
 use Rattle.fsd_formats.specs.declared.entry.Entry.{Entry}
 use Rattle.fsd_table.specs.Breaks.{Breaks}
-use Rattle.table_volume.specs.Mounting.{OpensCalm}
 use Rattle.volume_layout.specs.declared.layout.Layout.{Layout}
 use Rattle.volume_layout.specs.Layout.{plan}
-use Rattle.sector_disk.specs.declared.machine.LoadFault.TheVariants as load
 use Rattle.sector_disk.specs.Image.{IsCalm, open_damage}
-use Rattle.sector_disk.specs.Machine.{Moment, Wears}
+use Rattle.sector_disk.specs.Machine.{Moment}
 use Rattle.fsd_files.specs.Disk.{Image}
 use Rattle.fsd_files.specs.Files.{Files}
 use Rattle.fsd_sound.specs.Homes.{home_of}
-use Rattle.fsd_sound.specs.Lost.{AreHomes, LosesShown, LostIn}
+use Rattle.fsd_sound.specs.Lost.{LosesShown}
 use Rattle.fsd_sound.specs.Shown.{all_pages, newest, records_by, shown_by}
 use Rattle.fsd_sound.proofs.EachLaws.{all_in_range, each_of_all}
 use Rattle.fsd_sound.specs.declared.fault.MountFault.{MountFault}
 use Rattle.fsd_sound.specs.declared.fault.MountFault.TheVariants.{Device, Lost, Memory, Unsound}
-use Rattle.group_commit.proofs.NewestLaws.{lost_home}
 use Rattle.log_thirds.specs.LogValue.{LogValue}
 use Rattle.mount_recover.specs.Lost.{StandAsShown}
 use Rattle.mount_recover.specs.Recover.{IsNotUnsound, IsSettled}
 use Rattle.table_pages.specs.Kept.{images_of}
 use Rattle.volume_contract.specs.Mount.{MountsCalm, MountsShown, ShowsVolume}
 use Rattle.cached_table.specs.HomeLaws.{in_homes}
-use Rattle.cached_table.specs.Homes.{IsUnread, KnowsHomes, home_by}
-use Rattle.table_volume.specs.Mounting.{IsAssembled, fresh_mounted, opened_of}
+use Rattle.cached_table.specs.Homes.{KnowsHomes, home_by}
+use Rattle.table_volume.specs.Mounting.{IsAssembled, OpensKnown, fresh_mounted, opened_of}
 use Rattle.cached_table.specs.Opening.{IsNoTable, IsTableOf, home_pages}
 use Rattle.volume_state.specs.State.{Holds, state}
 use Rattle.volume_state.specs.Volume.{VolumeValue}
 use Rattle.table_volume.proofs.FreshLaws.{fresh_fits, fresh_holds}
-use Rattle.table_volume.proofs.KnownLaws.{opens_known}
 use Rattle.volume_state.proofs.ListLaws.{lists_of}
 
 -- ---- the pages at home are those that the image shows
 
 module _ (sectors : ℕ) (l : Layout) (log : LogValue) (i : Image) (at : Moment) (is : IsSettled sectors i l log) (stand : StandAsShown l is.anchor i at.image) where
-  pub lost_shown : (fault : MountFault) → IsUnread fault → LostIn (AreHomes l) at.image fault → LosesShown sectors i fault
-  lost_shown (Lost a b) unread lost =
-      let page = lost.copies.page in
-      let out : IsSome (home_of l at.image page) → ⊥ = λ some. lost_home l page at.image (load.Lost a b) (record { copies = lost.copies.homes; first = lost.first; second = lost.second }) some in
-      record { layout = l; anchor = is.anchor; found = is.found; page = page; within = lost.copies.within; homes = lost.copies.homes; none = sym (stand page lost.copies.within) ∙ none (home_of l at.image page) out }
-    where
-      none : (o : Option (List ℕ)) → (IsSome o → ⊥) → o ≡ None
-      none None out = refl
-      none (Some x) out = absurd (out refl)
-  lost_shown other unread lost = tt
-
   module _ (knows : KnowsHomes l at) (calm : IsCalm at.windows) where
     at_home : (page : ℕ) → page < l.pages → newest l i (records_by l i is.anchor) page ≡ Some (unwrap_or (home_by l at.image page) [])
     at_home page lt =
@@ -88,16 +73,10 @@ module _ (sectors : ℕ) (l : Layout) (log : LogValue) (i : Image) (at : Moment)
             whole = subst (λ (k : Layout). (page : ℕ) → Breaks k pages page → ⊥) same t.whole;
           }
 
-module _ (sectors : ℕ) (l : Layout) (planned : plan l.kind l.sectors l.third l.pages ≡ Ok l) (log : LogValue) (i : Image) (at new : Moment) (same : new.image ≡ at.image) (is : IsSettled sectors i l log) (stand : StandAsShown l is.anchor i at.image) (calm : IsCalm at.windows) where
-  pub mounts_calm : (r : Result VolumeValue MountFault) → IfOk r (IsAssembled l log) → IfErr r (λ fault. LostIn (AreHomes l) new.image fault) → OpensCalm l at r → MountsCalm state Holds sectors i r
-  mounts_calm (Ok v) a lost opens = table_shown sectors l log i at is stand opens.0 calm planned v a opens.1
-  mounts_calm (Err fault) a lost (inl unread) = unread_calm fault unread (lost_shown sectors l log i at is stand fault unread (subst (λ (j : Image). LostIn (AreHomes l) j fault) same lost))
-    where
-      unread_calm : (f : MountFault) → IsUnread f → LosesShown sectors i f → MountsCalm state Holds sectors i (Err f)
-      unread_calm (Unsound s) un loses = absurd un
-      unread_calm (Lost a b) un loses = loses
-      unread_calm other un loses = tt
-  mounts_calm (Err fault) a lost (inr opens) = no_table_shown sectors l log i at is stand opens.0 calm fault opens.1
+module _ (sectors : ℕ) (l : Layout) (planned : plan l.kind l.sectors l.third l.pages ≡ Ok l) (log : LogValue) (i : Image) (at : Moment) (is : IsSettled sectors i l log) (stand : StandAsShown l is.anchor i at.image) (calm : IsCalm at.windows) where
+  pub mounts_calm : (r : Result VolumeValue MountFault) → IfOk r (IsAssembled l log) → KnowsHomes l at → OpensKnown l at r → MountsCalm state Holds sectors i r
+  mounts_calm (Ok v) a knows opens = table_shown sectors l log i at is stand knows calm planned v a opens
+  mounts_calm (Err fault) a knows opens = no_table_shown sectors l log i at is stand knows calm fault opens
 
 -- ---- what fails before
 
@@ -109,10 +88,3 @@ fails_calm sectors i other sound loses = tt
 pub calm_handed : (sectors : ℕ) (i : Image) (r : Result VolumeValue MountFault) (fault : MountFault) → IsErrAnd r (λ told. told ≡ fault) → MountsCalm state Holds sectors i (Err fault) → MountsCalm state Holds sectors i r
 calm_handed sectors i (Ok v) fault is fails = absurd is
 calm_handed sectors i (Err told) fault is fails = subst (λ (f : MountFault). MountsCalm state Holds sectors i (Err f)) (sym is) fails
-
--- ---- the parts of an opening
-
-module _ (l : Layout) (old mid : Moment) (wears : Wears old mid) (knows : KnowsHomes l old) where
-  pub opens : (r : Result VolumeValue MountFault) → IfOk r (λ v. KnowsHomes l mid → IsTableOf l (home_pages l mid.image) (opened_of v)) → IfErr r (λ fault. KnowsHomes l mid → IsNoTable l (home_pages l mid.image) fault) → OpensCalm l old r
-  opens (Ok v) table fails = (knows, opens_known l old mid wears knows (Ok v) table fails)
-  opens (Err fault) table fails = inr (knows, opens_known l old mid wears knows (Err fault) table fails)

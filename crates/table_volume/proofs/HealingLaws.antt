@@ -1,10 +1,11 @@
 -- A volume stands over what a call leaves that heals.
-use Rattle.std.proofs.Common.{◌≡◌, ◌≢◌, inl, inr, ⊎_elim, ℕ, zero, suc, ◌+◌, ◌<◌, ◌≤◌, List, Result, Ok, Err, refl, sym, ap, subst, ◌∙◌, arith}
+use Rattle.std.proofs.Common.{◌≡◌, ◌≢◌, inl, inr, ⊎_elim, ℕ, zero, suc, ◌+◌, ◌<◌, ◌≤◌, true, false, List, [], ◌∷◌, Option, None, option_map, Result, Ok, Err, refl, sym, ap, subst, ◌∙◌, arith}
 use Rattle.std.specs.Prelude.{IfErr, IfOk, OnOk, IsFalse, IsTrue, nat_le, nat_lt}
 use Rattle.std.proofs.lemmas.Bool.{and_parts, both_ways, leb-true, or_left}
 use Rattle.volume_layout.specs.declared.layout.Layout.{Layout}
 use Rattle.volume_layout.specs.Layout.{InLog, data_start, home_a, home_b}
 use Rattle.fsd_bytes.specs.declared.refusal.Refusal.{Refusal}
+use Rattle.fsd_bytes.specs.declared.refusal.Refusal.TheVariants as Why
 use Rattle.sector_disk.specs.declared.machine.LoadFault.{LoadFault}
 use Rattle.sector_disk.specs.declared.machine.LoadFault.TheVariants as fault
 use Rattle.sector_disk.specs.declared.sector.Sector.TheVariants.{Damaged}
@@ -33,8 +34,9 @@ use Rattle.twin_home.specs.Heal.{Heals, Mends}
 use Rattle.twin_home.specs.Twins.{AreTwins, HealsPages, HealsTwins, TwinsStand}
 use Rattle.twin_home.proofs.TwinsLaws.{IsNoHome, Stays, heals_length, heals_said, heals_stay, heals_windows, pages_length, pages_said, pages_stay, pages_windows, stays_on}
 use Rattle.volume_contract.specs.Ends.{device_of}
-use Rattle.volume_contract.specs.Healing.{StandsStill, TwinsStand as AllStand}
-use Rattle.volume_contract.specs.State.{Known, Leaves, ListsPages, StandWritten, Stands, forced_of}
+use Rattle.volume_contract.specs.Healing.{LosesTwins, StandsStill, TwinsStand as AllStand}
+use Rattle.volume_contract.specs.Order.{Follows, Heal, Test, heal_steps, is_idle}
+use Rattle.volume_contract.specs.State.{Known, Leaves, ListsPages, StandWritten, Stands, State, forced_of}
 use Rattle.volume_state.specs.Forcing.{force_refusal}
 use Rattle.volume_state.specs.State.{Holds, state}
 use Rattle.volume_state.specs.Volume.{VolumeValue}
@@ -220,6 +222,22 @@ told_ok (Err f) P Q more so = tt
 pub told_on : (r : Result ℕ LoadFault) (P Q : Type 0) → (P → Q) → OnOk r P → OnOk (told_of r) Q
 told_on (Ok count) P Q more so = more so
 told_on (Err f) P Q more so = tt
+
+pub told_follows : (s : State) → option_map Why.Down s.down ≡ None → (r : Result ℕ LoadFault) → Follows (heal_steps s) (told_of r)
+told_follows s up (Ok count) = (up, (tt, tt))
+told_follows s up (Err (fault.Device place)) = inr (up, inl tt)
+told_follows s up (Err (fault.Lost a b)) = inr (up, inl tt)
+
+-- a heal that is up is not idle
+pub busy_heal : (s : State) → option_map Why.Down s.down ≡ None → is_idle (heal_steps s) ≡ true → ⊥
+busy_heal s up idle =
+    let no : is_idle (heal_steps s) ≡ false = ap (λ (why : Option Refusal). is_idle (Test why ∷ Heal ∷ [])) up in
+    absurd (cc (no, idle))
+
+pub told_lost : (l : Layout) (i : Image) (P : Type 0) → P → (r : Result ℕ LoadFault) → IfErr r (λ f. P → LostCause (AreTwins l) i f) → IfErr (told_of r) (LosesTwins l i)
+told_lost l i P here (Ok count) lost = tt
+told_lost l i P here (Err (fault.Device s)) lost = tt
+told_lost l i P here (Err (fault.Lost a b)) lost = lost here
 
 pub told_still : (v : VolumeValue) (k : Known) (now : Moment) → AreShort now.windows → Stands state Holds v k now → (P : Type 0) → P → (r : Result ℕ LoadFault) → IfErr r (λ f. P → LostCause (AreTwins v.layout) now.image f) → StandsStill state Holds k v now (told_of r)
 told_still v k now short stands P here (Ok count) lost = stands

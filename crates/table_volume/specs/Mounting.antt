@@ -1,12 +1,11 @@
 -- The volume that a mount makes.
-use Rattle.std.specs.Prelude.{◌≡◌, ◌⊎◌, ℕ, false, List, [], None, Result, Ok, Err, replicate}
+use Rattle.std.specs.Prelude.{◌≡◌, ℕ, false, List, [], None, Result, Ok, Err, replicate}
 use Rattle.volume_layout.specs.declared.layout.Layout.{Layout}
 use Rattle.volume_layout.specs.Layout.{data_start}
 use Rattle.sector_set.specs.Area.{Area, area}
 use Rattle.shadow_frees.specs.Waits.{Waits}
 use Rattle.sector_disk.specs.Machine.{Moment}
 use Rattle.fsd_sound.specs.declared.fault.MountFault.{MountFault}
-use Rattle.cached_table.specs.Homes.{IsUnread, KnowsHomes}
 use Rattle.fsd_files.specs.Files.{Files}
 use Rattle.fsd_sound.specs.Mounted.{Mounted}
 use Rattle.fsd_table.specs.Table.{Telling}
@@ -63,11 +62,6 @@ fresh_mounted l log pages telling files = record {
 -- what of a volume was opened
 abbrev pub opened_of : VolumeValue → Opened
 opened_of v = record { cache = v.cache; free_pages = v.free_pages; map = v.map; versions = v.versions }
-
--- where nothing wears: the pages at home are known and a table, or no table; or one couldn't be read
-abbrev pub OpensCalm : Layout → Moment → Result VolumeValue MountFault → Type 0
-OpensCalm l at (Ok v) = KnowsHomes l at × IsTableOf l (home_pages l at.image) (opened_of v)
-OpensCalm l at (Err fault) = IsUnread fault ⊎ (KnowsHomes l at × IsNoTable l (home_pages l at.image) fault)
 
 -- where the pages at home are known: they are a table, or no table
 abbrev pub OpensKnown : Layout → Moment → Result VolumeValue MountFault → Type 0

@@ -5,7 +5,7 @@ ghost use Rattle.shadow_frees.specs.Readers.{Agrees};
 ghost use Rattle.shadow_frees.specs.Waits.{AreIdle};
 ghost use Rattle.fsd_files.specs.Answers.{delete_outcome, entry_of};
 ghost use Rattle.fsd_files.specs.Files.{Change};
-ghost use Rattle.fsd_files.specs.Replies.{Deleted};
+ghost use Rattle.fsd_files.specs.declared.reply.Reply.TheVariants.{Deleted};
 ghost use Rattle.volume_contract.specs.Causes.{Causes};
 ghost use Rattle.volume_contract.specs.Ends.{device_of};
 ghost use Rattle.volume_contract.specs.Order.{Follows};

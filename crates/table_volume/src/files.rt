@@ -1,7 +1,7 @@
 //! A volume as its callers see it.
 use crate::Volume;
 use crate::forcing::force_refusal;
-use crate::mounting::open_read;
+use crate::mounting::open_settled;
 use crate::pieces::{sectors_of, small};
 use crate::reading::read_version;
 use fsd_bytes::{FileName, Key, Refusal};
@@ -31,7 +31,7 @@ impl<M: Machine> Files<M> for Volume {
 
     fn mount(alloc: Global, m: &mut M, sectors: u32) -> Result<Self, MountFault> {
         let settled = recover(alloc, m, sectors)?;
-        open_read(alloc, m, settled)
+        open_settled(alloc, m, settled)
     }
 
     fn put(

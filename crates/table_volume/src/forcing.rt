@@ -13,7 +13,7 @@ ghost use Rattle.volume_state.specs.Forcing.{force_refusal, place_of};
 ghost use Rattle.volume_state.specs.State.{resident, state, Holds};
 ghost use Rattle.fsd_files.specs.Answers.{force_outcome};
 ghost use Rattle.fsd_files.specs.Disk.{Touches};
-ghost use Rattle.fsd_files.specs.Replies.{Forced as IsForced};
+ghost use Rattle.fsd_files.specs.declared.reply.Reply.TheVariants.{Forced as IsForced};
 
 use crate::Volume;
 use crate::freeing::free_committed;

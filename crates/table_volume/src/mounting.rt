@@ -1,18 +1,17 @@
 //! The mount of a volume.
 ghost use Rattle.std.specs.Prelude.{◌≡◌, ◌≤◌, ◌<◌, Ok, IfOk, IfErr};
 ghost use Rattle.volume_layout.specs.Layout.{plan};
-ghost use Rattle.sector_disk.specs.Image.{IsCalm};
 ghost use Rattle.sector_disk.specs.Calls.{OnlyReads, device_in};
 ghost use Rattle.fsd_sound.specs.Lost.{AreHomes, LostIn};
 ghost use Rattle.fsd_sound.specs.Mounting.{device_of_mount};
 ghost use Rattle.fsd_sound.specs.declared.fault.MountFault.TheVariants.{Memory};
 ghost use Rattle.mount_recover.specs.Recover.{IsFreshLog};
 ghost use Rattle.cached_table.specs.Homes.{KnowsHomes};
-ghost use Rattle.table_volume.specs.Mounting.{IsAssembled, OpensCalm, OpensKnown, opened_of};
-ghost use Rattle.cached_table.specs.Opening.{IsNoTable, IsOpenFault, IsOpened, IsTableOf, home_pages};
+ghost use Rattle.table_volume.specs.Mounting.{IsAssembled, OpensKnown, opened_of};
+ghost use Rattle.cached_table.specs.Opening.{IsOpenFault, IsOpened};
 
 use crate::Volume;
-use cached_table::{CachedTable, Opened, open_table, read_homes};
+use cached_table::{CachedTable, Opened, open_table};
 use fsd_bytes::Serial;
 use fsd_sound::MountFault;
 use group_commit::RecordRoom;
@@ -21,8 +20,8 @@ use sector_disk::Machine;
 use shadow_frees::Shadow;
 use std::alloc::Global;
 
-/// The volume that has settled, once each page was read at home and its table is surveyed.
-pub(crate) fn open_read<M: Machine>(
+/// The volume that has settled, once its table is surveyed.
+pub(crate) fn open_settled<M: Machine>(
     alloc: Global,
     m: &mut M,
     settled: Settled,
@@ -34,28 +33,7 @@ pub(crate) fn open_read<M: Machine>(
     ensures assembled { IfOk result (IsAssembled settled.layout settled.log) }
     ensures cause { IfErr result IsOpenFault }
     ensures lost { IfErr result (λ fault. M.honest m.new → LostIn (AreHomes settled.layout) (M.now m.new).image fault) }
-    ensures calm { M.honest m.new → IsCalm (M.now m.old).windows → OpensCalm settled.layout (M.now m.old) result }
     ensures known { M.honest m.new → KnowsHomes settled.layout (M.now m.old) → OpensKnown settled.layout (M.now m.old) result }
-{
-    read_homes(m, &settled.layout)?;
-    open_settled(alloc, m, settled)
-}
-
-// The volume that has settled, once its table is surveyed.
-fn open_settled<M: Machine>(
-    alloc: Global,
-    m: &mut M,
-    settled: Settled,
-) -> Result<Volume, MountFault>
-    requires planned { plan settled.layout.kind settled.layout.sectors settled.layout.third settled.layout.pages ≡ Ok settled.layout }
-    requires sectors { settled.layout.sectors ≤ (M.report m.old).sectors }
-    requires log { IsFreshLog settled.layout settled.log }
-    ensures reads { OnlyReads M.Machine (device_in device_of_mount result) m.old m.new }
-    ensures assembled { IfOk result (IsAssembled settled.layout settled.log) }
-    ensures cause { IfErr result IsOpenFault }
-    ensures lost { IfErr result (λ fault. M.honest m.new → LostIn (AreHomes settled.layout) (M.now m.new).image fault) }
-    ensures table { IfOk result (λ volume. M.honest m.new → KnowsHomes settled.layout (M.now m.old) → IsTableOf settled.layout (home_pages settled.layout (M.now m.old).image) (opened_of volume)) }
-    ensures no_table { IfErr result (λ fault. M.honest m.new → KnowsHomes settled.layout (M.now m.old) → IsNoTable settled.layout (home_pages settled.layout (M.now m.old).image) fault) }
 {
     let opened = open_table(alloc, m, &settled.layout)?;
     assemble(alloc, settled, opened)

@@ -8,7 +8,8 @@ use Rattle.fsd_bytes.specs.declared.refusal.Refusal.{Refusal}
 use Rattle.fsd_bytes.specs.declared.refusal.Refusal.TheVariants as Why
 use Rattle.fsd_files.specs.Answers.{Met, Outcome}
 use Rattle.fsd_files.specs.Files.{Change}
-use Rattle.fsd_files.specs.Replies.{Refused, Reply}
+use Rattle.fsd_files.specs.declared.reply.Reply.{Reply}
+use Rattle.fsd_files.specs.declared.reply.Reply.TheVariants.{Refused}
 use Rattle.fsd_files.specs.Volume.{Volume, forced, forced_if}
 use Rattle.fsd_sound.specs.Mounted.{forces_by_itself}
 use Rattle.fsd_sound.specs.Writes.{force_writes}

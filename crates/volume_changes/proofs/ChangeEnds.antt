@@ -17,7 +17,8 @@ use Rattle.fsd_table.specs.Tree.{IsTree, table_of}
 use Rattle.fsd_files.specs.Answers.{Met, Outcome, highest_entry, keep_outcome, keep_set, refused}
 use Rattle.fsd_bytes.specs.declared.refusal.Refusal.TheVariants.{KeepTooLarge}
 use Rattle.fsd_files.specs.Files.{Change}
-use Rattle.fsd_files.specs.Replies.{Refused, Reply}
+use Rattle.fsd_files.specs.declared.reply.Reply.{Reply}
+use Rattle.fsd_files.specs.declared.reply.Reply.TheVariants.{Refused}
 use Rattle.group_commit.specs.contracts.newest.NewestPageSource.TheImpl as by_log
 use Rattle.log_thirds.specs.LogValue.{LogValue}
 use Rattle.page_cache.specs.Cache.{CacheValue, IsCache}

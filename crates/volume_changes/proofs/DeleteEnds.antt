@@ -17,7 +17,7 @@ use Rattle.fsd_table.specs.Tree.{IsTree, table_of}
 use Rattle.fsd_table.proofs.VisitLaws.{one_table}
 use Rattle.fsd_files.specs.Answers.{delete_outcome, deleted, entry_of}
 use Rattle.fsd_files.specs.Files.{Change}
-use Rattle.fsd_files.specs.Replies.{Deleted, Refused}
+use Rattle.fsd_files.specs.declared.reply.Reply.TheVariants.{Deleted, Refused}
 use Rattle.fsd_files.specs.Volume.{entries_without}
 use Rattle.fsd_sound.specs.Mounted.{most_changed}
 use Rattle.group_commit.specs.Cached.{AreWaiting}

@@ -16,7 +16,7 @@ use Rattle.fsd_bytes.specs.Keys.{key_cmp, same_key}
 use Rattle.fsd_formats.specs.declared.entry.Entry.{Entry}
 use Rattle.fsd_files.proofs.ListingLaws.{alike_is}
 use Rattle.fsd_files.specs.Answers.{entry_of, entry_reply, found_or}
-use Rattle.fsd_files.specs.Replies.{Reply}
+use Rattle.fsd_files.specs.declared.reply.Reply.{Reply}
 use Rattle.fsd_files.specs.Volume.{Volume}
 use Rattle.fsd_sound.specs.Homes.{AreHomesOf}
 use Rattle.log_thirds.specs.Images.{AreOfSlot}

@@ -18,7 +18,7 @@ use Rattle.fsd_files.specs.Answers.{entry_of, entry_reply, found_or}
 use Rattle.fsd_files.specs.Disk.{in_runs}
 use Rattle.fsd_files.specs.Files.{File}
 use Rattle.fsd_files.specs.Kept.{KeptIn}
-use Rattle.fsd_files.specs.Replies.{Found, Refused}
+use Rattle.fsd_files.specs.declared.reply.Reply.TheVariants.{Found, Refused}
 use Rattle.volume_contract.specs.declared.token.Held.{Held}
 use Rattle.volume_contract.specs.Causes.{IsRead, Shows}
 use Rattle.volume_contract.specs.Ends.{Looks}

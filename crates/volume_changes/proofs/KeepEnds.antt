@@ -13,7 +13,7 @@ use Rattle.fsd_table.proofs.VisitLaws.{one_table}
 use Rattle.fsd_files.specs.Answers.{entries_with_keep, highest_entry, keep_outcome, keep_set, refused}
 use Rattle.fsd_bytes.specs.declared.refusal.Refusal.TheVariants.{KeepTooLarge}
 use Rattle.fsd_files.specs.Files.{Change}
-use Rattle.fsd_files.specs.Replies.{Kept}
+use Rattle.fsd_files.specs.declared.reply.Reply.TheVariants.{Kept}
 use Rattle.page_cache.specs.Cache.{CacheValue, IsCache, bytes_of, is_one_of}
 use Rattle.name_page.specs.Pages.{with_one}
 use Rattle.name_page.proofs.MarkLaws.{one_count}

@@ -1,18 +1,18 @@
 -- What is met of what a look-up has found.
-use Rattle.std.proofs.Common.{◌≡◌, inl, inr, ℕ, Bool, true, false, cond, List, Option, Some, None, Ok, Err, refl, sym, ap, subst}
+use Rattle.std.proofs.Common.{◌≡◌, inl, inr, ℕ, Bool, true, false, cond, List, [], ◌∷◌, Option, Some, None, Ok, Err, refl, sym, ap, subst}
 use Rattle.std.specs.Prelude.{Contains, IfOk, IfSome, IsTrue, option_map}
 use Rattle.volume_layout.specs.Layout.{home_a}
 use Rattle.fsd_bytes.specs.declared.key.Key.{Key}
 use Rattle.fsd_bytes.specs.declared.refusal.Refusal.TheVariants as Why
 use Rattle.fsd_formats.specs.declared.entry.Entry.{Entry}
 use Rattle.fsd_files.specs.Answers.{entry_after as entry_behind}
-use Rattle.fsd_files.specs.Replies.{Found}
+use Rattle.fsd_files.specs.declared.reply.Reply.TheVariants.{Found}
 use Rattle.name_page.specs.Lookups.{is_after}
 use Rattle.name_btree.specs.declared.lookup.FoundEntry.{FoundEntry}
 use Rattle.name_btree.specs.Lookup.{entry_of as found_entry}
 use Rattle.volume_contract.specs.Causes.{IsTaken}
 use Rattle.volume_contract.specs.Ends.{IsLater, Looks, found_one}
-use Rattle.volume_contract.specs.Order.{Follows, next_steps}
+use Rattle.volume_contract.specs.Order.{Follows, LookUp, Test, is_idle, next_steps}
 use Rattle.volume_contract.specs.State.{State}
 use Rattle.volume_changes.specs.Meeting.{met_found}
 use Rattle.volume_state.specs.State.{state}
@@ -33,6 +33,13 @@ met_order s v (Some f) up = by (are_taken v f.entry.runs)
     by : (b : Bool) → Follows (next_steps s) (found_one (cond b (Ok f.entry) (Err (Why.Unsound (home_a v.layout f.page)))))
     by true = (ap (λ (o : Option ℕ). option_map Why.Down o) up, (tt, tt))
     by false = inr (ap (λ (o : Option ℕ). option_map Why.Down o) up, inl tt)
+
+busy : (down : Option ℕ) → down ≡ None → is_idle (Test (option_map Why.Down down) ∷ LookUp ∷ []) ≡ true → ⊥
+busy None up idle = absurd (cc idle)
+busy (Some s) up idle = absurd (cc up)
+
+pub busy_next : (s : State) → s.down ≡ None → is_idle (next_steps s) ≡ true → ⊥
+busy_next s up idle = busy s.down up idle
 
 -- ---- keys
 

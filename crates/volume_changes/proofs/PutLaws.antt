@@ -14,7 +14,7 @@ use Rattle.sector_disk.specs.Machine.{Moment}
 use Rattle.fsd_files.specs.Answers.{HasVersion, Met, Outcome, enter_fault, entered_unless, keep_given, put_at, put_outcome, put_unless, size_fault, with_version}
 use Rattle.fsd_files.specs.Disk.{Image, Sectors}
 use Rattle.fsd_files.specs.Files.{new_key}
-use Rattle.fsd_files.specs.Replies.{Made, Refused}
+use Rattle.fsd_files.specs.declared.reply.Reply.TheVariants.{Made, Refused}
 use Rattle.fsd_files.specs.Volume.{Volume, drawn, forced, forced_for_place, forced_if, place_for}
 use Rattle.fsd_sound.specs.Mounted.{forces_by_itself}
 use Rattle.volume_contract.specs.Ends.{Answered, EndsRefused, IsAsBefore, Unchanged, made_key}

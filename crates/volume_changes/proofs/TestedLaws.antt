@@ -9,7 +9,7 @@ use Rattle.fsd_formats.specs.NamePage.{max_keep, max_length}
 use Rattle.sector_disk.specs.Machine.{Moment}
 use Rattle.fsd_files.specs.Answers.{Met, Outcome, delete_outcome, deleted, entry_of, highest_entry, keep_given, keep_outcome, keep_set, refused}
 use Rattle.fsd_files.specs.Files.{Change}
-use Rattle.fsd_files.specs.Replies.{Reply}
+use Rattle.fsd_files.specs.declared.reply.Reply.{Reply}
 use Rattle.fsd_files.specs.Volume.{Volume, forced_if}
 use Rattle.fsd_sound.specs.Mounted.{forces_by_itself}
 use Rattle.volume_contract.specs.Causes.{HasCause}

@@ -7,7 +7,8 @@ use Rattle.fsd_bytes.specs.declared.refusal.Refusal.TheVariants as Why
 use Rattle.sector_disk.specs.Machine.{Moment}
 use Rattle.fsd_files.specs.Answers.{Met, Outcome}
 use Rattle.fsd_files.specs.Files.{Change}
-use Rattle.fsd_files.specs.Replies.{Refused, Reply}
+use Rattle.fsd_files.specs.declared.reply.Reply.{Reply}
+use Rattle.fsd_files.specs.declared.reply.Reply.TheVariants.{Refused}
 use Rattle.run_table.specs.declared.run.Run.{Run}
 use Rattle.sector_set.specs.Area.{together}
 use Rattle.shadow_frees.specs.Waits.{Waits}

@@ -13,7 +13,8 @@ use Rattle.fsd_files.specs.Answers.{HasVersion, Met, Outcome, entry_of}
 use Rattle.fsd_files.specs.Disk.{Image}
 use Rattle.fsd_files.specs.Files.{File, Change}
 use Rattle.fsd_files.specs.Kept.{FirstDamaged, IsWhole, range_sectors}
-use Rattle.fsd_files.specs.Replies.{Reply, Refused, Made, Kept, Found}
+use Rattle.fsd_files.specs.declared.reply.Reply.{Reply}
+use Rattle.fsd_files.specs.declared.reply.Reply.TheVariants.{Refused, Made, Kept, Found}
 use Rattle.fsd_files.specs.Volume.{Volume, drawn, forced}
 use Rattle.fsd_sound.specs.Laid.{HasOwnRoots}
 use Rattle.fsd_sound.specs.Mounted.{Mounted, forces_by_itself, telling_of}

@@ -9,3 +9,4 @@ pub mod Logged
 pub mod Healing
 pub mod Pieces
 pub mod Upgrade
+pub mod Telling

@@ -11,7 +11,7 @@ use Rattle.run_table.specs.declared.run.Run.{Run}
 use Rattle.fsd_formats.specs.NamePage.{max_keep, sectors_for}
 use Rattle.fsd_files.specs.Answers.{size_fault, keep_given, least_pages}
 use Rattle.fsd_files.specs.Disk.{Sectors}
-use Rattle.volume_contract.specs.State.{State, IsForced, IsDownAt, downs_for, forces_first, forces_for_place, in_place, is_worn, place_in}
+use Rattle.volume_contract.specs.State.{State, GoesOn, IsForced, IsDownAt, downs, downs_for, forces_first, forces_for_place, in_place, is_worn, place_in}
 
 -- A step of a call on its way to its answer: a test of what is in memory, or one of the table; a serial that is drawn;
 -- writes of the disk that begin in such sectors; a force, where one comes; a look-up; pages that are made resident;
@@ -100,6 +100,12 @@ is_idle (Test None ∷ steps) = is_idle steps
 is_idle (Force false ∷ steps) = is_idle steps
 is_idle (step ∷ steps) = false
 
+-- Where a call goes by these steps: one of them refuses it, and none before that, or none does. Where a test ends it, or
+-- there is nothing to do, the machine stays as it was.
+pub record InOrder {D T : Type 0} (steps : List Step) (old new : D) (result : Result T Refusal) : Type 0 where
+  pub follows : Follows steps result
+  pub idle : IsTrue (is_idle steps) → new ≡ old
+
 -- ---- what a refusal keeps
 
 -- the next serial is drawn
@@ -123,6 +129,12 @@ Keeps (Draw ∷ steps) r at new = Keeps steps r (with_drawn at) new
 Keeps (Force true ∷ steps) r at new = IsDownBy r at new ⊎ ((next : State) × IsForced at next × Keeps steps r next new)
 Keeps (Roots ∷ steps) r at new = (Refuses Roots r × (new ≡ record at { down = downs_for r })) ⊎ Keeps steps r (with_three at) new
 Keeps (step ∷ steps) r at new = (Refuses step r × (new ≡ at)) ⊎ (Passes step × Keeps steps r at new)
+
+-- What a call that may force keeps of a volume, whatever it answers: where it does what it is for it ends so, and what a
+-- refusal keeps is by the steps.
+pub record KeepsBy {T : Type 0} (steps : List Step) (Ends : State → State → Type 0) (old new : State) (result : Result T Refusal) : Type 0 where
+  pub state : GoesOn (downs result) old new
+  pub kept : MatchResult result (λ x. Ends old new) (λ why. Keeps steps why old new)
 
 -- ---- the tests
 

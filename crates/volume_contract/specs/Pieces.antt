@@ -1,5 +1,5 @@
 -- Creations in pieces, and versions that readers hold: what a volume answers, and what it is then.
-use Rattle.std.specs.Prelude.{◌≡◌, ◌⊎◌, ⊤, ℕ, zero, suc, ◌+◌, ◌-◌, ◌*◌, ◌%◌, ◌<◌, ◌≤◌, Bool, true, false, not, ◌&&◌, ◌||◌, List, [], ◌∷◌, ◌++◌, length, map, filter, take, drop, replicate, set, Option, Some, None, IsTrue, IsFalse, Result, Ok, Err, MatchResult, nat_lt, nat_le, if◌then◌else◌, slice_index_or, slice_range}
+use Rattle.std.specs.Prelude.{◌≡◌, ◌⊎◌, ⊤, ℕ, zero, suc, ◌+◌, ◌-◌, ◌*◌, ◌%◌, ◌<◌, ◌≤◌, Bool, true, false, not, ◌&&◌, ◌||◌, List, [], ◌∷◌, ◌++◌, length, map, filter, take, drop, replicate, set, Option, Some, None, IsTrue, IsFalse, Result, Ok, Err, IfOk, IfErr, MatchResult, nat_lt, nat_le, if◌then◌else◌, slice_index_or, slice_range}
 use Rattle.std.specs.List.{AllByRecursion}
 use Rattle.std.specs.FinMap.{find}
 use Rattle.volume_layout.specs.Layout.{is_data}
@@ -24,8 +24,8 @@ use Rattle.fsd_sound.specs.Mounted.{Mounted}
 use Rattle.volume_contract.specs.declared.token.Draft.{Draft}
 use Rattle.volume_contract.specs.declared.token.Held.{Held}
 use Rattle.volume_contract.specs.Ends.{EndsPut, EndsRefused, Reads}
-use Rattle.volume_contract.specs.Order.{with_drawn}
-use Rattle.volume_contract.specs.State.{IsForced, Known, Opened, Reading, Stands, State, Written, forces_for_place, force_len, readings, volume_of}
+use Rattle.volume_contract.specs.Order.{Keeps, enter_steps, reserve_steps, with_drawn}
+use Rattle.volume_contract.specs.State.{GoesOn, HasCounted, IsForced, Known, Opened, Reading, Stands, State, Written, downs, downs_for, forces_first, forces_for_place, force_len, readings, volume_of}
 
 -- ---- tokens, over any machine
 
@@ -83,6 +83,12 @@ pub record Reserves (need : ℕ) (old new : State) (d : Draft) : Type 0 where
   pub serial : d.serial ≡ middle.serial
   pub takes : Takes d.runs (with_drawn middle) new
 
+-- What beginning a creation keeps: it is one of this volume's, of so many bytes; or the volume goes on.
+pub record KeepsReserve (len : ℕ) (old new : State) (result : Result Draft Refusal) : Type 0 where
+  pub draft : IfOk result (λ d. (d.length ≡ len) × IsDraft new d)
+  pub state : IfErr result (λ why. GoesOn (downs result) old new)
+  pub kept : MatchResult result (λ d. Reserves (sectors_for len) old new d) (λ why. Keeps (reserve_steps old len) why old new)
+
 -- ---- sectors that a call writes
 
 abbrev pub reserve_len : State → (need : ℕ) → ℕ
@@ -100,6 +106,12 @@ in_slices runs first len t = contains (slice_sectors runs first len) t
 
 abbrev pub in_leader : List Run → Sectors
 in_leader runs t = contains (take 1 (sectors_of runs)) t
+
+-- What ending a creation keeps: the volume goes on without it, or with it, and hands it back.
+pub record KeepsEnter (draft : Draft) (keep : Option ℕ) (old new : State) (result : Result Key (Draft × Refusal)) : Type 0 where
+  pub state : MatchResult result (λ key. Enters draft.runs old new) (λ p. GoesOn (downs_for p.1) old new)
+  pub back : IfErr result (λ p. p.0 ≡ draft)
+  pub kept : MatchResult result (λ key. HasCounted false (forces_first old) old new) (λ p. Keeps (enter_steps old keep (in_leader draft.runs)) p.1 old new)
 
 -- The bytes, laid from this slice on, lie within the length, and are whole slices or end there.
 pub record FitsDraft (len first count : ℕ) : Type 0 where

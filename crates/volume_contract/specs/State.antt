@@ -1,6 +1,6 @@
 -- A volume as its caller knows it: what it tells over any machine,
 -- and what it is where the machine kept to its promise.
-use Rattle.std.specs.Prelude.{◌≡◌, ◌⊎◌, ℕ, suc, ◌+◌, ◌-◌, ◌*◌, ◌<◌, ◌≤◌, Bool, false, not, ◌&&◌, ◌||◌, List, [], length, Option, Some, None, IsSome, Result, Ok, Err, IsTrue, is_none, option_map, nat_le, nat_lt, ◌==◌, if◌then◌else◌, count_by, filter, map, replicate, slice_index_or, option_and_then, ◌∷◌, IsFalse}
+use Rattle.std.specs.Prelude.{◌≡◌, ◌⊎◌, ℕ, suc, ◌+◌, ◌-◌, ◌*◌, ◌<◌, ◌≤◌, Bool, false, not, ◌&&◌, ◌||◌, List, [], length, Option, Some, None, IsSome, Result, Ok, Err, IfOk, IsTrue, is_none, option_map, nat_le, nat_lt, ◌==◌, if◌then◌else◌, count_by, filter, map, replicate, slice_index_or, option_and_then, ◌∷◌, IsFalse}
 use Rattle.std.specs.List.{list_any, AllByRecursion, AllZip}
 use Rattle.fsd_bytes.specs.declared.key.Serial.{Serial}
 use Rattle.fsd_bytes.specs.declared.refusal.Refusal.{Refusal}
@@ -15,7 +15,8 @@ use Rattle.fsd_formats.specs.NamePage.{Content, read_page}
 use Rattle.fsd_formats.specs.Record.{record_len}
 use Rattle.sector_disk.specs.declared.sector.WeakRun.{WeakRun}
 use Rattle.sector_disk.specs.Image.{open_damage, IsWorn}
-use Rattle.sector_disk.specs.Machine.{Moment, Ledger}
+use Rattle.sector_disk.specs.declared.machine.Machine.{Ghosts}
+use Rattle.sector_disk.specs.Machine.{Moment, Ledger, wrote}
 use Rattle.fsd_log.specs.Scan.{Head, Placed, place_of, spot_for, start}
 use Rattle.fsd_forest.specs.Met.{search_of}
 use Rattle.fsd_table.specs.Table.{visits}
@@ -233,6 +234,16 @@ put_len s need = need + (if forces_for_place s need || forces_first s then force
 abbrev pub Counted : {T E : Type 0} → Result T E → ℕ → Ledger → Ledger → Type 0
 Counted (Ok x) n old new = new.written ≡ old.written + n
 Counted (Err why) n old new = (old.written ≤ new.written) × (new.written ≤ old.written + n)
+
+-- Where a call writes, and how many sectors: so many where it answers, and no more where it doesn't.
+pub record WritesWithin {D T : Type 0} (M : Ghosts D) (may : Sectors) (most : ℕ) (old new : D) (result : Result T Refusal) : Type 0 where
+  pub rest : M.honest new → Touches may (M.now old) (M.now new)
+  pub counted : M.tells new → Counted result most (M.ledger old) (M.ledger new)
+
+-- Where a call writes, and where it answers as many sectors as it tells.
+pub record WritesTold {D T : Type 0} (M : Ghosts D) (may : Sectors) (told : T → ℕ) (old new : D) (result : Result T Refusal) : Type 0 where
+  pub rest : M.honest new → Touches may (M.now old) (M.now new)
+  pub counted : IfOk result (λ x. M.tells new → M.ledger new ≡ wrote (M.ledger old) (told x))
 
 -- ---- over an honest machine
 

@@ -5,21 +5,23 @@ use Rattle.std.specs.FinMap.{find}
 use Rattle.std.proofs.lemmas.List.{append-nil}
 use Rattle.fsd_bytes.specs.declared.key.Key.{Key}
 use Rattle.fsd_bytes.specs.declared.refusal.Refusal.{Refusal}
+use Rattle.fsd_bytes.specs.declared.refusal.Refusal.TheVariants as Why
 use Rattle.fsd_bytes.specs.Keys.{key_cmp}
 use Rattle.fsd_formats.specs.declared.entry.Entry.{Entry}
 use Rattle.fsd_formats.specs.NamePage.{sectors_for}
 use Rattle.sector_disk.specs.Machine.{Moment, Wears}
 use Rattle.fsd_log.specs.Scan.{Placed}
-use Rattle.fsd_files.specs.Answers.{Outcome, entry_of, force_outcome, put_outcome}
+use Rattle.fsd_files.specs.Answers.{Met, Outcome, entry_of, force_outcome, put_outcome}
 use Rattle.fsd_files.specs.Disk.{Image}
 use Rattle.fsd_files.specs.Files.{Change, File}
-use Rattle.fsd_files.specs.Replies.{Forced}
+use Rattle.fsd_files.specs.declared.reply.Reply.{Reply}
+use Rattle.fsd_files.specs.declared.reply.Reply.TheVariants.{Forced}
 use Rattle.fsd_files.specs.Volume.{Volume}
 use Rattle.fsd_sound.specs.Mounted.{Mounted}
-use Rattle.volume_contract.specs.Ends.{Answered, MakesVersion, Reads}
+use Rattle.volume_contract.specs.Ends.{Answered, EndsForce, MakesVersion, Reads}
 use Rattle.volume_contract.specs.State.{State, Known, Stands, volume_of}
 use Rattle.volume_example.specs.Filling.{HasBytes, HasPut, IsUnread}
-use Rattle.volume_example.specs.Forcing.{IsCommitted}
+use Rattle.volume_example.specs.Forcing.{IsCommitted, IsDown}
 use Rattle.volume_example.proofs.PutLaws.{IsMade, file_there, is_made, made_bytes}
 use Rattle.volume_example.proofs.ReadLaws.{gives_whole, is_unread}
 
@@ -74,3 +76,9 @@ still_committed state has name bytes k new mid now key stays is = record {
   put = record { after = is.put.after; stands = stays is.put.after is.put.stands; changes = is.put.changes; version = is.put.version };
   forced = is.forced;
 }
+
+-- a force that fails leaves the volume down
+pub force_down : {S : Type 0} (state : S → State) (has : S → Mounted → List Placed → Type 0) (T : Type 0) (outcome : Met → Outcome) (reply : Reply) (k : Known) (new : S) (now : Moment) (why : Refusal)
+    → EndsForce state has {T = T} outcome reply k new now (Err why) → IsDown state has new why
+force_down state has T outcome reply k new now (Why.Device s) ends = ends
+force_down state has T outcome reply k new now why ends = absurd ends

@@ -16,7 +16,7 @@ use Rattle.fsd_formats.specs.NamePage.{sectors_for}
 use Rattle.fsd_files.specs.Answers.{Met, Outcome, enter_fault, entered_unless, entry_of, keep_given, put_at, put_outcome, put_unless, size_fault}
 use Rattle.fsd_files.specs.Files.{Change, File, Files, gone_keys, new_keep, new_key, step, with_new, without}
 use Rattle.fsd_files.specs.Kept.{Lists}
-use Rattle.fsd_files.specs.Replies.{Made}
+use Rattle.fsd_files.specs.declared.reply.Reply.TheVariants.{Made}
 use Rattle.fsd_files.specs.Volume.{Volume, drawn, forced, forced_for_place, forced_if, place_for}
 use Rattle.fsd_files.proofs.ChangeLaws.{same_key_turned}
 use Rattle.fsd_files.proofs.HistoryLaws.{keys_total}

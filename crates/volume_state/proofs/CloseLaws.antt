@@ -10,7 +10,8 @@ use Rattle.sector_disk.specs.Machine.{Moment}
 use Rattle.fsd_table.specs.Table.{Telling}
 use Rattle.fsd_files.specs.Answers.{Met, Outcome, force_outcome}
 use Rattle.fsd_files.specs.Files.{Change}
-use Rattle.fsd_files.specs.Replies.{Reply, Forced as IsForced}
+use Rattle.fsd_files.specs.declared.reply.Reply.{Reply}
+use Rattle.fsd_files.specs.declared.reply.Reply.TheVariants.{Forced as IsForced}
 use Rattle.fsd_files.specs.Volume.{Volume, forced}
 use Rattle.fsd_sound.specs.Laid.{HasOwnRoots}
 use Rattle.fsd_sound.specs.Mounted.{telling_of}

@@ -21,7 +21,8 @@ use Rattle.sector_disk.specs.Image.{Windows, open_damage}
 use Rattle.sector_disk.specs.Machine.{Moment}
 use Rattle.fsd_table.specs.Table.{Visit, visits}
 use Rattle.fsd_files.specs.Answers.{Met, Outcome, force_outcome}
-use Rattle.fsd_files.specs.Replies.{Reply, Forced as IsForced}
+use Rattle.fsd_files.specs.declared.reply.Reply.{Reply}
+use Rattle.fsd_files.specs.declared.reply.Reply.TheVariants.{Forced as IsForced}
 use Rattle.fsd_files.specs.Volume.{Volume, forced, in_version, is_free, is_in}
 use Rattle.fsd_files.specs.Waiting.{IsSpaced, is_kept_alone}
 use Rattle.fsd_files.proofs.WaitLaws.{forced_is_spaced, open_in_area}

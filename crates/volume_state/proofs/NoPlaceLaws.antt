@@ -11,7 +11,7 @@ use Rattle.run_table.specs.Space.{best, pick}
 use Rattle.sector_disk.specs.Machine.{Moment}
 use Rattle.fsd_files.specs.Answers.{Met, Outcome, keep_given, no_place, put_at, put_outcome, put_unless, refused, size_fault}
 use Rattle.fsd_files.specs.Disk.{Sectors}
-use Rattle.fsd_files.specs.Replies.{Refused}
+use Rattle.fsd_files.specs.declared.reply.Reply.TheVariants.{Refused}
 use Rattle.fsd_files.specs.Volume.{Volume, forced, forced_for_place, free_runs, place_for}
 use Rattle.fsd_sound.specs.Mounted.{Mounted, forces_by_itself}
 use Rattle.volume_contract.specs.Ends.{Answered, EndsRefused}

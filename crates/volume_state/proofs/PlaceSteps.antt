@@ -8,7 +8,8 @@ use Rattle.run_table.specs.declared.run.Run.{Run}
 use Rattle.run_table.specs.RunTable.{total}
 use Rattle.run_table.specs.Space.{best, pick}
 use Rattle.fsd_files.specs.Answers.{Met, Outcome, force_outcome}
-use Rattle.fsd_files.specs.Replies.{Reply, Forced}
+use Rattle.fsd_files.specs.declared.reply.Reply.{Reply}
+use Rattle.fsd_files.specs.declared.reply.Reply.TheVariants.{Forced}
 use Rattle.fsd_files.specs.Volume.{forced, forced_for_place}
 use Rattle.fsd_sound.specs.Mounted.{Mounted}
 use Rattle.sector_disk.specs.Calls.{device_in}

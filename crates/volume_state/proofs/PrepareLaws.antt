@@ -11,7 +11,8 @@ use Rattle.fsd_formats.specs.declared.entry.Entry.{Entry}
 use Rattle.run_table.specs.declared.run.Run.{Run}
 use Rattle.sector_disk.specs.Machine.{Moment}
 use Rattle.fsd_files.specs.Answers.{HasVersion, Met, Outcome, force_outcome}
-use Rattle.fsd_files.specs.Replies.{Reply, Forced}
+use Rattle.fsd_files.specs.declared.reply.Reply.{Reply}
+use Rattle.fsd_files.specs.declared.reply.Reply.TheVariants.{Forced}
 use Rattle.fsd_files.specs.Volume.{Volume, drawn, forced, forced_for_place, forced_if, place_for}
 use Rattle.fsd_sound.specs.Mounted.{forces_by_itself, most_waiting}
 use Rattle.sector_disk.specs.Image.{open_damage}

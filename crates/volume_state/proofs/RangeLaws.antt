@@ -25,7 +25,8 @@ use Rattle.fsd_files.specs.Answers.{entry_of, found_or}
 use Rattle.fsd_files.specs.Disk.{Image, Sectors}
 use Rattle.fsd_files.specs.Files.{File, Files}
 use Rattle.fsd_files.specs.Kept.{FirstDamaged, IsWhole as IsSectorWhole, Kept, KeptIn, Lists, data_sectors, range_sectors}
-use Rattle.fsd_files.specs.Replies.{Reply, Found, Refused}
+use Rattle.fsd_files.specs.declared.reply.Reply.{Reply}
+use Rattle.fsd_files.specs.declared.reply.Reply.TheVariants.{Found, Refused}
 use Rattle.fsd_files.proofs.ChangeLaws.{same_key_turned}
 use Rattle.fsd_files.proofs.KeptLaws.{back_there, behind_there, front_there}
 use Rattle.version_data.specs.declared.fault.DataFault.{DataFault}

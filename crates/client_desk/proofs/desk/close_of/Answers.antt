@@ -46,24 +46,24 @@ returns-in-Err-clause-done g c h k stands name len runs serial bytes serves =
     entered_as V.state V.holds k.opened w name len runs serial bytes k c.enter.new.self (g.M.Machine.now c.enter.new.m) r writing (c.in-Err.ensures.done h k stands bytes all.0 all.1)
 
 pub returns-in-Ok-clause-kept : goal.returns-in-Ok-clause-kept
-returns-in-Ok-clause-kept g c = c.in-Ok.ensures.kept
+returns-in-Ok-clause-kept g c = c.in-Ok.ensures.keeps.kept
 
 pub returns-in-Err-clause-kept : goal.returns-in-Err-clause-kept
 returns-in-Err-clause-kept g c =
     let s = g.V.Files.state c.args.v.now in
-    subst (λ (x : Client). Keeps (enter_steps s None (in_first x)) c.in-Err.why s (g.V.Files.state c.enter.new.self)) (sym c.in-Writing.is) c.in-Err.ensures.kept
+    subst (λ (x : Client). Keeps (enter_steps s None (in_first x)) c.in-Err.why s (g.V.Files.state c.enter.new.self)) (sym c.in-Writing.is) c.in-Err.ensures.keeps.kept
 
 pub returns-in-Ok-clause-rest : goal.returns-in-Ok-clause-rest
 returns-in-Ok-clause-rest g c h =
     let V = g.V.Files in
     let M = g.M.Machine in
-    subst (λ (x : Client). Touches (λ t. force_writes (V.state c.args.v.now).layout t || in_first x t) (M.now c.args.m.now) (M.now c.enter.new.m)) (sym c.in-Writing.is) (c.in-Ok.ensures.rest h)
+    subst (λ (x : Client). Touches (λ t. force_writes (V.state c.args.v.now).layout t || in_first x t) (M.now c.args.m.now) (M.now c.enter.new.m)) (sym c.in-Writing.is) (c.in-Ok.ensures.writes.rest h)
 
 pub returns-in-Ok-clause-name : goal.returns-in-Ok-clause-name
-returns-in-Ok-clause-name g c = subst (λ (x : Client). IsNamed x c.in-Ok.key.name) (sym c.in-Writing.is) (sym c.in-Ok.ensures.name)
+returns-in-Ok-clause-name g c = subst (λ (x : Client). IsNamed x c.in-Ok.key.name) (sym c.in-Writing.is) (sym c.in-Ok.ensures.tells.name)
 
 pub returns-in-Err-clause-rest : goal.returns-in-Err-clause-rest
 returns-in-Err-clause-rest g c h =
     let V = g.V.Files in
     let M = g.M.Machine in
-    subst (λ (x : Client). Touches (λ t. force_writes (V.state c.args.v.now).layout t || in_first x t) (M.now c.args.m.now) (M.now c.enter.new.m)) (sym c.in-Writing.is) (c.in-Err.ensures.rest h)
+    subst (λ (x : Client). Touches (λ t. force_writes (V.state c.args.v.now).layout t || in_first x t) (M.now c.args.m.now) (M.now c.enter.new.m)) (sym c.in-Writing.is) (c.in-Err.ensures.writes.rest h)

@@ -29,4 +29,4 @@ pub returns-in-Ok-clause-client : goal.returns-in-Ok-clause-client
 returns-in-Ok-clause-client g c = search rules
 
 pub returns-in-Err-clause-damaged : goal.returns-in-Err-clause-damaged
-returns-in-Err-clause-damaged g c s is h = record { within = c.in-Err.ensures.within s is h; damaged = c.in-Err.ensures.damaged s is h }
+returns-in-Err-clause-damaged g c s is h = c.in-Err.ensures.tells.damaged s is h

@@ -57,7 +57,7 @@ returns-in-Ok-clause-done g c h k stands name len runs serial before writing =
 pub returns-in-Err-clause-order : goal.returns-in-Err-clause-order
 returns-in-Err-clause-order g c =
     let w = c.args.w.now in
-    slices_refuse (g.V.Files.state c.args.v.now) w (w.got / 512) (length (take c.whole_part-count.result c.args.bytes.now)) c.in-Err.why c.in-Err.ensures.order
+    slices_refuse (g.V.Files.state c.args.v.now) w (w.got / 512) (length (take c.whole_part-count.result c.args.bytes.now)) c.in-Err.why c.in-Err.ensures.order.follows
 
 pub returns-in-Err-clause-disk : goal.returns-in-Err-clause-disk
 returns-in-Err-clause-disk g c =

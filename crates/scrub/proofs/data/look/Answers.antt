@@ -2,7 +2,7 @@ use Rattle.std.proofs.Common.{◌≡◌, false, Option, None, sym, ap, ◌∙◌
 use Rattle.fsd_formats.specs.declared.entry.Entry.{Entry}
 use Rattle.std.specs.Prelude.{IfSome}
 use Rattle.fsd_files.specs.Answers.{entry_after}
-use Rattle.fsd_files.specs.Replies.{Found}
+use Rattle.fsd_files.specs.declared.reply.Reply.TheVariants.{Found}
 use Rattle.sector_disk.proofs.CallLaws.{reads_then}
 use Rattle.sector_disk.proofs.Wear.{worn_refl}
 use Rattle.volume_contract.specs.Healing.{IsMet}

@@ -4,7 +4,7 @@ use Rattle.volume_layout.specs.declared.layout.Layout.{Layout}
 use Rattle.volume_layout.specs.Layout.{is_data}
 use Rattle.fsd_formats.specs.declared.entry.Entry.{Entry}
 use Rattle.fsd_files.specs.Answers.{entry_after}
-use Rattle.fsd_files.specs.Replies.{Found}
+use Rattle.fsd_files.specs.declared.reply.Reply.TheVariants.{Found}
 use Rattle.fsd_files.specs.Scrub.{leader_place}
 use Rattle.sector_disk.specs.Machine.{Wears, wrote}
 use Rattle.sector_disk.proofs.CallLaws.{reads_as_writes, writes_none, writes_then}
@@ -113,7 +113,7 @@ returns-in-Err-heal_leader-clause-rest g c = λ h.
     let met : IsMet (V.state c.next_one.new.v) c.in-Ok-Some.e = subst (λ (o : Option Entry). IfSome o (IsMet (V.state c.next_one.new.v))) c.in-Ok-Some.field-0-is next.met in
     rest_more (V.state c.args.v.now).layout (leader_place c.in-Ok-Some.e)
     (subst (λ (s : State). IsTrue (is_data s.layout (leader_place c.in-Ok-Some.e))) (next.state ∙ was.state) (met.within (leader_place c.in-Ok-Some.e) (leader_there c.in-Ok-Some.e met.entry)))
-    (M.now c.args.m.now) (M.now c.loop.m) (M.now c.next_one.new.m) (M.now c.heal_leader.new.m) (was.disk.windows there) (was.rest there) (next.disk.worn back) (call.rest h)
+    (M.now c.args.m.now) (M.now c.loop.m) (M.now c.next_one.new.m) (M.now c.heal_leader.new.m) (was.disk.windows there) (was.rest there) (next.disk.worn back) (call.writes.rest h)
 
 pub returns-in-Err-heal_leader-clause-done : goal.returns-in-Err-heal_leader-clause-done
 returns-in-Err-heal_leader-clause-done g c = λ h k stands.
@@ -165,11 +165,11 @@ loop-preserved g c =
           let back = call.disk.trust.honest h in
           let there = next.disk.trust.honest back in
           rest_more (V.state c.args.v.now).layout (leader_place c.in-Ok-Some.e) (subst (λ (s : State). IsTrue (is_data s.layout (leader_place c.in-Ok-Some.e))) state inside)
-          a b mid end (was.disk.windows there) (was.rest there) (next.disk.worn back) (call.rest h);
+          a b mid end (was.disk.windows there) (was.rest there) (next.disk.worn back) (call.writes.rest h);
       counted = λ t.
           let told = call.disk.trust.tells t in
           wrote_then (M.ledger c.args.m.now) (M.ledger c.next_one.new.m) (M.ledger c.heal_leader.new.m) c.loop.count c.count_of-count.result
-          (next.disk.ledger told ∙ was.counted (next.disk.trust.tells told)) (call.counted t ∙ ap (λ (n : ℕ). wrote (M.ledger c.next_one.new.m) n) (sym c.count_of-count.ensures));
+          (next.disk.ledger told ∙ was.counted (next.disk.trust.tells told)) (call.writes.counted t ∙ ap (λ (n : ℕ). wrote (M.ledger c.next_one.new.m) n) (sym c.count_of-count.ensures));
       few = few_more c.loop.count c.loop.counter c.count_of-count.result c.in-Ok.written c.count_of-count.ensures was.few;
       led = λ h k stands.
           let back = call.disk.trust.honest h in
@@ -178,9 +178,9 @@ loop-preserved g c =
           let looks = subst (λ (o : Option Entry). Found (entry_after c.loop.last (volume_of k).entries) ≡ Found o) c.in-Ok-Some.field-0-is (next.done back k led.stands) in
           led_more V.state V.holds k c.loop.v c.loop.counter c.loop.last c.loop.count a b led c.in-Ok-Some.e looks met.entry mid (next.disk.worn back)
           (subst (λ (l : Layout). IsTrue (is_data l (leader_place c.in-Ok-Some.e))) (ap (λ (s : State). s.layout) next.state ∙ sym led.stands.fits.layout) inside)
-          c.heal_leader.new.self end (call.disk.windows h) (call.rest h)
+          c.heal_leader.new.self end (call.disk.windows h) (call.writes.rest h)
           (call.done h k (next.stands back k led.stands) (led_in V.state V.holds k c.loop.v c.loop.counter c.loop.last c.loop.count a b led c.in-Ok-Some.e looks met.entry mid (next.disk.worn back)))
-          (call.led h) c.in-Ok.written (call.healed h) (c.loop.count + c.count_of-count.result) (ap (λ (n : ℕ). c.loop.count + n) c.count_of-count.ensures);
+          (call.tells h).led c.in-Ok.written (call.tells h).healed (c.loop.count + c.count_of-count.result) (ap (λ (n : ℕ). c.loop.count + n) c.count_of-count.ensures);
     }
 
 pub returns-clause-done : goal.returns-clause-done
@@ -206,4 +206,4 @@ pub returns-in-Err-heal_leader-clause-told : goal.returns-in-Err-heal_leader-cla
 returns-in-Err-heal_leader-clause-told g c = λ h.
     let V = g.V.Files in
     let same = c.in-Ok-Some.ensures.state ∙ c.loop.invariant.state in
-    single_told (V.state c.args.v.now).layout (g.M.Machine.now c.heal_leader.new.m).image (V.state c.next_one.new.v) (ap (λ (s : State). s.down) same ∙ c.requires.up) c.in-Err-heal_leader.why c.in-Err-heal_leader.ensures.order
+    single_told (V.state c.args.v.now).layout (g.M.Machine.now c.heal_leader.new.m).image (V.state c.next_one.new.v) (ap (λ (s : State). s.down) same ∙ c.requires.up) c.in-Err-heal_leader.why c.in-Err-heal_leader.ensures.order.follows

@@ -23,7 +23,7 @@ returns-in-Ok-heal_leaders-clause-disk g c =
     (λ h left leaves k stands. twins_leave k l stands.fits.layout a left (leaves k stands))
     (λ h left leaves k stands.
     let back = call.disk.trust.honest h in
-    leaders_leave k l stands.fits.layout a b (heal.disk.windows back) (heal.disk.quiet back) left (heal.rest back) (leaves k (heal.done back k stands)))
+    leaders_leave k l stands.fits.layout a b (heal.disk.windows back) (heal.disk.quiet back) left (heal.writes.rest back) (leaves k (heal.done back k stands)))
 
 pub returns-in-Ok-heal_leaders-clause-done : goal.returns-in-Ok-heal_leaders-clause-done
 returns-in-Ok-heal_leaders-clause-done g c = λ h k stands.
@@ -33,7 +33,7 @@ returns-in-Ok-heal_leaders-clause-done g c = λ h k stands.
     let call = c.in-Ok-heal_leaders.ensures in
     let back = call.disk.trust.honest h in
     healed_all V.state V.holds k (V.state c.args.v.now).layout stands.fits.layout c.heal_leaders.new.v (M.now c.args.m.now) (M.now c.heal.new.m) (M.now c.heal_leaders.new.m) (heal.disk.windows back)
-    c.in-Ok.twins c.in-Ok-heal_leaders.leaders c.saturating_add.result c.saturating_add.ensures (heal.healed back) (heal.rest back) (call.done h k (heal.done back k stands))
+    c.in-Ok.twins c.in-Ok-heal_leaders.leaders c.saturating_add.result c.saturating_add.ensures (heal.tells back).healed (heal.writes.rest back) (call.done h k (heal.done back k stands))
 
 pub returns-in-Err-heal_leaders-clause-disk : goal.returns-in-Err-heal_leaders-clause-disk
 returns-in-Err-heal_leaders-clause-disk g c =
@@ -48,7 +48,7 @@ returns-in-Err-heal_leaders-clause-disk g c =
     (λ h left leaves k stands. twins_leave k l stands.fits.layout a left (leaves k stands))
     (λ h left leaves k stands.
     let back = call.disk.trust.honest h in
-    leaders_leave k l stands.fits.layout a b (heal.disk.windows back) (heal.disk.quiet back) left (heal.rest back) (leaves k (heal.done back k stands)))
+    leaders_leave k l stands.fits.layout a b (heal.disk.windows back) (heal.disk.quiet back) left (heal.writes.rest back) (leaves k (heal.done back k stands)))
 
 pub returns-in-Err-clause-disk : goal.returns-in-Err-clause-disk
 returns-in-Err-clause-disk g c =
@@ -63,12 +63,12 @@ returns-in-Ok-heal_leaders-clause-counted g c = λ t.
     let M = g.M.Machine in
     let call = c.in-Ok-heal_leaders.ensures in
     healed_both (M.ledger c.args.m.now) (M.ledger c.heal.new.m) (M.ledger c.heal_leaders.new.m) c.in-Ok.twins c.in-Ok-heal_leaders.leaders c.saturating_add.result c.saturating_add.ensures
-    (c.in-Ok.ensures.counted (call.disk.trust.tells t)) (call.counted t)
+    (c.in-Ok.ensures.writes.counted (call.disk.trust.tells t)) (call.counted t)
 
 pub returns-in-Err-clause-told : goal.returns-in-Err-clause-told
 returns-in-Err-clause-told g c = λ h.
     let s = g.V.Files.state c.args.v.now in
-    heal_told s.layout (g.M.Machine.now c.heal.new.m).image s c.requires.up c.in-Err.why c.in-Err.ensures.order (c.in-Err.ensures.lost h)
+    heal_told s.layout (g.M.Machine.now c.heal.new.m).image s c.requires.up c.in-Err.why c.in-Err.ensures.order.follows (c.in-Err.ensures.tells h).lost
 
 pub returns-in-Err-heal_leaders-clause-told : goal.returns-in-Err-heal_leaders-clause-told
 returns-in-Err-heal_leaders-clause-told g c = λ h. subst (λ (s : State). TellsOn s.layout (g.M.Machine.now c.heal_leaders.new.m).image c.in-Err-heal_leaders.why) c.in-Ok.ensures.state (c.in-Err-heal_leaders.ensures.told h)
@@ -81,4 +81,4 @@ returns-in-Ok-heal_leaders-clause-mended g c = λ h.
     let b = M.now c.heal_leaders.new.m in
     let heal = c.in-Ok.ensures in
     let call = c.in-Ok-heal_leaders.ensures in
-    twins_then (V.state c.args.v.now).layout a b (call.disk.windows h) (subst (λ (s : State). Touches (is_data s.layout) a b) heal.state (call.rest h)) (heal.mended (call.disk.trust.honest h))
+    twins_then (V.state c.args.v.now).layout a b (call.disk.windows h) (subst (λ (s : State). Touches (is_data s.layout) a b) heal.state (call.rest h)) (heal.tells (call.disk.trust.honest h)).mended

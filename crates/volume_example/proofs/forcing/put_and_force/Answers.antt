@@ -1,11 +1,14 @@
 use Rattle.std.proofs.Common.{None, Some}
 use Rattle.std.specs.Prelude.{length}
 use Rattle.fsd_formats.specs.NamePage.{sectors_for}
+use Rattle.fsd_files.specs.Answers.{force_outcome}
 use Rattle.fsd_files.specs.Files.{Change}
+use Rattle.fsd_files.specs.declared.reply.Reply.TheVariants.{Forced as IsForced}
 use Rattle.fsd_sound.specs.Writes.{force_writes}
+use Rattle.volume_contract.specs.declared.files.Forced.{Forced}
 use Rattle.volume_contract.specs.Ends.{device_of}
-use Rattle.volume_contract.specs.State.{put_writes}
-use Rattle.volume_example.proofs.MadeLaws.{committed, still_committed}
+use Rattle.volume_contract.specs.State.{put_writes, volume_of}
+use Rattle.volume_example.proofs.MadeLaws.{committed, force_down, still_committed}
 use Rattle.volume_example.proofs.StopLaws.{put_alone, put_forces, then_syncs}
 use Rattle.volume_example.proofs.forcing.put_and_force.Goals as goal
 
@@ -77,3 +80,10 @@ returns-in-Err-sync-clause-done g c h k stands =
     let still = still_committed V.state V.holds c.args.name.now c.args.bytes.now k w mid now c.in-Ok.key
     (λ after standing. g.met.V.Files.wears w after mid now (g.met.M.Machine.short c.force.new.m back) (record { image = worn.image; windows = worn.windows }) standing) is in
     still
+
+pub returns-in-Err-force-clause-done : goal.returns-in-Err-force-clause-done
+returns-in-Err-force-clause-done g c h k stands =
+    let V = g.V.Files in
+    let force = c.in-Err-force.ensures in
+    let made = c.in-Ok.ensures.done (force.disk.trust.honest h) k stands in
+    force_down V.state V.holds Forced (λ met. force_outcome (volume_of made.after)) IsForced made.after c.force.new.self (g.M.Machine.now c.force.new.m) c.in-Err-force.why (force.done h made.after made.stands)

@@ -4,7 +4,7 @@ use Rattle.std.proofs.Common.{◌≡◌, [], ◌∷◌, ◌++◌, Option, None, 
 use Rattle.fsd_bytes.specs.declared.key.Key.{Key}
 use Rattle.fsd_formats.specs.declared.entry.Entry.{Entry}
 use Rattle.fsd_files.specs.Answers.{entry_after}
-use Rattle.fsd_files.specs.Replies.{Found}
+use Rattle.fsd_files.specs.declared.reply.Reply.TheVariants.{Found}
 use Rattle.sector_disk.proofs.CallLaws.{reads_none, reads_then}
 use Rattle.volume_contract.specs.State.{State, volume_of}
 use Rattle.scrub.proofs.WalkLaws.{walked_all, walked_more, walked_none}

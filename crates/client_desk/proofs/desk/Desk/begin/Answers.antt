@@ -12,7 +12,7 @@ use Rattle.fsd_bytes.specs.declared.refusal.Refusal.{Refusal}
 use Rattle.fsd_formats.specs.NamePage.{sectors_for}
 use Rattle.volume_contract.specs.State.{Leaves, forced_of}
 use Rattle.fsd_files.specs.Desk.{begin_outcome}
-use Rattle.fsd_files.specs.Replies.{Begun}
+use Rattle.fsd_files.specs.declared.reply.Reply.TheVariants.{Begun}
 use Rattle.volume_contract.specs.Order.{with_drawn}
 use Rattle.volume_contract.specs.Pieces.{Begins, IsDraft, Reserves, Takes}
 use Rattle.volume_contract.specs.declared.token.Draft.{Draft}
@@ -62,13 +62,13 @@ returns-in-Ok-reserve-clause-done g c h k clients sits =
     let desk = c.args.self.now in
     let length_is = c.in-Ok.ensures.inside.1 in
     let e = c.in-Ok-reserve.ensures in
-    let is_draft : IsOf t (Writing x) = subst (λ (y : Draft). IsDraft t y) (sym c.begun.ensures.draft) e.draft.1 in
-    let takes : Takes x.draft.runs (with_drawn e.kept.middle) t = subst (λ (y : Draft). Takes y.runs (with_drawn e.kept.middle) t) (sym c.begun.ensures.draft) e.kept.takes in
-    let apart : (j : ℕ) → (j ≡ i → ⊥) → AreApart (Writing x) (client_at desk j) = λ j other. (taken_beside (with_drawn e.kept.middle) t x (client_at desk j) takes (of_same s (with_drawn e.kept.middle) (client_at desk j) (looks_middle s e.kept.middle e.kept.went) (c.requires.desk.each j))).0 in
+    let is_draft : IsOf t (Writing x) = subst (λ (y : Draft). IsDraft t y) (sym c.begun.ensures.draft) e.keeps.draft.1 in
+    let takes : Takes x.draft.runs (with_drawn e.keeps.kept.middle) t = subst (λ (y : Draft). Takes y.runs (with_drawn e.keeps.kept.middle) t) (sym c.begun.ensures.draft) e.keeps.kept.takes in
+    let apart : (j : ℕ) → (j ≡ i → ⊥) → AreApart (Writing x) (client_at desk j) = λ j other. (taken_beside (with_drawn e.keeps.kept.middle) t x (client_at desk j) takes (of_same s (with_drawn e.keeps.kept.middle) (client_at desk j) (looks_middle s e.keeps.kept.middle e.keeps.kept.went) (c.requires.desk.each j))).0 in
     subst (λ (w : V-of g). Answers V.state V.holds (λ y. begin_outcome y c.args.c c.args.name.now c.args.length) (Begun c.args.c) [] k clients w c.set.new.self (M.now c.reserve.new.m)) (sym c.set.ensures.volume)
     (subst (λ (y : List Client). Answers V.state V.holds (λ z. begin_outcome z c.args.c c.args.name.now c.args.length) (Begun c.args.c) [] k clients c.reserve.new.self y (M.now c.reserve.new.m)) (sym c.set.ensures.clients)
     (begin_done V.state V.holds t c.args.c c.args.name.now c.args.length i k clients c.args.v.now c.reserve.new.self desk (M.now c.args.m.now) (M.now c.reserve.new.m) x
-    (omega (arith, c.in-Ok.ensures.inside.0, length_is)) length_is (found_idle desk c.args.c i (sym c.in-Ok.ensures.is)) is_draft apart c.begun.ensures.name (ap (λ (y : Draft). y.length) c.begun.ensures.draft ∙ e.draft.0) c.begun.ensures.got
+    (omega (arith, c.in-Ok.ensures.inside.0, length_is)) length_is (found_idle desk c.args.c i (sym c.in-Ok.ensures.is)) is_draft apart c.begun.ensures.name (ap (λ (y : Draft). y.length) c.begun.ensures.draft ∙ e.keeps.draft.0) c.begun.ensures.got
     sits (subst (λ (y : Draft). Begins V.state V.holds c.args.length k c.reserve.new.self (M.now c.reserve.new.m) y) (sym c.begun.ensures.draft) (e.done h k sits.stands))))
 
 pub returns-in-Err-clause-writes : goal.returns-in-Err-clause-writes
@@ -79,10 +79,10 @@ returns-in-Err-clause-writes g c =
     }
 
 pub returns-in-Err-reserve-clause-writes : goal.returns-in-Err-reserve-clause-writes
-returns-in-Err-reserve-clause-writes g c = record { rest = c.in-Err-reserve.ensures.rest; counted = c.in-Err-reserve.ensures.counted }
+returns-in-Err-reserve-clause-writes g c = let e = c.in-Err-reserve.ensures.writes in record { rest = e.rest; counted = e.counted }
 
 pub returns-in-Ok-reserve-clause-writes : goal.returns-in-Ok-reserve-clause-writes
-returns-in-Ok-reserve-clause-writes g c = record { rest = c.in-Ok-reserve.ensures.rest; counted = c.in-Ok-reserve.ensures.counted }
+returns-in-Ok-reserve-clause-writes g c = let e = c.in-Ok-reserve.ensures.writes in record { rest = e.rest; counted = e.counted }
 
 pub returns-in-Err-clause-state : goal.returns-in-Err-clause-state
 returns-in-Err-clause-state g c =
@@ -94,10 +94,10 @@ returns-in-Err-clause-state g c =
 pub returns-in-Err-reserve-clause-state : goal.returns-in-Err-reserve-clause-state
 returns-in-Err-reserve-clause-state g c =
     let V = g.V.Files in
-    let goes = c.in-Err-reserve.ensures.state in
+    let goes = c.in-Err-reserve.ensures.keeps.state in
     record {
       desk = desk_same (V.state c.args.v.now) (V.state c.reserve.new.self) c.args.self.now (record { layout = goes.layout; unfinished = goes.unfinished; readers = goes.readers }) c.requires.desk;
-      kept = record { desk = refl; volume = inr (ap (λ (r : Result ℕ Refusal). fault_in r) (sym c.in-Ok.ensures.is), c.in-Err-reserve.ensures.kept) };
+      kept = record { desk = refl; volume = inr (ap (λ (r : Result ℕ Refusal). fault_in r) (sym c.in-Ok.ensures.is), c.in-Err-reserve.ensures.keeps.kept) };
     }
 
 pub returns-in-Ok-reserve-clause-state : goal.returns-in-Ok-reserve-clause-state
@@ -109,22 +109,22 @@ returns-in-Ok-reserve-clause-state g c =
     let x = c.begun.result in
     let desk = c.args.self.now in
     let e = c.in-Ok-reserve.ensures in
-    let is_draft : IsDraft t x.draft = subst (λ (y : Draft). IsDraft t y) (sym c.begun.ensures.draft) e.draft.1 in
-    let takes : Takes x.draft.runs (with_drawn e.kept.middle) t = subst (λ (y : Draft). Takes y.runs (with_drawn e.kept.middle) t) (sym c.begun.ensures.draft) e.kept.takes in
+    let is_draft : IsDraft t x.draft = subst (λ (y : Draft). IsDraft t y) (sym c.begun.ensures.draft) e.keeps.draft.1 in
+    let takes : Takes x.draft.runs (with_drawn e.keeps.kept.middle) t = subst (λ (y : Draft). Takes y.runs (with_drawn e.keeps.kept.middle) t) (sym c.begun.ensures.draft) e.keeps.kept.takes in
     let need = sectors_for c.args.length in
     let at = found_idle desk c.args.c c.in-Ok.place (sym c.in-Ok.ensures.is) in
     record {
       desk = subst (λ (w : V-of g). IsDesk (V.state w) c.set.new.self) (sym c.set.ensures.volume)
           (subst (λ (y : List Client). IsDesk t y) (sym c.set.ensures.clients)
-          (desk_takes (with_drawn e.kept.middle) t desk i x (omega (arith, c.in-Ok.ensures.inside.0, c.in-Ok.ensures.inside.1))
-          (desk_same s (with_drawn e.kept.middle) desk (looks_middle s e.kept.middle e.kept.went) c.requires.desk)
+          (desk_takes (with_drawn e.keeps.kept.middle) t desk i x (omega (arith, c.in-Ok.ensures.inside.0, c.in-Ok.ensures.inside.1))
+          (desk_same s (with_drawn e.keeps.kept.middle) desk (looks_middle s e.keeps.kept.middle e.keeps.kept.went) c.requires.desk)
           (found_idle desk c.args.c i (sym c.in-Ok.ensures.is)).is takes is_draft));
       kept = record {
         creation = x;
         desk = c.set.ensures.clients ∙ ap (λ (n : ℕ). set desk n (Writing x)) at.place;
         named = c.begun.ensures.name;
-        long = ap (λ (y : Draft). y.length) c.begun.ensures.draft ∙ e.draft.0;
+        long = ap (λ (y : Draft). y.length) c.begun.ensures.draft ∙ e.keeps.draft.0;
         none = c.begun.ensures.got;
-        volume = subst (λ (w : V-of g). Reserves need s (V.state w) x.draft) (sym c.set.ensures.volume) (subst (λ (y : Draft). Reserves need s (V.state c.reserve.new.self) y) (sym c.begun.ensures.draft) e.kept);
+        volume = subst (λ (w : V-of g). Reserves need s (V.state w) x.draft) (sym c.set.ensures.volume) (subst (λ (y : Draft). Reserves need s (V.state c.reserve.new.self) y) (sym c.begun.ensures.draft) e.keeps.kept);
       };
     }

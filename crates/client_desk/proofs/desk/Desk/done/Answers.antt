@@ -6,7 +6,7 @@ use Rattle.client_desk.proofs.DeskLaws.{desk_ends, found_reading}
 use Rattle.client_desk.proofs.HeldLaws.{answers_held}
 use Rattle.client_desk.proofs.SitsLaws.{AnswersBy, done_done, done_refused}
 use Rattle.fsd_files.specs.Desk.{done_outcome}
-use Rattle.fsd_files.specs.Replies.{Done}
+use Rattle.fsd_files.specs.declared.reply.Reply.TheVariants.{Done}
 use Rattle.client_desk.proofs.desk.Desk.done.Goals as goal
 
 pub returns-in-Err-clause-done : goal.returns-in-Err-clause-done

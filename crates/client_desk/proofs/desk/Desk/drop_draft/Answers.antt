@@ -6,7 +6,7 @@ use Rattle.client_desk.specs.Ends.{Answers}
 use Rattle.client_desk.proofs.DeskLaws.{desk_ends, found_writing}
 use Rattle.client_desk.proofs.SitsLaws.{drop_done, drop_refused}
 use Rattle.fsd_files.specs.Desk.{drop_outcome}
-use Rattle.fsd_files.specs.Replies.{Dropped}
+use Rattle.fsd_files.specs.declared.reply.Reply.TheVariants.{Dropped}
 use Rattle.client_desk.proofs.desk.Desk.drop_draft.Goals as goal
 
 pub returns-in-Err-clause-done : goal.returns-in-Err-clause-done

@@ -17,7 +17,7 @@ use Rattle.std.proofs.lemmas.List.{length-set}
 use Rattle.client_desk.proofs.DeskLaws.{desk_holds}
 use Rattle.client_desk.proofs.PlaceLaws.{place_free}
 use Rattle.fsd_files.specs.Desk.{open_outcome}
-use Rattle.fsd_files.specs.Replies.{Opened}
+use Rattle.fsd_files.specs.declared.reply.Reply.TheVariants.{Opened}
 use Rattle.client_desk.proofs.desk.Desk.open_key.Given as given
 use Rattle.client_desk.proofs.desk.Desk.open_key.Goals as goal
 
@@ -60,7 +60,7 @@ returns-in-Ok-hold-clause-state g c =
       kept = record {
         reader = r;
         desk = c.set.ensures.clients ∙ ap (λ (n : ℕ). set desk n (Reading r)) at.place;
-        of_key = e.key;
+        of_key = e.tells.key;
         long = refl;
         from = refl;
         volume = subst (λ (w : V-of g). HoldsAt held s (V.state w)) (sym c.set.ensures.volume) e.state;
@@ -84,7 +84,7 @@ returns-in-Ok-hold-clause-done g c h k clients sits =
     (subst (λ (w : V-of g). AnswersBy V.state V.holds (λ x y. open_outcome x y c.args.c c.args.key.now) (Opened c.args.c held.entry.length) k clients w c.set.new.self (M.now c.hold.new.m)) (sym c.set.ensures.volume)
     (subst (λ (z : List Client). AnswersBy V.state V.holds (λ x y. open_outcome x y c.args.c c.args.key.now) (Opened c.args.c held.entry.length) k clients c.hold.new.self z (M.now c.hold.new.m)) (sym c.set.ensures.clients)
     (open_done V.state V.holds c.args.c i c.args.key.now k clients c.args.v.now c.hold.new.self desk (M.now c.args.m.now) (M.now c.hold.new.m) (found_idle desk c.args.c i (sym c.in-Ok.ensures.is)) sits r
-    (omega (arith, c.in-Ok.ensures.inside.0, length_is)) length_is (λ j other. (held_beside s t r (client_at desk j) e.state (c.requires.desk.each j)).0) e.key refl there (e.done h k sits.stands))))
+    (omega (arith, c.in-Ok.ensures.inside.0, length_is)) length_is (λ j other. (held_beside s t r (client_at desk j) e.state (c.requires.desk.each j)).0) e.tells.key refl there (e.done h k sits.stands))))
 
 pub returns-in-Err-clause-state : goal.returns-in-Err-clause-state
 returns-in-Err-clause-state g c = record { desk = c.requires.desk; kept = record { desk = refl; volume = refl } }
@@ -112,7 +112,7 @@ returns-in-Err-clause-causes g c =
     }
 
 pub returns-in-Err-hold-clause-causes : goal.returns-in-Err-hold-clause-causes
-returns-in-Err-hold-clause-causes g c = let e = c.in-Err-hold.ensures in record { causes = e.causes; absent = λ is. e.absent (cc is); found = tt }
+returns-in-Err-hold-clause-causes g c = let e = c.in-Err-hold.ensures in record { causes = e.tells.causes; absent = λ is. e.tells.absent (cc is); found = tt }
 
 pub returns-in-Ok-hold-clause-causes : goal.returns-in-Ok-hold-clause-causes
 returns-in-Ok-hold-clause-causes g c =
@@ -123,5 +123,5 @@ returns-in-Ok-hold-clause-causes g c =
     record {
       causes = tt;
       absent = λ is. absurd (cc is);
-      found = (entry, e.key, refl, subst (λ (w : V-of g). ShowsReached M (V.resident c.args.v.now) (V.state c.args.v.now) (V.state w) c.args.m.now c.hold.new.m (HasEntry entry)) (sym c.set.ensures.volume) e.found);
+      found = (entry, e.tells.key, refl, subst (λ (w : V-of g). ShowsReached M (V.resident c.args.v.now) (V.state c.args.v.now) (V.state w) c.args.m.now c.hold.new.m (HasEntry entry)) (sym c.set.ensures.volume) e.tells.found);
     }

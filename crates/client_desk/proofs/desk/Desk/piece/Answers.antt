@@ -11,7 +11,7 @@ use Rattle.client_desk.specs.declared.client.Client.TheVariants.{Idle, Writing}
 use Rattle.client_desk.specs.Clients.{Continuing, EndsAt, GivesUp, HasRoom, IsDesk, client_at, in_data}
 use Rattle.client_desk.specs.Ends.{Answers, EndsPiece, EndsPieces, LeavesFor, LeavesOf}
 use Rattle.fsd_files.specs.Desk.{piece_outcome}
-use Rattle.fsd_files.specs.Replies.{Took}
+use Rattle.fsd_files.specs.declared.reply.Reply.TheVariants.{Took}
 use Rattle.client_desk.proofs.CreationLaws.{broken_at, client_stays, leaves_all, leaves_of, long_device, long_stays, piece_done, piece_failed, piece_long, piece_refused, serves_so, writes_as, writes_so}
 use Rattle.client_desk.proofs.DeskLaws.{continues_on, desk_ends, desk_writes, found_writing}
 use Rattle.client_desk.proofs.SitsLaws.{client_device, clients_are, writing_fault}

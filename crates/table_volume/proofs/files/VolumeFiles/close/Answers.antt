@@ -1,5 +1,5 @@
 use Rattle.fsd_files.specs.Answers.{force_outcome}
-use Rattle.fsd_files.specs.Replies.{Forced as IsForced}
+use Rattle.fsd_files.specs.declared.reply.Reply.TheVariants.{Forced as IsForced}
 use Rattle.volume_contract.specs.declared.files.Forced.{Forced}
 use Rattle.volume_contract.specs.State.{volume_of}
 use Rattle.volume_state.proofs.CloseLaws.{closes, ends_device}
@@ -12,11 +12,9 @@ pub returns-in-Ok : goal.returns-in-Ok
 returns-in-Ok g c =
     let forced = c.in-Ok.ensures in
     record {
-      order = forced.order;
+      order = record { follows = forced.order; idle = forced.idle };
       disk = forced.disk;
-      rest = forced.rest;
-      counted = forced.counted;
-      idle = forced.idle;
+      writes = record { rest = forced.rest; counted = forced.counted };
       causes = tt;
       done = λ honest k stands. closes k c.force_all.new.self (g.M.Machine.now c.force_all.new.m) (forced.done honest k stands);
     }
@@ -25,11 +23,9 @@ pub returns : goal.returns
 returns g c =
     let failed = c.in-Err.ensures in
     record {
-      order = failed.order;
+      order = record { follows = failed.order; idle = failed.idle };
       disk = failed.disk;
-      rest = failed.rest;
-      counted = failed.counted;
-      idle = failed.idle;
+      writes = record { rest = failed.rest; counted = failed.counted };
       causes = failed.lost;
       done = λ honest k stands.
           ends_device Forced (λ met. force_outcome (volume_of k)) IsForced k c.force_all.new.self (g.M.Machine.now c.force_all.new.m) c.in-Err.refusal (failed.done honest k stands);

@@ -1,10 +1,10 @@
-use Rattle.std.proofs.Common.{◌∷◌, ◌∙◌}
+use Rattle.std.proofs.Common.{◌∷◌, ◌∙◌, inl, refl, arith}
 use Rattle.std.proofs.lemmas.Result.{err_from_is_err_and}
 use Rattle.sector_disk.proofs.CallLaws.{reads_as_writes, told_up, writes_none, writes_then, writes_told}
 use Rattle.sector_disk.specs.Machine.{Wears}
 use Rattle.fsd_files.specs.Answers.{delete_outcome}
 use Rattle.fsd_files.specs.Files.{Change}
-use Rattle.fsd_files.specs.Replies.{Deleted}
+use Rattle.fsd_files.specs.declared.reply.Reply.TheVariants.{Deleted}
 use Rattle.fsd_sound.specs.Writes.{force_writes}
 use Rattle.volume_contract.specs.Ends.{device_of}
 use Rattle.volume_contract.specs.Order.{by_itself}
@@ -27,7 +27,10 @@ pub returns-in_err-may_delete-clause-order : goal.returns-in_err-may_delete-clau
 returns-in_err-may_delete-clause-order g c =
     let s = state c.args.self.now in
     let p = err_from_is_err_and c.from_residual.result c.from_residual.ensures.1 in
-    rw (p.1, p.2) (comes_more (delete_tests s) (by_itself s ∷ look_steps) c.in_err-may_delete.field-0.0 c.in_err-may_delete.ensures)
+    rw (p.1, p.2) (record {
+      follows = comes_more (delete_tests s) (by_itself s ∷ look_steps) c.in_err-may_delete.field-0.0 c.in_err-may_delete.ensures;
+      idle = λ idle. refl;
+    })
 
 pub returns-in_err-may_delete-clause-disk : goal.returns-in_err-may_delete-clause-disk
 returns-in_err-may_delete-clause-disk g c =
@@ -36,11 +39,22 @@ returns-in_err-may_delete-clause-disk g c =
     writes_told (told_up device_of c.from_residual.result c.in_err-may_delete.field-0.0 c.from_residual.ensures.1 ∙ delete_places (state v) c.in_err-may_delete.field-0.0 c.in_err-may_delete.ensures)
     (writes_none at (λ left h is. g.met.M.Machine.only_now at left h is) (Leaves state Holds v (force_writes v.layout)) (λ h. leaves_still v (g.M.Machine.now at) (force_writes v.layout)))
 
-pub returns-in_err-may_delete-clause-kept : goal.returns-in_err-may_delete-clause-kept
-returns-in_err-may_delete-clause-kept g c =
+pub returns-in_err-may_delete-clause-writes : goal.returns-in_err-may_delete-clause-writes
+returns-in_err-may_delete-clause-writes g c =
+    let p = err_from_is_err_and c.from_residual.result c.from_residual.ensures.1 in
+    rw (p.1, p.2) (record {
+      rest = λ h. touches_none (force_writes c.args.self.now.layout) (g.M.Machine.now c.args.m.now);
+      counted = λ tells. (omega arith, omega arith);
+    })
+
+pub returns-in_err-may_delete-clause-keeps : goal.returns-in_err-may_delete-clause-keeps
+returns-in_err-may_delete-clause-keeps g c =
     let s = state c.args.self.now in
     let p = err_from_is_err_and c.from_residual.result c.from_residual.ensures.1 in
-    rw (p.1, p.2) (keeps_refused (delete_refusals (state c.args.self.now)) (by_itself s ∷ look_steps) c.in_err-may_delete.field-0.0 s c.in_err-may_delete.ensures)
+    rw (p.1, p.2) (record {
+      state = record { layout = refl; epoch = refl; unfinished = refl; readers = refl; down = inl refl };
+      kept = keeps_refused (delete_refusals s) (by_itself s ∷ look_steps) c.in_err-may_delete.field-0.0 s c.in_err-may_delete.ensures;
+    })
 
 pub returns-in_err-may_delete-clause-done : goal.returns-in_err-may_delete-clause-done
 returns-in_err-may_delete-clause-done g c =
@@ -53,30 +67,29 @@ pub returns-in_err-force_first-clause-order : goal.returns-in_err-force_first-cl
 returns-in_err-force_first-clause-order g c =
     let s = state c.args.self.now in
     let p = err_from_is_err_and c.from_residual-in_err-force_first.result c.from_residual-in_err-force_first.ensures.1 in
-    rw (p.1, p.2) (failed_comes s (delete_refusals (state c.args.self.now)) c.in_ok-may_delete.ensures c.in_err-force_first.field-0.0 c.in_err-force_first.ensures.forces.order)
+    rw (p.1, p.2) (record {
+      follows = failed_comes s (delete_refusals s) c.in_ok-may_delete.ensures c.in_err-force_first.field-0.0 c.in_err-force_first.ensures.forces.order;
+      idle = λ idle. absurd (busy s (delete_refusals s) c.in_ok-may_delete.ensures idle);
+    })
 
-pub returns-in_err-force_first-clause-state : goal.returns-in_err-force_first-clause-state
-returns-in_err-force_first-clause-state g c =
-    let p = err_from_is_err_and c.from_residual-in_err-force_first.result c.from_residual-in_err-force_first.ensures.1 in
-    rw (p.1, p.2) c.in_err-force_first.ensures.forces.state
-
-pub returns-in_err-force_first-clause-kept : goal.returns-in_err-force_first-clause-kept
-returns-in_err-force_first-clause-kept g c =
+pub returns-in_err-force_first-clause-keeps : goal.returns-in_err-force_first-clause-keeps
+returns-in_err-force_first-clause-keeps g c =
     let s = state c.args.self.now in
     let p = err_from_is_err_and c.from_residual-in_err-force_first.result c.from_residual-in_err-force_first.ensures.1 in
-    rw (p.1, p.2) (failed_keeps s (delete_refusals (state c.args.self.now)) c.in_ok-may_delete.ensures c.in_err-force_first.field-0.0 (state c.force_first.new.self) c.in_err-force_first.ensures.forces.kept)
+    rw (p.1, p.2) (record {
+      state = c.in_err-force_first.ensures.forces.state;
+      kept = failed_keeps s (delete_refusals s) c.in_ok-may_delete.ensures c.in_err-force_first.field-0.0 (state c.force_first.new.self) c.in_err-force_first.ensures.forces.kept;
+    })
 
 pub returns-in_err-force_first-clause-disk : goal.returns-in_err-force_first-clause-disk
 returns-in_err-force_first-clause-disk g c =
     writes_told (told_up device_of c.from_residual-in_err-force_first.result c.in_err-force_first.field-0.0 c.from_residual-in_err-force_first.ensures.1) c.in_err-force_first.ensures.disk
 
-pub returns-in_err-force_first-clause-counted : goal.returns-in_err-force_first-clause-counted
-returns-in_err-force_first-clause-counted g c =
+pub returns-in_err-force_first-clause-writes : goal.returns-in_err-force_first-clause-writes
+returns-in_err-force_first-clause-writes g c =
+    let failed = c.in_err-force_first.ensures in
     let p = err_from_is_err_and c.from_residual-in_err-force_first.result c.from_residual-in_err-force_first.ensures.1 in
-    rw p.1 c.in_err-force_first.ensures.counted
-
-pub returns-in_err-force_first-clause-idle : goal.returns-in_err-force_first-clause-idle
-returns-in_err-force_first-clause-idle g c = λ idle. absurd (busy (state c.args.self.now) (delete_refusals (state c.args.self.now)) c.in_ok-may_delete.ensures idle)
+    rw (p.1, p.2) (record { rest = failed.rest; counted = failed.counted })
 
 pub returns-in_err-force_first-clause-done : goal.returns-in_err-force_first-clause-done
 returns-in_err-force_first-clause-done g c =
@@ -96,23 +109,32 @@ delete_now-requires-clause-numbered g c =
 
 pub returns-clause-order : goal.returns-clause-order
 returns-clause-order g c =
-    change_follows (state c.args.self.now) (delete_refusals (state c.args.self.now)) c.in_ok-may_delete.ensures (state c.force_first.new.self) (state c.delete_now.new.self) c.in_ok-force_first.ensures.forces c.delete_now.result c.delete_now.ensures.order
+    let s = state c.args.self.now in
+    record {
+      follows = change_follows s (delete_refusals s) c.in_ok-may_delete.ensures (state c.force_first.new.self) (state c.delete_now.new.self) c.in_ok-force_first.ensures.forces c.delete_now.result c.delete_now.ensures.order;
+      idle = λ idle. absurd (busy s (delete_refusals s) c.in_ok-may_delete.ensures idle);
+    }
 
-pub returns-clause-state : goal.returns-clause-state
-returns-clause-state g c =
-    change_goes (state c.args.self.now) (delete_refusals (state c.args.self.now)) c.in_ok-may_delete.ensures (state c.force_first.new.self) (state c.delete_now.new.self) c.in_ok-force_first.ensures.forces c.delete_now.result c.delete_now.ensures.edited
+pub returns-clause-keeps : goal.returns-clause-keeps
+returns-clause-keeps g c =
+    let s = state c.args.self.now in
+    record {
+      state = change_goes s (delete_refusals s) c.in_ok-may_delete.ensures (state c.force_first.new.self) (state c.delete_now.new.self) c.in_ok-force_first.ensures.forces c.delete_now.result c.delete_now.ensures.edited;
+      kept = change_kept s (delete_refusals s) c.in_ok-may_delete.ensures (state c.force_first.new.self) (state c.delete_now.new.self) c.in_ok-force_first.ensures.forces c.delete_now.result c.delete_now.ensures.order c.delete_now.ensures.edited;
+    }
 
-pub returns-clause-kept : goal.returns-clause-kept
-returns-clause-kept g c =
-    change_kept (state c.args.self.now) (delete_refusals (state c.args.self.now)) c.in_ok-may_delete.ensures (state c.force_first.new.self) (state c.delete_now.new.self) c.in_ok-force_first.ensures.forces c.delete_now.result c.delete_now.ensures.order c.delete_now.ensures.edited
-
-pub returns-clause-idle : goal.returns-clause-idle
-returns-clause-idle g c = λ idle. absurd (busy (state c.args.self.now) (delete_refusals (state c.args.self.now)) c.in_ok-may_delete.ensures idle)
-
-pub returns-clause-counted : goal.returns-clause-counted
-returns-clause-counted g c = λ tells.
-    let disk = c.delete_now.ensures.disk in
-    change_counts (change_len (state c.args.self.now)) (g.M.Machine.ledger c.args.m.now) (g.M.Machine.ledger c.force_first.new.m) (g.M.Machine.ledger c.delete_now.new.m) c.delete_now.result (c.in_ok-force_first.ensures.counted (disk.trust.tells tells)) (disk.ledger tells)
+pub returns-clause-writes : goal.returns-clause-writes
+returns-clause-writes g c =
+    let M = g.M.Machine in
+    let v = c.args.self.now in
+    let first = c.in_ok-force_first.ensures in
+    let reads = c.delete_now.ensures.disk in
+    record {
+      rest = λ h.
+          let back = reads.trust.honest h in
+          touches_read (force_writes v.layout) (M.now c.args.m.now) (M.now c.force_first.new.m) (M.now c.delete_now.new.m) (first.disk.windows back) (first.rest back) (reads.worn h);
+      counted = λ tells. change_counts (change_len (state v)) (M.ledger c.args.m.now) (M.ledger c.force_first.new.m) (M.ledger c.delete_now.new.m) c.delete_now.result (first.counted (reads.trust.tells tells)) (reads.ledger tells);
+    }
 
 pub returns-clause-disk : goal.returns-clause-disk
 returns-clause-disk g c =
@@ -154,13 +176,3 @@ returns-clause-causes g c =
     let change = c.delete_now.ensures in
     causes_behind g.M.Machine (state v) (state mid) (state new) (resident v) (resident mid) c.args.m.now c.force_first.new.m c.delete_now.new.m (λ h. c.in_ok-force_first.ensures.behind (change.disk.trust.honest h))
     (edited_slots (state mid) (state new) c.delete_now.result change.edited) (edited_layout (state mid) (state new) c.delete_now.result change.edited) change.disk.worn c.delete_now.result change.causes
-
-pub returns-in_err-may_delete-clause-rest : goal.returns-in_err-may_delete-clause-rest
-returns-in_err-may_delete-clause-rest g c h = touches_none (force_writes c.args.self.now.layout) (g.M.Machine.now c.args.m.now)
-
-pub returns-clause-rest : goal.returns-clause-rest
-returns-clause-rest g c h =
-    let M = g.M.Machine in
-    let reads = c.delete_now.ensures.disk in
-    let back = reads.trust.honest h in
-    touches_read (force_writes c.args.self.now.layout) (M.now c.args.m.now) (M.now c.force_first.new.m) (M.now c.delete_now.new.m) (c.in_ok-force_first.ensures.disk.windows back) (c.in_ok-force_first.ensures.rest back) (reads.worn h)

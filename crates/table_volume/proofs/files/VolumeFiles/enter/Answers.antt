@@ -10,16 +10,11 @@ pub returns-in-Ok : goal.returns-in-Ok
 returns-in-Ok g c =
     let made = c.in-Ok.ensures in
     rw c.creation-entry.ensures.same (record {
-      order = made.order;
+      order = record { follows = made.order; idle = made.idle };
       disk = made.disk;
-      rest = made.rest;
-      counted = made.counted;
-      state = made.state;
-      back = tt;
-      idle = made.idle;
-      name = made.name;
-      kept = made.kept;
-      causes = made.causes;
+      writes = record { rest = made.rest; counted = made.counted };
+      keeps = record { state = made.state; back = tt; kept = made.kept };
+      tells = record { name = made.name; causes = made.causes };
       done = made.done;
     })
 
@@ -27,15 +22,10 @@ pub returns-in-Err : goal.returns-in-Err
 returns-in-Err g c =
     let failed = c.in-Err.ensures in
     rw c.creation-entry.ensures.same (record {
-      order = failed.order;
+      order = record { follows = failed.order; idle = failed.idle };
       disk = failed.disk;
-      rest = failed.rest;
-      counted = failed.counted;
-      state = failed.state;
-      back = refl;
-      idle = failed.idle;
-      name = tt;
-      kept = failed.kept;
-      causes = failed.causes;
+      writes = record { rest = failed.rest; counted = failed.counted };
+      keeps = record { state = failed.state; back = refl; kept = failed.kept };
+      tells = record { name = tt; causes = failed.causes };
       done = failed.done;
     })

@@ -29,14 +29,11 @@ returns-in_err-is_up g c =
     let down : down_fault c.args.self.now.down ≡ Err c.in_err-is_up.field-0.0 = sym c.in_err-is_up.ensures in
     let p = err_from_is_err_and c.from_residual.result c.from_residual.ensures.1 in
     rw (p.1, p.2) (record {
-      order = inl (down_step v.down why down);
+      order = record { follows = inl (down_step v.down why down); idle = λ idle. refl };
       disk = writes_told (down_tells_none v.down why down) (writes_none at (λ left h is. g.met.M.Machine.only_now at left h is) (LeavesWith state Holds v e may) (λ h. still_leaves_with v e may now));
-      rest = λ h. touches_none may now;
-      counted = tt;
+      writes = record { rest = λ h. touches_none may now; counted = tt };
       state = refl;
-      idle = λ idle. refl;
-      healed = tt;
-      led = tt;
+      tells = λ h. record { healed = tt; led = tt };
       done = λ h k stands has. absurd (not_down v k now why down stands);
     })
 
@@ -49,14 +46,11 @@ returns-in-Ok g c =
     let up = up_by c.args.self.now.down (sym c.in_ok-is_up.ensures) in
     let written = c.in-Ok.ensures in
     record {
-      order = (ap (option_map Why.Down) up, (tt, tt));
+      order = record { follows = (ap (option_map Why.Down) up, (tt, tt)); idle = λ idle. absurd (busy_single (state v) up idle) };
       disk = writes_more written.disk (λ h left writes. leader_leaves v e good old left (g.met.M.Machine.short c.args.m.now (written.disk.trust.honest h)) writes);
-      rest = λ h. leader_touches e old new (written.disk.exit h);
-      counted = written.counted;
+      writes = record { rest = λ h. leader_touches e old new (written.disk.exit h); counted = written.counted };
       state = refl;
-      idle = λ idle. absurd (busy_single (state v) up idle);
-      healed = written.healed;
-      led = written.led;
+      tells = λ h. record { healed = written.healed h; led = written.led h };
       done = λ h k stands has. stands_led v k old (g.met.M.Machine.short c.args.m.now (written.disk.trust.honest h)) stands e good has new (written.disk.exit h);
     }
 
@@ -69,13 +63,10 @@ returns-in-Err g c =
     let up = up_by c.args.self.now.down (sym c.in_ok-is_up.ensures) in
     let failed = c.in-Err.ensures in
     record {
-      order = inr (ap (option_map Why.Down) up, inl tt);
+      order = record { follows = inr (ap (option_map Why.Down) up, inl tt); idle = λ idle. absurd (busy_single (state v) up idle) };
       disk = writes_told refl (writes_more failed.disk (λ h left writes. leader_leaves v e good old left (g.met.M.Machine.short c.args.m.now (failed.disk.trust.honest h)) writes));
-      rest = λ h. leader_touches e old new (failed.disk.exit h);
-      counted = tt;
+      writes = record { rest = λ h. leader_touches e old new (failed.disk.exit h); counted = tt };
       state = refl;
-      idle = λ idle. absurd (busy_single (state v) up idle);
-      healed = tt;
-      led = tt;
+      tells = λ h. record { healed = tt; led = tt };
       done = λ h k stands has. stands_led v k old (g.met.M.Machine.short c.args.m.now (failed.disk.trust.honest h)) stands e good has new (failed.disk.exit h);
     }

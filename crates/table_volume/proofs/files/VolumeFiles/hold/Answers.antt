@@ -1,5 +1,6 @@
 use Rattle.std.proofs.Common.{◌≡◌, ◌∙◌, Err, None, Some, ap, set, subst, sym, true}
 use Rattle.std.specs.Prelude.{is_none, slice_index_or}
+use Rattle.std.proofs.lemmas.Result.{err_from_is_err_and}
 use Rattle.std.specs.List.{list_any}
 use Rattle.fsd_bytes.specs.declared.refusal.Refusal.{Refusal}
 use Rattle.volume_contract.specs.Absent.{Reaches}
@@ -17,6 +18,9 @@ use Rattle.table_volume.proofs.files.VolumeFiles.hold.Goals as goal
 pub held_at-place-requires-clause-place : goal.held_at-place-requires-clause-place
 held_at-place-requires-clause-place g c = subst (λ (s : State). list_any is_none s.readers ≡ true) (sym c.in_ok-entry.ensures.state) c.requires.place
 
+pub returns-clause-order : goal.returns-clause-order
+returns-clause-order g c = record { follows = c.in_ok-entry.ensures.order; idle = c.in_ok-entry.ensures.idle }
+
 pub returns-clause-state : goal.returns-clause-state
 returns-clause-state g c =
     let e = c.held_at-place.ensures in
@@ -30,14 +34,19 @@ returns-clause-held g c =
     let same : (state c.held_at-place.new.self).layout ≡ (state c.args.self.now).layout = ap (λ (s : State). s.layout) c.held_at-place.ensures.state ∙ ap (λ (s : State). s.layout) c.in_ok-entry.ensures.state in
     hold_token _ _ (state c.args.self.now).layout same c.in_ok-entry.ensures.good c.in_ok-entry.ensures.within c.held_at-place.ensures.inside c.held_at-place.ensures.there
 
-pub returns-clause-taken : goal.returns-clause-taken
-returns-clause-taken g c = subst (λ (s : State). IsTaken s c.in_ok-entry.entry) c.in_ok-entry.ensures.state c.in_ok-entry.ensures.taken
-
-pub returns-clause-found : goal.returns-clause-found
-returns-clause-found g c = λ honest.
+pub returns-clause-tells : goal.returns-clause-tells
+returns-clause-tells g c =
     let M = g.M.Machine in
     let s = state c.args.self.now in
-    shows_held s (state c.version.new.self) (state c.held_at-place.new.self) (resident c.args.self.now) (M.now c.args.m.now) (M.now c.version.new.m) (Reaches (HasEntry c.in_ok-entry.entry)) _ c.held_at-place.ensures.state (c.in_ok-entry.ensures.found honest)
+    let e = c.in_ok-entry.ensures in
+    record {
+      key = e.key;
+      taken = subst (λ (s : State). IsTaken s c.in_ok-entry.entry) e.state e.taken;
+      causes = tt;
+      absent = λ is. absurd (cc is);
+      found = λ honest.
+          shows_held s (state c.version.new.self) (state c.held_at-place.new.self) (resident c.args.self.now) (M.now c.args.m.now) (M.now c.version.new.m) (Reaches (HasEntry c.in_ok-entry.entry)) _ c.held_at-place.ensures.state (e.found honest);
+    }
 
 pub returns-clause-done : goal.returns-clause-done
 returns-clause-done g c = λ h k stands.
@@ -46,6 +55,11 @@ returns-clause-done g c = λ h k stands.
 
 -- ---- the look-up is refused
 
+pub returns-in_err-entry-clause-order : goal.returns-in_err-entry-clause-order
+returns-in_err-entry-clause-order g c =
+    let p = err_from_is_err_and c.from_residual.result c.from_residual.ensures.1 in
+    rw (p.1, p.2) (record { follows = c.in_err-entry.ensures.order; idle = c.in_err-entry.ensures.idle })
+
 pub returns-in_err-entry-clause-done : goal.returns-in_err-entry-clause-done
 returns-in_err-entry-clause-done g c = λ h k stands.
     let now = g.M.Machine.now c.version.new.m in
@@ -53,9 +67,17 @@ returns-in_err-entry-clause-done g c = λ h k stands.
     handed (EndsHold state Holds c.args.key.now k c.version.new.self now) c.from_residual.result why c.from_residual.ensures.1
     (hold_refused c.args.key.now k c.version.new.self now why (c.in_err-entry.ensures.done h k stands) (c.in_err-entry.ensures.stands h k stands))
 
-pub returns-in_err-entry-clause-causes : goal.returns-in_err-entry-clause-causes
-returns-in_err-entry-clause-causes g c =
-    handed_cause g.M.Machine (resident c.args.self.now) (state c.args.self.now) (state c.version.new.self) c.args.m.now c.version.new.m c.in_err-entry.field-0.0 c.from_residual.result c.from_residual.ensures.1 c.in_err-entry.ensures.causes
-
-pub returns-in_err-entry-clause-absent : goal.returns-in_err-entry-clause-absent
-returns-in_err-entry-clause-absent g c = not_handed c.in_err-entry.field-0.0 c.from_residual.result c.from_residual.ensures.1 (λ same. c.in_err-entry.ensures.absent (ap (λ (x : Refusal). Err x) same))
+pub returns-in_err-entry-clause-tells : goal.returns-in_err-entry-clause-tells
+returns-in_err-entry-clause-tells g c =
+    let v = c.args.self.now in
+    let failed = c.in_err-entry.ensures in
+    let why = c.in_err-entry.field-0.0 in
+    let back = c.from_residual in
+    let p = err_from_is_err_and back.result back.ensures.1 in
+    record {
+      key = rw p.1 tt;
+      taken = rw p.1 tt;
+      causes = handed_cause g.M.Machine (resident v) (state v) (state c.version.new.self) c.args.m.now c.version.new.m why back.result back.ensures.1 failed.causes;
+      absent = not_handed why back.result back.ensures.1 (λ same. failed.absent (ap (λ (x : Refusal). Err x) same));
+      found = rw p.1 tt;
+    }

@@ -1,31 +1,78 @@
-use Rattle.std.proofs.Common.{◌≤◌, ◌^◌, ap, arith, sym, subst}
-use Rattle.std.specs.Prelude.{IfNone, IfOk, IfSome}
+use Rattle.std.proofs.Common.{◌≤◌, ◌^◌, inl, inr, ℕ, Option, option_map, ap, arith, refl, sym, subst}
 use Rattle.std.proofs.lemmas.Result.{err_from_is_err_and}
 use Rattle.std.specs.Option.{option_copied}
 use Rattle.fsd_formats.specs.declared.entry.Entry.{Entry}
 use Rattle.fsd_files.specs.Answers.{entry_after, next_reply}
-use Rattle.volume_contract.specs.Absent.{LacksLater, ShowsReached}
-use Rattle.volume_contract.specs.Causes.{Causes}
-use Rattle.volume_contract.specs.Ends.{IsLater, Looks}
+use Rattle.volume_contract.specs.Ends.{Looks}
 use Rattle.volume_contract.specs.Found.{ShowsReachedNext}
-use Rattle.volume_contract.specs.Healing.{IsMet}
 use Rattle.volume_contract.specs.Order.{Follows, next_steps}
+use Rattle.volume_contract.specs.Telling.{TellsNext}
 use Rattle.volume_state.specs.State.{resident, state}
 use Rattle.volume_state.specs.Volume.{VolumeValue}
 use Rattle.volume_layout.proofs.RootLaws.{planned_bounds}
 use Rattle.table_volume.proofs.MetLaws.{found_is_met}
 use Rattle.volume_changes.proofs.AbsentLaws.{none_met}
-use Rattle.volume_changes.proofs.CauseLaws.{met_one}
+use Rattle.volume_changes.proofs.CauseLaws.{handed_cause, met_one}
 use Rattle.volume_changes.proofs.EntryLaws.{fault_looked_up}
 use Rattle.volume_changes.proofs.FoundLaws.{one_met}
-use Rattle.volume_changes.proofs.NextLaws.{met_done, met_later, met_order, up_by}
+use Rattle.volume_changes.proofs.NextLaws.{busy_next, met_done, met_later, met_order, up_by}
+use Rattle.fsd_bytes.specs.declared.refusal.Refusal.TheVariants as Why
+use Rattle.volume_contract.specs.Causes.{HasCause}
+use Rattle.table_volume.proofs.DownLaws.{down_step, told_down}
 use Rattle.table_volume.proofs.files.VolumeFiles.next_after.Goals as goal
 
-pub returns-clause-order : goal.returns-clause-order
-returns-clause-order g c = subst (Follows (next_steps (state c.args.self.now))) (sym c.met_found.ensures) (met_order (state c.args.self.now) c.find_next.new.self c.in_ok-found.found (up_by c.args.self.now.down (sym c.in_ok-is_up.ensures)))
+pub returns-in_err-is_up-clause-order : goal.returns-in_err-is_up-clause-order
+returns-in_err-is_up-clause-order g c =
+    let v = c.args.self.now in
+    let why = c.in_err-is_up.field-0.0 in
+    let p = err_from_is_err_and c.from_residual.result c.from_residual.ensures.1 in
+    rw (p.1, p.2) (record { follows = inl (down_step v.down why (sym c.in_err-is_up.ensures)); idle = λ idle. refl })
 
-pub returns-clause-later : goal.returns-clause-later
-returns-clause-later g c = subst (λ r. IfOk r (IsLater (option_copied c.args.after))) (sym c.met_found.ensures) (met_later c.find_next.new.self c.in_ok-found.found (option_copied c.args.after) c.in_ok-found.ensures.later)
+pub returns-in_err-is_up-clause-tells : goal.returns-in_err-is_up-clause-tells
+returns-in_err-is_up-clause-tells g c =
+    let v = c.args.self.now in
+    let s = state v in
+    let now = g.M.Machine.now c.args.m.now in
+    let why = c.in_err-is_up.field-0.0 in
+    let back = c.from_residual in
+    let p = err_from_is_err_and back.result back.ensures.1 in
+    record {
+      later = rw p.1 tt;
+      met = rw p.1 tt;
+      causes = handed_cause g.M.Machine (resident v) s s c.args.m.now c.args.m.now why back.result back.ensures.1 (λ h. told_down (HasCause s s (resident v) now now) (λ place. tt) v.down why (sym c.in_err-is_up.ensures));
+      absent = rw p.1 tt;
+      found = rw p.1 tt;
+    }
+
+pub returns-in_err-found-clause-order : goal.returns-in_err-found-clause-order
+returns-in_err-found-clause-order g c =
+    let s = state c.args.self.now in
+    let up = up_by c.args.self.now.down (sym c.in_ok-is_up.ensures) in
+    let p = err_from_is_err_and c.from_residual-in_err-found.result c.from_residual-in_err-found.ensures.1 in
+    rw (p.1, p.2) (record { follows = inr (ap (λ (d : Option ℕ). option_map Why.Down d) up, inl c.in_err-found.ensures.cause); idle = λ idle. absurd (busy_next s up idle) })
+
+pub returns-in_err-found-clause-tells : goal.returns-in_err-found-clause-tells
+returns-in_err-found-clause-tells g c =
+    let v = c.args.self.now in
+    let failed = c.in_err-found.ensures in
+    let back = c.from_residual-in_err-found in
+    let p = err_from_is_err_and back.result back.ensures.1 in
+    record {
+      later = rw p.1 tt;
+      met = rw p.1 tt;
+      causes = handed_cause g.M.Machine (resident v) (state v) (state c.find_next.new.self) c.args.m.now c.find_next.new.m c.in_err-found.field-0.0 back.result back.ensures.1 failed.causes;
+      absent = rw p.1 tt;
+      found = rw p.1 tt;
+    }
+
+pub returns-clause-order : goal.returns-clause-order
+returns-clause-order g c =
+    let s = state c.args.self.now in
+    let up = up_by c.args.self.now.down (sym c.in_ok-is_up.ensures) in
+    record {
+      follows = subst (Follows (next_steps s)) (sym c.met_found.ensures) (met_order s c.find_next.new.self c.in_ok-found.found up);
+      idle = λ idle. absurd (busy_next s up idle);
+    }
 
 pub returns-clause-done : goal.returns-clause-done
 returns-clause-done g c = λ h k stands.
@@ -38,28 +85,19 @@ returns-in_err-found-clause-done g c =
     rw (p.1, p.2) (λ h k stands.
     fault_looked_up (next_reply k.mounted.volume (option_copied c.args.after)) (entry_after (option_copied c.args.after) k.mounted.volume.entries) c.in_err-found.field-0.0 (c.in_err-found.ensures.found h k stands))
 
-pub returns-clause-causes : goal.returns-clause-causes
-returns-clause-causes g c =
-    let w = c.args.self.now in
-    subst (λ r. Causes g.M.Machine (resident w) (state w) (state c.find_next.new.self) c.args.m.now c.find_next.new.m r) (sym c.met_found.ensures)
-    (met_one g.M.Machine (resident w) (state w) (state c.find_next.new.self) c.args.m.now c.find_next.new.m c.find_next.new.self c.in_ok-found.found c.in_ok-found.ensures.met)
-
-pub returns-clause-met : goal.returns-clause-met
-returns-clause-met g c =
+pub returns-clause-tells : goal.returns-clause-tells
+returns-clause-tells g c =
+    let v = c.args.self.now in
     let w = c.find_next.new.self in
+    let after = option_copied c.args.after in
     let found = c.in_ok-found.ensures in
     let bounds = planned_bounds c.self.inside.layout c.self.invariant.planned in
-    let most : c.find_next.new.self.layout.sectors ≤ 2 ^ 24 = omega (arith, bounds.sectors_most, ap (λ (v : VolumeValue). v.layout.sectors) c.self.view_is, ap (λ (v : VolumeValue). v.layout.sectors) c.in_ok-found.ensures.cache) in
-    subst (λ r. IfOk r (λ found. IfSome found (IsMet (state c.find_next.new.self)))) (sym c.met_found.ensures) (found_is_met w most found.told c.in_ok-found.found found.entry)
-
-pub returns-clause-absent : goal.returns-clause-absent
-returns-clause-absent g c =
-    let w = c.args.self.now in
-    subst (λ r. IfOk r (λ found. IfNone found (ShowsReached g.M.Machine (resident w) (state w) (state c.find_next.new.self) c.args.m.now c.find_next.new.m (LacksLater (option_copied c.args.after))))) (sym c.met_found.ensures)
-    (none_met _ c.find_next.new.self c.in_ok-found.found c.in_ok-found.ensures.absent)
-
-pub returns-clause-found : goal.returns-clause-found
-returns-clause-found g c =
-    let w = c.args.self.now in
-    let Is : Entry → Type 0 = ShowsReachedNext g.M.Machine (resident w) (state w) (state c.find_next.new.self) c.args.m.now c.find_next.new.m (option_copied c.args.after) in
-    subst (λ r. IfOk r (λ found. IfSome found Is)) (sym c.met_found.ensures) (one_met Is c.find_next.new.self c.in_ok-found.found c.in_ok-found.ensures.next)
+    let most : w.layout.sectors ≤ 2 ^ 24 = omega (arith, bounds.sectors_most, ap (λ (v : VolumeValue). v.layout.sectors) c.self.view_is, ap (λ (v : VolumeValue). v.layout.sectors) found.cache) in
+    let Is : Entry → Type 0 = ShowsReachedNext g.M.Machine (resident v) (state v) (state w) c.args.m.now c.find_next.new.m after in
+    subst (TellsNext g.M.Machine (resident v) (state v) (state w) c.args.m.now c.find_next.new.m after) (sym c.met_found.ensures) (record {
+      later = met_later w c.in_ok-found.found after found.later;
+      met = found_is_met w most found.told c.in_ok-found.found found.entry;
+      causes = met_one g.M.Machine (resident v) (state v) (state w) c.args.m.now c.find_next.new.m w c.in_ok-found.found found.met;
+      absent = none_met _ w c.in_ok-found.found found.absent;
+      found = one_met Is w c.in_ok-found.found found.next;
+    })

@@ -22,10 +22,9 @@ returns-in_err-is_up g c =
     let down : down_fault c.args.self.now.down ≡ Err c.in_err-is_up.field-0.0 = sym c.in_err-is_up.ensures in
     let p = err_from_is_err_and c.from_residual.result c.from_residual.ensures.1 in
     rw (p.1, p.2) (record {
-      order = inl (down_step v.down why down);
+      order = record { follows = inl (down_step v.down why down); idle = λ idle. refl };
       disk = reads_told (down_tells_none v.down why down) (reads_none at (g.met.M.Machine.only_now at));
       state = refl;
-      idle = λ idle. refl;
       stands = λ h k stands. stands;
       sees = tt;
     })
@@ -37,10 +36,9 @@ returns-in-Ok g c =
     let up = up_by c.args.self.now.down (sym c.in_ok-is_up.ensures) in
     let read = c.in-Ok.ensures in
     record {
-      order = (ap (option_map Why.Down) up, (tt, tt));
+      order = record { follows = (ap (option_map Why.Down) up, (tt, tt)); idle = λ idle. absurd (busy_single (state v) up idle) };
       disk = read.disk;
       state = refl;
-      idle = λ idle. absurd (busy_single (state v) up idle);
       stands = λ h k stands. let wears = read.disk.worn h in
           stands_worn v k (M.now c.args.m.now) (M.now c.read_slice.new.m) (g.met.M.Machine.short c.args.m.now (read.disk.trust.honest h)) (record { image = wears.image; windows = wears.windows }) stands;
       sees = read.sees;
@@ -53,10 +51,9 @@ returns-in-Err g c =
     let up = up_by c.args.self.now.down (sym c.in_ok-is_up.ensures) in
     let failed = c.in-Err.ensures in
     record {
-      order = inr (ap (option_map Why.Down) up, inl tt);
+      order = record { follows = inr (ap (option_map Why.Down) up, inl tt); idle = λ idle. absurd (busy_single (state v) up idle) };
       disk = reads_told refl failed.disk;
       state = refl;
-      idle = λ idle. absurd (busy_single (state v) up idle);
       stands = λ h k stands. let wears = failed.disk.worn h in
           stands_worn v k (M.now c.args.m.now) (M.now c.read_slice.new.m) (g.met.M.Machine.short c.args.m.now (failed.disk.trust.honest h)) (record { image = wears.image; windows = wears.windows }) stands;
       sees = tt;

@@ -1,7 +1,8 @@
-use Rattle.std.proofs.Common.{ℕ, true, ◌||◌, [], ◌∷◌, length, subst, sym, ◌∙◌}
-use Rattle.std.specs.Prelude.{MatchResult}
+use Rattle.std.proofs.Common.{◌≡◌, ℕ, true, ◌||◌, [], ◌∷◌, length, subst, sym, ◌∙◌, inl, refl, arith}
+use Rattle.std.specs.Prelude.{IfOk, MatchResult}
 use Rattle.sector_disk.specs.Machine.{Wears}
 use Rattle.sector_disk.proofs.CallLaws.{reads_as_writes, told_up, writes_none, writes_then, writes_told}
+use Rattle.fsd_bytes.specs.declared.key.Key.{Key}
 use Rattle.fsd_formats.specs.NamePage.{sectors_for}
 use Rattle.fsd_files.specs.Answers.{keep_given, put_outcome}
 use Rattle.fsd_files.specs.Files.{Change}
@@ -32,7 +33,11 @@ returns-in_err-may_put-clause-order g c =
     let s = state c.args.self.now in
     let len = length c.args.bytes.now in
     let why = c.in_err-may_put.field-0.0 in
-    handed (Follows (put_steps s c.args.keep len)) c.from_residual.result why c.from_residual.ensures.1 (tested_order s c.args.keep len why c.in_err-may_put.ensures)
+    let back = c.from_residual in
+    record {
+      follows = handed (Follows (put_steps s c.args.keep len)) back.result why back.ensures.1 (tested_order s c.args.keep len why c.in_err-may_put.ensures);
+      idle = λ idle. refl;
+    }
 
 pub returns-in_err-may_put-clause-disk : goal.returns-in_err-may_put-clause-disk
 returns-in_err-may_put-clause-disk g c =
@@ -44,21 +49,39 @@ returns-in_err-may_put-clause-disk g c =
     writes_told (told_up device_of c.from_residual.result why c.from_residual.ensures.1 ∙ put_places (state v) c.args.keep len why c.in_err-may_put.ensures)
     (writes_none at (λ left h is. g.met.M.Machine.only_now at left h is) (Leaves state Holds v may) (λ h. leaves_still v (g.M.Machine.now at) may))
 
-pub returns-in_err-may_put-clause-kept : goal.returns-in_err-may_put-clause-kept
-returns-in_err-may_put-clause-kept g c =
+pub returns-in_err-may_put-clause-writes : goal.returns-in_err-may_put-clause-writes
+returns-in_err-may_put-clause-writes g c =
+    let s = state c.args.self.now in
+    let need = sectors_for (length c.args.bytes.now) in
+    let ledger = g.M.Machine.ledger c.args.m.now in
+    record {
+      rest = λ h. touches_none (put_writes s need) (g.M.Machine.now c.args.m.now);
+      counted = λ tells. handed (λ r. Counted r (put_len s need) ledger ledger) c.from_residual.result c.in_err-may_put.field-0.0 c.from_residual.ensures.1 (omega arith, omega arith);
+    }
+
+pub returns-in_err-may_put-clause-keeps : goal.returns-in_err-may_put-clause-keeps
+returns-in_err-may_put-clause-keeps g c =
     let s = state c.args.self.now in
     let len = length c.args.bytes.now in
     let why = c.in_err-may_put.field-0.0 in
-    handed (λ r. MatchResult r (λ key. HasCounted true (forces_for_place s (sectors_for len) || forces_first s) s s) (λ x. Keeps (put_steps s c.args.keep len) x s s)) c.from_residual.result why c.from_residual.ensures.1
-    (tested_kept s c.args.keep len why c.in_err-may_put.ensures)
+    let back = c.from_residual in
+    record {
+      state = record { layout = refl; epoch = refl; unfinished = refl; readers = refl; down = inl refl };
+      kept = handed (λ r. MatchResult r (λ key. HasCounted true (forces_for_place s (sectors_for len) || forces_first s) s s) (λ x. Keeps (put_steps s c.args.keep len) x s s)) back.result why back.ensures.1
+          (tested_kept s c.args.keep len why c.in_err-may_put.ensures);
+    }
 
-pub returns-in_err-may_put-clause-causes : goal.returns-in_err-may_put-clause-causes
-returns-in_err-may_put-clause-causes g c =
+pub returns-in_err-may_put-clause-tells : goal.returns-in_err-may_put-clause-tells
+returns-in_err-may_put-clause-tells g c =
     let v = c.args.self.now in
     let at = c.args.m.now in
     let why = c.in_err-may_put.field-0.0 in
-    handed_cause g.M.Machine (resident v) (state v) (state v) at at why c.from_residual.result c.from_residual.ensures.1
-    (λ honest. put_test_cause (state v) c.args.keep (length c.args.bytes.now) (resident v) (g.M.Machine.now at) (g.M.Machine.now at) why c.in_err-may_put.ensures)
+    let back = c.from_residual in
+    record {
+      name = handed (λ r. IfOk r (λ (key : Key). key.name ≡ c.args.name.now)) back.result why back.ensures.1 tt;
+      causes = handed_cause g.M.Machine (resident v) (state v) (state v) at at why back.result back.ensures.1
+          (λ honest. put_test_cause (state v) c.args.keep (length c.args.bytes.now) (resident v) (g.M.Machine.now at) (g.M.Machine.now at) why c.in_err-may_put.ensures);
+    }
 
 pub returns-in_err-may_put-clause-done : goal.returns-in_err-may_put-clause-done
 returns-in_err-may_put-clause-done g c h k stands =
@@ -86,37 +109,51 @@ pub returns-in_err-draft-clause-order : goal.returns-in_err-draft-clause-order
 returns-in_err-draft-clause-order g c =
     let s = state c.args.self.now in
     let len = length c.args.bytes.now in
+    let tests = c.in_ok-may_put.ensures in
     let why = c.in_err-draft.field-0.0 in
-    handed (Follows (put_steps s c.args.keep len)) c.from_residual-in_err-draft.result why c.from_residual-in_err-draft.ensures.1 (prepared_order s c.args.keep len c.in_ok-may_put.ensures why c.in_err-draft.ensures.prepares.order)
+    let failed = c.in_err-draft.ensures in
+    let back = c.from_residual-in_err-draft in
+    record {
+      follows = handed (Follows (put_steps s c.args.keep len)) back.result why back.ensures.1 (prepared_order s c.args.keep len tests why failed.prepares.order);
+      idle = λ idle. failed.idle (prepare_idle s c.args.keep len tests idle);
+    }
 
 pub returns-in_err-draft-clause-disk : goal.returns-in_err-draft-clause-disk
 returns-in_err-draft-clause-disk g c = writes_told (told_up device_of c.from_residual-in_err-draft.result c.in_err-draft.field-0.0 c.from_residual-in_err-draft.ensures.1) c.in_err-draft.ensures.disk
 
-pub returns-in_err-draft-clause-counted : goal.returns-in_err-draft-clause-counted
-returns-in_err-draft-clause-counted g c tells =
+pub returns-in_err-draft-clause-writes : goal.returns-in_err-draft-clause-writes
+returns-in_err-draft-clause-writes g c =
     let n = put_len (state c.args.self.now) (sectors_for (length c.args.bytes.now)) in
-    handed (λ r. Counted r n (g.M.Machine.ledger c.args.m.now) (g.M.Machine.ledger c.prepared.new.m)) c.from_residual-in_err-draft.result c.in_err-draft.field-0.0 c.from_residual-in_err-draft.ensures.1 (c.in_err-draft.ensures.counted tells)
+    let failed = c.in_err-draft.ensures in
+    record {
+      rest = failed.rest;
+      counted = λ tells. handed (λ r. Counted r n (g.M.Machine.ledger c.args.m.now) (g.M.Machine.ledger c.prepared.new.m)) c.from_residual-in_err-draft.result c.in_err-draft.field-0.0 c.from_residual-in_err-draft.ensures.1 (failed.counted tells);
+    }
 
-pub returns-in_err-draft-clause-state : goal.returns-in_err-draft-clause-state
-returns-in_err-draft-clause-state g c =
-    handed (λ r. GoesOn (downs r) (state c.args.self.now) (state c.prepared.new.self)) c.from_residual-in_err-draft.result c.in_err-draft.field-0.0 c.from_residual-in_err-draft.ensures.1 c.in_err-draft.ensures.prepares.state
-
-pub returns-in_err-draft-clause-idle : goal.returns-in_err-draft-clause-idle
-returns-in_err-draft-clause-idle g c idle = c.in_err-draft.ensures.idle (prepare_idle (state c.args.self.now) c.args.keep (length c.args.bytes.now) c.in_ok-may_put.ensures idle)
-
-pub returns-in_err-draft-clause-kept : goal.returns-in_err-draft-clause-kept
-returns-in_err-draft-clause-kept g c =
+pub returns-in_err-draft-clause-keeps : goal.returns-in_err-draft-clause-keeps
+returns-in_err-draft-clause-keeps g c =
     let s = state c.args.self.now in
     let t = state c.prepared.new.self in
     let len = length c.args.bytes.now in
+    let tests = c.in_ok-may_put.ensures in
     let why = c.in_err-draft.field-0.0 in
-    handed (λ r. MatchResult r (λ key. HasCounted true (forces_for_place s (sectors_for len) || forces_first s) s t) (λ x. Keeps (put_steps s c.args.keep len) x s t)) c.from_residual-in_err-draft.result why c.from_residual-in_err-draft.ensures.1
-    (prepared_kept s c.args.keep len c.in_ok-may_put.ensures t why c.in_err-draft.ensures.prepares.kept)
+    let failed = c.in_err-draft.ensures in
+    let back = c.from_residual-in_err-draft in
+    record {
+      state = handed (λ r. GoesOn (downs r) s t) back.result why back.ensures.1 failed.prepares.state;
+      kept = handed (λ r. MatchResult r (λ key. HasCounted true (forces_for_place s (sectors_for len) || forces_first s) s t) (λ x. Keeps (put_steps s c.args.keep len) x s t)) back.result why back.ensures.1
+          (prepared_kept s c.args.keep len tests t why failed.prepares.kept);
+    }
 
-pub returns-in_err-draft-clause-causes : goal.returns-in_err-draft-clause-causes
-returns-in_err-draft-clause-causes g c =
+pub returns-in_err-draft-clause-tells : goal.returns-in_err-draft-clause-tells
+returns-in_err-draft-clause-tells g c =
     let v = c.args.self.now in
-    handed_cause g.M.Machine (resident v) (state v) (state c.prepared.new.self) c.args.m.now c.prepared.new.m c.in_err-draft.field-0.0 c.from_residual-in_err-draft.result c.from_residual-in_err-draft.ensures.1 c.in_err-draft.ensures.causes
+    let why = c.in_err-draft.field-0.0 in
+    let back = c.from_residual-in_err-draft in
+    record {
+      name = handed (λ r. IfOk r (λ (key : Key). key.name ≡ c.args.name.now)) back.result why back.ensures.1 tt;
+      causes = handed_cause g.M.Machine (resident v) (state v) (state c.prepared.new.self) c.args.m.now c.prepared.new.m why back.result back.ensures.1 c.in_err-draft.ensures.causes;
+    }
 
 pub returns-in_err-draft-clause-done : goal.returns-in_err-draft-clause-done
 returns-in_err-draft-clause-done g c h k stands =
@@ -147,7 +184,14 @@ entered-requires-clause-place g c = subst (λ (n : ℕ). IsPlace c.prepared.new.
 
 pub returns-clause-order : goal.returns-clause-order
 returns-clause-order g c =
-    put_order (state c.args.self.now) c.args.keep (length c.args.bytes.now) c.in_ok-may_put.ensures (state c.prepared.new.self) c.in_ok-draft.ensures.prepares.kept.went c.entered.result c.entered.ensures.order
+    let s = state c.args.self.now in
+    let len = length c.args.bytes.now in
+    let prepares = c.in_ok-draft.ensures.prepares in
+    record {
+      follows = put_order s c.args.keep len c.in_ok-may_put.ensures (state c.prepared.new.self) prepares.kept.went c.entered.result c.entered.ensures.order;
+      idle = λ idle.
+          absurd (busy_store s (sectors_for len) (prepares.order.1).0 (idle_front (store_steps s (sectors_for len)) (last s (sectors_for len) ∷ []) (prepare_idle s c.args.keep len c.in_ok-may_put.ensures idle)));
+    }
 
 pub returns-clause-disk : goal.returns-clause-disk
 returns-clause-disk g c =
@@ -164,31 +208,37 @@ returns-clause-disk g c =
     let back = reads.trust.honest h in
     leaves_entering v mid need old now left (g.met.M.Machine.short c.prepared.new.m back) (first.windows back) (first.quiet back) (λ k stands. (c.in_ok-draft.ensures.done back k stands).0) (first.exit back) wears)
 
-pub returns-clause-counted : goal.returns-clause-counted
-returns-clause-counted g c tells =
+pub returns-clause-writes : goal.returns-clause-writes
+returns-clause-writes g c =
     let M = g.M.Machine in
-    let reads = c.entered.ensures.disk in
-    change_counts (put_len (state c.args.self.now) (sectors_for (length c.args.bytes.now))) (M.ledger c.args.m.now) (M.ledger c.prepared.new.m) (M.ledger c.entered.new.m) c.entered.result
-    (c.in_ok-draft.ensures.counted (reads.trust.tells tells)) (reads.ledger tells)
-
-pub returns-clause-state : goal.returns-clause-state
-returns-clause-state g c =
-    put_goes (state c.args.self.now) (state c.prepared.new.self) c.args.keep (length c.args.bytes.now) c.in_ok-may_put.ensures c.in_ok-draft.draft c.in_ok-draft.ensures.prepares (state c.entered.new.self) c.entered.result c.entered.ensures.enters
-
-pub returns-clause-idle : goal.returns-clause-idle
-returns-clause-idle g c idle =
     let s = state c.args.self.now in
+    let need = sectors_for (length c.args.bytes.now) in
+    let first = c.in_ok-draft.ensures in
+    let reads = c.entered.ensures.disk in
+    record {
+      rest = λ h.
+          let back = reads.trust.honest h in
+          touches_read (put_writes s need) (M.now c.args.m.now) (M.now c.prepared.new.m) (M.now c.entered.new.m) (first.disk.windows back) (first.rest back) (reads.worn h);
+      counted = λ tells. change_counts (put_len s need) (M.ledger c.args.m.now) (M.ledger c.prepared.new.m) (M.ledger c.entered.new.m) c.entered.result (first.counted (reads.trust.tells tells)) (reads.ledger tells);
+    }
+
+pub returns-clause-keeps : goal.returns-clause-keeps
+returns-clause-keeps g c =
+    let s = state c.args.self.now in
+    let mid = state c.prepared.new.self in
+    let new = state c.entered.new.self in
     let len = length c.args.bytes.now in
-    let order = c.in_ok-draft.ensures.prepares.order in
-    absurd (busy_store s (sectors_for len) (order.1).0 (idle_front (store_steps s (sectors_for len)) (last s (sectors_for len) ∷ []) (prepare_idle s c.args.keep len c.in_ok-may_put.ensures idle)))
+    let tests = c.in_ok-may_put.ensures in
+    let e = c.in_ok-draft.draft in
+    let prepares = c.in_ok-draft.ensures.prepares in
+    let entered = c.entered.ensures in
+    record {
+      state = put_goes s mid c.args.keep len tests e prepares new c.entered.result entered.enters;
+      kept = put_counts s mid c.args.keep len tests e prepares new c.entered.result entered.order entered.enters;
+    }
 
-pub returns-clause-kept : goal.returns-clause-kept
-returns-clause-kept g c =
-    put_counts (state c.args.self.now) (state c.prepared.new.self) c.args.keep (length c.args.bytes.now) c.in_ok-may_put.ensures c.in_ok-draft.draft c.in_ok-draft.ensures.prepares (state c.entered.new.self) c.entered.result c.entered.ensures.order
-    c.entered.ensures.enters
-
-pub returns-clause-causes : goal.returns-clause-causes
-returns-clause-causes g c =
+pub returns-clause-tells : goal.returns-clause-tells
+returns-clause-tells g c =
     let v = c.args.self.now in
     let mid = c.prepared.new.self in
     let s = state v in
@@ -198,9 +248,12 @@ returns-clause-causes g c =
     let tests = c.in_ok-may_put.ensures in
     let prepares = c.in_ok-draft.ensures.prepares in
     let reads = c.entered.ensures.disk in
-    causes_behind g.M.Machine s m t (resident v) (resident mid) c.args.m.now c.prepared.new.m c.entered.new.m (λ h. c.in_ok-draft.ensures.behind (reads.trust.honest h))
-    (slots_stay s m c.args.keep len tests c.in_ok-draft.draft prepares t c.entered.result c.entered.ensures.enters) (layout_stays s m c.args.keep len tests c.in_ok-draft.draft prepares t c.entered.result c.entered.ensures.enters)
-    (λ h. reads.worn h) c.entered.result c.entered.ensures.causes
+    record {
+      name = c.entered.ensures.name;
+      causes = causes_behind g.M.Machine s m t (resident v) (resident mid) c.args.m.now c.prepared.new.m c.entered.new.m (λ h. c.in_ok-draft.ensures.behind (reads.trust.honest h))
+          (slots_stay s m c.args.keep len tests c.in_ok-draft.draft prepares t c.entered.result c.entered.ensures.enters) (layout_stays s m c.args.keep len tests c.in_ok-draft.draft prepares t c.entered.result c.entered.ensures.enters)
+          (λ h. reads.worn h) c.entered.result c.entered.ensures.causes;
+    }
 
 pub returns-clause-done : goal.returns-clause-done
 returns-clause-done g c h k stands =
@@ -213,14 +266,3 @@ returns-clause-done g c h k stands =
     let p = ready.0 in
     put_ends v mid c.args.name.now bytes c.args.keep k (M.now c.args.m.now) (M.now c.prepared.new.m) e c.in_ok-may_put.ensures.1.0 stands.fits c.in_ok-draft.ensures.prepares.kept p c.entered.new.self (M.now c.entered.new.m)
     c.in_ok-draft.ensures.place.count c.in_ok-draft.ensures.length c.entered.result (c.entered.ensures.done h bytes p.after p.stands c.in_ok-draft.ensures.length ready.1)
-
-pub returns-in_err-may_put-clause-rest : goal.returns-in_err-may_put-clause-rest
-returns-in_err-may_put-clause-rest g c h = touches_none (put_writes (state c.args.self.now) (sectors_for (length c.args.bytes.now))) (g.M.Machine.now c.args.m.now)
-
-pub returns-clause-rest : goal.returns-clause-rest
-returns-clause-rest g c h =
-    let M = g.M.Machine in
-    let first = c.in_ok-draft.ensures in
-    let reads = c.entered.ensures.disk in
-    let back = reads.trust.honest h in
-    touches_read (put_writes (state c.args.self.now) (sectors_for (length c.args.bytes.now))) (M.now c.args.m.now) (M.now c.prepared.new.m) (M.now c.entered.new.m) (first.disk.windows back) (first.rest back) (reads.worn h)

@@ -1,14 +1,10 @@
-use Rattle.std.proofs.Common.{◌≡◌, ℕ, Err, ap, arith}
-use Rattle.std.specs.Prelude.{IsTrue}
+use Rattle.std.proofs.Common.{Err, [], ◌∷◌, ap, arith}
+use Rattle.std.proofs.lemmas.Result.{err_from_is_err_and}
 use Rattle.std.specs.FinMap.{find}
-use Rattle.volume_layout.specs.Layout.{is_data}
 use Rattle.run_table.specs.RunTable.{sectors_of}
 use Rattle.fsd_bytes.specs.Keys.{key_cmp}
 use Rattle.volume_contract.specs.Ends.{Reads}
 use Rattle.fsd_bytes.specs.declared.refusal.Refusal.{Refusal}
-use Rattle.fsd_bytes.specs.declared.refusal.Refusal.TheVariants as Why
-use Rattle.sector_disk.specs.declared.sector.Sector.TheVariants.{Damaged}
-use Rattle.sector_disk.specs.Image.{sector_at}
 use Rattle.sector_disk.proofs.CallLaws.{reads_then}
 use Rattle.fsd_files.specs.Answers.{entry_of}
 use Rattle.volume_state.specs.State.{resident, state}
@@ -17,6 +13,8 @@ use Rattle.volume_changes.proofs.CauseLaws.{data_causes, handed_cause}
 use Rattle.volume_changes.proofs.FoundLaws.{range_found}
 use Rattle.volume_state.proofs.RangeLaws.{all_below, both_kept, busy_read, data_read, handed, none_damaged, reads_found, reads_refused}
 use Rattle.volume_state.specs.WearLaws.{stands_worn}
+use Rattle.volume_contract.specs.Order.{Data, entry_steps}
+use Rattle.volume_state.proofs.StepLaws.{comes_more, idle_front}
 use Rattle.table_volume.proofs.files.VolumeFiles.read.Goals as goal
 
 pub read_version-requires-clause-within : goal.read_version-requires-clause-within
@@ -25,13 +23,13 @@ read_version-requires-clause-within g c k d lt =
     omega (arith, below, c.requires, c.version.ensures.disk.uses.sectors)
 
 pub returns-clause-order : goal.returns-clause-order
-returns-clause-order g c = data_read (state c.args.self.now) c.read_version.result c.in_ok-e.ensures.order c.read_version.ensures.cause
+returns-clause-order g c =
+    let s = state c.args.self.now in
+    let e = c.in_ok-e.ensures in
+    record { follows = data_read s c.read_version.result e.order c.read_version.ensures.cause; idle = λ idle. absurd (busy_read s e.order idle) }
 
 pub returns-clause-disk : goal.returns-clause-disk
 returns-clause-disk g c = reads_then c.in_ok-e.ensures.disk c.read_version.ensures.disk
-
-pub returns-clause-idle : goal.returns-clause-idle
-returns-clause-idle g c = λ idle. absurd (busy_read (state c.args.self.now) c.in_ok-e.ensures.order idle)
 
 pub returns-clause-stands : goal.returns-clause-stands
 returns-clause-stands g c = λ h k stands.
@@ -52,6 +50,14 @@ returns-clause-done g c = λ h k stands.
     (c.in_ok-e.ensures.done back k stands) (both_kept (M.now mid).image _ c.args.key.now k.mounted.volume.files k.mounted.volume.entries there.disk.described.lists there.disk.described.kept)
     (λ f len kept. c.read_version.ensures.gives h f _ len kept)
 
+pub returns-in_err-e-clause-order : goal.returns-in_err-e-clause-order
+returns-in_err-e-clause-order g c =
+    let s = state c.args.self.now in
+    let why = c.in_err-e.field-0.0 in
+    let failed = c.in_err-e.ensures in
+    let p = err_from_is_err_and c.from_residual.result c.from_residual.ensures.1 in
+    rw (p.1, p.2) (record { follows = comes_more (entry_steps s) (Data ∷ []) why failed.order; idle = λ idle. failed.idle (idle_front (entry_steps s) (Data ∷ []) idle) })
+
 pub returns-in_err-e-clause-done : goal.returns-in_err-e-clause-done
 returns-in_err-e-clause-done g c = λ h k stands.
     let i = (g.M.Machine.now c.args.m.now).image in
@@ -63,40 +69,36 @@ returns-in_err-e-clause-done g c = λ h k stands.
     (reads_refused i j j _ file e c.args.from c.args.buf.now c.args.buf.now c.in_err-e.field-0.0 (c.in_err-e.ensures.done h k stands)
     (both_kept j _ c.args.key.now k.mounted.volume.files k.mounted.volume.entries there.disk.described.lists there.disk.described.kept))
 
-pub returns-clause-within : goal.returns-clause-within
-returns-clause-within g c = λ s is h. c.in_ok-e.ensures.within s (c.read_version.ensures.there s is h)
-
-pub returns-in_err-e-clause-within : goal.returns-in_err-e-clause-within
-returns-in_err-e-clause-within g c =
-    let s = state c.args.self.now in
-    handed (λ r. (n : ℕ) → r ≡ Err (Why.Damaged n) → g.M.Machine.honest c.version.new.m → IsTrue (is_data s.layout n)) c.from_residual.result c.in_err-e.field-0.0 c.from_residual.ensures.1
-    (λ n is h. absurd (none_damaged s c.in_err-e.field-0.0 n c.in_err-e.ensures.order (cc is)))
-
-pub returns-in_err-e-clause-damaged : goal.returns-in_err-e-clause-damaged
-returns-in_err-e-clause-damaged g c =
+pub returns-clause-tells : goal.returns-clause-tells
+returns-clause-tells g c =
     let M = g.M.Machine in
-    let j = (M.now c.version.new.m).image in
-    handed (λ r. (s : ℕ) → r ≡ Err (Why.Damaged s) → M.honest c.version.new.m → sector_at j s ≡ Damaged) c.from_residual.result c.in_err-e.field-0.0 c.from_residual.ensures.1
-    (λ s is h. absurd (none_damaged (state c.args.self.now) c.in_err-e.field-0.0 s c.in_err-e.ensures.order (cc is)))
-
-pub returns-clause-causes : goal.returns-clause-causes
-returns-clause-causes g c =
-    data_causes g.M.Machine (resident c.args.self.now) (state c.args.self.now) (state c.version.new.self) c.args.m.now c.read_version.new.m c.read_version.result c.read_version.ensures.cause
-
-pub returns-in_err-e-clause-causes : goal.returns-in_err-e-clause-causes
-returns-in_err-e-clause-causes g c =
-    handed_cause g.M.Machine (resident c.args.self.now) (state c.args.self.now) (state c.version.new.self) c.args.m.now c.version.new.m c.in_err-e.field-0.0 c.from_residual.result c.from_residual.ensures.1 c.in_err-e.ensures.causes
-
-pub returns-in_err-e-clause-absent : goal.returns-in_err-e-clause-absent
-returns-in_err-e-clause-absent g c = not_handed c.in_err-e.field-0.0 c.from_residual.result c.from_residual.ensures.1 (λ same. c.in_err-e.ensures.absent (ap (λ (x : Refusal). Err x) same))
-
-pub returns-clause-absent : goal.returns-clause-absent
-returns-clause-absent g c = not_data c.read_version.result c.read_version.ensures.cause
-
-pub returns-clause-found : goal.returns-clause-found
-returns-clause-found g c =
     let w = c.args.self.now in
+    let s = state w in
+    let t = state c.version.new.self in
     let e = c.in_ok-e.ensures in
     let r = c.read_version.ensures in
-    range_found g.M.Machine (resident w) (state w) (state c.version.new.self) c.args.m.now c.version.new.m c.read_version.new.m c.args.key.now c.in_ok-e.e c.args.from c.args.buf.now c.read_version.new.buf
-    _ e.key e.taken e.found e.disk.worn r.disk c.read_version.result r.count r.whole r.gives
+    record {
+      most = r.most;
+      damaged = λ n is h. record { within = e.within n (r.there n is h); damaged = r.damaged n is h };
+      causes = data_causes M (resident w) s t c.args.m.now c.read_version.new.m c.read_version.result r.cause;
+      absent = not_data c.read_version.result r.cause;
+      found = range_found M (resident w) s t c.args.m.now c.version.new.m c.read_version.new.m c.args.key.now c.in_ok-e.e c.args.from c.args.buf.now c.read_version.new.buf
+          _ e.key e.taken e.found e.disk.worn r.disk c.read_version.result r.count r.whole r.gives;
+    }
+
+pub returns-in_err-e-clause-tells : goal.returns-in_err-e-clause-tells
+returns-in_err-e-clause-tells g c =
+    let M = g.M.Machine in
+    let v = c.args.self.now in
+    let s = state v in
+    let failed = c.in_err-e.ensures in
+    let why = c.in_err-e.field-0.0 in
+    let back = c.from_residual in
+    let p = err_from_is_err_and back.result back.ensures.1 in
+    record {
+      most = rw p.1 tt;
+      damaged = rw (p.1, p.2) (λ n is h. absurd (none_damaged s why n failed.order (cc is)));
+      causes = handed_cause M (resident v) s (state c.version.new.self) c.args.m.now c.version.new.m why back.result back.ensures.1 failed.causes;
+      absent = not_handed why back.result back.ensures.1 (λ same. failed.absent (ap (λ (x : Refusal). Err x) same));
+      found = rw p.1 tt;
+    }

@@ -28,13 +28,10 @@ returns-in_err-is_up g c =
     let down = sym c.in_err-is_up.ensures in
     let p = err_from_is_err_and c.from_residual.result c.from_residual.ensures.1 in
     rw (p.1, p.2) (record {
-      order = inl (down_step v.down why down);
+      order = record { follows = inl (down_step v.down why down); idle = λ idle. refl };
       disk = reads_told (down_tells_none v.down why down) (reads_none at (g.met.M.Machine.only_now at));
       state = refl;
-      idle = λ idle. refl;
-      count = tt;
-      within = λ s is h. absurd (told_down (λ (r : Refusal). r ≡ Why.Damaged s → ⊥) (λ place e. absurd (cc e)) v.down why down (cc is));
-      damaged = λ s is h. absurd (told_down (λ (r : Refusal). r ≡ Why.Damaged s → ⊥) (λ place e. absurd (cc e)) v.down why down (cc is));
+      tells = record { count = tt; damaged = λ s is h. absurd (told_down (λ (r : Refusal). r ≡ Why.Damaged s → ⊥) (λ place e. absurd (cc e)) v.down why down (cc is)) };
       stands = λ h k stands. stands;
       done = λ h k stands reading there len. absurd (not_down v k now why down stands);
     })
@@ -57,13 +54,14 @@ read_version-requires-clause-within g c k d lt =
 
 pub returns-clause-order : goal.returns-clause-order
 returns-clause-order g c =
-    held_follows (state c.args.self.now) c.read_version.result (ap (option_map Why.Down) (up_by c.args.self.now.down (sym c.in_ok-is_up.ensures))) c.read_version.ensures.cause
+    let s = state c.args.self.now in
+    let up = ap (option_map Why.Down) (up_by c.args.self.now.down (sym c.in_ok-is_up.ensures)) in
+    record { follows = held_follows s c.read_version.result up c.read_version.ensures.cause; idle = λ idle. absurd (busy_held s up idle) }
 
-pub returns-clause-idle : goal.returns-clause-idle
-returns-clause-idle g c = λ idle. absurd (busy_held (state c.args.self.now) (ap (option_map Why.Down) (up_by c.args.self.now.down (sym c.in_ok-is_up.ensures))) idle)
-
-pub returns-clause-within : goal.returns-clause-within
-returns-clause-within g c s is h = c.requires.held.within s (c.read_version.ensures.there s is h)
+pub returns-clause-tells : goal.returns-clause-tells
+returns-clause-tells g c =
+    let read = c.read_version.ensures in
+    record { count = read.count; damaged = λ s is h. record { within = c.requires.held.within s (read.there s is h); damaged = read.damaged s is h } }
 
 pub returns-clause-stands : goal.returns-clause-stands
 returns-clause-stands g c = λ h k stands.

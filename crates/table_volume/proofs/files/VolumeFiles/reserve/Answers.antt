@@ -31,14 +31,14 @@ returns-in_err-may_put g c =
     let may = force_writes v.layout in
     let p = err_from_is_err_and c.from_residual.result c.from_residual.ensures.1 in
     rw (p.1, p.2) (record {
-      order = begin_order (state v) len why comes;
+      order = record { follows = begin_order (state v) len why comes; idle = λ idle. refl };
       disk = writes_told (put_places (state v) None len why comes) (writes_none at (λ left h is. g.met.M.Machine.only_now at left h is) (Leaves state Holds v may) (λ h. leaves_still v now may));
-      rest = λ h. touches_none may now;
-      counted = λ tells. (omega arith, omega arith);
-      draft = tt;
-      state = record { layout = refl; epoch = refl; unfinished = refl; readers = refl; down = inl refl };
-      idle = λ idle. refl;
-      kept = begin_kept (state v) len why comes;
+      writes = record { rest = λ h. touches_none may now; counted = λ tells. (omega arith, omega arith) };
+      keeps = record {
+        draft = tt;
+        state = record { layout = refl; epoch = refl; unfinished = refl; readers = refl; down = inl refl };
+        kept = begin_kept (state v) len why comes;
+      };
       causes = λ honest. put_test_cause (state v) None len (resident v) now now why comes;
       done = λ h k stands. begin_ends v len k now why comes stands;
     })
@@ -65,14 +65,16 @@ returns-in_err-runs g c =
     let places = subst (λ (n : ℕ). Places n (state v) (state new) (Err why)) same failed.places in
     let p = err_from_is_err_and c.from_residual-in_err-runs.result c.from_residual-in_err-runs.ensures.1 in
     rw (p.1, p.2) (record {
-      order = unplaced_order (state v) len tests why places.order;
+      order = record {
+        follows = unplaced_order (state v) len tests why places.order;
+        idle = λ idle. failed.idle (subst (λ (n : ℕ). is_idle (place_steps (state v) n) ≡ true) (sym same) (placing_idle (state v) len tests idle));
+      };
       disk = failed.disk;
-      rest = failed.rest;
-      counted = λ tells. subst (λ (n : ℕ). Counted {T = Draft} (Err why) (reserve_len (state v) n) (M.ledger c.args.m.now) (M.ledger c.placed.new.m)) same (failed.counted tells);
-      draft = tt;
-      state = places.state;
-      idle = λ idle. failed.idle (subst (λ (n : ℕ). is_idle (place_steps (state v) n) ≡ true) (sym same) (placing_idle (state v) len tests idle));
-      kept = unplaced_kept (state v) len tests (state new) why places.kept;
+      writes = record {
+        rest = failed.rest;
+        counted = λ tells. subst (λ (n : ℕ). Counted {T = Draft} (Err why) (reserve_len (state v) n) (M.ledger c.args.m.now) (M.ledger c.placed.new.m)) same (failed.counted tells);
+      };
+      keeps = record { draft = tt; state = places.state; kept = unplaced_kept (state v) len tests (state new) why places.kept };
       causes = failed.causes;
       done = λ h k stands. unplaced_ends v len k tests.1.0 stands.fits new now why places.order (subst (λ (n : ℕ). EndsPlace n k new now (Err why)) same (failed.done h k stands));
     })
@@ -107,14 +109,17 @@ returns g c =
     let e = c.begun.ensures in
     let places = subst (λ (n : ℕ). Places n (state v) (state mid) (Ok runs)) same placed.places in
     record {
-      order = placed_order (state v) len tests places.order;
+      order = record { follows = placed_order (state v) len tests places.order; idle = λ idle. absurd (placed_busy (state v) len tests (places.order.1).0 idle) };
       disk = placed.disk;
-      rest = placed.rest;
-      counted = λ tells. subst (λ (n : ℕ). (M.ledger c.placed.new.m).written ≡ (M.ledger c.args.m.now).written + reserve_len (state v) n) same (placed.counted tells);
-      draft = (e.length ∙ c.small-size.ensures, e.draft);
-      state = tt;
-      idle = λ idle. absurd (placed_busy (state v) len tests (places.order.1).0 idle);
-      kept = reserves (sectors_for len) (state v) (state mid) (state new) runs c.begun.result places.kept e.runs e.serial e.takes;
+      writes = record {
+        rest = placed.rest;
+        counted = λ tells. subst (λ (n : ℕ). (M.ledger c.placed.new.m).written ≡ (M.ledger c.args.m.now).written + reserve_len (state v) n) same (placed.counted tells);
+      };
+      keeps = record {
+        draft = (e.length ∙ c.small-size.ensures, e.draft);
+        state = tt;
+        kept = reserves (sectors_for len) (state v) (state mid) (state new) runs c.begun.result places.kept e.runs e.serial e.takes;
+      };
       causes = tt;
       done = λ h k stands.
           let p = subst (λ (n : ℕ). EndsPlace n k mid now (Ok runs)) same (placed.done h k stands) in

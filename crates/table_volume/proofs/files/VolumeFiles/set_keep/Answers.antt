@@ -1,4 +1,4 @@
-use Rattle.std.proofs.Common.{◌∷◌, ◌∙◌}
+use Rattle.std.proofs.Common.{◌∷◌, ◌∙◌, inl, refl, arith}
 use Rattle.std.proofs.lemmas.Result.{err_from_is_err_and}
 use Rattle.sector_disk.proofs.CallLaws.{reads_as_writes, told_up, writes_none, writes_then, writes_told}
 use Rattle.sector_disk.specs.Machine.{Wears}
@@ -27,7 +27,10 @@ pub returns-in_err-may_keep-clause-order : goal.returns-in_err-may_keep-clause-o
 returns-in_err-may_keep-clause-order g c =
     let s = state c.args.self.now in
     let p = err_from_is_err_and c.from_residual.result c.from_residual.ensures.1 in
-    rw (p.1, p.2) (comes_more (keep_tests s c.args.keep) (by_itself s ∷ look_steps) c.in_err-may_keep.field-0.0 c.in_err-may_keep.ensures)
+    rw (p.1, p.2) (record {
+      follows = comes_more (keep_tests s c.args.keep) (by_itself s ∷ look_steps) c.in_err-may_keep.field-0.0 c.in_err-may_keep.ensures;
+      idle = λ idle. refl;
+    })
 
 pub returns-in_err-may_keep-clause-disk : goal.returns-in_err-may_keep-clause-disk
 returns-in_err-may_keep-clause-disk g c =
@@ -36,11 +39,22 @@ returns-in_err-may_keep-clause-disk g c =
     writes_told (told_up device_of c.from_residual.result c.in_err-may_keep.field-0.0 c.from_residual.ensures.1 ∙ keep_places (state v) c.args.keep c.in_err-may_keep.field-0.0 c.in_err-may_keep.ensures)
     (writes_none at (λ left h is. g.met.M.Machine.only_now at left h is) (Leaves state Holds v (force_writes v.layout)) (λ h. leaves_still v (g.M.Machine.now at) (force_writes v.layout)))
 
-pub returns-in_err-may_keep-clause-kept : goal.returns-in_err-may_keep-clause-kept
-returns-in_err-may_keep-clause-kept g c =
+pub returns-in_err-may_keep-clause-writes : goal.returns-in_err-may_keep-clause-writes
+returns-in_err-may_keep-clause-writes g c =
+    let p = err_from_is_err_and c.from_residual.result c.from_residual.ensures.1 in
+    rw (p.1, p.2) (record {
+      rest = λ h. touches_none (force_writes c.args.self.now.layout) (g.M.Machine.now c.args.m.now);
+      counted = λ tells. (omega arith, omega arith);
+    })
+
+pub returns-in_err-may_keep-clause-keeps : goal.returns-in_err-may_keep-clause-keeps
+returns-in_err-may_keep-clause-keeps g c =
     let s = state c.args.self.now in
     let p = err_from_is_err_and c.from_residual.result c.from_residual.ensures.1 in
-    rw (p.1, p.2) (keeps_refused (keep_refusals (state c.args.self.now) c.args.keep) (by_itself s ∷ look_steps) c.in_err-may_keep.field-0.0 s c.in_err-may_keep.ensures)
+    rw (p.1, p.2) (record {
+      state = record { layout = refl; epoch = refl; unfinished = refl; readers = refl; down = inl refl };
+      kept = keeps_refused (keep_refusals s c.args.keep) (by_itself s ∷ look_steps) c.in_err-may_keep.field-0.0 s c.in_err-may_keep.ensures;
+    })
 
 pub returns-in_err-may_keep-clause-done : goal.returns-in_err-may_keep-clause-done
 returns-in_err-may_keep-clause-done g c =
@@ -53,30 +67,29 @@ pub returns-in_err-force_first-clause-order : goal.returns-in_err-force_first-cl
 returns-in_err-force_first-clause-order g c =
     let s = state c.args.self.now in
     let p = err_from_is_err_and c.from_residual-in_err-force_first.result c.from_residual-in_err-force_first.ensures.1 in
-    rw (p.1, p.2) (failed_comes s (keep_refusals (state c.args.self.now) c.args.keep) c.in_ok-may_keep.ensures c.in_err-force_first.field-0.0 c.in_err-force_first.ensures.forces.order)
+    rw (p.1, p.2) (record {
+      follows = failed_comes s (keep_refusals s c.args.keep) c.in_ok-may_keep.ensures c.in_err-force_first.field-0.0 c.in_err-force_first.ensures.forces.order;
+      idle = λ idle. absurd (busy s (keep_refusals s c.args.keep) c.in_ok-may_keep.ensures idle);
+    })
 
-pub returns-in_err-force_first-clause-state : goal.returns-in_err-force_first-clause-state
-returns-in_err-force_first-clause-state g c =
-    let p = err_from_is_err_and c.from_residual-in_err-force_first.result c.from_residual-in_err-force_first.ensures.1 in
-    rw (p.1, p.2) c.in_err-force_first.ensures.forces.state
-
-pub returns-in_err-force_first-clause-kept : goal.returns-in_err-force_first-clause-kept
-returns-in_err-force_first-clause-kept g c =
+pub returns-in_err-force_first-clause-keeps : goal.returns-in_err-force_first-clause-keeps
+returns-in_err-force_first-clause-keeps g c =
     let s = state c.args.self.now in
     let p = err_from_is_err_and c.from_residual-in_err-force_first.result c.from_residual-in_err-force_first.ensures.1 in
-    rw (p.1, p.2) (failed_keeps s (keep_refusals (state c.args.self.now) c.args.keep) c.in_ok-may_keep.ensures c.in_err-force_first.field-0.0 (state c.force_first.new.self) c.in_err-force_first.ensures.forces.kept)
+    rw (p.1, p.2) (record {
+      state = c.in_err-force_first.ensures.forces.state;
+      kept = failed_keeps s (keep_refusals s c.args.keep) c.in_ok-may_keep.ensures c.in_err-force_first.field-0.0 (state c.force_first.new.self) c.in_err-force_first.ensures.forces.kept;
+    })
 
 pub returns-in_err-force_first-clause-disk : goal.returns-in_err-force_first-clause-disk
 returns-in_err-force_first-clause-disk g c =
     writes_told (told_up device_of c.from_residual-in_err-force_first.result c.in_err-force_first.field-0.0 c.from_residual-in_err-force_first.ensures.1) c.in_err-force_first.ensures.disk
 
-pub returns-in_err-force_first-clause-counted : goal.returns-in_err-force_first-clause-counted
-returns-in_err-force_first-clause-counted g c =
+pub returns-in_err-force_first-clause-writes : goal.returns-in_err-force_first-clause-writes
+returns-in_err-force_first-clause-writes g c =
+    let failed = c.in_err-force_first.ensures in
     let p = err_from_is_err_and c.from_residual-in_err-force_first.result c.from_residual-in_err-force_first.ensures.1 in
-    rw p.1 c.in_err-force_first.ensures.counted
-
-pub returns-in_err-force_first-clause-idle : goal.returns-in_err-force_first-clause-idle
-returns-in_err-force_first-clause-idle g c = λ idle. absurd (busy (state c.args.self.now) (keep_refusals (state c.args.self.now) c.args.keep) c.in_ok-may_keep.ensures idle)
+    rw (p.1, p.2) (record { rest = failed.rest; counted = failed.counted })
 
 pub returns-in_err-force_first-clause-done : goal.returns-in_err-force_first-clause-done
 returns-in_err-force_first-clause-done g c =
@@ -96,23 +109,32 @@ keep_now-requires-clause-numbered g c =
 
 pub returns-clause-order : goal.returns-clause-order
 returns-clause-order g c =
-    change_follows (state c.args.self.now) (keep_refusals (state c.args.self.now) c.args.keep) c.in_ok-may_keep.ensures (state c.force_first.new.self) (state c.keep_now.new.self) c.in_ok-force_first.ensures.forces c.keep_now.result c.keep_now.ensures.order
+    let s = state c.args.self.now in
+    record {
+      follows = change_follows s (keep_refusals s c.args.keep) c.in_ok-may_keep.ensures (state c.force_first.new.self) (state c.keep_now.new.self) c.in_ok-force_first.ensures.forces c.keep_now.result c.keep_now.ensures.order;
+      idle = λ idle. absurd (busy s (keep_refusals s c.args.keep) c.in_ok-may_keep.ensures idle);
+    }
 
-pub returns-clause-state : goal.returns-clause-state
-returns-clause-state g c =
-    change_goes (state c.args.self.now) (keep_refusals (state c.args.self.now) c.args.keep) c.in_ok-may_keep.ensures (state c.force_first.new.self) (state c.keep_now.new.self) c.in_ok-force_first.ensures.forces c.keep_now.result c.keep_now.ensures.edited
+pub returns-clause-keeps : goal.returns-clause-keeps
+returns-clause-keeps g c =
+    let s = state c.args.self.now in
+    record {
+      state = change_goes s (keep_refusals s c.args.keep) c.in_ok-may_keep.ensures (state c.force_first.new.self) (state c.keep_now.new.self) c.in_ok-force_first.ensures.forces c.keep_now.result c.keep_now.ensures.edited;
+      kept = change_kept s (keep_refusals s c.args.keep) c.in_ok-may_keep.ensures (state c.force_first.new.self) (state c.keep_now.new.self) c.in_ok-force_first.ensures.forces c.keep_now.result c.keep_now.ensures.order c.keep_now.ensures.edited;
+    }
 
-pub returns-clause-kept : goal.returns-clause-kept
-returns-clause-kept g c =
-    change_kept (state c.args.self.now) (keep_refusals (state c.args.self.now) c.args.keep) c.in_ok-may_keep.ensures (state c.force_first.new.self) (state c.keep_now.new.self) c.in_ok-force_first.ensures.forces c.keep_now.result c.keep_now.ensures.order c.keep_now.ensures.edited
-
-pub returns-clause-idle : goal.returns-clause-idle
-returns-clause-idle g c = λ idle. absurd (busy (state c.args.self.now) (keep_refusals (state c.args.self.now) c.args.keep) c.in_ok-may_keep.ensures idle)
-
-pub returns-clause-counted : goal.returns-clause-counted
-returns-clause-counted g c = λ tells.
-    let disk = c.keep_now.ensures.disk in
-    change_counts (change_len (state c.args.self.now)) (g.M.Machine.ledger c.args.m.now) (g.M.Machine.ledger c.force_first.new.m) (g.M.Machine.ledger c.keep_now.new.m) c.keep_now.result (c.in_ok-force_first.ensures.counted (disk.trust.tells tells)) (disk.ledger tells)
+pub returns-clause-writes : goal.returns-clause-writes
+returns-clause-writes g c =
+    let M = g.M.Machine in
+    let v = c.args.self.now in
+    let first = c.in_ok-force_first.ensures in
+    let reads = c.keep_now.ensures.disk in
+    record {
+      rest = λ h.
+          let back = reads.trust.honest h in
+          touches_read (force_writes v.layout) (M.now c.args.m.now) (M.now c.force_first.new.m) (M.now c.keep_now.new.m) (first.disk.windows back) (first.rest back) (reads.worn h);
+      counted = λ tells. change_counts (change_len (state v)) (M.ledger c.args.m.now) (M.ledger c.force_first.new.m) (M.ledger c.keep_now.new.m) c.keep_now.result (first.counted (reads.trust.tells tells)) (reads.ledger tells);
+    }
 
 pub returns-clause-disk : goal.returns-clause-disk
 returns-clause-disk g c =
@@ -134,49 +156,40 @@ returns-clause-done g c = λ h k stands.
     change_ends (λ v met. keep_outcome met v c.args.name.now c.args.keep) (kept_key c.args.keep) (Change.SetKeep c.args.name.now c.args.keep) k c.force_first.new.self (g.M.Machine.now c.force_first.new.m) p (keep_through c.args.name.now c.args.keep (volume_of k) (keep_fits c.args.keep c.in_ok-may_keep.ensures.1.0)) c.in_ok-force_first.ensures.few c.keep_now.new.self (g.M.Machine.now c.keep_now.new.m) c.keep_now.result
     (c.keep_now.ensures.done h p.after p.stands)
 
--- ---- memory is not wanting
+-- ---- what it tells, and why
 
-pub returns-in_err-may_keep-clause-memory : goal.returns-in_err-may_keep-clause-memory
-returns-in_err-may_keep-clause-memory g c =
+pub returns-in_err-may_keep-clause-tells : goal.returns-in_err-may_keep-clause-tells
+returns-in_err-may_keep-clause-tells g c =
+    let v = c.args.self.now in
     let p = err_from_is_err_and c.from_residual.result c.from_residual.ensures.1 in
-    rw (p.1, p.2) (λ all wants. keep_test_needs (state c.args.self.now) c.args.keep c.in_err-may_keep.field-0.0 c.in_err-may_keep.ensures (cc wants))
+    record {
+      name = rw p.1 tt;
+      memory = rw (p.1, p.2) (λ all wants. keep_test_needs (state v) c.args.keep c.in_err-may_keep.field-0.0 c.in_err-may_keep.ensures (cc wants));
+      causes = keep_causes g.M.Machine (state v) (resident v) c.args.m.now c.args.keep c.from_residual.result c.in_err-may_keep.field-0.0 c.from_residual.ensures.1 c.in_err-may_keep.ensures;
+    }
 
-pub returns-in_err-force_first-clause-memory : goal.returns-in_err-force_first-clause-memory
-returns-in_err-force_first-clause-memory g c =
-    let p = err_from_is_err_and c.from_residual-in_err-force_first.result c.from_residual-in_err-force_first.ensures.1 in
-    rw (p.1, p.2) (λ all wants. force_needs (state c.args.self.now) c.in_err-force_first.field-0.0 c.in_err-force_first.ensures.forces.order (cc wants))
-
-pub returns-clause-memory : goal.returns-clause-memory
-returns-clause-memory g c = λ has.
-    c.keep_now.ensures.memory (enough_behind c.args.self.now c.force_first.new.self c.in_ok-force_first.ensures.forces c.in_ok-force_first.ensures.resident c.args.name.now has)
-
--- ---- why it tells something as lost or as unsound
-
-pub returns-in_err-may_keep-clause-causes : goal.returns-in_err-may_keep-clause-causes
-returns-in_err-may_keep-clause-causes g c =
+pub returns-in_err-force_first-clause-tells : goal.returns-in_err-force_first-clause-tells
+returns-in_err-force_first-clause-tells g c =
     let v = c.args.self.now in
-    keep_causes g.M.Machine (state v) (resident v) c.args.m.now c.args.keep c.from_residual.result c.in_err-may_keep.field-0.0 c.from_residual.ensures.1 c.in_err-may_keep.ensures
+    let failed = c.in_err-force_first.ensures in
+    let why = c.in_err-force_first.field-0.0 in
+    let r = c.from_residual-in_err-force_first in
+    let p = err_from_is_err_and r.result r.ensures.1 in
+    record {
+      name = rw p.1 tt;
+      memory = rw (p.1, p.2) (λ all wants. force_needs (state v) why failed.forces.order (cc wants));
+      causes = handed_cause g.M.Machine (resident v) (state v) (state c.force_first.new.self) c.args.m.now c.force_first.new.m why r.result r.ensures.1 failed.causes;
+    }
 
-pub returns-in_err-force_first-clause-causes : goal.returns-in_err-force_first-clause-causes
-returns-in_err-force_first-clause-causes g c =
-    let v = c.args.self.now in
-    handed_cause g.M.Machine (resident v) (state v) (state c.force_first.new.self) c.args.m.now c.force_first.new.m c.in_err-force_first.field-0.0 c.from_residual-in_err-force_first.result c.from_residual-in_err-force_first.ensures.1 c.in_err-force_first.ensures.causes
-
-pub returns-clause-causes : goal.returns-clause-causes
-returns-clause-causes g c =
+pub returns-clause-tells : goal.returns-clause-tells
+returns-clause-tells g c =
     let v = c.args.self.now in
     let mid = c.force_first.new.self in
     let new = c.keep_now.new.self in
     let change = c.keep_now.ensures in
-    causes_behind g.M.Machine (state v) (state mid) (state new) (resident v) (resident mid) c.args.m.now c.force_first.new.m c.keep_now.new.m (λ h. c.in_ok-force_first.ensures.behind (change.disk.trust.honest h))
-    (edited_slots (state mid) (state new) c.keep_now.result change.edited) (edited_layout (state mid) (state new) c.keep_now.result change.edited) change.disk.worn c.keep_now.result change.causes
-
-pub returns-in_err-may_keep-clause-rest : goal.returns-in_err-may_keep-clause-rest
-returns-in_err-may_keep-clause-rest g c h = touches_none (force_writes c.args.self.now.layout) (g.M.Machine.now c.args.m.now)
-
-pub returns-clause-rest : goal.returns-clause-rest
-returns-clause-rest g c h =
-    let M = g.M.Machine in
-    let reads = c.keep_now.ensures.disk in
-    let back = reads.trust.honest h in
-    touches_read (force_writes c.args.self.now.layout) (M.now c.args.m.now) (M.now c.force_first.new.m) (M.now c.keep_now.new.m) (c.in_ok-force_first.ensures.disk.windows back) (c.in_ok-force_first.ensures.rest back) (reads.worn h)
+    record {
+      name = change.name;
+      memory = λ has. change.memory (enough_behind v mid c.in_ok-force_first.ensures.forces c.in_ok-force_first.ensures.resident c.args.name.now has);
+      causes = causes_behind g.M.Machine (state v) (state mid) (state new) (resident v) (resident mid) c.args.m.now c.force_first.new.m c.keep_now.new.m (λ h. c.in_ok-force_first.ensures.behind (change.disk.trust.honest h))
+          (edited_slots (state mid) (state new) c.keep_now.result change.edited) (edited_layout (state mid) (state new) c.keep_now.result change.edited) change.disk.worn c.keep_now.result change.causes;
+    }

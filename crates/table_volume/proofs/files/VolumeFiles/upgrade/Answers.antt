@@ -19,13 +19,17 @@ use Rattle.volume_contract.specs.Order.{is_root, layout_is}
 use Rattle.volume_contract.specs.State.{Leaves, Stands}
 use Rattle.volume_contract.specs.Upgrade.{is_fresh, upgraded}
 use Rattle.volume_state.specs.State.{Holds, state}
+use Rattle.volume_state.proofs.ForceMomentLaws.{touches_none}
 use Rattle.volume_state.specs.Volume.{VolumeValue}
 use Rattle.volume_changes.proofs.NextLaws.{up_by}
 use Rattle.table_volume.specs.declared.volume.Volume.TheInside.{Inside}
 use Rattle.table_volume.proofs.HealingLaws.{still_leaves}
-use Rattle.table_volume.proofs.UpgradeLaws.{roots_stand, roots_touch, stands_upgraded, upgrade_leaves, with_kind_three}
+use Rattle.table_volume.proofs.UpgradeLaws.{busy_upgrade, roots_stand, roots_touch, stands_upgraded, upgrade_leaves, with_kind_three}
 use Rattle.table_volume.proofs.files.VolumeFiles.upgrade.Given as given
 use Rattle.table_volume.proofs.files.VolumeFiles.upgrade.Goals as goal
+use Rattle.std.proofs.lemmas.Result.{err_from_is_err_and}
+use Rattle.volume_layout.specs.declared.kind.Kind.{Kind}
+use Rattle.table_volume.proofs.DownLaws.{down_step}
 use Rattle.table_volume.proofs.files.VolumeFiles.upgrade.Goals.{After-write_roots}
 
 -- the volume of these fields
@@ -44,15 +48,53 @@ leaves : (g : given.Over) (c : After-write_roots g) → (old left : Moment) → 
 leaves g c old left roots k stands =
     upgrade_leaves c.args.self.now k old (was_two g c) c.requires.fresh stands left (subst (λ (l : Layout). RootsIn (root_bytes l) old left) (three_is g c) roots)
 
+pub returns-in_err-is_up-clause-order : goal.returns-in_err-is_up-clause-order
+returns-in_err-is_up-clause-order g c =
+    let v = c.args.self.now in
+    let why = c.in_err-is_up.field-0.0 in
+    let p = err_from_is_err_and c.from_residual.result c.from_residual.ensures.1 in
+    rw (p.1, p.2) (record { follows = inl (down_step v.down why (sym c.in_err-is_up.ensures)); idle = λ idle. refl })
+
+pub returns-in_err-is_up-clause-writes : goal.returns-in_err-is_up-clause-writes
+returns-in_err-is_up-clause-writes g c =
+    let p = err_from_is_err_and c.from_residual.result c.from_residual.ensures.1 in
+    rw p.1 (record { rest = λ h. touches_none is_root (g.M.Machine.now c.args.m.now); counted = λ tells. (omega arith, omega arith) })
+
+pub returns-in-Three-clause-order : goal.returns-in-Three-clause-order
+returns-in-Three-clause-order g c =
+    let s = state c.args.self.now in
+    let up = up_by c.args.self.now.down (sym c.in_ok-is_up.ensures) in
+    let three = ap (λ (x : VolumeValue). x.layout.kind) (sym c.self.view_is) ∙ sym c.kind.ensures ∙ c.in-Three.is in
+    record { follows = inr (ap (option_map Why.Down) up, inl (ap (λ (k : Kind). layout_is s k) three)); idle = λ idle. refl }
+
 pub returns-in-Three-clause-disk : goal.returns-in-Three-clause-disk
 returns-in-Three-clause-disk g c =
     let M = g.M.Machine in
     writes_none c.args.m.now (λ left h is. g.met.M.Machine.only_now c.args.m.now left h is) (Leaves state Holds c.args.self.now is_root) (λ h. still_leaves c.args.self.now is_root (M.now c.args.m.now))
 
+pub returns-in-Three-clause-writes : goal.returns-in-Three-clause-writes
+returns-in-Three-clause-writes g c = record { rest = λ h. touches_none is_root (g.M.Machine.now c.args.m.now); counted = λ tells. (omega arith, omega arith) }
+
+pub returns-in-Ok-clause-order : goal.returns-in-Ok-clause-order
+returns-in-Ok-clause-order g c =
+    let s = state c.args.self.now in
+    let up = up_by c.args.self.now.down (sym c.in_ok-is_up.ensures) in
+    let two = was_two g (goal.at.returns-in-Ok-clause-order g c).After-write_roots in
+    record { follows = (ap (option_map Why.Down) up, (ap (λ (k : Kind). layout_is s k) two, (tt, tt))); idle = λ idle. absurd (busy_upgrade s up two idle) }
+
 pub returns-in-Ok-clause-disk : goal.returns-in-Ok-clause-disk
 returns-in-Ok-clause-disk g c =
     let M = g.M.Machine in
     writes_more c.in-Ok.ensures.writes (λ h left roots. leaves g (goal.at.returns-in-Ok-clause-disk g c).After-write_roots (M.now c.args.m.now) left roots)
+
+pub returns-in-Ok-clause-writes : goal.returns-in-Ok-clause-writes
+returns-in-Ok-clause-writes g c =
+    let M = g.M.Machine in
+    let wrote = c.in-Ok.ensures in
+    record {
+      rest = λ h. roots_touch (root_bytes c.with_kind-layout.result) (M.now c.args.m.now) (M.now c.write_roots.new.m) (wrote.writes.exit h);
+      counted = λ tells. ap (λ l. l.written) (wrote.counted tells);
+    }
 
 pub returns-in-Ok-clause-roots : goal.returns-in-Ok-clause-roots
 returns-in-Ok-clause-roots g c h =
@@ -74,15 +116,27 @@ returns-in-Ok-clause-done g c h k stands =
     let is : with_kind_three v ≡ w = (λ i. record v { layout = sym c.with_kind-layout.ensures i; log = sym c.set_kind.ensures i }) in
     subst (λ (x : VolumeValue). Stands state Holds x (upgraded k) new) (ap with_kind_three (sym c.self.view_is) ∙ is) (stands_upgraded c.args.self.now k old (was_two g c1) c.requires.fresh stands new holds)
 
+pub returns-in-Err-clause-order : goal.returns-in-Err-clause-order
+returns-in-Err-clause-order g c =
+    let s = state c.args.self.now in
+    let up = up_by c.args.self.now.down (sym c.in_ok-is_up.ensures) in
+    let two = was_two g (goal.at.returns-in-Err-clause-order g c).After-write_roots in
+    let place : IsTrue (is_root c.in-Err.failed.place) = ⊎_elim (λ e. subst (λ (p : ℕ). IsTrue (is_root p)) (sym e) refl) (λ e. subst (λ (p : ℕ). IsTrue (is_root p)) (sym e) refl) c.in-Err.ensures.place in
+    record { follows = inr (ap (option_map Why.Down) up, inr (ap (λ (k : Kind). layout_is s k) two, inl place)); idle = λ idle. absurd (busy_upgrade s up two idle) }
+
 pub returns-in-Err-clause-disk : goal.returns-in-Err-clause-disk
 returns-in-Err-clause-disk g c =
     let M = g.M.Machine in
     writes_more c.in-Err.ensures.writes (λ h left roots. leaves g (goal.at.returns-in-Err-clause-disk g c).After-write_roots (M.now c.args.m.now) left roots)
 
-pub returns-in-Err-clause-rest : goal.returns-in-Err-clause-rest
-returns-in-Err-clause-rest g c h =
+pub returns-in-Err-clause-writes : goal.returns-in-Err-clause-writes
+returns-in-Err-clause-writes g c =
     let M = g.M.Machine in
-    roots_touch (root_bytes c.with_kind-layout.result) (M.now c.args.m.now) (M.now c.write_roots.new.m) (c.in-Err.ensures.writes.exit h)
+    let failed = c.in-Err.ensures in
+    record {
+      rest = λ h. roots_touch (root_bytes c.with_kind-layout.result) (M.now c.args.m.now) (M.now c.write_roots.new.m) (failed.writes.exit h);
+      counted = λ tells. (failed.least tells, failed.most tells);
+    }
 
 pub returns-in-Err-clause-state : goal.returns-in-Err-clause-state
 returns-in-Err-clause-state g c =

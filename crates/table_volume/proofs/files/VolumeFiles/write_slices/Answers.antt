@@ -28,12 +28,10 @@ returns-in_err-is_up g c =
     let may = in_slices c.args.draft.now.runs c.args.first (length c.args.bytes.now) in
     let p = err_from_is_err_and c.from_residual.result c.from_residual.ensures.1 in
     rw (p.1, p.2) (record {
-      order = inl (down_step v.down why down);
+      order = record { follows = inl (down_step v.down why down); idle = λ idle. refl };
       disk = writes_told (down_tells_none v.down why down) (writes_none at (λ left h is. g.met.M.Machine.only_now at left h is) (Leaves state Holds v may) (λ h. leaves_still v now may));
-      rest = λ h. touches_none may now;
-      counted = λ tells. (omega arith, omega arith);
+      writes = record { rest = λ h. touches_none may now; counted = λ tells. (omega arith, omega arith) };
       state = refl;
-      idle = λ idle. refl;
       done = λ h k stands before there. absurd (not_down v k now why down stands);
     })
 
@@ -67,12 +65,10 @@ returns-in-Ok g c =
     let wrote = c.in-Ok.ensures in
     let up = ap (option_map _) (up_by v.down (sym c.in_ok-is_up.ensures)) in
     record {
-      order = (up, (tt, tt));
+      order = record { follows = (up, (tt, tt)); idle = λ idle. absurd (busy_slices (state v) (in_slices d.runs first (length bytes)) up idle) };
       disk = writes_more wrote.disk (λ h left writes. leaves_slices v whole d c.requires.draft first (length bytes) old left (g.met.M.Machine.short c.args.m.now (wrote.disk.trust.honest h)) writes);
-      rest = λ h. (wrote.disk.exit h).touches;
-      counted = λ tells. ap (λ l. l.written) (wrote.counted tells);
+      writes = record { rest = λ h. (wrote.disk.exit h).touches; counted = λ tells. ap (λ l. l.written) (wrote.counted tells) };
       state = refl;
-      idle = λ idle. absurd (busy_slices (state v) (in_slices d.runs first (length bytes)) up idle);
       done = λ h k stands before there.
           slices_stand v whole d c.requires.draft first bytes old new (g.met.M.Machine.short c.args.m.now (wrote.disk.trust.honest h)) (wrote.disk.exit h) k stands before there
           (slices_within v whole d c.requires.draft first (length bytes) c.requires.fits) (wrote.done h);
@@ -91,12 +87,10 @@ returns-in-Err g c =
     let failed = c.in-Err.ensures in
     let up = ap (option_map _) (up_by v.down (sym c.in_ok-is_up.ensures)) in
     record {
-      order = inr (up, inl failed.place);
+      order = record { follows = inr (up, inl failed.place); idle = λ idle. absurd (busy_slices (state v) (in_slices d.runs first (length bytes)) up idle) };
       disk = writes_more failed.disk (λ h left writes. leaves_slices v whole d c.requires.draft first (length bytes) old left (g.met.M.Machine.short c.args.m.now (failed.disk.trust.honest h)) writes);
-      rest = λ h. (failed.disk.exit h).touches;
-      counted = λ tells. ((failed.counted_err tells).no_fewer, (failed.counted_err tells).no_more);
+      writes = record { rest = λ h. (failed.disk.exit h).touches; counted = λ tells. ((failed.counted_err tells).no_fewer, (failed.counted_err tells).no_more) };
       state = refl;
-      idle = λ idle. absurd (busy_slices (state v) (in_slices d.runs first (length bytes)) up idle);
       done = λ h k stands before there.
           slices_lost v whole d c.requires.draft first bytes old new (g.met.M.Machine.short c.args.m.now (failed.disk.trust.honest h)) (failed.disk.exit h) k stands before there
           (slices_within v whole d c.requires.draft first (length bytes) c.requires.fits);

@@ -6,7 +6,7 @@ use Rattle.fsd_bytes.specs.declared.key.Key.{Key}
 use Rattle.fsd_formats.specs.declared.entry.Entry.{Entry}
 use Rattle.fsd_files.specs.Answers.{delete_outcome, entry_of as entry_in}
 use Rattle.fsd_files.specs.Files.{Change}
-use Rattle.fsd_files.specs.Replies.{Deleted}
+use Rattle.fsd_files.specs.declared.reply.Reply.TheVariants.{Deleted}
 use Rattle.name_btree.specs.Lookup.{entry_of}
 use Rattle.volume_contract.specs.Order.{IsLookUp}
 use Rattle.volume_contract.specs.State.{volume_of}

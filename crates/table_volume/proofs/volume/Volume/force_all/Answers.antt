@@ -17,7 +17,7 @@ use Rattle.volume_contract.specs.Causes.{HasCause}
 use Rattle.volume_contract.specs.State.{GoesOn, IsForced as HasForced, Leaves, Stands, State, downs_for, force_len, volume_of}
 use Rattle.fsd_files.specs.Answers.{force_outcome}
 use Rattle.fsd_files.specs.Disk.{Touches}
-use Rattle.fsd_files.specs.Replies.{Forced as IsForced}
+use Rattle.fsd_files.specs.declared.reply.Reply.TheVariants.{Forced as IsForced}
 use Rattle.volume_contract.specs.declared.files.Forced.{Forced}
 use Rattle.run_table.specs.Space.{contains}
 use Rattle.volume_contract.specs.Logged.{AllLogged, KeepsPages}
@@ -50,12 +50,12 @@ pub invariant_of-self : goal.invariant_of-self
 invariant_of-self g c =
     let v = value c.self.inside in
     whole_forced v c.self.invariant c.free_committed.new.map c.free_committed.new.shadow c.force_cached.new.log c.force_cached.new.cache
-    c.free_committed.ensures.map c.free_committed.ensures.removed c.free_committed.ensures.kept c.free_committed.ensures.unfinished c.free_committed.ensures.held c.in-Ok.ensures.log c.in-Ok.ensures.cache
+    c.free_committed.ensures.map c.free_committed.ensures.removed c.free_committed.ensures.kept c.free_committed.ensures.unfinished c.free_committed.ensures.held c.in-Ok.ensures.done.past c.in-Ok.ensures.done.cache
 
 pub invariant_of-self-in-Err : goal.invariant_of-self-in-Err
 invariant_of-self-in-Err g c =
     let v = value c.self.inside in
-    whole_down v c.self.invariant c.force_cached.new.log c.force_cached.new.cache c.place_of.result (length c.self.inside.table.cache.dirty) _ c.in-Err.ensures.log_err c.in-Err.ensures.cache_err
+    whole_down v c.self.invariant c.force_cached.new.log c.force_cached.new.cache c.place_of.result (length c.self.inside.table.cache.dirty) _ c.in-Err.ensures.failed.write.past c.in-Err.ensures.failed.cache
 
 -- ---- where the volume is down
 
@@ -166,24 +166,25 @@ returns-in-Ok g c =
     let old = g.M.Machine.now c.args.m.now in
     let new = g.M.Machine.now c.force_cached.new.m in
     let valid = c.dirty_list.ensures.valid in
-    let forced = c.in-Ok.ensures in
+    let call = c.in-Ok.ensures in
+    let forced = call.done in
     let freed = c.free_committed.ensures in
     let some : 1 ≤ length c.self.inside.table.cache.dirty = search rules in
     let up : c.self.inside.down ≡ None = subst (λ (x : VolumeValue). x.down ≡ None) (sym c.self.view_is) (up_by c.args.self.now.down (sym c.in_ok-is_up.ensures)) in
-    let whole = whole_forced v c.self.invariant w.map w.shadow w.log w.cache freed.map freed.removed freed.kept freed.unfinished freed.held forced.log forced.cache in
-    let to = forced_to v c.self.invariant w.map w.shadow w.log w.cache freed.map freed.removed freed.kept freed.unfinished freed.held forced.log forced.cache in
+    let whole = whole_forced v c.self.invariant w.map w.shadow w.log w.cache freed.map freed.removed freed.kept freed.unfinished freed.held forced.past forced.cache in
+    let to = forced_to v c.self.invariant w.map w.shadow w.log w.cache freed.map freed.removed freed.kept freed.unfinished freed.held forced.past forced.cache in
     record {
       order = subst (λ (x : VolumeValue). Through (force_steps (state x))) c.self.view_is (ap (option_map Why.Down) up, (tt, tt));
       disk = subst (λ (x : VolumeValue). WritesDisk M None (Leaves state Holds x (force_writes x.layout)) c.args.m.now c.force_cached.new.m) c.self.view_is
-          (writes_more forced.disk (λ h left leaves. leaves_forced v old left c.self.invariant valid leaves));
-      rest = λ h. subst (λ (x : VolumeValue). Touches (force_writes x.layout) old new) c.self.view_is (force_touches v old new c.self.invariant (forced.rest h));
+          (writes_more call.disk (λ h left leaves. leaves_forced v old left c.self.invariant valid leaves));
+      rest = λ h. subst (λ (x : VolumeValue). Touches (force_writes x.layout) old new) c.self.view_is (force_touches v old new c.self.invariant (call.rest h));
       counted = λ tells. forced.counted tells ∙ ap (λ n. (M.ledger c.args.m.now).written + n) (forced_count v c.args.self.now c.self.view_is c.self.invariant some);
       counted_err = tt;
       pages = forced.pages ∙ ap (λ (x : VolumeValue). length x.cache.dirty) c.self.view_is;
       state = subst (λ (x : VolumeValue). GoesOn None (state x) (state w)) c.self.view_is (record { layout = refl; epoch = refl; readers = freed.held; unfinished = ap (λ (a : Area). a.sectors) freed.unfinished; down = inl refl });
       idle = subst (λ (x : VolumeValue). is_idle (force_steps (state x)) ≡ true → c.force_cached.new.m ≡ c.args.m.now) c.self.view_is (λ idle. absurd (busy (state v) up some idle));
       kept = subst (λ (x : VolumeValue). HasForced (state x) (state w)) c.self.view_is
-          (is_forced v c.self.invariant w.map w.shadow w.log w.cache freed.map freed.removed freed.kept freed.unfinished freed.held forced.log forced.cache valid some);
+          (is_forced v c.self.invariant w.map w.shadow w.log w.cache freed.map freed.removed freed.kept freed.unfinished freed.held forced.past forced.cache valid some);
       pages_kept = subst (λ (x : VolumeValue). KeepsPages (state x) (state w) (resident x) (resident w)) c.self.view_is
           (λ page x is. (forced_content v v refl c.layout-shape.ensures.shape w.cache forced.cache).accepted v.layout.pages page x is);
       logged = λ honest. subst (λ (x : VolumeValue). AllLogged (state x) (state w) (resident w) new) c.self.view_is
@@ -192,9 +193,9 @@ returns-in-Ok g c =
       causes = tt;
       done = λ honest k stands.
           let here : Stands state Holds v k (g.M.Machine.now c.args.m.now) = subst (λ (x : VolumeValue). Stands state Holds x k old) (sym c.self.view_is) stands in
-          let left = commits v k old c.self.invariant valid here new (forced.disk.exit honest) in
+          let left = commits v k old c.self.invariant valid here new (call.disk.exit honest) in
           ends_forced v w k old new c.self.invariant whole valid here to c.layout-fits.ensures.shape left.kept left.windows
-          (forced.done k.mounted.pages k.windows here.disk.records here.disk.disk (agrees v k old c.self.invariant valid here) honest here.ends (over_waiting v k old c.self.invariant valid here) (knows v k old c.self.invariant valid here))
+          (forced.shows k.mounted.pages k.windows here.disk.records here.disk.disk (agrees v k old c.self.invariant valid here) honest here.ends (over_waiting v k old c.self.invariant valid here) (knows v k old c.self.invariant valid here))
           (forced.knows k.mounted.pages k.windows here.disk.records here.disk.disk (agrees v k old c.self.invariant valid here) honest here.ends (over_waiting v k old c.self.invariant valid here) (knows v k old c.self.invariant valid here));
       lost = tt;
       behind = λ honest. subst (λ (x : VolumeValue). IsBehind (state x) (state w) (resident x) (resident w) new) c.self.view_is
@@ -211,7 +212,8 @@ returns-in-Err g c =
     let old = g.M.Machine.now c.args.m.now in
     let new = g.M.Machine.now c.force_cached.new.m in
     let valid = c.dirty_list.ensures.valid in
-    let failed = c.in-Err.ensures in
+    let call = c.in-Err.ensures in
+    let failed = call.failed in
     let f = c.in-Err.fault in
     let why = c.force_refusal.result in
     let told = c.force_refusal.ensures in
@@ -222,23 +224,23 @@ returns-in-Err g c =
     record {
       order = subst (λ (x : VolumeValue). Comes (force_steps (state x)) why) c.self.view_is (inr (passes, inl (some_waits (length v.cache.dirty) some, subst IsLoss (sym told) (fault_loss f))));
       disk = subst (λ (x : VolumeValue). WritesDisk M (device_of why) (Leaves state Holds x (force_writes x.layout)) c.args.m.now c.force_cached.new.m) c.self.view_is
-          (writes_told (ap device_of told ∙ tells_place f) (writes_more failed.disk (λ h left leaves. leaves_forced v old left c.self.invariant valid leaves)));
-      rest = λ h. subst (λ (x : VolumeValue). Touches (force_writes x.layout) old new) c.self.view_is (force_touches v old new c.self.invariant (failed.rest h));
-      counted = λ tells. failed_counted v c.args.self.now c.self.view_is c.self.invariant some (M.ledger c.args.m.now) (M.ledger c.force_cached.new.m) (failed.counted_err tells);
-      counted_err = λ tells never. failed_none v c.args.self.now c.self.view_is c.self.invariant (M.ledger c.args.m.now) (M.ledger c.force_cached.new.m) (failed.counted_err tells) never;
+          (writes_told (ap device_of told ∙ tells_place f) (writes_more call.disk (λ h left leaves. leaves_forced v old left c.self.invariant valid leaves)));
+      rest = λ h. subst (λ (x : VolumeValue). Touches (force_writes x.layout) old new) c.self.view_is (force_touches v old new c.self.invariant (call.rest h));
+      counted = λ tells. failed_counted v c.args.self.now c.self.view_is c.self.invariant some (M.ledger c.args.m.now) (M.ledger c.force_cached.new.m) (failed.write.counted tells);
+      counted_err = λ tells never. failed_none v c.args.self.now c.self.view_is c.self.invariant (M.ledger c.args.m.now) (M.ledger c.force_cached.new.m) (failed.write.counted tells) never;
       pages = tt;
       state = subst (λ (x : VolumeValue). GoesOn (downs_for why) (state x) (state w)) c.self.view_is (record { layout = refl; epoch = refl; unfinished = refl; readers = refl; down = inr (subst IsSome downs_is refl, downs_is) });
       idle = subst (λ (x : VolumeValue). is_idle (force_steps (state x)) ≡ true → c.force_cached.new.m ≡ c.args.m.now) c.self.view_is (λ idle. absurd (busy (state v) up some idle));
       kept = subst (λ (x : VolumeValue). Keeps (force_steps (state x)) why (state x) (state w)) c.self.view_is
-          (kept_down v c.self.invariant w.log w.cache c.place_of.result why f c.place_of.ensures told failed.cache_err _ failed.log_err up some);
+          (kept_down v c.self.invariant w.log w.cache c.place_of.result why f c.place_of.ensures told failed.cache _ failed.write.past up some);
       pages_kept = tt;
       logged = tt;
       resident = tt;
-      causes = λ h. failed_cause v c.args.self.now c.self.view_is c.self.invariant (state w) old new f why told (failed.lost h);
+      causes = λ h. failed_cause v c.args.self.now c.self.view_is c.self.invariant (state w) old new f why told (failed.write.lost h);
       done = λ honest k stands.
           let here : Stands state Holds v k (g.M.Machine.now c.args.m.now) = subst (λ (x : VolumeValue). Stands state Holds x k old) (sym c.self.view_is) stands in
           let device = failed.never_lost k.mounted.pages k.windows here.disk.records here.disk.disk (agrees v k old c.self.invariant valid here) honest here.ends (over_waiting v k old c.self.invariant valid here) (knows v k old c.self.invariant valid here) in
           ends_failed Forced (λ met. force_outcome (volume_of k)) IsForced k w new f c.place_of.result why c.place_of.ensures told refl device;
-      lost = λ h. failed_cause v c.args.self.now c.self.view_is c.self.invariant (state c.args.self.now) old new f why told (failed.lost h);
+      lost = λ h. failed_cause v c.args.self.now c.self.view_is c.self.invariant (state c.args.self.now) old new f why told (failed.write.lost h);
       behind = tt;
     }

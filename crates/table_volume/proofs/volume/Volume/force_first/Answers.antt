@@ -2,7 +2,7 @@ use Rattle.std.proofs.Common.{◌≡◌, Bool, true, [], ◌∷◌, Err, cond, s
 use Rattle.std.proofs.lemmas.Bool.{both_ways}
 use Rattle.sector_disk.proofs.CallLaws.{writes_none}
 use Rattle.fsd_files.specs.Answers.{force_outcome}
-use Rattle.fsd_files.specs.Replies.{Forced as IsForced}
+use Rattle.fsd_files.specs.declared.reply.Reply.TheVariants.{Forced as IsForced}
 use Rattle.volume_contract.specs.declared.files.Forced.{Forced}
 use Rattle.volume_contract.specs.Order.{Force, is_idle}
 use Rattle.fsd_sound.specs.Writes.{force_writes}

@@ -3,7 +3,7 @@ use Rattle.std.proofs.lemmas.Bool.{both_ways}
 use Rattle.sector_disk.proofs.CallLaws.{told_up, writes_none, writes_told}
 use Rattle.sector_disk.proofs.ResultLaws.{ok_as}
 use Rattle.fsd_files.specs.Answers.{force_outcome}
-use Rattle.fsd_files.specs.Replies.{Forced as IsForced}
+use Rattle.fsd_files.specs.declared.reply.Reply.TheVariants.{Forced as IsForced}
 use Rattle.volume_contract.specs.declared.files.Forced.{Forced}
 use Rattle.volume_contract.specs.Ends.{device_of}
 use Rattle.fsd_sound.specs.Writes.{force_writes}
