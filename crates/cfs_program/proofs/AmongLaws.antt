@@ -2,14 +2,16 @@
 use Rattle.std.proofs.Common.{◌≡◌, ◌⊎◌, inl, inr, ℕ, zero, suc, ◌≤◌, List, [], ◌∷◌, ◌++◌, refl, sym, ◌∙◌, subst, arith}
 use Rattle.std.specs.Prelude.{IsTrue}
 use Rattle.fsd_texts.specs.declared.command.Command.{Command}
-use Rattle.fsd_texts.specs.declared.command.Command.TheVariants as Word
 use Rattle.fsd_texts.specs.declared.fault.Fault.{Fault}
 use Rattle.fsd_texts.specs.declared.fault.Fault.TheVariants as Ends
 use Rattle.fsd_runs.specs.Errands.{fault_status}
-use Rattle.volume_turns.specs.Status.{IsMadeStatus, IsOneStatus, IsPutStatus, IsScriptStatus, IsStatusBroken, IsStatusFrom}
+use Rattle.fsd_runs.proofs.StatusLaws.{one_behind, one_in_front}
+use Rattle.volume_turns.specs.Status.{IsMadeStatus, IsOneStatus, IsPutStatus, IsScriptStatus, IsStatusBroken}
+use Rattle.volume_turns.specs.Commands.{IsStatusFrom}
 use Rattle.volume_turns.specs.Steps.{IsOfVolume}
 use Rattle.fsd_runs.specs.declared.request.Request.TheVariants.{One}
-use Rattle.cfs_program.specs.Program.{complete_statuses, fault_statuses, is_one_of}
+use Rattle.cfs_program.specs.Program.{complete_statuses, fault_statuses}
+use Rattle.fsd_runs.specs.Commands.{is_one_of, reply_statuses}
 
 pub one_at : (statuses : List ℕ) (n result : ℕ) → result ≡ n → IsTrue (is_one_of statuses n) → IsTrue (is_one_of statuses result)
 one_at statuses n result is has = subst (λ (x : ℕ). IsTrue (is_one_of statuses x)) (sym is) has
@@ -54,44 +56,24 @@ abbrev all_of : Command → List ℕ
 all_of c = complete_statuses (One c) ++ fault_statuses (One c)
 
 from_all : (c : Command) (status : ℕ) → IsStatusFrom c status → IsTrue (is_one_of (all_of c) status)
-from_all (Word.Put name bytes keep) status low = low_among (all_of (Word.Put name bytes keep)) refl refl status low
-from_all (Word.Delete key) status low = low_among (all_of (Word.Delete key)) refl refl status low
-from_all (Word.Keep name keep) status low = low_among (all_of (Word.Keep name keep)) refl refl status low
-from_all (Word.Get key) status (inl low) = low_among (all_of (Word.Get key)) refl refl status low
-from_all (Word.Get key) status (inr eight) = one_at (all_of (Word.Get key)) 8 status eight refl
-from_all Word.Scrub status (inl none) = one_at (all_of Word.Scrub) 0 status none refl
-from_all Word.Scrub status (inr eight) = one_at (all_of Word.Scrub) 8 status eight refl
-from_all Word.Upgrade status low = low_among (all_of Word.Upgrade) refl refl status low
-from_all c status none = one_at (all_of c) 0 status none refl
+from_all c status from = one_in_front (complete_of c) (fault_statuses (One c)) status (one_in_front (reply_statuses c) (3 ∷ 7 ∷ 9 ∷ []) status from)
 
 from_complete : (c : Command) (status : ℕ) → IsStatusFrom c status → IsTrue (is_one_of (complete_of c) status)
-from_complete (Word.Put name bytes keep) status low = low_among (complete_of (Word.Put name bytes keep)) refl refl status low
-from_complete (Word.Delete key) status low = low_among (complete_of (Word.Delete key)) refl refl status low
-from_complete (Word.Keep name keep) status low = low_among (complete_of (Word.Keep name keep)) refl refl status low
-from_complete (Word.Get key) status (inl low) = low_among (complete_of (Word.Get key)) refl refl status low
-from_complete (Word.Get key) status (inr eight) = one_at (complete_of (Word.Get key)) 8 status eight refl
-from_complete Word.Scrub status (inl none) = one_at (complete_of Word.Scrub) 0 status none refl
-from_complete Word.Scrub status (inr eight) = one_at (complete_of Word.Scrub) 8 status eight refl
-from_complete Word.Upgrade status low = low_among (complete_of Word.Upgrade) refl refl status low
-from_complete c status none = one_at (complete_of c) 0 status none refl
+from_complete c status from = one_in_front (reply_statuses c) (3 ∷ 7 ∷ 9 ∷ []) status from
+
+-- those that any command may end with
+any_complete : (c : Command) (status : ℕ) → IsTrue (is_one_of (3 ∷ 7 ∷ 9 ∷ []) status) → IsTrue (is_one_of (complete_of c) status)
+any_complete c status is = one_behind (reply_statuses c) (3 ∷ 7 ∷ 9 ∷ []) status is
+
+any_all : (c : Command) (status : ℕ) → IsTrue (is_one_of (3 ∷ 7 ∷ 9 ∷ []) status) → IsTrue (is_one_of (all_of c) status)
+any_all c status is = one_in_front (complete_of c) (fault_statuses (One c)) status (any_complete c status is)
 
 broken_one : (c : Command) (result : ℕ) → IsStatusBroken result → IsTrue (is_one_of (all_of c) result)
-broken_one (Word.Put name bytes keep) result broken = broken_all (all_of (Word.Put name bytes keep)) refl refl refl result refl refl broken
-broken_one (Word.Delete key) result broken = broken_all (all_of (Word.Delete key)) refl refl refl result refl refl broken
-broken_one (Word.Keep name keep) result broken = broken_all (all_of (Word.Keep name keep)) refl refl refl result refl refl broken
-broken_one (Word.Get key) result broken = broken_all (all_of (Word.Get key)) refl refl refl result refl refl broken
-broken_one Word.Scrub result broken = broken_all (all_of Word.Scrub) refl refl refl result refl refl broken
-broken_one Word.Upgrade result broken = broken_all (all_of Word.Upgrade) refl refl refl result refl refl broken
-broken_one c result broken = broken_all (all_of c) refl refl refl result refl refl broken
+broken_one c result broken =
+    broken_all (all_of c) (any_all c 3 refl) (any_all c 7 refl) (any_all c 9 refl) result (one_behind (complete_of c) (4 ∷ 6 ∷ []) 4 refl) (one_behind (complete_of c) (4 ∷ 6 ∷ []) 6 refl) broken
 
 quiet_one : (c : Command) (result : ℕ) → (result ≡ 4 → ⊥) → (result ≡ 6 → ⊥) → IsStatusBroken result → IsTrue (is_one_of (complete_of c) result)
-quiet_one (Word.Put name bytes keep) result disk said broken = broken_complete (complete_of (Word.Put name bytes keep)) refl refl refl result disk said broken
-quiet_one (Word.Delete key) result disk said broken = broken_complete (complete_of (Word.Delete key)) refl refl refl result disk said broken
-quiet_one (Word.Keep name keep) result disk said broken = broken_complete (complete_of (Word.Keep name keep)) refl refl refl result disk said broken
-quiet_one (Word.Get key) result disk said broken = broken_complete (complete_of (Word.Get key)) refl refl refl result disk said broken
-quiet_one Word.Scrub result disk said broken = broken_complete (complete_of Word.Scrub) refl refl refl result disk said broken
-quiet_one Word.Upgrade result disk said broken = broken_complete (complete_of Word.Upgrade) refl refl refl result disk said broken
-quiet_one c result disk said broken = broken_complete (complete_of c) refl refl refl result disk said broken
+quiet_one c result disk said broken = broken_complete (complete_of c) (any_complete c 3 refl) (any_complete c 7 refl) (any_complete c 9 refl) result disk said broken
 
 pub command_status : (c : Command) (result : ℕ) → IsOneStatus c result → IsTrue (is_one_of (all_of c) result)
 command_status c result (inl from) = from_all c result from

@@ -4,12 +4,19 @@ use Rattle.std.specs.Prelude.{IsFalse, IsTrue}
 use Rattle.std.proofs.lemmas.Bool.{eq-eqb}
 use Rattle.sector_disk.specs.Calls.{Counts, SparesDisk}
 use Rattle.sector_disk.specs.Machine.{Report, Rose}
-use Rattle.volume_turns.specs.Status.{CountsInput, CountsNone, CountsRun, CountsTaking, is_unfailed}
+use Rattle.volume_turns.specs.Status.{CountsInput, CountsNone, CountsRun, CountsTaking, is_quiet, is_unfailed}
 use Rattle.volume_turns.proofs.QuietLaws.{unfailed_not, unfailed_said, quiet_unfailed}
 use Rattle.volume_turns.specs.Line.{IsStatusAs, is_unsaid}
 use Rattle.volume_turns.proofs.StatusLaws.{not_as}
 use Rattle.cfs_program.specs.Formatting.{CountsFaults, UsesAttach}
-use Rattle.cfs_program.specs.Opening.{CountsReading}
+
+-- A run that takes the input: where its status tells a fault of the disk or of the output, this is counted, and where
+-- it tells no call of the outside none is; a fault that was found in the volume may end one whose input has failed.
+pub record CountsReading (old new : Report) (status : ℕ) : Type 0 where
+  pub disk : status ≡ 4 → Rose old.disk_faults new.disk_faults
+  pub output : status ≡ 6 → Rose old.output_faults new.output_faults
+  pub quiet : IsTrue (is_quiet status) → CountsNone old new
+  pub unfailed : IsTrue (is_unfailed status) → CountsInput old new
 
 -- ---- behind an attach
 

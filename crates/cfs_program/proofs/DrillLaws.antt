@@ -14,7 +14,8 @@ use Rattle.volume_turns.specs.Line.{EndsWith, IsStatusAs, is_unsaid}
 use Rattle.volume_turns.proofs.QuietLaws.{quiet_unfailed}
 use Rattle.volume_turns.proofs.ReasonLaws.{ages_then}
 use Rattle.cfs_program.specs.Drill.{Begins, Drills, IsListOf, SaysDrill, SaysLives, Speaks, all_lives}
-use Rattle.cfs_program.specs.Program.{Ran, is_one_of}
+use Rattle.cfs_program.specs.Program.{Ran}
+use Rattle.fsd_runs.specs.Commands.{is_one_of}
 use Rattle.cfs_program.proofs.AmongLaws.{one_at}
 use Rattle.cfs_program.proofs.CountsLaws.{input_alone, spares_none}
 use Rattle.cfs_program.proofs.FormatLaws.{untouched_by}
@@ -231,5 +232,5 @@ module _ {D : Type 0} (M : Ghosts D) where
       all = λ none h. tt;
       image = λ none h. tt;
       untouched = d.ages;
-      leaves = λ h l windows changes f sound held. tt;
+      leaves = λ h was sound held. tt;
     }

@@ -13,19 +13,13 @@ use Rattle.fsd_files.specs.Files.{Change}
 use Rattle.fsd_sound.specs.Sound.{EndIn, IsSound}
 use Rattle.fsd_sound.proofs.MoreLaws.{wear_sound}
 use Rattle.fsd_texts.specs.declared.fault.Fault.{Fault}
-use Rattle.fsd_texts.specs.declared.fault.Fault.TheVariants as Ends
 use Rattle.fsd_texts.specs.Text.{fault_text}
 use Rattle.fsd_runs.specs.declared.request.Request.{Request}
 use Rattle.fsd_runs.specs.Errands.{blank, fault_status}
-use Rattle.fsd_runs.specs.Leaves.{IsBroken, IsOutside, IsSoundAsSaid, IsSpent, IsUnsaid, LeavesRun, LeftBefore, MayEnd, Unbegun, Whatever}
-use Rattle.volume_turns.specs.Status.{IsStatusBroken}
-use Rattle.volume_turns.specs.Line.{EndsWith, IsStatusAs, is_unsaid}
+use Rattle.fsd_runs.specs.Leaves.{IsBroken, IsOutside, IsSoundAsSaid, IsSpent, IsUnsaid, LeavesSaid, LeftBefore, MayEnd, Unbegun, Whatever}
+use Rattle.volume_turns.specs.Line.{EndsWith, is_unsaid}
 use Rattle.cfs_program.specs.Opening.{IsSoundDisk}
 use Rattle.cfs_program.proofs.OpeningLaws.{left_start, left_worn, stops_before}
-
-pub failed_status : (status : ℕ) → IsStatusAs 4 status → IsStatusBroken status
-failed_status status (inl four) = inl (Ends.Device 0, tt, four)
-failed_status status (inr six) = inr six
 
 module _ {D : Type 0} (M : Ghosts D) (request : Request) (input rest : List ℕ) (l : Layout) (windows : List WeakRun) (h : List Change) (f : ℕ) (a b c : D) (why : Fault) (may : MayEnd why) (status : ℕ)
     (sound : IsSoundDisk l windows h f (M.now a)) (short : AreShort (M.now a).windows) (at_a : IsTimed M a) (at_c : IsTimed M c) (held : IsHeld M a (λ c. IsSoundAsSaid l windows h f (M.now a).image c.image)) (since : Since M a b)
@@ -65,7 +59,7 @@ module _ {D : Type 0} (M : Ghosts D) (request : Request) (input rest : List ℕ)
   run = then_on M.moment M.left_since a b c (LeftBefore l windows h f (M.now a)) first
       (leaves_more M.moment M.left_since b c (Utters (fault_text why) (M.now b)) (LeftBefore l windows h f (M.now a)) saying (says.any_moment honest))
 
-  pub ended_behind : LeavesRun request input rest l windows h f (M.left_since c) (stops M c) (M.moment a) (StopsOnly M a c) (IsHeld M c) (M.report a) (M.report c) (M.now a) (M.now c) status
+  pub ended_behind : LeavesSaid request input rest l windows h f (M.left_since c) (stops M c) (M.moment a) (StopsOnly M a c) (IsHeld M c) (M.report a) (M.report c) (M.now a) (M.now c) status
   ended_behind = (
     l,
     inl refl,
@@ -83,7 +77,7 @@ module _ {D : Type 0} (M : Ghosts D) (request : Request) (input rest : List ℕ)
   pub ended_run : IsTimed M a → IsTimed M c → IsHeld M a (λ c. IsSoundAsSaid l windows h f (M.now a).image c.image) → Elapses (M.moment a) (M.moment b) (M.left_since a) (M.left_since b) (Before (M.now a) (M.now b)) → Wears (M.now a) (M.now b)
       → LeavesDisk M false (is_unsaid status) (Utters (fault_text why)) b c → M.honest c → EndsWith why (M.now b) (M.now c) status
       → IsOutside request (M.report a) (M.report c) why → (M.report a).output_faults ≤ (M.report b).output_faults
-      → LeavesRun request input rest l windows h f (M.left_since c) (stops M c) (M.moment a) (StopsOnly M a c) (IsHeld M c) (M.report a) (M.report c) (M.now a) (M.now c) status
+      → LeavesSaid request input rest l windows h f (M.left_since c) (stops M c) (M.moment a) (StopsOnly M a c) (IsHeld M c) (M.report a) (M.report c) (M.now a) (M.now c) status
   ended_run at_a at_c held time worn = ended_behind M request input rest l windows h f a b c why may status sound short at_a at_c held time.keeps first worn
     where
       before : (left : Moment) → Before (M.now a) (M.now b) left → LeftBefore l windows h f (M.now a) left

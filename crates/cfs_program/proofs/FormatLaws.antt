@@ -22,8 +22,8 @@ use Rattle.volume_layout.specs.declared.fault.LayoutFault.{LayoutFault}
 use Rattle.fsd_texts.specs.declared.line.Line.{Line}
 use Rattle.fsd_texts.specs.Text.{text}
 use Rattle.volume_contract.specs.State.{Ages}
-use Rattle.volume_turns.specs.Line.{EndsLast}
-use Rattle.cfs_program.specs.Formatting.{HoldsVolume, MakesVolume, MaySay, SaysFor, SaysFormat}
+use Rattle.volume_turns.specs.Line.{EndsLast, IsStatusAs}
+use Rattle.cfs_program.specs.Formatting.{HoldsVolume, IsFormatStatus, MakesVolume, MaySay, SaysFor, SaysFormat}
 
 sector_at-replicate : (count s : ℕ) → sector_at (replicate count Damaged) s ≡ Damaged
 sector_at-replicate zero s = refl
@@ -87,3 +87,17 @@ format_said planned place line status old mid new result quiet for utters (inl s
     inl (six, (text line, may_say planned place status (text line) for, utters.heard, utters.said ∙ ap (λ (s : List ℕ). s ++ take utters.heard (text line)) quiet))
 format_said planned place line status old mid new result quiet for utters (inr (is, all)) =
     inr (text line, subst (λ (n : ℕ). SaysFor planned place n (text line)) (sym is) for, all.said ∙ ap (λ (s : List ℕ). s ++ text line) quiet)
+
+-- ---- its status, by that of its line
+
+pub made_status : (l : Layout) (result : ℕ) → IsStatusAs 0 result → IsFormatStatus (Ok l) result
+made_status l result (inl is) = inl is
+made_status l result (inr six) = inr (inr six)
+
+pub failed_status : (l : Layout) (result : ℕ) → IsStatusAs 4 result → IsFormatStatus (Ok l) result
+failed_status l result (inl four) = inr (inl four)
+failed_status l result (inr six) = inr (inr six)
+
+pub unplanned_status : (why : LayoutFault) (result : ℕ) → IsStatusAs 1 result → IsFormatStatus (Err why) result
+unplanned_status why result (inl one) = inl one
+unplanned_status why result (inr six) = inr six

@@ -1,5 +1,5 @@
 -- What a run tells of the image that its attach found, and of its input.
-use Rattle.std.proofs.Common.{◌≡◌, inl, inr, ℕ, ◌<◌, ◌^◌, ◌-◌, min, Bool, Option, List, length, refl, ◌∙◌, subst, arith}
+use Rattle.std.proofs.Common.{◌≡◌, inl, inr, ℕ, ◌<◌, ◌^◌, ◌-◌, min, Bool, Option, List, length, refl, ◌∙◌, subst}
 use Rattle.std.specs.Prelude.{IsFalse, IsTrue}
 use Rattle.volume_layout.specs.declared.layout.Layout.{Layout}
 use Rattle.sector_disk.specs.Image.{IsWorn, Windows, open_damage}
@@ -12,12 +12,18 @@ use Rattle.volume_turns.specs.Answering.{WritesOne}
 use Rattle.cfs_program.proofs.FormatLaws.{untouched_by}
 use Rattle.sector_disk.specs.Machine.{Finds, Wears, Moment, Report, Rose, Utters}
 use Rattle.fsd_texts.specs.Script.{max_input}
-use Rattle.volume_turns.specs.Causes.{FailsInput, TellsImage, is_of_mounted}
+use Rattle.volume_turns.specs.Causes.{FailsInput, HasSpent, HasVolume, SaysCause, TellsImage, is_of_mounted}
 use Rattle.volume_turns.specs.Line.{IsStatusAs}
-use Rattle.volume_turns.proofs.StatusLaws.{not_as}
-use Rattle.cfs_program.specs.Opening.{TellsFound, WritesFound, is_from_outside}
+use Rattle.cfs_program.specs.Opening.{AsFound, WritesFound, is_from_outside}
 
 -- ---- behind the attach
+
+-- What a run tells of the image that its attach found, by its status, whether it is a script, what its calls may tell
+-- as lost, and how many commands it makes up, if it does.
+pub record TellsFound (script : Bool) (AreCopies : Layout → ℕ → ℕ → Type 0) (made : Option ℕ) (old new : Moment) (status : ℕ) : Type 0 where
+  pub mounted : IsTrue (is_of_mounted status) → AsFound HasVolume old
+  pub refused : status ≡ 3 → AsFound (λ sectors at. SaysCause script AreCopies sectors at new) old
+  pub spent : status ≡ 9 → AsFound (HasSpent made) old
 
 pub tells_found : (script : Bool) (AreCopies : Layout → ℕ → ℕ → Type 0) (made : Option ℕ) (old at new : Moment) (sectors status : ℕ) → Finds old at → sectors ≡ min (length at.image) (2 ^ 32 - 1) → TellsImage script AreCopies made sectors at new status → TellsFound script AreCopies made old new status
 tells_found script AreCopies made old at new sectors status found size tells = record {
@@ -48,14 +54,6 @@ untouched_unfound line old mid new wears utters =
 pub not_mounted : (gives result : ℕ) → IsStatusAs gives result → IsFalse (is_of_mounted gives) → IsTrue (is_of_mounted result) → ⊥
 not_mounted gives result (inl is) other any = let at : IsTrue (is_of_mounted gives) = subst (λ (n : ℕ). IsTrue (is_of_mounted n)) is any in cc (at, other)
 not_mounted gives result (inr six) other any = let at : IsTrue (is_of_mounted 6) = subst (λ (n : ℕ). IsTrue (is_of_mounted n)) six any in cc at
-
--- the attach failed
-pub tells_unfound : (script : Bool) (AreCopies : Layout → ℕ → ℕ → Type 0) (made : Option ℕ) (old new : Moment) (status : ℕ) → IsStatusAs 4 status → TellsFound script AreCopies made old new status
-tells_unfound script AreCopies made old new status is = record {
-  mounted = λ any. absurd (not_mounted 4 status is refl any);
-  refused = λ three. absurd (not_as 3 4 status (λ e. omega (arith, e)) (λ e. omega (arith, e)) is three);
-  spent = λ nine. absurd (not_as 9 4 status (λ e. omega (arith, e)) (λ e. omega (arith, e)) is nine);
-}
 
 -- a call of the outside failed, or memory was refused before anything was done
 outside_not : (gives result : ℕ) → IsTrue (is_from_outside gives) → IsStatusAs gives result → IsFalse (is_from_outside result) → ⊥

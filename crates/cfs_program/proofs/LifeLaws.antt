@@ -24,7 +24,8 @@ use Rattle.fsd_files.specs.Answers.{Met, enter_fault, entered_unless, keep_given
 use Rattle.fsd_files.specs.Disk.{Image, Sectors, in_runs}
 use Rattle.fsd_files.specs.Files.{Change, File, Files, after, new_key}
 use Rattle.fsd_files.specs.Kept.{IsEntryOf, Lists}
-use Rattle.fsd_files.specs.Replies.{Reply}
+use Rattle.fsd_files.specs.declared.reply.Reply.{Reply}
+use Rattle.fsd_files.specs.declared.reply.Reply.TheVariants as Said
 use Rattle.fsd_files.specs.Volume.{Volume, drawn, forced_for_place, forced_if, place_for}
 use Rattle.fsd_sound.specs.Sound.{IsPrefixOf, IsSaid, IsSound}
 use Rattle.fsd_sound.proofs.WindowLaws.{last_snoc}
@@ -37,9 +38,9 @@ use Rattle.fsd_texts.specs.declared.script_command.ScriptCommand.TheVariants.{Pl
 use Rattle.fsd_texts.specs.Text.{text}
 use Rattle.fsd_runs.specs.declared.request.Request.{Request}
 use Rattle.fsd_runs.specs.declared.request.Request.TheVariants as Asks
-use Rattle.fsd_runs.specs.Commands.{answer, changes_of, version_line}
-use Rattle.fsd_runs.specs.Errands.{Cut, Turn, MayCut, alone, alone_ending, answered_so, blank, fault_status, reply_status}
-use Rattle.fsd_runs.specs.Leaves.{IsBroken, IsReplied, IsSoundAsSaid, IsSpent, IsUnderWay, IsUndone, IsUnsaid, LeavesBy, LeavesMounted, LeavesRun, LeftSince, Unbegun, Whatever}
+use Rattle.fsd_runs.specs.Commands.{answer, changes_of, version_line, reply_status}
+use Rattle.fsd_runs.specs.Errands.{Cut, Turn, MayCut, alone, alone_ending, answered_so, blank, fault_status}
+use Rattle.fsd_runs.specs.Leaves.{IsBroken, IsReplied, IsSoundAsSaid, IsSpent, IsUnderWay, IsUndone, IsUnsaid, LeavesBy, LeavesMounted, LeavesSaid, LeftSince, Unbegun, Whatever}
 use Rattle.fsd_runs.specs.Sessions.{Meeting, session_over}
 use Rattle.fsd_runs.specs.Runs.{Goes, IsCutAt, IsThrough, answered, changes_in, errand_in, run_end, run_status, run_turns, said_in, turn_of, turns_of}
 use Rattle.cfs_program.specs.Drill.{KeepsFirst, ListsPrefix, list_text, version_text}
@@ -173,7 +174,7 @@ module _ (command : Command) (v : Volume) where
 -- ---- a put
 
 abbrev IsPutReply : Reply → Type 0
-IsPutReply reply = ((why : Refusal) × (reply ≡ Reply.Refused why)) ⊎ ((key : Key) × (sectors : ℕ) × (reply ≡ Reply.Made key sectors))
+IsPutReply reply = ((why : Refusal) × (reply ≡ Said.Refused why)) ⊎ ((key : Key) × (sectors : ℕ) × (reply ≡ Said.Made key sectors))
 
 module _ (met : Met) (name bytes : List ℕ) where
   put_enters : (v : Volume) (runs : List SectorRun) (serial : Serial) (o : Option Refusal) → IsPutReply (entered_unless o v name bytes None runs serial met.reached).0
@@ -397,7 +398,7 @@ kept_by h f now k layout said = record {
 
 module _ (name : List ℕ) (byte : ℕ) (h : List Change) (old new : Moment) (k : KeepsFirst h (length h) old) (rest : List ℕ) (Past Stops : ℕ → Moment → Type 0) (began : ℕ) (Only Held : (Moment → Type 0) → Type 0) (before after_it : Report) (result : ℕ) where
   abbrev LeavesPut : Type 0
-  LeavesPut = LeavesRun (the_request name byte) (byte ∷ []) rest k.layout k.windows (take k.made h) k.forced Past Stops began Only Held before after_it old new result
+  LeavesPut = LeavesSaid (the_request name byte) (byte ∷ []) rest k.layout k.windows (take k.made h) k.forced Past Stops began Only Held before after_it old new result
 
   pub kept_done : result ≡ 0 → LeavesPut → KeepsFirst (h ++ the_change name byte ∷ []) (length h + 1) new
   kept_done nought (layout, said, leaves) = done_by name byte h old new (kept_by h (length h) old k layout said) rest Past Stops began Only Held before after_it result nought leaves
@@ -406,5 +407,5 @@ module _ (name : List ℕ) (byte : ℕ) (h : List Change) (old new : Moment) (k 
   kept_left (layout, said, leaves) = left_by name byte h old new (kept_by h (length h) old k layout said) rest Past Stops began Only Held before after_it result leaves
 
 module _ (h : List Change) (f : ℕ) (old new : Moment) (k : KeepsFirst h f old) (rest : List ℕ) (Past Stops : ℕ → Moment → Type 0) (began : ℕ) (Only Held : (Moment → Type 0) → Type 0) (before after_it : Report) (result : ℕ) where
-  pub kept_listed : old.said ≡ [] → result ≡ 0 → LeavesRun (Asks.One all_versions) [] rest k.layout k.windows (take k.made h) k.forced Past Stops began Only Held before after_it old new result → ListsPrefix h f new.said
+  pub kept_listed : old.said ≡ [] → result ≡ 0 → LeavesSaid (Asks.One all_versions) [] rest k.layout k.windows (take k.made h) k.forced Past Stops began Only Held before after_it old new result → ListsPrefix h f new.said
   kept_listed unsaid nought (layout, said, leaves) = listed_by h f old new (kept_by h f old k layout said) rest Past Stops began Only Held before after_it result unsaid nought leaves

@@ -27,7 +27,7 @@ use Rattle.fsd_texts.specs.Text.{fault_text}
 use Rattle.fsd_runs.specs.declared.request.Request.{Request}
 use Rattle.fsd_runs.specs.declared.request.Request.TheVariants.{Put}
 use Rattle.fsd_runs.specs.Errands.{Cut, Turn}
-use Rattle.fsd_runs.specs.Leaves.{CutCause, IsBroken, IsOutside, IsReplied, IsSoundAsSaid, IsSpent, IsUnderWay, IsUndone, IsUnsaid, LeavesBy, LeavesMounted, LeavesRoots, LeavesRun, LeavesUnmounted, Left, LeftBefore, LeftSince, SaysFault}
+use Rattle.fsd_runs.specs.Leaves.{CutCause, IsBroken, IsOutside, IsReplied, IsSoundAsSaid, IsSpent, IsUnderWay, IsUndone, IsUnsaid, LeavesBy, LeavesMounted, LeavesRoots, LeavesSaid, LeavesUnmounted, Left, LeftBefore, LeftSince, SaysFault}
 use Rattle.fsd_runs.proofs.LeaveLaws.{one_more}
 use Rattle.fsd_runs.specs.Sessions.{session_over}
 use Rattle.fsd_runs.specs.Runs.{Goes, IsCutAt, IsThrough, Run, errand_in, run_end, run_status, run_turns, said_in}
@@ -267,8 +267,8 @@ module _ {D : Type 0} (M : Ghosts D) (request : Request) (input rest : List ℕ)
     (sound : IsSoundDisk l windows h f (M.now a)) (short : AreShort (M.now a).windows) where
   -- behind an attach
   pub opened_run : IsTimed M a → IsTimed M b → IsHeld M a (λ c. IsSoundAsSaid l windows h f (M.now a).image c.image) → Elapses (M.moment a) (M.moment b) (M.left_since a) (M.left_since b) (Before (M.now a) (M.now b)) → Finds (M.now a) (M.now b) → CountsNone (M.report a) (M.report b)
-      → LeavesRun request input rest l windows h f (M.left_since c) (stops M c) (M.moment b) (StopsOnly M b c) (IsHeld M c) (M.report b) (M.report c) (M.now b) (M.now c) status
-      → LeavesRun request input rest l windows h f (M.left_since c) (stops M c) (M.moment a) (StopsOnly M a c) (IsHeld M c) (M.report a) (M.report c) (M.now a) (M.now c) status
+      → LeavesSaid request input rest l windows h f (M.left_since c) (stops M c) (M.moment b) (StopsOnly M b c) (IsHeld M c) (M.report b) (M.report c) (M.now b) (M.now c) status
+      → LeavesSaid request input rest l windows h f (M.left_since c) (stops M c) (M.moment a) (StopsOnly M a c) (IsHeld M c) (M.report a) (M.report c) (M.now a) (M.now c) status
   opened_run at_a at_b held time found same (layout, says, leaves) =
       let said = said_before l layout (M.now a) (M.now b) (finds_keep (M.now a) (M.now b) found) says in
       (layout, said, opened_by M request input rest layout windows h f a b c status (said_disk l layout windows h f (M.now a) said sound) short at_a at_b (λ c left. held c left layout said) time found same leaves)

@@ -7,10 +7,11 @@ use Rattle.volume_layout.specs.declared.kind.Kind.{Kind}
 use Rattle.volume_layout.specs.declared.layout.Layout.{Layout}
 use Rattle.volume_layout.specs.declared.fault.LayoutFault.{LayoutFault}
 use Rattle.volume_layout.specs.Layout.{plan}
+use Rattle.sector_disk.specs.declared.machine.Failed.{Failed}
 use Rattle.sector_disk.specs.declared.machine.Machine.{Ghosts}
-use Rattle.sector_disk.specs.Calls.{Counts, IsHeld, IsTimed, LeavesDisk, SparesDisk}
+use Rattle.sector_disk.specs.Calls.{Counts, IsTimed, LeavesDisk, SparesDisk}
 use Rattle.sector_disk.specs.Image.{AreShort}
-use Rattle.sector_disk.specs.Machine.{Ledger, Moment, Report, Rose, Trusts, Utters}
+use Rattle.sector_disk.specs.Machine.{Asked, Ledger, Moment, Report, Rose, Utters}
 use Rattle.sector_disk.proofs.Holding.{wears_none}
 use Rattle.fsd_texts.specs.declared.command.Command.{Command}
 use Rattle.fsd_texts.specs.declared.command.Command.TheVariants as Word
@@ -21,6 +22,7 @@ use Rattle.fsd_texts.specs.Text.{fault_text, text}
 use Rattle.fsd_runs.specs.declared.request.Request.{Request}
 use Rattle.fsd_runs.specs.declared.request.Request.TheVariants.{Outside, BadField, Format, Put, One, Script, Generate, Drill}
 use Rattle.fsd_runs.specs.Errands.{IfMounts}
+use Rattle.fsd_runs.specs.Leaves.{NoneRose}
 use Rattle.volume_contract.specs.State.{Ages}
 use Rattle.volume_turns.specs.Answering.{SaysNoReply}
 use Rattle.volume_turns.proofs.AnsweringLaws.{fault_alone}
@@ -28,10 +30,12 @@ use Rattle.volume_turns.proofs.LastLaws.{ends_fault}
 use Rattle.volume_turns.proofs.QuietLaws.{quiet_unfailed}
 use Rattle.volume_turns.proofs.StatusLaws.{as_not_low, not_as}
 use Rattle.volume_turns.specs.Line.{is_unsaid, EndsLast, EndsWith, IsStatusAs}
-use Rattle.cfs_program.specs.Formatting.{AsksAll, AsksAtMost, CountsFaults, IsFormatStatus, IsMadeBy, SaysFormat, SparesUnplanned, format_status, plan_asks}
-use Rattle.cfs_program.specs.Opening.{is_from_outside}
-use Rattle.cfs_program.specs.Program.{LeavesInput, Ran, SaysAlone, WritesAlone, SaysLine, SparesImage, SparesInput, complete_statuses, fault_statuses, field_line, input_for, is_one_of, plan_faults}
+use Rattle.cfs_program.specs.Formatting.{AsksAll, AsksAtMost, IsFormatStatus, RunsFormat, SparesUnplanned, format_status, plan_asks}
+use Rattle.cfs_program.specs.Opening.{AsksOrNot, is_from_outside, mount_asks}
+use Rattle.cfs_program.specs.Program.{LeavesInput, Ran, SaysAlone, SaysAnswer, asks_of, WritesAlone, SaysLine, SparesImage, SparesInput, complete_statuses, fault_statuses, field_line, input_for, plan_faults}
+use Rattle.fsd_runs.specs.Commands.{is_one_of}
 use Rattle.cfs_program.proofs.AmongLaws.{one_at}
+use Rattle.cfs_program.proofs.AttachLaws.{EndsUnfound, unfound_ages, unfound_alone, unfound_asks, unfound_counts, unfound_last, unfound_leaves, unfound_outside, unfound_reading, unfound_trust}
 use Rattle.cfs_program.proofs.CountsLaws.{input_alone, spares_none}
 use Rattle.cfs_program.proofs.EndedLaws.{ended_run}
 use Rattle.cfs_program.proofs.FoundLaws.{inside_not, not_mounted}
@@ -104,7 +108,7 @@ module _ {D : Type 0} (M : Ghosts D) (path : List ℕ) (a b : D) (line : Line) (
     all = λ none h. tt;
     image = λ none h. not_as 0 2 result (λ e. omega (arith, e)) (λ e. omega (arith, e)) status none;
     untouched = λ h. untouched_by line (M.now a) (M.now b) (says.exit h);
-    leaves = λ h l windows changes f sound held. tt;
+    leaves = λ h was sound held. tt;
   }
 
 -- ---- refused memory, before anything is known of the words
@@ -216,9 +220,66 @@ module _ {D : Type 0} (M : Ghosts D) (request : Request) (path : List ℕ) (a b 
     all = λ zero h. absurd (not_zero zero);
     image = λ zero h. absurd (not_zero zero);
     untouched = λ h. spares_image request (M.now a) (M.now b) (untouched_by (Lines.Ended Ends.Memory) (M.now a) (M.now b) (says.exit h));
-    leaves = λ h l windows changes f sound held. if_mounts request _ (ended_run M request (input_for request (M.ledger a).input) (M.ledger b).input l windows changes f a a b Ends.Memory tt result sound
+    leaves = λ h was sound held. if_mounts request _ (ended_run M request (input_for request (M.ledger a).input) (M.ledger b).input was.layout was.windows was.changes was.forced a a b Ends.Memory tt result sound
         (short (says.trust.honest h)) (timed a (says.trust.honest h)) (timed b h) held (record { later = omega arith; nothing_else = λ t c le was. inl was; keeps = λ t c le was. was }) (wears_none (M.now a)) says h (ends h) tt (omega arith));
   }
+
+-- ---- an image that was not found
+
+four_one : (command : Command) → IsTrue (is_one_of (complete_statuses (One command) ++ fault_statuses (One command)) 4)
+four_one (Word.Put name bytes keep) = refl
+four_one command = refl
+
+module _ {D : Type 0} {M : Ghosts D} {path : List ℕ} {failed : Failed} {a b z : D} {status : ℕ} (x : EndsUnfound M path failed a b z status)
+    (short : M.honest a → AreShort (M.now a).windows) (timed : (m : D) → M.honest m → IsTimed M m) where
+  module _ (request : Request) (four : IsTrue (is_one_of (complete_statuses request ++ fault_statuses request) 4)) (asks : asks_of request path ≡ mount_asks path)
+      (no_answer : SaysAnswer request (M.report z).fault_place (M.now a) (M.now z) status) where
+    among : IsStatusAs 4 status → IsTrue (is_one_of (complete_statuses request ++ fault_statuses request) status)
+    among (inl is) = one_at (complete_statuses request ++ fault_statuses request) 4 status is four
+    among (inr six) = one_at (complete_statuses request ++ fault_statuses request) 6 status six (six_is request)
+
+    counted : IsStatusAs 4 status → NoneRose (M.report a) (M.report z) → ⊥
+    counted (inl is) none = none.disk ((unfound_counts x).disk is)
+    counted (inr six) none = none.output ((unfound_counts x).output six)
+
+    ran_failed : Ran M request path a z status
+    ran_failed = record {
+      status = among x.for;
+      complete = λ none. absurd (counted x.for none);
+      device = (unfound_counts x).disk;
+      output = (unfound_counts x).output;
+      quiet = (unfound_reading x).quiet;
+      unfailed = (unfound_reading x).unfailed;
+      attaches = λ t. subst (λ (asked : List Asked). AsksOrNot asked (M.ledger a).attaches (M.ledger z).attaches) (sym asks) (unfound_asks x t).attaches;
+      attached = λ inside t. absurd (unfound_outside x inside);
+      taken = λ t. input_left request (M.ledger a).input (M.ledger z).input (unfound_asks x t).input;
+      spared = input_spared request (M.report a) (M.report z) (unfound_counts x).input;
+      input = λ five t. absurd (not_as 5 4 status (λ e. omega (arith, e)) (λ e. omega (arith, e)) x.for five);
+      fails = λ five h. absurd (not_as 5 4 status (λ e. omega (arith, e)) (λ e. omega (arith, e)) x.for five);
+      bad = λ two h. absurd (not_as 2 4 status (λ e. omega (arith, e)) (λ e. omega (arith, e)) x.for two);
+      whole = λ low t. absurd (as_not_low 4 status (omega arith) x.for low);
+      spelled = λ zero t. absurd (not_as 0 4 status (λ e. omega (arith, e)) (λ e. omega (arith, e)) x.for zero);
+      trust = unfound_trust x;
+      says = λ h. inl no_answer;
+      one = λ h. memory_one request (M.ledger a).input (M.now a) (M.now z) status (unfound_alone x h);
+      rest = λ h. memory_rest request (M.now a) (M.now z) (unfound_ages x h);
+      mounted = λ any h. absurd (not_mounted 4 status x.for refl any);
+      refused = λ three h. absurd (not_as 3 4 status (λ e. omega (arith, e)) (λ e. omega (arith, e)) x.for three);
+      last = λ of h. if_mounts request _ (unfound_last x of h);
+      spent = λ nine h. absurd (not_as 9 4 status (λ e. omega (arith, e)) (λ e. omega (arith, e)) x.for nine);
+      all = λ zero h. absurd (not_as 0 4 status (λ e. omega (arith, e)) (λ e. omega (arith, e)) x.for zero);
+      image = λ zero h. absurd (not_as 0 4 status (λ e. omega (arith, e)) (λ e. omega (arith, e)) x.for zero);
+      untouched = λ h. spares_image request (M.now a) (M.now z) (unfound_ages x h);
+      leaves = λ h was sound held. if_mounts request _ (unfound_leaves x request (input_for request (M.ledger a).input) (M.ledger z).input was h short timed sound held);
+      accepted = λ h l windows changes f sound three. not_as 3 4 status (λ e. omega (arith, e)) (λ e. omega (arith, e)) x.for three;
+    }
+
+  pub ran_unfound : (request : Request) → IfMounts request (Ran M request path a z status)
+  ran_unfound (Put name keep) = ran_failed (Put name keep) refl refl tt
+  ran_unfound (One command) = ran_failed (One command) (four_one command) refl tt
+  ran_unfound Script = ran_failed Script refl refl tt
+  ran_unfound (Generate seed count) = ran_failed (Generate seed count) refl refl tt
+  ran_unfound request = tt
 
 -- ---- a format
 
@@ -258,37 +319,34 @@ format_asked (Err why) path old new result status asks all inside = none asks.at
     none (inl same) = same
     none (inr same) = same ∙ sym (append-nil old.attaches)
 
-pub ran_format : {D : Type 0} (M : Ghosts D) (n t p : ℕ) (kind : Kind) (path : List ℕ) (a b : D) (result : ℕ) → IsFormatStatus (plan kind n t p) result → CountsFaults (M.report a) (M.report b) result
-    → (M.tells b → AsksAtMost (plan_asks (plan kind n t p) path) (M.ledger a) (M.ledger b)) → (result ≡ 0 → M.tells b → AsksAll (plan_asks (plan kind n t p) path) (M.ledger a) (M.ledger b))
-    → Trusts (M.tells a) (M.tells b) (M.honest a) (M.honest b) → (M.honest b → SaysFormat (plan kind n t p) (M.report b).fault_place (M.now a) (M.now b) result)
-    → (result ≡ 0 → M.honest b → IsMadeBy (plan kind n t p) (IsHeld M b)) → (M.honest b → SparesUnplanned (plan kind n t p) (M.now a) (M.now b)) → Ran M (Format n t p kind) path a b result
-ran_format M n t p kind path a b result status counts asks asked trust says made untouched = record {
-  status = format_status_is (plan kind n t p) result status;
-  complete = λ none. format_complete (plan kind n t p) result status (λ four. none.disk (counts.disk four)) (λ six. none.output (counts.output six));
-  device = counts.disk;
-  output = counts.output;
-  quiet = λ quiet. counts.quiet (quiet_unfailed result quiet);
-  unfailed = λ unfailed. input_alone (M.report a) (M.report b) (counts.quiet unfailed);
-  attaches = λ t. (asks t).attaches;
-  attached = λ inside told. format_asked (plan kind n t p) path (M.ledger a) (M.ledger b) result status (asks told) (λ zero. asked zero told) inside;
-  taken = λ t. (asks t).input;
-  spared = counts.input;
-  input = λ five told. absurd (format_not 5 (plan kind n t p) result status (λ e. omega (arith, e)) (λ e. omega (arith, e)) (λ e. omega (arith, e)) (λ e. omega (arith, e)) five);
-  fails = λ five h. absurd (format_not 5 (plan kind n t p) result status (λ e. omega (arith, e)) (λ e. omega (arith, e)) (λ e. omega (arith, e)) (λ e. omega (arith, e)) five);
+pub ran_format : {D : Type 0} (M : Ghosts D) (n t p : ℕ) (kind : Kind) (path : List ℕ) (a b : D) (result : ℕ) → RunsFormat M (plan kind n t p) path a b result → Ran M (Format n t p kind) path a b result
+ran_format M n t p kind path a b result e = record {
+  status = format_status_is (plan kind n t p) result e.status;
+  complete = λ none. format_complete (plan kind n t p) result e.status (λ four. none.disk (e.counts.disk four)) (λ six. none.output (e.counts.output six));
+  device = e.counts.disk;
+  output = e.counts.output;
+  quiet = λ quiet. e.counts.quiet (quiet_unfailed result quiet);
+  unfailed = λ unfailed. input_alone (M.report a) (M.report b) (e.counts.quiet unfailed);
+  attaches = λ t. (e.asks t).attaches;
+  attached = λ inside told. format_asked (plan kind n t p) path (M.ledger a) (M.ledger b) result e.status (e.asks told) (λ zero. e.asked zero told) inside;
+  taken = λ t. (e.asks t).input;
+  spared = e.counts.input;
+  input = λ five told. absurd (format_not 5 (plan kind n t p) result e.status (λ e. omega (arith, e)) (λ e. omega (arith, e)) (λ e. omega (arith, e)) (λ e. omega (arith, e)) five);
+  fails = λ five h. absurd (format_not 5 (plan kind n t p) result e.status (λ e. omega (arith, e)) (λ e. omega (arith, e)) (λ e. omega (arith, e)) (λ e. omega (arith, e)) five);
   bad = λ two h. tt;
   whole = λ zero t. tt;
   spelled = λ zero t. tt;
-  trust = trust;
-  says = λ h. inl (says h);
+  trust = e.trust;
+  says = λ h. inl (e.says h);
   mounted = λ any h. tt;
-  refused = λ three h. absurd (format_not 3 (plan kind n t p) result status (λ e. omega (arith, e)) (λ e. omega (arith, e)) (λ e. omega (arith, e)) (λ e. omega (arith, e)) three);
-  accepted = λ h l windows changes f sound three. format_not 3 (plan kind n t p) result status (λ e. omega (arith, e)) (λ e. omega (arith, e)) (λ e. omega (arith, e)) (λ e. omega (arith, e)) three;
-  spent = λ nine h. absurd (format_not 9 (plan kind n t p) result status (λ e. omega (arith, e)) (λ e. omega (arith, e)) (λ e. omega (arith, e)) (λ e. omega (arith, e)) nine);
+  refused = λ three h. absurd (format_not 3 (plan kind n t p) result e.status (λ e. omega (arith, e)) (λ e. omega (arith, e)) (λ e. omega (arith, e)) (λ e. omega (arith, e)) three);
+  accepted = λ h l windows changes f sound three. format_not 3 (plan kind n t p) result e.status (λ e. omega (arith, e)) (λ e. omega (arith, e)) (λ e. omega (arith, e)) (λ e. omega (arith, e)) three;
+  spent = λ nine h. absurd (format_not 9 (plan kind n t p) result e.status (λ e. omega (arith, e)) (λ e. omega (arith, e)) (λ e. omega (arith, e)) (λ e. omega (arith, e)) nine);
   last = λ of h. tt;
   all = λ zero h. tt;
-  image = made;
-  untouched = untouched;
+  image = e.made;
+  untouched = e.untouched;
   one = λ h. tt;
   rest = λ h. tt;
-  leaves = λ h l windows changes f sound held. tt;
+  leaves = λ h was sound held. tt;
 }

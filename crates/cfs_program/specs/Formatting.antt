@@ -1,9 +1,10 @@
 -- What the command `format` leaves.
 use Rattle.std.specs.Prelude.{◌≡◌, ◌⊎◌, ◌≤◌, ℕ, List, [], ◌∷◌, ◌++◌, take, Option, Some, None, Result, Ok, Err, IsTrue}
 use Rattle.sector_disk.specs.declared.machine.Attach.TheVariants.{New}
+use Rattle.sector_disk.specs.declared.machine.Machine.{Ghosts}
 use Rattle.sector_disk.specs.declared.sector.WeakRun.{WeakRun}
-use Rattle.sector_disk.specs.Calls.{DiskFaults}
-use Rattle.sector_disk.specs.Machine.{Asked, Ledger, Moment, Report, Rose}
+use Rattle.sector_disk.specs.Calls.{DiskFaults, IsHeld}
+use Rattle.sector_disk.specs.Machine.{Asked, Ledger, Moment, Report, Rose, Trusts}
 use Rattle.volume_layout.specs.declared.layout.Layout.{Layout}
 use Rattle.volume_layout.specs.declared.fault.LayoutFault.{LayoutFault}
 use Rattle.volume_layout.specs.Kinds.{longest_of}
@@ -105,3 +106,17 @@ BeginsFormat planned place old new = (bytes : List ℕ) × MaySay planned place 
 -- All of it is said, or some first bytes, where the output failed.
 abbrev pub SaysFormat : Result Layout LayoutFault → (place : ℕ) → (old new : Moment) → ℕ → Type 0
 SaysFormat planned place old new status = ((status ≡ 6) × BeginsFormat planned place old new) ⊎ ((bytes : List ℕ) × SaysFor planned place status bytes × (new.said ≡ old.said ++ bytes))
+
+-- ---- the whole
+
+-- What a format by this plan does: which status it gives and what it counts, which attach it asks for, what it says, and
+-- what it leaves.
+pub record RunsFormat {D : Type 0} (M : Ghosts D) (planned : Result Layout LayoutFault) (path : List ℕ) (a b : D) (result : ℕ) : Type 0 where
+  pub status : IsFormatStatus planned result
+  pub counts : CountsFaults (M.report a) (M.report b) result
+  pub asks : M.tells b → AsksAtMost (plan_asks planned path) (M.ledger a) (M.ledger b)
+  pub asked : result ≡ 0 → M.tells b → AsksAll (plan_asks planned path) (M.ledger a) (M.ledger b)
+  pub trust : Trusts (M.tells a) (M.tells b) (M.honest a) (M.honest b)
+  pub says : M.honest b → SaysFormat planned (M.report b).fault_place (M.now a) (M.now b) result
+  pub made : result ≡ 0 → M.honest b → IsMadeBy planned (IsHeld M b)
+  pub untouched : M.honest b → SparesUnplanned planned (M.now a) (M.now b)

@@ -1,15 +1,11 @@
 -- What the program answers and leaves, by what its words ask for.
-use Rattle.std.specs.Prelude.{◌≡◌, ◌⊎◌, ◌≤◌, ⊤, ℕ, Bool, true, false, ◌==◌, List, [], ◌∷◌, ◌++◌, length, take, Option, Some, None, Result, Ok, Err, IsFalse, IsTrue}
-use Rattle.std.specs.List.{list_any}
+use Rattle.std.specs.Prelude.{◌≡◌, ◌⊎◌, ◌≤◌, ⊤, ℕ, Bool, true, false, List, [], ◌∷◌, ◌++◌, length, take, Option, Some, None, Result, Ok, Err, IsFalse, IsTrue}
 use Rattle.volume_layout.specs.declared.layout.Layout.{Layout}
 use Rattle.volume_layout.specs.declared.fault.LayoutFault.{LayoutFault}
 use Rattle.volume_layout.specs.Layout.{plan}
 use Rattle.sector_disk.specs.declared.machine.Machine.{Ghosts}
-use Rattle.sector_disk.specs.declared.sector.WeakRun.{WeakRun}
-use Rattle.sector_disk.specs.Calls.{IsHeld, StopsOnly, stops}
+use Rattle.sector_disk.specs.Calls.{IsHeld}
 use Rattle.sector_disk.specs.Machine.{Asked, Moment, Report, Rose, Trusts}
-use Rattle.fsd_files.specs.Files.{Change}
-use Rattle.fsd_texts.specs.declared.command.Command.{Command}
 use Rattle.fsd_texts.specs.declared.command.Command.TheVariants as Word
 use Rattle.fsd_texts.specs.declared.fault.Fault.TheVariants as Ends
 use Rattle.fsd_texts.specs.declared.line.Line.{Line}
@@ -20,9 +16,9 @@ use Rattle.fsd_texts.specs.Text.{text}
 use Rattle.fsd_texts.specs.declared.bad_line.Cause.{Cause}
 use Rattle.fsd_runs.specs.declared.request.Request.{Request}
 use Rattle.fsd_runs.specs.declared.request.Request.TheVariants.{Outside, BadField, Format, Put, One, Script, Generate, Drill}
-use Rattle.fsd_runs.specs.Commands.{reply_text}
+use Rattle.fsd_runs.specs.Commands.{is_one_of, reply_statuses, reply_text}
 use Rattle.fsd_runs.specs.Errands.{IfMounts}
-use Rattle.fsd_runs.specs.Leaves.{IsSoundAsSaid, LeavesRun, NoneRose}
+use Rattle.fsd_runs.specs.Leaves.{IsSoundAsSaid, LeavesRun, NoneRose, Was}
 use Rattle.cfs_program.specs.Drill.{SaysDrill}
 use Rattle.cfs_program.specs.Formatting.{IsMadeBy, SaysFormat, SparesUnplanned, format_status, plan_asks}
 use Rattle.volume_contract.specs.State.{Ages}
@@ -31,23 +27,10 @@ use Rattle.volume_turns.specs.Answering.{SaysOne}
 use Rattle.volume_turns.specs.Causes.{FailsInput, HasSpent, HasVolume, SaysCause, SaysFault, SaysMade, SaysOfInput, is_of_fault, is_of_mounted}
 use Rattle.volume_turns.specs.Each.{SaysBadLine, SaysForced}
 use Rattle.volume_turns.specs.Status.{CountsInput, CountsNone, is_unfailed, is_quiet}
-use Rattle.volume_turns.specs.Steps.{MayLose}
+use Rattle.volume_turns.specs.Commands.{MayLose}
 use Rattle.cfs_program.specs.Opening.{AcceptsSound, AsFound, AsksOrNot, IsSoundDisk, WritesFound, is_from_outside, mount_asks}
 
 -- ---- statuses
-
--- those of a command's replies
-abbrev pub reply_statuses : Command → List ℕ
-reply_statuses (Word.Put name bytes keep) = 0 ∷ 1 ∷ []
-reply_statuses (Word.Delete key) = 0 ∷ 1 ∷ []
-reply_statuses (Word.Keep name keep) = 0 ∷ 1 ∷ []
-reply_statuses (Word.List pattern) = 0 ∷ []
-reply_statuses (Word.Get key) = 0 ∷ 1 ∷ 8 ∷ []
-reply_statuses Word.Force = 0 ∷ []
-reply_statuses Word.Tick = 0 ∷ []
-reply_statuses Word.Stat = 0 ∷ []
-reply_statuses Word.Scrub = 0 ∷ 8 ∷ []
-reply_statuses Word.Upgrade = 0 ∷ 1 ∷ []
 
 -- where no call of the outside fails
 abbrev pub complete_statuses : Request → List ℕ
@@ -73,9 +56,6 @@ fault_statuses (Put name keep) = 4 ∷ 5 ∷ 6 ∷ []
 fault_statuses Script = 4 ∷ 5 ∷ 6 ∷ []
 fault_statuses Drill = 6 ∷ []
 fault_statuses request = 4 ∷ 6 ∷ []
-
-abbrev pub is_one_of : List ℕ → ℕ → Bool
-is_one_of statuses status = list_any (λ s. s == status) statuses
 
 -- ---- attaches and input
 
@@ -202,12 +182,12 @@ SparesImage request old new = ⊤
 
 -- ---- a sound disk
 
--- So a request that mounts its image leaves each sound disk, where each moment since the last sync is as sound.
--- First is what each of them has as the run begins, and Held what each has at its end.
-abbrev pub LeavesSound : Request → (input rest : List ℕ) → (First : (Moment → Type 0) → Type 0) → (Past Stops : ℕ → Moment → Type 0) → (began : ℕ) → (Only Held : (Moment → Type 0) → Type 0) → (before after : Report) → (old new : Moment) → (result : ℕ) → Type 0
-LeavesSound request input rest First Past Stops began Only Held before after old new result =
-    (l : Layout) (windows : List WeakRun) (h : List Change) (f : ℕ) → IsSoundDisk l windows h f old → First (λ c. IsSoundAsSaid l windows h f old.image c.image) →
-    IfMounts request (LeavesRun request (input_for request input) rest l windows h f Past Stops began Only Held before after old new result)
+-- So a request that mounts its image leaves each sound disk, where each moment since the last sync is as sound as the run
+-- begins.
+abbrev pub LeavesSound : {D : Type 0} → Ghosts D → Request → (a b : D) → (result : ℕ) → Type 0
+LeavesSound M request a b result =
+    (was : Was) → IsSoundDisk was.layout was.windows was.changes was.forced (M.now a) → IsHeld M a (λ c. IsSoundAsSaid was.layout was.windows was.changes was.forced (M.now a).image c.image) →
+    IfMounts request (LeavesRun M request (input_for request (M.ledger a).input) (M.ledger b).input was a b result)
 
 -- ---- the whole
 
@@ -239,5 +219,5 @@ pub record Ran {D : Type 0} (M : Ghosts D) (request : Request) (path : List ℕ)
   pub all : result ≡ 0 → M.honest b → SaysToEnd request (M.left_since b (M.moment a)) (M.ledger a).input (M.now a).said (M.now b)
   pub image : result ≡ 0 → M.honest b → HoldsAfter request (IsHeld M b)
   pub untouched : M.honest b → SparesImage request (M.now a) (M.now b)
-  pub leaves : M.honest b → LeavesSound request (M.ledger a).input (M.ledger b).input (IsHeld M a) (M.left_since b) (stops M b) (M.moment a) (StopsOnly M a b) (IsHeld M b) (M.report a) (M.report b) (M.now a) (M.now b) result
+  pub leaves : M.honest b → LeavesSound M request a b result
   pub accepted : M.honest b → AcceptsSound (M.now a) result

@@ -1,9 +1,9 @@
 //! The command `format`.
 ghost use Rattle.std.specs.Prelude.{◌≡◌, Ok, OnOk};
-ghost use Rattle.sector_disk.specs.Calls.{IsHeld, device_in, failed_at};
+ghost use Rattle.sector_disk.specs.Calls.{device_in, failed_at};
 ghost use Rattle.sector_disk.specs.Machine.{IsSynced, Trusts};
 ghost use Rattle.volume_layout.specs.Layout.{plan};
-ghost use Rattle.cfs_program.specs.Formatting.{AsksAll, AsksAtMost, CountsFaults, IsFormatStatus, IsMadeBy, MakesVolume, SaysFormat, SparesUnplanned, UsesAttach, plan_asks};
+ghost use Rattle.cfs_program.specs.Formatting.{AsksAll, AsksAtMost, MakesVolume, RunsFormat, UsesAttach, plan_asks};
 
 use fsd_texts::{Fault, Line};
 use sector_disk::{Attach, Failed, Machine};
@@ -21,14 +21,7 @@ pub fn run_format<M: Machine>(
     pages: u32,
     kind: Kind,
 ) -> u8
-    ensures status { IsFormatStatus (plan kind sectors third pages) result }
-    ensures counts { CountsFaults (M.report m.old) (M.report m.new) result }
-    ensures asks { M.tells m.new → AsksAtMost (plan_asks (plan kind sectors third pages) path.now) (M.ledger m.old) (M.ledger m.new) }
-    ensures asked { result ≡ 0 → M.tells m.new → AsksAll (plan_asks (plan kind sectors third pages) path.now) (M.ledger m.old) (M.ledger m.new) }
-    ensures trust { Trusts (M.tells m.old) (M.tells m.new) (M.honest m.old) (M.honest m.new) }
-    ensures says { M.honest m.new → SaysFormat (plan kind sectors third pages) (M.report m.new).fault_place (M.now m.old) (M.now m.new) result }
-    ensures made { result ≡ 0 → M.honest m.new → IsMadeBy (plan kind sectors third pages) (IsHeld M.Machine m.new) }
-    ensures untouched { M.honest m.new → SparesUnplanned (plan kind sectors third pages) (M.now m.old) (M.now m.new) }
+    ensures { RunsFormat M.Machine (plan kind sectors third pages) path.now m.old m.new result }
 {
     match plan_of(sectors, third, pages, kind) {
         Ok(l) => make(m, path, &l),
@@ -45,13 +38,7 @@ fn plan_of(sectors: u32, third: u32, pages: u32, kind: Kind) -> Result<Layout, L
 
 // Makes a volume of this layout, and says so.
 fn make<M: Machine>(m: &mut M, path: &str, l: &Layout) -> u8
-    ensures status { IsFormatStatus (Ok l.now) result }
-    ensures counts { CountsFaults (M.report m.old) (M.report m.new) result }
-    ensures asks { M.tells m.new → AsksAtMost (plan_asks (Ok l.now) path.now) (M.ledger m.old) (M.ledger m.new) }
-    ensures asked { result ≡ 0 → M.tells m.new → AsksAll (plan_asks (Ok l.now) path.now) (M.ledger m.old) (M.ledger m.new) }
-    ensures trust { Trusts (M.tells m.old) (M.tells m.new) (M.honest m.old) (M.honest m.new) }
-    ensures says { M.honest m.new → SaysFormat (Ok l.now) (M.report m.new).fault_place (M.now m.old) (M.now m.new) result }
-    ensures made { result ≡ 0 → M.honest m.new → IsMadeBy (Ok l.now) (IsHeld M.Machine m.new) }
+    ensures { RunsFormat M.Machine (Ok l.now) path.now m.old m.new result }
 {
     let sectors = l.sectors();
     let free = sectors - l.data_start();

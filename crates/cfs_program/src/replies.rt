@@ -4,16 +4,15 @@ ghost use Rattle.std.specs.List.{flat_map};
 ghost use Rattle.fsd_runs.specs.Commands.{found_text, reply_text, version_line};
 ghost use Rattle.fsd_texts.specs.declared.line.Line.TheVariants as Lines;
 ghost use Rattle.fsd_texts.specs.Text.{newline, text};
-ghost use Rattle.volume_turns.specs.Steps.{reply_of};
 ghost use Rattle.cfs_program.specs.Replies.{alone_replies, script_replies};
 
 use fsd_bytes::Key;
+use fsd_files::Reply;
 use fsd_formats::Entry;
 use fsd_texts::{Bytes, Line};
 use script_text::say_line;
 use std::alloc::{AllocError, Global};
-use volume_contract::Stat;
-use volume_turns::{Answer, Says};
+use volume_turns::Says;
 
 /// The replies of one command by itself: a get says the bytes alone.
 pub struct Alone;
@@ -22,13 +21,13 @@ impl Says for Alone {
     ghost errand = { alone_replies };
 
     // All is forced before a reply is said.
-    fn forces(_answer: &Answer) -> bool {
+    fn forces(_answer: &Reply) -> bool {
         true
     }
 
-    fn text(alloc: Global, answer: &Answer) -> Result<Vec<u8>, AllocError> {
+    fn text(alloc: Global, answer: &Reply) -> Result<Vec<u8>, AllocError> {
         match answer {
-            Answer::Bytes { bytes, .. } => Vec::from_slice(alloc, bytes.as_slice()),
+            Reply::Bytes { bytes, .. } => Vec::from_slice(alloc, bytes.as_slice()),
             _ => text_of(alloc, answer),
         }
     }
@@ -40,22 +39,22 @@ pub struct Scripted;
 impl Says for Scripted {
     ghost errand = { script_replies };
 
-    fn forces(answer: &Answer) -> bool {
-        matches!(answer, Answer::Forced)
+    fn forces(answer: &Reply) -> bool {
+        matches!(answer, Reply::Forced)
     }
 
-    fn text(alloc: Global, answer: &Answer) -> Result<Vec<u8>, AllocError> {
+    fn text(alloc: Global, answer: &Reply) -> Result<Vec<u8>, AllocError> {
         text_of(alloc, answer)
     }
 }
 
 // What a script says of an answer.
-fn text_of(alloc: Global, answer: &Answer) -> Result<Vec<u8>, AllocError>
-    ensures { IfOk result (λ said. said.items ≡ reply_text (reply_of answer.now)) }
+fn text_of(alloc: Global, answer: &Reply) -> Result<Vec<u8>, AllocError>
+    ensures { IfOk result (λ said. said.items ≡ reply_text answer.now) }
 {
     match answer {
-        Answer::Refused(why) => line_text(alloc, &Line::Refused(*why)),
-        Answer::Made { key, sectors } => {
+        Reply::Refused(why) => line_text(alloc, &Line::Refused(*why)),
+        Reply::Made { key, sectors } => {
             let key = key.copied();
             line_text(
                 alloc,
@@ -65,14 +64,14 @@ fn text_of(alloc: Global, answer: &Answer) -> Result<Vec<u8>, AllocError>
                 },
             )
         }
-        Answer::Deleted(key) => line_text(alloc, &Line::Deleted(key.copied())),
-        Answer::Kept { key, keep } => {
+        Reply::Deleted(key) => line_text(alloc, &Line::Deleted(key.copied())),
+        Reply::Kept { key, keep } => {
             let key = key.copied();
             line_text(alloc, &Line::Kept { key, keep: *keep })
         }
-        Answer::Listed(entries) => list_text(alloc, entries.as_slice()),
-        Answer::Bytes { key, bytes } => bytes_text(alloc, key, bytes.as_slice()),
-        Answer::Damaged { key, sector } => {
+        Reply::Listed(entries) => list_text(alloc, entries.as_slice()),
+        Reply::Bytes { key, bytes } => bytes_text(alloc, key, bytes.as_slice()),
+        Reply::DamagedAt { key, sector } => {
             let key = key.copied();
             line_text(
                 alloc,
@@ -82,39 +81,42 @@ fn text_of(alloc: Global, answer: &Answer) -> Result<Vec<u8>, AllocError>
                 },
             )
         }
-        Answer::Forced => line_text(alloc, &Line::Forced),
-        Answer::Counts(stat) => line_text(alloc, &stat_line(stat)),
-        Answer::Scrubbed { found, healed } => scrub_text(alloc, found.as_slice(), *healed),
-        Answer::Upgraded => line_text(alloc, &Line::Upgraded),
-        Answer::Begun(client) => line_text(alloc, &Line::Begun(*client)),
-        Answer::Took { client, sum } => line_text(
+        Reply::Forced => line_text(alloc, &Line::Forced),
+        Reply::Counts {
+            free,
+            waiting,
+            pages,
+            versions,
+        } => line_text(
+            alloc,
+            &Line::Stat {
+                free: *free,
+                waiting: *waiting,
+                pages: *pages,
+                versions: *versions,
+            },
+        ),
+        Reply::Scrubbed { found, healed } => scrub_text(alloc, found.as_slice(), *healed),
+        Reply::Upgraded => line_text(alloc, &Line::Upgraded),
+        Reply::Begun(client) => line_text(alloc, &Line::Begun(*client)),
+        Reply::Took { client, sum } => line_text(
             alloc,
             &Line::Took {
                 client: *client,
                 sum: *sum,
             },
         ),
-        Answer::Dropped(client) => line_text(alloc, &Line::Dropped(*client)),
-        Answer::Opened { client, length } => line_text(
+        Reply::Dropped(client) => line_text(alloc, &Line::Dropped(*client)),
+        Reply::Opened { client, length } => line_text(
             alloc,
             &Line::Opened {
                 client: *client,
                 length: *length,
             },
         ),
-        Answer::Given { client, bytes } => given_text(alloc, *client, bytes.as_slice()),
-        Answer::Done(client) => line_text(alloc, &Line::Done(*client)),
-    }
-}
-
-fn stat_line(stat: &Stat) -> Line
-    ensures { result ≡ Lines.Stat stat.now.free stat.now.waiting stat.now.pages_free stat.now.versions }
-{
-    Line::Stat {
-        free: stat.free,
-        waiting: stat.waiting,
-        pages: stat.pages_free,
-        versions: stat.versions,
+        Reply::Given { client, bytes } => given_text(alloc, *client, bytes.as_slice()),
+        Reply::Done(client) => line_text(alloc, &Line::Done(*client)),
+        Reply::Found(_) => Ok(Vec::new(alloc)),
     }
 }
 

@@ -11,7 +11,8 @@ use Rattle.fsd_bytes.specs.declared.refusal.Refusal.TheVariants as Why
 use Rattle.fsd_formats.specs.declared.entry.Entry.{Entry}
 use Rattle.fsd_files.specs.Answers.{Met, Outcome, entry_of}
 use Rattle.fsd_files.specs.Files.{File}
-use Rattle.fsd_files.specs.Replies.{Reply, Refused, Made, Begun, Took, Dropped, Opened, Given, Done, DamagedAt}
+use Rattle.fsd_files.specs.declared.reply.Reply.{Reply}
+use Rattle.fsd_files.specs.declared.reply.Reply.TheVariants.{Refused, Made, Begun, Took, Dropped, Opened, Given, Done, DamagedAt}
 use Rattle.fsd_files.specs.Pieces.{enter_outcome, reserve_outcome, undrafted}
 use Rattle.fsd_files.specs.Volume.{Volume}
 

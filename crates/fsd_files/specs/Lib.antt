@@ -4,7 +4,6 @@ pub mod Disk
 pub mod Files
 pub mod Kept
 pub mod Pieces
-pub mod Replies
 pub mod Scrub
 pub mod Space
 pub mod Volume

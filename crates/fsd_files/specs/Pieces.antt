@@ -8,7 +8,7 @@ use Rattle.fsd_bytes.specs.declared.refusal.Refusal.TheVariants.{KeepTooLarge, T
 use Rattle.fsd_formats.specs.NamePage.{max_keep, max_length, sectors_for}
 use Rattle.fsd_files.specs.Answers.{Met, Outcome, enter_fault, keep_given, no_place, refused, with_version}
 use Rattle.fsd_files.specs.Files.{new_key}
-use Rattle.fsd_files.specs.Replies.{Made}
+use Rattle.fsd_files.specs.declared.reply.Reply.TheVariants.{Made}
 use Rattle.fsd_files.specs.Volume.{Volume, drawn, forced_for_place, forced_if, place_for}
 
 -- a creation lies in these runs, and its serial is drawn

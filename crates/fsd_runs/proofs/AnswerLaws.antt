@@ -22,7 +22,6 @@ use Rattle.fsd_files.specs.Answers.{Met, Outcome, refused, enter_fault, entered_
 use Rattle.fsd_files.specs.Disk.{Image}
 use Rattle.fsd_files.specs.Files.{Change, File, Files, step}
 use Rattle.fsd_files.specs.Kept.{range_sectors}
-use Rattle.fsd_files.specs.Replies.{Reply}
 use Rattle.fsd_files.specs.Scrub.{Picks, all_data}
 use Rattle.fsd_files.specs.Volume.{Volume, HasReach, forced, forced_if, forced_for_place, drawn, place_for}
 use Rattle.fsd_texts.specs.declared.command.Command.{Command}
@@ -124,26 +123,21 @@ does met v (Word.Delete key) =
     let at = forced_if met.forces v in
     does_from met v at (Word.Delete key) (answer met v (Word.Delete key)) (same_forced (met.forces && nat_le 2 v.unforced) v) (delete_does met at key (entry_of key at.entries))
 does met v (Word.Keep name keep) = keep_tried met v (forced_if met.forces v) name keep (nat_lt max_keep keep) (same_forced (met.forces && nat_le 2 v.unforced) v)
-does met v (Word.List pattern) = still met v (Word.List pattern) (answer met v (Word.List pattern)) refl (same_itself v)
-does met v (Word.Get key) = still met v (Word.Get key) (answer met v (Word.Get key)) refl (same_itself v)
 does met v Word.Force = still met v Word.Force (answer met v Word.Force) refl (same_forced true v)
 does met v Word.Tick = still met v Word.Tick (answer met v Word.Tick) refl (same_forced true v)
-does met v Word.Stat = still met v Word.Stat (answer met v Word.Stat) refl (same_itself v)
 does met v Word.Scrub = still met v Word.Scrub (answer met v Word.Scrub) refl (same_forced true v)
 does met v Word.Upgrade = still met v Word.Upgrade (answer met v Word.Upgrade) refl (upgrade_same v.layout.kind v)
+does met v command = still met v command (answer met v command) refl (same_itself v)
 
 -- a command that is answered by this is a force
 pub forces_all : (met : Met) (v : Volume) (command : Command) → is_forced (answer met v command).0 ≡ true → (answer met v command).1.unforced ≡ 0
 forces_all met v Word.Force e = refl
 forces_all met v Word.Tick e = refl
-forces_all met v Word.Stat e = absurd cc
-forces_all met v Word.Scrub e = absurd cc
 forces_all met v Word.Upgrade e = absurd (by v.layout.kind e)
   where
     by : (kind : Kind) → is_forced (upgraded kind v).0 ≡ true → ⊥
     by Two e = cc
     by Three e = cc
-forces_all met v (Word.List pattern) e = absurd cc
 forces_all met v (Word.Get key) e = absurd (by (find key_cmp key v.files) met.damaged e)
   where
     by : (o : Option File) (damaged : Option ℕ) → is_forced (got key damaged o) ≡ true → ⊥
@@ -174,6 +168,7 @@ forces_all met v (Word.Put name bytes given) e = absurd (by (size_fault (keep_gi
     by : (o : Option Refusal) → is_forced (put_unless o met v name bytes given).0 ≡ true → ⊥
     by (Some why) e = cc
     by None e = at_place (forced_for_place (sectors_for (length bytes)) v) (sectors_for (length bytes)) (place_for (forced_for_place (sectors_for (length bytes)) v) (sectors_for (length bytes))) e
+forces_all met v command e = absurd cc
 
 -- ---- each command meets something
 

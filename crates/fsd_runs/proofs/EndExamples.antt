@@ -6,7 +6,7 @@ use Rattle.fsd_bytes.specs.Keys.{key_of}
 use Rattle.run_table.specs.RunTable.{run_of}
 use Rattle.fsd_files.specs.Answers.{Met, put_outcome}
 use Rattle.fsd_files.specs.Disk.{Image, Sectors}
-use Rattle.fsd_files.specs.Replies.{Made}
+use Rattle.fsd_files.specs.declared.reply.Reply.TheVariants.{Made}
 use Rattle.fsd_files.specs.Volume.{Volume}
 use Rattle.sector_disk.specs.Machine.{Moment}
 use Rattle.fsd_texts.specs.declared.script_command.ScriptCommand.{ScriptCommand}

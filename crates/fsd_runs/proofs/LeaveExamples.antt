@@ -63,7 +63,7 @@ none_of_generated = refl
 -- ---- a run that is broken off
 
 -- behind the commands that were begun a fault's line may stand, and no other
-broken_off : turns_on (scripted (map (λ c. Plain c) (Word.Force ∷ Word.Stat ∷ []), Done)) (plain ∷ []) default ≡ forced_turn ∷ blank ∷ []
+broken_off : turns_on (scripted (map (λ c. Plain c) (Word.Force ∷ Word.Tick ∷ []), Done)) (plain ∷ []) default ≡ forced_turn ∷ blank ∷ []
 broken_off = refl
 
 a_fault_may_follow : SaysNext (Unit {0}) (Some blank) (codes "fault dev")
@@ -209,7 +209,7 @@ an_older_image_keeps_not step = by step.kept.0.0
     by (inr none) = cc
 
 -- where nothing is unforced, the pages are those of the disk's own table
-other_pages_are_refused : IsStep nowhere at_any [] mounted mounted (session_over (record default { reached = 2 })) (Plain Word.Stat) (meets plain) → ⊥
+other_pages_are_refused : IsStep nowhere at_any [] mounted mounted (session_over (record default { reached = 2 })) (Plain (Word.Get (key_of (codes "a") 1))) (meets plain) → ⊥
 other_pages_are_refused step =
     let bad : 1 ≡ 2 = ap reached (sym mounted_tells ∙ step.tells refl) in
     omega (arith, bad)

@@ -10,4 +10,5 @@ pub mod RunLaws
 pub mod SafeLaws
 pub mod SessionExamples
 pub mod SessionLaws
+pub mod StatusLaws
 pub mod WordExamples

@@ -8,7 +8,8 @@ use Rattle.fsd_bytes.specs.Keys.{key_of}
 use Rattle.run_table.specs.RunTable.{run_of}
 use Rattle.fsd_files.specs.Answers.{put_outcome, delete_outcome}
 use Rattle.fsd_files.specs.Files.{next_version, gone}
-use Rattle.fsd_files.specs.Replies.{Reply, Refused, Made, Deleted}
+use Rattle.fsd_files.specs.declared.reply.Reply.{Reply}
+use Rattle.fsd_files.specs.declared.reply.Reply.TheVariants.{Refused, Made, Deleted}
 use Rattle.fsd_files.specs.Volume.{Volume, place_for}
 use Rattle.fsd_texts.specs.declared.command.Command.{Command}
 use Rattle.fsd_texts.specs.declared.command.Command.TheVariants as Word

@@ -11,8 +11,8 @@ use Rattle.fsd_files.specs.Answers.{Met, no_place, size_fault}
 use Rattle.fsd_files.specs.Volume.{Volume, free_count}
 use Rattle.fsd_texts.specs.declared.command.Command.TheVariants as Word
 use Rattle.fsd_texts.specs.Text.{newline}
-use Rattle.fsd_runs.specs.Commands.{answer}
-use Rattle.fsd_runs.specs.Errands.{alone, reply_status}
+use Rattle.fsd_runs.specs.Commands.{answer, reply_status}
+use Rattle.fsd_runs.specs.Errands.{alone}
 use Rattle.fsd_runs.specs.Runs.{said_in}
 use Rattle.fsd_runs.proofs.Plain.{behind, default, lines, plain, says, script_says, turns_on}
 

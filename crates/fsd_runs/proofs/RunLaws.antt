@@ -6,7 +6,7 @@ use Rattle.std.proofs.lemmas.List.{length-append}
 use Rattle.fsd_files.proofs.HistoryLaws.{fold_both}
 use Rattle.fsd_files.specs.Desk.{Session}
 use Rattle.fsd_files.specs.Files.{Change, Files, step}
-use Rattle.fsd_files.specs.Replies.{Reply}
+use Rattle.fsd_files.specs.declared.reply.Reply.{Reply}
 use Rattle.fsd_files.specs.Volume.{Volume}
 use Rattle.fsd_texts.specs.declared.command.Command.{Command}
 use Rattle.fsd_texts.specs.declared.script_command.ScriptCommand.{ScriptCommand}

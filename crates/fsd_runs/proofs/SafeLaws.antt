@@ -6,7 +6,8 @@ use Rattle.sector_disk.specs.declared.sector.WeakRun.{WeakRun}
 use Rattle.sector_disk.specs.Machine.{Moment, Report}
 use Rattle.fsd_files.specs.Disk.{Image}
 use Rattle.fsd_files.specs.Files.{Change}
-use Rattle.fsd_files.specs.Replies.{Reply}
+use Rattle.fsd_files.specs.declared.reply.Reply.{Reply}
+use Rattle.fsd_files.specs.declared.reply.Reply.TheVariants as Said
 use Rattle.fsd_texts.specs.declared.command.Command.{Command}
 use Rattle.fsd_texts.specs.declared.command.Command.TheVariants as Word
 use Rattle.fsd_texts.specs.declared.fault.Fault.{Fault}
@@ -16,8 +17,9 @@ use Rattle.fsd_texts.specs.declared.end.End.TheVariants.{Done}
 use Rattle.fsd_texts.specs.Script.{max_input, script_in}
 use Rattle.fsd_runs.specs.declared.request.Request.{Request}
 use Rattle.fsd_runs.specs.declared.request.Request.TheVariants as Asks
-use Rattle.fsd_runs.specs.Errands.{Answered, Cut, Errand, IfMounts, MayCut, Turn, alone, blank, errand_of, fault_status, nothing_but, reply_status, script_ending}
-use Rattle.fsd_runs.specs.Leaves.{IsBroken, IsOutside, IsReplied, IsUnderWay, IsUndone, IsSpent, IsUnsaid, LeavesBy, LeavesMounted, LeavesRun, LeavesUnmounted, Unbegun, Whatever}
+use Rattle.fsd_runs.specs.Errands.{Answered, Cut, Errand, IfMounts, MayCut, Turn, alone, blank, errand_of, fault_status, nothing_but, script_ending}
+use Rattle.fsd_runs.specs.Commands.{reply_status}
+use Rattle.fsd_runs.specs.Leaves.{IsBroken, IsOutside, IsReplied, IsUnderWay, IsUndone, IsSpent, IsUnsaid, LeavesBy, LeavesMounted, LeavesSaid, LeavesUnmounted, Unbegun, Whatever}
 use Rattle.fsd_runs.specs.Runs.{IsThrough, answered, errand_in, run_end, run_status, run_turns}
 use Rattle.fsd_runs.specs.Sessions.{session_over}
 
@@ -30,9 +32,9 @@ EndsOtherwise e = (done : List Answered) → NotThree (e.ends done).status
 -- ---- what is said of replies and of scripts
 
 reply_otherwise : (reply : Reply) → NotThree (reply_status reply)
-reply_otherwise (Reply.Refused why) e = absurd (omega (arith, e))
-reply_otherwise (Reply.Scrubbed [] healed) e = absurd (omega (arith, e))
-reply_otherwise (Reply.Scrubbed (x ∷ found) healed) e = absurd (omega (arith, e))
+reply_otherwise (Said.Refused why) e = absurd (omega (arith, e))
+reply_otherwise (Said.Scrubbed [] healed) e = absurd (omega (arith, e))
+reply_otherwise (Said.Scrubbed (x ∷ found) healed) e = absurd (omega (arith, e))
 reply_otherwise reply e = absurd (omega (arith, e))
 
 alone_otherwise : (command : Command) → EndsOtherwise (alone command)
@@ -107,8 +109,8 @@ module _ (request : Request) (input rest : List ℕ) (l : Layout) (windows : Lis
   by_otherwise otherwise (inr m) = mounted_otherwise otherwise m
 
 module _ (request : Request) (input rest : List ℕ) (l : Layout) (windows : List WeakRun) (h : List Change) (f : ℕ) (Past Stops : ℕ → Moment → Type 0) (began : ℕ) (Only Held : (Moment → Type 0) → Type 0) (before after : Report) (old new : Moment) (result : ℕ) where
-  run_otherwise : EndsOtherwise (errand_of request input) → LeavesRun request input rest l windows h f Past Stops began Only Held before after old new result → NotThree result
+  run_otherwise : EndsOtherwise (errand_of request input) → LeavesSaid request input rest l windows h f Past Stops began Only Held before after old new result → NotThree result
   run_otherwise otherwise leaves = by_otherwise request input rest leaves.0 windows h f Past Stops began Only Held before after old new result otherwise leaves.2
 
-  pub never_refused : IfMounts request (LeavesRun request input rest l windows h f Past Stops began Only Held before after old new result → result ≡ 3 → ⊥)
-  never_refused = if_mounts request (EndsOtherwise (errand_of request input)) (LeavesRun request input rest l windows h f Past Stops began Only Held before after old new result → NotThree result) run_otherwise (errand_otherwise request input)
+  pub never_refused : IfMounts request (LeavesSaid request input rest l windows h f Past Stops began Only Held before after old new result → result ≡ 3 → ⊥)
+  never_refused = if_mounts request (EndsOtherwise (errand_of request input)) (LeavesSaid request input rest l windows h f Past Stops began Only Held before after old new result → NotThree result) run_otherwise (errand_otherwise request input)

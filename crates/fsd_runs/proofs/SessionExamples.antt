@@ -7,7 +7,7 @@ use Rattle.run_table.specs.RunTable.{run_of}
 use Rattle.fsd_files.specs.Answers.{Met}
 use Rattle.fsd_files.specs.Desk.{Session}
 use Rattle.fsd_files.specs.Files.{Change}
-use Rattle.fsd_files.specs.Replies.{Made}
+use Rattle.fsd_files.specs.declared.reply.Reply.TheVariants.{Made}
 use Rattle.fsd_texts.specs.declared.call.Call.TheVariants as Calls
 use Rattle.fsd_texts.specs.declared.command.Command.TheVariants as Word
 use Rattle.fsd_texts.specs.declared.script_command.ScriptCommand.{ScriptCommand}

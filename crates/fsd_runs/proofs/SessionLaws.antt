@@ -16,7 +16,8 @@ use Rattle.fsd_files.specs.Disk.{Image}
 use Rattle.fsd_files.specs.Files.{Change, File, Files, step}
 use Rattle.fsd_files.specs.Kept.{range_sectors}
 use Rattle.fsd_files.specs.Pieces.{enter_outcome, enter_unless, reserve_at, reserve_outcome}
-use Rattle.fsd_files.specs.Replies.{Reply}
+use Rattle.fsd_files.specs.declared.reply.Reply.{Reply}
+use Rattle.fsd_files.specs.declared.reply.Reply.TheVariants as Replies
 use Rattle.fsd_files.specs.Volume.{Volume, HasReach, forced, forced_for_place, forced_if, is_in, place_for}
 use Rattle.fsd_texts.specs.declared.call.Call.{Call}
 use Rattle.fsd_texts.specs.declared.call.Call.TheVariants as Calls
@@ -107,7 +108,7 @@ begin_goes x (Ok (Reads key runs bytes place)) s c name len = goes_still x s.vol
 
 -- a client has so many bytes, or they are too many
 abbrev took_or : Session → (c len sum : ℕ) → Open → Bool → Said
-took_or s c len sum new too_many = cond too_many (unanswered s (Long len sum)) (Reply.Took c sum, with_client s c new)
+took_or s c len sum new too_many = cond too_many (unanswered s (Long len sum)) (Replies.Took c sum, with_client s c new)
 
 took_goes : (x : Meeting) (s : Session) (c len sum : ℕ) (new : Open) (b : Bool) → Goes x no_change s.volume (took_or s c len sum new b)
 took_goes x s c len sum new true = goes_still x s.volume (took_or s c len sum new true) (still_itself s.volume) refl

@@ -75,7 +75,7 @@ too_few : request_of (codes "cfs" ∷ codes "get" ∷ codes "v" ∷ []) ≡ Outs
 unfolding clap_on_literals
 too_few = refl
 
-too_many : request_of (codes "cfs" ∷ codes "stat" ∷ codes "v" ∷ codes "w" ∷ []) ≡ Outside
+too_many : request_of (codes "cfs" ∷ codes "scrub" ∷ codes "v" ∷ codes "w" ∷ []) ≡ Outside
 unfolding clap_on_literals
 too_many = refl
 
@@ -152,7 +152,7 @@ unfolding clap_on_literals
 no_name_with_a_dash = refl
 
 -- the image is any text, no text too
-no_image : request_of (codes "cfs" ∷ codes "stat" ∷ [] ∷ []) ≡ One Word.Stat
+no_image : request_of (codes "cfs" ∷ codes "scrub" ∷ [] ∷ []) ≡ One Word.Scrub
 unfolding clap_on_literals
 no_image = refl
 

@@ -1,13 +1,15 @@
--- Commands and replies: what a volume answers, what is said of it, and what it changed.
-use Rattle.std.specs.Prelude.{ℕ, Bool, true, false, not, List, [], ◌∷◌, ◌++◌, length, is_none, nat_lt, ⊤}
-use Rattle.std.specs.List.{flat_map}
+-- Commands and replies: what a volume answers, what is said of it, what it changed, and with which status a run of one
+-- command ends.
+use Rattle.std.specs.Prelude.{ℕ, Bool, true, false, ◌==◌, not, List, [], ◌∷◌, ◌++◌, length, is_none, nat_lt, ⊤}
+use Rattle.std.specs.List.{flat_map, list_any}
 use Rattle.fsd_bytes.specs.declared.key.Key.{Key}
 use Rattle.fsd_formats.specs.declared.entry.Entry.{Entry}
 use Rattle.fsd_formats.specs.NamePage.{max_keep, sectors_for}
 use Rattle.fsd_files.specs.Answers.{Met, Outcome, put_outcome, delete_outcome, keep_outcome, force_outcome, scrub_outcome, upgrade_outcome, stat_reply, list_reply, get_reply, keep_given, size_fault, FindsIn}
 use Rattle.fsd_files.specs.Disk.{Image}
 use Rattle.fsd_files.specs.Files.{Change}
-use Rattle.fsd_files.specs.Replies.{Reply, Refused, Made, Deleted, Kept, Listed, Bytes, DamagedAt, Forced, Counts, Scrubbed, Upgraded, Begun, Took, Dropped, Opened, Given, Done, Found}
+use Rattle.fsd_files.specs.declared.reply.Reply.{Reply}
+use Rattle.fsd_files.specs.declared.reply.Reply.TheVariants.{Refused, Made, Deleted, Kept, Listed, Bytes, DamagedAt, Forced, Counts, Scrubbed, Upgraded, Begun, Took, Dropped, Opened, Given, Done, Found}
 use Rattle.fsd_files.specs.Scrub.{Picks, all_data}
 use Rattle.fsd_files.specs.Volume.{Volume}
 use Rattle.fsd_texts.specs.declared.command.Command.{Command}
@@ -108,3 +110,30 @@ reply_text (Found entry) = []
 abbrev pub reply_alone : Reply → List ℕ
 reply_alone (Bytes key bytes) = bytes
 reply_alone reply = reply_text reply
+
+-- ---- statuses
+
+-- of the run of one command that is answered so
+abbrev pub reply_status : Reply → ℕ
+reply_status (Refused why) = 1
+reply_status (DamagedAt key s) = 8
+reply_status (Scrubbed (x ∷ found) healed) = 8
+reply_status other = 0
+
+-- those of the replies that a command may have: a change is made or refused, and so is an upgrade; a version is read, or a
+-- sector of it is damaged, or the key has none; of what is told, and of a force, nothing is refused; a scrub has found
+-- damaged sectors, or none
+abbrev pub reply_statuses : Command → List ℕ
+reply_statuses (Word.Put name bytes keep) = 0 ∷ 1 ∷ []
+reply_statuses (Word.Delete key) = 0 ∷ 1 ∷ []
+reply_statuses (Word.Keep name keep) = 0 ∷ 1 ∷ []
+reply_statuses (Word.List pattern) = 0 ∷ []
+reply_statuses (Word.Get key) = 0 ∷ 1 ∷ 8 ∷ []
+reply_statuses Word.Force = 0 ∷ []
+reply_statuses Word.Tick = 0 ∷ []
+reply_statuses Word.Stat = 0 ∷ []
+reply_statuses Word.Scrub = 0 ∷ 8 ∷ []
+reply_statuses Word.Upgrade = 0 ∷ 1 ∷ []
+
+abbrev pub is_one_of : List ℕ → ℕ → Bool
+is_one_of statuses status = list_any (λ s. s == status) statuses

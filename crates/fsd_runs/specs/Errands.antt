@@ -2,7 +2,8 @@
 use Rattle.std.specs.Prelude.{ℕ, Bool, true, false, List, [], ◌∷◌, length, map, take, Option, Some, None, sum_by, nat_lt, if◌then◌else◌}
 use Rattle.fsd_files.specs.Desk.{Session}
 use Rattle.fsd_files.specs.Files.{Change}
-use Rattle.fsd_files.specs.Replies.{Reply, Refused, Made, Deleted, Kept, Bytes, DamagedAt, Forced, Scrubbed}
+use Rattle.fsd_files.specs.declared.reply.Reply.{Reply}
+use Rattle.fsd_files.specs.declared.reply.Reply.TheVariants.{Refused, Made, Deleted, Kept, Bytes, DamagedAt, Forced}
 use Rattle.fsd_texts.specs.declared.command.Command.{Command}
 use Rattle.fsd_texts.specs.declared.command.Command.TheVariants as Word
 use Rattle.fsd_texts.specs.declared.script_command.ScriptCommand.{ScriptCommand}
@@ -19,7 +20,7 @@ use Rattle.fsd_texts.specs.Script.{Script as Spelled}
 use Rattle.fsd_texts.specs.Generator.{made_up}
 use Rattle.fsd_runs.specs.declared.request.Request.{Request}
 use Rattle.fsd_runs.specs.declared.request.Request.TheVariants.{Put, One, Script, Generate}
-use Rattle.fsd_runs.specs.Commands.{reply_text, reply_alone}
+use Rattle.fsd_runs.specs.Commands.{reply_text, reply_alone, reply_status}
 use Rattle.fsd_runs.specs.Sessions.{changes_in_session}
 
 -- a command, its reply, and the changes that were accepted with it
@@ -73,12 +74,6 @@ fault_status Ends.Input = 5
 fault_status Ends.InputTooLong = 5
 fault_status Ends.Memory = 7
 fault_status Ends.WornOut = 9
-
-abbrev pub reply_status : Reply → ℕ
-reply_status (Refused why) = 1
-reply_status (DamagedAt key s) = 8
-reply_status (Scrubbed (x ∷ found) healed) = 8
-reply_status other = 0
 
 -- a fault, with nothing forced
 abbrev pub fault_ending : Fault → Ending
@@ -150,15 +145,8 @@ bytes_read other = 0
 abbrev pub bytes_moved : Command → Reply → ℕ
 bytes_moved (Word.Put name bytes keep) (Made key sectors) = length bytes
 bytes_moved (Word.Put name bytes keep) reply = bytes_read reply
-bytes_moved (Word.Delete key) reply = bytes_read reply
-bytes_moved (Word.Keep name keep) reply = bytes_read reply
-bytes_moved (Word.List pattern) reply = bytes_read reply
-bytes_moved (Word.Get key) reply = bytes_read reply
-bytes_moved Word.Force reply = bytes_read reply
-bytes_moved Word.Tick reply = bytes_read reply
-bytes_moved Word.Stat reply = bytes_read reply
-bytes_moved Word.Scrub reply = bytes_read reply
-bytes_moved Word.Upgrade reply = bytes_read reply
+-- by default those of a version that was read
+bytes_moved command reply = bytes_read reply
 
 -- of a script's command
 abbrev pub moved_in : ScriptCommand → Reply → ℕ

@@ -3,7 +3,9 @@ use Rattle.std.specs.Prelude.{◌≡◌, ◌⊎◌, ◌<◌, ◌≤◌, ⊤, ℕ
 use Rattle.std.specs.List.{last_or}
 use Rattle.volume_layout.specs.declared.layout.Layout.{Layout}
 use Rattle.volume_layout.specs.Layout.{IsFormOf}
+use Rattle.sector_disk.specs.declared.machine.Machine.{Ghosts}
 use Rattle.sector_disk.specs.declared.sector.WeakRun.{WeakRun}
+use Rattle.sector_disk.specs.Calls.{IsHeld, StopsOnly, stops}
 use Rattle.sector_disk.specs.Image.{IsWorn}
 use Rattle.sector_disk.specs.Machine.{DeviceFault, Moment, Report, Rose}
 use Rattle.fsd_files.specs.Disk.{Image, Sectors}
@@ -261,6 +263,19 @@ LeavesBy request input rest l windows h f Past Stops began Only Held before afte
     LeavesUnmounted request l windows h f Only Held before after old new result ⊎ LeavesMounted request input rest l windows h f Past Stops began Only Held before after old new result
 
 -- so it is by the layout that the mount has read: this one, or it turned, where a root says so
-abbrev pub LeavesRun : Request → (input rest : List ℕ) → Layout → List WeakRun → List Change → ℕ → (Past Stops : ℕ → Moment → Type 0) → (began : ℕ) → (Only Held : (Moment → Type 0) → Type 0) → (before after : Report) → (old new : Moment) → (result : ℕ) → Type 0
-LeavesRun request input rest l windows h f Past Stops began Only Held before after old new result =
+abbrev pub LeavesSaid : Request → (input rest : List ℕ) → Layout → List WeakRun → List Change → ℕ → (Past Stops : ℕ → Moment → Type 0) → (began : ℕ) → (Only Held : (Moment → Type 0) → Type 0) → (before after : Report) → (old new : Moment) → (result : ℕ) → Type 0
+LeavesSaid request input rest l windows h f Past Stops began Only Held before after old new result =
     (layout : Layout) × IsSaid l old.image layout × LeavesBy request input rest layout windows h f Past Stops began Only Held before after old new result
+
+-- What was there as a run began: an image that is sound by this layout, in these windows, for these changes, so many of
+-- them forced.
+pub record Was : Type 0 where
+  pub layout : Layout
+  pub windows : List WeakRun
+  pub changes : List Change
+  pub forced : ℕ
+
+-- What a run over such an image leaves at any stop, and how it ends; a is the machine as the run began, b at its end.
+abbrev pub LeavesRun : {D : Type 0} → Ghosts D → Request → (input rest : List ℕ) → Was → (a b : D) → (result : ℕ) → Type 0
+LeavesRun M request input rest was a b result =
+    LeavesSaid request input rest was.layout was.windows was.changes was.forced (M.left_since b) (stops M b) (M.moment a) (StopsOnly M a b) (IsHeld M b) (M.report a) (M.report b) (M.now a) (M.now b) result

@@ -9,7 +9,8 @@ use Rattle.fsd_files.specs.Desk.{Session, Open, Nothing, Writes, Reads, begin_ou
 use Rattle.fsd_files.specs.Disk.{Image}
 use Rattle.fsd_files.specs.Files.{Change}
 use Rattle.fsd_files.specs.Kept.{range_sectors}
-use Rattle.fsd_files.specs.Replies.{Reply, Made}
+use Rattle.fsd_files.specs.declared.reply.Reply.{Reply}
+use Rattle.fsd_files.specs.declared.reply.Reply.TheVariants.{Made}
 use Rattle.fsd_files.specs.Volume.{Volume, HasReach, is_in}
 use Rattle.fsd_texts.specs.declared.call.Call.{Call}
 use Rattle.fsd_texts.specs.declared.call.Call.TheVariants as Calls

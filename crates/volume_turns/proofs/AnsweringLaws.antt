@@ -15,29 +15,28 @@ use Rattle.sector_disk.specs.Image.{IsWorn, open_damage}
 use Rattle.sector_disk.specs.Machine.{Moment, Utters}
 use Rattle.fsd_files.specs.Answers.{keep_given, least_pages, size_fault}
 use Rattle.fsd_files.specs.Disk.{Image, Sectors, Touches, nowhere}
-use Rattle.fsd_files.specs.Replies.{Reply}
+use Rattle.fsd_files.specs.declared.reply.Reply.{Reply}
+use Rattle.fsd_files.specs.declared.reply.Reply.TheVariants as Said
 use Rattle.fsd_sound.specs.Writes.{MountKeeps, force_writes}
 use Rattle.fsd_texts.specs.declared.command.Command.{Command}
 use Rattle.fsd_texts.specs.declared.command.Command.TheVariants as Word
 use Rattle.fsd_texts.specs.declared.fault.Fault.{Fault}
 use Rattle.fsd_texts.specs.declared.fault.Fault.TheVariants as Ends
 use Rattle.fsd_texts.specs.Text.{fault_text}
-use Rattle.fsd_runs.specs.Commands.{reply_alone}
-use Rattle.fsd_runs.specs.Errands.{reply_status}
+use Rattle.fsd_runs.specs.Commands.{reply_alone, reply_status}
 use Rattle.volume_contract.specs.Mount.{IsFound}
 use Rattle.volume_contract.specs.Order.{Asks, Comes, Data, Force, IsData, IsDevice, IsDeviceIn, IsFetch, IsLookUp, IsLoss, LookUp, Refuses, Step, Test, down, force_steps, is_idle, is_root, no_place_in, place, runs_at, worn}
 use Rattle.volume_contract.specs.State.{Ages, State, in_place, is_worn, place_in, put_writes}
 use Rattle.scrub.specs.Scrub.{scrub_writes}
 use Rattle.scrub.specs.Telling.{AreOfPage}
 use Rattle.scrub.proofs.LeadLaws.{touches_then, worn_touches}
-use Rattle.volume_turns.specs.declared.answer.Answer.{Answer}
-use Rattle.volume_turns.specs.declared.answer.Answer.TheVariants as Said
 use Rattle.volume_turns.specs.declared.turns.End.{End}
 use Rattle.volume_turns.specs.declared.turns.End.TheVariants.{Fault as Stopped, Output}
-use Rattle.volume_turns.specs.Answering.{Answers, AnswersAlone, ClosesBy, EndsOne, HasDamaged, KeepsState, LacksRoom, MayReply, RefusesPut, RunsOne, SaysBy, SaysNoReply, SaysOne, SaysReply, WritesBehind, may_write}
+use Rattle.volume_turns.specs.Answering.{Answers, AnswersAlone, ClosesBy, EndsOne, RunsOne, SaysBy, SaysNoReply, SaysOne, SaysReply}
+use Rattle.volume_turns.specs.Commands.{HasDamaged, KeepsState, LacksRoom, MayLose, MayReply, RefusesPut, WritesBehind, WritesForce, may_write}
 use Rattle.volume_turns.specs.Once.{unit_of}
 use Rattle.volume_turns.specs.Line.{EndsWith}
-use Rattle.volume_turns.specs.Steps.{IsToldOn, MayLose, ended_by, read_ended_by, reply_of}
+use Rattle.volume_turns.specs.Steps.{IsToldOn, ended_by, read_ended_by}
 use Rattle.volume_turns.specs.Turns.{KeepsSaid, SaysAll, Unsaid}
 use Rattle.volume_turns.proofs.OrderLaws.{delete_all, edit_rest, few_best, keep_small, put_rest, starts_up, steps_of}
 use Rattle.volume_turns.proofs.StatusLaws.{look_up_ends, loss_looks}
@@ -68,7 +67,7 @@ or_left false b out = refl
 -- ---- refusals
 
 -- where a fault ends the run nothing is said of it
-pub said_or_fault : (P : Answer → Type 0) (why : Refusal) → P (Said.Refused why) → IfOk (ended_by why) P
+pub said_or_fault : (P : Reply → Type 0) (why : Refusal) → P (Said.Refused why) → IfOk (ended_by why) P
 said_or_fault P (Why.Device s) said = tt
 said_or_fault P (Why.Down s) said = tt
 said_or_fault P (Why.Lost x y) said = tt
@@ -87,7 +86,7 @@ each why P [] all comes = absurd comes
 each why P (step ∷ steps) all (inl here) = all.0 here
 each why P (step ∷ steps) all (inr later) = each why P steps all.1 later.1
 
-module _ (P : Answer → Type 0) (why : Refusal) where
+module _ (P : Reply → Type 0) (why : Refusal) where
   abbrev Holds : Type 0
   Holds = IfOk (ended_by why) P
 
@@ -131,8 +130,8 @@ module _ (s : State) (up : s.down ≡ None) (name bytes : List ℕ) (keep : Opti
   abbrev size : Option Refusal
   size = size_fault (keep_given keep) (length bytes)
 
-  abbrev Fits : Answer → Type 0
-  Fits a = MayReply (Word.Put name bytes keep) i (reply_of a)
+  abbrev Fits : Reply → Type 0
+  Fits a = MayReply (Word.Put name bytes keep) i a
 
   no_place : is_none (place_in s need) ≡ true → (b : Bool) → nat_lt (total (runs_at s need)) need ≡ b → LacksRoom (length bytes) (cond b (Why.NoSpace need (total (runs_at s need))) (Why.TooFragmented need (best (runs_at s need))))
   no_place none true is = (refl, ltb-true (total (runs_at s need)) need is)
@@ -179,31 +178,31 @@ module _ (s : State) (up : s.down ≡ None) (name bytes : List ℕ) (keep : Opti
 -- ---- a version taken out, a keep, and what is read
 
 module _ (s : State) (up : s.down ≡ None) (why : Refusal) where
-  edits : (P : Answer → Type 0) → P (Said.Refused Why.NoSuch) → Each why (IfOk (ended_by why) P) (edit_rest s)
+  edits : (P : Reply → Type 0) → P (Said.Refused Why.NoSuch) → Each why (IfOk (ended_by why) P) (edit_rest s)
   edits P none = (λ x. losses P why x.1, (λ x. looks P why x, (λ x. asked P why Why.NoSuch none x, tt)))
 
-  pub delete_refused : (key : Key) (i : Image) → Comes (down s ∷ delete_all s) why → IfOk (ended_by why) (λ a. MayReply (Word.Delete key) i (reply_of a))
+  pub delete_refused : (key : Key) (i : Image) → Comes (down s ∷ delete_all s) why → IfOk (ended_by why) (λ a. MayReply (Word.Delete key) i a)
   delete_refused key i comes =
-      let P : Answer → Type 0 = λ a. MayReply (Word.Delete key) i (reply_of a) in
+      let P : Reply → Type 0 = λ a. MayReply (Word.Delete key) i a in
       elim (starts_up s up (delete_all s) why comes) [ inl worn ↦ worn_out P why (is_worn s) worn | inr later ↦ each why (IfOk (ended_by why) P) (edit_rest s) (edits P refl) later.1 ]
 
-  pub keep_refused : (name : List ℕ) (keep : ℕ) (i : Image) → Comes (steps_of s (cond (nat_lt max_keep keep) (Some (Why.KeepTooLarge keep)) None) (edit_rest s)) why → IfOk (ended_by why) (λ a. MayReply (Word.Keep name keep) i (reply_of a))
+  pub keep_refused : (name : List ℕ) (keep : ℕ) (i : Image) → Comes (steps_of s (cond (nat_lt max_keep keep) (Some (Why.KeepTooLarge keep)) None) (edit_rest s)) why → IfOk (ended_by why) (λ a. MayReply (Word.Keep name keep) i a)
   keep_refused name keep i comes =
       elim (starts_up s up (Test (cond (nat_lt max_keep keep) (Some (Why.KeepTooLarge keep)) None) ∷ worn s ∷ edit_rest s) why comes) [
         | inl is ↦ large (nat_lt max_keep keep) refl is
         | inr later ↦ elim later.1 [ inl worn ↦ worn_out P why (is_worn s) worn | inr last ↦ each why (IfOk (ended_by why) P) (edit_rest s) (edits P (inr (refl, keep_small keep (nat_lt max_keep keep) (Why.KeepTooLarge keep) refl later.0))) last.1 ]
       ]
     where
-      P : Answer → Type 0
-      P a = MayReply (Word.Keep name keep) i (reply_of a)
+      P : Reply → Type 0
+      P a = MayReply (Word.Keep name keep) i a
 
       large : (b : Bool) → nat_lt max_keep keep ≡ b → cond b (Some (Why.KeepTooLarge keep)) None ≡ Some why → IfOk (ended_by why) P
       large true over is = tests P why true (Why.KeepTooLarge keep) (λ e. inl (refl, ltb-true max_keep keep over)) is
       large false over is = absurd (cc is)
 
-  pub entry_refused : (key : Key) (i : Image) → Comes (down s ∷ LookUp ∷ Asks Why.NoSuch ∷ []) why → IfOk (ended_by why) (λ a. MayReply (Word.Get key) i (reply_of a))
+  pub entry_refused : (key : Key) (i : Image) → Comes (down s ∷ LookUp ∷ Asks Why.NoSuch ∷ []) why → IfOk (ended_by why) (λ a. MayReply (Word.Get key) i a)
   entry_refused key i comes =
-      let P : Answer → Type 0 = λ a. MayReply (Word.Get key) i (reply_of a) in
+      let P : Reply → Type 0 = λ a. MayReply (Word.Get key) i a in
       each why (IfOk (ended_by why) P) (LookUp ∷ Asks Why.NoSuch ∷ []) (λ x. looks P why x, (λ x. asked P why Why.NoSuch refl x, tt)) (starts_up s up (LookUp ∷ Asks Why.NoSuch ∷ []) why comes)
 
 -- a data sector lies in each image that has room for its layout
@@ -212,8 +211,8 @@ data_inside l s size within room = omega (arith, room, ltb-true s l.sectors (and
 
 -- a sector that is told as damaged is so
 module _ (s : State) (up : s.down ≡ None) (key : Key) (i : Image) where
-  abbrev Answered : Answer → Type 0
-  Answered a = MayReply (Word.Get key) i (reply_of a)
+  abbrev Answered : Reply → Type 0
+  Answered a = MayReply (Word.Get key) i a
 
   by_order : (why : Refusal) → (IsData why → IfOk (ended_by why) Answered) → Comes (down s ∷ LookUp ∷ Asks Why.NoSuch ∷ Data ∷ []) why → IfOk (ended_by why) Answered
   by_order why data_is comes =
@@ -265,29 +264,34 @@ closed_by s text a m b r windows same rest still ages says unworn told = record 
 
 -- what may be replied may be so still
 pub may_worn : (command : Command) (a b : Moment) (reply : Reply) → Touches nowhere a b → MayReply command a.image reply → MayReply command b.image reply
-may_worn (Word.Get key) a b (Reply.DamagedAt k n) quiet may = (may.0, stays_damaged a b n quiet may.1)
-may_worn Word.Scrub a b (Reply.Scrubbed found healed) quiet may = stay_damaged a b quiet found may
+may_worn (Word.Get key) a b (Said.DamagedAt k n) quiet may = (may.0, stays_damaged a b n quiet may.1)
+may_worn Word.Scrub a b (Said.Scrubbed found healed) quiet may = stay_damaged a b quiet found may
 may_worn command a b reply quiet may = may
 
 -- a sector that is told stays damaged
 may_later : (command : Command) (s t : State) (a b : Moment) (reply : Reply) → KeepsState command s t → s.dirty ≡ [] → (t.dirty ≡ [] → Touches nowhere a b) → MayReply command a.image reply → MayReply command b.image reply
-may_later (Word.Get key) s t a b (Reply.DamagedAt k n) still none quiet may = (may.0, stays_damaged a b n (quiet (ap (λ (x : State). x.dirty) still ∙ none)) may.1)
-may_later Word.Scrub s t a b (Reply.Scrubbed found healed) still none quiet may = stay_damaged a b (quiet (ap (λ (x : State). x.dirty) (still none) ∙ none)) found may
+may_later (Word.Get key) s t a b (Said.DamagedAt k n) still none quiet may = (may.0, stays_damaged a b n (quiet (ap (λ (x : State). x.dirty) still ∙ none)) may.1)
+may_later Word.Scrub s t a b (Said.Scrubbed found healed) still none quiet may = stay_damaged a b (quiet (ap (λ (x : State). x.dirty) (still none) ∙ none)) found may
 may_later command s t a b reply still none quiet may = may
+
+-- where it writes only as a force does
+force_rest : (s t : State) (a m b : Moment) → m.windows ≡ a.windows → t.layout ≡ s.layout → Touches (force_writes s.layout) a m → Touches (force_writes t.layout) m b → Touches (force_writes s.layout) a b
+force_rest s t a m b windows layout first closing =
+    touches_then (force_writes s.layout) (force_writes t.layout) (force_writes s.layout) a m b (λ x out. out) (λ x out. subst (λ (l : Layout). IsFalse (force_writes l x)) (sym layout) out) windows first closing
 
 alone_rest : (command : Command) (s t : State) (a m b : Moment) → m.windows ≡ a.windows → t.layout ≡ s.layout → KeepsState command s t → s.dirty ≡ [] → Touches (may_write command s) a m → Touches (force_writes t.layout) m b → (t.dirty ≡ [] → Touches nowhere m b)
     → Touches (may_write command s) a b
 alone_rest (Word.Put name bytes keep) s t a m b windows layout still none first closing quiet =
     let may = put_writes s (sectors_for (length bytes)) in
     touches_then may (force_writes t.layout) may a m b (λ x out. out) (λ x out. subst (λ (l : Layout). IsFalse (force_writes l x)) (sym layout) (or_left (force_writes s.layout x) (in_place (place_in s (sectors_for (length bytes))) x) out)) windows first closing
-alone_rest (Word.List pattern) s t a m b windows layout still none first closing quiet = touches_then nowhere nowhere nowhere a m b (λ x out. out) (λ x out. out) windows first (quiet (ap (λ (x : State). x.dirty) still ∙ none))
-alone_rest (Word.Get key) s t a m b windows layout still none first closing quiet = touches_then nowhere nowhere nowhere a m b (λ x out. out) (λ x out. out) windows first (quiet (ap (λ (x : State). x.dirty) still ∙ none))
-alone_rest Word.Stat s t a m b windows layout still none first closing quiet = touches_then nowhere nowhere nowhere a m b (λ x out. out) (λ x out. out) windows first (quiet (ap (λ (x : State). x.dirty) still ∙ none))
+alone_rest (Word.Delete key) s t a m b windows layout still none first closing quiet = force_rest s t a m b windows layout first closing
+alone_rest (Word.Keep name keep) s t a m b windows layout still none first closing quiet = force_rest s t a m b windows layout first closing
+alone_rest Word.Force s t a m b windows layout still none first closing quiet = force_rest s t a m b windows layout first closing
+alone_rest Word.Tick s t a m b windows layout still none first closing quiet = force_rest s t a m b windows layout first closing
 alone_rest Word.Scrub s t a m b windows layout still none first closing quiet =
     touches_then (scrub_writes s.layout) nowhere (scrub_writes s.layout) a m b (λ x out. out) (λ x out. refl) windows first (quiet (ap (λ (x : State). x.dirty) (still none) ∙ none))
 alone_rest Word.Upgrade s t a m b windows layout still none first closing quiet = touches_then is_root nowhere is_root a m b (λ x out. out) (λ x out. refl) windows first (quiet (still ∙ none))
-alone_rest command s t a m b windows layout still none first closing quiet =
-    touches_then (force_writes s.layout) (force_writes t.layout) (force_writes s.layout) a m b (λ x out. out) (λ x out. subst (λ (l : Layout). IsFalse (force_writes l x)) (sym layout) out) windows first closing
+alone_rest command s t a m b windows layout still none first closing quiet = touches_then nowhere nowhere nowhere a m b (λ x out. out) (λ x out. out) windows first (quiet (ap (λ (x : State). x.dirty) still ∙ none))
 
 keeps_said : (text : List ℕ) (a b : Moment) (r : Result ℕ End) → SaysBy text a b (unit_of r) → KeepsSaid a b r
 keeps_said text a b (Ok status) says = tt
@@ -299,13 +303,13 @@ replied command reply a b may (Ok status) gives says = record { reply = reply; m
 replied command reply a b may (Err end) gives says = tt
 
 module _ (command : Command) (s t : State) (a m : Moment) (windows : m.windows ≡ a.windows) (same : m.said ≡ a.said) where
-  pub alone_closed : (b : Moment) (x : Answer) (r : Result ℕ End) → t.layout ≡ s.layout → Answers command s t a m (Ok x) → IfOk r (λ status. status ≡ reply_status (reply_of x)) → ClosesBy t (reply_alone (reply_of x)) m b (unit_of r) → AnswersAlone command s a b r
+  pub alone_closed : (b : Moment) (x : Reply) (r : Result ℕ End) → t.layout ≡ s.layout → Answers command s t a m (Ok x) → IfOk r (λ status. status ≡ reply_status x) → ClosesBy t (reply_alone x) m b (unit_of r) → AnswersAlone command s a b r
   alone_closed b x r layout answers gives closes =
-      let says = said_by (reply_alone (reply_of x)) a m b same (unit_of r) closes.says in
+      let says = said_by (reply_alone x) a m b same (unit_of r) closes.says in
       record {
         windows = closes.windows ∙ windows;
-        quiet = keeps_said (reply_alone (reply_of x)) a b r says;
-        replies = λ none. replied command (reply_of x) a b (may_later command s t m b (reply_of x) answers.still none closes.still answers.replies) r gives says;
+        quiet = keeps_said (reply_alone x) a b r says;
+        replies = λ none. replied command x a b (may_later command s t m b x answers.still none closes.still answers.replies) r gives says;
         rest = λ none. alone_rest command s t a m b windows layout answers.still none answers.rest closes.rest closes.still;
         worn = λ is. absurd (closes.unworn (ap (λ (x : Result ℕ End). unit_of x) is));
         told = λ why is. told_may command s.layout b.image why (subst (λ (l : Layout). IsToldOn AreOfPage l b.image why) layout (closes.told why (ap (λ (x : Result ℕ End). unit_of x) is)));
@@ -351,23 +355,29 @@ module _ (command : Command) (s : State) (a m : Moment) (none : s.dirty ≡ []) 
 
 -- ---- from the mount on
 
+-- where a force writes
+found_force : (sectors : ℕ) (s : State) (a m b : Moment) → IsFound sectors s a m → Touches (force_writes s.layout) m b → WritesForce sectors a m b
+found_force sectors s a m b found rest = inr (record { seen = found.seen; from = found.from; layout = s.layout; anchor = found.anchor; found = found.found; left = found.left }, rest)
+
 behind_mount : (command : Command) (sectors : ℕ) (s : State) (a m b : Moment) → IsFound sectors s a m → b.windows ≡ m.windows → Touches (may_write command s) m b → WritesBehind command sectors a m b
 behind_mount (Word.Put name bytes keep) sectors s a m b found windows rest = tt
-behind_mount (Word.List pattern) sectors s a m b found windows rest = touches_ages m b windows rest
-behind_mount (Word.Get key) sectors s a m b found windows rest = touches_ages m b windows rest
-behind_mount Word.Stat sectors s a m b found windows rest = touches_ages m b windows rest
+behind_mount (Word.Delete key) sectors s a m b found windows rest = found_force sectors s a m b found rest
+behind_mount (Word.Keep name keep) sectors s a m b found windows rest = found_force sectors s a m b found rest
+behind_mount Word.Force sectors s a m b found windows rest = found_force sectors s a m b found rest
+behind_mount Word.Tick sectors s a m b found windows rest = found_force sectors s a m b found rest
 behind_mount Word.Scrub sectors s a m b found windows rest = inr (record { seen = found.seen; from = found.from; layout = s.layout; anchor = found.anchor; found = found.found; left = found.left }, rest)
 behind_mount Word.Upgrade sectors s a m b found windows rest = rest
-behind_mount command sectors s a m b found windows rest = inr (record { seen = found.seen; from = found.from; layout = s.layout; anchor = found.anchor; found = found.found; left = found.left }, rest)
+behind_mount command sectors s a m b found windows rest = touches_ages m b windows rest
 
 behind_nothing : (command : Command) (sectors : ℕ) (a m b : Moment) → Ages m b → WritesBehind command sectors a m b
 behind_nothing (Word.Put name bytes keep) sectors a m b ages = tt
-behind_nothing (Word.List pattern) sectors a m b ages = ages
-behind_nothing (Word.Get key) sectors a m b ages = ages
-behind_nothing Word.Stat sectors a m b ages = ages
+behind_nothing (Word.Delete key) sectors a m b ages = inl ages
+behind_nothing (Word.Keep name keep) sectors a m b ages = inl ages
+behind_nothing Word.Force sectors a m b ages = inl ages
+behind_nothing Word.Tick sectors a m b ages = inl ages
 behind_nothing Word.Scrub sectors a m b ages = inl ages
 behind_nothing Word.Upgrade sectors a m b ages = worn_touches is_root m b ages.image
-behind_nothing command sectors a m b ages = inl ages
+behind_nothing command sectors a m b ages = ages
 
 pub run_mounted : (command : Command) (sectors : ℕ) (s : State) (a m b : Moment) (status : ℕ) → IsFound sectors s a m → m.said ≡ a.said → MountKeeps sectors a m → EndsOne command s m b status → RunsOne command sectors a b status
 run_mounted command sectors s a m b status found same kept ends = record {

@@ -3,13 +3,11 @@ use Rattle.std.proofs.Common.{◌≡◌, ℕ, ◌≤◌, Bool, false, List, [], 
 use Rattle.std.specs.Prelude.{IsSome, IsTrue, Ok, Err, slice_get}
 use Rattle.volume_layout.specs.declared.layout.Layout.{Layout}
 use Rattle.sector_disk.specs.declared.machine.Machine.{Ghosts}
-use Rattle.sector_disk.specs.declared.sector.WeakRun.{WeakRun}
-use Rattle.sector_disk.specs.Calls.{HealsDisk, IsHeld, IsTimed, LeavesDisk, Since, StopsOnly, stops}
+use Rattle.sector_disk.specs.Calls.{HealsDisk, IsHeld, IsTimed, LeavesDisk, Since}
 use Rattle.sector_disk.specs.Image.{AreShort}
 use Rattle.sector_disk.specs.Machine.{Ledger, LeavesOnly, OnlyWrites, Trusts, Utters}
 use Rattle.sector_disk.proofs.CallLaws.{only_writes_then}
 use Rattle.sector_disk.proofs.Holding.{trusts_on}
-use Rattle.fsd_files.specs.Files.{Change}
 use Rattle.fsd_files.specs.Desk.{Session}
 use Rattle.fsd_log.specs.Scan.{Placed}
 use Rattle.fsd_sound.specs.Lost.{AreCopiesOn, LostIn}
@@ -22,7 +20,7 @@ use Rattle.fsd_texts.specs.declared.fault.Fault.{Fault}
 use Rattle.fsd_texts.specs.Text.{fault_text}
 use Rattle.fsd_runs.specs.declared.request.Request.{Request}
 use Rattle.fsd_runs.specs.Errands.{errand_of}
-use Rattle.fsd_runs.specs.Leaves.{IsSoundAsSaid, LeavesRun}
+use Rattle.fsd_runs.specs.Leaves.{IsSoundAsSaid, LeavesRun, Was}
 use Rattle.fsd_runs.specs.Runs.{turns_of}
 use Rattle.volume_contract.specs.Mount.{IsFound, IsRefused, IsSoundAt, KeepsAll, MountsSound, UnsoundFor}
 use Rattle.volume_contract.specs.State.{IsNew, Known, Stands, State, forced_of, none_open, volume_of}
@@ -88,17 +86,17 @@ module _ {S D : Type 0} {state : S → State} {M : Ghosts D} {sectors : ℕ} {v 
   over_says_input t says = input_since (M.report a) (M.report m) (M.report b) (M.ledger a).input (M.ledger m).input (M.now b) x.disk.uses.input (over_input t) says
 
   -- over a sound disk
-  pub over_leaves : (has : S → Mounted → List Placed → Type 0) (request : Request) (input rest : List ℕ) (l : Layout) (windows : List WeakRun) (h : List Change) (f status : ℕ) → M.honest b → (M.honest b → Since M m b)
-      → ((y : D) (t : ℕ) → M.honest y → t ≤ M.moment y → M.left_since y t (M.now y)) → ((y : D) → M.honest y → IsTimed M y) → IsHeld M a (λ c. IsSoundAsSaid l windows h f (M.now a).image c.image)
-      → MountsSound state has l windows h f (M.left_since m) (M.moment a) (λ P. LeavesOnly M.moment M.left_since a m P) (M.now a) (M.now m) (Ok v)
+  pub over_leaves : (has : S → Mounted → List Placed → Type 0) (request : Request) (input rest : List ℕ) (was : Was) (status : ℕ) → M.honest b → (M.honest b → Since M m b)
+      → ((y : D) (t : ℕ) → M.honest y → t ≤ M.moment y → M.left_since y t (M.now y)) → ((y : D) → M.honest y → IsTimed M y) → IsHeld M a (λ c. IsSoundAsSaid was.layout was.windows was.changes was.forced (M.now a).image c.image)
+      → MountsSound state has was.layout was.windows was.changes was.forced (M.left_since m) (M.moment a) (λ P. LeavesOnly M.moment M.left_since a m P) (M.now a) (M.now m) (Ok v)
       → ((k : Known) → (volume_of k).unforced ≡ 0 → k.opened ≡ none_open → Stands state has v k (M.now m) → OnDisk M k (forced_of k) m → RunsOut M request input rest (M.report m) k m b status)
-      → LeavesRun request input rest l windows h f (M.left_since b) (stops M b) (M.moment a) (StopsOnly M a b) (IsHeld M b) (M.report a) (M.report b) (M.now a) (M.now b) status
-  over_leaves has request input rest l windows h f status honest since counts_now timed held sound runs =
+      → LeavesRun M request input rest was a b status
+  over_leaves has request input rest was status honest since counts_now timed held sound runs =
       let back = x.trust.honest honest in
       let first = x.disk.trust.honest back in (
         sound.0,
         sound.1,
-        joined_run state has M request input rest sound.0 windows h f a m b v (over_said honest) x.disk.uses x.disk.faults (timed a first) (timed m back) (x.disk.since back) (since honest) (λ c left. held c left sound.0 sound.1) (counts_now b (M.moment m) honest) status sound.2 runs,
+        joined_run state has M request input rest sound.0 was.windows was.changes was.forced a m b v (over_said honest) x.disk.uses x.disk.faults (timed a first) (timed m back) (x.disk.since back) (since honest) (λ c left. held c left sound.0 sound.1) (counts_now b (M.moment m) honest) status sound.2 runs,
       )
 
 -- ---- by a line
@@ -149,17 +147,17 @@ module _ {D : Type 0} {M : Ghosts D} {sectors : ℕ} {fault : MountFault} {why :
       run_refused command sectors why (M.now a) (M.now m) (M.now b) status (x.disk.quiet back) (x.rest back) (x.says.exit h) (x.ends h)
 
   -- over a sound disk
-  pub refused_leaves : {S : Type 0} (state : S → State) (has : S → Mounted → List Placed → Type 0) (request : Request) (input rest : List ℕ) (l : Layout) (windows : List WeakRun) (h : List Change) (f : ℕ) → M.honest b → (M.honest m → AreShort (M.now m).windows)
-      → ((y : D) (t : ℕ) → M.honest y → t ≤ M.moment y → M.left_since y t (M.now y)) → ((y : D) → M.honest y → IsTimed M y) → IsSoundAt sectors l windows h f (M.now a) → IsHeld M a (λ c. IsSoundAsSaid l windows h f (M.now a).image c.image)
-      → MountsSound state has l windows h f (M.left_since m) (M.moment a) (λ P. LeavesOnly M.moment M.left_since a m P) (M.now a) (M.now m) (Err fault) → ((s : Session) → IsSome (slice_get (turns_of (errand_of request input) [] s) 0))
-      → LeavesRun request input rest l windows h f (M.left_since b) (stops M b) (M.moment a) (StopsOnly M a b) (IsHeld M b) (M.report a) (M.report b) (M.now a) (M.now b) status
-  refused_leaves state has request input rest l windows h f honest short counts_now timed at held sound some =
+  pub refused_leaves : {S : Type 0} (state : S → State) (has : S → Mounted → List Placed → Type 0) (request : Request) (input rest : List ℕ) (was : Was) → M.honest b → (M.honest m → AreShort (M.now m).windows)
+      → ((y : D) (t : ℕ) → M.honest y → t ≤ M.moment y → M.left_since y t (M.now y)) → ((y : D) → M.honest y → IsTimed M y) → IsSoundAt sectors was.layout was.windows was.changes was.forced (M.now a) → IsHeld M a (λ c. IsSoundAsSaid was.layout was.windows was.changes was.forced (M.now a).image c.image)
+      → MountsSound state has was.layout was.windows was.changes was.forced (M.left_since m) (M.moment a) (λ P. LeavesOnly M.moment M.left_since a m P) (M.now a) (M.now m) (Err fault) → ((s : Session) → IsSome (slice_get (turns_of (errand_of request input) [] s) 0))
+      → LeavesRun M request input rest was a b status
+  refused_leaves state has request input rest was honest short counts_now timed at held sound some =
       let back = x.says.trust.honest honest in
       let first = x.disk.trust.honest back in
       let says = subst (λ (w : Fault). LeavesDisk M false (is_unsaid status) (Utters (fault_text w)) m b) x.is x.says in
       let ended = subst (λ (w : Fault). EndsWith w (M.now m) (M.now b) status) x.is (x.ends honest) in (
         sound.0,
         sound.1,
-        refused_run state has M request input rest sound.0 windows h f a m b at.ends fault (x.disk.quiet back) x.disk.uses x.disk.faults status says honest (short back) ended
+        refused_run state has M request input rest sound.0 was.windows was.changes was.forced a m b at.ends fault (x.disk.quiet back) x.disk.uses x.disk.faults status says honest (short back) ended
             (timed a first) (timed m back) (timed b honest) (x.disk.since back) (λ c left. held c left sound.0 sound.1) (counts_now b (M.moment m) honest (x.says.any_moment honest).later) some sound.2,
       )

@@ -11,7 +11,8 @@ use Rattle.fsd_log.specs.Scan.{Placed}
 use Rattle.fsd_files.specs.Desk.{begin_outcome, close_outcome, is_client, next_outcome, open_outcome, piece_outcome}
 use Rattle.fsd_files.specs.Answers.{Finds}
 use Rattle.fsd_files.specs.Kept.{range_sectors}
-use Rattle.fsd_files.specs.Replies.{Reply}
+use Rattle.fsd_files.specs.declared.reply.Reply.{Reply}
+use Rattle.fsd_files.specs.declared.reply.Reply.TheVariants as Said
 use Rattle.fsd_texts.specs.declared.call.Call.{Call}
 use Rattle.fsd_texts.specs.declared.call.Call.TheVariants as Calls
 use Rattle.fsd_texts.specs.declared.fault.Fault.{Fault}
@@ -21,8 +22,6 @@ use Rattle.volume_contract.specs.State.{State}
 use Rattle.client_desk.specs.declared.client.Client.{Client}
 use Rattle.client_desk.specs.Clients.{IsDesk, begin_steps, client_at, close_steps, left_at, place_of}
 use Rattle.client_desk.specs.Ends.{Answers, EndsBegin, EndsClose, EndsNext, EndsOpen, EndsPiece, Refuses, Serves, Tells, open_at}
-use Rattle.volume_turns.specs.declared.answer.Answer.{Answer}
-use Rattle.volume_turns.specs.declared.answer.Answer.TheVariants as Said
 use Rattle.volume_turns.specs.Calls.{CallMayReply, RefusesIdle, room_for}
 use Rattle.volume_turns.specs.Seats.{Seated, SitsAt, known_of, session_in}
 use Rattle.volume_turns.specs.Steps.{ended_by}
@@ -37,15 +36,15 @@ module _ {S : Type 0} (state : S → State) (has : S → Mounted → List Placed
 
   -- ---- a piece
 
-  piece_refused : (bytes : List ℕ) (w : Refusal) → CallMayReply c (Calls.Piece bytes) [] (Reply.Refused w) → (let r : Result ℕ Refusal = Err w in EndsPiece state has c bytes (known_of k) k.clients new left now r)
-      → Answers state has (λ s. piece_outcome s c bytes) (Reply.Refused w) [] (known_of k) k.clients new left now
+  piece_refused : (bytes : List ℕ) (w : Refusal) → CallMayReply c (Calls.Piece bytes) [] (Said.Refused w) → (let r : Result ℕ Refusal = Err w in EndsPiece state has c bytes (known_of k) k.clients new left now r)
+      → Answers state has (λ s. piece_outcome s c bytes) (Said.Refused w) [] (known_of k) k.clients new left now
   piece_refused bytes (Why.Device s) (inl may) ends = absurd may
   piece_refused bytes (Why.Device s) (inr may) ends = absurd may
   piece_refused bytes w may ends = ends
 
   pub piece_does : (bytes : List ℕ) → Declines c (Calls.Piece bytes) [] IsDevice why → (let r : Result ℕ Refusal = Err why in EndsPiece state has c bytes (known_of k) k.clients new left now r) → Ends (Calls.Piece bytes)
   piece_does bytes (inl said) ends =
-      subst (λ (r : Result Answer Fault). DoesSo state has c (Calls.Piece bytes) old new desk left k before now is_desk r) (sym (call_said c (Calls.Piece bytes) [] why said))
+      subst (λ (r : Result Reply Fault). DoesSo state has c (Calls.Piece bytes) old new desk left k before now is_desk r) (sym (call_said c (Calls.Piece bytes) [] why said))
       (refused_so state has c (Calls.Piece bytes) old new desk left k before now is_desk (λ s. piece_outcome s c bytes) (record { met = met_none; held = [] }) refl tt why (λ may. cc may) (piece_refused bytes why said ends))
   piece_does bytes (inr broken) ends = by why broken
     where
@@ -76,44 +75,44 @@ module _ {S : Type 0} (state : S → State) (has : S → Mounted → List Placed
     abbrev NextEnds : Result ℕ Refusal → Type 0
     NextEnds r = EndsNext state has c asked before.image now.image (known_of k) k.clients before_buf buf new left now r
 
-    abbrev NextDoes : Result Answer Fault → Type 0
+    abbrev NextDoes : Result Reply Fault → Type 0
     NextDoes r = DoesSo state has c (Calls.Next len) old new desk left k before now is_desk r
 
-    unread_refused : (w : Refusal) → RefusesIdle c w → NextEnds (Err w) → Answers state has (λ s. next_outcome None s c asked) (Reply.Refused w) [] (known_of k) k.clients new left now
+    unread_refused : (w : Refusal) → RefusesIdle c w → NextEnds (Err w) → Answers state has (λ s. next_outcome None s c asked) (Said.Refused w) [] (known_of k) k.clients new left now
     unread_refused (Why.BadClient d) idle ends = ends
     unread_refused (Why.Idle d) idle ends = ends
     unread_refused w idle ends = absurd idle
 
-    pub next_does : (r : Result Answer Fault) → NextRefuses c desk why r → NextEnds (Err why) → NextDoes r
+    pub next_does : (r : Result Reply Fault) → NextRefuses c desk why r → NextEnds (Err why) → NextDoes r
     next_does r (inl unread) ends =
-        subst (λ (x : Result Answer Fault). NextDoes x) (sym unread.is)
+        subst (λ (x : Result Reply Fault). NextDoes x) (sym unread.is)
         (refused_so state has c (Calls.Next len) old new desk left k before now is_desk (λ s. next_outcome None s c asked) (record { met = met_none; held = [] })
         (next_same k.opened desk k.clients c serves (session_in k) None len) (finds_none k.opened desk k.clients c serves before.image now.image len why unread.test) why (λ may. cc may) (unread_refused why unread.idle ends))
-    next_does r (inr (inl damaged)) ends = subst (λ (x : Result Answer Fault). NextDoes x) (sym damaged.is) (by (subst (λ (w : Refusal). NextEnds (Err w)) damaged.refused ends))
+    next_does r (inr (inl damaged)) ends = subst (λ (x : Result Reply Fault). NextDoes x) (sym damaged.is) (by (subst (λ (w : Refusal). NextEnds (Err w)) damaged.refused ends))
       where
-        by : Tells state has c asked before.image now.image (known_of k) k.clients new left now damaged.sector → NextDoes (Ok (Said.Damaged damaged.key damaged.sector))
+        by : Tells state has c asked before.image now.image (known_of k) k.clients new left now damaged.sector → NextDoes (Ok (Said.DamagedAt damaged.key damaged.sector))
         by tells =
             let same : Some tells.key ≡ Some damaged.key = sym (key_is k.opened desk k.clients c serves damaged.client tells.key tells.runs tells.bytes tells.place tells.was) ∙ damaged.reads in
             let key : tells.key ≡ damaged.key = cc same in
-            subst (λ (x : Key). NextDoes (Ok (Said.Damaged x damaged.sector))) key
+            subst (λ (x : Key). NextDoes (Ok (Said.DamagedAt x damaged.sector))) key
             (answers_does state has c (Calls.Next len) old new desk left k before now is_desk (λ s. next_outcome (Some damaged.sector) s c asked) (record { met = record met_none { damaged = Some damaged.sector }; held = [] })
             (next_same k.opened desk k.clients c serves (session_in k) (Some damaged.sector) len)
             (finds_is k.opened desk k.clients c serves damaged.client tells.key tells.runs tells.bytes tells.place tells.was before.image now.image len (Some damaged.sector) tells.found)
-            (Reply.DamagedAt tells.key damaged.sector) [] refl (λ may. cc may) tells.answers)
-    next_does r (inr (inr failed)) ends = subst (λ (x : Result Answer Fault). NextDoes x) (sym failed.is) tt
+            (Said.DamagedAt tells.key damaged.sector) [] refl (λ may. cc may) tells.answers)
+    next_does r (inr (inr failed)) ends = subst (λ (x : Result Reply Fault). NextDoes x) (sym failed.is) tt
 
     -- the next bytes fill the buffer
-    pub given_does : IsTrue (is_client c) → (n : ℕ) → length buf ≡ asked → NextEnds (Ok n) → AnswersSo state has c (Calls.Next len) old new desk left k before now is_desk (Reply.Given c buf)
+    pub given_does : IsTrue (is_client c) → (n : ℕ) → length buf ≡ asked → NextEnds (Ok n) → AnswersSo state has c (Calls.Next len) old new desk left k before now is_desk (Said.Given c buf)
     given_does client n full gives =
         let room = room_is k.opened desk k.clients c serves client gives.key gives.runs gives.bytes gives.place gives.was len in
         let count = count_is k.opened desk k.clients c serves client gives.key gives.runs gives.bytes gives.place gives.was len in
         let whole : n ≡ length buf = gives.count ∙ sym count ∙ sym room ∙ sym full in
         let all : take n buf ≡ buf = take_all n buf (omega (arith, whole)) in
-        subst (λ (x : List ℕ). AnswersSo state has c (Calls.Next len) old new desk left k before now is_desk (Reply.Given c x)) all
+        subst (λ (x : List ℕ). AnswersSo state has c (Calls.Next len) old new desk left k before now is_desk (Said.Given c x)) all
         (answers_does state has c (Calls.Next len) old new desk left k before now is_desk (λ s. next_outcome None s c asked) (record { met = met_none; held = [] })
         (next_same k.opened desk k.clients c serves (session_in k) None len)
         (finds_is k.opened desk k.clients c serves client gives.key gives.runs gives.bytes gives.place gives.was before.image now.image len None (subst (λ (m : ℕ). Finds before.image now.image (range_sectors gives.runs gives.place m) None) gives.count gives.found))
-        (Reply.Given c (take n buf)) [] refl (λ may. cc may) gives.answers)
+        (Said.Given c (take n buf)) [] refl (λ may. cc may) gives.answers)
 
   module _ (up : (state old).down ≡ None) (sits : SitsAt state has (old, desk) k before) where
     -- ---- begin

@@ -13,7 +13,7 @@ use Rattle.volume_contract.specs.State.{IsDownAt, IsForced, State, downs_for, en
 use Rattle.client_desk.specs.declared.client.Client.{Client}
 use Rattle.client_desk.specs.declared.client.Client.TheVariants.{Idle, Writing, Reading}
 use Rattle.client_desk.specs.Clients.{Continues, EndsAt, GivesUp, begin_steps, client_at, close_steps}
-use Rattle.volume_turns.specs.declared.answer.Answer.{Answer}
+use Rattle.fsd_files.specs.declared.reply.Reply.{Reply}
 use Rattle.volume_turns.specs.Numbers.{GoesUp}
 use Rattle.volume_turns.specs.Steps.{ended_by}
 use Rattle.volume_turns.proofs.NumberLaws.{forced_goes, goes_by, goes_none, keeps_goes, one_force}
@@ -135,8 +135,8 @@ pub still_up : (s t : State) → Continues None s t → s.down ≡ None → t.do
 still_up s t goes up = elim goes.down [ inl same ↦ same ∙ up | inr x ↦ absurd (cc x.0) ]
 
 -- where the run goes on
-pub ended_up : (s t : State) (why : Refusal) → Continues (downs_for why) s t → s.down ≡ None → (r : Result Answer Fault) → r ≡ ended_by why → OnOk r (t.down ≡ None)
-ended_up s t why goes up r is = subst (λ (x : Result Answer Fault). OnOk x (t.down ≡ None)) (sym is) (by why goes)
+pub ended_up : (s t : State) (why : Refusal) → Continues (downs_for why) s t → s.down ≡ None → (r : Result Reply Fault) → r ≡ ended_by why → OnOk r (t.down ≡ None)
+ended_up s t why goes up r is = subst (λ (x : Result Reply Fault). OnOk x (t.down ≡ None)) (sym is) (by why goes)
   where
     by : (w : Refusal) → Continues (downs_for w) s t → OnOk (ended_by w) (t.down ≡ None)
     by (Why.Device n) on = tt
@@ -147,7 +147,7 @@ ended_up s t why goes up r is = subst (λ (x : Result Answer Fault). OnOk x (t.d
     by Why.Memory on = tt
     by w on = still_up s t on up
 
-pub still_ended_up : (s t : State) → Continues None s t → s.down ≡ None → (r : Result Answer Fault) → OnOk r (t.down ≡ None)
+pub still_ended_up : (s t : State) → Continues None s t → s.down ≡ None → (r : Result Reply Fault) → OnOk r (t.down ≡ None)
 still_ended_up s t goes up (Ok x) = still_up s t goes up
 still_ended_up s t goes up (Err fault) = tt
 

@@ -12,7 +12,8 @@ use Rattle.fsd_log.specs.Scan.{Placed}
 use Rattle.fsd_files.specs.Answers.{Met}
 use Rattle.fsd_files.specs.Desk.{Answered, Open, Nothing, Writes, Reads, Session, opened_by}
 use Rattle.fsd_files.specs.Files.{Change}
-use Rattle.fsd_files.specs.Replies.{Reply}
+use Rattle.fsd_files.specs.declared.reply.Reply.{Reply}
+use Rattle.fsd_files.specs.declared.reply.Reply.TheVariants as Said
 use Rattle.fsd_texts.specs.declared.call.Call.{Call}
 use Rattle.fsd_texts.specs.declared.call.Call.TheVariants as Calls
 use Rattle.fsd_texts.specs.declared.fault.Fault.{Fault}
@@ -25,8 +26,6 @@ use Rattle.client_desk.specs.declared.client.Client.{Client}
 use Rattle.client_desk.specs.Clients.{IsDesk}
 use Rattle.client_desk.specs.Ends.{Answers, LeavesOf, Refuses}
 use Rattle.client_desk.proofs.HeldLaws.{holds_read}
-use Rattle.volume_turns.specs.declared.answer.Answer.{Answer}
-use Rattle.volume_turns.specs.declared.answer.Answer.TheVariants as Said
 use Rattle.volume_turns.specs.Calls.{AnswersIn, CallMayReply}
 use Rattle.volume_turns.specs.Seats.{DoesIn, IsAnsweredIn, IsRefusedWornIn, Seated, SitsAt, StaysIn, known_of, seated, session_in}
 use Rattle.volume_turns.specs.Steps.{ended_by}
@@ -38,12 +37,12 @@ abbrev pub met_none : Met
 met_none = record { forces = false; reached = 0; damaged = None; found = []; healed = 0 }
 
 -- a refusal changes nothing
-refused_none : (clients : List Open) (c : ℕ) (call : Call) (why : Refusal) → call_changes clients c call (Reply.Refused why) ≡ []
+refused_none : (clients : List Open) (c : ℕ) (call : Call) (why : Refusal) → call_changes clients c call (Said.Refused why) ≡ []
 refused_none clients c (Calls.Begin name len) why = refl
 refused_none clients c (Calls.Piece bytes) why = refl
 refused_none clients c Calls.Close why = by (opened_by clients c)
   where
-    by : (r : Result Open Refusal) → changes_closed r (Reply.Refused why) ≡ []
+    by : (r : Result Open Refusal) → changes_closed r (Said.Refused why) ≡ []
     by (Err other) = refl
     by (Ok Nothing) = refl
     by (Ok (Writes name len runs serial bytes)) = refl
@@ -54,7 +53,7 @@ refused_none clients c (Calls.Next len) why = refl
 refused_none clients c Calls.Done why = refl
 
 -- a refusal is said, and the volume is as it was
-pub says_refused : (c : ℕ) (call : Call) (s t : State) (old new : Moment) (why : Refusal) → CallMayReply c call new.image (Reply.Refused why) → t ≡ s → AnswersIn (OfClient c call) s t old new (Ok (Said.Refused why))
+pub says_refused : (c : ℕ) (call : Call) (s t : State) (old new : Moment) (why : Refusal) → CallMayReply c call new.image (Said.Refused why) → t ≡ s → AnswersIn (OfClient c call) s t old new (Ok (Said.Refused why))
 says_refused c call s t old new why may same = record { replies = may; worn = λ is. absurd (cc is); numbers = goes_none 1 s t same; told = tt }
 
 module _ {S : Type 0} (state : S → State) (has : S → Mounted → List Placed → Type 0) where
@@ -88,7 +87,7 @@ module _ {S : Type 0} (state : S → State) (has : S → Mounted → List Placed
     abbrev pub AnswersSo : Reply → Type 0
     AnswersSo reply = (after : Seated) × IsAnsweredIn (OfClient c call) (state old) k after before.image now.image reply × SitsAt state has (new, left) after now
 
-    abbrev pub DoesSo : Result Answer Fault → Type 0
+    abbrev pub DoesSo : Result Reply Fault → Type 0
     DoesSo r = DoesIn state has (OfClient c call) (old, desk) (new, left) k before now r
 
     -- what a worn-out mount refuses is not refused so
@@ -112,8 +111,8 @@ module _ {S : Type 0} (state : S → State) (has : S → Mounted → List Placed
         answers.sits,
       )
 
-      pub refused_so : (why : Refusal) → IsUnworn → Answers state has outcome (Reply.Refused why) [] (known_of k) k.clients new left now → AnswersSo (Reply.Refused why)
-      refused_so why unworn answers = answers_does (Reply.Refused why) [] (sym (refused_none k.clients c call why)) unworn answers
+      pub refused_so : (why : Refusal) → IsUnworn → Answers state has outcome (Said.Refused why) [] (known_of k) k.clients new left now → AnswersSo (Said.Refused why)
+      refused_so why unworn answers = answers_does (Said.Refused why) [] (sym (refused_none k.clients c call why)) unworn answers
 
       -- it is refused: the refusal is the reply, or ends the run
       pub refuses_does : (why : Refusal) → ((why ≡ Why.WornOut → ⊥) → IsUnworn) → (why ≡ Why.WornOut → IsRefusedWornIn (OfClient c call) k (state old)) → Refuses state has outcome (known_of k) k.clients new left now why → DoesSo (ended_by why)

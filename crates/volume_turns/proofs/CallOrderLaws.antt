@@ -12,7 +12,8 @@ use Rattle.fsd_formats.specs.NamePage.{max_length, sectors_for}
 use Rattle.fsd_files.specs.Answers.{least_pages}
 use Rattle.fsd_files.specs.Desk.{is_client}
 use Rattle.fsd_files.specs.Disk.{Image, Sectors}
-use Rattle.fsd_files.specs.Replies.{Reply}
+use Rattle.fsd_files.specs.declared.reply.Reply.{Reply}
+use Rattle.fsd_files.specs.declared.reply.Reply.TheVariants as Said
 use Rattle.fsd_texts.specs.declared.call.Call.{Call}
 use Rattle.fsd_texts.specs.declared.call.Call.TheVariants as Calls
 use Rattle.fsd_texts.specs.declared.fault.Fault.{Fault}
@@ -26,11 +27,9 @@ use Rattle.volume_contract.specs.State.{State, forces_for_place, is_worn, place_
 use Rattle.client_desk.specs.declared.client.Client.{Client}
 use Rattle.client_desk.specs.declared.client.Client.TheVariants.{Idle, Writing, Reading}
 use Rattle.client_desk.specs.Clients.{as_idle, as_reading, as_writing, begin_steps, client_at, close_steps, done_steps, drop_steps, fault_in, found, in_data, in_first, open_steps, piece_steps, tested, too_long, too_short}
-use Rattle.volume_turns.specs.declared.answer.Answer.{Answer}
-use Rattle.volume_turns.specs.declared.answer.Answer.TheVariants as Said
 use Rattle.volume_turns.specs.Calls.{AnswersIn, CallMayReply, IsTooLong, LacksEntry, LacksPlace, RefusesBusy, RefusesIdle}
 use Rattle.volume_turns.specs.Numbers.{GoesUp}
-use Rattle.volume_turns.specs.Steps.{IsRefusedOn, IsToldOn, device_by, ended_by, reply_of}
+use Rattle.volume_turns.specs.Steps.{IsRefusedOn, IsToldOn, device_by, ended_by}
 use Rattle.volume_turns.proofs.AnsweringLaws.{each}
 use Rattle.volume_turns.proofs.OrderLaws.{Never, few_best, never, passes_worn, refuses_worn, starts_up}
 use Rattle.volume_turns.proofs.StatusLaws.{device_looks, look_up_ends, loss_looks}
@@ -70,7 +69,7 @@ none_said : (why : Refusal) → why ≡ Why.NoSuch → ended_by why ≡ Ok (Said
 none_said why is = subst (λ (w : Refusal). ended_by w ≡ Ok (Said.Refused w)) (sym is) refl
 
 -- a refusal that a call may be answered by is said
-pub call_said : (c : ℕ) (call : Call) (i : Image) (why : Refusal) → CallMayReply c call i (Reply.Refused why) → ended_by why ≡ Ok (Said.Refused why)
+pub call_said : (c : ℕ) (call : Call) (i : Image) (why : Refusal) → CallMayReply c call i (Said.Refused why) → ended_by why ≡ Ok (Said.Refused why)
 call_said c (Calls.Begin name len) i why (inl busy) = busy_said c why busy
 call_said c (Calls.Begin name len) i why (inr lacks) = place_said len why lacks
 call_said c (Calls.Piece bytes) i why (inl idle) = idle_said c why idle
@@ -85,7 +84,7 @@ call_said c Calls.Done i why idle = idle_said c why idle
 
 -- it is refused so, which is said, or by what breaks the run off
 abbrev pub Declines : (c : ℕ) → Call → Image → (Breaks : Refusal → Type 0) → Refusal → Type 0
-Declines c call i Breaks why = CallMayReply c call i (Reply.Refused why) ⊎ Breaks why
+Declines c call i Breaks why = CallMayReply c call i (Said.Refused why) ⊎ Breaks why
 
 -- the disk or the table told it, or the mount is worn out
 abbrev pub EndsRun : State → Refusal → Type 0
@@ -108,17 +107,17 @@ module _ (c : ℕ) (call : Call) (i : Image) (s : State) (why : Refusal) where
   never_down (inr (inr worn)) t is = let at : Why.WornOut ≡ Why.Down t = sym worn.0 ∙ is in cc at
 
   -- the fault that is told is the one that was counted
-  pub declined_device : Declines c call i (EndsRun s) why → (r : Result Answer Fault) → r ≡ ended_by why → device_by r ≡ device_of why
-  declined_device declines r is = ap (λ (x : Result Answer Fault). device_by x) is ∙ sym (same_device why (never_down declines))
+  pub declined_device : Declines c call i (EndsRun s) why → (r : Result Reply Fault) → r ≡ ended_by why → device_by r ≡ device_of why
+  declined_device declines r is = ap (λ (x : Result Reply Fault). device_by x) is ∙ sym (same_device why (never_down declines))
 
-  declined_replies : Declines c call i (EndsRun s) why → (r : Result Answer Fault) → r ≡ ended_by why → IfOk r (λ a. CallMayReply c call i (reply_of a))
-  declined_replies (inl said) r is = subst (λ (x : Result Answer Fault). IfOk x (λ a. CallMayReply c call i (reply_of a))) (sym (is ∙ call_said c call i why said)) said
-  declined_replies (inr (inl broken)) r is = look_up_ends (λ a. CallMayReply c call i (reply_of a)) why r is broken
+  declined_replies : Declines c call i (EndsRun s) why → (r : Result Reply Fault) → r ≡ ended_by why → IfOk r (λ a. CallMayReply c call i a)
+  declined_replies (inl said) r is = subst (λ (x : Result Reply Fault). IfOk x (λ a. CallMayReply c call i a)) (sym (is ∙ call_said c call i why said)) said
+  declined_replies (inr (inl broken)) r is = look_up_ends (λ a. CallMayReply c call i a) why r is broken
   declined_replies (inr (inr worn)) r is =
       let at : r ≡ Err Ends.WornOut = is ∙ ap (λ (w : Refusal). ended_by w) worn.0 in
-      subst (λ (x : Result Answer Fault). IfOk x (λ a. CallMayReply c call i (reply_of a))) (sym at) tt
+      subst (λ (x : Result Reply Fault). IfOk x (λ a. CallMayReply c call i a)) (sym at) tt
 
-  declined_worn : Declines c call i (EndsRun s) why → (r : Result Answer Fault) → r ≡ ended_by why → r ≡ Err Ends.WornOut → IsTrue (is_worn s)
+  declined_worn : Declines c call i (EndsRun s) why → (r : Result Reply Fault) → r ≡ ended_by why → r ≡ Err Ends.WornOut → IsTrue (is_worn s)
   declined_worn (inl said) r is at = let same : Ok (Said.Refused why) ≡ Err Ends.WornOut = sym (call_said c call i why said) ∙ sym is ∙ at in absurd (cc same)
   declined_worn (inr (inl broken)) r is at = look_up_worn s why r is broken at
   declined_worn (inr (inr worn)) r is at = worn.1
@@ -129,10 +128,10 @@ module _ (c : ℕ) (call : Call) (i : Image) (s : State) (why : Refusal) where
 
   -- nothing is told of the image
   pub declined_told : Declines c call i IsDevice why → (l : Layout) → IsRefusedOn AreOfPage l i why
-  declined_told (inl said) l = subst (λ (x : Result Answer Fault). IfErr x (IsToldOn AreOfPage l i)) (sym (call_said c call i why said)) tt
+  declined_told (inl said) l = subst (λ (x : Result Reply Fault). IfErr x (IsToldOn AreOfPage l i)) (sym (call_said c call i why said)) tt
   declined_told (inr broken) l = device_told why broken l
 
-pub declined_answers : (c : ℕ) (call : Call) (s t : State) (old new : Moment) (why : Refusal) (r : Result Answer Fault) → r ≡ ended_by why → Declines c call new.image (EndsRun s) why → GoesUp 1 s t → IsRefusedOn AreOfPage s.layout new.image why
+pub declined_answers : (c : ℕ) (call : Call) (s t : State) (old new : Moment) (why : Refusal) (r : Result Reply Fault) → r ≡ ended_by why → Declines c call new.image (EndsRun s) why → GoesUp 1 s t → IsRefusedOn AreOfPage s.layout new.image why
     → AnswersIn (OfClient c call) s t old new r
 declined_answers c call s t old new why r is declines goes told = record {
   replies = declined_replies c call new.image s why declines r is;
@@ -395,7 +394,7 @@ ended_memory Why.WornOut is = absurd (cc is)
 ended_memory Why.Memory is = refl
 ended_memory why is = absurd (cc is)
 
-pub spared_by : (steps : List Step) → Never Why.Memory steps → (why : Refusal) → Comes steps why → (r : Result Answer Fault) → r ≡ ended_by why → r ≡ Err Ends.Memory → ⊥
+pub spared_by : (steps : List Step) → Never Why.Memory steps → (why : Refusal) → Comes steps why → (r : Result Reply Fault) → r ≡ ended_by why → r ≡ Err Ends.Memory → ⊥
 spared_by steps none why comes r is at = never Why.Memory steps none (subst (λ (w : Refusal). Comes steps w) (ended_memory why (sym is ∙ at)) comes)
 
 down_spares : (place : Option ℕ) → option_map Why.Down place ≡ Some Why.Memory → ⊥

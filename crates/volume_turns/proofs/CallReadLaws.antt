@@ -13,7 +13,9 @@ use Rattle.fsd_files.specs.Desk.{Open, Nothing, Writes, Reads, Session, is_clien
 use Rattle.fsd_files.specs.Disk.{Image}
 use Rattle.fsd_files.specs.Files.{Change}
 use Rattle.fsd_files.specs.Kept.{range_sectors}
-use Rattle.fsd_files.specs.Replies.{Reply, Given}
+use Rattle.fsd_files.specs.declared.reply.Reply.{Reply}
+use Rattle.fsd_files.specs.declared.reply.Reply.TheVariants.{Given}
+use Rattle.fsd_files.specs.declared.reply.Reply.TheVariants as Said
 use Rattle.fsd_texts.specs.declared.call.Call.TheVariants as Calls
 use Rattle.fsd_texts.specs.declared.fault.Fault.{Fault}
 use Rattle.fsd_texts.specs.declared.fault.Fault.TheVariants as Ends
@@ -26,11 +28,9 @@ use Rattle.client_desk.specs.declared.client.Client.TheVariants.{Idle, Writing, 
 use Rattle.client_desk.specs.Clients.{as_reading, client_at, declared_at, declared_of, fault_in, found, key_at, key_of, left_at, left_of, next_steps, place_of, tested}
 use Rattle.client_desk.specs.Ends.{Serves, open_at}
 use Rattle.client_desk.proofs.SitsLaws.{opened_is}
-use Rattle.volume_turns.specs.declared.answer.Answer.{Answer}
-use Rattle.volume_turns.specs.declared.answer.Answer.TheVariants as Said
-use Rattle.volume_turns.specs.Answering.{HasDamaged}
+use Rattle.volume_turns.specs.Commands.{HasDamaged}
 use Rattle.volume_turns.specs.Calls.{CallMayReply, RefusesIdle, next_ended_by, room_for, sectors_made}
-use Rattle.volume_turns.specs.Steps.{IsToldOn, device_by, reply_of}
+use Rattle.volume_turns.specs.Steps.{IsToldOn, device_by}
 use Rattle.volume_turns.proofs.CallOrderLaws.{reading_test, test_client}
 use Rattle.volume_turns.proofs.OrderLaws.{starts_up}
 
@@ -130,8 +130,8 @@ module _ (o : Opened) (desk : List Client) (clients : List Open) (c : ℕ) (serv
         such (Writing w) s = ap (λ (n : ℕ). sectors_for n) s.long
         such (Reading w) s = absurd s
 
-    pub changes_are : (key : Key) (sectors : ℕ) → Change.Put name None bytes ∷ [] ≡ changes_closed (opened_by clients c) (Reply.Made key sectors)
-    changes_are key sectors = ap (λ (r : Result Open Refusal). changes_closed r (Reply.Made key sectors)) (sym (opened_is clients c (c - 1) client refl ∙ ap (λ (y : Open). Ok y) was))
+    pub changes_are : (key : Key) (sectors : ℕ) → Change.Put name None bytes ∷ [] ≡ changes_closed (opened_by clients c) (Said.Made key sectors)
+    changes_are key sectors = ap (λ (r : Result Open Refusal). changes_closed r (Said.Made key sectors)) (sym (opened_is clients c (c - 1) client refl ∙ ap (λ (y : Open). Ok y) was))
 
 -- ---- how a read that was refused ends
 
@@ -149,27 +149,27 @@ reading_key desk c is = by (is_client c) is
     by false e = absurd (cc e)
 
 -- The client has no version that it reads.
-pub record IsUnread (c : ℕ) (desk : List Client) (why : Refusal) (result : Result Answer Fault) : Type 0 where
+pub record IsUnread (c : ℕ) (desk : List Client) (why : Refusal) (result : Result Reply Fault) : Type 0 where
   pub test : fault_in (found as_reading desk c) ≡ Some why
   pub idle : RefusesIdle c why
   pub is : result ≡ Ok (Said.Refused why)
 
 -- A sector of it is damaged, which is said with its key.
-pub record IsDamagedAt (c : ℕ) (desk : List Client) (why : Refusal) (result : Result Answer Fault) : Type 0 where
+pub record IsDamagedAt (c : ℕ) (desk : List Client) (why : Refusal) (result : Result Reply Fault) : Type 0 where
   pub key : Key
   pub sector : ℕ
   pub refused : why ≡ Why.Damaged sector
   pub reads : key_at desk (place_of c) ≡ Some key
   pub client : IsTrue (is_client c)
-  pub is : result ≡ Ok (Said.Damaged key sector)
+  pub is : result ≡ Ok (Said.DamagedAt key sector)
 
 -- The disk failed.
-pub record IsFailed (why : Refusal) (result : Result Answer Fault) : Type 0 where
+pub record IsFailed (why : Refusal) (result : Result Reply Fault) : Type 0 where
   pub place : ℕ
   pub refused : why ≡ Why.Device place
   pub is : result ≡ Err (Ends.Device place)
 
-abbrev pub NextRefuses : (c : ℕ) → List Client → Refusal → Result Answer Fault → Type 0
+abbrev pub NextRefuses : (c : ℕ) → List Client → Refusal → Result Reply Fault → Type 0
 NextRefuses c desk why result = IsUnread c desk why result ⊎ (IsDamagedAt c desk why result ⊎ IsFailed why result)
 
 unread_said : (c : ℕ) (key : Option Key) (why : Refusal) → RefusesIdle c why → next_ended_by key why ≡ Ok (Said.Refused why)
@@ -179,7 +179,7 @@ unread_said c (Some key) (Why.BadClient d) is = refl
 unread_said c (Some key) (Why.Idle d) is = refl
 unread_said c key why is = absurd is
 
-pub next_refuses : (s : State) → s.down ≡ None → (desk : List Client) (c : ℕ) (why : Refusal) (r : Result Answer Fault) → Comes (next_steps s desk c) why → r ≡ next_ended_by (key_at desk (place_of c)) why → NextRefuses c desk why r
+pub next_refuses : (s : State) → s.down ≡ None → (desk : List Client) (c : ℕ) (why : Refusal) (r : Result Reply Fault) → Comes (next_steps s desk c) why → r ≡ next_ended_by (key_at desk (place_of c)) why → NextRefuses c desk why r
 next_refuses s up desk c why r (inl here) is =
     let idle = reading_test desk c why here in
     inl (record { test = here; idle = idle; is = is ∙ unread_said c (key_at desk (place_of c)) why idle })
@@ -208,7 +208,7 @@ next_refuses s up desk c why r (inr later) is = inr (read (starts_up s up (Data 
     read (inr more) = absurd more.1
 
 -- with the key that the desk tells behind it
-pub next_refused : (s : State) → s.down ≡ None → (desk after : List Client) (c : ℕ) (why : Refusal) (key : Option Key) (r : Result Answer Fault) → Comes (next_steps s desk c) why → after ≡ desk → key ≡ key_at after (place_of c) → r ≡ next_ended_by key why → NextRefuses c desk why r
+pub next_refused : (s : State) → s.down ≡ None → (desk after : List Client) (c : ℕ) (why : Refusal) (key : Option Key) (r : Result Reply Fault) → Comes (next_steps s desk c) why → after ≡ desk → key ≡ key_at after (place_of c) → r ≡ next_ended_by key why → NextRefuses c desk why r
 next_refused s up desk after c why key r comes same told is =
     next_refuses s up desk c why r comes (is ∙ ap (λ (o : Option Key). next_ended_by o why) (told ∙ ap (λ (d : List Client). key_at d (place_of c)) same))
 
@@ -219,26 +219,26 @@ idle_device c (Why.BadClient d) is = refl
 idle_device c (Why.Idle d) is = refl
 idle_device c why is = absurd is
 
-module _ (c : ℕ) (desk : List Client) (why : Refusal) (r : Result Answer Fault) where
+module _ (c : ℕ) (desk : List Client) (why : Refusal) (r : Result Reply Fault) where
   pub next_device : NextRefuses c desk why r → device_by r ≡ device_of why
-  next_device (inl unread) = ap (λ (x : Result Answer Fault). device_by x) unread.is ∙ sym (idle_device c why unread.idle)
-  next_device (inr (inl damaged)) = ap (λ (x : Result Answer Fault). device_by x) damaged.is ∙ sym (ap (λ (w : Refusal). device_of w) damaged.refused)
-  next_device (inr (inr failed)) = ap (λ (x : Result Answer Fault). device_by x) failed.is ∙ sym (ap (λ (w : Refusal). device_of w) failed.refused)
+  next_device (inl unread) = ap (λ (x : Result Reply Fault). device_by x) unread.is ∙ sym (idle_device c why unread.idle)
+  next_device (inr (inl damaged)) = ap (λ (x : Result Reply Fault). device_by x) damaged.is ∙ sym (ap (λ (w : Refusal). device_of w) damaged.refused)
+  next_device (inr (inr failed)) = ap (λ (x : Result Reply Fault). device_by x) failed.is ∙ sym (ap (λ (w : Refusal). device_of w) failed.refused)
 
-  pub next_replies : (len : ℕ) (i : Image) → ((t : ℕ) → why ≡ Why.Damaged t → HasDamaged i t) → NextRefuses c desk why r → IfOk r (λ a. CallMayReply c (Calls.Next len) i (reply_of a))
-  next_replies len i gone (inl unread) = subst (λ (x : Result Answer Fault). IfOk x (λ a. CallMayReply c (Calls.Next len) i (reply_of a))) (sym unread.is) unread.idle
-  next_replies len i gone (inr (inl damaged)) = subst (λ (x : Result Answer Fault). IfOk x (λ a. CallMayReply c (Calls.Next len) i (reply_of a))) (sym damaged.is) (gone damaged.sector damaged.refused)
-  next_replies len i gone (inr (inr failed)) = subst (λ (x : Result Answer Fault). IfOk x (λ a. CallMayReply c (Calls.Next len) i (reply_of a))) (sym failed.is) tt
+  pub next_replies : (len : ℕ) (i : Image) → ((t : ℕ) → why ≡ Why.Damaged t → HasDamaged i t) → NextRefuses c desk why r → IfOk r (λ a. CallMayReply c (Calls.Next len) i a)
+  next_replies len i gone (inl unread) = subst (λ (x : Result Reply Fault). IfOk x (λ a. CallMayReply c (Calls.Next len) i a)) (sym unread.is) unread.idle
+  next_replies len i gone (inr (inl damaged)) = subst (λ (x : Result Reply Fault). IfOk x (λ a. CallMayReply c (Calls.Next len) i a)) (sym damaged.is) (gone damaged.sector damaged.refused)
+  next_replies len i gone (inr (inr failed)) = subst (λ (x : Result Reply Fault). IfOk x (λ a. CallMayReply c (Calls.Next len) i a)) (sym failed.is) tt
 
   pub next_unworn : NextRefuses c desk why r → r ≡ Err Ends.WornOut → ⊥
   next_unworn (inl unread) at = let same : Ok (Said.Refused why) ≡ Err Ends.WornOut = sym unread.is ∙ at in cc same
-  next_unworn (inr (inl damaged)) at = let same : Ok (Said.Damaged damaged.key damaged.sector) ≡ Err Ends.WornOut = sym damaged.is ∙ at in cc same
+  next_unworn (inr (inl damaged)) at = let same : Ok (Said.DamagedAt damaged.key damaged.sector) ≡ Err Ends.WornOut = sym damaged.is ∙ at in cc same
   next_unworn (inr (inr failed)) at = let same : Err (Ends.Device failed.place) ≡ Err Ends.WornOut = sym failed.is ∙ at in cc same
 
   pub next_told : (AreCopies : Layout → ℕ → ℕ → Type 0) (l : Layout) (i : Image) → NextRefuses c desk why r → IfErr r (IsToldOn AreCopies l i)
-  next_told AreCopies l i (inl unread) = subst (λ (x : Result Answer Fault). IfErr x (IsToldOn AreCopies l i)) (sym unread.is) tt
-  next_told AreCopies l i (inr (inl damaged)) = subst (λ (x : Result Answer Fault). IfErr x (IsToldOn AreCopies l i)) (sym damaged.is) tt
-  next_told AreCopies l i (inr (inr failed)) = subst (λ (x : Result Answer Fault). IfErr x (IsToldOn AreCopies l i)) (sym failed.is) tt
+  next_told AreCopies l i (inl unread) = subst (λ (x : Result Reply Fault). IfErr x (IsToldOn AreCopies l i)) (sym unread.is) tt
+  next_told AreCopies l i (inr (inl damaged)) = subst (λ (x : Result Reply Fault). IfErr x (IsToldOn AreCopies l i)) (sym damaged.is) tt
+  next_told AreCopies l i (inr (inr failed)) = subst (λ (x : Result Reply Fault). IfErr x (IsToldOn AreCopies l i)) (sym failed.is) tt
 
 -- a client is given no more than it asks for
 pub room_within : (left : Option ℕ) (len n : ℕ) → n ≡ room_for left len → n ≤ len

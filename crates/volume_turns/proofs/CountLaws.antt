@@ -13,7 +13,7 @@ use Rattle.sector_disk.proofs.CallLaws.{faults_then}
 use Rattle.sector_disk.proofs.Moments.{started}
 use Rattle.sector_disk.proofs.Wear.{worn_refl}
 use Rattle.fsd_files.specs.Desk.{Session, no_clients}
-use Rattle.fsd_files.specs.Replies.{Reply}
+use Rattle.fsd_files.specs.declared.reply.Reply.{Reply}
 use Rattle.fsd_sound.specs.Mounted.{Mounted}
 use Rattle.fsd_sound.proofs.MountedLaws.{mounted_sound}
 use Rattle.fsd_texts.specs.declared.command.Command.{Command}

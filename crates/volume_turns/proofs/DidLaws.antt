@@ -4,9 +4,10 @@ use Rattle.std.specs.Prelude.{IfErr, IfOk, IsTrue, OnOk, Result, Ok, Err}
 use Rattle.fsd_bytes.specs.declared.refusal.Refusal.{Refusal}
 use Rattle.fsd_bytes.specs.declared.refusal.Refusal.TheVariants as Why
 use Rattle.fsd_files.specs.Disk.{Image, Sectors, Touches}
-use Rattle.fsd_files.specs.Replies.{Reply}
+use Rattle.fsd_files.specs.declared.reply.Reply.{Reply}
+use Rattle.fsd_files.specs.declared.reply.Reply.TheVariants as Said
 use Rattle.fsd_log.specs.Scan.{Placed}
-use Rattle.fsd_runs.specs.Errands.{reply_status}
+use Rattle.fsd_runs.specs.Commands.{reply_status}
 use Rattle.fsd_sound.specs.Mounted.{Mounted}
 use Rattle.fsd_texts.specs.declared.command.Command.{Command}
 use Rattle.fsd_texts.specs.declared.command.Command.TheVariants as Word
@@ -22,13 +23,11 @@ use Rattle.volume_contract.specs.Causes.{HasCause}
 use Rattle.volume_contract.specs.Ends.{device_of}
 use Rattle.volume_contract.specs.Order.{Comes, IsLookUp, Step}
 use Rattle.volume_contract.specs.State.{GoesOn, Known, Leaves, Stands, State, downs_for, is_worn}
-use Rattle.volume_turns.specs.declared.answer.Answer.{Answer}
-use Rattle.volume_turns.specs.Answering.{KeepsState, MayReply, may_write}
+use Rattle.volume_turns.specs.Commands.{Because, HasWrittenBy, IsStatusFrom, KeepsState, MayLose, MayReply, may_write, most_written}
 use Rattle.volume_turns.specs.Did.{Did}
 use Rattle.volume_turns.specs.Numbers.{GoesUp}
-use Rattle.volume_turns.specs.Reasons.{Because, HasWrittenBy, IsUpTo, most_written}
-use Rattle.volume_turns.specs.Status.{IsStatusFrom}
-use Rattle.volume_turns.specs.Steps.{Does, IsOfCall, IsRefusedOn, IsToldOn, MayLose, Stays, ended_by, reply_of}
+use Rattle.volume_turns.specs.Reasons.{IsUpTo}
+use Rattle.volume_turns.specs.Steps.{Does, IsOfCall, IsRefusedOn, IsToldOn, Stays, ended_by}
 use Rattle.volume_turns.proofs.AnsweringLaws.{said_or_fault}
 use Rattle.volume_turns.proofs.ReasonLaws.{ended_up_to, nothing_told}
 use Rattle.volume_turns.proofs.StatusLaws.{look_up_ends}
@@ -57,7 +56,7 @@ refused_up s t up Why.WornOut goes = tt
 refused_up s t up Why.Memory goes = tt
 refused_up s t up why goes = stays_up s t up goes
 
-pub up_so : (P : Type 0) (r : Result Answer Fault) → P → OnOk r P
+pub up_so : (P : Type 0) (r : Result Reply Fault) → P → OnOk r P
 up_so P (Ok a) up = up
 up_so P (Err fault) up = tt
 
@@ -79,7 +78,7 @@ of_call Why.WornOut = tt
 of_call Why.Memory = tt
 of_call why = tt
 
-told_any : (command : Command) (l : Layout) (i : Image) (r : Result Answer Fault) → IfErr r (IsToldOn AreOfPage l i) → IfErr r (IsToldOn (MayLose command) l i)
+told_any : (command : Command) (l : Layout) (i : Image) (r : Result Reply Fault) → IfErr r (IsToldOn AreOfPage l i) → IfErr r (IsToldOn (MayLose command) l i)
 told_any command l i (Ok a) told = tt
 told_any command l i (Err why) told = told_may command l i why told
 
@@ -103,18 +102,18 @@ module _ {D S : Type 0} (M : Ghosts D) (state : S → State) (holds : S → Moun
   reads_stay old wears disk = reads_as_writes disk (λ h left worn. wear_stays state holds old (M.now before) left (wears (disk.trust.honest h) left worn) worn)
 
   module _ (resident : S → ℕ → Option (List ℕ)) (command : Command) (old new : S) where
-    abbrev Ended : Result Answer Fault → Type 0
+    abbrev Ended : Result Reply Fault → Type 0
     Ended r = Did M state holds resident command old new before now r
 
-    abbrev DoesSo : Result Answer Fault → Type 0
+    abbrev DoesSo : Result Reply Fault → Type 0
     DoesSo r = M.honest now → (k : Known) → Stands state holds old k (M.now before) → Does state holds command old new k (M.now before) (M.now now) r
 
     module _ (rest : M.honest now → Touches (may_write command (state old)) (M.now before) (M.now now)) (still : KeepsState command (state old) (state new)) (numbers : GoesUp 1 (state old) (state new)) where
       -- ---- it is answered
 
-      pub answered_did : (a : Answer) → (state old).down ≡ None → GoesOn None (state old) (state new) → WritesDisk M None (Stays state holds old) before now → IsStatusFrom command (reply_status (reply_of a))
-          → (M.honest now → MayReply command (M.now now).image (reply_of a)) → (let r : Result Answer Fault = Ok a in M.tells now → HasWrittenBy command (state old) (M.ledger before) (M.ledger now) r)
-          → (M.honest now → Because state resident command (state old) (state new) (M.now before) (M.now now) (reply_of a)) → (let r : Result Answer Fault = Ok a in DoesSo r) → Ended (Ok a)
+      pub answered_did : (a : Reply) → (state old).down ≡ None → GoesOn None (state old) (state new) → WritesDisk M None (Stays state holds old) before now → IsStatusFrom command (reply_status a)
+          → (M.honest now → MayReply command (M.now now).image a) → (let r : Result Reply Fault = Ok a in M.tells now → HasWrittenBy command (state old) (M.ledger before) (M.ledger now) r)
+          → (M.honest now → Because state resident command (state old) (state new) (M.now before) (M.now now) a) → (let r : Result Reply Fault = Ok a in DoesSo r) → Ended (Ok a)
       answered_did a up goes disk status replies written because done = record {
         layout = goes.layout;
         opened = opens None (state old) (state new) goes;
@@ -132,15 +131,15 @@ module _ {D S : Type 0} (M : Ghosts D) (state : S → State) (holds : S → Moun
 
       pub refused_did : (steps : List Step) (why : Refusal) → (state old).down ≡ None → Comes steps why → ((t : ℕ) → why ≡ Why.Down t → ⊥) → (Comes steps Why.WornOut → IsTrue (is_worn (state old)))
           → GoesOn (downs_for why) (state old) (state new) → WritesDisk M (device_of why) (Stays state holds old) before now → (M.honest now → HasCause (state old) (state new) (resident old) (M.now before) (M.now now) why)
-          → IsStatusFrom command 1 → (M.honest now → IfOk (ended_by why) (λ a. MayReply command (M.now now).image (reply_of a))) → (M.tells now → IsUpTo (most_written command (state old)) (M.ledger before) (M.ledger now))
-          → (M.honest now → Because state resident command (state old) (state new) (M.now before) (M.now now) (Reply.Refused why)) → DoesSo (ended_by why) → Ended (ended_by why)
+          → IsStatusFrom command 1 → (M.honest now → IfOk (ended_by why) (λ a. MayReply command (M.now now).image a)) → (M.tells now → IsUpTo (most_written command (state old)) (M.ledger before) (M.ledger now))
+          → (M.honest now → Because state resident command (state old) (state new) (M.now before) (M.now now) (Said.Refused why)) → DoesSo (ended_by why) → Ended (ended_by why)
       refused_did steps why up comes down worn goes disk causes status replies counted because done = record {
         layout = goes.layout;
         opened = opens (downs_for why) (state old) (state new) goes;
         up = refused_up (state old) (state new) up why goes;
         disk = writes_told (sym (same_device why down)) disk;
         fault = of_call why;
-        status = said_or_fault (λ a. IsStatusFrom command (reply_status (reply_of a))) why status;
+        status = said_or_fault (λ a. IsStatusFrom command (reply_status a)) why status;
         answers = λ h. record {
           replies = replies h;
           rest = rest h;
@@ -150,7 +149,7 @@ module _ {D S : Type 0} (M : Ghosts D) (state : S → State) (holds : S → Moun
           told = told_any command (state old).layout (M.now now).image (ended_by why) (told_of (state old) (state new) (resident old) (M.now before) (M.now now) goes.layout why (causes h));
         };
         written = λ t. written_by command (state old) (M.ledger before) (M.ledger now) why (counted t);
-        because = λ h. said_or_fault (λ a. Because state resident command (state old) (state new) (M.now before) (M.now now) (reply_of a)) why (because h);
+        because = λ h. said_or_fault (λ a. Because state resident command (state old) (state new) (M.now before) (M.now now) a) why (because h);
         done = done;
       }
 
@@ -164,9 +163,9 @@ module _ {D S : Type 0} (M : Ghosts D) (state : S → State) (holds : S → Moun
         up = ends_up why refuses ((state new).down ≡ None);
         disk = writes_told (sym (same_device why (λ t is. subst IsLookUp is refuses))) disk;
         fault = of_call why;
-        status = look_up_ends (λ a. IsStatusFrom command (reply_status (reply_of a))) why (ended_by why) refl refuses;
+        status = look_up_ends (λ a. IsStatusFrom command (reply_status a)) why (ended_by why) refl refuses;
         answers = λ h. record {
-          replies = look_up_ends (λ a. MayReply command (M.now now).image (reply_of a)) why (ended_by why) refl refuses;
+          replies = look_up_ends (λ a. MayReply command (M.now now).image a) why (ended_by why) refl refuses;
           rest = rest h;
           still = still;
           worn = look_up_worn (state old) why (ended_by why) refl refuses;
@@ -174,6 +173,6 @@ module _ {D S : Type 0} (M : Ghosts D) (state : S → State) (holds : S → Moun
           told = told h;
         };
         written = written;
-        because = λ h. look_up_ends (λ a. Because state resident command (state old) (state new) (M.now before) (M.now now) (reply_of a)) why (ended_by why) refl refuses;
+        because = λ h. look_up_ends (λ a. Because state resident command (state old) (state new) (M.now before) (M.now now) a) why (ended_by why) refl refuses;
         done = done;
       }

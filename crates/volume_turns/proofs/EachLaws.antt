@@ -5,7 +5,8 @@ use Rattle.std.proofs.lemmas.List.{append-nil}
 use Rattle.sector_disk.specs.declared.machine.Machine.{Ghosts}
 use Rattle.sector_disk.specs.Machine.{Moment}
 use Rattle.fsd_files.specs.Disk.{Touches, nowhere}
-use Rattle.fsd_files.specs.Replies.{Reply}
+use Rattle.fsd_files.specs.declared.reply.Reply.{Reply}
+use Rattle.fsd_files.specs.declared.reply.Reply.TheVariants as Said
 use Rattle.fsd_texts.specs.declared.bad_line.BadLine.{BadLine}
 use Rattle.fsd_texts.specs.declared.call.Call.TheVariants as Calls
 use Rattle.fsd_texts.specs.declared.script_command.ScriptCommand.{ScriptCommand}
@@ -29,7 +30,7 @@ use Rattle.volume_turns.proofs.SaidLaws.{flat_then}
 -- what may be replied may be so still
 may_worn_to : (command : ScriptCommand) (a b : Moment) (reply : Reply) → Touches nowhere a b → MayReplyTo command a.image reply → MayReplyTo command b.image reply
 may_worn_to (Plain command) a b reply quiet may = may_worn command a b reply quiet may
-may_worn_to (OfClient c (Calls.Next len)) a b (Reply.DamagedAt key n) quiet may = stays_damaged a b n quiet may
+may_worn_to (OfClient c (Calls.Next len)) a b (Said.DamagedAt key n) quiet may = stays_damaged a b n quiet may
 may_worn_to (OfClient c call) a b reply quiet may = may
 
 -- a reply of this command that was said

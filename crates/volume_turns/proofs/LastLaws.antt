@@ -6,14 +6,14 @@ use Rattle.sector_disk.specs.Machine.{Moment, Report}
 use Rattle.fsd_sound.specs.Mounting.{device_of_mount}
 use Rattle.fsd_sound.specs.declared.fault.MountFault.{MountFault}
 use Rattle.fsd_texts.specs.declared.command.Command.{Command}
-use Rattle.fsd_texts.specs.declared.command.Command.TheVariants.{Delete, Get, Keep, Put, Scrub, Upgrade}
 use Rattle.fsd_texts.specs.declared.fault.Fault.{Fault}
 use Rattle.fsd_texts.specs.declared.fault.Fault.TheVariants as Ends
 use Rattle.fsd_texts.specs.declared.line.Line.{Line}
+use Rattle.fsd_runs.proofs.StatusLaws.{of_reply}
 use Rattle.volume_turns.specs.Causes.{SaysFault, is_of_fault}
 use Rattle.volume_turns.specs.Line.{EndsLast, EndsWith}
 use Rattle.volume_turns.specs.Once.{fault_of}
-use Rattle.volume_turns.specs.Status.{IsStatusFrom}
+use Rattle.volume_turns.specs.Commands.{IsStatusFrom}
 use Rattle.volume_turns.specs.Steps.{device_told}
 use Rattle.volume_turns.proofs.StatusLaws.{same_device}
 
@@ -28,15 +28,7 @@ low_not (suc zero) low of = cc of
 low_not (suc (suc n)) low of = omega (arith, low)
 
 pub reply_not : (command : Command) (status : ℕ) → IsStatusFrom command status → IsTrue (is_of_fault status) → ⊥
-reply_not (Put name bytes keep) status low of = low_not status low of
-reply_not (Delete key) status low of = low_not status low of
-reply_not (Keep name keep) status low of = low_not status low of
-reply_not (Get key) status (inl low) of = low_not status low of
-reply_not (Get key) status (inr eight) of = fault_not 8 status refl of eight
-reply_not Scrub status (inl none) of = fault_not 0 status refl of none
-reply_not Scrub status (inr eight) of = fault_not 8 status refl of eight
-reply_not Upgrade status low of = low_not status low of
-reply_not command status none of = fault_not 0 status refl of none
+reply_not command status from of = elim (of_reply command status from) [ inl low ↦ low_not status low of | inr eight ↦ fault_not 8 status refl of eight ]
 
 -- ---- the place of a fault of the disk
 

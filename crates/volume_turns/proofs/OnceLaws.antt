@@ -17,7 +17,7 @@ use Rattle.sector_disk.proofs.Moments.{started, then_on, leaves_more}
 use Rattle.sector_disk.proofs.Wear.{AllWorn-worn, worn_refl}
 use Rattle.fsd_files.specs.Desk.{Session, no_clients}
 use Rattle.fsd_files.specs.Files.{Change}
-use Rattle.fsd_files.specs.Replies.{Reply}
+use Rattle.fsd_files.specs.declared.reply.Reply.{Reply}
 use Rattle.fsd_sound.specs.Laid.{HasOwnRoots}
 use Rattle.fsd_sound.specs.Mounted.{Mounted, telling_of}
 use Rattle.fsd_sound.specs.Shown.{told}
@@ -31,10 +31,10 @@ use Rattle.fsd_texts.specs.declared.fault.Fault.{Fault}
 use Rattle.fsd_texts.specs.declared.fault.Fault.TheVariants as Ends
 use Rattle.fsd_texts.specs.declared.script_command.ScriptCommand.{ScriptCommand}
 use Rattle.fsd_texts.specs.declared.script_command.ScriptCommand.TheVariants.{Plain}
-use Rattle.fsd_runs.specs.Commands.{reply_alone}
+use Rattle.fsd_runs.specs.Commands.{reply_alone, reply_status}
 use Rattle.fsd_runs.specs.Sessions.{answer_in, changes_in_session}
 use Rattle.fsd_runs.proofs.SessionLaws.{command_grows}
-use Rattle.fsd_runs.specs.Errands.{Turn, alone, blank, reply_status}
+use Rattle.fsd_runs.specs.Errands.{Turn, alone, blank}
 use Rattle.fsd_table.specs.Table.{Telling}
 use Rattle.fsd_files.specs.Disk.{Image, Sectors, in_runs}
 use Rattle.fsd_runs.specs.Runs.{Goes, forced_in, changes_in}

@@ -14,7 +14,8 @@ use Rattle.fsd_files.specs.Answers.{got, Finds, entry_of, entry_reply, found_or}
 use Rattle.fsd_files.specs.Disk.{Image}
 use Rattle.fsd_files.specs.Files.{File}
 use Rattle.fsd_files.specs.Kept.{FirstDamaged, IsWhole, range_sectors}
-use Rattle.fsd_files.specs.Replies.{Reply}
+use Rattle.fsd_files.specs.declared.reply.Reply.{Reply}
+use Rattle.fsd_files.specs.declared.reply.Reply.TheVariants as Said
 use Rattle.fsd_texts.specs.declared.command.Command.TheVariants as Word
 use Rattle.fsd_texts.specs.declared.fault.Fault.{Fault}
 use Rattle.fsd_texts.specs.declared.fault.Fault.TheVariants as Ends
@@ -22,11 +23,10 @@ use Rattle.sector_disk.specs.Image.{IsWorn}
 use Rattle.sector_disk.specs.Machine.{Moment}
 use Rattle.sector_disk.proofs.Wear.{worn_whole}
 use Rattle.fsd_sound.specs.Mounted.{Mounted}
-use Rattle.volume_turns.specs.declared.answer.Answer.{Answer}
 use Rattle.volume_contract.specs.Ends.{Reads, Looks, found_one}
 use Rattle.volume_contract.specs.State.{State, Known, volume_of, Stands}
 use Rattle.fsd_files.proofs.FoundLaws.{no_file}
-use Rattle.volume_turns.specs.Steps.{Does, IsAnswered, reply_of, ended_by, read_ended_by}
+use Rattle.volume_turns.specs.Steps.{Does, IsAnswered, ended_by, read_ended_by}
 
 -- ---- what is found, said of an earlier image
 
@@ -59,7 +59,7 @@ record IsGot (key : Key) (file : Option File) (e : Option Entry) (i j : Image) (
   is : got key damaged file ≡ reply
   finds : IfSome e (λ x. Finds i j (range_sectors x.runs 0 x.length) damaged)
 
-read_got : (key : Key) (file : Option File) (e : Option Entry) (i j : Image) (old new : List ℕ) (n : ℕ) → IfSome e (λ x. x.length ≡ length old) → Reads i j file e 0 old new (Ok n) → IsGot key file e i j (Reply.Bytes key new)
+read_got : (key : Key) (file : Option File) (e : Option Entry) (i j : Image) (old new : List ℕ) (n : ℕ) → IfSome e (λ x. x.length ≡ length old) → Reads i j file e 0 old new (Ok n) → IsGot key file e i j (Said.Bytes key new)
 read_got key None None i j old new n len reads = absurd reads
 read_got key None (Some e) i j old new n len reads = absurd reads
 read_got key (Some file) None i j old new n len reads = absurd reads
@@ -67,7 +67,7 @@ read_got key (Some file) (Some e) i j old new n len reads =
     let all : n ≡ e.length = omega (arith, reads.count, len) in
     record {
       damaged = None;
-      is = ap (λ (b : List ℕ). Reply.Bytes key b) (sym (whole (all ∙ len) (all ∙ reads.len)));
+      is = ap (λ (b : List ℕ). Said.Bytes key b) (sym (whole (all ∙ len) (all ∙ reads.len)));
       finds = subst (λ (x : ℕ). AllByRecursion (IsWhole i) (range_sectors e.runs 0 x)) all reads.whole;
     }
   where
@@ -78,8 +78,8 @@ read_got key (Some file) (Some e) i j old new n len reads =
         reads.bytes ∙ ap (λ (x : List ℕ). x ++ drop n old) front ∙ ap (λ (x : List ℕ). file.bytes ++ x) back ∙ append-nil file.bytes
 
 -- by the answer that is made of the refusal
-GotBy : (key : Key) (file : Option File) (e : Option Entry) (i j : Image) → Result Answer Fault → Type 0
-GotBy key file e i j (Ok a) = IsGot key file e i j (reply_of a)
+GotBy : (key : Key) (file : Option File) (e : Option Entry) (i j : Image) → Result Reply Fault → Type 0
+GotBy key file e i j (Ok a) = IsGot key file e i j a
 GotBy key file e i j (Err (Ends.Device s)) = Unit {0}
 GotBy key file e i j (Err Ends.Memory) = Unit {0}
 GotBy key file e i j (Err fault) = ⊥
@@ -112,13 +112,13 @@ module _ {S : Type 0} (state : S → State) (has : S → Mounted → List Placed
     unworn = λ may. cc may;
   }
 
-  pub read_does : (before_buf buf : List ℕ) (n : ℕ) → IfSome entry_at (λ x. x.length ≡ length before_buf) → Reads before.image now.image file_at entry_at 0 before_buf buf (Ok n) → IsAnswered (Word.Get key) (state old) k k before.image now.image (Reply.Bytes key buf)
-  read_does before_buf buf n len reads = got_answered (Reply.Bytes key buf) (read_got key file_at entry_at before.image now.image before_buf buf n len reads)
+  pub read_does : (before_buf buf : List ℕ) (n : ℕ) → IfSome entry_at (λ x. x.length ≡ length before_buf) → Reads before.image now.image file_at entry_at 0 before_buf buf (Ok n) → IsAnswered (Word.Get key) (state old) k k before.image now.image (Said.Bytes key buf)
+  read_does before_buf buf n len reads = got_answered (Said.Bytes key buf) (read_got key file_at entry_at before.image now.image before_buf buf n len reads)
 
   -- a result of a read
-  does_by : (r : Result Answer Fault) → Stands state has new k now → GotBy key file_at entry_at before.image now.image r → Does state has (Word.Get key) old new k before now r
+  does_by : (r : Result Reply Fault) → Stands state has new k now → GotBy key file_at entry_at before.image now.image r → Does state has (Word.Get key) old new k before now r
   unfolding GotBy
-  does_by (Ok a) stands is = (k, got_answered (reply_of a) is, stands)
+  does_by (Ok a) stands is = (k, got_answered a is, stands)
   does_by (Err (Ends.Device s)) stands is = tt
   does_by (Err Ends.Memory) stands is = tt
   does_by (Err fault) stands is = absurd is
@@ -141,8 +141,8 @@ module _ {S : Type 0} (state : S → State) (has : S → Mounted → List Placed
     unworn = λ may_it. cc may_it;
   }
 
-  pub does_earlier : (r : Result Answer Fault) → Does state has (Word.Get key) mid new k at now r → Does state has (Word.Get key) old new k before now r
-  does_earlier (Ok a) does = (does.0, answered_earlier does.0 (reply_of a) does.1, does.2)
+  pub does_earlier : (r : Result Reply Fault) → Does state has (Word.Get key) mid new k at now r → Does state has (Word.Get key) old new k before now r
+  does_earlier (Ok a) does = (does.0, answered_earlier does.0 a does.1, does.2)
   does_earlier (Err (Ends.Device s)) does = tt
   does_earlier (Err Ends.Memory) does = tt
   does_earlier (Err Ends.WornOut) does = absurd (cc does.0.may)
@@ -154,7 +154,7 @@ pub found_length : (o : Option Entry) (e : Entry) → Looks (found_or o) (found_
 found_length None e looks = tt
 found_length (Some x) e looks = cc looks
 
-none_such : (o : Option Entry) → found_or o ≡ Reply.Refused Why.NoSuch → o ≡ None
+none_such : (o : Option Entry) → found_or o ≡ Said.Refused Why.NoSuch → o ≡ None
 none_such None is = refl
 none_such (Some e) is = cc is
 

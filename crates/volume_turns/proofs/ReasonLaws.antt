@@ -10,15 +10,14 @@ use Rattle.fsd_bytes.specs.declared.refusal.Refusal.{Refusal}
 use Rattle.fsd_bytes.specs.declared.refusal.Refusal.TheVariants as Why
 use Rattle.fsd_formats.specs.declared.entry.Entry.{Entry}
 use Rattle.fsd_table.specs.Table.{Visit}
-use Rattle.fsd_files.specs.Replies.{Reply}
+use Rattle.fsd_files.specs.declared.reply.Reply.{Reply}
+use Rattle.fsd_files.specs.declared.reply.Reply.TheVariants as Said
 use Rattle.fsd_texts.specs.declared.fault.Fault.{Fault}
 use Rattle.volume_contract.specs.State.{Ages, State}
-use Rattle.volume_turns.specs.declared.answer.Answer.{Answer}
-use Rattle.volume_turns.specs.declared.answer.Answer.TheVariants as Said
 use Rattle.scrub.specs.Walk.{last_key}
 use Rattle.volume_turns.specs.Listing.{fitting}
 use Rattle.volume_turns.specs.Reasons.{BecauseRead, HasScrubbed, HasWritten, IsUpTo, Showed}
-use Rattle.volume_turns.specs.Steps.{ended_by, read_ended_by, reply_of}
+use Rattle.volume_turns.specs.Steps.{ended_by, read_ended_by}
 use Rattle.volume_turns.proofs.AnsweringLaws.{said_or_fault}
 use Rattle.scrub.proofs.WalkLaws.{last_more}
 use Rattle.volume_turns.proofs.ListLaws.{fitting_more}
@@ -35,22 +34,22 @@ module _ (n : ℕ) (old new : Ledger) where
   ended_up_to Why.Memory x = x
   ended_up_to why x = x
 
-  pub refused_written : (why : Refusal) (r : Result Answer Fault) → r ≡ ended_by why → IsUpTo n old new → HasWritten n old new r
-  refused_written why r is x = subst (λ (y : Result Answer Fault). HasWritten n old new y) (sym is) (ended_up_to why x)
+  pub refused_written : (why : Refusal) (r : Result Reply Fault) → r ≡ ended_by why → IsUpTo n old new → HasWritten n old new r
+  refused_written why r is x = subst (λ (y : Result Reply Fault). HasWritten n old new y) (sym is) (ended_up_to why x)
 
 -- a command that only reads
 module _ (old new : Ledger) (same : new ≡ old) where
   pub none_written : new.written ≡ old.written + 0
   none_written = let is = ap (λ (x : Ledger). x.written) same in omega (arith, is)
 
-  pub reads_written : (r : Result Answer Fault) → HasWritten 0 old new r
+  pub reads_written : (r : Result Reply Fault) → HasWritten 0 old new r
   reads_written (Ok (Said.Refused why)) = let is = none_written in (omega (arith, is), omega (arith, is))
   reads_written (Ok answer) = none_written
   reads_written (Err fault) = let is = none_written in (omega (arith, is), omega (arith, is))
 
 -- of a scrub that a fault has ended nothing is told
-pub nothing_told : (s : State) (old new : Ledger) (why : Refusal) (r : Result Answer Fault) → r ≡ ended_by why → HasScrubbed s old new r
-nothing_told s old new why r is = subst (λ (x : Result Answer Fault). HasScrubbed s old new x) (sym is) (by why)
+pub nothing_told : (s : State) (old new : Ledger) (why : Refusal) (r : Result Reply Fault) → r ≡ ended_by why → HasScrubbed s old new r
+nothing_told s old new why r is = subst (λ (x : Result Reply Fault). HasScrubbed s old new x) (sym is) (by why)
   where
     by : (w : Refusal) → HasScrubbed s old new (ended_by w)
     by (Why.Device n) = tt
@@ -64,8 +63,8 @@ nothing_told s old new why r is = subst (λ (x : Result Answer Fault). HasScrubb
 -- ---- why
 
 -- of no refusal of these
-pub no_reason : (P : Answer → Type 0) (why : Refusal) (r : Result Answer Fault) → r ≡ ended_by why → P (Said.Refused why) → IfOk r P
-no_reason P why r is said = subst (λ (x : Result Answer Fault). IfOk x P) (sym is) (said_or_fault P why said)
+pub no_reason : (P : Reply → Type 0) (why : Refusal) (r : Result Reply Fault) → r ≡ ended_by why → P (Said.Refused why) → IfOk r P
+no_reason P why r is said = subst (λ (x : Result Reply Fault). IfOk x P) (sym is) (said_or_fault P why said)
 
 pub ages_here : (a : Moment) → Ages a a
 ages_here a = record { image = worn_refl (open_damage a.windows) a.image; windows = refl }
@@ -81,16 +80,16 @@ module _ {S : Type 0} (state : S → State) (resident : S → ℕ → Option (Li
   showed_since s r t old mid new Is same aged x = record { by = x.by; same = x.same ∙ same; from = x.from; aged = ages_then old mid x.from aged x.aged; shows = x.shows }
 
   pub because_since : (key : Key) (s r t : State) (old mid new : Moment) → r ≡ s → Ages old mid → (reply : Reply) → BecauseRead state resident key r t mid new reply → BecauseRead state resident key s t old new reply
-  because_since key s r t old mid new same aged (Reply.Refused why) x = λ is. showed_since s r t old mid new _ same aged (x is)
-  because_since key s r t old mid new same aged (Reply.Bytes k bytes) x = (x.0, x.1, showed_since s r t old mid new _ same aged x.2)
+  because_since key s r t old mid new same aged (Said.Refused why) x = λ is. showed_since s r t old mid new _ same aged (x is)
+  because_since key s r t old mid new same aged (Said.Bytes k bytes) x = (x.0, x.1, showed_since s r t old mid new _ same aged x.2)
   because_since key s r t old mid new same aged reply x = tt
 
   -- of a read that was refused
-  pub read_because : (key : Key) (s t : State) (old new : Moment) (why : Refusal) (r : Result Answer Fault) → r ≡ read_ended_by key why → (why ≡ Why.NoSuch → BecauseRead state resident key s t old new (Reply.Refused why))
-      → IfOk r (λ a. BecauseRead state resident key s t old new (reply_of a))
-  read_because key s t old new why r is none = subst (λ (x : Result Answer Fault). IfOk x (λ a. BecauseRead state resident key s t old new (reply_of a))) (sym is) (by why none)
+  pub read_because : (key : Key) (s t : State) (old new : Moment) (why : Refusal) (r : Result Reply Fault) → r ≡ read_ended_by key why → (why ≡ Why.NoSuch → BecauseRead state resident key s t old new (Said.Refused why))
+      → IfOk r (λ a. BecauseRead state resident key s t old new a)
+  read_because key s t old new why r is none = subst (λ (x : Result Reply Fault). IfOk x (λ a. BecauseRead state resident key s t old new a)) (sym is) (by why none)
     where
-      by : (w : Refusal) → (w ≡ Why.NoSuch → BecauseRead state resident key s t old new (Reply.Refused w)) → IfOk (read_ended_by key w) (λ a. BecauseRead state resident key s t old new (reply_of a))
+      by : (w : Refusal) → (w ≡ Why.NoSuch → BecauseRead state resident key s t old new (Said.Refused w)) → IfOk (read_ended_by key w) (λ a. BecauseRead state resident key s t old new a)
       by (Why.Damaged n) so = tt
       by (Why.Device n) so = tt
       by (Why.Down n) so = tt
@@ -100,8 +99,8 @@ module _ {S : Type 0} (state : S → State) (resident : S → ℕ → Option (Li
       by Why.Memory so = tt
       by w so = λ x. so x x
 
-  pub read_since : (key : Key) (s r t : State) (old mid new : Moment) → r ≡ s → Ages old mid → (x : Result Answer Fault) → IfOk x (λ a. BecauseRead state resident key r t mid new (reply_of a)) → IfOk x (λ a. BecauseRead state resident key s t old new (reply_of a))
-  read_since key s r t old mid new same aged (Ok a) why = because_since key s r t old mid new same aged (reply_of a) why
+  pub read_since : (key : Key) (s r t : State) (old mid new : Moment) → r ≡ s → Ages old mid → (x : Result Reply Fault) → IfOk x (λ a. BecauseRead state resident key r t mid new a) → IfOk x (λ a. BecauseRead state resident key s t old new a)
+  read_since key s r t old mid new same aged (Ok a) why = because_since key s r t old mid new same aged a why
   read_since key s r t old mid new same aged (Err fault) why = tt
 
 -- ---- a list on its way

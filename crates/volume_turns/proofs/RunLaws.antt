@@ -17,7 +17,7 @@ use Rattle.fsd_files.specs.Desk.{Open, Nothing, Writes, Reads, Session, next_cou
 use Rattle.fsd_files.specs.Disk.{Image, Sectors, in_runs}
 use Rattle.fsd_files.specs.Files.{Change}
 use Rattle.fsd_files.specs.Kept.{range_sectors}
-use Rattle.fsd_files.specs.Replies.{Reply}
+use Rattle.fsd_files.specs.declared.reply.Reply.{Reply}
 use Rattle.fsd_files.specs.Scrub.{Picks, all_data}
 use Rattle.fsd_files.specs.Volume.{Volume, HasReach}
 use Rattle.fsd_files.proofs.ScrubLaws.{picks_longer}

@@ -3,7 +3,7 @@ use Rattle.std.proofs.Common.{◌≡◌, ◌⊎◌, inl, inr, ℕ, Bool, true, f
 use Rattle.std.specs.Prelude.{◌==◌, if◌then◌else◌, IsSome, slice_get}
 use Rattle.sector_disk.specs.declared.machine.Machine.{Ghosts}
 use Rattle.sector_disk.specs.Machine.{Report, Rose}
-use Rattle.fsd_files.specs.Replies.{Reply}
+use Rattle.fsd_files.specs.declared.reply.Reply.{Reply}
 use Rattle.fsd_files.specs.Desk.{Session}
 use Rattle.fsd_texts.specs.declared.script_command.ScriptCommand.{ScriptCommand}
 use Rattle.fsd_texts.specs.declared.fault.Fault.TheVariants as Ends

@@ -9,18 +9,17 @@ use Rattle.fsd_bytes.specs.declared.refusal.Refusal.TheVariants as Why
 use Rattle.sector_disk.specs.Machine.{Moment}
 use Rattle.fsd_log.specs.Scan.{Placed}
 use Rattle.fsd_files.specs.Disk.{Image}
-use Rattle.fsd_files.specs.Replies.{Reply}
+use Rattle.fsd_files.specs.declared.reply.Reply.TheVariants as Said
 use Rattle.fsd_sound.specs.Mounted.{Mounted}
 use Rattle.fsd_texts.specs.declared.command.Command.TheVariants as Word
-use Rattle.fsd_runs.specs.Errands.{reply_status}
+use Rattle.fsd_runs.specs.Commands.{reply_status}
 use Rattle.volume_contract.specs.Order.{Comes, Force, Heal, IsLookUp, Keeps, LookUp, Single}
 use Rattle.volume_contract.specs.State.{Known, State}
 use Rattle.scrub.specs.declared.whole.Healed.{Healed}
 use Rattle.scrub.specs.Looking.{AreDamaged}
 use Rattle.scrub.specs.Scrub.{EndsScrub, LeavesScrubbed, scrub_steps}
-use Rattle.volume_turns.specs.Answering.{HasDamaged}
+use Rattle.volume_turns.specs.Commands.{HasDamaged, IsStatusFrom}
 use Rattle.volume_turns.specs.Numbers.{GoesUp}
-use Rattle.volume_turns.specs.Status.{IsStatusFrom}
 use Rattle.volume_turns.specs.Steps.{Does, Stays, ended_by}
 use Rattle.volume_turns.proofs.AnsweringLaws.{data_inside}
 use Rattle.volume_turns.proofs.NumberLaws.{goes_by, keeps_goes, one_force}
@@ -65,9 +64,9 @@ scrub_goes why s t keeps = goes_by (scrub_steps s) s t (omega arith) (one_force 
 
 -- ---- what it answers
 
-pub scrub_status : (found : List (Key × ℕ)) (healed : ℕ) → IsStatusFrom Word.Scrub (reply_status (Reply.Scrubbed found healed))
-scrub_status [] healed = inl refl
-scrub_status (x ∷ found) healed = inr refl
+pub scrub_status : (found : List (Key × ℕ)) (healed : ℕ) → IsStatusFrom Word.Scrub (reply_status (Said.Scrubbed found healed))
+scrub_status [] healed = refl
+scrub_status (x ∷ found) healed = refl
 
 pub all_damaged : (l : Layout) (i : Image) → l.sectors ≤ length i → (found : List (Key × ℕ)) → AreDamaged l i found → AllByRecursion (λ x. HasDamaged i x.1) found
 all_damaged l i room [] damaged = tt

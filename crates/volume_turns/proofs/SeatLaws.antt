@@ -10,7 +10,7 @@ use Rattle.sector_disk.proofs.Moments.{leaves_more}
 use Rattle.fsd_log.specs.Scan.{Placed}
 use Rattle.fsd_files.specs.Answers.{Outcome}
 use Rattle.fsd_files.specs.Desk.{no_clients}
-use Rattle.fsd_files.specs.Replies.{Reply}
+use Rattle.fsd_files.specs.declared.reply.Reply.{Reply}
 use Rattle.fsd_files.specs.Volume.{is_in}
 use Rattle.fsd_sound.specs.Mounted.{Mounted}
 use Rattle.fsd_texts.specs.declared.command.Command.{Command}
@@ -26,12 +26,11 @@ use Rattle.client_desk.proofs.HeldLaws.{holds_read}
 use Rattle.scrub.specs.Scrub.{KeepsOpen}
 use Rattle.volume_contract.specs.Pieces.{slices_in, with_opened}
 use Rattle.volume_contract.specs.State.{Ages, Known, Opened, Stands, State, held_runs, none_open}
-use Rattle.volume_turns.specs.declared.answer.Answer.{Answer}
 use Rattle.volume_turns.specs.declared.turns.End.{End}
 use Rattle.volume_turns.specs.declared.turns.End.TheVariants.{Fault as Stopped, Output}
 use Rattle.volume_turns.specs.Once.{ClosesAndSays, EndsClosed, InClose}
 use Rattle.volume_turns.specs.Seats.{DoesIn, IsAnsweredIn, Seated, SitsAt, StaysIn, known_of, seated, session_in}
-use Rattle.volume_turns.specs.Steps.{Does, IsAnswered, Stays, reply_of}
+use Rattle.volume_turns.specs.Steps.{Does, IsAnswered, Stays}
 use Rattle.volume_turns.specs.Turns.{OnDisk}
 
 -- a desk is the volume's still, where what is open stays
@@ -72,8 +71,8 @@ module _ {S : Type 0} (state : S → State) (has : S → Mounted → List Placed
       unworn = is.unworn;
     }
 
-    pub plain_does : (r : Result Answer Fault) → Does state has command v w (known_of k) before now r → DoesIn state has (Plain command) (v, desk) (w, desk) k before now r
-    plain_does (Ok a) does = (seated does.0 k.clients, plain_answered does.0 (reply_of a) does.1 does.2, seat_on v w desk k does.0 before now sits does.1.opened does.2)
+    pub plain_does : (r : Result Reply Fault) → Does state has command v w (known_of k) before now r → DoesIn state has (Plain command) (v, desk) (w, desk) k before now r
+    plain_does (Ok a) does = (seated does.0 k.clients, plain_answered does.0 a does.1 does.2, seat_on v w desk k does.0 before now sits does.1.opened does.2)
     plain_does (Err (Ends.Device s)) does = tt
     plain_does (Err Ends.Memory) does = tt
     plain_does (Err Ends.WornOut) does = (record { may = does.0.may; worn = does.0.worn }, seat_on v w desk k (known_of k) before now sits refl does.1)

@@ -1,5 +1,5 @@
 -- The status of a run, over any machine.
-use Rattle.std.proofs.Common.{◌≡◌, ◌⊎◌, inl, inr, ℕ, ◌<◌, ◌≤◌, Bool, false, List, [], ◌∷◌, length, Option, None, refl, sym, ◌∙◌, subst, arith}
+use Rattle.std.proofs.Common.{◌≡◌, inl, inr, ℕ, ◌<◌, ◌≤◌, Bool, false, List, [], ◌∷◌, length, Option, None, refl, sym, ◌∙◌, subst, arith}
 use Rattle.std.specs.Prelude.{Result, Ok, Err, IfOk, IsTrue}
 use Rattle.std.proofs.lemmas.Bool.{eq-eqb}
 use Rattle.sector_disk.specs.Calls.{Counts, DiskFaults, SparesDisk}
@@ -14,61 +14,46 @@ use Rattle.fsd_sound.specs.declared.fault.MountFault.{MountFault}
 use Rattle.fsd_sound.specs.declared.fault.MountFault.TheVariants as Refused
 use Rattle.fsd_sound.specs.Mounting.{device_of_mount}
 use Rattle.fsd_texts.specs.declared.command.Command.{Command}
-use Rattle.fsd_texts.specs.declared.command.Command.TheVariants.{Get, Put, Scrub}
+use Rattle.fsd_texts.specs.declared.command.Command.TheVariants.{Get, Put}
 use Rattle.fsd_texts.specs.declared.fault.Fault.{Fault}
 use Rattle.fsd_texts.specs.declared.fault.Fault.TheVariants as Ends
 use Rattle.fsd_texts.specs.Script.{max_input}
-use Rattle.fsd_runs.specs.Errands.{fault_status, reply_status}
-use Rattle.volume_turns.specs.declared.answer.Answer.{Answer}
-use Rattle.volume_turns.specs.declared.answer.Answer.TheVariants as Said
+use Rattle.fsd_runs.specs.Errands.{fault_status}
+use Rattle.fsd_runs.specs.Commands.{reply_status}
+use Rattle.fsd_files.specs.declared.reply.Reply.{Reply}
 use Rattle.volume_turns.specs.declared.script.Stop.{Stop}
 use Rattle.volume_turns.specs.declared.turns.End.{End}
 use Rattle.volume_turns.specs.declared.turns.End.TheVariants.{Fault as Stopped, Output}
 use Rattle.volume_turns.specs.Causes.{FailsInput}
 use Rattle.volume_turns.specs.Line.{IsStatusAs, IsStatusFor, is_unsaid}
 use Rattle.volume_turns.specs.Once.{fault_of}
+use Rattle.fsd_runs.proofs.StatusLaws.{of_reply, one_has}
 use Rattle.volume_turns.specs.Script.{Heard, SparesWanting}
-use Rattle.volume_turns.specs.Status.{CountsRun, CountsTaking, IsMadeStatus, IsOneStatus, IsPutStatus, IsScriptStatus, IsStatusBroken, IsStatusFrom, is_unfailed, is_quiet}
-use Rattle.volume_turns.specs.Steps.{IsOfCall, IsOfVolume, device_told, ended_by, read_ended_by, reply_of}
+use Rattle.volume_turns.specs.Status.{CountsRun, CountsTaking, IsMadeStatus, IsOneStatus, IsPutStatus, IsScriptStatus, IsStatusBroken, is_unfailed, is_quiet}
+use Rattle.volume_turns.specs.Commands.{IsStatusFrom}
+use Rattle.volume_turns.specs.Steps.{IsOfCall, IsOfVolume, device_told, ended_by, read_ended_by}
 use Rattle.volume_turns.specs.Turns.{IsWant, Told}
 use Rattle.volume_turns.proofs.QuietLaws.{unfailed_not, unfailed_said, quiet_wants, quiet_unfailed, quiet_line, quiet_not}
 
 -- ---- replies
 
-pub refused_low : (why : Refusal) (r : Result Answer Fault) → IfOk r (λ a. a ≡ Said.Refused why) → IfOk r (λ a. reply_status (reply_of a) ≤ 1)
-refused_low why (Ok a) is = subst (λ (x : Answer). reply_status (reply_of x) ≤ 1) (sym is) (omega arith)
-refused_low why (Err fault) is = tt
+-- a refusal of a read that is said
+read_status : (key : Key) (why : Refusal) → IfOk (read_ended_by key why) (λ a. IsStatusFrom (Get key) (reply_status a))
+read_status key (Why.Damaged s) = refl
+read_status key (Why.Device s) = tt
+read_status key (Why.Down s) = tt
+read_status key (Why.Lost x y) = tt
+read_status key (Why.Unsound s) = tt
+read_status key Why.WornOut = tt
+read_status key Why.Memory = tt
+read_status key why = refl
 
--- a refusal that is said
-refused_status : (why : Refusal) → IfOk (ended_by why) (λ a. reply_status (reply_of a) ≤ 1)
-refused_status (Why.Device s) = tt
-refused_status (Why.Down s) = tt
-refused_status (Why.Lost x y) = tt
-refused_status (Why.Unsound s) = tt
-refused_status Why.WornOut = tt
-refused_status Why.Memory = tt
-refused_status why = omega arith
-
-abbrev low_or_damaged : Answer → Type 0
-low_or_damaged a = (reply_status (reply_of a) ≤ 1) ⊎ (reply_status (reply_of a) ≡ 8)
-
-ok_low : (r : Result Answer Fault) → IfOk r (λ a. reply_status (reply_of a) ≤ 1) → IfOk r low_or_damaged
-ok_low (Ok a) low = inl low
-ok_low (Err fault) low = tt
-
-read_status : (key : Key) (why : Refusal) → IfOk (read_ended_by key why) low_or_damaged
-read_status key (Why.Damaged s) = inr refl
-read_status key why = ok_low (ended_by why) (refused_status why)
-
-pub refused_get : (why : Refusal) (r : Result Answer Fault) → r ≡ ended_by why → IfOk r (λ a. (reply_status (reply_of a) ≤ 1) ⊎ (reply_status (reply_of a) ≡ 8))
-refused_get why r is = subst (λ (x : Result Answer Fault). IfOk x low_or_damaged) (sym is) (ok_low (ended_by why) (refused_status why))
-
-pub refused_read : (key : Key) (why : Refusal) (r : Result Answer Fault) → r ≡ read_ended_by key why → IfOk r (λ a. (reply_status (reply_of a) ≤ 1) ⊎ (reply_status (reply_of a) ≡ 8))
-refused_read key why r is = subst (λ (x : Result Answer Fault). IfOk x low_or_damaged) (sym is) (read_status key why)
+pub refused_read : (key : Key) (why : Refusal) (r : Result Reply Fault) → r ≡ read_ended_by key why → IfOk r (λ a. IsStatusFrom (Get key) (reply_status a))
+refused_read key why r is = subst (λ (x : Result Reply Fault). IfOk x (λ a. IsStatusFrom (Get key) (reply_status a))) (sym is) (read_status key why)
 
 -- what a look-up or a force refuses ends the run
-pub look_up_ends : (P : Answer → Type 0) (why : Refusal) (r : Result Answer Fault) → r ≡ ended_by why → IsLookUp why → IfOk r P
-look_up_ends P why r is refuses = subst (λ (x : Result Answer Fault). IfOk x P) (sym is) (by why refuses)
+pub look_up_ends : (P : Reply → Type 0) (why : Refusal) (r : Result Reply Fault) → r ≡ ended_by why → IsLookUp why → IfOk r P
+look_up_ends P why r is refuses = subst (λ (x : Result Reply Fault). IfOk x P) (sym is) (by why refuses)
   where
     by : (w : Refusal) → IsLookUp w → IfOk (ended_by w) P
     by (Why.Device s) refuses = tt
@@ -86,7 +71,7 @@ pub device_looks : (why : Refusal) → IsDevice why → IsLookUp why
 device_looks (Why.Device s) is = tt
 device_looks why is = absurd is
 
-pub force_ends : (P : Answer → Type 0) (s : State) → s.down ≡ None → (comes_one : Bool) (why : Refusal) → Comes (down s ∷ Force comes_one ∷ []) why → (r : Result Answer Fault) → r ≡ ended_by why → IfOk r P
+pub force_ends : (P : Reply → Type 0) (s : State) → s.down ≡ None → (comes_one : Bool) (why : Refusal) → Comes (down s ∷ Force comes_one ∷ []) why → (r : Result Reply Fault) → r ≡ ended_by why → IfOk r P
 force_ends P s up comes_one why comes r is = look_up_ends P why r is (loss_looks why (force_loss s up comes_one why comes))
 
 pub status_at : (P : ℕ → Type 0) (n : ℕ) (r : Result ℕ End) → IfOk r (λ status. status ≡ n) → P n → IfOk r P
@@ -109,7 +94,7 @@ fault_is_one c why status of is = inr (fault_ends why status of is)
 
 -- a put of the input
 pub one_is_put : (name bytes : List ℕ) (keep : Option ℕ) (status : ℕ) → IsOneStatus (Put name bytes keep) status → IsPutStatus status
-one_is_put name bytes keep status (inl low) = inl low
+one_is_put name bytes keep status (inl from) = inl (one_has (λ n. n ≤ 1) (0 ∷ 1 ∷ []) (omega arith, (omega arith, tt)) status from)
 one_is_put name bytes keep status (inr broken) = inr (inr broken)
 
 pub fault_is_put : (why : Fault) (status : ℕ) → IsOfVolume why → IsStatusFor why status → IsPutStatus status
@@ -146,11 +131,7 @@ worn_is_script status is = line_or IsScriptStatus 9 status (inr (inr (inr (inl (
 
 -- a reply has no other status
 pub from_not : (n : ℕ) (command : Command) (status : ℕ) → 1 < n → (n ≡ 8 → ⊥) → IsStatusFrom command status → status ≡ n → ⊥
-from_not n (Get key) status more other (inl low) at = omega (arith, more, low, at)
-from_not n (Get key) status more other (inr eight) at = other (sym at ∙ eight)
-from_not n Scrub status more other (inl none) at = omega (arith, more, none, at)
-from_not n Scrub status more other (inr eight) at = other (sym at ∙ eight)
-from_not n command status more other low at = omega (arith, more, low, at)
+from_not n command status more other from at = elim (of_reply command status from) [ inl low ↦ omega (arith, more, low, at) | inr eight ↦ other (sym at ∙ eight) ]
 
 -- ---- what is counted
 

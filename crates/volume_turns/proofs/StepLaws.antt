@@ -9,7 +9,9 @@ use Rattle.run_table.specs.declared.run.Run.{Run}
 use Rattle.run_table.specs.RunTable.{total}
 use Rattle.fsd_files.specs.Answers.{Met, Outcome, stat_reply}
 use Rattle.fsd_files.specs.Files.{Change}
-use Rattle.fsd_files.specs.Replies.{Reply, Counts}
+use Rattle.fsd_files.specs.declared.reply.Reply.{Reply}
+use Rattle.fsd_files.specs.declared.reply.Reply.TheVariants.{Counts}
+use Rattle.fsd_files.specs.declared.reply.Reply.TheVariants as Said
 use Rattle.fsd_files.specs.Volume.{free_count, pages_free, waiting_count}
 use Rattle.fsd_texts.specs.declared.command.Command.{Command}
 use Rattle.fsd_runs.specs.Commands.{answer, changes_of, MayFind, may_wear_out}
@@ -55,7 +57,7 @@ module _ {S : Type 0} (state : S → State) (has : S → Mounted → List Placed
     }
 
     -- it is refused: the refusal is the reply, or ends the run
-    pub refused_does : (why : Refusal) → changes_of command (Reply.Refused why) ≡ [] → ((why ≡ Why.WornOut → ⊥) → IsTrue (may_wear_out command) → IsFalse (is_worn (state old))) → (why ≡ Why.WornOut → IsRefusedWorn command (state old))
+    pub refused_does : (why : Refusal) → changes_of command (Said.Refused why) ≡ [] → ((why ≡ Why.WornOut → ⊥) → IsTrue (may_wear_out command) → IsFalse (is_worn (state old))) → (why ≡ Why.WornOut → IsRefusedWorn command (state old))
         → EndsRefused state has outcome k new now why → Does state has command old new k before now (ended_by why)
     refused_does (Why.Device s) none unworn worn ends = tt
     refused_does (Why.Down s) none unworn worn ends = tt
@@ -63,7 +65,7 @@ module _ {S : Type 0} (state : S → State) (has : S → Mounted → List Placed
     refused_does (Why.Unsound s) none unworn worn ends = ends
     refused_does Why.Memory none unworn worn ends = tt
     refused_does Why.WornOut none unworn worn ends = (worn refl, ends)
-    refused_does why none unworn worn ends = (ends.0, answered_does (Reply.Refused why) [] (sym none) ends.0 ends.1 (unworn (λ is. cc is)), ends.2)
+    refused_does why none unworn worn ends = (ends.0, answered_does (Said.Refused why) [] (sym none) ends.0 ends.1 (unworn (λ is. cc is)), ends.2)
 
   -- a force that fails leaves the volume down
   pub force_does : (command : Command) (old new : S) (k : Known) (before now : Moment) (outcome : Met → Outcome) (reply : Reply) (why : Refusal) → (let r : Result Forced Refusal = Err why in EndsForce state has outcome reply k new now r) → Does state has command old new k before now (ended_by why)

@@ -22,12 +22,13 @@ use Rattle.volume_contract.specs.Causes.{Causes, HasCause}
 use Rattle.volume_contract.specs.State.{State}
 use Rattle.scrub.specs.Telling.{AreOfPage, StandTwice, TellsOn}
 use Rattle.scrub.proofs.ToldLaws.{page_twice, told_lost, told_unsound}
-use Rattle.volume_turns.specs.declared.answer.Answer.{Answer}
+use Rattle.fsd_files.specs.declared.reply.Reply.{Reply}
 use Rattle.volume_turns.specs.declared.turns.End.{End}
 use Rattle.volume_turns.specs.declared.turns.End.TheVariants.{Fault as Stopped, Output}
 use Rattle.volume_turns.specs.Calls.{MayLoseIn}
 use Rattle.volume_turns.specs.Once.{close_fault}
-use Rattle.volume_turns.specs.Steps.{IsRefusedOn, IsToldOn, MayLose, ended_by, read_ended_by}
+use Rattle.volume_turns.specs.Steps.{IsRefusedOn, IsToldOn, ended_by, read_ended_by}
+use Rattle.volume_turns.specs.Commands.{MayLose}
 use Rattle.volume_turns.specs.Turns.{IsEndOn, Unsaid}
 
 -- ---- by its cause
@@ -56,15 +57,15 @@ told_next M old new resident a b same (Err why) causes = λ honest. told_of old 
 -- ---- as it is told
 
 module _ (AreCopies : Layout → ℕ → ℕ → Type 0) (l : Layout) (i : Image) where
-  pub told_so : (why : Refusal) (r : Result Answer Fault) → r ≡ ended_by why → IsRefusedOn AreCopies l i why → IfErr r (IsToldOn AreCopies l i)
-  told_so why r by told = subst (λ (x : Result Answer Fault). IfErr x (IsToldOn AreCopies l i)) (sym by) told
+  pub told_so : (why : Refusal) (r : Result Reply Fault) → r ≡ ended_by why → IsRefusedOn AreCopies l i why → IfErr r (IsToldOn AreCopies l i)
+  told_so why r by told = subst (λ (x : Result Reply Fault). IfErr x (IsToldOn AreCopies l i)) (sym by) told
 
   read_told : (key : Key) (why : Refusal) → IsRefusedOn AreCopies l i why → IfErr (read_ended_by key why) (IsToldOn AreCopies l i)
   read_told key (Why.Damaged s) told = tt
   read_told key why told = told
 
-  pub read_told_so : (key : Key) (why : Refusal) (r : Result Answer Fault) → r ≡ read_ended_by key why → IsRefusedOn AreCopies l i why → IfErr r (IsToldOn AreCopies l i)
-  read_told_so key why r by told = subst (λ (x : Result Answer Fault). IfErr x (IsToldOn AreCopies l i)) (sym by) (read_told key why told)
+  pub read_told_so : (key : Key) (why : Refusal) (r : Result Reply Fault) → r ≡ read_ended_by key why → IsRefusedOn AreCopies l i why → IfErr r (IsToldOn AreCopies l i)
+  read_told_so key why r by told = subst (λ (x : Result Reply Fault). IfErr x (IsToldOn AreCopies l i)) (sym by) (read_told key why told)
 
   -- of a reply that is not said nothing of the image is told
   unsaid_end : (old new : Moment) (why : Fault) → Unsaid old new (Stopped why) → IsToldOn AreCopies l i why

@@ -20,7 +20,8 @@ use Rattle.sector_disk.specs.Machine.{LeavesOnly, Moment}
 use Rattle.fsd_log.specs.Scan.{Head, Placed}
 use Rattle.fsd_files.specs.Answers.{Met, Outcome, upgraded as upgrade_outcome_of}
 use Rattle.fsd_files.specs.Disk.{Image, Sectors, Has, Touches, nowhere}
-use Rattle.fsd_files.specs.Replies.{Reply}
+use Rattle.fsd_files.specs.declared.reply.Reply.{Reply}
+use Rattle.fsd_files.specs.declared.reply.Reply.TheVariants as Said
 use Rattle.fsd_files.specs.Volume.{Volume}
 use Rattle.fsd_sound.specs.Laid.{HasOwnRoots}
 use Rattle.fsd_sound.specs.Mounted.{Mounted, telling_of}
@@ -37,8 +38,6 @@ use Rattle.fsd_texts.specs.declared.fault.Fault.TheVariants as Ends
 use Rattle.volume_contract.specs.Order.{IsDeviceIn, Keeps, Roots, Test, Through, is_root, layout_is, upgrade_steps, with_three}
 use Rattle.volume_contract.specs.State.{Ages, IsNew, Known, Stands, State, downs_for, forced_of, none_open, volume_of}
 use Rattle.volume_contract.specs.Upgrade.{EndsUpgrade, RootsStand, is_fresh, upgraded}
-use Rattle.volume_turns.specs.declared.answer.Answer.{Answer}
-use Rattle.volume_turns.specs.declared.answer.Answer.TheVariants as Said
 use Rattle.volume_turns.specs.declared.turns.End.{End}
 use Rattle.volume_turns.specs.declared.turns.End.TheVariants.{Fault as Stopped}
 use Rattle.volume_turns.specs.Answering.{Answers, AnswersAlone, SaysBy}
@@ -109,20 +108,20 @@ pub upgrade_goes : (s t : State) → t.serial.count ≡ s.serial.count → t.hea
 upgrade_goes s t serials records = record { serials = omega (arith, serials); records = omega (arith, records) }
 
 -- what it is told, where it was not upgraded
-pub ends_done : (s t : State) (answer : Answer) → is_upgraded answer ≡ false → EndsState s t (Ok answer) → (answer ≡ Said.Refused (Why.LayoutIs 2)) × (s.layout.kind ≡ Three) × (t ≡ s)
+pub ends_done : (s t : State) (answer : Reply) → is_upgraded answer ≡ false → EndsState s t (Ok answer) → (answer ≡ Said.Refused (Why.LayoutIs 2)) × (s.layout.kind ≡ Three) × (t ≡ s)
 ends_done s t Said.Upgraded not_so ends = absurd (cc not_so)
 ends_done s t answer not_so ends = ends
 
-pub ends_upgraded : (answer : Answer) → is_upgraded answer ≡ true → answer ≡ Said.Upgraded
+pub ends_upgraded : (answer : Reply) → is_upgraded answer ≡ true → answer ≡ Said.Upgraded
 ends_upgraded Said.Upgraded is = refl
 ends_upgraded answer is = absurd (cc is)
 
 -- the mount is not told as worn out
 pub ends_unworn : (s t : State) (fault : Fault) → EndsState s t (Err fault) → fault ≡ Ends.WornOut → ⊥
-ends_unworn s t fault ends is = (let r : Fault → Result Answer Fault = λ x. Err x in subst (λ (x : Fault). EndsState s t (r x)) is ends)
+ends_unworn s t fault ends is = (let r : Fault → Result Reply Fault = λ x. Err x in subst (λ (x : Fault). EndsState s t (r x)) is ends)
 
 -- so it is told
-pub upgrade_refused : (P : Result Answer Fault → Type 0) (s t : State) (why : Refusal) (r : Result Answer Fault) → r ≡ ended_by why → IsDone s t why ⊎ FailsRoots s t why
+pub upgrade_refused : (P : Result Reply Fault → Type 0) (s t : State) (why : Refusal) (r : Result Reply Fault) → r ≡ ended_by why → IsDone s t why ⊎ FailsRoots s t why
     → (IsDone s t why → P (Ok (Said.Refused (Why.LayoutIs 2)))) → ((place : ℕ) → why ≡ Why.Device place → t ≡ record s { down = Some place } → P (Err (Ends.Device place))) → P r
 upgrade_refused P s t why r is (inl done) layout device = subst P (sym (is ∙ ap ended_by done.0)) (layout done)
 upgrade_refused P s t why r is (inr fails) layout device = subst P (sym (is ∙ ap ended_by fails.1)) (device fails.0 fails.1 fails.2)
@@ -218,19 +217,19 @@ module _ {S D : Type 0} (state : S → State) (has : S → Mounted → List Plac
   own_roots : HasOwnRoots (volume_of after).layout (weak_of k.windows) (M.now m).image
   own_roots = subst (λ (ws : List WeakRun). HasOwnRoots (volume_of after).layout (weak_of ws) (M.now m).image) does.1.windows does.2.disk.over.own.roots
 
-  pub upgraded_alone : (text : List ℕ) → text ≡ reply_alone Reply.Upgraded → M.honest b → LeavesOnly M.moment M.left_since m b (UttersBehind true text (M.now m)) → (r : Result ℕ End) → (r ≡ Err (Stopped Ends.Memory) → b ≡ m) → IfOk r (λ status. status ≡ 0)
+  pub upgraded_alone : (text : List ℕ) → text ≡ reply_alone Said.Upgraded → M.honest b → LeavesOnly M.moment M.left_since m b (UttersBehind true text (M.now m)) → (r : Result ℕ End) → (r ≡ Err (Stopped Ends.Memory) → b ≡ m) → IfOk r (λ status. status ≡ 0)
       → OnOk (unit_of r) (SaysAll text (M.now m) (M.now b)) → OnOk (unit_of r) ((M.now m).time ≤ (M.now b).synced) → IfErr (unit_of r) (λ end. Unsaid (M.now m) (M.now b) end) → IsAlone M Word.Upgrade k a b r
   upgraded_alone text is honest_b run r undone gives all synced unsaid =
       let held = alone_held state has M wears short timed Word.Upgrade v w a m b k none stood on fault disk honest since in
       let closes = says_closed M m b k (forced_of k) (volume_of after).layout text ends_in sound lasts own_roots (short m honest) held (timed m honest) (timed b honest_b) since run (unit_of r) all synced unsaid in
-      alone_closed_as state has M wears short timed Word.Upgrade v w a m b k none stood on fault disk honest since after Reply.Upgraded does.1 does.2 k refl refl (sym (append-nil k.changes)) telling r undone gives
+      alone_closed_as state has M wears short timed Word.Upgrade v w a m b k none stood on fault disk honest since after Said.Upgraded does.1 does.2 k refl refl (sym (append-nil k.changes)) telling r undone gives
       (subst (λ (x : List ℕ). ClosesAndSaysBy (volume_of after).layout M k (forced_of k) x m b (unit_of r)) is closes)
 
 -- what it says and writes, whatever the image
-pub upgraded_answers : (s t : State) (a m b : Moment) → m.windows ≡ a.windows → m.said ≡ a.said → Answers Word.Upgrade s t a m (Ok Said.Upgraded) → Ages m b → (r : Result ℕ End) → IfOk r (λ status. status ≡ 0) → SaysBy (reply_alone Reply.Upgraded) m b (unit_of r)
+pub upgraded_answers : (s t : State) (a m b : Moment) → m.windows ≡ a.windows → m.said ≡ a.said → Answers Word.Upgrade s t a m (Ok Said.Upgraded) → Ages m b → (r : Result ℕ End) → IfOk r (λ status. status ≡ 0) → SaysBy (reply_alone Said.Upgraded) m b (unit_of r)
     → (unit_of r ≡ Err (Stopped Ends.WornOut) → ⊥) → ((why : Fault) → unit_of r ≡ Err (Stopped why) → IsToldOn AreOfPage s.layout b.image why) → AnswersAlone Word.Upgrade s a b r
 upgraded_answers s t a m b windows same answers ages r gives says unworn told =
     let still : Touches (force_writes s.layout) m m = record { size = refl; others = λ x out. inl refl } in
     let nothing : Touches nowhere m m = record { size = refl; others = λ x out. inl refl } in
     alone_closed Word.Upgrade s s a m windows same b Said.Upgraded r refl (record { replies = answers.replies; rest = answers.rest; still = refl; worn = λ is. absurd (cc is); numbers = goes_none 1 s s refl; told = tt }) gives
-    (closed_by s (reply_alone Reply.Upgraded) m m b (unit_of r) refl refl still (λ clean. nothing) ages says unworn told)
+    (closed_by s (reply_alone Said.Upgraded) m m b (unit_of r) refl refl still (λ clean. nothing) ages says unworn told)

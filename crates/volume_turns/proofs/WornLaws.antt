@@ -10,7 +10,7 @@ use Rattle.fsd_texts.specs.declared.fault.Fault.TheVariants as Ends
 use Rattle.fsd_runs.specs.Errands.{fault_status}
 use Rattle.volume_contract.specs.Order.{Comes, IsLookUp, Step}
 use Rattle.volume_contract.specs.State.{State, is_worn}
-use Rattle.volume_turns.specs.declared.answer.Answer.{Answer}
+use Rattle.fsd_files.specs.declared.reply.Reply.{Reply}
 use Rattle.volume_turns.specs.declared.turns.End.{End}
 use Rattle.volume_turns.specs.declared.turns.End.TheVariants.{Fault as Stopped}
 use Rattle.volume_turns.specs.Line.{IsStatusFor}
@@ -29,13 +29,13 @@ read_ended_worn key (Why.Damaged s) is = absurd (cc is)
 read_ended_worn key why is = ended_worn why is
 
 -- what its steps refuse so is told so
-pub told_worn : (s : State) (steps : List Step) (why : Refusal) (r : Result Answer Fault) → r ≡ ended_by why → Comes steps why → (Comes steps Why.WornOut → IsTrue (is_worn s)) → r ≡ Err Ends.WornOut → IsTrue (is_worn s)
+pub told_worn : (s : State) (steps : List Step) (why : Refusal) (r : Result Reply Fault) → r ≡ ended_by why → Comes steps why → (Comes steps Why.WornOut → IsTrue (is_worn s)) → r ≡ Err Ends.WornOut → IsTrue (is_worn s)
 told_worn s steps why r by comes worn is = worn (subst (λ (w : Refusal). Comes steps w) (ended_worn why (sym by ∙ is)) comes)
 
-pub read_told_worn : (s : State) (steps : List Step) (key : Key) (why : Refusal) (r : Result Answer Fault) → r ≡ read_ended_by key why → Comes steps why → (Comes steps Why.WornOut → ⊥) → r ≡ Err Ends.WornOut → IsTrue (is_worn s)
+pub read_told_worn : (s : State) (steps : List Step) (key : Key) (why : Refusal) (r : Result Reply Fault) → r ≡ read_ended_by key why → Comes steps why → (Comes steps Why.WornOut → ⊥) → r ≡ Err Ends.WornOut → IsTrue (is_worn s)
 read_told_worn s steps key why r by comes never is = absurd (never (subst (λ (w : Refusal). Comes steps w) (read_ended_worn key why (sym by ∙ is)) comes))
 
-pub look_up_worn : (s : State) (why : Refusal) (r : Result Answer Fault) → r ≡ ended_by why → IsLookUp why → r ≡ Err Ends.WornOut → IsTrue (is_worn s)
+pub look_up_worn : (s : State) (why : Refusal) (r : Result Reply Fault) → r ≡ ended_by why → IsLookUp why → r ≡ Err Ends.WornOut → IsTrue (is_worn s)
 look_up_worn s why r by refuses is = absurd (subst IsLookUp (ended_worn why (sym by ∙ is)) refuses)
 
 -- ---- the end of a volume

@@ -1,123 +1,30 @@
 -- What one command by itself says and writes, whatever the image:
 -- one reply, or the line of the fault that has ended it.
-use Rattle.std.specs.Prelude.{◌≡◌, ◌⊎◌, ⊤, ℕ, ◌<◌, ◌≤◌, List, [], ◌++◌, length, Option, Some, None, Result, Ok, Err, IfErr, IfOk, IsTrue}
-use Rattle.std.specs.List.{AllByRecursion}
-use Rattle.fsd_bytes.specs.declared.refusal.Refusal.{Refusal}
-use Rattle.fsd_bytes.specs.declared.refusal.Refusal.TheVariants as Why
-use Rattle.fsd_formats.specs.NamePage.{max_keep, sectors_for}
-use Rattle.sector_disk.specs.declared.sector.Sector.TheVariants.{Damaged}
-use Rattle.sector_disk.specs.Image.{sector_at}
+use Rattle.std.specs.Prelude.{◌≡◌, ◌⊎◌, ⊤, ℕ, List, [], ◌++◌, Result, Ok, Err, IfErr, IfOk, IsTrue}
 use Rattle.sector_disk.specs.Machine.{Moment}
-use Rattle.fsd_files.specs.Answers.{keep_given, least_pages, size_fault}
-use Rattle.fsd_files.specs.Disk.{Image, Sectors, Touches, nowhere}
-use Rattle.fsd_files.specs.Replies.{Reply}
+use Rattle.fsd_files.specs.Disk.{Touches, nowhere}
+use Rattle.fsd_files.specs.declared.reply.Reply.{Reply}
 use Rattle.fsd_sound.specs.Writes.{MountKeeps, force_writes}
 use Rattle.fsd_texts.specs.declared.command.Command.{Command}
-use Rattle.fsd_texts.specs.declared.command.Command.TheVariants as Word
 use Rattle.fsd_texts.specs.declared.fault.Fault.{Fault}
 use Rattle.fsd_texts.specs.declared.fault.Fault.TheVariants as Ends
 use Rattle.fsd_texts.specs.Text.{fault_text}
-use Rattle.fsd_runs.specs.Commands.{reply_alone}
-use Rattle.fsd_runs.specs.Errands.{fault_status, reply_status}
-use Rattle.volume_contract.specs.Order.{is_root}
-use Rattle.volume_contract.specs.State.{Ages, State, is_worn, put_writes}
-use Rattle.scrub.specs.Scrub.{scrub_writes}
+use Rattle.fsd_runs.specs.Commands.{reply_alone, reply_status}
+use Rattle.fsd_runs.specs.Errands.{fault_status}
+use Rattle.volume_contract.specs.State.{State, is_worn}
 use Rattle.scrub.specs.Telling.{AreOfPage}
-use Rattle.volume_turns.specs.declared.answer.Answer.{Answer}
 use Rattle.volume_turns.specs.declared.turns.End.{End}
 use Rattle.volume_turns.specs.declared.turns.End.TheVariants.{Fault as Stopped, Output}
-use Rattle.volume_turns.specs.Causes.{HasVolume}
 use Rattle.volume_turns.specs.Numbers.{GoesUp}
-use Rattle.volume_turns.specs.Steps.{IsToldOn, MayLose, reply_of}
+use Rattle.volume_turns.specs.Steps.{IsToldOn}
+use Rattle.volume_turns.specs.Commands.{KeepsState, MayLose, MayReply, WritesBehind, may_write}
 use Rattle.volume_turns.specs.Turns.{KeepsSaid}
-
--- ---- refusals
-
--- there is no place for a version of so many bytes, nor free name pages, or the name has had its last version
-abbrev pub LacksRoom : (len : ℕ) → Refusal → Type 0
-LacksRoom len (Why.NoSpace need free) = (need ≡ sectors_for len) × (free < need)
-LacksRoom len (Why.TooFragmented need most) = (need ≡ sectors_for len) × (most < need)
-LacksRoom len (Why.NameTableFull free) = free < least_pages
-LacksRoom len Why.VersionsUsedUp = ⊤
-LacksRoom len why = ⊥
-
--- a put of so many bytes is refused for its keep or for these, or else since room is wanting
-abbrev pub RefusesPut : (keep : Option ℕ) → (len : ℕ) → Refusal → Type 0
-RefusesPut keep len why = let size = size_fault (keep_given keep) len in (size ≡ Some why) ⊎ ((size ≡ None) × LacksRoom len why)
-
--- a new keep is refused as too large, or is not, and the name has no version
-abbrev pub RefusesKeep : (keep : ℕ) → Refusal → Type 0
-RefusesKeep keep why = ((why ≡ Why.KeepTooLarge keep) × (max_keep < keep)) ⊎ ((why ≡ Why.NoSuch) × (keep ≤ max_keep))
-
--- ---- replies
-
--- a damaged sector of the image
-abbrev pub HasDamaged : Image → ℕ → Type 0
-HasDamaged i s = (s < length i) × (sector_at i s ≡ Damaged)
-
--- the command may be answered so over this image; a sector that is told as damaged is so
-abbrev pub MayReply : Command → Image → Reply → Type 0
-MayReply (Word.Put name bytes keep) i (Reply.Made key sectors) = (key.name ≡ name) × (sectors ≡ sectors_for (length bytes)) × (size_fault (keep_given keep) (length bytes) ≡ None)
-MayReply (Word.Put name bytes keep) i (Reply.Refused why) = RefusesPut keep (length bytes) why
-MayReply (Word.Put name bytes keep) i reply = ⊥
-MayReply (Word.Delete key) i (Reply.Deleted k) = k ≡ key
-MayReply (Word.Delete key) i (Reply.Refused why) = why ≡ Why.NoSuch
-MayReply (Word.Delete key) i reply = ⊥
-MayReply (Word.Keep name keep) i (Reply.Kept key k) = (key.name ≡ name) × (k ≡ keep) × (keep ≤ max_keep)
-MayReply (Word.Keep name keep) i (Reply.Refused why) = RefusesKeep keep why
-MayReply (Word.Keep name keep) i reply = ⊥
-MayReply (Word.Get key) i (Reply.Bytes k bytes) = k ≡ key
-MayReply (Word.Get key) i (Reply.DamagedAt k s) = (k ≡ key) × HasDamaged i s
-MayReply (Word.Get key) i (Reply.Refused why) = why ≡ Why.NoSuch
-MayReply (Word.Get key) i reply = ⊥
-MayReply (Word.List pattern) i (Reply.Listed entries) = ⊤
-MayReply (Word.List pattern) i reply = ⊥
-MayReply Word.Force i Reply.Forced = ⊤
-MayReply Word.Force i reply = ⊥
-MayReply Word.Tick i Reply.Forced = ⊤
-MayReply Word.Tick i reply = ⊥
-MayReply Word.Stat i (Reply.Counts free waiting pages versions) = ⊤
-MayReply Word.Stat i reply = ⊥
-MayReply Word.Scrub i (Reply.Scrubbed found healed) = AllByRecursion (λ x. HasDamaged i x.1) found
-MayReply Word.Scrub i reply = ⊥
-MayReply Word.Upgrade i Reply.Upgraded = ⊤
-MayReply Word.Upgrade i (Reply.Refused why) = why ≡ Why.LayoutIs 2
-MayReply Word.Upgrade i reply = ⊥
-
--- ---- what is written
-
--- where a command writes over a volume of this state
-abbrev pub may_write : Command → State → Sectors
-may_write (Word.Put name bytes keep) s = put_writes s (sectors_for (length bytes))
-may_write (Word.Delete key) s = force_writes s.layout
-may_write (Word.Keep name keep) s = force_writes s.layout
-may_write (Word.List pattern) s = nowhere
-may_write (Word.Get key) s = nowhere
-may_write Word.Force s = force_writes s.layout
-may_write Word.Tick s = force_writes s.layout
-may_write Word.Stat s = nowhere
-may_write Word.Scrub s = scrub_writes s.layout
-may_write Word.Upgrade s = is_root
-
--- a command that only reads leaves the volume's state, and so does a scrub where no page waits; behind an upgrade the same
--- pages wait
-abbrev pub KeepsState : Command → State → State → Type 0
-KeepsState (Word.Put name bytes keep) s t = ⊤
-KeepsState (Word.Delete key) s t = ⊤
-KeepsState (Word.Keep name keep) s t = ⊤
-KeepsState (Word.List pattern) s t = t ≡ s
-KeepsState (Word.Get key) s t = t ≡ s
-KeepsState Word.Force s t = ⊤
-KeepsState Word.Tick s t = ⊤
-KeepsState Word.Stat s t = t ≡ s
-KeepsState Word.Scrub s t = s.dirty ≡ [] → t ≡ s
-KeepsState Word.Upgrade s t = t.dirty ≡ s.dirty
 
 -- ---- one command, step by step
 
 -- It is answered, or a fault has ended it.
-pub record Answers (command : Command) (s t : State) (old new : Moment) (result : Result Answer Fault) : Type 0 where
-  pub replies : IfOk result (λ a. MayReply command new.image (reply_of a))
+pub record Answers (command : Command) (s t : State) (old new : Moment) (result : Result Reply Fault) : Type 0 where
+  pub replies : IfOk result (λ a. MayReply command new.image a)
   pub rest : Touches (may_write command s) old new
   pub still : KeepsState command s t
   -- a mount is told as worn out only where it is
@@ -182,24 +89,6 @@ pub record EndsOne (command : Command) (s : State) (old new : Moment) (status : 
   pub rest : Touches (may_write command s) old new
 
 -- ---- from the mount on
-
--- nothing is written behind the mount, or only where a force writes
-abbrev pub WritesForce : (sectors : ℕ) → (old mounted new : Moment) → Type 0
-WritesForce sectors old mounted new = Ages mounted new ⊎ ((volume : HasVolume sectors old) × Touches (force_writes volume.layout) mounted new)
-
--- What is written behind the mount: nothing by a command that only reads; by an upgrade only the roots; by another that is
--- no put, only where a force writes, and by a scrub also roots and in the data area.
-abbrev pub WritesBehind : Command → (sectors : ℕ) → (old mounted new : Moment) → Type 0
-WritesBehind (Word.Put name bytes keep) sectors old mounted new = ⊤
-WritesBehind (Word.Delete key) sectors old mounted new = WritesForce sectors old mounted new
-WritesBehind (Word.Keep name keep) sectors old mounted new = WritesForce sectors old mounted new
-WritesBehind (Word.List pattern) sectors old mounted new = Ages mounted new
-WritesBehind (Word.Get key) sectors old mounted new = Ages mounted new
-WritesBehind Word.Force sectors old mounted new = WritesForce sectors old mounted new
-WritesBehind Word.Tick sectors old mounted new = WritesForce sectors old mounted new
-WritesBehind Word.Stat sectors old mounted new = Ages mounted new
-WritesBehind Word.Scrub sectors old mounted new = Ages mounted new ⊎ ((volume : HasVolume sectors old) × Touches (scrub_writes volume.layout) mounted new)
-WritesBehind Word.Upgrade sectors old mounted new = Touches is_root mounted new
 
 -- A mount writes only where it may, and the command behind it.
 pub record WritesOne (command : Command) (sectors : ℕ) (old new : Moment) : Type 0 where

@@ -9,7 +9,8 @@ use Rattle.sector_disk.specs.Machine.{Moment}
 use Rattle.fsd_files.specs.Answers.{least_pages}
 use Rattle.fsd_files.specs.Desk.{is_client}
 use Rattle.fsd_files.specs.Disk.{Image}
-use Rattle.fsd_files.specs.Replies.{Reply}
+use Rattle.fsd_files.specs.declared.reply.Reply.{Reply}
+use Rattle.fsd_files.specs.declared.reply.Reply.TheVariants as Said
 use Rattle.fsd_texts.specs.declared.call.Call.{Call}
 use Rattle.fsd_texts.specs.declared.call.Call.TheVariants as Calls
 use Rattle.fsd_texts.specs.declared.fault.Fault.{Fault}
@@ -18,10 +19,9 @@ use Rattle.fsd_texts.specs.declared.script_command.ScriptCommand.{ScriptCommand}
 use Rattle.fsd_texts.specs.declared.script_command.ScriptCommand.TheVariants.{Plain, OfClient}
 use Rattle.scrub.specs.Telling.{AreOfPage}
 use Rattle.volume_contract.specs.State.{State, is_worn}
-use Rattle.volume_turns.specs.declared.answer.Answer.{Answer}
-use Rattle.volume_turns.specs.Answering.{HasDamaged, MayReply}
+use Rattle.volume_turns.specs.Commands.{HasDamaged, MayLose, MayReply}
 use Rattle.volume_turns.specs.Numbers.{GoesUp}
-use Rattle.volume_turns.specs.Steps.{IsToldOn, MayLose, ended_by, read_ended_by, reply_of}
+use Rattle.volume_turns.specs.Steps.{IsToldOn, ended_by, read_ended_by}
 
 -- ---- refusals
 
@@ -60,27 +60,27 @@ LacksEntry why = ⊥
 
 -- the call may be answered so over this image; a sector that is told as damaged is so
 abbrev pub CallMayReply : (c : ℕ) → Call → Image → Reply → Type 0
-CallMayReply c (Calls.Begin name len) i (Reply.Begun d) = (d ≡ c) × IsTrue (is_client c) × (len ≤ max_length)
-CallMayReply c (Calls.Begin name len) i (Reply.Refused why) = RefusesBusy c why ⊎ LacksPlace len why
+CallMayReply c (Calls.Begin name len) i (Said.Begun d) = (d ≡ c) × IsTrue (is_client c) × (len ≤ max_length)
+CallMayReply c (Calls.Begin name len) i (Said.Refused why) = RefusesBusy c why ⊎ LacksPlace len why
 CallMayReply c (Calls.Begin name len) i reply = ⊥
-CallMayReply c (Calls.Piece bytes) i (Reply.Took d sum) = (d ≡ c) × IsTrue (is_client c) × (length bytes ≤ sum)
-CallMayReply c (Calls.Piece bytes) i (Reply.Refused why) = RefusesIdle c why ⊎ IsTooLong (length bytes) why
+CallMayReply c (Calls.Piece bytes) i (Said.Took d sum) = (d ≡ c) × IsTrue (is_client c) × (length bytes ≤ sum)
+CallMayReply c (Calls.Piece bytes) i (Said.Refused why) = RefusesIdle c why ⊎ IsTooLong (length bytes) why
 CallMayReply c (Calls.Piece bytes) i reply = ⊥
-CallMayReply c Calls.Close i (Reply.Made key sectors) = IsTrue (is_client c)
-CallMayReply c Calls.Close i (Reply.Refused why) = RefusesIdle c why ⊎ LacksEntry why
+CallMayReply c Calls.Close i (Said.Made key sectors) = IsTrue (is_client c)
+CallMayReply c Calls.Close i (Said.Refused why) = RefusesIdle c why ⊎ LacksEntry why
 CallMayReply c Calls.Close i reply = ⊥
-CallMayReply c Calls.Drop i (Reply.Dropped d) = (d ≡ c) × IsTrue (is_client c)
-CallMayReply c Calls.Drop i (Reply.Refused why) = RefusesIdle c why
+CallMayReply c Calls.Drop i (Said.Dropped d) = (d ≡ c) × IsTrue (is_client c)
+CallMayReply c Calls.Drop i (Said.Refused why) = RefusesIdle c why
 CallMayReply c Calls.Drop i reply = ⊥
-CallMayReply c (Calls.Open key) i (Reply.Opened d len) = (d ≡ c) × IsTrue (is_client c)
-CallMayReply c (Calls.Open key) i (Reply.Refused why) = RefusesBusy c why ⊎ (why ≡ Why.NoSuch)
+CallMayReply c (Calls.Open key) i (Said.Opened d len) = (d ≡ c) × IsTrue (is_client c)
+CallMayReply c (Calls.Open key) i (Said.Refused why) = RefusesBusy c why ⊎ (why ≡ Why.NoSuch)
 CallMayReply c (Calls.Open key) i reply = ⊥
-CallMayReply c (Calls.Next len) i (Reply.Given d bytes) = (d ≡ c) × IsTrue (is_client c) × (length bytes ≤ len)
-CallMayReply c (Calls.Next len) i (Reply.DamagedAt key s) = HasDamaged i s
-CallMayReply c (Calls.Next len) i (Reply.Refused why) = RefusesIdle c why
+CallMayReply c (Calls.Next len) i (Said.Given d bytes) = (d ≡ c) × IsTrue (is_client c) × (length bytes ≤ len)
+CallMayReply c (Calls.Next len) i (Said.DamagedAt key s) = HasDamaged i s
+CallMayReply c (Calls.Next len) i (Said.Refused why) = RefusesIdle c why
 CallMayReply c (Calls.Next len) i reply = ⊥
-CallMayReply c Calls.Done i (Reply.Done d) = (d ≡ c) × IsTrue (is_client c)
-CallMayReply c Calls.Done i (Reply.Refused why) = RefusesIdle c why
+CallMayReply c Calls.Done i (Said.Done d) = (d ≡ c) × IsTrue (is_client c)
+CallMayReply c Calls.Done i (Said.Refused why) = RefusesIdle c why
 CallMayReply c Calls.Done i reply = ⊥
 
 -- so it is of a script's command
@@ -94,8 +94,8 @@ MayLoseIn (Plain command) = MayLose command
 MayLoseIn (OfClient c call) = AreOfPage
 
 -- It is answered, or a fault has ended it.
-pub record AnswersIn (command : ScriptCommand) (s t : State) (old new : Moment) (result : Result Answer Fault) : Type 0 where
-  pub replies : IfOk result (λ a. MayReplyTo command new.image (reply_of a))
+pub record AnswersIn (command : ScriptCommand) (s t : State) (old new : Moment) (result : Result Reply Fault) : Type 0 where
+  pub replies : IfOk result (λ a. MayReplyTo command new.image a)
   -- a mount is told as worn out only where it is
   pub worn : result ≡ Err Ends.WornOut → IsTrue (is_worn s)
   pub numbers : GoesUp 1 s t
@@ -114,6 +114,6 @@ room_for (Some left) len = min left len
 room_for None len = 0
 
 -- a refusal of a read is said with the version's key, or ends the run
-abbrev pub next_ended_by : Option Key → Refusal → Result Answer Fault
+abbrev pub next_ended_by : Option Key → Refusal → Result Reply Fault
 next_ended_by (Some key) why = read_ended_by key why
 next_ended_by None why = ended_by why

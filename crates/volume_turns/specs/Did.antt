@@ -6,17 +6,16 @@ use Rattle.fsd_log.specs.Scan.{Placed}
 use Rattle.fsd_sound.specs.Mounted.{Mounted}
 use Rattle.fsd_texts.specs.declared.command.Command.{Command}
 use Rattle.fsd_texts.specs.declared.fault.Fault.{Fault}
-use Rattle.fsd_runs.specs.Errands.{reply_status}
+use Rattle.fsd_runs.specs.Commands.{reply_status}
 use Rattle.volume_contract.specs.State.{State, Known, Stands}
 use Rattle.scrub.specs.Scrub.{KeepsOpen}
-use Rattle.volume_turns.specs.declared.answer.Answer.{Answer}
+use Rattle.fsd_files.specs.declared.reply.Reply.{Reply}
 use Rattle.volume_turns.specs.Answering.{Answers}
-use Rattle.volume_turns.specs.Reasons.{Because, HasWrittenBy}
-use Rattle.volume_turns.specs.Status.{IsStatusFrom}
-use Rattle.volume_turns.specs.Steps.{Does, IsOfCall, Stays, device_by, reply_of}
+use Rattle.volume_turns.specs.Commands.{Because, HasWrittenBy, IsStatusFrom}
+use Rattle.volume_turns.specs.Steps.{Does, IsOfCall, Stays, device_by}
 
 -- It is answered, or a fault has ended it, and this holds beside.
-pub record Did {D S : Type 0} (M : Ghosts D) (state : S → State) (holds : S → Mounted → List Placed → Type 0) (resident : S → ℕ → Option (List ℕ)) (command : Command) (old new : S) (before now : D) (result : Result Answer Fault) : Type 0 where
+pub record Did {D S : Type 0} (M : Ghosts D) (state : S → State) (holds : S → Mounted → List Placed → Type 0) (resident : S → ℕ → Option (List ℕ)) (command : Command) (old new : S) (before now : D) (result : Result Reply Fault) : Type 0 where
   -- the layout stays, and what clients have open; where it is answered the volume is up still
   pub layout : (state new).layout ≡ (state old).layout
   pub opened : KeepsOpen (state old) (state new)
@@ -24,10 +23,10 @@ pub record Did {D S : Type 0} (M : Ghosts D) (state : S → State) (holds : S �
   -- a stop leaves the disk sound as it was
   pub disk : WritesDisk M (device_by result) (Stays state holds old) before now
   pub fault : IfErr result IsOfCall
-  pub status : IfOk result (λ a. IsStatusFrom command (reply_status (reply_of a)))
+  pub status : IfOk result (λ a. IsStatusFrom command (reply_status a))
   -- of any image: it may be answered so, so much is written, and this is why
   pub answers : M.honest now → Answers command (state old) (state new) (M.now before) (M.now now) result
   pub written : M.tells now → HasWrittenBy command (state old) (M.ledger before) (M.ledger now) result
-  pub because : M.honest now → IfOk result (λ a. Because state resident command (state old) (state new) (M.now before) (M.now now) (reply_of a))
+  pub because : M.honest now → IfOk result (λ a. Because state resident command (state old) (state new) (M.now before) (M.now now) a)
   -- of a volume that stands: it is answered as the definitions do
   pub done : M.honest now → (k : Known) → Stands state holds old k (M.now before) → Does state holds command old new k (M.now before) (M.now now) result

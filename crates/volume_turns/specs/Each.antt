@@ -3,7 +3,7 @@ use Rattle.std.specs.Prelude.{◌≡◌, ◌≤◌, ⊤, ℕ, List, [], ◌∷�
 use Rattle.std.specs.List.{flat_map}
 use Rattle.sector_disk.specs.declared.machine.Machine.{Ghosts}
 use Rattle.sector_disk.specs.Machine.{Moment}
-use Rattle.fsd_files.specs.Replies.{Reply}
+use Rattle.fsd_files.specs.declared.reply.Reply.{Reply}
 use Rattle.fsd_texts.specs.declared.bad_line.BadLine.{BadLine}
 use Rattle.fsd_texts.specs.declared.end.End.TheVariants.{Bad}
 use Rattle.fsd_texts.specs.declared.line.Line.TheVariants as Says

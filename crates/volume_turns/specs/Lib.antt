@@ -1,6 +1,7 @@
 pub mod Answering
 pub mod Calls
 pub mod Causes
+pub mod Commands
 pub mod Did
 pub mod Each
 pub mod Generate
@@ -11,6 +12,7 @@ pub mod Listing
 pub mod Numbers
 pub mod Once
 pub mod Reasons
+pub mod Running
 pub mod Script
 pub mod Seats
 pub mod Status

@@ -4,87 +4,55 @@ use Rattle.fsd_bytes.specs.declared.key.Key.{Key}
 use Rattle.fsd_bytes.specs.declared.pattern.Pattern.{Pattern}
 use Rattle.fsd_bytes.specs.declared.refusal.Refusal.TheVariants as Why
 use Rattle.fsd_formats.specs.declared.entry.Entry.{Entry}
-use Rattle.fsd_formats.specs.NamePage.{sectors_for}
 use Rattle.volume_layout.specs.declared.kind.Kind.TheVariants.{Two, Three}
 use Rattle.volume_layout.specs.Layout.{with_kind}
 use Rattle.fsd_table.specs.Table.{Visit}
-use Rattle.fsd_files.specs.Replies.{Reply}
-use Rattle.fsd_texts.specs.declared.command.Command.{Command}
-use Rattle.fsd_texts.specs.declared.command.Command.TheVariants as Word
+use Rattle.fsd_files.specs.declared.reply.Reply.{Reply}
+use Rattle.fsd_files.specs.declared.reply.Reply.TheVariants as Said
 use Rattle.fsd_texts.specs.declared.call.Call.{Call}
 use Rattle.fsd_texts.specs.declared.call.Call.TheVariants as Calls
-use Rattle.fsd_texts.specs.declared.script_command.ScriptCommand.{ScriptCommand}
-use Rattle.fsd_texts.specs.declared.script_command.ScriptCommand.TheVariants.{Plain, OfClient}
 use Rattle.fsd_texts.specs.declared.fault.Fault.{Fault}
 use Rattle.sector_disk.specs.Machine.{Ledger, Moment}
 use Rattle.volume_contract.specs.Absent.{LacksKey, LacksLater, Reaches}
 use Rattle.volume_contract.specs.Causes.{Shows}
 use Rattle.volume_contract.specs.Found.{HasEntry, HasRange}
-use Rattle.volume_contract.specs.State.{Ages, State, change_len, force_len, put_len}
+use Rattle.volume_contract.specs.State.{Ages, State, force_len}
 use Rattle.volume_contract.specs.Upgrade.{RootsStand}
 use Rattle.scrub.specs.Looking.{AreDamaged}
 use Rattle.scrub.specs.Scrub.{WritesHealed}
-use Rattle.volume_turns.specs.declared.answer.Answer.{Answer}
-use Rattle.volume_turns.specs.declared.answer.Answer.TheVariants as Said
 use Rattle.scrub.specs.Walk.{last_key}
 use Rattle.volume_turns.specs.Listing.{fitting}
 
 -- ---- what is written
 
--- how many sectors a command writes at most over a volume of this state, but for the force behind it, and for what a
--- scrub heals
-abbrev pub most_written : Command → State → ℕ
-most_written (Word.Put name bytes keep) s = put_len s (sectors_for (length bytes))
-most_written (Word.Delete key) s = change_len s
-most_written (Word.Keep name keep) s = change_len s
-most_written Word.Force s = force_len s
-most_written Word.Tick s = force_len s
-most_written Word.Scrub s = force_len s
-most_written Word.Upgrade s = 2
-most_written (Word.List pattern) s = 0
-most_written (Word.Get key) s = 0
-most_written Word.Stat s = 0
-
 abbrev pub IsUpTo : ℕ → Ledger → Ledger → Type 0
 IsUpTo n old new = (old.written ≤ new.written) × (new.written ≤ old.written + n)
 
 -- so many sectors are counted as written, where it is done, and no more where it is refused
-abbrev pub HasWritten : ℕ → Ledger → Ledger → Result Answer Fault → Type 0
+abbrev pub HasWritten : ℕ → Ledger → Ledger → Result Reply Fault → Type 0
 HasWritten n old new (Ok (Said.Refused why)) = IsUpTo n old new
 HasWritten n old new (Ok answer) = new.written ≡ old.written + n
 HasWritten n old new (Err fault) = IsUpTo n old new
 
 -- beside these a scrub that is done has written the sectors that it tells as healed, no more of them than a number can
 -- tell; of one that a fault has ended nothing is told
-abbrev pub HasScrubbed : State → Ledger → Ledger → Result Answer Fault → Type 0
-HasScrubbed s old new (Ok (Said.Scrubbed found healed)) = WritesHealed (most_written Word.Scrub s) old new healed
+abbrev pub HasScrubbed : State → Ledger → Ledger → Result Reply Fault → Type 0
+HasScrubbed s old new (Ok (Said.Scrubbed found healed)) = WritesHealed (force_len s) old new healed
 HasScrubbed s old new result = ⊤
-
-abbrev pub HasWrittenBy : Command → State → Ledger → Ledger → Result Answer Fault → Type 0
-HasWrittenBy (Word.Put name bytes keep) s old new result = HasWritten (most_written (Word.Put name bytes keep) s) old new result
-HasWrittenBy (Word.Delete key) s old new result = HasWritten (most_written (Word.Delete key) s) old new result
-HasWrittenBy (Word.Keep name keep) s old new result = HasWritten (most_written (Word.Keep name keep) s) old new result
-HasWrittenBy (Word.List pattern) s old new result = HasWritten (most_written (Word.List pattern) s) old new result
-HasWrittenBy (Word.Get key) s old new result = HasWritten (most_written (Word.Get key) s) old new result
-HasWrittenBy Word.Force s old new result = HasWritten (most_written Word.Force s) old new result
-HasWrittenBy Word.Tick s old new result = HasWritten (most_written Word.Tick s) old new result
-HasWrittenBy Word.Stat s old new result = HasWritten (most_written Word.Stat s) old new result
-HasWrittenBy Word.Scrub s old new result = HasScrubbed s old new result
-HasWrittenBy Word.Upgrade s old new result = HasWritten (most_written Word.Upgrade s) old new result
 
 -- ---- what a scrub has found
 
 -- each is a data sector, which is damaged in the image
 abbrev pub BecauseScrubbed : State → Moment → Reply → Type 0
-BecauseScrubbed s new (Reply.Scrubbed found healed) = AreDamaged s.layout new.image found
+BecauseScrubbed s new (Said.Scrubbed found healed) = AreDamaged s.layout new.image found
 BecauseScrubbed s new reply = ⊤
 
 -- ---- which layout the volume has
 
 -- it had layout 1 and both roots say 2 now, or it had layout 2
 abbrev pub BecauseUpgraded : (s t : State) → (new : Moment) → Reply → Type 0
-BecauseUpgraded s t new Reply.Upgraded = (s.layout.kind ≡ Two) × (t.layout ≡ with_kind Three s.layout) × RootsStand t new
-BecauseUpgraded s t new (Reply.Refused why) = s.layout.kind ≡ Three
+BecauseUpgraded s t new Said.Upgraded = (s.layout.kind ≡ Two) × (t.layout ≡ with_kind Three s.layout) × RootsStand t new
+BecauseUpgraded s t new (Said.Refused why) = s.layout.kind ≡ Three
 BecauseUpgraded s t new reply = ⊤
 
 -- ---- what the pages that were read show
@@ -109,30 +77,18 @@ module _ {S : Type 0} (state : S → State) (resident : S → ℕ → Option (Li
   -- No version of the key is there: a leaf between whose bounds the key stands lacks it. Bytes are those that the entry's
   -- sectors keep, which were whole.
   abbrev pub BecauseRead : Key → (s t : State) → (old new : Moment) → Reply → Type 0
-  BecauseRead key s t old new (Reply.Refused why) = why ≡ Why.NoSuch → Showed s t old new (λ from. LacksKey key)
-  BecauseRead key s t old new (Reply.Bytes k bytes) = (room : List ℕ) × (n : ℕ) × Showed s t old new (λ from. HasRange t from.image key 0 room bytes n)
+  BecauseRead key s t old new (Said.Refused why) = why ≡ Why.NoSuch → Showed s t old new (λ from. LacksKey key)
+  BecauseRead key s t old new (Said.Bytes k bytes) = (room : List ℕ) × (n : ℕ) × Showed s t old new (λ from. HasRange t from.image key 0 room bytes n)
   BecauseRead key s t old new reply = ⊤
 
   abbrev pub BecauseListed : Pattern → (s t : State) → (old new : Moment) → Reply → Type 0
-  BecauseListed pattern s t old new (Reply.Listed entries) = ListsAll pattern s t old new entries
+  BecauseListed pattern s t old new (Said.Listed entries) = ListsAll pattern s t old new entries
   BecauseListed pattern s t old new reply = ⊤
-
-  abbrev pub Because : Command → (s t : State) → (old new : Moment) → Reply → Type 0
-  Because (Word.Put name bytes keep) s t old new reply = ⊤
-  Because (Word.Delete key) s t old new reply = ⊤
-  Because (Word.Keep name keep) s t old new reply = ⊤
-  Because (Word.List pattern) s t old new reply = BecauseListed pattern s t old new reply
-  Because (Word.Get key) s t old new reply = BecauseRead key s t old new reply
-  Because Word.Force s t old new reply = ⊤
-  Because Word.Tick s t old new reply = ⊤
-  Because Word.Stat s t old new reply = ⊤
-  Because Word.Scrub s t old new reply = BecauseScrubbed s new reply
-  Because Word.Upgrade s t old new reply = BecauseUpgraded s t new reply
 
   -- Of a client that opens a version: none of the key is there, or one is, with an entry of this length.
   abbrev pub BecauseOpened : Key → (s t : State) → (old new : Moment) → Reply → Type 0
-  BecauseOpened key s t old new (Reply.Refused why) = why ≡ Why.NoSuch → Showed s t old new (λ from. LacksKey key)
-  BecauseOpened key s t old new (Reply.Opened c len) = (e : Entry) × (e.key ≡ key) × (e.length ≡ len) × Showed s t old new (λ from. HasEntry e)
+  BecauseOpened key s t old new (Said.Refused why) = why ≡ Why.NoSuch → Showed s t old new (λ from. LacksKey key)
+  BecauseOpened key s t old new (Said.Opened c len) = (e : Entry) × (e.key ≡ key) × (e.length ≡ len) × Showed s t old new (λ from. HasEntry e)
   BecauseOpened key s t old new reply = ⊤
 
   abbrev pub BecauseCalled : Call → (s t : State) → (old new : Moment) → Reply → Type 0
@@ -143,8 +99,3 @@ module _ {S : Type 0} (state : S → State) (resident : S → ℕ → Option (Li
   BecauseCalled (Calls.Open key) s t old new reply = BecauseOpened key s t old new reply
   BecauseCalled (Calls.Next len) s t old new reply = ⊤
   BecauseCalled Calls.Done s t old new reply = ⊤
-
-  -- so it is of a script's command
-  abbrev pub BecauseIn : ScriptCommand → (s t : State) → (old new : Moment) → Reply → Type 0
-  BecauseIn (Plain command) s t old new reply = Because command s t old new reply
-  BecauseIn (OfClient c call) s t old new reply = BecauseCalled call s t old new reply

@@ -7,7 +7,7 @@ use Rattle.fsd_log.specs.Scan.{Placed}
 use Rattle.fsd_files.specs.Desk.{Open, Session}
 use Rattle.fsd_files.specs.Disk.{Image}
 use Rattle.fsd_files.specs.Files.{Change}
-use Rattle.fsd_files.specs.Replies.{Reply}
+use Rattle.fsd_files.specs.declared.reply.Reply.{Reply}
 use Rattle.fsd_sound.specs.Mounted.{Mounted}
 use Rattle.fsd_texts.specs.declared.fault.Fault.{Fault}
 use Rattle.fsd_texts.specs.declared.fault.Fault.TheVariants as Ends
@@ -16,8 +16,7 @@ use Rattle.fsd_runs.specs.Sessions.{HoldsRead, MayFindIn, Meeting, answer_in, ch
 use Rattle.volume_contract.specs.State.{Known, Opened, State, is_worn}
 use Rattle.client_desk.specs.declared.client.Client.{Client}
 use Rattle.client_desk.specs.Ends.{Sits, session_of}
-use Rattle.volume_turns.specs.declared.answer.Answer.{Answer}
-use Rattle.volume_turns.specs.Steps.{StaysSound, reply_of}
+use Rattle.volume_turns.specs.Steps.{StaysSound}
 
 -- What stands: the volume with what it has in memory, what is open, the windows and the changes so far, and what each
 -- client has open.
@@ -65,8 +64,8 @@ module _ {S : Type 0} (state : S → State) (has : S → Mounted → List Placed
   StaysIn x old left = (k : Seated) → SitsAt x k old → StaysSound (known_of k) old left
 
   -- how a command ends
-  abbrev pub DoesIn : ScriptCommand → (old new : S × List Client) → Seated → (before now : Moment) → Result Answer Fault → Type 0
-  DoesIn command old new k before now (Ok a) = (after : Seated) × IsAnsweredIn command (state old.0) k after before.image now.image (reply_of a) × SitsAt new after now
+  abbrev pub DoesIn : ScriptCommand → (old new : S × List Client) → Seated → (before now : Moment) → Result Reply Fault → Type 0
+  DoesIn command old new k before now (Ok a) = (after : Seated) × IsAnsweredIn command (state old.0) k after before.image now.image a × SitsAt new after now
   DoesIn command old new k before now (Err (Ends.Device s)) = ⊤
   DoesIn command old new k before now (Err Ends.Memory) = ⊤
   DoesIn command old new k before now (Err Ends.WornOut) = IsRefusedWornIn command k (state old.0) × SitsAt new k now

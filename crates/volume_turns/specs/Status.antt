@@ -3,10 +3,10 @@ use Rattle.std.specs.Prelude.{◌≡◌, ◌⊎◌, ◌≤◌, ◌==◌, ◌||�
 use Rattle.std.specs.List.{list_any}
 use Rattle.sector_disk.specs.Machine.{Report, Rose}
 use Rattle.fsd_texts.specs.declared.command.Command.{Command}
-use Rattle.fsd_texts.specs.declared.command.Command.TheVariants.{Delete, Force, Get, Keep, List, Put, Scrub, Stat, Tick, Upgrade}
 use Rattle.fsd_texts.specs.declared.fault.Fault.{Fault}
 use Rattle.fsd_runs.specs.Errands.{fault_status}
 use Rattle.volume_turns.specs.Steps.{IsOfVolume}
+use Rattle.volume_turns.specs.Commands.{IsStatusFrom}
 
 -- ---- which statuses there are
 
@@ -17,20 +17,6 @@ IsStatusOfFault status = (why : Fault) × IsOfVolume why × (status ≡ fault_st
 -- that of a fault of the volume, or of an output that failed
 abbrev pub IsStatusBroken : ℕ → Type 0
 IsStatusBroken status = IsStatusOfFault status ⊎ (status ≡ 6)
-
--- the status of a reply to this command: a change is made or refused, and so is an upgrade; so a version is read, or a sector of it is
--- damaged; of what is told, and of a force, nothing is refused; a scrub has found damaged sectors, or none
-abbrev pub IsStatusFrom : Command → ℕ → Type 0
-IsStatusFrom (Put name bytes keep) status = status ≤ 1
-IsStatusFrom (Delete key) status = status ≤ 1
-IsStatusFrom (Keep name keep) status = status ≤ 1
-IsStatusFrom (List pattern) status = status ≡ 0
-IsStatusFrom (Get key) status = (status ≤ 1) ⊎ (status ≡ 8)
-IsStatusFrom Force status = status ≡ 0
-IsStatusFrom Tick status = status ≡ 0
-IsStatusFrom Stat status = status ≡ 0
-IsStatusFrom Scrub status = (status ≡ 0) ⊎ (status ≡ 8)
-IsStatusFrom Upgrade status = status ≤ 1
 
 -- one command ends with the status of its reply, or of a fault, or its output failed
 abbrev pub IsOneStatus : Command → ℕ → Type 0

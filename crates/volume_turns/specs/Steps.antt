@@ -7,7 +7,8 @@ use Rattle.fsd_bytes.specs.declared.refusal.Refusal.{Refusal}
 use Rattle.fsd_bytes.specs.declared.refusal.Refusal.TheVariants as Why
 use Rattle.fsd_files.specs.Answers.{Met}
 use Rattle.fsd_files.specs.Disk.{Image}
-use Rattle.fsd_files.specs.Replies.{Reply}
+use Rattle.fsd_files.specs.declared.reply.Reply.{Reply}
+use Rattle.fsd_files.specs.declared.reply.Reply.TheVariants as Said
 use Rattle.fsd_texts.specs.declared.command.Command.{Command}
 use Rattle.fsd_texts.specs.declared.command.Command.TheVariants as Word
 use Rattle.fsd_texts.specs.declared.script_command.ScriptCommand.{ScriptCommand}
@@ -19,9 +20,7 @@ use Rattle.sector_disk.specs.Damage.{AreLost}
 use Rattle.sector_disk.specs.Machine.{Moment}
 use Rattle.fsd_sound.specs.Mounted.{Mounted}
 use Rattle.fsd_sound.specs.Sound.{IsSound}
-use Rattle.scrub.specs.Telling.{AreOfPage, IsHomeOfPage, StandTwice}
-use Rattle.volume_turns.specs.declared.answer.Answer.{Answer}
-use Rattle.volume_turns.specs.declared.answer.Answer.TheVariants as Said
+use Rattle.scrub.specs.Telling.{IsHomeOfPage}
 use Rattle.volume_contract.specs.State.{State, Known, volume_of, forced_of, Stands, is_worn}
 
 -- ---- which command it is
@@ -36,29 +35,10 @@ abbrev pub is_upgrade_in : ScriptCommand → Bool
 is_upgrade_in (Plain command) = is_upgrade command
 is_upgrade_in (OfClient c call) = false
 
--- ---- answers of the code
-
-abbrev pub reply_of : Answer → Reply
-reply_of (Said.Refused why) = Reply.Refused why
-reply_of (Said.Made key sectors) = Reply.Made key sectors
-reply_of (Said.Deleted key) = Reply.Deleted key
-reply_of (Said.Kept key keep) = Reply.Kept key keep
-reply_of (Said.Bytes key bytes) = Reply.Bytes key bytes.items
-reply_of (Said.Damaged key s) = Reply.DamagedAt key s
-reply_of Said.Forced = Reply.Forced
-reply_of (Said.Listed entries) = Reply.Listed entries.items
-reply_of (Said.Counts s) = Reply.Counts s.free s.waiting s.pages_free s.versions
-reply_of (Said.Scrubbed found healed) = Reply.Scrubbed found.items healed
-reply_of Said.Upgraded = Reply.Upgraded
-reply_of (Said.Begun c) = Reply.Begun c
-reply_of (Said.Took c sum) = Reply.Took c sum
-reply_of (Said.Dropped c) = Reply.Dropped c
-reply_of (Said.Opened c len) = Reply.Opened c len
-reply_of (Said.Given c bytes) = Reply.Given c bytes.items
-reply_of (Said.Done c) = Reply.Done c
+-- ---- how a refusal is answered
 
 -- a refusal ends the run, or is said
-abbrev pub ended_by : Refusal → Result Answer Fault
+abbrev pub ended_by : Refusal → Result Reply Fault
 ended_by (Why.Device s) = Err (Ends.Device s)
 ended_by (Why.Down s) = Err (Ends.Device s)
 ended_by (Why.Lost a b) = Err (Ends.Lost a b)
@@ -67,8 +47,8 @@ ended_by Why.WornOut = Err Ends.WornOut
 ended_by Why.Memory = Err Ends.Memory
 ended_by why = Ok (Said.Refused why)
 
-abbrev pub read_ended_by : Key → Refusal → Result Answer Fault
-read_ended_by key (Why.Damaged s) = Ok (Said.Damaged key s)
+abbrev pub read_ended_by : Key → Refusal → Result Reply Fault
+read_ended_by key (Why.Damaged s) = Ok (Said.DamagedAt key s)
 read_ended_by key why = ended_by why
 
 -- a fault of a volume or of its mount, and none of the input
@@ -88,20 +68,6 @@ abbrev pub IsOfImage : Fault → Type 0
 IsOfImage (Ends.Lost a b) = ⊤
 IsOfImage (Ends.Unsound s) = ⊤
 IsOfImage fault = ⊥
-
--- the sectors that a command may tell as lost: two copies of one page, and a scrub also those of the root and of the
--- anchor
-abbrev pub MayLose : Command → Layout → (a b : ℕ) → Type 0
-MayLose (Word.Put name bytes keep) = AreOfPage
-MayLose (Word.Delete key) = AreOfPage
-MayLose (Word.Keep name keep) = AreOfPage
-MayLose (Word.List pattern) = AreOfPage
-MayLose (Word.Get key) = AreOfPage
-MayLose Word.Force = AreOfPage
-MayLose Word.Tick = AreOfPage
-MayLose Word.Stat = AreOfPage
-MayLose Word.Scrub = StandTwice
-MayLose Word.Upgrade = AreOfPage
 
 -- It is so by this layout, in this image: the two sectors that are told as lost are such copies and both damaged, and it
 -- is the home of a page of the table that is told as unsound.
@@ -153,8 +119,8 @@ pub record IsRefusedWorn (command : Command) (s : State) : Type 0 where
   pub worn : IsTrue (is_worn s)
 
 module _ {S : Type 0} (state : S → State) (has : S → Mounted → List Placed → Type 0) where
-  abbrev pub Does : Command → (old new : S) → Known → (before now : Moment) → Result Answer Fault → Type 0
-  Does command old new k before now (Ok a) = (after : Known) × IsAnswered command (state old) k after before.image now.image (reply_of a) × Stands state has new after now
+  abbrev pub Does : Command → (old new : S) → Known → (before now : Moment) → Result Reply Fault → Type 0
+  Does command old new k before now (Ok a) = (after : Known) × IsAnswered command (state old) k after before.image now.image a × Stands state has new after now
   Does command old new k before now (Err (Ends.Device s)) = ⊤
   Does command old new k before now (Err Ends.Memory) = ⊤
   Does command old new k before now (Err Ends.WornOut) = IsRefusedWorn command (state old) × Stands state has new k now

@@ -2,7 +2,7 @@
 use Rattle.std.specs.Prelude.{◌+◌, ◌≤◌, List, [], ◌∷◌}
 use Rattle.fsd_texts.specs.declared.counts.Counts.{Counts}
 use Rattle.fsd_texts.specs.declared.script_command.ScriptCommand.{ScriptCommand}
-use Rattle.fsd_files.specs.Replies.{Reply}
+use Rattle.fsd_files.specs.declared.reply.Reply.{Reply}
 use Rattle.fsd_runs.specs.Errands.{Answered, moved_in, is_deleted, is_kept, is_made, is_read, is_refused}
 
 -- nothing was done yet

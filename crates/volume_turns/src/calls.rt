@@ -9,11 +9,12 @@ ghost use Rattle.client_desk.specs.Clients.{IsDesk};
 ghost use Rattle.volume_turns.specs.Calls.{AnswersIn, next_ended_by, room_for, sectors_made};
 ghost use Rattle.volume_turns.specs.Reasons.{BecauseCalled, BecauseOpened};
 ghost use Rattle.volume_turns.specs.Seats.{DoesIn, Seated, SitsAt, StaysIn};
-ghost use Rattle.volume_turns.specs.Steps.{IsOfCall, device_by, reply_of};
+ghost use Rattle.volume_turns.specs.Steps.{IsOfCall, device_by};
 
-use crate::answer::{Answer, ended_by, read_ended_by};
+use crate::answer::{ended_by, read_ended_by};
 use client_desk::Desk;
 use fsd_bytes::{FileName, Key, Refusal};
+use fsd_files::{Items, Reply};
 use fsd_texts::{Call, Fault};
 use sector_disk::Machine;
 use std::alloc::Global;
@@ -27,7 +28,7 @@ fn begin<M: Machine, V: Files<M>>(
     client: u32,
     name: &FileName,
     length: u32,
-) -> Result<Answer, Fault>
+) -> Result<Reply, Fault>
     requires room { (V.state v.old).layout.sectors ≤ (M.report m.old).sectors }
     requires up { (V.state v.old).down ≡ None }
     requires desk { IsDesk (V.state v.old) desk.old }
@@ -42,7 +43,7 @@ fn begin<M: Machine, V: Files<M>>(
         DoesIn V.state V.holds (OfClient client (Calls.Begin name.now length)) (v.old, desk.old) (v.new, desk.new) k (M.now m.old) (M.now m.new) result }
 {
     match desk.begin(v, m, client, name, length as u64) {
-        Ok(()) => Ok(Answer::Begun(client)),
+        Ok(()) => Ok(Reply::Begun(client)),
         Err(why) => ended_by(why),
     }
 }
@@ -54,7 +55,7 @@ fn piece<M: Machine, V: Files<M>>(
     m: &mut M,
     client: u32,
     bytes: &[u8],
-) -> Result<Answer, Fault>
+) -> Result<Reply, Fault>
     requires room { (V.state v.old).layout.sectors ≤ (M.report m.old).sectors }
     requires up { (V.state v.old).down ≡ None }
     requires desk { IsDesk (V.state v.old) desk.old }
@@ -69,7 +70,7 @@ fn piece<M: Machine, V: Files<M>>(
         DoesIn V.state V.holds (OfClient client (Calls.Piece bytes.now)) (v.old, desk.old) (v.new, desk.new) k (M.now m.old) (M.now m.new) result }
 {
     match desk.piece(v, m, client, bytes) {
-        Ok(sum) => Ok(Answer::Took { client, sum }),
+        Ok(sum) => Ok(Reply::Took { client, sum }),
         Err(why) => ended_by(why),
     }
 }
@@ -80,7 +81,7 @@ fn close<M: Machine, V: Files<M>>(
     desk: &mut Desk,
     m: &mut M,
     client: u32,
-) -> Result<Answer, Fault>
+) -> Result<Reply, Fault>
     requires room { (V.state v.old).layout.sectors ≤ (M.report m.old).sectors }
     requires up { (V.state v.old).down ≡ None }
     requires desk { IsDesk (V.state v.old) desk.old }
@@ -95,7 +96,7 @@ fn close<M: Machine, V: Files<M>>(
 {
     let sectors = sectors_made(desk.declared(client));
     match desk.close(v, m, client) {
-        Ok(key) => Ok(Answer::Made { key, sectors }),
+        Ok(key) => Ok(Reply::Made { key, sectors }),
         Err(why) => ended_by(why),
     }
 }
@@ -106,7 +107,7 @@ fn drop_draft<M: Machine, V: Files<M>>(
     desk: &mut Desk,
     m: &mut M,
     client: u32,
-) -> Result<Answer, Fault>
+) -> Result<Reply, Fault>
     requires room { (V.state v.old).layout.sectors ≤ (M.report m.old).sectors }
     requires up { (V.state v.old).down ≡ None }
     requires desk { IsDesk (V.state v.old) desk.old }
@@ -121,7 +122,7 @@ fn drop_draft<M: Machine, V: Files<M>>(
         DoesIn V.state V.holds (OfClient client Calls.Drop) (v.old, desk.old) (v.new, desk.new) k (M.now m.old) (M.now m.new) result }
 {
     match desk.drop_draft(v, client) {
-        Ok(()) => Ok(Answer::Dropped(client)),
+        Ok(()) => Ok(Reply::Dropped(client)),
         Err(why) => ended_by(why),
     }
 }
@@ -133,7 +134,7 @@ fn open<M: Machine, V: Files<M>>(
     m: &mut M,
     client: u32,
     key: &Key,
-) -> Result<Answer, Fault>
+) -> Result<Reply, Fault>
     requires room { (V.state v.old).layout.sectors ≤ (M.report m.old).sectors }
     requires up { (V.state v.old).down ≡ None }
     requires desk { IsDesk (V.state v.old) desk.old }
@@ -143,12 +144,12 @@ fn open<M: Machine, V: Files<M>>(
     ensures disk { WritesDisk M.Machine (device_by result) (StaysIn V.state V.holds (v.old, desk.old)) m.old m.new }
     ensures fault { IfErr result IsOfCall }
     ensures answers { M.honest m.new → AnswersIn (OfClient client (Calls.Open key.now)) (V.state v.old) (V.state v.new) (M.now m.old) (M.now m.new) result }
-    ensures because { M.honest m.new → IfOk result (λ a. BecauseOpened V.state V.resident key.now (V.state v.old) (V.state v.new) (M.now m.old) (M.now m.new) (reply_of a)) }
+    ensures because { M.honest m.new → IfOk result (λ a. BecauseOpened V.state V.resident key.now (V.state v.old) (V.state v.new) (M.now m.old) (M.now m.new) a) }
     ensures done { M.honest m.new → (k : Seated) → SitsAt V.state V.holds (v.old, desk.old) k (M.now m.old) →
         DoesIn V.state V.holds (OfClient client (Calls.Open key.now)) (v.old, desk.old) (v.new, desk.new) k (M.now m.old) (M.now m.new) result }
 {
     match desk.open_key(v, m, client, key) {
-        Ok(length) => Ok(Answer::Opened { client, length }),
+        Ok(length) => Ok(Reply::Opened { client, length }),
         Err(why) => ended_by(why),
     }
 }
@@ -161,7 +162,7 @@ fn next<M: Machine, V: Files<M>>(
     m: &mut M,
     client: u32,
     len: u32,
-) -> Result<Answer, Fault>
+) -> Result<Reply, Fault>
     requires room { (V.state v.old).layout.sectors ≤ (M.report m.old).sectors }
     requires up { (V.state v.old).down ≡ None }
     requires desk { IsDesk (V.state v.old) desk.old }
@@ -179,7 +180,10 @@ fn next<M: Machine, V: Files<M>>(
         return Err(Fault::Memory);
     };
     match desk.next(v, m, client, bytes.as_mut_slice()) {
-        Ok(_) => Ok(Answer::Given { client, bytes }),
+        Ok(_) => Ok(Reply::Given {
+            client,
+            bytes: Items::from(bytes),
+        }),
         Err(why) => next_ended_by(desk.key(client), why),
     }
 }
@@ -190,7 +194,7 @@ fn done<M: Machine, V: Files<M>>(
     desk: &mut Desk,
     m: &mut M,
     client: u32,
-) -> Result<Answer, Fault>
+) -> Result<Reply, Fault>
     requires room { (V.state v.old).layout.sectors ≤ (M.report m.old).sectors }
     requires up { (V.state v.old).down ≡ None }
     requires desk { IsDesk (V.state v.old) desk.old }
@@ -205,7 +209,7 @@ fn done<M: Machine, V: Files<M>>(
         DoesIn V.state V.holds (OfClient client Calls.Done) (v.old, desk.old) (v.new, desk.new) k (M.now m.old) (M.now m.new) result }
 {
     match desk.done(v, client) {
-        Ok(()) => Ok(Answer::Done(client)),
+        Ok(()) => Ok(Reply::Done(client)),
         Err(why) => ended_by(why),
     }
 }
@@ -218,7 +222,7 @@ pub(crate) fn call<M: Machine, V: Files<M>>(
     m: &mut M,
     client: u32,
     call: &Call,
-) -> Result<Answer, Fault>
+) -> Result<Reply, Fault>
     requires room { (V.state v.old).layout.sectors ≤ (M.report m.old).sectors }
     requires up { (V.state v.old).down ≡ None }
     requires desk { IsDesk (V.state v.old) desk.old }
@@ -228,7 +232,7 @@ pub(crate) fn call<M: Machine, V: Files<M>>(
     ensures disk { WritesDisk M.Machine (device_by result) (StaysIn V.state V.holds (v.old, desk.old)) m.old m.new }
     ensures fault { IfErr result IsOfCall }
     ensures answers { M.honest m.new → AnswersIn (OfClient client call.now) (V.state v.old) (V.state v.new) (M.now m.old) (M.now m.new) result }
-    ensures because { M.honest m.new → IfOk result (λ a. BecauseCalled V.state V.resident call.now (V.state v.old) (V.state v.new) (M.now m.old) (M.now m.new) (reply_of a)) }
+    ensures because { M.honest m.new → IfOk result (λ a. BecauseCalled V.state V.resident call.now (V.state v.old) (V.state v.new) (M.now m.old) (M.now m.new) a) }
     ensures done { M.honest m.new → (k : Seated) → SitsAt V.state V.holds (v.old, desk.old) k (M.now m.old) →
         DoesIn V.state V.holds (OfClient client call.now) (v.old, desk.old) (v.new, desk.new) k (M.now m.old) (M.now m.new) result }
 {
@@ -264,7 +268,7 @@ fn room_for(left: Option<u32>, len: u32) -> u32
 }
 
 // A refusal of a read is said with the version's key, or ends the run.
-fn next_ended_by(key: Option<Key>, why: Refusal) -> Result<Answer, Fault>
+fn next_ended_by(key: Option<Key>, why: Refusal) -> Result<Reply, Fault>
     ensures is { result ≡ next_ended_by key why }
     ensures fault { IfErr result IsOfCall }
 {

@@ -3,18 +3,18 @@ ghost use Rattle.std.specs.Prelude.{◌≡◌, ◌≤◌, false, None, IfErr, If
 ghost use Rattle.fsd_formats.specs.NamePage.{max_length, sectors_for};
 ghost use Rattle.fsd_files.specs.Answers.{entry_of};
 ghost use Rattle.fsd_texts.specs.declared.command.Command.TheVariants as Word;
-ghost use Rattle.fsd_runs.specs.Errands.{reply_status};
+ghost use Rattle.fsd_runs.specs.Commands.{reply_status};
 ghost use Rattle.sector_disk.specs.Calls.{OnlyReads};
 ghost use Rattle.volume_contract.specs.State.{Known, Stands, volume_of};
 ghost use Rattle.volume_turns.specs.Answering.{Answers};
 ghost use Rattle.volume_turns.specs.Did.{Did};
-ghost use Rattle.volume_turns.specs.Reasons.{Because, HasWrittenBy};
-ghost use Rattle.volume_turns.specs.Status.{IsStatusFrom};
-ghost use Rattle.volume_turns.specs.Steps.{Does, IsOfCall, device_by, is_upgrade, reply_of};
+ghost use Rattle.volume_turns.specs.Commands.{Because, HasWrittenBy, IsStatusFrom};
+ghost use Rattle.volume_turns.specs.Steps.{Does, IsOfCall, device_by, is_upgrade};
 
-use crate::answer::{Answer, ended_by, read_ended_by};
+use crate::answer::{ended_by, read_ended_by};
 use crate::listing::list;
 use fsd_bytes::{FileName, Key};
+use fsd_files::{Items, Reply};
 use fsd_texts::{Command, Fault};
 use scrub::scrub;
 use sector_disk::Machine;
@@ -28,13 +28,13 @@ pub(crate) fn put<M: Machine, V: Files<M>>(
     name: &FileName,
     keep: Option<u32>,
     bytes: &[u8],
-) -> Result<Answer, Fault>
+) -> Result<Reply, Fault>
     requires room { (V.state v.old).layout.sectors ≤ (M.report m.old).sectors }
     requires up { (V.state v.old).down ≡ None }
     ensures { Did M.Machine V.state V.holds V.resident (Word.Put name.now bytes.now keep) v.old v.new m.old m.new result }
 {
     match v.put(m, name, keep, bytes) {
-        Ok(key) => Ok(Answer::Made {
+        Ok(key) => Ok(Reply::Made {
             key,
             sectors: sectors_of(bytes.len()),
         }),
@@ -47,13 +47,13 @@ pub(crate) fn delete<M: Machine, V: Files<M>>(
     v: &mut V,
     m: &mut M,
     key: &Key,
-) -> Result<Answer, Fault>
+) -> Result<Reply, Fault>
     requires room { (V.state v.old).layout.sectors ≤ (M.report m.old).sectors }
     requires up { (V.state v.old).down ≡ None }
     ensures { Did M.Machine V.state V.holds V.resident (Word.Delete key.now) v.old v.new m.old m.new result }
 {
     match v.delete(m, key) {
-        Ok(()) => Ok(Answer::Deleted(key.copied())),
+        Ok(()) => Ok(Reply::Deleted(key.copied())),
         Err(why) => ended_by(why),
     }
 }
@@ -64,37 +64,37 @@ pub(crate) fn set_keep<M: Machine, V: Files<M>>(
     m: &mut M,
     name: &FileName,
     keep: u32,
-) -> Result<Answer, Fault>
+) -> Result<Reply, Fault>
     requires room { (V.state v.old).layout.sectors ≤ (M.report m.old).sectors }
     requires up { (V.state v.old).down ≡ None }
     ensures { Did M.Machine V.state V.holds V.resident (Word.Keep name.now keep) v.old v.new m.old m.new result }
 {
     match v.set_keep(m, name, keep) {
-        Ok(key) => Ok(Answer::Kept { key, keep }),
+        Ok(key) => Ok(Reply::Kept { key, keep }),
         Err(why) => ended_by(why),
     }
 }
 
 // Forces all.
-pub(crate) fn force<M: Machine, V: Files<M>>(v: &mut V, m: &mut M) -> Result<Answer, Fault>
+pub(crate) fn force<M: Machine, V: Files<M>>(v: &mut V, m: &mut M) -> Result<Reply, Fault>
     requires room { (V.state v.old).layout.sectors ≤ (M.report m.old).sectors }
     requires up { (V.state v.old).down ≡ None }
     ensures { Did M.Machine V.state V.holds V.resident Word.Force v.old v.new m.old m.new result }
 {
     match v.force(m) {
-        Ok(_) => Ok(Answer::Forced),
+        Ok(_) => Ok(Reply::Forced),
         Err(why) => ended_by(why),
     }
 }
 
 // Forces all, as time goes on.
-pub(crate) fn tick<M: Machine, V: Files<M>>(v: &mut V, m: &mut M) -> Result<Answer, Fault>
+pub(crate) fn tick<M: Machine, V: Files<M>>(v: &mut V, m: &mut M) -> Result<Reply, Fault>
     requires room { (V.state v.old).layout.sectors ≤ (M.report m.old).sectors }
     requires up { (V.state v.old).down ≡ None }
     ensures { Did M.Machine V.state V.holds V.resident Word.Tick v.old v.new m.old m.new result }
 {
     match v.tick(m) {
-        Ok(_) => Ok(Answer::Forced),
+        Ok(_) => Ok(Reply::Forced),
         Err(why) => ended_by(why),
     }
 }
@@ -105,7 +105,7 @@ pub(crate) fn get<M: Machine, V: Files<M>>(
     v: &mut V,
     m: &mut M,
     key: &Key,
-) -> Result<Answer, Fault>
+) -> Result<Reply, Fault>
     requires room { (V.state v.old).layout.sectors ≤ (M.report m.old).sectors }
     requires up { (V.state v.old).down ≡ None }
     ensures { Did M.Machine V.state V.holds V.resident (Word.Get key.now) v.old v.new m.old m.new result }
@@ -123,16 +123,16 @@ fn read_whole<M: Machine, V: Files<M>>(
     m: &mut M,
     key: &Key,
     length: u32,
-) -> Result<Answer, Fault>
+) -> Result<Reply, Fault>
     requires room { (V.state v.old).layout.sectors ≤ (M.report m.old).sectors }
     requires up { (V.state v.old).down ≡ None }
     ensures state { V.state v.new ≡ V.state v.old }
     ensures disk { OnlyReads M.Machine (device_by result) m.old m.new }
     ensures fault { IfErr result IsOfCall }
-    ensures status { IfOk result (λ a. IsStatusFrom (Word.Get key.now) (reply_status (reply_of a))) }
+    ensures status { IfOk result (λ a. IsStatusFrom (Word.Get key.now) (reply_status a)) }
     ensures answers { M.honest m.new → Answers (Word.Get key.now) (V.state v.old) (V.state v.new) (M.now m.old) (M.now m.new) result }
     ensures written { M.tells m.new → HasWrittenBy (Word.Get key.now) (V.state v.old) (M.ledger m.old) (M.ledger m.new) result }
-    ensures because { M.honest m.new → IfOk result (λ a. Because V.state V.resident (Word.Get key.now) (V.state v.old) (V.state v.new) (M.now m.old) (M.now m.new) (reply_of a)) }
+    ensures because { M.honest m.new → IfOk result (λ a. Because V.state V.resident (Word.Get key.now) (V.state v.old) (V.state v.new) (M.now m.old) (M.now m.new) a) }
     ensures done { M.honest m.new → (k : Known) → Stands V.state V.holds v.old k (M.now m.old) → IfSome (entry_of key.now (volume_of k).entries) (λ e. e.length ≡ length) →
         Does V.state V.holds (Word.Get key.now) v.old v.new k (M.now m.old) (M.now m.new) result }
 {
@@ -140,9 +140,9 @@ fn read_whole<M: Machine, V: Files<M>>(
         return Err(Fault::Memory);
     };
     match v.read(m, key, 0, bytes.as_mut_slice()) {
-        Ok(_) => Ok(Answer::Bytes {
+        Ok(_) => Ok(Reply::Bytes {
             key: key.copied(),
-            bytes,
+            bytes: Items::from(bytes),
         }),
         Err(why) => read_ended_by(key, why),
     }
@@ -154,7 +154,7 @@ pub(crate) fn answer<M: Machine, V: Files<M>>(
     v: &mut V,
     m: &mut M,
     c: &Command,
-) -> Result<Answer, Fault>
+) -> Result<Reply, Fault>
     requires room { (V.state v.old).layout.sectors ≤ (M.report m.old).sectors }
     requires up { (V.state v.old).down ≡ None }
     requires other { is_upgrade c.now ≡ false }
@@ -175,15 +175,15 @@ pub(crate) fn answer<M: Machine, V: Files<M>>(
 }
 
 // Scrubs the volume.
-fn scrub_all<M: Machine, V: Files<M>>(alloc: Global, v: &mut V, m: &mut M) -> Result<Answer, Fault>
+fn scrub_all<M: Machine, V: Files<M>>(alloc: Global, v: &mut V, m: &mut M) -> Result<Reply, Fault>
     requires room { (V.state v.old).layout.sectors ≤ (M.report m.old).sectors }
     requires up { (V.state v.old).down ≡ None }
     ensures { Did M.Machine V.state V.holds V.resident Word.Scrub v.old v.new m.old m.new result }
 {
     let mut found = Vec::new(alloc);
     match scrub(v, m, &mut found) {
-        Ok(healed) => Ok(Answer::Scrubbed {
-            found,
+        Ok(healed) => Ok(Reply::Scrubbed {
+            found: Items::from(found),
             healed: healed.sectors,
         }),
         Err(why) => ended_by(why),
@@ -191,11 +191,17 @@ fn scrub_all<M: Machine, V: Files<M>>(alloc: Global, v: &mut V, m: &mut M) -> Re
 }
 
 // What it counts.
-fn count<M: Machine, V: Files<M>>(v: &mut V, m: &mut M) -> Result<Answer, Fault>
+fn count<M: Machine, V: Files<M>>(v: &mut V, m: &mut M) -> Result<Reply, Fault>
     requires up { (V.state v.old).down ≡ None }
     ensures { Did M.Machine V.state V.holds V.resident Word.Stat v.old v.new m.old m.new result }
 {
-    Ok(Answer::Counts(v.stat()))
+    let counts = v.stat();
+    Ok(Reply::Counts {
+        free: counts.free,
+        waiting: counts.waiting,
+        pages: counts.pages_free,
+        versions: counts.versions,
+    })
 }
 
 // How many sectors a version of so many bytes takes.

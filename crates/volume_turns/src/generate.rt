@@ -1,26 +1,23 @@
 //! Commands that are made up, from the mount to the line that tells what came of them.
 ghost use Rattle.std.specs.Prelude.{◌≡◌, ◌≤◌, ◌<◌, ◌+◌, ◌++◌, ◌^◌, ◌-◌, ℕ, List, None, Some, Ok, Err, false, OnOk, IfErr, IfOk, IfSome, IsTrue};
-ghost use Rattle.sector_disk.specs.declared.sector.WeakRun.{WeakRun};
-ghost use Rattle.sector_disk.specs.Calls.{Since, IsHeld, StopsOnly, stops};
+ghost use Rattle.sector_disk.specs.Calls.{Since};
 ghost use Rattle.sector_disk.specs.Machine.{OnlyWrites, Trusts};
-ghost use Rattle.volume_layout.specs.declared.layout.Layout.{Layout as Plan};
-ghost use Rattle.fsd_files.specs.Files.{Change};
 ghost use Rattle.fsd_texts.specs.Generator.{made_up};
 ghost use Rattle.fsd_texts.specs.declared.fault.Fault.TheVariants as Ends;
 ghost use Rattle.volume_turns.specs.declared.turns.End.TheVariants.{Fault as Stopped};
 ghost use Rattle.fsd_runs.specs.Errands.{forced_turn};
-ghost use Rattle.fsd_runs.specs.Leaves.{IsSoundAsSaid, LeavesRun};
 ghost use Rattle.fsd_runs.specs.declared.request.Request.TheVariants.{Generate};
 ghost use Rattle.client_desk.specs.Clients.{IsDesk, no_desk};
-ghost use Rattle.volume_contract.specs.Mount.{IsSoundAt};
 ghost use Rattle.volume_contract.specs.State.{Known, Stands, none_open, forced_of};
 ghost use Rattle.scrub.specs.Telling.{AreOfPage};
 ghost use Rattle.volume_turns.specs.Causes.{SaysFault, SaysMade, SaysOfCall, TellsImage, is_of_fault};
 ghost use Rattle.volume_turns.specs.Generate.{CountedGroup, Draws, RunsCounted, StepsCounted};
 ghost use Rattle.volume_turns.specs.Numbers.{GoesUp, MayWear};
 ghost use Rattle.volume_turns.specs.Once.{ClosesAndSays, unit_of};
+ghost use Rattle.volume_turns.specs.Running.{EndsRun, LeavesOver, TakesNothing};
 ghost use Rattle.volume_turns.specs.Status.{CountsRun, IsMadeStatus};
-ghost use Rattle.volume_turns.specs.Steps.{MayLose, is_upgrade};
+ghost use Rattle.volume_turns.specs.Steps.{is_upgrade};
+ghost use Rattle.volume_turns.specs.Commands.{MayLose};
 ghost use Rattle.volume_turns.specs.Tally.{nothing};
 ghost use Rattle.volume_turns.specs.Turns.{IsEndOfVolume, IsEndOn, KeepsSaid, Told, WantsNone, OnDisk};
 ghost use Rattle.volume_turns.specs.Whole.{RunsOut};
@@ -278,15 +275,11 @@ pub fn run_generate<M: Machine, V: Files<M> + Drop>(
     count: u32,
 ) -> u8
     requires sectors { sectors ≡ (M.report m.old).sectors }
-    ensures ledger { M.tells m.new → OnlyWrites (M.ledger m.old) (M.ledger m.new) }
-    ensures status { IsMadeStatus result }
-    ensures counts { CountsRun (M.report m.old) (M.report m.new) result }
-    ensures trust { Trusts (M.tells m.old) (M.tells m.new) (M.honest m.old) (M.honest m.new) }
+    ensures ends { EndsRun M.Machine IsMadeStatus m.old m.new result }
+    ensures takes { TakesNothing M.Machine m.old m.new result }
     ensures image { M.honest m.new → TellsImage false AreOfPage (Some count) sectors (M.now m.old) (M.now m.new) result }
-    ensures last { IsTrue (is_of_fault result) → M.honest m.new → SaysFault (M.report m.new).fault_place (M.now m.new) result }
     ensures all { result ≡ 0 → M.honest m.new → SaysMade count (M.now m.old).said (M.now m.new) }
-    ensures leaves { M.honest m.new → (input rest : List ℕ) (l : Plan) (windows : List WeakRun) (h : List Change) (f : ℕ) → IsSoundAt sectors l windows h f (M.now m.old) →
-        IsHeld M.Machine m.old (λ c. IsSoundAsSaid l windows h f (M.now m.old).image c.image) → LeavesRun (Generate seed count) input rest l windows h f (M.left_since m.new) (stops M.Machine m.new) (M.moment m.old) (StopsOnly M.Machine m.old m.new) (IsHeld M.Machine m.new) (M.report m.old) (M.report m.new) (M.now m.old) (M.now m.new) result }
+    ensures leaves { M.honest m.new → (input rest : List ℕ) → LeavesOver M.Machine (Generate seed count) input rest sectors m.old m.new result }
 {
     match V::mount(alloc, m, sectors) {
         Ok(v) => generate_on(alloc, v, m, seed, count),

@@ -1,22 +1,18 @@
 //! A version of the input's bytes, from the mount to its reply.
 ghost use Rattle.std.specs.Prelude.{◌≡◌, ◌≤◌, ◌<◌, ℕ, List, [], None, Option, false, length, IsTrue};
 ghost use Rattle.volume_turns.specs.Turns.{OnDisk};
-ghost use Rattle.sector_disk.specs.declared.sector.WeakRun.{WeakRun};
-ghost use Rattle.sector_disk.specs.Calls.{Since, IsHeld, StopsOnly, stops};
+ghost use Rattle.sector_disk.specs.Calls.{Since};
 ghost use Rattle.sector_disk.specs.Machine.{OnlyWrites, Report, Trusts};
-ghost use Rattle.volume_layout.specs.declared.layout.Layout.{Layout as Plan};
-ghost use Rattle.fsd_files.specs.Files.{Change};
 ghost use Rattle.fsd_texts.specs.declared.command.Command.TheVariants as Word;
 ghost use Rattle.fsd_texts.specs.Script.{max_input};
 ghost use Rattle.fsd_runs.specs.Commands.{reply_alone};
-ghost use Rattle.fsd_runs.specs.Leaves.{IsSoundAsSaid, LeavesRun};
 ghost use Rattle.fsd_runs.specs.declared.request.Request.TheVariants.{Put};
-ghost use Rattle.volume_contract.specs.Mount.{IsSoundAt};
 ghost use Rattle.volume_contract.specs.State.{Known, Stands, is_worn, none_open, volume_of, forced_of};
 ghost use Rattle.volume_contract.specs.Upgrade.{is_fresh};
 ghost use Rattle.scrub.specs.Telling.{AreOfPage};
 ghost use Rattle.volume_turns.specs.Answering.{SaysNoReply, SaysOne};
 ghost use Rattle.volume_turns.specs.Causes.{FailsInput, SaysFault, SaysOfCall, SaysOfInput, TellsImage, is_of_fault};
+ghost use Rattle.volume_turns.specs.Running.{EndsRun, LeavesOver, TakesAll, TakesInput};
 ghost use Rattle.volume_turns.specs.Status.{CountsRun, CountsTaking, IsPutStatus};
 ghost use Rattle.volume_turns.specs.Whole.{RunsOut};
 
@@ -101,19 +97,12 @@ pub fn run_put<M: Machine, V: Files<M> + Drop, T: Says>(
 ) -> u8
     requires sectors { sectors ≡ (M.report m.old).sectors }
     requires says { T.errand.says ≡ reply_alone }
-    ensures attaches { M.tells m.new → (M.ledger m.new).attaches ≡ (M.ledger m.old).attaches }
-    ensures status { IsPutStatus result }
-    ensures counts { CountsTaking (M.report m.old) (M.report m.new) result }
-    ensures input { result ≡ 5 → M.tells m.new → FailsInput (M.ledger m.old).input (M.report m.old) (M.report m.new) }
-    ensures fails { result ≡ 5 → M.honest m.new → SaysOfInput (M.ledger m.old).input (M.report m.old) (M.report m.new) (M.now m.new) }
-    ensures whole { result ≤ 1 → M.tells m.new → (M.ledger m.new).input ≡ [] }
-    ensures few { result ≤ 1 → M.tells m.new → length (M.ledger m.old).input ≤ max_input }
-    ensures trust { Trusts (M.tells m.old) (M.tells m.new) (M.honest m.old) (M.honest m.new) }
+    ensures ends { EndsRun M.Machine IsPutStatus m.old m.new result }
+    ensures takes { TakesInput M.Machine m.old m.new result }
+    ensures whole { result ≤ 1 → M.tells m.new → TakesAll (M.ledger m.old).input (M.ledger m.new).input }
     ensures image { M.honest m.new → TellsImage false AreOfPage None sectors (M.now m.old) (M.now m.new) result }
-    ensures last { IsTrue (is_of_fault result) → M.honest m.new → SaysFault (M.report m.new).fault_place (M.now m.new) result }
     ensures one { M.honest m.new → SaysOne (Word.Put name (M.ledger m.old).input keep) (M.now m.old) (M.now m.new) result }
-    ensures leaves { M.honest m.new → (l : Plan) (windows : List WeakRun) (h : List Change) (f : ℕ) → IsSoundAt sectors l windows h f (M.now m.old) →
-        IsHeld M.Machine m.old (λ c. IsSoundAsSaid l windows h f (M.now m.old).image c.image) → LeavesRun (Put name keep) (M.ledger m.old).input (M.ledger m.new).input l windows h f (M.left_since m.new) (stops M.Machine m.new) (M.moment m.old) (StopsOnly M.Machine m.old m.new) (IsHeld M.Machine m.new) (M.report m.old) (M.report m.new) (M.now m.old) (M.now m.new) result }
+    ensures leaves { M.honest m.new → LeavesOver M.Machine (Put name keep) (M.ledger m.old).input (M.ledger m.new).input sectors m.old m.new result }
 {
     match V::mount(alloc, m, sectors) {
         Ok(v) => put_on::<M, V, T>(alloc, v, m, name, keep),

@@ -18,7 +18,6 @@ mod turns;
 mod upgrade;
 mod whole;
 
-pub use answer::Answer;
 pub use generate::run_generate;
 pub use input::run_put;
 pub use line::last_line;

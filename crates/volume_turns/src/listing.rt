@@ -14,8 +14,9 @@ ghost use Rattle.volume_turns.specs.Listing.{fitting};
 ghost use Rattle.volume_turns.specs.Reasons.{ListsAll};
 ghost use Rattle.volume_turns.specs.Steps.{IsRefusedOn};
 
-use crate::answer::{Answer, ended_by};
+use crate::answer::ended_by;
 use fsd_bytes::{Key, Pattern, Refusal};
+use fsd_files::{Items, Reply};
 use fsd_formats::Entry;
 use fsd_texts::Fault;
 use sector_disk::Machine;
@@ -94,13 +95,13 @@ pub(crate) fn list<M: Machine, V: Files<M>>(
     v: &mut V,
     m: &mut M,
     pattern: &Pattern,
-) -> Result<Answer, Fault>
+) -> Result<Reply, Fault>
     requires room { (V.state v.old).layout.sectors ≤ (M.report m.old).sectors }
     requires up { (V.state v.old).down ≡ None }
     ensures { Did M.Machine V.state V.holds V.resident (Word.List pattern.now) v.old v.new m.old m.new result }
 {
     match collect(alloc, v, m, pattern) {
-        Ok(entries) => Ok(Answer::Listed(entries)),
+        Ok(entries) => Ok(Reply::Listed(Items::from(entries))),
         Err(why) => ended_by(why),
     }
 }

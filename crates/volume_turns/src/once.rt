@@ -1,25 +1,24 @@
 //! One command by itself over a mounted volume, to its reply.
 ghost use Rattle.std.specs.Prelude.{◌≡◌, ◌≤◌, None, Err, IfErr, IfOk, IsTrue, false, ℕ};
 ghost use Rattle.sector_disk.specs.Machine.{OnlyWrites, Trusts};
-ghost use Rattle.fsd_runs.specs.Commands.{reply_alone};
-ghost use Rattle.fsd_runs.specs.Errands.{reply_status};
+ghost use Rattle.fsd_runs.specs.Commands.{reply_alone, reply_status};
 ghost use Rattle.sector_disk.specs.Calls.{Since};
 ghost use Rattle.volume_turns.specs.Answering.{AnswersAlone, ClosesBy};
 ghost use Rattle.volume_turns.specs.Once.{ClosesAndSays, IsAlone, close_fault, fault_of, unit_of};
-ghost use Rattle.volume_turns.specs.Status.{IsStatusFrom};
+ghost use Rattle.volume_turns.specs.Commands.{IsStatusFrom};
 ghost use Rattle.volume_contract.specs.State.{Known, Stands, is_worn, none_open, volume_of, forced_of};
 ghost use Rattle.volume_contract.specs.Upgrade.{is_fresh};
-ghost use Rattle.volume_turns.specs.Steps.{is_upgrade, reply_of};
+ghost use Rattle.volume_turns.specs.Steps.{is_upgrade};
 ghost use Rattle.fsd_texts.specs.declared.fault.Fault.TheVariants as Ends;
 ghost use Rattle.volume_turns.specs.declared.turns.End.TheVariants.{Fault as Stopped};
 ghost use Rattle.volume_turns.specs.Turns.{IsEndOfVolume, Told, WantsNone, OnDisk};
 
-use crate::answer::Answer;
 use crate::commands;
 use crate::line::say_forced;
 use crate::turns::{End, Says};
 use crate::upgrade::upgrade_alone;
 use fsd_bytes::Refusal;
+use fsd_files::Reply;
 use fsd_sound::MountFault;
 use fsd_texts::{Command, Fault};
 use sector_disk::Machine;
@@ -61,13 +60,13 @@ pub(crate) fn close_and_say<M: Machine, V: Files<M>>(
 }
 
 // The status of a reply.
-fn status_of(answer: &Answer) -> u8
-    ensures { result ≡ reply_status (reply_of answer.now) }
+fn status_of(answer: &Reply) -> u8
+    ensures { result ≡ reply_status answer.now }
 {
     match answer {
-        Answer::Refused(_) => 1,
-        Answer::Damaged { .. } => 8,
-        Answer::Scrubbed { found, .. } if found.len() > 0 => 8,
+        Reply::Refused(_) => 1,
+        Reply::DamagedAt { .. } => 8,
+        Reply::Scrubbed { found, .. } if found.as_slice().len() > 0 => 8,
         _ => 0,
     }
 }
@@ -78,20 +77,20 @@ pub(crate) fn close_as<M: Machine, V: Files<M> + Drop, T: Says>(
     alloc: Global,
     v: V,
     m: &mut M,
-    answer: &Answer,
+    answer: &Reply,
 ) -> Result<u8, End>
     requires room { (V.state v).layout.sectors ≤ (M.report m.old).sectors }
     requires up { (V.state v).down ≡ None }
     ensures undone { result ≡ Err (Stopped Ends.Memory) → m.new ≡ m.old }
-    ensures status { IfOk result (λ status. status ≡ reply_status (reply_of answer.now)) }
+    ensures status { IfOk result (λ status. status ≡ reply_status answer.now) }
     ensures told { Told (M.report m.old) (M.report m.new) result }
     ensures trust { Trusts (M.tells m.old) (M.tells m.new) (M.honest m.old) (M.honest m.new) }
     ensures ledger { M.tells m.new → OnlyWrites (M.ledger m.old) (M.ledger m.new) }
     ensures fault { IfErr result IsEndOfVolume }
     ensures since { M.honest m.new → Since M.Machine m.old m.new }
     ensures later { M.honest m.new → M.moment m.old ≤ M.moment m.new }
-    ensures closing { M.honest m.new → ClosesBy (V.state v) (T.errand.says (reply_of answer.now)) (M.now m.old) (M.now m.new) (unit_of result) }
-    ensures closes { M.honest m.new → (k : Known) (f : ℕ) → Stands V.state V.holds v k (M.now m.old) → OnDisk M.Machine k f m.old → ClosesAndSays M.Machine k f (T.errand.says (reply_of answer.now)) m.old m.new (unit_of result) }
+    ensures closing { M.honest m.new → ClosesBy (V.state v) (T.errand.says answer.now) (M.now m.old) (M.now m.new) (unit_of result) }
+    ensures closes { M.honest m.new → (k : Known) (f : ℕ) → Stands V.state V.holds v k (M.now m.old) → OnDisk M.Machine k f m.old → ClosesAndSays M.Machine k f (T.errand.says answer.now) m.old m.new (unit_of result) }
 {
     let Ok(text) = T::text(alloc, answer) else {
         return Err(End::Fault(Fault::Memory));

@@ -1,13 +1,8 @@
 //! A script, from the mount to the last line.
-ghost use Rattle.std.specs.Prelude.{◌≡◌, ◌≤◌, ◌+◌, ◌++◌, List, [], ℕ, None, true, Ok, Err, OnErr, OnOk, IfErr, IfOk, IsTrue, Some};
-ghost use Rattle.sector_disk.specs.Calls.{Since, IsHeld, StopsOnly, stops};
+ghost use Rattle.std.specs.Prelude.{◌≡◌, ◌≤◌, ◌+◌, ◌++◌, [], ℕ, None, true, Ok, Err, OnErr, OnOk, IfErr, IfOk, IsTrue, Some};
+ghost use Rattle.sector_disk.specs.Calls.{Since};
 ghost use Rattle.sector_disk.specs.Machine.{OnlyWrites, Trusts};
-ghost use Rattle.sector_disk.specs.declared.sector.WeakRun.{WeakRun};
-ghost use Rattle.volume_layout.specs.declared.layout.Layout.{Layout as Plan};
-ghost use Rattle.fsd_files.specs.Files.{Change};
-ghost use Rattle.fsd_runs.specs.Leaves.{IsSoundAsSaid, LeavesRun};
 ghost use Rattle.fsd_runs.specs.declared.request.Request.TheVariants.{Script};
-ghost use Rattle.volume_contract.specs.Mount.{IsSoundAt};
 ghost use Rattle.scrub.specs.Telling.{AreOfPage};
 ghost use Rattle.volume_turns.specs.Whole.{RunsOut};
 ghost use Rattle.fsd_files.specs.Desk.{Session};
@@ -23,6 +18,7 @@ ghost use Rattle.volume_turns.specs.Each.{SaysBadLine, SaysBetween, SaysForced};
 ghost use Rattle.volume_turns.specs.Last.{EndsSo, ending_line, ending_status};
 ghost use Rattle.volume_turns.specs.Numbers.{GoesUp, MayWear};
 ghost use Rattle.volume_turns.specs.Once.{ClosesAndSays, unit_of};
+ghost use Rattle.volume_turns.specs.Running.{EndsRun, LeavesOver, ReadsAll, SaysScript, TakesInput};
 ghost use Rattle.volume_turns.specs.Seats.{Seated, SitsAt, known_of};
 ghost use Rattle.volume_turns.specs.Status.{CountsTaking, IsScriptStatus};
 ghost use Rattle.fsd_texts.specs.declared.end.End.{End as EndOf};
@@ -291,21 +287,12 @@ pub fn run_script<M: Machine, V: Files<M> + Drop, T: Says>(
     requires lazily { (x : Meeting) (s : Session) (w : Word) → IsTrue (T.errand.forces (answer_in x s w).0) → (answer_in x s w).1.volume.unforced ≡ 0 }
     requires says { T.errand.says ≡ reply_text }
     requires forces { T.errand.forces ≡ is_forced }
-    ensures attaches { M.tells m.new → (M.ledger m.new).attaches ≡ (M.ledger m.old).attaches }
-    ensures status { IsScriptStatus result }
-    ensures counts { CountsTaking (M.report m.old) (M.report m.new) result }
-    ensures input { result ≡ 5 → M.tells m.new → FailsInput (M.ledger m.old).input (M.report m.old) (M.report m.new) }
-    ensures fails { result ≡ 5 → M.honest m.new → SaysOfInput (M.ledger m.old).input (M.report m.old) (M.report m.new) (M.now m.new) }
-    ensures whole { result ≡ 0 → M.tells m.new → (M.ledger m.new).input ≡ [] }
-    ensures spelled { result ≡ 0 → M.tells m.new → (script_in (M.ledger m.old).input).1 ≡ Done }
-    ensures bad { result ≡ 2 → M.honest m.new → (t : ℕ) → t ≤ M.moment m.old → SaysBadLine (M.left_since m.new t) (M.ledger m.old).input (M.now m.old).said (M.now m.new) }
-    ensures trust { Trusts (M.tells m.old) (M.tells m.new) (M.honest m.old) (M.honest m.new) }
+    ensures ends { EndsRun M.Machine IsScriptStatus m.old m.new result }
+    ensures takes { TakesInput M.Machine m.old m.new result }
+    ensures whole { result ≡ 0 → M.tells m.new → ReadsAll (M.ledger m.old).input (M.ledger m.new).input }
     ensures image { M.honest m.new → TellsImage true AreOfPage None sectors (M.now m.old) (M.now m.new) result }
-    ensures last { IsTrue (is_of_fault result) → M.honest m.new → SaysFault (M.report m.new).fault_place (M.now m.new) result }
-    ensures all { result ≡ 0 → M.honest m.new → (t : ℕ) → t ≤ M.moment m.old →
-        SaysForced reply_text (M.left_since m.new t) (script_in (M.ledger m.old).input).0 (M.now m.old).said (M.now m.new).said }
-    ensures leaves { M.honest m.new → (l : Plan) (windows : List WeakRun) (h : List Change) (f : ℕ) → IsSoundAt sectors l windows h f (M.now m.old) →
-        IsHeld M.Machine m.old (λ c. IsSoundAsSaid l windows h f (M.now m.old).image c.image) → LeavesRun Script (M.ledger m.old).input (M.ledger m.new).input l windows h f (M.left_since m.new) (stops M.Machine m.new) (M.moment m.old) (StopsOnly M.Machine m.old m.new) (IsHeld M.Machine m.new) (M.report m.old) (M.report m.new) (M.now m.old) (M.now m.new) result }
+    ensures says { M.honest m.new → SaysScript M.Machine m.old m.new result }
+    ensures leaves { M.honest m.new → LeavesOver M.Machine Script (M.ledger m.old).input (M.ledger m.new).input sectors m.old m.new result }
 {
     match V::mount(alloc, m, sectors) {
         Ok(v) => script_on::<M, V, T>(alloc, v, m),

@@ -3,14 +3,14 @@ ghost use Rattle.std.specs.Prelude.{◌≡◌, ◌≤◌, false, None, IfErr, If
 ghost use Rattle.sector_disk.specs.Calls.{WritesDisk};
 ghost use Rattle.client_desk.specs.Clients.{IsDesk};
 ghost use Rattle.volume_turns.specs.Calls.{AnswersIn};
-ghost use Rattle.volume_turns.specs.Reasons.{BecauseIn};
+ghost use Rattle.volume_turns.specs.Commands.{BecauseIn};
 ghost use Rattle.volume_turns.specs.Seats.{DoesIn, Seated, SitsAt, StaysIn};
-ghost use Rattle.volume_turns.specs.Steps.{IsOfCall, device_by, is_upgrade_in, reply_of};
+ghost use Rattle.volume_turns.specs.Steps.{IsOfCall, device_by, is_upgrade_in};
 
-use crate::answer::Answer;
 use crate::calls::call;
 use crate::commands;
 use client_desk::Desk;
+use fsd_files::Reply;
 use fsd_texts::{Fault, ScriptCommand};
 use sector_disk::Machine;
 use std::alloc::Global;
@@ -23,7 +23,7 @@ pub(crate) fn answer_in<M: Machine, V: Files<M>>(
     desk: &mut Desk,
     m: &mut M,
     c: &ScriptCommand,
-) -> Result<Answer, Fault>
+) -> Result<Reply, Fault>
     requires room { (V.state v.old).layout.sectors ≤ (M.report m.old).sectors }
     requires up { (V.state v.old).down ≡ None }
     requires desk { IsDesk (V.state v.old) desk.old }
@@ -34,7 +34,7 @@ pub(crate) fn answer_in<M: Machine, V: Files<M>>(
     ensures disk { WritesDisk M.Machine (device_by result) (StaysIn V.state V.holds (v.old, desk.old)) m.old m.new }
     ensures fault { IfErr result IsOfCall }
     ensures answers { M.honest m.new → AnswersIn c.now (V.state v.old) (V.state v.new) (M.now m.old) (M.now m.new) result }
-    ensures because { M.honest m.new → IfOk result (λ a. BecauseIn V.state V.resident c.now (V.state v.old) (V.state v.new) (M.now m.old) (M.now m.new) (reply_of a)) }
+    ensures because { M.honest m.new → IfOk result (λ a. BecauseIn V.state V.resident c.now (V.state v.old) (V.state v.new) (M.now m.old) (M.now m.new) a) }
     ensures done { M.honest m.new → (k : Seated) → SitsAt V.state V.holds (v.old, desk.old) k (M.now m.old) →
         DoesIn V.state V.holds c.now (v.old, desk.old) (v.new, desk.new) k (M.now m.old) (M.now m.new) result }
 {

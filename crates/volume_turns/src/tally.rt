@@ -4,10 +4,9 @@ ghost use Rattle.fsd_texts.specs.declared.fault.Fault.TheVariants as Ends;
 ghost use Rattle.fsd_texts.specs.declared.line.Line.TheVariants as Says;
 ghost use Rattle.fsd_texts.specs.declared.script_command.ScriptCommand.TheVariants.{Plain};
 ghost use Rattle.fsd_runs.specs.Errands.{bytes_moved, bytes_read, is_deleted, is_kept, is_made, is_read, is_refused};
-ghost use Rattle.volume_turns.specs.Steps.{reply_of};
 ghost use Rattle.volume_turns.specs.Tally.{counted, nothing};
 
-use crate::answer::Answer;
+use fsd_files::Reply;
 use fsd_texts::{Command, Counts, Fault, Line};
 use std::marker::Model;
 
@@ -46,9 +45,9 @@ impl Tally {
     }
 
     /// Counts one more. Where the bytes are 2^64 or more there is no memory for their sum.
-    pub(crate) fn count(&self, c: &Command, answer: &Answer) -> Result<Tally, Fault>
+    pub(crate) fn count(&self, c: &Command, answer: &Reply) -> Result<Tally, Fault>
         requires { self.now.count < 2 ^ 32 - 1 }
-        ensures ok { IfOk result (λ t. t ≡ counted self.now (Plain c.now) (reply_of answer.now)) }
+        ensures ok { IfOk result (λ t. t ≡ counted self.now (Plain c.now) answer.now) }
         ensures err { IfErr result (λ fault. fault ≡ Ends.Memory) }
     {
         let so_far = self.counts;
@@ -75,73 +74,73 @@ impl Tally {
     }
 }
 
-fn is_made(answer: &Answer) -> u32
-    ensures is { result ≡ is_made (reply_of answer.now) }
+fn is_made(answer: &Reply) -> u32
+    ensures is { result ≡ is_made answer.now }
     ensures one { result ≤ 1 }
 {
     match answer {
-        Answer::Made { .. } => 1,
+        Reply::Made { .. } => 1,
         _ => 0,
     }
 }
 
-fn is_deleted(answer: &Answer) -> u32
-    ensures is { result ≡ is_deleted (reply_of answer.now) }
+fn is_deleted(answer: &Reply) -> u32
+    ensures is { result ≡ is_deleted answer.now }
     ensures one { result ≤ 1 }
 {
     match answer {
-        Answer::Deleted(_) => 1,
+        Reply::Deleted(_) => 1,
         _ => 0,
     }
 }
 
-fn is_kept(answer: &Answer) -> u32
-    ensures is { result ≡ is_kept (reply_of answer.now) }
+fn is_kept(answer: &Reply) -> u32
+    ensures is { result ≡ is_kept answer.now }
     ensures one { result ≤ 1 }
 {
     match answer {
-        Answer::Kept { .. } => 1,
+        Reply::Kept { .. } => 1,
         _ => 0,
     }
 }
 
-fn is_read(answer: &Answer) -> u32
-    ensures is { result ≡ is_read (reply_of answer.now) }
+fn is_read(answer: &Reply) -> u32
+    ensures is { result ≡ is_read answer.now }
     ensures one { result ≤ 1 }
 {
     match answer {
-        Answer::Bytes { .. } => 1,
+        Reply::Bytes { .. } => 1,
         _ => 0,
     }
 }
 
-fn is_refused(answer: &Answer) -> u32
-    ensures is { result ≡ is_refused (reply_of answer.now) }
+fn is_refused(answer: &Reply) -> u32
+    ensures is { result ≡ is_refused answer.now }
     ensures one { result ≤ 1 }
 {
     match answer {
-        Answer::Refused(_) | Answer::Damaged { .. } => 1,
+        Reply::Refused(_) | Reply::DamagedAt { .. } => 1,
         _ => 0,
     }
 }
 
 // The bytes of a version that was read.
-fn bytes_read(answer: &Answer) -> u64
-    ensures { result ≡ bytes_read (reply_of answer.now) }
+fn bytes_read(answer: &Reply) -> u64
+    ensures { result ≡ bytes_read answer.now }
 {
     match answer {
-        Answer::Bytes { bytes, .. } => bytes.len() as u64,
+        Reply::Bytes { bytes, .. } => bytes.as_slice().len() as u64,
         _ => 0,
     }
 }
 
 // The bytes of a version that was made or read.
-fn bytes_moved(c: &Command, answer: &Answer) -> u64
-    ensures { result ≡ bytes_moved c.now (reply_of answer.now) }
+fn bytes_moved(c: &Command, answer: &Reply) -> u64
+    ensures { result ≡ bytes_moved c.now answer.now }
 {
     match c {
         Command::Put { bytes, .. } => match answer {
-            Answer::Made { .. } => bytes.as_slice().len() as u64,
+            Reply::Made { .. } => bytes.as_slice().len() as u64,
             _ => bytes_read(answer),
         },
         _ => bytes_read(answer),

@@ -12,14 +12,14 @@ ghost use Rattle.volume_turns.specs.Calls.{MayLoseIn};
 ghost use Rattle.volume_turns.specs.Each.{SaysOnce};
 ghost use Rattle.volume_turns.specs.Group.{is_worn_end};
 ghost use Rattle.volume_turns.specs.Numbers.{GoesUp, MayWear};
-ghost use Rattle.volume_turns.specs.Steps.{is_upgrade_in, reply_of};
+ghost use Rattle.volume_turns.specs.Steps.{is_upgrade_in};
 ghost use Rattle.volume_turns.specs.declared.turns.End.TheVariants.{Fault as Stopped};
 ghost use Rattle.volume_turns.specs.Turns.{IsEndOfVolume, IsEndOn, Steps, SaysAll, SaysWhole, Told, Unsaid, UttersBehind};
 
-use crate::answer::Answer;
 use crate::line::{say_bytes, say_forced};
 use crate::session;
 use client_desk::Desk;
+use fsd_files::Reply;
 use fsd_texts::{Fault, ScriptCommand};
 use sector_disk::Machine;
 use std::alloc::{AllocError, Global};
@@ -47,24 +47,24 @@ pub trait Says {
     ghost errand: { Errand };
 
     /// Whether an answer tells that all is forced.
-    fn forces(answer: &Answer) -> bool
-        ensures { result ≡ errand.forces (reply_of answer.now) };
+    fn forces(answer: &Reply) -> bool
+        ensures { result ≡ errand.forces answer.now };
 
     /// The text of an answer.
-    fn text(alloc: Global, answer: &Answer) -> Result<Vec<u8>, AllocError>
-        ensures { IfOk result (λ text. text.items ≡ errand.says (reply_of answer.now)) };
+    fn text(alloc: Global, answer: &Reply) -> Result<Vec<u8>, AllocError>
+        ensures { IfOk result (λ text. text.items ≡ errand.says answer.now) };
 }
 
 // Says a reply; one that tells as forced behind a sync.
-pub(crate) fn say<M: Machine, T: Says>(alloc: Global, m: &mut M, answer: &Answer) -> Result<(), End>
+pub(crate) fn say<M: Machine, T: Says>(alloc: Global, m: &mut M, answer: &Reply) -> Result<(), End>
     ensures told { Told (M.report m.old) (M.report m.new) result }
     ensures trust { Trusts (M.tells m.old) (M.tells m.new) (M.honest m.old) (M.honest m.new) }
     ensures ledger { M.tells m.new → M.ledger m.new ≡ M.ledger m.old }
     ensures fault { IfErr result IsEndOfVolume }
     ensures since { M.honest m.new → Since M.Machine m.old m.new }
-    ensures moments { M.honest m.new → LeavesOnly M.moment M.left_since m.old m.new (UttersBehind (T.errand.forces (reply_of answer.now)) (T.errand.says (reply_of answer.now)) (M.now m.old)) }
-    ensures synced { OnOk result (IsTrue (T.errand.forces (reply_of answer.now)) → M.honest m.new → (M.now m.old).time ≤ (M.now m.new).synced) }
-    ensures said { OnOk result (M.honest m.new → SaysAll (T.errand.says (reply_of answer.now)) (M.now m.old) (M.now m.new)) }
+    ensures moments { M.honest m.new → LeavesOnly M.moment M.left_since m.old m.new (UttersBehind (T.errand.forces answer.now) (T.errand.says answer.now) (M.now m.old)) }
+    ensures synced { OnOk result (IsTrue (T.errand.forces answer.now) → M.honest m.new → (M.now m.old).time ≤ (M.now m.new).synced) }
+    ensures said { OnOk result (M.honest m.new → SaysAll (T.errand.says answer.now) (M.now m.old) (M.now m.new)) }
     ensures unsaid { IfErr result (λ end. M.honest m.new → Unsaid (M.now m.old) (M.now m.new) end) }
 {
     let Ok(text) = T::text(alloc, answer) else {

@@ -11,23 +11,24 @@ ghost use Rattle.volume_contract.specs.Upgrade.{is_fresh};
 ghost use Rattle.volume_turns.specs.declared.turns.End.TheVariants.{Fault as Stopped};
 ghost use Rattle.volume_turns.specs.Answering.{Answers, AnswersAlone};
 ghost use Rattle.volume_turns.specs.Once.{IsAlone};
-ghost use Rattle.volume_turns.specs.Reasons.{Because, HasWritten, most_written};
-ghost use Rattle.volume_turns.specs.Status.{IsStatusFrom};
-ghost use Rattle.volume_turns.specs.Steps.{Does, IsOfCall, Stays, device_by, reply_of};
+ghost use Rattle.volume_turns.specs.Reasons.{HasWritten};
+ghost use Rattle.volume_turns.specs.Commands.{Because, IsStatusFrom, most_written};
+ghost use Rattle.volume_turns.specs.Steps.{Does, IsOfCall, Stays, device_by};
 ghost use Rattle.volume_turns.specs.Turns.{IsEndOfVolume, Told, OnDisk};
 ghost use Rattle.volume_turns.specs.Upgrade.{EndsState, is_upgraded};
 
-use crate::answer::{Answer, ended_by};
+use crate::answer::ended_by;
 use crate::line::say_forced;
 use crate::once::close_as;
 use crate::turns::{End, Says};
+use fsd_files::Reply;
 use fsd_texts::Fault;
 use sector_disk::Machine;
 use std::alloc::Global;
 use volume_contract::Files;
 
 // Gives the volume layout 2.
-fn upgrade<M: Machine, V: Files<M>>(v: &mut V, m: &mut M) -> Result<Answer, Fault>
+fn upgrade<M: Machine, V: Files<M>>(v: &mut V, m: &mut M) -> Result<Reply, Fault>
     requires room { (V.state v.old).layout.sectors ≤ (M.report m.old).sectors }
     requires up { (V.state v.old).down ≡ None }
     requires fresh { IsTrue (is_fresh (V.state v.old)) }
@@ -37,21 +38,21 @@ fn upgrade<M: Machine, V: Files<M>>(v: &mut V, m: &mut M) -> Result<Answer, Faul
     ensures ends { EndsState (V.state v.old) (V.state v.new) result }
     ensures answers { M.honest m.new → Answers Word.Upgrade (V.state v.old) (V.state v.new) (M.now m.old) (M.now m.new) result }
     ensures written { M.tells m.new → HasWritten (most_written Word.Upgrade (V.state v.old)) (M.ledger m.old) (M.ledger m.new) result }
-    ensures because { M.honest m.new → IfOk result (λ a. Because V.state V.resident Word.Upgrade (V.state v.old) (V.state v.new) (M.now m.old) (M.now m.new) (reply_of a)) }
+    ensures because { M.honest m.new → IfOk result (λ a. Because V.state V.resident Word.Upgrade (V.state v.old) (V.state v.new) (M.now m.old) (M.now m.new) a) }
     ensures done { M.honest m.new → (k : Known) → Stands V.state V.holds v.old k (M.now m.old) →
         Does V.state V.holds Word.Upgrade v.old v.new k (M.now m.old) (M.now m.new) result }
 {
     match v.upgrade(m) {
-        Ok(()) => Ok(Answer::Upgraded),
+        Ok(()) => Ok(Reply::Upgraded),
         Err(why) => ended_by(why),
     }
 }
 
 // Whether it was given.
-fn is_upgraded(answer: &Answer) -> bool
+fn is_upgraded(answer: &Reply) -> bool
     ensures { result ≡ is_upgraded answer.now }
 {
-    matches!(answer, Answer::Upgraded)
+    matches!(answer, Reply::Upgraded)
 }
 
 /// Gives a volume that was just mounted layout 2, and says so, or that it has it already. The text that says it is made
@@ -76,7 +77,7 @@ pub(crate) fn upgrade_alone<M: Machine, V: Files<M> + Drop, T: Says>(
     ensures answers { M.honest m.new → AnswersAlone Word.Upgrade (V.state v) (M.now m.old) (M.now m.new) result }
     ensures does { M.honest m.new → (k : Known) → (volume_of k).unforced ≡ 0 → k.opened ≡ none_open → Stands V.state V.holds v k (M.now m.old) → OnDisk M.Machine k (forced_of k) m.old → IsAlone M.Machine Word.Upgrade k m.old m.new result }
 {
-    let Ok(text) = T::text(alloc, &Answer::Upgraded) else {
+    let Ok(text) = T::text(alloc, &Reply::Upgraded) else {
         return Err(End::Fault(Fault::Memory));
     };
     let mut v = v;

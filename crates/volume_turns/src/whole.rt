@@ -1,19 +1,14 @@
 //! One command, from the mount to its reply or to the line of the fault that ended it.
 ghost use Rattle.std.specs.Prelude.{◌≡◌, ◌≤◌, ℕ, List, [], None, false, IsTrue};
 ghost use Rattle.volume_turns.specs.Turns.{OnDisk};
-ghost use Rattle.sector_disk.specs.declared.sector.WeakRun.{WeakRun};
-ghost use Rattle.sector_disk.specs.Calls.{Since, IsHeld, StopsOnly, stops};
-ghost use Rattle.sector_disk.specs.Machine.{OnlyWrites, Trusts};
-ghost use Rattle.volume_layout.specs.declared.layout.Layout.{Layout as Plan};
-ghost use Rattle.fsd_files.specs.Files.{Change};
+ghost use Rattle.sector_disk.specs.Calls.{Since};
 ghost use Rattle.fsd_runs.specs.Commands.{reply_alone};
-ghost use Rattle.fsd_runs.specs.Leaves.{IsSoundAsSaid, LeavesRun};
 ghost use Rattle.fsd_runs.specs.declared.request.Request.TheVariants.{One};
-ghost use Rattle.volume_contract.specs.Mount.{IsSoundAt};
 ghost use Rattle.volume_turns.specs.Answering.{EndsOne, RunsOne};
-ghost use Rattle.volume_turns.specs.Causes.{SaysFault, SaysOfCall, TellsImage, is_of_fault};
-ghost use Rattle.volume_turns.specs.Status.{CountsRun, IsOneStatus};
-ghost use Rattle.volume_turns.specs.Steps.{MayLose};
+ghost use Rattle.volume_turns.specs.Causes.{TellsImage};
+ghost use Rattle.volume_turns.specs.Running.{EndsRun, LeavesOver, TakesNothing, TellsMounted};
+ghost use Rattle.volume_turns.specs.Status.{IsOneStatus};
+ghost use Rattle.volume_turns.specs.Commands.{MayLose};
 ghost use Rattle.volume_contract.specs.State.{Known, Stands, is_worn, none_open, volume_of, forced_of};
 ghost use Rattle.volume_contract.specs.Upgrade.{is_fresh};
 ghost use Rattle.volume_turns.specs.Whole.{RunsOut};
@@ -38,14 +33,10 @@ pub(crate) fn one_on<M: Machine, V: Files<M> + Drop, T: Says>(
     requires unworn { is_worn (V.state v) ≡ false }
     requires fresh { IsTrue (is_fresh (V.state v)) }
     requires says { T.errand.says ≡ reply_alone }
-    ensures trust { Trusts (M.tells m.old) (M.tells m.new) (M.honest m.old) (M.honest m.new) }
-    ensures ledger { M.tells m.new → OnlyWrites (M.ledger m.old) (M.ledger m.new) }
-    ensures status { IsOneStatus c.now result }
-    ensures counts { CountsRun (M.report m.old) (M.report m.new) result }
+    ensures ends { EndsRun M.Machine (IsOneStatus c.now) m.old m.new result }
+    ensures takes { TakesNothing M.Machine m.old m.new result }
     ensures since { M.honest m.new → Since M.Machine m.old m.new }
-    ensures says { result ≡ 3 → M.honest m.new → SaysOfCall false (MayLose c.now) (V.state v).layout (M.now m.old).said (M.now m.new) }
-    ensures unspent { result ≡ 9 → M.honest m.new → ⊥ }
-    ensures last { IsTrue (is_of_fault result) → M.honest m.new → SaysFault (M.report m.new).fault_place (M.now m.new) result }
+    ensures tells { M.honest m.new → TellsMounted false (MayLose c.now) (V.state v).layout ⊥ (M.now m.old) (M.now m.new) result }
     ensures one { M.honest m.new → (V.state v).dirty ≡ [] → EndsOne c.now (V.state v) (M.now m.old) (M.now m.new) result }
     ensures runs { M.honest m.new → (rest : List ℕ) (k : Known) → (volume_of k).unforced ≡ 0 → k.opened ≡ none_open → Stands V.state V.holds v k (M.now m.old) → OnDisk M.Machine k (forced_of k) m.old → RunsOut M.Machine (One c.now) [] rest (M.report m.old) k m.old m.new result }
 {
@@ -66,15 +57,11 @@ pub fn run_one<M: Machine, V: Files<M> + Drop, T: Says>(
 ) -> u8
     requires sectors { sectors ≡ (M.report m.old).sectors }
     requires says { T.errand.says ≡ reply_alone }
-    ensures ledger { M.tells m.new → OnlyWrites (M.ledger m.old) (M.ledger m.new) }
-    ensures status { IsOneStatus c.now result }
-    ensures counts { CountsRun (M.report m.old) (M.report m.new) result }
-    ensures trust { Trusts (M.tells m.old) (M.tells m.new) (M.honest m.old) (M.honest m.new) }
+    ensures ends { EndsRun M.Machine (IsOneStatus c.now) m.old m.new result }
+    ensures takes { TakesNothing M.Machine m.old m.new result }
     ensures image { M.honest m.new → TellsImage false (MayLose c.now) None sectors (M.now m.old) (M.now m.new) result }
-    ensures last { IsTrue (is_of_fault result) → M.honest m.new → SaysFault (M.report m.new).fault_place (M.now m.new) result }
     ensures one { M.honest m.new → RunsOne c.now sectors (M.now m.old) (M.now m.new) result }
-    ensures leaves { M.honest m.new → (rest : List ℕ) (l : Plan) (windows : List WeakRun) (h : List Change) (f : ℕ) → IsSoundAt sectors l windows h f (M.now m.old) →
-        IsHeld M.Machine m.old (λ c. IsSoundAsSaid l windows h f (M.now m.old).image c.image) → LeavesRun (One c.now) [] rest l windows h f (M.left_since m.new) (stops M.Machine m.new) (M.moment m.old) (StopsOnly M.Machine m.old m.new) (IsHeld M.Machine m.new) (M.report m.old) (M.report m.new) (M.now m.old) (M.now m.new) result }
+    ensures leaves { M.honest m.new → (rest : List ℕ) → LeavesOver M.Machine (One c.now) [] rest sectors m.old m.new result }
 {
     match V::mount(alloc, m, sectors) {
         Ok(v) => one_on::<M, V, T>(alloc, v, m, c),

@@ -1,42 +1,35 @@
-use Rattle.std.proofs.Common.{sym, ◌∙◌, subst}
+use Rattle.std.proofs.Common.{Err, arith, inl, inr, refl, sym, ◌∙◌, ap, subst}
 use Rattle.std.specs.Prelude.{Result}
 use Rattle.volume_layout.specs.declared.layout.Layout.{Layout}
 use Rattle.volume_layout.specs.declared.fault.LayoutFault.{LayoutFault}
-use Rattle.sector_disk.specs.Calls.{IsHeld}
-use Rattle.cfs_program.specs.Formatting.{IsMadeBy, SaysFormat}
-use Rattle.std.proofs.Common.{refl, arith}
-use Rattle.std.proofs.Common.{inl, Err}
+use Rattle.sector_disk.specs.Machine.{Ledger}
 use Rattle.fsd_texts.specs.declared.line.Line.TheVariants as Lines
-use Rattle.cfs_program.proofs.FormatLaws.{format_said}
+use Rattle.volume_turns.proofs.StatusLaws.{not_as}
+use Rattle.cfs_program.specs.Formatting.{RunsFormat}
+use Rattle.cfs_program.proofs.FormatLaws.{format_said, unplanned_status, untouched_by}
 use Rattle.cfs_program.proofs.CountsLaws.{counts_line}
 use Rattle.cfs_program.proofs.formatting.run_format.Goals as goal
 
-pub returns-in-Ok-clause-says : goal.returns-in-Ok-clause-says
-returns-in-Ok-clause-says g c h =
+pub returns-in-Ok : goal.returns-in-Ok
+returns-in-Ok g c =
+    subst (λ (planned : Result Layout LayoutFault). RunsFormat g.M.Machine planned c.args.path.now c.args.m.now c.make.new.m c.make.result) (sym c.in-Ok.is ∙ c.plan_of.ensures) c.make.ensures
+
+-- a plan that is refused is said
+pub returns-in-Err : goal.returns-in-Err
+returns-in-Err g c =
     let M = g.M.Machine in
-    subst (λ (planned : Result Layout LayoutFault). SaysFormat planned (M.report c.make.new.m).fault_place (M.now c.args.m.now) (M.now c.make.new.m) c.make.result) (sym c.in-Ok.is ∙ c.plan_of.ensures) (c.make.ensures.says h)
-
-pub returns-in-Ok-clause-made : goal.returns-in-Ok-clause-made
-returns-in-Ok-clause-made g c zero h =
-    let M = g.M.Machine in
-    subst (λ (planned : Result Layout LayoutFault). IsMadeBy planned (IsHeld M c.make.new.m)) (sym c.in-Ok.is ∙ c.plan_of.ensures) (c.make.ensures.made zero h)
-
--- ---- what is counted
-
-pub returns-in-Err-clause-counts : goal.returns-in-Err-clause-counts
-returns-in-Err-clause-counts g c =
-    let report = g.M.Machine.report in
-    let a = report c.args.m.now in
-    counts_line a a (report c.last_line.new.m) c.last_line.result refl refl c.last_line.ensures.says.spares 1 (λ e. omega (arith, e)) refl c.last_line.ensures.status
-
--- ---- a plan that is refused is said
-
-pub returns-in-Err-clause-says : goal.returns-in-Err-clause-says
-returns-in-Err-clause-says g c h =
-    let M = g.M.Machine in
-    let a = M.now c.args.m.now in
-    let b = M.now c.last_line.new.m in
-    let place = (M.report c.last_line.new.m).fault_place in
-    let said = c.last_line.ensures in
-    subst (λ (planned : Result Layout LayoutFault). SaysFormat planned place a b c.last_line.result) (sym c.in-Err.is ∙ c.plan_of.ensures)
-    (format_said (Err c.in-Err.fault) place (Lines.Unplanned c.in-Err.fault) 1 a a b c.last_line.result refl (inl (refl, refl)) (said.says.exit h) (said.ends h))
+    let a = c.args.m.now in
+    let z = c.last_line.new.m in
+    let why = c.in-Err.fault in
+    let end = c.last_line.ensures in
+    let status = c.last_line.result in
+    subst (λ (planned : Result Layout LayoutFault). RunsFormat M planned c.args.path.now a z status) (sym c.in-Err.is ∙ c.plan_of.ensures) (record {
+      status = unplanned_status why status end.status;
+      counts = counts_line (M.report a) (M.report a) (M.report z) status refl refl end.says.spares 1 (λ e. omega (arith, e)) refl end.status;
+      asks = λ t. record { input = ap (λ (l : Ledger). l.input) (end.ledger t); attaches = inr (ap (λ (l : Ledger). l.attaches) (end.ledger t)) };
+      asked = λ zero t. absurd (not_as 0 1 status (λ e. omega (arith, e)) (λ e. omega (arith, e)) end.status zero);
+      trust = end.says.trust;
+      says = λ h. format_said (Err why) (M.report z).fault_place (Lines.Unplanned why) 1 (M.now a) (M.now a) (M.now z) status refl (inl (refl, refl)) (end.says.exit h) (end.ends h);
+      made = λ zero h. not_as 0 1 status (λ e. omega (arith, e)) (λ e. omega (arith, e)) end.status zero;
+      untouched = λ h. untouched_by (Lines.Unplanned why) (M.now a) (M.now z) (end.says.exit h);
+    })

@@ -1,11 +1,11 @@
-use Rattle.std.proofs.Common.{ℕ, List, Some, false, subst, inr, arith, []}
+use Rattle.std.proofs.Common.{ℕ, List, Some, false, ◌∙◌, subst, inl, []}
 use Rattle.fsd_runs.specs.declared.request.Request.TheVariants.{Generate}
 use Rattle.volume_turns.specs.Causes.{SaysMade}
-use Rattle.volume_turns.proofs.StatusLaws.{not_as}
 use Rattle.volume_turns.proofs.SayLaws.{timed_by}
 use Rattle.scrub.specs.Telling.{AreOfPage}
-use Rattle.cfs_program.proofs.AttachLaws.{EndsUnfound, RunsFound, found_accepted, found_asked, found_asks, found_counts, found_image, found_leaves, found_said, found_trust, unfound_accepted, unfound_asks, unfound_counts, unfound_image, unfound_last, unfound_leaves, unfound_outside, unfound_trust}
-use Rattle.cfs_program.proofs.EndedLaws.{failed_status}
+use Rattle.cfs_program.proofs.AmongLaws.{made_complete_is, made_not_five, made_status}
+use Rattle.cfs_program.proofs.AttachLaws.{RunsFound, found_accepted, found_attaches, found_counts, found_image, found_input, found_leaves, found_said, found_spared, found_trust}
+use Rattle.cfs_program.proofs.FoundLaws.{TellsFound}
 use Rattle.cfs_program.proofs.making.run_made_up.Goals as goal
 
 pub returns-in-Ok : goal.returns-in-Ok
@@ -13,46 +13,44 @@ returns-in-Ok g c =
     let M = g.M.Machine in
     let timed = timed_by M g.met.M.Machine.dated g.met.M.Machine.history g.met.M.Machine.counts_now g.met.M.Machine.only_now in
     let a = c.args.m.now in
-    let b = c.attach.new.self in
+    let b = c.attached.new.m in
     let z = c.run_generate.new.m in
-    let e = c.in-Ok.ensures in
     let does = c.run_generate.ensures in
     let status = c.run_generate.result in
-    let x : RunsFound M c.args.path.now c.in-Ok.sectors a b z = record { cause = e.cause; trust = e.trust; asked = e.asked; found = e.attached; synced = e.synced; size = e.size; time = e.time; runs = does.trust } in
+    let x : RunsFound M c.args.path.now c.in-Ok.sectors a b z = record { finds = c.in-Ok.ensures.found; runs = does.ends.trust } in
+    let made = Generate c.args.seed c.args.count in
+    let counts = found_counts x status does.takes.counts in
+    let image : M.honest z → TellsFound false AreOfPage (Some c.args.count) (M.now a) (M.now z) status = λ h. found_image x false AreOfPage (Some c.args.count) status h (does.image h) in
     record {
-      status = does.status;
-      counts = found_counts x status does.counts;
-      asks = λ t. found_asks x t (does.ledger t);
-      asked = λ inside t. found_asked x t (does.ledger t);
+      status = made_status status does.ends.status;
+      complete = λ none. made_complete_is status does.ends.status (λ four. none.disk (counts.disk four)) (λ six. none.output (counts.output six));
+      device = counts.disk;
+      output = counts.output;
+      quiet = counts.quiet;
+      unfailed = counts.unfailed;
+      attaches = λ t. inl (found_attaches x t (does.takes.ledger t).attaches);
+      attached = λ inside t. found_attaches x t (does.takes.ledger t).attaches;
       trust = found_trust x;
-      image = λ h. found_image x false AreOfPage (Some c.args.count) status h (does.image h);
+      says = λ h. inl tt;
+      mounted = λ any h. (image h).mounted any;
+      refused = λ three h. (image h).refused three;
+      spent = λ nine h. (image h).spent nine;
+      last = does.ends.last;
+      image = λ zero h. tt;
+      untouched = λ h. tt;
+      taken = λ t. (does.takes.ledger t).input ∙ found_input x t;
+      spared = found_spared x status does.takes.counts;
+      input = λ five t. absurd (made_not_five status does.ends.status five);
+      fails = λ five h. absurd (made_not_five status does.ends.status five);
+      bad = λ two h. tt;
+      whole = λ zero t. tt;
+      spelled = λ zero t. tt;
+      one = λ h. tt;
+      rest = λ h. tt;
       all = λ zero h. subst (λ (before : List ℕ). SaysMade c.args.count before (M.now z)) (found_said x h) (does.all zero h);
-      last = does.last;
-      leaves = λ h rest. found_leaves x (Generate c.args.seed c.args.count) [] rest status h (g.met.M.Machine.short a) timed (does.leaves h [] rest);
-      accepted = λ h. found_accepted x (Generate c.args.seed c.args.count) [] [] status h (g.met.M.Machine.short a) timed (does.leaves h [] []) (λ P p. p);
+      leaves = λ h. found_leaves x made [] (M.ledger z).input status h (g.met.M.Machine.short a) timed (does.leaves h [] (M.ledger z).input);
+      accepted = λ h. found_accepted x made [] [] status h (g.met.M.Machine.short a) timed (does.leaves h [] []) (λ P p. p);
     }
 
 pub returns-in-Err : goal.returns-in-Err
-returns-in-Err g c =
-    let M = g.M.Machine in
-    let timed = timed_by M g.met.M.Machine.dated g.met.M.Machine.history g.met.M.Machine.counts_now g.met.M.Machine.only_now in
-    let a = c.args.m.now in
-    let b = c.attach.new.self in
-    let z = c.last_line.new.m in
-    let e = c.in-Err.ensures in
-    let line = c.last_line.ensures in
-    let status = c.last_line.result in
-    let x : EndsUnfound M c.args.path.now c.in-Err.failed a b z status =
-    record { cause = e.cause; trust = e.trust; asked = e.asked_err; worn = e.failed; time = e.time; says = line.says; ledger = line.ledger; ends = line.ends; for = line.status } in
-    record {
-      status = inr (failed_status status line.status);
-      counts = unfound_counts x;
-      asks = unfound_asks x;
-      asked = λ inside t. absurd (unfound_outside x inside);
-      trust = unfound_trust x;
-      image = λ h. unfound_image x false AreOfPage (Some c.args.count);
-      all = λ zero h. absurd (not_as 0 4 status (λ e. omega (arith, e)) (λ e. omega (arith, e)) line.status zero);
-      last = unfound_last x;
-      leaves = λ h rest l windows changes f sound held. unfound_leaves x (Generate c.args.seed c.args.count) [] rest l windows changes f h (g.met.M.Machine.short a) timed sound held;
-      accepted = λ h. unfound_accepted x;
-    }
+returns-in-Err g c = c.in-Err.ensures.ran (Generate c.args.seed c.args.count)

@@ -1,13 +1,12 @@
-use Rattle.std.proofs.Common.{None, false, inl, inr, []}
-use Rattle.fsd_texts.specs.declared.fault.Fault.TheVariants as Ends
-use Rattle.fsd_texts.specs.declared.line.Line.TheVariants as Lines
+use Rattle.std.proofs.Common.{None, false, inl, ◌∙◌, []}
 use Rattle.fsd_runs.specs.declared.request.Request.TheVariants.{One}
 use Rattle.volume_turns.proofs.AnsweringLaws.{one_since}
-use Rattle.volume_turns.specs.Steps.{MayLose}
+use Rattle.volume_turns.specs.Commands.{MayLose}
 use Rattle.volume_turns.proofs.SayLaws.{timed_by}
-use Rattle.cfs_program.proofs.AttachLaws.{EndsUnfound, RunsFound, found_accepted, found_asked, found_asks, found_counts, found_image, found_leaves, found_said, found_trust, unfound_accepted, unfound_alone, unfound_asks, unfound_counts, unfound_image, unfound_last, unfound_leaves, unfound_outside, unfound_trust}
-use Rattle.cfs_program.proofs.EndedLaws.{failed_status}
-use Rattle.cfs_program.proofs.FoundLaws.{untouched_unfound, writes_found}
+use Rattle.volume_turns.proofs.StatusLaws.{one_not_five}
+use Rattle.cfs_program.proofs.AmongLaws.{command_complete, command_status}
+use Rattle.cfs_program.proofs.AttachLaws.{RunsFound, found_accepted, found_attaches, found_counts, found_image, found_input, found_leaves, found_said, found_spared, found_trust}
+use Rattle.cfs_program.proofs.FoundLaws.{TellsFound, writes_found}
 use Rattle.cfs_program.proofs.opening.run_command.Goals as goal
 
 pub returns-in-Ok : goal.returns-in-Ok
@@ -15,48 +14,44 @@ returns-in-Ok g c =
     let M = g.M.Machine in
     let timed = timed_by M g.met.M.Machine.dated g.met.M.Machine.history g.met.M.Machine.counts_now g.met.M.Machine.only_now in
     let a = c.args.m.now in
-    let b = c.attach.new.self in
+    let b = c.attached.new.m in
     let z = c.run_one.new.m in
-    let e = c.in-Ok.ensures in
     let does = c.run_one.ensures in
     let status = c.run_one.result in
-    let x : RunsFound M c.args.path.now c.in-Ok.sectors a b z = record { cause = e.cause; trust = e.trust; asked = e.asked; found = e.attached; synced = e.synced; size = e.size; time = e.time; runs = does.trust } in
+    let x : RunsFound M c.args.path.now c.in-Ok.sectors a b z = record { finds = c.in-Ok.ensures.found; runs = does.ends.trust } in
+    let command = c.args.c.now in
+    let counts = found_counts x status does.takes.counts in
+    let image : M.honest z → TellsFound false (MayLose command) None (M.now a) (M.now z) status = λ h. found_image x false (MayLose command) None status h (does.image h) in
     record {
-      status = does.status;
-      counts = found_counts x status does.counts;
-      asks = λ t. found_asks x t (does.ledger t);
-      asked = λ inside t. found_asked x t (does.ledger t);
+      status = command_status command status does.ends.status;
+      complete = λ none. command_complete command status does.ends.status (λ four. none.disk (counts.disk four)) (λ six. none.output (counts.output six));
+      device = counts.disk;
+      output = counts.output;
+      quiet = counts.quiet;
+      unfailed = counts.unfailed;
+      attaches = λ t. inl (found_attaches x t (does.takes.ledger t).attaches);
+      attached = λ inside t. found_attaches x t (does.takes.ledger t).attaches;
       trust = found_trust x;
-      image = λ h. found_image x false (MayLose c.args.c.now) None status h (does.image h);
-      one = λ h. one_since c.args.c.now (M.now a) (M.now b) (M.now z) status (found_said x h) (does.one h).says;
-      rest = λ h. let back = does.trust.honest h in writes_found c.args.c.now (M.now a) (M.now b) (M.now z) c.in-Ok.sectors (e.attached back) (e.size back) (does.one h).rest;
-      last = does.last;
-      leaves = λ h rest. found_leaves x (One c.args.c.now) [] rest status h (g.met.M.Machine.short a) timed (does.leaves h rest);
-      accepted = λ h. found_accepted x (One c.args.c.now) [] [] status h (g.met.M.Machine.short a) timed (does.leaves h []) (λ P p. p);
+      says = λ h. inl tt;
+      mounted = λ any h. (image h).mounted any;
+      refused = λ three h. (image h).refused three;
+      spent = λ nine h. (image h).spent nine;
+      last = does.ends.last;
+      image = λ zero h. tt;
+      untouched = λ h. tt;
+      taken = λ t. (does.takes.ledger t).input ∙ found_input x t;
+      spared = found_spared x status does.takes.counts;
+      input = λ five t. absurd (one_not_five command status does.ends.status five);
+      fails = λ five h. absurd (one_not_five command status does.ends.status five);
+      bad = λ two h. tt;
+      whole = λ zero t. tt;
+      spelled = λ zero t. tt;
+      one = λ h. one_since command (M.now a) (M.now b) (M.now z) status (found_said x h) (does.one h).says;
+      rest = λ h. let back = does.ends.trust.honest h in writes_found command (M.now a) (M.now b) (M.now z) c.in-Ok.sectors (x.finds.found back) (x.finds.size back) (does.one h).rest;
+      all = λ zero h. tt;
+      leaves = λ h. found_leaves x (One command) [] (M.ledger z).input status h (g.met.M.Machine.short a) timed (does.leaves h (M.ledger z).input);
+      accepted = λ h. found_accepted x (One command) [] [] status h (g.met.M.Machine.short a) timed (does.leaves h []) (λ P p. p);
     }
 
 pub returns-in-Err : goal.returns-in-Err
-returns-in-Err g c =
-    let M = g.M.Machine in
-    let timed = timed_by M g.met.M.Machine.dated g.met.M.Machine.history g.met.M.Machine.counts_now g.met.M.Machine.only_now in
-    let a = c.args.m.now in
-    let b = c.attach.new.self in
-    let z = c.last_line.new.m in
-    let e = c.in-Err.ensures in
-    let line = c.last_line.ensures in
-    let status = c.last_line.result in
-    let x : EndsUnfound M c.args.path.now c.in-Err.failed a b z status =
-    record { cause = e.cause; trust = e.trust; asked = e.asked_err; worn = e.failed; time = e.time; says = line.says; ledger = line.ledger; ends = line.ends; for = line.status } in
-    record {
-      status = inr (failed_status status line.status);
-      counts = unfound_counts x;
-      asks = unfound_asks x;
-      asked = λ inside t. absurd (unfound_outside x inside);
-      trust = unfound_trust x;
-      image = λ h. unfound_image x false (MayLose c.args.c.now) None;
-      one = λ h. inr (unfound_alone x h);
-      rest = λ h. inl (untouched_unfound (Lines.Ended (Ends.Device c.in-Err.failed.place)) (M.now a) (M.now b) (M.now z) (e.failed (line.says.trust.honest h)) (line.says.exit h));
-      last = unfound_last x;
-      leaves = λ h rest l windows changes f sound held. unfound_leaves x (One c.args.c.now) [] rest l windows changes f h (g.met.M.Machine.short a) timed sound held;
-      accepted = λ h. unfound_accepted x;
-    }
+returns-in-Err g c = c.in-Err.ensures.ran (One c.args.c.now)

@@ -1,10 +1,10 @@
 use Rattle.std.proofs.Common.{[], refl, sym, subst, Result, None}
-use Rattle.fsd_files.specs.Replies.{Reply}
+use Rattle.fsd_files.specs.declared.reply.Reply.{Reply}
+use Rattle.fsd_files.specs.declared.reply.Reply.TheVariants as Said
 use Rattle.fsd_texts.specs.declared.call.Call.TheVariants as Calls
 use Rattle.fsd_texts.specs.declared.fault.Fault.{Fault}
 use Rattle.fsd_texts.specs.declared.script_command.ScriptCommand.TheVariants.{OfClient}
 use Rattle.volume_contract.specs.Ends.{device_of}
-use Rattle.volume_turns.specs.declared.answer.Answer.{Answer}
 use Rattle.sector_disk.proofs.CallLaws.{writes_told}
 use Rattle.fsd_files.specs.Desk.{begin_outcome}
 use Rattle.fsd_formats.specs.NamePage.{sectors_for}
@@ -57,7 +57,7 @@ returns-in-Ok-clause-done g c h k sits =
     let V = g.V.Files in
     let M = g.M.Machine in
     answers_does V.state V.holds c.args.client (Calls.Begin c.args.name.now c.args.length) c.args.v.now c.begin.new.v c.args.desk.now c.begin.new.self k (M.now c.args.m.now) (M.now c.begin.new.m) c.in-Ok.ensures.state.desk
-    (λ s. begin_outcome s c.args.client c.args.name.now c.args.length) (record { met = met_none; held = [] }) refl tt (Reply.Begun c.args.client) [] refl
+    (λ s. begin_outcome s c.args.client c.args.name.now c.args.length) (record { met = met_none; held = [] }) refl tt (Said.Begun c.args.client) [] refl
     (λ may. begin_through (V.state c.args.v.now) c.args.desk.now c.args.client c.args.length c.in-Ok.ensures.order) (c.in-Ok.ensures.done h (known_of k) k.clients sits)
 
 -- ---- it is refused
@@ -109,7 +109,7 @@ returns-in-Err-clause-done g c h k sits =
     let M = g.M.Machine in
     let name = c.args.name.now in
     let len = c.args.length in
-    subst (λ (r : Result Answer Fault). DoesIn V.state V.holds (OfClient c.args.client (Calls.Begin name len)) (c.args.v.now, c.args.desk.now) (c.begin.new.v, c.begin.new.self) k (M.now c.args.m.now) (M.now c.begin.new.m) r) (sym c.ended_by.ensures.is)
+    subst (λ (r : Result Reply Fault). DoesIn V.state V.holds (OfClient c.args.client (Calls.Begin name len)) (c.args.v.now, c.args.desk.now) (c.begin.new.v, c.begin.new.self) k (M.now c.args.m.now) (M.now c.begin.new.m) r) (sym c.ended_by.ensures.is)
     (begin_does V.state V.holds c.args.client c.args.v.now c.begin.new.v c.args.desk.now c.begin.new.self k (M.now c.args.m.now) (M.now c.begin.new.m) c.in-Err.ensures.state.desk c.in-Err.why c.requires.up sits name len
     c.in-Err.ensures.order (c.in-Err.ensures.done h (known_of k) k.clients sits))
 

@@ -2,7 +2,8 @@ use Rattle.std.proofs.Common.{◌≡◌, ◌-◌, ◌||◌, ℕ, [], ◌∷◌, 
 use Rattle.sector_disk.proofs.CallLaws.{writes_told}
 use Rattle.fsd_files.specs.Desk.{close_outcome}
 use Rattle.fsd_files.specs.Files.{Change}
-use Rattle.fsd_files.specs.Replies.{Reply}
+use Rattle.fsd_files.specs.declared.reply.Reply.{Reply}
+use Rattle.fsd_files.specs.declared.reply.Reply.TheVariants as Said
 use Rattle.fsd_formats.specs.NamePage.{sectors_for}
 use Rattle.fsd_sound.specs.Writes.{force_writes}
 use Rattle.fsd_texts.specs.declared.call.Call.TheVariants as Calls
@@ -11,7 +12,6 @@ use Rattle.fsd_texts.specs.declared.script_command.ScriptCommand.TheVariants.{Of
 use Rattle.volume_contract.specs.Ends.{device_of}
 use Rattle.volume_contract.specs.State.{forces_first}
 use Rattle.client_desk.specs.Clients.{as_writing, client_at, in_first}
-use Rattle.volume_turns.specs.declared.answer.Answer.{Answer}
 use Rattle.volume_turns.specs.Calls.{sectors_made}
 use Rattle.volume_turns.specs.Seats.{DoesIn, known_of}
 use Rattle.volume_turns.proofs.CallEndLaws.{close_does}
@@ -55,9 +55,9 @@ returns-in-Ok-clause-done g c h k sits =
     let sectors : c.sectors_made-sectors.result ≡ sectors_for e.len =
     c.sectors_made-sectors.ensures ∙ ap (λ (o : Option ℕ). sectors_made o) c.declared.ensures
     ∙ made_is k.opened desk k.clients client (sits.each (client - 1)) is_client e.name e.len e.runs e.serial e.bytes e.was in
-    subst (λ (n : ℕ). AnswersSo V.state V.holds client Calls.Close c.args.v.now c.close.new.v desk c.close.new.self k (M.now c.args.m.now) (M.now c.close.new.m) c.in-Ok.ensures.state.desk (Reply.Made key n)) (sym sectors)
+    subst (λ (n : ℕ). AnswersSo V.state V.holds client Calls.Close c.args.v.now c.close.new.v desk c.close.new.self k (M.now c.args.m.now) (M.now c.close.new.m) c.in-Ok.ensures.state.desk (Said.Made key n)) (sym sectors)
     (answers_does V.state V.holds client Calls.Close c.args.v.now c.close.new.v desk c.close.new.self k (M.now c.args.m.now) (M.now c.close.new.m) c.in-Ok.ensures.state.desk
-    (λ s. close_outcome e.met s client) (record { met = e.met; held = [] }) refl tt (Reply.Made key (sectors_for e.len)) (Change.Put e.name None e.bytes ∷ [])
+    (λ s. close_outcome e.met s client) (record { met = e.met; held = [] }) refl tt (Said.Made key (sectors_for e.len)) (Change.Put e.name None e.bytes ∷ [])
     (changes_are k.opened desk k.clients client (sits.each (client - 1)) is_client e.name e.len e.runs e.serial e.bytes e.was key (sectors_for e.len))
     (λ may. close_through (V.state c.args.v.now) desk client c.in-Ok.ensures.order) e.answers)
 
@@ -92,6 +92,6 @@ pub returns-in-Err-clause-done : goal.returns-in-Err-clause-done
 returns-in-Err-clause-done g c h k sits =
     let V = g.V.Files in
     let M = g.M.Machine in
-    subst (λ (r : Result Answer Fault). DoesIn V.state V.holds (OfClient c.args.client Calls.Close) (c.args.v.now, c.args.desk.now) (c.close.new.v, c.close.new.self) k (M.now c.args.m.now) (M.now c.close.new.m) r) (sym c.ended_by.ensures.is)
+    subst (λ (r : Result Reply Fault). DoesIn V.state V.holds (OfClient c.args.client Calls.Close) (c.args.v.now, c.args.desk.now) (c.close.new.v, c.close.new.self) k (M.now c.args.m.now) (M.now c.close.new.m) r) (sym c.ended_by.ensures.is)
     (close_does V.state V.holds c.args.client c.args.v.now c.close.new.v c.args.desk.now c.close.new.self k (M.now c.args.m.now) (M.now c.close.new.m) c.in-Err.ensures.state.desk c.in-Err.why c.requires.up sits
     c.in-Err.ensures.order (c.in-Err.ensures.done h (known_of k) k.clients sits))

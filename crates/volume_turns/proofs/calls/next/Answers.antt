@@ -3,14 +3,14 @@ use Rattle.std.proofs.lemmas.List.{take_at}
 use Rattle.fsd_bytes.specs.declared.refusal.Refusal.{Refusal}
 use Rattle.fsd_bytes.specs.declared.refusal.Refusal.TheVariants as Why
 use Rattle.sector_disk.proofs.CallLaws.{writes_told}
-use Rattle.fsd_files.specs.Replies.{Reply}
+use Rattle.fsd_files.specs.declared.reply.Reply.TheVariants as Said
 use Rattle.fsd_texts.specs.declared.call.Call.TheVariants as Calls
 use Rattle.scrub.specs.Telling.{AreOfPage}
 use Rattle.volume_contract.specs.Ends.{device_of}
 use Rattle.client_desk.specs.Clients.{as_reading, left_at, place_of}
 use Rattle.client_desk.specs.Ends.{EndsNext}
 use Rattle.volume_turns.proofs.AnsweringLaws.{data_inside}
-use Rattle.volume_turns.specs.Answering.{HasDamaged}
+use Rattle.volume_turns.specs.Commands.{HasDamaged}
 use Rattle.volume_turns.specs.Calls.{room_for}
 use Rattle.volume_turns.specs.Seats.{known_of}
 use Rattle.volume_turns.proofs.CallEndLaws.{given_does, next_does}
@@ -38,12 +38,13 @@ returns-in-Ok-next-clause-answers g c h =
     let room = room_within c.left.result len c.room_for-room.result c.room_for-room.ensures in
     let items = take_at c.next.new.buf (drop (length c.next.new.buf) c.in-Ok.bytes.items) c.in-Ok.bytes.len (omega (arith, c.in-Ok.ensures.len, c.as_mut_slice.ensures.len, c.next.auto.buf)) in
     let size = ap (λ (b : List ℕ). length b) items in
-    record {
+    rw c.from.ensures
+    (record {
       replies = (refl, test_client as_reading desk client c.in-Ok-next.ensures.order.0, omega (arith, size, room, c.in-Ok.ensures.len, c.as_mut_slice.ensures.len, c.next.auto.buf));
       worn = λ is. absurd (cc is);
       numbers = goes_none 1 (V.state c.args.v.now) (V.state c.next.new.v) c.in-Ok-next.ensures.state.kept.volume;
       told = tt;
-    }
+    })
 
 pub returns-in-Ok-next-clause-done : goal.returns-in-Ok-next-clause-done
 returns-in-Ok-next-clause-done g c h k sits =
@@ -59,10 +60,11 @@ returns-in-Ok-next-clause-done g c h k sits =
     let asked : length c.as_mut_slice.result.now ≡ room_for (left_at desk (place_of client)) len = omega (arith, room, c.in-Ok.ensures.len, c.as_mut_slice.ensures.len) in
     let full : length buf ≡ room_for (left_at desk (place_of client)) len = omega (arith, asked, c.next.auto.buf) in
     let gives = c.in-Ok-next.ensures.done h (known_of k) k.clients sits in
-    subst (λ (b : List ℕ). AnswersSo V.state V.holds client (Calls.Next len) v c.next.new.v desk c.next.new.self k (M.now c.args.m.now) (M.now c.next.new.m) c.in-Ok-next.ensures.state.desk (Reply.Given client b)) (sym items)
+    rw c.from.ensures
+    (subst (λ (b : List ℕ). AnswersSo V.state V.holds client (Calls.Next len) v c.next.new.v desk c.next.new.self k (M.now c.args.m.now) (M.now c.next.new.m) c.in-Ok-next.ensures.state.desk (Said.Given client b)) (sym items)
     (given_does V.state V.holds client v c.next.new.v desk c.next.new.self k (M.now c.args.m.now) (M.now c.next.new.m) c.in-Ok-next.ensures.state.desk Why.Memory (sits.each (client - 1)) len c.as_mut_slice.result.now buf
     (test_client as_reading desk client c.in-Ok-next.ensures.order.0) c.in-Ok-next.field-0 full
-    (subst (λ (n : ℕ). EndsNext V.state V.holds client n (M.now c.args.m.now).image (M.now c.next.new.m).image (known_of k) k.clients c.as_mut_slice.result.now buf c.next.new.v c.next.new.self (M.now c.next.new.m) (Ok c.in-Ok-next.field-0)) asked gives))
+    (subst (λ (n : ℕ). EndsNext V.state V.holds client n (M.now c.args.m.now).image (M.now c.next.new.m).image (known_of k) k.clients c.as_mut_slice.result.now buf c.next.new.v c.next.new.self (M.now c.next.new.m) (Ok c.in-Ok-next.field-0)) asked gives)))
 
 -- ---- memory is refused
 

@@ -1,17 +1,16 @@
 use Rattle.std.proofs.Common.{[], ℕ, refl, sym, ap, subst, Result, None, Err}
 use Rattle.fsd_bytes.specs.declared.refusal.Refusal.{Refusal}
-use Rattle.fsd_files.specs.Replies.{Reply}
+use Rattle.fsd_files.specs.declared.reply.Reply.{Reply}
+use Rattle.fsd_files.specs.declared.reply.Reply.TheVariants as Said
 use Rattle.fsd_texts.specs.declared.call.Call.TheVariants as Calls
 use Rattle.fsd_texts.specs.declared.fault.Fault.{Fault}
 use Rattle.fsd_texts.specs.declared.script_command.ScriptCommand.TheVariants.{OfClient}
 use Rattle.volume_contract.specs.Ends.{device_of}
 use Rattle.volume_contract.specs.State.{State}
-use Rattle.volume_turns.specs.declared.answer.Answer.{Answer}
 use Rattle.sector_disk.proofs.CallLaws.{writes_told}
 use Rattle.fsd_files.specs.Desk.{open_outcome}
 use Rattle.client_desk.specs.Clients.{as_idle}
 use Rattle.volume_turns.specs.Reasons.{BecauseOpened}
-use Rattle.volume_turns.specs.Steps.{reply_of}
 use Rattle.volume_turns.specs.Seats.{DoesIn, known_of}
 use Rattle.volume_turns.proofs.CallEndLaws.{open_does}
 use Rattle.volume_turns.proofs.CallKeepLaws.{holds_continues, holds_goes, still_up}
@@ -69,7 +68,7 @@ returns-in-Ok-clause-done g c h k sits =
     let M = g.M.Machine in
     let e = c.in-Ok.ensures.done h (known_of k) k.clients sits in
     answers_does V.state V.holds c.args.client (Calls.Open c.args.key.now) c.args.v.now c.open_key.new.v c.args.desk.now c.open_key.new.self k (M.now c.args.m.now) (M.now c.open_key.new.m) c.in-Ok.ensures.state.desk
-    (λ s. open_outcome e.held s c.args.client c.args.key.now) (record { met = met_none; held = e.held }) refl tt (Reply.Opened c.args.client c.in-Ok.length) [] refl (λ may. cc may) e.answers
+    (λ s. open_outcome e.held s c.args.client c.args.key.now) (record { met = met_none; held = e.held }) refl tt (Said.Opened c.args.client c.in-Ok.length) [] refl (λ may. cc may) e.answers
 
 -- ---- it is refused
 
@@ -106,7 +105,7 @@ returns-in-Err-clause-because g c h =
     let M = g.M.Machine in
     let s = V.state c.args.v.now in
     let a = M.now c.args.m.now in
-    no_reason (λ x. BecauseOpened V.state V.resident c.args.key.now s (V.state c.open_key.new.v) a (M.now c.open_key.new.m) (reply_of x)) c.in-Err.why c.ended_by.result c.ended_by.ensures.is
+    no_reason (λ x. BecauseOpened V.state V.resident c.args.key.now s (V.state c.open_key.new.v) a (M.now c.open_key.new.m) x) c.in-Err.why c.ended_by.result c.ended_by.ensures.is
     (λ is. record { by = c.args.v.now; same = refl; from = a; aged = ages_here a; shows = c.in-Err.ensures.causes.absent (ap err is) h })
   where
     err : Refusal → Result ℕ Refusal
@@ -117,7 +116,7 @@ returns-in-Err-clause-done g c h k sits =
     let V = g.V.Files in
     let M = g.M.Machine in
     let key = c.args.key.now in
-    subst (λ (r : Result Answer Fault). DoesIn V.state V.holds (OfClient c.args.client (Calls.Open key)) (c.args.v.now, c.args.desk.now) (c.open_key.new.v, c.open_key.new.self) k (M.now c.args.m.now) (M.now c.open_key.new.m) r) (sym c.ended_by.ensures.is)
+    subst (λ (r : Result Reply Fault). DoesIn V.state V.holds (OfClient c.args.client (Calls.Open key)) (c.args.v.now, c.args.desk.now) (c.open_key.new.v, c.open_key.new.self) k (M.now c.args.m.now) (M.now c.open_key.new.m) r) (sym c.ended_by.ensures.is)
     (open_does V.state V.holds c.args.client c.args.v.now c.open_key.new.v c.args.desk.now c.open_key.new.self k (M.now c.args.m.now) (M.now c.open_key.new.m) c.in-Err.ensures.state.desk c.in-Err.why key
     (c.in-Err.ensures.done h (known_of k) k.clients sits)
     (open_unworn (V.state c.args.v.now) c.requires.up c.args.desk.now c.args.client c.in-Err.why key c.in-Err.ensures.order))

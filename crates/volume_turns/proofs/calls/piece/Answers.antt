@@ -1,13 +1,13 @@
 use Rattle.std.proofs.Common.{◌-◌, [], length, refl, sym, subst, Result, None, arith}
 use Rattle.sector_disk.proofs.CallLaws.{writes_told}
 use Rattle.fsd_files.specs.Desk.{piece_outcome}
-use Rattle.fsd_files.specs.Replies.{Reply}
+use Rattle.fsd_files.specs.declared.reply.Reply.{Reply}
+use Rattle.fsd_files.specs.declared.reply.Reply.TheVariants as Said
 use Rattle.fsd_texts.specs.declared.call.Call.TheVariants as Calls
 use Rattle.fsd_texts.specs.declared.fault.Fault.{Fault}
 use Rattle.fsd_texts.specs.declared.script_command.ScriptCommand.TheVariants.{OfClient}
 use Rattle.volume_contract.specs.Ends.{device_of}
 use Rattle.client_desk.specs.Clients.{as_writing, client_at, in_data, piece_steps}
-use Rattle.volume_turns.specs.declared.answer.Answer.{Answer}
 use Rattle.volume_turns.specs.Seats.{DoesIn, known_of}
 use Rattle.volume_turns.proofs.CallEndLaws.{piece_does}
 use Rattle.volume_turns.proofs.CallKeepLaws.{piece_continues, piece_goes, still_ended_up}
@@ -39,7 +39,7 @@ returns-in-Ok-clause-done g c h k sits =
     let V = g.V.Files in
     let M = g.M.Machine in
     answers_does V.state V.holds c.args.client (Calls.Piece c.args.bytes.now) c.args.v.now c.piece.new.v c.args.desk.now c.piece.new.self k (M.now c.args.m.now) (M.now c.piece.new.m) c.in-Ok.ensures.state.desk
-    (λ s. piece_outcome s c.args.client c.args.bytes.now) (record { met = met_none; held = [] }) refl tt (Reply.Took c.args.client c.in-Ok.sum) [] refl (λ may. cc may) (c.in-Ok.ensures.done h (known_of k) k.clients sits)
+    (λ s. piece_outcome s c.args.client c.args.bytes.now) (record { met = met_none; held = [] }) refl tt (Said.Took c.args.client c.in-Ok.sum) [] refl (λ may. cc may) (c.in-Ok.ensures.done h (known_of k) k.clients sits)
 
 -- ---- it is refused
 
@@ -88,7 +88,7 @@ returns-in-Err-clause-done g c h k sits =
     let client = c.args.client in
     let bytes = c.args.bytes.now in
     let why = c.in-Err.why in
-    subst (λ (r : Result Answer Fault). DoesIn V.state V.holds (OfClient client (Calls.Piece bytes)) (c.args.v.now, c.args.desk.now) (c.piece.new.v, c.piece.new.self) k (M.now c.args.m.now) (M.now c.piece.new.m) r) (sym c.ended_by.ensures.is)
+    subst (λ (r : Result Reply Fault). DoesIn V.state V.holds (OfClient client (Calls.Piece bytes)) (c.args.v.now, c.args.desk.now) (c.piece.new.v, c.piece.new.self) k (M.now c.args.m.now) (M.now c.piece.new.m) r) (sym c.ended_by.ensures.is)
     (piece_does V.state V.holds client c.args.v.now c.piece.new.v c.args.desk.now c.piece.new.self k (M.now c.args.m.now) (M.now c.piece.new.m) c.in-Err.ensures.state.desk why bytes
     (piece_declines s c.requires.up c.args.desk.now client [] why bytes c.in-Err.ensures.order) (c.in-Err.ensures.done h (known_of k) k.clients sits))
 

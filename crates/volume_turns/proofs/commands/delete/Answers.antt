@@ -1,9 +1,9 @@
-use Rattle.std.proofs.Common.{false, [], ◌∷◌, sym, subst, refl, arith}
+use Rattle.std.proofs.Common.{false, [], ◌∷◌, sym, subst, refl}
 use Rattle.fsd_bytes.specs.declared.key.Key.{Key}
 use Rattle.fsd_bytes.specs.declared.refusal.Refusal.{Refusal}
 use Rattle.fsd_files.specs.Answers.{delete_outcome}
 use Rattle.fsd_files.specs.Files.{Change}
-use Rattle.fsd_files.specs.Replies.{Reply}
+use Rattle.fsd_files.specs.declared.reply.Reply.TheVariants as Said
 use Rattle.fsd_sound.specs.Writes.{force_writes}
 use Rattle.fsd_texts.specs.declared.command.Command.TheVariants as Word
 use Rattle.volume_contract.specs.Order.{Comes, down}
@@ -27,12 +27,12 @@ returns-in-Ok g c =
     let s = V.state v in
     let key = c.args.key.now in
     let e = c.in-Ok.ensures in
-    answered_did M V.state V.holds a b V.resident (Word.Delete key) v w e.rest tt (counted_goes false (forces_first s) s (V.state w) e.kept)
-    _ c.requires.up e.state (leaves_stay M V.state V.holds a b v (force_writes s.layout) e.disk) (omega arith) (λ h. c.copied.ensures) e.counted (λ h. tt)
+    answered_did M V.state V.holds a b V.resident (Word.Delete key) v w e.writes.rest tt (counted_goes false (forces_first s) s (V.state w) e.keeps.kept)
+    _ c.requires.up e.keeps.state (leaves_stay M V.state V.holds a b v (force_writes s.layout) e.disk) refl (λ h. c.copied.ensures) e.writes.counted (λ h. tt)
     (λ h k stands.
     let ends = e.done h k stands in
-    let is = answered_does V.state V.holds (Word.Delete key) v w k (M.now a) (M.now b) (λ met. delete_outcome met (volume_of k) key) (λ met. refl) (λ met. tt) (Reply.Deleted key) (Change.Delete key ∷ []) refl ends.0 ends.1 (λ may. delete_through s e.order) in
-    (ends.0, subst (λ (x : Key). IsAnswered (Word.Delete key) s k ends.0 (M.now a).image (M.now b).image (Reply.Deleted x)) (sym c.copied.ensures) is, ends.2))
+    let is = answered_does V.state V.holds (Word.Delete key) v w k (M.now a) (M.now b) (λ met. delete_outcome met (volume_of k) key) (λ met. refl) (λ met. tt) (Said.Deleted key) (Change.Delete key ∷ []) refl ends.0 ends.1 (λ may. delete_through s e.order.follows) in
+    (ends.0, subst (λ (x : Key). IsAnswered (Word.Delete key) s k ends.0 (M.now a).image (M.now b).image (Said.Deleted x)) (sym c.copied.ensures) is, ends.2))
 
 pub returns-in-Err : goal.returns-in-Err
 returns-in-Err g c =
@@ -48,11 +48,11 @@ returns-in-Err g c =
     let why = c.in-Err.why in
     let e = c.in-Err.ensures in
     rw c.ended_by.ensures.is
-    (refused_did M V.state V.holds a b V.resident (Word.Delete key) v w e.rest tt (delete_goes s (V.state w) why e.kept)
-    (down s ∷ delete_all s) why up e.order (delete_down s up why e.order) (λ comes. delete_worn s up comes) e.state (leaves_stay M V.state V.holds a b v (force_writes s.layout) e.disk) e.causes
-    (omega arith) (λ h. delete_refused s up why key (M.now b).image e.order) e.counted (λ h. tt)
+    (refused_did M V.state V.holds a b V.resident (Word.Delete key) v w e.writes.rest tt (delete_goes s (V.state w) why e.keeps.kept)
+    (down s ∷ delete_all s) why up e.order.follows (delete_down s up why e.order.follows) (λ comes. delete_worn s up comes) e.keeps.state (leaves_stay M V.state V.holds a b v (force_writes s.layout) e.disk) e.causes
+    refl (λ h. delete_refused s up why key (M.now b).image e.order.follows) e.writes.counted (λ h. tt)
     (λ h k stands.
     refused_does V.state V.holds (Word.Delete key) v w k (M.now a) (M.now b) (λ met. delete_outcome met (volume_of k) key) (λ met. refl) (λ met. tt) why refl
-    (λ other may. delete_unworn s up why e.order other)
-    (λ is. record { may = refl; worn = delete_worn s up (subst (λ (x : Refusal). Comes (down s ∷ delete_all s) x) is e.order) })
+    (λ other may. delete_unworn s up why e.order.follows other)
+    (λ is. record { may = refl; worn = delete_worn s up (subst (λ (x : Refusal). Comes (down s ∷ delete_all s) x) is e.order.follows) })
     (e.done h k stands)))

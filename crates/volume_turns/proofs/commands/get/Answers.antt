@@ -1,4 +1,4 @@
-use Rattle.std.proofs.Common.{◌≡◌, ◌∙◌, None, inl, refl, ap, subst, arith}
+use Rattle.std.proofs.Common.{◌≡◌, ◌∙◌, None, refl, ap, subst}
 use Rattle.std.specs.Prelude.{Err, IfErr, IsTrue}
 use Rattle.fsd_bytes.specs.declared.refusal.Refusal.{Refusal}
 use Rattle.fsd_files.specs.Answers.{entry_of}
@@ -83,7 +83,7 @@ returns-in-Err g c =
     let disk = reads_stay M V.state V.holds a b v (λ h left worn k. g.met.V.Files.wears v k (M.now a) left (g.met.M.Machine.short a h) (record { image = worn.image; windows = worn.windows })) e.disk in
     rw c.ended_by.ensures.is
     (refused_did M V.state V.holds a b V.resident (Word.Get key) v w (λ h. worn_touches nowhere (M.now a) (M.now b) (e.disk.worn h).image) e.state (goes_none 1 s t e.state)
-    (entry_steps s) why up e.order (entry_down s up why e.order) (λ comes. absurd (entry_worn s up comes)) (goes_same (downs_for why) s t e.state) disk e.causes
-    (inl (omega arith)) (λ h. entry_refused s up why key (M.now b).image e.order) (λ tells. reads_none (M.ledger a) (M.ledger b) (e.disk.ledger tells))
-    (λ h none. record { by = v; same = refl; from = M.now a; aged = ages_here (M.now a); shows = e.absent (ap (λ (x : Refusal). Err x) none) h })
+    (entry_steps s) why up e.order.follows (entry_down s up why e.order.follows) (λ comes. absurd (entry_worn s up comes)) (goes_same (downs_for why) s t e.state) disk e.tells.causes
+    refl (λ h. entry_refused s up why key (M.now b).image e.order.follows) (λ tells. reads_none (M.ledger a) (M.ledger b) (e.disk.ledger tells))
+    (λ h none. record { by = v; same = refl; from = M.now a; aged = ages_here (M.now a); shows = e.tells.absent (ap (λ (x : Refusal). Err x) none) h })
     (λ h k stands. unfound_does V.state V.holds key v w k (M.now a) (M.now b) why (e.stands h k stands) (e.done h k stands)))

@@ -1,10 +1,10 @@
-use Rattle.std.proofs.Common.{ℕ, true, [], ◌∷◌, sym, subst, refl, length, arith}
+use Rattle.std.proofs.Common.{ℕ, true, [], ◌∷◌, sym, subst, refl, length}
 use Rattle.std.specs.Prelude.{◌||◌, IsFalse}
 use Rattle.fsd_bytes.specs.declared.refusal.Refusal.{Refusal}
 use Rattle.fsd_formats.specs.NamePage.{sectors_for}
 use Rattle.fsd_files.specs.Answers.{put_outcome, size_fault, keep_given}
 use Rattle.fsd_files.specs.Files.{Change}
-use Rattle.fsd_files.specs.Replies.{Reply}
+use Rattle.fsd_files.specs.declared.reply.Reply.TheVariants as Said
 use Rattle.fsd_texts.specs.declared.command.Command.TheVariants as Word
 use Rattle.volume_contract.specs.Order.{Comes}
 use Rattle.volume_contract.specs.State.{forces_first, forces_for_place, volume_of, put_writes, is_worn}
@@ -31,14 +31,14 @@ returns-in-Ok g c =
     let keep = c.args.keep in
     let need = sectors_for (length bytes) in
     let e = c.in-Ok.ensures in
-    answered_did M V.state V.holds a b V.resident (Word.Put name bytes keep) v w e.rest tt (counted_goes true (forces_for_place s need || forces_first s) s t e.kept)
-    _ c.requires.up e.state (leaves_stay M V.state V.holds a b v (put_writes s need) e.disk) (omega arith) (λ h. (e.name, c.sectors_of.ensures, e.order.1.0)) e.counted (λ h. tt)
+    answered_did M V.state V.holds a b V.resident (Word.Put name bytes keep) v w e.writes.rest tt (counted_goes true (forces_for_place s need || forces_first s) s t e.keeps.kept)
+    _ c.requires.up e.keeps.state (leaves_stay M V.state V.holds a b v (put_writes s need) e.disk) refl (λ h. (e.tells.name, c.sectors_of.ensures, e.order.follows.1.0)) e.writes.counted (λ h. tt)
     (λ h k stands.
     let ends = e.done h k stands in
-    let unworn : IsFalse (is_worn s) = unworn_through s c.requires.up (size_fault (keep_given keep) (length bytes)) (put_rest s need) (size_never (keep_given keep) (length bytes)) (put_never s need) e.order in
+    let unworn : IsFalse (is_worn s) = unworn_through s c.requires.up (size_fault (keep_given keep) (length bytes)) (put_rest s need) (size_never (keep_given keep) (length bytes)) (put_never s need) e.order.follows in
     let is = answered_does V.state V.holds (Word.Put name bytes keep) v w k (M.now a) (M.now b) (λ met. put_outcome met (volume_of k) name bytes keep) (λ met. refl) (λ met. tt)
-    (Reply.Made c.in-Ok.key need) (Change.Put name keep bytes ∷ []) refl ends.after ends.answers (λ may. unworn) in
-    (ends.after, subst (λ (n : ℕ). IsAnswered (Word.Put name bytes keep) s k ends.after (M.now a).image (M.now b).image (Reply.Made c.in-Ok.key n)) (sym c.sectors_of.ensures) is, ends.stands))
+    (Said.Made c.in-Ok.key need) (Change.Put name keep bytes ∷ []) refl ends.after ends.answers (λ may. unworn) in
+    (ends.after, subst (λ (n : ℕ). IsAnswered (Word.Put name bytes keep) s k ends.after (M.now a).image (M.now b).image (Said.Made c.in-Ok.key n)) (sym c.sectors_of.ensures) is, ends.stands))
 
 pub returns-in-Err : goal.returns-in-Err
 returns-in-Err g c =
@@ -61,11 +61,11 @@ returns-in-Err g c =
     let why = c.in-Err.why in
     let e = c.in-Err.ensures in
     rw c.ended_by.ensures.is
-    (refused_did M V.state V.holds a b V.resident (Word.Put name bytes keep) v w e.rest tt (put_goes s (V.state w) why keep (length bytes) e.kept)
-    (steps_of s size rest) why up e.order (never_down s up size rest sizes others why e.order) (λ comes. (worn_by s up size rest sizes others comes).1) e.state (leaves_stay M V.state V.holds a b v (put_writes s need) e.disk) e.causes
-    (omega arith) (λ h. put_refused s up name bytes keep (M.now b).image why e.order) e.counted (λ h. tt)
+    (refused_did M V.state V.holds a b V.resident (Word.Put name bytes keep) v w e.writes.rest tt (put_goes s (V.state w) why keep (length bytes) e.keeps.kept)
+    (steps_of s size rest) why up e.order.follows (never_down s up size rest sizes others why e.order.follows) (λ comes. (worn_by s up size rest sizes others comes).1) e.keeps.state (leaves_stay M V.state V.holds a b v (put_writes s need) e.disk) e.tells.causes
+    refl (λ h. put_refused s up name bytes keep (M.now b).image why e.order.follows) e.writes.counted (λ h. tt)
     (λ h k stands.
     refused_does V.state V.holds (Word.Put name bytes keep) v w k (M.now a) (M.now b) (λ met. put_outcome met (volume_of k) name bytes keep) (λ met. refl) (λ met. tt) why refl
-    (λ other may. unworn_by s up size rest sizes others why e.order other (is_no_fault size may))
-    (λ is. let worn = worn_by s up size rest sizes others (subst (λ (x : Refusal). Comes (steps_of s size rest) x) is e.order) in record { may = no_fault_is size worn.0; worn = worn.1 })
+    (λ other may. unworn_by s up size rest sizes others why e.order.follows other (is_no_fault size may))
+    (λ is. let worn = worn_by s up size rest sizes others (subst (λ (x : Refusal). Comes (steps_of s size rest) x) is e.order.follows) in record { may = no_fault_is size worn.0; worn = worn.1 })
     (e.done h k stands)))

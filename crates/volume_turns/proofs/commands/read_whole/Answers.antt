@@ -1,17 +1,17 @@
-use Rattle.std.proofs.Common.{inl, ◌≡◌, ◌≤◌, ℕ, List, ◌++◌, ◌∙◌, refl, sym, ap, subst, Option, length, take, drop, arith}
+use Rattle.std.proofs.Common.{◌≡◌, ◌≤◌, ℕ, List, ◌++◌, ◌∙◌, refl, sym, ap, subst, Option, length, take, drop, arith}
 use Rattle.std.specs.Prelude.{Err, IfOk, Result, IfSome}
 use Rattle.std.proofs.lemmas.List.{take_at}
 use Rattle.fsd_bytes.specs.declared.key.Key.{Key}
 use Rattle.fsd_files.specs.Answers.{entry_of}
-use Rattle.fsd_files.specs.Replies.{Reply}
+use Rattle.fsd_files.specs.declared.reply.Reply.{Reply}
+use Rattle.fsd_files.specs.declared.reply.Reply.TheVariants as Said
 use Rattle.fsd_texts.specs.declared.command.Command.TheVariants as Word
 use Rattle.fsd_texts.specs.declared.fault.Fault.{Fault}
 use Rattle.scrub.specs.Telling.{AreOfPage}
-use Rattle.volume_turns.specs.declared.answer.Answer.{Answer}
 use Rattle.sector_disk.specs.Calls.{OnlyReads}
 use Rattle.volume_contract.specs.Order.{read_steps}
 use Rattle.volume_contract.specs.State.{State, volume_of}
-use Rattle.volume_turns.specs.Steps.{Does, IsAnswered, device_by, reply_of}
+use Rattle.volume_turns.specs.Steps.{Does, IsAnswered, device_by}
 use Rattle.volume_turns.proofs.OrderLaws.{read_down, read_worn}
 use Rattle.volume_turns.proofs.ReadLaws.{read_does, unread_does}
 use Rattle.volume_turns.proofs.StepLaws.{same_read_device}
@@ -19,7 +19,7 @@ use Rattle.volume_turns.proofs.StatusLaws.{refused_read}
 use Rattle.fsd_bytes.specs.declared.refusal.Refusal.{Refusal}
 use Rattle.fsd_bytes.specs.declared.refusal.Refusal.TheVariants as Why
 use Rattle.fsd_files.specs.Disk.{nowhere}
-use Rattle.volume_turns.specs.Answering.{HasDamaged, MayReply}
+use Rattle.volume_turns.specs.Commands.{HasDamaged, MayReply}
 use Rattle.scrub.proofs.LeadLaws.{worn_touches}
 use Rattle.volume_turns.proofs.AnsweringLaws.{data_inside, read_refused}
 use Rattle.volume_turns.proofs.ToldLaws.{read_told_so, told_of}
@@ -38,14 +38,14 @@ returns-in-Ok-read-clause-done g c h k stands len =
     let lens = subst (λ (n : ℕ). IfSome e (λ x. x.length ≡ n)) (sym size) len in
     let is = read_does V.state V.holds c.args.key.now c.args.v.now c.read.new.self k (M.now c.args.m.now) (M.now c.read.new.m) c.as_mut_slice.result.now c.read.new.buf c.in-Ok-read.field-0 lens (c.in-Ok-read.ensures.done h k stands) in
     let items = take_at c.read.new.buf (drop (length c.read.new.buf) c.in-Ok.bytes.items) c.in-Ok.bytes.len (omega (arith, c.in-Ok.ensures.len, c.as_mut_slice.ensures.len, c.read.auto.buf)) in
-    let reply : Reply.Bytes c.args.key.now c.read.new.buf ≡ Reply.Bytes c.copied.result (take c.in-Ok.bytes.len (c.read.new.buf ++ drop (length c.read.new.buf) c.in-Ok.bytes.items)) =
-    ap (λ (b : List ℕ). Reply.Bytes c.args.key.now b) (sym items) ∙ ap (λ (key : Key). Reply.Bytes key (take c.in-Ok.bytes.len (c.read.new.buf ++ drop (length c.read.new.buf) c.in-Ok.bytes.items))) (sym c.copied.ensures) in
-    (k, subst (λ (r : Reply). IsAnswered (Word.Get c.args.key.now) (V.state c.args.v.now) k k (M.now c.args.m.now).image (M.now c.read.new.m).image r) reply is, c.in-Ok-read.ensures.stands h k stands)
+    let reply : Said.Bytes c.args.key.now c.read.new.buf ≡ Said.Bytes c.copied.result (take c.in-Ok.bytes.len (c.read.new.buf ++ drop (length c.read.new.buf) c.in-Ok.bytes.items)) =
+    ap (λ (b : List ℕ). Said.Bytes c.args.key.now b) (sym items) ∙ ap (λ (key : Key). Said.Bytes key (take c.in-Ok.bytes.len (c.read.new.buf ++ drop (length c.read.new.buf) c.in-Ok.bytes.items))) (sym c.copied.ensures) in
+    rw c.from.ensures (k, subst (λ (r : Reply). IsAnswered (Word.Get c.args.key.now) (V.state c.args.v.now) k k (M.now c.args.m.now).image (M.now c.read.new.m).image r) reply is, c.in-Ok-read.ensures.stands h k stands)
 
 pub returns-in-Err-clause-disk : goal.returns-in-Err-clause-disk
 returns-in-Err-clause-disk g c =
     let s = g.V.Files.state c.args.v.now in
-    subst (λ (f : Option ℕ). OnlyReads g.M.Machine f c.args.m.now c.read.new.m) (same_read_device c.args.key.now c.in-Err.why (read_down s c.requires.up c.in-Err.why c.in-Err.ensures.order) ∙ ap (λ (r : Result Answer Fault). device_by r) (sym c.read_ended_by.ensures.is)) c.in-Err.ensures.disk
+    subst (λ (f : Option ℕ). OnlyReads g.M.Machine f c.args.m.now c.read.new.m) (same_read_device c.args.key.now c.in-Err.why (read_down s c.requires.up c.in-Err.why c.in-Err.ensures.order.follows) ∙ ap (λ (r : Result Reply Fault). device_by r) (sym c.read_ended_by.ensures.is)) c.in-Err.ensures.disk
 
 pub returns-in-Err-clause-done : goal.returns-in-Err-clause-done
 returns-in-Err-clause-done g c h k stands len =
@@ -54,14 +54,14 @@ returns-in-Err-clause-done g c h k stands len =
     let e = entry_of c.args.key.now (volume_of k).entries in
     let size : length c.as_mut_slice.result.now ≡ c.args.length = omega (arith, c.in-Ok.ensures.len, c.as_mut_slice.ensures.len) in
     let lens = subst (λ (n : ℕ). IfSome e (λ x. x.length ≡ n)) (sym size) len in
-    subst (λ (r : Result Answer Fault). Does V.state V.holds (Word.Get c.args.key.now) c.args.v.now c.read.new.self k (M.now c.args.m.now) (M.now c.read.new.m) r) (sym c.read_ended_by.ensures.is)
+    subst (λ (r : Result Reply Fault). Does V.state V.holds (Word.Get c.args.key.now) c.args.v.now c.read.new.self k (M.now c.args.m.now) (M.now c.read.new.m) r) (sym c.read_ended_by.ensures.is)
     (unread_does V.state V.holds c.args.key.now c.args.v.now c.read.new.self k (M.now c.args.m.now) (M.now c.read.new.m) c.as_mut_slice.result.now c.read.new.buf c.in-Err.why lens (c.in-Err.ensures.stands h k stands) (c.in-Err.ensures.done h k stands))
 
 pub returns-in-Err-clause-status : goal.returns-in-Err-clause-status
 returns-in-Err-clause-status g c = refused_read c.args.key.now c.in-Err.why c.read_ended_by.result c.read_ended_by.ensures.is
 
 pub returns-in-Ok-read-clause-status : goal.returns-in-Ok-read-clause-status
-returns-in-Ok-read-clause-status g c = inl (omega arith)
+returns-in-Ok-read-clause-status g c = refl
 
 -- ---- what is said and written
 
@@ -78,15 +78,15 @@ returns-in-Err-clause-answers g c h =
     let image = (now c.read.new.m).image in
     let room : s.layout.sectors ≤ length image = omega (arith, c.requires.room, e.disk.uses.sectors, g.met.M.Machine.sized c.read.new.m h) in
     let told : (n : ℕ) → c.in-Err.why ≡ Why.Damaged n → HasDamaged image n = λ n is.
-    let err = ap (λ (w : Refusal). Err w) is in (data_inside s.layout n (length image) (e.within n err h) room, e.damaged n err h) in
+    let err = ap (λ (w : Refusal). Err w) is in (data_inside s.layout n (length image) (e.tells.damaged n err h).within room, (e.tells.damaged n err h).damaged) in
     record {
-      replies = subst (λ (r : Result Answer Fault). IfOk r (λ a. MayReply (Word.Get c.args.key.now) image (reply_of a))) (sym c.read_ended_by.ensures.is) (read_refused s c.requires.up c.args.key.now image c.in-Err.why told e.order);
+      replies = subst (λ (r : Result Reply Fault). IfOk r (λ a. MayReply (Word.Get c.args.key.now) image a)) (sym c.read_ended_by.ensures.is) (read_refused s c.requires.up c.args.key.now image c.in-Err.why told e.order.follows);
       rest = worn_touches nowhere (now c.args.m.now) (now c.read.new.m) (e.disk.worn h).image;
       still = e.state;
-      worn = let s = g.V.Files.state c.args.v.now in read_told_worn s (read_steps s) c.args.key.now c.in-Err.why c.read_ended_by.result c.read_ended_by.ensures.is e.order (λ comes. read_worn s c.requires.up comes);
+      worn = let s = g.V.Files.state c.args.v.now in read_told_worn s (read_steps s) c.args.key.now c.in-Err.why c.read_ended_by.result c.read_ended_by.ensures.is e.order.follows (λ comes. read_worn s c.requires.up comes);
       numbers = goes_none 1 s (g.V.Files.state c.read.new.self) e.state;
       told = read_told_so AreOfPage (g.V.Files.state c.args.v.now).layout (now c.read.new.m).image c.args.key.now c.in-Err.why c.read_ended_by.result c.read_ended_by.ensures.is
-          (told_of (g.V.Files.state c.args.v.now) (g.V.Files.state c.read.new.self) (g.V.Files.resident c.args.v.now) (now c.args.m.now) (now c.read.new.m) (ap (λ (s : State). s.layout) e.state) c.in-Err.why (e.causes h));
+          (told_of (g.V.Files.state c.args.v.now) (g.V.Files.state c.read.new.self) (g.V.Files.resident c.args.v.now) (now c.args.m.now) (now c.read.new.m) (ap (λ (s : State). s.layout) e.state) c.in-Err.why (e.tells.causes h));
     }
 
 -- ---- why it is answered so
@@ -101,8 +101,9 @@ returns-in-Ok-read-clause-because g c h =
     let V = g.V.Files in
     let a = g.M.Machine.now c.args.m.now in
     let items = take_at c.read.new.buf (drop (length c.read.new.buf) c.in-Ok.bytes.items) c.in-Ok.bytes.len (omega (arith, c.in-Ok.ensures.len, c.as_mut_slice.ensures.len, c.read.auto.buf)) in
-    subst (λ (b : List ℕ). BecauseRead V.state V.resident c.args.key.now (V.state c.args.v.now) (V.state c.read.new.self) a (g.M.Machine.now c.read.new.m) (Reply.Bytes c.copied.result b)) (sym items)
-    (c.as_mut_slice.result.now, c.in-Ok-read.field-0, record { by = c.args.v.now; same = refl; from = a; aged = ages_here a; shows = c.in-Ok-read.ensures.found h })
+    rw c.from.ensures
+    (subst (λ (b : List ℕ). BecauseRead V.state V.resident c.args.key.now (V.state c.args.v.now) (V.state c.read.new.self) a (g.M.Machine.now c.read.new.m) (Said.Bytes c.copied.result b)) (sym items)
+    (c.as_mut_slice.result.now, c.in-Ok-read.field-0, record { by = c.args.v.now; same = refl; from = a; aged = ages_here a; shows = c.in-Ok-read.ensures.tells.found h }))
 
 pub returns-in-Err-clause-written : goal.returns-in-Err-clause-written
 returns-in-Err-clause-written g c t =
@@ -114,4 +115,4 @@ returns-in-Err-clause-because g c h =
     let V = g.V.Files in
     let a = g.M.Machine.now c.args.m.now in
     read_because V.state V.resident c.args.key.now (V.state c.args.v.now) (V.state c.read.new.self) a (g.M.Machine.now c.read.new.m) c.in-Err.why c.read_ended_by.result c.read_ended_by.ensures.is
-    (λ none same. record { by = c.args.v.now; same = refl; from = a; aged = ages_here a; shows = c.in-Err.ensures.absent (ap (λ (w : Refusal). Err w) none) h })
+    (λ none same. record { by = c.args.v.now; same = refl; from = a; aged = ages_here a; shows = c.in-Err.ensures.tells.absent (ap (λ (w : Refusal). Err w) none) h })

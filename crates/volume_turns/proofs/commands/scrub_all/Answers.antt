@@ -1,6 +1,6 @@
 use Rattle.std.proofs.Common.{◌≤◌, false, None, length, ◌∙◌, refl, sym, ap, arith}
 use Rattle.std.proofs.lemmas.List.{append-nil}
-use Rattle.fsd_files.specs.Replies.{Reply}
+use Rattle.fsd_files.specs.declared.reply.Reply.TheVariants as Said
 use Rattle.fsd_files.specs.Volume.{Volume}
 use Rattle.fsd_texts.specs.declared.command.Command.TheVariants as Word
 use Rattle.sector_disk.proofs.CallLaws.{writes_more}
@@ -24,7 +24,8 @@ returns-in-Ok g c =
     let found = c.scrub.new.found.items in
     let healed = c.in-Ok.healed.sectors in
     let e = c.in-Ok.ensures in
-    record {
+    rw c.from.ensures
+    (record {
       layout = e.state.layout;
       opened = e.state.opened;
       up = e.state.up;
@@ -46,7 +47,7 @@ returns-in-Ok g c =
             ends.after,
             record {
               met = record { forces = false; reached = 0; damaged = None; found = found; healed = healed };
-              is = ap (λ (x : Volume). (Reply.Scrubbed found healed, x)) (sym ends.forces.volume);
+              is = ap (λ (x : Volume). (Said.Scrubbed found healed, x)) (sym ends.forces.volume);
               opened = ends.forces.opened;
               windows = ends.forces.windows;
               changes = ends.forces.changes ∙ sym (append-nil k.changes);
@@ -55,7 +56,7 @@ returns-in-Ok g c =
             },
             ends.stands,
           );
-    }
+    })
 
 pub returns-in-Err : goal.returns-in-Err
 returns-in-Err g c =

@@ -80,6 +80,6 @@ returns-in-Err g c =
       since = disk.since;
       later = λ h. (disk.any_moment h).later;
       quiet = disk.quiet;
-      wants = λ up. close_wants refused (force_loss s up _ refused e.order);
+      wants = λ up. close_wants refused (force_loss s up _ refused e.order.follows);
       closes = λ h k f stands on. close_failed V.state V.holds M c.args.v a m m k f stands on forced_turn.said (force_writes s.layout) _ disk h (timed a (disk.trust.honest h)) (timed m h) refused (e.done h k stands);
     })

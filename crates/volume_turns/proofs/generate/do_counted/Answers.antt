@@ -3,7 +3,8 @@ use Rattle.std.specs.Prelude.{Ok, Err}
 use Rattle.fsd_texts.specs.declared.fault.Fault.TheVariants as Ends
 use Rattle.sector_disk.specs.Image.{AreShort, Windows}
 use Rattle.fsd_texts.specs.declared.fault.Fault.{Fault}
-use Rattle.volume_turns.specs.Steps.{IsOfCall, IsToldOn, MayLose, reply_of}
+use Rattle.volume_turns.specs.Steps.{IsOfCall, IsToldOn}
+use Rattle.volume_turns.specs.Commands.{MayLose}
 use Rattle.sector_disk.proofs.CallLaws.{writes_more}
 use Rattle.client_desk.specs.Clients.{no_desk}
 use Rattle.volume_turns.specs.Seats.{known_of}
@@ -26,7 +27,7 @@ returns-in-Ok-count-clause-steps g c h k f from stood aged held =
     let w = c.answer.new.v in
     let does = plain_does V.state V.holds c.args.c.now v w no_desk k (M.now a) (M.now c.answer.new.m) at (desk_holds V.state V.holds v w no_desk k (M.now a) (M.now c.answer.new.m) at (desk_on (V.state v) (V.state c.answer.new.v) no_desk c.answer.ensures.layout c.answer.ensures.opened c.requires.idle)) (Ok c.in-Ok.answer) (c.in-Ok.ensures.done h (known_of k) at.stands) in
     counted_step V.state V.holds M g.met.V.Files.wears short (timed_by M g.met.M.Machine.dated g.met.M.Machine.history g.met.M.Machine.counts_now g.met.M.Machine.only_now) c.args.c.now v c.answer.new.v a c.answer.new.m k f from stood aged at _ disk c.in-Ok.ensures.layout h held
-    does.0 (reply_of c.in-Ok.answer) does.1 does.2 c.args.tally.now c.in-Ok-count.tally c.in-Ok-count.ensures.ok
+    does.0 c.in-Ok.answer does.1 does.2 c.args.tally.now c.in-Ok-count.tally c.in-Ok-count.ensures.ok
 
 pub returns-in-Ok-clause-steps : goal.returns-in-Ok-clause-steps
 returns-in-Ok-clause-steps g c h k f from stood aged held =
@@ -41,7 +42,7 @@ returns-in-Ok-clause-steps g c h k f from stood aged held =
     let w = c.answer.new.v in
     let does = plain_does V.state V.holds c.args.c.now v w no_desk k (M.now a) (M.now c.answer.new.m) at (desk_holds V.state V.holds v w no_desk k (M.now a) (M.now c.answer.new.m) at (desk_on (V.state v) (V.state c.answer.new.v) no_desk c.answer.ensures.layout c.answer.ensures.opened c.requires.idle)) (Ok c.in-Ok.answer) (c.in-Ok.ensures.done h (known_of k) at.stands) in
     counted_none V.state V.holds M g.met.V.Files.wears short (timed_by M g.met.M.Machine.dated g.met.M.Machine.history g.met.M.Machine.counts_now g.met.M.Machine.only_now) c.args.c.now v c.answer.new.v a c.answer.new.m k f from stood aged at _ disk c.in-Ok.ensures.layout h held
-    does.0 (reply_of c.in-Ok.answer) does.1 does.2 c.in-Err-count.fault c.in-Err-count.ensures.err
+    does.0 c.in-Ok.answer does.1 does.2 c.in-Err-count.fault c.in-Err-count.ensures.err
 
 pub returns-clause-steps : goal.returns-clause-steps
 returns-clause-steps g c h k f from stood aged held =

@@ -20,15 +20,19 @@ returns-in-Ok g c =
     let does = c.generate_on.ensures in
     let x : RunsOver g.V.Files.state M c.args.sectors c.in-Ok.v c.args.m.now c.mount.new.m c.generate_on.new.m = record { disk = e.disk; fresh = e.opens.fresh; found = λ h. (e.tells h).found; rest = λ h. (e.heals h).rest; trust = does.trust } in
     record {
-      ledger = λ t. over_writes x t (does.ledger t);
-      status = does.status;
-      counts = over_counts x does.counts;
-      trust = over_trust x;
+      ends = record {
+        status = does.status;
+        trust = over_trust x;
+        last = does.last;
+      };
+      takes = record {
+        ledger = λ t. over_writes x t (does.ledger t);
+        counts = over_counts x does.counts;
+      };
       image = λ h. over_image x false AreOfPage (Some c.args.count) c.generate_on.result h (λ three. does.says three h) (λ nine. new_may c.args.count (g.V.Files.state c.in-Ok.v) e.opens.fresh (does.spent nine h));
-      last = does.last;
       all = λ zero h. subst (λ (before : List ℕ). SaysMade c.args.count before (M.now c.generate_on.new.m)) (over_said x h) (does.all zero h);
-      leaves = λ h input rest l windows changes f at held.
-          over_leaves x g.V.Files.holds (Generate c.args.seed c.args.count) input rest l windows changes f c.generate_on.result h does.since (λ y t. g.met.M.Machine.counts_now y t) (timed_by M g.met.M.Machine.dated g.met.M.Machine.history g.met.M.Machine.counts_now g.met.M.Machine.only_now) held (e.sound (does.trust.honest h) l windows changes f at)
+      leaves = λ h input rest was at held.
+          over_leaves x g.V.Files.holds (Generate c.args.seed c.args.count) input rest was c.generate_on.result h does.since (λ y t. g.met.M.Machine.counts_now y t) (timed_by M g.met.M.Machine.dated g.met.M.Machine.history g.met.M.Machine.counts_now g.met.M.Machine.only_now) held (e.sound (does.trust.honest h) was.layout was.windows was.changes was.forced at)
           (λ k none idle stands disk. does.runs h input rest k idle stands disk);
     }
 
@@ -42,14 +46,18 @@ returns-in-Err g c =
     let x : RefusedBy M c.args.sectors c.in-Err.fault why c.args.m.now c.mount.new.m c.end_with.new.m status =
     record { disk = e.disk; refused = λ h. (e.tells h).refused; kept = λ h. (e.tells h).unchanged; rest = λ h. (e.heals h).rest; lost = λ h. (e.tells h).lost; unsound = λ h. (e.tells h).unsound; is = c.fault_of.ensures; says = line.says; ends = line.ends; for = line.status } in
     record {
-      ledger = λ t. refused_writes x t (line.ledger t);
-      status = fault_is_made why status (refused_of x) line.status;
-      counts = refused_counts x;
-      trust = refused_trust x;
+      ends = record {
+        status = fault_is_made why status (refused_of x) line.status;
+        trust = refused_trust x;
+        last = refused_last x;
+      };
+      takes = record {
+        ledger = λ t. refused_writes x t (line.ledger t);
+        counts = refused_counts x;
+      };
       image = refused_image x false AreOfPage (Some c.args.count);
-      last = refused_last x;
       all = λ zero h. absurd (fault_not_zero why status line.status zero);
-      leaves = λ h input rest l windows changes f at held.
-          refused_leaves x g.V.Files.state g.V.Files.holds (Generate c.args.seed c.args.count) input rest l windows changes f h (g.met.M.Machine.short c.mount.new.m) (λ y t. g.met.M.Machine.counts_now y t)
-          (timed_by M g.met.M.Machine.dated g.met.M.Machine.history g.met.M.Machine.counts_now g.met.M.Machine.only_now) at held (e.sound (line.says.trust.honest h) l windows changes f at) (some_turn c.args.seed c.args.count input);
+      leaves = λ h input rest was at held.
+          refused_leaves x g.V.Files.state g.V.Files.holds (Generate c.args.seed c.args.count) input rest was h (g.met.M.Machine.short c.mount.new.m) (λ y t. g.met.M.Machine.counts_now y t)
+          (timed_by M g.met.M.Machine.dated g.met.M.Machine.history g.met.M.Machine.counts_now g.met.M.Machine.only_now) at held (e.sound (line.says.trust.honest h) was.layout was.windows was.changes was.forced at) (some_turn c.args.seed c.args.count input);
     }

@@ -34,22 +34,22 @@ returns-in-Ok g c =
     let bytes = c.in-Ok.bytes in
     let does = c.one_on.ensures in
     record {
-      attaches = λ t. (does.ledger t).attaches ∙ came.attaches (does.trust.tells t);
-      status = one_is_put c.args.name bytes c.args.keep status does.status;
-      counts = counts_taken false (M.report a) (M.report m) (M.report b) status refl read.spares does.counts;
-      input = λ five t. absurd (one_not_five (Word.Put c.args.name bytes c.args.keep) status does.status five);
-      fails = λ five h. absurd (one_not_five (Word.Put c.args.name bytes c.args.keep) status does.status five);
-      whole = λ low t. (does.ledger t).input ∙ came.end (does.trust.tells t);
-      few = λ low t. subst (λ (x : List ℕ). length x ≤ max_input) (came.whole (does.trust.tells t)) came.few;
-      trust = trusts_on read.trust does.trust;
-      since = since_on M a m b does.trust.honest read.since (λ h. (read.any_moment h).later) does.since;
-      says = λ three h. call_since false AreOfPage layout (M.now a).said (M.now m).said (M.now b) (read.exit (does.trust.honest h)).said (does.says three h);
-      unspent = does.unspent;
-      last = does.last;
-      one = λ h none. let back = does.trust.honest h in
+      attaches = λ t. (does.takes.ledger t).attaches ∙ came.attaches (does.ends.trust.tells t);
+      status = one_is_put c.args.name bytes c.args.keep status does.ends.status;
+      counts = counts_taken false (M.report a) (M.report m) (M.report b) status refl read.spares does.takes.counts;
+      input = λ five t. absurd (one_not_five (Word.Put c.args.name bytes c.args.keep) status does.ends.status five);
+      fails = λ five h. absurd (one_not_five (Word.Put c.args.name bytes c.args.keep) status does.ends.status five);
+      whole = λ low t. (does.takes.ledger t).input ∙ came.end (does.ends.trust.tells t);
+      few = λ low t. subst (λ (x : List ℕ). length x ≤ max_input) (came.whole (does.ends.trust.tells t)) came.few;
+      trust = trusts_on read.trust does.ends.trust;
+      since = since_on M a m b does.ends.trust.honest read.since (λ h. (read.any_moment h).later) does.since;
+      says = λ three h. call_since false AreOfPage layout (M.now a).said (M.now m).said (M.now b) (read.exit (does.ends.trust.honest h)).said ((does.tells h).says three);
+      unspent = λ nine h. (does.tells h).spent nine;
+      last = does.ends.last;
+      one = λ h none. let back = does.ends.trust.honest h in
           subst (λ (x : List ℕ). SaysOne (Word.Put c.args.name x c.args.keep) (M.now a) (M.now b) status) (came.whole (g.met.M.Machine.honest_tells m back))
           (one_since (Word.Put c.args.name bytes c.args.keep) (M.now a) (M.now m) (M.now b) status (read.exit back).said (does.one h none).says);
-      runs = λ h k none idle stands on. let back = does.trust.honest h in let short = g.met.M.Machine.short a (read.trust.honest back) in
+      runs = λ h k none idle stands on. let back = does.ends.trust.honest h in let short = g.met.M.Machine.short a (read.trust.honest back) in
           let timed = timed_by M g.met.M.Machine.dated g.met.M.Machine.history g.met.M.Machine.counts_now g.met.M.Machine.only_now in
           let at_a = timed a (read.trust.honest back) in
           let at_m = timed m back in

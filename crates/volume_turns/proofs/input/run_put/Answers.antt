@@ -23,21 +23,24 @@ returns-in-Ok g c =
     let does = c.put_on.ensures in
     let x : RunsOver g.V.Files.state M c.args.sectors c.in-Ok.v c.args.m.now c.mount.new.m c.put_on.new.m = record { disk = e.disk; fresh = e.opens.fresh; found = λ h. (e.tells h).found; rest = λ h. (e.heals h).rest; trust = does.trust } in
     record {
-      attaches = λ t. over_attaches x t (does.attaches t);
-      status = does.status;
-      counts = over_taking x does.counts;
-      input = λ five t. over_fails x t (does.input five t);
-      fails = λ five h. over_says_input x (g.met.M.Machine.honest_tells c.put_on.new.m h) (does.fails five h);
-      whole = does.whole;
-      few = λ low t. subst (λ (input : List ℕ). length input ≤ max_input) (over_input x t) (does.few low t);
-      trust = over_trust x;
+      ends = record {
+        status = does.status;
+        trust = over_trust x;
+        last = does.last;
+      };
+      takes = record {
+        attaches = λ t. over_attaches x t (does.attaches t);
+        counts = over_taking x does.counts;
+        input = λ five t. over_fails x t (does.input five t);
+        fails = λ five h. over_says_input x (g.met.M.Machine.honest_tells c.put_on.new.m h) (does.fails five h);
+      };
+      whole = λ low t. record { whole = does.whole low t; few = subst (λ (input : List ℕ). length input ≤ max_input) (over_input x t) (does.few low t) };
       image = λ h. over_image x false AreOfPage None c.put_on.result h (λ three. does.says three h) (λ nine. does.unspent nine h);
-      last = does.last;
       one = λ h.
           subst (λ (input : List ℕ). SaysOne (Word.Put c.args.name input c.args.keep) (M.now c.args.m.now) (M.now c.put_on.new.m) c.put_on.result) (over_input x (g.met.M.Machine.honest_tells c.put_on.new.m h))
           (one_since _ (M.now c.args.m.now) (M.now c.mount.new.m) (M.now c.put_on.new.m) c.put_on.result (over_said x h) (does.one h e.opens.fresh.dirty));
-      leaves = λ h l windows changes f at held.
-          over_leaves x g.V.Files.holds (Put c.args.name c.args.keep) (M.ledger c.args.m.now).input (M.ledger c.put_on.new.m).input l windows changes f c.put_on.result h does.since (λ y t. g.met.M.Machine.counts_now y t) (timed_by M g.met.M.Machine.dated g.met.M.Machine.history g.met.M.Machine.counts_now g.met.M.Machine.only_now) held (e.sound (does.trust.honest h) l windows changes f at)
+      leaves = λ h was at held.
+          over_leaves x g.V.Files.holds (Put c.args.name c.args.keep) (M.ledger c.args.m.now).input (M.ledger c.put_on.new.m).input was c.put_on.result h does.since (λ y t. g.met.M.Machine.counts_now y t) (timed_by M g.met.M.Machine.dated g.met.M.Machine.history g.met.M.Machine.counts_now g.met.M.Machine.only_now) held (e.sound (does.trust.honest h) was.layout was.windows was.changes was.forced at)
           (λ k none idle stands disk. subst (λ (input : List ℕ). RunsOut M (Put c.args.name c.args.keep) input (M.ledger c.put_on.new.m).input (M.report c.mount.new.m) k c.mount.new.m c.put_on.new.m c.put_on.result) (over_input x (g.met.M.Machine.honest_tells c.put_on.new.m h)) (does.runs h k none idle stands disk));
     }
 
@@ -51,18 +54,21 @@ returns-in-Err g c =
     let x : RefusedBy M c.args.sectors c.in-Err.fault why c.args.m.now c.mount.new.m c.end_with.new.m status =
     record { disk = e.disk; refused = λ h. (e.tells h).refused; kept = λ h. (e.tells h).unchanged; rest = λ h. (e.heals h).rest; lost = λ h. (e.tells h).lost; unsound = λ h. (e.tells h).unsound; is = c.fault_of.ensures; says = line.says; ends = line.ends; for = line.status } in
     record {
-      attaches = λ t. (refused_writes x t (line.ledger t)).attaches;
-      status = fault_is_put why status (refused_of x) line.status;
-      counts = refused_taking x;
-      input = λ five t. absurd (fault_not_five why status (refused_of x) line.status five);
-      fails = λ five h. absurd (fault_not_five why status (refused_of x) line.status five);
+      ends = record {
+        status = fault_is_put why status (refused_of x) line.status;
+        trust = refused_trust x;
+        last = refused_last x;
+      };
+      takes = record {
+        attaches = λ t. (refused_writes x t (line.ledger t)).attaches;
+        counts = refused_taking x;
+        input = λ five t. absurd (fault_not_five why status (refused_of x) line.status five);
+        fails = λ five h. absurd (fault_not_five why status (refused_of x) line.status five);
+      };
       whole = λ low t. absurd (fault_not_low why status line.status low);
-      few = λ low t. absurd (fault_not_low why status line.status low);
-      trust = refused_trust x;
       image = refused_image x false AreOfPage None;
-      last = refused_last x;
       one = λ h. inr (refused_alone x h);
-      leaves = λ h l windows changes f at held.
-          refused_leaves x g.V.Files.state g.V.Files.holds (Put c.args.name c.args.keep) (M.ledger c.args.m.now).input (M.ledger c.end_with.new.m).input l windows changes f h (g.met.M.Machine.short c.mount.new.m) (λ y t. g.met.M.Machine.counts_now y t)
-          (timed_by M g.met.M.Machine.dated g.met.M.Machine.history g.met.M.Machine.counts_now g.met.M.Machine.only_now) at held (e.sound (line.says.trust.honest h) l windows changes f at) (some_put c.args.name c.args.keep (M.ledger c.args.m.now).input);
+      leaves = λ h was at held.
+          refused_leaves x g.V.Files.state g.V.Files.holds (Put c.args.name c.args.keep) (M.ledger c.args.m.now).input (M.ledger c.end_with.new.m).input was h (g.met.M.Machine.short c.mount.new.m) (λ y t. g.met.M.Machine.counts_now y t)
+          (timed_by M g.met.M.Machine.dated g.met.M.Machine.history g.met.M.Machine.counts_now g.met.M.Machine.only_now) at held (e.sound (line.says.trust.honest h) was.layout was.windows was.changes was.forced at) (some_put c.args.name c.args.keep (M.ledger c.args.m.now).input);
     }

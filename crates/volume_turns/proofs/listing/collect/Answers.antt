@@ -1,7 +1,7 @@
 use Rattle.std.proofs.Common.{◌≡◌, inl, inr, List, Option, None, refl, sym, ◌∙◌, ap, subst, arith}
 use Rattle.fsd_formats.specs.declared.entry.Entry.{Entry}
 use Rattle.fsd_files.specs.Answers.{entry_after}
-use Rattle.fsd_files.specs.Replies.{Found}
+use Rattle.fsd_files.specs.declared.reply.Reply.TheVariants.{Found}
 use Rattle.fsd_files.proofs.ListingLaws.{lists_length}
 use Rattle.sector_disk.proofs.CallLaws.{reads_none, reads_then}
 use Rattle.volume_contract.specs.State.{State, volume_of}

@@ -2,7 +2,7 @@ use Rattle.std.proofs.Common.{List, [], refl, sym, ap, None, false}
 use Rattle.std.proofs.lemmas.List.{append-nil}
 use Rattle.fsd_formats.specs.declared.entry.Entry.{Entry}
 use Rattle.fsd_files.specs.Disk.{nowhere}
-use Rattle.fsd_files.specs.Replies.{Reply}
+use Rattle.fsd_files.specs.declared.reply.Reply.TheVariants as Said
 use Rattle.fsd_texts.specs.declared.command.Command.TheVariants as Word
 use Rattle.scrub.proofs.LeadLaws.{worn_touches}
 use Rattle.volume_contract.specs.State.{State, volume_of}
@@ -25,13 +25,14 @@ returns-in-Ok g c =
     let t = V.state w in
     let e = c.in-Ok.ensures in
     let disk = reads_stay M V.state V.holds a b v (λ h left worn k. g.met.V.Files.wears v k (M.now a) left (g.met.M.Machine.short a h) (record { image = worn.image; windows = worn.windows })) e.disk in
-    answered_did M V.state V.holds a b V.resident (Word.List c.args.pattern.now) v w (λ h. worn_touches nowhere (M.now a) (M.now b) (e.disk.worn h).image) e.state (goes_none 1 s t e.state)
+    rw c.from.ensures
+    (answered_did M V.state V.holds a b V.resident (Word.List c.args.pattern.now) v w (λ h. worn_touches nowhere (M.now a) (M.now b) (e.disk.worn h).image) e.state (goes_none 1 s t e.state)
     _ c.requires.up (goes_same None s t e.state) disk refl (λ h. tt) (λ tells. none_written (M.ledger a) (M.ledger b) (e.disk.ledger tells)) e.because
     (λ h k stands. (
       k,
       record {
         met = record { forces = false; reached = 0; damaged = None; found = []; healed = 0 };
-        is = ap (λ (x : List Entry). (Reply.Listed x, volume_of k)) (sym (e.done h k stands));
+        is = ap (λ (x : List Entry). (Said.Listed x, volume_of k)) (sym (e.done h k stands));
         opened = refl;
         windows = refl;
         changes = sym (append-nil k.changes);
@@ -39,7 +40,7 @@ returns-in-Ok g c =
         unworn = λ may. cc may;
       },
       e.stands h k stands,
-    ))
+    )))
 
 pub returns-in-Err : goal.returns-in-Err
 returns-in-Err g c =

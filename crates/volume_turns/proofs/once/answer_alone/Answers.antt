@@ -1,12 +1,11 @@
 use Rattle.std.proofs.Common.{ℕ, List, subst, arith}
-use Rattle.fsd_files.specs.Replies.{Reply}
-use Rattle.fsd_runs.specs.Errands.{reply_status}
+use Rattle.fsd_files.specs.declared.reply.Reply.{Reply}
+use Rattle.fsd_runs.specs.Commands.{reply_status}
 use Rattle.volume_contract.specs.State.{forced_of}
 use Rattle.volume_turns.specs.Once.{ClosesAndSays, unit_of}
-use Rattle.volume_turns.specs.Steps.{reply_of}
 use Rattle.volume_turns.proofs.OnceLaws.{alone_answered, alone_fault, answered_held}
 use Rattle.volume_turns.proofs.SayLaws.{timed_by}
-use Rattle.volume_turns.specs.Status.{IsStatusFrom}
+use Rattle.volume_turns.specs.Commands.{IsStatusFrom}
 use Rattle.volume_turns.proofs.StatusLaws.{status_at}
 use Rattle.volume_turns.specs.Answering.{ClosesBy}
 use Rattle.volume_turns.proofs.AnsweringLaws.{alone_closed, alone_ended}
@@ -23,7 +22,7 @@ returns-in-Ok-clause-does g c h k none idle stands on =
     let b = c.close_as.new.m in
     let back = c.close_as.ensures.trust.honest h in
     let does = c.in-Ok.ensures.done back k stands in
-    let reply = reply_of c.in-Ok.answer in
+    let reply = c.in-Ok.answer in
     let timed = timed_by M g.met.M.Machine.dated g.met.M.Machine.history g.met.M.Machine.counts_now g.met.M.Machine.only_now in
     let held = answered_held V.state V.holds M g.met.V.Files.wears (λ x honest. g.met.M.Machine.short x honest) timed c.args.c.now v w a m b k idle stands on _ c.in-Ok.ensures.disk back (c.close_as.ensures.since h) does.0 reply does.1 does.2 c.in-Ok.ensures.layout in
     alone_answered V.state V.holds M g.met.V.Files.wears (λ x honest. g.met.M.Machine.short x honest) timed c.args.c.now v w a m b k idle stands on _ c.in-Ok.ensures.disk back (c.close_as.ensures.since h) does.0 reply does.1 does.2 c.in-Ok.ensures.layout
@@ -49,7 +48,7 @@ pub returns-in-Err-clause-later : goal.returns-in-Err-clause-later
 returns-in-Err-clause-later g c h = (c.in-Err.ensures.disk.any_moment h).later
 
 pub returns-in-Ok-clause-status : goal.returns-in-Ok-clause-status
-returns-in-Ok-clause-status g c = status_at (IsStatusFrom c.args.c.now) (reply_status (reply_of c.in-Ok.answer)) c.close_as.result c.close_as.ensures.status c.in-Ok.ensures.status
+returns-in-Ok-clause-status g c = status_at (IsStatusFrom c.args.c.now) (reply_status c.in-Ok.answer) c.close_as.result c.close_as.ensures.status c.in-Ok.ensures.status
 
 -- ---- what is said and written
 
@@ -62,7 +61,7 @@ returns-in-Ok-clause-answers g c h =
     let t = V.state c.answer.new.v in
     let m = now c.answer.new.m in
     let b = now c.close_as.new.m in
-    let reply = reply_of c.in-Ok.answer in
+    let reply = c.in-Ok.answer in
     alone_closed c.args.c.now (V.state c.args.v) t (now c.args.m.now) m (e.disk.windows back) (e.disk.quiet back) b c.in-Ok.answer c.close_as.result e.layout (e.answers back) c.close_as.ensures.status
     (subst (λ (says : Reply → List ℕ). ClosesBy t (says reply) m b (unit_of c.close_as.result)) c.requires.says (c.close_as.ensures.closing h))
 

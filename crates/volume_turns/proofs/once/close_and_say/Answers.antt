@@ -47,7 +47,7 @@ returns-in-Ok g c =
           let run = say.moments h in
           let unsaid = on_err_said (Unsaid (M.now m) (M.now b)) result h say.unsaid in
           let utters = (run.each (M.now b) (g.met.M.Machine.counts_now b (M.moment m) h run.later)).utters in
-          closed_by s text (M.now a) (M.now m) (M.now b) result (disk.windows back) (disk.quiet back) (e.rest back) (closed_still M.now s a m e.idle) (record { image = utters.image; windows = utters.windows })
+          closed_by s text (M.now a) (M.now m) (M.now b) result (disk.windows back) (disk.quiet back) (e.writes.rest back) (closed_still M.now s a m e.order.idle) (record { image = utters.image; windows = utters.windows })
           (says_so text (M.now m) (M.now b) result (on_ok_said (SaysAll text (M.now m) (M.now b)) result h say.said) unsaid) (wants_not Ends.WornOut tt result say.wants)
           (unsaid_told AreOfPage s.layout (M.now b).image (M.now m) (M.now b) result unsaid);
       wants = λ up. say.wants;
@@ -77,11 +77,11 @@ returns-in-Err g c =
       closing = λ h. record {
         windows = disk.windows h;
         says = disk.quiet h;
-        rest = e.rest h;
-        still = closed_still M.now s a m e.idle;
+        rest = e.writes.rest h;
+        still = closed_still M.now s a m e.order.idle;
         unworn = λ is. close_unworn refused (fault_is _ (close_fault refused) Ends.WornOut refl is);
         told = λ why is. subst (λ (w : Fault). IsToldOn AreOfPage s.layout (M.now m).image w) (fault_is _ (close_fault refused) why refl is) (close_told s s (V.resident c.args.v) (M.now a) (M.now m) refl refused (e.causes h));
       };
-      wants = λ up. close_wants refused (force_loss s up _ refused e.order);
+      wants = λ up. close_wants refused (force_loss s up _ refused e.order.follows);
       closes = λ h k f stands on. close_failed V.state V.holds M c.args.v a m m k f stands on c.args.text.now (force_writes s.layout) _ disk h (timed a (disk.trust.honest h)) (timed m h) refused (e.done h k stands);
     })

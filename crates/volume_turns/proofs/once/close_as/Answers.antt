@@ -2,7 +2,6 @@ use Rattle.std.proofs.Common.{ℕ, List, ◌∙◌, subst}
 use Rattle.std.specs.Prelude.{Result, Ok, Err}
 use Rattle.volume_turns.specs.declared.turns.End.{End}
 use Rattle.volume_turns.specs.Once.{ClosesAndSays}
-use Rattle.volume_turns.specs.Steps.{reply_of}
 use Rattle.volume_turns.proofs.OnceLaws.{close_unbegun}
 use Rattle.volume_turns.proofs.SayLaws.{timed_by}
 use Rattle.volume_turns.proofs.once.close_as.Goals as goal
@@ -12,7 +11,7 @@ returns-in_default-clause-closes g c h k f stands on =
     let V = g.V.Files in
     let M = g.M.Machine in
     let timed = timed_by M g.met.M.Machine.dated g.met.M.Machine.history g.met.M.Machine.counts_now g.met.M.Machine.only_now in
-    close_unbegun V.state V.holds M c.args.v c.args.m.now k f (timed c.args.m.now h) stands on (g.T.Says.errand.says (reply_of c.args.answer.now))
+    close_unbegun V.state V.holds M c.args.v c.args.m.now k f (timed c.args.m.now h) stands on (g.T.Says.errand.says c.args.answer.now)
 
 -- ---- its text is said
 

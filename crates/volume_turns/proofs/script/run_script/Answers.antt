@@ -26,24 +26,29 @@ returns-in-Ok g c =
     let does = c.script_on.ensures in
     let x : RunsOver g.V.Files.state M c.args.sectors c.in-Ok.v c.args.m.now c.mount.new.m c.script_on.new.m = record { disk = e.disk; fresh = e.opens.fresh; found = λ h. (e.tells h).found; rest = λ h. (e.heals h).rest; trust = does.trust } in
     record {
-      attaches = λ t. over_attaches x t (does.attaches t);
-      status = does.status;
-      counts = over_taking x does.counts;
-      input = λ five t. over_fails x t (does.input five t);
-      fails = λ five h. over_says_input x (g.met.M.Machine.honest_tells b h) (does.fails five h);
-      whole = does.whole;
-      spelled = λ zero t. subst (λ (input : List ℕ). (script_in input).1 ≡ Done) (over_input x t) (does.spelled zero t);
-      bad = λ two h t le. let reached = e.disk.later (does.trust.honest h) in
-          subst (λ (before : List ℕ). SaysBadLine (M.left_since b t) (M.ledger c.args.m.now).input before (M.now b)) (over_said x h)
-          (subst (λ (input : List ℕ). SaysBadLine (M.left_since b t) input (M.now m).said (M.now b)) (over_input x (g.met.M.Machine.honest_tells b h)) (does.bad two h t (omega (arith, le, reached))));
-      trust = over_trust x;
+      ends = record {
+        status = does.status;
+        trust = over_trust x;
+        last = does.last;
+      };
+      takes = record {
+        attaches = λ t. over_attaches x t (does.attaches t);
+        counts = over_taking x does.counts;
+        input = λ five t. over_fails x t (does.input five t);
+        fails = λ five h. over_says_input x (g.met.M.Machine.honest_tells b h) (does.fails five h);
+      };
+      says = λ h. record {
+        bad = λ two t le. let reached = e.disk.later (does.trust.honest h) in
+            subst (λ (before : List ℕ). SaysBadLine (M.left_since b t) (M.ledger c.args.m.now).input before (M.now b)) (over_said x h)
+            (subst (λ (input : List ℕ). SaysBadLine (M.left_since b t) input (M.now m).said (M.now b)) (over_input x (g.met.M.Machine.honest_tells b h)) (does.bad two h t (omega (arith, le, reached))));
+        all = λ zero t le. let reached = e.disk.later (does.trust.honest h) in
+            subst (λ (before : List ℕ). SaysForced reply_text (M.left_since b t) (script_in (M.ledger c.args.m.now).input).0 before (M.now b).said) (over_said x h)
+            (subst (λ (input : List ℕ). SaysForced reply_text (M.left_since b t) (script_in input).0 (M.now m).said (M.now b).said) (over_input x (g.met.M.Machine.honest_tells b h)) (does.all zero h t (omega (arith, le, reached))));
+      };
+      whole = λ zero t. record { whole = does.whole zero t; spelled = subst (λ (input : List ℕ). (script_in input).1 ≡ Done) (over_input x t) (does.spelled zero t) };
       image = λ h. over_image x true AreOfPage None c.script_on.result h (λ three. does.says three h) (λ nine. let many = new_may (max_input + 1) (g.V.Files.state c.in-Ok.v) e.opens.fresh (does.spent nine h) in omega (arith, many));
-      last = does.last;
-      all = λ zero h t le. let reached = e.disk.later (does.trust.honest h) in
-          subst (λ (before : List ℕ). SaysForced reply_text (M.left_since b t) (script_in (M.ledger c.args.m.now).input).0 before (M.now b).said) (over_said x h)
-          (subst (λ (input : List ℕ). SaysForced reply_text (M.left_since b t) (script_in input).0 (M.now m).said (M.now b).said) (over_input x (g.met.M.Machine.honest_tells b h)) (does.all zero h t (omega (arith, le, reached))));
-      leaves = λ h l windows changes f at held.
-          over_leaves x g.V.Files.holds Script (M.ledger c.args.m.now).input (M.ledger b).input l windows changes f c.script_on.result h does.since (λ y t. g.met.M.Machine.counts_now y t) (timed_by M g.met.M.Machine.dated g.met.M.Machine.history g.met.M.Machine.counts_now g.met.M.Machine.only_now) held (e.sound (does.trust.honest h) l windows changes f at)
+      leaves = λ h was at held.
+          over_leaves x g.V.Files.holds Script (M.ledger c.args.m.now).input (M.ledger b).input was c.script_on.result h does.since (λ y t. g.met.M.Machine.counts_now y t) (timed_by M g.met.M.Machine.dated g.met.M.Machine.history g.met.M.Machine.counts_now g.met.M.Machine.only_now) held (e.sound (does.trust.honest h) was.layout was.windows was.changes was.forced at)
           (λ k none idle stands disk. subst (λ (input : List ℕ). RunsOut M Script input (M.ledger b).input (M.report m) k m b c.script_on.result) (over_input x (g.met.M.Machine.honest_tells b h)) (does.runs h k idle stands disk));
     }
 
@@ -57,19 +62,24 @@ returns-in-Err g c =
     let x : RefusedBy M c.args.sectors c.in-Err.fault why c.args.m.now c.mount.new.m c.end_with.new.m status =
     record { disk = e.disk; refused = λ h. (e.tells h).refused; kept = λ h. (e.tells h).unchanged; rest = λ h. (e.heals h).rest; lost = λ h. (e.tells h).lost; unsound = λ h. (e.tells h).unsound; is = c.fault_of.ensures; says = line.says; ends = line.ends; for = line.status } in
     record {
-      attaches = λ t. (refused_writes x t (line.ledger t)).attaches;
-      status = fault_is_script why status (refused_of x) line.status;
-      counts = refused_taking x;
-      input = λ five t. absurd (fault_not_five why status (refused_of x) line.status five);
-      fails = λ five h. absurd (fault_not_five why status (refused_of x) line.status five);
+      ends = record {
+        status = fault_is_script why status (refused_of x) line.status;
+        trust = refused_trust x;
+        last = refused_last x;
+      };
+      takes = record {
+        attaches = λ t. (refused_writes x t (line.ledger t)).attaches;
+        counts = refused_taking x;
+        input = λ five t. absurd (fault_not_five why status (refused_of x) line.status five);
+        fails = λ five h. absurd (fault_not_five why status (refused_of x) line.status five);
+      };
+      says = λ h. record {
+        bad = λ two t le. absurd (fault_not_bad why status line.status two);
+        all = λ zero t le. absurd (fault_not_zero why status line.status zero);
+      };
       whole = λ zero t. absurd (fault_not_zero why status line.status zero);
-      spelled = λ zero t. absurd (fault_not_zero why status line.status zero);
-      bad = λ two h t le. absurd (fault_not_bad why status line.status two);
-      trust = refused_trust x;
       image = refused_image x true AreOfPage None;
-      last = refused_last x;
-      all = λ zero h t le. absurd (fault_not_zero why status line.status zero);
-      leaves = λ h l windows changes f at held.
-          refused_leaves x g.V.Files.state g.V.Files.holds Script (M.ledger c.args.m.now).input (M.ledger c.end_with.new.m).input l windows changes f h (g.met.M.Machine.short c.mount.new.m) (λ y t. g.met.M.Machine.counts_now y t)
-          (timed_by M g.met.M.Machine.dated g.met.M.Machine.history g.met.M.Machine.counts_now g.met.M.Machine.only_now) at held (e.sound (line.says.trust.honest h) l windows changes f at) (some_forced (M.ledger c.args.m.now).input);
+      leaves = λ h was at held.
+          refused_leaves x g.V.Files.state g.V.Files.holds Script (M.ledger c.args.m.now).input (M.ledger c.end_with.new.m).input was h (g.met.M.Machine.short c.mount.new.m) (λ y t. g.met.M.Machine.counts_now y t)
+          (timed_by M g.met.M.Machine.dated g.met.M.Machine.history g.met.M.Machine.counts_now g.met.M.Machine.only_now) at held (e.sound (line.says.trust.honest h) was.layout was.windows was.changes was.forced at) (some_forced (M.ledger c.args.m.now).input);
     }

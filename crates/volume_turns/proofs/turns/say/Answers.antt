@@ -3,7 +3,6 @@ use Rattle.sector_disk.specs.Machine.{LeavesOnly, Utters}
 use Rattle.sector_disk.proofs.Calls.{utters_same}
 use Rattle.sector_disk.proofs.Holding.{wears_none}
 use Rattle.sector_disk.proofs.Moments.{leaves_more, started}
-use Rattle.volume_turns.specs.Steps.{reply_of}
 use Rattle.volume_turns.specs.Turns.{IsEndOfVolume, SaysAll, Unsaid, UttersBehind}
 use Rattle.volume_turns.proofs.LineLaws.{output_ends}
 use Rattle.volume_turns.proofs.SayLaws.{on_ok_so, on_ok_then}
@@ -13,7 +12,7 @@ pub returns-in_default : goal.returns-in_default
 returns-in_default g c =
     let M = g.M.Machine in
     let a = c.args.m.now in
-    let reply = reply_of c.args.answer.now in
+    let reply = c.args.answer.now in
     let text = g.T.Says.errand.says reply in
     let forces = g.T.Says.errand.forces reply in
     record {
@@ -34,7 +33,7 @@ returns-then-forces g c =
     let M = g.M.Machine in
     let a = c.args.m.now in
     let b = c.say_forced.new.m in
-    let reply = reply_of c.args.answer.now in
+    let reply = c.args.answer.now in
     let text = g.T.Says.errand.says reply in
     let is = c.as_slice.ensures.value ∙ c.in-Ok.ensures in
     let so : g.T.Says.errand.forces reply ≡ true = sym c.forces.ensures ∙ c.if-forces.true in
@@ -57,7 +56,7 @@ returns g c =
     let M = g.M.Machine in
     let a = c.args.m.now in
     let b = c.say_bytes.new.m in
-    let reply = reply_of c.args.answer.now in
+    let reply = c.args.answer.now in
     let text = g.T.Says.errand.says reply in
     let forces = g.T.Says.errand.forces reply in
     let is = c.as_slice-else-forces.ensures.value ∙ c.in-Ok.ensures in

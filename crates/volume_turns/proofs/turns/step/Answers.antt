@@ -4,7 +4,6 @@ use Rattle.fsd_texts.specs.declared.fault.Fault.{Fault}
 use Rattle.fsd_texts.specs.declared.fault.Fault.TheVariants as Ends
 use Rattle.sector_disk.specs.Image.{AreShort, Windows}
 use Rattle.volume_turns.specs.Calls.{MayLoseIn}
-use Rattle.volume_turns.specs.Steps.{reply_of}
 use Rattle.volume_turns.specs.Turns.{SaysAll, Unsaid}
 use Rattle.volume_turns.proofs.RunLaws.{step_said, step_fault, told_fault, on_ok_said, on_err_said}
 use Rattle.client_desk.specs.declared.client.Client.{Client}
@@ -31,8 +30,8 @@ returns-in-Ok-clause-steps g c h k f from stood aged held =
     let at = seat_wears V.state V.holds g.met.V.Files.wears v k from (M.now a) (subst (λ (w : Windows). AreShort w) aged.windows (short a first)) aged stood in
     let does = c.in-Ok.ensures.done back k at in
     step_said V.state V.holds M g.met.V.Files.wears short (timed_by M g.met.M.Machine.dated g.met.M.Machine.history g.met.M.Machine.counts_now g.met.M.Machine.only_now) g.T.Says.errand c.requires.lazily c.args.c.now v (c.answer_in.new.v, c.answer_in.new.desk) a c.answer_in.new.m c.say.new.m k f from stood aged at _ c.in-Ok.ensures.disk back (c.say.ensures.since h) held
-    does.0 (reply_of c.in-Ok.answer) does.1 does.2 c.in-Ok.ensures.layout (timed_by M g.met.M.Machine.dated g.met.M.Machine.history g.met.M.Machine.counts_now g.met.M.Machine.only_now c.say.new.m h) (c.say.ensures.moments h) c.say.result (on_ok_said (SaysAll (g.T.Says.errand.says (reply_of c.in-Ok.answer)) (M.now c.answer_in.new.m) (M.now c.say.new.m)) c.say.result h c.say.ensures.said)
-    (on_ok_then c.say.result (λ (x : IsTrue (g.T.Says.errand.forces (reply_of c.in-Ok.answer)) → M.honest c.say.new.m → (M.now c.answer_in.new.m).time ≤ (M.now c.say.new.m).synced) forces. x forces h) c.say.ensures.synced) (on_err_said (Unsaid (M.now c.answer_in.new.m) (M.now c.say.new.m)) c.say.result h c.say.ensures.unsaid)
+    does.0 c.in-Ok.answer does.1 does.2 c.in-Ok.ensures.layout (timed_by M g.met.M.Machine.dated g.met.M.Machine.history g.met.M.Machine.counts_now g.met.M.Machine.only_now c.say.new.m h) (c.say.ensures.moments h) c.say.result (on_ok_said (SaysAll (g.T.Says.errand.says c.in-Ok.answer) (M.now c.answer_in.new.m) (M.now c.say.new.m)) c.say.result h c.say.ensures.said)
+    (on_ok_then c.say.result (λ (x : IsTrue (g.T.Says.errand.forces c.in-Ok.answer) → M.honest c.say.new.m → (M.now c.answer_in.new.m).time ≤ (M.now c.say.new.m).synced) forces. x forces h) c.say.ensures.synced) (on_err_said (Unsaid (M.now c.answer_in.new.m) (M.now c.say.new.m)) c.say.result h c.say.ensures.unsaid)
 
 pub returns-in-Err-clause-told : goal.returns-in-Err-clause-told
 returns-in-Err-clause-told g c = told_fault (g.M.Machine.report c.args.m.now) (g.M.Machine.report c.answer_in.new.m) c.in-Err.fault c.in-Err.ensures.disk.uses c.in-Err.ensures.disk.faults
@@ -56,7 +55,7 @@ pub returns-in-Ok-clause-whole_replies : goal.returns-in-Ok-clause-whole_replies
 returns-in-Ok-clause-whole_replies g c h =
     let now = g.M.Machine.now in
     let says = g.T.Says.errand.says in
-    let reply = reply_of c.in-Ok.answer in
+    let reply = c.in-Ok.answer in
     let m = now c.answer_in.new.m in
     let b = now c.say.new.m in
     whole_by says (now c.args.m.now) m b reply (c.in-Ok.ensures.disk.quiet (c.say.ensures.trust.honest h)) c.say.result
@@ -70,7 +69,7 @@ returns-in-Ok-clause-once g c =
     let M = g.M.Machine in
     let m = c.answer_in.new.m in
     let b = c.say.new.m in
-    once_by g.T.Says.errand.says c.args.c.now (reply_of c.in-Ok.answer) (M.honest b) (M.honest m) (M.now c.args.m.now) (M.now m) (M.now b) c.say.ensures.trust.honest c.in-Ok.ensures.disk.quiet (λ h. (c.in-Ok.ensures.answers h).replies) c.say.result c.say.ensures.said
+    once_by g.T.Says.errand.says c.args.c.now c.in-Ok.answer (M.honest b) (M.honest m) (M.now c.args.m.now) (M.now m) (M.now b) c.say.ensures.trust.honest c.in-Ok.ensures.disk.quiet (λ h. (c.in-Ok.ensures.answers h).replies) c.say.result c.say.ensures.said
 
 -- ---- what is told of the image
 

@@ -7,10 +7,10 @@ use Rattle.sector_disk.proofs.CallLaws.{writes_more}
 use Rattle.volume_contract.specs.Ends.{device_of}
 use Rattle.volume_contract.specs.Order.{is_root}
 use Rattle.volume_contract.specs.State.{State}
-use Rattle.volume_turns.specs.declared.answer.Answer.{Answer}
+use Rattle.fsd_files.specs.declared.reply.Reply.{Reply}
 use Rattle.volume_turns.specs.Answering.{Answers}
 use Rattle.volume_turns.specs.Reasons.{BecauseUpgraded}
-use Rattle.volume_turns.specs.Steps.{Does, Stays, device_by, reply_of}
+use Rattle.volume_turns.specs.Steps.{Does, Stays, device_by}
 use Rattle.volume_turns.specs.Upgrade.{EndsState}
 use Rattle.volume_turns.proofs.NumberLaws.{goes_none}
 use Rattle.volume_turns.proofs.ReasonLaws.{refused_written}
@@ -26,7 +26,7 @@ returns-in-Ok-clause-disk g c =
     writes_more c.in-Ok.ensures.disk (λ h left. less_touched V.state V.holds c.args.v.now is_root (g.M.Machine.now c.args.m.now) left)
 
 pub returns-in-Ok-clause-ends : goal.returns-in-Ok-clause-ends
-returns-in-Ok-clause-ends g c = (upgrade_through (g.V.Files.state c.args.v.now) c.in-Ok.ensures.order, c.in-Ok.ensures.state)
+returns-in-Ok-clause-ends g c = (upgrade_through (g.V.Files.state c.args.v.now) c.in-Ok.ensures.order.follows, c.in-Ok.ensures.state)
 
 pub returns-in-Ok-clause-answers : goal.returns-in-Ok-clause-answers
 returns-in-Ok-clause-answers g c h =
@@ -34,23 +34,29 @@ returns-in-Ok-clause-answers g c h =
     let e = c.in-Ok.ensures in
     record {
       replies = tt;
-      rest = e.rest h;
+      rest = e.writes.rest h;
       still = ap (λ (x : State). x.dirty) e.state;
       worn = λ is. absurd (cc is);
       numbers = upgrade_goes s (g.V.Files.state c.upgrade.new.self) (ap (λ (x : State). x.serial.count) e.state) (ap (λ (x : State). x.head.number) e.state);
       told = tt;
     }
 
+pub returns-in-Ok-clause-idle : goal.returns-in-Ok-clause-idle
+returns-in-Ok-clause-idle g c = c.in-Ok.ensures.order.idle
+
+pub returns-in-Ok-clause-written : goal.returns-in-Ok-clause-written
+returns-in-Ok-clause-written g c t = c.in-Ok.ensures.writes.counted t
+
 pub returns-in-Ok-clause-because : goal.returns-in-Ok-clause-because
 returns-in-Ok-clause-because g c h =
     let e = c.in-Ok.ensures in
-    (upgrade_through (g.V.Files.state c.args.v.now) e.order, ap (λ (x : State). x.layout) e.state, e.roots h)
+    (upgrade_through (g.V.Files.state c.args.v.now) e.order.follows, ap (λ (x : State). x.layout) e.state, e.roots h)
 
 pub returns-in-Ok-clause-done : goal.returns-in-Ok-clause-done
 returns-in-Ok-clause-done g c h k stands =
     let V = g.V.Files in
     let M = g.M.Machine in
-    upgraded_does V.state V.holds c.args.v.now c.upgrade.new.self k (M.now c.args.m.now) (M.now c.upgrade.new.m) stands (upgrade_through (V.state c.args.v.now) c.in-Ok.ensures.order) (c.in-Ok.ensures.done h k stands)
+    upgraded_does V.state V.holds c.args.v.now c.upgrade.new.self k (M.now c.args.m.now) (M.now c.upgrade.new.m) stands (upgrade_through (V.state c.args.v.now) c.in-Ok.ensures.order.follows) (c.in-Ok.ensures.done h k stands)
 
 -- ---- where it is refused
 
@@ -77,27 +83,30 @@ returns-in-Err-clause-answers g c h =
     let t = g.V.Files.state c.upgrade.new.self in
     let e = c.in-Err.ensures in
     let kept = upgrade_kept s t c.requires.up c.in-Err.why e.state in
-    let by = λ (r : Result Answer Fault). Answers Word.Upgrade s t (g.M.Machine.now c.args.m.now) (g.M.Machine.now c.upgrade.new.m) r in
+    let by = λ (r : Result Reply Fault). Answers Word.Upgrade s t (g.M.Machine.now c.args.m.now) (g.M.Machine.now c.upgrade.new.m) r in
     upgrade_refused by s t c.in-Err.why c.ended_by.result c.ended_by.ensures.is kept
-    (λ done. record { replies = refl; rest = e.rest h; still = ap (λ (x : State). x.dirty) done.2; worn = λ is. absurd (cc is); numbers = goes_none 1 s t done.2; told = tt })
+    (λ done. record { replies = refl; rest = e.writes.rest h; still = ap (λ (x : State). x.dirty) done.2; worn = λ is. absurd (cc is); numbers = goes_none 1 s t done.2; told = tt })
     (λ place is down. record {
       replies = tt;
-      rest = e.rest h;
+      rest = e.writes.rest h;
       still = ap (λ (x : State). x.dirty) down;
       worn = λ is. absurd (cc is);
       numbers = upgrade_goes s t (ap (λ (x : State). x.serial.count) down) (ap (λ (x : State). x.head.number) down);
       told = tt;
     })
 
+pub returns-in-Err-clause-idle : goal.returns-in-Err-clause-idle
+returns-in-Err-clause-idle g c = c.in-Err.ensures.order.idle
+
 pub returns-in-Err-clause-written : goal.returns-in-Err-clause-written
-returns-in-Err-clause-written g c t = refused_written 2 (g.M.Machine.ledger c.args.m.now) (g.M.Machine.ledger c.upgrade.new.m) c.in-Err.why c.ended_by.result c.ended_by.ensures.is (c.in-Err.ensures.counted t)
+returns-in-Err-clause-written g c t = refused_written 2 (g.M.Machine.ledger c.args.m.now) (g.M.Machine.ledger c.upgrade.new.m) c.in-Err.why c.ended_by.result c.ended_by.ensures.is (c.in-Err.ensures.writes.counted t)
 
 pub returns-in-Err-clause-because : goal.returns-in-Err-clause-because
 returns-in-Err-clause-because g c h =
     let s = g.V.Files.state c.args.v.now in
     let t = g.V.Files.state c.upgrade.new.self in
     let kept = upgrade_kept s t c.requires.up c.in-Err.why c.in-Err.ensures.state in
-    upgrade_refused (λ r. IfOk r (λ a. BecauseUpgraded s t (g.M.Machine.now c.upgrade.new.m) (reply_of a))) s t c.in-Err.why c.ended_by.result c.ended_by.ensures.is kept (λ done. done.1) (λ place is down. tt)
+    upgrade_refused (λ r. IfOk r (λ a. BecauseUpgraded s t (g.M.Machine.now c.upgrade.new.m) a)) s t c.in-Err.why c.ended_by.result c.ended_by.ensures.is kept (λ done. done.1) (λ place is down. tt)
 
 pub returns-in-Err-clause-done : goal.returns-in-Err-clause-done
 returns-in-Err-clause-done g c h k stands =

@@ -1,25 +1,26 @@
 use Rattle.std.proofs.Common.{◌≡◌, ℕ, List, refl, sym, ◌∙◌, ap, subst}
 use Rattle.std.specs.Prelude.{Result, Ok, Err}
-use Rattle.fsd_files.specs.Replies.{Reply}
+use Rattle.fsd_files.specs.declared.reply.Reply.{Reply}
+use Rattle.fsd_files.specs.declared.reply.Reply.TheVariants as Said
 use Rattle.fsd_texts.specs.declared.command.Command.TheVariants as Word
 use Rattle.fsd_texts.specs.declared.fault.Fault.TheVariants as Ends
-use Rattle.fsd_runs.specs.Commands.{reply_alone}
+use Rattle.fsd_runs.specs.Commands.{reply_alone, reply_status}
 use Rattle.scrub.specs.Telling.{AreOfPage}
 use Rattle.volume_contract.specs.State.{State, forced_of}
-use Rattle.volume_turns.specs.declared.answer.Answer.{Answer}
-use Rattle.volume_turns.specs.declared.answer.Answer.TheVariants as Said
 use Rattle.volume_turns.specs.declared.turns.End.{End}
 use Rattle.volume_turns.specs.declared.turns.End.TheVariants.{Fault as Stopped}
 use Rattle.volume_turns.specs.Answering.{Answers}
+use Rattle.volume_turns.specs.Commands.{IsStatusFrom}
 use Rattle.volume_turns.specs.Once.{ClosesAndSays, unit_of}
 use Rattle.volume_turns.specs.Reasons.{BecauseUpgraded}
-use Rattle.volume_turns.specs.Steps.{Does, reply_of}
+use Rattle.volume_turns.specs.Steps.{Does}
 use Rattle.volume_turns.specs.Turns.{WantsNone}
 use Rattle.volume_turns.specs.Upgrade.{EndsState}
 use Rattle.volume_turns.proofs.AnsweringLaws.{says_so}
 use Rattle.volume_turns.proofs.LineLaws.{wants_not}
 use Rattle.volume_turns.proofs.OnceLaws.{alone_answered, alone_fault, alone_unbegun, answered_held}
 use Rattle.volume_turns.proofs.SayLaws.{timed_by}
+use Rattle.volume_turns.proofs.StatusLaws.{status_at}
 use Rattle.volume_turns.proofs.ToldLaws.{unsaid_told}
 use Rattle.volume_turns.proofs.UpgradeLaws.{ends_done, ends_unworn, ends_upgraded, upgraded_alone, upgraded_answers}
 use Rattle.volume_turns.proofs.upgrade.upgrade_alone.Goals as goal
@@ -46,12 +47,12 @@ returns-in-Ok-say_forced-clause-does g c h k none idle stands on =
     let say = c.say_forced.ensures in
     let back = say.trust.honest h in
     let is : c.in-Ok-upgrade.answer ≡ Said.Upgraded = ends_upgraded c.in-Ok-upgrade.answer (sym c.is_upgraded.ensures ∙ c.if-is_upgraded.true) in
-    let ends = subst (λ (x : Answer). EndsState (V.state v) (V.state w) (Ok x)) is e.ends in
-    let because = subst (λ (x : Answer). BecauseUpgraded (V.state v) (V.state w) (M.now m) (reply_of x)) is (e.because back) in
-    let does = subst (λ (x : Answer). Does V.state V.holds Word.Upgrade v w k (M.now a) (M.now m) (Ok x)) is (e.done back k stands) in
+    let ends = subst (λ (x : Reply). EndsState (V.state v) (V.state w) (Ok x)) is e.ends in
+    let because = subst (λ (x : Reply). BecauseUpgraded (V.state v) (V.state w) (M.now m) x) is (e.because back) in
+    let does = subst (λ (x : Reply). Does V.state V.holds Word.Upgrade v w k (M.now a) (M.now m) (Ok x)) is (e.done back k stands) in
     let timed = timed_by M g.met.M.Machine.dated g.met.M.Machine.history g.met.M.Machine.counts_now g.met.M.Machine.only_now in
     upgraded_alone V.state V.holds M g.met.V.Files.wears (λ x honest. g.met.M.Machine.short x honest) timed v w a m b k idle none stands on _ e.disk back (say.since h) ends.0 ends.1 because.2 does
-    c.as_slice.result.now (c.as_slice.ensures.value ∙ c.in-Ok.ensures ∙ ap (λ (says : Reply → List ℕ). says Reply.Upgraded) c.requires.says) h (say.moments h) (Ok 0) (λ wrong. absurd (cc wrong)) refl
+    c.as_slice.result.now (c.as_slice.ensures.value ∙ c.in-Ok.ensures ∙ ap (λ (says : Reply → List ℕ). says Said.Upgraded) c.requires.says) h (say.moments h) (Ok 0) (λ wrong. absurd (cc wrong)) refl
     (c.in-Ok-say_forced.ensures.said h) (c.in-Ok-say_forced.ensures.synced h) tt
 
 pub returns-then-is_upgraded-clause-undone : goal.returns-then-is_upgraded-clause-undone
@@ -71,12 +72,12 @@ returns-then-is_upgraded-clause-answers g c h =
     let end = c.in-Err-say_forced.end in
     let r : Result (Unit {0}) End = Err end in
     let is : c.in-Ok-upgrade.answer ≡ Said.Upgraded = ends_upgraded c.in-Ok-upgrade.answer (sym c.is_upgraded.ensures ∙ c.if-is_upgraded.true) in
-    let answers = subst (λ (x : Answer). Answers Word.Upgrade s t (M.now a) (M.now m) (Ok x)) is (e.answers back) in
+    let answers = subst (λ (x : Reply). Answers Word.Upgrade s t (M.now a) (M.now m) (Ok x)) is (e.answers back) in
     let run = c.say_forced.ensures.moments h in
     let utters = (run.each (M.now b) (g.met.M.Machine.counts_now b (M.moment m) h run.later)).utters in
     let unsaid = c.in-Err-say_forced.ensures.unsaid h in
     upgraded_answers s t (M.now a) (M.now m) (M.now b) (e.disk.windows back) (e.disk.quiet back) answers (record { image = utters.image; windows = utters.windows }) (Err end) tt
-    (says_so (reply_alone Reply.Upgraded) (M.now m) (M.now b) r tt unsaid) (wants_not Ends.WornOut tt r c.in-Err-say_forced.ensures.wants) (unsaid_told AreOfPage s.layout (M.now b).image (M.now m) (M.now b) r unsaid)
+    (says_so (reply_alone Said.Upgraded) (M.now m) (M.now b) r tt unsaid) (wants_not Ends.WornOut tt r c.in-Err-say_forced.ensures.wants) (unsaid_told AreOfPage s.layout (M.now b).image (M.now m) (M.now b) r unsaid)
 
 pub returns-then-is_upgraded-clause-does : goal.returns-then-is_upgraded-clause-does
 returns-then-is_upgraded-clause-does g c h k none idle stands on =
@@ -92,12 +93,12 @@ returns-then-is_upgraded-clause-does g c h k none idle stands on =
     let back = say.trust.honest h in
     let end = c.in-Err-say_forced.end in
     let is : c.in-Ok-upgrade.answer ≡ Said.Upgraded = ends_upgraded c.in-Ok-upgrade.answer (sym c.is_upgraded.ensures ∙ c.if-is_upgraded.true) in
-    let ends = subst (λ (x : Answer). EndsState (V.state v) (V.state w) (Ok x)) is e.ends in
-    let because = subst (λ (x : Answer). BecauseUpgraded (V.state v) (V.state w) (M.now m) (reply_of x)) is (e.because back) in
-    let does = subst (λ (x : Answer). Does V.state V.holds Word.Upgrade v w k (M.now a) (M.now m) (Ok x)) is (e.done back k stands) in
+    let ends = subst (λ (x : Reply). EndsState (V.state v) (V.state w) (Ok x)) is e.ends in
+    let because = subst (λ (x : Reply). BecauseUpgraded (V.state v) (V.state w) (M.now m) x) is (e.because back) in
+    let does = subst (λ (x : Reply). Does V.state V.holds Word.Upgrade v w k (M.now a) (M.now m) (Ok x)) is (e.done back k stands) in
     let timed = timed_by M g.met.M.Machine.dated g.met.M.Machine.history g.met.M.Machine.counts_now g.met.M.Machine.only_now in
     upgraded_alone V.state V.holds M g.met.V.Files.wears (λ x honest. g.met.M.Machine.short x honest) timed v w a m b k idle none stands on _ e.disk back (say.since h) ends.0 ends.1 because.2 does
-    c.as_slice.result.now (c.as_slice.ensures.value ∙ c.in-Ok.ensures ∙ ap (λ (says : Reply → List ℕ). says Reply.Upgraded) c.requires.says) h (say.moments h) (Err end)
+    c.as_slice.result.now (c.as_slice.ensures.value ∙ c.in-Ok.ensures ∙ ap (λ (says : Reply → List ℕ). says Said.Upgraded) c.requires.says) h (say.moments h) (Err end)
     (λ is. let same : end ≡ Stopped Ends.Memory = cc is in absurd (subst WantsNone same c.in-Err-say_forced.ensures.wants tt)) tt tt tt (c.in-Err-say_forced.ensures.unsaid h)
 
 -- ---- it was done before
@@ -116,12 +117,19 @@ returns-in-Ok-upgrade-clause-does g c h k none idle stands on =
     let back = close.trust.honest h in
     let done = ends_done (V.state v) (V.state w) c.in-Ok-upgrade.answer (sym c.is_upgraded.ensures ∙ c.if-is_upgraded.false) e.ends in
     let does = e.done back k stands in
-    let reply = reply_of c.in-Ok-upgrade.answer in
+    let reply = c.in-Ok-upgrade.answer in
     let layout = ap (λ (x : State). x.layout) done.2 in
     let timed = timed_by M g.met.M.Machine.dated g.met.M.Machine.history g.met.M.Machine.counts_now g.met.M.Machine.only_now in
     let held = answered_held V.state V.holds M g.met.V.Files.wears (λ x honest. g.met.M.Machine.short x honest) timed Word.Upgrade v w a m b k idle stands on _ e.disk back (close.since h) does.0 reply does.1 does.2 layout in
     alone_answered V.state V.holds M g.met.V.Files.wears (λ x honest. g.met.M.Machine.short x honest) timed Word.Upgrade v w a m b k idle stands on _ e.disk back (close.since h) does.0 reply does.1 does.2 layout c.close_as.result close.undone close.status
     (subst (λ (says : Reply → List ℕ). ClosesAndSays M does.0 (forced_of k) (says reply) m b (unit_of c.close_as.result)) c.requires.says (close.closes h does.0 (forced_of k) does.2 held))
+
+pub returns-in-Ok-upgrade-clause-status : goal.returns-in-Ok-upgrade-clause-status
+returns-in-Ok-upgrade-clause-status g c =
+    let V = g.V.Files in
+    let done = ends_done (V.state c.args.v) (V.state c.upgrade.new.v) c.in-Ok-upgrade.answer (sym c.is_upgraded.ensures ∙ c.if-is_upgraded.false) c.in-Ok-upgrade.ensures.ends in
+    status_at (IsStatusFrom Word.Upgrade) (reply_status c.in-Ok-upgrade.answer) c.close_as.result c.close_as.ensures.status
+    (subst (λ (x : Reply). IsStatusFrom Word.Upgrade (reply_status x)) (sym done.0) refl)
 
 -- ---- a write of a root has failed
 

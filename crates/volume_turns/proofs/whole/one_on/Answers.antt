@@ -2,7 +2,7 @@ use Rattle.std.proofs.Common.{false, inl, inr, Err, refl, ap, arith}
 use Rattle.sector_disk.proofs.Holding.{trusts_on}
 use Rattle.fsd_texts.specs.declared.fault.Fault.{Fault}
 use Rattle.volume_turns.specs.declared.turns.End.TheVariants.{Fault as Stopped}
-use Rattle.volume_turns.specs.Steps.{MayLose}
+use Rattle.volume_turns.specs.Commands.{MayLose}
 use Rattle.volume_turns.proofs.AnsweringLaws.{one_failed, one_replied, one_unheard}
 use Rattle.volume_turns.proofs.CauseLaws.{call_says}
 use Rattle.volume_turns.proofs.LastLaws.{ends_fault, fault_not, reply_not, told_place}
@@ -24,14 +24,20 @@ returns-in-Ok g c =
     let does = c.in-Ok.ensures in
     let status = c.in-Ok.status in
     record {
-      trust = does.trust;
-      ledger = does.ledger;
-      status = inl does.status;
-      counts = counts_said command (M.report a) (M.report b) status does.status does.told;
+      ends = record {
+        status = inl does.status;
+        trust = does.trust;
+        last = λ of h. absurd (reply_not command status does.status of);
+      };
+      takes = record {
+        ledger = does.ledger;
+        counts = counts_said command (M.report a) (M.report b) status does.status does.told;
+      };
+      tells = λ h. record {
+        says = λ three. absurd (from_not 3 command status (omega arith) (λ e. omega (arith, e)) does.status three);
+        spent = λ nine. from_not 9 command status (omega arith) (λ e. omega (arith, e)) does.status nine;
+      };
       since = does.since;
-      says = λ three h. absurd (from_not 3 command status (omega arith) (λ e. omega (arith, e)) does.status three);
-      unspent = λ nine h. from_not 9 command status (omega arith) (λ e. omega (arith, e)) does.status nine;
-      last = λ of h. absurd (reply_not command status does.status of);
       one = λ h none. one_replied command (g.V.Files.state c.args.v) (M.now a) (M.now b) none status (does.answers h);
       runs = λ h rest k none idle stands disk. one_said M command rest k a b status (does.does h k none idle stands disk);
     }
@@ -51,17 +57,23 @@ returns-in-Err-Fault g c =
     let line = c.end_with.ensures in
     let status = c.end_with.result in
     record {
-      trust = trusts_on does.trust line.says.trust;
-      ledger = λ t. writes_on (M.ledger a) (M.ledger p) (M.ledger b) (line.ledger t) (does.ledger (line.says.trust.tells t));
-      status = fault_is_one command came.why status (call_of_volume came.why does.fault) line.status;
-      counts = fault_counts (M.report a) (M.report p) (M.report b) status line.says.spares came.why does.told line.status;
+      ends = record {
+        status = fault_is_one command came.why status (call_of_volume came.why does.fault) line.status;
+        trust = trusts_on does.trust line.says.trust;
+        last = λ of h. ends_fault (M.report b).fault_place (M.now p) (M.now b) status came.why (told_place came.why (M.report a) (M.report p) (M.report b) does.told.disk line.says.spares.place) (line.ends h) of;
+      };
+      takes = record {
+        ledger = λ t. writes_on (M.ledger a) (M.ledger p) (M.ledger b) (line.ledger t) (does.ledger (line.says.trust.tells t));
+        counts = fault_counts (M.report a) (M.report p) (M.report b) status line.says.spares came.why does.told line.status;
+      };
+      tells = λ h. record {
+        says = λ three. let ended = does.answers (line.says.trust.honest h) in
+            call_says false (MayLose c.args.c.now) s.layout (M.now a).said came.why does.fault (M.now p) (M.now b) status ended.quiet (line.says.exit h).image (ended.told came.why refl) (line.ends h) three;
+        spent = λ nine.
+            let worn = (does.answers (line.says.trust.honest h)).worn (ap (λ (w : Fault). Err (Stopped w)) (status_worn came.why status line.status nine)) in
+            cc (worn, c.requires.unworn);
+      };
       since = since_on M a p b line.says.trust.honest does.since does.later line.says.since;
-      says = λ three h. let ended = does.answers (line.says.trust.honest h) in
-          call_says false (MayLose c.args.c.now) s.layout (M.now a).said came.why does.fault (M.now p) (M.now b) status ended.quiet (line.says.exit h).image (ended.told came.why refl) (line.ends h) three;
-      unspent = λ nine h.
-          let worn = (does.answers (line.says.trust.honest h)).worn (ap (λ (w : Fault). Err (Stopped w)) (status_worn came.why status line.status nine)) in
-          cc (worn, c.requires.unworn);
-      last = λ of h. ends_fault (M.report b).fault_place (M.now p) (M.now b) status came.why (told_place came.why (M.report a) (M.report p) (M.report b) does.told.disk line.says.spares.place) (line.ends h) of;
       one = λ h none. one_failed command s (M.now a) (M.now p) none (M.now b) came.why status (does.answers (line.says.trust.honest h)) (line.says.exit h) (line.ends h);
       runs = λ h rest k none idle stands disk. let back = line.says.trust.honest h in
           let timed = timed_by M g.met.M.Machine.dated g.met.M.Machine.history g.met.M.Machine.counts_now g.met.M.Machine.only_now in
@@ -78,14 +90,20 @@ returns-in-Err-Output g c =
     let command = c.args.c.now in
     let does = rw c.in-Err-Output.field-0-is at c.in-Err-Output.ensures in
     record {
-      trust = does.trust;
-      ledger = does.ledger;
-      status = inr (inr refl);
-      counts = unsaid_counts (M.report a) (M.report b) does.told;
+      ends = record {
+        status = inr (inr refl);
+        trust = does.trust;
+        last = λ of h. absurd (fault_not 6 6 refl of refl);
+      };
+      takes = record {
+        ledger = does.ledger;
+        counts = unsaid_counts (M.report a) (M.report b) does.told;
+      };
+      tells = λ h. record {
+        says = λ three. absurd (omega (arith, three));
+        spent = λ nine. omega (arith, nine);
+      };
       since = does.since;
-      says = λ three h. absurd (omega (arith, three));
-      unspent = λ nine h. omega (arith, nine);
-      last = λ of h. absurd (fault_not 6 6 refl of refl);
       one = λ h none. one_unheard command (g.V.Files.state c.args.v) (M.now a) (M.now b) none (does.answers h);
       runs = λ h rest k none idle stands disk. one_unsaid M command rest k a b (does.does h k none idle stands disk) does.told;
     }

@@ -1,6 +1,6 @@
 use Rattle.std.proofs.Common.{false, None, []}
 use Rattle.fsd_runs.specs.declared.request.Request.TheVariants.{One}
-use Rattle.volume_turns.specs.Steps.{MayLose}
+use Rattle.volume_turns.specs.Commands.{MayLose}
 use Rattle.volume_turns.proofs.OneLaws.{some_one}
 use Rattle.volume_turns.proofs.BehindLaws.{RefusedBy, RunsOver, over_counts, over_image, over_leaves, over_one, over_trust, over_writes, refused_counts, refused_image, refused_last, refused_leaves, refused_of, refused_one, refused_trust, refused_writes}
 use Rattle.volume_turns.proofs.SayLaws.{timed_by}
@@ -16,17 +16,21 @@ returns-in-Ok g c =
     let M = g.M.Machine in
     let e = c.in-Ok.ensures in
     let does = c.one_on.ensures in
-    let x : RunsOver g.V.Files.state M c.args.sectors c.in-Ok.v c.args.m.now c.mount.new.m c.one_on.new.m = record { disk = e.disk; fresh = e.opens.fresh; found = λ h. (e.tells h).found; rest = λ h. (e.heals h).rest; trust = does.trust } in
+    let x : RunsOver g.V.Files.state M c.args.sectors c.in-Ok.v c.args.m.now c.mount.new.m c.one_on.new.m = record { disk = e.disk; fresh = e.opens.fresh; found = λ h. (e.tells h).found; rest = λ h. (e.heals h).rest; trust = does.ends.trust } in
     record {
-      ledger = λ t. over_writes x t (does.ledger t);
-      status = does.status;
-      counts = over_counts x does.counts;
-      trust = over_trust x;
-      image = λ h. over_image x false (MayLose c.args.c.now) None c.one_on.result h (λ three. does.says three h) (λ nine. does.unspent nine h);
-      last = does.last;
+      ends = record {
+        status = does.ends.status;
+        trust = over_trust x;
+        last = does.ends.last;
+      };
+      takes = record {
+        ledger = λ t. over_writes x t (does.takes.ledger t);
+        counts = over_counts x does.takes.counts;
+      };
+      image = λ h. over_image x false (MayLose c.args.c.now) None c.one_on.result h (λ three. (does.tells h).says three) (λ nine. (does.tells h).spent nine);
       one = λ h. over_one x c.args.c.now c.one_on.result h (does.one h e.opens.fresh.dirty);
-      leaves = λ h rest l windows changes f at held.
-          over_leaves x g.V.Files.holds (One c.args.c.now) [] rest l windows changes f c.one_on.result h does.since (λ y t. g.met.M.Machine.counts_now y t) (timed_by M g.met.M.Machine.dated g.met.M.Machine.history g.met.M.Machine.counts_now g.met.M.Machine.only_now) held (e.sound (does.trust.honest h) l windows changes f at)
+      leaves = λ h rest was at held.
+          over_leaves x g.V.Files.holds (One c.args.c.now) [] rest was c.one_on.result h does.since (λ y t. g.met.M.Machine.counts_now y t) (timed_by M g.met.M.Machine.dated g.met.M.Machine.history g.met.M.Machine.counts_now g.met.M.Machine.only_now) held (e.sound (does.ends.trust.honest h) was.layout was.windows was.changes was.forced at)
           (λ k none idle stands disk. does.runs h rest k none idle stands disk);
     }
 
@@ -40,14 +44,18 @@ returns-in-Err g c =
     let x : RefusedBy M c.args.sectors c.in-Err.fault why c.args.m.now c.mount.new.m c.end_with.new.m status =
     record { disk = e.disk; refused = λ h. (e.tells h).refused; kept = λ h. (e.tells h).unchanged; rest = λ h. (e.heals h).rest; lost = λ h. (e.tells h).lost; unsound = λ h. (e.tells h).unsound; is = c.fault_of.ensures; says = line.says; ends = line.ends; for = line.status } in
     record {
-      ledger = λ t. refused_writes x t (line.ledger t);
-      status = fault_is_one c.args.c.now why status (refused_of x) line.status;
-      counts = refused_counts x;
-      trust = refused_trust x;
+      ends = record {
+        status = fault_is_one c.args.c.now why status (refused_of x) line.status;
+        trust = refused_trust x;
+        last = refused_last x;
+      };
+      takes = record {
+        ledger = λ t. refused_writes x t (line.ledger t);
+        counts = refused_counts x;
+      };
       image = refused_image x false (MayLose c.args.c.now) None;
-      last = refused_last x;
       one = refused_one x c.args.c.now;
-      leaves = λ h rest l windows changes f at held.
-          refused_leaves x g.V.Files.state g.V.Files.holds (One c.args.c.now) [] rest l windows changes f h (g.met.M.Machine.short c.mount.new.m) (λ y t. g.met.M.Machine.counts_now y t)
-          (timed_by M g.met.M.Machine.dated g.met.M.Machine.history g.met.M.Machine.counts_now g.met.M.Machine.only_now) at held (e.sound (line.says.trust.honest h) l windows changes f at) (some_one c.args.c.now);
+      leaves = λ h rest was at held.
+          refused_leaves x g.V.Files.state g.V.Files.holds (One c.args.c.now) [] rest was h (g.met.M.Machine.short c.mount.new.m) (λ y t. g.met.M.Machine.counts_now y t)
+          (timed_by M g.met.M.Machine.dated g.met.M.Machine.history g.met.M.Machine.counts_now g.met.M.Machine.only_now) at held (e.sound (line.says.trust.honest h) was.layout was.windows was.changes was.forced at) (some_one c.args.c.now);
     }
