@@ -1,4 +1,5 @@
 use Rattle.std.proofs.Common.{◌≡◌, Ok, sym, ap, subst, ◌∙◌, rules}
+use Rattle.std.proofs.lemmas.Result.{IfOk-weaker}
 use Rattle.page_cache.specs.Cache.{CacheValue, IsResident, no_pages}
 use Rattle.page_cache.proofs.FetchLaws.{Fetched, fetched_dirty, fetched_of, fetched_there}
 use Rattle.fsd_tests.proofs.WaitingLaws.{only_waits}
@@ -9,7 +10,8 @@ use Rattle.fsd_tests.proofs.waiting.waiting.Goals.{In_ok-ok}
 fetched : (g : given.Over) (c : In_ok-ok g) → Fetched c.args.page c.in_ok-cache.cache c.fetch.new.self
 fetched g c =
     let ok : c.fetch.result ≡ Ok c.in_ok-ok.field-0 = search rules in
-    fetched_of c.args.page c.in_ok-cache.cache c.fetch.new.self c.fetch.result c.in_ok-ok.field-0 _ ok c.fetch.ensures.hit c.fetch.ensures.entered
+    fetched_of c.args.page c.in_ok-cache.cache c.fetch.new.self c.fetch.result c.in_ok-ok.field-0 _ ok c.fetch.ensures.hit
+    (λ none. IfOk-weaker c.fetch.result _ _ (λ frame taken. taken.enters) (c.fetch.ensures.enters none))
 
 pub dirty-requires-clause-resident : goal.dirty-requires-clause-resident
 dirty-requires-clause-resident g c = fetched_there c.args.page c.in_ok-cache.cache c.fetch.new.self (fetched g (goal.at.dirty-requires-clause-resident g c).In_ok-ok)

@@ -10,6 +10,6 @@ pub returns-in-Err-Broken-clause-new : goal.returns-in-Err-Broken-clause-new
 returns-in-Err-Broken-clause-new c = λ new height tree.
     let page : ℕ = c.in-Err-Broken.field-0-0 in
     let s = vec.ghosts.step c.find.new.t in
-    let broken : BreaksTable c.find.new.t.pages.items page = broken_is s (BreaksTable s.images) (BarsTable s) c.in-Err-Broken.field-0 page c.in-Err-Broken.field-0-is c.in-Err-Broken.ensures.fault in
+    let broken : BreaksTable c.find.new.t.pages.items page = broken_is s (BreaksTable s.images) (BarsTable s) c.in-Err-Broken.field-0 page c.in-Err-Broken.field-0-is c.in-Err-Broken.ensures.failed.cause in
     let same = c.in-Err-Broken.ensures.calls.stays tt in
     absurd (tree_unbroken c.args.t.now.pages.items height page tree (subst (λ (p : List (List ℕ)). BreaksTable p page) same broken))

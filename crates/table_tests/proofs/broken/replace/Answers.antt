@@ -15,5 +15,5 @@ replace_same_size-requires-clause-present c = λ trusted height tree.
     let page : ℕ = c.in-Err-Broken.field-0-0 in
     let same : after ≡ found = ap (λ (s : Step). s.images) c.renew.ensures in
     let s = vec.ghosts.step c.find.new.t in
-    let broken : BreaksTable found page = broken_is s (BreaksTable s.images) (BarsTable s) c.in-Err-Broken.field-0 page c.in-Err-Broken.field-0-is c.in-Err-Broken.ensures.fault in
+    let broken : BreaksTable found page = broken_is s (BreaksTable s.images) (BarsTable s) c.in-Err-Broken.field-0 page c.in-Err-Broken.field-0-is c.in-Err-Broken.ensures.failed.cause in
     absurd (tree_unbroken found height page (subst (λ (pages : List (List ℕ)). IsTree pages height) same tree) broken)
