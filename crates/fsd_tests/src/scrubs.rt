@@ -54,8 +54,8 @@ fn most_told(
     sector: u32,
 ) -> Result<Option<(u32, u32)>, AllocError> {
     let mut most = (0, 0);
-    for step in 12..30u64 {
-        match scrubbed(alloc, image, sector, 16 * step)? {
+    for step in 40..160u64 {
+        match scrubbed(alloc, image, sector, 3 * step)? {
             (Some((healed, damaged)), whole) if whole || healed == 0 => {
                 most = (healed.max(most.0), damaged.max(most.1));
             }
