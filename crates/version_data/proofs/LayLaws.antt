@@ -9,7 +9,7 @@ use Rattle.sector_disk.specs.Image.{IsWorn, Windows, lay, open_damage, sector_at
 use Rattle.sector_disk.specs.Machine.{Holds, Moment}
 use Rattle.sector_disk.proofs.Wear.{lay_worn, stand_worn, worn_trans, slice_in_front}
 use Rattle.fsd_bytes.specs.Bytes.{sector}
-use Rattle.fsd_files.specs.Kept.{slice_of as slice_of_version}
+use Rattle.fsd_files.specs.Kept.{filled_slice as slice_of_version}
 use Rattle.version_data.specs.Writing.{lay_at}
 
 -- what a call makes of an image it makes of a worn one, worn

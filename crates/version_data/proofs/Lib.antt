@@ -1,7 +1,8 @@
 pub mod LayLaws
+mod LeaderLaws
 pub mod PlaceLaws
 pub mod RangeLaws
-pub mod VersionLaws
-pub mod WritingLaws
 pub mod SingleLaws
 pub mod SliceLaws
+pub mod VersionLaws
+pub mod WritingLaws

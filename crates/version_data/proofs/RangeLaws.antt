@@ -13,7 +13,7 @@ use Rattle.sector_disk.specs.declared.sector.Sector.{Sector}
 use Rattle.sector_disk.specs.declared.sector.Sector.TheVariants.{Whole, Damaged}
 use Rattle.sector_disk.specs.Image.{sector_at}
 use Rattle.fsd_files.specs.Disk.{Image, Sectors, Has}
-use Rattle.fsd_files.specs.Kept.{slice_of, slices_from, data_sectors, KeptIn, range_sectors, IsWhole, FirstDamaged}
+use Rattle.fsd_files.specs.Kept.{filled_slice, filled_slices_from, data_sectors, KeptIn, range_sectors, IsWhole, FirstDamaged}
 use Rattle.version_data.specs.Reading.{GivesRange}
 use Rattle.version_data.proofs.PlaceLaws.{index_is}
 
@@ -45,7 +45,7 @@ take_both a b xs le =
     ∙ take-append-add (take a xs) (drop a xs) b
 
 -- a part of a slice is a part of the bytes
-part_of_slice : (bytes : List ℕ) (k at len : ℕ) → at + len ≤ 512 → k * 512 + at + len ≤ length bytes → take len (drop at (slice_of bytes k)) ≡ take len (drop (k * 512 + at) bytes)
+part_of_slice : (bytes : List ℕ) (k at len : ℕ) → at + len ≤ 512 → k * 512 + at + len ≤ length bytes → take len (drop at (filled_slice bytes k)) ≡ take len (drop (k * 512 + at) bytes)
 part_of_slice bytes k at len part room =
     let rest : List ℕ = drop (k * 512) bytes in
     let slice : List ℕ = take 512 rest in
@@ -67,21 +67,21 @@ index_behind xs j = get_or-drop 1 xs j 0 ∙ ap (λ (n : ℕ). slice_index_or xs
 pub data_place : (runs : List Run) (k : ℕ) → slice_index_or (data_sectors runs) k 0 ≡ slice_place runs k
 data_place runs k = index_behind (sectors_of runs) k
 
-has_from : (hurt : Sectors) (i : Image) (k n : ℕ) (bytes ys : List ℕ) → AllZip (Has hurt i) (slices_from k n bytes) ys → (j : ℕ) → j < n → Has hurt i (slice_of bytes (k + j)) (slice_index_or ys j 0)
+has_from : (hurt : Sectors) (i : Image) (k n : ℕ) (bytes ys : List ℕ) → AllZip (Has hurt i) (filled_slices_from k n bytes) ys → (j : ℕ) → j < n → Has hurt i (filled_slice bytes (k + j)) (slice_index_or ys j 0)
 has_from hurt i k zero bytes ys kept j lt = absurd (omega arith)
 has_from hurt i k (suc n) bytes [] kept j lt = absurd kept
-has_from hurt i k (suc n) bytes (y ∷ ys) kept zero lt = let same : k ≡ k + 0 = omega arith in subst (λ (m : ℕ). Has hurt i (slice_of bytes m) y) same kept.0
+has_from hurt i k (suc n) bytes (y ∷ ys) kept zero lt = let same : k ≡ k + 0 = omega arith in subst (λ (m : ℕ). Has hurt i (filled_slice bytes m) y) same kept.0
 has_from hurt i k (suc n) bytes (y ∷ ys) kept (suc j) lt =
     let same : k + 1 + j ≡ k + suc j = omega arith in
-    subst (λ (m : ℕ). Has hurt i (slice_of bytes m) (slice_index_or ys j 0)) same (has_from hurt i (k + 1) n bytes ys kept.1 j (omega arith))
+    subst (λ (m : ℕ). Has hurt i (filled_slice bytes m) (slice_index_or ys j 0)) same (has_from hurt i (k + 1) n bytes ys kept.1 j (omega arith))
 
 -- slice k stands in its place, or is damaged
-has_slice : (hurt : Sectors) (i : Image) (bytes : List ℕ) (runs : List Run) (k : ℕ) → KeptIn i hurt bytes runs → k * 512 < length bytes → Has hurt i (slice_of bytes k) (slice_place runs k)
+has_slice : (hurt : Sectors) (i : Image) (bytes : List ℕ) (runs : List Run) (k : ℕ) → KeptIn i hurt bytes runs → k * 512 < length bytes → Has hurt i (filled_slice bytes k) (slice_place runs k)
 has_slice hurt i bytes runs k kept lt =
     let few : k < sectors_for (length bytes) - 1 = omega arith in
     let from_first : 0 + k ≡ k = omega arith in
-    subst (λ (s : ℕ). Has hurt i (slice_of bytes k) s) (data_place runs k)
-    (subst (λ (m : ℕ). Has hurt i (slice_of bytes m) (slice_index_or (data_sectors runs) k 0)) from_first (has_from hurt i 0 (sectors_for (length bytes) - 1) bytes (data_sectors runs) kept k few))
+    subst (λ (s : ℕ). Has hurt i (filled_slice bytes k) s) (data_place runs k)
+    (subst (λ (m : ℕ). Has hurt i (filled_slice bytes m) (slice_index_or (data_sectors runs) k 0)) from_first (has_from hurt i 0 (sectors_for (length bytes) - 1) bytes (data_sectors runs) kept k few))
 
 whole_is : (a b : List ℕ) (x : Sector) (weak : Bool) → (x ≡ Whole a) ⊎ (IsTrue weak × (x ≡ Damaged)) → x ≡ Whole b → b ≡ a
 whole_is a b x weak (inl is) e = let both : Whole a ≡ Whole b = sym is ∙ e in cc
@@ -111,7 +111,7 @@ front_more i hurt runs bytes old new from done len n place kept room within long
     let here : k * 512 + off ≡ from + done = omega arith in
     let place_is : slice_place runs k ≡ place = index_is (sectors_of runs) (k + 1) place at in
     let stands = has_slice hurt i bytes runs k kept (omega arith) in
-    let slice : part.bytes ≡ slice_of bytes k = whole_is (slice_of bytes k) part.bytes (sector_at i (slice_place runs k)) (hurt (slice_place runs k)) stands (ap (sector_at i) place_is ∙ part.whole) in
+    let slice : part.bytes ≡ filled_slice bytes k = whole_is (filled_slice bytes k) part.bytes (sector_at i (slice_place runs k)) (hurt (slice_place runs k)) stands (ap (sector_at i) place_is ∙ part.whole) in
     let piece : List ℕ = take len (drop off part.bytes) in
     let piece_is : piece ≡ take len (drop done (drop from bytes)) =
     ap (λ (b : List ℕ). take len (drop off b)) slice ∙ part_of_slice bytes k off len (omega arith) (omega (arith, here))

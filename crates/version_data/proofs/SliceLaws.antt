@@ -14,9 +14,9 @@ use Rattle.sector_disk.specs.Machine.{Holds, Moment, Tears}
 use Rattle.sector_disk.proofs.CallLaws.{writes_then}
 use Rattle.fsd_formats.specs.NamePage.{sectors_for}
 use Rattle.fsd_files.specs.Disk.{Has, Image, Sectors}
-use Rattle.fsd_files.specs.Kept.{data_sectors, slice_of, slices}
+use Rattle.fsd_files.specs.Kept.{data_sectors, filled_slice, filled_slices}
 use Rattle.fsd_files.proofs.KeptLaws.{has_on}
-use Rattle.version_data.specs.Writing.{WritesIn, slices_at, with_slices}
+use Rattle.version_data.specs.Writing.{WritesIn, slices_at, slices_laid}
 use Rattle.version_data.proofs.LayLaws.{holds_then, lay_at_in, monotone_stand}
 use Rattle.version_data.proofs.PlaceLaws.{differ_at, index_is, index_there}
 use Rattle.version_data.proofs.RangeLaws.{place_in_range}
@@ -55,22 +55,22 @@ pub torn_in : (may : Sectors) (place : ℕ) (row : List ℕ) (old left : Moment)
 torn_in may place row old left long mine torn =
     tears_in may place row old left (λ j lt. let none : place ≡ place + j = omega (arith, lt, long) in subst (λ (s : ℕ). may s ≡ true) none mine) torn
 
-pub holds_slice : (old mid new : Moment) (runs : List Run) (first : ℕ) (bytes : List ℕ) (k place : ℕ) (row : List ℕ) → slice_get (sectors_of runs) (first + k + 1) ≡ Some place → row ≡ slice_of bytes k → length row ≡ 512
-    → Holds old (with_slices old.image runs first bytes k) mid → Holds mid (stand mid.image place row 1) new → Holds old (with_slices old.image runs first bytes (k + 1)) new
+pub holds_slice : (old mid new : Moment) (runs : List Run) (first : ℕ) (bytes : List ℕ) (k place : ℕ) (row : List ℕ) → slice_get (sectors_of runs) (first + k + 1) ≡ Some place → row ≡ filled_slice bytes k → length row ≡ 512
+    → Holds old (slices_laid old.image runs first bytes k) mid → Holds mid (stand mid.image place row 1) new → Holds old (slices_laid old.image runs first bytes (k + 1)) new
 holds_slice old mid new runs first bytes k place row at is long so_far next =
-    let before : Image = with_slices old.image runs first bytes k in
+    let before : Image = slices_laid old.image runs first bytes k in
     let lies : ℕ = slice_index_or (sectors_of runs) (first + k + 1) 0 in
     let more = holds_then (λ image. stand image place row 1) old mid new before (monotone_stand place row 1) so_far next in
     let there : place + 0 ≡ lies = (let none : place + 0 ≡ place = omega arith in none) ∙ sym (index_is (sectors_of runs) (first + k + 1) place at) in
-    let content : row_of row 0 ≡ slice_of bytes k = take_all 512 row (omega (arith, long)) ∙ is in
-    let laid : stand before place row 1 ≡ with_slices old.image runs first bytes (k + 1) =
-    ap (λ (p : ℕ). with_sector before p (row_of row 0)) there ∙ ap (with_sector before lies) content ∙ ap (with_slices old.image runs first bytes) (let e : suc k ≡ k + 1 = omega arith in e) in
+    let content : row_of row 0 ≡ filled_slice bytes k = take_all 512 row (omega (arith, long)) ∙ is in
+    let laid : stand before place row 1 ≡ slices_laid old.image runs first bytes (k + 1) =
+    ap (λ (p : ℕ). with_sector before p (row_of row 0)) there ∙ ap (with_sector before lies) content ∙ ap (slices_laid old.image runs first bytes) (let e : suc k ≡ k + 1 = omega arith in e) in
     subst (λ (i : Image). Holds old i new) laid more
 
 -- ---- all of them
 
 module _ (old new : Moment) (runs : List Run) (first : ℕ) (bytes : List ℕ) (differ : IsTrue (all_differ (sectors_of runs))) (fits : first + (sectors_for (length bytes) - 1) ≤ length (data_sectors runs))
-    (room : (k : ℕ) → k < length (sectors_of runs) → slice_index_or (sectors_of runs) k 0 < length old.image) (holds : Holds old (with_slices old.image runs first bytes (sectors_for (length bytes) - 1)) new) where
+    (room : (k : ℕ) → k < length (sectors_of runs) → slice_index_or (sectors_of runs) k 0 < length old.image) (holds : Holds old (slices_laid old.image runs first bytes (sectors_for (length bytes) - 1)) new) where
   abbrev weak : Sectors
   weak = open_damage old.windows
 
@@ -83,19 +83,19 @@ module _ (old new : Moment) (runs : List Run) (first : ℕ) (bytes : List ℕ) (
   inside : (k : ℕ) → k < n → first + k + 1 < length (sectors_of runs)
   inside = slice_inside runs first n fits
 
-  slice_stands : (j : ℕ) → j < n → Has weak new.image (slice_of bytes j) (place j)
+  slice_stands : (j : ℕ) → j < n → Has weak new.image (filled_slice bytes j) (place j)
   slice_stands j lt =
-      has_on weak (with_slices old.image runs first bytes n) new.image (slice_of bytes j) (place j) (holds.worn.each (place j))
-      (inl (lay_at_in old.image place (slice_of bytes) n j lt (λ k above below. differ_at (sectors_of runs) (first + j + 1) (first + k + 1) differ (omega (arith, above)) (inside k below)) (room (first + j + 1) (inside j lt))))
+      has_on weak (slices_laid old.image runs first bytes n) new.image (filled_slice bytes j) (place j) (holds.worn.each (place j))
+      (inl (lay_at_in old.image place (filled_slice bytes) n j lt (λ k above below. differ_at (sectors_of runs) (first + j + 1) (first + k + 1) differ (omega (arith, above)) (inside k below)) (room (first + j + 1) (inside j lt))))
 
-  pub slices_stand : AllZip (Has (open_damage new.windows) new.image) (slices bytes) (slices_at runs first (length bytes))
+  pub slices_stand : AllZip (Has (open_damage new.windows) new.image) (filled_slices bytes) (slices_at runs first (length bytes))
   slices_stand =
-      subst (λ (w : Windows). AllZip (Has (open_damage w) new.image) (slices bytes) (slices_at runs first (length bytes))) (sym holds.windows)
+      subst (λ (w : Windows). AllZip (Has (open_damage w) new.image) (filled_slices bytes) (slices_at runs first (length bytes))) (sym holds.windows)
       (zip_from weak new.image bytes 0 n (slices_at runs first (length bytes)) (places_count runs first n fits)
       (λ h lt.
       let none : h ≡ 0 + h = omega arith in
-      subst (λ (m : ℕ). Has weak new.image (slice_of bytes m) (slice_index_or (slices_at runs first (length bytes)) h 0)) none
-      (subst (λ (s : ℕ). Has weak new.image (slice_of bytes h) s) (sym (slice_lies runs first n fits h lt)) (slice_stands h lt))))
+      subst (λ (m : ℕ). Has weak new.image (filled_slice bytes m) (slice_index_or (slices_at runs first (length bytes)) h 0)) none
+      (subst (λ (s : ℕ). Has weak new.image (filled_slice bytes h) s) (sym (slice_lies runs first n fits h lt)) (slice_stands h lt))))
 
 -- ---- the leader
 

@@ -10,8 +10,8 @@ ghost use Rattle.sector_disk.specs.Image.{open_damage, stand};
 ghost use Rattle.sector_disk.specs.Machine.{Holds, Tears, wrote};
 ghost use Rattle.version_data.specs.Single.{WritesLeader};
 
+use crate::leader::leader_bytes;
 use fsd_formats::{Entry, Leader};
-use leader_page::leader_bytes;
 use sector_disk::{Failed, Machine, Seen, read_sector, write_sectors};
 
 /// How one of the data sectors of a version reads.

@@ -6,17 +6,17 @@ ghost use Rattle.run_table.specs.Space.{all_differ, contains};
 ghost use Rattle.fsd_formats.specs.NamePage.{is_entry, sectors_for};
 ghost use Rattle.fsd_files.specs.Answers.{HasLeader};
 ghost use Rattle.fsd_files.specs.Disk.{Has};
-ghost use Rattle.fsd_files.specs.Kept.{data_sectors, slices};
+ghost use Rattle.fsd_files.specs.Kept.{data_sectors, filled_slices};
 ghost use Rattle.sector_disk.specs.Calls.{WritesDisk, device_in, failed_at};
 ghost use Rattle.sector_disk.specs.Image.{open_damage};
 ghost use Rattle.sector_disk.specs.Machine.{wrote};
 ghost use Rattle.sector_disk.specs.Written.{WroteMost};
 ghost use Rattle.version_data.specs.Writing.{WritesIn, slices_at};
 
+use crate::leader::leader_bytes;
 use crate::single::write_one;
 use crate::writing::slice_at;
 use fsd_formats::{Entry, Leader};
-use leader_page::leader_bytes;
 use run_table::Runs;
 use sector_disk::{Failed, Machine};
 
@@ -38,7 +38,7 @@ pub fn write_slices<M: Machine>(
     ensures place { IfErr result (λ failed. IsTrue (contains (slices_at runs.now first (length bytes.now)) failed.place)) }
     ensures counted { OnOk result (M.tells m.new → M.ledger m.new ≡ wrote (M.ledger m.old) (sectors_for (length bytes.now) - 1)) }
     ensures counted_err { OnErr result (M.tells m.new → WroteMost (sectors_for (length bytes.now) - 1) (M.ledger m.old) (M.ledger m.new)) }
-    ensures done { OnOk result (M.honest m.new → AllZip (Has (open_damage (M.now m.new).windows) (M.now m.new).image) (slices bytes.now) (slices_at runs.now first (length bytes.now))) }
+    ensures done { OnOk result (M.honest m.new → AllZip (Has (open_damage (M.now m.new).windows) (M.now m.new).image) (filled_slices bytes.now) (slices_at runs.now first (length bytes.now))) }
 {
     let count = bytes.len().div_ceil(512) as u32;
     let mut done = 0;

@@ -4,7 +4,7 @@ ghost use Rattle.run_table.specs.RunTable.{sectors_of};
 ghost use Rattle.run_table.specs.Space.{all_differ, contains};
 ghost use Rattle.fsd_formats.specs.NamePage.{is_entry, sectors_for};
 ghost use Rattle.fsd_files.specs.Answers.{HasVersion};
-ghost use Rattle.fsd_files.specs.Kept.{slice_of as slice_of_version};
+ghost use Rattle.fsd_files.specs.Kept.{filled_slice as slice_of_version};
 ghost use Rattle.sector_disk.specs.Calls.{WritesDisk, device_in, failed_at};
 ghost use Rattle.sector_disk.specs.Image.{in_run, lay, open_damage, slice_of};
 ghost use Rattle.sector_disk.specs.Machine.{Holds, wrote};
@@ -12,8 +12,8 @@ ghost use Rattle.sector_disk.specs.Written.{WroteMost};
 ghost use Rattle.sector_disk.specs.declared.sector.Sector.TheVariants.{Whole};
 ghost use Rattle.version_data.specs.Writing.{WritesIn, part_of};
 
+use crate::leader::leader_bytes;
 use fsd_formats::{Entry, Leader};
-use leader_page::leader_bytes;
 use run_table::Run;
 use sector_disk::{Failed, Machine, SECTOR_BYTES, write_sectors};
 

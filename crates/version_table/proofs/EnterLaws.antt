@@ -15,7 +15,7 @@ use Rattle.name_page.specs.Lookups.{entry_with}
 use Rattle.name_btree.specs.Map.{without_all}
 use Rattle.name_btree.specs.Replace.{HasAsLong, IsAsLong}
 use Rattle.version_table.specs.declared.planning.Plan.{Plan}
-use Rattle.version_table.specs.Plan.{IsReady, keys_left, planned_entry, with_planned}
+use Rattle.version_table.specs.Plan.{IsPlanReady, keys_left, planned_entry, with_planned}
 use Rattle.version_table.proofs.EditLaws.{entered_is, kept_is, with_is, without_some}
 use Rattle.version_table.proofs.PlanLaws.{new_stays}
 
@@ -50,7 +50,7 @@ none_kept key p (x ∷ xs) none = by (same_key x.key key) refl none (none_kept k
         kept false more = more
 
 module _ (plan : Plan) (serial : Serial) (length : ℕ) (runs : List Run) (entry : Entry) (same : entry ≡ planned_entry plan serial length runs) (keys : List Key) (left : keys ≡ keys_left plan) (table : List Entry) (asc : Ascend table)
-    (ready : IsReady plan table) where
+    (ready : IsPlanReady plan table) where
   pub planned_new : entry_with entry.key (without_all keys table) ≡ None
   planned_new =
       ap (λ (e : Entry). entry_with e.key (without_all keys table)) same

@@ -13,7 +13,7 @@ use Rattle.fsd_files.specs.Volume.{entries_at}
 use Rattle.version_table.specs.declared.oldest.Leaving.{Leaving}
 use Rattle.version_table.specs.declared.planning.Plan.{Plan}
 use Rattle.version_table.specs.Met.{entries_left}
-use Rattle.version_table.specs.Plan.{IsPlan, IsReady, key_left, keys_left}
+use Rattle.version_table.specs.Plan.{IsPlan, IsPlanReady, key_left, keys_left}
 use Rattle.version_table.specs.Versions.{next_keep, next_key, oldest_beyond, versions_of}
 use Rattle.version_table.proofs.PlanLaws.{each_found, each_kept, each_mapped, each_taken, next_is_new}
 use Rattle.version_table.proofs.VersionLaws.{entries_of_keys, keys_beyond}
@@ -68,7 +68,7 @@ module _ (name : List ℕ) (given : Option ℕ) (table : List Entry) (asc : Asce
     entries = gone_are ∙ beyond_at name plan.keep table asc ∙ ap (λ (ks : List Key). entries_at ks table) (sym keys_are);
   }
 
-  pub plan_ready : IsReady plan table
+  pub plan_ready : IsPlanReady plan table
   plan_ready = record {
     fresh = ap (λ (k : Key). entry_of k table) key_is ∙ next_is_new name table asc;
     there = each_mapped (λ (e : Entry). entry_of e.key table ≡ Some e) (λ (g : Leaving). g.entry) plan.gone.items

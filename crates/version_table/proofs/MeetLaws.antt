@@ -14,9 +14,9 @@ use Rattle.name_page.proofs.LookLaws.{Joins, reaches_still, reaches_walks, walks
 use Rattle.name_btree.specs.declared.lookup.FoundEntry.{FoundEntry}
 use Rattle.version_table.specs.declared.oldest.Leaving.{Leaving}
 use Rattle.version_table.specs.declared.oldest.Oldest.{Oldest}
-use Rattle.version_table.specs.Met.{IsMet, entries_left, leaving_of}
+use Rattle.version_table.specs.Met.{IsMetBetween, entries_left, leaving_of}
 use Rattle.version_table.specs.Table.{OfTable}
-use Rattle.version_table.specs.Versions.{IsFirst, versions_behind, versions_of}
+use Rattle.version_table.specs.Versions.{IsFirstBehind, versions_behind, versions_of}
 use Rattle.version_table.proofs.PlanLaws.{each_taken, entries_good, entries_numbered}
 use Rattle.version_table.proofs.VersionLaws.{all_behind}
 
@@ -82,11 +82,11 @@ pub record Meets {D : Type 0} (P : Ghosts D) (name : List ℕ) (old now : D) (ol
   pub named : last.name ≡ name
   pub count : oldest.count ≡ i
   pub within : i ≤ most
-  pub met : AllByRecursion (IsMet P name old now) oldest.first.items
+  pub met : AllByRecursion (IsMetBetween P name old now) oldest.first.items
   pub begun : OfTable P old now (Begun name oldest last i)
 
-pub met_later : {D : Type 0} (P : Ghosts D) (law : Joins P) (name : List ℕ) (old now new : D) (gs : List Leaving) → OnlyWalks P None now new → AllByRecursion (IsMet P name old now) gs → AllByRecursion (IsMet P name old new) gs
-met_later P law name old now new gs w all = all_weaker (IsMet P name old now) (IsMet P name old new) gs (λ g m. record {
+pub met_later : {D : Type 0} (P : Ghosts D) (law : Joins P) (name : List ℕ) (old now new : D) (gs : List Leaving) → OnlyWalks P None now new → AllByRecursion (IsMetBetween P name old now) gs → AllByRecursion (IsMetBetween P name old new) gs
+met_later P law name old now new gs w all = all_weaker (IsMetBetween P name old now) (IsMetBetween P name old new) gs (λ g m. record {
   at = m.at;
   before = m.before;
   after = walks_then P law m.at now new m.after w;
@@ -97,7 +97,7 @@ met_later P law name old now new gs w all = all_weaker (IsMet P name old now) (I
   named = m.named;
 }) all
 
-pub met_earlier : {D : Type 0} (P : Ghosts D) (law : Joins P) (name other : List ℕ) (old now new : D) (g : Leaving) → other ≡ name → OnlyWalks P None old now → IsMet P other now new g → IsMet P name old new g
+pub met_earlier : {D : Type 0} (P : Ghosts D) (law : Joins P) (name other : List ℕ) (old now new : D) (g : Leaving) → other ≡ name → OnlyWalks P None old now → IsMetBetween P other now new g → IsMetBetween P name old new g
 met_earlier P law name other old now new g same w m = record {
   at = m.at;
   before = walks_then P law old now m.at w m.before;
@@ -120,23 +120,23 @@ meets_none P name a oldest last most still items count is = record {
   named = ap (λ (k : Key). k.name) is;
   count = count;
   within = omega arith;
-  met = subst (AllByRecursion (IsMet P name a a)) (sym items) tt;
+  met = subst (AllByRecursion (IsMetBetween P name a a)) (sym items) tt;
   begun = λ trusted height tree. record { before = []; parts = ap (λ (k : Key). versions_behind k (table_of (P.step a).images height)) (sym is); long = refl; first = ap entries_left items };
 }
 
 pub meets_more : {D : Type 0} (P : Ghosts D) (law : Joins P) (name : List ℕ) (old now new : D) (oldest more : Oldest) (last next : Key) (i most : ℕ) (f : FoundEntry) → Meets P name old now oldest last i most → OnlyWalks P None now new
-    → IsMet P last.name now new (leaving_of f) → OfTable P now new (λ table. IsFirst last table (Some f)) → more.count ≡ oldest.count + 1 → more.first.items ≡ take 2 (oldest.first.items ++ leaving_of f ∷ []) → next ≡ f.entry.key → i < most
+    → IsMetBetween P last.name now new (leaving_of f) → OfTable P now new (λ table. IsFirstBehind last table (Some f)) → more.count ≡ oldest.count + 1 → more.first.items ≡ take 2 (oldest.first.items ++ leaving_of f ∷ []) → next ≡ f.entry.key → i < most
     → Meets P name old new more next (i + 1) most
 meets_more P law name old now new oldest more last next i most f m w met found count items is lt = record {
   walks = walks_then P law old now new m.walks w;
   named = ap (λ (k : Key). k.name) is ∙ met.named ∙ m.named;
   count = count ∙ ap (λ (n : ℕ). n + 1) m.count;
   within = omega (arith, lt);
-  met = subst (AllByRecursion (IsMet P name old new)) (sym items) (each_taken (IsMet P name old new) 2 (oldest.first.items ++ leaving_of f ∷ [])
-      (all_append (IsMet P name old new) oldest.first.items (leaving_of f ∷ []) (met_later P law name old now new oldest.first.items w m.met) (met_earlier P law name last.name old now new (leaving_of f) m.named m.walks met, tt)));
+  met = subst (AllByRecursion (IsMetBetween P name old new)) (sym items) (each_taken (IsMetBetween P name old new) 2 (oldest.first.items ++ leaving_of f ∷ [])
+      (all_append (IsMetBetween P name old new) oldest.first.items (leaving_of f ∷ []) (met_later P law name old now new oldest.first.items w m.met) (met_earlier P law name last.name old now new (leaving_of f) m.named m.walks met, tt)));
   begun = λ trusted height tree.
       begun_more name oldest more last next i f (table_of (P.step old).images height) (m.begun (w.trust trusted) height tree)
-      (of_later P old now new (λ table. IsFirst last table (Some f)) m.walks w.trust found trusted height tree) items is;
+      (of_later P old now new (λ table. IsFirstBehind last table (Some f)) m.walks w.trust found trusted height tree) items is;
 }
 
 pub meets_all : {D : Type 0} (P : Ghosts D) (name : List ℕ) (old now new : D) (oldest : Oldest) (last : Key) (i most : ℕ) → Meets P name old now oldest last i most → (P.trusted new → P.trusted now)

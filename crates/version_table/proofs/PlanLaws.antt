@@ -29,7 +29,7 @@ use Rattle.fsd_files.proofs.FreshLaws.{new_key_is_new}
 use Rattle.fsd_files.proofs.ListingLaws.{BothOrNone, highest_both}
 use Rattle.name_page.proofs.PutLaws.{ascend_head, lt_unequal, one_key}
 use Rattle.name_btree.specs.declared.lookup.FoundEntry.{FoundEntry}
-use Rattle.name_btree.specs.Lookup.{entry_of as found_entry}
+use Rattle.name_btree.specs.Lookup.{found_entry}
 use Rattle.version_table.specs.Versions.{next_key}
 use Rattle.version_table.proofs.EditLaws.{AllAbove}
 

@@ -1,6 +1,7 @@
 -- A step that begins, and what holds of the table before it.
 use Rattle.std.proofs.Common.{◌≡◌, ℕ, ◌-◌, ◌<◌, List, length, Option, sym, ap, subst, ◌∙◌, zero, suc, Some, None, Bool}
-use Rattle.std.specs.Prelude.{IfOk, Result, Ok, slice_get}
+use Rattle.std.specs.Prelude.{IfErr, IfOk, Result, Ok, Err, slice_get}
+use Rattle.std.proofs.lemmas.Result.{on_err_weaker}
 use Rattle.fsd_formats.specs.declared.entry.Entry.{Entry}
 use Rattle.fsd_table.specs.Tree.{IsTree, table_of}
 use Rattle.fsd_table.proofs.BoundLaws.{Ascend, entries_ascend, all_weaker}
@@ -13,12 +14,14 @@ use Rattle.fsd_forest.specs.Met.{search_of}
 use Rattle.name_btree.specs.Path.{HasPath, HasWayTo, Leads, LeadsOn, TakesNone}
 use Rattle.name_page.specs.declared.pages.Pages.{Ghosts}
 use Rattle.name_page.specs.Looks.{ChangesPages}
-use Rattle.name_page.specs.Pages.{Step, is_spare, rested}
-use Rattle.name_page.proofs.LookLaws.{pages_same, pages_then}
+use Rattle.name_page.specs.Pages.{Step, free_count, is_spare, rested}
+use Rattle.name_page.proofs.LookLaws.{Joins, edits_then, pages_same, pages_then, rest_walks, walks_edits, walks_then}
 use Rattle.name_btree.specs.declared.fault.TreeFault.{TreeFault}
+use Rattle.name_btree.specs.Change.{ChangesTable, FailsInsert}
+use Rattle.name_btree.specs.Fault.{FailsAmong, FailsSpare, IsAmong}
 use Rattle.name_btree.specs.Map.{HasTable, IsTable}
 use Rattle.name_btree.specs.declared.lookup.FoundEntry.{FoundEntry}
-use Rattle.name_btree.specs.Lookup.{entry_of as found_entry}
+use Rattle.name_btree.specs.Lookup.{found_entry}
 use Rattle.name_btree.proofs.CallLaws.{same_table}
 use Rattle.version_table.specs.Table.{MakesTable, OfTable}
 
@@ -47,6 +50,17 @@ module _ {D : Type 0} (P : Ghosts D) (a b c : D) (is : P.step b ≡ rested (P.st
       let there = subst (λ (x : Result (Option FoundEntry) TreeFault). IfOk x (λ found. P.trusted c → (height : ℕ) → IsTree (P.step b).images height → found_entry found ≡ look (table_of (P.step b).images height))) is_ok h in
       sym (there trusted height tree ∙ same (table_of (P.step b).images height)))
 
+  pub fails_rested : (r : Result (Unit {0}) TreeFault) → IfErr r (FailsAmong P b c) → IfErr r (FailsAmong P a c)
+  fails_rested (Ok done) h = tt
+  fails_rested (Err fault) h = record { among = among_rested (λ (pages : ℕ). IsAmong pages fault) h.among; cause = h.cause }
+
+  pub insert_rested : (r : Result (Unit {0}) TreeFault) → IfErr r (FailsInsert P b c) → IfErr r (FailsInsert P a c)
+  insert_rested (Ok done) h = tt
+  insert_rested (Err fault) h = record {
+    among = among_rested (λ (pages : ℕ). IsAmong pages fault) h.among;
+    cause = subst (λ (free : ℕ). FailsSpare P free c fault) (ap (λ (s : Step). free_count s) is) h.cause;
+  }
+
   -- what is needed of it
   pub for_rested : (Holds : List Entry → Type 0) → OfTable P a a Holds → (P.trusted b → P.trusted a) → P.trusted b → (height : ℕ) → IsTree (P.step b).images height → Holds (table_of (P.step b).images height)
   for_rested Holds h trust trusted height tree =
@@ -62,6 +76,17 @@ module _ {D : Type 0} (P : Ghosts D) (a b c : D) (is : P.step b ≡ rested (P.st
 pub rested_pages : (a b c : Step) → b ≡ rested a → length c.images ≡ length b.images → ChangesPages b c → ChangesPages a c
 rested_pages a b c rest count pages =
     pages_then a b c count (pages_same a b (ap (λ (s : Step). length s.images) rest) (ap (λ (s : Step). s.changed) rest) (λ page lt was. ap (λ (s : Step). slice_get s.images page) rest)) pages
+
+-- ---- a change behind a step that ends
+
+pub edits_rested : {D : Type 0} (P : Ghosts D) (law : Joins P) (a b c : D) → P.outside None a b → (P.trusted b → P.trusted a) → P.step b ≡ rested (P.step a) → (r : Result (Unit {0}) TreeFault) → ChangesTable P b c r → ChangesTable P a c r
+edits_rested P law a b c outside trust is r h =
+    let rest = rest_walks P a b outside trust is in
+    record {
+      calls = edits_then P law a b c (walks_edits P a b rest) h.calls;
+      pages = rested_pages (P.step a) (P.step b) (P.step c) is h.calls.count h.pages;
+      kept = on_err_weaker r (walks_then P law a b c rest) h.kept;
+    }
 
 -- ---- what is in memory once it has begun
 

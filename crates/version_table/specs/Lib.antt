@@ -1,5 +1,6 @@
 pub mod Fault
 pub mod Met
+pub mod Newest
 pub mod Plan
 pub mod Table
 pub mod Versions

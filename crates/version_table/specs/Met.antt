@@ -18,7 +18,7 @@ abbrev pub entries_left : List Leaving → List Entry
 entries_left gone = map (λ g. g.entry) gone
 
 -- some state between two in which the version stood in its leaf, to which what was reached shows a path
-pub record IsMet {D : Type 0} (P : Ghosts D) (name : List ℕ) (old new : D) (g : Leaving) : Type 0 where
+pub record IsMetBetween {D : Type 0} (P : Ghosts D) (name : List ℕ) (old new : D) (g : Leaving) : Type 0 where
   pub at : D
   pub before : OnlyWalks P None old at
   pub after : OnlyWalks P None at new

@@ -1,5 +1,5 @@
 -- What making a version is to do.
-use Rattle.std.specs.Prelude.{◌≡◌, ℕ, List, Option, Some, None, map}
+use Rattle.std.specs.Prelude.{◌≡◌, ◌≤◌, ℕ, List, Option, Some, None, map}
 use Rattle.std.specs.List.{AllByRecursion}
 use Rattle.fsd_bytes.specs.declared.key.Key.{Key}
 use Rattle.fsd_bytes.specs.declared.key.Serial.{Serial}
@@ -9,7 +9,8 @@ use Rattle.fsd_files.specs.Answers.{entry_of, entry_put}
 use Rattle.fsd_files.specs.Volume.{entries_at, entries_without}
 use Rattle.version_table.specs.declared.oldest.Leaving.{Leaving}
 use Rattle.version_table.specs.declared.planning.Plan.{Plan}
-use Rattle.version_table.specs.Met.{entries_left}
+use Rattle.name_page.specs.declared.pages.Pages.{Ghosts}
+use Rattle.version_table.specs.Met.{IsMetBetween, entries_left}
 use Rattle.version_table.specs.Versions.{leaving_keys, next_keep, next_key}
 
 abbrev pub key_left : Leaving → Key
@@ -25,8 +26,15 @@ pub record IsPlan (name : List ℕ) (given : Option ℕ) (table : List Entry) (p
   pub keys : keys_left plan ≡ leaving_keys name given table
   pub entries : entries_left plan.gone.items ≡ entries_at (keys_left plan) table
 
+-- over any pages: a version of the name, which is numbered from 1 on, and what goes was met in its leaf
+pub record IsFormedPlan {D : Type 0} (P : Ghosts D) (name : List ℕ) (old new : D) (plan : Plan) : Type 0 where
+  pub named : plan.key.name ≡ name
+  pub version : 1 ≤ plan.key.version
+  pub keep : plan.keep ≤ 999
+  pub met : AllByRecursion (IsMetBetween P name old new) plan.gone.items
+
 -- the key is new, and what goes is there
-pub record IsReady (plan : Plan) (table : List Entry) : Type 0 where
+pub record IsPlanReady (plan : Plan) (table : List Entry) : Type 0 where
   pub fresh : entry_of plan.key table ≡ None
   pub there : AllByRecursion (λ g. entry_of g.entry.key table ≡ Some g.entry) plan.gone.items
 

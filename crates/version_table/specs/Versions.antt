@@ -35,6 +35,6 @@ abbrev pub versions_behind : Key → List Entry → List Entry
 versions_behind key table = filter (λ e. same_bytes key.name e.key.name && key_lt key e.key) table
 
 -- the first of them was found, where there is one
-abbrev pub IsFirst : Key → List Entry → Option FoundEntry → Type 0
-IsFirst key table None = versions_behind key table ≡ []
-IsFirst key table (Some f) = versions_behind key table ≡ f.entry ∷ versions_behind f.entry.key table
+abbrev pub IsFirstBehind : Key → List Entry → Option FoundEntry → Type 0
+IsFirstBehind key table None = versions_behind key table ≡ []
+IsFirstBehind key table (Some f) = versions_behind key table ≡ f.entry ∷ versions_behind f.entry.key table

@@ -1,17 +1,18 @@
 //! Versions that come, go, and get another keep.
-ghost use Rattle.std.specs.Prelude.{◌≡◌, ◌+◌, ◌<◌, ◌≤◌, ◌∷◌, [], ℕ, ◌↔◌, IsTrue, IfErr, OnErr, OnOk, Err, Some, length, true};
+ghost use Rattle.std.specs.Prelude.{◌≡◌, ◌+◌, ◌<◌, ◌≤◌, ◌∷◌, [], ℕ, ◌↔◌, IsTrue, IfErr, OnOk, Err, Some, true};
 ghost use Rattle.fsd_bytes.specs.declared.refusal.Refusal.TheVariants.{Memory, NameTableFull};
 ghost use Rattle.fsd_files.specs.Answers.{entries_with_keep, entry_of};
 ghost use Rattle.fsd_files.specs.Volume.{entries_without};
 ghost use Rattle.fsd_formats.specs.NamePage.{is_entry, FitsEntry};
-ghost use Rattle.name_btree.specs.Fault.{outer_told, FailsSpare, FailsTable, IsAmong};
+ghost use Rattle.name_btree.specs.Change.{ChangesTable, FailsInsert};
+ghost use Rattle.name_btree.specs.Fault.{outer_told, FailsAmong};
 ghost use Rattle.name_btree.specs.Grown.{TakesAtMost};
 ghost use Rattle.name_btree.specs.Path.{HasWayTo};
-ghost use Rattle.name_btree.specs.Replace.{WritesOne};
+ghost use Rattle.name_btree.specs.Replace.{WritesPage};
 ghost use Rattle.name_page.specs.declared.pages.TheConstants.{MOST_CHANGED, MOST_REACHED};
-ghost use Rattle.name_page.specs.Looks.{ChangesPages, HasAllIn, OnlyEdits, OnlyWalks};
+ghost use Rattle.name_page.specs.Looks.{HasAllIn};
 ghost use Rattle.name_page.specs.Pages.{changes, free_count, is_spare};
-ghost use Rattle.version_table.specs.Plan.{IsReady, keys_left, planned_entry, with_planned};
+ghost use Rattle.version_table.specs.Plan.{IsPlanReady, keys_left, planned_entry, with_planned};
 ghost use Rattle.version_table.specs.Table.{MakesTable, OfTable};
 
 use crate::planning::Plan;
@@ -59,16 +60,13 @@ pub fn enter<T: Pages>(
     requires changes { MOST_CHANGED ≤ changes (T.step t.old) }
     requires entry { IsTrue (is_entry (planned_entry plan.now serial bytes runs)) }
     requires fits { FitsEntry (planned_entry plan.now serial bytes runs) }
-    requires ready { OfTable T.Pages t.old t.old (IsReady plan.now) }
-    ensures calls { OnlyEdits T.Pages (outer_told result) t.old t.new }
-    ensures pages { ChangesPages (T.step t.old) (T.step t.new) }
-    ensures kept { OnErr result (OnlyWalks T.Pages (outer_told result) t.old t.new) }
+    requires ready { OfTable T.Pages t.old t.old (IsPlanReady plan.now) }
+    ensures edits { ChangesTable T.Pages t.old t.new result }
     ensures changes { changes (T.step t.old) ≤ changes (T.step t.new) + 36 }
     ensures taken { TakesAtMost 7 (T.step t.old).spares (T.step t.new).spares }
-    ensures among { 0 < length (T.step t.old).images → IfErr result (IsAmong (length (T.step t.old).images)) }
     ensures entered { OnOk result (MakesTable T.Pages t.old t.new (with_planned plan.now (planned_entry plan.now serial bytes runs))) }
     ensures full { let free = free_count (T.step t.old) in (result ≡ Err (TreeFault.Pages (NameTableFull free))) ↔ (free < 8) }
-    ensures fault { IfErr result (FailsSpare T.Pages (free_count (T.step t.old)) t.new) }
+    ensures failed { IfErr result (FailsInsert T.Pages t.old t.new) }
 {
     let entry = planned_entry(plan, serial, bytes, runs);
     let gone = keys_left(plan);
@@ -80,14 +78,11 @@ pub fn enter<T: Pages>(
 pub fn take_out<T: Pages>(t: &mut T, key: &Key) -> Result<(), TreeFault>
     requires more { MOST_REACHED ≤ (T.step t.old).most_reached }
     requires changes { MOST_CHANGED ≤ changes (T.step t.old) }
-    ensures calls { OnlyEdits T.Pages (outer_told result) t.old t.new }
-    ensures pages { ChangesPages (T.step t.old) (T.step t.new) }
-    ensures kept { OnErr result (OnlyWalks T.Pages (outer_told result) t.old t.new) }
+    ensures edits { ChangesTable T.Pages t.old t.new result }
     ensures changes { changes (T.step t.old) ≤ changes (T.step t.new) + 8 }
     ensures taken { (page : ℕ) → is_spare (T.step t.old).spares page ≡ true → is_spare (T.step t.new).spares page ≡ true }
-    ensures among { 0 < length (T.step t.old).images → IfErr result (IsAmong (length (T.step t.old).images)) }
     ensures taken_out { OnOk result (MakesTable T.Pages t.old t.new (entries_without (key.now ∷ []))) }
-    ensures fault { IfErr result (FailsTable T.Pages t.new) }
+    ensures failed { IfErr result (FailsAmong T.Pages t.old t.new) }
 {
     t.rest();
     remove(t, key)
@@ -101,15 +96,12 @@ pub fn set_keep<T: Pages>(t: &mut T, version: &Entry, keep: u32) -> Result<(), T
     requires entry { is_entry version.now ≡ true }
     requires fits { FitsEntry version.now }
     requires there { OfTable T.Pages t.old t.old (λ table. entry_of version.now.key table ≡ Some version.now) }
-    ensures calls { OnlyEdits T.Pages (outer_told result) t.old t.new }
-    ensures pages { ChangesPages (T.step t.old) (T.step t.new) }
-    ensures kept { OnErr result (OnlyWalks T.Pages (outer_told result) t.old t.new) }
-    ensures among { 0 < length (T.step t.old).images → IfErr result (IsAmong (length (T.step t.old).images)) }
+    ensures edits { ChangesTable T.Pages t.old t.new result }
     ensures memory { HasWayTo T.Pages version.now t.old → outer_told result ≡ Some Memory → ⊥ }
     ensures full { HasAllIn T.Pages t.old → outer_told result ≡ Some Memory → ⊥ }
-    ensures written { OnOk result (WritesOne T.Pages t.old t.new) }
+    ensures written { OnOk result (WritesPage T.Pages t.old t.new) }
     ensures set { OnOk result (MakesTable T.Pages t.old t.new (entries_with_keep version.now.key keep)) }
-    ensures fault { IfErr result (FailsTable T.Pages t.new) }
+    ensures failed { IfErr result (FailsAmong T.Pages t.old t.new) }
 {
     let mut entry = version.copied();
     entry.keep = keep;

@@ -2,10 +2,11 @@
 ghost use Rattle.std.specs.Prelude.{◌≡◌, ◌<◌, ◌≤◌, IfOk, IfErr, Err, Some, None, length};
 ghost use Rattle.fsd_files.specs.Answers.{entry_of, highest_entry};
 ghost use Rattle.name_btree.specs.Lookup.{IsMetAs, ShowsAbsent, ShowsNoVersion};
-ghost use Rattle.name_btree.specs.Path.{TakesNone, HasPath, HasWayTo};
+ghost use Rattle.name_btree.specs.Path.{HasPath};
 ghost use Rattle.name_page.specs.declared.pages.TheConstants.{MOST_REACHED};
 ghost use Rattle.name_page.specs.Looks.{NeedsNoMore, OnlyWalks};
-ghost use Rattle.version_table.specs.Fault.{outer_met, FailsLook, IsInside};
+ghost use Rattle.version_table.specs.Fault.{outer_met, FailsLook, FailsToFind, NamesInside};
+ghost use Rattle.version_table.specs.Newest.{IsNewest, StaysAtNewest};
 ghost use Rattle.version_table.specs.Table.{OfTable};
 
 use crate::fault::VersionFault;
@@ -17,7 +18,7 @@ use name_page::Pages;
 pub fn version_at<T: Pages>(t: &mut T, key: &Key) -> Result<FoundEntry, VersionFault>
     requires { MOST_REACHED ≤ (T.step t.old).most_reached }
     ensures walks { OnlyWalks T.Pages (outer_met result) t.old t.new }
-    ensures among { 0 < length (T.step t.old).images → IfErr result (IsInside (length (T.step t.old).images)) }
+    ensures among { 0 < length (T.step t.old).images → IfErr result (NamesInside (length (T.step t.old).images)) }
     ensures met { IfOk result (IsMetAs (T.step t.new) (λ e. e.key ≡ key.now)) }
     ensures found { IfOk result (λ found. OfTable T.Pages t.old t.new (λ table. entry_of key.now table ≡ Some found.entry)) }
     ensures absent { result ≡ Err VersionFault.NoSuch → ShowsAbsent (T.step t.new) key.now }
@@ -36,14 +37,11 @@ pub fn version_at<T: Pages>(t: &mut T, key: &Key) -> Result<FoundEntry, VersionF
 pub fn newest<T: Pages>(t: &mut T, name: &FileName) -> Result<FoundEntry, VersionFault>
     requires { MOST_REACHED ≤ (T.step t.old).most_reached }
     ensures walks { OnlyWalks T.Pages (outer_met result) t.old t.new }
-    ensures memory { HasPath T.Pages name.now t.old → TakesNone T.Pages (outer_met result) t.old t.new }
+    ensures memory { HasPath T.Pages name.now t.old → StaysAtNewest T.Pages t.old t.new result }
     ensures full { NeedsNoMore T.Pages (outer_met result) t.old t.new }
-    ensures back { HasPath T.Pages name.now t.old → IfOk result (λ found. HasWayTo T.Pages found.entry t.new) }
-    ensures among { 0 < length (T.step t.old).images → IfErr result (IsInside (length (T.step t.old).images)) }
-    ensures met { IfOk result (IsMetAs (T.step t.new) (λ e. e.key.name ≡ name.now)) }
-    ensures found { IfOk result (λ found. OfTable T.Pages t.old t.new (λ table. highest_entry name.now table ≡ Some found.entry)) }
+    ensures found { IfOk result (IsNewest T.Pages name.now t.old t.new) }
     ensures absent { result ≡ Err VersionFault.NoSuch → ShowsNoVersion (T.step t.new) name.now }
-    ensures fault { IfErr result (FailsLook T.Pages t.new (OfTable T.Pages t.old t.new (λ table. highest_entry name.now table ≡ None)) ⊥) }
+    ensures failed { IfErr result (FailsToFind T.Pages t.old t.new (OfTable T.Pages t.old t.new (λ table. highest_entry name.now table ≡ None)) ⊥) }
 {
     t.rest();
     match highest(t, name) {

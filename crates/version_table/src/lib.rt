@@ -1,4 +1,4 @@
-//! The versions of a name table: what making one, taking one out and changing a keep do to it.
+//! The versions of a name table: their numbers and keeps, and what making one, taking one out and changing a keep do to it.
 #![tactic(auto)]
 
 mod editing;
@@ -7,6 +7,7 @@ mod finding;
 mod laws;
 mod oldest;
 mod planning;
+mod version;
 
 pub use editing::{enter, set_keep, take_out};
 pub use fault::VersionFault;
@@ -14,3 +15,4 @@ pub use finding::{newest, version_at};
 pub use laws::{next_versions_are_those_of_puts, tables_are_files_entries};
 pub use oldest::Leaving;
 pub use planning::{Plan, plan_version};
+pub use version::{gone, keep_of, next_version};

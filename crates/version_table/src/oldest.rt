@@ -2,13 +2,13 @@
 ghost use Rattle.std.specs.Prelude.{◌≡◌, ◌+◌, ◌-◌, ◌^◌, ◌<◌, ◌≤◌, IfOk, IfErr, IfSome, Some, None, min, take, length, ◌++◌, ◌∷◌, [], if◌then◌else◌};
 ghost use Rattle.std.specs.List.{AllByRecursion};
 ghost use Rattle.fsd_table.specs.Table.{BreaksTable};
-ghost use Rattle.name_btree.specs.Fault.{outer_told, HasCause, BarsTable, IsAmong, IsOnWay, ShowsCause};
+ghost use Rattle.name_btree.specs.Fault.{outer_told, FailsLookup, HasTreeCause, BarsTable, IsAmong, IsOnWay, ShowsCause};
 ghost use Rattle.name_page.specs.Lookups.{same_name};
 ghost use Rattle.name_page.specs.declared.pages.TheConstants.{MOST_REACHED};
 ghost use Rattle.name_page.specs.Looks.{OnlyWalks};
 ghost use Rattle.version_table.specs.Table.{OfTable};
-ghost use Rattle.version_table.specs.Met.{IsMet, entries_left, leaving_of};
-ghost use Rattle.version_table.specs.Versions.{IsFirst, oldest_beyond, versions_of};
+ghost use Rattle.version_table.specs.Met.{IsMetBetween, entries_left, leaving_of};
+ghost use Rattle.version_table.specs.Versions.{IsFirstBehind, oldest_beyond, versions_of};
 
 use arrayvec::ArrayVec;
 use fsd_bytes::{FileName, Key};
@@ -46,9 +46,9 @@ fn next_version<T: Pages>(t: &mut T, key: &Key) -> Result<Option<FoundEntry>, Tr
     requires { MOST_REACHED ≤ (T.step t.old).most_reached }
     ensures walks { OnlyWalks T.Pages (outer_told result) t.old t.new }
     ensures among { 0 < length (T.step t.old).images → IfErr result (IsAmong (length (T.step t.old).images)) }
-    ensures met { IfOk result (λ found. IfSome found (λ f. IsMet T.Pages key.now.name t.old t.new (record { entry = f.entry; page = f.page }))) }
-    ensures found { IfOk result (λ found. OfTable T.Pages t.old t.new (λ table. IsFirst key.now table found)) }
-    ensures fault { IfErr result (HasCause (T.step t.new) (BreaksTable (T.step t.new).images) (BarsTable (T.step t.new))) }
+    ensures met { IfOk result (λ found. IfSome found (λ f. IsMetBetween T.Pages key.now.name t.old t.new (record { entry = f.entry; page = f.page }))) }
+    ensures found { IfOk result (λ found. OfTable T.Pages t.old t.new (λ table. IsFirstBehind key.now table found)) }
+    ensures fault { IfErr result (HasTreeCause (T.step t.new) (BreaksTable (T.step t.new).images) (BarsTable (T.step t.new))) }
     ensures shown { IfErr result (ShowsCause (T.step t.new) BreaksTable IsOnWay) }
 {
     t.rest();
@@ -79,13 +79,11 @@ impl Oldest {
 fn meet_oldest<T: Pages>(t: &mut T, name: &FileName, most: u32) -> Result<Oldest, TreeFault>
     requires { MOST_REACHED ≤ (T.step t.old).most_reached }
     ensures walks { OnlyWalks T.Pages (outer_told result) t.old t.new }
-    ensures among { 0 < length (T.step t.old).images → IfErr result (IsAmong (length (T.step t.old).images)) }
-    ensures met { IfOk result (λ oldest. AllByRecursion (IsMet T.Pages name.now t.old t.new) oldest.first.items) }
+    ensures met { IfOk result (λ oldest. AllByRecursion (IsMetBetween T.Pages name.now t.old t.new) oldest.first.items) }
     ensures count { IfOk result (λ oldest. oldest.count ≤ most) }
     ensures counted { IfOk result (λ oldest. OfTable T.Pages t.old t.new (λ table. oldest.count ≡ min most (length (versions_of name.now table)))) }
     ensures first { IfOk result (λ oldest. OfTable T.Pages t.old t.new (λ table. entries_left oldest.first.items ≡ take (min 2 oldest.count) (versions_of name.now table))) }
-    ensures fault { IfErr result (HasCause (T.step t.new) (BreaksTable (T.step t.new).images) (BarsTable (T.step t.new))) }
-    ensures shown { IfErr result (ShowsCause (T.step t.new) BreaksTable IsOnWay) }
+    ensures failed { IfErr result (FailsLookup T.Pages t.old t.new) }
 {
     let mut oldest = Oldest {
         first: ArrayVec::new(),
@@ -118,9 +116,9 @@ pub(crate) fn meet_leaving<T: Pages>(
     requires keep { keep ≤ 999 }
     ensures walks { OnlyWalks T.Pages (outer_told result) t.old t.new }
     ensures among { 0 < length (T.step t.old).images → IfErr result (IsAmong (length (T.step t.old).images)) }
-    ensures met { IfOk result (λ gone. AllByRecursion (IsMet T.Pages name.now t.old t.new) gone.items) }
+    ensures met { IfOk result (λ gone. AllByRecursion (IsMetBetween T.Pages name.now t.old t.new) gone.items) }
     ensures gone { IfOk result (λ gone. OfTable T.Pages t.old t.new (λ table. entries_left gone.items ≡ oldest_beyond keep (versions_of name.now table))) }
-    ensures fault { IfErr result (HasCause (T.step t.new) (BreaksTable (T.step t.new).images) (BarsTable (T.step t.new))) }
+    ensures fault { IfErr result (HasTreeCause (T.step t.new) (BreaksTable (T.step t.new).images) (BarsTable (T.step t.new))) }
     ensures shown { IfErr result (ShowsCause (T.step t.new) BreaksTable IsOnWay) }
 {
     if keep == 0 {

@@ -4,7 +4,7 @@ use Rattle.run_table.specs.Space.{contains}
 use Rattle.fsd_formats.specs.NamePage.{sectors_for}
 use Rattle.sector_disk.specs.Machine.{Holds, Ledger, wrote}
 use Rattle.sector_disk.proofs.CallLaws.{writes_told}
-use Rattle.version_data.specs.Writing.{slices_at, with_slices}
+use Rattle.version_data.specs.Writing.{slices_at, slices_laid}
 use Rattle.version_data.proofs.PlaceLaws.{in_all, is_there}
 use Rattle.version_data.proofs.SliceLaws.{holds_slice, slice_among, slice_inside, slices_stand, slice_torn}
 use Rattle.version_data.proofs.WritingLaws.{failed_told, handed_on, wrote_on}
@@ -71,4 +71,4 @@ returns-clause-done g c h =
     let all : c.loop-done.done ≡ sectors_for (length c.args.bytes.now) - 1 = omega (arith, c.loop-done.invariant.within, c.loop-done-test.false, c.div_ceil-count.ensures) in
     let sized = g.met.M.Machine.sized c.args.m.now (c.loop-done.invariant.calls.trust.honest h) in
     slices_stand old (M.now c.loop-done.m) runs c.args.first c.args.bytes.now c.requires.differ c.requires.fits (λ k lt. let below = c.requires.in_range k 0 lt in omega (arith, below, sized))
-    (subst (λ (n : ℕ). Holds old (with_slices old.image runs c.args.first c.args.bytes.now n) (M.now c.loop-done.m)) all (c.loop-done.invariant.holds h))
+    (subst (λ (n : ℕ). Holds old (slices_laid old.image runs c.args.first c.args.bytes.now n) (M.now c.loop-done.m)) all (c.loop-done.invariant.holds h))

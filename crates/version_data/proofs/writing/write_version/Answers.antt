@@ -10,7 +10,7 @@ use Rattle.sector_disk.specs.Machine.{Holds, Ledger, wrote}
 use Rattle.sector_disk.specs.Written.{WroteMost}
 use Rattle.sector_disk.proofs.CallLaws.{writes_told}
 use Rattle.sector_disk.proofs.ResultLaws.{err_as}
-use Rattle.version_data.specs.Writing.{place_of, with_parts}
+use Rattle.version_data.specs.Writing.{sector_of, with_parts}
 use Rattle.version_data.proofs.PlaceLaws.{all_behind, entry_count, entry_length, entry_lengths, left_next, lies_behind, run_below}
 use Rattle.version_data.proofs.VersionLaws.{holds_run, version_stands}
 use Rattle.version_data.proofs.WritingLaws.{failed_told, handed_on, run_among, run_written, wrote_most_on, wrote_on}
@@ -104,7 +104,7 @@ returns-clause-done g c h =
     let end : length c.args.entry.now.runs ≤ c.loop-run.run-index = omega (arith, ap length c.as_slice-run-items.ensures.value, c.loop-run-test.false) in
     let all = all_behind e.runs c.loop-run.run-index c.loop-run.before end c.loop-run.invariant.left in
     let sized = g.met.M.Machine.sized c.args.m.now (c.loop-run.invariant.calls.trust.honest h) in
-    let room : (k : ℕ) → k < length (sectors_of c.args.entry.now.runs) → place_of c.args.entry.now k < length (g.M.Machine.now c.args.m.now).image =
+    let room : (k : ℕ) → k < length (sectors_of c.args.entry.now.runs) → sector_of c.args.entry.now k < length (g.M.Machine.now c.args.m.now).image =
     λ k lt. let below = c.requires.in_range k 0 lt in omega (arith, below, sized) in
     version_stands old now e c.args.bytes.now (entry_count e c.requires.entry ∙ ap sectors_for c.requires.len) c.requires.differ room
     (subst (λ (n : ℕ). Holds old (with_parts old.image e c.args.bytes.now n) now) all (c.loop-run.invariant.holds h))

@@ -7,7 +7,7 @@ use Rattle.name_page.specs.Edits.{with_entry}
 use Rattle.name_page.specs.Lookups.{entry_with}
 use Rattle.version_table.specs.Plan.{planned_entry, with_planned}
 use Rattle.version_table.proofs.EnterLaws.{planned_made, planned_new}
-use Rattle.version_table.proofs.StepLaws.{for_rested, makes_rested, rested_pages, tree_ascends}
+use Rattle.version_table.proofs.StepLaws.{for_rested, makes_rested, edits_rested, insert_rested, tree_ascends}
 use Rattle.version_table.proofs.editing.enter.Goals as goal
 
 pub insert-requires-clause-new : goal.insert-requires-clause-new
@@ -33,9 +33,13 @@ returns-clause-entered g c =
     let e = c.insert.ensures in
     on_ok_weaker c.insert.result (makes_rested P a b c.insert.new.t c.rest.ensures.step (with_planned plan (planned_entry plan c.args.serial c.args.bytes c.args.runs)) (λ (table : List Entry). with_entry entry (without_all keys table))
     (λ height tree trusted. planned_made plan c.args.serial c.args.bytes c.args.runs entry c.planned_entry-entry.ensures keys c.keys_left-gone.ensures (table_of (P.step a).images height) (tree_ascends (P.step a).images height tree)
-    (c.requires.ready (g.met.T.Pages.trust a b None c.rest.ensures.outside (e.calls.trust trusted)) height tree))) e.inserted
+    (c.requires.ready (g.met.T.Pages.trust a b None c.rest.ensures.outside (e.edits.calls.trust trusted)) height tree))) e.inserted
 
-pub returns-clause-pages : goal.returns-clause-pages
-returns-clause-pages g c =
-    let step = g.T.Pages.step in
-    rested_pages (step c.args.t.now) (step c.rest.new.self) (step c.insert.new.t) c.rest.ensures.step c.insert.ensures.calls.count c.insert.ensures.pages
+pub returns-clause-edits : goal.returns-clause-edits
+returns-clause-edits g c =
+    let law = g.met.T.Pages in
+    let rest = c.rest.ensures in
+    edits_rested g.T.Pages law.then c.args.t.now c.rest.new.self c.insert.new.t rest.outside (law.trust c.args.t.now c.rest.new.self None rest.outside) rest.step c.insert.result c.insert.ensures.edits
+
+pub returns-clause-failed : goal.returns-clause-failed
+returns-clause-failed g c = insert_rested g.T.Pages c.args.t.now c.rest.new.self c.insert.new.t c.rest.ensures.step c.insert.result c.insert.ensures.failed

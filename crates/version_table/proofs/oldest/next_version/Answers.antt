@@ -7,10 +7,10 @@ use Rattle.name_page.specs.Pages.{reaches}
 use Rattle.name_page.proofs.LookLaws.{reaches_still, reaches_walks, rest_reaches}
 use Rattle.name_btree.specs.declared.lookup.FoundEntry.{FoundEntry}
 use Rattle.name_btree.specs.Fault.{IsAmong}
-use Rattle.name_btree.specs.Lookup.{IsMetAs, IsNextAfter, TellsNext, entry_of}
+use Rattle.name_btree.specs.Lookup.{IsMetAs, IsNextAfter, TellsLater, found_entry}
 use Rattle.name_btree.proofs.LookupLaws.{if_named, one_name}
-use Rattle.version_table.specs.Met.{IsMet, leaving_of}
-use Rattle.version_table.specs.Versions.{IsFirst, versions_behind}
+use Rattle.version_table.specs.Met.{IsMetBetween, leaving_of}
+use Rattle.version_table.specs.Versions.{IsFirstBehind, versions_behind}
 use Rattle.version_table.proofs.OldestLaws.{next_named, next_none}
 use Rattle.version_table.proofs.StepLaws.{among_rested, of_rested, tree_ascends}
 use Rattle.version_table.proofs.oldest.next_version.Goals as goal
@@ -34,12 +34,12 @@ returns-in-Some g c =
     let key = c.args.key.now in
     let f = c.in-Some.found in
     let e = c.in_ok-found.ensures in
-    let told : IsMetAs (P.step now) (IsNextAfter (P.step now) (Some key)) f = subst (TellsNext (P.step now) (Some key)) c.in-Some.is e.told in
+    let told : IsMetAs (P.step now) (IsNextAfter (P.step now) (Some key)) f = subst (TellsLater (P.step now) (Some key)) c.in-Some.is e.told in
     let walks = rest_reaches P g.met.T.Pages.then g.met.T.Pages.trust a b now c.rest.ensures.outside c.rest.ensures.step e.calls in
     record {
       walks = walks;
       among = λ some. tt;
-      met = if_named (λ (x : FoundEntry). IsMet P key.name a now (leaving_of x)) f (same_name f.entry.key.name key.name) c.named.result c.named.ensures (λ same. record {
+      met = if_named (λ (x : FoundEntry). IsMetBetween P key.name a now (leaving_of x)) f (same_name f.entry.key.name key.name) c.named.result c.named.ensures (λ same. record {
         at = now;
         before = walks;
         after = reaches_walks P now now (reaches_still P now (g.met.T.Pages.still now));
@@ -49,9 +49,9 @@ returns-in-Some g c =
         fits = told.fits;
         named = one_name f.entry.key.name key.name same;
       });
-      found = of_rested P a b now c.rest.ensures.step (λ (table : List Entry). IsFirst key table c.named.result) (λ trusted height tree.
+      found = of_rested P a b now c.rest.ensures.step (λ (table : List Entry). IsFirstBehind key table c.named.result) (λ trusted height tree.
           let pages = (P.step b).images in
-          let found : entry_after (Some key) (table_of pages height) ≡ Some f.entry = sym (e.found trusted height tree) ∙ ap entry_of c.in-Some.is in
+          let found : entry_after (Some key) (table_of pages height) ≡ Some f.entry = sym (e.found trusted height tree) ∙ ap found_entry c.in-Some.is in
           next_named key f c.named.result (table_of pages height) (tree_ascends pages height tree) c.named.ensures found);
       fault = tt;
       shown = tt;
@@ -71,7 +71,7 @@ returns-in-None g c =
       met = tt;
       found = of_rested P a b now c.rest.ensures.step (λ (table : List Entry). versions_behind key table ≡ []) (λ trusted height tree.
           let pages = (P.step b).images in
-          let found : entry_after (Some key) (table_of pages height) ≡ None = sym (e.found trusted height tree) ∙ ap entry_of c.in-None.is in
+          let found : entry_after (Some key) (table_of pages height) ≡ None = sym (e.found trusted height tree) ∙ ap found_entry c.in-None.is in
           next_none key (table_of pages height) (tree_ascends pages height tree) found);
       fault = tt;
       shown = tt;

@@ -10,9 +10,9 @@ use Rattle.name_page.specs.Looks.{OnlyWalks}
 use Rattle.name_page.specs.Pages.{reaches}
 use Rattle.name_page.proofs.LookLaws.{rest_reaches, walks_then}
 use Rattle.name_btree.specs.Fault.{IsAmong}
-use Rattle.name_btree.specs.Lookup.{entry_of as found_entry}
+use Rattle.name_btree.specs.Lookup.{found_entry}
 use Rattle.name_btree.proofs.LookupLaws.{each_told}
-use Rattle.version_table.specs.Met.{IsMet, entries_left}
+use Rattle.version_table.specs.Met.{IsMetBetween, entries_left}
 use Rattle.version_table.specs.Table.{OfTable}
 use Rattle.version_table.specs.Versions.{oldest_beyond, versions_of}
 use Rattle.version_table.proofs.MakeLaws.{plan_is, plan_ready, used_up}
@@ -43,12 +43,12 @@ pub returns-in-Err : goal.returns-in-Err
 returns-in-Err g c =
     let P = g.T.Pages in
     let e = c.in-Err.ensures in
-    record { walks = rest_reaches P g.met.T.Pages.then g.met.T.Pages.trust c.args.t.now c.rest.new.self c.highest.new.t c.rest.ensures.outside c.rest.ensures.step e.calls; among = among_rested P c.args.t.now c.rest.new.self c.highest.new.t c.rest.ensures.step (λ (pages : ℕ). IsAmong pages c.in-Err.fault) e.failed.among; name = tt; version = tt; keep = tt; met = tt; planned = tt; ready = tt; fault = e.failed.cause; shown = e.failed.shown }
+    record { walks = rest_reaches P g.met.T.Pages.then g.met.T.Pages.trust c.args.t.now c.rest.new.self c.highest.new.t c.rest.ensures.outside c.rest.ensures.step e.calls; formed = tt; planned = tt; ready = tt; failed = record { among = among_rested P c.args.t.now c.rest.new.self c.highest.new.t c.rest.ensures.step (λ (pages : ℕ). IsAmong pages c.in-Err.fault) e.failed.among; cause = e.failed.cause }; shown = e.failed.shown }
 
 pub returns-in-None : goal.returns-in-None
 returns-in-None g c =
     let at = (goal.at.returns-in-None g c).In-Ok in
-    record { walks = walks g at; among = λ some. tt; name = tt; version = tt; keep = tt; met = tt; planned = tt; ready = tt; fault = λ trusted height tree. used_up c.args.name.now (table_of (g.T.Pages.step c.args.t.now).images height) (found_entry c.in-Ok.highest) (high g at trusted height tree) (c.next_of.ensures.used_up.0 (subst IsNone (sym c.in-None.is) refl)); shown = tt }
+    record { walks = walks g at; formed = tt; planned = tt; ready = tt; failed = record { among = λ some. tt; cause = λ trusted height tree. used_up c.args.name.now (table_of (g.T.Pages.step c.args.t.now).images height) (found_entry c.in-Ok.highest) (high g at trusted height tree) (c.next_of.ensures.used_up.0 (subst IsNone (sym c.in-None.is) refl)) }; shown = tt }
 
 pub meet_leaving-requires : goal.meet_leaving-requires
 meet_leaving-requires g c = let at = goal.at.meet_leaving-requires g c in record { more = omega (arith, c.requires.more, (walks g at.In-Ok).most_reached); keep = keep_small g at.In-Some }
@@ -57,7 +57,7 @@ pub returns-in-Err-meet_leaving : goal.returns-in-Err-meet_leaving
 returns-in-Err-meet_leaving g c =
     let walked = walks g (goal.at.returns-in-Err-meet_leaving g c).In-Ok in
     let e = c.in-Err-meet_leaving.ensures in
-    record { walks = walks_then g.T.Pages g.met.T.Pages.then c.args.t.now c.highest.new.t c.meet_leaving.new.t walked e.walks; among = subst (λ (pages : ℕ). 0 < pages → IsAmong pages c.in-Err-meet_leaving.fault) walked.count e.among; name = tt; version = tt; keep = tt; met = tt; planned = tt; ready = tt; fault = e.fault; shown = e.shown }
+    record { walks = walks_then g.T.Pages g.met.T.Pages.then c.args.t.now c.highest.new.t c.meet_leaving.new.t walked e.walks; formed = tt; planned = tt; ready = tt; failed = record { among = subst (λ (pages : ℕ). 0 < pages → IsAmong pages c.in-Err-meet_leaving.fault) walked.count e.among; cause = e.fault }; shown = e.shown }
 
 pub returns-in-Ok-meet_leaving : goal.returns-in-Ok-meet_leaving
 returns-in-Ok-meet_leaving g c =
@@ -74,17 +74,18 @@ returns-in-Ok-meet_leaving g c =
     let left = of_later P a then now (λ (xs : List Entry). entries_left gone.items ≡ oldest_beyond next.1 (versions_of name xs)) walked e.walks.trust e.gone in
     record {
       walks = walks_then P g.met.T.Pages.then a then now walked e.walks;
-      among = λ some. tt;
-      name = c.copied.ensures;
-      version = omega (arith, c.in-Some.ensures.version);
-      keep = keep_small g (goal.at.returns-in-Ok-meet_leaving g c).In-Some;
-      met = all_weaker (IsMet P name then now) (IsMet P name a now) gone.items (λ one met. met_earlier P g.met.T.Pages.then name name a then now one refl walked met) e.met;
+      formed = record {
+        named = c.copied.ensures;
+        version = omega (arith, c.in-Some.ensures.version);
+        keep = keep_small g (goal.at.returns-in-Ok-meet_leaving g c).In-Some;
+        met = all_weaker (IsMetBetween P name then now) (IsMetBetween P name a now) gone.items (λ one met. met_earlier P g.met.T.Pages.then name name a then now one refl walked met) e.met;
+      };
       planned = λ trusted height tree.
           plan_is name c.args.given (table_of (P.step a).images height) (tree_ascends (P.step a).images height tree) (record { key = record { name = c.copied.result; version = next.0 }; keep = next.1; gone = gone }) (found_entry c.in-Ok.highest)
           (high g at (e.walks.trust trusted) height tree) c.copied.ensures c.in-Some.ensures.version c.in-Some.ensures.keep (left trusted height tree);
       ready = λ trusted height tree.
           plan_ready name c.args.given (table_of (P.step a).images height) (tree_ascends (P.step a).images height tree) (record { key = record { name = c.copied.result; version = next.0 }; keep = next.1; gone = gone }) (found_entry c.in-Ok.highest)
           (high g at (e.walks.trust trusted) height tree) c.copied.ensures c.in-Some.ensures.version c.in-Some.ensures.keep (left trusted height tree);
-      fault = tt;
+      failed = tt;
       shown = tt;
     }

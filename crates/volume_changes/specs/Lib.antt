@@ -1,5 +1,0 @@
-pub mod Changing
-pub mod Completed
-pub mod Ending
-pub mod Entered
-pub mod Meeting

@@ -1,2 +1,0 @@
-//! Definitions: what look-ups in its table and edits of it make of such a volume.
-#![tactic(auto)]

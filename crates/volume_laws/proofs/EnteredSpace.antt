@@ -1,0 +1,239 @@
+-- What is free and what waits in a volume with one version more, and how many versions there are then.
+use Rattle.std.proofs.Common.{◌≡◌, inl, inr, ℕ, ◌+◌, ◌<◌, ◌≤◌, Bool, true, false, cond, not, ◌&&◌, ◌||◌, List, [], ◌∷◌, length, Option, Some, Ordering, refl, sym, ap, ◌∙◌, arith}
+use Rattle.std.specs.Prelude.{IsTrue, nat_le, nat_lt, ◌==◌}
+use Rattle.std.specs.List.{flat_map, list_any}
+use Rattle.std.specs.declared.cmp.Ordering.TheVariants.{Less, Equal, Greater}
+use Rattle.std.specs.FinMap.Entries.{by_order}
+use Rattle.std.proofs.Math.Bool.{or_comm}
+use Rattle.std.proofs.lemmas.Bool.{and_parts, cases_lt, false_from_ne_true, leb-true, ltb-true, or_left}
+use Rattle.std.proofs.lemmas.Cmp.{tied_itself}
+use Rattle.std.proofs.lemmas.List.Folds.{list_any-append}
+use Rattle.std.specs.Ordering.{is_eq}
+use Rattle.volume_layout.specs.declared.layout.Layout.{Layout}
+use Rattle.volume_layout.specs.Layout.{data_start, is_data}
+use Rattle.fsd_bytes.specs.declared.key.Key.{Key}
+use Rattle.fsd_bytes.specs.declared.key.Serial.{Serial}
+use Rattle.fsd_bytes.specs.Keys.{key_cmp, same_key}
+use Rattle.run_table.specs.declared.run.Run.{Run}
+use Rattle.run_table.specs.RunTable.{sectors_of}
+use Rattle.run_table.specs.Space.{contains}
+use Rattle.sector_set.specs.Area.{Area, together}
+use Rattle.sector_set.proofs.FreeLaws.{contains_where, contains_where_outside}
+use Rattle.fsd_formats.specs.declared.entry.Entry.{Entry}
+use Rattle.fsd_files.specs.Answers.{entry_of, entry_put, gone_sectors, new_entry, with_version}
+use Rattle.fsd_files.specs.Files.{gone_keys}
+use Rattle.fsd_files.specs.Kept.{Lists}
+use Rattle.fsd_files.specs.Volume.{Volume, entries_at, entries_without, in_version, is_free, is_in, plans_of}
+use Rattle.fsd_files.specs.Waiting.{Changes, is_kept_alone}
+use Rattle.fsd_files.proofs.ChangeLaws.{IsAbsent, same_key_turned}
+use Rattle.fsd_files.proofs.ListingLaws.{lists_length}
+use Rattle.fsd_table.proofs.KeyLaws.{keys_total}
+use Rattle.version_table.specs.declared.oldest.Leaving.{Leaving}
+use Rattle.version_table.specs.Met.{entries_left}
+use Rattle.cached_table.specs.Entering.{with_gone}
+use Rattle.cached_table.specs.Surveying.{IsOfData}
+use Rattle.volume_laws.proofs.DeleteLaws.{split_count}
+use Rattle.volume_laws.proofs.GoneLaws.{split_in}
+
+or_none : (a : Bool) → (a || false) ≡ a
+or_none true = refl
+or_none false = refl
+
+or_three : (a b c : Bool) → (a || (b || c)) ≡ ((a || b) || c)
+or_three true b c = refl
+or_three false b c = refl
+
+pub in_first : (s : ℕ) (x : Entry) (xs : List Entry) → is_in (plans_of (x ∷ xs)) s ≡ (contains (sectors_of x.runs) s || is_in (plans_of xs) s)
+in_first s x xs = list_any-append (λ t. t == s) (sectors_of x.runs) (flat_map sectors_of (plans_of xs))
+
+-- ---- one entry more, which does not go
+
+module _ (out : List Key) (e : Entry) (stays : list_any (same_key e.key) out ≡ false) where
+  abbrev left_of : List Entry → List Entry
+  left_of xs = entries_without out xs
+
+  left_first : (xs : List Entry) → left_of (e ∷ xs) ≡ e ∷ left_of xs
+  left_first xs = ap (λ (b : Bool). cond (not b) (e ∷ left_of xs) (left_of xs)) stays
+
+  -- its sectors are taken beside those of the others
+  in_put : (s : ℕ) (xs : List Entry) → IsAbsent e.key xs → is_in (plans_of (left_of (entry_put e xs))) s ≡ (is_in (plans_of (left_of xs)) s || contains (sectors_of e.runs) s)
+  in_put s [] absent = ap (λ (ys : List Entry). is_in (plans_of ys) s) (left_first []) ∙ in_first s e [] ∙ or_none (contains (sectors_of e.runs) s)
+  in_put s (z ∷ xs) absent = by (key_cmp e.key z.key) absent.0 (in_put s xs absent.1)
+    where
+      r : Bool
+      r = contains (sectors_of e.runs) s
+
+      behind : (b : Bool) → is_in (plans_of (left_of (entry_put e xs))) s ≡ (is_in (plans_of (left_of xs)) s || r)
+          → is_in (plans_of (cond b (z ∷ left_of (entry_put e xs)) (left_of (entry_put e xs)))) s ≡ (is_in (plans_of (cond b (z ∷ left_of xs) (left_of xs))) s || r)
+      behind true rest =
+          in_first s z (left_of (entry_put e xs)) ∙ ap (λ (x : Bool). contains (sectors_of z.runs) s || x) rest
+          ∙ or_three (contains (sectors_of z.runs) s) (is_in (plans_of (left_of xs)) s) r ∙ ap (λ (x : Bool). x || r) (sym (in_first s z (left_of xs)))
+      behind false rest = rest
+
+      by : (o : Ordering) → (o ≡ Equal → ⊥) → is_in (plans_of (left_of (entry_put e xs))) s ≡ (is_in (plans_of (left_of xs)) s || r)
+          → is_in (plans_of (left_of (by_order o (e ∷ z ∷ xs) (e ∷ xs) (z ∷ entry_put e xs)))) s ≡ (is_in (plans_of (left_of (z ∷ xs))) s || r)
+      by Less other rest = ap (λ (ys : List Entry). is_in (plans_of ys) s) (left_first (z ∷ xs)) ∙ in_first s e (left_of (z ∷ xs)) ∙ or_comm r (is_in (plans_of (left_of (z ∷ xs))) s)
+      by Equal other rest = absurd (other refl)
+      by Greater other rest = behind (not (list_any (same_key z.key) out)) rest
+
+  count_put : (xs : List Entry) → IsAbsent e.key xs → length (left_of (entry_put e xs)) ≡ length (left_of xs) + 1
+  count_put [] absent = ap (λ (ys : List Entry). length ys) (left_first [])
+  count_put (z ∷ xs) absent = by (key_cmp e.key z.key) absent.0 (count_put xs absent.1)
+    where
+      behind : (b : Bool) → length (left_of (entry_put e xs)) ≡ length (left_of xs) + 1
+          → length (cond b (z ∷ left_of (entry_put e xs)) (left_of (entry_put e xs))) ≡ length (cond b (z ∷ left_of xs) (left_of xs)) + 1
+      behind true rest = omega (arith, rest)
+      behind false rest = rest
+
+      by : (o : Ordering) → (o ≡ Equal → ⊥) → length (left_of (entry_put e xs)) ≡ length (left_of xs) + 1
+          → length (left_of (by_order o (e ∷ z ∷ xs) (e ∷ xs) (z ∷ entry_put e xs))) ≡ length (left_of (z ∷ xs)) + 1
+      by Less other rest = omega (arith, ap (λ (ys : List Entry). length ys) (left_first (z ∷ xs)))
+      by Equal other rest = absurd (other refl)
+      by Greater other rest = behind (not (list_any (same_key z.key) out)) rest
+
+  -- it is found by its key
+  there_put : (xs : List Entry) → IsAbsent e.key xs → entry_of e.key (left_of (entry_put e xs)) ≡ Some e
+  there_put [] absent = ap (entry_of e.key) (left_first []) ∙ found_first []
+    where
+      found_first : (ys : List Entry) → entry_of e.key (e ∷ ys) ≡ Some e
+      found_first ys = ap (λ (b : Bool). cond b (Some e) (entry_of e.key ys)) (ap is_eq (tied_itself keys_total e.key))
+  there_put (z ∷ xs) absent = by (key_cmp e.key z.key) refl absent.0 (there_put xs absent.1)
+    where
+      found_first : (ys : List Entry) → entry_of e.key (e ∷ ys) ≡ Some e
+      found_first ys = ap (λ (b : Bool). cond b (Some e) (entry_of e.key ys)) (ap is_eq (tied_itself keys_total e.key))
+
+      behind : (b : Bool) → key_cmp e.key z.key ≡ Greater → entry_of e.key (left_of (entry_put e xs)) ≡ Some e → entry_of e.key (cond b (z ∷ left_of (entry_put e xs)) (left_of (entry_put e xs))) ≡ Some e
+      behind true is rest = ap (λ (o : Bool). cond o (Some z) (entry_of e.key (left_of (entry_put e xs)))) (sym (same_key_turned e.key z.key) ∙ ap is_eq is) ∙ rest
+      behind false is rest = rest
+
+      by : (o : Ordering) → key_cmp e.key z.key ≡ o → (o ≡ Equal → ⊥) → entry_of e.key (left_of (entry_put e xs)) ≡ Some e → entry_of e.key (left_of (by_order o (e ∷ z ∷ xs) (e ∷ xs) (z ∷ entry_put e xs))) ≡ Some e
+      by Less is other rest = ap (entry_of e.key) (left_first (z ∷ xs)) ∙ found_first (left_of (z ∷ xs))
+      by Equal is other rest = absurd (other refl)
+      by Greater is other rest = behind (not (list_any (same_key z.key) out)) is rest
+
+-- ---- what goes waits
+
+pub gone_at : (a : Area) (gs : List Leaving) (s : ℕ) → a.from ≤ s → s < a.to → contains (with_gone a gs).sectors s ≡ (contains a.sectors s || is_in (plans_of (entries_left gs)) s)
+gone_at a [] s low high = sym (or_none (contains a.sectors s))
+gone_at a (g ∷ gs) s low high =
+    gone_at (together a g.entry.runs) gs s low high
+    ∙ ap (λ (b : Bool). b || is_in (plans_of (entries_left gs)) s) (contains_where (λ t. contains a.sectors t || contains (sectors_of g.entry.runs) t) a.from a.to s low high)
+    ∙ sym (or_three (contains a.sectors s) (contains (sectors_of g.entry.runs) s) (is_in (plans_of (entries_left gs)) s))
+    ∙ ap (λ (b : Bool). contains a.sectors s || b) (sym (in_first s g.entry (entries_left gs)))
+
+gone_outside : (a : Area) (gs : List Leaving) (s : ℕ) → (a.from ≤ s → s < a.to → ⊥) → contains a.sectors s ≡ false → contains (with_gone a gs).sectors s ≡ false
+gone_outside a [] s out none = none
+gone_outside a (g ∷ gs) s out none = gone_outside (together a g.entry.runs) gs s out (contains_where_outside (λ t. contains a.sectors t || contains (sectors_of g.entry.runs) t) a.from a.to s out)
+
+-- ---- the volume
+
+module _ (v : Volume) (name bytes : List ℕ) (given : Option ℕ) (runs : List Run) (serial : Serial) (r : ℕ) where
+  abbrev made : Volume
+  made = with_version v name bytes given runs serial r
+
+  abbrev out : List Key
+  out = gone_keys name given bytes v.files
+
+  abbrev new : Entry
+  new = new_entry v name bytes given runs serial
+
+  module _ (stays : list_any (same_key new.key) out ≡ false) (absent : IsAbsent new.key v.entries) where
+    -- what was free and is not taken
+    pub made_free : (s : ℕ) → is_free made s ≡ (is_free v s && not (contains (sectors_of runs) s))
+    made_free s =
+        let a : Bool = is_data v.layout s in
+        let t : Bool = is_in (plans_of (entries_without out v.entries)) s in
+        let g : Bool = contains (gone_sectors out v.entries) s in
+        let n : Bool = contains (sectors_of runs) s in
+        let d : Bool = contains v.removed s in
+        let h : Bool = is_in v.held s in
+        let o : Bool = is_in v.drafts s in
+        let split : in_version v s ≡ (t || g) = split_in (λ x. list_any (same_key x.key) out) s v.entries in
+        let put : in_version made s ≡ (t || n) = in_put out new stays s v.entries absent in
+        let went : contains made.removed s ≡ (d || g) = list_any-append (λ u. u == s) v.removed (gone_sectors out v.entries) in
+        (λ i. a && not (put i) && not (not (put i) && (went i || h || o)))
+        ∙ same a t g n d h o
+        ∙ (λ i. (a && not (sym split i) && not (not (sym split i) && (d || h || o))) && not n)
+      where
+        same : (a t g n d h o : Bool) → (a && not (t || n) && not (not (t || n) && ((d || g) || h || o))) ≡ ((a && not (t || g) && not (not (t || g) && (d || h || o))) && not n)
+        same false t g n d h o = refl
+        same true true g n d h o = refl
+        same true false true true d h o = refl
+        same true false true false true h o = refl
+        same true false true false false h o = refl
+        same true false false true true h o = refl
+        same true false false true false true o = refl
+        same true false false true false false true = refl
+        same true false false true false false false = refl
+        same true false false false true h o = refl
+        same true false false false false true o = refl
+        same true false false false false false true = refl
+        same true false false false false false false = refl
+
+    -- what a reader alone keeps stays so, where nothing that is taken is held
+    pub made_kept : ((s : ℕ) → contains (sectors_of runs) s ≡ true → is_in v.held s ≡ false) → (s : ℕ) → is_kept_alone made s ≡ is_kept_alone v s
+    made_kept unheld s =
+        let t : Bool = is_in (plans_of (entries_without out v.entries)) s in
+        let g : Bool = contains (gone_sectors out v.entries) s in
+        let n : Bool = contains (sectors_of runs) s in
+        let d : Bool = contains v.removed s in
+        let h : Bool = is_in v.held s in
+        let split : in_version v s ≡ (t || g) = split_in (λ x. list_any (same_key x.key) out) s v.entries in
+        let put : in_version made s ≡ (t || n) = in_put out new stays s v.entries absent in
+        let went : contains made.removed s ≡ (d || g) = list_any-append (λ u. u == s) v.removed (gone_sectors out v.entries) in
+        (λ i. h && not (put i) && not (went i)) ∙ same h t g n d (unheld s) ∙ ap (λ (b : Bool). h && not b && not d) (sym split)
+      where
+        same : (h t g n d : Bool) → (n ≡ true → h ≡ false) → (h && not (t || n) && not (d || g)) ≡ (h && not (t || g) && not d)
+        same false t g n d free = refl
+        same true true g n d free = refl
+        same true false g true d free = absurd (cc (free refl))
+        same true false true false true free = refl
+        same true false true false false free = refl
+        same true false false false true free = refl
+        same true false false false false free = refl
+
+    -- its entry is found
+    pub made_there : entry_of new.key made.entries ≡ Some new
+    made_there = there_put out new stays v.entries absent
+
+    -- as many files more as come, and fewer as go
+    pub made_count : (gs : List Leaving) → entries_left gs ≡ entries_at out v.entries → Lists v.files v.entries → Lists made.files made.entries → length made.files + length gs ≡ length v.files + 1
+    made_count gs left lists made_lists =
+        omega (
+          arith,
+          lists_length made.files made.entries made_lists,
+          lists_length v.files v.entries lists,
+          count_put out new stays v.entries absent,
+          split_count (λ x. list_any (same_key x.key) out) v.entries,
+          as_many_left gs,
+          ap (λ (es : List Entry). length es) left,
+        )
+      where
+        as_many_left : (gs : List Leaving) → length (entries_left gs) ≡ length gs
+        as_many_left [] = refl
+        as_many_left (g ∷ gs) = omega (arith, as_many_left gs)
+
+  -- the sectors that wait then
+  pub made_waits : (l : Layout) (old : Area) (gs : List Leaving) → Changes v made → v.layout ≡ l → IsOfData l old → entries_left gs ≡ entries_at out v.entries
+      → ((s : ℕ) → contains old.sectors s ≡ contains v.removed s) → (s : ℕ) → contains (with_gone old gs).sectors s ≡ contains made.removed s
+  made_waits l old gs changes layout of_data left before s =
+      elim (cases_lt s (data_start l)) [
+        | inl low ↦ outside (λ from to. absurd (omega (arith, low, from)))
+        | inr from ↦ elim (cases_lt s l.sectors) [
+          | inr high ↦ outside (λ low to. absurd (omega (arith, high, to)))
+          | inl to ↦
+              gone_at old gs s (omega (arith, from, ap (λ (m : Area). m.from) of_data)) (omega (arith, to, ap (λ (m : Area). m.to) of_data))
+              ∙ (λ i. before s i || is_in (plans_of (left i)) s) ∙ sym (list_any-append (λ t. t == s) v.removed (gone_sectors out v.entries))
+        ]
+      ]
+    where
+      outside : (data_start l ≤ s → s < l.sectors → ⊥) → contains (with_gone old gs).sectors s ≡ contains made.removed s
+      outside far =
+          let beyond : contains made.removed s ≡ false = false_from_ne_true (contains made.removed s) (λ there.
+          let area = and_parts (nat_le (data_start v.layout) s) (nat_lt s v.layout.sectors) (in_area there) in
+          far (omega (arith, leb-true (data_start v.layout) s area.0, ap data_start layout)) (omega (arith, ltb-true s v.layout.sectors area.1, ap (λ (x : Layout). x.sectors) layout))) in
+          let none : contains old.sectors s ≡ false = ap (λ (m : Area). contains m.sectors s) of_data ∙ contains_where_outside (contains old.sectors) (data_start l) l.sectors s far in
+          gone_outside old gs s (λ low high. far (omega (arith, low, ap (λ (m : Area). m.from) of_data)) (omega (arith, high, ap (λ (m : Area). m.to) of_data))) none ∙ sym beyond
+        where
+          in_area : IsTrue (contains made.removed s) → IsTrue (is_data v.layout s)
+          in_area there = changes.spaced.area s (or_left (contains made.removed s) (is_in made.held s) there)

@@ -1,0 +1,13 @@
+pub mod Changing
+pub mod Completed
+pub mod Ending
+pub mod Entered
+pub mod Forcing
+pub mod Meeting
+pub mod Placing
+pub mod Preparing
+pub mod State
+pub mod Steps
+pub mod Taken
+pub mod Volume
+pub mod WearLaws

@@ -1,4 +1,0 @@
-use Rattle.volume_state.proofs.laws.resident_pages_are_shown.Goals as goal
-
-pub returns : goal.returns
-returns c = λ v mounted records page bytes holds there. holds.pages page bytes there

@@ -1,9 +1,0 @@
-pub mod Behind
-pub mod Forcing
-pub mod Placing
-pub mod Preparing
-pub mod State
-pub mod Steps
-pub mod Taken
-pub mod Volume
-pub mod WearLaws
