@@ -10,8 +10,8 @@ use Rattle.fsd_table.specs.declared.child.Child.{Child}
 use Rattle.fsd_table.specs.Tree.{entries_below, pages_below, IsSubtree}
 use Rattle.fsd_table.proofs.BoundLaws.{all_append, all_weaker, Fits, entries_between}
 use Rattle.fsd_table.proofs.KeyLaws.{lt_le}
-use Rattle.fsd_forest.specs.Forest.{heads, count_of, forest_pages, EndsUpTo, BeginsBehind}
-use Rattle.fsd_forest.specs.Laws.{LeavesBecome, Widens, Follows, Remains}
+use Rattle.fsd_forest.specs.Forest.{heads, times_in, forest_pages, EndsUpTo, BeginsBehind}
+use Rattle.fsd_forest.specs.Laws.{LeavesBecome, Widens, FollowsChange, Remains}
 use Rattle.fsd_forest.proofs.CountLaws.{count_append}
 use Rattle.fsd_forest.proofs.KeepLaws.{kept_all, in_left, in_right}
 
@@ -24,7 +24,7 @@ single_heads pages (c ∷ cs) = ap (λ (ps : List ℕ). c.page ∷ ps) (single_h
 pub leaves_become : LeavesBecome
 leaves_become edit pages after came went old new leaves pages_are entries = record {
   subtrees = leaves;
-  pages_are = λ p. ap (λ (ps : List ℕ). count_of p ps + count_of p went) (single_heads after new) ∙ pages_are p ∙ ap (λ (ps : List ℕ). count_of p ps + count_of p came) (sym (single_heads pages old));
+  pages_are = λ p. ap (λ (ps : List ℕ). times_in p ps + times_in p went) (single_heads after new) ∙ pages_are p ∙ ap (λ (ps : List ℕ). times_in p ps + times_in p came) (sym (single_heads pages old));
   entries = entries;
 }
 
@@ -35,11 +35,11 @@ remains pages after level cs subs keep =
     let same = kept_all pages after level cs keep subs in
     record {
       subtrees = same.subtrees;
-      pages_are = λ p. ap (λ (ps : List ℕ). count_of p ps + count_of p []) same.reached;
+      pages_are = λ p. ap (λ (ps : List ℕ). times_in p ps + times_in p []) same.reached;
       entries = same.entries;
     }
 
-pub follows : Follows
+pub follows : FollowsChange
 follows first second pages between after came went came2 went2 level old some new a b = record {
   subtrees = b.subtrees;
   pages_are = λ p. omega (arith, a.pages_are p, b.pages_are p, count_append p came came2, count_append p went went2);
@@ -69,9 +69,9 @@ entries_greater key f (x ∷ xs) begins each =
 in_three : {X : Type 0} (f : Child → List X) (xs ys zs : List Child) → flat_map f (xs ++ (ys ++ zs)) ≡ flat_map f xs ++ (flat_map f ys ++ flat_map f zs)
 in_three f xs ys zs = flat_map-append f xs (ys ++ zs) ∙ ap (λ us. flat_map f xs ++ us) (flat_map-append f ys zs)
 
-pub count_three : (p : ℕ) (f : Child → List ℕ) (xs ys zs : List Child) → count_of p (flat_map f (xs ++ (ys ++ zs))) ≡ count_of p (flat_map f xs) + (count_of p (flat_map f ys) + count_of p (flat_map f zs))
+pub count_three : (p : ℕ) (f : Child → List ℕ) (xs ys zs : List Child) → times_in p (flat_map f (xs ++ (ys ++ zs))) ≡ times_in p (flat_map f xs) + (times_in p (flat_map f ys) + times_in p (flat_map f zs))
 count_three p f xs ys zs =
-    ap (count_of p) (in_three f xs ys zs) ∙ count_append p (flat_map f xs) (flat_map f ys ++ flat_map f zs) ∙ ap (λ (n : ℕ). count_of p (flat_map f xs) + n) (count_append p (flat_map f ys) (flat_map f zs))
+    ap (times_in p) (in_three f xs ys zs) ∙ count_append p (flat_map f xs) (flat_map f ys ++ flat_map f zs) ∙ ap (λ (n : ℕ). times_in p (flat_map f xs) + n) (count_append p (flat_map f ys) (flat_map f zs))
 
 pub widens : Widens
 widens key edit pages after came went level left old new right local left_subs right_subs ends begins keep e =
@@ -85,7 +85,7 @@ widens key edit pages after came went level left old new right local left_subs r
     let between = all_weaker (IsSubtree level pages) (λ x. AllByRecursion (Fits x.low x.high) (g x)) in
     record {
       subtrees = all_append (IsSubtree level after) left (new ++ right) l.subtrees (all_append (IsSubtree level after) new right e.subtrees r.subtrees);
-      pages_are = λ p. omega (arith, e.pages_are p, count_three p f left old right, count_three p f2 left new right, ap (count_of p) l.reached, ap (count_of p) r.reached);
+      pages_are = λ p. omega (arith, e.pages_are p, count_three p f left old right, count_three p f2 left new right, ap (times_in p) l.reached, ap (times_in p) r.reached);
       entries = in_three g2 left new right ∙ (λ i. l.entries i ++ (e.entries i ++ r.entries i))
           ∙ sym (local (flat_map g left) (flat_map g old) (flat_map g right)
           (entries_lesser key g left ends (between left (λ x t. entries_between level pages x t) left_subs))

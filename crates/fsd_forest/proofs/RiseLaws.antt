@@ -8,7 +8,7 @@ use Rattle.fsd_table.specs.declared.child.Child.{Child}
 use Rattle.fsd_table.specs.Pages.{page_at, children_of}
 use Rattle.fsd_table.specs.Tree.{entries_below, pages_below, IsInterior, IsSubtree}
 use Rattle.fsd_table.proofs.BoundLaws.{all_split}
-use Rattle.fsd_forest.specs.Forest.{heads, inner, count_of, forest_entries, forest_pages, IsAbove}
+use Rattle.fsd_forest.specs.Forest.{heads, inner, times_in, forest_entries, forest_pages, IsAbove}
 use Rattle.fsd_forest.specs.Laws.{Rises}
 use Rattle.fsd_forest.proofs.CountLaws.{count_cons, count_append, count_nothing}
 
@@ -27,15 +27,15 @@ pub entries_rise : (level : ℕ) (pages : List (List ℕ)) (cs : List Child) →
 entries_rise level pages cs = flat_flat (entries_below level pages) (children_at pages) cs
 
 -- the pages below are these themselves, and those below the children
-mixed_count : (p : ℕ) (k : Child → List ℕ) (cs : List Child) → count_of p (flat_map (λ c. c.page ∷ k c) cs) ≡ count_of p (heads cs) + count_of p (flat_map k cs)
+mixed_count : (p : ℕ) (k : Child → List ℕ) (cs : List Child) → times_in p (flat_map (λ c. c.page ∷ k c) cs) ≡ times_in p (heads cs) + times_in p (flat_map k cs)
 mixed_count p k [] = omega (arith, count_nothing p)
 mixed_count p k (c ∷ cs) =
     omega (arith, count_append p (c.page ∷ k c) (flat_map (λ c. c.page ∷ k c) cs), count_cons p c.page (k c), mixed_count p k cs, count_cons p c.page (heads cs), count_append p (k c) (flat_map k cs))
 
-pub pages_rise : (p level : ℕ) (pages : List (List ℕ)) (cs : List Child) → count_of p (forest_pages (suc level) pages cs) ≡ count_of p (heads cs) + count_of p (forest_pages level pages (inner pages cs))
+pub pages_rise : (p level : ℕ) (pages : List (List ℕ)) (cs : List Child) → times_in p (forest_pages (suc level) pages cs) ≡ times_in p (heads cs) + times_in p (forest_pages level pages (inner pages cs))
 pages_rise p level pages cs =
     let f : Child → List ℕ = pages_below level pages in
-    mixed_count p (λ c. flat_map f (children_at pages c)) cs ∙ ap (λ (ps : List ℕ). count_of p (heads cs) + count_of p ps) (flat_flat f (children_at pages) cs)
+    mixed_count p (λ c. flat_map f (children_at pages c)) cs ∙ ap (λ (ps : List ℕ). times_in p (heads cs) + times_in p ps) (flat_flat f (children_at pages) cs)
 
 -- ---- pages above subtrees
 

@@ -8,7 +8,7 @@ use Rattle.fsd_table.specs.declared.child.Child.{Child}
 use Rattle.fsd_table.specs.Pages.{page_at, children_of, entries_of}
 use Rattle.fsd_table.specs.Table.{top}
 use Rattle.fsd_table.specs.Tree.{IsLeaf, IsInterior, IsSubtree, entries_below, pages_below}
-use Rattle.fsd_forest.specs.Forest.{inner, count_of, forest_entries, forest_pages, Exchange, Keep, Stay}
+use Rattle.fsd_forest.specs.Forest.{inner, times_in, forest_entries, forest_pages, Exchange, Keep, Stay}
 use Rattle.fsd_forest.specs.Laws.{TreesShrink}
 use Rattle.fsd_forest.proofs.CountLaws.{count_cons, count_nothing, one_where, counts_out, differ_counts, counts_differ}
 use Rattle.fsd_forest.proofs.KeepLaws.{kept_interior, kept_below}
@@ -23,7 +23,7 @@ whole page = record { page = page; low = None; high = None }
 record IsMoved (between after : List (List ℕ)) (level first : ℕ) : Type 0 where
   subtree : IsSubtree level after top
   entries : entries_below level after top ≡ entries_below level between (whole first)
-  reached : (p : ℕ) → count_of p (pages_below level after top) + one_where (first == p) ≡ count_of p (pages_below level between (whole first)) + one_where (0 == p)
+  reached : (p : ℕ) → times_in p (pages_below level after top) + one_where (first == p) ≡ times_in p (pages_below level between (whole first)) + one_where (0 == p)
 
 not_zero : (xs : List ℕ) (q : ℕ) → contains xs 0 ≡ false → contains xs q ≡ true → contains (0 ∷ []) q ≡ false
 not_zero xs q none there = false_from_ne_true (contains (0 ∷ []) q) (λ h. elim (or_cases (0 == q) false h) [
@@ -48,19 +48,19 @@ moved between after (suc level) first at stay none sub =
     record {
       subtree = subst (IsInterior (IsSubtree level after) top) (sym at) all.0;
       entries = ap (λ (y : Option Content). forest_entries level after (children_of None None y)) at ∙ all.1.entries;
-      reached = λ p. omega (arith, ap (count_of p) now, count_cons p 0 rest, count_cons p first rest);
+      reached = λ p. omega (arith, ap (times_in p) now, count_cons p 0 rest, count_cons p first rest);
     }
 
 -- page 0 and what is below it, where pages below it differ from it
 record IsTop (pages : List (List ℕ)) (level : ℕ) : Type 0 where
-  counts : (p : ℕ) → count_of p (pages_below (suc level) pages top) ≡ one_where (0 == p) + count_of p (forest_pages level pages (inner pages (top ∷ [])))
-  none : count_of 0 (forest_pages level pages (inner pages (top ∷ []))) ≡ 0
+  counts : (p : ℕ) → times_in p (pages_below (suc level) pages top) ≡ one_where (0 == p) + times_in p (forest_pages level pages (inner pages (top ∷ [])))
+  none : times_in 0 (forest_pages level pages (inner pages (top ∷ []))) ≡ 0
   entries : entries_below (suc level) pages top ≡ forest_entries level pages (inner pages (top ∷ []))
 
 top_counts : (pages : List (List ℕ)) (level : ℕ) → all_differ (pages_below (suc level) pages top) ≡ true → IsTop pages level
 top_counts pages level apart =
-    let counts : (p : ℕ) → count_of p (pages_below (suc level) pages top) ≡ one_where (0 == p) + count_of p (forest_pages level pages (inner pages (top ∷ []))) = λ p.
-    omega (arith, ap (count_of p) (alone (pages_below (suc level) pages) top), pages_rise p level pages (top ∷ []), count_cons p 0 [], count_nothing p) in
+    let counts : (p : ℕ) → times_in p (pages_below (suc level) pages top) ≡ one_where (0 == p) + times_in p (forest_pages level pages (inner pages (top ∷ []))) = λ p.
+    omega (arith, ap (times_in p) (alone (pages_below (suc level) pages) top), pages_rise p level pages (top ∷ []), count_cons p 0 [], count_nothing p) in
     record {
       counts = counts;
       none = omega (arith, counts 0, differ_counts (pages_below (suc level) pages top) apart 0);
@@ -75,11 +75,11 @@ trees_shrink edit pages between after went height first t two e at stay =
     let most = t.most in
     let old = top_counts pages level (ap (λ (n : ℕ). all_differ (pages_below n pages top)) (sym above) ∙ t.apart) in
     let some : List ℕ = pages_below level between (whole first) in
-    let lone : (p : ℕ) → count_of p (forest_pages level between (whole first ∷ [])) ≡ count_of p some = λ p. ap (count_of p) (alone (pages_below level between) (whole first)) in
+    let lone : (p : ℕ) → times_in p (forest_pages level between (whole first ∷ [])) ≡ times_in p some = λ p. ap (times_in p) (alone (pages_below level between) (whole first)) in
     let none : contains some 0 ≡ false = counts_out 0 some (omega (arith, e.pages_are 0, lone 0, old.none, count_nothing 0)) in
     let m = moved between after level first at stay none e.subtrees.0 in
     let pages_are : Exchange (pages_below (height - 1) pages top) (pages_below (height - 1 - 1) after top) [] (first ∷ went) = λ p.
-    omega (arith, e.pages_are p, lone p, m.reached p, old.counts p, count_cons p first went, ap (λ (n : ℕ). count_of p (pages_below n pages top)) above, ap (λ (n : ℕ). count_of p (pages_below n after top)) same) in
+    omega (arith, e.pages_are p, lone p, m.reached p, old.counts p, count_cons p first went, ap (λ (n : ℕ). times_in p (pages_below n pages top)) above, ap (λ (n : ℕ). times_in p (pages_below n after top)) same) in
     record {
       height_after = height - 1;
       tree = record {

@@ -7,7 +7,7 @@ use Rattle.fsd_table.specs.declared.child.Child.{Child}
 use Rattle.fsd_table.specs.Pages.{page_at}
 use Rattle.fsd_table.specs.Tree.{pages_below, IsSubtree}
 use Rattle.fsd_table.proofs.BoundLaws.{all_append, all_split}
-use Rattle.fsd_forest.specs.Forest.{heads, inner, count_of, forest_pages, Becomes}
+use Rattle.fsd_forest.specs.Forest.{heads, inner, times_in, forest_pages, Becomes}
 use Rattle.fsd_forest.specs.Steps.{StepsUp, PageStepsUp, SidesStay, PageSidesStay}
 use Rattle.fsd_forest.proofs.CountLaws.{count_append, there_counts, counts_out, differ_counts}
 use Rattle.fsd_forest.proofs.ForestLaws.{widens, count_three}
@@ -38,23 +38,23 @@ page_steps_up key edit pages after came went level c left old new right local su
 -- ---- what stands on both sides
 
 sides_count : (p level : ℕ) (pages : List (List ℕ)) (left old right : List Child)
-    → count_of p (forest_pages level pages (left ++ (old ++ right))) ≡ count_of p (forest_pages level pages (left ++ right)) + count_of p (forest_pages level pages old)
+    → times_in p (forest_pages level pages (left ++ (old ++ right))) ≡ times_in p (forest_pages level pages (left ++ right)) + times_in p (forest_pages level pages old)
 sides_count p level pages left old right =
     let f : Child → List ℕ = pages_below level pages in
-    omega (arith, count_three p f left old right, ap (count_of p) (flat_map-append f left right), count_append p (flat_map f left) (flat_map f right))
+    omega (arith, count_three p f left old right, ap (times_in p) (flat_map-append f left right), count_append p (flat_map f left) (flat_map f right))
 
 pub sides_stay : SidesStay
 sides_stay pages after fresh level cs left old right were apart stay q there =
     let f : List Child → List ℕ = forest_pages level pages in
     let changed : List ℕ = heads cs ++ (f old ++ fresh) in
-    let none : count_of q changed ≡ 0 =
+    let none : times_in q changed ≡ 0 =
     omega (
       arith,
       count_append q (heads cs) (f old ++ fresh),
       count_append q (f old) fresh,
       there_counts q (f (left ++ right)) there,
       sides_count q level pages left old right,
-      ap (λ (xs : List Child). count_of q (f xs)) were,
+      ap (λ (xs : List Child). times_in q (f xs)) were,
       pages_rise q level pages cs,
       count_append q (forest_pages (suc level) pages cs) fresh,
       differ_counts (forest_pages (suc level) pages cs ++ fresh) apart q,

@@ -8,7 +8,7 @@ use Rattle.fsd_table.specs.declared.child.Child.{Child}
 use Rattle.fsd_table.specs.Pages.{page_at, children_of}
 use Rattle.fsd_table.specs.Table.{top}
 use Rattle.fsd_table.specs.Tree.{IsInterior, IsSubtree, entries_below, pages_below}
-use Rattle.fsd_forest.specs.Forest.{count_of, forest_entries, forest_pages, Exchange}
+use Rattle.fsd_forest.specs.Forest.{times_in, forest_entries, forest_pages, Exchange}
 use Rattle.fsd_forest.specs.Parts.{left_part, right_part}
 use Rattle.fsd_forest.specs.Laws.{TreesBecome, TreesGrow}
 use Rattle.fsd_forest.proofs.CountLaws.{count_cons, exchange_differ}
@@ -21,7 +21,7 @@ pub trees_become : TreesBecome
 trees_become edit pages after came went height t apart e =
     let f : Child → List ℕ = pages_below (height - 1) pages in
     let f2 : Child → List ℕ = pages_below (height - 1) after in
-    let pages_are : Exchange (f top) (f2 top) came went = λ p. omega (arith, e.pages_are p, ap (count_of p) (alone f top), ap (count_of p) (alone f2 top)) in
+    let pages_are : Exchange (f top) (f2 top) came went = λ p. omega (arith, e.pages_are p, ap (times_in p) (alone f top), ap (times_in p) (alone f2 top)) in
     record {
       height_after = height;
       tree = record { least = t.least; most = t.most; subtree = e.subtrees.0; apart = exchange_differ (f top) (f2 top) came went pages_are apart };
@@ -54,7 +54,7 @@ trees_grow edit pages after came height left s t low apart at e =
     let same : suc (height - 1) ≡ suc height - 1 = omega (arith, least) in
     let now : ℕ → List ℕ = λ n. pages_below n after top in
     let pages_are : Exchange (f top) (now (suc height - 1)) came [] = λ p.
-    omega (arith, e.pages_are p, ap (count_of p) (alone f top), ap (λ (n : ℕ). count_of p (now n)) same, ap (count_of p) h.reached, count_cons p 0 (forest_pages (height - 1) after cs), count_cons p 0 []) in
+    omega (arith, e.pages_are p, ap (times_in p) (alone f top), ap (λ (n : ℕ). times_in p (now n)) same, ap (times_in p) h.reached, count_cons p 0 (forest_pages (height - 1) after cs), count_cons p 0 []) in
     record {
       height_after = suc height;
       tree = record {

@@ -9,7 +9,7 @@ use Rattle.fsd_table.specs.declared.child.Child.{Child}
 use Rattle.fsd_table.specs.Pages.{children, not_below, below}
 use Rattle.fsd_forest.specs.Forest.{BeginsBehind}
 use Rattle.fsd_forest.specs.Parts.{left_part, right_part}
-use Rattle.fsd_forest.specs.Ways.{end_of, children_before, child_behind, children_from, child_between, IsBehind}
+use Rattle.fsd_forest.specs.Ways.{end_of, children_before, child_behind, children_from, child_between, IsBehindKey}
 use Rattle.fsd_forest.specs.Ways.{ChildrenBeside, ChildrenBetween, ChildrenParted, ChildrenEnd, ChildrenBegin, ChildrenAround, ChildAt, KeyInside}
 
 -- ---- children by their separators
@@ -47,7 +47,7 @@ pub children_end : ChildrenEnd
 children_end key first low [] a = tt
 children_end key first low (s ∷ before) a = ((s.key, refl, a.0), children_end key s.child (Some s.key) before a.1)
 
-begin_from : (key : Key) (first : ℕ) (k : Key) (high : Option Key) (behind : List Separator) → key_lt key k ≡ true → AllByRecursion (IsBehind key) behind → AllByRecursion (BeginsBehind key) (children first (Some k) high behind)
+begin_from : (key : Key) (first : ℕ) (k : Key) (high : Option Key) (behind : List Separator) → key_lt key k ≡ true → AllByRecursion (IsBehindKey key) behind → AllByRecursion (BeginsBehind key) (children first (Some k) high behind)
 begin_from key first k high [] h a = ((k, refl, h), tt)
 begin_from key first k high (s ∷ behind) h a = ((k, refl, h), begin_from key s.child s.key high behind a.0 a.1)
 
@@ -68,7 +68,7 @@ child_at first low high [] (suc i) h = absurd (omega arith)
 child_at first low high (s ∷ separators) zero h = refl
 child_at first low high (s ∷ separators) (suc i) h = child_at s.child (Some s.key) high separators i (omega arith)
 
-key_below : (key : Key) (high : Option Key) (behind : List Separator) → below high key ≡ true → AllByRecursion (IsBehind key) behind → below (end_of high behind) key ≡ true
+key_below : (key : Key) (high : Option Key) (behind : List Separator) → below high key ≡ true → AllByRecursion (IsBehindKey key) behind → below (end_of high behind) key ≡ true
 key_below key high [] h a = h
 key_below key high (s ∷ behind) h a = a.0
 

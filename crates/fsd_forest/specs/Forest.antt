@@ -27,12 +27,12 @@ forest_pages level pages cs = flat_map (pages_below level pages) cs
 
 -- ---- pages
 
-abbrev pub count_of : ℕ → List ℕ → ℕ
-count_of page pages = count_by (λ q. q == page) pages
+abbrev pub times_in : ℕ → List ℕ → ℕ
+times_in page pages = count_by (λ q. q == page) pages
 
 -- the same pages, but that some came and some went
 abbrev pub Exchange : (old new came went : List ℕ) → Type 0
-Exchange old new came went = (page : ℕ) → count_of page new + count_of page went ≡ count_of page old + count_of page came
+Exchange old new came went = (page : ℕ) → times_in page new + times_in page went ≡ times_in page old + times_in page came
 
 -- all pages but these are as they were
 abbrev pub Stay : (pages after : List (List ℕ)) → List ℕ → Type 0

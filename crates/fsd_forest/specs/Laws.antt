@@ -37,8 +37,8 @@ Rises =
     → Becomes edit pages after (came_above ++ came) (went_above ++ went) (suc level) old new
 
 -- one change behind another
-abbrev pub Follows : Type 0
-Follows =
+abbrev pub FollowsChange : Type 0
+FollowsChange =
     (first second : List Entry → List Entry) (pages between after : List (List ℕ)) (came went came2 went2 : List ℕ) (level : ℕ) (old some new : List Child)
     → Becomes first pages between came went level old some → Becomes second between after came2 went2 level some new
     → Becomes (λ entries. second (first entries)) pages after (came ++ came2) (went ++ went2) level old new

@@ -8,13 +8,13 @@ use Rattle.fsd_table.specs.declared.child.Child.{Child}
 use Rattle.fsd_table.specs.Pages.{page_at, children_of}
 use Rattle.fsd_table.specs.Tree.{pages_below, IsSubtree}
 use Rattle.fsd_forest.specs.Forest.{heads, inner, forest_pages, Exchange, Keep, Stay, IsLocal, Becomes, IsAbove}
-use Rattle.fsd_forest.specs.Ways.{StandsAt}
+use Rattle.fsd_forest.specs.Ways.{StandsAround}
 
 -- others stand in the place of some of the children, and those on both sides stay
 abbrev pub StepsUp : Type 0
 StepsUp =
     (key : Key) (edit : List Entry → List Entry) (pages after : List (List ℕ)) (came went came_above went_above : List ℕ) (level : ℕ) (cs ds left old new right : List Child) → IsLocal key edit
-    → AllByRecursion (IsSubtree (suc level) pages) cs → StandsAt key (inner pages cs) left old right → inner after ds ≡ left ++ (new ++ right) → AllByRecursion (IsAbove after) ds
+    → AllByRecursion (IsSubtree (suc level) pages) cs → StandsAround key (inner pages cs) left old right → inner after ds ≡ left ++ (new ++ right) → AllByRecursion (IsAbove after) ds
     → Exchange (heads cs) (heads ds) came_above went_above → Keep pages after (forest_pages level pages (left ++ right)) → Becomes edit pages after came went level old new
     → Becomes edit pages after (came_above ++ came) (went_above ++ went) (suc level) cs ds
 
@@ -22,7 +22,7 @@ StepsUp =
 abbrev pub PageStepsUp : Type 0
 PageStepsUp =
     (key : Key) (edit : List Entry → List Entry) (pages after : List (List ℕ)) (came went : List ℕ) (level : ℕ) (c : Child) (left old new right : List Child) → IsLocal key edit
-    → IsSubtree (suc level) pages c → StandsAt key (children_of c.low c.high (page_at pages c.page)) left old right → children_of c.low c.high (page_at after c.page) ≡ left ++ (new ++ right) → IsAbove after c
+    → IsSubtree (suc level) pages c → StandsAround key (children_of c.low c.high (page_at pages c.page)) left old right → children_of c.low c.high (page_at after c.page) ≡ left ++ (new ++ right) → IsAbove after c
     → Keep pages after (forest_pages level pages (left ++ right)) → Becomes edit pages after came went level old new → Becomes edit pages after came went (suc level) (c ∷ []) (c ∷ [])
 
 -- where the pages above, those below some of the children and fresh ones are all that changes,

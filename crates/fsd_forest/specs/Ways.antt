@@ -34,17 +34,17 @@ abbrev pub child_between : (first : ℕ) (low high : Option Key) (before behind 
 child_between first low high before behind = child_behind first low before (end_of high behind)
 
 -- some children of a page around a key: what is left of them ends up to it, and what is right of them begins behind it
-pub record StandsAt (key : Key) (all left some right : List Child) : Type 0 where
+pub record StandsAround (key : Key) (all left some right : List Child) : Type 0 where
   pub children_are : all ≡ left ++ (some ++ right)
   pub ends : AllByRecursion (EndsUpTo key) left
   pub begins : AllByRecursion (BeginsBehind key) right
 
 -- separators up to a key, and such behind it
-abbrev pub IsUpTo : Key → Separator → Type 0
-IsUpTo key s = key_lt key s.key ≡ false
+abbrev pub IsUpToKey : Key → Separator → Type 0
+IsUpToKey key s = key_lt key s.key ≡ false
 
-abbrev pub IsBehind : Key → Separator → Type 0
-IsBehind key s = key_lt key s.key ≡ true
+abbrev pub IsBehindKey : Key → Separator → Type 0
+IsBehindKey key s = key_lt key s.key ≡ true
 
 -- ---- the laws
 
@@ -70,16 +70,16 @@ ChildrenParted =
 
 -- what is left of a key, and right of it
 abbrev pub ChildrenEnd : Type 0
-ChildrenEnd = (key : Key) (first : ℕ) (low : Option Key) (before : List Separator) → AllByRecursion (IsUpTo key) before → AllByRecursion (EndsUpTo key) (children_before first low before)
+ChildrenEnd = (key : Key) (first : ℕ) (low : Option Key) (before : List Separator) → AllByRecursion (IsUpToKey key) before → AllByRecursion (EndsUpTo key) (children_before first low before)
 
 abbrev pub ChildrenBegin : Type 0
-ChildrenBegin = (key : Key) (high : Option Key) (behind : List Separator) → AllByRecursion (IsBehind key) behind → AllByRecursion (BeginsBehind key) (children_from high behind)
+ChildrenBegin = (key : Key) (high : Option Key) (behind : List Separator) → AllByRecursion (IsBehindKey key) behind → AllByRecursion (BeginsBehind key) (children_from high behind)
 
 -- the child at a key, by its place
 abbrev pub ChildrenAround : Type 0
 ChildrenAround =
-    (key : Key) (first : ℕ) (low high : Option Key) (separators : List Separator) (i : ℕ) → AllByRecursion (IsUpTo key) (take i separators) → AllByRecursion (IsBehind key) (drop i separators)
-    → StandsAt key (children first low high separators) (children_before first low (take i separators)) (child_between first low high (take i separators) (drop i separators) ∷ []) (children_from high (drop i separators))
+    (key : Key) (first : ℕ) (low high : Option Key) (separators : List Separator) (i : ℕ) → AllByRecursion (IsUpToKey key) (take i separators) → AllByRecursion (IsBehindKey key) (drop i separators)
+    → StandsAround key (children first low high separators) (children_before first low (take i separators)) (child_between first low high (take i separators) (drop i separators) ∷ []) (children_from high (drop i separators))
 
 -- so many children into the list
 abbrev pub ChildAt : Type 0
@@ -90,5 +90,5 @@ ChildAt =
 -- a key between a page's stands between those of the child at it
 abbrev pub KeyInside : Type 0
 KeyInside =
-    (key : Key) (first : ℕ) (low high : Option Key) (before behind : List Separator) → not_below low key ≡ true → below high key ≡ true → AllByRecursion (IsUpTo key) before → AllByRecursion (IsBehind key) behind
+    (key : Key) (first : ℕ) (low high : Option Key) (before behind : List Separator) → not_below low key ≡ true → below high key ≡ true → AllByRecursion (IsUpToKey key) before → AllByRecursion (IsBehindKey key) behind
     → is_inside (child_between first low high before behind) key ≡ true

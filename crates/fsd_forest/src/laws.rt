@@ -1,5 +1,5 @@
 //! Laws over the definitions: the functions do nothing, the contract of each is a law.
-ghost use Rattle.fsd_forest.specs.Laws.{LeavesBecome, Widens, Rises, Follows, Remains, TreesBecome, TreesGrow, TreesShrink, TreesAreLow};
+ghost use Rattle.fsd_forest.specs.Laws.{LeavesBecome, Widens, Rises, FollowsChange, Remains, TreesBecome, TreesGrow, TreesShrink, TreesAreLow};
 ghost use Rattle.fsd_forest.specs.Parts.{LeavesPart, LeavesJoin, InteriorsPart, InteriorsJoin, ChildrenPart};
 ghost use Rattle.fsd_forest.specs.Steps.{StepsUp, PageStepsUp, SidesStay, PageSidesStay};
 ghost use Rattle.fsd_forest.specs.Ways.{ChildrenBeside, ChildrenBetween, ChildrenParted, ChildrenEnd, ChildrenBegin, ChildrenAround, ChildAt, KeyInside};
@@ -20,7 +20,7 @@ pub fn forests_follow()
     ensures leaves_become { LeavesBecome }
     ensures widens { Widens }
     ensures rises { Rises }
-    ensures follows { Follows }
+    ensures follows { FollowsChange }
     ensures remains { Remains }
 {}
 

@@ -1,6 +1,6 @@
 -- What is left of a page above a child that was mended.
 use Rattle.std.proofs.Common.{◌≡◌, ◌-◌, ◌≢◌, inl, inr, ℕ, ◌+◌, ◌<◌, ◌≤◌, Bool, true, false, cond, List, [], ◌∷◌, ◌++◌, length, take, drop, Option, ◌&&◌, refl, sym, ap, subst, ◌∙◌, arith, length-append}
-use Rattle.std.specs.Prelude.{◌==◌, Result, Ok, Err, IfOk, OnOk}
+use Rattle.std.specs.Prelude.{◌==◌}
 use Rattle.std.proofs.lemmas.Bool.{and_parts, and_from}
 use Rattle.fsd_bytes.specs.declared.key.Key.{Key}
 use Rattle.fsd_formats.specs.declared.page.Separator.{Separator}
@@ -11,21 +11,14 @@ use Rattle.fsd_table.proofs.BoundLaws.{separator_keys_append}
 use Rattle.name_page.specs.Pages.{Step, is_one_of}
 use Rattle.name_btree.specs.declared.draft.Draft.{Draft}
 use Rattle.name_btree.specs.declared.draft.Sheet.{Sheet}
-use Rattle.name_btree.specs.declared.fault.TreeFault.{TreeFault}
 use Rattle.name_btree.specs.declared.trimming.Pair.{Pair}
 use Rattle.name_btree.specs.declared.trimming.Trimmed.{Trimmed}
 use Rattle.name_btree.specs.declared.trimming.Trimmed.TheVariants.{Whole, Leaf, Interior}
 use Rattle.name_btree.specs.Draft.{with_freed}
-use Rattle.name_btree.specs.Trim.{AreWays, IsOpened, IsPair, IsLeft, AreWaysPut, separators_joined, AreJoined, IsMended, sheets_below}
+use Rattle.name_btree.specs.Trim.{AreWays, IsOpenedPage, IsPair, IsLeft, AreWaysPut, separators_joined, AreJoined, IsTrimmedAbove, sheets_below}
 use Rattle.name_btree.proofs.PairLaws.{parts_at}
 use Rattle.name_btree.proofs.TrimLaws.{joined_ways}
 use Rattle.fsd_forest.proofs.PartLaws.{fit_append}
-
--- ---- results
-
-pub ok_on : (r : Result Trimmed TreeFault) (P : Trimmed → Type 0) (Q : Type 0) → ((x : Trimmed) → P x → Q) → IfOk r P → OnOk r Q
-ok_on (Ok x) P Q f h = f x h
-ok_on (Err fault) P Q f h = tt
 
 -- ---- pages that go
 
@@ -45,7 +38,7 @@ fit_joined low high xs s ys e =
     ap (keys_fit low high) (separator_keys_append xs ys) ∙ fit_append low high (separator_keys xs) (separator_keys ys)
     ∙ and_from (keys_fit low high (separator_keys xs)) (keys_fit low high (separator_keys ys)) halves.0 (and_parts (not_below low s.key && below high s.key) (keys_fit low high (separator_keys ys)) halves.1).1
 
-pub joined_fit : (p first : ℕ) (above : Child) (xs : List Separator) (pair : Pair) → IsPair above first xs pair → IsOpened p above first xs → keys_fit above.low above.high (separator_keys (separators_joined xs pair)) ≡ true
+pub joined_fit : (p first : ℕ) (above : Child) (xs : List Separator) (pair : Pair) → IsPair above first xs pair → IsOpenedPage p above first xs → keys_fit above.low above.high (separator_keys (separators_joined xs pair)) ≡ true
 joined_fit p first above xs pair is o =
     fit_joined above.low above.high (take pair.place xs) is.between (drop (pair.place + 1) xs) (ap (λ (ys : List Separator). keys_fit above.low above.high (separator_keys ys)) (sym (parts_at xs pair.place is.between is.there)) ∙ o.within)
 
@@ -70,12 +63,12 @@ put_left step old new p first above separators (Interior f list) w fit h = recor
 whole_left : (p : ℕ) (above : Child) (left : Trimmed) → left ≡ Whole → IsLeft p above left
 whole_left p above left e = subst (IsLeft p above) (sym e) tt
 
-joined_left : (step : Step) (old new : Draft) (p first : ℕ) (above : Child) (xs : List Separator) (pair : Pair) (x : Content) (left : Trimmed) → IsPair above first xs pair → IsOpened p above first xs
+joined_left : (step : Step) (old new : Draft) (p first : ℕ) (above : Child) (xs : List Separator) (pair : Pair) (x : Content) (left : Trimmed) → IsPair above first xs pair → IsOpenedPage p above first xs
     → AreJoined step old new above.page first xs pair x left → IsLeft p above left
 joined_left step old new p first above xs pair x left is o j =
     put_left step j.middle new.sheets.items p first above (separators_joined xs pair) left (joined_ways p first above xs pair is o.ways) (joined_fit p first above xs pair is o) j.above
 
-pub mended_left : (step : Step) (old new : Draft) (p : ℕ) (above : Child) (first : ℕ) (xs : List Separator) (i : ℕ) (below left : Trimmed) → IsOpened p above first xs → IsMended step old new above first xs i below left → IsLeft p above left
+pub mended_left : (step : Step) (old new : Draft) (p : ℕ) (above : Child) (first : ℕ) (xs : List Separator) (i : ℕ) (below left : Trimmed) → IsOpenedPage p above first xs → IsTrimmedAbove step old new above first xs i below left → IsLeft p above left
 mended_left step old new p above first xs i Whole left o m = whole_left p above left m.0
 mended_left step old new p above first xs i (Leaf list) left o m = elim m.mended [
   | inl j ↦ joined_left step old new p first above xs m.pair _ left m.is o j
@@ -89,7 +82,7 @@ mended_left step old new p above first xs i (Interior lead list) left o m = elim
 joined_freed : (step : Step) (old new : Draft) (page first : ℕ) (xs : List Separator) (pair : Pair) (x : Content) (left : Trimmed) → AreJoined step old new page first xs pair x left → length new.freed.items ≤ length old.freed.items + 1
 joined_freed step old new page first xs pair x left j = omega (arith, ap length j.freed, freed_more pair.right old.freed.items)
 
-pub mended_freed : (step : Step) (old new : Draft) (above : Child) (first : ℕ) (xs : List Separator) (i : ℕ) (below left : Trimmed) → IsMended step old new above first xs i below left → length new.freed.items ≤ length old.freed.items + 1
+pub mended_freed : (step : Step) (old new : Draft) (above : Child) (first : ℕ) (xs : List Separator) (i : ℕ) (below left : Trimmed) → IsTrimmedAbove step old new above first xs i below left → length new.freed.items ≤ length old.freed.items + 1
 mended_freed step old new above first xs i Whole left m = omega (arith, ap (λ (d : Draft). length d.freed.items) m.1)
 mended_freed step old new above first xs i (Leaf list) left m = elim m.mended [
   | inl j ↦ joined_freed step old new above.page first xs m.pair _ left j
@@ -117,7 +110,7 @@ three_sheets : (below left : Trimmed) (n m levels : ℕ) → left ≡ Whole → 
 three_sheets below left n m levels is h = subst (λ (x : Trimmed). m ≤ n + sheets_below (levels + 1) x) (sym is) (omega (arith, h))
 
 more_sheets : (step : Step) (old new : Draft) (above : Child) (first : ℕ) (xs : List Separator) (i : ℕ) (below left : Trimmed) (n levels : ℕ) → length old.sheets.items ≤ n + sheets_below levels below
-    → IsMended step old new above first xs i below left → length new.sheets.items ≤ n + sheets_below (levels + 1) left
+    → IsTrimmedAbove step old new above first xs i below left → length new.sheets.items ≤ n + sheets_below (levels + 1) left
 more_sheets step old new above first xs i Whole left n levels h m = three_sheets Whole left n (length new.sheets.items) levels m.0 (omega (arith, h, ap (λ (d : Draft). length d.sheets.items) m.1))
 more_sheets step old new above first xs i (Leaf list) left n levels h m = elim m.mended [
   | inl j ↦ put_sheets step j.middle new.sheets.items above.page first _ left n levels j.above (omega (arith, h, j.one.one))
@@ -129,7 +122,7 @@ more_sheets step old new above first xs i (Interior lead list) left n levels h m
 ]
 
 pub mended_sheets : (step : Step) (old new : Draft) (above : Child) (first : ℕ) (xs : List Separator) (i : ℕ) (below left : Trimmed) (n levels : ℕ) → 0 < levels → length old.sheets.items ≤ n + sheets_below (levels - 1) below
-    → IsMended step old new above first xs i below left → length new.sheets.items ≤ n + sheets_below levels left
+    → IsTrimmedAbove step old new above first xs i below left → length new.sheets.items ≤ n + sheets_below levels left
 mended_sheets step old new above first xs i below left n levels some h m =
     let up : (levels - 1) + 1 ≡ levels = omega (arith, some) in
     subst (λ (l : ℕ). length new.sheets.items ≤ n + sheets_below l left) up (more_sheets step old new above first xs i below left n (levels - 1) h m)

@@ -20,8 +20,8 @@ use Rattle.name_btree.specs.declared.descent.Neighbour.{Neighbour}
 use Rattle.name_btree.specs.declared.descent.Way.{Way}
 use Rattle.name_btree.specs.declared.fault.TreeFault.{TreeFault}
 use Rattle.name_btree.specs.Descent.{way_to, LeadsDown}
-use Rattle.name_btree.specs.Fault.{HasCause, IsMisfit, IsOnWay, BarsPage, BarsTable, ShowsCause, ShowsMisfit}
-use Rattle.name_btree.specs.Lookup.{HasLeafBy, HoldsAt, IsInPlace}
+use Rattle.name_btree.specs.Fault.{HasTreeCause, IsMisfit, IsOnWay, BarsPage, BarsTable, ShowsCause, ShowsMisfit}
+use Rattle.name_btree.specs.Lookup.{HasLeafBy, AgreesAt, IsInPlace}
 use Rattle.name_btree.proofs.DescentLaws.{IsOnWay as Stands, way_begins, way_down, way_ends}
 use Rattle.name_btree.proofs.DownLaws.{leads_on}
 use Rattle.name_btree.proofs.FindLaws.{entry_found}
@@ -81,7 +81,7 @@ module _ (key : Key) (old s : Step) (above : ℕ) (c : Child) (looks : Looks old
 
   -- ---- the leaf
 
-  pub alone_holds : (entries : List Entry) → Shows s (λ pages. page_at pages c.page ≡ Some (Leaf entries)) → Shows s (λ pages. HoldsAt key pages entries)
+  pub alone_holds : (entries : List Entry) → Shows s (λ pages. page_at pages c.page ≡ Some (Leaf entries)) → Shows s (λ pages. AgreesAt key pages entries)
   alone_holds entries at pages agrees height t =
       entry_found key pages (record { page = c.page; entries = entries; previous = is.previous; next = is.next })
       (way_ends (is_before (UpTo key)) pages top above (way c is.previous is.next) entries (at pages agrees) (on pages agrees)) height t
@@ -104,10 +104,10 @@ module _ (key : Key) (old s : Step) (above : ℕ) (c : Child) (looks : Looks old
 
   -- ---- faults
 
-  pub alone_fault : (fault : TreeFault) → HasCause s (IsMisfit s.images c) (BarsPage s c.page) fault → HasCause s (BreaksTable s.images) (BarsTable s) fault
+  pub alone_fault : (fault : TreeFault) → HasTreeCause s (IsMisfit s.images c) (BarsPage s c.page) fault → HasTreeCause s (BreaksTable s.images) (BarsTable s) fault
   alone_fault fault h = top_breaks s fault top refl (misfit_below s fault 0 top above (way c is.previous is.next) (visited s.images (agrees_now s)) h)
 
-  pub alone_shown : (fault : TreeFault) → HasCause s (IsMisfit s.images c) (BarsPage s c.page) fault → ShowsMisfit s c fault → ShowsCause s BreaksTable IsOnWay fault
+  pub alone_shown : (fault : TreeFault) → HasTreeCause s (IsMisfit s.images c) (BarsPage s c.page) fault → ShowsMisfit s c fault → ShowsCause s BreaksTable IsOnWay fault
   alone_shown fault h misfit = shown_top s fault top refl (shown_below s fault 0 top above (way c is.previous is.next) visited h misfit)
 
 -- there are no more levels

@@ -17,9 +17,9 @@ use Rattle.fsd_table.specs.declared.child.Child.{Child}
 use Rattle.fsd_table.specs.Pages.{page_at, children, children_of, not_below, below, keys_fit, separator_keys}
 use Rattle.fsd_table.specs.Tree.{entries_below, pages_below, IsInterior, IsSubtree}
 use Rattle.fsd_table.proofs.BoundLaws.{all_weaker, all_split, separator_keys_append}
-use Rattle.fsd_forest.specs.Forest.{inner, count_of, forest_pages, IsLocal, Becomes, IsAbove, Disjoint}
+use Rattle.fsd_forest.specs.Forest.{inner, times_in, forest_pages, IsLocal, Becomes, IsAbove, Disjoint}
 use Rattle.fsd_forest.specs.Parts.{left_part, right_part}
-use Rattle.fsd_forest.specs.Ways.{children_before, children_from, StandsAt, IsUpTo, IsBehind}
+use Rattle.fsd_forest.specs.Ways.{children_before, children_from, StandsAround, IsUpToKey, IsBehindKey}
 use Rattle.fsd_forest.proofs.PartLaws.{children_part, keys_parted}
 use Rattle.fsd_forest.proofs.TreeLaws.{alone}
 use Rattle.fsd_forest.proofs.WayLaws.{children_around, children_parted}
@@ -31,8 +31,8 @@ use Rattle.name_page.proofs.CutLaws.{greater}
 use Rattle.name_page.proofs.SideLaws.{with_part}
 use Rattle.name_btree.specs.declared.growing.Grown.{Grown}
 use Rattle.name_btree.specs.declared.growing.Grown.TheVariants.{Whole, Parted}
-use Rattle.name_btree.specs.Draft.{IsTaken}
-use Rattle.name_btree.specs.Grown.{went_of, parts_of, AreInteriorsOf, IsInPlace, IsAboveGrown, IsDivided, IsBranch, AreUsed}
+use Rattle.name_btree.specs.Draft.{WereTaken}
+use Rattle.name_btree.specs.Grown.{went_of, parts_of, AreInteriorsOf, StaysInPlace, IsAboveGrown, IsDivided, IsBranch, AreUsed}
 use Rattle.name_btree.specs.Trim.{child_of}
 use Rattle.name_btree.proofs.LeafGrowthLaws.{behind_low}
 use Rattle.name_btree.proofs.WaysGrowthLaws.{between_ascends, between_fits}
@@ -59,12 +59,12 @@ abbrev pub right_children : Child → List Separator → ℕ → List Child
 right_children c separators i = children_from c.high (drop i separators)
 
 abbrev pub StandAround : Key → List Separator → ℕ → Type 0
-StandAround key separators i = AllByRecursion (IsUpTo key) (take i separators) × AllByRecursion (IsBehind key) (drop i separators)
+StandAround key separators i = AllByRecursion (IsUpToKey key) (take i separators) × AllByRecursion (IsBehindKey key) (drop i separators)
 
 pub children_are : (key : Key) (pages : List (List ℕ)) (c : Child) (first : ℕ) (separators : List Separator) (i : ℕ) → page_at pages c.page ≡ Some (Interior first separators) → StandAround key separators i
-    → StandsAt key (children_of c.low c.high (page_at pages c.page)) (left_children c first separators i) (child_of c first separators i ∷ []) (right_children c separators i)
+    → StandsAround key (children_of c.low c.high (page_at pages c.page)) (left_children c first separators i) (child_of c first separators i ∷ []) (right_children c separators i)
 children_are key pages c first separators i at around =
-    subst (λ (x : Option Content). StandsAt key (children_of c.low c.high x) (left_children c first separators i) (child_of c first separators i ∷ []) (right_children c separators i)) (sym at)
+    subst (λ (x : Option Content). StandsAround key (children_of c.low c.high x) (left_children c first separators i) (child_of c first separators i ∷ []) (right_children c separators i)) (sym at)
     (children_around key first c.low c.high separators i around.0 around.1)
 
 pub record IsBelow (pages : List (List ℕ)) (level : ℕ) (c d : Child) (left right : List Child) : Type 0 where
@@ -166,7 +166,7 @@ ways_grown after c first separators (Parted left s) is order fit =
 
 -- the children on both sides are as before, and the grown one has its parts
 pub sides_grown : (key : Key) (pages after : List (List ℕ)) (c : Child) (first : ℕ) (separators : List Separator) (i : ℕ) (g above : Grown) → StandAround key separators i → (g ≡ Whole → page_at pages c.page ≡ Some (Interior first separators))
-    → are_ascending (separator_keys separators) ≡ true → keys_fit c.low c.high (separator_keys separators) ≡ true → ((child_of c first separators i).page ≡ 0 → ⊥) → IsInPlace (child_of c first separators i).page g
+    → are_ascending (separator_keys separators) ≡ true → keys_fit c.low c.high (separator_keys separators) ≡ true → ((child_of c first separators i).page ≡ 0 → ⊥) → StaysInPlace (child_of c first separators i).page g
     → IsDivided (child_of c first separators i) g → IsAboveGrown pages after c.page first separators i g above
     → IsGrownAbove after c above (left_children c first separators i ++ (parts_of (child_of c first separators i) g ++ right_children c separators i))
 sides_grown key pages after c first separators i Whole above around at order fit inner place divided is =
@@ -189,11 +189,11 @@ sides_grown key pages after c first separators i (Parted left s) above around at
 -- ---- how often a page is there
 
 -- the same but for the order of what came and went
-pub becomes_by : (edit : List Entry → List Entry) (pages after : List (List ℕ)) (came went came2 went2 : List ℕ) (level : ℕ) (old new : List Child) → ((p : ℕ) → count_of p came2 ≡ count_of p came) → ((p : ℕ) → count_of p went2 ≡ count_of p went)
+pub becomes_by : (edit : List Entry → List Entry) (pages after : List (List ℕ)) (came went came2 went2 : List ℕ) (level : ℕ) (old new : List Child) → ((p : ℕ) → times_in p came2 ≡ times_in p came) → ((p : ℕ) → times_in p went2 ≡ times_in p went)
     → Becomes edit pages after came went level old new → Becomes edit pages after came2 went2 level old new
 becomes_by edit pages after came went came2 went2 level old new c w b = record {
   subtrees = b.subtrees;
-  pages_are = λ p. same (count_of p (forest_pages level after new)) (count_of p (forest_pages level pages old)) (count_of p came) (count_of p went) (count_of p came2) (count_of p went2) (b.pages_are p) (c p) (w p);
+  pages_are = λ p. same (times_in p (forest_pages level after new)) (times_in p (forest_pages level pages old)) (times_in p came) (times_in p went) (times_in p came2) (times_in p went2) (b.pages_are p) (c p) (w p);
   entries = b.entries;
 }
   where
@@ -208,9 +208,9 @@ went_nothing page (Parted left s) apart = by (page == 0) refl
     by true is = absurd (apart (eqb-true page 0 is))
     by false is = refl
 
-used_apart : (old new : Step) (pages came : List ℕ) → AreUsed old pages → IsTaken old new came → Disjoint pages came
+used_apart : (old new : Step) (pages came : List ℕ) → AreUsed old pages → WereTaken old new came → Disjoint pages came
 used_apart old new pages came used taken p h =
     false_from_ne_true (contains came p) (λ there. let spare = each_in (λ q. is_spare old.spares q ≡ true) came p taken.spare there in let no_spare = used p h in absurd cc)
 
-pub taken_apart : (old new : Step) (pages came : List ℕ) → all_differ pages ≡ true → AreUsed old pages → IsTaken old new came → all_differ (pages ++ came) ≡ true
+pub taken_apart : (old new : Step) (pages came : List ℕ) → all_differ pages ≡ true → AreUsed old pages → WereTaken old new came → all_differ (pages ++ came) ≡ true
 taken_apart old new pages came apart used taken = apart_from pages came apart taken.apart (used_apart old new pages came used taken)

@@ -20,8 +20,8 @@ use Rattle.name_page.proofs.LookLaws.{Joins, reaches_still, reaches_walks, walks
 use Rattle.name_btree.specs.declared.calls.Call.{Call}
 use Rattle.name_btree.specs.declared.fault.TreeFault.{TreeFault}
 use Rattle.name_btree.specs.declared.fault.TreeFault.TheVariants.{Pages, Broken}
-use Rattle.name_btree.specs.Calls.{answer_of, made_of, answers_of, after, Allows, AllowsAll, Permits, TakesPages, IsExcused, Carries, Runs, StopsAt, without_answer}
-use Rattle.name_btree.specs.Fault.{IsCaused, HasCause, FailsTable, FailsSpare, BarsTable, IsNoUsedTree}
+use Rattle.name_btree.specs.Calls.{map_answer, made_of, answers_of, after_calls, Allows, AllowsAll, Permits, TakesPages, IsExcused, CarriesOut, RunsCalls, StopsAt, without_answer}
+use Rattle.name_btree.specs.Fault.{IsCaused, HasTreeCause, FailsTable, FailsSpare, BarsTable, IsNoUsedTree}
 use Rattle.name_btree.specs.Map.{IsTable, HasTable}
 use Rattle.name_btree.proofs.CauseLaws.{cause_map}
 use Rattle.name_btree.proofs.GrowLaws.{take_all}
@@ -96,7 +96,7 @@ begins_renewed P a mid stays is = record { spares = ap (λ (s : Step). s.spares)
 
 -- a step that is refused
 pub begins_refused : {D : Type 0} (P : Ghosts D) (a new : D) (call : Call) (refusal : Refusal) → (P.trusted new → (P.step new).images ≡ (P.step a).images) → P.step new ≡ with_refusal refusal (with_images (P.step new).images (P.step a)) → IsOuter refusal
-    → P.trusted new → (height : ℕ) → IsTable (P.step a) height → Carries (table_of (P.step a).images height) call (Err (Pages refusal)) (P.step new)
+    → P.trusted new → (height : ℕ) → IsTable (P.step a) height → CarriesOut (table_of (P.step a).images height) call (Err (Pages refusal)) (P.step new)
 begins_refused P a new call refusal stays is cause t height table = (
   inl cause,
   record {
@@ -119,13 +119,13 @@ module _ {D : Type 0} (P : Ghosts D) (a mid new : D) (begun : Begins P a mid) wh
 
   -- a look-up
   pub looks_up : {refusal : Option Refusal} (call : Call) → ((table : List Entry) → made_of table call ≡ table) → (r : Result (Option Entry) TreeFault) → OnlyReaches P refusal mid new
-      → IfOk r (λ found. P.trusted new → (height : ℕ) → IsTree (P.step mid).images height → found ≡ answer_of (table_of (P.step mid).images height) call)
-      → IfErr r (HasCause (P.step new) (BreaksTable (P.step new).images) (BarsTable (P.step new)))
-      → P.trusted new → (height : ℕ) → IsTable (P.step a) height → Carries (table_of (P.step a).images height) call r (P.step new)
+      → IfOk r (λ found. P.trusted new → (height : ℕ) → IsTree (P.step mid).images height → found ≡ map_answer (table_of (P.step mid).images height) call)
+      → IfErr r (HasTreeCause (P.step new) (BreaksTable (P.step new).images) (BarsTable (P.step new)))
+      → P.trusted new → (height : ℕ) → IsTable (P.step a) height → CarriesOut (table_of (P.step a).images height) call r (P.step new)
   looks_up call stays (Ok found) x ok err t height is =
       let w = reaches_walks P mid new x in
       let tree : IsTree (P.step mid).images height = (same_table (P.step a) (P.step mid) height (begun.stays (w.trust t)) begun.spares is).tree in (
-        ok t height tree ∙ ap (λ (table : List Entry). answer_of table call) (same (w.trust t) height),
+        ok t height tree ∙ ap (λ (table : List Entry). map_answer table call) (same (w.trust t) height),
         subst (HasTable (P.step new)) (sym (stays (table_of (P.step a).images height))) (kept_has w t height is),
       )
   looks_up call stays (Err fault) x ok err t height is =
@@ -136,10 +136,10 @@ module _ {D : Type 0} (P : Ghosts D) (a mid new : D) (begun : Begins P a mid) wh
       )
 
   -- a change
-  pub changes_to : {refusal : Option Refusal} (call : Call) → ((table : List Entry) → None ≡ answer_of table call) → (r : Result (Unit {0}) TreeFault) → OnlyEdits P refusal mid new → OnErr r (OnlyWalks P refusal mid new)
+  pub changes_to : {refusal : Option Refusal} (call : Call) → ((table : List Entry) → None ≡ map_answer table call) → (r : Result (Unit {0}) TreeFault) → OnlyEdits P refusal mid new → OnErr r (OnlyWalks P refusal mid new)
       → OnOk r (P.trusted new → (height : ℕ) → IsTable (P.step mid) height → HasTable (P.step new) (made_of (table_of (P.step mid).images height) call))
       → (P.trusted new → (height : ℕ) → IsTable (P.step new) height → IfErr r (IsExcused (P.step new) call))
-      → P.trusted new → (height : ℕ) → IsTable (P.step a) height → Carries (table_of (P.step a).images height) call (without_answer r) (P.step new)
+      → P.trusted new → (height : ℕ) → IsTable (P.step a) height → CarriesOut (table_of (P.step a).images height) call (without_answer r) (P.step new)
   changes_to call answers (Ok done) x err ok excuse t height is =
       let made = ok t height (same_table (P.step a) (P.step mid) height (begun.stays (x.trust t)) begun.spares is) in (
         answers (table_of (P.step a).images height),
@@ -152,15 +152,15 @@ module _ {D : Type 0} (P : Ghosts D) (a mid new : D) (begun : Begins P a mid) wh
 
 -- ---- one after another
 
-after_more : (table : List Entry) (calls : List Call) (c : Call) → after table (calls ++ c ∷ []) ≡ made_of (after table calls) c
+after_more : (table : List Entry) (calls : List Call) (c : Call) → after_calls table (calls ++ c ∷ []) ≡ made_of (after_calls table calls) c
 after_more table [] c = refl
 after_more table (d ∷ calls) c = after_more (made_of table d) calls c
 
-answers_more : (table : List Entry) (calls : List Call) (c : Call) → answers_of table (calls ++ c ∷ []) ≡ answers_of table calls ++ answer_of (after table calls) c ∷ []
+answers_more : (table : List Entry) (calls : List Call) (c : Call) → answers_of table (calls ++ c ∷ []) ≡ answers_of table calls ++ map_answer (after_calls table calls) c ∷ []
 answers_more table [] c = refl
-answers_more table (d ∷ calls) c = ap (λ (xs : List (Option Entry)). answer_of table d ∷ xs) (answers_more (made_of table d) calls c)
+answers_more table (d ∷ calls) c = ap (λ (xs : List (Option Entry)). map_answer table d ∷ xs) (answers_more (made_of table d) calls c)
 
-allows_at : (table : List Entry) (before : List Call) (c : Call) (behind : List Call) → AllowsAll table (before ++ c ∷ behind) → Allows (after table before) c
+allows_at : (table : List Entry) (before : List Call) (c : Call) (behind : List Call) → AllowsAll table (before ++ c ∷ behind) → Allows (after_calls table before) c
 allows_at table [] c behind h = h.0
 allows_at table (d ∷ before) c behind h = allows_at (made_of table d) before c behind h.1
 
@@ -168,7 +168,7 @@ allows_at table (d ∷ before) c behind h = allows_at (made_of table d) before c
 pub record IsSoFar {D : Type 0} (P : Ghosts D) (old now : D) (calls : List Call) (answers : List (Option Entry)) (i : ℕ) : Type 0 where
   pub whole : length answers ≡ length calls
   pub edits : OnlyEdits P None old now
-  pub runs : P.trusted now → (height : ℕ) → IsTable (P.step old) height → Runs (table_of (P.step old).images height) (take i calls) (take i answers) (P.step now)
+  pub runs : P.trusted now → (height : ℕ) → IsTable (P.step old) height → RunsCalls (table_of (P.step old).images height) (take i calls) (take i answers) (P.step now)
 
 pub none_so_far : {D : Type 0} (P : Ghosts D) (a : D) (calls : List Call) (answers : List (Option Entry)) → P.outside None a a → length answers ≡ length calls → IsSoFar P a a calls answers 0
 none_so_far P a calls answers still whole = record {
@@ -189,19 +189,19 @@ module _ {D : Type 0} (P : Ghosts D) (old now : D) (calls : List Call) (answers 
   next_allowed permits t height tree =
       let p : Permits (P.step old) calls = permits (so.edits.trust t) in
       let table = table_of (P.step old).images p.height in
-      let r : Runs table (take i calls) (take i answers) (P.step now) = so.runs t p.height p.is in
-      let allowed : Allows (after table (take i calls)) c = allows_at table (take i calls) c (drop (i + 1) calls) (subst (AllowsAll table) parts p.allows) in
+      let r : RunsCalls table (take i calls) (take i answers) (P.step now) = so.runs t p.height p.is in
+      let allowed : Allows (after_calls table (take i calls)) c = allows_at table (take i calls) c (drop (i + 1) calls) (subst (AllowsAll table) parts p.allows) in
       subst (λ (xs : List Entry). Allows xs c) (sym (one_table (P.step now).images height r.makes.height tree r.makes.is.tree ∙ r.makes.table_is)) allowed
 
   module _ (new : D) (trust : P.trusted new → P.trusted now) where
     -- what was carried out, of the table that the calls before made
-    carried : (r : Result (Option Entry) TreeFault) → (P.trusted new → (height : ℕ) → IsTable (P.step now) height → Carries (table_of (P.step now).images height) c r (P.step new))
-        → P.trusted new → (height : ℕ) → IsTable (P.step old) height → Carries (after (table_of (P.step old).images height) (take i calls)) c r (P.step new)
+    carried : (r : Result (Option Entry) TreeFault) → (P.trusted new → (height : ℕ) → IsTable (P.step now) height → CarriesOut (table_of (P.step now).images height) c r (P.step new))
+        → P.trusted new → (height : ℕ) → IsTable (P.step old) height → CarriesOut (after_calls (table_of (P.step old).images height) (take i calls)) c r (P.step new)
     carried r h t height is =
         let ran = so.runs (trust t) height is in
-        subst (λ (table : List Entry). Carries table c r (P.step new)) ran.makes.table_is (h t ran.makes.height ran.makes.is)
+        subst (λ (table : List Entry). CarriesOut table c r (P.step new)) ran.makes.table_is (h t ran.makes.height ran.makes.is)
 
-    pub one_so_far : (law : Joins P) → OnlyEdits P None now new → (answer : Option Entry) → (P.trusted new → (height : ℕ) → IsTable (P.step now) height → Carries (table_of (P.step now).images height) c (Ok answer) (P.step new)) → IsSoFar P old new calls (slice_set answers i answer) (i + 1)
+    pub one_so_far : (law : Joins P) → OnlyEdits P None now new → (answer : Option Entry) → (P.trusted new → (height : ℕ) → IsTable (P.step now) height → CarriesOut (table_of (P.step now).images height) c (Ok answer) (P.step new)) → IsSoFar P old new calls (slice_set answers i answer) (i + 1)
     one_so_far law edits answer h = record {
       whole = length-set answers i answer ∙ so.whole;
       edits = edits_then P law old now new so.edits edits;
@@ -216,12 +216,12 @@ module _ {D : Type 0} (P : Ghosts D) (old now : D) (calls : List Call) (answers 
                 ∙ ap (λ (x : Option Entry). answers_of table (take i calls) ++ x ∷ []) did.0
                 ∙ sym (answers_more table (take i calls) c)
                 ∙ ap (answers_of table) (sym more);
-            makes = subst (HasTable (P.step new)) (sym (after_more table (take i calls) c) ∙ ap (after table) (sym more)) did.1;
+            makes = subst (HasTable (P.step new)) (sym (after_more table (take i calls) c) ∙ ap (after_calls table) (sym more)) did.1;
           };
     }
 
     pub stops_here : (fault : TreeFault)
-        → (P.trusted new → (height : ℕ) → IsTable (P.step now) height → Carries (table_of (P.step now).images height) c (Err fault) (P.step new))
+        → (P.trusted new → (height : ℕ) → IsTable (P.step now) height → CarriesOut (table_of (P.step now).images height) c (Err fault) (P.step new))
         → P.trusted new → (height : ℕ) → IsTable (P.step old) height → StopsAt (table_of (P.step old).images height) calls answers fault (P.step new)
     stops_here fault h t height is =
         let did = carried (Err fault) h t height is in
@@ -238,10 +238,10 @@ module _ {D : Type 0} (P : Ghosts D) (old now : D) (calls : List Call) (answers 
 
 -- all calls were made
 pub all_so_far : {D : Type 0} (P : Ghosts D) (old now : D) (calls : List Call) (answers : List (Option Entry)) (i : ℕ) → length calls ≤ i → IsSoFar P old now calls answers i
-    → P.trusted now → (height : ℕ) → IsTable (P.step old) height → Runs (table_of (P.step old).images height) calls answers (P.step now)
+    → P.trusted now → (height : ℕ) → IsTable (P.step old) height → RunsCalls (table_of (P.step old).images height) calls answers (P.step now)
 all_so_far P old now calls answers i all so t height is =
     let table = table_of (P.step old).images height in
     let r = so.runs t height is in
     let calls_are : take i calls ≡ calls = take_all calls i all in
     let answers_are : take i answers ≡ answers = take_all answers i (omega (arith, all, so.whole)) in
-    record { answers_are = sym answers_are ∙ r.answers_are ∙ ap (answers_of table) calls_are; makes = subst (λ (xs : List Call). HasTable (P.step now) (after table xs)) calls_are r.makes }
+    record { answers_are = sym answers_are ∙ r.answers_are ∙ ap (answers_of table) calls_are; makes = subst (λ (xs : List Call). HasTable (P.step now) (after_calls table xs)) calls_are r.makes }

@@ -12,14 +12,14 @@ use Rattle.name_page.specs.Pages.{Step, home_of, IsOuter, IsBarred}
 use Rattle.name_page.specs.Looks.{Agrees}
 use Rattle.name_btree.specs.declared.fault.TreeFault.{TreeFault}
 use Rattle.name_btree.specs.declared.fault.TreeFault.TheVariants.{Pages, Broken}
-use Rattle.name_btree.specs.Fault.{IsCaused, HasCause, FailsBy, Never, BarsTable, BarsPage, ShowsCause, ShowsMisfit}
+use Rattle.name_btree.specs.Fault.{IsCaused, HasTreeCause, FailsBy, Never, BarsTable, BarsPage, ShowsCause, ShowsMisfit}
 
 module _ (s : Step) (Breaks Breaks' Bars Bars' : ℕ → Type 0) (breaks : (page : ℕ) → Breaks page → Breaks' page) (bars : (page : ℕ) → Bars page → Bars' page) where
   pub caused_map : (refusal : Refusal) → IsCaused s Bars refusal → IsCaused s Bars' refusal
   caused_map refusal (inl x) = inl x
   caused_map refusal (inr x) = inr (x.0, x.1, bars x.0 x.2)
 
-  pub cause_map : (fault : TreeFault) → HasCause s Breaks Bars fault → HasCause s Breaks' Bars' fault
+  pub cause_map : (fault : TreeFault) → HasTreeCause s Breaks Bars fault → HasTreeCause s Breaks' Bars' fault
   cause_map (Pages refusal) h = (h.0, caused_map refusal h.1)
   cause_map (Broken page) h = breaks page h
 
@@ -46,7 +46,7 @@ fails_by_map s B B' more (Pages refusal) h = (h.0, by h.1)
     by (inr x) = inr (x.0, x.1, x.2, λ images is none. more images x.0 is (x.3 images is none))
 
 -- where no page is named
-pub none_shown : (s : Step) (c : Child) (fault : TreeFault) → HasCause s Never (BarsPage s c.page) fault → ShowsMisfit s c fault
+pub none_shown : (s : Step) (c : Child) (fault : TreeFault) → HasTreeCause s Never (BarsPage s c.page) fault → ShowsMisfit s c fault
 none_shown s c (Pages refusal) h = tt
 none_shown s c (Broken page) h = absurd h
 
@@ -58,7 +58,7 @@ shows_cause_map s B B' I I' breaks there (Pages refusal) (inr x) = inr (x.0, x.1
 
 -- a page that is refused
 pub fails_at : (s : Step) (page : ℕ) (B : List (List ℕ) → ℕ → Type 0) → ((images : List (List ℕ)) → Agrees images s → page_at images page ≡ None → B images page)
-    → (fault : TreeFault) → HasCause s Never (BarsPage s page) fault → FailsBy s B fault
+    → (fault : TreeFault) → HasTreeCause s Never (BarsPage s page) fault → FailsBy s B fault
 fails_at s page B breaks (Broken other) h = absurd h
 fails_at s page B breaks (Pages refusal) h = (h.0, by h.1)
   where
@@ -80,5 +80,5 @@ pub same_err : (a b : TreeFault) → the_err a ≡ the_err b → a ≡ b
 same_err a b e = cc
 
 -- a page that is named breaks what the fault says
-pub broken_is : (s : Step) (Breaks Bars : ℕ → Type 0) (fault : TreeFault) (page : ℕ) → fault ≡ Broken page → HasCause s Breaks Bars fault → Breaks page
-broken_is s Breaks Bars fault page is h = subst (HasCause s Breaks Bars) is h
+pub broken_is : (s : Step) (Breaks Bars : ℕ → Type 0) (fault : TreeFault) (page : ℕ) → fault ≡ Broken page → HasTreeCause s Breaks Bars fault → Breaks page
+broken_is s Breaks Bars fault page is h = subst (HasTreeCause s Breaks Bars) is h

@@ -9,13 +9,13 @@ use Rattle.fsd_table.specs.Pages.{page_at}
 use Rattle.fsd_table.specs.Table.{top}
 use Rattle.fsd_table.specs.Tree.{table_of, pages_of, IsTree}
 use Rattle.fsd_table.proofs.BoundLaws.{all_weaker}
-use Rattle.fsd_forest.specs.Forest.{count_of, Exchange, Stay, IsLocal}
+use Rattle.fsd_forest.specs.Forest.{times_in, Exchange, Stay, IsLocal}
 use Rattle.fsd_forest.proofs.CountLaws.{count_nothing, there_counts, counts_there, counts_out, out_counts, exchange_differ}
 use Rattle.name_page.specs.Pages.{Step, is_spare}
 use Rattle.name_page.specs.declared.cut.Cut.TheVariants.{UpTo}
 use Rattle.name_page.specs.Edits.{put}
 use Rattle.name_page.proofs.PutLaws.{lt_unequal, gt_unequal, put_keys, put_beside}
-use Rattle.name_btree.specs.declared.descent.Found.{Found}
+use Rattle.name_btree.specs.declared.descent.FoundLeaf.{FoundLeaf}
 use Rattle.name_btree.specs.Map.{IsTable, HasTable}
 use Rattle.name_btree.specs.Replace.{HasEdit, IsWritten, IsLeafAt}
 use Rattle.name_btree.proofs.RemoveLaws.{one_page}
@@ -40,7 +40,7 @@ others_stay old still new page entries images w q out = w.others q (one_page pag
 
 -- ---- the table
 
-pub tree_replaced : (e : Entry) (old still new : Step) (found : Found) → still.images ≡ old.images → IsWritten still new found.page (Leaf (map (put e) found.entries)) → IsLeafAt (UpTo e.key) old.images top found
+pub tree_replaced : (e : Entry) (old still new : Step) (found : FoundLeaf) → still.images ≡ old.images → IsWritten still new found.page (Leaf (map (put e) found.entries)) → IsLeafAt (UpTo e.key) old.images top found
     → (height : ℕ) → IsTree old.images height → HasEdit (map (put e)) old.images new.images height
 tree_replaced e old still new found images w at height t =
     let apart : all_differ (pages_of old.images height ++ []) ≡ true = ap all_differ (append-nil (pages_of old.images height)) ∙ t.apart in
@@ -48,14 +48,14 @@ tree_replaced e old still new found images w at height t =
     let b = at e.key (height - 1) refl (tree_around e.key old.images height t) (map (put e)) new.images (put_local e) (put_keys e found.entries) w.content stay in
     let was : List ℕ = pages_of old.images height in
     let now : List ℕ = pages_of new.images height in
-    let pages_are : Exchange was now [] [] = λ p. omega (arith, b.pages_are p, ap (count_of p) (append-nil was), ap (count_of p) (append-nil now)) in
+    let pages_are : Exchange was now [] [] = λ p. omega (arith, b.pages_are p, ap (times_in p) (append-nil was), ap (times_in p) (append-nil now)) in
     record {
       tree = record { least = t.least; most = t.most; subtree = b.subtrees.0; apart = exchange_differ was now [] [] pages_are apart };
       table = sym (append-nil (table_of new.images height)) ∙ b.entries ∙ ap (map (put e)) (append-nil (table_of old.images height));
       pages_are = pages_are;
     }
 
-pub table_replaced : (e : Entry) (old still new : Step) (found : Found) → still.images ≡ old.images → still.spares ≡ old.spares → IsWritten still new found.page (Leaf (map (put e) found.entries)) → IsLeafAt (UpTo e.key) old.images top found
+pub table_replaced : (e : Entry) (old still new : Step) (found : FoundLeaf) → still.images ≡ old.images → still.spares ≡ old.spares → IsWritten still new found.page (Leaf (map (put e) found.entries)) → IsLeafAt (UpTo e.key) old.images top found
     → (height : ℕ) → IsTable old height → HasTable new (map (put e) (table_of old.images height))
 table_replaced e old still new found images spares w at height t =
     let r = tree_replaced e old still new found images w at height t.tree in

@@ -17,7 +17,7 @@ use Rattle.fsd_table.proofs.BreakLaws.{visited_between, misfit_breaks, again_bre
 use Rattle.name_page.proofs.NodeLaws.{past_end}
 use Rattle.name_btree.specs.declared.fault.TreeFault.{TreeFault}
 use Rattle.name_page.specs.declared.pages.Pages.{Ghosts}
-use Rattle.name_btree.specs.Fault.{HasCause, IsMisfit, BarsPage, BarsTable, FailsTable}
+use Rattle.name_btree.specs.Fault.{HasTreeCause, IsMisfit, BarsPage, BarsTable, FailsTable}
 use Rattle.name_btree.proofs.CauseLaws.{cause_map, bars_table}
 use Rattle.name_btree.specs.Walk.{AreMarksOf, is_marked, marked, HasKinds, IsTopLevel, ComesTo, AreWalked, BreaksWalk, BarsWalk, FailsWalk}
 use Rattle.name_btree.proofs.MarkLaws.{marked_at, marks_more, length_marked}
@@ -154,7 +154,7 @@ module _ {D : Type 0} (P : Ghosts D) (new : D) (fault : TreeFault) where
       (λ page. P.trusted new → BarsWalk s level' cs' marks' page) (λ page. P.trusted new → BarsWalk s level cs marks page) (λ page x t w. x t (comes t w)) (λ page x t w. x t (comes t w)) fault h
 
   -- the page itself
-  pub walk_here : (level : ℕ) (c : Child) (marks : List Bool) → HasCause (P.step new) (IsMisfit (P.step new).images c) (BarsPage (P.step new) c.page) fault → FailsWalk P new level (c ∷ []) marks fault
+  pub walk_here : (level : ℕ) (c : Child) (marks : List Bool) → HasTreeCause (P.step new) (IsMisfit (P.step new).images c) (BarsPage (P.step new) c.page) fault → FailsWalk P new level (c ∷ []) marks fault
   walk_here level c marks h =
       let s = P.step new in
       cause_map s (IsMisfit s.images c) (λ page. P.trusted new → BreaksWalk level s.images (c ∷ []) marks page)

@@ -17,11 +17,11 @@ use Rattle.name_page.specs.Lookups.{same_name}
 use Rattle.name_page.specs.Looks.{Looks, Shows}
 use Rattle.name_page.specs.Pages.{Step, is_spare, IsReached}
 use Rattle.name_page.proofs.LookLaws.{agrees_at, agrees_before, agrees_now}
-use Rattle.name_btree.specs.declared.descent.Found.{Found}
+use Rattle.name_btree.specs.declared.descent.FoundLeaf.{FoundLeaf}
 use Rattle.name_btree.specs.declared.descent.Neighbour.{Neighbour}
 use Rattle.name_btree.specs.declared.descent.Way.{Way}
 use Rattle.name_btree.specs.Descent.{way_to, GoesTo, HasNeighbours, IsNeighbour, LeadsDown}
-use Rattle.name_btree.specs.Lookup.{BeginsBehind, BeginsBeside, EndsBeside, EndsUpTo, HasOtherLeft, HasRight, IsFirstBeside, IsLastBeside, IsLeafBy, IsLedFrom, IsReadLeaf}
+use Rattle.name_btree.specs.Lookup.{BeginsBehindPlace, BeginsBeside, EndsBeside, EndsUpToPlace, HasOtherLeft, HasRight, IsFirstBeside, IsLastBeside, IsLeafBy, IsLedFrom, IsReadLeaf}
 use Rattle.name_btree.proofs.MetLaws.{IsOf}
 use Rattle.name_btree.proofs.VisitedLaws.{found_beside}
 
@@ -108,7 +108,7 @@ ends before above lo hi previous next first low high (s ∷ separators) left rig
 
 -- the child left of it ends up to the place
 ends_left : (before : Key → Bool) (above : ℕ) (previous next : Option Neighbour) (first : ℕ) (low high : Option Key) (separators : List Separator)
-    → IfSome previous (EndsUpTo before) → IfSome (way_to before above previous next first low high separators).previous (EndsUpTo before)
+    → IfSome previous (EndsUpToPlace before) → IfSome (way_to before above previous next first low high separators).previous (EndsUpToPlace before)
 ends_left before above previous next first low high [] left = left
 ends_left before above previous next first low high (s ∷ separators) left =
     by (λ is. ends_left before above (Some (record { child = c; above = above })) next s.child (Some s.key) high separators (s.key, refl, is)) (before s.key) refl
@@ -122,7 +122,7 @@ ends_left before above previous next first low high (s ∷ separators) left =
     stop : Way
     stop = record { child = c; previous = previous; next = Some (record { child = record { page = s.child; low = Some s.key; high = end_of high separators }; above = above }) }
 
-    by : (before s.key ≡ true → IfSome go.previous (EndsUpTo before)) → (b : Bool) → before s.key ≡ b → IfSome (cond b go stop).previous (EndsUpTo before)
+    by : (before s.key ≡ true → IfSome go.previous (EndsUpToPlace before)) → (b : Bool) → before s.key ≡ b → IfSome (cond b go stop).previous (EndsUpToPlace before)
     by later true is = later is
     by later false is = left
 
@@ -131,7 +131,7 @@ pub record IsDownWay (s : Step) (before : Key → Bool) (above0 : ℕ) (start : 
   pub way : Shows s (λ pages. LeadsDown before pages above0 start → LeadsDown before pages above w.child)
   pub low : BeginsBeside start.low w.previous w.child.low
   pub high : EndsBeside start.high w.next w.child.high
-  pub left : IfSome w.previous (EndsUpTo before)
+  pub left : IfSome w.previous (EndsUpToPlace before)
 
 pub down_begins : (s : Step) (before : Key → Bool) (above : ℕ) (start : Child) → IsDownWay s before above start above (record { child = start; previous = None; next = None })
 down_begins s before above start = record { way = λ pages agrees h. h; low = refl; high = refl; left = tt }
@@ -150,7 +150,7 @@ down_goes old s before above0 start above w first separators looks at is =
 
 -- ---- the leaf at its end
 
-module _ (old s : Step) (before : Key → Bool) (above : ℕ) (start : Child) (found : Found) (reached : IsReached s found.page) (used : is_spare old.spares found.page ≡ false) (same : s.spares ≡ old.spares)
+module _ (old s : Step) (before : Key → Bool) (above : ℕ) (start : Child) (found : FoundLeaf) (reached : IsReached s found.page) (used : is_spare old.spares found.page ≡ false) (same : s.spares ≡ old.spares)
     (leaf_is : page_at s.images found.page ≡ Some (Leaf found.entries)) (leaf : Child) (led : IsLedFrom s before above start found leaf) where
   pub leaf_read : IsReadLeaf s leaf found.entries
   leaf_read = record {
@@ -184,17 +184,17 @@ leaf_later old s before leaf entries looks is = record {
 }
 
 -- along the last children nothing stands right of the way
-pub ends_last : (next : Option Neighbour) (high end : Option Key) → IfSome next (BeginsBehind (is_before End)) → EndsBeside high next end → end ≡ high
+pub ends_last : (next : Option Neighbour) (high end : Option Key) → IfSome next (BeginsBehindPlace (is_before End)) → EndsBeside high next end → end ≡ high
 ends_last None high end begins is = is
 ends_last (Some n) high end begins is = absurd (let no = begins.2 in cc)
 
 -- along the first children nothing stands left of the way
-pub begins_first : (previous : Option Neighbour) (low begin : Option Key) → IfSome previous (EndsUpTo (is_before Start)) → BeginsBeside low previous begin → begin ≡ low
+pub begins_first : (previous : Option Neighbour) (low begin : Option Key) → IfSome previous (EndsUpToPlace (is_before Start)) → BeginsBeside low previous begin → begin ≡ low
 begins_first None low begin left is = is
 begins_first (Some n) low begin left is = absurd (let no = left.2 in cc)
 
 -- the leaf right of one at a place
-pub right_of : (mid s : Step) (c leaf : Child) (found : Found) (n : Neighbour) (first : Entry) → c ≡ top → Looks mid s → Shows mid (λ pages. HasNeighbours pages 0 c found) → found.next ≡ Some n
+pub right_of : (mid s : Step) (c leaf : Child) (found : FoundLeaf) (n : Neighbour) (first : Entry) → c ≡ top → Looks mid s → Shows mid (λ pages. HasNeighbours pages 0 c found) → found.next ≡ Some n
     → EndsBeside c.high found.next leaf.high → IsFirstBeside s n first → HasRight s leaf first
 right_of mid s c leaf found n first is looks beside at high b = record {
   right = b.leaf;
@@ -206,7 +206,7 @@ right_of mid s c leaf found n first is looks beside at high b = record {
 }
 
 -- the leaf left of one at the place of a name
-pub other_left : (mid s : Step) (name : List ℕ) (c leaf : Child) (found : Found) (n : Neighbour) (last : Entry) → c ≡ top → Looks mid s → Shows mid (λ pages. HasNeighbours pages 0 c found) → found.previous ≡ Some n
+pub other_left : (mid s : Step) (name : List ℕ) (c leaf : Child) (found : FoundLeaf) (n : Neighbour) (last : Entry) → c ≡ top → Looks mid s → Shows mid (λ pages. HasNeighbours pages 0 c found) → found.previous ≡ Some n
     → BeginsBeside c.low found.previous leaf.low → IsLastBeside s n last → same_name last.key.name name ≡ false → HasOtherLeft s name leaf
 other_left mid s name c leaf found n last is looks beside at low b other = record {
   left = b.leaf;

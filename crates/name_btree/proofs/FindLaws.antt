@@ -14,11 +14,11 @@ use Rattle.fsd_table.specs.Tree.{IsTree, table_of}
 use Rattle.fsd_table.proofs.BoundLaws.{all_weaker}
 use Rattle.fsd_table.proofs.KeyLaws.{lt_le}
 use Rattle.name_page.specs.declared.cut.Cut.TheVariants.{UpTo}
-use Rattle.name_btree.specs.declared.descent.Found.{Found}
+use Rattle.name_btree.specs.declared.descent.FoundLeaf.{FoundLeaf}
 use Rattle.name_btree.specs.declared.descent.Neighbour.{Neighbour}
 use Rattle.name_page.specs.Cut.{is_before}
 use Rattle.name_page.specs.Cut.{IsLesser}
-use Rattle.name_btree.specs.Descent.{IsAt, IsPlace}
+use Rattle.name_btree.specs.Descent.{IsAt, IsLeafOfPlace}
 use Rattle.name_page.specs.Lookups.{entry_with}
 use Rattle.name_page.proofs.CutLaws.{greater}
 
@@ -68,6 +68,6 @@ low_height pages height t = low height t.least t.most
     low height a b = omega arith
 
 -- what is found in the leaf is what is found in the table
-pub entry_found : (key : Key) (pages : List (List ℕ)) (found : Found) → IsPlace (is_before (UpTo key)) pages top found → (height : ℕ) → IsTree pages height → entry_with key found.entries ≡ entry_with key (table_of pages height)
+pub entry_found : (key : Key) (pages : List (List ℕ)) (found : FoundLeaf) → IsLeafOfPlace (is_before (UpTo key)) pages top found → (height : ℕ) → IsTree pages height → entry_with key found.entries ≡ entry_with key (table_of pages height)
 entry_found key pages found place height t =
     entry_at key pages top (table_of pages height) found.entries found.previous found.next (place (height - 1) (low_height pages height t) t.subtree)

@@ -22,8 +22,8 @@ use Rattle.name_page.proofs.FitsLaws.{key_short}
 use Rattle.name_btree.specs.declared.draft.Draft.{Draft}
 use Rattle.name_btree.specs.declared.draft.Sheet.{Sheet}
 use Rattle.name_btree.specs.declared.growing.Grown.TheVariants.{Parted}
-use Rattle.name_btree.specs.Draft.{drafted, IsDraft, IsDrafted, MayGo}
-use Rattle.name_btree.specs.Grown.{Takes, front_came, IsGrown, ArePartsOf, AreWaysOf}
+use Rattle.name_btree.specs.Draft.{drafted, IsTreeDraft, IsDrafted, MayGo}
+use Rattle.name_btree.specs.Grown.{TakesSpare, front_came, IsGrown, ArePartsOf, AreWaysOf}
 use Rattle.name_btree.proofs.TakeLaws.{takes_then}
 
 -- ---- a page that is to be spare
@@ -31,7 +31,7 @@ use Rattle.name_btree.proofs.TakeLaws.{takes_then}
 pub differs : (p q : ℕ) → (p == q) ≡ false → p ≡ q → ⊥
 differs p q apart e = let yes = eq-eqb q q refl in let never : (q == q) ≡ false = ap (λ (n : ℕ). n == q) (sym e) ∙ apart in cc
 
-pub draft_frees : (step : Step) (d new : Draft) (page : ℕ) → new.sheets.items ≡ d.sheets.items → new.freed.items ≡ d.freed.items ++ page ∷ [] → IsDraft step d → MayGo step page → contains d.freed.items page ≡ false → IsDraft step new
+pub draft_frees : (step : Step) (d new : Draft) (page : ℕ) → new.sheets.items ≡ d.sheets.items → new.freed.items ≡ d.freed.items ++ page ∷ [] → IsTreeDraft step d → MayGo step page → contains d.freed.items page ≡ false → IsTreeDraft step new
 draft_frees step d new page sheets freed is goes none = record {
   sheets = subst (AllByRecursion _) (sym sheets) is.sheets;
   freed = subst (AllByRecursion (MayGo step)) (sym freed) (all_append (MayGo step) d.freed.items (page ∷ []) is.freed (goes, tt));
@@ -49,8 +49,8 @@ draft_frees step d new page sheets freed is goes none = record {
 
 -- a page that is taken last is none that is used
 pub record IsParted (a b c : Step) (s0 s1 s2 : List Sheet) (page left right : ℕ) (x y : Content) : Type 0 where
-  pub front_takes : Takes a b (front_came page left)
-  pub takes : Takes b c (right ∷ [])
+  pub front_takes : TakesSpare a b (front_came page left)
+  pub takes : TakesSpare b c (right ∷ [])
   pub own : IsReached b left
   pub used : is_spare b.spares left ≡ false
   pub place : (page ≡ 0 → ⊥) → left ≡ page

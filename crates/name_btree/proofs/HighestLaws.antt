@@ -17,11 +17,11 @@ use Rattle.fsd_table.specs.Table.{top}
 use Rattle.fsd_table.specs.Tree.{IsTree, table_of}
 use Rattle.fsd_table.proofs.BoundLaws.{all_append, all_weaker, Ascend, ascend_skip, ascend_tail, entries_ascend}
 use Rattle.name_page.specs.declared.cut.Cut.TheVariants.{Named}
-use Rattle.name_btree.specs.declared.descent.Found.{Found}
+use Rattle.name_btree.specs.declared.descent.FoundLeaf.{FoundLeaf}
 use Rattle.name_btree.specs.declared.descent.Neighbour.{Neighbour}
 use Rattle.name_page.specs.Cut.{is_before}
 use Rattle.name_page.specs.Cut.{IsLesser}
-use Rattle.name_btree.specs.Descent.{IsAt, IsPlace, EndsWith}
+use Rattle.name_btree.specs.Descent.{IsAt, IsLeafOfPlace, EndsWithEntry}
 use Rattle.name_page.specs.Lookups.{highest_of, last_that, same_name}
 use Rattle.name_page.proofs.CutLaws.{cuts_monotone, names_follow}
 use Rattle.name_btree.proofs.FindLaws.{low_height, unequal_greater}
@@ -98,7 +98,7 @@ regroup_left rest xs e right =
 in_order : (pages : List (List ℕ)) (height : ℕ) (xs : List Entry) → IsTree pages height → table_of pages height ≡ xs → Ascend xs
 in_order pages height xs t is = ap (λ (ys : List Entry). are_ascending (entry_keys ys)) (sym is) ∙ entries_ascend (height - 1) pages top t.subtree
 
-pub highest_in_leaf : (name : List ℕ) (pages : List (List ℕ)) (found : Found) (e : Entry) → IsPlace (is_before (Named name)) pages top found → last_that (λ x. is_before (Named name) x.key) found.entries ≡ Some e
+pub highest_in_leaf : (name : List ℕ) (pages : List (List ℕ)) (found : FoundLeaf) (e : Entry) → IsLeafOfPlace (is_before (Named name)) pages top found → last_that (λ x. is_before (Named name) x.key) found.entries ≡ Some e
     → (height : ℕ) → IsTree pages height → cond (same_name e.key.name name) (Some e) None ≡ highest_of name (table_of pages height)
 highest_in_leaf name pages found e place h height t =
     let at = place (height - 1) (low_height pages height t) t.subtree in
@@ -108,7 +108,7 @@ highest_in_leaf name pages found e place h height t =
     sym (ap (highest_of name) is
     ∙ by_last name (at.left ++ last.left) e (last.right ++ at.right) (in_order pages height _ t is) last.passes (all_append (λ x. is_before (Named name) x.key ≡ false) last.right at.right last.fail at.greater))
 
-pub highest_at_start : (name : List ℕ) (pages : List (List ℕ)) (found : Found) → found.previous ≡ None → IsPlace (is_before (Named name)) pages top found → last_that (λ x. is_before (Named name) x.key) found.entries ≡ None
+pub highest_at_start : (name : List ℕ) (pages : List (List ℕ)) (found : FoundLeaf) → found.previous ≡ None → IsLeafOfPlace (is_before (Named name)) pages top found → last_that (λ x. is_before (Named name) x.key) found.entries ≡ None
     → (height : ℕ) → IsTree pages height → None ≡ highest_of name (table_of pages height)
 highest_at_start name pages found none place h height t =
     let P : Option Neighbour → Type 0 = λ (o : Option Neighbour). IsAt (is_before (Named name)) pages top (table_of pages height) found.entries o found.next in
@@ -124,7 +124,7 @@ last_lesser : (before : Key → Bool) (xs : List Entry) (e : Entry) → AllByRec
 last_lesser before [] e h = h.0
 last_lesser before (x ∷ xs) e h = last_lesser before xs e h.1
 
-pub highest_in_previous : (name : List ℕ) (pages : List (List ℕ)) (found : Found) (c : Neighbour) (e : Entry) → found.previous ≡ Some c → IsPlace (is_before (Named name)) pages top found → EndsWith pages c.child e
+pub highest_in_previous : (name : List ℕ) (pages : List (List ℕ)) (found : FoundLeaf) (c : Neighbour) (e : Entry) → found.previous ≡ Some c → IsLeafOfPlace (is_before (Named name)) pages top found → EndsWithEntry pages c.child e
     → last_that (λ x. is_before (Named name) x.key) found.entries ≡ None → (height : ℕ) → IsTree pages height → cond (same_name e.key.name name) (Some e) None ≡ highest_of name (table_of pages height)
 highest_in_previous name pages found c e before_is place end h height t =
     let P : Option Neighbour → Type 0 = λ (o : Option Neighbour). IsAt (is_before (Named name)) pages top (table_of pages height) found.entries o found.next in

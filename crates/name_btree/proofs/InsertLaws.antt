@@ -1,6 +1,6 @@
 -- An entry that is put in below a child.
 use Rattle.std.proofs.Common.{◌≡◌, ℕ, zero, suc, ◌+◌, ◌≤◌, Bool, true, false, cond, not, ◌||◌, List, [], ◌∷◌, ◌++◌, length, take, drop, refl, sym, ap, subst, ◌∙◌, arith, Some, None, Option}
-use Rattle.std.specs.Prelude.{◌==◌, slice_get, find, IfOk, IfErr, Result, Ok, Err}
+use Rattle.std.specs.Prelude.{◌==◌, slice_get, find, IfOk, IfErr, OnOk, Result, Ok, Err}
 use Rattle.std.specs.List.{flat_map, AllByRecursion}
 use Rattle.std.specs.Ordering.{is_gt}
 use Rattle.std.proofs.lemmas.Bool.{and_parts, eq-eqb}
@@ -15,7 +15,7 @@ use Rattle.fsd_table.specs.Pages.{page_at, children, children_of, not_below, bel
 use Rattle.fsd_table.specs.Tree.{entries_below, pages_below, IsInterior, IsSubtree}
 use Rattle.fsd_table.proofs.BoundLaws.{all_weaker}
 use Rattle.fsd_forest.specs.Parts.{is_inside}
-use Rattle.fsd_forest.specs.Ways.{IsUpTo, IsBehind}
+use Rattle.fsd_forest.specs.Ways.{IsUpToKey, IsBehindKey}
 use Rattle.fsd_forest.proofs.WayLaws as ways
 use Rattle.name_page.specs.Pages.{Step, is_spare}
 use Rattle.name_page.specs.declared.cut.Cut.TheVariants.{UpTo}
@@ -27,7 +27,7 @@ use Rattle.name_btree.specs.declared.fault.TreeFault.{TreeFault}
 use Rattle.name_btree.specs.declared.growing.Grown.{Grown}
 use Rattle.name_btree.specs.Draft.{drafted}
 use Rattle.name_btree.specs.Fault.{IsMisfit}
-use Rattle.name_btree.specs.Grown.{Takes, most_taken, IsBranch, AreUsed, BranchBecomes, Grows, BreaksGrowth}
+use Rattle.name_btree.specs.Grown.{TakesSpare, most_taken, IsBranch, AreUsed, BranchBecomes, Grows, BreaksGrowth}
 use Rattle.name_btree.specs.Trim.{child_of}
 use Rattle.name_btree.proofs.BranchLaws.{StandAround, left_children, right_children, is_below, branch_below}
 use Rattle.name_btree.proofs.DescentLaws.{misfit}
@@ -53,8 +53,8 @@ pub middle_is : (key k : Key) (pages : List (List ℕ)) (above d : Child) (first
     → AllByRecursion (λ s. is_before (UpTo k) s.key ≡ true) (take i separators) → AllByRecursion (λ s. is_before (UpTo k) s.key ≡ false) (drop i separators)
     → slice_get (children first above.low above.high separators) i ≡ Some d → IsMiddle key above d first separators i
 middle_is key k pages above d first separators i at same within before behind there =
-    let upto = all_weaker (λ s. is_before (UpTo k) s.key ≡ true) (IsUpTo k) (take i separators) (λ s h. sym (greater s.key k) ∙ unnot_true (is_gt (key_cmp s.key k)) h) before in
-    let later = all_weaker (λ s. is_before (UpTo k) s.key ≡ false) (IsBehind k) (drop i separators) (λ s h. sym (greater s.key k) ∙ unnot_false (is_gt (key_cmp s.key k)) h) behind in
+    let upto = all_weaker (λ s. is_before (UpTo k) s.key ≡ true) (IsUpToKey k) (take i separators) (λ s h. sym (greater s.key k) ∙ unnot_true (is_gt (key_cmp s.key k)) h) before in
+    let later = all_weaker (λ s. is_before (UpTo k) s.key ≡ false) (IsBehindKey k) (drop i separators) (λ s h. sym (greater s.key k) ∙ unnot_false (is_gt (key_cmp s.key k)) h) behind in
     record {
       around = subst (λ (x : Key). StandAround x separators i) same (upto, later);
       is = child_is_at above first separators i d within there;
@@ -148,13 +148,17 @@ pub ok_grows : (r : Result Grown TreeFault) (P Q : Grown → Type 0) → ((g : G
 ok_grows (Ok g) P Q f h = f g h
 ok_grows (Err fault) P Q f h = h
 
+pub on_grows : (r : Result Grown TreeFault) (P : Grown → Type 0) (Q : Type 0) → ((g : Grown) → P g → Q) → IfOk r P → OnOk r Q
+on_grows (Ok g) P Q f h = f g h
+on_grows (Err fault) P Q f h = tt
+
 pub err_grows : (r : Result Grown TreeFault) (P Q : TreeFault → Type 0) → ((fault : TreeFault) → P fault → Q fault) → IfErr r P → IfErr r Q
 err_grows (Ok g) P Q f h = h
 err_grows (Err fault) P Q f h = f fault h
 
 -- ---- a step that looked before
 
-pub grows_looked : (e : Entry) (first old new : Step) (sheets : List Sheet) (after : List (List ℕ)) (levels : ℕ) (c : Child) (g : Grown) → Takes first old [] → old.spares ≡ first.spares → Grows e old new (drafted sheets old.images) after levels c g
+pub grows_looked : (e : Entry) (first old new : Step) (sheets : List Sheet) (after : List (List ℕ)) (levels : ℕ) (c : Child) (g : Grown) → TakesSpare first old [] → old.spares ≡ first.spares → Grows e old new (drafted sheets old.images) after levels c g
     → Grows e first new (drafted sheets first.images) after levels c g
 grows_looked e first old new sheets after levels c g takes spares h =
     let grows : Grows e old new (drafted sheets first.images) after levels c g = subst (λ (im : List (List ℕ)). Grows e old new (drafted sheets im) after levels c g) takes.images h in

@@ -21,14 +21,14 @@ use Rattle.name_page.specs.declared.cut.Cut.TheVariants.{Named, UpTo}
 use Rattle.name_page.specs.Cut.{is_before}
 use Rattle.name_page.specs.Pages.{is_spare, IsOuter}
 use Rattle.name_page.proofs.LookLaws.{memory_still, memory_then}
-use Rattle.name_btree.specs.declared.descent.Found.{Found}
+use Rattle.name_btree.specs.declared.descent.FoundLeaf.{FoundLeaf}
 use Rattle.name_btree.specs.declared.descent.Neighbour.{Neighbour}
 use Rattle.name_btree.specs.declared.descent.Way.{Way}
 use Rattle.name_btree.specs.declared.fault.TreeFault.{TreeFault}
 use Rattle.name_btree.specs.declared.fault.TreeFault.TheVariants.{Pages, Broken}
 use Rattle.name_btree.specs.Descent.{way_to}
-use Rattle.name_btree.specs.Fault.{HasCause, IsMisfit, BarsPage, is_inner}
-use Rattle.name_btree.specs.Path.{met_beside, HasAll, HasMet, HasNone, HasPath, HasWayTo, IsSafe, Leads, LeadsBack, LeadsOn, TakesNone}
+use Rattle.name_btree.specs.Fault.{HasTreeCause, IsMisfit, BarsPage, is_inner}
+use Rattle.name_btree.specs.Path.{met_beside, HasAll, HasMet, HasNoneBefore, HasPath, HasWayTo, IsSafe, Leads, LeadsBack, LeadsOn, TakesNone}
 use Rattle.name_page.specs.Lookups.{last_that}
 use Rattle.name_btree.proofs.LastLaws.{last_none}
 use Rattle.name_btree.proofs.MetLaws.{any_at, inside_up, met_child, met_way, none_passes, same_way, up_to_itself, way_child, way_is, way_previous, IsOf}
@@ -76,7 +76,7 @@ module _ {D : Type 0} (P : Ghosts D) where
         more = subst (HasAll P first) (met_way at before (above + 1) w.previous w.next page w.child.low w.child.high separators) (met_content (Interior page separators) has);
       }
 
-      pub met_left : (entries : List Entry) → page_at (P.step t').images w.child.page ≡ Some (Leaf entries) → HasNone before entries → HasAll P first (met_beside at w.previous)
+      pub met_left : (entries : List Entry) → page_at (P.step t').images w.child.page ≡ Some (Leaf entries) → HasNoneBefore before entries → HasAll P first (met_beside at w.previous)
       met_left entries has none = subst (λ (b : Bool). HasAll P first (cond b [] (met_beside at w.previous))) none (met_content (Leaf entries) has)
 
   -- ---- where a way leads
@@ -203,7 +203,7 @@ module _ {D : Type 0} (P : Ghosts D) where
 
   -- nor is any refused but from outside
   pub lead_outer : (refusal : Option Refusal) (first t' : D) (e : Entry) (above : ℕ) (c : Child) (fault : TreeFault) → above < 6 → TakesNone P refusal first t' → Leads P (max_height - above) first e c
-      → HasCause (P.step t') (IsMisfit (P.step t').images c) (BarsPage (P.step t') c.page) fault → is_inner fault ≡ false
+      → HasTreeCause (P.step t') (IsMisfit (P.step t').images c) (BarsPage (P.step t') c.page) fault → is_inner fault ≡ false
   lead_outer refusal first t' e above c fault low takes h cause = by_cause fault cause
     where
       safe_here : IsSafe P first e.key c
@@ -223,7 +223,7 @@ module _ {D : Type 0} (P : Ghosts D) where
       barred refused page (same, inl spare) = absurd (cc (sym spare ∙ used))
       barred refused page (same, inr none) = absurd (let no : false ≡ true = ap (content_fits c.low c.high) (sym none) ∙ fits in cc)
 
-      by_cause : (f : TreeFault) → HasCause (P.step t') (IsMisfit (P.step t').images c) (BarsPage (P.step t') c.page) f → is_inner f ≡ false
+      by_cause : (f : TreeFault) → HasTreeCause (P.step t') (IsMisfit (P.step t').images c) (BarsPage (P.step t') c.page) f → is_inner f ≡ false
       by_cause (Pages refused) (said, inl out) = outer refused out (is_inner (Pages refused)) refl
       by_cause (Pages refused) (said, inr b) = barred refused b.0 b.2
       by_cause (Broken page) (same, misfit) = absurd (let no : false ≡ true = sym misfit ∙ fits in cc)
@@ -238,12 +238,12 @@ module _ {D : Type 0} (P : Ghosts D) where
   pub path_met : (t : D) (name other : List ℕ) (c : Child) → other ≡ name → c ≡ top → HasPath P name t → HasMet P 0 (is_before (Named other)) c t
   path_met t name other c same is has = subst (λ (d : Child). HasMet P 0 (is_before (Named other)) d t) (sym is) (subst (λ (n : List ℕ). HasPath P n t) (sym same) has)
 
-  pub led_here : (t : D) (c : Child) (leaf : Found) (e : Entry) → c ≡ top → LeadsBack P 0 c t leaf → Contains leaf.entries e → HasWayTo P e t
+  pub led_here : (t : D) (c : Child) (leaf : FoundLeaf) (e : Entry) → c ≡ top → LeadsBack P 0 c t leaf → Contains leaf.entries e → HasWayTo P e t
   led_here t c leaf e is back there = subst (Leads P max_height t e) is (back.here e there)
 
-  pub led_beside : (t later : D) (c : Child) (leaf : Found) (n : Neighbour) (e : Entry) → c ≡ top → leaf.previous ≡ Some n → TakesNone P None t later → LeadsBack P 0 c t leaf → Leads P (max_height - n.above) later e n.child → HasWayTo P e later
+  pub led_beside : (t later : D) (c : Child) (leaf : FoundLeaf) (n : Neighbour) (e : Entry) → c ≡ top → leaf.previous ≡ Some n → TakesNone P None t later → LeadsBack P 0 c t leaf → Leads P (max_height - n.above) later e n.child → HasWayTo P e later
   led_beside t later c leaf n e is at takes back h =
       subst (Leads P max_height later e) is (subst (λ (o : Option Neighbour). IfSome o (λ m. (l : D) → TakesNone P None t l → (x : Entry) → Leads P (max_height - m.above) l x m.child → Leads P max_height l x c)) at back.beside later takes e h)
 
-pub none_before : (before : Key → Bool) (entries : List Entry) → last_that (λ e. before e.key) entries ≡ None → HasNone before entries
+pub none_before : (before : Key → Bool) (entries : List Entry) → last_that (λ e. before e.key) entries ≡ None → HasNoneBefore before entries
 none_before before entries h = none_passes (λ e. before e.key) entries (last_none (λ e. before e.key) entries h)

@@ -16,7 +16,7 @@ use Rattle.fsd_table.specs.Pages.{page_at, not_below, below, keys_fit, entry_key
 use Rattle.fsd_table.specs.Tree.{IsLeaf}
 use Rattle.fsd_table.proofs.KeyLaws.{le_lt}
 use Rattle.fsd_table.proofs.PageLaws.{at_is_page}
-use Rattle.fsd_forest.specs.Forest.{heads, count_of, Exchange, Becomes}
+use Rattle.fsd_forest.specs.Forest.{heads, times_in, Exchange, Becomes}
 use Rattle.fsd_forest.specs.Parts.{is_inside, left_part, right_part}
 use Rattle.fsd_forest.proofs.CountLaws.{count_cons, count_nothing}
 use Rattle.fsd_forest.proofs.ForestLaws.{leaves_become}
@@ -36,7 +36,7 @@ use Rattle.name_btree.specs.declared.draft.Sheet.{Sheet}
 use Rattle.name_btree.specs.declared.growing.Grown.{Grown}
 use Rattle.name_btree.specs.declared.growing.Grown.TheVariants.{Whole, Parted}
 use Rattle.name_btree.specs.Draft.{drafted}
-use Rattle.name_btree.specs.Grown.{came_of, went_of, parts_of, most_parted, FitsTwoLeaves, IsGrown, IsInPlace, AreLeavesOf, IsDivided, IsFull, BranchBecomes, Grows}
+use Rattle.name_btree.specs.Grown.{came_of, went_of, parts_of, most_parted, FitsTwoLeaves, IsGrown, StaysInPlace, AreLeavesOf, IsDivided, IsFull, BranchBecomes, Grows}
 use Rattle.name_btree.proofs.ReplaceLaws.{leaf_parts}
 
 -- ---- how many bytes
@@ -114,17 +114,17 @@ came_few page (Parted left s) = by (page == 0)
     by false = omega arith
 
 -- the parts stand in the place of the page
-pub heads_exchange : (c : Child) (g : Grown) → IsInPlace c.page g → Exchange (heads (c ∷ [])) (heads (parts_of c g)) (came_of c.page g) (went_of c.page g)
+pub heads_exchange : (c : Child) (g : Grown) → StaysInPlace c.page g → Exchange (heads (c ∷ [])) (heads (parts_of c g)) (came_of c.page g) (went_of c.page g)
 heads_exchange c Whole place p = refl
 heads_exchange c (Parted left s) place p = by (c.page == 0) refl
   where
-    by : (b : Bool) → (c.page == 0) ≡ b → count_of p (left ∷ s.child ∷ []) + count_of p (cond b (0 ∷ []) []) ≡ count_of p (c.page ∷ []) + count_of p (cond b (left ∷ []) [] ++ s.child ∷ [])
+    by : (b : Bool) → (c.page == 0) ≡ b → times_in p (left ∷ s.child ∷ []) + times_in p (cond b (0 ∷ []) []) ≡ times_in p (c.page ∷ []) + times_in p (cond b (left ∷ []) [] ++ s.child ∷ [])
     by true is =
-        let zero_is : count_of p (c.page ∷ []) ≡ count_of p (0 ∷ []) = ap (λ (n : ℕ). count_of p (n ∷ [])) (eqb-true c.page 0 is) in
+        let zero_is : times_in p (c.page ∷ []) ≡ times_in p (0 ∷ []) = ap (λ (n : ℕ). times_in p (n ∷ [])) (eqb-true c.page 0 is) in
         omega (arith, zero_is)
     by false is =
         let left_is : left ≡ c.page = place (λ e. let never : (0 == 0) ≡ false = ap (λ (n : ℕ). n == 0) (sym e) ∙ is in cc) in
-        omega (arith, ap (λ (n : ℕ). count_of p (n ∷ s.child ∷ [])) left_is, count_cons p c.page (s.child ∷ []), count_cons p c.page [], count_nothing p)
+        omega (arith, ap (λ (n : ℕ). times_in p (n ∷ s.child ∷ [])) left_is, count_cons p c.page (s.child ∷ []), count_cons p c.page [], count_nothing p)
 
 -- ---- the leaf
 

@@ -14,7 +14,7 @@ use Rattle.fsd_formats.specs.NamePage as grammar
 use Rattle.fsd_table.specs.declared.child.Child.{Child}
 use Rattle.fsd_table.specs.Pages.{page_at, children_of, entry_keys, entries_of}
 use Rattle.fsd_table.specs.Tree.{pages_below, IsLeaf}
-use Rattle.fsd_forest.specs.Forest.{heads, count_of, forest_pages, Exchange, Stay, Becomes}
+use Rattle.fsd_forest.specs.Forest.{heads, times_in, forest_pages, Exchange, Stay, Becomes}
 use Rattle.fsd_forest.specs.Parts.{left_part, right_part}
 use Rattle.fsd_forest.proofs.CountLaws.{count_cons, count_append, count_nothing, counts_there, differ_counts, out_counts, counts_out, one_if, one_where}
 use Rattle.fsd_forest.proofs.ForestLaws.{leaves_become, count_three}
@@ -36,11 +36,11 @@ pair_heads above first xs pair is = ap (λ (p : ℕ). p ∷ is.between.child ∷
 pub joined_heads : (above : Child) (first : ℕ) (xs : List Separator) (pair : Pair) (is : IsPair above first xs pair)
     → Exchange (heads (left_child above first xs pair is.between ∷ right_child above xs pair is.between ∷ [])) (heads (pair_child above first xs pair ∷ [])) [] (pair.right ∷ [])
 joined_heads above first xs pair is p =
-    omega (arith, ap (count_of p) (pair_heads above first xs pair is), count_cons p pair.left (pair.right ∷ []), count_cons p pair.left [], count_nothing p)
+    omega (arith, ap (times_in p) (pair_heads above first xs pair is), count_cons p pair.left (pair.right ∷ []), count_cons p pair.left [], count_nothing p)
 
 pub shared_heads : (above : Child) (first : ℕ) (xs : List Separator) (pair : Pair) (is : IsPair above first xs pair) (k : Key) → Exchange (heads (left_child above first xs pair is.between ∷ right_child above xs pair is.between ∷ []))
     (heads (left_part pair.left (pair_child above first xs pair) k ∷ right_part pair.right (pair_child above first xs pair) k ∷ [])) [] []
-shared_heads above first xs pair is k p = omega (arith, ap (count_of p) (pair_heads above first xs pair is))
+shared_heads above first xs pair is k p = omega (arith, ap (times_in p) (pair_heads above first xs pair is))
 
 pub leaves_joined : (key : Key) (pages after : List (List ℕ)) (above : Child) (first : ℕ) (xs : List Separator) (pair : Pair) (is : IsPair above first xs pair) (list : List Entry) → page_at after pair.left ≡ Some (grammar.Leaf list)
     → pair_fits above first xs pair (entry_keys list) ≡ true
@@ -66,7 +66,7 @@ leaves_shared key pages after above first xs pair is es y ys now next asc fit ed
 
 -- ---- pages apart
 
-pub head_counts : (p level : ℕ) (pages : List (List ℕ)) (c : Child) → one_where (c.page == p) ≤ count_of p (pages_below level pages c)
+pub head_counts : (p level : ℕ) (pages : List (List ℕ)) (c : Child) → one_where (c.page == p) ≤ times_in p (pages_below level pages c)
 head_counts p zero pages c = omega (arith, count_cons p c.page [])
 head_counts p (suc level) pages c = omega (arith, count_cons p c.page (flat_map (pages_below level pages) (children_of c.low c.high (page_at pages c.page))))
 
@@ -80,7 +80,7 @@ pub record AreApart (above : ℕ) (pair : Pair) : Type 0 where
   pub right_inner : pair.right ≡ 0 → ⊥
 
 pair_count : (p level : ℕ) (pages : List (List ℕ)) (above : Child) (first : ℕ) (xs : List Separator) (pair : Pair) (is : IsPair above first xs pair)
-    → one_where (pair.left == p) + one_where (pair.right == p) ≤ count_of p (forest_pages level pages (left_child above first xs pair is.between ∷ right_child above xs pair is.between ∷ []))
+    → one_where (pair.left == p) + one_where (pair.right == p) ≤ times_in p (forest_pages level pages (left_child above first xs pair is.between ∷ right_child above xs pair is.between ∷ []))
 pair_count p level pages above first xs pair is =
     let f : Child → List ℕ = pages_below level pages in
     let l : Child = left_child above first xs pair is.between in
@@ -98,13 +98,13 @@ pair_count p level pages above first xs pair is =
 
 -- what stands below the pair is below the page above it
 pub below_counts : (p level : ℕ) (pages : List (List ℕ)) (above : Child) (left old right : List Child) → children_of above.low above.high (page_at pages above.page) ≡ left ++ (old ++ right)
-    → one_where (above.page == p) + count_of p (forest_pages level pages old) ≤ count_of p (pages_below (suc level) pages above)
+    → one_where (above.page == p) + times_in p (forest_pages level pages old) ≤ times_in p (pages_below (suc level) pages above)
 below_counts p level pages above left old right are =
     let f : Child → List ℕ = pages_below level pages in
     omega (
       arith,
       count_cons p above.page (flat_map f (children_of above.low above.high (page_at pages above.page))),
-      ap (λ (cs : List Child). count_of p (flat_map f cs)) are,
+      ap (λ (cs : List Child). times_in p (flat_map f cs)) are,
       count_three p f left old right,
     )
 
@@ -128,7 +128,7 @@ are_apart key pages level above first xs pair is left right around are =
 
 -- where only pages of the pair and the one above are others, and those below the child
 pub pair_stays : (pages between after : List (List ℕ)) (level : ℕ) (above : Child) (first : ℕ) (xs : List Separator) (pair : Pair) (is : IsPair above first xs pair) (ps : List ℕ)
-    → ((p : ℕ) → count_of p ps ≤ count_of p (forest_pages level pages (left_child above first xs pair is.between ∷ right_child above xs pair is.between ∷ []))) → Stay pages between ps
+    → ((p : ℕ) → times_in p ps ≤ times_in p (forest_pages level pages (left_child above first xs pair is.between ∷ right_child above xs pair is.between ∷ []))) → Stay pages between ps
     → ((q : ℕ) → (q ≡ pair.left → ⊥) → (q ≡ pair.right → ⊥) → (q ≡ above.page → ⊥) → page_at after q ≡ page_at between q)
     → Stay pages after (above.page ∷ forest_pages level pages (left_child above first xs pair is.between ∷ right_child above xs pair is.between ∷ []))
 pair_stays pages between after level above first xs pair is ps few stay others q out =

@@ -31,14 +31,14 @@ use Rattle.name_page.specs.Looks.{Looks, Agrees, Shows}
 use Rattle.name_page.specs.Pages.{Step, is_spare, IsReached}
 use Rattle.name_page.proofs.CutLaws.{cuts_monotone, behind}
 use Rattle.name_page.proofs.LookLaws.{agrees_before}
-use Rattle.name_btree.specs.declared.descent.Found.{Found}
+use Rattle.name_btree.specs.declared.descent.FoundLeaf.{FoundLeaf}
 use Rattle.name_btree.specs.declared.descent.Neighbour.{Neighbour}
 use Rattle.name_btree.specs.declared.descent.Way.{Way}
 use Rattle.name_btree.specs.declared.fault.TreeFault.{TreeFault}
 use Rattle.name_btree.specs.declared.lookup.FoundEntry.{FoundEntry}
 use Rattle.name_btree.specs.Calls.{without_page}
 use Rattle.name_btree.specs.Descent.{way_to, IsNeighbour, HasNeighbours}
-use Rattle.name_btree.specs.Lookup.{entry_of, BeginsBehind, HasInPlace, IsLedBeside, IsLedTo, StandsIn}
+use Rattle.name_btree.specs.Lookup.{found_entry, BeginsBehindPlace, HasInPlace, IsLedBeside, IsLedTo, StandsIn}
 use Rattle.name_btree.proofs.LastLaws.{last_at}
 use Rattle.name_btree.proofs.NextLaws.{after_is}
 use Rattle.name_btree.proofs.VisitedLaws.{found_beside}
@@ -85,7 +85,7 @@ pub led_to : (s : Step) (c : Child) (f : FoundEntry) → c ≡ top → Shows s (
 led_to s c f is below pages agrees = below pages agrees (subst (IsVisited pages 1) (sym is) (visited_top pages))
 
 -- below a child beside the way
-module _ (mid s : Step) (c : Child) (leaf : Found) (is : c ≡ top) (looks : Looks mid s) (beside : Shows mid (λ pages. HasNeighbours pages 0 c leaf)) (n : Neighbour) (f : FoundEntry) (led : IsLedBeside s n f) where
+module _ (mid s : Step) (c : Child) (leaf : FoundLeaf) (is : c ≡ top) (looks : Looks mid s) (beside : Shows mid (λ pages. HasNeighbours pages 0 c leaf)) (n : Neighbour) (f : FoundEntry) (led : IsLedBeside s n f) where
   there : (pages : List (List ℕ)) → Agrees pages s → IfSome leaf.previous (IsNeighbour pages) × IfSome leaf.next (IsNeighbour pages)
   there pages agrees = found_beside pages c leaf is (beside pages (agrees_before mid s pages looks agrees))
 
@@ -100,10 +100,10 @@ module _ (mid s : Step) (c : Child) (leaf : Found) (is : c ≡ top) (looks : Loo
 -- the way's child has no keys below the page's, and the child behind it begins behind the place
 pub record Narrows (before : Key → Bool) (lo : Option Key) (w : Way) : Type 0 where
   pub low : Follows w.child.low lo
-  pub next : IfSome w.next (BeginsBehind before)
+  pub next : IfSome w.next (BeginsBehindPlace before)
 
 narrows : (before : Key → Bool) (above : ℕ) (previous next : Option Neighbour) (first : ℕ) (lo low high : Option Key) (separators : List Separator) → Follows low lo → keys_fit lo high (separator_keys separators) ≡ true
-    → IfSome next (BeginsBehind before) → Narrows before lo (way_to before above previous next first low high separators)
+    → IfSome next (BeginsBehindPlace before) → Narrows before lo (way_to before above previous next first low high separators)
 narrows before above previous next first lo low high [] follows fit begins = record { low = follows; next = begins }
 narrows before above previous next first lo low high (s ∷ separators) follows fit begins =
     let parts = and_parts (not_below lo s.key && below high s.key) (keys_fit lo high (separator_keys separators)) fit in
@@ -136,7 +136,7 @@ leaf_least before w entries lo fit on = all_weaker (Fits w.child.low w.child.hig
 pub later_in_leaf : (before : Option Key) (cut : Cut) (entries : List Entry) (e : Entry) → cut ≡ after_cut before → find (λ x. not (is_before cut x.key)) entries ≡ Some e → is_after before e.key ≡ true
 later_in_leaf before cut entries e same h = after_is before e.key ∙ ap (λ (d : Cut). not (is_before d e.key)) (sym same) ∙ find_passes (λ x. not (is_before cut x.key)) entries e h
 
-pub later_in_next : (before : Option Key) (cut : Cut) (n : Neighbour) (e : Entry) → cut ≡ after_cut before → BeginsBehind (is_before cut) n → not_below n.child.low e.key ≡ true → is_after before e.key ≡ true
+pub later_in_next : (before : Option Key) (cut : Cut) (n : Neighbour) (e : Entry) → cut ≡ after_cut before → BeginsBehindPlace (is_before cut) n → not_below n.child.low e.key ≡ true → is_after before e.key ≡ true
 later_in_next before cut n e same begins least =
     let over : is_before cut e.key ≡ false = behind (is_before cut) (cuts_monotone cut) begins.0 e.key begins.2 (subst (λ (low : Option Key). not_below low e.key ≡ true) begins.1 least) in
     after_is before e.key ∙ ap (λ (d : Cut). not (is_before d e.key)) (sym same) ∙ ap not over
@@ -166,16 +166,16 @@ pub each_told : (A : Type 0) (P Q : FoundEntry → Type 0) (r : Option FoundEntr
 each_told A P Q None h told = tt
 each_told A P Q (Some f) h told = h f told
 
-pub named_entry : (f : FoundEntry) (b : Bool) (r : Option FoundEntry) → r ≡ cond b (Some f) None → entry_of r ≡ cond b (Some f.entry) None
-named_entry f b r is = ap entry_of is ∙ by b
+pub named_entry : (f : FoundEntry) (b : Bool) (r : Option FoundEntry) → r ≡ cond b (Some f) None → found_entry r ≡ cond b (Some f.entry) None
+named_entry f b r is = ap found_entry is ∙ by b
   where
-    by : (b : Bool) → entry_of (cond b (Some f) None) ≡ cond b (Some f.entry) None
+    by : (b : Bool) → found_entry (cond b (Some f) None) ≡ cond b (Some f.entry) None
     by true = refl
     by false = refl
 
 -- ---- the answer without the leaf
 
-pub ok_alone : (r : Result (Option FoundEntry) TreeFault) (P : Option Entry → Type 0) → IfOk r (λ found. P (entry_of found)) → IfOk (without_page r) P
+pub ok_alone : (r : Result (Option FoundEntry) TreeFault) (P : Option Entry → Type 0) → IfOk r (λ found. P (found_entry found)) → IfOk (without_page r) P
 ok_alone (Ok found) P h = h
 ok_alone (Err fault) P h = tt
 

@@ -9,13 +9,13 @@ use Rattle.fsd_bytes.specs.declared.key.Key.{Key}
 use Rattle.fsd_bytes.specs.declared.refusal.Refusal.{Refusal}
 use Rattle.fsd_formats.specs.declared.entry.Entry.{Entry}
 use Rattle.fsd_table.specs.Tree.{pages_of, table_of, IsTree}
-use Rattle.fsd_forest.specs.Forest.{Disjoint, count_of}
+use Rattle.fsd_forest.specs.Forest.{Disjoint, times_in}
 use Rattle.fsd_forest.proofs.CountLaws.{count_append, count_nothing, there_counts, differ_counts}
 use Rattle.name_page.specs.Pages.{reaches, Keeps, with_images, with_promise}
 use Rattle.name_page.specs.Edits.{without}
 use Rattle.name_btree.specs.declared.draft.Draft.{Draft}
 use Rattle.name_btree.specs.declared.draft.Sheet.{Sheet}
-use Rattle.name_btree.specs.Draft.{drafted, IsDraft, RemovesFrom}
+use Rattle.name_btree.specs.Draft.{drafted, IsTreeDraft, RemovesFrom}
 use Rattle.name_page.specs.declared.pages.Pages.{Ghosts}
 use Rattle.name_page.specs.Looks.{OnlyReaches, OnlyWalks, Shows}
 use Rattle.name_page.proofs.LookLaws.{Joins, Trusts, reaches_still, reaches_then, reaches_walks, walks_then, spare_walks, agrees_before}
@@ -33,7 +33,7 @@ promised_walks P law trust a b c n outside kept stays is x = walks_then P law a 
 pub record IsCleared {D : Type 0} (P : Ghosts D) (old now : D) (d : Draft) (keys : List Key) (n : ℕ) : Type 0 where
   pub calls : OnlyReaches P None old now
   pub reaches : reaches (P.step old) ≤ reaches (P.step now) + 12 * n
-  pub draft : IsDraft (P.step now) d
+  pub draft : IsTreeDraft (P.step now) d
   pub room : length d.sheets.items ≤ 8 * n
   pub free : length d.freed.items ≤ 6 * n
   pub left : Shows (P.step now) (λ pages. LeavesTree pages d keys)
@@ -50,7 +50,7 @@ cleared_none P a d still sheets freed = record {
     went = [];
     tree = subst (λ (im : List (List ℕ)). IsTree im height) (sym (same images sheets)) tree;
     table = ap (λ (im : List (List ℕ)). table_of im height) (same images sheets);
-    pages_are = λ p. ap (λ (im : List (List ℕ)). count_of p (pages_of im height) + count_of p []) (same images sheets);
+    pages_are = λ p. ap (λ (im : List (List ℕ)). times_in p (pages_of im height) + times_in p []) (same images sheets);
     freed = λ page. ap (λ (ps : List ℕ). contains ps page) freed;
   };
 }
@@ -90,7 +90,7 @@ left_more images d d2 keys key left r height tree =
     }
 
 pub cleared_more : {D : Type 0} (P : Ghosts D) (law : Joins P) (old now new : D) (d d2 : Draft) (keys : List Key) (key : Key) (n : ℕ) → IsCleared P old now d keys n → OnlyReaches P None now new
-    → reaches (P.step now) ≤ reaches (P.step new) + 12 → IsDraft (P.step new) d2 → length d2.sheets.items ≤ length d.sheets.items + 8 → length d2.freed.items ≤ length d.freed.items + 6
+    → reaches (P.step now) ≤ reaches (P.step new) + 12 → IsTreeDraft (P.step new) d2 → length d2.sheets.items ≤ length d.sheets.items + 8 → length d2.freed.items ≤ length d.freed.items + 6
     → Shows (P.step new) (λ pages. RemovesFrom pages d d2 key) → IsCleared P old new d2 (keys ++ key ∷ []) (n + 1)
 cleared_more P law old now new d d2 keys key n c calls reaches draft sheets freed removes = record {
   calls = reaches_then P law old now new c.calls calls;

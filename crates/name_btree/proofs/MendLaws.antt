@@ -16,8 +16,8 @@ use Rattle.name_page.specs.Pages.{Step, is_spare, IsReached}
 use Rattle.name_page.specs.Parting.{used_by}
 use Rattle.name_btree.specs.declared.draft.Draft.{Draft}
 use Rattle.name_btree.specs.declared.trimming.Pair.{Pair}
-use Rattle.name_btree.specs.Draft.{MayGo, IsDraft}
-use Rattle.name_btree.specs.Trim.{AreEntries, AreWays, MayHave, IsOpened, AreFewEntries, AreFewWays, IsPair, pair_fits, entries_at, ways_at, first_at, right_at, is_behind}
+use Rattle.name_btree.specs.Draft.{MayGo, IsTreeDraft}
+use Rattle.name_btree.specs.Trim.{AreEntries, AreWays, MayHave, IsOpenedPage, AreFewEntries, AreFewWays, IsPair, pair_fits, both_entries, ways_at, first_at, right_at, is_behind}
 use Rattle.name_btree.proofs.DraftLaws.{sheets_kept}
 use Rattle.name_btree.proofs.PairLaws.{parts_at, left_child, AreSides, AtLeft, AtRight, low_same, key_inside, same_of}
 use Rattle.name_page.proofs.CutPageLaws.{used_apart}
@@ -27,7 +27,7 @@ use Rattle.fsd_forest.proofs.WayLaws.{high_is}
 
 -- ---- steps that only look
 
-pub draft_kept : (old new : Step) (d : Draft) → ((q : ℕ) → IsReached old q → IsReached new q) → new.spares ≡ old.spares → length new.images ≡ length old.images → IsDraft old d → IsDraft new d
+pub draft_kept : (old new : Step) (d : Draft) → ((q : ℕ) → IsReached old q → IsReached new q) → new.spares ≡ old.spares → length new.images ≡ length old.images → IsTreeDraft old d → IsTreeDraft new d
 draft_kept old new d kept spares images is = record {
   sheets = sheets_kept old new d.sheets.items kept spares images is.sheets;
   freed = each d.freed.items is.freed;
@@ -56,7 +56,7 @@ right_page P above first xs pair is i child neighbour (AtRight e a b) p q = subs
 -- ---- keys below one, and keys from it on
 
 -- the key between the pair stands between the pair's
-pub pair_inside : (p first : ℕ) (above : Child) (xs : List Separator) (pair : Pair) (is : IsPair above first xs pair) → IsOpened p above first xs
+pub pair_inside : (p first : ℕ) (above : Child) (xs : List Separator) (pair : Pair) (is : IsPair above first xs pair) → IsOpenedPage p above first xs
     → (not_below (child_behind first above.low (take pair.place xs) above.high).low is.between.key && below (end_of above.high (drop (pair.place + 1) xs)) is.between.key) ≡ true
 pair_inside p first above xs pair is o =
     let same = parts_at xs pair.place is.between is.there in
@@ -71,7 +71,7 @@ pub record AreBothLeaves (above : Child) (first : ℕ) (xs : List Separator) (pa
   pub most : used_by entries ≤ 678
   pub within : pair_fits above first xs pair (entry_keys entries) ≡ true
 
-both_leaves : (p first : ℕ) (above : Child) (xs : List Separator) (pair : Pair) (is : IsPair above first xs pair) → IsOpened p above first xs → (ls rs : List Entry) → AreEntries ls → AreEntries rs
+both_leaves : (p first : ℕ) (above : Child) (xs : List Separator) (pair : Pair) (is : IsPair above first xs pair) → IsOpenedPage p above first xs → (ls rs : List Entry) → AreEntries ls → AreEntries rs
     → keys_fit (left_child above first xs pair is.between).low (Some is.between.key) (entry_keys ls) ≡ true → keys_fit (Some is.between.key) (end_of above.high (drop (pair.place + 1) xs)) (entry_keys rs) ≡ true
     → 190 ≤ used_by ls + used_by rs → used_by ls + used_by rs ≤ 678 → AreBothLeaves above first xs pair (ls ++ rs)
 both_leaves p first above xs pair is o ls rs a b under over least most =
@@ -88,8 +88,8 @@ both_leaves p first above xs pair is o ls rs a b under over least most =
       within = ap (keys_fit lowest highest) (entry_keys_append ls rs) ∙ keys_joined lowest highest (entry_keys ls) (entry_keys rs) is.between.key (pair_inside p first above xs pair is o) under2 over;
     }
 
-pub leaves_at : (p first : ℕ) (above : Child) (xs : List Separator) (pair : Pair) (is : IsPair above first xs pair) → IsOpened p above first xs → (i : ℕ) (child neighbour : Child) → AreSides above first xs pair is.between i child neighbour
-    → (few others : List Entry) → AreFewEntries child few → PageEntries neighbour.page others → (neighbour.page ≡ 0 → ⊥) → keys_fit neighbour.low neighbour.high (entry_keys others) ≡ true → AreBothLeaves above first xs pair (entries_at i few others)
+pub leaves_at : (p first : ℕ) (above : Child) (xs : List Separator) (pair : Pair) (is : IsPair above first xs pair) → IsOpenedPage p above first xs → (i : ℕ) (child neighbour : Child) → AreSides above first xs pair is.between i child neighbour
+    → (few others : List Entry) → AreFewEntries child few → PageEntries neighbour.page others → (neighbour.page ≡ 0 → ⊥) → keys_fit neighbour.low neighbour.high (entry_keys others) ≡ true → AreBothLeaves above first xs pair (both_entries i few others)
 leaves_at p first above xs pair is o i child neighbour sides few others a b some fit =
     let least : 190 ≤ used_by others = least_at neighbour.page (used_by others) some b.least in
     let few_is : used_by few < 190 = a.few in
@@ -102,7 +102,7 @@ leaves_at p first above xs pair is o i child neighbour sides few others a b some
     Fit : List Entry → Child → Type 0
     Fit es c = keys_fit c.low c.high (entry_keys es) ≡ true
 
-    by : AreSides above first xs pair is.between i child neighbour → 190 ≤ used_by others → used_by few < 190 → used_by others ≤ 488 → AreBothLeaves above first xs pair (entries_at i few others)
+    by : AreSides above first xs pair is.between i child neighbour → 190 ≤ used_by others → used_by few < 190 → used_by others ≤ 488 → AreBothLeaves above first xs pair (both_entries i few others)
     by (AtLeft e at next) least few_is most =
         let under = subst (Fit few) at a.within in
         let over = subst (Fit others) next fit in
@@ -122,7 +122,7 @@ pub record AreBothWays (p : ℕ) (above : Child) (first : ℕ) (xs : List Separa
   pub are : AreWays p lead list
   pub within : pair_fits above first xs pair (separator_keys list) ≡ true
 
-both_ways : (p first : ℕ) (above : Child) (xs : List Separator) (pair : Pair) (is : IsPair above first xs pair) → IsOpened p above first xs → (lead second : ℕ) (ls rs : List Separator) → AreWays p lead ls → AreWays p second rs
+both_ways : (p first : ℕ) (above : Child) (xs : List Separator) (pair : Pair) (is : IsPair above first xs pair) → IsOpenedPage p above first xs → (lead second : ℕ) (ls rs : List Separator) → AreWays p lead ls → AreWays p second rs
     → keys_fit (left_child above first xs pair is.between).low (Some is.between.key) (separator_keys ls) ≡ true → keys_fit (Some is.between.key) (end_of above.high (drop (pair.place + 1) xs)) (separator_keys rs) ≡ true
     → is_key is.between.key ≡ true → is_behind is.between.key rs ≡ true
     → AreBothWays p above first xs pair lead (ls ++ record { key = is.between.key; child = second } ∷ rs)
@@ -143,7 +143,7 @@ both_ways p first above xs pair is o lead second ls rs a b under over good behin
           (and_from (not_below lowest k && below highest k) (keys_fit lowest highest (separator_keys rs)) inside (right_wider lowest highest k (separator_keys rs) both.0 over));
     }
 
-pub ways_are_at : (p first : ℕ) (above : Child) (xs : List Separator) (pair : Pair) (is : IsPair above first xs pair) → IsOpened p above first xs → (i : ℕ) (child neighbour : Child) → AreSides above first xs pair is.between i child neighbour
+pub ways_are_at : (p first : ℕ) (above : Child) (xs : List Separator) (pair : Pair) (is : IsPair above first xs pair) → IsOpenedPage p above first xs → (i : ℕ) (child neighbour : Child) → AreSides above first xs pair is.between i child neighbour
     → (lead : ℕ) (few : List Separator) (second : ℕ) (others : List Separator) → AreFewWays p child lead few → AreWays p second others → keys_fit neighbour.low neighbour.high (separator_keys others) ≡ true
     → is_key is.between.key ≡ true → is_behind is.between.key (right_at i few others) ≡ true
     → AreBothWays p above first xs pair (first_at i lead second) (ways_at i is.between.key lead few second others)
@@ -183,7 +183,7 @@ ways_count i key lead few second others = by (i == 0)
     by true = length-append few (record { key = key; child = second } ∷ others) ∙ omega arith
     by false = length-append others (record { key = key; child = lead } ∷ few) ∙ omega arith
 
-pub ways_found : (p first : ℕ) (above : Child) (xs : List Separator) (pair : Pair) (is : IsPair above first xs pair) → IsOpened p above first xs → (i : ℕ) (child neighbour : Child) → AreSides above first xs pair is.between i child neighbour
+pub ways_found : (p first : ℕ) (above : Child) (xs : List Separator) (pair : Pair) (is : IsPair above first xs pair) → IsOpenedPage p above first xs → (i : ℕ) (child neighbour : Child) → AreSides above first xs pair is.between i child neighbour
     → (lead : ℕ) (few : List Separator) (second : ℕ) (others : List Separator) → AreFewWays p child lead few → is_page neighbour.page p (Interior second others) ≡ true → keys_fit neighbour.low neighbour.high (separator_keys others) ≡ true
     → (got : Separator) → slice_get xs pair.place ≡ Some got → is_behind got.key (right_at i few others) ≡ true
     → (lead2 : ℕ) (list : List Separator) → lead2 ≡ first_at i lead second → list ≡ ways_at i got.key lead few second others → AreBothWays p above first xs pair lead2 list

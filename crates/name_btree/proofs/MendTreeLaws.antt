@@ -11,7 +11,7 @@ use Rattle.fsd_table.proofs.BoundLaws.{ascend_tail, later_fit, separator_keys_ap
 use Rattle.fsd_table.proofs.KeyLaws.{not_below_more, below_less}
 use Rattle.fsd_forest.specs.Forest.{forest_pages, Stay, Becomes}
 use Rattle.fsd_forest.specs.Parts.{left_part, right_part}
-use Rattle.fsd_forest.specs.Ways.{StandsAt, children_before, child_behind, children_from, end_of}
+use Rattle.fsd_forest.specs.Ways.{StandsAround, children_before, child_behind, children_from, end_of}
 use Rattle.fsd_forest.proofs.WayLaws.{children_beside, children_between}
 use Rattle.name_page.specs.Edits.{without}
 use Rattle.name_page.specs.Pages.{Step}
@@ -22,7 +22,7 @@ use Rattle.name_btree.specs.declared.trimming.Trimmed.{Trimmed}
 use Rattle.name_btree.specs.declared.trimming.Trimmed.TheVariants.{Whole, Leaf, Interior}
 use Rattle.name_btree.specs.Draft.{drafted}
 use Rattle.name_btree.specs.Remove.{IsAround, IsTrimmed, LeftBecomes}
-use Rattle.name_btree.specs.Trim.{IsPair, IsOpened, pair_fits, separators_joined, separators_shared, AreJoined, AreShared, AreWaysPut}
+use Rattle.name_btree.specs.Trim.{IsPair, IsOpenedPage, pair_fits, separators_joined, separators_shared, AreJoined, AreShared, AreWaysPut}
 use Rattle.name_btree.proofs.AboveLaws.{joined_fit}
 use Rattle.name_btree.proofs.AroundLaws.{is_local, Raised, raised}
 use Rattle.name_btree.proofs.LeafTreeLaws.{stays_above, freed_has}
@@ -46,7 +46,7 @@ wider_high low high (b ∷ back) k fit e =
     let parts = and_parts (not_below low b.key && below high b.key) (keys_fit low high (separator_keys back)) fit in
     below_less high b.key k (and_parts (not_below low b.key) (below high b.key) parts.0).1 e
 
-pub shared_fit : (p first : ℕ) (above : Child) (xs : List Separator) (pair : Pair) → IsPair above first xs pair → IsOpened p above first xs → (k : Key) → pair_fits above first xs pair (k ∷ []) ≡ true
+pub shared_fit : (p first : ℕ) (above : Child) (xs : List Separator) (pair : Pair) → IsPair above first xs pair → IsOpenedPage p above first xs → (k : Key) → pair_fits above first xs pair (k ∷ []) ≡ true
     → keys_fit above.low above.high (separator_keys (separators_shared xs pair k)) ≡ true
 shared_fit p first above xs pair is o k fit =
     let front : List Separator = take pair.place xs in
@@ -80,8 +80,8 @@ left_becomes step key pages mid new went level above first separators (Interior 
     subst (λ (n : ℕ). P n list.items) (sym h.1) (subst (P first) (sym h.2) r.inner)
 
 pub joined_trimmed : (step : Step) (key : Key) (pages : List (List ℕ)) (mid new : Draft) (old0 went : List ℕ) (level p : ℕ) (above : Child) (first : ℕ) (xs : List Separator) (pair : Pair) (is : IsPair above first xs pair) (x : Content) (left : Trimmed)
-    → IsAround key pages (suc level) above → IsOpened p above first xs
-    → StandsAt key (children_of above.low above.high (page_at pages above.page)) (children_before first above.low (take pair.place xs)) (left_child above first xs pair is.between ∷ right_child above xs pair is.between ∷ []) (children_from above.high (drop (pair.place + 1) xs))
+    → IsAround key pages (suc level) above → IsOpenedPage p above first xs
+    → StandsAround key (children_of above.low above.high (page_at pages above.page)) (children_before first above.low (take pair.place xs)) (left_child above first xs pair is.between ∷ right_child above xs pair is.between ∷ []) (children_from above.high (drop (pair.place + 1) xs))
     → AreJoined step mid new above.page first xs pair x left → (pair.right ≡ 0 → ⊥) → ((q : ℕ) → contains mid.freed.items q ≡ (contains old0 q || contains went q))
     → Stay pages (drafted new.sheets.items step.images) (above.page ∷ forest_pages level pages (left_child above first xs pair is.between ∷ right_child above xs pair is.between ∷ []))
     → Becomes (without key) pages (drafted new.sheets.items step.images) [] (pair.right ∷ went) level (left_child above first xs pair is.between ∷ right_child above xs pair is.between ∷ []) (pair_child above first xs pair ∷ [])
@@ -104,8 +104,8 @@ joined_trimmed step key pages mid new old0 went level p above first xs pair is x
     }
 
 pub shared_trimmed : (step : Step) (key : Key) (pages : List (List ℕ)) (mid new : Draft) (old0 went : List ℕ) (level p : ℕ) (above : Child) (first : ℕ) (xs : List Separator) (pair : Pair) (is : IsPair above first xs pair) (x y : Content) (k : Key) (left : Trimmed)
-    → IsAround key pages (suc level) above → IsOpened p above first xs
-    → StandsAt key (children_of above.low above.high (page_at pages above.page)) (children_before first above.low (take pair.place xs)) (left_child above first xs pair is.between ∷ right_child above xs pair is.between ∷ []) (children_from above.high (drop (pair.place + 1) xs))
+    → IsAround key pages (suc level) above → IsOpenedPage p above first xs
+    → StandsAround key (children_of above.low above.high (page_at pages above.page)) (children_before first above.low (take pair.place xs)) (left_child above first xs pair is.between ∷ right_child above xs pair is.between ∷ []) (children_from above.high (drop (pair.place + 1) xs))
     → AreShared step mid new above.page first xs pair x y k left → pair_fits above first xs pair (k ∷ []) ≡ true → ((q : ℕ) → contains mid.freed.items q ≡ (contains old0 q || contains went q))
     → Stay pages (drafted new.sheets.items step.images) (above.page ∷ forest_pages level pages (left_child above first xs pair is.between ∷ right_child above xs pair is.between ∷ []))
     → Becomes (without key) pages (drafted new.sheets.items step.images) [] went level (left_child above first xs pair is.between ∷ right_child above xs pair is.between ∷ [])

@@ -14,8 +14,8 @@ use Rattle.fsd_table.specs.Pages.{page_at, children, children_of, keys_fit, not_
 use Rattle.fsd_table.specs.Tree.{pages_below, IsLeaf, IsInterior, IsSubtree}
 use Rattle.fsd_table.proofs.PageLaws.{at_is_page, leaf_ascends}
 use Rattle.fsd_table.proofs.BoundLaws.{entry_keys_append, separator_keys_append}
-use Rattle.fsd_forest.specs.Forest.{inner, count_of, forest_pages, Stay, Becomes}
-use Rattle.fsd_forest.specs.Ways.{StandsAt, IsUpTo, IsBehind, children_before, child_behind, children_from, end_of}
+use Rattle.fsd_forest.specs.Forest.{inner, times_in, forest_pages, Stay, Becomes}
+use Rattle.fsd_forest.specs.Ways.{StandsAround, IsUpToKey, IsBehindKey, children_before, child_behind, children_from, end_of}
 use Rattle.fsd_forest.proofs.CountLaws.{count_cons, count_append, count_nothing, counts_out}
 use Rattle.name_page.specs.Edits.{without}
 use Rattle.name_page.specs.Pages.{Step}
@@ -27,7 +27,7 @@ use Rattle.name_btree.specs.Draft.{drafted}
 use Rattle.name_page.specs.declared.cut.Cut.TheVariants.{UpTo}
 use Rattle.name_page.specs.Cut.{is_before}
 use Rattle.name_btree.specs.Remove.{IsAround, IsTrimmed, IsTrimmedBelow, BreaksAround}
-use Rattle.name_btree.specs.Trim.{IsPair, IsOpened, IsLeft, AreFewEntries, AreFewWays, pair_fits, entries_at, ways_at, first_at, LeafIsMended, WayIsMended, IsMended}
+use Rattle.name_btree.specs.Trim.{IsPair, IsOpenedPage, IsLeft, AreFewEntries, AreFewWays, pair_fits, both_entries, ways_at, first_at, LeafIsMended, WayIsMended, IsTrimmedAbove}
 use Rattle.name_btree.proofs.AroundLaws.{is_local, pair_stands, child_around, up_to, past}
 use Rattle.name_btree.proofs.LeafTreeLaws.{leaves_joined, leaves_shared, are_apart, pair_stays, one_same}
 use Rattle.name_btree.proofs.MendLaws.{pair_inside, left_page, right_page, ways_are_at}
@@ -47,7 +47,7 @@ record LeafKeys (above : Child) (first : ℕ) (xs : List Separator) (pair : Pair
   ascend : are_ascending (entry_keys list) ≡ true
   within : pair_fits above first xs pair (entry_keys list) ≡ true
 
-both_keys : (p first : ℕ) (above : Child) (xs : List Separator) (pair : Pair) (is : IsPair above first xs pair) → IsOpened p above first xs → (ls rs : List Entry) → are_ascending (entry_keys ls) ≡ true → are_ascending (entry_keys rs) ≡ true
+both_keys : (p first : ℕ) (above : Child) (xs : List Separator) (pair : Pair) (is : IsPair above first xs pair) → IsOpenedPage p above first xs → (ls rs : List Entry) → are_ascending (entry_keys ls) ≡ true → are_ascending (entry_keys rs) ≡ true
     → keys_fit (left_child above first xs pair is.between).low (left_child above first xs pair is.between).high (entry_keys ls) ≡ true → keys_fit (Some is.between.key) (end_of above.high (drop (pair.place + 1) xs)) (entry_keys rs) ≡ true
     → LeafKeys above first xs pair (ls ++ rs)
 both_keys p first above xs pair is o ls rs a b under over =
@@ -62,9 +62,9 @@ both_keys p first above xs pair is o ls rs a b under over =
       within = ap (keys_fit lowest highest) (entry_keys_append ls rs) ∙ keys_joined lowest highest (entry_keys ls) (entry_keys rs) k (pair_inside p first above xs pair is o) under2 over;
     }
 
-leaf_keys : (p first : ℕ) (above : Child) (xs : List Separator) (pair : Pair) (is : IsPair above first xs pair) → IsOpened p above first xs → (i : ℕ) (child neighbour : Child) → AreSides above first xs pair is.between i child neighbour
+leaf_keys : (p first : ℕ) (above : Child) (xs : List Separator) (pair : Pair) (is : IsPair above first xs pair) → IsOpenedPage p above first xs → (i : ℕ) (child neighbour : Child) → AreSides above first xs pair is.between i child neighbour
     → (few others : List Entry) → are_ascending (entry_keys few) ≡ true → are_ascending (entry_keys others) ≡ true → keys_fit child.low child.high (entry_keys few) ≡ true → keys_fit neighbour.low neighbour.high (entry_keys others) ≡ true
-    → LeafKeys above first xs pair (entries_at i few others)
+    → LeafKeys above first xs pair (both_entries i few others)
 leaf_keys p first above xs pair is o i child neighbour (AtLeft e at next) few others a b fit fit2 =
     let F : List Entry → Child → Type 0 = λ es c. keys_fit c.low c.high (entry_keys es) ≡ true in
     subst (λ (t : Bool). LeafKeys above first xs pair (cond t (few ++ others) (others ++ few))) (sym e) (both_keys p first above xs pair is o few others a b (subst (F few) at fit) (subst (F others) next fit2))
@@ -80,8 +80,8 @@ fit_one low high ks k ls fit =
 -- ---- leaves
 
 pub leaf_mended : (step : Step) (key : Key) (pages : List (List ℕ)) (mid new : Draft) (old0 : List ℕ) (above : Child) (first : ℕ) (xs : List Separator) (i : ℕ) (child : Child) (few : List Entry) (left : Trimmed)
-    → IsAround key pages (suc zero) above → page_at pages above.page ≡ Some (grammar.Interior first xs) → IsOpened (length pages) above first xs
-    → AllByRecursion (IsUpTo key) (take i xs) → AllByRecursion (IsBehind key) (drop i xs) → slice_get (children first above.low above.high xs) i ≡ Some child → AreFewEntries child few
+    → IsAround key pages (suc zero) above → page_at pages above.page ≡ Some (grammar.Interior first xs) → IsOpenedPage (length pages) above first xs
+    → AllByRecursion (IsUpToKey key) (take i xs) → AllByRecursion (IsBehindKey key) (drop i xs) → slice_get (children first above.low above.high xs) i ≡ Some child → AreFewEntries child few
     → ((q : ℕ) → contains mid.freed.items q ≡ (contains old0 q || contains [] q)) → few ≡ without key (entries_of (page_at pages child.page)) → Stay pages (drafted mid.sheets.items step.images) []
     → LeafIsMended step mid new above first xs i few left → IsTrimmed key pages (drafted new.sheets.items step.images) old0 new.freed.items (suc zero) above left
 leaf_mended step key pages mid new old0 above first xs i child few left around at o ends begins child_is small freed few_is stay m =
@@ -96,7 +96,7 @@ leaf_mended step key pages mid new old0 above first xs i child few left around a
     let old : List Child = left_child above first xs pair is.between ∷ right_child above xs pair is.between ∷ [] in
     let sides = sides_are above first xs pair is i child neighbour m.place child_is m.there in
     let stands0 = pair_stands key above first xs pair is i m.place ends begins in
-    let stands = subst (λ (x : Option Content). StandsAt key (children_of above.low above.high x) ls old rs) (sym at) stands0 in
+    let stands = subst (λ (x : Option Content). StandsAround key (children_of above.low above.high x) ls old rs) (sym at) stands0 in
     let apart = are_apart key pages zero above first xs pair is ls rs around stands.children_are in
     let has : page_at pages neighbour.page ≡ Some (grammar.Leaf m.others) = sym (stay neighbour.page refl) ∙ m.has in
     let subs = subst (IsInterior (IsSubtree zero pages) above) at around.subtree in
@@ -109,7 +109,7 @@ leaf_mended step key pages mid new old0 above first xs i child few left around a
           let h = joined_has step mid new above.page first xs pair _ left j apart.left_above in
           let stay2 = pair_stays pages between after zero above first xs pair is [] (λ q. omega (arith, count_nothing q)) stay (λ q a b d. h.others q a d) in
           joined_trimmed step key pages mid new old0 [] zero (length pages) above first xs pair is _ left around o stands j apart.right_inner freed stay2
-          (leaves_joined key pages after above first xs pair is (entries_at i few m.others) h.content keys.within edited)
+          (leaves_joined key pages after above first xs pair is (both_entries i few m.others) h.content keys.within edited)
       | inr s ↦
           let h = shared_has step mid new above.page first xs pair _ _ _ left s.shared apart.left_above apart.right_above apart.left_right in
           let stay2 = pair_stays pages between after zero above first xs pair is [] (λ q. omega (arith, count_nothing q)) stay h.others in
@@ -126,7 +126,7 @@ leaf_mended step key pages mid new old0 above first xs i child few left around a
 
 pub whole_mended : (step : Step) (key : Key) (pages : List (List ℕ)) (new : Draft) (old0 went : List ℕ) (level : ℕ) (above : Child) (first : ℕ) (xs : List Separator) (i : ℕ) (child : Child)
     → IsAround key pages (suc level) above → page_at pages above.page ≡ Some (grammar.Interior first xs) → i ≤ length xs
-    → AllByRecursion (IsUpTo key) (take i xs) → AllByRecursion (IsBehind key) (drop i xs) → slice_get (children first above.low above.high xs) i ≡ Some child
+    → AllByRecursion (IsUpToKey key) (take i xs) → AllByRecursion (IsBehindKey key) (drop i xs) → slice_get (children first above.low above.high xs) i ≡ Some child
     → ((q : ℕ) → contains new.freed.items q ≡ (contains old0 q || contains went q)) → Stay pages (drafted new.sheets.items step.images) (pages_below level pages child)
     → Becomes (without key) pages (drafted new.sheets.items step.images) [] went level (child ∷ []) (child ∷ [])
     → IsTrimmed key pages (drafted new.sheets.items step.images) old0 new.freed.items (suc level) above Whole
@@ -143,21 +143,21 @@ others_of between after above first xs pair is i child neighbour sides h q a b d
     h q (left_page (λ (n : ℕ). q ≡ n → ⊥) above first xs pair is i child neighbour sides a b) (right_page (λ (n : ℕ). q ≡ n → ⊥) above first xs pair is i child neighbour sides a b) d
 
 child_counts : (q level : ℕ) (pages : List (List ℕ)) (above : Child) (first : ℕ) (xs : List Separator) (pair : Pair) (s : Separator) (i : ℕ) (child neighbour : Child) → AreSides above first xs pair s i child neighbour
-    → count_of q (pages_below level pages child) ≤ count_of q (forest_pages level pages (left_child above first xs pair s ∷ right_child above xs pair s ∷ []))
+    → times_in q (pages_below level pages child) ≤ times_in q (forest_pages level pages (left_child above first xs pair s ∷ right_child above xs pair s ∷ []))
 child_counts q level pages above first xs pair s i child neighbour (AtLeft e at next) =
     let f : Child → List ℕ = pages_below level pages in
     let a : Child = left_child above first xs pair s in
     let b : Child = right_child above xs pair s in
-    omega (arith, ap (λ (c : Child). count_of q (f c)) at, count_append q (f a) (f b ++ []))
+    omega (arith, ap (λ (c : Child). times_in q (f c)) at, count_append q (f a) (f b ++ []))
 child_counts q level pages above first xs pair s i child neighbour (AtRight e at next) =
     let f : Child → List ℕ = pages_below level pages in
     let a : Child = left_child above first xs pair s in
     let b : Child = right_child above xs pair s in
-    omega (arith, ap (λ (c : Child). count_of q (f c)) at, count_append q (f a) (f b ++ []), count_append q (f b) [], count_nothing q)
+    omega (arith, ap (λ (c : Child). times_in q (f c)) at, count_append q (f a) (f b ++ []), count_append q (f b) [], count_nothing q)
 
 pub way_mended : (step : Step) (key : Key) (pages : List (List ℕ)) (mid new : Draft) (old0 went : List ℕ) (l : ℕ) (above : Child) (first : ℕ) (xs : List Separator) (i : ℕ) (child : Child) (lead : ℕ) (few : List Separator) (left : Trimmed)
-    → IsAround key pages (suc (suc l)) above → page_at pages above.page ≡ Some (grammar.Interior first xs) → IsOpened (length pages) above first xs
-    → AllByRecursion (IsUpTo key) (take i xs) → AllByRecursion (IsBehind key) (drop i xs) → slice_get (children first above.low above.high xs) i ≡ Some child → AreFewWays (length pages) child lead few
+    → IsAround key pages (suc (suc l)) above → page_at pages above.page ≡ Some (grammar.Interior first xs) → IsOpenedPage (length pages) above first xs
+    → AllByRecursion (IsUpToKey key) (take i xs) → AllByRecursion (IsBehindKey key) (drop i xs) → slice_get (children first above.low above.high xs) i ≡ Some child → AreFewWays (length pages) child lead few
     → ((q : ℕ) → contains mid.freed.items q ≡ (contains old0 q || contains went q)) → Stay pages (drafted mid.sheets.items step.images) (pages_below (suc l) pages child)
     → Becomes (without key) pages (drafted mid.sheets.items step.images) [] went l (children_of child.low child.high (page_at pages child.page)) (children lead child.low child.high few)
     → WayIsMended step mid new above first xs i lead few left → IsTrimmed key pages (drafted new.sheets.items step.images) old0 new.freed.items (suc (suc l)) above left
@@ -174,7 +174,7 @@ way_mended step key pages mid new old0 went l above first xs i child lead few le
     let old : List Child = left_child above first xs pair is.between ∷ right_child above xs pair is.between ∷ [] in
     let sides = sides_are above first xs pair is i child neighbour m.place child_is m.there in
     let stands0 = pair_stands key above first xs pair is i m.place ends begins in
-    let stands = subst (λ (x : Option Content). StandsAt key (children_of above.low above.high x) ls old rs) (sym at) stands0 in
+    let stands = subst (λ (x : Option Content). StandsAround key (children_of above.low above.high x) ls old rs) (sym at) stands0 in
     let apart = are_apart key pages (suc l) above first xs pair is ls rs around stands.children_are in
     let once = counted_once key pages l above first xs pair is.between i child neighbour sides around ls rs stands.children_are in
     let out : contains (pages_below (suc l) pages child) neighbour.page ≡ false = counts_out neighbour.page (pages_below (suc l) pages child)
@@ -213,9 +213,9 @@ way_mended step key pages mid new old0 went l above first xs i child lead few le
 -- ---- whatever is left of the child
 
 pub mended_trimmed : (step : Step) (key : Key) (pages : List (List ℕ)) (mid new : Draft) (old0 : List ℕ) (level : ℕ) (above : Child) (first : ℕ) (xs : List Separator) (i : ℕ) (child : Child) (below left : Trimmed)
-    → IsAround key pages (suc level) above → page_at pages above.page ≡ Some (grammar.Interior first xs) → IsOpened (length pages) above first xs → i ≤ length xs
-    → AllByRecursion (IsUpTo key) (take i xs) → AllByRecursion (IsBehind key) (drop i xs) → slice_get (children first above.low above.high xs) i ≡ Some child → IsLeft (length pages) child below
-    → IsTrimmed key pages (drafted mid.sheets.items step.images) old0 mid.freed.items level child below → IsMended step mid new above first xs i below left
+    → IsAround key pages (suc level) above → page_at pages above.page ≡ Some (grammar.Interior first xs) → IsOpenedPage (length pages) above first xs → i ≤ length xs
+    → AllByRecursion (IsUpToKey key) (take i xs) → AllByRecursion (IsBehindKey key) (drop i xs) → slice_get (children first above.low above.high xs) i ≡ Some child → IsLeft (length pages) child below
+    → IsTrimmed key pages (drafted mid.sheets.items step.images) old0 mid.freed.items level child below → IsTrimmedAbove step mid new above first xs i below left
     → IsTrimmed key pages (drafted new.sheets.items step.images) old0 new.freed.items (suc level) above left
 mended_trimmed step key pages mid new old0 level above first xs i child Whole left around at o within ends begins child_is small t m =
     let P : Draft → Trimmed → Type 0 = λ d x. IsTrimmed key pages (drafted d.sheets.items step.images) old0 d.freed.items (suc level) above x in
@@ -231,10 +231,10 @@ mended_trimmed step key pages mid new old0 (suc l) above first xs i child (Inter
 -- ---- below a child of so many levels at most
 
 pub trimmed_above : (step : Step) (images0 images1 : List (List ℕ)) → step.images ≡ images0 → images1 ≡ images0 → (key : Key) (draft mid new : Draft) (levels : ℕ) (above : Child) (first : ℕ) (xs : List Separator) (i : ℕ) (child : Child) (below left : Trimmed)
-    → page_at (drafted draft.sheets.items images0) above.page ≡ Some (grammar.Interior first xs) → IsOpened (length (drafted draft.sheets.items images0)) above first xs → i ≤ length xs
+    → page_at (drafted draft.sheets.items images0) above.page ≡ Some (grammar.Interior first xs) → IsOpenedPage (length (drafted draft.sheets.items images0)) above first xs → i ≤ length xs
     → AllByRecursion (λ s. is_before (UpTo key) s.key ≡ true) (take i xs) → AllByRecursion (λ s. is_before (UpTo key) s.key ≡ false) (drop i xs) → slice_get (children first above.low above.high xs) i ≡ Some child
     → IsLeft (length (drafted draft.sheets.items images0)) child below
-    → IsTrimmedBelow key (drafted draft.sheets.items images1) (drafted mid.sheets.items images1) draft.freed.items mid.freed.items (levels - 1) child below → IsMended step mid new above first xs i below left
+    → IsTrimmedBelow key (drafted draft.sheets.items images1) (drafted mid.sheets.items images1) draft.freed.items mid.freed.items (levels - 1) child below → IsTrimmedAbove step mid new above first xs i below left
     → IsTrimmedBelow key (drafted draft.sheets.items images0) (drafted new.sheets.items images0) draft.freed.items new.freed.items levels above left
 trimmed_above step images0 images1 same3 same1 key draft mid new levels above first xs i child below left at o within before behind child_is small t m zero most around = absurd (subst (IsLeaf above) at around.subtree)
 trimmed_above step images0 images1 same3 same1 key draft mid new levels above first xs i child below left at o within before behind child_is small t m (suc l) most around =

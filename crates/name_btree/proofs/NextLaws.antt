@@ -25,11 +25,11 @@ use Rattle.fsd_table.proofs.PageLaws.{at_is_page}
 use Rattle.name_page.proofs.LeafLaws.{between}
 use Rattle.name_page.specs.declared.cut.Cut.{Cut}
 use Rattle.name_page.specs.declared.cut.Cut.TheVariants.{Start, End}
-use Rattle.name_btree.specs.declared.descent.Found.{Found}
+use Rattle.name_btree.specs.declared.descent.FoundLeaf.{FoundLeaf}
 use Rattle.name_btree.specs.declared.descent.Neighbour.{Neighbour}
 use Rattle.name_page.specs.Cut.{is_before, after_cut}
 use Rattle.name_page.specs.Cut.{IsLesser}
-use Rattle.name_btree.specs.Descent.{HasChildren, IsAt, IsPlace, BeginsWith, EndsWith}
+use Rattle.name_btree.specs.Descent.{HasChildren, IsAt, IsLeafOfPlace, BeginsWithEntry, EndsWithEntry}
 use Rattle.name_page.specs.Lookups.{entry_after, is_after}
 use Rattle.name_page.proofs.CutLaws.{cuts_monotone, greater}
 use Rattle.name_page.proofs.CutLaws.{IsMonotone}
@@ -76,7 +76,7 @@ pub head_of : (xs : List Entry) (e : Entry) → slice_get xs 0 ≡ Some e → (r
 head_of [] e h = absurd cc
 head_of (x ∷ xs) e h = (xs, let same : x ≡ e = cc in ap (λ (y : Entry). y ∷ xs) same)
 
-pub begins : (pages : List (List ℕ)) (c : Child) (found : Found) (e : Entry) → IsPlace (is_before Start) pages c found → slice_get found.entries 0 ≡ Some e → BeginsWith pages c e
+pub begins : (pages : List (List ℕ)) (c : Child) (found : FoundLeaf) (e : Entry) → IsLeafOfPlace (is_before Start) pages c found → slice_get found.entries 0 ≡ Some e → BeginsWithEntry pages c e
 begins pages c found e place first level low sub =
     let at = place level low sub in
     let head = head_of found.entries e first in
@@ -85,7 +85,7 @@ begins pages c found e place first level low sub =
 pub last_is : (xs : List Entry) (n : ℕ) (e : Entry) → n ≡ length xs → 0 < n → slice_get xs (n - 1) ≡ Some e → xs ≡ take (n - 1) xs ++ e ∷ []
 last_is xs n e is some last = sym (take_all n xs (omega arith)) ∙ take_back xs n e some last
 
-pub ends : (pages : List (List ℕ)) (c : Child) (found : Found) (n : ℕ) (e : Entry) → IsPlace (is_before End) pages c found → n ≡ length found.entries → 0 < n → slice_get found.entries (n - 1) ≡ Some e → EndsWith pages c e
+pub ends : (pages : List (List ℕ)) (c : Child) (found : FoundLeaf) (n : ℕ) (e : Entry) → IsLeafOfPlace (is_before End) pages c found → n ≡ length found.entries → 0 < n → slice_get found.entries (n - 1) ≡ Some e → EndsWithEntry pages c e
 ends pages c found n e place is some last level low sub =
     let at = place level low sub in
     let rest : List Entry = take (n - 1) found.entries in (
@@ -137,7 +137,7 @@ at_end : (cut : Cut) (pages : List (List ℕ)) (whole some : List Entry) (previo
 at_end cut pages whole some previous at h =
     past_left cut pages whole some previous None at ∙ ap (λ (xs : List Entry). find (λ x. not (is_before cut x.key)) (some ++ xs)) at.next_is ∙ ap (find (λ x. not (is_before cut x.key))) (append-nil some) ∙ h
 
-in_next : (cut : Cut) (pages : List (List ℕ)) (whole some : List Entry) (previous : Option Neighbour) (c : Neighbour) (e : Entry) → IsAt (is_before cut) pages top whole some previous (Some c) → BeginsWith pages c.child e
+in_next : (cut : Cut) (pages : List (List ℕ)) (whole some : List Entry) (previous : Option Neighbour) (c : Neighbour) (e : Entry) → IsAt (is_before cut) pages top whole some previous (Some c) → BeginsWithEntry pages c.child e
     → find (λ x. not (is_before cut x.key)) some ≡ None → find (λ x. not (is_before cut x.key)) whole ≡ Some e
 in_next cut pages whole some previous c e at begin h =
     let test : Entry → Bool = λ x. not (is_before cut x.key) in
@@ -152,18 +152,18 @@ pub cut_tests : (before : Option Key) (cut : Cut) → cut ≡ after_cut before �
 cut_tests before cut same xs =
     sym (same_tests (λ x. is_after before x.key) (λ x. not (is_before cut x.key)) (λ x. after_is before x.key ∙ ap (λ (d : Cut). not (is_before d x.key)) (sym same)) xs)
 
-pub next_in_leaf : (before : Option Key) (cut : Cut) (pages : List (List ℕ)) (found : Found) (e : Entry) → cut ≡ after_cut before → IsPlace (is_before cut) pages top found
+pub next_in_leaf : (before : Option Key) (cut : Cut) (pages : List (List ℕ)) (found : FoundLeaf) (e : Entry) → cut ≡ after_cut before → IsLeafOfPlace (is_before cut) pages top found
     → find (λ x. not (is_before cut x.key)) found.entries ≡ Some e → (height : ℕ) → IsTree pages height → Some e ≡ entry_after before (table_of pages height)
 next_in_leaf before cut pages found e same place h height t =
     sym (in_leaf cut pages (table_of pages height) found.entries found.previous found.next e (place (height - 1) (low_height pages height t) t.subtree) h) ∙ cut_tests before cut same (table_of pages height)
 
-pub next_at_end : (before : Option Key) (cut : Cut) (pages : List (List ℕ)) (found : Found) → cut ≡ after_cut before → found.next ≡ None → IsPlace (is_before cut) pages top found
+pub next_at_end : (before : Option Key) (cut : Cut) (pages : List (List ℕ)) (found : FoundLeaf) → cut ≡ after_cut before → found.next ≡ None → IsLeafOfPlace (is_before cut) pages top found
     → find (λ x. not (is_before cut x.key)) found.entries ≡ None → (height : ℕ) → IsTree pages height → None ≡ entry_after before (table_of pages height)
 next_at_end before cut pages found same none place h height t =
     let P : Option Neighbour → Type 0 = λ (o : Option Neighbour). IsAt (is_before cut) pages top (table_of pages height) found.entries found.previous o in
     sym (at_end cut pages (table_of pages height) found.entries found.previous (subst P none (place (height - 1) (low_height pages height t) t.subtree)) h) ∙ cut_tests before cut same (table_of pages height)
 
-pub next_in_next : (before : Option Key) (cut : Cut) (pages : List (List ℕ)) (found : Found) (c : Neighbour) (e : Entry) → cut ≡ after_cut before → found.next ≡ Some c → IsPlace (is_before cut) pages top found → BeginsWith pages c.child e
+pub next_in_next : (before : Option Key) (cut : Cut) (pages : List (List ℕ)) (found : FoundLeaf) (c : Neighbour) (e : Entry) → cut ≡ after_cut before → found.next ≡ Some c → IsLeafOfPlace (is_before cut) pages top found → BeginsWithEntry pages c.child e
     → find (λ x. not (is_before cut x.key)) found.entries ≡ None → (height : ℕ) → IsTree pages height → Some e ≡ entry_after before (table_of pages height)
 next_in_next before cut pages found c e same is place begin h height t =
     let P : Option Neighbour → Type 0 = λ (o : Option Neighbour). IsAt (is_before cut) pages top (table_of pages height) found.entries found.previous o in

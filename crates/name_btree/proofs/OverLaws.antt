@@ -13,10 +13,10 @@ use Rattle.name_btree.specs.declared.draft.Sheet.{Sheet}
 use Rattle.name_btree.specs.declared.trimming.Pair.{Pair}
 use Rattle.name_btree.specs.declared.trimming.Trimmed.{Trimmed}
 use Rattle.name_btree.specs.declared.trimming.Trimmed.TheVariants.{Whole, Leaf, Interior}
-use Rattle.name_btree.specs.Draft.{IsDraft, IsDrafted}
+use Rattle.name_btree.specs.Draft.{IsTreeDraft, IsDrafted}
 use Rattle.name_btree.specs.Trim.{IsLeafPut, AreWaysPut, AreJoined, AreShared, AreLeavesMended, AreWaysMended}
 use Rattle.name_btree.specs.declared.growing.Grown.TheVariants as Grown
-use Rattle.name_btree.specs.Grown.{Takes, IsGrown}
+use Rattle.name_btree.specs.Grown.{TakesSpare, IsGrown}
 use Rattle.name_btree.proofs.DraftLaws.{sheets_kept}
 use Rattle.name_btree.proofs.MendLaws.{draft_kept}
 use Rattle.name_btree.proofs.RemoveLaws.{one_page}
@@ -75,12 +75,12 @@ module _ (s : Step) (images : List (List ℕ)) (same : length images ≡ length 
 
 -- ---- pages that are taken
 
-module _ (images : List (List ℕ)) (a b : Step) (came : List ℕ) (same : length images ≡ length a.images) (t : Takes a b came) where
+module _ (images : List (List ℕ)) (a b : Step) (came : List ℕ) (same : length images ≡ length a.images) (t : TakesSpare a b came) where
   taken_over : (ps : List ℕ) → AllByRecursion (IsReached b) ps → AllByRecursion (IsReached (with_images images b)) ps
   taken_over [] h = tt
   taken_over (p ∷ ps) h = ((subst (λ (n : ℕ). p < n) (ap length t.images ∙ sym same) h.0.0, h.0.1), taken_over ps h.1)
 
-  pub takes_over : Takes (with_images images a) (with_images images b) came
+  pub takes_over : TakesSpare (with_images images a) (with_images images b) came
   takes_over = record {
     images = refl;
     most_reached = t.most_reached;
@@ -107,12 +107,12 @@ grown_whole step old new page x d = record {
   place = tt;
 }
 
-pub takes_looked : (images : List (List ℕ)) (a b : Step) → length images ≡ length a.images → Looks a b → Takes (with_images images a) (with_images images b) []
+pub takes_looked : (images : List (List ℕ)) (a b : Step) → length images ≡ length a.images → Looks a b → TakesSpare (with_images images a) (with_images images b) []
 takes_looked images a b same x = takes_none (with_images images a) (with_images images b) refl x.spares x.most_reached (record { changed = x.changed; most_changed = x.most_changed; promised = x.promised })
     (λ q h. (h.0, (x.reached q (subst (λ (n : ℕ). q < n) same h.0, h.1)).1))
 
 -- pages that were taken, and nothing else
-pub takes_only : {D : Type 0} (P : Ghosts D) (a b : D) (images : List (List ℕ)) (came : List ℕ) → length images ≡ length (P.step a).images → Takes (with_images images (P.step a)) (with_images images (P.step b)) came
+pub takes_only : {D : Type 0} (P : Ghosts D) (a b : D) (images : List (List ℕ)) (came : List ℕ) → length images ≡ length (P.step a).images → TakesSpare (with_images images (P.step a)) (with_images images (P.step b)) came
     → P.outside None a b → (P.trusted b → P.trusted a) → (P.step b).images ≡ (P.step a).images → (P.step b).home_a ≡ (P.step a).home_a → OnlyTakes P None a b
 takes_only P a b images came same t outside trust kept home = record {
   edits = record { count = ap length kept; home_a = home; most_reached = t.most_reached; most_changed = t.most_changed; outside = outside; trust = trust };
@@ -126,5 +126,5 @@ takes_only P a b images came same t outside trust kept home = record {
   };
 }
 
-pub draft_over : (images : List (List ℕ)) (s : Step) (d : Draft) → length images ≡ length s.images → IsDraft s d → IsDraft (with_images images s) d
+pub draft_over : (images : List (List ℕ)) (s : Step) (d : Draft) → length images ≡ length s.images → IsTreeDraft s d → IsTreeDraft (with_images images s) d
 draft_over images s d same is = draft_kept s (with_images images s) d (λ q h. reached_over images s q same h) refl same is

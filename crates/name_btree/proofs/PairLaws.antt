@@ -13,7 +13,7 @@ use Rattle.fsd_table.proofs.KeyLaws.{le_lt}
 use Rattle.name_btree.specs.declared.trimming.Pair.{Pair}
 use Rattle.fsd_forest.specs.Ways.{child_behind, end_of}
 use Rattle.fsd_forest.proofs.WayLaws.{child_at}
-use Rattle.name_btree.specs.Trim.{IsPair, beside, child_of}
+use Rattle.name_btree.specs.Trim.{IsPair, neighbour_of, child_of}
 use Rattle.name_btree.proofs.WalkLaws.{child_later}
 use Rattle.name_page.proofs.EndsLaws.{some_there}
 use Rattle.name_page.proofs.ListLaws.{drop_at}
@@ -58,7 +58,7 @@ pub data AreSides (above : Child) (first : ℕ) (xs : List Separator) (pair : Pa
   AtRight : (i == 0) ≡ false → child ≡ right_child above xs pair s → neighbour ≡ left_child above first xs pair s → AreSides above first xs pair s i child neighbour
 
 pub sides_are : (above : Child) (first : ℕ) (xs : List Separator) (pair : Pair) (is : IsPair above first xs pair) (i : ℕ) (child neighbour : Child) → pair.place ≡ i - 1
-    → slice_get (children first above.low above.high xs) i ≡ Some child → slice_get (children first above.low above.high xs) (beside i) ≡ Some neighbour
+    → slice_get (children first above.low above.high xs) i ≡ Some child → slice_get (children first above.low above.high xs) (neighbour_of i) ≡ Some neighbour
     → AreSides above first xs pair is.between i child neighbour
 sides_are above first xs pair is i child neighbour place at beside_at = by (i == 0) refl
   where
@@ -75,12 +75,12 @@ sides_are above first xs pair is i child neighbour place at beside_at = by (i ==
     by true e =
         let zero_i : i ≡ 0 = grind arith in
         let here : pair.place ≡ i = omega arith in
-        let there : pair.place + 1 ≡ beside i = (let one : pair.place + 1 ≡ 1 = omega arith in one ∙ sym (ap (λ (b : Bool). cond b 1 (i - 1)) e)) in
+        let there : pair.place + 1 ≡ neighbour_of i = (let one : pair.place + 1 ≡ 1 = omega arith in one ∙ sym (ap (λ (b : Bool). cond b 1 (i - 1)) e)) in
         AtLeft e (same_of child _ (sym at ∙ ap (slice_get cs) (sym here) ∙ left_at)) (same_of neighbour _ (sym beside_at ∙ ap (slice_get cs) (sym there) ∙ right_at))
     by false e =
         let some_i : i ≡ 0 → ⊥ = grind arith in
         let here : pair.place + 1 ≡ i = omega (arith, some_i) in
-        let there : pair.place ≡ beside i = place ∙ sym (ap (λ (b : Bool). cond b 1 (i - 1)) e) in
+        let there : pair.place ≡ neighbour_of i = place ∙ sym (ap (λ (b : Bool). cond b 1 (i - 1)) e) in
         AtRight e (same_of child _ (sym at ∙ ap (slice_get cs) (sym here) ∙ right_at)) (same_of neighbour _ (sym beside_at ∙ ap (slice_get cs) (sym there) ∙ left_at))
 
 -- ---- keys of the pair

@@ -15,7 +15,7 @@ use Rattle.fsd_table.proofs.BoundLaws.{ascend_tail}
 use Rattle.fsd_table.proofs.KeyLaws.{lt_lt}
 use Rattle.fsd_table.proofs.PageLaws.{at_is_page, interior_ascends}
 use Rattle.fsd_forest.specs.Forest.{Stay, IsLocal}
-use Rattle.fsd_forest.specs.Ways.{IsUpTo, IsBehind, child_between, end_of}
+use Rattle.fsd_forest.specs.Ways.{IsUpToKey, IsBehindKey, child_between, end_of}
 use Rattle.fsd_forest.proofs.WayLaws.{child_at}
 use Rattle.name_page.specs.declared.cut.Cut.{Cut}
 use Rattle.name_page.specs.declared.cut.Cut.TheVariants.{UpTo}
@@ -34,11 +34,11 @@ use Rattle.name_btree.proofs.RemoveLaws.{leaf_becomes}
 record IsChildAt (key : Key) (first : ℕ) (low high : Option Key) (separators : List Separator) (d : Child) : Type 0 where
   place : ℕ
   within : place ≤ length separators
-  ends : AllByRecursion (IsUpTo key) (take place separators)
-  begins : AllByRecursion (IsBehind key) (drop place separators)
+  ends : AllByRecursion (IsUpToKey key) (take place separators)
+  begins : AllByRecursion (IsBehindKey key) (drop place separators)
   child : child_between first low high (take place separators) (drop place separators) ≡ d
 
-all_behind : (key k : Key) (separators : List Separator) → key_lt key k ≡ true → are_ascending (k ∷ separator_keys separators) ≡ true → AllByRecursion (IsBehind key) separators
+all_behind : (key k : Key) (separators : List Separator) → key_lt key k ≡ true → are_ascending (k ∷ separator_keys separators) ≡ true → AllByRecursion (IsBehindKey key) separators
 all_behind key k [] over asc = tt
 all_behind key k (s ∷ separators) over asc =
     let parts = and_parts (key_lt k s.key) (are_ascending (separator_keys (s ∷ separators))) asc in

@@ -6,9 +6,9 @@ use Rattle.fsd_formats.specs.NamePage.{Content}
 use Rattle.fsd_table.proofs.BoundLaws.{all_split}
 use Rattle.name_page.specs.Pages.{Step}
 use Rattle.name_btree.specs.declared.draft.Draft.{Draft}
-use Rattle.name_btree.specs.Draft.{IsDraft, IsDrafted, MayGo}
+use Rattle.name_btree.specs.Draft.{IsTreeDraft, IsDrafted, MayGo}
 
-pub draft_with : (s : Step) (old new : Draft) (page : ℕ) (x : Content) → IsDraft s old → IsDrafted s old.sheets.items new.sheets.items page x → new.freed.items ≡ old.freed.items → IsDraft s new
+pub draft_with : (s : Step) (old new : Draft) (page : ℕ) (x : Content) → IsTreeDraft s old → IsDrafted s old.sheets.items new.sheets.items page x → new.freed.items ≡ old.freed.items → IsTreeDraft s new
 draft_with s old new page x is put same = record { sheets = put.sheets; freed = subst (AllByRecursion (MayGo s)) (sym same) is.freed; apart = ap all_differ same ∙ is.apart }
 
 -- ---- the parts of a list

@@ -14,7 +14,7 @@ use Rattle.fsd_table.specs.declared.child.Child.{Child}
 use Rattle.fsd_table.specs.Pages.{page_at, keys_fit, not_below, below, entry_keys, entries_of}
 use Rattle.fsd_table.proofs.KeyLaws.{lt_le}
 use Rattle.fsd_forest.specs.Parts.{left_part}
-use Rattle.fsd_forest.specs.Ways.{IsUpTo, IsBehind, child_between, child_behind, end_of}
+use Rattle.fsd_forest.specs.Ways.{IsUpToKey, IsBehindKey, child_between, child_behind, end_of}
 use Rattle.fsd_forest.proofs.WayLaws.{high_is}
 use Rattle.name_page.specs.Edits.{without}
 use Rattle.name_page.specs.Pages.{Step}
@@ -23,7 +23,7 @@ use Rattle.name_btree.specs.declared.trimming.Pair.{Pair}
 use Rattle.name_btree.specs.declared.trimming.Trimmed.{Trimmed}
 use Rattle.name_btree.specs.declared.trimming.Trimmed.TheVariants.{Whole, Leaf, Interior}
 use Rattle.name_btree.specs.Draft.{drafted}
-use Rattle.name_btree.specs.Trim.{IsPair, entries_at, separators_shared, AreJoined, AreShared}
+use Rattle.name_btree.specs.Trim.{IsPair, both_entries, separators_shared, AreJoined, AreShared}
 use Rattle.name_btree.proofs.AroundLaws.{is_local}
 use Rattle.name_btree.proofs.PairLaws.{left_child, right_child, AreSides, AtLeft, AtRight, low_same}
 
@@ -125,13 +125,13 @@ all_under key k low (e ∷ es) h fit =
 
 -- the entries of both, without the key
 pub entries_edited : (key : Key) (pages : List (List ℕ)) (above : Child) (first : ℕ) (xs : List Separator) (pair : Pair) (is : IsPair above first xs pair) (i : ℕ) (child neighbour : Child) → AreSides above first xs pair is.between i child neighbour
-    → pair.place ≡ i - 1 → AllByRecursion (IsUpTo key) (take i xs) → AllByRecursion (IsBehind key) (drop i xs) → (few others : List Entry) → few ≡ without key (entries_of (page_at pages child.page))
+    → pair.place ≡ i - 1 → AllByRecursion (IsUpToKey key) (take i xs) → AllByRecursion (IsBehindKey key) (drop i xs) → (few others : List Entry) → few ≡ without key (entries_of (page_at pages child.page))
     → page_at pages neighbour.page ≡ Some (grammar.Leaf others) → keys_fit neighbour.low neighbour.high (entry_keys others) ≡ true
-    → entries_at i few others ≡ without key (flat_map (λ c. entries_of (page_at pages c.page)) (left_child above first xs pair is.between ∷ right_child above xs pair is.between ∷ []))
+    → both_entries i few others ≡ without key (flat_map (λ c. entries_of (page_at pages c.page)) (left_child above first xs pair is.between ∷ right_child above xs pair is.between ∷ []))
 entries_edited key pages above first xs pair is i child neighbour (AtLeft e at next) place ends begins few others few_is has fit =
     let E : Child → List Entry = λ (c : Child). entries_of (page_at pages c.page) in
     let zero_i : i ≡ 0 = grind arith in
-    let over : key_lt key is.between.key ≡ true = back_at (IsBehind key) xs pair.place is.between is.there (subst (λ (n : ℕ). AllByRecursion (IsBehind key) (drop n xs)) zero_i begins) in
+    let over : key_lt key is.between.key ≡ true = back_at (IsBehindKey key) xs pair.place is.between is.there (subst (λ (n : ℕ). AllByRecursion (IsBehindKey key) (drop n xs)) zero_i begins) in
     let fit2 = subst (λ (c : Child). keys_fit c.low c.high (entry_keys others) ≡ true) next fit in
     let local = is_local key [] (E child) others tt (all_over key is.between.key (end_of above.high (drop (pair.place + 1) xs)) others over fit2) in
     let others_is : E neighbour ≡ others = ap entries_of has in
@@ -142,7 +142,7 @@ entries_edited key pages above first xs pair is i child neighbour (AtLeft e at n
 entries_edited key pages above first xs pair is i child neighbour (AtRight e at next) place ends begins few others few_is has fit =
     let E : Child → List Entry = λ (c : Child). entries_of (page_at pages c.page) in
     let some_i : i ≡ 0 → ⊥ = grind arith in
-    let under : key_lt key is.between.key ≡ false = front_at (IsUpTo key) xs i pair.place is.between (omega (arith, place, some_i)) is.there ends in
+    let under : key_lt key is.between.key ≡ false = front_at (IsUpToKey key) xs i pair.place is.between (omega (arith, place, some_i)) is.there ends in
     let lowest : Option Key = (left_child above first xs pair is.between).low in
     let fit2 = subst (λ (c : Child). keys_fit c.low c.high (entry_keys others) ≡ true) next fit in
     let fit3 = subst (λ (h : Option Key). keys_fit lowest h (entry_keys others) ≡ true) (high_is first above.low (Some is.between.key) (take pair.place xs)) fit2 in

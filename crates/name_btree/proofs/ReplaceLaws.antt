@@ -20,9 +20,9 @@ use Rattle.fsd_table.proofs.PageLaws.{at_is_page, leaf_ascends}
 use Rattle.name_page.proofs.LeafLaws.{between}
 use Rattle.fsd_table.proofs.EntryLaws.{entries_long}
 use Rattle.name_page.specs.declared.cut.Cut.TheVariants.{UpTo}
-use Rattle.name_btree.specs.declared.descent.Found.{Found}
+use Rattle.name_btree.specs.declared.descent.FoundLeaf.{FoundLeaf}
 use Rattle.name_page.specs.Cut.{is_before}
-use Rattle.name_btree.specs.Descent.{IsPlace}
+use Rattle.name_btree.specs.Descent.{IsLeafOfPlace}
 use Rattle.name_page.specs.Edits.{put}
 use Rattle.name_btree.specs.Replace.{HasAsLong, IsAsLong}
 use Rattle.name_btree.proofs.FindLaws.{entry_found, unequal_less}
@@ -64,7 +64,7 @@ put_is_page pages page e entries at is long =
 
 -- ---- the tree
 
-pub not_in_tree : (pages : List (List ℕ)) (e : Entry) (found : Found) → IsPlace (is_before (UpTo e.key)) pages top found → (HasAsLong e found.entries → ⊥)
+pub not_in_tree : (pages : List (List ℕ)) (e : Entry) (found : FoundLeaf) → IsLeafOfPlace (is_before (UpTo e.key)) pages top found → (HasAsLong e found.entries → ⊥)
     → ((height : ℕ) → IsTree pages height → HasAsLong e (table_of pages height)) → (height : ℕ) → IsTree pages height → ⊥
 not_in_tree pages e found place none present height t =
     let long = present height t in

@@ -11,7 +11,7 @@ use Rattle.fsd_table.specs.declared.child.Child.{Child}
 use Rattle.fsd_table.specs.Pages.{page_at, children, children_of}
 use Rattle.fsd_table.specs.Table.{top}
 use Rattle.fsd_table.specs.Tree.{pages_of, pages_below, IsTree, IsSubtree, IsLeaf, IsInterior}
-use Rattle.fsd_forest.specs.Forest.{inner, count_of, forest_pages, Becomes, TreeBecomes}
+use Rattle.fsd_forest.specs.Forest.{inner, times_in, forest_pages, Becomes, TreeBecomes}
 use Rattle.fsd_forest.proofs.CountLaws.{count_cons, count_append, count_nothing, differ_counts}
 use Rattle.fsd_forest.proofs.TreeLaws.{trees_become}
 use Rattle.fsd_forest.proofs.ShrinkLaws.{trees_shrink}
@@ -25,7 +25,7 @@ use Rattle.name_btree.specs.declared.trimming.Trimmed.TheVariants.{Whole, Leaf, 
 use Rattle.name_btree.specs.Draft.{drafted}
 use Rattle.name_btree.specs.Remove.{IsAround, IsTrimmed, IsTrimmedBelow, BreaksAround, IsRootLeft}
 use Rattle.name_btree.specs.Fault.{IsNoTree}
-use Rattle.name_btree.specs.Trim.{IsFreeOrNone, AreWaysPut, IsMended, IsTakenOver}
+use Rattle.name_btree.specs.Trim.{IsFreeOrNone, AreWaysPut, IsTrimmedAbove, IsTakenOver}
 use Rattle.name_btree.proofs.LeafTreeLaws.{freed_has, one_same, head_counts}
 use Rattle.name_btree.proofs.RemoveLaws.{stays_but}
 
@@ -36,7 +36,7 @@ put_root step old new page first separators Whole h = tt
 put_root step old new page first separators (Leaf list) h = absurd h
 put_root step old new page first separators (Interior f list) h = subst (λ (ys : List Separator). length ys < least_separators page) (sym h.2) h.3
 
-pub mended_root : (step : Step) (old new : Draft) (above : Child) (first : ℕ) (xs : List Separator) (i : ℕ) (below left : Trimmed) → IsMended step old new above first xs i below left → IsRootLeft above.page left
+pub mended_root : (step : Step) (old new : Draft) (above : Child) (first : ℕ) (xs : List Separator) (i : ℕ) (below left : Trimmed) → IsTrimmedAbove step old new above first xs i below left → IsRootLeft above.page left
 mended_root step old new above first xs i Whole left m = subst (IsRootLeft above.page) (sym m.0) tt
 mended_root step old new above first xs i (Leaf list) left m = elim m.mended [
   | inl j ↦ put_root step j.middle new.sheets.items above.page first _ left j.above
@@ -75,7 +75,7 @@ shrunk step key pages mid new old0 height l first list tree up none went freed b
     let low : l ≡ height - 2 = omega (arith, up) in
     let b3 = subst (λ (n : ℕ). Becomes (without key) pages between [] went n (inner pages (top ∷ [])) (c ∷ [])) low b2 in
     let apart = subst (λ (n : ℕ). all_differ (pages_below n pages top) ≡ true) up tree.apart in
-    let top_once : count_of 0 (forest_pages l pages old) ≤ 0 = omega (arith, differ_counts (pages_below (suc l) pages top) apart 0, count_cons 0 0 (forest_pages l pages old), one_same 0 0 refl) in
+    let top_once : times_in 0 (forest_pages l pages old) ≤ 0 = omega (arith, differ_counts (pages_below (suc l) pages top) apart 0, count_cons 0 0 (forest_pages l pages old), one_same 0 0 refl) in
     let some : first ≡ 0 → ⊥ = λ e. absurd (omega (arith, top_once, b1.pages_are 0, count_nothing 0, head_counts 0 l between c, one_same first 0 e, count_append 0 (pages_below l between c) [])) in (
       first ∷ went,
       trees_shrink (without key) pages between after went height first tree (omega (arith, up)) b3 (taken.now.content ∙ sym taken.was) (stays_but mid.sheets.items new.sheets.items step 0 taken.content taken.now),

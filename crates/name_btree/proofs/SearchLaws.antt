@@ -25,7 +25,7 @@ use Rattle.name_page.proofs.LookLaws.{agrees_now}
 use Rattle.name_page.proofs.NodeLaws.{past_end}
 use Rattle.name_btree.specs.declared.fault.TreeFault.{TreeFault}
 use Rattle.name_btree.specs.declared.fault.TreeFault.TheVariants.{Pages, Broken}
-use Rattle.name_btree.specs.Fault.{outer_of, IsCaused, HasCause, FailsBy, BarsTable, FailsTable, FailsTree, IsNoTree, IsNoUsedTree, is_inner}
+use Rattle.name_btree.specs.Fault.{outer_of, IsCaused, HasTreeCause, FailsBy, BarsTable, FailsTable, FailsTree, IsNoTree, IsNoUsedTree, is_inner}
 use Rattle.name_btree.specs.Walk.{AreMarksOf}
 use Rattle.name_btree.proofs.CauseLaws.{cause_map}
 use Rattle.name_btree.proofs.SetLaws.{set_at, set_other, at_other}
@@ -75,7 +75,7 @@ barred_tree s page (inr h) = λ height t used.
     let spare : is_spare s.spares page ≡ true = h.0 in
     cc
 
-pub fails_tree : {D : Type 0} (P : Ghosts D) (new : D) (fault : TreeFault) → HasCause (P.step new) (BreaksTable (P.step new).images) (BarsTable (P.step new)) fault → FailsTree P new fault
+pub fails_tree : {D : Type 0} (P : Ghosts D) (new : D) (fault : TreeFault) → HasTreeCause (P.step new) (BreaksTable (P.step new).images) (BarsTable (P.step new)) fault → FailsTree P new fault
 fails_tree P new fault h =
     let s = P.step new in
     cause_map s (BreaksTable s.images) (λ page. P.trusted new → IsNoUsedTree s) (BarsTable s) (λ page. P.trusted new → IsNoUsedTree s)

@@ -9,7 +9,7 @@ use Rattle.name_page.specs.Pages.{Step}
 use Rattle.name_page.proofs.LookLaws.{looks_changed}
 use Rattle.name_btree.specs.declared.draft.Sheet.{Sheet}
 use Rattle.name_btree.specs.Draft.{AreSheets, HasSheet, IsDrafted, TakesSheets, committed, drafted, freed, last_sheet}
-use Rattle.name_btree.specs.Grown.{Takes, front_came}
+use Rattle.name_btree.specs.Grown.{TakesSpare, front_came}
 use Rattle.name_btree.proofs.DraftLaws.{by_sheet, committed_images, drafted_at, drafted_length, freed_images, sheet_is}
 use Rattle.name_btree.proofs.TakeLaws.{only_one}
 use Rattle.name_btree.proofs.WrittenPages.{commit_pages}
@@ -47,7 +47,7 @@ front_only page left q there = by (page == 0) there
     by false is = absurd (cc is)
 
 -- both parts of a page, of which each one that was taken is to be written
-pub two_sheets : (a b c : Step) (s0 s1 s2 : List Sheet) (page left right : ℕ) (x y : Content) → Takes a b (front_came page left) → Takes b c (right ∷ []) → IsDrafted c s0 s1 left x → IsDrafted c s1 s2 right y → TakesSheets a c s0 s2
+pub two_sheets : (a b c : Step) (s0 s1 s2 : List Sheet) (page left right : ℕ) (x y : Content) → TakesSpare a b (front_came page left) → TakesSpare b c (right ∷ []) → IsDrafted c s0 s1 left x → IsDrafted c s1 s2 right y → TakesSheets a c s0 s2
 two_sheets a b c s0 s1 s2 page left right x y front behind one other = record {
   each = λ q is. elim (behind.changed q is) [
     | inl then ↦ elim (front.changed q then) [

@@ -10,14 +10,14 @@ use Rattle.fsd_bytes.specs.declared.key.Key.{Key}
 use Rattle.fsd_formats.specs.declared.entry.Entry.{Entry}
 use Rattle.fsd_table.specs.Table.{top}
 use Rattle.fsd_table.specs.Tree.{pages_of, table_of, IsTree}
-use Rattle.fsd_forest.specs.Forest.{count_of}
+use Rattle.fsd_forest.specs.Forest.{times_in}
 use Rattle.fsd_forest.proofs.CountLaws.{count_append, count_nothing, there_counts, counts_there, out_counts, differ_counts}
 use Rattle.fsd_forest.proofs.LowLaws.{all_within}
 use Rattle.name_page.specs.Pages.{Step, is_spare, with_spare}
 use Rattle.name_page.specs.Edits.{with_entry}
 use Rattle.name_btree.specs.declared.draft.Draft.{Draft}
 use Rattle.name_btree.specs.declared.draft.Sheet.{Sheet}
-use Rattle.name_btree.specs.Draft.{drafted, committed, freed, IsTaken}
+use Rattle.name_btree.specs.Draft.{drafted, committed, freed, WereTaken}
 use Rattle.name_btree.specs.Grown.{AreUsed, Inserts, TakesAtMost}
 use Rattle.name_btree.specs.Map.{IsTable, HasTable, without_all, LeavesTree}
 use Rattle.name_btree.proofs.BranchLaws.{taken_apart}
@@ -51,7 +51,7 @@ none_taken most old new same = record {
   each = λ page was gone. let still : is_spare new page ≡ is_spare old page = ap (λ (spares : List Bool). is_spare spares page) same in cc;
 }
 
-pub came_taken : (most : ℕ) (old cleared last new : Step) (came pages : List ℕ) (sheets : List Sheet) → cleared.spares ≡ old.spares → length came ≤ most → IsTaken cleared last came → new ≡ freed pages (committed sheets last)
+pub came_taken : (most : ℕ) (old cleared last new : Step) (came pages : List ℕ) (sheets : List Sheet) → cleared.spares ≡ old.spares → length came ≤ most → WereTaken cleared last came → new ≡ freed pages (committed sheets last)
     → TakesAtMost most old.spares new.spares
 came_taken most old cleared last new came pages sheets same few taken step = record {
   pages = came;
@@ -72,10 +72,10 @@ abbrev Tells : Bool → ℕ → Type 0
 Tells true n = 1 ≤ n
 Tells false n = n ≡ 0
 
-told : (p : ℕ) (xs : List ℕ) → Tells (contains xs p) (count_of p xs)
+told : (p : ℕ) (xs : List ℕ) → Tells (contains xs p) (times_in p xs)
 told p xs = by (contains xs p) refl
   where
-    by : (b : Bool) → contains xs p ≡ b → Tells b (count_of p xs)
+    by : (b : Bool) → contains xs p ≡ b → Tells b (times_in p xs)
     by true is = there_counts p xs is
     by false is = out_counts p xs is
 
@@ -127,7 +127,7 @@ inserted_table old cleared last new d d2 e keys images spares left inserts same_
             ∙ ap (λ (s : List Bool). contains h.went q || (is_spare s q && not (contains i.came q))) spares
             ∙ ap (λ (v : Bool). contains h.went q || (v && not (contains i.came q))) (table.spare q low_old)
             ∙ spare_then (contains h.went q) (contains whole q) (contains i.came q) (contains (pages_of after b.height_after) q)
-            (count_of q h.went) (count_of q whole) (count_of q i.came) (count_of q (pages_of after b.height_after))
+            (times_in q h.went) (times_in q whole) (times_in q i.came) (times_in q (pages_of after b.height_after))
             (told q h.went) (told q whole) (told q i.came) (told q (pages_of after b.height_after))
             (omega (arith, h.pages_are q, b.pages_are q, count_nothing q)) (omega (arith, differ_counts (whole ++ i.came) distinct q, count_append q whole i.came))
             ∙ ap (λ (im : List (List ℕ)). not (contains (pages_of im b.height_after) q)) (sym images_new);

@@ -11,8 +11,8 @@ use Rattle.fsd_table.specs.declared.child.Child.{Child}
 use Rattle.fsd_table.specs.Pages.{page_at, children_of, keys_fit, separator_keys}
 use Rattle.fsd_table.specs.Tree.{pages_below, IsLeaf}
 use Rattle.fsd_table.proofs.PageLaws.{at_is_page, interior_ascends}
-use Rattle.fsd_forest.specs.Forest.{Stay, Keep, Exchange, count_of, heads, inner, forest_pages, Becomes}
-use Rattle.fsd_forest.specs.Ways.{StandsAt}
+use Rattle.fsd_forest.specs.Forest.{Stay, Keep, Exchange, times_in, heads, inner, forest_pages, Becomes}
+use Rattle.fsd_forest.specs.Ways.{StandsAround}
 use Rattle.fsd_forest.proofs.CountLaws.{one_if, count_cons, count_append, count_nothing, there_counts, counts_out, out_counts, differ_counts}
 use Rattle.fsd_forest.proofs.ForestLaws.{follows, remains}
 use Rattle.fsd_forest.proofs.StepLaws.{steps_up, page_sides_stay}
@@ -22,8 +22,8 @@ use Rattle.name_page.specs.Edits.{with_entry}
 use Rattle.name_btree.specs.declared.draft.Sheet.{Sheet}
 use Rattle.name_btree.specs.declared.growing.Grown.{Grown}
 use Rattle.name_btree.specs.declared.growing.Grown.TheVariants.{Whole, Parted}
-use Rattle.name_btree.specs.Draft.{drafted, IsTaken}
-use Rattle.name_btree.specs.Grown.{came_of, went_of, parts_of, most_taken, IsGrown, IsInPlace, IsAboveGrown, IsDivided, IsFull, IsBranch, AreUsed, BranchBecomes, Grows}
+use Rattle.name_btree.specs.Draft.{drafted, WereTaken}
+use Rattle.name_btree.specs.Grown.{came_of, went_of, parts_of, most_taken, IsGrown, StaysInPlace, IsAboveGrown, IsDivided, IsFull, IsBranch, AreUsed, BranchBecomes, Grows}
 use Rattle.name_btree.specs.Trim.{child_of}
 use Rattle.name_btree.proofs.BranchLaws.{StandAround, left_children, right_children, children_are, is_below, branch_below, sides_grown, becomes_by, went_nothing, taken_apart, with_entry_local}
 use Rattle.name_btree.proofs.LeafGrowthLaws.{came_few, heads_exchange}
@@ -31,13 +31,13 @@ use Rattle.name_btree.proofs.TakeLaws.{takes_then}
 
 -- ---- pages that stay
 
-pub stay_less : (pages after : List (List ℕ)) (xs ys : List ℕ) → ((q : ℕ) → count_of q xs ≤ count_of q ys) → Stay pages after xs → Stay pages after ys
-stay_less pages after xs ys less stay q out = stay q (counts_out q xs (none (count_of q xs) (count_of q ys) (less q) (out_none q ys out)))
+pub stay_less : (pages after : List (List ℕ)) (xs ys : List ℕ) → ((q : ℕ) → times_in q xs ≤ times_in q ys) → Stay pages after xs → Stay pages after ys
+stay_less pages after xs ys less stay q out = stay q (counts_out q xs (none (times_in q xs) (times_in q ys) (less q) (out_none q ys out)))
   where
     none : (m n : ℕ) → m ≤ n → n ≡ 0 → m ≡ 0
     none m n h e = omega arith
 
-    out_none : (q : ℕ) (ys : List ℕ) → contains ys q ≡ false → count_of q ys ≡ 0
+    out_none : (q : ℕ) (ys : List ℕ) → contains ys q ≡ false → times_in q ys ≡ 0
     out_none q ys out = out_counts q ys out
 
 -- first below a child, then in the page above it
@@ -66,7 +66,7 @@ stay_both pages between after above below came came2 first second q out =
 -- ---- one level up
 
 record Apart (above : ℕ) (below came came2 : List ℕ) (q : ℕ) : Type 0 where
-  once : count_of q (above ∷ []) + (count_of q below + (count_of q came + count_of q came2)) ≤ 1
+  once : times_in q (above ∷ []) + (times_in q below + (times_in q came + times_in q came2)) ≤ 1
 
 -- the page above, those below the child and those that came are all different
 counts_apart : (above : ℕ) (ls ms rs came came2 : List ℕ) → all_differ ((above ∷ (ls ++ (ms ++ rs))) ++ (came ++ came2)) ≡ true → (q : ℕ) → Apart above ms came came2 q
@@ -92,7 +92,7 @@ kept_below_parts edit pages between after above came came2 went level d parts ap
       arith,
       there_counts q (forest_pages level between parts) there,
       b.pages_are q,
-      ap (count_of q) (alone (pages_below level pages) d),
+      ap (times_in q) (alone (pages_below level pages) d),
       (apart q).once,
       count_cons q above came2,
       count_cons q above [],
@@ -109,7 +109,7 @@ becomes_below edit pages between after above came came2 level d g apart differs 
     let both = follows edit (λ entries. entries) pages between after came went [] [] level (d ∷ []) parts parts b same in
     becomes_by edit pages after (came ++ []) (went ++ []) came [] level (d ∷ []) parts
     (λ p. omega (arith, count_append p came [], count_nothing p))
-    (λ p. omega (arith, count_append p went [], count_nothing p, ap (count_of p) (went_nothing d.page g differs)))
+    (λ p. omega (arith, count_append p went [], count_nothing p, ap (times_in p) (went_nothing d.page g differs)))
     both
 
 -- ---- what is told of the page
@@ -133,7 +133,7 @@ few_above page d levels apart = by (d == 0) refl
     by false is = omega arith
 
 divided_above : (key : Key) (pages after : List (List ℕ)) (above : Child) (first : ℕ) (separators : List Separator) (i : ℕ) (g grown : Grown) → StandAround key separators i → are_ascending (separator_keys separators) ≡ true
-    → keys_fit above.low above.high (separator_keys separators) ≡ true → ((child_of above first separators i).page ≡ 0 → ⊥) → IsInPlace (child_of above first separators i).page g → IsDivided (child_of above first separators i) g
+    → keys_fit above.low above.high (separator_keys separators) ≡ true → ((child_of above first separators i).page ≡ 0 → ⊥) → StaysInPlace (child_of above first separators i).page g → IsDivided (child_of above first separators i) g
     → IsAboveGrown pages after above.page first separators i g grown → IsDivided above grown
 divided_above key pages after above first separators i Whole grown around order fit differs place divided up = subst (IsDivided above) (sym up.0) tt
 divided_above key pages after above first separators i (Parted left s) grown around order fit differs place divided up =
@@ -144,8 +144,8 @@ divided_above key pages after above first separators i (Parted left s) grown aro
 -- below a page of a tree
 branch_grows : (e : Entry) (pages between after : List (List ℕ)) (a c : Step) (came came2 : List ℕ) (level : ℕ) (above : Child) (first : ℕ) (separators : List Separator) (i : ℕ) (g grown : Grown)
     → page_at pages above.page ≡ Some (Interior first separators) → are_ascending (separator_keys separators) ≡ true → keys_fit above.low above.high (separator_keys separators) ≡ true → StandAround e.key separators i
-    → ((child_of above first separators i).page ≡ 0 → ⊥) → IsInPlace (child_of above first separators i).page g → IsDivided (child_of above first separators i) g
-    → IsInPlace above.page grown → came2 ≡ came_of above.page grown → IsTaken a c (came ++ came2) → Stay between after (above.page ∷ came2) → IsAboveGrown between after above.page first separators i g grown
+    → ((child_of above first separators i).page ≡ 0 → ⊥) → StaysInPlace (child_of above first separators i).page g → IsDivided (child_of above first separators i) g
+    → StaysInPlace above.page grown → came2 ≡ came_of above.page grown → WereTaken a c (came ++ came2) → Stay between after (above.page ∷ came2) → IsAboveGrown between after above.page first separators i g grown
     → IsBranch pages (suc level) above → AreUsed a (pages_below (suc level) pages above) → BranchBecomes e pages between came level (child_of above first separators i) g → BranchBecomes e pages after (came ++ came2) (suc level) above grown
 branch_grows e pages between after a c came came2 level above first separators i g grown at order fit around differs place divided place_above came2_is taken stay2 up branch used b =
     let key : Key = e.key in
@@ -166,7 +166,7 @@ branch_grows e pages between after a c came came2 level above first separators i
     let keep = page_sides_stay pages after (came ++ came2) level above left (d ∷ []) right stands.children_are distinct stay in
     let same : page_at between above.page ≡ page_at pages above.page = b.stay above.page (none_of above.page ms came came2 (counts above.page)) in
     let sides = sides_grown key between after above first separators i g grown around (λ w. same ∙ at) order fit differs place divided up in
-    let stands_all : StandsAt key (inner pages (above ∷ [])) left (d ∷ []) right = record { children_are = alone (λ x. children_of x.low x.high (page_at pages x.page)) above ∙ stands.children_are; ends = stands.ends; begins = stands.begins } in
+    let stands_all : StandsAround key (inner pages (above ∷ [])) left (d ∷ []) right = record { children_are = alone (λ x. children_of x.low x.high (page_at pages x.page)) above ∙ stands.children_are; ends = stands.ends; begins = stands.begins } in
     let went : List ℕ = went_of above.page grown in
     let up_one = steps_up key (with_entry e) pages after came [] came2 went level (above ∷ []) (parts_of above grown) left (d ∷ []) (parts_of d g) right (with_entry_local e) (branch.subtree, tt) stands_all sides.inner_are sides.above
     (subst (λ (ps : List ℕ). Exchange (heads (above ∷ [])) (heads (parts_of above grown)) ps went) (sym came2_is) (heads_exchange above grown place_above)) keep lower in
@@ -179,10 +179,10 @@ branch_grows e pages between after a c came came2 level above first separators i
     none_of : (page : ℕ) (ms came came2 : List ℕ) → Apart page ms came came2 page → contains (ms ++ came) page ≡ false
     none_of page ms came came2 once = counts_out page (ms ++ came) (omega (arith, once.once, count_append page ms came, count_cons page page [], count_nothing page, one_if (page == page) (eq-eqb page page refl)))
 
-    less : (q : ℕ) (ls ms rs whole : List ℕ) → whole ≡ above.page ∷ (ls ++ (ms ++ rs)) → count_of q (above.page ∷ ((ms ++ []) ++ (came ++ came2))) ≤ count_of q (whole ++ (came ++ came2))
+    less : (q : ℕ) (ls ms rs whole : List ℕ) → whole ≡ above.page ∷ (ls ++ (ms ++ rs)) → times_in q (above.page ∷ ((ms ++ []) ++ (came ++ came2))) ≤ times_in q (whole ++ (came ++ came2))
     less q ls ms rs whole is = omega (
       arith,
-      ap (count_of q) is,
+      ap (times_in q) is,
       count_append q whole (came ++ came2),
       count_cons q above.page (ls ++ (ms ++ rs)),
       count_append q ls (ms ++ rs),
@@ -215,7 +215,7 @@ above_grows e a b c s0 s1 s2 levels above first separators i g grown at fit arou
       becomes = λ level low branch used. by level low takes.taken order branch used;
     }
   where
-    by : (level : ℕ) → level ≤ suc levels → IsTaken a c (grows.came ++ came_of above.page grown) → are_ascending (separator_keys separators) ≡ true → IsBranch (drafted s0 a.images) level above
+    by : (level : ℕ) → level ≤ suc levels → WereTaken a c (grows.came ++ came_of above.page grown) → are_ascending (separator_keys separators) ≡ true → IsBranch (drafted s0 a.images) level above
         → AreUsed a (pages_below level (drafted s0 a.images) above) → BranchBecomes e (drafted s0 a.images) (drafted s2 c.images) (grows.came ++ came_of above.page grown) level above grown
     by zero low taken order branch used = absurd (leaf_never (drafted s0 a.images) above (page_at (drafted s0 a.images) above.page) first separators at branch.subtree)
     by (suc level) low taken order branch used =

@@ -4,19 +4,19 @@ use Rattle.std.proofs.Math.Bool.{or_comm}
 use Rattle.run_table.specs.Space.{contains}
 use Rattle.fsd_bytes.specs.declared.key.Key.{Key}
 use Rattle.fsd_table.specs.Tree.{pages_of, table_of, IsTree}
-use Rattle.fsd_forest.specs.Forest.{count_of, Disjoint, TreeBecomes}
+use Rattle.fsd_forest.specs.Forest.{times_in, Disjoint, TreeBecomes}
 use Rattle.fsd_forest.proofs.CountLaws.{count_nothing, there_counts, out_counts, counts_there, counts_out, differ_counts}
 use Rattle.name_page.specs.Edits.{without}
 use Rattle.name_page.specs.Pages.{Step, is_spare}
 use Rattle.name_btree.specs.declared.draft.Draft.{Draft}
-use Rattle.name_btree.specs.Draft.{drafted, committed, freed, images_of, RemovesFrom}
+use Rattle.name_btree.specs.Draft.{drafted, committed, freed, drafted_images, RemovesFrom}
 use Rattle.name_btree.specs.Map.{IsTable, HasTable}
 use Rattle.name_btree.proofs.DraftLaws.{committed_spares, committed_images, freed_images, drafted_length}
 use Rattle.name_btree.proofs.SpareLaws.{freed_at}
 
 -- ---- the pages that are left, by their counts
 
-left_over : (old new went : List ℕ) (q : ℕ) → count_of q new + count_of q went ≡ count_of q old → count_of q old ≤ 1 → (not (contains old q) || contains went q) ≡ not (contains new q)
+left_over : (old new went : List ℕ) (q : ℕ) → times_in q new + times_in q went ≡ times_in q old → times_in q old ≤ 1 → (not (contains old q) || contains went q) ≡ not (contains new q)
 left_over old new went q sum most = by (contains old q) refl (contains went q) refl
   where
     by : (a : Bool) → contains old q ≡ a → (b : Bool) → contains went q ≡ b → (not (contains old q) || contains went q) ≡ not (contains new q)
@@ -36,13 +36,13 @@ pub table_without : (old between : Step) (key : Key) (empty d : Draft) → empty
     → RemovesFrom old.images empty d key → (height : ℕ) → IsTable old height → HasTable (freed d.freed.items (committed d.sheets.items between)) (without key (table_of old.images height))
 table_without old between key empty d no_sheets no_freed same_images same_spares flags removes height table =
     let after : Step = freed d.freed.items (committed d.sheets.items between) in
-    let pages_are : images_of empty old ≡ old.images = ap (λ s. drafted s old.images) no_sheets in
+    let pages_are : drafted_images empty old ≡ old.images = ap (λ s. drafted s old.images) no_sheets in
     let tree1 = subst (λ (x : List (List ℕ)). IsTree x height) (sym pages_are) table.tree in
-    let apart : Disjoint (pages_of (images_of empty old) height) empty.freed.items = λ q there. ap (λ (ps : List ℕ). contains ps q) no_freed in
+    let apart : Disjoint (pages_of (drafted_images empty old) height) empty.freed.items = λ q there. ap (λ (ps : List ℕ). contains ps q) no_freed in
     let r = removes height tree1 apart in
     let went : List ℕ = r.0 in
-    let t = subst (λ (x : List (List ℕ)). TreeBecomes (without key) x (images_of d old) [] went height) pages_are r.1 in
-    let images_are : images_of d old ≡ after.images =
+    let t = subst (λ (x : List (List ℕ)). TreeBecomes (without key) x (drafted_images d old) [] went height) pages_are r.1 in
+    let images_are : drafted_images d old ≡ after.images =
     ap (drafted d.sheets.items) (sym same_images) ∙ sym (committed_images d.sheets.items between) ∙ sym (freed_images d.freed.items (committed d.sheets.items between)) in
     let t2 = subst (λ (x : List (List ℕ)). TreeBecomes (without key) old.images x [] went height) images_are t in
     let freed_is : (q : ℕ) → contains d.freed.items q ≡ contains went q = λ q. r.2 q ∙ ap (λ (ps : List ℕ). contains ps q || contains went q) no_freed in

@@ -13,9 +13,9 @@ use Rattle.fsd_formats.specs.NamePage.{read_page}
 use Rattle.fsd_table.proofs.BoundLaws.{all_append, all_weaker}
 use Rattle.name_page.specs.Pages.{Step, is_one_of, is_spare, changes, with_one, with_taken, IsReached}
 use Rattle.name_btree.specs.declared.draft.Sheet.{Sheet}
-use Rattle.name_btree.specs.Draft.{IsSheet, AreSheets, MayGo, IsTaken}
-use Rattle.name_btree.specs.Grown.{Takes}
-use Rattle.name_btree.specs.Still.{IsStill}
+use Rattle.name_btree.specs.Draft.{IsSheet, AreSheets, MayGo, WereTaken}
+use Rattle.name_btree.specs.Grown.{TakesSpare}
+use Rattle.name_btree.specs.Still.{IsStillStep}
 use Rattle.name_btree.proofs.DraftLaws.{taken_kept, taken_changes, taken_used}
 
 -- ---- flags
@@ -73,10 +73,10 @@ only_one page q there = elim (or_cases (page == q) false there) [
 
 -- ---- one page, none, or more
 
-taken_once : (step : Step) (page : ℕ) → is_spare step.spares page ≡ true → IsTaken step (with_taken page step) (page ∷ [])
+taken_once : (step : Step) (page : ℕ) → is_spare step.spares page ≡ true → WereTaken step (with_taken page step) (page ∷ [])
 taken_once step page spare = record { spare = (spare, tt); apart = refl; spares = λ q. cleared step.spares page q }
 
-pub takes_one : (step : Step) (page : ℕ) → is_spare step.spares page ≡ true → 0 < step.promised → IsReached (with_taken page step) page → Takes step (with_taken page step) (page ∷ [])
+pub takes_one : (step : Step) (page : ℕ) → is_spare step.spares page ≡ true → 0 < step.promised → IsReached (with_taken page step) page → TakesSpare step (with_taken page step) (page ∷ [])
 takes_one step page spare promised reached = record {
   images = refl;
   most_reached = refl;
@@ -96,11 +96,11 @@ same_spares old new q e = ap (λ (s : List Bool). is_spare s q) e ∙ by (is_spa
     by true = refl
     by false = refl
 
-same_changes : (old new : Step) → IsStill old new → changes old ≤ changes new + 0
+same_changes : (old new : Step) → IsStillStep old new → changes old ≤ changes new + 0
 same_changes old new still = omega (arith, ap length still.changed, still.most_changed)
 
 -- a step that only looks
-pub takes_none : (old new : Step) → new.images ≡ old.images → new.spares ≡ old.spares → new.most_reached ≡ old.most_reached → IsStill old new → ((q : ℕ) → IsReached old q → IsReached new q) → Takes old new []
+pub takes_none : (old new : Step) → new.images ≡ old.images → new.spares ≡ old.spares → new.most_reached ≡ old.most_reached → IsStillStep old new → ((q : ℕ) → IsReached old q → IsReached new q) → TakesSpare old new []
 takes_none old new images spares most still kept = record {
   images = images;
   most_reached = most;
@@ -114,11 +114,11 @@ takes_none old new images spares most still kept = record {
 }
 
 -- pages that were taken first are none of those that were taken then
-pub taken_apart : (a b c : Step) (xs ys : List ℕ) → IsTaken a b xs → IsTaken b c ys → Disjoint xs ys
+pub taken_apart : (a b c : Step) (xs ys : List ℕ) → WereTaken a b xs → WereTaken b c ys → Disjoint xs ys
 taken_apart a b c xs ys s t p h =
     false_from_ne_true (contains ys p) (λ i. spare_parts (is_spare a.spares p) (contains xs p) (sym (s.spares p) ∙ each_in (λ q. is_spare b.spares q ≡ true) ys p t.spare i) h)
 
-taken_then : (a b c : Step) (xs ys : List ℕ) → IsTaken a b xs → IsTaken b c ys → IsTaken a c (xs ++ ys)
+taken_then : (a b c : Step) (xs ys : List ℕ) → WereTaken a b xs → WereTaken b c ys → WereTaken a c (xs ++ ys)
 taken_then a b c xs ys s t = record {
   spare = all_append (λ q. is_spare a.spares q ≡ true) xs ys s.spare
       (all_weaker (λ q. is_spare b.spares q ≡ true) (λ q. is_spare a.spares q ≡ true) ys (λ q h. spare_was (is_spare a.spares q) (contains xs q) (sym (s.spares q) ∙ h)) t.spare);
@@ -130,7 +130,7 @@ taken_then a b c xs ys s t = record {
       ∙ ap (λ (v : Bool). is_spare a.spares q && not v) (sym (list_any-append (λ t. t == q) xs ys));
 }
 
-pub takes_then : (a b c : Step) (xs ys : List ℕ) → Takes a b xs → Takes b c ys → Takes a c (xs ++ ys)
+pub takes_then : (a b c : Step) (xs ys : List ℕ) → TakesSpare a b xs → TakesSpare b c ys → TakesSpare a c (xs ++ ys)
 takes_then a b c xs ys s t = record {
   images = t.images ∙ s.images;
   most_reached = t.most_reached ∙ s.most_reached;
@@ -161,17 +161,17 @@ taken_itself b page = ap (λ (x : Bool). b && not (x || false)) (eq-eqb page pag
 
 -- ---- what stays
 
-pub used_over : (old new : Step) (came : List ℕ) (q : ℕ) → Takes old new came → is_spare old.spares q ≡ false → is_spare new.spares q ≡ false
+pub used_over : (old new : Step) (came : List ℕ) (q : ℕ) → TakesSpare old new came → is_spare old.spares q ≡ false → is_spare new.spares q ≡ false
 used_over old new came q t h = t.taken.spares q ∙ still_used (is_spare old.spares q) (contains came q) h
 
-pub sheets_over : (old new : Step) (came : List ℕ) (sheets : List Sheet) → Takes old new came → AreSheets old sheets → AreSheets new sheets
+pub sheets_over : (old new : Step) (came : List ℕ) (sheets : List Sheet) → TakesSpare old new came → AreSheets old sheets → AreSheets new sheets
 sheets_over old new came sheets t a = all_weaker (IsSheet old) (IsSheet new) sheets (λ s h. record {
   reached = t.reached s.page h.reached;
   used = used_over old new came s.page t h.used;
   accepted = subst (λ (x : List (List ℕ)). IsSome (read_page s.page (length x) s.image)) (sym t.images) h.accepted;
 }) a
 
-pub goes_over : (old new : Step) (came pages : List ℕ) → Takes old new came → AllByRecursion (MayGo old) pages → AllByRecursion (MayGo new) pages
+pub goes_over : (old new : Step) (came pages : List ℕ) → TakesSpare old new came → AllByRecursion (MayGo old) pages → AllByRecursion (MayGo new) pages
 goes_over old new came pages t a = all_weaker (MayGo old) (MayGo new) pages (λ q h. record {
   reached = t.reached q h.reached;
   used = used_over old new came q t h.used;

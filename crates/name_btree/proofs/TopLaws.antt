@@ -12,9 +12,9 @@ use Rattle.fsd_table.proofs.BreakLaws.{visited_top, visited_children, misfit_bre
 use Rattle.name_btree.specs.declared.fault.TreeFault.{TreeFault}
 use Rattle.name_page.specs.declared.pages.Pages.{Ghosts}
 use Rattle.name_page.specs.Pages.{Step}
-use Rattle.name_btree.specs.Fault.{HasCause, IsMisfit, BarsPage, BarsTable, FailsTable}
+use Rattle.name_btree.specs.Fault.{HasTreeCause, IsMisfit, BarsPage, BarsTable, FailsTable}
 use Rattle.name_btree.proofs.CauseLaws.{cause_map, bars_table}
-use Rattle.name_btree.specs.Walk.{AreMarksOf, HasKinds, IsWalked, IsTopLevel, IsCounted}
+use Rattle.name_btree.specs.Walk.{AreMarksOf, HasKinds, IsWalkedSubtree, IsTopLevel, IsCountedTree}
 use Rattle.name_btree.proofs.WalkLaws.{all_at}
 use Rattle.name_btree.proofs.MarkLaws.{marks_differ, marks_more}
 
@@ -47,7 +47,7 @@ down_ends pages i c entries at few on = (few, subst (HasKinds pages 1) (none_mor
     none_more n = omega arith
 
 pub down_breaks : {D : Type 0} (P : Ghosts D) (new : D) (fault : TreeFault) (i : ℕ) (c : Child)
-    → (P.trusted new → IsDown (P.step new).images i c) → HasCause (P.step new) (IsMisfit (P.step new).images c) (BarsPage (P.step new) c.page) fault → FailsTable P new fault
+    → (P.trusted new → IsDown (P.step new).images i c) → HasTreeCause (P.step new) (IsMisfit (P.step new).images c) (BarsPage (P.step new) c.page) fault → FailsTable P new fault
 down_breaks P new fault i c on h =
     let s = P.step new in
     cause_map s (IsMisfit s.images c) (λ page. P.trusted new → BreaksTable s.images page) (BarsPage s c.page) (λ page. P.trusted new → BarsTable s page)
@@ -56,7 +56,7 @@ down_breaks P new fault i c on h =
 -- ---- the whole
 
 counted_at : (s : Step) (height : ℕ) (before after : List Bool) (count : ℕ) → 1 ≤ height → height ≤ max_height → AreMarksOf [] before
-    → IsWalked s.spares (height - 1) s.images top before after count → IsCounted s after count
+    → IsWalkedSubtree s.spares (height - 1) s.images top before after count → IsCountedTree s after count
 counted_at s height before after count least most clear w =
     let reached : List ℕ = pages_below (height - 1) s.images top in record {
       height = height;
@@ -67,12 +67,12 @@ counted_at s height before after count least most clear w =
     }
 
 pub counted : (s : Step) (level : ℕ) (c : Child) (before after : List Bool) (count : ℕ) → IsTopLevel s.images level → c ≡ top → AreMarksOf [] before
-    → IsWalked s.spares level s.images c before after count → IsCounted s after count
+    → IsWalkedSubtree s.spares level s.images c before after count → IsCountedTree s after count
 counted s level c before after count is at clear w =
     let low : level < max_height = is.0 in
     let same : level ≡ (level + 1) - 1 = omega arith in
     counted_at s (level + 1) before after count (omega arith) (higher level low) clear
-    (subst (λ (l : ℕ). IsWalked s.spares l s.images top before after count) same (subst (λ (d : Child). IsWalked s.spares level s.images d before after count) at w))
+    (subst (λ (l : ℕ). IsWalkedSubtree s.spares l s.images top before after count) same (subst (λ (d : Child). IsWalkedSubtree s.spares level s.images d before after count) at w))
   where
     higher : (level : ℕ) → level < max_height → level + 1 ≤ max_height
     higher level h = omega arith

@@ -11,7 +11,7 @@ use Rattle.fsd_table.specs.declared.child.Child.{Child}
 use Rattle.fsd_table.specs.Pages.{page_at}
 use Rattle.fsd_table.specs.Table.{max_height, top}
 use Rattle.fsd_table.specs.Tree.{pages_of, pages_below, IsInterior, IsSubtree, IsTree}
-use Rattle.fsd_forest.specs.Forest.{Stay, Keep, count_of, forest_pages, Becomes}
+use Rattle.fsd_forest.specs.Forest.{Stay, Keep, times_in, forest_pages, Becomes}
 use Rattle.fsd_forest.proofs.CountLaws.{count_append, count_nothing, there_counts, counts_out, differ_counts}
 use Rattle.fsd_forest.proofs.ForestLaws.{follows, remains}
 use Rattle.fsd_forest.proofs.LowLaws.{trees_are_low}
@@ -21,8 +21,8 @@ use Rattle.name_page.specs.Edits.{with_entry}
 use Rattle.name_btree.specs.declared.draft.Draft.{Draft}
 use Rattle.name_btree.specs.declared.draft.Sheet.{Sheet}
 use Rattle.name_btree.specs.declared.growing.Grown.TheVariants.{Whole, Parted}
-use Rattle.name_btree.specs.Draft.{drafted, AreSheets, IsDraft, IsDrafted}
-use Rattle.name_btree.specs.Grown.{Takes, parts_of, IsFull, IsBranch, Grows, Inserts, BreaksGrowth, BreaksNew}
+use Rattle.name_btree.specs.Draft.{drafted, AreSheets, IsTreeDraft, IsDrafted}
+use Rattle.name_btree.specs.Grown.{TakesSpare, parts_of, IsFull, IsBranch, Grows, Inserts, BreaksGrowth, BreaksNew}
 use Rattle.name_btree.proofs.BranchLaws.{taken_apart, becomes_by}
 use Rattle.name_btree.proofs.GrowLaws.{differs}
 use Rattle.name_btree.proofs.TakeLaws.{goes_over}
@@ -69,7 +69,7 @@ zero_goes edit pages between after came level parts apart stay b =
       arith,
       there_counts q (forest_pages level between parts) there,
       b.pages_are q,
-      ap (count_of q) (alone (pages_below level pages) top),
+      ap (times_in q) (alone (pages_below level pages) top),
       differ_counts (pages_below level pages top ++ came) apart q,
       count_append q (pages_below level pages top) came,
     )))
@@ -92,7 +92,7 @@ inserts_parted e old new pages sheets after left s small g d = record {
 }
 
 -- the draft is one still
-pub still_draft : (old new : Step) (came : List ℕ) (d after : Draft) → Takes old new came → IsDraft old d → AreSheets new after.sheets.items → after.freed.items ≡ d.freed.items → IsDraft new after
+pub still_draft : (old new : Step) (came : List ℕ) (d after : Draft) → TakesSpare old new came → IsTreeDraft old d → AreSheets new after.sheets.items → after.freed.items ≡ d.freed.items → IsTreeDraft new after
 still_draft old new came d after takes is sheets freed = record {
   sheets = sheets;
   freed = subst (AllByRecursion _) (sym freed) (goes_over old new came d.freed.items takes is.freed);

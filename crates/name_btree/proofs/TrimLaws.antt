@@ -18,7 +18,7 @@ use Rattle.fsd_table.proofs.BoundLaws.{all_append, ascend_tail, entry_keys_appen
 use Rattle.fsd_table.proofs.KeyLaws.{lt_le}
 use Rattle.fsd_forest.specs.Ways.{child_behind, end_of}
 use Rattle.name_btree.specs.declared.trimming.Pair.{Pair}
-use Rattle.name_btree.specs.Trim.{AreEntries, AreWays, IsOpened, IsPair, pair_fits, IsBetween, separators_joined, separators_shared, is_behind}
+use Rattle.name_btree.specs.Trim.{AreEntries, AreWays, IsOpenedPage, IsPair, pair_fits, IsBetween, separators_joined, separators_shared, is_behind}
 use Rattle.name_btree.proofs.PairLaws.{parts_at, ascend_without, ascend_with}
 use Rattle.fsd_forest.proofs.PartLaws.{first_under, fit_append}
 use Rattle.name_page.proofs.CutPageLaws.{keys_behind, keys_front, least_ways, all_below}
@@ -131,7 +131,7 @@ split_count xs i x y e =
 pub joined_ways : (p first : ℕ) (above : Child) (xs : List Separator) (pair : Pair) → IsPair above first xs pair → AreWays p first xs → AreWays p first (separators_joined xs pair)
 joined_ways p first above xs pair is w = ways_without p first (take pair.place xs) is.between (drop (pair.place + 1) xs) (subst (AreWays p first) (parts_at xs pair.place is.between is.there) w)
 
-pub shared_page : (p first : ℕ) (above : Child) (xs : List Separator) (pair : Pair) (key : Key) → IsOpened p above first xs → IsPair above first xs pair → is_key key ≡ true → pair.right < p
+pub shared_page : (p first : ℕ) (above : Child) (xs : List Separator) (pair : Pair) (key : Key) → IsOpenedPage p above first xs → IsPair above first xs pair → is_key key ≡ true → pair.right < p
     → IsBetween above first xs pair key → is_page above.page p (Interior first (separators_shared xs pair key)) ≡ true
 shared_page p first above xs pair key o is good low between =
     let front : List Separator = take pair.place xs in

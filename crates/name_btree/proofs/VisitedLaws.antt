@@ -13,11 +13,11 @@ use Rattle.fsd_table.specs.Table.{max_height, top, visit_of, IsVisited, BreaksTa
 use Rattle.fsd_table.proofs.BreakLaws.{visited_top, visited_children, above_visited, misfit_breaks, too_deep_breaks}
 use Rattle.name_btree.specs.declared.descent.Way.{Way}
 use Rattle.name_btree.specs.declared.descent.Neighbour.{Neighbour}
-use Rattle.name_btree.specs.declared.descent.Found.{Found}
+use Rattle.name_btree.specs.declared.descent.FoundLeaf.{FoundLeaf}
 use Rattle.name_btree.specs.declared.fault.TreeFault.{TreeFault}
 use Rattle.name_btree.specs.declared.fault.TreeFault.TheVariants.{Pages, Broken}
 use Rattle.name_btree.specs.Descent.{way_to, HasChildren, IsNeighbour, HasNeighbours}
-use Rattle.name_btree.specs.Fault.{HasCause, IsCaused, IsMisfit, IsBeside, IsOnWay, BreaksBelow, BreaksBeside, BarsBelow, BarsBeside, BarsTable, BarsPage, ShowsCause, ShowsMisfit}
+use Rattle.name_btree.specs.Fault.{HasTreeCause, IsCaused, IsMisfit, IsBeside, IsOnWay, BreaksBelow, BreaksBeside, BarsBelow, BarsBeside, BarsTable, BarsPage, ShowsCause, ShowsMisfit}
 use Rattle.name_btree.specs.Lookup.{IsBelow}
 use Rattle.name_page.specs.Looks.{Agrees, Looks, Shows}
 use Rattle.name_page.proofs.LookLaws.{agrees_before}
@@ -76,14 +76,14 @@ visited_down before pages above0 start above w first separators at low on h =
 
 module _ (s : Step) where
   pub misfit_below : (fault : TreeFault) (above0 : ℕ) (start : Child) (above : ℕ) (w : Way) → IsVisitedWay s.images above0 start above w
-      → HasCause s (IsMisfit s.images w.child) (BarsPage s w.child.page) fault → HasCause s (BreaksBelow s.images above0 start) (BarsBelow s above0 start) fault
+      → HasTreeCause s (IsMisfit s.images w.child) (BarsPage s w.child.page) fault → HasTreeCause s (BreaksBelow s.images above0 start) (BarsBelow s above0 start) fault
   misfit_below fault above0 start above w on h =
       cause_map s (IsMisfit s.images w.child) (BreaksBelow s.images above0 start) (BarsPage s w.child.page) (BarsBelow s above0 start)
       (λ page x v. subst (BreaksTable s.images) (sym x.0) (misfit_breaks s.images (above + 1) w.child (on v).0 x.1)) (λ page x v. bars_table s (above + 1) w.child (on v).0 page x) fault h
 
   -- whatever the other pages have
   pub shown_below : (fault : TreeFault) (above0 : ℕ) (start : Child) (above : ℕ) (w : Way) → Shows s (λ pages. IsVisitedWay pages above0 start above w)
-      → HasCause s (IsMisfit s.images w.child) (BarsPage s w.child.page) fault → ShowsMisfit s w.child fault → ShowsCause s (λ pages. BreaksBelow pages above0 start) (λ pages. IsBelow pages above0 start) fault
+      → HasTreeCause s (IsMisfit s.images w.child) (BarsPage s w.child.page) fault → ShowsMisfit s w.child fault → ShowsCause s (λ pages. BreaksBelow pages above0 start) (λ pages. IsBelow pages above0 start) fault
   shown_below (Broken page) above0 start above w on h misfit = λ pages agrees v.
       let x = misfit pages agrees in
       subst (BreaksTable pages) (sym x.0) (misfit_breaks pages (above + 1) w.child (on pages agrees v).0 x.1)
@@ -99,14 +99,14 @@ module _ (s : Step) where
       shows_cause_map s (λ pages. BreaksBelow pages 0 c) BreaksTable (λ pages. IsBelow pages 0 c) IsOnWay (λ pages page agrees x. x (v pages)) (λ pages page agrees x. x (v pages)) fault h
 
   -- below page 0
-  pub top_breaks : (fault : TreeFault) (c : Child) → c ≡ top → HasCause s (BreaksBelow s.images 0 c) (BarsBelow s 0 c) fault → HasCause s (BreaksTable s.images) (BarsTable s) fault
+  pub top_breaks : (fault : TreeFault) (c : Child) → c ≡ top → HasTreeCause s (BreaksBelow s.images 0 c) (BarsBelow s 0 c) fault → HasTreeCause s (BreaksTable s.images) (BarsTable s) fault
   top_breaks fault c is h =
       let v : IsVisited s.images 1 c = subst (IsVisited s.images 1) (sym is) (visited_top s.images) in
       cause_map s (BreaksBelow s.images 0 c) (BreaksTable s.images) (BarsBelow s 0 c) (BarsTable s) (λ page x. x v) (λ page x. x v) fault h
 
   -- below a child beside the way
-  pub neighbour_breaks : (fault : TreeFault) (n : Neighbour) → HasCause s (BreaksBelow s.images n.above n.child) (BarsBelow s n.above n.child) fault
-      → HasCause s (BreaksBeside s.images n) (BarsBeside s n) fault
+  pub neighbour_breaks : (fault : TreeFault) (n : Neighbour) → HasTreeCause s (BreaksBelow s.images n.above n.child) (BarsBelow s n.above n.child) fault
+      → HasTreeCause s (BreaksBeside s.images n) (BarsBeside s n) fault
   neighbour_breaks fault n h =
       cause_map s (BreaksBelow s.images n.above n.child) (BreaksBeside s.images n) (BarsBelow s n.above n.child) (BarsBeside s n) (λ page x is. x is.1) (λ page x is. x is.1) fault h
 
@@ -125,22 +125,22 @@ deep_below pages above0 start above w on deep v = too_deep_breaks pages (above +
 pub deep_shown : (s : Step) (above0 : ℕ) (start : Child) (above : ℕ) (w : Way) → Shows s (λ pages. IsVisitedWay pages above0 start above w) → max_height ≤ above → Shows s (λ pages. BreaksBelow pages above0 start w.child.page)
 deep_shown s above0 start above w on deep pages agrees = deep_below pages above0 start above w (on pages agrees) deep
 
-pub found_beside : (pages : List (List ℕ)) (c : Child) (found : Found) → c ≡ top → HasNeighbours pages 0 c found → IfSome found.previous (IsNeighbour pages) × IfSome found.next (IsNeighbour pages)
+pub found_beside : (pages : List (List ℕ)) (c : Child) (found : FoundLeaf) → c ≡ top → HasNeighbours pages 0 c found → IfSome found.previous (IsNeighbour pages) × IfSome found.next (IsNeighbour pages)
 found_beside pages c found is beside = beside (subst (IsVisited pages 1) (sym is) (visited_top pages))
 
-module _ (s : Step) (c : Child) (found : Found) (is : c ≡ top) (beside : HasNeighbours s.images 0 c found) (n : Neighbour) (fault : TreeFault)
-    (h : HasCause s (BreaksBeside s.images n) (BarsBeside s n) fault) where
-  beside_breaks : IsNeighbour s.images n → HasCause s (BreaksTable s.images) (BarsTable s) fault
+module _ (s : Step) (c : Child) (found : FoundLeaf) (is : c ≡ top) (beside : HasNeighbours s.images 0 c found) (n : Neighbour) (fault : TreeFault)
+    (h : HasTreeCause s (BreaksBeside s.images n) (BarsBeside s n) fault) where
+  beside_breaks : IsNeighbour s.images n → HasTreeCause s (BreaksTable s.images) (BarsTable s) fault
   beside_breaks there = cause_map s (BreaksBeside s.images n) (BreaksTable s.images) (BarsBeside s n) (BarsTable s) (λ page x. x there) (λ page x. x there) fault h
 
-  pub next_breaks : found.next ≡ Some n → HasCause s (BreaksTable s.images) (BarsTable s) fault
+  pub next_breaks : found.next ≡ Some n → HasTreeCause s (BreaksTable s.images) (BarsTable s) fault
   next_breaks at = beside_breaks (subst (λ (o : Option Neighbour). IfSome o (IsNeighbour s.images)) at (found_beside s.images c found is beside).1)
 
-  pub previous_breaks : found.previous ≡ Some n → HasCause s (BreaksTable s.images) (BarsTable s) fault
+  pub previous_breaks : found.previous ≡ Some n → HasTreeCause s (BreaksTable s.images) (BarsTable s) fault
   previous_breaks at = beside_breaks (subst (λ (o : Option Neighbour). IfSome o (IsNeighbour s.images)) at (found_beside s.images c found is beside).0)
 
 -- whatever the other pages have, what was reached of a child beside the way shows the fault
-module _ (mid s : Step) (c : Child) (found : Found) (is : c ≡ top) (looks : Looks mid s) (beside : Shows mid (λ pages. HasNeighbours pages 0 c found)) (n : Neighbour) where
+module _ (mid s : Step) (c : Child) (found : FoundLeaf) (is : c ≡ top) (looks : Looks mid s) (beside : Shows mid (λ pages. HasNeighbours pages 0 c found)) (n : Neighbour) where
   shown_there : Shows s (λ pages. IsNeighbour pages n) → (fault : TreeFault) → ShowsCause s (λ pages. BreaksBeside pages n) (λ pages. IsBeside pages n) fault → ShowsCause s BreaksTable IsOnWay fault
   shown_there there fault h =
       shows_cause_map s (λ pages. BreaksBeside pages n) BreaksTable (λ pages. IsBeside pages n) IsOnWay (λ pages page agrees x. x (there pages agrees)) (λ pages page agrees x. x (there pages agrees)) fault h

@@ -16,7 +16,7 @@ use Rattle.fsd_table.specs.Pages.{page_at, children, children_of, keys_fit, sepa
 use Rattle.fsd_table.specs.Tree.{entries_below, pages_below, IsInterior, IsSubtree}
 use Rattle.fsd_table.proofs.BoundLaws.{all_append}
 use Rattle.name_page.specs.Pages.{is_spare}
-use Rattle.name_btree.specs.Walk.{IsUsed, is_marked, can_mark, marked, IsWalked, AreWalked}
+use Rattle.name_btree.specs.Walk.{IsUsed, is_marked, can_mark, marked, IsWalkedSubtree, AreWalked}
 use Rattle.name_page.proofs.ListLaws.{drop_at}
 use Rattle.name_btree.proofs.MarkLaws.{marked_append, can_append}
 
@@ -66,7 +66,7 @@ abbrev Below : ℕ → List (List ℕ) → List Child → List ℕ
 Below level pages cs = flat_map (pages_below level pages) cs
 
 append_one : (spares : List Bool) (level : ℕ) (pages : List (List ℕ)) (xs : List Child) (d : Child) (before mid after : List Bool) (n m : ℕ)
-    → AreWalked spares level pages xs before mid n → IsWalked spares level pages d mid after m → AreWalked spares level pages (xs ++ d ∷ []) before after (n + m)
+    → AreWalked spares level pages xs before mid n → IsWalkedSubtree spares level pages d mid after m → AreWalked spares level pages (xs ++ d ∷ []) before after (n + m)
 append_one spares level pages xs d before mid after n m a w =
     let f : Child → List ℕ = pages_below level pages in
     let g : Child → List Entry = entries_below level pages in
@@ -82,7 +82,7 @@ append_one spares level pages xs d before mid after n m a w =
     }
 
 pub one_more : (spares : List Bool) (level : ℕ) (pages : List (List ℕ)) (cs : List Child) (i : ℕ) (d : Child) (before mid after : List Bool) (n m : ℕ) → slice_get cs i ≡ Some d
-    → AreWalked spares level pages (take i cs) before mid n → IsWalked spares level pages d mid after m → AreWalked spares level pages (take (i + 1) cs) before after (n + m)
+    → AreWalked spares level pages (take i cs) before mid n → IsWalkedSubtree spares level pages d mid after m → AreWalked spares level pages (take (i + 1) cs) before after (n + m)
 one_more spares level pages cs i d before mid after n m at a w =
     let P : List Child → Type 0 = λ (xs : List Child). AreWalked spares level pages xs before after (n + m) in
     subst P (sym (take_one cs i d at)) (append_one spares level pages (take i cs) d before mid after n m a w)
@@ -95,7 +95,7 @@ below_is level pages c first xs at = ap (λ (x : Option Content). c.page ∷ fla
 
 above_at : (spares : List Bool) (level : ℕ) (pages : List (List ℕ)) (c : Child) (first : ℕ) (xs : List Separator) (before after : List Bool) (count : ℕ) → page_at pages c.page ≡ Some (Interior first xs)
     → keys_fit c.low c.high (separator_keys xs) ≡ true → not (is_marked before c.page) ≡ true
-    → is_spare spares c.page ≡ false → AreWalked spares level pages (children first c.low c.high xs) (slice_set before c.page true) after count → IsWalked spares (suc level) pages c before after count
+    → is_spare spares c.page ≡ false → AreWalked spares level pages (children first c.low c.high xs) (slice_set before c.page true) after count → IsWalkedSubtree spares (suc level) pages c before after count
 above_at spares level pages c first xs before after count at fits new here a =
     let cs : List Child = children first c.low c.high xs in
     let is = below_is level pages c first xs at in
@@ -109,6 +109,6 @@ above_at spares level pages c first xs before after count at fits new here a =
 
 pub above_walked : (spares : List Bool) (level up : ℕ) (pages : List (List ℕ)) (c : Child) (first : ℕ) (xs : List Separator) (before after : List Bool) (count : ℕ) → suc level ≡ up → page_at pages c.page ≡ Some (Interior first xs)
     → keys_fit c.low c.high (separator_keys xs) ≡ true → not (is_marked before c.page) ≡ true
-    → is_spare spares c.page ≡ false → AreWalked spares level pages (children first c.low c.high xs) (slice_set before c.page true) after count → IsWalked spares up pages c before after count
+    → is_spare spares c.page ≡ false → AreWalked spares level pages (children first c.low c.high xs) (slice_set before c.page true) after count → IsWalkedSubtree spares up pages c before after count
 above_walked spares level up pages c first xs before after count is at fits new here a =
-    subst (λ (l : ℕ). IsWalked spares l pages c before after count) is (above_at spares level pages c first xs before after count at fits new here a)
+    subst (λ (l : ℕ). IsWalkedSubtree spares l pages c before after count) is (above_at spares level pages c first xs before after count at fits new here a)

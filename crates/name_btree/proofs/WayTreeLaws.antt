@@ -13,9 +13,9 @@ use Rattle.fsd_table.specs.Pages.{page_at, children, children_of, keys_fit, not_
 use Rattle.fsd_table.specs.Tree.{pages_below, IsInterior, IsSubtree}
 use Rattle.fsd_table.proofs.BoundLaws.{all_append}
 use Rattle.fsd_table.proofs.KeyLaws.{lt_le, lt_is_le}
-use Rattle.fsd_forest.specs.Forest.{inner, count_of, forest_pages, Stay, Keep, Becomes, EndsUpTo, BeginsBehind}
+use Rattle.fsd_forest.specs.Forest.{inner, times_in, forest_pages, Stay, Keep, Becomes, EndsUpTo, BeginsBehind}
 use Rattle.fsd_forest.specs.Parts.{left_part, right_part}
-use Rattle.fsd_forest.specs.Ways.{IsUpTo, IsBehind, children_before}
+use Rattle.fsd_forest.specs.Ways.{IsUpToKey, IsBehindKey, children_before}
 use Rattle.fsd_forest.proofs.CountLaws.{count_cons, count_append, count_nothing, there_counts, differ_counts, counts_out, one_where}
 use Rattle.fsd_forest.proofs.ForestLaws.{widens}
 use Rattle.fsd_forest.proofs.KeepLaws.{kept_all}
@@ -33,13 +33,13 @@ use Rattle.name_btree.proofs.PutTreeLaws.{pair_child, front_at, back_at}
 
 -- ---- children beside the key
 
-all_behind : (key k : Key) (high : Option Key) (xs : List Separator) → key_lt key k ≡ true → keys_fit (Some k) high (separator_keys xs) ≡ true → AllByRecursion (IsBehind key) xs
+all_behind : (key k : Key) (high : Option Key) (xs : List Separator) → key_lt key k ≡ true → keys_fit (Some k) high (separator_keys xs) ≡ true → AllByRecursion (IsBehindKey key) xs
 all_behind key k high [] h fit = tt
 all_behind key k high (x ∷ xs) h fit =
     let parts = and_parts (not (key_lt x.key k) && below high x.key) (keys_fit (Some k) high (separator_keys xs)) fit in
     (lt_le key k x.key h (and_parts (not (key_lt x.key k)) (below high x.key) parts.0).0, all_behind key k high xs h parts.1)
 
-all_before : (key k : Key) (low : Option Key) (xs : List Separator) → key_lt key k ≡ false → keys_fit low (Some k) (separator_keys xs) ≡ true → AllByRecursion (IsUpTo key) xs
+all_before : (key k : Key) (low : Option Key) (xs : List Separator) → key_lt key k ≡ false → keys_fit low (Some k) (separator_keys xs) ≡ true → AllByRecursion (IsUpToKey key) xs
 all_before key k low [] h fit = tt
 all_before key k low (x ∷ xs) h fit =
     let parts = and_parts (not_below low x.key && key_lt x.key k) (keys_fit low (Some k) (separator_keys xs)) fit in
@@ -53,7 +53,7 @@ closed first low (x ∷ xs) s = ap (λ (cs : List Child). record { page = first;
 
 ends_all : (key : Key) (second : ℕ) (low : Option Key) (s : Separator) (xs : List Separator) → key_lt key s.key ≡ false → keys_fit low (Some s.key) (separator_keys xs) ≡ true → AllByRecursion (EndsUpTo key) (children second low (Some s.key) xs)
 ends_all key second low s xs h fit =
-    subst (AllByRecursion (EndsUpTo key)) (sym (closed second low xs s)) (children_end key second low (xs ++ s ∷ []) (all_append (IsUpTo key) xs (s ∷ []) (all_before key s.key low xs h fit) (h, tt)))
+    subst (AllByRecursion (EndsUpTo key)) (sym (closed second low xs s)) (children_end key second low (xs ++ s ∷ []) (all_append (IsUpToKey key) xs (s ∷ []) (all_before key s.key low xs h fit) (h, tt)))
 
 begins_all : (key : Key) (high : Option Key) (s : Separator) (xs : List Separator) → key_lt key s.key ≡ true → keys_fit (Some s.key) high (separator_keys xs) ≡ true → AllByRecursion (BeginsBehind key) (children s.child (Some s.key) high xs)
 begins_all key high s xs h fit = children_begin key high (s ∷ xs) (h, all_behind key s.key high xs h fit)
@@ -66,10 +66,10 @@ below_of l pages c = children_of c.low c.high (page_at pages c.page)
 -- the page above, the child and its neighbour, and what is below these
 abbrev all_count : (q l : ℕ) → List (List ℕ) → (above : ℕ) → (child neighbour : Child) → ℕ
 all_count q l pages above child neighbour =
-    one_where (above == q) + ((one_where (child.page == q) + count_of q (forest_pages l pages (below_of l pages child))) + (one_where (neighbour.page == q) + count_of q (forest_pages l pages (below_of l pages neighbour))))
+    one_where (above == q) + ((one_where (child.page == q) + times_in q (forest_pages l pages (below_of l pages child))) + (one_where (neighbour.page == q) + times_in q (forest_pages l pages (below_of l pages neighbour))))
 
-two_counts : (q l : ℕ) (pages : List (List ℕ)) (a b : Child) → count_of q (forest_pages (suc l) pages (a ∷ b ∷ []))
-    ≡ (one_where (a.page == q) + count_of q (forest_pages l pages (below_of l pages a))) + (one_where (b.page == q) + count_of q (forest_pages l pages (below_of l pages b)))
+two_counts : (q l : ℕ) (pages : List (List ℕ)) (a b : Child) → times_in q (forest_pages (suc l) pages (a ∷ b ∷ []))
+    ≡ (one_where (a.page == q) + times_in q (forest_pages l pages (below_of l pages a))) + (one_where (b.page == q) + times_in q (forest_pages l pages (below_of l pages b)))
 two_counts q l pages a b =
     let f : Child → List ℕ = pages_below (suc l) pages in
     let in_a = count_cons q a.page (forest_pages l pages (below_of l pages a)) in
@@ -84,13 +84,13 @@ counted_once key pages l above first xs pair s i child neighbour (AtLeft e at ne
     let b : Child = right_child above xs pair s in
     let most = differ_counts (pages_below (suc (suc l)) pages above) around.apart q in
     let some = below_counts q (suc l) pages above left (a ∷ b ∷ []) right are in
-    omega (arith, most, some, two_counts q l pages a b, ap (λ (c : Child). one_where (c.page == q) + count_of q (forest_pages l pages (below_of l pages c))) at, ap (λ (c : Child). one_where (c.page == q) + count_of q (forest_pages l pages (below_of l pages c))) next)
+    omega (arith, most, some, two_counts q l pages a b, ap (λ (c : Child). one_where (c.page == q) + times_in q (forest_pages l pages (below_of l pages c))) at, ap (λ (c : Child). one_where (c.page == q) + times_in q (forest_pages l pages (below_of l pages c))) next)
 counted_once key pages l above first xs pair s i child neighbour (AtRight e at next) around left right are q =
     let a : Child = left_child above first xs pair s in
     let b : Child = right_child above xs pair s in
     let most = differ_counts (pages_below (suc (suc l)) pages above) around.apart q in
     let some = below_counts q (suc l) pages above left (a ∷ b ∷ []) right are in
-    omega (arith, most, some, two_counts q l pages a b, ap (λ (c : Child). one_where (c.page == q) + count_of q (forest_pages l pages (below_of l pages c))) at, ap (λ (c : Child). one_where (c.page == q) + count_of q (forest_pages l pages (below_of l pages c))) next)
+    omega (arith, most, some, two_counts q l pages a b, ap (λ (c : Child). one_where (c.page == q) + times_in q (forest_pages l pages (below_of l pages c))) at, ap (λ (c : Child). one_where (c.page == q) + times_in q (forest_pages l pages (below_of l pages c))) next)
 
 -- ---- the child's children as they are once more is changed
 
@@ -102,12 +102,12 @@ child_shifts : (key : Key) (pages between after : List (List ℕ)) (went : List 
     → Becomes (without key) pages between [] went l (below_of l pages child) new → Becomes (without key) pages after [] went l (below_of l pages child) new
 child_shifts key pages between after went l above child neighbour new once others b =
     let keep : Keep between after (forest_pages l between new) = λ q there.
-    let some : 1 ≤ count_of q (forest_pages l pages (below_of l pages child)) = omega (arith, there_counts q (forest_pages l between new) there, b.pages_are q, count_nothing q) in
+    let some : 1 ≤ times_in q (forest_pages l pages (below_of l pages child)) = omega (arith, there_counts q (forest_pages l between new) there, b.pages_are q, count_nothing q) in
     others q (λ e. absurd (omega (arith, once q, some, one_same child.page q (sym e)))) (λ e. absurd (omega (arith, once q, some, one_same neighbour.page q (sym e)))) (λ e. absurd (omega (arith, once q, some, one_same above q (sym e)))) in
     let same = kept_all between after l new keep b.subtrees in
     record {
       subtrees = same.subtrees;
-      pages_are = λ q. ap (λ (ps : List ℕ). count_of q ps + count_of q went) same.reached ∙ b.pages_are q;
+      pages_are = λ q. ap (λ (ps : List ℕ). times_in q ps + times_in q went) same.reached ∙ b.pages_are q;
       entries = same.entries ∙ b.entries;
     }
 
@@ -121,7 +121,7 @@ neighbour_keeps pages between after l above child neighbour once others stay q t
 -- ---- the children of both
 
 pub ways_become : (key : Key) (pages between after : List (List ℕ)) (went : List ℕ) (l : ℕ) (above : Child) (first : ℕ) (xs : List Separator) (pair : Pair) (is : IsPair above first xs pair) (i : ℕ) (child neighbour : Child)
-    → AreSides above first xs pair is.between i child neighbour → pair.place ≡ i - 1 → AllByRecursion (IsUpTo key) (take i xs) → AllByRecursion (IsBehind key) (drop i xs)
+    → AreSides above first xs pair is.between i child neighbour → pair.place ≡ i - 1 → AllByRecursion (IsUpToKey key) (take i xs) → AllByRecursion (IsBehindKey key) (drop i xs)
     → ((q : ℕ) → all_count q l pages above.page child neighbour ≤ 1) → Others between after above.page child neighbour → Stay pages between (pages_below (suc l) pages child)
     → (lead : ℕ) (few : List Separator) (second : ℕ) (others : List Separator) → page_at pages neighbour.page ≡ Some (Interior second others) → IsInterior (IsSubtree l pages) neighbour (Some (Interior second others))
     → Becomes (without key) pages between [] went l (below_of l pages child) (children lead child.low child.high few)
@@ -135,7 +135,7 @@ ways_become key pages between after went l above first xs pair is i child neighb
     let a : Child = left_child above first xs pair is.between in
     let d : Child = right_child above xs pair is.between in
     let zero_i : i ≡ 0 = grind arith in
-    let over : key_lt key k ≡ true = back_at (IsBehind key) xs pair.place is.between is.there (subst (λ (n : ℕ). AllByRecursion (IsBehind key) (drop n xs)) zero_i begins) in
+    let over : key_lt key k ≡ true = back_at (IsBehindKey key) xs pair.place is.between is.there (subst (λ (n : ℕ). AllByRecursion (IsBehindKey key) (drop n xs)) zero_i begins) in
     let new0 : List Child = children lead child.low child.high few in
     let b2 = child_shifts key pages between after went l above.page child neighbour new0 once changed b in
     let cn : List Child = children second neighbour.low neighbour.high others in
@@ -164,7 +164,7 @@ ways_become key pages between after went l above first xs pair is i child neighb
     let a : Child = left_child above first xs pair is.between in
     let d : Child = right_child above xs pair is.between in
     let some_i : i ≡ 0 → ⊥ = grind arith in
-    let under : key_lt key k ≡ false = front_at (IsUpTo key) xs i pair.place is.between (omega (arith, place, some_i)) is.there ends in
+    let under : key_lt key k ≡ false = front_at (IsUpToKey key) xs i pair.place is.between (omega (arith, place, some_i)) is.there ends in
     let new0 : List Child = children lead child.low child.high few in
     let b2 = child_shifts key pages between after went l above.page child neighbour new0 once changed b in
     let cn : List Child = children second neighbour.low neighbour.high others in

@@ -16,7 +16,7 @@ use Rattle.fsd_table.proofs.PageLaws.{at_is_page}
 use Rattle.name_page.specs.Pages.{Step}
 use Rattle.name_btree.specs.declared.fault.TreeFault.{TreeFault}
 use Rattle.name_btree.specs.declared.fault.TreeFault.TheVariants.{Pages, Broken}
-use Rattle.name_btree.specs.Fault.{HasCause, IsAmong, IsMisfit, is_inner}
+use Rattle.name_btree.specs.Fault.{HasTreeCause, IsAmong, IsMisfit, is_inner}
 use Rattle.name_btree.proofs.SearchLaws.{each_at}
 
 -- ---- one page
@@ -73,12 +73,12 @@ broken_within pages some page b =
 
 module _ (s : Step) (Bars : ℕ → Type 0) (n : ℕ) where
   -- a page that doesn't fit the child that leads to it
-  pub misfit_among : (c : Child) (fault : TreeFault) → c.page < n → HasCause s (IsMisfit s.images c) Bars fault → IsAmong n fault
+  pub misfit_among : (c : Child) (fault : TreeFault) → c.page < n → HasTreeCause s (IsMisfit s.images c) Bars fault → IsAmong n fault
   misfit_among c (Pages refusal) here h = tt
   misfit_among c (Broken page) here h = subst (λ (p : ℕ). p < n) (sym h.0) here
 
   -- a page that breaks the table
-  breaks_among : (fault : TreeFault) → n ≡ length s.images → 0 < n → HasCause s (BreaksTable s.images) Bars fault → IsAmong n fault
+  breaks_among : (fault : TreeFault) → n ≡ length s.images → 0 < n → HasTreeCause s (BreaksTable s.images) Bars fault → IsAmong n fault
   breaks_among (Pages refusal) is some h = tt
   breaks_among (Broken page) is some h = subst (λ (k : ℕ). page < k) (sym is) (broken_within s.images (subst (λ (k : ℕ). 0 < k) is some) page h)
 
@@ -87,7 +87,7 @@ pub outer_among : (n : ℕ) (fault : TreeFault) → is_inner fault ≡ false →
 outer_among n (Pages refusal) is = tt
 outer_among n (Broken page) is = absurd (let no : true ≡ false = is in cc)
 
-pub fails_among : {X : Type 0} (r : Result X TreeFault) (s : Step) (Bars : ℕ → Type 0) (n : ℕ) → length s.images ≡ n → 0 < n → IfErr r (HasCause s (BreaksTable s.images) Bars) → IfErr r (IsAmong n)
+pub fails_among : {X : Type 0} (r : Result X TreeFault) (s : Step) (Bars : ℕ → Type 0) (n : ℕ) → length s.images ≡ n → 0 < n → IfErr r (HasTreeCause s (BreaksTable s.images) Bars) → IfErr r (IsAmong n)
 fails_among (Ok x) s Bars n is some h = tt
 fails_among (Err fault) s Bars n is some h = breaks_among s Bars n fault (sym is) some h
 

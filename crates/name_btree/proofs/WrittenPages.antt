@@ -11,7 +11,7 @@ use Rattle.name_page.specs.Pages.{Step, is_one_of, is_spare, with_one, with_page
 use Rattle.name_page.proofs.LookLaws.{edits_then, pages_same, pages_then, reaches_edits, Joins, Trusts}
 use Rattle.name_btree.specs.declared.draft.Sheet.{Sheet}
 use Rattle.name_btree.specs.Draft.{AreSheets, committed, freed}
-use Rattle.name_btree.specs.Replace.{IsWritten, WritesOne}
+use Rattle.name_btree.specs.Replace.{IsWritten, WritesPage}
 use Rattle.name_btree.proofs.CommitLaws.{freed_changed}
 use Rattle.name_btree.proofs.DraftLaws.{committed_images, drafted_length, freed_images}
 use Rattle.name_btree.proofs.SetLaws.{set_at, set_other}
@@ -54,7 +54,7 @@ written_edits G law trust old mid new page x looks outside is = edits_then G law
     })
 
 pub written_one : {D : Type 0} (G : Ghosts D) (trust : Trusts G) (old mid new : D) (page : ℕ) (x : Content) → OnlyReaches G None old mid → G.outside None mid new → IsWritten (G.step mid) (G.step new) page x
-    → page < length (G.step mid).images → is_spare (G.step old).spares page ≡ false → WritesOne G old new
+    → page < length (G.step mid).images → is_spare (G.step old).spares page ≡ false → WritesPage G old new
 written_one G trust old mid new page x looks outside is low used = record {
   page = page;
   bytes = is.bytes;

@@ -12,18 +12,18 @@ use Rattle.name_btree.specs.declared.calls.Call.TheVariants.{Find, Highest, Next
 use Rattle.name_btree.specs.declared.fault.TreeFault.{TreeFault}
 use Rattle.name_btree.specs.declared.fault.TreeFault.TheVariants.{Pages, Broken}
 use Rattle.name_btree.specs.declared.lookup.FoundEntry.{FoundEntry}
-use Rattle.name_btree.specs.Lookup.{entry_of}
+use Rattle.name_btree.specs.Lookup.{found_entry}
 use Rattle.name_btree.specs.Map.{IsTable, HasTable, without_all}
 use Rattle.name_btree.specs.Replace.{HasAsLong}
 
 -- ---- one call
 
 -- what the map answers; a change answers nothing
-abbrev pub answer_of : List Entry → Call → Option Entry
-answer_of table (Find key) = entry_with key table
-answer_of table (Highest name) = highest_of name table
-answer_of table (NextAfter key) = entry_after key table
-answer_of table other = None
+abbrev pub map_answer : List Entry → Call → Option Entry
+map_answer table (Find key) = entry_with key table
+map_answer table (Highest name) = highest_of name table
+map_answer table (NextAfter key) = entry_after key table
+map_answer table other = None
 
 -- what becomes of the map
 abbrev pub made_of : List Entry → Call → List Entry
@@ -48,11 +48,11 @@ Allows table other = ⊤
 
 abbrev pub answers_of : List Entry → List Call → List (Option Entry)
 answers_of table [] = []
-answers_of table (c ∷ calls) = answer_of table c ∷ answers_of (made_of table c) calls
+answers_of table (c ∷ calls) = map_answer table c ∷ answers_of (made_of table c) calls
 
-abbrev pub after : List Entry → List Call → List Entry
-after table [] = table
-after table (c ∷ calls) = after (made_of table c) calls
+abbrev pub after_calls : List Entry → List Call → List Entry
+after_calls table [] = table
+after_calls table (c ∷ calls) = after_calls (made_of table c) calls
 
 abbrev pub AllowsAll : List Entry → List Call → Type 0
 AllowsAll table [] = ⊤
@@ -77,14 +77,14 @@ IsExcused s call (Pages refusal) = IsOuter refusal ⊎ (TakesPages call × (refu
 IsExcused s call (Broken page) = ⊥
 
 -- the map's answer, and the changed table; or an excuse, and the table as it was
-abbrev pub Carries : List Entry → Call → Result (Option Entry) TreeFault → Step → Type 0
-Carries table call (Ok answer) s = (answer ≡ answer_of table call) × HasTable s (made_of table call)
-Carries table call (Err fault) s = IsExcused s call fault × HasTable s table
+abbrev pub CarriesOut : List Entry → Call → Result (Option Entry) TreeFault → Step → Type 0
+CarriesOut table call (Ok answer) s = (answer ≡ map_answer table call) × HasTable s (made_of table call)
+CarriesOut table call (Err fault) s = IsExcused s call fault × HasTable s table
 
 -- the map's answers, and the table that the calls make
-pub record Runs (table : List Entry) (calls : List Call) (answers : List (Option Entry)) (s : Step) : Type 0 where
+pub record RunsCalls (table : List Entry) (calls : List Call) (answers : List (Option Entry)) (s : Step) : Type 0 where
   pub answers_are : answers ≡ answers_of table calls
-  pub makes : HasTable s (after table calls)
+  pub makes : HasTable s (after_calls table calls)
 
 -- one of the calls has an excuse, and those before it were made
 pub record StopsAt (table : List Entry) (calls : List Call) (answers : List (Option Entry)) (fault : TreeFault) (s : Step) : Type 0 where
@@ -92,17 +92,17 @@ pub record StopsAt (table : List Entry) (calls : List Call) (answers : List (Opt
   pub call : Call
   pub behind : List Call
   pub parts : calls ≡ before ++ call ∷ behind
-  pub ran : Runs table before (take (length before) answers) s
+  pub ran : RunsCalls table before (take (length before) answers) s
   pub excuse : IsExcused s call fault
 
 -- all calls were made, or one of them failed
 abbrev pub RunsTo : List Entry → List Call → List (Option Entry) → Result (Unit {0}) TreeFault → Step → Type 0
-RunsTo table calls answers (Ok done) s = Runs table calls answers s
+RunsTo table calls answers (Ok done) s = RunsCalls table calls answers s
 RunsTo table calls answers (Err fault) s = StopsAt table calls answers fault s
 
 -- an answer without the leaf that has it
 abbrev pub without_page : Result (Option FoundEntry) TreeFault → Result (Option Entry) TreeFault
-without_page (Ok found) = Ok (entry_of found)
+without_page (Ok found) = Ok (found_entry found)
 without_page (Err fault) = Err fault
 
 -- a change that is done answers nothing

@@ -13,7 +13,7 @@ use Rattle.fsd_table.specs.Tree.{entries_below, IsSubtree}
 use Rattle.fsd_forest.specs.Ways.{end_of}
 use Rattle.name_btree.specs.declared.descent.Way.{Way}
 use Rattle.name_btree.specs.declared.descent.Neighbour.{Neighbour}
-use Rattle.name_btree.specs.declared.descent.Found.{Found}
+use Rattle.name_btree.specs.declared.descent.FoundLeaf.{FoundLeaf}
 
 -- behind the last of the separators that stand before the place, with the nearest child on each side,
 -- below so many pages
@@ -52,16 +52,16 @@ pub record IsAt (before : Key → Bool) (pages : List (List ℕ)) (start : Child
   pub next_is : IsNext pages start next right
 
 -- the leaf at a place
-abbrev pub IsPlace : (Key → Bool) → List (List ℕ) → Child → Found → Type 0
-IsPlace before pages start found =
+abbrev pub IsLeafOfPlace : (Key → Bool) → List (List ℕ) → Child → FoundLeaf → Type 0
+IsLeafOfPlace before pages start found =
     (level : ℕ) → level < max_height → IsSubtree level pages start → IsAt before pages start (entries_below level pages start) found.entries found.previous found.next
 
 -- the first and the last entry below a child
-abbrev pub BeginsWith : List (List ℕ) → Child → Entry → Type 0
-BeginsWith pages c e = (level : ℕ) → level < max_height → IsSubtree level pages c → (rest : List Entry) × (entries_below level pages c ≡ e ∷ rest)
+abbrev pub BeginsWithEntry : List (List ℕ) → Child → Entry → Type 0
+BeginsWithEntry pages c e = (level : ℕ) → level < max_height → IsSubtree level pages c → (rest : List Entry) × (entries_below level pages c ≡ e ∷ rest)
 
-abbrev pub EndsWith : List (List ℕ) → Child → Entry → Type 0
-EndsWith pages c e = (level : ℕ) → level < max_height → IsSubtree level pages c → (rest : List Entry) × (entries_below level pages c ≡ rest ++ e ∷ [])
+abbrev pub EndsWithEntry : List (List ℕ) → Child → Entry → Type 0
+EndsWithEntry pages c e = (level : ℕ) → level < max_height → IsSubtree level pages c → (rest : List Entry) × (entries_below level pages c ≡ rest ++ e ∷ [])
 
 -- ---- where the way leads
 
@@ -70,7 +70,7 @@ abbrev pub IsNeighbour : List (List ℕ) → Neighbour → Type 0
 IsNeighbour pages n = (0 < n.above) × IsVisited pages (n.above + 1) n.child
 
 -- where a path reaches the start, others reach the children beside the way
-abbrev pub HasNeighbours : List (List ℕ) → (above : ℕ) → Child → Found → Type 0
+abbrev pub HasNeighbours : List (List ℕ) → (above : ℕ) → Child → FoundLeaf → Type 0
 HasNeighbours pages above start found = IsVisited pages (above + 1) start → IfSome found.previous (IsNeighbour pages) × IfSome found.next (IsNeighbour pages)
 
 -- ---- the way to a place, over any pages

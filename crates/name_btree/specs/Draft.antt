@@ -58,21 +58,21 @@ pub record MayGo (step : Step) (page : ℕ) : Type 0 where
   pub inner : page ≡ 0 → ⊥
 
 -- what is to be written may be, and what is to be spare too, each page once
-pub record IsDraft (step : Step) (d : Draft) : Type 0 where
+pub record IsTreeDraft (step : Step) (d : Draft) : Type 0 where
   pub sheets : AreSheets step d.sheets.items
   pub freed : AllByRecursion (MayGo step) d.freed.items
   pub apart : all_differ d.freed.items ≡ true
 
 -- the pages as they are to be
-abbrev pub images_of : Draft → Step → List (List ℕ)
-images_of d step = drafted d.sheets.items step.images
+abbrev pub drafted_images : Draft → Step → List (List ℕ)
+drafted_images d step = drafted d.sheets.items step.images
 
 -- one page more is to be spare, but page 0 never is
 abbrev pub with_freed : ℕ → List ℕ → List ℕ
 with_freed page pages = if page == 0 then pages else with_one pages page
 
 -- the page was reached, was not spare, and is to have this
-pub record IsSeen (old new : Step) (sheets : List Sheet) (page : ℕ) (x : Content) : Type 0 where
+pub record IsSeenPage (old new : Step) (sheets : List Sheet) (page : ℕ) (x : Content) : Type 0 where
   pub reached : IsReached new page
   pub used : is_spare old.spares page ≡ false
   pub node : Shows new (λ pages. page_at (drafted sheets pages) page ≡ Some x)
@@ -85,13 +85,13 @@ pub record IsSeenChild (old new : Step) (sheets : List Sheet) (c : Child) (x : C
   pub fits : content_fits c.low c.high (Some x) ≡ true
 
 -- these pages were spare, and were taken
-pub record IsTaken (old new : Step) (came : List ℕ) : Type 0 where
+pub record WereTaken (old new : Step) (came : List ℕ) : Type 0 where
   pub spare : AllByRecursion (λ page. is_spare old.spares page ≡ true) came
   pub apart : all_differ came ≡ true
   pub spares : (page : ℕ) → is_spare new.spares page ≡ (is_spare old.spares page && not (contains came page))
 
 -- the same, whatever the pages are
-pub record IsOver (images : List (List ℕ)) (old new : List Sheet) (page : ℕ) (x : Content) : Type 0 where
+pub record IsDraftedOver (images : List (List ℕ)) (old new : List Sheet) (page : ℕ) (x : Content) : Type 0 where
   pub content : page_at (drafted new images) page ≡ Some x
   pub others : (q : ℕ) → (q ≡ page → ⊥) → page_at (drafted new images) q ≡ page_at (drafted old images) q
 
@@ -101,7 +101,7 @@ pub record IsDrafted (step : Step) (old new : List Sheet) (page : ℕ) (x : Cont
   pub sheets : AreSheets step new
   pub content : page_at (drafted new step.images) page ≡ Some x
   pub others : (q : ℕ) → (q ≡ page → ⊥) → page_at (drafted new step.images) q ≡ page_at (drafted old step.images) q
-  pub over : (images : List (List ℕ)) → length images ≡ length step.images → IsOver images old new page x
+  pub over : (images : List (List ℕ)) → length images ≡ length step.images → IsDraftedOver images old new page x
   pub own : HasSheet new page
   pub stay : (q : ℕ) → HasSheet old q → HasSheet new q
 

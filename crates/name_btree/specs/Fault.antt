@@ -29,9 +29,9 @@ abbrev pub IsCaused : Step → (Bars : ℕ → Type 0) → Refusal → Type 0
 IsCaused s Bars refusal = IsOuter refusal ⊎ ((page : ℕ) × (refusal ≡ Unsound (home_of s page)) × Bars page)
 
 -- the pages gave this refusal, and it has its cause, or the page breaks something
-abbrev pub HasCause : Step → (Breaks Bars : ℕ → Type 0) → TreeFault → Type 0
-HasCause s Breaks Bars (Pages refusal) = (s.refusal ≡ Some refusal) × IsCaused s Bars refusal
-HasCause s Breaks Bars (Broken page) = Breaks page
+abbrev pub HasTreeCause : Step → (Breaks Bars : ℕ → Type 0) → TreeFault → Type 0
+HasTreeCause s Breaks Bars (Pages refusal) = (s.refusal ≡ Some refusal) × IsCaused s Bars refusal
+HasTreeCause s Breaks Bars (Broken page) = Breaks page
 
 -- a path from page 0 reaches the page
 abbrev pub IsOnWay : List (List ℕ) → ℕ → Type 0
@@ -48,7 +48,12 @@ IsAmong pages (Broken page) = page < pages
 
 -- why a call of the table fails: where the outside is trusted, the page that it names breaks the table, or is spare
 abbrev pub FailsTable : {D : Type 0} (P : Ghosts D) (new : D) → TreeFault → Type 0
-FailsTable P new = HasCause (P.step new) (λ page. P.trusted new → BreaksTable (P.step new).images page) (λ page. P.trusted new → BarsTable (P.step new) page)
+FailsTable P new = HasTreeCause (P.step new) (λ page. P.trusted new → BreaksTable (P.step new).images page) (λ page. P.trusted new → BarsTable (P.step new) page)
+
+-- the same, and a page that is named is one of the table
+pub record FailsAmong {D : Type 0} (P : Ghosts D) (old new : D) (fault : TreeFault) : Type 0 where
+  pub among : 0 < length (P.step old).images → IsAmong (length (P.step old).images) fault
+  pub cause : FailsTable P new fault
 
 -- the same of an insert, where so many pages are spare
 abbrev pub FailsSpare : {D : Type 0} (P : Ghosts D) (free : ℕ) (new : D) → TreeFault → Type 0
@@ -72,13 +77,13 @@ ShowsCause s Breaks IsThere (Broken page) = Shows s (λ pages. Breaks pages page
 
 -- why a way fails: the cause, and what was reached shows it
 pub record FailsShown (s : Step) (Breaks : List (List ℕ) → ℕ → Type 0) (Bars : ℕ → Type 0) (IsThere : List (List ℕ) → ℕ → Type 0) (fault : TreeFault) : Type 0 where
-  pub cause : HasCause s (Breaks s.images) Bars fault
+  pub cause : HasTreeCause s (Breaks s.images) Bars fault
   pub shown : ShowsCause s Breaks IsThere fault
 
 -- why a look-up fails: a page that is named is one of the table, and breaks it or may not be reached
 pub record FailsLookup {D : Type 0} (P : Ghosts D) (old new : D) (fault : TreeFault) : Type 0 where
   pub among : 0 < length (P.step old).images → IsAmong (length (P.step old).images) fault
-  pub cause : HasCause (P.step new) (BreaksTable (P.step new).images) (BarsTable (P.step new)) fault
+  pub cause : HasTreeCause (P.step new) (BreaksTable (P.step new).images) (BarsTable (P.step new)) fault
   pub shown : ShowsCause (P.step new) BreaksTable IsOnWay fault
 
 -- no page breaks anything
@@ -110,7 +115,7 @@ is_inner (Broken page) = true
 
 -- where the outside is trusted, the pages are none, whichever page was met
 abbrev pub FailsTree : {D : Type 0} (P : Ghosts D) (new : D) → TreeFault → Type 0
-FailsTree P new = HasCause (P.step new) (λ page. P.trusted new → IsNoUsedTree (P.step new)) (λ page. P.trusted new → IsNoUsedTree (P.step new))
+FailsTree P new = HasTreeCause (P.step new) (λ page. P.trusted new → IsNoUsedTree (P.step new)) (λ page. P.trusted new → IsNoUsedTree (P.step new))
 
 -- where a path reaches the child below so many pages, this page breaks the table
 abbrev pub BreaksBelow : List (List ℕ) → (above : ℕ) → Child → ℕ → Type 0

@@ -13,11 +13,17 @@ use Rattle.fsd_forest.specs.Forest.{Stay, Becomes, TreeBecomes}
 use Rattle.fsd_forest.specs.Parts.{left_part, right_part}
 use Rattle.name_page.specs.Edits.{with_entry}
 use Rattle.name_page.specs.Lookups.{entry_with, is_after}
-use Rattle.name_page.specs.Pages.{Step, changes, is_one_of, is_spare, IsReached}
+use Rattle.name_page.specs.declared.pages.Pages.{Ghosts}
+use Rattle.name_page.specs.Looks.{Shows}
+use Rattle.name_page.specs.Pages.{Step, changes, is_one_of, is_spare, with_images, IsReached}
+use Rattle.name_btree.specs.declared.draft.Draft.{Draft}
 use Rattle.name_btree.specs.declared.draft.Sheet.{Sheet}
+use Rattle.name_btree.specs.declared.fault.TreeFault.{TreeFault}
+use Rattle.name_btree.specs.declared.fault.TreeFault.TheVariants.{Broken}
 use Rattle.name_btree.specs.declared.growing.Grown.{Grown}
 use Rattle.name_btree.specs.declared.growing.Grown.TheVariants.{Whole, Parted}
-use Rattle.name_btree.specs.Draft.{drafted, AreSheets, IsTaken}
+use Rattle.name_btree.specs.Draft.{drafted, AreSheets, IsTreeDraft, TakesSheets, WereTaken}
+use Rattle.name_btree.specs.Trim.{MayHave}
 
 -- ---- pages that are taken
 
@@ -28,16 +34,22 @@ pub record TakesAtMost (most : ℕ) (old new : List Bool) : Type 0 where
   pub each : (page : ℕ) → is_spare old page ≡ true → is_spare new page ≡ false → contains pages page ≡ true
 
 -- a step that took some pages, and lost nothing else
-pub record Takes (old new : Step) (came : List ℕ) : Type 0 where
+pub record TakesSpare (old new : Step) (came : List ℕ) : Type 0 where
   pub images : new.images ≡ old.images
   pub most_reached : new.most_reached ≡ old.most_reached
   pub most_changed : new.most_changed ≡ old.most_changed
   pub promised : old.promised ≤ new.promised + length came
   pub changes : changes old ≤ changes new + length came
-  pub taken : IsTaken old new came
+  pub taken : WereTaken old new came
   pub changed : (q : ℕ) → is_one_of new.changed q ≡ true → (is_one_of old.changed q ≡ true) ⊎ (contains came q ≡ true)
   pub reached : (q : ℕ) → IsReached old q → IsReached new q
   pub own : AllByRecursion (IsReached new) came
+
+-- what stays where spare pages are taken and nothing is reached
+pub record OnlyDraws (old new : Step) : Type 0 where
+  pub images : new.images ≡ old.images
+  pub home : new.home_a ≡ old.home_a
+  pub reached : new.reached ≡ old.reached
 
 -- whatever the pages are
 abbrev pub Over : Step → (List (List ℕ) → Type 0) → Type 0
@@ -55,6 +67,12 @@ most_taken page levels = most_parted page + levels
 -- where page 0 is parted the front goes elsewhere
 abbrev pub front_came : (page left : ℕ) → List ℕ
 front_came page left = if page == 0 then left ∷ [] else []
+
+-- the front of a page may be written there, which is the page itself but for page 0
+pub record IsFront (step : Step) (page left : ℕ) : Type 0 where
+  pub own : IsReached step left
+  pub used : is_spare step.spares left ≡ false
+  pub place : (page ≡ 0 → ⊥) → left ≡ page
 
 abbrev pub came_of : ℕ → Grown → List ℕ
 came_of page Whole = []
@@ -87,29 +105,29 @@ pub record FitsTwoInteriors (p page first : ℕ) (separators : List Separator) :
 -- ---- what they have then
 
 -- a separator that may stand in the table
-pub record IsBetween (step : Step) (left : ℕ) (s : Separator) : Type 0 where
+pub record FitsBetween (step : Step) (left : ℕ) (s : Separator) : Type 0 where
   pub front : IsReached step left
   pub behind : IsReached step s.child
   pub key : is_key s.key ≡ true
   pub fits : FitsSeparator s
 
-abbrev pub IsSound : Step → Grown → Type 0
-IsSound step Whole = ⊤
-IsSound step (Parted left s) = IsBetween step left s
+abbrev pub IsParted : Step → Grown → Type 0
+IsParted step Whole = ⊤
+IsParted step (Parted left s) = FitsBetween step left s
 
 -- only page 0 goes elsewhere
-abbrev pub IsInPlace : ℕ → Grown → Type 0
-IsInPlace page Whole = ⊤
-IsInPlace page (Parted left s) = (page ≡ 0 → ⊥) → left ≡ page
+abbrev pub StaysInPlace : ℕ → Grown → Type 0
+StaysInPlace page Whole = ⊤
+StaysInPlace page (Parted left s) = (page ≡ 0 → ⊥) → left ≡ page
 
 -- the page has its sheet, or the two that it was parted in have theirs
 pub record IsGrown (old new : Step) (sheets after : List Sheet) (page : ℕ) (g : Grown) : Type 0 where
-  pub takes : Takes old new (came_of page g)
+  pub takes : TakesSpare old new (came_of page g)
   pub few : length after ≤ length sheets + 2
   pub ready : AreSheets new after
   pub stay : Stay (drafted sheets old.images) (drafted after new.images) (page ∷ came_of page g)
-  pub sound : IsSound new g
-  pub place : IsInPlace page g
+  pub sound : IsParted new g
+  pub place : StaysInPlace page g
 
 -- two leaves, neither of which is empty
 pub record ArePartsOf (pages : List (List ℕ)) (entries : List Entry) (left : ℕ) (s : Separator) : Type 0 where
@@ -176,16 +194,46 @@ pub record BranchBecomes (e : Entry) (pages after : List (List ℕ)) (came : Lis
 pub record Grows (e : Entry) (old new : Step) (pages after : List (List ℕ)) (levels : ℕ) (c : Child) (g : Grown) : Type 0 where
   pub came : List ℕ
   pub few : length came ≤ most_taken c.page levels
-  pub takes : Takes old new came
-  pub sound : IsSound new g
-  pub place : IsInPlace c.page g
+  pub takes : TakesSpare old new came
+  pub sound : IsParted new g
+  pub place : StaysInPlace c.page g
   pub divided : IsDivided c g
   pub full : IsFull (page_at pages c.page) g
   pub becomes : (level : ℕ) → level ≤ levels → IsBranch pages level c → AreUsed old (pages_below level pages c) → BranchBecomes e pages after came level c g
 
+-- so many sheets more at most, each page that is changed since has one, and no other page is freed
+pub record GrowsDraft (old new : Step) (draft after : Draft) (more : ℕ) : Type 0 where
+  pub room : length after.sheets.items ≤ length draft.sheets.items + more
+  pub freed : after.freed.items ≡ draft.freed.items
+  pub drawn : TakesSheets old new draft.sheets.items after.sheets.items
+
+-- the sheets may be written then, and so may the page of the child that has grown
+pub record GrowsBelow (old new : Step) (draft after : Draft) (more : ℕ) (c : Child) : Type 0 where
+  pub grows : GrowsDraft old new draft after more
+  pub sheets : AreSheets new after.sheets.items
+  pub page : MayHave new c.page
+
+-- the whole draft may be written then
+pub record GrowsTree (old new : Step) (draft after : Draft) (more : ℕ) : Type 0 where
+  pub grows : GrowsDraft old new draft after more
+  pub whole : IsTreeDraft new after
+
+-- a leaf has its sheet, or two have, with an entry more
+pub record GrowsLeaf (e : Entry) (old new : Step) (sheets after : List Sheet) (c : Child) (g : Grown) : Type 0 where
+  pub grown : Over old (λ pages. IsGrown (with_images pages old) (with_images pages new) sheets after c.page g)
+  pub grows : Shows old (λ pages. Grows e (with_images pages old) (with_images pages new) (drafted sheets pages) (drafted after pages) 0 c g)
+  pub drawn : TakesSheets old new sheets after
+
 -- no entry can be put in below the child
 abbrev pub BreaksGrowth : Entry → List (List ℕ) → (levels : ℕ) → Child → ℕ → Type 0
 BreaksGrowth e pages levels c page = (level : ℕ) → level ≤ levels → IsBranch pages level c → entry_with e.key (entries_below level pages c) ≡ None → ⊥
+
+-- a leaf takes no such entry: nothing is done, and what was reached shows that none can be put in
+pub record RefusesEntry {D : Type 0} (P : Ghosts D) (e : Entry) (old new : D) (sheets : List Sheet) (c : Child) (fault : TreeFault) : Type 0 where
+  pub same : new ≡ old
+  pub page : ℕ
+  pub named : fault ≡ Broken page
+  pub shown : Shows (P.step old) (λ pages. BreaksGrowth e (drafted sheets pages) 0 c page)
 
 -- the pages are no tree in which the key of an entry is new
 abbrev pub BreaksNew : Entry → List (List ℕ) → ℕ → Type 0
@@ -197,5 +245,5 @@ BreaksNew e pages page = (height : ℕ) → IsTree pages height → entry_with e
 pub record Inserts (e : Entry) (old new : Step) (pages after : List (List ℕ)) : Type 0 where
   pub came : List ℕ
   pub few : length came ≤ 7
-  pub takes : Takes old new came
+  pub takes : TakesSpare old new came
   pub tree : (height : ℕ) → IsTree pages height → AreUsed old (pages_of pages height) → TreeBecomes (with_entry e) pages after came [] height

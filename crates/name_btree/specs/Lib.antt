@@ -1,4 +1,5 @@
 pub mod Calls
+pub mod Change
 pub mod Descent
 pub mod Draft
 pub mod Fault

@@ -15,18 +15,18 @@ use Rattle.name_page.specs.declared.cut.Cut.TheVariants.{Named, UpTo}
 use Rattle.name_page.specs.Lookups.{entry_after, entry_with, is_after, last_that, same_name}
 use Rattle.name_page.specs.Looks.{Shows}
 use Rattle.name_page.specs.Pages.{Step, is_spare, IsReached}
-use Rattle.name_btree.specs.declared.descent.Found.{Found}
 use Rattle.name_btree.specs.declared.descent.FoundLeaf.{FoundLeaf}
+use Rattle.name_btree.specs.declared.descent.LeafAtKey.{LeafAtKey}
 use Rattle.name_btree.specs.declared.descent.Neighbour.{Neighbour}
 use Rattle.name_btree.specs.declared.fault.TreeFault.{TreeFault}
 use Rattle.name_btree.specs.declared.lookup.FoundEntry.{FoundEntry}
-use Rattle.name_btree.specs.Descent.{BeginsWith, EndsWith, HasNeighbours, IsNeighbour, IsPlace, LeadsDown}
+use Rattle.name_btree.specs.Descent.{BeginsWithEntry, EndsWithEntry, HasNeighbours, IsNeighbour, IsLeafOfPlace, LeadsDown}
 use Rattle.name_btree.specs.Fault.{BarsBelow, BreaksBelow, FailsShown, IsOnWay}
 use Rattle.name_btree.specs.Replace.{IsLeafAt}
 
 -- the entry without its leaf
-abbrev pub entry_of : Option FoundEntry → Option Entry
-entry_of found = option_map (λ f. f.entry) found
+abbrev pub found_entry : Option FoundEntry → Option Entry
+found_entry found = option_map (λ f. f.entry) found
 
 -- the page is one of the table, was reached and isn't spare, and by the grammar it is a leaf that has the entry
 pub record StandsIn (s : Step) (f : FoundEntry) : Type 0 where
@@ -45,8 +45,8 @@ abbrev pub IsLedTo : Step → FoundEntry → Type 0
 IsLedTo s f = Shows s (λ pages. IsInPlace pages f.page)
 
 -- what some entries have at a key is what the table has
-abbrev pub HoldsAt : Key → List (List ℕ) → List Entry → Type 0
-HoldsAt key pages entries = (height : ℕ) → IsTree pages height → entry_with key entries ≡ entry_with key (table_of pages height)
+abbrev pub AgreesAt : Key → List (List ℕ) → List Entry → Type 0
+AgreesAt key pages entries = (height : ℕ) → IsTree pages height → entry_with key entries ≡ entry_with key (table_of pages height)
 
 -- ---- on the way
 
@@ -63,12 +63,12 @@ abbrev pub IsLedBeside : Step → Neighbour → FoundEntry → Type 0
 IsLedBeside s n f = Shows s (λ pages. IsNeighbour pages n → IsInPlace pages f.page)
 
 -- the keys of the child are from one behind the place on
-abbrev pub BeginsBehind : (Key → Bool) → Neighbour → Type 0
-BeginsBehind before n = (k : Key) × (n.child.low ≡ Some k) × (before k ≡ false)
+abbrev pub BeginsBehindPlace : (Key → Bool) → Neighbour → Type 0
+BeginsBehindPlace before n = (k : Key) × (n.child.low ≡ Some k) × (before k ≡ false)
 
 -- the keys of the child left of the way end up to the place
-abbrev pub EndsUpTo : (Key → Bool) → Neighbour → Type 0
-EndsUpTo before n = (k : Key) × (n.child.high ≡ Some k) × (before k ≡ true)
+abbrev pub EndsUpToPlace : (Key → Bool) → Neighbour → Type 0
+EndsUpToPlace before n = (k : Key) × (n.child.high ≡ Some k) × (before k ≡ true)
 
 -- the keys of the way's child end where those of the child right of it begin, and where none is there, with those of the start
 abbrev pub EndsBeside : (high : Option Key) → Option Neighbour → Option Key → Type 0
@@ -79,14 +79,14 @@ abbrev pub BeginsBeside : (low : Option Key) → Option Neighbour → Option Key
 BeginsBeside low previous begin = MatchOption previous (begin ≡ low) (λ n. n.child.high ≡ begin)
 
 -- the way from a start to a place leads to the leaf, and where the keys of the leaf begin and end
-pub record IsLedFrom (s : Step) (before : Key → Bool) (above : ℕ) (start : Child) (found : Found) (leaf : Child) : Type 0 where
+pub record IsLedFrom (s : Step) (before : Key → Bool) (above : ℕ) (start : Child) (found : FoundLeaf) (leaf : Child) : Type 0 where
   pub page : leaf.page ≡ found.page
   pub below : ℕ
   pub way : Shows s (λ pages. LeadsDown before pages above start → LeadsDown before pages below leaf)
   pub path : Shows s (λ pages. IsVisited pages (above + 1) start → IsVisited pages (below + 1) leaf)
   pub low : BeginsBeside start.low found.previous leaf.low
   pub high : EndsBeside start.high found.next leaf.high
-  pub left : IfSome found.previous (EndsUpTo before)
+  pub left : IfSome found.previous (EndsUpToPlace before)
   pub fits : content_fits leaf.low leaf.high (Some (Leaf found.entries)) ≡ true
 
 -- a leaf that was reached and isn't spare has these entries, and keeps within its bounds
@@ -117,15 +117,15 @@ pub record IsFirstBeside (s : Step) (n : Neighbour) (first : Entry) : Type 0 whe
 -- ---- what a way finds
 
 -- the leaf at a place below a child that so many pages stand above, and what stands beside the way
-pub record IsFoundBelow (old new : Step) (cut : Cut) (above : ℕ) (start : Child) (found : Found) : Type 0 where
+pub record IsFoundBelow (old new : Step) (cut : Cut) (above : ℕ) (start : Child) (found : FoundLeaf) : Type 0 where
   pub reached : IsReached new found.page
   pub used : is_spare old.spares found.page ≡ false
   pub leaf : page_at new.images found.page ≡ Some (Leaf found.entries)
   pub way : Shows new (λ pages. HasInPlace pages above start found.page)
   pub least : AllByRecursion (λ e. not_below start.low e.key ≡ true) found.entries
-  pub next : IfSome found.next (BeginsBehind (is_before cut))
+  pub next : IfSome found.next (BeginsBehindPlace (is_before cut))
   pub at : Shows new (λ pages. IsLeafAt cut pages start found)
-  pub place : Shows new (λ pages. IsPlace (is_before cut) pages start found)
+  pub place : Shows new (λ pages. IsLeafOfPlace (is_before cut) pages start found)
   pub beside : Shows new (λ pages. HasNeighbours pages above start found)
   pub from : (leaf : Child) × IsLedFrom new (is_before cut) above start found leaf
 
@@ -139,7 +139,7 @@ pub record IsFirstBelow (s : Step) (n : Neighbour) (f : FoundEntry) : Type 0 whe
   pub way : IsLedBeside s n f
   pub fits : FitsEntry f.entry
   pub least : not_below n.child.low f.entry.key ≡ true
-  pub first : Shows s (λ pages. BeginsWith pages n.child f.entry)
+  pub first : Shows s (λ pages. BeginsWithEntry pages n.child f.entry)
   pub beside : IsFirstBeside s n f.entry
 
 -- and the last
@@ -147,7 +147,7 @@ pub record IsLastBelow (s : Step) (n : Neighbour) (f : FoundEntry) : Type 0 wher
   pub there : StandsIn s f
   pub way : IsLedBeside s n f
   pub fits : FitsEntry f.entry
-  pub last : Shows s (λ pages. EndsWith pages n.child f.entry)
+  pub last : Shows s (λ pages. EndsWithEntry pages n.child f.entry)
   pub beside : IsLastBeside s n f.entry
 
 -- ---- where nothing is found
@@ -164,12 +164,12 @@ abbrev pub HasLeafBy : Step → (Key → Bool) → (page : ℕ) → List Entry �
 HasLeafBy s before page entries = (leaf : Child) × (leaf.page ≡ page) × IsLeafBy s before leaf entries
 
 -- the leaf at a key, which has what the table has there
-pub record IsFoundLeaf (old new : Step) (key : Key) (found : FoundLeaf) : Type 0 where
+pub record IsFoundLeaf (old new : Step) (key : Key) (found : LeafAtKey) : Type 0 where
   pub reached : IsReached new found.page
   pub used : is_spare old.spares found.page ≡ false
   pub leaf : page_at new.images found.page ≡ Some (Leaf found.entries)
   pub way : Shows new (λ pages. IsInPlace pages found.page)
-  pub holds : Shows new (λ pages. HoldsAt key pages found.entries)
+  pub holds : Shows new (λ pages. AgreesAt key pages found.entries)
   pub at : HasLeafBy new (is_before (UpTo key)) found.page found.entries
 
 -- no entry of the leaf at a key has the key
@@ -250,5 +250,5 @@ TellsAt s key found = MatchOption found (ShowsAbsent s key) (IsMetAs s (λ e. e.
 abbrev pub TellsNewest : Step → (name : List ℕ) → Option FoundEntry → Type 0
 TellsNewest s name found = MatchOption found (ShowsNoVersion s name) (IsMetAs s (λ e. e.key.name ≡ name))
 
-abbrev pub TellsNext : Step → (after : Option Key) → Option FoundEntry → Type 0
-TellsNext s after found = MatchOption found (ShowsNoneAfter s after) (IsMetAs s (IsNextAfter s after))
+abbrev pub TellsLater : Step → (after : Option Key) → Option FoundEntry → Type 0
+TellsLater s after found = MatchOption found (ShowsNoneAfter s after) (IsMetAs s (IsNextAfter s after))

@@ -14,7 +14,7 @@ use Rattle.name_page.specs.Cut.{is_before}
 use Rattle.name_page.specs.declared.cut.Cut.TheVariants.{UpTo}
 use Rattle.name_page.specs.declared.pages.Pages.{Ghosts}
 use Rattle.name_page.specs.Pages.{is_spare, NeedsNoMemory}
-use Rattle.name_btree.specs.declared.descent.Found.{Found}
+use Rattle.name_btree.specs.declared.descent.FoundLeaf.{FoundLeaf}
 use Rattle.name_btree.specs.declared.descent.Neighbour.{Neighbour}
 use Rattle.name_btree.specs.declared.fault.TreeFault.{TreeFault}
 use Rattle.name_btree.specs.declared.lookup.FoundEntry.{FoundEntry}
@@ -33,8 +33,8 @@ LeadsOn Down e c (Some (Interior first separators)) = Down (way_to (is_before (U
 LeadsOn Down e c other = ⊥
 
 -- none of these entries stands before a place
-abbrev pub HasNone : (before : Key → Bool) → List Entry → Type 0
-HasNone before entries = list_any (λ e. before e.key) entries ≡ false
+abbrev pub HasNoneBefore : (before : Key → Bool) → List Entry → Type 0
+HasNoneBefore before entries = list_any (λ e. before e.key) entries ≡ false
 
 module _ {D : Type 0} (P : Ghosts D) where
   -- these pages are in memory
@@ -67,7 +67,7 @@ module _ {D : Type 0} (P : Ghosts D) where
 
   -- The way to an entry that was found leads to it again, and so does that to one below the child left of the way,
   -- where the way from that child leads to it later.
-  pub record LeadsBack (above : ℕ) (start : Child) (t : D) (found : Found) : Type 0 where
+  pub record LeadsBack (above : ℕ) (start : Child) (t : D) (found : FoundLeaf) : Type 0 where
     pub here : (e : Entry) → Contains found.entries e → Leads (max_height - above) t e start
     pub beside : IfSome found.previous (λ n. (later : D) → TakesNone None t later → (e : Entry) → Leads (max_height - n.above) later e n.child → Leads (max_height - above) later e start)
 
@@ -79,9 +79,9 @@ module _ {D : Type 0} (P : Ghosts D) where
 
   -- A way to a leaf takes no memory. Where no entry of the leaf stands before the place, all that is met beside it is
   -- there too; the next way to an entry that it has found leads to the same leaf.
-  pub record StaysBelow (before : Key → Bool) (above : ℕ) (start : Child) (old new : D) (result : Result Found TreeFault) : Type 0 where
+  pub record StaysBelow (before : Key → Bool) (above : ℕ) (start : Child) (old new : D) (result : Result FoundLeaf TreeFault) : Type 0 where
     pub none : TakesNone (outer_told result) old new
-    pub left : IfOk result (λ found. HasNone before found.entries → HasAll old (met_beside (page_at (P.step old).images) found.previous))
+    pub left : IfOk result (λ found. HasNoneBefore before found.entries → HasAll old (met_beside (page_at (P.step old).images) found.previous))
     pub back : IfOk result (λ found. LeadsBack above start new found)
 
   -- the search for the last entry below a child beside the way takes none, and leads there again

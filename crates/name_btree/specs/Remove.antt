@@ -1,5 +1,5 @@
 -- What becomes of a tree from which a key is taken out.
-use Rattle.std.specs.Prelude.{◌≡◌, ◌≢◌, ℕ, zero, suc, ◌≤◌, ◌<◌, ◌||◌, true, List, [], ◌∷◌, length, ⊤}
+use Rattle.std.specs.Prelude.{◌≡◌, ◌≢◌, ℕ, zero, suc, ◌+◌, ◌≤◌, ◌<◌, ◌||◌, true, List, [], ◌∷◌, length, ⊤}
 use Rattle.run_table.specs.Space.{contains, all_differ}
 use Rattle.fsd_bytes.specs.declared.key.Key.{Key}
 use Rattle.fsd_formats.specs.declared.entry.Entry.{Entry}
@@ -9,8 +9,12 @@ use Rattle.fsd_table.specs.Pages.{page_at, children, children_of, entries_of, no
 use Rattle.fsd_table.specs.Tree.{pages_below, IsSubtree}
 use Rattle.fsd_forest.specs.Forest.{Stay, Becomes}
 use Rattle.name_page.specs.Edits.{without}
+use Rattle.name_page.specs.Pages.{Step}
+use Rattle.name_btree.specs.declared.draft.Draft.{Draft}
 use Rattle.name_btree.specs.declared.trimming.Trimmed.{Trimmed}
 use Rattle.name_btree.specs.declared.trimming.Trimmed.TheVariants.{Whole, Leaf, Interior}
+use Rattle.name_btree.specs.Draft.{IsTreeDraft}
+use Rattle.name_btree.specs.Trim.{IsLeft, MayHave}
 
 -- a subtree around a key, which reaches no page twice, and page 0 only as its first
 pub record IsAround (key : Key) (pages : List (List ℕ)) (level : ℕ) (c : Child) : Type 0 where
@@ -49,3 +53,15 @@ abbrev pub IsRootLeft : ℕ → Trimmed → Type 0
 IsRootLeft page Whole = ⊤
 IsRootLeft page (Leaf list) = page ≢ 0
 IsRootLeft page (Interior first list) = length list.items < least_separators page
+
+-- the page of a child may be written, and what is left of it may be, in a table of so many pages
+pub record MayBeLeft (step : Step) (pages : ℕ) (c : Child) (left : Trimmed) : Type 0 where
+  pub page : MayHave step c.page
+  pub fits : IsLeft pages c left
+  pub root : IsRootLeft c.page left
+
+-- the draft may be written, with so many sheets and so many freed pages more at most
+pub record TrimsDraft (step : Step) (old new : Draft) (more gone : ℕ) : Type 0 where
+  pub draft : IsTreeDraft step new
+  pub sheets : length new.sheets.items ≤ length old.sheets.items + more
+  pub freed : length new.freed.items ≤ length old.freed.items + gone

@@ -17,7 +17,7 @@ use Rattle.name_btree.specs.declared.draft.Sheet.{Sheet}
 use Rattle.name_btree.specs.declared.trimming.Pair.{Pair}
 use Rattle.name_btree.specs.declared.trimming.Trimmed.{Trimmed}
 use Rattle.name_btree.specs.declared.trimming.Trimmed.TheVariants.{Whole, Leaf, Interior}
-use Rattle.name_btree.specs.Draft.{IsDrafted, images_of, with_freed}
+use Rattle.name_btree.specs.Draft.{IsDrafted, drafted_images, with_freed}
 use Rattle.fsd_forest.specs.Ways.{child_behind, child_between, end_of}
 
 -- ---- what a page may have, but for how much
@@ -38,7 +38,7 @@ pub record MayHave (step : Step) (page : ℕ) : Type 0 where
   pub used : is_spare step.spares page ≡ false
 
 -- what an interior page has that stands between its keys
-pub record IsOpened (p : ℕ) (above : Child) (first : ℕ) (separators : List Separator) : Type 0 where
+pub record IsOpenedPage (p : ℕ) (above : Child) (first : ℕ) (separators : List Separator) : Type 0 where
   pub ways : AreWays p first separators
   pub within : keys_fit above.low above.high (separator_keys separators) ≡ true
   pub least : least_separators above.page ≤ length separators
@@ -150,12 +150,12 @@ abbrev pub child_of : (above : Child) → (first : ℕ) → List Separator → �
 child_of above first separators i = child_between first above.low above.high (take i separators) (drop i separators)
 
 -- the place of the neighbour of child i
-abbrev pub beside : ℕ → ℕ
-beside i = if i == 0 then 1 else i - 1
+abbrev pub neighbour_of : ℕ → ℕ
+neighbour_of i = if i == 0 then 1 else i - 1
 
 -- what child i has and what its neighbour has, in order
-abbrev pub entries_at : ℕ → (few others : List Entry) → List Entry
-entries_at i few others = if i == 0 then few ++ others else others ++ few
+abbrev pub both_entries : ℕ → (few others : List Entry) → List Entry
+both_entries i few others = if i == 0 then few ++ others else others ++ few
 
 abbrev pub first_at : ℕ → (first second : ℕ) → ℕ
 first_at i first second = if i == 0 then first else second
@@ -177,10 +177,10 @@ pub record LeafIsMended (step : Step) (old new : Draft) (above : Child) (first :
   pub place : pair.place ≡ i - 1
   pub is : IsPair above first separators pair
   pub neighbour : Child
-  pub there : slice_get (children first above.low above.high separators) (beside i) ≡ Some neighbour
+  pub there : slice_get (children first above.low above.high separators) (neighbour_of i) ≡ Some neighbour
   pub others : List Entry
-  pub has : page_at (images_of old step) neighbour.page ≡ Some (grammar.Leaf others)
-  pub mended : AreLeavesMended step old new above.page first separators pair (entries_at i few others) left
+  pub has : page_at (drafted_images old step) neighbour.page ≡ Some (grammar.Leaf others)
+  pub mended : AreLeavesMended step old new above.page first separators pair (both_entries i few others) left
 
 -- the neighbour of a child of few ways has ways, and both are mended
 pub record WayIsMended (step : Step) (old new : Draft) (above : Child) (first : ℕ) (separators : List Separator) (i lead : ℕ) (few : List Separator) (left : Trimmed) : Type 0 where
@@ -188,21 +188,21 @@ pub record WayIsMended (step : Step) (old new : Draft) (above : Child) (first : 
   pub place : pair.place ≡ i - 1
   pub is : IsPair above first separators pair
   pub neighbour : Child
-  pub there : slice_get (children first above.low above.high separators) (beside i) ≡ Some neighbour
+  pub there : slice_get (children first above.low above.high separators) (neighbour_of i) ≡ Some neighbour
   pub second : ℕ
   pub others : List Separator
-  pub has : page_at (images_of old step) neighbour.page ≡ Some (grammar.Interior second others)
+  pub has : page_at (drafted_images old step) neighbour.page ≡ Some (grammar.Interior second others)
   pub behind : is_behind is.between.key (right_at i few others) ≡ true
   pub mended : AreWaysMended step old new above.page first separators pair (first_at i lead second) (ways_at i is.between.key lead few second others) left
 
 -- the neighbour is no leaf, or page 0
 abbrev pub HasNoLeaf : List (List ℕ) → List Child → ℕ → ℕ → Type 0
-HasNoLeaf pages cs i page = (c : Child) → slice_get cs (beside i) ≡ Some c → IsLeaf c (page_at pages c.page) → c.page ≢ 0 → ⊥
+HasNoLeaf pages cs i page = (c : Child) → slice_get cs (neighbour_of i) ≡ Some c → IsLeaf c (page_at pages c.page) → c.page ≢ 0 → ⊥
 
 -- the neighbour has no ways or is page 0, or the ways of both don't ascend
 abbrev pub HasNoWays : List (List ℕ) → (above : Child) → (first : ℕ) → List Separator → ℕ → (few : List Separator) → ℕ → Type 0
 HasNoWays pages above first separators i few page =
-    (c : Child) → slice_get (children first above.low above.high separators) (beside i) ≡ Some c → c.page ≢ 0
+    (c : Child) → slice_get (children first above.low above.high separators) (neighbour_of i) ≡ Some c → c.page ≢ 0
     → (second : ℕ) (others : List Separator) → page_at pages c.page ≡ Some (grammar.Interior second others) → keys_fit c.low c.high (separator_keys others) ≡ true
     → (s : Separator) → slice_get separators (i - 1) ≡ Some s → is_behind s.key (right_at i few others) ≡ true → ⊥
 
@@ -213,15 +213,15 @@ IsFreeOrNone x = (x ≡ Some grammar.Free) ⊎ (x ≡ None)
 -- page 0 has what the child has, which goes
 pub record IsTakenOver (step : Step) (old new : Draft) (child : ℕ) : Type 0 where
   pub content : Content
-  pub was : page_at (images_of old step) child ≡ Some content
+  pub was : page_at (drafted_images old step) child ≡ Some content
   pub now : IsDrafted step old.sheets.items new.sheets.items 0 content
   pub freed : new.freed.items ≡ with_freed child old.freed.items
 
 -- what becomes of the page above a child of which this is left
-abbrev pub IsMended : Step → (old new : Draft) → (above : Child) → (first : ℕ) → List Separator → ℕ → (below left : Trimmed) → Type 0
-IsMended step old new above first separators i Whole left = (left ≡ Whole) × (new ≡ old)
-IsMended step old new above first separators i (Leaf list) left = LeafIsMended step old new above first separators i list.items left
-IsMended step old new above first separators i (Interior lead list) left = WayIsMended step old new above first separators i lead list.items left
+abbrev pub IsTrimmedAbove : Step → (old new : Draft) → (above : Child) → (first : ℕ) → List Separator → ℕ → (below left : Trimmed) → Type 0
+IsTrimmedAbove step old new above first separators i Whole left = (left ≡ Whole) × (new ≡ old)
+IsTrimmedAbove step old new above first separators i (Leaf list) left = LeafIsMended step old new above first separators i list.items left
+IsTrimmedAbove step old new above first separators i (Interior lead list) left = WayIsMended step old new above first separators i lead list.items left
 
 -- the neighbour is nothing that it may be joined with
 abbrev pub IsUnlike : List (List ℕ) → (above : Child) → (first : ℕ) → List Separator → ℕ → Trimmed → ℕ → Type 0

@@ -9,10 +9,11 @@ use Rattle.fsd_table.specs.Pages.{page_at}
 use Rattle.fsd_table.specs.Table.{Visit, max_height, visits, visits_below, IsVisited, BreaksTable}
 use Rattle.fsd_table.specs.Tree.{entries_below, pages_below, table_of, pages_of, IsSubtree, IsTree}
 use Rattle.name_page.specs.declared.pages.Pages.{Ghosts}
-use Rattle.name_page.specs.Pages.{Step, is_spare}
+use Rattle.name_page.specs.Pages.{Step, is_spare, rested}
 use Rattle.name_btree.specs.declared.fault.TreeFault.{TreeFault}
 use Rattle.name_btree.specs.Descent.{HasChildren}
-use Rattle.name_btree.specs.Fault.{HasCause, BarsTable}
+use Rattle.name_btree.specs.Fault.{HasTreeCause, BarsTable}
+use Rattle.name_btree.specs.Still.{HasRefusal}
 
 -- ---- marks, one a page
 
@@ -27,6 +28,11 @@ is_marked marks page = slice_index_or marks page true
 -- what is marked stays so
 abbrev pub KeepsMarks : (old new : List Bool) → Type 0
 KeepsMarks old new = (page : ℕ) → is_marked old page ≡ true → is_marked new page ≡ true
+
+-- a page is marked, and what is marked stays so
+pub record MarksPage (page : ℕ) (old new : List Bool) : Type 0 where
+  pub marked : is_marked new page ≡ true
+  pub kept : KeepsMarks old new
 
 -- one after another, none of them marked before
 abbrev pub can_mark : List Bool → List ℕ → Bool
@@ -43,7 +49,7 @@ abbrev pub IsUsed : List Bool → ℕ → Type 0
 IsUsed spares page = is_spare spares page ≡ false
 
 -- a subtree, whose pages were not marked and then are, none of them spare, and so many entries
-pub record IsWalked (spares : List Bool) (level : ℕ) (pages : List (List ℕ)) (c : Child) (before after : List Bool) (count : ℕ) : Type 0 where
+pub record IsWalkedSubtree (spares : List Bool) (level : ℕ) (pages : List (List ℕ)) (c : Child) (before after : List Bool) (count : ℕ) : Type 0 where
   pub used : AllByRecursion (IsUsed spares) (pages_below level pages c)
   pub subtree : IsSubtree level pages c
   pub unmarked : can_mark before (pages_below level pages c) ≡ true
@@ -90,12 +96,17 @@ BarsWalk s level cs marks page = ComesTo s.images level cs marks → BarsTable s
 -- why the walk over these children fails
 abbrev pub FailsWalk : {D : Type 0} (P : Ghosts D) (new : D) → (level : ℕ) → List Child → List Bool → TreeFault → Type 0
 FailsWalk P new level cs marks =
-    HasCause (P.step new) (λ page. P.trusted new → BreaksWalk level (P.step new).images cs marks page) (λ page. P.trusted new → BarsWalk (P.step new) level cs marks page)
+    HasTreeCause (P.step new) (λ page. P.trusted new → BreaksWalk level (P.step new).images cs marks page) (λ page. P.trusted new → BarsWalk (P.step new) level cs marks page)
+
+-- the same, and what the step has where the pages refused one
+pub record FailsOver {D : Type 0} (P : Ghosts D) (new : D) (level : ℕ) (cs : List Child) (marks : List Bool) (fault : TreeFault) : Type 0 where
+  pub cause : FailsWalk P new level cs marks fault
+  pub refused : HasRefusal (rested (P.step new)) (P.step new) fault
 
 -- ---- the whole
 
 -- a tree, all of whose pages are marked and no others, none of them spare, and so many entries
-pub record IsCounted (s : Step) (marks : List Bool) (count : ℕ) : Type 0 where
+pub record IsCountedTree (s : Step) (marks : List Bool) (count : ℕ) : Type 0 where
   pub height : ℕ
   pub used : AllByRecursion (IsUsed s.spares) (pages_of s.images height)
   pub tree : IsTree s.images height

@@ -2,7 +2,7 @@
 ghost use Rattle.std.specs.Prelude.{◌≡◌, ◌≤◌, ℕ, length};
 ghost use Rattle.std.specs.List.{AllByRecursion};
 ghost use Rattle.fsd_table.specs.Tree.{IsTree, table_of};
-ghost use Rattle.name_btree.specs.Calls.{Allows, Carries, IsFormed, Permits, RunsTo, without_answer, without_page};
+ghost use Rattle.name_btree.specs.Calls.{Allows, CarriesOut, IsFormed, Permits, RunsTo, without_answer, without_page};
 ghost use Rattle.name_btree.specs.Fault.{outer_told};
 ghost use Rattle.name_btree.specs.Map.{IsTable};
 ghost use Rattle.name_page.specs.declared.pages.TheConstants.{MOST_CHANGED, MOST_REACHED};
@@ -63,7 +63,7 @@ fn carry_out<T: RenewedPages>(t: &mut T, call: &Call) -> Result<Option<Entry>, T
     requires formed { IsFormed call.now }
     requires allowed { T.trusted t.old → (height : ℕ) → IsTree (T.step t.old).images height → Allows (table_of (T.step t.old).images height) call.now }
     ensures calls { OnlyEdits T.Pages (outer_told result) t.old t.new }
-    ensures carried { T.trusted t.new → (height : ℕ) → IsTable (T.step t.old) height → Carries (table_of (T.step t.old).images height) call.now result (T.step t.new) }
+    ensures carried { T.trusted t.new → (height : ℕ) → IsTable (T.step t.old) height → CarriesOut (table_of (T.step t.old).images height) call.now result (T.step t.new) }
 {
     if let Err(refusal) = t.begin() {
         return Err(TreeFault::Pages(refusal));

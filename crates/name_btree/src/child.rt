@@ -1,7 +1,7 @@
 //! Pages that are reached.
 ghost use Rattle.std.specs.Prelude.{◌≡◌, ◌+◌, ◌<◌, ◌≤◌, IfOk, IfErr, OnOk, length};
 ghost use Rattle.name_page.specs.Node.{content_of};
-ghost use Rattle.name_btree.specs.Still.{IsRead, IsReadChild, FailsPage, FailsChild};
+ghost use Rattle.name_btree.specs.Still.{IsReadPage, IsReadChild, FailsPage, FailsChild};
 ghost use Rattle.name_btree.specs.Fault.{outer_told};
 ghost use Rattle.name_btree.specs.Path.{TakesNone};
 ghost use Rattle.name_page.specs.Looks.{OnlyReaches};
@@ -17,7 +17,7 @@ fn read_at<T: Pages>(t: &mut T, page: u32, node: &mut Node) -> Result<(), TreeFa
     requires within { page < length (T.step t.old).images }
     ensures calls { OnlyReaches T.Pages (outer_told result) t.old t.new }
     ensures reaches { reaches (T.step t.old) ≤ reaches (T.step t.new) + 1 }
-    ensures read { OnOk result (IsRead (T.step t.old) (T.step t.new) page (content_of node.new)) }
+    ensures read { OnOk result (IsReadPage (T.step t.old) (T.step t.new) page (content_of node.new)) }
     ensures memory { T.in_memory t.old page → TakesNone T.Pages (outer_told result) t.old t.new }
     ensures failed { IfErr result (FailsPage (T.step t.old) (T.step t.new) page) }
 {
@@ -36,7 +36,7 @@ pub(crate) fn node_at<T: Pages>(t: &mut T, page: u32) -> Result<Node, TreeFault>
     requires within { page < length (T.step t.old).images }
     ensures calls { OnlyReaches T.Pages (outer_told result) t.old t.new }
     ensures reaches { reaches (T.step t.old) ≤ reaches (T.step t.new) + 1 }
-    ensures read { IfOk result (λ node. IsRead (T.step t.old) (T.step t.new) page (content_of node)) }
+    ensures read { IfOk result (λ node. IsReadPage (T.step t.old) (T.step t.new) page (content_of node)) }
     ensures memory { T.in_memory t.old page → TakesNone T.Pages (outer_told result) t.old t.new }
     ensures failed { IfErr result (FailsPage (T.step t.old) (T.step t.new) page) }
 {

@@ -40,7 +40,7 @@ struct Way {
 
 /// The leaf at a place between keys, and the nearest children on each side of the way to it.
 #[derive(Drop)]
-pub(crate) struct Found {
+pub(crate) struct FoundLeaf {
     pub(crate) page: u32,
     pub(crate) entries: Entries,
     pub(crate) previous: Option<Neighbour>,
@@ -129,7 +129,7 @@ pub(crate) fn leaf_below<T: Pages>(
     start: Child,
     above: u32,
     cut: &Cut,
-) -> Result<Found, TreeFault>
+) -> Result<FoundLeaf, TreeFault>
     requires { 6 ≤ reaches (T.step t.old) }
     ensures calls { OnlyReaches T.Pages (outer_told result) t.old t.new }
     ensures reaches { reaches (T.step t.old) ≤ reaches (T.step t.new) + 6 }
@@ -147,7 +147,7 @@ pub(crate) fn leaf_below<T: Pages>(
         match child_node(t, &way.child)? {
             Node::Free => return Err(TreeFault::Broken(way.child.page)),
             Node::Leaf(entries) => {
-                return Ok(Found {
+                return Ok(FoundLeaf {
                     page: way.child.page,
                     entries,
                     previous: way.previous,
@@ -162,13 +162,13 @@ pub(crate) fn leaf_below<T: Pages>(
 
 /// A leaf, and its page.
 #[derive(Drop)]
-pub(crate) struct FoundLeaf {
+pub(crate) struct LeafAtKey {
     pub(crate) page: u32,
     pub(crate) entries: Entries,
 }
 
 /// The leaf that has the entry with a key, where one has it. What stands beside the way is not read.
-pub(crate) fn leaf_at<T: Pages>(t: &mut T, key: &Key) -> Result<FoundLeaf, TreeFault>
+pub(crate) fn leaf_at<T: Pages>(t: &mut T, key: &Key) -> Result<LeafAtKey, TreeFault>
     requires { 6 ≤ reaches (T.step t.old) }
     ensures calls { OnlyReaches T.Pages (outer_told result) t.old t.new }
     ensures reaches { reaches (T.step t.old) ≤ reaches (T.step t.new) + 6 }
@@ -182,7 +182,7 @@ pub(crate) fn leaf_at<T: Pages>(t: &mut T, key: &Key) -> Result<FoundLeaf, TreeF
         match node {
             Node::Free => return Err(TreeFault::Broken(child.page)),
             Node::Leaf(entries) => {
-                return Ok(FoundLeaf {
+                return Ok(LeafAtKey {
                     page: child.page,
                     entries,
                 });

@@ -4,9 +4,9 @@ ghost use Rattle.std.specs.List.{AllByRecursion};
 ghost use Rattle.run_table.specs.Space.{all_differ};
 ghost use Rattle.fsd_formats.specs.NamePage.{Leaf, Interior, is_page, FitsEntry, FitsSeparator};
 ghost use Rattle.fsd_table.specs.Pages.{page_at};
-ghost use Rattle.name_btree.specs.Draft.{IsDraft, with_freed, drafted, committed, freed, last_sheet, AreSheets, MayGo, IsDrafted, IsSeen, IsSeenChild};
+ghost use Rattle.name_btree.specs.Draft.{IsTreeDraft, with_freed, drafted, committed, freed, last_sheet, AreSheets, MayGo, IsDrafted, IsSeenPage, IsSeenChild};
 ghost use Rattle.name_btree.specs.Fault.{outer_told, FailsBy, IsMisfit};
-ghost use Rattle.name_btree.specs.Grown.{Takes};
+ghost use Rattle.name_btree.specs.Grown.{TakesSpare};
 ghost use Rattle.fsd_formats.specs.declared.entry.Entry.{Entry};
 ghost use Rattle.fsd_formats.specs.NamePage as grammar;
 ghost use Rattle.name_page.specs.Node.{content_of};
@@ -97,7 +97,7 @@ pub(crate) fn take_page<T: Pages>(t: &mut T) -> u32
     requires promised { 0 < (T.step t.old).promised }
     requires more { 0 < changes (T.step t.old) }
     ensures outside { T.outside None t.old t.new }
-    ensures takes { Takes (T.step t.old) (T.step t.new) (result ∷ []) }
+    ensures takes { TakesSpare (T.step t.old) (T.step t.new) (result ∷ []) }
     ensures home { (T.step t.new).home_a ≡ (T.step t.old).home_a }
     ensures reached { (T.step t.new).reached ≡ (T.step t.old).reached }
 {
@@ -124,7 +124,7 @@ impl Draft {
         ensures calls { OnlyReaches T.Pages (outer_told result) t.old t.new }
         ensures reaches { reaches (T.step t.old) ≤ reaches (T.step t.new) + 1 }
         ensures sheets { AreSheets (T.step t.new) self.now.sheets.items }
-        ensures read { IfOk result (λ node. IsSeen (T.step t.old) (T.step t.new) self.now.sheets.items page (content_of node)) }
+        ensures read { IfOk result (λ node. IsSeenPage (T.step t.old) (T.step t.new) self.now.sheets.items page (content_of node)) }
         ensures fault { IfErr result (FailsBy (T.step t.new) (λ pages other. (other ≡ page) × (page_at (drafted self.now.sheets.items pages) page ≡ None))) }
     {
         match last_sheet(self.sheets.as_slice(), page) {
@@ -210,10 +210,10 @@ impl Draft {
     /// The page is to be spare, once. Page 0 never is.
     pub(crate) fn free<T: Pages>(&mut self, t: &T, page: u32)
         requires room { length self.old.freed.items < 20 }
-        requires draft { IsDraft (T.step t.now) self.old }
+        requires draft { IsTreeDraft (T.step t.now) self.old }
         requires reached { IsReached (T.step t.now) page }
         requires used { is_spare (T.step t.now).spares page ≡ false }
-        ensures draft { IsDraft (T.step t.now) self.new }
+        ensures draft { IsTreeDraft (T.step t.now) self.new }
         ensures sheets { self.new.sheets.items ≡ self.old.sheets.items }
         ensures freed { self.new.freed.items ≡ with_freed page self.old.freed.items }
     {

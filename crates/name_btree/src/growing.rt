@@ -3,7 +3,7 @@ ghost use Rattle.std.specs.Prelude.{◌≡◌, ◌+◌, ◌<◌, ◌≤◌, None
 ghost use Rattle.std.specs.List.{AllByRecursion, flat_map};
 ghost use Rattle.fsd_formats.specs.NamePage.{FitsEntry, FitsSeparator, entry_bytes, is_entry, room};
 ghost use Rattle.name_btree.specs.Draft.{drafted, AreSheets, TakesSheets};
-ghost use Rattle.name_btree.specs.Grown.{Takes, Over, most_parted, front_came, FitsTwoLeaves, FitsTwoInteriors, IsGrown, AreLeavesOf, AreInteriorsOf};
+ghost use Rattle.name_btree.specs.Grown.{TakesSpare, Over, most_parted, front_came, FitsTwoLeaves, FitsTwoInteriors, IsFront, IsGrown, OnlyDraws, AreLeavesOf, AreInteriorsOf};
 ghost use Rattle.name_page.specs.Edits.{with_entry};
 ghost use Rattle.name_page.specs.declared.pages.TheConstants.{MOST_CHANGED};
 ghost use Rattle.name_page.specs.Pages.{changes, is_spare, with_images, IsReached};
@@ -29,15 +29,11 @@ fn front_page<T: Pages>(t: &mut T, page: u32) -> u32
     requires reached { IsReached (T.step t.old) page }
     requires used { is_spare (T.step t.old).spares page ≡ false }
     ensures outside { T.outside None t.old t.new }
-    ensures takes { Takes (T.step t.old) (T.step t.new) (front_came page result) }
+    ensures takes { TakesSpare (T.step t.old) (T.step t.new) (front_came page result) }
     ensures promised { 0 < (T.step t.new).promised }
     ensures more { 0 < changes (T.step t.new) }
-    ensures images { (T.step t.new).images ≡ (T.step t.old).images }
-    ensures home { (T.step t.new).home_a ≡ (T.step t.old).home_a }
-    ensures reached { (T.step t.new).reached ≡ (T.step t.old).reached }
-    ensures own { IsReached (T.step t.new) result }
-    ensures used { is_spare (T.step t.new).spares result ≡ false }
-    ensures place { (page ≡ 0 → ⊥) → result ≡ page }
+    ensures stays { OnlyDraws (T.step t.old) (T.step t.new) }
+    ensures front { IsFront (T.step t.new) page result }
 {
     if page == 0 { take_page(t) } else { page }
 }
@@ -63,9 +59,7 @@ fn grow_leaf<T: Pages>(
     ensures leaves { Over (T.step t.old) (λ pages. AreLeavesOf (drafted draft.new.sheets.items pages) page entries.now.items result) }
     ensures freed { draft.new.freed.items ≡ draft.old.freed.items }
     ensures drawn { TakesSheets (T.step t.old) (T.step t.new) draft.old.sheets.items draft.new.sheets.items }
-    ensures images { (T.step t.new).images ≡ (T.step t.old).images }
-    ensures home { (T.step t.new).home_a ≡ (T.step t.old).home_a }
-    ensures reached { (T.step t.new).reached ≡ (T.step t.old).reached }
+    ensures stays { OnlyDraws (T.step t.old) (T.step t.new) }
 {
     let entries = entries.as_slice();
     let whole = used(entries);
@@ -108,9 +102,7 @@ fn grow_leaf_listed<T: Pages>(
     ensures leaves { Over (T.step t.old) (λ pages. AreLeavesOf (drafted draft.new.sheets.items pages) page (with_entry entry.now entries.now) result) }
     ensures freed { draft.new.freed.items ≡ draft.old.freed.items }
     ensures drawn { TakesSheets (T.step t.old) (T.step t.new) draft.old.sheets.items draft.new.sheets.items }
-    ensures images { (T.step t.new).images ≡ (T.step t.old).images }
-    ensures home { (T.step t.new).home_a ≡ (T.step t.old).home_a }
-    ensures reached { (T.step t.new).reached ≡ (T.step t.old).reached }
+    ensures stays { OnlyDraws (T.step t.old) (T.step t.new) }
 {
     let list = entries_with(entries, entry);
     grow_leaf(t, draft, page, &list, fuller_with(entries, &entry.key))
@@ -140,9 +132,7 @@ pub(crate) fn grow_leaf_with<T: Pages>(
     ensures leaves { Over (T.step t.old) (λ pages. AreLeavesOf (drafted draft.new.sheets.items pages) page (with_entry entry.now entries.now) result) }
     ensures freed { draft.new.freed.items ≡ draft.old.freed.items }
     ensures drawn { TakesSheets (T.step t.old) (T.step t.new) draft.old.sheets.items draft.new.sheets.items }
-    ensures images { (T.step t.new).images ≡ (T.step t.old).images }
-    ensures home { (T.step t.new).home_a ≡ (T.step t.old).home_a }
-    ensures reached { (T.step t.new).reached ≡ (T.step t.old).reached }
+    ensures stays { OnlyDraws (T.step t.old) (T.step t.new) }
 {
     let text = text_with(entries, entry);
     if text.bytes.len() <= PAGE_ROOM {
@@ -184,9 +174,7 @@ pub(crate) fn grow_ways<T: Pages>(
     ensures interiors { Over (T.step t.old) (λ pages. AreInteriorsOf (drafted draft.new.sheets.items pages) page first separators.now.items result) }
     ensures freed { draft.new.freed.items ≡ draft.old.freed.items }
     ensures drawn { TakesSheets (T.step t.old) (T.step t.new) draft.old.sheets.items draft.new.sheets.items }
-    ensures images { (T.step t.new).images ≡ (T.step t.old).images }
-    ensures home { (T.step t.new).home_a ≡ (T.step t.old).home_a }
-    ensures reached { (T.step t.new).reached ≡ (T.step t.old).reached }
+    ensures stays { OnlyDraws (T.step t.old) (T.step t.new) }
 {
     let separators = separators.as_slice();
     if separators.len() <= 9 {

@@ -6,14 +6,15 @@ ghost use Rattle.fsd_forest.specs.Parts.{is_inside};
 ghost use Rattle.fsd_forest.specs.Ways.{child_between};
 ghost use Rattle.fsd_table.specs.Pages.{page_at, keys_fit, entry_keys};
 ghost use Rattle.fsd_table.specs.Tree.{IsTree, table_of};
-ghost use Rattle.name_btree.specs.Draft.{drafted, AreSheets, IsDraft, TakesSheets};
-ghost use Rattle.name_btree.specs.Fault.{outer_told, FailsBy, FailsSpare, IsNoTree, IsAmong};
-ghost use Rattle.name_btree.specs.Grown.{Over, most_parted, most_taken, IsGrown, IsAboveGrown, IsSound, IsDivided, Grows, Inserts, BreaksGrowth, BreaksNew, TakesAtMost};
+ghost use Rattle.name_btree.specs.Change.{ChangesTable, FailsInsert, SpendsAtMost};
+ghost use Rattle.name_btree.specs.Draft.{drafted, AreSheets, IsTreeDraft, TakesSheets};
+ghost use Rattle.name_btree.specs.Fault.{outer_told, FailsBy, IsNoTree};
+ghost use Rattle.name_btree.specs.Grown.{Over, most_parted, most_taken, IsGrown, IsAboveGrown, IsParted, IsDivided, Grows, GrowsBelow, GrowsLeaf, GrowsTree, Inserts, BreaksGrowth, BreaksNew, RefusesEntry, TakesAtMost};
 ghost use Rattle.name_btree.specs.Map.{IsTable, HasTable, LeavesTree, without_all};
 ghost use Rattle.name_page.specs.Edits.{with_entry};
 ghost use Rattle.name_page.specs.Lookups.{entry_with};
 ghost use Rattle.name_page.specs.declared.pages.TheConstants.{MOST_CHANGED, MOST_REACHED};
-ghost use Rattle.name_page.specs.Looks.{ChangesPages, OnlyReaches, OnlyTakes, OnlyEdits, OnlyWalks, Shows};
+ghost use Rattle.name_page.specs.Looks.{OnlyReaches, OnlyTakes, Shows};
 ghost use Rattle.name_page.specs.Pages.{with_images, reaches, changes, free_count, is_spare, IsReached};
 
 use crate::draft::Draft;
@@ -38,16 +39,12 @@ pub fn insert<T: Pages>(t: &mut T, entry: &Entry, gone: &ArrayVec<Key, 2>) -> Re
     requires entry { IsTrue (is_entry entry.now) }
     requires fits { FitsEntry entry.now }
     requires new { T.trusted t.old → (height : ℕ) → IsTree (T.step t.old).images height → entry_with entry.now.key (without_all gone.now.items (table_of (T.step t.old).images height)) ≡ None }
-    ensures calls { OnlyEdits T.Pages (outer_told result) t.old t.new }
-    ensures pages { ChangesPages (T.step t.old) (T.step t.new) }
-    ensures kept { OnErr result (OnlyWalks T.Pages (outer_told result) t.old t.new) }
-    ensures reaches { reaches (T.step t.old) ≤ reaches (T.step t.new) + 30 }
-    ensures changes { changes (T.step t.old) ≤ changes (T.step t.new) + 36 }
+    ensures edits { ChangesTable T.Pages t.old t.new result }
+    ensures spent { SpendsAtMost 30 36 (T.step t.old) (T.step t.new) }
     ensures taken { TakesAtMost 7 (T.step t.old).spares (T.step t.new).spares }
-    ensures among { 0 < length (T.step t.old).images → IfErr result (IsAmong (length (T.step t.old).images)) }
     ensures inserted { OnOk result (T.trusted t.new → (height : ℕ) → IsTable (T.step t.old) height → HasTable (T.step t.new) (with_entry entry.now (without_all gone.now.items (table_of (T.step t.old).images height)))) }
     ensures full { let free = free_count (T.step t.old) in (result ≡ Err (TreeFault.Pages (NameTableFull free))) ↔ (free < 8) }
-    ensures fault { IfErr result (FailsSpare T.Pages (free_count (T.step t.old)) t.new) }
+    ensures failed { IfErr result (FailsInsert T.Pages t.old t.new) }
 {
     if let Err(refusal) = t.spare(8) {
         return Err(TreeFault::Pages(refusal));
@@ -71,7 +68,7 @@ fn remove_all<T: Pages>(t: &mut T, draft: &mut Draft, gone: &[Key]) -> Result<()
     requires freed { draft.old.freed.items ≡ [] }
     ensures calls { OnlyReaches T.Pages (outer_told result) t.old t.new }
     ensures reaches { reaches (T.step t.old) ≤ reaches (T.step t.new) + 24 }
-    ensures draft { OnOk result (IsDraft (T.step t.new) draft.new) }
+    ensures draft { OnOk result (IsTreeDraft (T.step t.new) draft.new) }
     ensures room { OnOk result (length draft.new.sheets.items ≤ 16) }
     ensures left { OnOk result (Shows (T.step t.new) (λ pages. LeavesTree pages draft.new gone.now)) }
     ensures fault { IfErr result (FailsBy (T.step t.new) (λ pages page. IsNoTree pages)) }
@@ -88,16 +85,13 @@ fn insert_in<T: Pages>(t: &mut T, draft: &mut Draft, entry: &Entry) -> Result<()
     requires promised { 7 ≤ (T.step t.old).promised }
     requires changes { 7 ≤ changes (T.step t.old) }
     requires room { length draft.old.sheets.items ≤ 26 }
-    requires draft { IsDraft (T.step t.old) draft.old }
+    requires draft { IsTreeDraft (T.step t.old) draft.old }
     requires entry { is_entry entry.now ≡ true }
     requires fits { FitsEntry entry.now }
     ensures calls { OnlyTakes T.Pages (outer_told result) t.old t.new }
     ensures failed { OnErr result (OnlyReaches T.Pages (outer_told result) t.old t.new) }
     ensures reaches { reaches (T.step t.old) ≤ reaches (T.step t.new) + 6 }
-    ensures draft { OnOk result (IsDraft (T.step t.new) draft.new) }
-    ensures room { OnOk result (length draft.new.sheets.items ≤ length draft.old.sheets.items + 13) }
-    ensures freed { OnOk result (draft.new.freed.items ≡ draft.old.freed.items) }
-    ensures drawn { OnOk result (TakesSheets (T.step t.old) (T.step t.new) draft.old.sheets.items draft.new.sheets.items) }
+    ensures drafted { OnOk result (GrowsTree (T.step t.old) (T.step t.new) draft.old draft.new 13) }
     ensures inserted { OnOk result (Shows (T.step t.new) (λ pages. Inserts entry.now (with_images pages (T.step t.old)) (with_images pages (T.step t.new)) (drafted draft.old.sheets.items pages) (drafted draft.new.sheets.items pages))) }
     ensures fault { IfErr result (FailsBy (T.step t.new) (λ pages. BreaksNew entry.now (drafted draft.old.sheets.items pages))) }
 {
@@ -130,12 +124,7 @@ fn insert_below<T: Pages>(
     ensures calls { OnlyTakes T.Pages (outer_told result) t.old t.new }
     ensures failed { OnErr result (OnlyReaches T.Pages (outer_told result) t.old t.new) }
     ensures reaches { reaches (T.step t.old) ≤ reaches (T.step t.new) + levels + 1 }
-    ensures room { OnOk result (length draft.new.sheets.items ≤ length draft.old.sheets.items + 2 * levels + 2) }
-    ensures sheets { OnOk result (AreSheets (T.step t.new) draft.new.sheets.items) }
-    ensures freed { OnOk result (draft.new.freed.items ≡ draft.old.freed.items) }
-    ensures drawn { OnOk result (TakesSheets (T.step t.old) (T.step t.new) draft.old.sheets.items draft.new.sheets.items) }
-    ensures reached { OnOk result (IsReached (T.step t.new) child.now.page) }
-    ensures used { OnOk result (is_spare (T.step t.new).spares child.now.page ≡ false) }
+    ensures drafted { OnOk result (GrowsBelow (T.step t.old) (T.step t.new) draft.old draft.new (2 * levels + 2) child.now) }
     ensures grown { IfOk result (λ grown. Shows (T.step t.new) (λ pages. Grows entry.now (with_images pages (T.step t.old)) (with_images pages (T.step t.new)) (drafted draft.old.sheets.items pages) (drafted draft.new.sheets.items pages) levels child.now grown)) }
     ensures fault { IfErr result (FailsBy (T.step t.new) (λ pages. BreaksGrowth entry.now (drafted draft.old.sheets.items pages) levels child.now)) }
 {
@@ -172,7 +161,7 @@ fn grow_above<T: Pages>(
     requires used { is_spare (T.step t.old).spares above.now.page ≡ false }
     requires ways { is_page above.now.page (length (T.step t.old).images) (Interior ways.now.0 ways.now.1) ≡ true }
     requires place { i ≤ length ways.now.1 }
-    requires sound { IsSound (T.step t.old) below }
+    requires sound { IsParted (T.step t.old) below }
     requires divided { IsDivided (child_between ways.now.0 above.now.low above.now.high (take i ways.now.1) (drop i ways.now.1)) below }
     ensures calls { OnlyTakes T.Pages None t.old t.new }
     ensures grown { Over (T.step t.old) (λ pages. IsGrown (with_images pages (T.step t.old)) (with_images pages (T.step t.new)) draft.old.sheets.items draft.new.sheets.items above.now.page result) }
@@ -209,15 +198,12 @@ fn insert_here<T: Pages>(
     requires inside { is_inside child.now entry.now.key ≡ true }
     requires entry { is_entry entry.now ≡ true }
     requires fits { FitsEntry entry.now }
-    ensures failed { OnErr result (t.new ≡ t.old) }
     ensures untold { outer_told result ≡ None }
     ensures calls { OnlyTakes T.Pages (outer_told result) t.old t.new }
-    ensures grown { IfOk result (λ grown. Over (T.step t.old) (λ pages. IsGrown (with_images pages (T.step t.old)) (with_images pages (T.step t.new)) draft.old.sheets.items draft.new.sheets.items child.now.page grown)) }
-    ensures grows { IfOk result (λ grown. Shows (T.step t.old) (λ pages. Grows entry.now (with_images pages (T.step t.old)) (with_images pages (T.step t.new)) (drafted draft.old.sheets.items pages) (drafted draft.new.sheets.items pages) 0 child.now grown)) }
+    ensures grown { IfOk result (GrowsLeaf entry.now (T.step t.old) (T.step t.new) draft.old.sheets.items draft.new.sheets.items child.now) }
     ensures freed { draft.new.freed.items ≡ draft.old.freed.items }
-    ensures drawn { OnOk result (TakesSheets (T.step t.old) (T.step t.new) draft.old.sheets.items draft.new.sheets.items) }
     ensures reached { (T.step t.new).reached ≡ (T.step t.old).reached }
-    ensures fault { IfErr result (λ fault. (page : ℕ) × (fault ≡ TreeFault.Broken page) × Shows (T.step t.old) (λ pages. BreaksGrowth entry.now (drafted draft.old.sheets.items pages) 0 child.now page)) }
+    ensures failed { IfErr result (RefusesEntry T.Pages entry.now t.old t.new draft.old.sheets.items child.now) }
 {
     if entry_in(entries, &entry.key).is_some() {
         return Err(TreeFault::Broken(child.page));

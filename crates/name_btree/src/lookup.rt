@@ -9,7 +9,7 @@ ghost use Rattle.name_page.specs.Cut.{after_cut, is_before};
 ghost use Rattle.name_btree.specs.Fault.{outer_told, FailsBeside, FailsLookup};
 ghost use Rattle.name_btree.specs.Path.{HasAll, HasPath, StaysBeside, StaysOnPath, met_beside};
 ghost use Rattle.name_page.specs.Lookups.{entry_with, entry_after, highest_of, last_that, same_name};
-ghost use Rattle.name_btree.specs.Lookup.{entry_of, IsFirstBelow, IsLastBelow, TellsAt, TellsNewest, TellsNext};
+ghost use Rattle.name_btree.specs.Lookup.{found_entry, IsFirstBelow, IsLastBelow, TellsAt, TellsNewest, TellsLater};
 ghost use Rattle.name_page.specs.declared.pages.TheConstants.{MOST_REACHED};
 ghost use Rattle.name_page.specs.Looks.{OnlyReaches};
 ghost use Rattle.name_page.specs.Pages.{reaches};
@@ -57,7 +57,7 @@ pub fn find<T: Pages>(t: &mut T, key: &Key) -> Result<Option<FoundEntry>, TreeFa
     ensures calls { OnlyReaches T.Pages (outer_told result) t.old t.new }
     ensures reaches { reaches (T.step t.old) ≤ reaches (T.step t.new) + 6 }
     ensures told { IfOk result (TellsAt (T.step t.new) key.now) }
-    ensures found { IfOk result (λ found. T.trusted t.new → (height : ℕ) → IsTree (T.step t.old).images height → entry_of found ≡ entry_with key.now (table_of (T.step t.old).images height)) }
+    ensures found { IfOk result (λ found. T.trusted t.new → (height : ℕ) → IsTree (T.step t.old).images height → found_entry found ≡ entry_with key.now (table_of (T.step t.old).images height)) }
     ensures failed { IfErr result (FailsLookup T.Pages t.old t.new) }
 {
     let found = leaf_at(t, key)?;
@@ -163,9 +163,9 @@ pub fn next_after<T: Pages>(t: &mut T, after: Option<&Key>) -> Result<Option<Fou
     requires { MOST_REACHED ≤ reaches (T.step t.old) }
     ensures calls { OnlyReaches T.Pages (outer_told result) t.old t.new }
     ensures reaches { reaches (T.step t.old) ≤ reaches (T.step t.new) + 12 }
-    ensures told { IfOk result (TellsNext (T.step t.new) (option_copied after.entry)) }
+    ensures told { IfOk result (TellsLater (T.step t.new) (option_copied after.entry)) }
     ensures found { IfOk result (λ found. T.trusted t.new → (height : ℕ) → IsTree (T.step t.old).images height
-        → entry_of found ≡ entry_after (option_copied after.entry) (table_of (T.step t.old).images height)) }
+        → found_entry found ≡ entry_after (option_copied after.entry) (table_of (T.step t.old).images height)) }
     ensures failed { IfErr result (FailsLookup T.Pages t.old t.new) }
 {
     let cut = cut_after(after);
@@ -188,7 +188,7 @@ pub fn highest<T: Pages>(t: &mut T, name: &FileName) -> Result<Option<FoundEntry
     ensures reaches { reaches (T.step t.old) ≤ reaches (T.step t.new) + 12 }
     ensures memory { HasPath T.Pages name.now t.old → StaysOnPath T.Pages t.old t.new result }
     ensures told { IfOk result (TellsNewest (T.step t.new) name.now) }
-    ensures found { IfOk result (λ found. T.trusted t.new → (height : ℕ) → IsTree (T.step t.old).images height → entry_of found ≡ highest_of name.now (table_of (T.step t.old).images height)) }
+    ensures found { IfOk result (λ found. T.trusted t.new → (height : ℕ) → IsTree (T.step t.old).images height → found_entry found ≡ highest_of name.now (table_of (T.step t.old).images height)) }
     ensures failed { IfErr result (FailsLookup T.Pages t.old t.new) }
 {
     let cut = Cut::Named(name.copied());

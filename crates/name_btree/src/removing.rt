@@ -1,14 +1,15 @@
 //! Taking entries out.
-ghost use Rattle.std.specs.Prelude.{◌≡◌, ◌+◌, ◌*◌, ◌<◌, ◌≤◌, ℕ, OnOk, OnErr, IfOk, IfErr, length, true};
+ghost use Rattle.std.specs.Prelude.{◌≡◌, ◌+◌, ◌*◌, ◌≤◌, ℕ, OnOk, IfOk, IfErr, length, true};
 ghost use Rattle.fsd_table.specs.Tree.{table_of};
-ghost use Rattle.name_btree.specs.Draft.{drafted, IsDraft, RemovesFrom};
-ghost use Rattle.name_btree.specs.Fault.{outer_told, FailsBy, FailsTable, IsNoTree, IsAmong};
+ghost use Rattle.name_btree.specs.Draft.{drafted, IsTreeDraft, RemovesFrom};
+ghost use Rattle.name_btree.specs.Change.{ChangesTable, SpendsAtMost};
+ghost use Rattle.name_btree.specs.Fault.{outer_told, FailsAmong, FailsBy, IsNoTree};
 ghost use Rattle.name_btree.specs.Map.{IsTable, HasTable};
-ghost use Rattle.name_btree.specs.Remove.{IsTrimmedBelow, BreaksAround, IsRootLeft};
-ghost use Rattle.name_btree.specs.Trim.{MayHave, IsLeft, sheets_below};
+ghost use Rattle.name_btree.specs.Remove.{IsTrimmedBelow, BreaksAround, MayBeLeft, TrimsDraft};
+ghost use Rattle.name_btree.specs.Trim.{sheets_below};
 ghost use Rattle.name_page.specs.Edits.{without};
 ghost use Rattle.name_page.specs.declared.pages.TheConstants.{MOST_CHANGED, MOST_REACHED};
-ghost use Rattle.name_page.specs.Looks.{ChangesPages, OnlyReaches, OnlyEdits, OnlyWalks, Shows};
+ghost use Rattle.name_page.specs.Looks.{OnlyReaches, Shows};
 ghost use Rattle.name_page.specs.Pages.{reaches, changes, is_spare};
 
 use crate::draft::Draft;
@@ -26,15 +27,11 @@ use name_page::{Cut, Node, Pages, entries_without, ways_before};
 pub fn remove<T: Pages>(t: &mut T, key: &Key) -> Result<(), TreeFault>
     requires more { MOST_REACHED ≤ reaches (T.step t.old) }
     requires changes { MOST_CHANGED ≤ changes (T.step t.old) }
-    ensures calls { OnlyEdits T.Pages (outer_told result) t.old t.new }
-    ensures pages { ChangesPages (T.step t.old) (T.step t.new) }
-    ensures kept { OnErr result (OnlyWalks T.Pages (outer_told result) t.old t.new) }
-    ensures reaches { reaches (T.step t.old) ≤ reaches (T.step t.new) + 12 }
-    ensures changes { changes (T.step t.old) ≤ changes (T.step t.new) + 8 }
+    ensures edits { ChangesTable T.Pages t.old t.new result }
+    ensures spent { SpendsAtMost 12 8 (T.step t.old) (T.step t.new) }
     ensures taken { (page : ℕ) → is_spare (T.step t.old).spares page ≡ true → is_spare (T.step t.new).spares page ≡ true }
-    ensures among { 0 < length (T.step t.old).images → IfErr result (IsAmong (length (T.step t.old).images)) }
     ensures removed { OnOk result (T.trusted t.new → (height : ℕ) → IsTable (T.step t.old) height → HasTable (T.step t.new) (without key.now (table_of (T.step t.old).images height))) }
-    ensures fault { IfErr result (FailsTable T.Pages t.new) }
+    ensures failed { IfErr result (FailsAmong T.Pages t.old t.new) }
 {
     let mut draft = Draft::new();
     if let Err(fault) = remove_in(t, &mut draft, key) {
@@ -47,14 +44,12 @@ pub fn remove<T: Pages>(t: &mut T, key: &Key) -> Result<(), TreeFault>
 // Takes the entry with a key out of the drafted pages.
 pub(crate) fn remove_in<T: Pages>(t: &mut T, draft: &mut Draft, key: &Key) -> Result<(), TreeFault>
     requires more { 12 ≤ reaches (T.step t.old) }
-    requires draft { IsDraft (T.step t.old) draft.old }
+    requires draft { IsTreeDraft (T.step t.old) draft.old }
     requires room { length draft.old.sheets.items ≤ 32 }
     requires free { length draft.old.freed.items ≤ 14 }
     ensures calls { OnlyReaches T.Pages (outer_told result) t.old t.new }
     ensures reaches { reaches (T.step t.old) ≤ reaches (T.step t.new) + 12 }
-    ensures draft { OnOk result (IsDraft (T.step t.new) draft.new) }
-    ensures sheets { OnOk result (length draft.new.sheets.items ≤ length draft.old.sheets.items + 8) }
-    ensures freed { OnOk result (length draft.new.freed.items ≤ length draft.old.freed.items + 6) }
+    ensures drafted { OnOk result (TrimsDraft (T.step t.new) draft.old draft.new 8 6) }
     ensures removed { OnOk result (Shows (T.step t.new) (λ pages. RemovesFrom pages draft.old draft.new key.now)) }
     ensures fault { IfErr result (FailsBy (T.step t.new) (λ pages page. IsNoTree (drafted draft.old.sheets.items pages))) }
 {
@@ -75,17 +70,13 @@ fn remove_below<T: Pages>(
 ) -> Result<Trimmed, TreeFault>
     requires levels { levels ≤ 5 }
     requires more { 2 * levels + 1 ≤ reaches (T.step t.old) }
-    requires draft { IsDraft (T.step t.old) draft.old }
+    requires draft { IsTreeDraft (T.step t.old) draft.old }
     requires room { length draft.old.sheets.items + levels ≤ 38 }
     requires free { length draft.old.freed.items + levels ≤ 20 }
     ensures calls { OnlyReaches T.Pages (outer_told result) t.old t.new }
     ensures reaches { reaches (T.step t.old) ≤ reaches (T.step t.new) + (2 * levels + 1) }
-    ensures draft { OnOk result (IsDraft (T.step t.new) draft.new) }
-    ensures sheets { IfOk result (λ left. length draft.new.sheets.items ≤ length draft.old.sheets.items + sheets_below levels left) }
-    ensures freed { OnOk result (length draft.new.freed.items ≤ length draft.old.freed.items + levels) }
-    ensures page { OnOk result (MayHave (T.step t.new) child.now.page) }
-    ensures left { IfOk result (IsLeft (length (T.step t.old).images) child.now) }
-    ensures root { IfOk result (IsRootLeft child.now.page) }
+    ensures drafted { IfOk result (λ left. TrimsDraft (T.step t.new) draft.old draft.new (sheets_below levels left) levels) }
+    ensures left { IfOk result (MayBeLeft (T.step t.new) (length (T.step t.old).images) child.now) }
     ensures trimmed { IfOk result (λ left. Shows (T.step t.new) (λ pages. IsTrimmedBelow key.now (drafted draft.old.sheets.items pages) (drafted draft.new.sheets.items pages) draft.old.freed.items draft.new.freed.items levels child.now left)) }
     ensures fault { IfErr result (FailsBy (T.step t.new) (λ pages. BreaksAround key.now (drafted draft.old.sheets.items pages) levels child.now)) }
 {

@@ -1,16 +1,11 @@
 //! Replacing an entry.
-ghost use Rattle.std.specs.Prelude.{◌≡◌, ◌<◌, ◌≤◌, ◌+◌, ℕ, IsTrue, IfErr, OnErr, OnOk, Some, true, false, length, map};
-ghost use Rattle.fsd_bytes.specs.declared.refusal.Refusal.TheVariants.{Memory};
-ghost use Rattle.fsd_formats.specs.declared.entry.Entry.{Entry};
+ghost use Rattle.std.specs.Prelude.{◌≡◌, ◌≤◌, ◌+◌, ℕ, IsTrue, IfErr, OnOk, true, false};
 ghost use Rattle.fsd_formats.specs.NamePage.{is_entry, FitsEntry};
 ghost use Rattle.fsd_table.specs.Tree.{IsTree, table_of};
-ghost use Rattle.name_btree.specs.Fault.{outer_told, FailsTable, IsAmong};
-ghost use Rattle.name_btree.specs.Map.{IsTable, HasTable};
-ghost use Rattle.name_page.specs.Edits.{put};
-ghost use Rattle.name_btree.specs.Path.{HasWayTo};
-ghost use Rattle.name_btree.specs.Replace.{HasAsLong, IsAsLong, HasEdit, WritesOne};
+ghost use Rattle.name_btree.specs.Change.{ChangesTable};
+ghost use Rattle.name_btree.specs.Fault.{outer_told, FailsAmong};
+ghost use Rattle.name_btree.specs.Replace.{HasAsLong, NeedsNoneFor, ReplacesEntry, WritesPage};
 ghost use Rattle.name_page.specs.declared.pages.TheConstants.{MOST_CHANGED, MOST_REACHED};
-ghost use Rattle.name_page.specs.Looks.{ChangesPages, HasAllIn, OnlyEdits, OnlyWalks};
 ghost use Rattle.name_page.specs.Pages.{reaches, changes};
 
 use crate::descent::leaf_below;
@@ -40,18 +35,12 @@ pub fn replace_same_size<T: Pages>(t: &mut T, entry: &Entry) -> Result<(), TreeF
     requires entry { IsTrue (is_entry entry.now) }
     requires fits { FitsEntry entry.now }
     requires present { T.trusted t.old → (height : ℕ) → IsTree (T.step t.old).images height → HasAsLong entry.now (table_of (T.step t.old).images height) }
-    ensures calls { OnlyEdits T.Pages (outer_told result) t.old t.new }
-    ensures pages { ChangesPages (T.step t.old) (T.step t.new) }
-    ensures kept { OnErr result (OnlyWalks T.Pages (outer_told result) t.old t.new) }
-    ensures memory { (old : Entry) → IsAsLong entry.now old → HasWayTo T.Pages old t.old → outer_told result ≡ Some Memory → ⊥ }
-    ensures full { HasAllIn T.Pages t.old → outer_told result ≡ Some Memory → ⊥ }
-    ensures written { OnOk result (WritesOne T.Pages t.old t.new) }
+    ensures edits { ChangesTable T.Pages t.old t.new result }
+    ensures memory { NeedsNoneFor T.Pages entry.now (outer_told result) t.old }
+    ensures written { OnOk result (WritesPage T.Pages t.old t.new) }
     ensures reaches { reaches (T.step t.old) ≤ reaches (T.step t.new) + 6 }
-    ensures among { 0 < length (T.step t.old).images → IfErr result (IsAmong (length (T.step t.old).images)) }
-    // Of each tree, also beside pages that are not spare, comes one of the same height and pages.
-    ensures tree { OnOk result (T.trusted t.new → (height : ℕ) → IsTree (T.step t.old).images height → HasEdit (map (put entry.now)) (T.step t.old).images (T.step t.new).images height) }
-    ensures replaced { OnOk result (T.trusted t.new → (height : ℕ) → IsTable (T.step t.old) height → HasTable (T.step t.new) (map (put entry.now) (table_of (T.step t.old).images height))) }
-    ensures fault { IfErr result (FailsTable T.Pages t.new) }
+    ensures replaced { OnOk result (ReplacesEntry T.Pages entry.now t.old t.new) }
+    ensures failed { IfErr result (FailsAmong T.Pages t.old t.new) }
 {
     let found = match leaf_below(t, top(), 0, &Cut::UpTo(entry.key.copied())) {
         Ok(found) => found,

@@ -6,10 +6,10 @@ ghost use Rattle.fsd_formats.specs.NamePage.{is_page, room, FitsEntry, FitsSepar
 ghost use Rattle.fsd_formats.specs.NamePage as grammar;
 ghost use Rattle.fsd_table.specs.Pages.{page_at, children, entry_keys, separator_keys};
 ghost use Rattle.name_btree.specs.declared.trimming.Trimmed.TheVariants.{Whole};
-ghost use Rattle.name_btree.specs.Draft.{drafted, IsDraft, IsDrafted, with_freed};
+ghost use Rattle.name_btree.specs.Draft.{drafted, IsTreeDraft, IsDrafted, with_freed};
 ghost use Rattle.name_btree.specs.Fault.{outer_told, FailsBy};
 ghost use Rattle.name_btree.specs.Remove.{IsRootLeft};
-ghost use Rattle.name_btree.specs.Trim.{IsFreeOrNone, child_of, AreEntries, AreWays, MayHave, IsOpened, AreFewEntries, AreFewWays, IsLeafPut, AreWaysPut, IsPair, pair_fits, IsBetween, separators_joined, separators_shared, AreLeavesMended, AreWaysMended, entries_at, ways_at, first_at, right_at, is_behind, LeafIsMended, WayIsMended, HasNoLeaf, HasNoWays, IsLeft, IsMended, IsUnlike, IsTakenOver};
+ghost use Rattle.name_btree.specs.Trim.{IsFreeOrNone, child_of, AreEntries, AreWays, MayHave, IsOpenedPage, AreFewEntries, AreFewWays, IsLeafPut, AreWaysPut, IsPair, pair_fits, IsBetween, separators_joined, separators_shared, AreLeavesMended, AreWaysMended, both_entries, ways_at, first_at, right_at, is_behind, LeafIsMended, WayIsMended, HasNoLeaf, HasNoWays, IsLeft, IsTrimmedAbove, IsUnlike, IsTakenOver};
 ghost use Rattle.name_page.specs.declared.node.Node.TheVariants.{Free};
 ghost use Rattle.name_page.specs.Node.{content_of};
 ghost use Rattle.name_page.specs.declared.pages.TheConstants.{MOST_CHANGED};
@@ -61,11 +61,11 @@ pub(crate) fn trim_leaf<T: Pages>(
     entries: EntryList,
 ) -> Trimmed
     requires room { length draft.old.sheets.items < MOST_CHANGED }
-    requires draft { IsDraft (T.step t.now) draft.old }
+    requires draft { IsTreeDraft (T.step t.now) draft.old }
     requires page { MayHave (T.step t.now) page }
     requires entries { AreEntries entries.items }
     requires most { used_by entries.items ≤ room }
-    ensures draft { IsDraft (T.step t.now) draft.new }
+    ensures draft { IsTreeDraft (T.step t.now) draft.new }
     ensures freed { draft.new.freed.items ≡ draft.old.freed.items }
     ensures put { IsLeafPut (T.step t.now) draft.old.sheets.items draft.new.sheets.items page entries.items result }
     ensures root { IsRootLeft page result }
@@ -86,12 +86,12 @@ fn trim_ways<T: Pages>(
     separators: SeparatorList,
 ) -> Trimmed
     requires room { length draft.old.sheets.items < MOST_CHANGED }
-    requires draft { IsDraft (T.step t.now) draft.old }
+    requires draft { IsTreeDraft (T.step t.now) draft.old }
     requires page { MayHave (T.step t.now) page }
     requires ways { AreWays (length (T.step t.now).images) first separators.items }
     requires fits { AllByRecursion FitsSeparator separators.items }
     requires most { length separators.items ≤ 9 }
-    ensures draft { IsDraft (T.step t.now) draft.new }
+    ensures draft { IsTreeDraft (T.step t.now) draft.new }
     ensures freed { draft.new.freed.items ≡ draft.old.freed.items }
     ensures put { AreWaysPut (T.step t.now) draft.old.sheets.items draft.new.sheets.items page first separators.items result }
 {
@@ -129,12 +129,12 @@ fn pair_with(ways: &Ways, i: u32, above: &Child) -> Pair
 fn join_pair<T: Pages>(t: &T, draft: &mut Draft, above: &Child, ways: &Ways, pair: Pair) -> Trimmed
     requires room { length draft.old.sheets.items < MOST_CHANGED }
     requires freed { length draft.old.freed.items < 20 }
-    requires draft { IsDraft (T.step t.now) draft.old }
+    requires draft { IsTreeDraft (T.step t.now) draft.old }
     requires page { MayHave (T.step t.now) above.now.page }
     requires right { MayHave (T.step t.now) pair.right }
-    requires ways { IsOpened (length (T.step t.now).images) above.now ways.now.0 ways.now.1 }
+    requires ways { IsOpenedPage (length (T.step t.now).images) above.now ways.now.0 ways.now.1 }
     requires pair { IsPair above.now ways.now.0 ways.now.1 pair }
-    ensures draft { IsDraft (T.step t.now) draft.new }
+    ensures draft { IsTreeDraft (T.step t.now) draft.new }
     ensures freed { draft.new.freed.items ≡ with_freed pair.right draft.old.freed.items }
     ensures put { AreWaysPut (T.step t.now) draft.old.sheets.items draft.new.sheets.items above.now.page ways.now.0 (separators_joined ways.now.1 pair) result }
 {
@@ -158,15 +158,15 @@ fn share_pair<T: Pages>(
     key: Key,
 ) -> Trimmed
     requires room { length draft.old.sheets.items < MOST_CHANGED }
-    requires draft { IsDraft (T.step t.now) draft.old }
+    requires draft { IsTreeDraft (T.step t.now) draft.old }
     requires page { MayHave (T.step t.now) above.now.page }
     requires right { IsReached (T.step t.now) pair.right }
-    requires ways { IsOpened (length (T.step t.now).images) above.now ways.now.0 ways.now.1 }
+    requires ways { IsOpenedPage (length (T.step t.now).images) above.now ways.now.0 ways.now.1 }
     requires pair { IsPair above.now ways.now.0 ways.now.1 pair }
     requires key { is_key key ≡ true }
     requires fits { FitsSeparator (record { key = key; child = pair.right }) }
     requires between { IsBetween above.now ways.now.0 ways.now.1 pair key }
-    ensures draft { IsDraft (T.step t.now) draft.new }
+    ensures draft { IsTreeDraft (T.step t.now) draft.new }
     ensures freed { draft.new.freed.items ≡ draft.old.freed.items }
     ensures put { IsDrafted (T.step t.now) draft.old.sheets.items draft.new.sheets.items above.now.page (grammar.Interior ways.now.0 (separators_shared ways.now.1 pair key)) }
     ensures whole { result ≡ Whole }
@@ -191,18 +191,18 @@ fn put_leaves<T: Pages>(
 ) -> Trimmed
     requires room { length draft.old.sheets.items ≤ 37 }
     requires freed { length draft.old.freed.items < 20 }
-    requires draft { IsDraft (T.step t.now) draft.old }
+    requires draft { IsTreeDraft (T.step t.now) draft.old }
     requires page { MayHave (T.step t.now) above.now.page }
     requires left { MayHave (T.step t.now) pair.left }
     requires right { MayHave (T.step t.now) pair.right }
-    requires ways { IsOpened (length (T.step t.now).images) above.now ways.now.0 ways.now.1 }
+    requires ways { IsOpenedPage (length (T.step t.now).images) above.now ways.now.0 ways.now.1 }
     requires pair { IsPair above.now ways.now.0 ways.now.1 pair }
     requires few { length list.now ≤ 38 }
     requires entries { AreEntries list.now }
     requires least { LEAST_USED ≤ used_by list.now }
     requires most { used_by list.now ≤ room + LEAST_USED }
     requires within { pair_fits above.now ways.now.0 ways.now.1 pair (entry_keys list.now) ≡ true }
-    ensures draft { IsDraft (T.step t.now) draft.new }
+    ensures draft { IsTreeDraft (T.step t.now) draft.new }
     ensures put { AreLeavesMended (T.step t.now) draft.old draft.new above.now.page ways.now.0 ways.now.1 pair list.now result }
 {
     let whole = used(list);
@@ -228,11 +228,11 @@ fn put_interiors<T: Pages>(
 ) -> Trimmed
     requires room { length draft.old.sheets.items ≤ 37 }
     requires freed { length draft.old.freed.items < 20 }
-    requires draft { IsDraft (T.step t.now) draft.old }
+    requires draft { IsTreeDraft (T.step t.now) draft.old }
     requires page { MayHave (T.step t.now) above.now.page }
     requires left { MayHave (T.step t.now) pair.left }
     requires right { MayHave (T.step t.now) pair.right }
-    requires ways { IsOpened (length (T.step t.now).images) above.now ways.now.0 ways.now.1 }
+    requires ways { IsOpenedPage (length (T.step t.now).images) above.now ways.now.0 ways.now.1 }
     requires pair { IsPair above.now ways.now.0 ways.now.1 pair }
     requires list { AreWays (length (T.step t.now).images) joined.now.first joined.now.list.items }
     requires fits { AllByRecursion FitsSeparator joined.now.list.items }
@@ -242,7 +242,7 @@ fn put_interiors<T: Pages>(
     requires behind { 8 < length joined.now.list.items → cut + 5 ≤ length joined.now.list.items }
     requires most { 8 < length joined.now.list.items → length joined.now.list.items ≤ cut + 10 }
     requires within { pair_fits above.now ways.now.0 ways.now.1 pair (separator_keys joined.now.list.items) ≡ true }
-    ensures draft { IsDraft (T.step t.now) draft.new }
+    ensures draft { IsTreeDraft (T.step t.now) draft.new }
     ensures put { AreWaysMended (T.step t.now) draft.old draft.new above.now.page ways.now.0 ways.now.1 pair joined.now.first joined.now.list.items result }
 {
     let list = joined.list.as_slice();
@@ -263,7 +263,7 @@ fn leaves_joined(i: u32, few: &[Entry], others: &[Entry]) -> JoinedList
     requires room { length few.now + length others.now ≤ 38 }
     requires few { AllByRecursion FitsEntry few.now }
     requires others { AllByRecursion FitsEntry others.now }
-    ensures { result.items ≡ entries_at i few.now others.now }
+    ensures { result.items ≡ both_entries i few.now others.now }
 {
     if i == 0 {
         joined(few, others)
@@ -285,15 +285,15 @@ pub(crate) fn mend_leaf<T: Pages>(
     requires more { 0 < reaches (T.step t.old) }
     requires room { length draft.old.sheets.items ≤ 37 }
     requires free { length draft.old.freed.items < 20 }
-    requires draft { IsDraft (T.step t.old) draft.old }
+    requires draft { IsTreeDraft (T.step t.old) draft.old }
     requires page { MayHave (T.step t.old) above.now.page }
-    requires ways { IsOpened (length (T.step t.old).images) above.now ways.now.0 ways.now.1 }
+    requires ways { IsOpenedPage (length (T.step t.old).images) above.now ways.now.0 ways.now.1 }
     requires within { i ≤ length ways.now.1 }
     requires below { MayHave (T.step t.old) (child_of above.now ways.now.0 ways.now.1 i).page }
     requires few { AreFewEntries (child_of above.now ways.now.0 ways.now.1 i) few.now.items }
     ensures calls { OnlyReaches T.Pages (outer_told result) t.old t.new }
     ensures reaches { reaches (T.step t.old) ≤ reaches (T.step t.new) + 1 }
-    ensures draft { OnOk result (IsDraft (T.step t.new) draft.new) }
+    ensures draft { OnOk result (IsTreeDraft (T.step t.new) draft.new) }
     ensures mended { IfOk result (λ left. Shows (T.step t.new) (λ pages. LeafIsMended (with_images pages (T.step t.new)) draft.old draft.new above.now ways.now.0 ways.now.1 i few.now.items left)) }
     ensures fault { IfErr result (FailsBy (T.step t.new) (λ pages. HasNoLeaf (drafted draft.old.sheets.items pages) (children ways.now.0 above.now.low above.now.high ways.now.1) i)) }
 {
@@ -402,15 +402,15 @@ pub(crate) fn mend_ways<T: Pages>(
     requires more { 0 < reaches (T.step t.old) }
     requires room { length draft.old.sheets.items ≤ 37 }
     requires free { length draft.old.freed.items < 20 }
-    requires draft { IsDraft (T.step t.old) draft.old }
+    requires draft { IsTreeDraft (T.step t.old) draft.old }
     requires page { MayHave (T.step t.old) above.now.page }
-    requires ways { IsOpened (length (T.step t.old).images) above.now ways.now.0 ways.now.1 }
+    requires ways { IsOpenedPage (length (T.step t.old).images) above.now ways.now.0 ways.now.1 }
     requires within { i ≤ length ways.now.1 }
     requires below { MayHave (T.step t.old) (child_of above.now ways.now.0 ways.now.1 i).page }
     requires few { AreFewWays (length (T.step t.old).images) (child_of above.now ways.now.0 ways.now.1 i) first few.now.items }
     ensures calls { OnlyReaches T.Pages (outer_told result) t.old t.new }
     ensures reaches { reaches (T.step t.old) ≤ reaches (T.step t.new) + 1 }
-    ensures draft { OnOk result (IsDraft (T.step t.new) draft.new) }
+    ensures draft { OnOk result (IsTreeDraft (T.step t.new) draft.new) }
     ensures mended { IfOk result (λ left. Shows (T.step t.new) (λ pages. WayIsMended (with_images pages (T.step t.new)) draft.old draft.new above.now ways.now.0 ways.now.1 i first few.now.items left)) }
     ensures fault { IfErr result (FailsBy (T.step t.new) (λ pages. HasNoWays (drafted draft.old.sheets.items pages) above.now ways.now.0 ways.now.1 i few.now.items)) }
 {
@@ -440,16 +440,16 @@ pub(crate) fn trim_above<T: Pages>(
     requires more { 0 < reaches (T.step t.old) }
     requires room { below ≢ Whole → length draft.old.sheets.items ≤ 37 }
     requires free { length draft.old.freed.items < 20 }
-    requires draft { IsDraft (T.step t.old) draft.old }
+    requires draft { IsTreeDraft (T.step t.old) draft.old }
     requires page { MayHave (T.step t.old) above.now.page }
-    requires ways { IsOpened (length (T.step t.old).images) above.now ways.now.0 ways.now.1 }
+    requires ways { IsOpenedPage (length (T.step t.old).images) above.now ways.now.0 ways.now.1 }
     requires within { i ≤ length ways.now.1 }
     requires below { MayHave (T.step t.old) (child_of above.now ways.now.0 ways.now.1 i).page }
     requires left { IsLeft (length (T.step t.old).images) (child_of above.now ways.now.0 ways.now.1 i) below }
     ensures calls { OnlyReaches T.Pages (outer_told result) t.old t.new }
     ensures reaches { reaches (T.step t.old) ≤ reaches (T.step t.new) + 1 }
-    ensures draft { OnOk result (IsDraft (T.step t.new) draft.new) }
-    ensures mended { IfOk result (λ left. Shows (T.step t.new) (λ pages. IsMended (with_images pages (T.step t.new)) draft.old draft.new above.now ways.now.0 ways.now.1 i below left)) }
+    ensures draft { OnOk result (IsTreeDraft (T.step t.new) draft.new) }
+    ensures mended { IfOk result (λ left. Shows (T.step t.new) (λ pages. IsTrimmedAbove (with_images pages (T.step t.new)) draft.old draft.new above.now ways.now.0 ways.now.1 i below left)) }
     ensures fault { IfErr result (FailsBy (T.step t.new) (λ pages. IsUnlike (drafted draft.old.sheets.items pages) above.now ways.now.0 ways.now.1 i below)) }
 {
     match below {
@@ -462,12 +462,12 @@ pub(crate) fn trim_above<T: Pages>(
 // Page 0 has what another page has.
 fn put_on_top<T: Pages>(t: &T, draft: &mut Draft, node: &Node)
     requires room { length draft.old.sheets.items < MOST_CHANGED }
-    requires draft { IsDraft (T.step t.now) draft.old }
+    requires draft { IsTreeDraft (T.step t.now) draft.old }
     requires top { MayHave (T.step t.now) 0 }
     requires some { node.now ≢ Free }
     requires page { (page : ℕ) × (is_page page (length (T.step t.now).images) (content_of node.now) ≡ true) }
     requires there { (pages : List (List ℕ)) × (page : ℕ) × (page_at pages page ≡ Some (content_of node.now)) }
-    ensures draft { IsDraft (T.step t.now) draft.new }
+    ensures draft { IsTreeDraft (T.step t.now) draft.new }
     ensures freed { draft.new.freed.items ≡ draft.old.freed.items }
     ensures put { IsDrafted (T.step t.now) draft.old.sheets.items draft.new.sheets.items 0 (content_of node.now) }
 {
@@ -485,12 +485,12 @@ pub(crate) fn take_over<T: Pages>(t: &mut T, draft: &mut Draft, child: u32) -> R
     requires more { 0 < reaches (T.step t.old) }
     requires room { length draft.old.sheets.items < MOST_CHANGED }
     requires free { length draft.old.freed.items < 20 }
-    requires draft { IsDraft (T.step t.old) draft.old }
+    requires draft { IsTreeDraft (T.step t.old) draft.old }
     requires top { MayHave (T.step t.old) 0 }
     requires within { child < length (T.step t.old).images }
     ensures calls { OnlyReaches T.Pages (outer_told result) t.old t.new }
     ensures reaches { reaches (T.step t.old) ≤ reaches (T.step t.new) + 1 }
-    ensures draft { OnOk result (IsDraft (T.step t.new) draft.new) }
+    ensures draft { OnOk result (IsTreeDraft (T.step t.new) draft.new) }
     ensures taken { OnOk result (Shows (T.step t.new) (λ pages. IsTakenOver (with_images pages (T.step t.new)) draft.old draft.new child)) }
     ensures fault { IfErr result (FailsBy (T.step t.new) (λ pages page. IsFreeOrNone (page_at (drafted draft.old.sheets.items pages) child))) }
 {

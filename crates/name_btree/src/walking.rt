@@ -2,9 +2,9 @@
 ghost use Rattle.std.specs.List.{AllByRecursion};
 ghost use Rattle.std.specs.Prelude.{◌≡◌, ◌<◌, ◌≤◌, IfOk, IfErr, [], ◌∷◌, Some, true, length, not, slice_get, slice_set, if◌then◌else◌};
 ghost use Rattle.fsd_table.specs.Pages.{children};
-ghost use Rattle.name_btree.specs.Fault.{outer_told, FailsTable, IsAmong};
+ghost use Rattle.name_btree.specs.Fault.{outer_told, FailsAmong, IsAmong};
 ghost use Rattle.name_btree.specs.Still.{HasRefusal};
-ghost use Rattle.name_btree.specs.Walk.{AreMarksOf, KeepsMarks, is_marked, IsWalked, AreWalked, FailsWalk, IsTopLevel, IsCounted};
+ghost use Rattle.name_btree.specs.Walk.{AreMarksOf, KeepsMarks, MarksPage, is_marked, IsWalkedSubtree, AreWalked, FailsOver, IsTopLevel, IsCountedTree};
 ghost use Rattle.name_page.specs.Looks.{NeedsNoMore, OnlyWalks};
 ghost use Rattle.name_page.specs.Pages.{rested};
 
@@ -56,8 +56,7 @@ pub(crate) fn top_level<T: Pages>(t: &mut T) -> Result<u32, TreeFault>
     ensures memory { NeedsNoMore T.Pages (outer_told result) t.old t.new }
     ensures low { IfOk result (λ level. level ≤ 5) }
     ensures level { IfOk result (λ level. T.trusted t.new → IsTopLevel (T.step t.old).images level) }
-    ensures fault { IfErr result (FailsTable T.Pages t.new) }
-    ensures among { 0 < length (T.step t.old).images → IfErr result (IsAmong (length (T.step t.old).images)) }
+    ensures failed { IfErr result (FailsAmong T.Pages t.old t.new) }
     ensures refused { IfErr result (HasRefusal (rested (T.step t.new)) (T.step t.new)) }
 {
     let mut child = top();
@@ -85,11 +84,9 @@ fn walk_below<T: Pages>(
     ensures calls { OnlyWalks T.Pages (outer_told result) t.old t.new }
     ensures memory { NeedsNoMore T.Pages (outer_told result) t.old t.new }
     ensures among { child.now.page < length (T.step t.old).images → IfErr result (IsAmong (length (T.step t.old).images)) }
-    ensures marked { is_marked reached.new child.now.page ≡ true }
-    ensures kept { KeepsMarks reached.old reached.new }
-    ensures walked { IfOk result (λ count. T.trusted t.new → IsWalked (T.step t.old).spares level (T.step t.old).images child.now reached.old reached.new count) }
-    ensures fault { IfErr result (FailsWalk T.Pages t.new level (child.now ∷ []) reached.old) }
-    ensures refused { IfErr result (HasRefusal (rested (T.step t.new)) (T.step t.new)) }
+    ensures marks { MarksPage child.now.page reached.old reached.new }
+    ensures walked { IfOk result (λ count. T.trusted t.new → IsWalkedSubtree (T.step t.old).spares level (T.step t.old).images child.now reached.old reached.new count) }
+    ensures failed { IfErr result (FailsOver T.Pages t.new level (child.now ∷ []) reached.old) }
 {
     if !is_new(reached, child.page) {
         return Err(TreeFault::Broken(child.page));
@@ -118,8 +115,7 @@ fn walk_children<T: Pages>(
     ensures among { AllByRecursion (λ c. c.page < length (T.step t.old).images) (children ways.now.0 above.now.low above.now.high ways.now.1) → IfErr result (IsAmong (length (T.step t.old).images)) }
     ensures kept { KeepsMarks reached.old reached.new }
     ensures walked { IfOk result (λ count. T.trusted t.new → AreWalked (T.step t.old).spares level (T.step t.old).images (children ways.now.0 above.now.low above.now.high ways.now.1) reached.old reached.new count) }
-    ensures fault { IfErr result (FailsWalk T.Pages t.new level (children ways.now.0 above.now.low above.now.high ways.now.1) reached.old) }
-    ensures refused { IfErr result (HasRefusal (rested (T.step t.new)) (T.step t.new)) }
+    ensures failed { IfErr result (FailsOver T.Pages t.new level (children ways.now.0 above.now.low above.now.high ways.now.1) reached.old) }
 {
     let mut count = 0u32;
     for i in 0..ways.len() + 1 {
@@ -139,10 +135,9 @@ pub fn walk<T: Pages>(t: &mut T, reached: &mut [bool]) -> Result<u32, TreeFault>
     requires clear { AreMarksOf [] reached.old }
     ensures calls { OnlyWalks T.Pages (outer_told result) t.old t.new }
     ensures memory { NeedsNoMore T.Pages (outer_told result) t.old t.new }
-    ensures among { 0 < length (T.step t.old).images → IfErr result (IsAmong (length (T.step t.old).images)) }
     ensures root { IfOk result (λ count. is_marked reached.new 0 ≡ true) }
-    ensures counted { IfOk result (λ count. T.trusted t.new → IsCounted (T.step t.old) reached.new count) }
-    ensures fault { IfErr result (FailsTable T.Pages t.new) }
+    ensures counted { IfOk result (λ count. T.trusted t.new → IsCountedTree (T.step t.old) reached.new count) }
+    ensures failed { IfErr result (FailsAmong T.Pages t.old t.new) }
     ensures refused { IfErr result (HasRefusal (rested (T.step t.new)) (T.step t.new)) }
 {
     let level = top_level(t)?;

@@ -13,7 +13,7 @@ use Rattle.name_page.specs.declared.pages.Pages.{Ghosts}
 use Rattle.name_page.specs.Lookups.{is_after}
 use Rattle.name_btree.specs.declared.fault.TreeFault.{TreeFault}
 use Rattle.name_btree.specs.declared.lookup.FoundEntry.{FoundEntry}
-use Rattle.name_btree.specs.Fault.{HasCause, BarsTable, IsOnWay, FailsTable}
+use Rattle.name_btree.specs.Fault.{HasTreeCause, BarsTable, IsOnWay, FailsTable}
 use Rattle.name_btree.proofs.CauseLaws.{cause_map}
 use Rattle.sector_set.specs.Area.{Area, AreIn}
 use Rattle.table_survey.specs.Claims.{whole_area, FailsClaims}
@@ -41,7 +41,7 @@ claim_breaks l pages height t after now p f entries way leaf there later unfit =
 
 module _ {D : Type 0} (P : Ghosts D) (new : D) (fault : TreeFault) where
   -- a look-up that fails
-  pub look_up_fails : (old : Area) → HasCause (P.step new) (BreaksTable (P.step new).images) (BarsTable (P.step new)) fault → FailsClaims P old new fault
+  pub look_up_fails : (old : Area) → HasTreeCause (P.step new) (BreaksTable (P.step new).images) (BarsTable (P.step new)) fault → FailsClaims P old new fault
   look_up_fails old h =
       let s = P.step new in
       cause_map s (BreaksTable s.images) (λ page. P.trusted new → (l : Layout) → old ≡ whole_area l → (height : ℕ) → IsTree s.images height → Breaks l s.images page)

@@ -13,7 +13,7 @@ use Rattle.fsd_table.proofs.BreakLaws.{tree_unbroken}
 use Rattle.fsd_table.proofs.VisitLaws.{tree_told}
 use Rattle.fsd_forest.proofs.LowLaws.{all_within}
 use Rattle.name_page.specs.Pages.{Step}
-use Rattle.name_btree.specs.Walk.{AreMarksOf, IsUsed, IsCounted}
+use Rattle.name_btree.specs.Walk.{AreMarksOf, IsUsed, IsCountedTree}
 use Rattle.sector_set.specs.Area.{Area}
 use Rattle.table_survey.specs.Claims.{IsClaimed, whole_area}
 use Rattle.table_survey.specs.Survey.{IsSurveyed}
@@ -27,7 +27,7 @@ claims_then l old free was now same whole claims height tree =
     subst (λ (m : Area). IsClaimed m (table_of was height) free) whole
     (subst (λ (pages : List (List ℕ)). IsClaimed old (table_of pages height) free) same (claims height (subst (λ (pages : List (List ℕ)). IsTree pages height) (sym same) tree)))
 
-module _ (l : Layout) (step : Step) (marks : List Bool) (free : Area) (versions : ℕ) (counted : IsCounted step marks versions)
+module _ (l : Layout) (step : Step) (marks : List Bool) (free : Area) (versions : ℕ) (counted : IsCountedTree step marks versions)
     (claims : (height : ℕ) → IsTree step.images height → IsClaimed (whole_area l) (table_of step.images height) free) where
   abbrev table : List Entry
   table = table_of step.images counted.height

@@ -13,7 +13,7 @@ use Rattle.name_page.specs.declared.pages.Pages.{Ghosts}
 use Rattle.name_btree.specs.declared.fault.TreeFault.{TreeFault}
 use Rattle.name_btree.specs.declared.fault.TreeFault.TheVariants.{Broken}
 use Rattle.name_btree.specs.declared.lookup.FoundEntry.{FoundEntry}
-use Rattle.name_btree.specs.Fault.{HasCause, BarsTable}
+use Rattle.name_btree.specs.Fault.{HasTreeCause, BarsTable}
 use Rattle.sector_set.specs.Area.{Area, area, AreIn}
 
 -- the whole data area
@@ -27,12 +27,12 @@ pub record IsClaimed (old : Area) (entries : List Entry) (new : Area) : Type 0 w
   pub left : new ≡ area old.from old.to (λ s. contains old.sectors s && not (is_in (plans_of entries) s))
 
 -- the fault names the entry's page, and its sectors are not all in the area, each named once
-abbrev pub IsRefused : Area → FoundEntry → TreeFault → Type 0
-IsRefused old found fault = (fault ≡ Broken found.page) × (AreIn old found.entry.runs → ⊥)
+abbrev pub IsClaimRefused : Area → FoundEntry → TreeFault → Type 0
+IsClaimRefused old found fault = (fault ≡ Broken found.page) × (AreIn old found.entry.runs → ⊥)
 
 -- where the outside is trusted and the pages are a tree, the page breaks it by the sectors of its entries, or bars it
 abbrev pub FailsClaims : {D : Type 0} (P : Ghosts D) (old : Area) (new : D) → TreeFault → Type 0
 FailsClaims P old new =
-    HasCause (P.step new)
+    HasTreeCause (P.step new)
     (λ page. P.trusted new → (l : Layout) → old ≡ whole_area l → (height : ℕ) → IsTree (P.step new).images height → Breaks l (P.step new).images page)
     (λ page. P.trusted new → BarsTable (P.step new) page)

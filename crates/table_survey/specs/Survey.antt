@@ -10,7 +10,7 @@ use Rattle.fsd_table.specs.Table.{Telling, visits, told_in}
 use Rattle.name_page.specs.declared.pages.Pages.{Ghosts}
 use Rattle.name_page.specs.Pages.{Step}
 use Rattle.name_btree.specs.declared.fault.TreeFault.{TreeFault}
-use Rattle.name_btree.specs.Fault.{HasCause, BarsTable}
+use Rattle.name_btree.specs.Fault.{HasTreeCause, BarsTable}
 use Rattle.name_btree.specs.Walk.{AreMarksOf, IsUsed}
 use Rattle.sector_set.specs.Area.{Area, area}
 use Rattle.table_survey.specs.declared.surveying.TableCounts.{TableCounts}
@@ -33,4 +33,4 @@ pub record IsSurveyed (l : Layout) (step : Step) (free : Area) (marks : List Boo
 
 -- why a survey fails: where the outside is trusted, the page that it names breaks the table, or is spare
 abbrev pub FailsSurvey : {D : Type 0} → Layout → (P : Ghosts D) (new : D) → TreeFault → Type 0
-FailsSurvey l P new = HasCause (P.step new) (λ page. P.trusted new → Breaks l (P.step new).images page) (λ page. P.trusted new → BarsTable (P.step new) page)
+FailsSurvey l P new = HasTreeCause (P.step new) (λ page. P.trusted new → Breaks l (P.step new).images page) (λ page. P.trusted new → BarsTable (P.step new) page)

@@ -6,7 +6,7 @@ ghost use Rattle.name_page.specs.declared.pages.TheConstants.{MOST_REACHED};
 ghost use Rattle.name_btree.specs.Fault.{outer_told, IsAmong};
 ghost use Rattle.run_table.specs.Space.{contains};
 ghost use Rattle.sector_set.specs.Area.{AreIn, IsOwn, area, without};
-ghost use Rattle.table_survey.specs.Claims.{IsClaimed, FailsClaims, IsRefused};
+ghost use Rattle.table_survey.specs.Claims.{IsClaimed, FailsClaims, IsClaimRefused};
 
 use alloc_map::Map;
 use fsd_bytes::Key;
@@ -17,7 +17,7 @@ use name_page::Pages;
 fn claim(map: &mut Map, found: &FoundEntry) -> Result<(), TreeFault>
     ensures free { OnOk result (AreIn map.old found.now.entry.runs) }
     ensures taken { OnOk result (map.new ≡ without map.old found.now.entry.runs) }
-    ensures fault { IfErr result (IsRefused map.old found.now) }
+    ensures fault { IfErr result (IsClaimRefused map.old found.now) }
 {
     if !map.are_free(&found.entry.runs) {
         return Err(TreeFault::Broken(found.page));

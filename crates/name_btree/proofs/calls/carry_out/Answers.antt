@@ -6,10 +6,11 @@ use Rattle.name_page.specs.Lookups.{entry_after}
 use Rattle.name_btree.specs.declared.calls.Call.TheVariants.{Find, Highest, NextAfter, Insert, Remove, Replace}
 use Rattle.name_btree.specs.Fault.{outer_told}
 use Rattle.name_btree.specs.Calls.{without_page, IsFormed}
-use Rattle.name_btree.specs.Lookup.{entry_of}
+use Rattle.name_btree.specs.Lookup.{found_entry}
 use Rattle.name_btree.proofs.LookupLaws.{ok_alone, err_alone}
 use Rattle.name_btree.proofs.BeginLaws.{begun_reaches, begun_changes, allowed_begun, begun_edits, refused_edits, looked_up, changed_by}
 use Rattle.name_btree.proofs.ResultLaws.{err_more}
+use Rattle.name_btree.proofs.RootLaws.{on_ok_more}
 use Rattle.name_btree.proofs.CallLaws.{begins_renewed, begins_refused, looks_up, changes_to, table_excused, insert_excused}
 use Rattle.name_btree.proofs.calls.carry_out.Goals as goal
 
@@ -37,7 +38,7 @@ returns-in-NextAfter-clause-carried g c =
     let sp = c.in_default.ensures in
     let b = begins_renewed G c.args.t.now c.begin.new.self sp.stays sp.step in
     let e = c.next_after.ensures in
-    let found = subst (λ (key : Option Key). IfOk c.next_after.result (λ found. G.trusted c.next_after.new.t → (height : ℕ) → IsTree (G.step c.begin.new.self).images height → entry_of found ≡ entry_after key (table_of (G.step c.begin.new.self).images height)))
+    let found = subst (λ (key : Option Key). IfOk c.next_after.result (λ found. G.trusted c.next_after.new.t → (height : ℕ) → IsTree (G.step c.begin.new.self).images height → found_entry found ≡ entry_after key (table_of (G.step c.begin.new.self).images height)))
     c.as_ref.ensures.value e.found in
     rw (c.in-NextAfter.is, c.without_page-in-NextAfter.ensures)
     (looks_up G c.args.t.now c.begin.new.self c.next_after.new.t b (NextAfter c.in-NextAfter.key) (λ table. refl) (without_page c.next_after.result) e.calls (ok_alone c.next_after.result _ found) (err_alone c.next_after.result _ (err_more c.next_after.result _ _ (λ fault h. h.cause) e.failed)))
@@ -49,8 +50,8 @@ returns-in-Insert-clause-carried g c =
     let b = begins_renewed G c.args.t.now c.begin.new.self sp.stays sp.step in
     let e = c.insert.ensures in
     rw (c.in-Insert.is, c.without_answer.ensures)
-    (changes_to G c.args.t.now c.begin.new.self c.insert.new.t b (Insert c.in-Insert.entry c.in-Insert.gone) (λ table. refl) c.insert.result e.calls e.kept e.inserted
-    (insert_excused G (Insert c.in-Insert.entry c.in-Insert.gone) tt (outer_told c.insert.result) c.begin.new.self c.insert.new.t c.insert.result e.kept e.full e.fault))
+    (changes_to G c.args.t.now c.begin.new.self c.insert.new.t b (Insert c.in-Insert.entry c.in-Insert.gone) (λ table. refl) c.insert.result e.edits.calls e.edits.kept e.inserted
+    (insert_excused G (Insert c.in-Insert.entry c.in-Insert.gone) tt (outer_told c.insert.result) c.begin.new.self c.insert.new.t c.insert.result e.edits.kept e.full (err_more c.insert.result _ _ (λ fault h. h.cause) e.failed)))
 
 pub returns-in-Remove-clause-carried : goal.returns-in-Remove-clause-carried
 returns-in-Remove-clause-carried g c =
@@ -59,8 +60,8 @@ returns-in-Remove-clause-carried g c =
     let b = begins_renewed G c.args.t.now c.begin.new.self sp.stays sp.step in
     let e = c.remove.ensures in
     rw (c.in-Remove.is, c.without_answer-in-Remove.ensures)
-    (changes_to G c.args.t.now c.begin.new.self c.remove.new.t b (Remove c.in-Remove.key) (λ table. refl) c.remove.result e.calls e.kept e.removed
-    (table_excused G (Remove c.in-Remove.key) c.remove.new.t c.remove.result e.fault))
+    (changes_to G c.args.t.now c.begin.new.self c.remove.new.t b (Remove c.in-Remove.key) (λ table. refl) c.remove.result e.edits.calls e.edits.kept e.removed
+    (table_excused G (Remove c.in-Remove.key) c.remove.new.t c.remove.result (err_more c.remove.result _ _ (λ fault h. h.cause) e.failed)))
 
 pub returns-in-Replace-clause-carried : goal.returns-in-Replace-clause-carried
 returns-in-Replace-clause-carried g c =
@@ -69,8 +70,8 @@ returns-in-Replace-clause-carried g c =
     let b = begins_renewed G c.args.t.now c.begin.new.self sp.stays sp.step in
     let e = c.replace_same_size.ensures in
     rw (c.in-Replace.is, c.without_answer-in-Replace.ensures)
-    (changes_to G c.args.t.now c.begin.new.self c.replace_same_size.new.t b (Replace c.in-Replace.entry) (λ table. refl) c.replace_same_size.result e.calls e.kept e.replaced
-    (table_excused G (Replace c.in-Replace.entry) c.replace_same_size.new.t c.replace_same_size.result e.fault))
+    (changes_to G c.args.t.now c.begin.new.self c.replace_same_size.new.t b (Replace c.in-Replace.entry) (λ table. refl) c.replace_same_size.result e.edits.calls e.edits.kept (on_ok_more c.replace_same_size.result _ _ (λ h. h.table) e.replaced)
+    (table_excused G (Replace c.in-Replace.entry) c.replace_same_size.new.t c.replace_same_size.result (err_more c.replace_same_size.result _ _ (λ fault h. h.cause) e.failed)))
 
 pub returns-in-Err-clause-carried : goal.returns-in-Err-clause-carried
 returns-in-Err-clause-carried g c =
@@ -117,7 +118,7 @@ returns-in-Insert-clause-calls g c =
     let mid = c.begin.new.self in
     let sp = c.in_default.ensures in
     let b = begun_edits G old mid sp.outside (law.trust old mid _ sp.outside) sp.step sp.count in
-    rw (c.without_answer.ensures) (changed_by G law.then old mid c.insert.new.t b c.insert.result c.insert.ensures.calls)
+    rw (c.without_answer.ensures) (changed_by G law.then old mid c.insert.new.t b c.insert.result c.insert.ensures.edits.calls)
 
 pub returns-in-Remove-clause-calls : goal.returns-in-Remove-clause-calls
 returns-in-Remove-clause-calls g c =
@@ -127,7 +128,7 @@ returns-in-Remove-clause-calls g c =
     let mid = c.begin.new.self in
     let sp = c.in_default.ensures in
     let b = begun_edits G old mid sp.outside (law.trust old mid _ sp.outside) sp.step sp.count in
-    rw (c.without_answer-in-Remove.ensures) (changed_by G law.then old mid c.remove.new.t b c.remove.result c.remove.ensures.calls)
+    rw (c.without_answer-in-Remove.ensures) (changed_by G law.then old mid c.remove.new.t b c.remove.result c.remove.ensures.edits.calls)
 
 pub returns-in-Replace-clause-calls : goal.returns-in-Replace-clause-calls
 returns-in-Replace-clause-calls g c =
@@ -137,7 +138,7 @@ returns-in-Replace-clause-calls g c =
     let mid = c.begin.new.self in
     let sp = c.in_default.ensures in
     let b = begun_edits G old mid sp.outside (law.trust old mid _ sp.outside) sp.step sp.count in
-    rw (c.without_answer-in-Replace.ensures) (changed_by G law.then old mid c.replace_same_size.new.t b c.replace_same_size.result c.replace_same_size.ensures.calls)
+    rw (c.without_answer-in-Replace.ensures) (changed_by G law.then old mid c.replace_same_size.new.t b c.replace_same_size.result c.replace_same_size.ensures.edits.calls)
 
 pub returns-in-Err-clause-calls : goal.returns-in-Err-clause-calls
 returns-in-Err-clause-calls g c =

@@ -46,9 +46,7 @@ returns-then-whole-le-PAGE_ROOM g c =
       leaves = λ pages same. (put.sheets.over pages same).content ∙ ap (λ (xs : List Entry). Some (Leaf xs)) c.as_slice-entries.ensures.value;
       freed = put.freed;
       drawn = one_sheet step old new page (Leaf list) put.sheets;
-      images = refl;
-      home = refl;
-      reached = refl;
+      stays = record { images = refl; home = refl; reached = refl };
     }
 
 -- ---- two leaves
@@ -78,8 +76,8 @@ put_leaf-requires-2 g c =
     record {
       room = omega (arith, c.requires.room);
       sheets = sheets_over between last _ sheets takes (sheets_over step between _ sheets front.takes c.requires.sheets);
-      reached = takes.reached left front.own;
-      used = used_over between last _ left takes front.used;
+      reached = takes.reached left front.front.own;
+      used = used_over between last _ left takes front.front.used;
       accepted = ap (λ (xs : List Entry). is_page left 0 (Leaf xs)) c.split_at.ensures.front ∙ (c.leaf_cut.ensures.leaves left).0;
       fits = all_front FitsEntry list c.leaf_cut.result (subst (AllByRecursion FitsEntry) (sym c.as_slice-entries.ensures.value) c.requires.fits) _ c.split_at.ensures.front;
     }
@@ -121,9 +119,9 @@ parted g c pages same =
     let is : IsParted step between last s0 s1 s2 c.args.page left right (Leaf front) (Leaf behind) = record {
       front_takes = takes_over pages step0 between0 _ same c.front_page-left.ensures.takes;
       takes = takes_over pages between0 last0 _ same1 c.take_page-right.ensures.takes;
-      own = reached_over pages between0 left same1 c.front_page-left.ensures.own;
-      used = c.front_page-left.ensures.used;
-      place = c.front_page-left.ensures.place;
+      own = reached_over pages between0 left same1 c.front_page-left.ensures.front.own;
+      used = c.front_page-left.ensures.front.used;
+      place = c.front_page-left.ensures.front.place;
       front = drafted_over last0 pages same2 s0 s1 left (Leaf front) c.put_leaf-2.ensures.sheets;
       behind = drafted_over last0 pages same2 s1 s2 right (Leaf behind) c.put_leaf-3.ensures.sheets;
     } in
@@ -151,11 +149,8 @@ returns-clause-outside g c = g.met.T.Pages.then c.args.t.now c.front_page-left.n
 pub returns-clause-freed : goal.returns-clause-freed
 returns-clause-freed g c = c.put_leaf-3.ensures.freed ∙ c.put_leaf-2.ensures.freed
 
-pub returns-clause-images : goal.returns-clause-images
-returns-clause-images g c = c.take_page-right.ensures.takes.images ∙ c.front_page-left.ensures.images
-
-pub returns-clause-home : goal.returns-clause-home
-returns-clause-home g c = c.take_page-right.ensures.home ∙ c.front_page-left.ensures.home
-
-pub returns-clause-reached : goal.returns-clause-reached
-returns-clause-reached g c = c.take_page-right.ensures.reached ∙ c.front_page-left.ensures.reached
+pub returns-clause-stays : goal.returns-clause-stays
+returns-clause-stays g c =
+    let took = c.take_page-right.ensures in
+    let stays = c.front_page-left.ensures.stays in
+    record { images = took.takes.images ∙ stays.images; home = took.home ∙ stays.home; reached = took.reached ∙ stays.reached }

@@ -33,9 +33,7 @@ returns-then-len-le-PAGE_ROOM g c =
       leaves = λ pages same. (drafted.over pages same).content;
       freed = c.put_text.ensures.freed;
       drawn = one_sheet step old new page (Leaf entries) drafted;
-      images = refl;
-      home = refl;
-      reached = refl;
+      stays = record { images = refl; home = refl; reached = refl };
     }
 
 pub grow_leaf_listed-requires : goal.grow_leaf_listed-requires
@@ -54,4 +52,4 @@ grow_leaf_listed-requires g c = record {
 pub returns : goal.returns
 returns g c =
     let all = c.grow_leaf_listed.ensures in
-    record { outside = all.outside; grown = all.grown; leaves = all.leaves; freed = all.freed; drawn = all.drawn; images = all.images; home = all.home; reached = all.reached }
+    record { outside = all.outside; grown = all.grown; leaves = all.leaves; freed = all.freed; drawn = all.drawn; stays = all.stays }

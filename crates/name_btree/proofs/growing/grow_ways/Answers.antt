@@ -51,9 +51,7 @@ returns-then-separators-le9 g c =
       interiors = λ pages same. (put.sheets.over pages same).content ∙ ap (λ (zs : List Separator). Some (Interior c.args.first zs)) c.as_slice-separators.ensures.value;
       freed = put.freed;
       drawn = one_sheet step old new page x put.sheets;
-      images = refl;
-      home = refl;
-      reached = refl;
+      stays = record { images = refl; home = refl; reached = refl };
     }
 
 -- ---- two pages
@@ -77,8 +75,8 @@ put_ways-requires-2 g c =
     record {
       room = omega (arith, c.requires.room);
       sheets = sheets_over between last _ sheets takes (sheets_over step between _ sheets front.takes c.requires.sheets);
-      reached = takes.reached left front.own;
-      used = used_over between last _ left takes front.used;
+      reached = takes.reached left front.front.own;
+      used = used_over between last _ left takes front.front.used;
       accepted = ap (λ (n : ℕ). is_page left n (Interior c.args.first (take c.ways_cut-cut.result some))) images ∙ is;
       fits = all_front FitsSeparator some c.ways_cut-cut.result (subst (AllByRecursion FitsSeparator) (sym value) c.requires.fits) _ refl;
     }
@@ -129,9 +127,9 @@ parted g c pages same =
     let is : IsParted step between last s0 s1 s2 c.args.page left right (Interior c.args.first (take c.ways_cut-cut.result some)) (Interior middle.child (drop (c.ways_cut-cut.result + 1) some)) = record {
       front_takes = takes_over pages step0 between0 _ same c.front_page-left.ensures.takes;
       takes = takes_over pages between0 last0 _ same1 c.take_page-right.ensures.takes;
-      own = reached_over pages between0 left same1 c.front_page-left.ensures.own;
-      used = c.front_page-left.ensures.used;
-      place = c.front_page-left.ensures.place;
+      own = reached_over pages between0 left same1 c.front_page-left.ensures.front.own;
+      used = c.front_page-left.ensures.front.used;
+      place = c.front_page-left.ensures.front.place;
       front = drafted_over last0 pages same2 s0 s1 left (Interior c.args.first (take c.ways_cut-cut.result some)) c.put_ways-2.ensures.sheets;
       behind = drafted_over last0 pages same2 s1 s2 right (Interior middle.child (drop (c.ways_cut-cut.result + 1) some)) (subst (λ (zs : List Separator). IsDrafted last0 s1 s2 right (Interior middle.child zs)) (rest_of some (c.ways_cut-cut.result + 1)) c.put_ways-3.ensures.sheets);
     } in
@@ -160,11 +158,8 @@ returns-clause-drawn g c =
 pub returns-clause-freed : goal.returns-clause-freed
 returns-clause-freed g c = c.put_ways-3.ensures.freed ∙ c.put_ways-2.ensures.freed
 
-pub returns-clause-images : goal.returns-clause-images
-returns-clause-images g c = c.take_page-right.ensures.takes.images ∙ c.front_page-left.ensures.images
-
-pub returns-clause-home : goal.returns-clause-home
-returns-clause-home g c = c.take_page-right.ensures.home ∙ c.front_page-left.ensures.home
-
-pub returns-clause-reached : goal.returns-clause-reached
-returns-clause-reached g c = c.take_page-right.ensures.reached ∙ c.front_page-left.ensures.reached
+pub returns-clause-stays : goal.returns-clause-stays
+returns-clause-stays g c =
+    let took = c.take_page-right.ensures in
+    let stays = c.front_page-left.ensures.stays in
+    record { images = took.takes.images ∙ stays.images; home = took.home ∙ stays.home; reached = took.reached ∙ stays.reached }

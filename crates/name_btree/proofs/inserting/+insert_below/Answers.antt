@@ -16,14 +16,15 @@ use Rattle.name_btree.specs.declared.fault.TreeFault.{TreeFault}
 use Rattle.name_btree.specs.declared.fault.TreeFault.TheVariants.{Broken}
 use Rattle.name_btree.specs.Draft.{drafted, AreSheets}
 use Rattle.name_btree.specs.Fault.{outer_told, FailsBy, IsMisfit}
-use Rattle.name_btree.specs.Grown.{most_taken, IsDivided, IsGrown, Grows, BreaksGrowth, Over}
+use Rattle.name_btree.specs.Grown.{most_taken, IsDivided, Grows, GrowsBelow, GrowsLeaf, BreaksGrowth, RefusesEntry}
 use Rattle.name_btree.specs.declared.growing.Grown.{Grown}
 use Rattle.name_btree.proofs.CauseLaws.{fails_by_map, broken_by, on_err_same}
 use Rattle.name_btree.proofs.DraftLaws.{drafted_length}
 use Rattle.name_btree.proofs.StepLaws.{above_grows, few_above}
 use Rattle.name_btree.proofs.OverLaws.{takes_looked, reached_over}
 use Rattle.name_btree.proofs.TakeLaws.{used_over}
-use Rattle.name_btree.proofs.InsertLaws.{middle_is, inside_middle, least_taken, misfit_growth, growth_below, zero_below, leaf_grows, leaf_growth, ok_grows, err_grows, grows_looked}
+use Rattle.name_btree.proofs.ResultLaws.{on_err}
+use Rattle.name_btree.proofs.InsertLaws.{middle_is, inside_middle, least_taken, misfit_growth, growth_below, zero_below, leaf_grows, leaf_growth, ok_grows, on_grows, err_grows, grows_looked}
 use Rattle.name_btree.proofs.SheetLaws.{sheets_looked, sheets_then}
 use Rattle.name_btree.proofs.inserting.+insert_below.Goals as goal
 
@@ -38,12 +39,7 @@ returns-in_err-entries g t c =
       calls = reaches_takes g.T.Pages c.args.t.now new found.calls;
       failed = found.calls;
       reaches = omega (arith, found.reaches);
-      room = tt;
-      sheets = tt;
-      freed = tt;
-      drawn = tt;
-      reached = tt;
-      used = tt;
+      drafted = tt;
       grown = tt;
       fault = fails_by_map (g.T.Pages.step new) (λ pages. IsMisfit (drafted sheets pages) child) (λ pages. BreaksGrowth c.args.entry.now (drafted sheets pages) c.args.levels child)
           (λ images page is h. misfit_growth c.args.entry.now (drafted sheets images) c.args.levels child page h) c.in_err-entries.field-0.0 found.fault;
@@ -61,12 +57,7 @@ returns-then-below-eq0 g t c =
       calls = reaches_takes g.T.Pages c.args.t.now c.child_node.new.t looked.calls;
       failed = looked.calls;
       reaches = omega (arith, looked.reaches);
-      room = tt;
-      sheets = tt;
-      freed = tt;
-      drawn = tt;
-      reached = tt;
-      used = tt;
+      drafted = tt;
       grown = tt;
       fault = λ images agrees.
           let pages = drafted sheets images in
@@ -138,12 +129,7 @@ returns-in_err-grown-in-Interior g t c =
       calls = reaches_takes G old new all;
       failed = all;
       reaches = omega (arith, looked.reaches, found.reaches, up);
-      room = tt;
-      sheets = tt;
-      freed = tt;
-      drawn = tt;
-      reached = tt;
-      used = tt;
+      drafted = tt;
       grown = tt;
       fault = fails_by_map (G.step new) (λ pages. BreaksGrowth e (drafted sheets pages) (levels - 1) below) (λ pages. BreaksGrowth e (drafted sheets pages) levels child)
           (λ images page agrees h.
@@ -187,6 +173,11 @@ grow_above-requires-clause-divided g t c =
     let between = g.T.Pages.step c.insert_below.new.t in
     subst (λ (d : Child). IsDivided d c.in_ok-grown-in-Interior.grown) m.is (c.in_ok-grown-in-Interior.ensures.grown between.images (agrees_now between)).divided
 
+pub grow_above-requires-clause-sound : goal.grow_above-requires-clause-sound
+grow_above-requires-clause-sound g t c =
+    let between = g.T.Pages.step c.insert_below.new.t in
+    (c.in_ok-grown-in-Interior.ensures.grown between.images (agrees_now between)).sound
+
 pub returns-in-Leaf-clause-calls : goal.returns-in-Leaf-clause-calls
 returns-in-Leaf-clause-calls g t c =
     takes_takes g.T.Pages g.met.T.Pages.then c.args.t.now c.child_node.new.t c.insert_here.new.t (reaches_takes g.T.Pages c.args.t.now c.child_node.new.t c.in_ok-entries.ensures.calls) c.insert_here.ensures.calls
@@ -194,8 +185,10 @@ returns-in-Leaf-clause-calls g t c =
 pub returns-in-Leaf-clause-failed : goal.returns-in-Leaf-clause-failed
 returns-in-Leaf-clause-failed g t c =
     let looked = c.child_node.new.t in
+    let new = c.insert_here.new.t in
     let quiet = subst (λ (refusal : Option Refusal). OnlyReaches g.T.Pages refusal c.args.t.now looked) (sym c.insert_here.ensures.untold) c.in_ok-entries.ensures.calls in
-    on_err_same c.insert_here.result (OnlyReaches g.T.Pages (outer_told c.insert_here.result) c.args.t.now) looked c.insert_here.new.t quiet c.insert_here.ensures.failed
+    on_err_same c.insert_here.result (OnlyReaches g.T.Pages (outer_told c.insert_here.result) c.args.t.now) looked new quiet
+    (on_err c.insert_here.result (RefusesEntry g.T.Pages c.args.entry.now looked new c.args.draft.now.sheets.items c.args.child.now) (new ≡ looked) (λ fault h. h.same) c.insert_here.ensures.failed)
 
 pub returns-in-Leaf-clause-grown : goal.returns-in-Leaf-clause-grown
 returns-in-Leaf-clause-grown g t c =
@@ -207,14 +200,14 @@ returns-in-Leaf-clause-grown g t c =
     let child = c.args.child.now in
     let e = c.args.entry.now in
     let looks = c.in_ok-entries.ensures.calls.looks in
-    ok_grows c.insert_here.result (λ grown. Shows looked (λ pages. Grows e (with_images pages looked) (with_images pages last) (drafted sheets pages) (drafted s1 pages) 0 child grown))
+    ok_grows c.insert_here.result (GrowsLeaf e looked last sheets s1 child)
     (λ grown. Shows last (λ pages. Grows e (with_images pages step) (with_images pages last) (drafted sheets pages) (drafted s1 pages) c.args.levels child grown))
     (λ grown h images agrees.
     let before = c.insert_here.ensures.calls.agrees images agrees in
     let at : page_at (drafted sheets images) child.page ≡ Some (Leaf c.in-Leaf.entries) = c.in_ok-entries.ensures.read.node images before ∙ ap (λ (n : Node). Some (content_of n)) c.in-Leaf.is in
     let takes = takes_looked images step looked (before.count ∙ looks.count) looks in
     leaf_grows e (with_images images step) (with_images images last) (drafted sheets images) (drafted s1 images) c.args.levels child grown c.in-Leaf.entries at
-    (grows_looked e (with_images images step) (with_images images looked) (with_images images last) sheets (drafted s1 images) 0 child grown takes looks.spares (h images before))) c.insert_here.ensures.grows
+    (grows_looked e (with_images images step) (with_images images looked) (with_images images last) sheets (drafted s1 images) 0 child grown takes looks.spares (h.grows images before))) c.insert_here.ensures.grown
 
 pub returns-in-Leaf-clause-fault : goal.returns-in-Leaf-clause-fault
 returns-in-Leaf-clause-fault g t c =
@@ -225,11 +218,11 @@ returns-in-Leaf-clause-fault g t c =
     let looked = G.step c.child_node.new.t in
     let last = G.step c.insert_here.new.t in
     let B : List (List ℕ) → ℕ → Type 0 = λ (pages : List (List ℕ)). BreaksGrowth e (drafted sheets pages) c.args.levels child in
-    err_grows c.insert_here.result (λ fault. (page : ℕ) × (fault ≡ Broken page) × Shows looked (λ pages. BreaksGrowth e (drafted sheets pages) 0 child page)) (FailsBy last B)
-    (λ fault h. broken_by last B fault h.0 h.1 (λ images agrees.
+    err_grows c.insert_here.result (RefusesEntry G e c.child_node.new.t c.insert_here.new.t sheets child) (FailsBy last B)
+    (λ fault h. broken_by last B fault h.page h.named (λ images agrees.
     let before = c.insert_here.ensures.calls.agrees images agrees in
     let at : page_at (drafted sheets images) child.page ≡ Some (Leaf c.in-Leaf.entries) = c.in_ok-entries.ensures.read.node images before ∙ ap (λ (n : Node). Some (content_of n)) c.in-Leaf.is in
-    leaf_growth e (drafted sheets images) c.args.levels child c.in-Leaf.entries h.0 at (h.2 images before))) c.insert_here.ensures.fault
+    leaf_growth e (drafted sheets images) c.args.levels child c.in-Leaf.entries h.page at (h.shown images before))) c.insert_here.ensures.failed
 
 pub returns-in_ok-grown-in-Interior-clause-calls : goal.returns-in_ok-grown-in-Interior-clause-calls
 returns-in_ok-grown-in-Interior-clause-calls g t c =
@@ -273,111 +266,68 @@ returns-in_ok-grown-in-Interior-clause-grown g t c = λ images agrees.
     subst (λ (n : ℕ). Grows e step last pages (drafted s2 images) n child c.grow_above.result) up
     (above_grows e step between last sheets s1 s2 (levels - 1) child ways.0 ways.1 i grown c.grow_above.result at fits m.around differs middle (c.grow_above.ensures.grown images agrees2.count) (c.grow_above.ensures.above images agrees2.count))
 
-pub returns-in_ok-grown-in-Interior-clause-reached : goal.returns-in_ok-grown-in-Interior-clause-reached
-returns-in_ok-grown-in-Interior-clause-reached g t c =
-    let looked = g.T.Pages.step c.child_node.new.t in
-    let last = g.T.Pages.step c.grow_above.new.t in
-    let page : ℕ = c.args.child.now.page in
-    let agrees2 = c.grow_above.ensures.calls.agrees last.images (agrees_now last) in
-    let before = c.in_ok-grown-in-Interior.ensures.calls.agrees last.images agrees2 in
-    let lower = (c.in_ok-grown-in-Interior.ensures.grown last.images agrees2).takes in
-    let upper = (c.grow_above.ensures.grown last.images agrees2.count).takes in
-    upper.reached page (lower.reached page (reached_over last.images looked page before.count c.in_ok-entries.ensures.read.reached))
-
-pub returns-in_ok-grown-in-Interior-clause-used : goal.returns-in_ok-grown-in-Interior-clause-used
-returns-in_ok-grown-in-Interior-clause-used g t c =
-    let last = g.T.Pages.step c.grow_above.new.t in
-    let looked = with_images last.images (g.T.Pages.step c.child_node.new.t) in
-    let between = with_images last.images (g.T.Pages.step c.insert_below.new.t) in
-    let page : ℕ = c.args.child.now.page in
-    let agrees2 = c.grow_above.ensures.calls.agrees last.images (agrees_now last) in
-    let lower = (c.in_ok-grown-in-Interior.ensures.grown last.images agrees2).takes in
-    let upper = (c.grow_above.ensures.grown last.images agrees2.count).takes in
-    let here = ap (λ (x : List Bool). is_spare x page) c.in_ok-entries.ensures.calls.looks.spares ∙ c.in_ok-entries.ensures.read.used in
-    used_over between last _ page upper (used_over looked between _ page lower here)
-
-pub returns-in-Leaf-clause-drawn : goal.returns-in-Leaf-clause-drawn
-returns-in-Leaf-clause-drawn g t c =
-    let step = g.T.Pages.step in
-    let old = c.args.draft.now.sheets.items in
-    let looked = sheets_looked (step c.args.t.now) (step c.child_node.new.t) old c.in_ok-entries.ensures.calls.looks in
-    on_ok_weaker c.insert_here.result (sheets_then (step c.args.t.now) (step c.child_node.new.t) (step c.insert_here.new.t) old old c.insert_here.new.draft.sheets.items looked) c.insert_here.ensures.drawn
-
-pub returns-in_ok-grown-in-Interior-clause-drawn : goal.returns-in_ok-grown-in-Interior-clause-drawn
-returns-in_ok-grown-in-Interior-clause-drawn g t c =
-    let step = g.T.Pages.step in
-    let first = step c.args.t.now in
-    let looked = step c.child_node.new.t in
-    let between = step c.insert_below.new.t in
-    let s0 = c.args.draft.now.sheets.items in
-    let s1 = c.insert_below.new.draft.sheets.items in
-    let below = sheets_then first looked between s0 s0 s1 (sheets_looked first looked s0 c.in_ok-entries.ensures.calls.looks) c.in_ok-grown-in-Interior.ensures.drawn in
-    sheets_then first between (step c.grow_above.new.t) s0 s1 c.grow_above.new.draft.sheets.items below c.grow_above.ensures.drawn
-
 -- ---- a leaf that has grown
 
-grown_on : (r : Result Grown TreeFault) (P : Grown → Type 0) (Q : Type 0) → ((grown : Grown) → P grown → Q) → IfOk r P → OnOk r Q
-grown_on (Ok grown) P Q f h = f grown h
-grown_on (Err fault) P Q f h = tt
-
-pub returns-in-Leaf-clause-room : goal.returns-in-Leaf-clause-room
-returns-in-Leaf-clause-room g t c =
+pub returns-in-Leaf-clause-drafted : goal.returns-in-Leaf-clause-drafted
+returns-in-Leaf-clause-drafted g t c =
+    let first = g.T.Pages.step c.args.t.now in
     let looked = g.T.Pages.step c.child_node.new.t in
     let last = g.T.Pages.step c.insert_here.new.t in
     let s0 = c.args.draft.now.sheets.items in
     let s1 = c.insert_here.new.draft.sheets.items in
-    let page : ℕ = c.args.child.now.page in
-    let P : Grown → Type 0 = λ (grown : Grown). Over looked (λ pages. IsGrown (with_images pages looked) (with_images pages last) s0 s1 page grown) in
-    grown_on c.insert_here.result P (length s1 ≤ length s0 + 2 * c.args.levels + 2) (λ grown h. omega (arith, (h looked.images refl).few)) c.insert_here.ensures.grown
-
-pub returns-in-Leaf-clause-sheets : goal.returns-in-Leaf-clause-sheets
-returns-in-Leaf-clause-sheets g t c =
-    let looked = g.T.Pages.step c.child_node.new.t in
-    let last = g.T.Pages.step c.insert_here.new.t in
-    let s0 = c.args.draft.now.sheets.items in
-    let s1 = c.insert_here.new.draft.sheets.items in
-    let page : ℕ = c.args.child.now.page in
-    let P : Grown → Type 0 = λ (grown : Grown). Over looked (λ pages. IsGrown (with_images pages looked) (with_images pages last) s0 s1 page grown) in
+    let child = c.args.child.now in
+    let page : ℕ = child.page in
+    let looks = c.in_ok-entries.ensures.calls.looks in
+    let read = c.in_ok-entries.ensures.read in
     let count : length last.images ≡ length looked.images = c.insert_here.ensures.calls.edits.count in
-    grown_on c.insert_here.result P (AreSheets last s1) (λ grown h. (h last.images count).ready) c.insert_here.ensures.grown
-
-pub returns-in-Leaf-clause-reached : goal.returns-in-Leaf-clause-reached
-returns-in-Leaf-clause-reached g t c =
-    let looked = g.T.Pages.step c.child_node.new.t in
-    let last = g.T.Pages.step c.insert_here.new.t in
-    let s0 = c.args.draft.now.sheets.items in
-    let s1 = c.insert_here.new.draft.sheets.items in
-    let page : ℕ = c.args.child.now.page in
-    let P : Grown → Type 0 = λ (grown : Grown). Over looked (λ pages. IsGrown (with_images pages looked) (with_images pages last) s0 s1 page grown) in
-    let count : length last.images ≡ length looked.images = c.insert_here.ensures.calls.edits.count in
-    grown_on c.insert_here.result P (IsReached last page) (λ grown h. (h last.images count).takes.reached page (reached_over last.images looked page count c.in_ok-entries.ensures.read.reached)) c.insert_here.ensures.grown
-
-pub returns-in-Leaf-clause-used : goal.returns-in-Leaf-clause-used
-returns-in-Leaf-clause-used g t c =
-    let looked = g.T.Pages.step c.child_node.new.t in
-    let last = g.T.Pages.step c.insert_here.new.t in
-    let s0 = c.args.draft.now.sheets.items in
-    let s1 = c.insert_here.new.draft.sheets.items in
-    let page : ℕ = c.args.child.now.page in
-    let P : Grown → Type 0 = λ (grown : Grown). Over looked (λ pages. IsGrown (with_images pages looked) (with_images pages last) s0 s1 page grown) in
-    let count : length last.images ≡ length looked.images = c.insert_here.ensures.calls.edits.count in
-    let here : is_spare looked.spares page ≡ false = ap (λ (x : List Bool). is_spare x page) c.in_ok-entries.ensures.calls.looks.spares ∙ c.in_ok-entries.ensures.read.used in
-    grown_on c.insert_here.result P (is_spare last.spares page ≡ false) (λ grown h. used_over (with_images last.images looked) last _ page (h last.images count).takes here) c.insert_here.ensures.grown
+    let here : is_spare looked.spares page ≡ false = ap (λ (x : List Bool). is_spare x page) looks.spares ∙ read.used in
+    let still = sheets_looked first looked s0 looks in
+    on_grows c.insert_here.result (GrowsLeaf c.args.entry.now looked last s0 s1 child) (GrowsBelow first last c.args.draft.now c.insert_here.new.draft (2 * c.args.levels + 2) child)
+    (λ grown h. record {
+      grows = record {
+        room = omega (arith, (h.grown looked.images refl).few);
+        freed = c.insert_here.ensures.freed;
+        drawn = sheets_then first looked last s0 s0 s1 still h.drawn;
+      };
+      sheets = (h.grown last.images count).ready;
+      page = record {
+        reached = (h.grown last.images count).takes.reached page (reached_over last.images looked page count read.reached);
+        used = used_over (with_images last.images looked) last _ page (h.grown last.images count).takes here;
+      };
+    }) c.insert_here.ensures.grown
 
 -- ---- a page above
 
-pub returns-in_ok-grown-in-Interior-clause-room : goal.returns-in_ok-grown-in-Interior-clause-room
-returns-in_ok-grown-in-Interior-clause-room g t c =
-    let between = g.T.Pages.step c.insert_below.new.t in
-    omega (arith, (c.grow_above.ensures.grown between.images refl).few, c.in_ok-grown-in-Interior.ensures.room, c.if-levels-gt0.true)
-
-pub returns-in_ok-grown-in-Interior-clause-sheets : goal.returns-in_ok-grown-in-Interior-clause-sheets
-returns-in_ok-grown-in-Interior-clause-sheets g t c =
+pub returns-in_ok-grown-in-Interior-clause-drafted : goal.returns-in_ok-grown-in-Interior-clause-drafted
+returns-in_ok-grown-in-Interior-clause-drafted g t c =
+    let first = g.T.Pages.step c.args.t.now in
+    let looked0 = g.T.Pages.step c.child_node.new.t in
+    let between0 = g.T.Pages.step c.insert_below.new.t in
     let last = g.T.Pages.step c.grow_above.new.t in
-    (c.grow_above.ensures.grown last.images c.grow_above.ensures.calls.edits.count).ready
-
-pub returns-in_ok-grown-in-Interior-clause-freed : goal.returns-in_ok-grown-in-Interior-clause-freed
-returns-in_ok-grown-in-Interior-clause-freed g t c = c.grow_above.ensures.freed ∙ c.in_ok-grown-in-Interior.ensures.freed
+    let looked = with_images last.images looked0 in
+    let between = with_images last.images between0 in
+    let s0 = c.args.draft.now.sheets.items in
+    let s1 = c.insert_below.new.draft.sheets.items in
+    let page : ℕ = c.args.child.now.page in
+    let looks = c.in_ok-entries.ensures.calls.looks in
+    let read = c.in_ok-entries.ensures.read in
+    let found = c.in_ok-grown-in-Interior.ensures in
+    let above = c.grow_above.ensures in
+    let agrees2 = above.calls.agrees last.images (agrees_now last) in
+    let before = found.calls.agrees last.images agrees2 in
+    let lower = (found.grown last.images agrees2).takes in
+    let upper = (above.grown last.images agrees2.count).takes in
+    let here = ap (λ (x : List Bool). is_spare x page) looks.spares ∙ read.used in
+    let below = sheets_then first looked0 between0 s0 s0 s1 (sheets_looked first looked0 s0 looks) found.drafted.grows.drawn in
+    record {
+      grows = record {
+        room = omega (arith, (above.grown between0.images refl).few, found.drafted.grows.room, c.if-levels-gt0.true);
+        freed = above.freed ∙ found.drafted.grows.freed;
+        drawn = sheets_then first between0 last s0 s1 c.grow_above.new.draft.sheets.items below above.drawn;
+      };
+      sheets = (above.grown last.images above.calls.edits.count).ready;
+      page = record { reached = upper.reached page (lower.reached page (reached_over last.images looked0 page before.count read.reached)); used = used_over between last _ page upper (used_over looked between _ page lower here) };
+    }
 
 -- ---- nothing has grown
 

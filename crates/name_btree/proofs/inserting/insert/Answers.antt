@@ -1,6 +1,7 @@
 use Rattle.std.proofs.Common.{◌≡◌, ◌∙◌, ◌-◌, inl, ℕ, List, None, length, ap, subst, arith}
 use Rattle.fsd_bytes.specs.declared.key.Key.{Key}
-use Rattle.name_page.specs.Pages.{Step, with_images, reaches, changes, free_count}
+use Rattle.std.proofs.lemmas.Bool.{or_right}
+use Rattle.name_page.specs.Pages.{Step, with_images, reaches, changes, free_count, is_one_of}
 use Rattle.fsd_bytes.specs.declared.refusal.Refusal.TheVariants.{NameTableFull}
 use Rattle.fsd_formats.specs.declared.entry.Entry.{Entry}
 use Rattle.fsd_table.specs.Tree.{IsTree, table_of}
@@ -9,6 +10,7 @@ use Rattle.name_page.specs.Looks.{OnlyWalks}
 use Rattle.name_page.proofs.LookLaws.{kept_pages, reaches_then, walks_edits, walks_pages, pages_then, edits_then, agrees_now, agrees_before}
 use Rattle.name_btree.specs.declared.fault.TreeFault.TheVariants.{Pages}
 use Rattle.name_btree.specs.Fault.{outer_of, FailsTable}
+use Rattle.name_btree.proofs.BeginLaws.{refused_edits}
 use Rattle.name_btree.proofs.CauseLaws.{fails_by_map, same_err}
 use Rattle.name_btree.proofs.SearchLaws.{shown_tree, shown_with, not_full}
 use Rattle.name_btree.specs.Draft.{drafted}
@@ -24,35 +26,34 @@ use Rattle.name_btree.proofs.WithinLaws.{among_since}
 use Rattle.name_btree.proofs.inserting.insert.Goals as goal
 use Rattle.name_btree.proofs.inserting.insert.Goals.{After-fault_of, After-fault_of-in-Err-insert_in}
 
-pub returns-clause-reaches : goal.returns-clause-reaches
-returns-clause-reaches g c =
-    let last = g.T.Pages.step c.insert_in.new.t in
-    let d = c.insert_in.new.draft in
-    let written = ap reaches c.commit.ensures.step ∙ commit_reaches d.freed.items d.sheets.items last in
-    let promised = ap reaches c.in_default.ensures.step in
-    omega (arith, written, promised, c.insert_in.ensures.reaches, c.remove_all.ensures.reaches)
-
-pub returns-clause-changes : goal.returns-clause-changes
-returns-clause-changes g c =
+pub returns-clause-spent : goal.returns-clause-spent
+returns-clause-spent g c =
     let cleared = g.T.Pages.step c.remove_all.new.t in
     let last = g.T.Pages.step c.insert_in.new.t in
     let d = c.insert_in.new.draft in
     let inserted = c.in_default-insert_in.ensures.inserted last.images (agrees_now last) in
     let still = c.remove_all.ensures.calls.looks in
-    let written = ap changes c.commit.ensures.step in
-    let promised = ap changes c.in_default.ensures.step in
-    omega (
-      arith,
-      written,
-      commit_changes d.freed.items d.sheets.items last,
-      promised,
-      ap length still.changed,
-      still.most_changed,
-      inserted.takes.changes,
-      inserted.few,
-      c.in_default-insert_in.ensures.room,
-      c.in_default-remove_all.ensures.room,
-    )
+    record {
+      reaches =
+          let written = ap reaches c.commit.ensures.step ∙ commit_reaches d.freed.items d.sheets.items last in
+          let promised = ap reaches c.in_default.ensures.step in
+          omega (arith, written, promised, c.insert_in.ensures.reaches, c.remove_all.ensures.reaches);
+      changes =
+          let written = ap changes c.commit.ensures.step in
+          let promised = ap changes c.in_default.ensures.step in
+          omega (
+            arith,
+            written,
+            commit_changes d.freed.items d.sheets.items last,
+            promised,
+            ap length still.changed,
+            still.most_changed,
+            inserted.takes.changes,
+            inserted.few,
+            c.in_default-insert_in.ensures.drafted.grows.room,
+            c.in_default-remove_all.ensures.room,
+          );
+    }
 
 pub returns-clause-taken : goal.returns-clause-taken
 returns-clause-taken g c =
@@ -95,22 +96,53 @@ returns-clause-inserted g c = λ trusted.
     let d2 = c.insert_in.new.draft in
     let inserts1 = subst (λ (im : List (List ℕ)). Inserts e (with_images im cleared) last (drafted d.sheets.items im) (drafted d2.sheets.items last.images)) (takes.stays t3) inserts0 in
     let inserts2 = subst (λ (im : List (List ℕ)). Inserts e cleared last (drafted d.sheets.items im) (drafted d2.sheets.items last.images)) images inserts1 in
-    inserted_table step cleared last (G.step new) d d2 e keys images spares left inserts2 c.in_default-insert_in.ensures.freed c.commit.ensures.step c.commit.ensures.images (law.flags s3)
+    inserted_table step cleared last (G.step new) d d2 e keys images spares left inserts2 c.in_default-insert_in.ensures.drafted.grows.freed c.commit.ensures.step c.commit.ensures.images (law.flags s3)
 
-pub returns-clause-calls : goal.returns-clause-calls
-returns-clause-calls g c =
+pub returns-clause-edits : goal.returns-clause-edits
+returns-clause-edits g c =
     let G = g.T.Pages in
     let law = g.met.T.Pages in
     let old = c.args.t.now in
     let s1 = c.spare.new.self in
     let s2 = c.remove_all.new.t in
-    let sp = c.in_default.ensures in
-    let w2 = promised_walks G law.then law.trust old s1 s2 8 sp.outside sp.kept sp.stays sp.step c.in_default-remove_all.ensures.calls in
     let s3 = c.insert_in.new.t in
     let new = c.commit.new.t in
     let d = c.insert_in.new.draft in
-    edits_then G law.then old s2 new (walks_edits G old s2 w2) (edits_then G law.then s2 s3 new c.in_default-insert_in.ensures.calls.edits
-    (commit_edits G s3 new d.freed.items d.sheets.items c.commit.ensures.outside (law.trust s3 new _ c.commit.ensures.outside) c.commit.ensures.step c.commit.ensures.images))
+    let sp = c.in_default.ensures in
+    let walks = promised_walks G law.then law.trust old s1 s2 8 sp.outside sp.kept sp.stays sp.step c.in_default-remove_all.ensures.calls in
+    let taken = c.in_default-insert_in.ensures in
+    let count : length (G.step new).images ≡ length (G.step s2).images = ap length c.commit.ensures.images ∙ drafted_length d.sheets.items (G.step s3).images ∙ taken.calls.edits.count in
+    record {
+      calls = edits_then G law.then old s2 new (walks_edits G old s2 walks) (edits_then G law.then s2 s3 new taken.calls.edits
+          (commit_edits G s3 new d.freed.items d.sheets.items c.commit.ensures.outside (law.trust s3 new _ c.commit.ensures.outside) c.commit.ensures.step c.commit.ensures.images));
+      pages = pages_then (G.step old) (G.step s2) (G.step new) count (walks_pages G old s2 walks)
+          (sheets_pages (G.step s2) (G.step s3) (G.step new) d.freed.items c.remove_all.new.draft.sheets.items d.sheets.items taken.drafted.grows.drawn taken.drafted.whole.sheets c.commit.ensures.step);
+      kept = tt;
+    }
+
+pub returns-in-Err-clause-edits : goal.returns-in-Err-clause-edits
+returns-in-Err-clause-edits g c =
+    let G = g.T.Pages in
+    let old = c.args.t.now in
+    let new = c.spare.new.self in
+    let told = c.in-Err.ensures in
+    let trust = g.met.T.Pages.trust old new _ told.outside in
+    record {
+      calls = refused_edits G old new c.in-Err.refusal told.outside trust told.refused told.kept.count;
+      pages = kept_pages (G.step old) (G.step new) told.kept (ap (λ (s : Step). s.changed) told.refused);
+      kept = record {
+        count = told.kept.count;
+        spares = ap (λ (s : Step). s.spares) told.refused;
+        home_a = ap (λ (s : Step). s.home_a) told.refused;
+        changed = ap (λ (s : Step). s.changed) told.refused;
+        stood = λ page there was. told.kept.reached page (there, or_right (is_one_of (G.step old).reached page) (is_one_of (G.step old).changed page) was);
+        most_reached = ap (λ (s : Step). s.most_reached) told.refused;
+        most_changed = ap (λ (s : Step). s.most_changed) told.refused;
+        outside = told.outside;
+        trust = trust;
+        stays = told.stays;
+      };
+    }
 
 -- the pages are walked, from the promise to the search for the fault
 walked_removing : (g : given.Over) (c : After-fault_of g) → OnlyWalks g.T.Pages (outer_of c.fault_of.result) c.args.t.now c.fault_of.new.t
@@ -123,14 +155,19 @@ walked_removing g c =
 fails_removing : (g : given.Over) (c : After-fault_of g) → FailsTable g.T.Pages c.fault_of.new.t c.fault_of.result
 fails_removing g c = c.fault_of.ensures.cause (shown_tree g.T.Pages c.remove_all.new.t c.in-Err-remove_all.fault c.in-Err-remove_all.ensures.fault)
 
-pub returns-in-Err-remove_all-clause-calls : goal.returns-in-Err-remove_all-clause-calls
-returns-in-Err-remove_all-clause-calls g c = walks_edits g.T.Pages c.args.t.now c.fault_of.new.t (walked_removing g (goal.at.returns-in-Err-remove_all-clause-calls g c).After-fault_of)
+pub returns-in-Err-remove_all-clause-edits : goal.returns-in-Err-remove_all-clause-edits
+returns-in-Err-remove_all-clause-edits g c =
+    let G = g.T.Pages in
+    let w = walked_removing g (goal.at.returns-in-Err-remove_all-clause-edits g c).After-fault_of in
+    record { calls = walks_edits G c.args.t.now c.fault_of.new.t w; pages = walks_pages G c.args.t.now c.fault_of.new.t w; kept = w }
 
-pub returns-in-Err-remove_all-clause-kept : goal.returns-in-Err-remove_all-clause-kept
-returns-in-Err-remove_all-clause-kept g c = walked_removing g (goal.at.returns-in-Err-remove_all-clause-kept g c).After-fault_of
-
-pub returns-in-Err-remove_all-clause-fault : goal.returns-in-Err-remove_all-clause-fault
-returns-in-Err-remove_all-clause-fault g c = inl (fails_removing g (goal.at.returns-in-Err-remove_all-clause-fault g c).After-fault_of)
+pub returns-in-Err-remove_all-clause-failed : goal.returns-in-Err-remove_all-clause-failed
+returns-in-Err-remove_all-clause-failed g c =
+    let same = c.in-Err-remove_all.ensures.calls.looks.count ∙ c.in_default.ensures.kept.count in
+    record {
+      among = among_since (length (g.T.Pages.step c.remove_all.new.t).images) (length (g.T.Pages.step c.args.t.now).images) c.fault_of.result same c.fault_of.ensures.among;
+      cause = inl (fails_removing g (goal.at.returns-in-Err-remove_all-clause-failed g c).After-fault_of);
+    }
 
 pub returns-in-Err-remove_all-clause-full : goal.returns-in-Err-remove_all-clause-full
 returns-in-Err-remove_all-clause-full g c =
@@ -180,25 +217,19 @@ fails_inserting g c =
     c.fault_of-in-Err-insert_in.ensures.cause (shown_with G s3 Q fault mine
     (λ t height tree. let now = subst (λ (p : List (List ℕ)). IsTree p height) (w.stays t) tree in ap (λ (p : List (List ℕ)). entry_with e.key (without_all keys (table_of p height))) (w.stays t) ∙ c.requires.new (w.trust t) height now))
 
-pub returns-in-Err-insert_in-clause-calls : goal.returns-in-Err-insert_in-clause-calls
-returns-in-Err-insert_in-clause-calls g c =
-    walks_edits g.T.Pages c.args.t.now c.fault_of-in-Err-insert_in.new.t (walked_inserting g (goal.at.returns-in-Err-insert_in-clause-calls g c).After-fault_of-in-Err-insert_in)
+pub returns-in-Err-insert_in-clause-edits : goal.returns-in-Err-insert_in-clause-edits
+returns-in-Err-insert_in-clause-edits g c =
+    let G = g.T.Pages in
+    let w = walked_inserting g (goal.at.returns-in-Err-insert_in-clause-edits g c).After-fault_of-in-Err-insert_in in
+    record { calls = walks_edits G c.args.t.now c.fault_of-in-Err-insert_in.new.t w; pages = walks_pages G c.args.t.now c.fault_of-in-Err-insert_in.new.t w; kept = w }
 
-pub returns-in-Err-insert_in-clause-kept : goal.returns-in-Err-insert_in-clause-kept
-returns-in-Err-insert_in-clause-kept g c = walked_inserting g (goal.at.returns-in-Err-insert_in-clause-kept g c).After-fault_of-in-Err-insert_in
-
-pub returns-in-Err-insert_in-clause-changes : goal.returns-in-Err-insert_in-clause-changes
-returns-in-Err-insert_in-clause-changes g c =
-    let w = walked_inserting g (goal.at.returns-in-Err-insert_in-clause-changes g c).After-fault_of-in-Err-insert_in in
-    omega (arith, ap length w.changed, w.most_changed)
-
-pub returns-in-Err-insert_in-clause-taken : goal.returns-in-Err-insert_in-clause-taken
-returns-in-Err-insert_in-clause-taken g c =
-    let w = walked_inserting g (goal.at.returns-in-Err-insert_in-clause-taken g c).After-fault_of-in-Err-insert_in in
-    none_taken 7 (g.T.Pages.step c.args.t.now).spares (g.T.Pages.step c.fault_of-in-Err-insert_in.new.t).spares w.spares
-
-pub returns-in-Err-insert_in-clause-fault : goal.returns-in-Err-insert_in-clause-fault
-returns-in-Err-insert_in-clause-fault g c = inl (fails_inserting g (goal.at.returns-in-Err-insert_in-clause-fault g c).After-fault_of-in-Err-insert_in)
+pub returns-in-Err-insert_in-clause-failed : goal.returns-in-Err-insert_in-clause-failed
+returns-in-Err-insert_in-clause-failed g c =
+    let same = c.in-Err-insert_in.ensures.failed.looks.count ∙ c.in_default-remove_all.ensures.calls.looks.count ∙ c.in_default.ensures.kept.count in
+    record {
+      among = among_since (length (g.T.Pages.step c.insert_in.new.t).images) (length (g.T.Pages.step c.args.t.now).images) c.fault_of-in-Err-insert_in.result same c.fault_of-in-Err-insert_in.ensures.among;
+      cause = inl (fails_inserting g (goal.at.returns-in-Err-insert_in-clause-failed g c).After-fault_of-in-Err-insert_in);
+    }
 
 pub returns-in-Err-insert_in-clause-full : goal.returns-in-Err-insert_in-clause-full
 returns-in-Err-insert_in-clause-full g c =
@@ -210,61 +241,32 @@ returns-in-Err-insert_in-clause-full g c =
     let table = fails_inserting g (goal.at.returns-in-Err-insert_in-clause-full g c).After-fault_of-in-Err-insert_in in
     (λ is. absurd (not_full G new (free_count (G.step old)) (subst (FailsTable G new) (same_err f.result (Pages (NameTableFull (free_count (G.step old)))) is) table)), λ few. absurd (let h = c.in_default.is in let no = sp.full.1 few in cc))
 
--- ---- a page that is named is one of the table
-
-pub returns-in-Err-remove_all-clause-among : goal.returns-in-Err-remove_all-clause-among
-returns-in-Err-remove_all-clause-among g c =
-    let same = c.in-Err-remove_all.ensures.calls.looks.count ∙ c.in_default.ensures.kept.count in
-    among_since (length (g.T.Pages.step c.remove_all.new.t).images) (length (g.T.Pages.step c.args.t.now).images) c.fault_of.result same c.fault_of.ensures.among
-
-pub returns-in-Err-insert_in-clause-among : goal.returns-in-Err-insert_in-clause-among
-returns-in-Err-insert_in-clause-among g c =
-    let f = c.fault_of-in-Err-insert_in in
-    let same = c.in-Err-insert_in.ensures.failed.looks.count ∙ c.in_default-remove_all.ensures.calls.looks.count ∙ c.in_default.ensures.kept.count in
-    among_since (length (g.T.Pages.step c.insert_in.new.t).images) (length (g.T.Pages.step c.args.t.now).images) f.result same f.ensures.among
-
--- ---- what its pages have
-
-pub returns-clause-pages : goal.returns-clause-pages
-returns-clause-pages g c =
-    let G = g.T.Pages in
-    let law = g.met.T.Pages in
-    let old = c.args.t.now in
-    let s1 = c.spare.new.self in
-    let s2 = c.remove_all.new.t in
-    let s3 = c.insert_in.new.t in
-    let d = c.insert_in.new.draft in
-    let sp = c.in_default.ensures in
-    let new = G.step c.commit.new.t in
-    let count : length new.images ≡ length (G.step s2).images = ap length c.commit.ensures.images ∙ drafted_length d.sheets.items (G.step s3).images ∙ c.in_default-insert_in.ensures.calls.edits.count in
-    let walks = promised_walks G law.then law.trust old s1 s2 8 sp.outside sp.kept sp.stays sp.step c.in_default-remove_all.ensures.calls in
-    let taken = c.in_default-insert_in.ensures in
-    pages_then (G.step old) (G.step s2) new count (walks_pages G old s2 walks)
-    (sheets_pages (G.step s2) (G.step s3) new d.freed.items c.remove_all.new.draft.sheets.items d.sheets.items taken.drawn taken.draft.sheets c.commit.ensures.step)
-
-pub returns-in-Err-clause-pages : goal.returns-in-Err-clause-pages
-returns-in-Err-clause-pages g c =
-    let told = c.in-Err.ensures in
-    kept_pages (g.T.Pages.step c.args.t.now) (g.T.Pages.step c.spare.new.self) told.kept (ap (λ (s : Step). s.changed) told.refused)
-
-pub returns-in-Err-remove_all-clause-pages : goal.returns-in-Err-remove_all-clause-pages
-returns-in-Err-remove_all-clause-pages g c = walks_pages g.T.Pages c.args.t.now c.fault_of.new.t (walked_removing g (goal.at.returns-in-Err-remove_all-clause-pages g c).After-fault_of)
-
-pub returns-in-Err-insert_in-clause-pages : goal.returns-in-Err-insert_in-clause-pages
-returns-in-Err-insert_in-clause-pages g c =
-    walks_pages g.T.Pages c.args.t.now c.fault_of-in-Err-insert_in.new.t (walked_inserting g (goal.at.returns-in-Err-insert_in-clause-pages g c).After-fault_of-in-Err-insert_in)
-
 -- ---- what a walk leaves to be changed and taken
 
-pub returns-in-Err-remove_all-clause-changes : goal.returns-in-Err-remove_all-clause-changes
-returns-in-Err-remove_all-clause-changes g c =
+pub returns-in-Err-remove_all-clause-spent : goal.returns-in-Err-remove_all-clause-spent
+returns-in-Err-remove_all-clause-spent g c =
     let old = g.T.Pages.step c.args.t.now in
     let new = g.T.Pages.step c.fault_of.new.t in
-    let walks = walked_removing g (goal.at.returns-in-Err-remove_all-clause-changes g c).After-fault_of in
-    let same : changes new ≡ changes old = ap (λ (n : ℕ). n - length new.changed) walks.most_changed ∙ ap (λ (pages : List ℕ). old.most_changed - length pages) walks.changed in
-    omega (arith, same)
+    let w = walked_removing g (goal.at.returns-in-Err-remove_all-clause-spent g c).After-fault_of in
+    let same : changes new ≡ changes old = ap (λ (n : ℕ). n - length new.changed) w.most_changed ∙ ap (λ (pages : List ℕ). old.most_changed - length pages) w.changed in
+    let promised = ap reaches c.in_default.ensures.step in
+    record { reaches = omega (arith, promised, c.remove_all.ensures.reaches, c.fault_of.ensures.reaches); changes = omega (arith, same) }
 
 pub returns-in-Err-remove_all-clause-taken : goal.returns-in-Err-remove_all-clause-taken
 returns-in-Err-remove_all-clause-taken g c =
     let w = walked_removing g (goal.at.returns-in-Err-remove_all-clause-taken g c).After-fault_of in
     none_taken 7 (g.T.Pages.step c.args.t.now).spares (g.T.Pages.step c.fault_of.new.t).spares w.spares
+
+pub returns-in-Err-insert_in-clause-spent : goal.returns-in-Err-insert_in-clause-spent
+returns-in-Err-insert_in-clause-spent g c =
+    let old = g.T.Pages.step c.args.t.now in
+    let new = g.T.Pages.step c.fault_of-in-Err-insert_in.new.t in
+    let w = walked_inserting g (goal.at.returns-in-Err-insert_in-clause-spent g c).After-fault_of-in-Err-insert_in in
+    let same : changes new ≡ changes old = ap (λ (n : ℕ). n - length new.changed) w.most_changed ∙ ap (λ (pages : List ℕ). old.most_changed - length pages) w.changed in
+    let promised = ap reaches c.in_default.ensures.step in
+    record { reaches = omega (arith, promised, c.remove_all.ensures.reaches, c.insert_in.ensures.reaches, c.fault_of-in-Err-insert_in.ensures.reaches); changes = omega (arith, same) }
+
+pub returns-in-Err-insert_in-clause-taken : goal.returns-in-Err-insert_in-clause-taken
+returns-in-Err-insert_in-clause-taken g c =
+    let w = walked_inserting g (goal.at.returns-in-Err-insert_in-clause-taken g c).After-fault_of-in-Err-insert_in in
+    none_taken 7 (g.T.Pages.step c.args.t.now).spares (g.T.Pages.step c.fault_of-in-Err-insert_in.new.t).spares w.spares

@@ -24,10 +24,20 @@ grow_leaf_with-requires-clause-entries g c =
     let none = absent c.entry_in.result (sym c.is_some.ensures ∙ c.if-is_some.false) in
     with_fits_two pages c.args.child.now.page c.args.entry.now c.args.entries.now _ (c.requires.leaf (g.T.Pages.step c.args.t.now).images (agrees_now (g.T.Pages.step c.args.t.now))) refl c.requires.entry (sym c.entry_in.ensures.with ∙ none)
 
-pub returns-clause-grows : goal.returns-clause-grows
-returns-clause-grows g c = λ pages agrees.
-    grows_leaf c.args.entry.now (with_images pages (g.T.Pages.step c.args.t.now)) (with_images pages (g.T.Pages.step c.grow_leaf_with.new.t)) c.args.draft.now.sheets.items c.grow_leaf_with.new.draft.sheets.items c.args.child.now c.args.entries.now _ c.grow_leaf_with.result
-    (c.requires.leaf pages agrees) refl c.requires.keys c.requires.inside (c.grow_leaf_with.ensures.grown pages agrees.count) (c.grow_leaf_with.ensures.leaves pages agrees.count)
+pub returns-clause-grown : goal.returns-clause-grown
+returns-clause-grown g c =
+    let step = g.T.Pages.step c.args.t.now in
+    let e = c.grow_leaf_with.ensures in
+    record {
+      grown = e.grown;
+      grows = λ pages agrees.
+          grows_leaf c.args.entry.now (with_images pages step) (with_images pages (g.T.Pages.step c.grow_leaf_with.new.t)) c.args.draft.now.sheets.items c.grow_leaf_with.new.draft.sheets.items c.args.child.now c.args.entries.now _ c.grow_leaf_with.result
+          (c.requires.leaf pages agrees) refl c.requires.keys c.requires.inside (e.grown pages agrees.count) (e.leaves pages agrees.count);
+      drawn = e.drawn;
+    }
+
+pub returns-clause-reached : goal.returns-clause-reached
+returns-clause-reached g c = c.grow_leaf_with.ensures.stays.reached
 
 pub returns-clause-calls : goal.returns-clause-calls
 returns-clause-calls g c =
@@ -35,7 +45,7 @@ returns-clause-calls g c =
     let old = c.args.t.now in
     let new = c.grow_leaf_with.new.t in
     let e = c.grow_leaf_with.ensures in
-    takes_only G old new (G.step old).images _ refl (e.grown (G.step old).images refl).takes e.outside (g.met.T.Pages.trust old new _ e.outside) e.images e.home
+    takes_only G old new (G.step old).images _ refl (e.grown (G.step old).images refl).takes e.outside (g.met.T.Pages.trust old new _ e.outside) e.stays.images e.stays.home
 
 pub returns-then-is_some-clause-calls : goal.returns-then-is_some-clause-calls
 returns-then-is_some-clause-calls g c = reaches_takes g.T.Pages c.args.t.now c.args.t.now (reaches_still g.T.Pages c.args.t.now (g.met.T.Pages.still c.args.t.now))

@@ -33,20 +33,32 @@ returns-in-Whole-clause-inserted g c = λ images agrees.
     let at_top = subst (λ (d : Child). Grows e step last pages after 5 d grown) c.top.ensures (c.in_ok-insert_below.ensures.grown images agrees) in
     inserts_whole e step last pages after (subst (Grows e step last pages after 5 top) c.in-Whole.is at_top)
 
-pub returns-in-Whole-clause-draft : goal.returns-in-Whole-clause-draft
-returns-in-Whole-clause-draft g c =
+pub returns-in-Whole-clause-drafted : goal.returns-in-Whole-clause-drafted
+returns-in-Whole-clause-drafted g c =
     let step = g.T.Pages.step c.args.t.now in
     let last = g.T.Pages.step c.insert_below.new.t in
-    let grows = c.in_ok-insert_below.ensures.grown last.images (agrees_now last) in
-    still_draft (with_images last.images step) last grows.came c.args.draft.now c.insert_below.new.draft grows.takes (draft_over last.images step c.args.draft.now c.in_ok-insert_below.ensures.calls.edits.count c.requires.draft) c.in_ok-insert_below.ensures.sheets c.in_ok-insert_below.ensures.freed
+    let below = c.in_ok-insert_below.ensures in
+    let grows = below.grown last.images (agrees_now last) in
+    record {
+      grows = record { room = omega (arith, below.drafted.grows.room); freed = below.drafted.grows.freed; drawn = below.drafted.grows.drawn };
+      whole = still_draft (with_images last.images step) last grows.came c.args.draft.now c.insert_below.new.draft grows.takes (draft_over last.images step c.args.draft.now below.calls.edits.count c.requires.draft) below.drafted.sheets below.drafted.grows.freed;
+    }
 
-pub returns-in-Parted-clause-draft : goal.returns-in-Parted-clause-draft
-returns-in-Parted-clause-draft g c =
+pub returns-in-Parted-clause-drafted : goal.returns-in-Parted-clause-drafted
+returns-in-Parted-clause-drafted g c =
     let step = g.T.Pages.step c.args.t.now in
     let last = g.T.Pages.step c.insert_below.new.t in
-    let grows = c.in_ok-insert_below.ensures.grown last.images (agrees_now last) in
-    still_draft (with_images last.images step) last grows.came c.args.draft.now c.put_ways.new.self grows.takes (draft_over last.images step c.args.draft.now c.in_ok-insert_below.ensures.calls.edits.count c.requires.draft) c.put_ways.ensures.sheets.sheets
-    (c.put_ways.ensures.freed ∙ c.in_ok-insert_below.ensures.freed)
+    let old = c.args.draft.now.sheets.items in
+    let between = c.insert_below.new.draft.sheets.items in
+    let new = c.put_ways.new.self.sheets.items in
+    let below = c.in_ok-insert_below.ensures in
+    let put = c.put_ways.ensures in
+    let grows = below.grown last.images (agrees_now last) in
+    let freed = put.freed ∙ below.drafted.grows.freed in
+    record {
+      grows = record { room = omega (arith, below.drafted.grows.room, put.sheets.one); freed = freed; drawn = sheets_then step last last old between new below.drafted.grows.drawn (one_sheet last between new 0 _ put.sheets) };
+      whole = still_draft (with_images last.images step) last grows.came c.args.draft.now c.put_ways.new.self grows.takes (draft_over last.images step c.args.draft.now below.calls.edits.count c.requires.draft) put.sheets.sheets freed;
+    }
 
 pub returns-in-Parted-clause-inserted : goal.returns-in-Parted-clause-inserted
 returns-in-Parted-clause-inserted g c = λ images agrees.
@@ -73,11 +85,3 @@ pub returns-in_err-insert_below-clause-failed : goal.returns-in_err-insert_below
 returns-in_err-insert_below-clause-failed g c =
     let p = err_from_is_err_and c.from_residual.result c.from_residual.ensures.1 in
     rw (p.1, p.2) c.in_err-insert_below.ensures.failed
-
-pub returns-in-Parted-clause-drawn : goal.returns-in-Parted-clause-drawn
-returns-in-Parted-clause-drawn g c =
-    let last = g.T.Pages.step c.insert_below.new.t in
-    let old = c.args.draft.now.sheets.items in
-    let between = c.insert_below.new.draft.sheets.items in
-    let new = c.put_ways.new.self.sheets.items in
-    sheets_then (g.T.Pages.step c.args.t.now) last last old between new c.in_ok-insert_below.ensures.drawn (one_sheet last between new 0 _ c.put_ways.ensures.sheets)

@@ -23,7 +23,7 @@ loop-key-preserved g c =
     let more : take (i + 1) keys ≡ take i keys ++ key ∷ [] = take_more keys i key (omega arith) ∙ ap (λ (k : Key). take i keys ++ k ∷ []) (sym c.key-item.is) in
     let e = c.in_ok-remove_in.ensures in
     subst (λ (ks : List Key). IsCleared g.T.Pages c.args.t.now c.remove_in.new.t c.remove_in.new.draft ks (i + 1)) (sym more)
-    (cleared_more g.T.Pages g.met.T.Pages.then c.args.t.now c.loop-key.t c.remove_in.new.t c.loop-key.draft c.remove_in.new.draft (take i keys) key i c.loop-key.invariant e.calls e.reaches e.draft e.sheets e.freed e.removed)
+    (cleared_more g.T.Pages g.met.T.Pages.then c.args.t.now c.loop-key.t c.remove_in.new.t c.loop-key.draft c.remove_in.new.draft (take i keys) key i c.loop-key.invariant e.calls e.reaches e.drafted.draft e.drafted.sheets e.drafted.freed e.removed)
 
 pub returns-in_err-remove_in-clause-calls : goal.returns-in_err-remove_in-clause-calls
 returns-in_err-remove_in-clause-calls g c =

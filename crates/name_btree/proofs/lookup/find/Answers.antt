@@ -6,7 +6,7 @@ use Rattle.fsd_formats.specs.NamePage.{FitsEntry}
 use Rattle.name_page.proofs.LookLaws.{shows_trusted}
 use Rattle.name_page.proofs.PutLaws.{found_in}
 use Rattle.name_btree.specs.Fault.{BarsTable}
-use Rattle.name_btree.specs.Lookup.{HoldsAt}
+use Rattle.name_btree.specs.Lookup.{AgreesAt}
 use Rattle.name_btree.proofs.LookupLaws.{find_contains, stands_in, good_entry}
 use Rattle.std.proofs.lemmas.Result.{err_from_is_err_and}
 use Rattle.name_btree.proofs.WithinLaws.{fails_among}
@@ -32,14 +32,14 @@ returns-in-Some-clause-told g c =
 pub returns-in-Some-clause-found : goal.returns-in-Some-clause-found
 returns-in-Some-clause-found g c = λ trusted.
     let found = c.in_ok-found.found in
-    let P : List (List ℕ) → Type 0 = λ (pages : List (List ℕ)). HoldsAt c.args.key.now pages found.entries in
+    let P : List (List ℕ) → Type 0 = λ (pages : List (List ℕ)). AgreesAt c.args.key.now pages found.entries in
     let holds : P (g.T.Pages.step c.args.t.now).images = shows_trusted g.T.Pages P c.args.t.now c.leaf_at.new.t c.in_ok-found.ensures.calls c.in_ok-found.ensures.found.holds trusted in
     λ height t. sym c.in-Some.is ∙ c.entry_in.ensures.with ∙ holds height t
 
 pub returns-in-None-clause-found : goal.returns-in-None-clause-found
 returns-in-None-clause-found g c = λ trusted.
     let found = c.in_ok-found.found in
-    let P : List (List ℕ) → Type 0 = λ (pages : List (List ℕ)). HoldsAt c.args.key.now pages found.entries in
+    let P : List (List ℕ) → Type 0 = λ (pages : List (List ℕ)). AgreesAt c.args.key.now pages found.entries in
     let holds : P (g.T.Pages.step c.args.t.now).images = shows_trusted g.T.Pages P c.args.t.now c.leaf_at.new.t c.in_ok-found.ensures.calls c.in_ok-found.ensures.found.holds trusted in
     λ height t. sym c.in-None.is ∙ c.entry_in.ensures.with ∙ holds height t
 

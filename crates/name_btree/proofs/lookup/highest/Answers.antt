@@ -14,7 +14,7 @@ use Rattle.name_btree.specs.declared.descent.Neighbour.{Neighbour}
 use Rattle.name_page.specs.Looks.{Shows}
 use Rattle.name_page.proofs.LookLaws.{reaches_then, shows_trusted, agrees_before, agrees_now}
 use Rattle.name_btree.specs.Fault.{BarsTable, FailsBeside}
-use Rattle.name_btree.specs.Descent.{IsPlace, EndsWith}
+use Rattle.name_btree.specs.Descent.{IsLeafOfPlace, EndsWithEntry}
 use Rattle.name_page.specs.Lookups.{last_that, same_name}
 use Rattle.name_btree.proofs.HighestLaws.{highest_in_leaf, highest_at_start, highest_in_previous}
 use Rattle.std.proofs.lemmas.Result.{err_from_is_err_and}
@@ -32,10 +32,10 @@ returns-in-Some-clause-found g c = λ trusted height t.
     let pages = (g.T.Pages.step c.args.t.now).images in
     let found = c.in_ok-found.found in
     let name = c.args.name.now in
-    let Q : List (List ℕ) → Type 0 = λ (x : List (List ℕ)). IsPlace (is_before (Named c.copied.result)) x c.top.result found in
+    let Q : List (List ℕ) → Type 0 = λ (x : List (List ℕ)). IsLeafOfPlace (is_before (Named c.copied.result)) x c.top.result found in
     let seen : Q pages = shows_trusted g.T.Pages Q c.args.t.now c.leaf_below.new.t c.in_ok-found.ensures.calls c.in_ok-found.ensures.found.place trusted in
-    let by_name : List ℕ → Type 0 = λ (n : List ℕ). IsPlace (is_before (Named n)) pages c.top.result found in
-    let by_top : Child → Type 0 = λ (d : Child). IsPlace (is_before (Named name)) pages d found in
+    let by_name : List ℕ → Type 0 = λ (n : List ℕ). IsLeafOfPlace (is_before (Named n)) pages c.top.result found in
+    let by_top : Child → Type 0 = λ (d : Child). IsLeafOfPlace (is_before (Named name)) pages d found in
     let place = subst by_top c.top.ensures (subst by_name c.copied.ensures seen) in
     let last = ap (λ (n : List ℕ). last_that (λ x. is_before (Named n) x.key) found.entries) (sym c.copied.ensures) ∙ sym c.last_before.ensures.last ∙ c.in-Some.is in
     named_entry (record { entry = c.in-Some.entry; page = c.in_ok-found.found.page }) (same_name c.in-Some.entry.key.name name) c.named.result c.named.ensures ∙ highest_in_leaf name pages found c.in-Some.entry place last height t
@@ -46,18 +46,18 @@ returns-in_ok-last_below-in-Some-previous-clause-found g c = λ trusted height t
     let pages = (g.T.Pages.step c.args.t.now).images in
     let found = c.in_ok-found.found in
     let name = c.args.name.now in
-    let Q : List (List ℕ) → Type 0 = λ (x : List (List ℕ)). IsPlace (is_before (Named c.copied.result)) x c.top.result found in
+    let Q : List (List ℕ) → Type 0 = λ (x : List (List ℕ)). IsLeafOfPlace (is_before (Named c.copied.result)) x c.top.result found in
     let seen : Q pages = shows_trusted g.T.Pages Q c.args.t.now c.leaf_below.new.t c.in_ok-found.ensures.calls c.in_ok-found.ensures.found.place (second.calls.trust trusted) in
-    let by_name : List ℕ → Type 0 = λ (n : List ℕ). IsPlace (is_before (Named n)) pages c.top.result found in
-    let by_top : Child → Type 0 = λ (d : Child). IsPlace (is_before (Named name)) pages d found in
+    let by_name : List ℕ → Type 0 = λ (n : List ℕ). IsLeafOfPlace (is_before (Named n)) pages c.top.result found in
+    let by_top : Child → Type 0 = λ (d : Child). IsLeafOfPlace (is_before (Named name)) pages d found in
     let place = subst by_top c.top.ensures (subst by_name c.copied.ensures seen) in
     let last = ap (λ (n : List ℕ). last_that (λ x. is_before (Named n) x.key) found.entries) (sym c.copied.ensures) ∙ sym c.last_before.ensures.last ∙ c.in_default.is in
     let e = c.in_ok-last_below-in-Some-previous.field-0.entry in
     let new = c.last_below.new.t in
     let both = reaches_then g.T.Pages g.met.T.Pages.then c.args.t.now c.leaf_below.new.t new c.in_ok-found.ensures.calls second.calls in
-    let B : Neighbour → Type 0 = λ (n : Neighbour). Shows (g.T.Pages.step new) (λ x. EndsWith x n.child e) in
+    let B : Neighbour → Type 0 = λ (n : Neighbour). Shows (g.T.Pages.step new) (λ x. EndsWithEntry x n.child e) in
     let here : B c.in-Some-previous.previous = subst B c.in-Some-previous.previous-is second.found.last in
-    let end = shows_trusted g.T.Pages (λ x. EndsWith x c.in-Some-previous.previous.child e) c.args.t.now new both here trusted in
+    let end = shows_trusted g.T.Pages (λ x. EndsWithEntry x c.in-Some-previous.previous.child e) c.args.t.now new both here trusted in
     named_entry c.in_ok-last_below-in-Some-previous.field-0 (same_name e.key.name name) c.named-in-Some-previous.result c.named-in-Some-previous.ensures ∙ highest_in_previous name pages found c.in-Some-previous.previous e c.in-Some-previous.is place end last height t
 
 pub returns-in-None-clause-found : goal.returns-in-None-clause-found
@@ -65,10 +65,10 @@ returns-in-None-clause-found g c = λ trusted height t.
     let pages = (g.T.Pages.step c.args.t.now).images in
     let found = c.in_ok-found.found in
     let name = c.args.name.now in
-    let Q : List (List ℕ) → Type 0 = λ (x : List (List ℕ)). IsPlace (is_before (Named c.copied.result)) x c.top.result found in
+    let Q : List (List ℕ) → Type 0 = λ (x : List (List ℕ)). IsLeafOfPlace (is_before (Named c.copied.result)) x c.top.result found in
     let seen : Q pages = shows_trusted g.T.Pages Q c.args.t.now c.leaf_below.new.t c.in_ok-found.ensures.calls c.in_ok-found.ensures.found.place trusted in
-    let by_name : List ℕ → Type 0 = λ (n : List ℕ). IsPlace (is_before (Named n)) pages c.top.result found in
-    let by_top : Child → Type 0 = λ (d : Child). IsPlace (is_before (Named name)) pages d found in
+    let by_name : List ℕ → Type 0 = λ (n : List ℕ). IsLeafOfPlace (is_before (Named n)) pages c.top.result found in
+    let by_top : Child → Type 0 = λ (d : Child). IsLeafOfPlace (is_before (Named name)) pages d found in
     let place = subst by_top c.top.ensures (subst by_name c.copied.ensures seen) in
     let last = ap (λ (n : List ℕ). last_that (λ x. is_before (Named n) x.key) found.entries) (sym c.copied.ensures) ∙ sym c.last_before.ensures.last ∙ c.in_default.is in
     highest_at_start name pages found c.in-None.is place last height t

@@ -2,7 +2,7 @@ use Rattle.std.proofs.Common.{◌≡◌, ◌∙◌, length, refl, sym, subst, no
 use Rattle.std.specs.Prelude.{Err, IfSome}
 use Rattle.fsd_formats.specs.declared.entry.Entry.{Entry}
 use Rattle.fsd_formats.specs.NamePage.{FitsEntry}
-use Rattle.name_btree.specs.Lookup.{BeginsBehind, EndsBeside, HasRight, IsFirstBelow, IsLeafBy}
+use Rattle.name_btree.specs.Lookup.{BeginsBehindPlace, EndsBeside, HasRight, IsFirstBelow, IsLeafBy}
 use Rattle.name_btree.proofs.DownLaws.{leaf_by, leaf_later, right_of}
 use Rattle.name_btree.proofs.LookupLaws.{find_contains, stands_in, good_entry, led_to, led_next, later_in_leaf, later_in_next}
 use Rattle.std.specs.Option.{MatchOption, option_copied}
@@ -15,7 +15,7 @@ use Rattle.name_btree.specs.declared.lookup.FoundEntry.{FoundEntry}
 use Rattle.name_page.specs.Looks.{Shows}
 use Rattle.name_page.proofs.LookLaws.{reaches_then, shows_trusted, agrees_before, agrees_now}
 use Rattle.name_btree.specs.Fault.{BarsTable, FailsBeside}
-use Rattle.name_btree.specs.Descent.{IsPlace, BeginsWith}
+use Rattle.name_btree.specs.Descent.{IsLeafOfPlace, BeginsWithEntry}
 use Rattle.name_btree.proofs.NextLaws.{cut_tests, next_in_leaf, next_at_end, next_in_next}
 use Rattle.std.proofs.lemmas.Result.{err_from_is_err_and}
 use Rattle.name_btree.proofs.VisitedLaws.{shown_next, shown_top, top_breaks, next_breaks}
@@ -27,9 +27,9 @@ returns-in-Some-clause-found g c = λ trusted.
     let pages = (g.T.Pages.step c.args.t.now).images in
     let found = c.in_ok-found.found in
     let cut = c.cut_after-cut.result in
-    let Q : List (List ℕ) → Type 0 = λ (x : List (List ℕ)). IsPlace (is_before cut) x c.top.result found in
+    let Q : List (List ℕ) → Type 0 = λ (x : List (List ℕ)). IsLeafOfPlace (is_before cut) x c.top.result found in
     let seen : Q pages = shows_trusted g.T.Pages Q c.args.t.now c.leaf_below.new.t c.in_ok-found.ensures.calls c.in_ok-found.ensures.found.place trusted in
-    let P : Child → Type 0 = λ (d : Child). IsPlace (is_before cut) pages d found in
+    let P : Child → Type 0 = λ (d : Child). IsLeafOfPlace (is_before cut) pages d found in
     let place : P top = subst P c.top.ensures seen in
     next_in_leaf (option_copied c.args.after) cut pages found c.in-Some.entry c.cut_after-cut.ensures place (sym c.first_behind.ensures.first ∙ c.in-Some.is)
 
@@ -39,16 +39,16 @@ returns-in_ok-first_below-in-Some-next-clause-found g c = λ trusted.
     let pages = (g.T.Pages.step c.args.t.now).images in
     let found = c.in_ok-found.found in
     let cut = c.cut_after-cut.result in
-    let Q : List (List ℕ) → Type 0 = λ (x : List (List ℕ)). IsPlace (is_before cut) x c.top.result found in
+    let Q : List (List ℕ) → Type 0 = λ (x : List (List ℕ)). IsLeafOfPlace (is_before cut) x c.top.result found in
     let seen : Q pages = shows_trusted g.T.Pages Q c.args.t.now c.leaf_below.new.t c.in_ok-found.ensures.calls c.in_ok-found.ensures.found.place (second.calls.trust trusted) in
-    let P : Child → Type 0 = λ (d : Child). IsPlace (is_before cut) pages d found in
+    let P : Child → Type 0 = λ (d : Child). IsLeafOfPlace (is_before cut) pages d found in
     let place : P top = subst P c.top.ensures seen in
     let e = c.in_ok-first_below-in-Some-next.field-0.entry in
     let new = c.first_below.new.t in
     let both = reaches_then g.T.Pages g.met.T.Pages.then c.args.t.now c.leaf_below.new.t new c.in_ok-found.ensures.calls second.calls in
-    let B : Neighbour → Type 0 = λ (n : Neighbour). Shows (g.T.Pages.step new) (λ x. BeginsWith x n.child e) in
+    let B : Neighbour → Type 0 = λ (n : Neighbour). Shows (g.T.Pages.step new) (λ x. BeginsWithEntry x n.child e) in
     let here : B c.in-Some-next.next = subst B c.in-Some-next.next-is second.found.first in
-    let begin = shows_trusted g.T.Pages (λ x. BeginsWith x c.in-Some-next.next.child e) c.args.t.now new both here trusted in
+    let begin = shows_trusted g.T.Pages (λ x. BeginsWithEntry x c.in-Some-next.next.child e) c.args.t.now new both here trusted in
     next_in_next (option_copied c.args.after) cut pages found c.in-Some-next.next e c.cut_after-cut.ensures c.in-Some-next.is place begin (sym c.first_behind.ensures.first ∙ c.in_default.is)
 
 pub returns-in-None-clause-found : goal.returns-in-None-clause-found
@@ -56,9 +56,9 @@ returns-in-None-clause-found g c = λ trusted.
     let pages = (g.T.Pages.step c.args.t.now).images in
     let found = c.in_ok-found.found in
     let cut = c.cut_after-cut.result in
-    let Q : List (List ℕ) → Type 0 = λ (x : List (List ℕ)). IsPlace (is_before cut) x c.top.result found in
+    let Q : List (List ℕ) → Type 0 = λ (x : List (List ℕ)). IsLeafOfPlace (is_before cut) x c.top.result found in
     let seen : Q pages = shows_trusted g.T.Pages Q c.args.t.now c.leaf_below.new.t c.in_ok-found.ensures.calls c.in_ok-found.ensures.found.place trusted in
-    let P : Child → Type 0 = λ (d : Child). IsPlace (is_before cut) pages d found in
+    let P : Child → Type 0 = λ (d : Child). IsLeafOfPlace (is_before cut) pages d found in
     let place : P top = subst P c.top.ensures seen in
     next_at_end (option_copied c.args.after) cut pages found c.cut_after-cut.ensures c.in-None.is place (sym c.first_behind.ensures.first ∙ c.in_default.is)
 
@@ -129,7 +129,7 @@ returns-in_ok-first_below-in-Some-next-clause-told g c =
     let leaf : Child = e.from.0 in
     let at = leaf_by (g.T.Pages.step c.args.t.now) mid (is_before cut) 0 c.top.result found e.reached e.used c.in_ok-found.ensures.calls.looks.spares e.leaf leaf e.from.1 refl c.top.ensures in
     let is = sym (cut_tests after cut c.cut_after-cut.ensures found.entries) ∙ sym c.first_behind.ensures.first ∙ c.in_default.is in
-    let begins = subst (λ (o : Option Neighbour). IfSome o (BeginsBehind (is_before cut))) c.in-Some-next.is e.next in
+    let begins = subst (λ (o : Option Neighbour). IfSome o (BeginsBehindPlace (is_before cut))) c.in-Some-next.is e.next in
     record {
       there = second.there;
       way = led_next mid s c.top.result found c.top.ensures looks e.beside n f second.way c.in-Some-next.is;

@@ -16,17 +16,17 @@ use Rattle.name_page.specs.Pages.{Step, with_images, is_spare, reaches}
 use Rattle.name_page.specs.Looks.{Shows}
 use Rattle.name_page.specs.Parting.{used_by}
 use Rattle.name_page.proofs.LookLaws.{reaches_then, agrees_now, agrees_before}
-use Rattle.name_btree.specs.Draft.{drafted}
+use Rattle.name_btree.specs.Draft.{drafted, IsTreeDraft}
 use Rattle.name_btree.specs.Fault.{FailsBy, IsMisfit}
 use Rattle.name_btree.proofs.CauseLaws.{fails_by_map}
 use Rattle.name_btree.proofs.OverLaws.{leaf_over}
-use Rattle.name_btree.specs.Remove.{BreaksAround, IsTrimmedBelow, IsRootLeft}
-use Rattle.name_btree.specs.Trim.{IsUnlike, AreEntries, IsLeafPut, IsOpened, IsMended, IsLeft, MayHave, sheets_below}
+use Rattle.name_btree.specs.Remove.{BreaksAround, IsTrimmedBelow, MayBeLeft, TrimsDraft}
+use Rattle.name_btree.specs.Trim.{IsUnlike, AreEntries, IsLeafPut, IsOpenedPage, IsTrimmedAbove, IsLeft, MayHave, sheets_below}
 use Rattle.name_btree.specs.declared.draft.Sheet.{Sheet}
 use Rattle.name_btree.specs.declared.trimming.Trimmed.{Trimmed}
 use Rattle.name_btree.specs.declared.trimming.Trimmed.TheVariants.{Whole}
 use Rattle.name_btree.specs.declared.trimming.Trimmed.TheVariants as left
-use Rattle.name_btree.proofs.AboveLaws.{ok_on, mended_left, mended_freed, mended_sheets, room_left}
+use Rattle.name_btree.proofs.AboveLaws.{mended_left, mended_freed, mended_sheets, room_left}
 use Rattle.name_btree.proofs.DraftLaws.{drafted_length}
 use Rattle.name_btree.proofs.MendLaws.{draft_kept, page_kept}
 use Rattle.name_btree.proofs.MendedLaws.{trimmed_above, breaks_above}
@@ -37,7 +37,7 @@ use Rattle.name_btree.proofs.RootLaws.{mended_root}
 use Rattle.name_btree.proofs.UnlikeLaws.{unlike_above}
 use Rattle.name_btree.proofs.TrimLaws.{page_ways}
 use Rattle.name_btree.proofs.removing.+remove_below.Goals as goal
-use Rattle.name_btree.proofs.ResultLaws.{ok_more, err_more}
+use Rattle.name_btree.proofs.ResultLaws.{ok_both, ok_more, err_more}
 
 pub returns-in_err-entries : goal.returns-in_err-entries
 returns-in_err-entries g t c =
@@ -49,12 +49,8 @@ returns-in_err-entries g t c =
     rw (p.1, p.2) (record {
       calls = failed.calls;
       reaches = omega (arith, failed.reaches);
-      draft = tt;
-      sheets = tt;
-      freed = tt;
-      page = tt;
+      drafted = tt;
       left = tt;
-      root = tt;
       trimmed = tt;
       fault = fails_by_map (g.T.Pages.step new) (λ pages. IsMisfit (drafted sheets pages) child) (λ pages. BreaksAround c.args.key.now (drafted sheets pages) c.args.levels child)
           (λ images page is h. misfit_below c.args.key.now sheets c.args.levels child images page h) c.in_err-entries.field-0.0 failed.fault;
@@ -78,12 +74,8 @@ returns-in_err-trimmed-in-Interior g t c =
     rw (p.1, p.2) (record {
       calls = reaches_then G g.met.T.Pages.then c.args.t.now c.child_node.new.t new looked.calls calls;
       reaches = omega (arith, looked.reaches, failed.reaches, c.if-levels-gt0.true);
-      draft = tt;
-      sheets = tt;
-      freed = tt;
-      page = tt;
+      drafted = tt;
       left = tt;
-      root = tt;
       trimmed = tt;
       fault = fails_by_map (G.step new) (λ pages. BreaksAround key (drafted draft.sheets.items pages) (c.args.levels - 1) below_child) (λ pages. BreaksAround key (drafted draft.sheets.items pages) c.args.levels child)
           (λ images page agrees h.
@@ -138,20 +130,20 @@ pub trim_above-requires-clause-room : goal.trim_above-requires-clause-room
 trim_above-requires-clause-room g t c some =
     let n : ℕ = length c.args.draft.now.sheets.items in
     let levels : ℕ = c.args.levels - 1 in
-    room_left c.in_ok-trimmed-in-Interior.trimmed n (length c.remove_below.new.draft.sheets.items) levels c.in_ok-trimmed-in-Interior.ensures.sheets (omega arith) some
+    room_left c.in_ok-trimmed-in-Interior.trimmed n (length c.remove_below.new.draft.sheets.items) levels c.in_ok-trimmed-in-Interior.ensures.drafted.sheets (omega arith) some
 
 pub trim_above-requires-clause-below : goal.trim_above-requires-clause-below
 trim_above-requires-clause-below g t c =
     let ways = c.in-Interior.ways in
     subst (λ (d : Child). MayHave (g.T.Pages.step c.remove_below.new.t) d.page)
-    (child_is_at c.args.child.now ways.0 ways.1 c.ways_before-i.result c.child_at-below.result c.ways_before-i.ensures.within c.child_at-below.ensures) c.in_ok-trimmed-in-Interior.ensures.page
+    (child_is_at c.args.child.now ways.0 ways.1 c.ways_before-i.result c.child_at-below.result c.ways_before-i.ensures.within c.child_at-below.ensures) c.in_ok-trimmed-in-Interior.ensures.left.page
 
 pub trim_above-requires-clause-left : goal.trim_above-requires-clause-left
 trim_above-requires-clause-left g t c =
     let ways = c.in-Interior.ways in
     let below = c.in_ok-trimmed-in-Interior.trimmed in
     let same = child_is_at c.args.child.now ways.0 ways.1 c.ways_before-i.result c.child_at-below.result c.ways_before-i.ensures.within c.child_at-below.ensures in
-    let left = subst (λ (n : ℕ). IsLeft n c.child_at-below.result below) (sym c.remove_below.ensures.calls.looks.count) c.in_ok-trimmed-in-Interior.ensures.left in
+    let left = subst (λ (n : ℕ). IsLeft n c.child_at-below.result below) (sym c.remove_below.ensures.calls.looks.count) c.in_ok-trimmed-in-Interior.ensures.left.fits in
     subst (λ (d : Child). IsLeft (length (g.T.Pages.step c.remove_below.new.t).images) d below) same left
 
 pub trim_above-requires-clause-ways : goal.trim_above-requires-clause-ways
@@ -164,7 +156,7 @@ trim_above-requires-clause-ways g t c =
     let fit = sym (ap (λ (n : Node). content_fits child.low child.high (Some (content_of n))) c.in-Interior.is) ∙ c.in_ok-entries.ensures.read.fits in
     let has = page_ways child.page (length pages) ways.0 ways.1 (at_is_page pages child.page (Interior ways.0 ways.1) at) in
     let count : length pages ≡ length (g.T.Pages.step c.remove_below.new.t).images = drafted_length c.args.draft.now.sheets.items mid_step.images ∙ sym c.remove_below.ensures.calls.looks.count in
-    subst (λ (n : ℕ). IsOpened n child ways.0 ways.1) count (record { ways = has.ways; within = fit; least = has.least; most = has.most })
+    subst (λ (n : ℕ). IsOpenedPage n child ways.0 ways.1) count (record { ways = has.ways; within = fit; least = has.least; most = has.most })
 
 pub returns-in-Leaf-clause-left : goal.returns-in-Leaf-clause-left
 returns-in-Leaf-clause-left g t c =
@@ -179,8 +171,12 @@ returns-in-Leaf-clause-left g t c =
     let is = c.entries_without-left.ensures.entries in
     let are = without_leaf pages child.page c.args.key.now entries items at is in
     let few : AreEntries items = record { each = are.0; ascend = are.1; fits = c.entries_without-left.ensures.fits } in
-    leaf_left mid_step c.args.draft.now.sheets.items c.trim_leaf.new.draft.sheets.items (length old.images) child items c.trim_leaf.result few
-    (ap (λ (es : List Entry). keys_fit child.low child.high (entry_keys es)) is ∙ without_fits c.args.key.now child.low child.high entries fit) c.trim_leaf.ensures.put
+    record {
+      page = record { reached = c.in_ok-entries.ensures.read.reached; used = ap (λ (x : List Bool). is_spare x child.page) c.child_node.ensures.calls.looks.spares ∙ c.in_ok-entries.ensures.read.used };
+      fits = leaf_left mid_step c.args.draft.now.sheets.items c.trim_leaf.new.draft.sheets.items (length old.images) child items c.trim_leaf.result few
+          (ap (λ (es : List Entry). keys_fit child.low child.high (entry_keys es)) is ∙ without_fits c.args.key.now child.low child.high entries fit) c.trim_leaf.ensures.put;
+      root = c.trim_leaf.ensures.root;
+    }
 
 pub returns-in-Leaf-clause-trimmed : goal.returns-in-Leaf-clause-trimmed
 returns-in-Leaf-clause-trimmed g t c = λ images agrees level most around.
@@ -201,16 +197,6 @@ returns-in_ok-trimmed-in-Interior-clause-calls g t c =
     let law = g.met.T.Pages.then in
     reaches_then G law c.args.t.now c.child_node.new.t c.trim_above.new.t c.in_ok-entries.ensures.calls (reaches_then G law c.child_node.new.t c.remove_below.new.t c.trim_above.new.t c.in_ok-trimmed-in-Interior.ensures.calls c.trim_above.ensures.calls)
 
-pub returns-in_ok-trimmed-in-Interior-clause-freed : goal.returns-in_ok-trimmed-in-Interior-clause-freed
-returns-in_ok-trimmed-in-Interior-clause-freed g t c =
-    let s = g.T.Pages.step c.trim_above.new.t in
-    let old = c.remove_below.new.draft in
-    let new = c.trim_above.new.draft in
-    let ways = c.in-Interior.ways in
-    let below = c.in_ok-trimmed-in-Interior.trimmed in
-    ok_on c.trim_above.result (λ left. Shows s (λ pages. IsMended (with_images pages s) old new c.args.child.now ways.0 ways.1 c.ways_before-i.result below left)) (length new.freed.items ≤ length c.args.draft.now.freed.items + c.args.levels)
-    (λ left m. omega (arith, mended_freed (with_images s.images s) old new c.args.child.now ways.0 ways.1 c.ways_before-i.result below left (m s.images (agrees_now s)), c.in_ok-trimmed-in-Interior.ensures.freed)) c.trim_above.ensures.mended
-
 pub returns-in_ok-trimmed-in-Interior-clause-left : goal.returns-in_ok-trimmed-in-Interior-clause-left
 returns-in_ok-trimmed-in-Interior-clause-left g t c =
     let s = g.T.Pages.step c.trim_above.new.t in
@@ -225,10 +211,36 @@ returns-in_ok-trimmed-in-Interior-clause-left g t c =
     let at : page_at pages c.args.child.now.page ≡ Some (Interior c.in-Interior.ways.0 c.in-Interior.ways.1) = c.in_ok-entries.ensures.read.node mid_step.images (agrees_now mid_step) ∙ ap (λ (n : Node). Some (content_of n)) c.in-Interior.is in
     let fit = sym (ap (λ (n : Node). content_fits child.low child.high (Some (content_of n))) c.in-Interior.is) ∙ c.in_ok-entries.ensures.read.fits in
     let has = page_ways child.page (length pages) ways.0 ways.1 (at_is_page pages child.page (Interior ways.0 ways.1) at) in
-    let opened : IsOpened (length pages) child ways.0 ways.1 = record { ways = has.ways; within = fit; least = has.least; most = has.most } in
-    let o = subst (λ (n : ℕ). IsOpened n child ways.0 ways.1) (drafted_length c.args.draft.now.sheets.items mid_step.images ∙ c.child_node.ensures.calls.looks.count) opened in
-    ok_more c.trim_above.result (λ left. Shows s (λ pages. IsMended (with_images pages s) draft new child ways.0 ways.1 c.ways_before-i.result below left)) (IsLeft (length old.images) child)
-    (λ left m. mended_left (with_images s.images s) draft new (length old.images) child ways.0 ways.1 c.ways_before-i.result below left o (m s.images (agrees_now s))) c.trim_above.ensures.mended
+    let opened : IsOpenedPage (length pages) child ways.0 ways.1 = record { ways = has.ways; within = fit; least = has.least; most = has.most } in
+    let o = subst (λ (n : ℕ). IsOpenedPage n child ways.0 ways.1) (drafted_length c.args.draft.now.sheets.items mid_step.images ∙ c.child_node.ensures.calls.looks.count) opened in
+    let read = c.in_ok-entries.ensures.read in
+    let first = c.in_ok-trimmed-in-Interior.ensures.calls.looks in
+    let looks = c.trim_above.ensures.calls.looks in
+    ok_more c.trim_above.result (λ left. Shows s (λ pages. IsTrimmedAbove (with_images pages s) draft new child ways.0 ways.1 c.ways_before-i.result below left)) (MayBeLeft s (length old.images) child)
+    (λ left m. record {
+      page = page_kept mid_step s child.page (λ q h. looks.reached q (first.reached q h)) (looks.spares ∙ first.spares)
+          (record { reached = read.reached; used = ap (λ (x : List Bool). is_spare x child.page) c.child_node.ensures.calls.looks.spares ∙ read.used });
+      fits = mended_left (with_images s.images s) draft new (length old.images) child ways.0 ways.1 c.ways_before-i.result below left o (m s.images (agrees_now s));
+      root = mended_root (with_images s.images s) draft new child ways.0 ways.1 c.ways_before-i.result below left (m s.images (agrees_now s));
+    }) c.trim_above.ensures.mended
+
+pub returns-in_ok-trimmed-in-Interior-clause-drafted : goal.returns-in_ok-trimmed-in-Interior-clause-drafted
+returns-in_ok-trimmed-in-Interior-clause-drafted g t c =
+    let s = g.T.Pages.step c.trim_above.new.t in
+    let draft = c.args.draft.now in
+    let mid = c.remove_below.new.draft in
+    let new = c.trim_above.new.draft in
+    let child = c.args.child.now in
+    let ways = c.in-Interior.ways in
+    let i = c.ways_before-i.result in
+    let below = c.in_ok-trimmed-in-Interior.trimmed in
+    let d = c.in_ok-trimmed-in-Interior.ensures.drafted in
+    ok_both c.trim_above.result (IsTreeDraft s new) (λ left. Shows s (λ pages. IsTrimmedAbove (with_images pages s) mid new child ways.0 ways.1 i below left)) (λ left. TrimsDraft s draft new (sheets_below c.args.levels left) c.args.levels)
+    (λ left is m. record {
+      draft = is;
+      sheets = omega (arith, mended_sheets (with_images s.images s) mid new child ways.0 ways.1 i below left (length draft.sheets.items) c.args.levels c.if-levels-gt0.true d.sheets (m s.images (agrees_now s)));
+      freed = omega (arith, mended_freed (with_images s.images s) mid new child ways.0 ways.1 i below left (m s.images (agrees_now s)), d.freed);
+    }) c.trim_above.ensures.draft c.trim_above.ensures.mended
 
 pub returns-in_ok-trimmed-in-Interior-clause-trimmed : goal.returns-in_ok-trimmed-in-Interior-clause-trimmed
 returns-in_ok-trimmed-in-Interior-clause-trimmed g t c =
@@ -244,7 +256,7 @@ returns-in_ok-trimmed-in-Interior-clause-trimmed g t c =
     let i = c.ways_before-i.result in
     let below = c.in_ok-trimmed-in-Interior.trimmed in
     let below_child = c.child_at-below.result in
-    ok_more c.trim_above.result (λ left. Shows s (λ pages. IsMended (with_images pages s) mid new child ways.0 ways.1 i below left))
+    ok_more c.trim_above.result (λ left. Shows s (λ pages. IsTrimmedAbove (with_images pages s) mid new child ways.0 ways.1 i below left))
     (λ left. Shows s (λ pages. IsTrimmedBelow key (drafted draft.sheets.items pages) (drafted new.sheets.items pages) draft.freed.items new.freed.items c.args.levels child left))
     (λ left m images agrees.
     let agrees2 = agrees_before s2 s images c.trim_above.ensures.calls.looks agrees in
@@ -253,11 +265,11 @@ returns-in_ok-trimmed-in-Interior-clause-trimmed g t c =
     let at : page_at pages child.page ≡ Some (Interior ways.0 ways.1) = c.in_ok-entries.ensures.read.node images agrees1 ∙ ap (λ (n : Node). Some (content_of n)) c.in-Interior.is in
     let fit = sym (ap (λ (n : Node). content_fits child.low child.high (Some (content_of n))) c.in-Interior.is) ∙ c.in_ok-entries.ensures.read.fits in
     let has = page_ways child.page (length pages) ways.0 ways.1 (at_is_page pages child.page (Interior ways.0 ways.1) at) in
-    let opened : IsOpened (length pages) child ways.0 ways.1 = record { ways = has.ways; within = fit; least = has.least; most = has.most } in
+    let opened : IsOpenedPage (length pages) child ways.0 ways.1 = record { ways = has.ways; within = fit; least = has.least; most = has.most } in
     let before = subst (λ (k : Key). AllByRecursion (λ s. is_before (UpTo k) s.key ≡ true) (take i ways.1)) c.copied.ensures c.ways_before-i.ensures.before in
     let behind = subst (λ (k : Key). AllByRecursion (λ s. is_before (UpTo k) s.key ≡ false) (drop i ways.1)) c.copied.ensures c.ways_before-i.ensures.behind in
     let count : length s1.images ≡ length pages = sym agrees1.count ∙ sym (drafted_length draft.sheets.items images) in
-    let small = subst (λ (n : ℕ). IsLeft n below_child below) count c.in_ok-trimmed-in-Interior.ensures.left in
+    let small = subst (λ (n : ℕ). IsLeft n below_child below) count c.in_ok-trimmed-in-Interior.ensures.left.fits in
     trimmed_above (with_images images s) images images refl refl key draft mid new c.args.levels child ways.0 ways.1 i below_child below left at opened c.ways_before-i.ensures.within before behind c.child_at-below.ensures small
     (c.in_ok-trimmed-in-Interior.ensures.trimmed images agrees2) (m images agrees)) c.trim_above.ensures.mended
 
@@ -290,34 +302,11 @@ returns-in_ok-trimmed-in-Interior-clause-fault g t c =
     let at : page_at pages child.page ≡ Some (Interior ways.0 ways.1) = c.in_ok-entries.ensures.read.node images agrees1 ∙ ap (λ (n : Node). Some (content_of n)) c.in-Interior.is in
     let fit = sym (ap (λ (n : Node). content_fits child.low child.high (Some (content_of n))) c.in-Interior.is) ∙ c.in_ok-entries.ensures.read.fits in
     let has = page_ways child.page (length pages) ways.0 ways.1 (at_is_page pages child.page (Interior ways.0 ways.1) at) in
-    let opened : IsOpened (length pages) child ways.0 ways.1 = record { ways = has.ways; within = fit; least = has.least; most = has.most } in
+    let opened : IsOpenedPage (length pages) child ways.0 ways.1 = record { ways = has.ways; within = fit; least = has.least; most = has.most } in
     let before = subst (λ (k : Key). AllByRecursion (λ s. is_before (UpTo k) s.key ≡ true) (take i ways.1)) c.copied.ensures c.ways_before-i.ensures.before in
     let behind = subst (λ (k : Key). AllByRecursion (λ s. is_before (UpTo k) s.key ≡ false) (drop i ways.1)) c.copied.ensures c.ways_before-i.ensures.behind in
     unlike_above images images images refl refl key draft mid c.args.levels (length pages) child ways.0 ways.1 i below_child below at opened c.ways_before-i.ensures.within before behind c.child_at-below.ensures
     (c.in_ok-trimmed-in-Interior.ensures.trimmed images agrees2) page u) fault h) c.trim_above.ensures.fault
-
-pub returns-in_ok-trimmed-in-Interior-clause-root : goal.returns-in_ok-trimmed-in-Interior-clause-root
-returns-in_ok-trimmed-in-Interior-clause-root g t c =
-    let s = g.T.Pages.step c.trim_above.new.t in
-    let mid = c.remove_below.new.draft in
-    let new = c.trim_above.new.draft in
-    let child = c.args.child.now in
-    let ways = c.in-Interior.ways in
-    let below = c.in_ok-trimmed-in-Interior.trimmed in
-    ok_more c.trim_above.result (λ left. Shows s (λ pages. IsMended (with_images pages s) mid new child ways.0 ways.1 c.ways_before-i.result below left)) (IsRootLeft child.page)
-    (λ left m. mended_root (with_images s.images s) mid new child ways.0 ways.1 c.ways_before-i.result below left (m s.images (agrees_now s))) c.trim_above.ensures.mended
-
-pub returns-in_ok-trimmed-in-Interior-clause-sheets : goal.returns-in_ok-trimmed-in-Interior-clause-sheets
-returns-in_ok-trimmed-in-Interior-clause-sheets g t c =
-    let s = g.T.Pages.step c.trim_above.new.t in
-    let mid = c.remove_below.new.draft in
-    let new = c.trim_above.new.draft in
-    let child = c.args.child.now in
-    let ways = c.in-Interior.ways in
-    let below = c.in_ok-trimmed-in-Interior.trimmed in
-    ok_more c.trim_above.result (λ left. Shows s (λ pages. IsMended (with_images pages s) mid new child ways.0 ways.1 c.ways_before-i.result below left))
-    (λ left. length new.sheets.items ≤ length c.args.draft.now.sheets.items + sheets_below c.args.levels left)
-    (λ left m. omega (arith, mended_sheets (with_images s.images s) mid new child ways.0 ways.1 c.ways_before-i.result below left (length c.args.draft.now.sheets.items) c.args.levels c.if-levels-gt0.true c.in_ok-trimmed-in-Interior.ensures.sheets (m s.images (agrees_now s)))) c.trim_above.ensures.mended
 
 -- ---- what is written, and what may be
 
@@ -327,19 +316,17 @@ leaf_sheets step old new page entries levels Whole h = omega (arith, h.one)
 leaf_sheets step old new page entries levels (left.Leaf list) h = omega (arith, ap length h.0)
 leaf_sheets step old new page entries levels (left.Interior first list) h = absurd h
 
-pub returns-in-Leaf-clause-sheets : goal.returns-in-Leaf-clause-sheets
-returns-in-Leaf-clause-sheets g t c =
-    leaf_sheets (g.T.Pages.step c.child_node.new.t) c.args.draft.now.sheets.items c.trim_leaf.new.draft.sheets.items c.args.child.now.page c.entries_without-left.result.items c.args.levels c.trim_leaf.result c.trim_leaf.ensures.put
-
 pub trim_leaf-requires-clause-page : goal.trim_leaf-requires-clause-page
 trim_leaf-requires-clause-page g t c =
     let e = c.in_ok-entries.ensures in
     record { reached = e.read.reached; used = ap (λ (x : List Bool). is_spare x c.args.child.now.page) c.child_node.ensures.calls.looks.spares ∙ e.read.used }
 
-pub returns-in-Leaf-clause-page : goal.returns-in-Leaf-clause-page
-returns-in-Leaf-clause-page g t c =
-    let e = c.in_ok-entries.ensures in
-    record { reached = e.read.reached; used = ap (λ (x : List Bool). is_spare x c.args.child.now.page) c.child_node.ensures.calls.looks.spares ∙ e.read.used }
+pub returns-in-Leaf-clause-drafted : goal.returns-in-Leaf-clause-drafted
+returns-in-Leaf-clause-drafted g t c = record {
+  draft = c.trim_leaf.ensures.draft;
+  sheets = leaf_sheets (g.T.Pages.step c.child_node.new.t) c.args.draft.now.sheets.items c.trim_leaf.new.draft.sheets.items c.args.child.now.page c.entries_without-left.result.items c.args.levels c.trim_leaf.result c.trim_leaf.ensures.put;
+  freed = omega (arith, ap length c.trim_leaf.ensures.freed);
+}
 
 pub trim_above-requires-clause-page : goal.trim_above-requires-clause-page
 trim_above-requires-clause-page g t c =
@@ -349,24 +336,11 @@ trim_above-requires-clause-page g t c =
     page_kept (g.T.Pages.step c.child_node.new.t) (g.T.Pages.step c.remove_below.new.t) page looks.reached looks.spares
     (record { reached = e.read.reached; used = ap (λ (x : List Bool). is_spare x page) c.child_node.ensures.calls.looks.spares ∙ e.read.used })
 
-pub returns-in_ok-trimmed-in-Interior-clause-page : goal.returns-in_ok-trimmed-in-Interior-clause-page
-returns-in_ok-trimmed-in-Interior-clause-page g t c =
-    let s = g.T.Pages.step c.trim_above.new.t in
-    let e = c.in_ok-entries.ensures in
-    let page : ℕ = c.args.child.now.page in
-    let ways = c.in-Interior.ways in
-    let below = c.in_ok-trimmed-in-Interior.trimmed in
-    let first = c.in_ok-trimmed-in-Interior.ensures.calls.looks in
-    let looks = c.trim_above.ensures.calls.looks in
-    ok_on c.trim_above.result (λ left. Shows s (λ pages. IsMended (with_images pages s) c.remove_below.new.draft c.trim_above.new.draft c.args.child.now ways.0 ways.1 c.ways_before-i.result below left)) (MayHave s page)
-    (λ left m. page_kept (g.T.Pages.step c.child_node.new.t) s page (λ q h. looks.reached q (first.reached q h)) (looks.spares ∙ first.spares)
-    (record { reached = e.read.reached; used = ap (λ (x : List Bool). is_spare x page) c.child_node.ensures.calls.looks.spares ∙ e.read.used })) c.trim_above.ensures.mended
-
 pub trim_above-requires-clause-more : goal.trim_above-requires-clause-more
 trim_above-requires-clause-more g t c = omega (arith, c.requires.more, c.child_node.ensures.reaches, c.remove_below.ensures.reaches, c.if-levels-gt0.true)
 
 pub trim_above-requires-clause-free : goal.trim_above-requires-clause-free
-trim_above-requires-clause-free g t c = omega (arith, c.in_ok-trimmed-in-Interior.ensures.freed, c.requires.free, c.if-levels-gt0.true)
+trim_above-requires-clause-free g t c = omega (arith, c.in_ok-trimmed-in-Interior.ensures.drafted.freed, c.requires.free, c.if-levels-gt0.true)
 
 pub returns-in_ok-trimmed-in-Interior-clause-reaches : goal.returns-in_ok-trimmed-in-Interior-clause-reaches
 returns-in_ok-trimmed-in-Interior-clause-reaches g t c = omega (arith, c.child_node.ensures.reaches, c.remove_below.ensures.reaches, c.trim_above.ensures.reaches, c.if-levels-gt0.true)

@@ -1,4 +1,5 @@
 use Rattle.std.proofs.Common.{◌≡◌, ◌∙◌, ◌+◌, ◌-◌, ◌≤◌, Bool, sym, ap, subst, length, List, ℕ, arith}
+use Rattle.name_page.specs.Looks.{OnlyWalks}
 use Rattle.name_page.specs.Pages.{Step, reaches, changes, is_spare}
 use Rattle.name_btree.proofs.CommitLaws.{commit_edits, commit_reaches, commit_changes, freed_spare}
 use Rattle.name_btree.proofs.DraftLaws.{committed_spares, drafted_length}
@@ -8,29 +9,29 @@ use Rattle.fsd_table.specs.Tree.{table_of}
 use Rattle.name_page.specs.Edits.{without}
 use Rattle.name_btree.specs.Map.{HasTable}
 use Rattle.name_btree.specs.declared.draft.Sheet.{Sheet}
-use Rattle.name_btree.specs.Fault.{FailsTree, IsNoTree}
+use Rattle.name_btree.specs.Fault.{FailsTree, IsNoTree, outer_of}
 use Rattle.name_btree.proofs.CauseLaws.{fails_by_map}
 use Rattle.name_btree.proofs.SearchLaws.{shown_tree}
 use Rattle.name_btree.proofs.TableLaws.{table_without}
 use Rattle.name_btree.proofs.WithinLaws.{among_since}
 use Rattle.name_btree.proofs.WrittenPages.{commit_pages}
+use Rattle.name_btree.proofs.removing.remove.Given as given
 use Rattle.name_btree.proofs.removing.remove.Goals as goal
+use Rattle.name_btree.proofs.removing.remove.Goals.{After-fault_of}
 
-pub returns-clause-reaches : goal.returns-clause-reaches
-returns-clause-reaches g c =
-    let d = c.remove_in.new.draft in
-    let same : reaches (g.T.Pages.step c.commit.new.t) ≡ reaches (g.T.Pages.step c.remove_in.new.t) = ap reaches c.commit.ensures.step ∙ commit_reaches d.freed.items d.sheets.items (g.T.Pages.step c.remove_in.new.t) in
-    subst (λ (n : ℕ). reaches (g.T.Pages.step c.args.t.now) ≤ n + 12) (sym same) c.remove_in.ensures.reaches
-
-pub returns-clause-changes : goal.returns-clause-changes
-returns-clause-changes g c =
+pub returns-clause-spent : goal.returns-clause-spent
+returns-clause-spent g c =
     let old = g.T.Pages.step c.args.t.now in
     let between = g.T.Pages.step c.remove_in.new.t in
     let d = c.remove_in.new.draft in
+    let back : reaches (g.T.Pages.step c.commit.new.t) ≡ reaches between = ap reaches c.commit.ensures.step ∙ commit_reaches d.freed.items d.sheets.items between in
     let same : changes (g.T.Pages.step c.commit.new.t) ≡ changes (freed d.freed.items (committed d.sheets.items between)) = ap changes c.commit.ensures.step in
     let still : changes between ≡ changes old = omega (arith, c.remove_in.ensures.calls.looks.most_changed, ap length c.remove_in.ensures.calls.looks.changed) in
-    let few : length d.sheets.items ≤ 8 = omega (arith, c.in_default.ensures.sheets, ap length c.new-draft.ensures.sheets) in
-    omega (arith, same, still, few, commit_changes d.freed.items d.sheets.items between)
+    let few : length d.sheets.items ≤ 8 = omega (arith, c.in_default.ensures.drafted.sheets, ap length c.new-draft.ensures.sheets) in
+    record {
+      reaches = subst (λ (n : ℕ). reaches old ≤ n + 12) (sym back) c.remove_in.ensures.reaches;
+      changes = omega (arith, same, still, few, commit_changes d.freed.items d.sheets.items between);
+    }
 
 pub returns-clause-taken : goal.returns-clause-taken
 returns-clause-taken g c = λ page h.
@@ -52,69 +53,56 @@ returns-clause-removed g c = λ trusted height table.
     (table_without old between c.args.key.now c.new-draft.result d c.new-draft.ensures.sheets c.new-draft.ensures.freed (calls.stays t) calls.looks.spares (g.met.T.Pages.flags c.args.t.now)
     removes height table)
 
-pub returns-clause-calls : goal.returns-clause-calls
-returns-clause-calls g c =
+pub returns-clause-edits : goal.returns-clause-edits
+returns-clause-edits g c =
     let G = g.T.Pages in
     let law = g.met.T.Pages in
+    let old = c.args.t.now in
     let mid = c.remove_in.new.t in
     let new = c.commit.new.t in
     let d = c.remove_in.new.draft in
-    edits_then G law.then c.args.t.now mid new (walks_edits G c.args.t.now mid (reaches_walks G c.args.t.now mid c.in_default.ensures.calls))
-    (commit_edits G mid new d.freed.items d.sheets.items c.commit.ensures.outside (law.trust mid new _ c.commit.ensures.outside) c.commit.ensures.step c.commit.ensures.images)
+    let found = c.in_default.ensures in
+    let count : length (G.step new).images ≡ length (G.step mid).images = ap (λ (images : List (List ℕ)). length images) c.commit.ensures.images ∙ drafted_length d.sheets.items (G.step mid).images in
+    record {
+      calls = edits_then G law.then old mid new (walks_edits G old mid (reaches_walks G old mid found.calls))
+          (commit_edits G mid new d.freed.items d.sheets.items c.commit.ensures.outside (law.trust mid new _ c.commit.ensures.outside) c.commit.ensures.step c.commit.ensures.images);
+      pages = pages_then (G.step old) (G.step mid) (G.step new) count (looks_pages (G.step old) (G.step mid) found.calls.looks)
+          (commit_pages d.freed.items d.sheets.items (G.step mid) (G.step new) found.drafted.draft.sheets c.commit.ensures.step);
+      kept = tt;
+    }
 
-pub returns-in-Err-clause-kept : goal.returns-in-Err-clause-kept
-returns-in-Err-clause-kept g c =
-    let G = g.T.Pages in
-    c.fault_of.ensures.calls c.args.t.now (reaches_walks G c.args.t.now c.remove_in.new.t c.in-Err.ensures.calls)
+-- ---- nothing goes
 
-pub returns-in-Err-clause-calls : goal.returns-in-Err-clause-calls
-returns-in-Err-clause-calls g c =
-    let G = g.T.Pages in
-    walks_edits G c.args.t.now c.fault_of.new.t (c.fault_of.ensures.calls c.args.t.now (reaches_walks G c.args.t.now c.remove_in.new.t c.in-Err.ensures.calls))
+walked : (g : given.Over) (c : After-fault_of g) → OnlyWalks g.T.Pages (outer_of c.fault_of.result) c.args.t.now c.fault_of.new.t
+walked g c = c.fault_of.ensures.calls c.args.t.now (reaches_walks g.T.Pages c.args.t.now c.remove_in.new.t c.in-Err.ensures.calls)
 
-pub returns-in-Err-clause-fault : goal.returns-in-Err-clause-fault
-returns-in-Err-clause-fault g c =
+pub returns-in-Err-clause-edits : goal.returns-in-Err-clause-edits
+returns-in-Err-clause-edits g c =
     let G = g.T.Pages in
-    let old = c.args.t.now in
+    let w = walked g (goal.at.returns-in-Err-clause-edits g c).After-fault_of in
+    record { calls = walks_edits G c.args.t.now c.fault_of.new.t w; pages = walks_pages G c.args.t.now c.fault_of.new.t w; kept = w }
+
+pub returns-in-Err-clause-failed : goal.returns-in-Err-clause-failed
+returns-in-Err-clause-failed g c =
+    let G = g.T.Pages in
     let mid = c.remove_in.new.t in
     let empty = c.new-draft.result in
     let fault = c.in-Err.fault in
     let bare = fails_by_map (G.step mid) (λ pages page. IsNoTree (drafted empty.sheets.items pages)) (λ pages page. IsNoTree pages)
     (λ images page is h. subst IsNoTree (ap (λ (xs : List Sheet). drafted xs images) c.new-draft.ensures.sheets) h) fault c.in-Err.ensures.fault in
     let fails : FailsTree G mid fault = shown_tree G mid fault bare in
-    c.fault_of.ensures.cause fails
+    record {
+      among = among_since (length (G.step mid).images) (length (G.step c.args.t.now).images) c.fault_of.result c.in-Err.ensures.calls.looks.count c.fault_of.ensures.among;
+      cause = c.fault_of.ensures.cause fails;
+    }
 
--- a page that is named is one of the table
-pub returns-in-Err-clause-among : goal.returns-in-Err-clause-among
-returns-in-Err-clause-among g c =
-    among_since (length (g.T.Pages.step c.remove_in.new.t).images) (length (g.T.Pages.step c.args.t.now).images) c.fault_of.result c.in-Err.ensures.calls.looks.count c.fault_of.ensures.among
-
--- what its pages have
-pub returns-clause-pages : goal.returns-clause-pages
-returns-clause-pages g c =
+pub returns-in-Err-clause-spent : goal.returns-in-Err-clause-spent
+returns-in-Err-clause-spent g c =
     let old = g.T.Pages.step c.args.t.now in
-    let between = g.T.Pages.step c.remove_in.new.t in
-    let new = g.T.Pages.step c.commit.new.t in
-    let d = c.remove_in.new.draft in
-    let count : length new.images ≡ length between.images = ap (λ (images : List (List ℕ)). length images) c.commit.ensures.images ∙ drafted_length d.sheets.items between.images in
-    pages_then old between new count (looks_pages old between c.in_default.ensures.calls.looks) (commit_pages d.freed.items d.sheets.items between new c.in_default.ensures.draft.sheets c.commit.ensures.step)
-
-pub returns-in-Err-clause-pages : goal.returns-in-Err-clause-pages
-returns-in-Err-clause-pages g c =
-    let G = g.T.Pages in
-    walks_pages G c.args.t.now c.fault_of.new.t (c.fault_of.ensures.calls c.args.t.now (reaches_walks G c.args.t.now c.remove_in.new.t c.in-Err.ensures.calls))
-
-pub returns-in-Err-clause-changes : goal.returns-in-Err-clause-changes
-returns-in-Err-clause-changes g c =
-    let G = g.T.Pages in
-    let old = G.step c.args.t.now in
-    let new = G.step c.fault_of.new.t in
-    let walks = c.fault_of.ensures.calls c.args.t.now (reaches_walks G c.args.t.now c.remove_in.new.t c.in-Err.ensures.calls) in
-    let same : changes new ≡ changes old = ap (λ (n : ℕ). n - length new.changed) walks.most_changed ∙ ap (λ (pages : List ℕ). old.most_changed - length pages) walks.changed in
-    omega (arith, same)
+    let new = g.T.Pages.step c.fault_of.new.t in
+    let w = walked g (goal.at.returns-in-Err-clause-spent g c).After-fault_of in
+    let same : changes new ≡ changes old = ap (λ (n : ℕ). n - length new.changed) w.most_changed ∙ ap (λ (pages : List ℕ). old.most_changed - length pages) w.changed in
+    record { reaches = omega (arith, c.remove_in.ensures.reaches, c.fault_of.ensures.reaches); changes = omega (arith, same) }
 
 pub returns-in-Err-clause-taken : goal.returns-in-Err-clause-taken
-returns-in-Err-clause-taken g c = λ page is.
-    let G = g.T.Pages in
-    let walks = c.fault_of.ensures.calls c.args.t.now (reaches_walks G c.args.t.now c.remove_in.new.t c.in-Err.ensures.calls) in
-    ap (λ (spares : List Bool). is_spare spares page) walks.spares ∙ is
+returns-in-Err-clause-taken g c = λ page is. ap (λ (spares : List Bool). is_spare spares page) (walked g (goal.at.returns-in-Err-clause-taken g c).After-fault_of).spares ∙ is

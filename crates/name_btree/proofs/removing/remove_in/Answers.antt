@@ -6,15 +6,15 @@ use Rattle.fsd_table.specs.Table.{top}
 use Rattle.name_page.specs.Pages.{with_images}
 use Rattle.name_page.specs.Looks.{Shows}
 use Rattle.name_page.proofs.LookLaws.{reaches_then, agrees_now, agrees_before}
-use Rattle.name_btree.specs.Draft.{drafted, RemovesFrom}
+use Rattle.name_btree.specs.Draft.{drafted, IsTreeDraft, RemovesFrom}
 use Rattle.name_btree.specs.Fault.{FailsBy, IsNoTree}
-use Rattle.name_btree.specs.Remove.{BreaksAround, IsTrimmedBelow, IsRootLeft}
+use Rattle.name_btree.specs.Remove.{BreaksAround, IsTrimmedBelow, IsRootLeft, TrimsDraft}
 use Rattle.name_btree.specs.Trim.{IsFreeOrNone, IsTakenOver, sheets_below}
 use Rattle.name_btree.proofs.AboveLaws.{freed_more}
 use Rattle.name_btree.proofs.CauseLaws.{fails_by_map}
 use Rattle.name_btree.proofs.RootLaws.{whole_tree, shrunk_tree, free_breaks, around_breaks, only_of, on_ok_more}
 use Rattle.name_btree.proofs.removing.remove_in.Goals as goal
-use Rattle.name_btree.proofs.ResultLaws.{err_more}
+use Rattle.name_btree.proofs.ResultLaws.{err_more, on_ok_both}
 
 pub returns-in_err-remove_below-clause-fault : goal.returns-in_err-remove_below-clause-fault
 returns-in_err-remove_below-clause-fault g c =
@@ -39,21 +39,28 @@ returns-in-Whole-clause-removed g c = λ images agrees height tree apart.
 pub returns-in-Interior-clause-calls : goal.returns-in-Interior-clause-calls
 returns-in-Interior-clause-calls g c = reaches_then g.T.Pages g.met.T.Pages.then c.args.t.now c.remove_below.new.t c.take_over.new.t c.in_ok-remove_below.ensures.calls c.take_over.ensures.calls
 
-pub returns-in-Interior-clause-freed : goal.returns-in-Interior-clause-freed
-returns-in-Interior-clause-freed g c =
-    let s = g.T.Pages.step c.take_over.new.t in
-    let mid = c.remove_below.new.draft in
-    let new = c.take_over.new.draft in
-    on_ok_more c.take_over.result (Shows s (λ pages. IsTakenOver (with_images pages s) mid new c.in-Interior.only)) (length new.freed.items ≤ length c.args.draft.now.freed.items + 6)
-    (λ h. omega (arith, ap length (h s.images (agrees_now s)).freed, freed_more c.in-Interior.only mid.freed.items, c.in_ok-remove_below.ensures.freed)) c.take_over.ensures.taken
+pub returns-in-Whole-clause-drafted : goal.returns-in-Whole-clause-drafted
+returns-in-Whole-clause-drafted g c =
+    let d = c.in_ok-remove_below.ensures.drafted in
+    record { draft = d.draft; sheets = omega (arith, d.sheets, ap (sheets_below 5) c.in-Whole.is); freed = omega (arith, d.freed) }
 
-pub returns-in-Interior-clause-sheets : goal.returns-in-Interior-clause-sheets
-returns-in-Interior-clause-sheets g c =
+pub returns-in-Leaf-clause-drafted : goal.returns-in-Leaf-clause-drafted
+returns-in-Leaf-clause-drafted g c =
+    let d = c.in_ok-remove_below.ensures.drafted in
+    record { draft = d.draft; sheets = omega (arith, d.sheets, ap (sheets_below 5) c.in-Leaf.is); freed = omega (arith, d.freed) }
+
+pub returns-in-Interior-clause-drafted : goal.returns-in-Interior-clause-drafted
+returns-in-Interior-clause-drafted g c =
     let s = g.T.Pages.step c.take_over.new.t in
     let mid = c.remove_below.new.draft in
     let new = c.take_over.new.draft in
-    on_ok_more c.take_over.result (Shows s (λ pages. IsTakenOver (with_images pages s) mid new c.in-Interior.only)) (length new.sheets.items ≤ length c.args.draft.now.sheets.items + 8)
-    (λ h. omega (arith, (h s.images (agrees_now s)).now.one, c.in_ok-remove_below.ensures.sheets, ap (sheets_below 5) c.in-Interior.is)) c.take_over.ensures.taken
+    let d = c.in_ok-remove_below.ensures.drafted in
+    on_ok_both c.take_over.result (IsTreeDraft s new) (Shows s (λ pages. IsTakenOver (with_images pages s) mid new c.in-Interior.only)) (TrimsDraft s c.args.draft.now new 8 6)
+    (λ draft h. record {
+      draft = draft;
+      sheets = omega (arith, (h s.images (agrees_now s)).now.one, d.sheets, ap (sheets_below 5) c.in-Interior.is);
+      freed = omega (arith, ap length (h s.images (agrees_now s)).freed, freed_more c.in-Interior.only mid.freed.items, d.freed);
+    }) c.take_over.ensures.draft c.take_over.ensures.taken
 
 pub returns-in-Interior-clause-removed : goal.returns-in-Interior-clause-removed
 returns-in-Interior-clause-removed g c =
@@ -65,7 +72,7 @@ returns-in-Interior-clause-removed g c =
     let new = c.take_over.new.draft in
     let only = c.in-Interior.only in
     let left = c.in_ok-remove_below.field-0 in
-    let root = subst (λ (x : Child). IsRootLeft x.page left) c.top.ensures c.in_ok-remove_below.ensures.root in
+    let root = subst (λ (x : Child). IsRootLeft x.page left) c.top.ensures c.in_ok-remove_below.ensures.left.root in
     let is : only_of left ≡ Some only = ap only_of c.in-Interior.is in
     on_ok_more c.take_over.result (Shows s (λ pages. IsTakenOver (with_images pages s) mid new only)) (Shows s (λ pages. RemovesFrom pages draft new key))
     (λ taken images agrees height tree apart.

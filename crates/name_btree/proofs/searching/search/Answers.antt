@@ -28,7 +28,7 @@ returns-in-Err-Pages g c =
       calls = subst (λ (f : TreeFault). OnlyWalks P (outer_of f) old new) is found.calls;
       memory = subst (λ (f : TreeFault). NeedsNoMore P (outer_of f) old new) is found.memory;
       reaches = reaches_refused (P.step old) (P.step new) c.in-Err-Pages.refusal found.calls.most_reached (subst (HasRefusal (rested (P.step new)) (P.step new)) is found.refused);
-      cause = λ none. subst (FailsTable P new) is found.fault;
+      cause = λ none. subst (FailsTable P new) is found.failed.cause;
       among = λ some. tt;
     }
 
@@ -46,8 +46,8 @@ returns-in-Err-Broken g c =
       calls = walks_then P law.then old mid new (subst (λ (f : TreeFault). OnlyWalks P (outer_of f) old mid) is found.calls) (rest_walks P mid new rest.outside (law.trust mid new None rest.outside) rest.step);
       memory = no_more_then P old mid new (subst (λ (f : TreeFault). NeedsNoMore P (outer_of f) old mid) is found.memory) (λ all. rest.memory);
       reaches = reaches_again (P.step old) (P.step mid) (P.step new) found.calls.most_reached rest.step;
-      cause = λ none t. subst (λ (images : List (List ℕ)). BreaksTable images c.in-Err-Broken.page) (sym (ap (λ (s : Step). s.images) rest.step)) (subst (FailsTable P mid) is found.fault (law.trust mid new None rest.outside t));
-      among = λ some. subst (IsAmong (length (P.step old).images)) is (found.among some);
+      cause = λ none t. subst (λ (images : List (List ℕ)). BreaksTable images c.in-Err-Broken.page) (sym (ap (λ (s : Step). s.images) rest.step)) (subst (FailsTable P mid) is found.failed.cause (law.trust mid new None rest.outside t));
+      among = λ some. subst (IsAmong (length (P.step old).images)) is (found.failed.among some);
     }
 
 pub returns-in-Ok : goal.returns-in-Ok

@@ -18,7 +18,7 @@ use Rattle.name_btree.proofs.CauseLaws.{fails_by_map}
 use Rattle.name_btree.proofs.DescentLaws.{misfit_leaf}
 use Rattle.name_btree.proofs.OverLaws.{leaves_over}
 use Rattle.name_btree.specs.Draft.{drafted}
-use Rattle.name_btree.specs.Trim.{HasNoLeaf, MayHave, beside, child_of, entries_at, AreLeavesMended}
+use Rattle.name_btree.specs.Trim.{HasNoLeaf, MayHave, neighbour_of, child_of, both_entries, AreLeavesMended}
 use Rattle.name_btree.proofs.MendLaws.{draft_kept, page_kept, left_page, right_page, leaves_at, AreBothLeaves}
 use Rattle.name_btree.proofs.PairLaws.{sides_are}
 use Rattle.name_btree.proofs.ReplaceLaws.{few_in_leaf}
@@ -56,8 +56,8 @@ put_leaves-requires g c =
     let kept = c.child_node.ensures.calls.looks.reached in
     let child_may = page_kept old new child.page kept c.child_node.ensures.calls.looks.spares c.requires.below in
     let other_may : MayHave new neighbour.page = record { reached = c.in_ok-others.ensures.read.reached; used = ap (λ (x : List Bool). is_spare x neighbour.page) c.child_node.ensures.calls.looks.spares ∙ c.in_ok-others.ensures.read.used } in
-    let joined : list ≡ entries_at c.args.i few others = c.as_slice-in-Leaf-2.ensures.value ∙ c.leaves_joined-list.ensures
-    ∙ ap (λ (xs : List Entry). entries_at c.args.i xs c.as_slice-in-Leaf.result.now) c.as_slice.ensures.value ∙ ap (entries_at c.args.i few) (c.as_slice-in-Leaf.ensures.value ∙ c.listed.ensures.entries) in
+    let joined : list ≡ both_entries c.args.i few others = c.as_slice-in-Leaf-2.ensures.value ∙ c.leaves_joined-list.ensures
+    ∙ ap (λ (xs : List Entry). both_entries c.args.i xs c.as_slice-in-Leaf.result.now) c.as_slice.ensures.value ∙ ap (both_entries c.args.i few) (c.as_slice-in-Leaf.ensures.value ∙ c.listed.ensures.entries) in
     let all = subst (AreBothLeaves above ways.0 ways.1 pair) (sym joined) both in
     record {
       room = search rules;
@@ -86,8 +86,8 @@ returns-in-Leaf-clause-mended g c = λ images agrees.
     let draft = c.args.draft.now in
     let cs : List Child = children ways.0 above.low above.high ways.1 in
     let list : List Entry = c.as_slice-in-Leaf-2.result.now in
-    let joined : list ≡ entries_at c.args.i few others = c.as_slice-in-Leaf-2.ensures.value ∙ c.leaves_joined-list.ensures
-    ∙ ap (λ (xs : List Entry). entries_at c.args.i xs c.as_slice-in-Leaf.result.now) c.as_slice.ensures.value ∙ ap (entries_at c.args.i few) (c.as_slice-in-Leaf.ensures.value ∙ c.listed.ensures.entries) in
+    let joined : list ≡ both_entries c.args.i few others = c.as_slice-in-Leaf-2.ensures.value ∙ c.leaves_joined-list.ensures
+    ∙ ap (λ (xs : List Entry). both_entries c.args.i xs c.as_slice-in-Leaf.result.now) c.as_slice.ensures.value ∙ ap (both_entries c.args.i few) (c.as_slice-in-Leaf.ensures.value ∙ c.listed.ensures.entries) in
     let put = subst (λ (xs : List Entry). AreLeavesMended new draft c.put_leaves.new.draft above.page ways.0 ways.1 pair xs c.put_leaves.result) joined c.put_leaves.ensures.put in
     record {
       pair = pair;
@@ -112,7 +112,7 @@ returns-in_err-others-clause-fault g c =
     let ways = c.args.ways.now in
     let cs : List Child = children ways.0 above.low above.high ways.1 in
     let n = c.child_at-neighbour.result in
-    let there : slice_get cs (beside c.args.i) ≡ Some n = ap (slice_get cs) (sym c.neighbour_of.ensures) ∙ c.child_at-neighbour.ensures in
+    let there : slice_get cs (neighbour_of c.args.i) ≡ Some n = ap (slice_get cs) (sym c.neighbour_of.ensures) ∙ c.child_at-neighbour.ensures in
     let p = err_from_is_err_and c.from_residual.result c.from_residual.ensures.1 in
     rw (p.1, p.2) (fails_by_map (g.T.Pages.step c.child_node.new.t) (λ pages. IsMisfit (drafted sheets pages) n) (λ pages. HasNoLeaf (drafted sheets pages) cs c.args.i)
     (λ images page is h d at leaf root.

@@ -17,7 +17,7 @@ use Rattle.name_btree.specs.Fault.{IsMisfit}
 use Rattle.name_btree.proofs.CauseLaws.{fails_by_map}
 use Rattle.name_btree.proofs.OverLaws.{interiors_over}
 use Rattle.name_btree.specs.Draft.{drafted}
-use Rattle.name_btree.specs.Trim.{HasNoWays, MayHave, AreWays, beside, child_of, AreWaysMended, ways_at, is_behind, right_at}
+use Rattle.name_btree.specs.Trim.{HasNoWays, MayHave, AreWays, neighbour_of, child_of, AreWaysMended, ways_at, is_behind, right_at}
 use Rattle.name_btree.proofs.DraftLaws.{drafted_length}
 use Rattle.name_btree.proofs.MendLaws.{draft_kept, page_kept, left_page, right_page, ways_found, ways_count}
 use Rattle.name_btree.proofs.PairLaws.{sides_are, same_of}
@@ -133,7 +133,7 @@ returns-in_err-others-clause-fault g c =
     let ways = c.args.ways.now in
     let cs : List Child = children ways.0 above.low above.high ways.1 in
     let n = c.child_at-neighbour.result in
-    let there : slice_get cs (beside c.args.i) ≡ Some n = ap (slice_get cs) (sym c.neighbour_of.ensures) ∙ c.child_at-neighbour.ensures in
+    let there : slice_get cs (neighbour_of c.args.i) ≡ Some n = ap (slice_get cs) (sym c.neighbour_of.ensures) ∙ c.child_at-neighbour.ensures in
     let p = err_from_is_err_and c.from_residual.result c.from_residual.ensures.1 in
     rw (p.1, p.2) (fails_by_map (g.T.Pages.step c.child_node.new.t) (λ pages. IsMisfit (drafted sheets pages) n) (λ pages. HasNoWays (drafted sheets pages) above ways.0 ways.1 c.args.i c.args.few.now.items)
     (λ images page is h d at root second others has fits s between behind.

@@ -7,7 +7,7 @@ use Rattle.name_btree.specs.declared.trimming.Trimmed.TheVariants.{Whole}
 use Rattle.name_btree.specs.declared.trimming.Trimmed.{Trimmed}
 use Rattle.name_btree.specs.Draft.{drafted}
 use Rattle.name_btree.specs.Fault.{FailsBy}
-use Rattle.name_btree.specs.Trim.{IsLeft, IsMended, IsUnlike, child_of}
+use Rattle.name_btree.specs.Trim.{IsLeft, IsTrimmedAbove, IsUnlike, child_of}
 use Rattle.name_btree.proofs.trimming.trim_above.Goals as goal
 
 pub mend_leaf-requires-clause-room : goal.mend_leaf-requires-clause-room
@@ -34,7 +34,7 @@ returns-in-Leaf-clause-mended g c =
     let s = g.T.Pages.step c.mend_leaf.new.t in
     let ways = c.args.ways.now in
     let P : Trimmed → Type 0 = λ (x : Trimmed).
-    IfOk c.mend_leaf.result (λ left. Shows s (λ pages. IsMended (with_images pages s) c.args.draft.now c.mend_leaf.new.draft c.args.above.now ways.0 ways.1 c.args.i x left)) in
+    IfOk c.mend_leaf.result (λ left. Shows s (λ pages. IsTrimmedAbove (with_images pages s) c.args.draft.now c.mend_leaf.new.draft c.args.above.now ways.0 ways.1 c.args.i x left)) in
     subst P (sym c.in-Leaf.is) c.mend_leaf.ensures.mended
 
 pub returns-in-Leaf-clause-calls : goal.returns-in-Leaf-clause-calls
@@ -56,7 +56,7 @@ returns-in-Interior-clause-mended g c =
     let s = g.T.Pages.step c.mend_ways.new.t in
     let ways = c.args.ways.now in
     let P : Trimmed → Type 0 = λ (x : Trimmed).
-    IfOk c.mend_ways.result (λ left. Shows s (λ pages. IsMended (with_images pages s) c.args.draft.now c.mend_ways.new.draft c.args.above.now ways.0 ways.1 c.args.i x left)) in
+    IfOk c.mend_ways.result (λ left. Shows s (λ pages. IsTrimmedAbove (with_images pages s) c.args.draft.now c.mend_ways.new.draft c.args.above.now ways.0 ways.1 c.args.i x left)) in
     subst P (sym c.in-Interior.is) c.mend_ways.ensures.mended
 
 pub returns-in-Interior-clause-calls : goal.returns-in-Interior-clause-calls
@@ -85,4 +85,4 @@ returns-in-Whole-clause-mended g c = λ images agrees.
     let s = g.T.Pages.step c.args.t.now in
     let ways = c.args.ways.now in
     let draft = c.args.draft.now in
-    subst (λ (x : Trimmed). IsMended (with_images images s) draft draft c.args.above.now ways.0 ways.1 c.args.i x Whole) (sym c.in-Whole.is) (refl, refl)
+    subst (λ (x : Trimmed). IsTrimmedAbove (with_images images s) draft draft c.args.above.now ways.0 ways.1 c.args.i x Whole) (sym c.in-Whole.is) (refl, refl)

@@ -9,7 +9,7 @@ use Rattle.name_page.specs.Pages.{Step, is_spare, reaches, rested}
 use Rattle.name_page.proofs.LookLaws.{no_more_rested, no_more_still, no_more_then, reaches_still, reaches_walks, rest_reaches, walks_then}
 use Rattle.name_page.specs.declared.node.Node.{Node}
 use Rattle.name_page.specs.Node.{content_of}
-use Rattle.name_btree.specs.Walk.{is_marked, IsWalked, AreWalked, ComesTo, FailsWalk}
+use Rattle.name_btree.specs.Walk.{is_marked, IsWalkedSubtree, AreWalked, ComesTo, FailsOver}
 use Rattle.name_page.proofs.CountLaws.{few_separators, few_entries, take_short, take_whole}
 use Rattle.name_btree.proofs.ResultLaws.{ok_more, err_more}
 use Rattle.fsd_table.proofs.PageLaws.{length_of_children}
@@ -23,35 +23,48 @@ use Rattle.name_btree.proofs.ComeLaws.{marked_breaks, leaf_breaks, interior_brea
 use Rattle.name_btree.proofs.walking.+walk.Goals as goal
 use Rattle.name_btree.proofs.walking.+walk.Goals.{walk_below-in_default-via-in-Leaf+else-level-eq0, walk_below-in_default-via-in-Interior+else-level-gt0, walk_below-in_default-via-in_default}
 
-pub walk_below-returns-then-not-is_new-clause-fault : goal.walk_below-returns-then-not-is_new-clause-fault
-walk_below-returns-then-not-is_new-clause-fault g t c = λ trusted.
-    let no : c.is_new.result ≡ false = cc in
-    marked_breaks c.args.level (g.T.Pages.step c.args.t.now).images c.args.child.now c.args.reached.now (sym c.is_new.ensures.new ∙ no)
+pub walk_below-returns-then-not-is_new-clause-failed : goal.walk_below-returns-then-not-is_new-clause-failed
+walk_below-returns-then-not-is_new-clause-failed g t c = record {
+  cause = λ trusted.
+      let no : c.is_new.result ≡ false = cc in
+      marked_breaks c.args.level (g.T.Pages.step c.args.t.now).images c.args.child.now c.args.reached.now (sym c.is_new.ensures.new ∙ no);
+  refused = tt;
+}
 
 pub walk_below-returns-then-not-is_new-clause-calls : goal.walk_below-returns-then-not-is_new-clause-calls
 walk_below-returns-then-not-is_new-clause-calls g t c = reaches_walks g.T.Pages c.args.t.now c.args.t.now (reaches_still g.T.Pages c.args.t.now (g.met.T.Pages.still c.args.t.now))
 
 -- a page of a kind that doesn't belong to the level
-pub walk_below-returns-in_default-clause-fault : goal.walk_below-returns-in_default-clause-fault
-walk_below-returns-in_default-clause-fault g t c = λ trusted.
+pub walk_below-returns-in_default-clause-failed : goal.walk_below-returns-in_default-clause-failed
+walk_below-returns-in_default-clause-failed g t c =
     let child = c.args.child.now in
     let level = c.args.level in
     let marks = c.args.reached.now in
     let pages = (g.T.Pages.step c.child_node.new.t).images in
     let is = c.in_ok-entries.ensures.read.node in
-    elim c.in_default.branch [
-      | walk_below-in_default-via-in-Leaf+else-level-eq0 w ↦
-          leaf_breaks level pages child marks w.in-Leaf.entries (is ∙ ap (λ (n : Node). Some (content_of n)) w.in-Leaf.is) (omega (arith, w.if-level-eq0.false))
-      | walk_below-in_default-via-in-Interior+else-level-gt0 w ↦
-          interior_breaks level pages child marks w.in-Interior.ways.0 w.in-Interior.ways.1 (is ∙ ap (λ (n : Node). Some (content_of n)) w.in-Interior.is) (omega (arith, w.if-level-gt0.false))
-      | walk_below-in_default-via-in_default w ↦
-          absurd (let none : false ≡ true = ap (λ (n : Node). content_fits child.low child.high (Some (content_of n))) (sym w.in_default.is) ∙ c.in_ok-entries.ensures.read.fits in cc)
-    ]
+    record {
+      cause = λ trusted. elim c.in_default.branch [
+        | walk_below-in_default-via-in-Leaf+else-level-eq0 w ↦
+            leaf_breaks level pages child marks w.in-Leaf.entries (is ∙ ap (λ (n : Node). Some (content_of n)) w.in-Leaf.is) (omega (arith, w.if-level-eq0.false))
+        | walk_below-in_default-via-in-Interior+else-level-gt0 w ↦
+            interior_breaks level pages child marks w.in-Interior.ways.0 w.in-Interior.ways.1 (is ∙ ap (λ (n : Node). Some (content_of n)) w.in-Interior.is) (omega (arith, w.if-level-gt0.false))
+        | walk_below-in_default-via-in_default w ↦
+            absurd (let none : false ≡ true = ap (λ (n : Node). content_fits child.low child.high (Some (content_of n))) (sym w.in_default.is) ∙ c.in_ok-entries.ensures.read.fits in cc)
+      ];
+      refused = tt;
+    }
 
-pub walk_below-returns-in_err-entries-clause-fault : goal.walk_below-returns-in_err-entries-clause-fault
-walk_below-returns-in_err-entries-clause-fault g t c =
+pub walk_below-returns-in_err-entries-clause-failed : goal.walk_below-returns-in_err-entries-clause-failed
+walk_below-returns-in_err-entries-clause-failed g t c =
+    let step = g.T.Pages.step in
+    let new = step c.child_node.new.t in
+    let fault = c.in_err-entries.field-0.0 in
+    let found = c.in_err-entries.ensures.failed in
     let p = err_from_is_err_and c.from_residual.result c.from_residual.ensures.1 in
-    rw (p.1, p.2) (walk_here g.T.Pages c.child_node.new.t c.in_err-entries.field-0.0 c.args.level c.args.child.now c.args.reached.now c.in_err-entries.ensures.failed.cause)
+    rw (p.1, p.2) (record {
+      cause = walk_here g.T.Pages c.child_node.new.t fault c.args.level c.args.child.now c.args.reached.now found.cause;
+      refused = refused_rested (step c.args.t.now) new fault (subst (λ (s : Step). HasRefusal s new fault) c.rest.ensures.step found.refused);
+    })
 
 pub walk_below-walk_children-requires : goal.walk_below-walk_children-requires
 walk_below-walk_children-requires g t c κs within =
@@ -101,7 +114,7 @@ walk_below-returns-in-Interior-clause-walked g t c =
     let used : is_spare s.spares child.page ≡ false = ap (λ (x : Step). is_spare x.spares child.page) (sym c.rest.ensures.step) ∙ c.in_ok-entries.ensures.read.used in
     let up : suc (level - 1) ≡ level = omega arith in
     let first = c.walk_children.ensures.calls in
-    ok_more c.walk_children.result (λ n. G.trusted new → AreWalked (G.step mid).spares (level - 1) (G.step mid).images cs c.is_new.new.reached after n) (λ n. G.trusted new → IsWalked s.spares level s.images child before after n)
+    ok_more c.walk_children.result (λ n. G.trusted new → AreWalked (G.step mid).spares (level - 1) (G.step mid).images cs c.is_new.new.reached after n) (λ n. G.trusted new → IsWalkedSubtree s.spares level s.images child before after n)
     (λ n w trusted.
     let t = first.trust trusted in
     let at : page_at s.images child.page ≡ Some (Interior ways.0 ways.1) =
@@ -110,8 +123,8 @@ walk_below-returns-in-Interior-clause-walked g t c =
     let b = subst (λ (x : List Bool). AreWalked x (level - 1) s.images cs c.is_new.new.reached after n) so.spares a in
     above_walked s.spares (level - 1) level s.images child ways.0 ways.1 before after n up at fits unmarked used (subst (λ (m : List Bool). AreWalked s.spares (level - 1) s.images cs m after n) marks b)) c.walk_children.ensures.walked
 
-pub walk_below-returns-in-Interior-clause-fault : goal.walk_below-returns-in-Interior-clause-fault
-walk_below-returns-in-Interior-clause-fault g t c =
+pub walk_below-returns-in-Interior-clause-failed : goal.walk_below-returns-in-Interior-clause-failed
+walk_below-returns-in-Interior-clause-failed g t c =
     let G = g.T.Pages in
     let law = g.met.T.Pages in
     let old = c.args.t.now in
@@ -131,8 +144,8 @@ walk_below-returns-in-Interior-clause-fault g t c =
     let at : page_at pages child.page ≡ Some (Interior ways.0 ways.1) =
     ap (λ (p : List (List ℕ)). page_at p child.page) (c.walk_children.ensures.calls.stays trusted) ∙ c.in_ok-entries.ensures.read.node ∙ ap (λ (n : Node). Some (content_of n)) c.in-Interior.is in
     subst (ComesTo pages (level - 1) cs) (sym marks) (comes_below (level - 1) level pages child ways.0 ways.1 before up at w) in
-    err_more c.walk_children.result (FailsWalk G new (level - 1) cs c.is_new.new.reached) (FailsWalk G new level (child ∷ []) before)
-    (λ fault h. walk_map G new fault level (level - 1) (child ∷ []) cs before c.is_new.new.reached comes h) c.walk_children.ensures.fault
+    err_more c.walk_children.result (FailsOver G new (level - 1) cs c.is_new.new.reached) (FailsOver G new level (child ∷ []) before)
+    (λ fault h. record { cause = walk_map G new fault level (level - 1) (child ∷ []) cs before c.is_new.new.reached comes h.cause; refused = h.refused }) c.walk_children.ensures.failed
 
 pub walk_children-loop-i-init : goal.walk_children-loop-i-init
 walk_children-loop-i-init g t c = record {
@@ -147,8 +160,8 @@ walk_children-returns-in_err-more-clause-calls g t c =
     let p = err_from_is_err_and c.from_residual.result c.from_residual.ensures.1 in
     rw (p.1, p.2) (walks_then g.T.Pages g.met.T.Pages.then c.args.t.now c.loop-i.t c.walk_below.new.t c.loop-i.invariant.calls c.in_err-more.ensures.calls)
 
-pub walk_children-returns-in_err-more-clause-fault : goal.walk_children-returns-in_err-more-clause-fault
-walk_children-returns-in_err-more-clause-fault g t c =
+pub walk_children-returns-in_err-more-clause-failed : goal.walk_children-returns-in_err-more-clause-failed
+walk_children-returns-in_err-more-clause-failed g t c =
     let G = g.T.Pages in
     let ways = c.args.ways.now in
     let above = c.args.above.now in
@@ -164,7 +177,7 @@ walk_children-returns-in_err-more-clause-fault g t c =
     let P : List (List ℕ) → Type 0 = λ (x : List (List ℕ)). AreWalked s.spares c.args.level x (take c.loop-i.i cs) c.args.reached.now c.loop-i.reached c.loop-i.count in
     comes_along s.spares c.args.level pages cs c.loop-i.i child c.args.reached.now c.loop-i.reached c.loop-i.count c.child_at-child.ensures (subst P (sym (all.stays trusted)) (c.loop-i.invariant.walked (calls.trust trusted))) w in
     let p = err_from_is_err_and c.from_residual.result c.from_residual.ensures.1 in
-    rw (p.1, p.2) (walk_map G new c.in_err-more.field-0.0 c.args.level c.args.level cs (child ∷ []) c.args.reached.now c.loop-i.reached comes c.in_err-more.ensures.fault)
+    rw (p.1, p.2) (record { cause = walk_map G new c.in_err-more.field-0.0 c.args.level c.args.level cs (child ∷ []) c.args.reached.now c.loop-i.reached comes c.in_err-more.ensures.failed.cause; refused = c.in_err-more.ensures.failed.refused })
 
 pub walk_children-loop-i-preserved : goal.walk_children-loop-i-preserved
 walk_children-loop-i-preserved g t c =
@@ -179,11 +192,11 @@ walk_children-loop-i-preserved g t c =
     record {
       calls = walks_then G g.met.T.Pages.then c.args.t.now c.loop-i.t c.walk_below.new.t c.loop-i.invariant.calls calls;
       memory = no_more_then G c.args.t.now c.loop-i.t c.walk_below.new.t c.loop-i.invariant.memory c.in_ok-more.ensures.memory;
-      kept = λ page h. c.walk_below.ensures.kept page (c.loop-i.invariant.kept page h);
+      kept = λ page h. c.walk_below.ensures.marks.kept page (c.loop-i.invariant.kept page h);
       walked = λ trusted.
           let t = calls.trust trusted in
-          let P : List (List ℕ) → Type 0 = λ (x : List (List ℕ)). IsWalked (G.step c.loop-i.t).spares c.args.level x child c.loop-i.reached c.walk_below.new.reached more in
-          let Q : List Bool → Type 0 = λ (x : List Bool). IsWalked x c.args.level s.images child c.loop-i.reached c.walk_below.new.reached more in
+          let P : List (List ℕ) → Type 0 = λ (x : List (List ℕ)). IsWalkedSubtree (G.step c.loop-i.t).spares c.args.level x child c.loop-i.reached c.walk_below.new.reached more in
+          let Q : List Bool → Type 0 = λ (x : List Bool). IsWalkedSubtree x c.args.level s.images child c.loop-i.reached c.walk_below.new.reached more in
           let w = subst Q c.loop-i.invariant.calls.spares (subst P (c.loop-i.invariant.calls.stays t) (c.in_ok-more.ensures.walked trusted)) in
           let next = one_more s.spares c.args.level s.images cs c.loop-i.i child c.args.reached.now c.loop-i.reached c.walk_below.new.reached c.loop-i.count more c.child_at-child.ensures (c.loop-i.invariant.walked t) w in
           let short : length (take (c.loop-i.i + 1) cs) ≤ 10 = omega (arith, take_short (c.loop-i.i + 1) cs, length_of_children ways.0 above.low above.high ways.1, c.requires.few) in
@@ -249,40 +262,38 @@ walk_children-returns-in_err-more-clause-among g t c = λ all.
 
 -- ---- the page is marked, and marks stay
 
-pub walk_below-returns-then-not-is_new-clause-marked : goal.walk_below-returns-then-not-is_new-clause-marked
-walk_below-returns-then-not-is_new-clause-marked g t c = one_marked c.args.reached.now c.is_new.new.reached c.args.child.now.page c.is_new.result c.is_new.ensures.new c.is_new.ensures.marks
+pub walk_below-returns-then-not-is_new-clause-marks : goal.walk_below-returns-then-not-is_new-clause-marks
+walk_below-returns-then-not-is_new-clause-marks g t c = record {
+  marked = one_marked c.args.reached.now c.is_new.new.reached c.args.child.now.page c.is_new.result c.is_new.ensures.new c.is_new.ensures.marks;
+  kept = still_marked c.args.reached.now c.is_new.new.reached c.args.child.now.page c.is_new.result c.is_new.ensures.marks;
+}
 
-pub walk_below-returns-then-not-is_new-clause-kept : goal.walk_below-returns-then-not-is_new-clause-kept
-walk_below-returns-then-not-is_new-clause-kept g t c = still_marked c.args.reached.now c.is_new.new.reached c.args.child.now.page c.is_new.result c.is_new.ensures.marks
+pub walk_below-returns-in_default-clause-marks : goal.walk_below-returns-in_default-clause-marks
+walk_below-returns-in_default-clause-marks g t c = record {
+  marked = one_marked c.args.reached.now c.is_new.new.reached c.args.child.now.page c.is_new.result c.is_new.ensures.new c.is_new.ensures.marks;
+  kept = still_marked c.args.reached.now c.is_new.new.reached c.args.child.now.page c.is_new.result c.is_new.ensures.marks;
+}
 
-pub walk_below-returns-in_default-clause-marked : goal.walk_below-returns-in_default-clause-marked
-walk_below-returns-in_default-clause-marked g t c = one_marked c.args.reached.now c.is_new.new.reached c.args.child.now.page c.is_new.result c.is_new.ensures.new c.is_new.ensures.marks
+pub walk_below-returns-in_err-entries-clause-marks : goal.walk_below-returns-in_err-entries-clause-marks
+walk_below-returns-in_err-entries-clause-marks g t c = record {
+  marked = one_marked c.args.reached.now c.is_new.new.reached c.args.child.now.page c.is_new.result c.is_new.ensures.new c.is_new.ensures.marks;
+  kept = still_marked c.args.reached.now c.is_new.new.reached c.args.child.now.page c.is_new.result c.is_new.ensures.marks;
+}
 
-pub walk_below-returns-in_default-clause-kept : goal.walk_below-returns-in_default-clause-kept
-walk_below-returns-in_default-clause-kept g t c = still_marked c.args.reached.now c.is_new.new.reached c.args.child.now.page c.is_new.result c.is_new.ensures.marks
+pub walk_below-returns-in-Leaf-clause-marks : goal.walk_below-returns-in-Leaf-clause-marks
+walk_below-returns-in-Leaf-clause-marks g t c = record {
+  marked = one_marked c.args.reached.now c.is_new.new.reached c.args.child.now.page c.is_new.result c.is_new.ensures.new c.is_new.ensures.marks;
+  kept = still_marked c.args.reached.now c.is_new.new.reached c.args.child.now.page c.is_new.result c.is_new.ensures.marks;
+}
 
-pub walk_below-returns-in_err-entries-clause-marked : goal.walk_below-returns-in_err-entries-clause-marked
-walk_below-returns-in_err-entries-clause-marked g t c = one_marked c.args.reached.now c.is_new.new.reached c.args.child.now.page c.is_new.result c.is_new.ensures.new c.is_new.ensures.marks
-
-pub walk_below-returns-in_err-entries-clause-kept : goal.walk_below-returns-in_err-entries-clause-kept
-walk_below-returns-in_err-entries-clause-kept g t c = still_marked c.args.reached.now c.is_new.new.reached c.args.child.now.page c.is_new.result c.is_new.ensures.marks
-
-pub walk_below-returns-in-Leaf-clause-marked : goal.walk_below-returns-in-Leaf-clause-marked
-walk_below-returns-in-Leaf-clause-marked g t c = one_marked c.args.reached.now c.is_new.new.reached c.args.child.now.page c.is_new.result c.is_new.ensures.new c.is_new.ensures.marks
-
-pub walk_below-returns-in-Leaf-clause-kept : goal.walk_below-returns-in-Leaf-clause-kept
-walk_below-returns-in-Leaf-clause-kept g t c = still_marked c.args.reached.now c.is_new.new.reached c.args.child.now.page c.is_new.result c.is_new.ensures.marks
-
-pub walk_below-returns-in-Interior-clause-marked : goal.walk_below-returns-in-Interior-clause-marked
-walk_below-returns-in-Interior-clause-marked g t c =
-    c.walk_children.ensures.kept c.args.child.now.page (one_marked c.args.reached.now c.is_new.new.reached c.args.child.now.page c.is_new.result c.is_new.ensures.new c.is_new.ensures.marks)
-
-pub walk_below-returns-in-Interior-clause-kept : goal.walk_below-returns-in-Interior-clause-kept
-walk_below-returns-in-Interior-clause-kept g t c = λ page h.
-    c.walk_children.ensures.kept page (still_marked c.args.reached.now c.is_new.new.reached c.args.child.now.page c.is_new.result c.is_new.ensures.marks page h)
+pub walk_below-returns-in-Interior-clause-marks : goal.walk_below-returns-in-Interior-clause-marks
+walk_below-returns-in-Interior-clause-marks g t c = record {
+  marked = c.walk_children.ensures.kept c.args.child.now.page (one_marked c.args.reached.now c.is_new.new.reached c.args.child.now.page c.is_new.result c.is_new.ensures.new c.is_new.ensures.marks);
+  kept = λ page h. c.walk_children.ensures.kept page (still_marked c.args.reached.now c.is_new.new.reached c.args.child.now.page c.is_new.result c.is_new.ensures.marks page h);
+}
 
 pub walk_children-returns-in_err-more-clause-kept : goal.walk_children-returns-in_err-more-clause-kept
-walk_children-returns-in_err-more-clause-kept g t c = λ page h. c.walk_below.ensures.kept page (c.loop-i.invariant.kept page h)
+walk_children-returns-in_err-more-clause-kept g t c = λ page h. c.walk_below.ensures.marks.kept page (c.loop-i.invariant.kept page h)
 
 pub walk_children-returns-clause-kept : goal.walk_children-returns-clause-kept
 walk_children-returns-clause-kept g t c = c.loop-i.invariant.kept
@@ -316,24 +327,6 @@ walk_children-returns-in_err-more-clause-memory g t c =
 
 pub walk_children-returns-clause-memory : goal.walk_children-returns-clause-memory
 walk_children-returns-clause-memory g t c = c.loop-i.invariant.memory
-
--- ---- a page that is refused
-
-pub walk_below-returns-in_err-entries-clause-refused : goal.walk_below-returns-in_err-entries-clause-refused
-walk_below-returns-in_err-entries-clause-refused g t c =
-    let step = g.T.Pages.step in
-    let new = step c.child_node.new.t in
-    let fault = c.in_err-entries.field-0.0 in
-    let p = err_from_is_err_and c.from_residual.result c.from_residual.ensures.1 in
-    rw (p.1, p.2) (refused_rested (step c.args.t.now) new fault (subst (λ (s : Step). HasRefusal s new fault) c.rest.ensures.step c.in_err-entries.ensures.failed.refused))
-
-pub walk_below-returns-in-Interior-clause-refused : goal.walk_below-returns-in-Interior-clause-refused
-walk_below-returns-in-Interior-clause-refused g t c = c.walk_children.ensures.refused
-
-pub walk_children-returns-in_err-more-clause-refused : goal.walk_children-returns-in_err-more-clause-refused
-walk_children-returns-in_err-more-clause-refused g t c =
-    let p = err_from_is_err_and c.from_residual.result c.from_residual.ensures.1 in
-    rw (p.1, p.2) c.in_err-more.ensures.refused
 
 -- ---- the pages are walked
 

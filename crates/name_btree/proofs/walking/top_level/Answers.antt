@@ -31,8 +31,8 @@ child_node-requires g c =
     let again : 0 < reaches (rested (g.T.Pages.step c.loop-level.t)) = omega (arith, more) in
     subst (λ (s : Step). 0 < reaches s) (sym c.rest.ensures.step) again
 
-pub returns-in_err-child_node-clause-fault : goal.returns-in_err-child_node-clause-fault
-returns-in_err-child_node-clause-fault g c =
+pub returns-in_err-child_node-clause-failed : goal.returns-in_err-child_node-clause-failed
+returns-in_err-child_node-clause-failed g c =
     let G = g.T.Pages in
     let law = g.met.T.Pages in
     let old = c.args.t.now in
@@ -42,7 +42,10 @@ returns-in_err-child_node-clause-fault g c =
     let child = c.loop-level.child in
     let on : G.trusted new → IsDown (G.step new).images c.loop-level.level child = λ t. subst (λ (p : List (List ℕ)). IsDown p c.loop-level.level child) (sym (all.stays t)) (c.loop-level.invariant.down (so.trust t)) in
     let p = err_from_is_err_and c.from_residual.result c.from_residual.ensures.1 in
-    rw (p.1, p.2) (down_breaks G new c.in_err-child_node.field-0.0 c.loop-level.level child on c.in_err-child_node.ensures.failed.cause)
+    rw (p.1, p.2) (record {
+      among = λ some. misfit_among (G.step new) (BarsPage (G.step new) child.page) (length (G.step old).images) child c.in_err-child_node.field-0.0 (c.loop-level.invariant.within some) c.in_err-child_node.ensures.failed.cause;
+      cause = down_breaks G new c.in_err-child_node.field-0.0 c.loop-level.level child on c.in_err-child_node.ensures.failed.cause;
+    })
 
 pub returns-in-Leaf-clause-level : goal.returns-in-Leaf-clause-level
 returns-in-Leaf-clause-level g c = λ t.
@@ -92,22 +95,6 @@ returns-in_err-child_node-clause-calls g c =
     let p = err_from_is_err_and c.from_residual.result c.from_residual.ensures.1 in
     rw (p.1, p.2) (walks_then G law.then c.args.t.now c.loop-level.t new c.loop-level.invariant.calls so)
 
--- ---- a page that is named is one of the table
-
-pub returns-in_err-child_node-clause-among : goal.returns-in_err-child_node-clause-among
-returns-in_err-child_node-clause-among g c = λ some.
-    let new = c.child_node.new.t in
-    let s = g.T.Pages.step new in
-    let child = c.loop-level.child in
-    let p = err_from_is_err_and c.from_residual.result c.from_residual.ensures.1 in
-    rw (p.1, p.2) (misfit_among s (BarsPage s child.page) (length (g.T.Pages.step c.args.t.now).images) child c.in_err-child_node.field-0.0 (c.loop-level.invariant.within some) c.in_err-child_node.ensures.failed.cause)
-
-pub returns-in-Free-clause-among : goal.returns-in-Free-clause-among
-returns-in-Free-clause-among g c = λ some. c.loop-level.invariant.within some
-
-pub returns-clause-among : goal.returns-clause-among
-returns-clause-among g c = λ some. c.loop-level.invariant.within some
-
 -- ---- memory is not wanting
 
 pub returns-in_err-child_node-clause-memory : goal.returns-in_err-child_node-clause-memory
@@ -152,10 +139,13 @@ returns-in-Free-clause-calls g c =
     (rest_reaches G law.then law.trust c.loop-level.t c.rest.new.self c.child_node.new.t c.rest.ensures.outside c.rest.ensures.step c.in_ok-child_node.ensures.calls)
 
 -- a page that is spare fits nowhere
-pub returns-in-Free-clause-fault : goal.returns-in-Free-clause-fault
-returns-in-Free-clause-fault g c = λ trusted.
+pub returns-in-Free-clause-failed : goal.returns-in-Free-clause-failed
+returns-in-Free-clause-failed g c =
     let child = c.loop-level.child in
-    absurd (let none : false ≡ true = ap (λ (n : Node). content_fits child.low child.high (Some (content_of n))) (sym c.in-Free.is) ∙ c.in_ok-child_node.ensures.read.fits in cc)
+    record {
+      among = λ some. c.loop-level.invariant.within some;
+      cause = λ trusted. absurd (let none : false ≡ true = ap (λ (n : Node). content_fits child.low child.high (Some (content_of n))) (sym c.in-Free.is) ∙ c.in_ok-child_node.ensures.read.fits in cc);
+    }
 
 pub returns-in-Leaf-clause-calls : goal.returns-in-Leaf-clause-calls
 returns-in-Leaf-clause-calls g c =
@@ -170,11 +160,15 @@ returns-in-Leaf-clause-low g c = omega (arith, c.loop-level-test.true)
 pub returns-clause-calls : goal.returns-clause-calls
 returns-clause-calls g c = c.loop-level.invariant.calls
 
-pub returns-clause-fault : goal.returns-clause-fault
-returns-clause-fault g c = λ trusted.
+pub returns-clause-failed : goal.returns-clause-failed
+returns-clause-failed g c =
     let G = g.T.Pages in
     let child = c.loop-level.child in
     let deep : max_height < c.loop-level.level + 1 = omega (arith, c.loop-level-test.false) in
     let all = c.loop-level.invariant.calls in
-    too_deep_breaks (G.step c.loop-level.t).images (c.loop-level.level + 1) child
-    (subst (λ (p : List (List ℕ)). IsVisited p (c.loop-level.level + 1) child) (sym (all.stays trusted)) (c.loop-level.invariant.down trusted).0) deep
+    record {
+      among = λ some. c.loop-level.invariant.within some;
+      cause = λ trusted.
+          too_deep_breaks (G.step c.loop-level.t).images (c.loop-level.level + 1) child
+          (subst (λ (p : List (List ℕ)). IsVisited p (c.loop-level.level + 1) child) (sym (all.stays trusted)) (c.loop-level.invariant.down trusted).0) deep;
+    }

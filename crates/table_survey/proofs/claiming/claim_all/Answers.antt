@@ -12,7 +12,7 @@ use Rattle.name_page.specs.declared.pages.TheConstants.{MOST_REACHED}
 use Rattle.name_page.proofs.LookLaws.{reaches_still, reaches_walks, rest_reaches, walks_then, shows_now}
 use Rattle.name_btree.specs.declared.fault.TreeFault.{TreeFault}
 use Rattle.name_btree.specs.Fault.{outer_of, IsAmong, IsOnWay}
-use Rattle.name_btree.specs.Lookup.{entry_of, IsInPlace, TellsNext}
+use Rattle.name_btree.specs.Lookup.{found_entry, IsInPlace, TellsLater}
 use Rattle.name_btree.proofs.WithinLaws.{among_since}
 use Rattle.run_table.specs.Space.{contains}
 use Rattle.sector_set.specs.Area.{Area, IsOwn, area}
@@ -86,7 +86,7 @@ returns-in_default-clause-claimed g c = λ trusted height tree.
     let so = rest_reaches G law.then law.trust c.loop-found.t c.rest.new.self new c.rest.ensures.outside c.rest.ensures.step look.calls in
     let all = walks_then G law.then old c.loop-found.t new c.loop-found.invariant.calls so in
     let is = found_then G old c.rest.new.self new c.loop-found.after _ c.as_ref.ensures.value c.in_ok-found.field-0 all look.calls look.found trusted height tree in
-    passed_all (table_of (G.step old).images height) c.args.map.now c.loop-found.after c.loop-found.map (c.loop-found.invariant.pass (so.trust trusted) height tree) (sym is ∙ ap entry_of c.in_default.is)
+    passed_all (table_of (G.step old).images height) c.args.map.now c.loop-found.after c.loop-found.map (c.loop-found.invariant.pass (so.trust trusted) height tree) (sym is ∙ ap found_entry c.in_default.is)
 
 pub returns-in_default-clause-area : goal.returns-in_default-clause-area
 returns-in_default-clause-area g c =
@@ -116,7 +116,7 @@ returns-in_err-claim-clause-among g c = λ some.
     let so = rest_reaches G law.then law.trust c.loop-found.t c.rest.new.self new c.rest.ensures.outside c.rest.ensures.step look.calls in
     let all = walks_then G law.then old c.loop-found.t new c.loop-found.invariant.calls so in
     let f = c.in-Some.found in
-    let there = (subst (TellsNext (G.step new) (option_copied c.as_ref.result)) c.in-Some.is look.told).there in
+    let there = (subst (TellsLater (G.step new) (option_copied c.as_ref.result)) c.in-Some.is look.told).there in
     let n = length (G.step old).images in
     let within : f.page < n = subst (λ (k : ℕ). f.page < k) all.count there.reached.0 in
     let p = err_from_is_err_and c.from_residual-in_err-claim.result c.from_residual-in_err-claim.ensures.1 in
@@ -136,7 +136,7 @@ returns-in_err-claim-clause-fault g c =
     let after = c.loop-found.after in
     let now = c.loop-found.map in
     let start = c.args.map.now in
-    let met = subst (TellsNext s (option_copied c.as_ref.result)) c.in-Some.is look.told in
+    let met = subst (TellsLater s (option_copied c.as_ref.result)) c.in-Some.is look.told in
     let there = met.there in
     let place = shows_now (λ pages. IsInPlace pages f.page) s met.way in
     let way : IsOnWay s.images f.page = (place.0, place.1, place.2) in
@@ -154,7 +154,7 @@ returns-in_err-claim-clause-fault g c =
 pub loop-found-smaller : goal.loop-found-smaller
 loop-found-smaller g c =
     let e = c.in-Some.found.entry in
-    let met = subst (TellsNext (g.T.Pages.step c.next_after.new.t) (option_copied c.as_ref.result)) c.in-Some.is c.in_ok-found.ensures.told in
+    let met = subst (TellsLater (g.T.Pages.step c.next_after.new.t) (option_copied c.as_ref.result)) c.in-Some.is c.in_ok-found.ensures.told in
     entry_fewer c.loop-found.map c.claim.new.map e c.loop-found.invariant.own c.in_ok-claim.ensures.free c.in_ok-claim.ensures.taken met.entry
 
 pub loop-found-preserved : goal.loop-found-preserved
@@ -177,6 +177,6 @@ loop-found-preserved g c =
       pass = λ trusted height tree.
           let table = table_of (G.step old).images height in
           let is = found_then G old c.rest.new.self new c.loop-found.after _ c.as_ref.ensures.value c.in_ok-found.field-0 all look.calls look.found trusted height tree in
-          let more = passed_more table c.args.map.now c.loop-found.after now e (c.loop-found.invariant.pass (so.trust trusted) height tree) (sym is ∙ ap entry_of c.in-Some.is) c.in_ok-claim.ensures.free in
+          let more = passed_more table c.args.map.now c.loop-found.after now e (c.loop-found.invariant.pass (so.trust trusted) height tree) (sym is ∙ ap found_entry c.in-Some.is) c.in_ok-claim.ensures.free in
           subst (λ (m : Area). IsPassed table c.args.map.now (Some e.key) m) (sym taken) more;
     }

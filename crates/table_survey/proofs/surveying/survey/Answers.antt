@@ -29,13 +29,13 @@ returns-in_err-versions g c =
     let p = err_from_is_err_and c.from_residual.result c.from_residual.ensures.1 in
     rw (p.1, p.2) (record {
       calls = failed.calls;
-      among = failed.among;
+      among = failed.failed.among;
       told = tt;
       unbroken = tt;
       area = tt;
       counted = tt;
       fault = cause_map s (λ page. G.trusted new → BreaksTable s.images page) (λ page. G.trusted new → Breaks c.args.l.now s.images page)
-          (λ page. G.trusted new → BarsTable s page) (λ page. G.trusted new → BarsTable s page) (λ page breaks trusted. inl (breaks trusted)) (λ page bars. bars) c.in_err-versions.field-0.0 failed.fault;
+          (λ page. G.trusted new → BarsTable s page) (λ page. G.trusted new → BarsTable s page) (λ page breaks trusted. inl (breaks trusted)) (λ page bars. bars) c.in_err-versions.field-0.0 failed.failed.cause;
     })
 
 -- where the sectors are refused the pages are a tree, since the walk has ended

@@ -4,10 +4,10 @@ use Rattle.name_page.specs.Reading.{content_in}
 use Rattle.name_page.specs.Pages.{is_spare}
 use Rattle.name_page.proofs.LookLaws.{reaches_still, agrees_at}
 use Rattle.name_btree.specs.Fault.{FailsBy}
-use Rattle.name_btree.specs.Still.{FailsPage, IsRead}
+use Rattle.name_btree.specs.Still.{FailsPage, IsReadPage}
 use Rattle.name_btree.proofs.CauseLaws.{fails_at}
 use Rattle.fsd_table.specs.Pages.{page_at}
-use Rattle.name_btree.specs.Draft.{last_sheet, drafted, IsSeen}
+use Rattle.name_btree.specs.Draft.{last_sheet, drafted, IsSeenPage}
 use Rattle.name_page.specs.Node.{content_of}
 use Rattle.name_btree.proofs.DraftLaws.{sheet_is, sheet_has, sheets_kept, drafted_at, by_sheet}
 use Rattle.name_btree.proofs.draft.Draft.node_at.Goals as goal
@@ -57,7 +57,7 @@ returns-in-None-clause-read g c =
     let page : ℕ = c.args.page in
     let none : last_sheet page sheets ≡ None = ap (last_sheet page) (sym c.as_slice.ensures) ∙ sym c.in-None.ensures in
     let count = c.node_at.ensures.calls.looks.count in
-    ok_more c.node_at.result (λ node. IsRead step new page (content_of node)) (λ node. IsSeen step new sheets page (content_of node))
+    ok_more c.node_at.result (λ node. IsReadPage step new page (content_of node)) (λ node. IsSeenPage step new sheets page (content_of node))
     (λ node read. record {
       reached = read.reached;
       used = read.used;
