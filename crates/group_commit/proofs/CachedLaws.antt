@@ -8,9 +8,9 @@ use Rattle.fsd_log.specs.Scan.{Placed}
 use Rattle.fsd_files.specs.Disk.{Image}
 use Rattle.log_thirds.specs.LogValue.{LogValue}
 use Rattle.log_thirds.specs.Append.{stamp_now, log_with}
-use Rattle.page_cache.specs.Cache.{CacheValue, IsCache, IsResident, cleaned, is_one_of}
+use Rattle.page_cache.specs.Cache.{CacheValue, IsCache, IsResident, cleaned, is_among}
 use Rattle.group_commit.specs.Cached.{AreWaiting, CacheLeaves, ascending_of, stamped_for, stamped_frames, with_waiting}
-use Rattle.group_commit.specs.Force.{Committed, StandsOver, log_forced, sectors_written, stamped_by}
+use Rattle.group_commit.specs.Force.{Committed, StandsOverDisk, log_forced, sectors_written, stamped_by}
 use Rattle.group_commit.specs.Resident.{stamped}
 use Rattle.log_thirds.specs.Moving.{moved}
 use Rattle.group_commit.specs.Room.{goes_before, log_before, sectors_before}
@@ -41,14 +41,14 @@ module _ (c : CacheValue) (cache : IsCache c) (xs : List ℕ) (are : xs ≡ asce
   pub so_many : length xs ≡ length c.dirty
   so_many = ap length are ∙ length_ascending c.dirty cache.once
 
-  pub is_dirty : (p : ℕ) → contains xs p ≡ true → is_one_of c.dirty p ≡ true
+  pub is_dirty : (p : ℕ) → contains xs p ≡ true → is_among c.dirty p ≡ true
   is_dirty p is = sym (one_ascending c.dirty p) ∙ subst (λ (ys : List ℕ). contains ys p ≡ true) are is
 
-  pub is_waiting : (p : ℕ) → is_one_of c.dirty p ≡ true → contains xs p ≡ true
+  pub is_waiting : (p : ℕ) → is_among c.dirty p ≡ true → contains xs p ≡ true
   is_waiting p is = subst (λ (ys : List ℕ). contains ys p ≡ true) (sym are) (one_ascending c.dirty p ∙ is)
 
   pub all_stamped : (stamp : Stamp) → stamped_frames stamp xs c ≡ stamped_frames stamp c.dirty c
-  all_stamped stamp = stamped_same stamp xs c.dirty c (λ p. ap (λ (ys : List ℕ). is_one_of ys p) are ∙ one_ascending c.dirty p)
+  all_stamped stamp = stamped_same stamp xs c.dirty c (λ p. ap (λ (ys : List ℕ). is_among ys p) are ∙ one_ascending c.dirty p)
 
   pub all_there : (p : ℕ) → contains xs p ≡ true → IsResident c p
   all_there p is = all_at (IsResident c) c.dirty cache.waiting p (is_dirty p is)
@@ -75,9 +75,9 @@ module _ (c : CacheValue) (cache : IsCache c) (xs : List ℕ) (are : xs ≡ asce
     pub idle_leaves : (log : LogValue) (old : Moment) → CacheLeaves log c old old
     idle_leaves log old pages agrees windows records disk ends over known = idle_commits log (with_waiting c pages) records disk (stamped_by log (with_waiting c pages)) windows old over
 
-    pub idle_done : (log : LogValue) (pages : List (List ℕ)) (windows : List WeakRun) (records : List Placed) (disk : List (List ℕ)) (i : Image) → StandsOver log records disk (with_waiting c pages) windows i
+    pub idle_done : (log : LogValue) (pages : List (List ℕ)) (windows : List WeakRun) (records : List Placed) (disk : List (List ℕ)) (i : Image) → StandsOverDisk log records disk (with_waiting c pages) windows i
         → Committed log (record { pages = stamped_by log (with_waiting c pages); dirty = [] }) windows i
     idle_done log pages windows records disk i over =
         let no : ascending_of c.dirty ≡ [] = ap ascending_of none_dirty in
-        let over2 : StandsOver log records disk (record { pages = pages; dirty = [] }) windows i = subst (λ (ys : List ℕ). StandsOver log records disk (record { pages = pages; dirty = ys }) windows i) no over in
+        let over2 : StandsOverDisk log records disk (record { pages = pages; dirty = [] }) windows i = subst (λ (ys : List ℕ). StandsOverDisk log records disk (record { pages = pages; dirty = ys }) windows i) no over in
         subst (λ (ys : List ℕ). Committed log (record { pages = stamped (stamp_now log) ys pages; dirty = [] }) windows i) (sym no) (idle_committed log (record { pages = pages; dirty = [] }) records disk windows i refl over2)

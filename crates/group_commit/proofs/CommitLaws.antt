@@ -10,7 +10,7 @@ use Rattle.fsd_sound.specs.Sound.{ShowsOne, ShowsPages}
 use Rattle.log_thirds.specs.LogValue.{LogValue}
 use Rattle.fsd_sound.specs.Mounted.{AgreeOutside}
 use Rattle.group_commit.specs.Resident.{ResidentValue}
-use Rattle.group_commit.specs.Force.{StandsOver, Commits, Committed}
+use Rattle.group_commit.specs.Force.{StandsOverDisk, Commits, Committed}
 
 agree_same : (x y : List (List ℕ)) → AgreeOutside [] x y → x ≡ y
 agree_same x y agree = ext_get_or [] x y agree.size (λ k lt. agree.each k refl)
@@ -21,7 +21,7 @@ shows_more disk now (Some pages) one =
     let first : one.0 ≡ 0 = omega (arith, one.1) in
     (0, omega arith, sym (ap (λ (k : ℕ). get_or (disk ∷ []) k pages) first) ∙ one.2)
 
-pub idle_commits : (log : LogValue) (s : ResidentValue) (records : List Placed) (disk now : List (List ℕ)) (windows : List WeakRun) (old : Moment) → StandsOver log records disk s windows old.image → Commits log.layout windows disk now old old
+pub idle_commits : (log : LogValue) (s : ResidentValue) (records : List Placed) (disk now : List (List ℕ)) (windows : List WeakRun) (old : Moment) → StandsOverDisk log records disk s windows old.image → Commits log.layout windows disk now old old
 idle_commits log s records disk now windows old over = record {
   shows = record { readable = over.shows.readable; shows = λ j worn. shows_more disk now (shown log.layout j) (over.shows.shows j worn) };
   kept = λ t ge. inl refl;
@@ -30,7 +30,7 @@ idle_commits log s records disk now windows old over = record {
   said = refl;
 }
 
-pub idle_committed : (log : LogValue) (s : ResidentValue) (records : List Placed) (disk : List (List ℕ)) (windows : List WeakRun) (i : Image) → s.dirty ≡ [] → StandsOver log records disk s windows i → Committed log s windows i
+pub idle_committed : (log : LogValue) (s : ResidentValue) (records : List Placed) (disk : List (List ℕ)) (windows : List WeakRun) (i : Image) → s.dirty ≡ [] → StandsOverDisk log records disk s windows i → Committed log s windows i
 idle_committed log s records disk windows i none over =
     let clean : AgreeOutside [] disk s.pages = subst (λ (d : List ℕ). AgreeOutside d disk s.pages) none over.clean in
     record {

@@ -34,12 +34,12 @@ use Rattle.log_thirds.specs.declared.slots.Slot.{Slot}
 use Rattle.log_thirds.specs.Anchoring.{AnchorsIn, with_anchors}
 use Rattle.log_thirds.specs.Append.{IsIndexed, IsLogWorn, LastLiesIn}
 use Rattle.log_thirds.specs.LogValue.{LogValue}
-use Rattle.log_thirds.specs.Moves.{back}
+use Rattle.log_thirds.specs.Moves.{moved_back}
 use Rattle.log_thirds.specs.Moving.{next_third, moved_anchor, moved, records_moved, EndsInLastThird}
-use Rattle.log_thirds.specs.Slots.{lies_in, slot_of}
+use Rattle.log_thirds.specs.Slots.{lies_in, last_slot}
 use Rattle.log_thirds.proofs.ImageLaws.{no_last_image}
 use Rattle.log_thirds.proofs.MovingLaws.{MayMove, LiesOn, IsParted, parted, place_back, next_is, next_low, later_first, log_moved, front_slots, slot_of-joined, all_right}
-use Rattle.fsd_sound.specs.Stands.{Stands}
+use Rattle.fsd_sound.specs.Stands.{StandsShown}
 use Rattle.fsd_sound.proofs.CommuteLaws.{with_same, with_other, worn_or_over, shows_all, both_same, all_shows}
 use Rattle.fsd_sound.proofs.CoverLaws.{copies_alike, stand_any}
 use Rattle.group_commit.proofs.GivenLaws.{gives_last}
@@ -47,7 +47,7 @@ use Rattle.fsd_sound.proofs.HomedLaws.{either_reads}
 use Rattle.fsd_sound.proofs.SectorFacts.{same_bytes}
 use Rattle.fsd_sound.proofs.LaidLaws.{all_laid_worn, has_worn}
 use Rattle.fsd_sound.proofs.MoveLaws.{IsLater, IsHomedIn, MayMoveOn, anchor_found, moved_stands}
-use Rattle.group_commit.specs.Entering.{Shows, IsHoming, IsEntered, MayHome}
+use Rattle.group_commit.specs.Entering.{ShowsDisk, IsHoming, IsEntered, MayHome}
 use Rattle.group_commit.proofs.ForceLaws.{is_laid}
 use Rattle.group_commit.proofs.HomingLaws.{all_laid_same, narrow, weaker, own_later, shows_now}
 use Rattle.group_commit.proofs.StandsLaws.{is_shown, page_shown}
@@ -67,7 +67,7 @@ of_newer P (Some b) (Some c) one two x e = by_test (is_newer c b) e
 
 -- ---- the records behind the first third
 
-last_back : (t page : ℕ) (rs : List Placed) → last_image page (map (back t) rs) ≡ last_image page rs
+last_back : (t page : ℕ) (rs : List Placed) → last_image page (map (moved_back t) rs) ≡ last_image page rs
 last_back t page [] = refl
 last_back t page (r ∷ rs) = ap (λ (o : Option (List ℕ)). option_or o (image_in page r.entry.pages r.entry.images)) (last_back t page rs)
 
@@ -125,14 +125,14 @@ module _ (log : LogValue) (records : List Placed) (disk : List (List ℕ)) (wind
   parts : IsParted log.layout log.anchor.third records
   parts = parted log moves records at.over.indexed.firsts at.image at.over.own.log
 
-  behind_is : records_moved log.layout records ≡ map (back log.layout.third) parts.rest
-  behind_is = ap (map (back log.layout.third)) parts.is_later
+  behind_is : records_moved log.layout records ≡ map (moved_back log.layout.third) parts.rest
+  behind_is = ap (map (moved_back log.layout.third)) parts.is_later
 
-  on_disk_back : (r : Placed) → LiesOn log.layout log.anchor.third r → log.layout.third ≤ r.at → on_disk log.layout (moved_anchor log) (back log.layout.third r) ≡ on_disk log.layout log.anchor r
+  on_disk_back : (r : Placed) → LiesOn log.layout log.anchor.third r → log.layout.third ≤ r.at → on_disk log.layout (moved_anchor log) (moved_back log.layout.third r) ≡ on_disk log.layout log.anchor r
   on_disk_back r lies ge = λ k. record { at = place_back log.layout log.anchor.third (next_third log.anchor.third) (next_is log.anchor.third may.shape.third) r lies ge k; entry = r.entry }
 
   disk_back : (rs : List Placed) → AllByRecursion (LiesOn log.layout log.anchor.third) rs → AllByRecursion (λ r. log.layout.third ≤ r.at) rs
-      → map (on_disk log.layout (moved_anchor log)) (map (back log.layout.third) rs) ≡ map (on_disk log.layout log.anchor) rs
+      → map (on_disk log.layout (moved_anchor log)) (map (moved_back log.layout.third) rs) ≡ map (on_disk log.layout log.anchor) rs
   disk_back [] lie behind = refl
   disk_back (r ∷ rs) lie behind = λ k. on_disk_back r lie.0 behind.0 k ∷ disk_back rs lie.1 behind.1 k
 
@@ -146,13 +146,13 @@ module _ (log : LogValue) (records : List Placed) (disk : List (List ℕ)) (wind
       )
 
   laid_back : (i : Image) (rs : List Placed) → AllByRecursion (LiesOn log.layout log.anchor.third) rs → AllByRecursion (λ r. log.layout.third ≤ r.at) rs → AllLaid log.layout log.anchor (weak_of windows) i rs
-      → AllLaid log.layout (moved_anchor log) (weak_of windows) i (map (back log.layout.third) rs)
+      → AllLaid log.layout (moved_anchor log) (weak_of windows) i (map (moved_back log.layout.third) rs)
   laid_back i [] lie behind laid = tt
   laid_back i (r ∷ rs) lie behind laid =
       let same = on_disk_back r lie.0 behind.0 in (
         (
-          front_alike log.layout log.anchor (moved_anchor log) (weak_of windows) i r (back log.layout.third r) refl same laid.0.0,
-          copies_alike log.layout log.anchor (moved_anchor log) (weak_of windows) i r (back log.layout.third r) refl same laid.0.1,
+          front_alike log.layout log.anchor (moved_anchor log) (weak_of windows) i r (moved_back log.layout.third r) refl same laid.0.0,
+          copies_alike log.layout log.anchor (moved_anchor log) (weak_of windows) i r (moved_back log.layout.third r) refl same laid.0.1,
         ),
         laid_back i rs lie.1 behind.1 laid.1,
       )
@@ -173,10 +173,10 @@ module _ (log : LogValue) (records : List Placed) (disk : List (List ℕ)) (wind
   records_e : records_by log.layout at.image log.anchor ≡ records
   records_e = ap (λ (w : Walked). w.records) at.over.own.log.scanned
 
-  no_slot_behind : (page : ℕ) → last_image page parts.rest ≡ None → slot_of log.layout log.anchor.third page parts.rest ≡ None
-  no_slot_behind page none = by_slot (slot_of log.layout log.anchor.third page parts.rest) refl
+  no_slot_behind : (page : ℕ) → last_image page parts.rest ≡ None → last_slot log.layout log.anchor.third page parts.rest ≡ None
+  no_slot_behind page none = by_slot (last_slot log.layout log.anchor.third page parts.rest) refl
     where
-      by_slot : (o : Option Slot) → slot_of log.layout log.anchor.third page parts.rest ≡ o → o ≡ None
+      by_slot : (o : Option Slot) → last_slot log.layout log.anchor.third page parts.rest ≡ o → o ≡ None
       by_slot None is = refl
       by_slot (Some s) is =
           let are = all_right (IsRecord log.layout log.anchor.third) parts.front parts.rest (subst (AllByRecursion (IsRecord log.layout log.anchor.third)) (records_e ∙ parts.joined) (scan_records log.layout at.image log.anchor may.shape.third)) in
@@ -186,17 +186,17 @@ module _ (log : LogValue) (records : List Placed) (disk : List (List ℕ)) (wind
           absurd (cc (none, last))
 
   lies_first : (page : ℕ) (x : List ℕ) → last_image page parts.rest ≡ None → last_image page records ≡ Some x → LastLiesIn log records log.anchor.third page
-  lies_first page x none is = ap (lies_in (third_start log.layout log.anchor.third) log.layout.third) slots ∙ by_slot (slot_of log.layout log.anchor.third page parts.front) refl
+  lies_first page x none is = ap (lies_in (third_start log.layout log.anchor.third) log.layout.third) slots ∙ by_slot (last_slot log.layout log.anchor.third page parts.front) refl
       (front_slots log.layout log.anchor.third (next_third log.anchor.third) may.shape.third (next_is log.anchor.third may.shape.third) page parts.front parts.lie_front parts.before)
     where
-      slots : slot_of log.layout log.anchor.third page records ≡ slot_of log.layout log.anchor.third page parts.front
-      slots = ap (slot_of log.layout log.anchor.third page) parts.joined ∙ slot_of-joined log.layout log.anchor.third page parts.front parts.rest
-          ∙ ap (λ (o : Option Slot). option_or o (slot_of log.layout log.anchor.third page parts.front)) (no_slot_behind page none)
+      slots : last_slot log.layout log.anchor.third page records ≡ last_slot log.layout log.anchor.third page parts.front
+      slots = ap (last_slot log.layout log.anchor.third page) parts.joined ∙ slot_of-joined log.layout log.anchor.third page parts.front parts.rest
+          ∙ ap (λ (o : Option Slot). option_or o (last_slot log.layout log.anchor.third page parts.front)) (no_slot_behind page none)
 
       front_has : last_image page parts.front ≡ Some x
       front_has = sym (all_last page ∙ ap (λ (o : Option (List ℕ)). option_or o (last_image page parts.front)) none) ∙ is
 
-      by_slot : (o : Option Slot) → slot_of log.layout log.anchor.third page parts.front ≡ o → IfSome o (λ s. lies_in (third_start log.layout log.anchor.third) log.layout.third (Some s) ≡ true) → lies_in (third_start log.layout log.anchor.third) log.layout.third o ≡ true
+      by_slot : (o : Option Slot) → last_slot log.layout log.anchor.third page parts.front ≡ o → IfSome o (λ s. lies_in (third_start log.layout log.anchor.third) log.layout.third (Some s) ≡ true) → lies_in (third_start log.layout log.anchor.third) log.layout.third o ≡ true
       by_slot None absent lies = let nothing = no_last_image log.layout log.anchor.third page parts.front absent in absurd (cc (nothing, front_has))
       by_slot (Some s) found lies = lies
 
@@ -206,7 +206,7 @@ module _ (log : LogValue) (records : List Placed) (disk : List (List ℕ)) (wind
     own_i : HasOwnLog log.layout log.anchor records log.head (weak_of windows) i
     own_i = own_later log records disk windows old may at.image i at.over w
 
-    stands_i : Stands log.layout (weak_of windows) (disk ∷ []) i
+    stands_i : StandsShown log.layout (weak_of windows) (disk ∷ []) i
     stands_i = shows_all log.layout windows (narrow log records disk windows old may) (disk ∷ []) at.image at.over.shows i w
 
     over_i : StandsOver log.layout log.anchor log.head records disk disk [] windows i
@@ -284,9 +284,9 @@ module _ (log : LogValue) (records : List Placed) (disk : List (List ℕ)) (wind
   long_one : length (with_sector at.image 8 (anchor_bytes (moved_anchor log))) ≡ length at.image
   long_one = length-set at.image 8 (Whole (anchor_bytes (moved_anchor log)))
 
-  stands_one : (j : Image) → IsWorn (weak_of windows) (with_sector at.image 8 (anchor_bytes (moved_anchor log))) j → Stands log.layout (weak_of windows) (disk ∷ []) j
+  stands_one : (j : Image) → IsWorn (weak_of windows) (with_sector at.image 8 (anchor_bytes (moved_anchor log))) j → StandsShown log.layout (weak_of windows) (disk ∷ []) j
   stands_one j w = ⊎_elim (λ worn. stands_i j worn)
-      (λ over. subst (Stands log.layout (weak_of windows) (disk ∷ [])) (sym over.is)
+      (λ over. subst (StandsShown log.layout (weak_of windows) (disk ∷ [])) (sym over.is)
       (moved_stands log.layout log.anchor (moved_anchor log) records (records_moved log.layout records) disk (weak_of windows) over.under (may_i over.under over.worn) (stands_i over.under over.worn)
       (with_sector over.under 8 (anchor_bytes (moved_anchor log))) (length-set over.under 8 (Whole (anchor_bytes (moved_anchor log)))) (λ s a b. with_other over.under 8 s (anchor_bytes (moved_anchor log)) a)
       (inr (with_same over.under 8 (anchor_bytes (moved_anchor log)) (omega (arith, room, over.worn.size)))) (inl (with_other over.under 8 12 (anchor_bytes (moved_anchor log)) (λ e. omega (arith, e))))
@@ -294,16 +294,16 @@ module _ (log : LogValue) (records : List Placed) (disk : List (List ℕ)) (wind
       (worn_or_over (weak_of windows) at.image j 8 (anchor_bytes (moved_anchor log)) (omega (arith, room)) w)
 
   -- the second anchor over an image worn from that with the first
-  stands_over : (under : Image) → IsWorn (weak_of windows) (with_sector at.image 8 (anchor_bytes (moved_anchor log))) under → Stands log.layout (weak_of windows) (disk ∷ []) (with_sector under 12 (anchor_bytes (moved_anchor log)))
+  stands_over : (under : Image) → IsWorn (weak_of windows) (with_sector at.image 8 (anchor_bytes (moved_anchor log))) under → StandsShown log.layout (weak_of windows) (disk ∷ []) (with_sector under 12 (anchor_bytes (moved_anchor log)))
   stands_over under w = ⊎_elim
       (λ worn. moved_stands log.layout log.anchor (moved_anchor log) records (records_moved log.layout records) disk (weak_of windows) under (may_i under worn) (stands_i under worn)
       (with_sector under 12 (anchor_bytes (moved_anchor log))) (length-set under 12 (Whole (anchor_bytes (moved_anchor log)))) (λ s a b. with_other under 12 s (anchor_bytes (moved_anchor log)) b)
       (inl (with_other under 12 8 (anchor_bytes (moved_anchor log)) (λ e. omega (arith, e)))) (inr (with_same under 12 (anchor_bytes (moved_anchor log)) (omega (arith, room, worn.size))))
       (inr (with_same under 12 (anchor_bytes (moved_anchor log)) (omega (arith, room, worn.size)))))
-      (λ over. subst (λ (x : Image). Stands log.layout (weak_of windows) (disk ∷ []) (with_sector x 12 (anchor_bytes (moved_anchor log)))) (sym over.is)
+      (λ over. subst (λ (x : Image). StandsShown log.layout (weak_of windows) (disk ∷ []) (with_sector x 12 (anchor_bytes (moved_anchor log)))) (sym over.is)
       (both over.under over.worn)) (worn_or_over (weak_of windows) at.image under 8 (anchor_bytes (moved_anchor log)) (omega (arith, room)) w)
     where
-      both : (k : Image) → IsWorn (weak_of windows) at.image k → Stands log.layout (weak_of windows) (disk ∷ []) (with_sector (with_sector k 8 (anchor_bytes (moved_anchor log))) 12 (anchor_bytes (moved_anchor log)))
+      both : (k : Image) → IsWorn (weak_of windows) at.image k → StandsShown log.layout (weak_of windows) (disk ∷ []) (with_sector (with_sector k 8 (anchor_bytes (moved_anchor log))) 12 (anchor_bytes (moved_anchor log)))
       both k worn =
           let first = with_sector k 8 (anchor_bytes (moved_anchor log)) in
           let long : length first ≡ length k = length-set k 8 (Whole (anchor_bytes (moved_anchor log))) in
@@ -314,9 +314,9 @@ module _ (log : LogValue) (records : List Placed) (disk : List (List ℕ)) (wind
           (λ s a b. with_other first 12 s (anchor_bytes (moved_anchor log)) b ∙ with_other k 8 s (anchor_bytes (moved_anchor log)) a)
           (inr eight) (inr (with_same first 12 (anchor_bytes (moved_anchor log)) (omega (arith, room, worn.size, long)))) (inl eight)
 
-  stands_two : (j : Image) → IsWorn (weak_of windows) (with_sector (with_sector at.image 8 (anchor_bytes (moved_anchor log))) 12 (anchor_bytes (moved_anchor log))) j → Stands log.layout (weak_of windows) (disk ∷ []) j
+  stands_two : (j : Image) → IsWorn (weak_of windows) (with_sector (with_sector at.image 8 (anchor_bytes (moved_anchor log))) 12 (anchor_bytes (moved_anchor log))) j → StandsShown log.layout (weak_of windows) (disk ∷ []) j
   stands_two j w = ⊎_elim (λ worn. stands_one j worn)
-      (λ over. subst (Stands log.layout (weak_of windows) (disk ∷ [])) (sym over.is) (stands_over over.under over.worn))
+      (λ over. subst (StandsShown log.layout (weak_of windows) (disk ∷ [])) (sym over.is) (stands_over over.under over.worn))
       (worn_or_over (weak_of windows) (with_sector at.image 8 (anchor_bytes (moved_anchor log))) j 12 (anchor_bytes (moved_anchor log)) (omega (arith, room, long_one)) w)
 
   -- some anchors were written
@@ -348,7 +348,7 @@ module _ (log : LogValue) (records : List Placed) (disk : List (List ℕ)) (wind
       length-stand (stand at.image 8 (anchor_bytes (moved_anchor log)) first) 12 (anchor_bytes (moved_anchor log)) copy
       ∙ length-stand at.image 8 (anchor_bytes (moved_anchor log)) first ∙ at.size
 
-  pub moving_shows : (left : Moment) → AnchorsIn (moved_anchor log) now left → Shows log.layout windows disk old left
+  pub moving_shows : (left : Moment) → AnchorsIn (moved_anchor log) now left → ShowsDisk log.layout windows disk old left
   moving_shows left anchors =
       let is = part anchors.first anchors.copy anchors.in_order anchors.once in
       shows_now log records disk windows old may (with_anchors (moved_anchor log) at.image anchors.first anchors.copy) left (holds_anchors left anchors.first anchors.copy anchors.holds) is.shows (anchors_long anchors.first anchors.copy)

@@ -26,7 +26,7 @@ use Rattle.fsd_log.specs.Scan.{Head, Placed, Walked, IsLog, place_of, tape, spot
 use Rattle.fsd_log.specs.Images.{image_in, last_image}
 use Rattle.fsd_log.proofs.BorneLaws.{page_bears}
 use Rattle.fsd_log.proofs.LaidLaws.{IsLaidAs}
-use Rattle.fsd_files.specs.Disk.{Image, Sectors, Has, bytes_of, bytes_at, either_copy}
+use Rattle.fsd_files.specs.Disk.{Image, Sectors, Has, bytes_of, bytes_at, first_whole}
 use Rattle.fsd_sound.specs.Anchors.{anchor_at, anchor_of, EachAnchor}
 use Rattle.fsd_sound.specs.Homes.{home_of}
 use Rattle.fsd_sound.specs.Laid.{HasOwnLog, AllStand, HasFront, HasCopies, GoodCopies, IsLaid, AllLaid}
@@ -35,7 +35,7 @@ use Rattle.fsd_sound.specs.Sound.{disk_records, IfWhole, is_home, is_twin, HasRo
 use Rattle.fsd_sound.proofs.SaidLaws.{own_roots_say, says_same, says_worn, some_same}
 use Rattle.fsd_sound.proofs.SoundLaws.{shows_still}
 use Rattle.fsd_sound.proofs.WindowLaws.{open_is_weak}
-use Rattle.fsd_sound.specs.Stands.{Stands}
+use Rattle.fsd_sound.specs.Stands.{StandsShown}
 use Rattle.fsd_sound.specs.Windows.{IsApart}
 use Rattle.fsd_sound.proofs.CommuteLaws.{all_shows}
 use Rattle.fsd_sound.proofs.LaidLaws.{has_worn, own_worn}
@@ -47,7 +47,7 @@ use Rattle.log_thirds.proofs.WornMomentLaws.{under, under_other, under_worn, ima
 use Rattle.fsd_log.proofs.PlaceLaws.{InThird, place_from, place_add, place_cases, below_numbers, first_most, end_most}
 use Rattle.fsd_sound.specs.Mounted.{image_at}
 use Rattle.group_commit.specs.Resident.{ResidentValue, stamped}
-use Rattle.group_commit.specs.Force.{StandsOver, Commits, Committed}
+use Rattle.group_commit.specs.Force.{StandsOverDisk, Commits, Committed}
 use Rattle.group_commit.proofs.ImageLaws.{IsRecordOf, length-stamped, stamped_other}
 use Rattle.group_commit.proofs.PlaceLaws.{LiesBefore, log_lies, on_tape}
 use Rattle.group_commit.proofs.AllLaidLaws.{length-slices, slice_at, front_same, copies_same, all_laid_more, is_laid_more, good_rows}
@@ -109,7 +109,7 @@ pub record MayForce (log : LogValue) (s : ResidentValue) (images : List ℕ) (re
   pub few : log.layout.pages ≤ 2 ^ 32
   pub apart : IsApart (gap_of log.layout) (weak_of windows)
   pub ends : EndIn old.windows windows
-  pub over : StandsOver log records disk s windows old.image
+  pub over : StandsOverDisk log records disk s windows old.image
 
 -- ---- rows that stand, but for wear
 
@@ -138,7 +138,7 @@ module _ (l : Layout) (a : Anchor) (weak : Sectors) (i : Image) where
 
 -- the log stays its own, as the machine's windows may wear it
 pub log_in_window : (log : LogValue) (s : ResidentValue) (records : List Placed) (disk : List (List ℕ)) (windows : List WeakRun) (old : Moment) → log.layout.pages ≤ 2 ^ 32 → log.anchor.epoch < 2 ^ 32 → log.anchor.third ≤ 2
-    → IsApart (gap_of log.layout) (weak_of windows) → EndIn old.windows windows → StandsOver log records disk s windows old.image → IsLogWorn log records old
+    → IsApart (gap_of log.layout) (weak_of windows) → EndIn old.windows windows → StandsOverDisk log records disk s windows old.image → IsLogWorn log records old
 log_in_window log s records disk windows old few epoch third apart ends over = λ j w.
     (own_worn log.layout few log.anchor epoch third (weak_of windows) apart old.image j (open_is_weak old.windows windows old.image j ends w) records log.head over.own).log
 
@@ -219,7 +219,7 @@ module _ (log : LogValue) (s : ResidentValue) (images : List ℕ) (records : Lis
     base_worn : IsWorn hurt old.image base
     base_worn = under_worn hurt old.image i place bytes stood (room_for stood within) worn
 
-    over : StandsOver log records disk s windows base
+    over : StandsOverDisk log records disk s windows base
     over = record {
       shows = shows_still l windows (λ t u far x y. m.apart t u (omega (arith, far, gap_most l)) x y) (disk ∷ []) old.image base base_worn m.over.shows;
       own = own_worn l m.few a m.may.epoch m.may.one_of hurt m.apart old.image base base_worn records log.head m.over.own;
@@ -316,7 +316,7 @@ module _ (log : LogValue) (s : ResidentValue) (images : List ℕ) (records : Lis
     home_same page =
         let first : bytes_at i (home_a l page) ≡ bytes_at base (home_a l page) = ap bytes_of (same_far (home_a l page) (inr (omega arith))) in
         let copy : bytes_at i (home_b l page) ≡ bytes_at base (home_b l page) = ap bytes_of (same_far (home_b l page) (inr (omega arith))) in
-        λ k. either_copy (first k) (copy k)
+        λ k. first_whole (first k) (copy k)
 
     -- ---- by what the scan finds
 
@@ -347,7 +347,7 @@ module _ (log : LogValue) (s : ResidentValue) (images : List ℕ) (records : Lis
 
       -- ---- the pages
 
-      stands_by : (choices : List (List (List ℕ))) (ys : List (List ℕ)) → GivesEach (newest l i found) 0 l.pages ys → anchor_of base ≡ Some a → ShowsOne choices (Some ys) → Stands l hurt choices i
+      stands_by : (choices : List (List (List ℕ))) (ys : List (List ℕ)) → GivesEach (newest l i found) 0 l.pages ys → anchor_of base ≡ Some a → ShowsOne choices (Some ys) → StandsShown l hurt choices i
       stands_by choices ys gives anchored one =
           let anchor : anchor_of i ≡ Some a = anchors_same ∙ anchored in
           let by : shown_by l i a ≡ Some ys = ap (λ (q : List Placed). each_of (newest l i q) (all_pages l)) scanned ∙ each_given (newest l i found) 0 l.pages ys gives in
@@ -471,13 +471,13 @@ module _ (log : LogValue) (s : ResidentValue) (images : List ℕ) (records : Lis
 
     -- ---- which of the two it shows
 
-    stands_old : records_by l i a ≡ records → Stands l hurt (disk ∷ now ∷ []) i
+    stands_old : records_by l i a ≡ records → StandsShown l hurt (disk ∷ now ∷ []) i
     stands_old scanned = stands_by records scanned laid_records (λ page none. none) (disk ∷ now ∷ []) disk gives_disk was_shown.0 (0, omega arith, refl)
 
-    stands_new : (choices : List (List (List ℕ))) → ShowsOne choices (Some now) → 3 + (gap_of log.layout) + n < stood → records_by l i a ≡ records ++ r ∷ [] → Stands l hurt choices i
+    stands_new : (choices : List (List (List ℕ))) → ShowsOne choices (Some now) → 3 + (gap_of log.layout) + n < stood → records_by l i a ≡ records ++ r ∷ [] → StandsShown l hurt choices i
     stands_new choices one there scanned = stands_by (records ++ r ∷ []) scanned (laid_more there) (λ page none. none_before page records r none) choices now gives_now was_shown.0 one
 
-    stands_either : Stands l hurt (disk ∷ now ∷ []) i
+    stands_either : StandsShown l hurt (disk ∷ now ∷ []) i
     stands_either = elim (cases_lt (3 + (gap_of log.layout) + n) stood) [
       | inr before ↦ stands_old (ap (λ (w : Walked). w.records) (image_before log s.dirty images (length old.image) m.may rest refl records log_worn stood within i worn before))
       | inl there ↦ ⊎_elim
@@ -489,7 +489,7 @@ module _ (log : LogValue) (s : ResidentValue) (images : List ℕ) (records : Lis
     log_now : stood ≡ record_len (gap_of log.layout) n → IsLog l a.epoch a.first (tape l a.third (bytes_at i)) (records ++ r ∷ []) (head_past log n)
     log_now whole = image_whole log s.dirty images (length old.image) m.may rest refl records log_worn stood within i worn whole narrow
 
-    stands_now : stood ≡ record_len (gap_of log.layout) n → Stands l hurt (now ∷ []) i
+    stands_now : stood ≡ record_len (gap_of log.layout) n → StandsShown l hurt (now ∷ []) i
     stands_now whole = stands_new (now ∷ []) (0, omega arith, refl) (omega (arith, whole)) (ap (λ (w : Walked). w.records) (log_now whole).scanned)
 
     own_now : stood ≡ record_len (gap_of log.layout) n → HasOwnLog l a (records ++ r ∷ []) (head_past log n) hurt i

@@ -9,7 +9,7 @@ use Rattle.fsd_log.specs.Borne.{FitsStamp}
 use Rattle.fsd_log.specs.Judged.{slice_of}
 use Rattle.fsd_log.specs.Laid.{slices}
 use Rattle.fsd_sound.specs.Mounted.{image_at}
-use Rattle.page_cache.specs.Cache.{CacheValue, IsResident, bytes_of}
+use Rattle.page_cache.specs.Cache.{CacheValue, IsResident, cached_bytes}
 use Rattle.group_commit.specs.Cached.{frame_bytes, stamped_frames}
 use Rattle.group_commit.specs.Resident.{IsImageOf, stamped, with_stamp}
 use Rattle.group_commit.proofs.AllLaidLaws.{slice_at}
@@ -29,7 +29,7 @@ sector_before stamp bytes long = by (cases_lt (length bytes) 16)
     by (inr enough) = omega (arith, parts, length-drop 24 bytes, length-take-le 16 bytes enough)
 
 module _ (stamp read : Stamp) (fits : FitsStamp read) (same : read ≡ stamp) (count : ℕ) (xs : List ℕ) (are : are_pages count xs ≡ true) (c d : CacheValue) (made : d ≡ stamped_frames read xs c)
-    (there : (p : ℕ) → contains xs p ≡ true → IsResident c p) (images_are : (p : ℕ) → contains xs p ≡ true → IfSome (bytes_of c p) (IsImageOf p))
+    (there : (p : ℕ) → contains xs p ≡ true → IsResident c p) (images_are : (p : ℕ) → contains xs p ≡ true → IfSome (cached_bytes c p) (IsImageOf p))
     (whole : (k : ℕ) → k < length xs → length (frame_bytes d (get_or xs k 0)) ≡ 512) (images : List ℕ) (laid : images ≡ flat_map (frame_bytes d) xs) where
   bytes_is : (p : ℕ) → contains xs p ≡ true → frame_bytes d p ≡ with_stamp read (frame_bytes c p)
   bytes_is p is = ap (λ (v : CacheValue). frame_bytes v p) made ∙ bytes_then read xs c p is (there p is)
@@ -52,7 +52,7 @@ module _ (stamp read : Stamp) (fits : FitsStamp read) (same : read ≡ stamp) (c
   pub record_stamped : AreStamped stamp xs (slices (length xs) images)
   record_stamped = subst (λ (t : Stamp). AreStamped t xs (slices (length xs) images)) same (subst (AreStamped read xs) (sym slices_are) (are_stamped (frame_bytes d) read xs bear_is))
 
-  pub record_frames : (k : ℕ) → k < length xs → bytes_of d (get_or xs k 0) ≡ Some (slice_of images k)
+  pub record_frames : (k : ℕ) → k < length xs → cached_bytes d (get_or xs k 0) ≡ Some (slice_of images k)
   record_frames k lt =
       let page : ℕ = get_or xs k 0 in
       let inside : IsResident d page = subst (λ (v : CacheValue). IsResident v page) (sym made) (there_then read xs c page (there page (index_contained xs k lt))) in
@@ -60,7 +60,7 @@ module _ (stamp read : Stamp) (fits : FitsStamp read) (same : read ≡ stamp) (c
       sym (get_or-map (frame_bytes d) xs k 0 [] lt) ∙ ap (λ (ys : List (List ℕ)). get_or ys k []) (sym slices_are) ∙ slice_at (length xs) images k lt in
       frame_is d page inside ∙ ap (λ (b : List ℕ). Some b) same
 
-  module _ (pages : List (List ℕ)) (table : length pages ≡ count) (agrees : (p : ℕ) (bytes : List ℕ) → bytes_of c p ≡ Some bytes → image_at pages p ≡ bytes) where
+  module _ (pages : List (List ℕ)) (table : length pages ≡ count) (agrees : (p : ℕ) (bytes : List ℕ) → cached_bytes c p ≡ Some bytes → image_at pages p ≡ bytes) where
     page_is : (p : ℕ) → contains xs p ≡ true → frame_bytes d p ≡ image_at (stamped read xs pages) p
     page_is p is =
         let all = pages_of count xs are in

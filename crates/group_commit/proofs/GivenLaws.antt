@@ -15,7 +15,7 @@ use Rattle.fsd_sound.specs.Windows.{IsApart}
 use Rattle.fsd_sound.proofs.LogPlaces.{IsRecord, scan_records}
 use Rattle.fsd_sound.proofs.TwiceLaws.{image_stands, one_is, not_both}
 use Rattle.log_thirds.specs.declared.slots.Slot.{Slot}
-use Rattle.log_thirds.specs.Slots.{slot_of}
+use Rattle.log_thirds.specs.Slots.{last_slot}
 use Rattle.log_thirds.proofs.GivesLaws.{EachImage, Gives, slot_gives}
 
 module _ (l : Layout) (a : Anchor) (weak : Sectors) (i : Image) where
@@ -23,10 +23,10 @@ module _ (l : Layout) (a : Anchor) (weak : Sectors) (i : Image) where
   each_image [] are laid = tt
   each_image (r ∷ rs) are laid = (record { many = are.0.images; each = image_stands l a weak i r are.0 laid.0.0 laid.0.1 }, each_image rs are.1 laid.1)
 
-  pub gives_last : (page : ℕ) (rs : List Placed) (slot : Slot) → AllByRecursion (IsRecord l a.third) rs → AllLaid l a weak i rs → slot_of l a.third page rs ≡ Some slot → Gives l a.third (StandsTwice (gap_of l) weak i) page rs slot
+  pub gives_last : (page : ℕ) (rs : List Placed) (slot : Slot) → AllByRecursion (IsRecord l a.third) rs → AllLaid l a weak i rs → last_slot l a.third page rs ≡ Some slot → Gives l a.third (StandsTwice (gap_of l) weak i) page rs slot
   gives_last page rs slot are laid found = slot_gives l a.third (StandsTwice (gap_of l) weak i) page rs slot (each_image rs are laid) found
 
-module _ (l : Layout) (a : Anchor) (low : a.third ≤ 2) (weak : Sectors) (apart : IsApart (gap_of l) weak) (i j : Image) (w : IsWorn weak i j) (laid : AllLaid l a weak i (records_by l i a)) (page : ℕ) (slot : Slot) (found : slot_of l a.third page (records_by l i a) ≡ Some slot) where
+module _ (l : Layout) (a : Anchor) (low : a.third ≤ 2) (weak : Sectors) (apart : IsApart (gap_of l) weak) (i j : Image) (w : IsWorn weak i j) (laid : AllLaid l a weak i (records_by l i a)) (page : ℕ) (slot : Slot) (found : last_slot l a.third page (records_by l i a) ≡ Some slot) where
   given : Gives l a.third (StandsTwice (gap_of l) weak i) page (records_by l i a) slot
   given = gives_last l a weak i page (records_by l i a) slot (scan_records l i a low) laid found
 

@@ -30,9 +30,9 @@ use Rattle.fsd_sound.proofs.LogPlaces.{SameLog, IsRecord, has_same, same_tape, f
 use Rattle.fsd_sound.proofs.SoundLaws.{shows_still}
 use Rattle.fsd_sound.proofs.WindowLaws.{open_is_weak}
 use Rattle.log_thirds.specs.Append.{IsLogWorn, LastLiesIn}
-use Rattle.log_thirds.specs.Images.{AreLogged, LiesAt, StandsAt}
+use Rattle.log_thirds.specs.Images.{AreLogged, LiesAt, StandsInSlot}
 use Rattle.log_thirds.specs.LogValue.{LogValue}
-use Rattle.log_thirds.specs.Slots.{slot_of}
+use Rattle.log_thirds.specs.Slots.{last_slot}
 use Rattle.fsd_sound.specs.Homes.{home_of, IsAtHome}
 use Rattle.group_commit.proofs.StandsLaws.{page_shown}
 use Rattle.std.specs.Option.{option_or}
@@ -46,7 +46,7 @@ use Rattle.fsd_sound.proofs.LaidLaws.{own_worn}
 use Rattle.fsd_sound.proofs.MendLaws.{logged_shows}
 use Rattle.fsd_sound.proofs.AlikeLaws.{log_same, each_same}
 use Rattle.group_commit.specs.Force.{MayWrite}
-use Rattle.group_commit.specs.Entering.{Shows, OwnsLog, IsHoming, MayHome}
+use Rattle.group_commit.specs.Entering.{ShowsDisk, OwnsLog, IsHoming, MayHome}
 use Rattle.volume_layout.proofs.KindLaws.{gap_most}
 
 -- ---- where only homes are written the log stays
@@ -112,7 +112,7 @@ module _ (log : LogValue) (records : List Placed) (disk : List (List ℕ)) (wind
   pub begin : OwnsLog log records disk windows old.image → IsHoming log records disk windows old 0 old
   begin over = record { image = old.image; holds = holds_now old; over = over; done = λ page lt. absurd (omega (arith, lt)); size = refl; outside = λ s out. refl }
 
-  pub shows_now : (e : Image) (left : Moment) → Holds old e left → ShowsPages log.layout windows (disk ∷ []) e → length e ≡ length old.image → ((s : ℕ) → (MayWrite log.layout s → ⊥) → sector_at e s ≡ sector_at old.image s) → Shows log.layout windows disk old left
+  pub shows_now : (e : Image) (left : Moment) → Holds old e left → ShowsPages log.layout windows (disk ∷ []) e → length e ≡ length old.image → ((s : ℕ) → (MayWrite log.layout s → ⊥) → sector_at e s ≡ sector_at old.image s) → ShowsDisk log.layout windows disk old left
   shows_now e left holds shows size outside = record {
     shows = shows_still log.layout windows narrow (disk ∷ []) e left.image (weaker e left.image holds.worn) shows;
     outside = record { size = holds.worn.size ∙ size; others = λ s out. ⊎_elim (λ same. inl (same ∙ outside s out)) (λ hurt. inr hurt) (holds.worn.each s) };
@@ -124,7 +124,7 @@ module _ (log : LogValue) (records : List Placed) (disk : List (List ℕ)) (wind
     pub still : (left : Moment) → Wears now left → IsHoming log records disk windows old n left
     still left wears = record { image = at.image; holds = holds_wears old at.image now left at.holds wears; over = at.over; done = at.done; size = at.size; outside = at.outside }
 
-    pub stays : (left : Moment) → Wears now left → Shows log.layout windows disk old left
+    pub stays : (left : Moment) → Wears now left → ShowsDisk log.layout windows disk old left
     stays left wears = shows_now at.image left (holds_wears old at.image now left at.holds wears) at.over.shows at.size at.outside
 
     -- none is left
@@ -147,7 +147,7 @@ module _ (log : LogValue) (records : List Placed) (disk : List (List ℕ)) (wind
     -- ---- what is read of a page
 
     module _ (page : ℕ) (a b : ℕ) (lies : LiesAt (Rattle.std.specs.Prelude.slice_index_or log.slots page None) a b) (left : Moment) (wears : Wears now left) where
-      found : LiesAt (slot_of log.layout log.anchor.third page records) a b
+      found : LiesAt (last_slot log.layout log.anchor.third page records) a b
       found = logged_by log records page a b at.over.indexed lies
 
       worn : IsWorn (weak_of windows) at.image left.image
@@ -156,14 +156,14 @@ module _ (log : LogValue) (records : List Placed) (disk : List (List ℕ)) (wind
       laid : AllLaid log.layout log.anchor (weak_of windows) at.image (records_by log.layout at.image log.anchor)
       laid = subst (AllLaid log.layout log.anchor (weak_of windows) at.image) (sym (scanned at.image at.over)) at.over.own.laid
 
-      there : slot_of log.layout log.anchor.third page (records_by log.layout at.image log.anchor) ≡ Some (record { place = a; copy = b; number = found.number })
-      there = ap (slot_of log.layout log.anchor.third page) (scanned at.image at.over) ∙ found.is
+      there : last_slot log.layout log.anchor.third page (records_by log.layout at.image log.anchor) ≡ Some (record { place = a; copy = b; number = found.number })
+      there = ap (last_slot log.layout log.anchor.third page) (scanned at.image at.over) ∙ found.is
 
       gives : (bytes : List ℕ) → (sector_at left.image a ≡ Whole bytes) ⊎ (sector_at left.image b ≡ Whole bytes) → last_image page records ≡ Some bytes
       gives bytes stands = ap (last_image page) (sym (scanned at.image at.over))
           ∙ given_is log.layout log.anchor may.shape.third (weak_of windows) may.apart at.image left.image worn laid page (record { place = a; copy = b; number = found.number }) there bytes stands
 
-    pub slot_gives : (page : ℕ) (bytes : List ℕ) → Wears now now → StandsAt (Rattle.std.specs.Prelude.slice_index_or log.slots page None) now.image bytes → last_image page records ≡ Some bytes
+    pub slot_gives : (page : ℕ) (bytes : List ℕ) → Wears now now → StandsInSlot (Rattle.std.specs.Prelude.slice_index_or log.slots page None) now.image bytes → last_image page records ≡ Some bytes
     slot_gives page bytes here stands = gives page stands.a stands.b stands.lies now here bytes stands.stands
 
     -- it is not lost
@@ -222,7 +222,7 @@ module _ (log : LogValue) (records : List Placed) (disk : List (List ℕ)) (wind
       part_outside : (e : Image) → Part e → (s : ℕ) → (MayWrite log.layout s → ⊥) → sector_at e s ≡ sector_at old.image s
       part_outside e part s out = part.others s (λ is. out (inr (inr (page, lt, inl is)))) (λ is. out (inr (inr (page, lt, inr is)))) ∙ at.outside s out
 
-      pub homes_stay : (left : Moment) → HomesIn log.layout page bytes now left → Shows log.layout windows disk old left
+      pub homes_stay : (left : Moment) → HomesIn log.layout page bytes now left → ShowsDisk log.layout windows disk old left
       homes_stay left homes =
           let part = homed_part homes.first homes.second homes.in_order homes.once in
           shows_now (stand (stand at.image (home_a log.layout page) bytes homes.first) (home_b log.layout page) bytes homes.second) left

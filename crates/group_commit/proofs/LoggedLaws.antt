@@ -22,8 +22,8 @@ use Rattle.log_thirds.specs.Slots.{slot_in}
 use Rattle.log_thirds.specs.declared.slots.Slot.{Slot}
 use Rattle.log_thirds.proofs.MomentLaws.{MayAppend, laid, write_inside}
 use Rattle.log_thirds.proofs.SlotLaws.{get-noted}
-use Rattle.page_cache.specs.Cache.{CacheValue, bytes_of, is_one_of}
-use Rattle.group_commit.specs.Logged.{StandsLogged}
+use Rattle.page_cache.specs.Cache.{CacheValue, cached_bytes, is_among}
+use Rattle.log_thirds.specs.Logged.{StandsLogged}
 use Rattle.group_commit.proofs.FrameLaws.{not_before}
 use Rattle.group_commit.proofs.ImageLaws.{below_at, pages_of}
 use Rattle.group_commit.proofs.OrderLaws.{contained_index, index_contained}
@@ -32,7 +32,7 @@ use Rattle.group_commit.proofs.SlotLaws.{slot}
 -- ---- slots of a record's pages
 
 -- that of one of some pages, which is none of those before it
-slot_in_at : (number place copy : ℕ) (pages : List ℕ) (k : ℕ) → k < length pages → is_one_of (take k pages) (get_or pages k 0) ≡ false → slot_in (get_or pages k 0) number place copy pages ≡ Some (slot number (place + k) (copy + k))
+slot_in_at : (number place copy : ℕ) (pages : List ℕ) (k : ℕ) → k < length pages → is_among (take k pages) (get_or pages k 0) ≡ false → slot_in (get_or pages k 0) number place copy pages ≡ Some (slot number (place + k) (copy + k))
 slot_in_at number place copy [] k lt out = absurd (omega arith)
 slot_in_at number place copy (p ∷ pages) zero lt out =
     let x : place ≡ place + 0 = omega arith in
@@ -40,7 +40,7 @@ slot_in_at number place copy (p ∷ pages) zero lt out =
     let same : ◌≡◌ {A = Option Slot} (Some (slot number place copy)) (Some (slot number (place + 0) (copy + 0))) = λ i. Some (slot number (x i) (y i)) in
     ap (λ (b : Bool). cond b (Some (slot number place copy)) (slot_in p number (place + 1) (copy + 1) pages)) (eq-eqb p p refl) ∙ same
 slot_in_at number place copy (p ∷ pages) (suc k) lt out =
-    let parts = or_parts (nat_eq p (get_or pages k 0)) (is_one_of (take k pages) (get_or pages k 0)) out in
+    let parts = or_parts (nat_eq p (get_or pages k 0)) (is_among (take k pages) (get_or pages k 0)) out in
     let x : place + 1 + k ≡ place + suc k = omega arith in
     let y : copy + 1 + k ≡ copy + suc k = omega arith in
     let same : ◌≡◌ {A = Option Slot} (Some (slot number (place + 1 + k) (copy + 1 + k))) (Some (slot number (place + suc k) (copy + suc k))) = λ i. Some (slot number (x i) (y i)) in
@@ -103,11 +103,11 @@ module _ (log : LogValue) (pages images : List ℕ) (old new : Moment) (may : Ma
 
 -- what stands so of each of some pages, said of a page and its bytes
 pub logged_of : (log : LogValue) (now : Moment) (c : CacheValue) (pages room : List ℕ) → ((k : ℕ) → k < length pages → StandsLogged log now (get_or pages k 0) (slice_of room k))
-    → ((k : ℕ) → k < length pages → bytes_of c (get_or pages k 0) ≡ Some (slice_of room k))
-    → (page : ℕ) (bytes : List ℕ) → contains pages page ≡ true → bytes_of c page ≡ Some bytes → StandsLogged log now page bytes
+    → ((k : ℕ) → k < length pages → cached_bytes c (get_or pages k 0) ≡ Some (slice_of room k))
+    → (page : ℕ) (bytes : List ℕ) → contains pages page ≡ true → cached_bytes c page ≡ Some bytes → StandsLogged log now page bytes
 logged_of log now c pages room logged frames page bytes is has =
     let at = contained_index pages page is in
-    let frame : bytes_of c page ≡ Some (slice_of room at.index) = subst (λ (p : ℕ). bytes_of c p ≡ Some (slice_of room at.index)) at.is (frames at.index at.inside) in
+    let frame : cached_bytes c page ≡ Some (slice_of room at.index) = subst (λ (p : ℕ). cached_bytes c p ≡ Some (slice_of room at.index)) at.is (frames at.index at.inside) in
     subst (λ (p : ℕ). StandsLogged log now p bytes) at.is
     (subst (StandsLogged log now (get_or pages at.index 0)) (some_same (slice_of room at.index) bytes (sym frame ∙ has)) (logged at.index at.inside))
   where

@@ -16,25 +16,25 @@ use Rattle.sector_disk.proofs.Damage.{cause_as}
 use Rattle.sector_disk.proofs.Holding.{wears_on}
 use Rattle.sector_disk.proofs.Wear.{worn_refl, worn_whole}
 use Rattle.fsd_log.specs.Scan.{Walked}
-use Rattle.fsd_files.specs.Disk.{Image, bytes_of, either_copy}
+use Rattle.fsd_files.specs.Disk.{Image, bytes_of, first_whole}
 use Rattle.fsd_sound.specs.Homes.{AreHomesOf, home_of}
 use Rattle.fsd_sound.specs.Laid.{AllLaid}
 use Rattle.fsd_sound.specs.Shown.{newest, records_by}
 use Rattle.fsd_sound.specs.Sound.{weak_of}
 use Rattle.fsd_sound.proofs.WindowLaws.{open_is_weak}
-use Rattle.log_thirds.specs.Images.{AreLogged, StandsAt}
+use Rattle.log_thirds.specs.Images.{AreLogged, StandsInSlot}
 use Rattle.log_thirds.specs.LogValue.{LogValue}
-use Rattle.log_thirds.specs.Slots.{slot_of}
+use Rattle.log_thirds.specs.Slots.{last_slot}
 use Rattle.log_thirds.specs.declared.slots.Slot.{Slot}
 use Rattle.log_thirds.proofs.ImageLaws.{no_last_image}
 use Rattle.group_commit.specs.KnownLaws.{known_newest, knows_worn, newest_worn}
-use Rattle.group_commit.specs.Newest.{AreCopies, IsUnlogged, KnowsPages, StandsAtHome, StandsInCopy, newest_by}
+use Rattle.group_commit.specs.Newest.{AreCopiesIn, IsUnlogged, KnowsPages, StandsAtHome, StandsByLog, newest_by}
 use Rattle.group_commit.proofs.GivenLaws.{given_is, never_lost}
 
 -- ---- at home
 
 -- the first whole home is one of the two
-either_whole : (x y : Sector) (bytes : List ℕ) → either_copy (bytes_of x) (bytes_of y) ≡ Some bytes → (x ≡ Whole bytes) ⊎ (y ≡ Whole bytes)
+either_whole : (x y : Sector) (bytes : List ℕ) → first_whole (bytes_of x) (bytes_of y) ≡ Some bytes → (x ≡ Whole bytes) ⊎ (y ≡ Whole bytes)
 either_whole (Whole b) y bytes is = let same : b ≡ bytes = cc in inl (ap (λ (z : List ℕ). Whole z) same)
 either_whole Damaged (Whole b) bytes is = let same : b ≡ bytes = cc in inr (ap (λ (z : List ℕ). Whole z) same)
 either_whole Damaged Damaged bytes is = absurd (cc)
@@ -49,7 +49,7 @@ stood_at_home may l page i j bytes worn (inr second) = inr (worn_whole may i j (
 
 -- where both are damaged there is none
 no_home : (l : Layout) (page : ℕ) (i : Image) → sector_at i (home_a l page) ≡ Damaged → sector_at i (home_b l page) ≡ Damaged → home_of l i page ≡ None
-no_home l page i first second = λ k. either_copy (bytes_of (first k)) (bytes_of (second k))
+no_home l page i first second = λ k. first_whole (bytes_of (first k)) (bytes_of (second k))
 
 -- ---- a page that is lost
 
@@ -76,12 +76,12 @@ module _ (log : LogValue) (page : ℕ) (lt : page < log.layout.pages) where
     laid = subst (AllLaid log.layout log.anchor (weak_of knows.windows) at.image) (sym records_are) knows.over.own.laid
 
     -- the page's slot is that in the last record that has it
-    found : (slot : Option Slot) → slice_index_or log.slots page None ≡ slot → slot_of log.layout log.anchor.third page (records_by log.layout at.image log.anchor) ≡ slot
+    found : (slot : Option Slot) → slice_index_or log.slots page None ≡ slot → last_slot log.layout log.anchor.third page (records_by log.layout at.image log.anchor) ≡ slot
     found slot is =
         let long : page < length log.slots = subst (λ (n : ℕ). page < n) (sym knows.shape.table) lt in
-        ap (slot_of log.layout log.anchor.third page) records_are ∙ sym (knows.over.indexed.slots page long) ∙ is
+        ap (last_slot log.layout log.anchor.third page) records_are ∙ sym (knows.over.indexed.slots page long) ∙ is
 
-    pub logged_newest : (bytes : List ℕ) → StandsAt (slice_index_or log.slots page None) at.image bytes → newest_by log at.image page ≡ Some bytes
+    pub logged_newest : (bytes : List ℕ) → StandsInSlot (slice_index_or log.slots page None) at.image bytes → newest_by log at.image page ≡ Some bytes
     logged_newest bytes s =
         let slot : Slot = record { place = s.a; copy = s.b; number = s.lies.number } in
         let last = given_is log.layout log.anchor knows.shape.third (weak_of knows.windows) knows.apart at.image at.image (worn_refl (weak_of knows.windows) at.image) laid page slot (found (Some slot) s.lies.is) bytes s.stands in
@@ -103,13 +103,13 @@ module _ (log : LogValue) (page : ℕ) (lt : page < log.layout.pages) where
 -- ---- where the log has no image
 
 module _ (log : LogValue) (page : ℕ) (none : IsUnlogged log page) (l : Layout) (same : l ≡ log.layout) (old mid new : Moment) (first : Wears old mid) (second : Wears mid new) where
-  pub copy_stands : (bytes : List ℕ) → home_of l new.image page ≡ Some bytes → StandsInCopy log page old.image bytes
+  pub copy_stands : (bytes : List ℕ) → home_of l new.image page ≡ Some bytes → StandsByLog log page old.image bytes
   copy_stands bytes is =
       let at_end : StandsAtHome log.layout page new.image bytes = home_stands log.layout page new.image bytes (subst (λ (k : Layout). home_of k new.image page ≡ Some bytes) same is) in
       inr (none, stood_at_home (open_damage old.windows) log.layout page old.image mid.image bytes first.image (stood_at_home (open_damage mid.windows) log.layout page mid.image new.image bytes second.image at_end))
 
-  pub copies_lost : (fault : LoadFault) → LostCause (AreHomesOf l page) new.image fault → LostCause (AreCopies log page) new.image fault
-  copies_lost fault lost = cause_as (AreHomesOf l page) (AreCopies log page) new.image fault (λ a b homes. inr (none, subst (λ (k : Layout). AreHomesOf k page a b) same homes)) lost
+  pub copies_lost : (fault : LoadFault) → LostCause (AreHomesOf l page) new.image fault → LostCause (AreCopiesIn log page) new.image fault
+  copies_lost fault lost = cause_as (AreHomesOf l page) (AreCopiesIn log page) new.image fault (λ a b homes. inr (none, subst (λ (k : Layout). AreHomesOf k page a b) same homes)) lost
 
   module _ (lt : page < log.layout.pages) (knows : KnowsPages log old) where
     worn : Wears old new

@@ -17,8 +17,8 @@ use Rattle.log_thirds.specs.LogValue.{LogValue}
 use Rattle.log_thirds.specs.Append.{stamp_now}
 use Rattle.fsd_sound.proofs.WindowLaws.{borne_apart}
 use Rattle.log_thirds.specs.LogValue.{FitsLayout}
-use Rattle.group_commit.specs.Entering.{Shows, OwnsLog, HasRoomNow, MayHome}
-use Rattle.group_commit.specs.Force.{MayWrite, StandsOver, Commits}
+use Rattle.group_commit.specs.Entering.{ShowsDisk, OwnsLog, HasRoomNow, MayHome}
+use Rattle.group_commit.specs.Force.{MayWrite, StandsOverDisk, Commits}
 use Rattle.group_commit.specs.Newest.{KnowsImages}
 use Rattle.group_commit.specs.Resident.{ResidentValue, stamped}
 use Rattle.group_commit.proofs.CommitLaws.{shows_more}
@@ -40,12 +40,12 @@ may_home log layout windows old same planned shape borne ends = record {
   ends = ends;
 }
 
-module _ (log : LogValue) (s : ResidentValue) (records : List Placed) (disk : List (List ℕ)) (windows : List WeakRun) (old : Moment) (over : StandsOver log records disk s windows old.image) where
+module _ (log : LogValue) (s : ResidentValue) (records : List Placed) (disk : List (List ℕ)) (windows : List WeakRun) (old : Moment) (over : StandsOverDisk log records disk s windows old.image) where
   pub owns : KnowsImages log old.image → OwnsLog log records disk windows old.image
   owns known = record { shows = over.shows; own = over.own; indexed = (knows_images log log.head records disk s.pages s.dirty windows old.image over).0 known }
 
   -- while room is made the old pages are shown
-  pub making : (now : List (List ℕ)) (left : Moment) → Shows log.layout windows disk old left → Commits log.layout windows disk now old left
+  pub making : (now : List (List ℕ)) (left : Moment) → ShowsDisk log.layout windows disk old left → Commits log.layout windows disk now old left
   making now left is = record {
     shows = record { readable = is.shows.readable; shows = λ j worn. shows_more disk now (shown log.layout j) (is.shows.shows j worn) };
     kept = λ t from. is.outside.others t (data_outside log.layout t from);
@@ -55,7 +55,7 @@ module _ (log : LogValue) (s : ResidentValue) (records : List Placed) (disk : Li
   }
 
   module _ (after : LogValue) (mid : Moment) (room : HasRoomNow after disk windows old mid) (layout : after.layout ≡ log.layout) (stamp : stamp_now after ≡ stamp_now log) (same : mid.windows ≡ old.windows) (said : mid.said ≡ old.said) where
-    pub stands : StandsOver after room.records disk s windows mid.image
+    pub stands : StandsOverDisk after room.records disk s windows mid.image
     stands = record { shows = room.over.shows; own = room.over.own; clean = over.clean }
 
     on : (t : ℕ) (left : Sector) → (MayWrite after.layout t → ⊥) → SectorWorn (open_damage mid.windows t) (sector_at mid.image t) left → SectorWorn (open_damage old.windows t) (sector_at old.image t) left

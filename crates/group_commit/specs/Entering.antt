@@ -26,7 +26,7 @@ use Rattle.fsd_sound.specs.Windows.{IsApart}
 use Rattle.fsd_sound.specs.Homes.{IsAtHome}
 
 -- The disk shows these pages, and only log, anchors and homes change.
-pub record Shows (l : Layout) (runs : List WeakRun) (disk : List (List ℕ)) (old left : Moment) : Type 0 where
+pub record ShowsDisk (l : Layout) (runs : List WeakRun) (disk : List (List ℕ)) (old left : Moment) : Type 0 where
   pub shows : ShowsPages l runs (disk ∷ []) left.image
   pub outside : KeepsOutside l old left
   pub windows : left.windows ≡ old.windows
@@ -63,12 +63,12 @@ pub record IsEntered (log : LogValue) (records : List Placed) (disk : List (List
 -- Whatever pages the old moment shows over this log, the left one shows them too, and only log,
 -- anchors and homes change.
 abbrev pub ShowsStill : LogValue → Moment → Moment → Type 0
-ShowsStill log old left = (records : List Placed) (disk : List (List ℕ)) (windows : List WeakRun) → MayHome log windows old → OwnsLog log records disk windows old.image → Shows log.layout windows disk old left
+ShowsStill log old left = (records : List Placed) (disk : List (List ℕ)) (windows : List WeakRun) → MayHome log windows old → OwnsLog log records disk windows old.image → ShowsDisk log.layout windows disk old left
 
 -- The same while a page of the first third goes home, of which the log was entered at an older moment.
 abbrev pub ShowsHoming : LogValue → (page : ℕ) → Moment → Moment → Type 0
 ShowsHoming log page now left = (records : List Placed) (disk : List (List ℕ)) (windows : List WeakRun) (old : Moment) (n : ℕ) → MayHome log windows old → LastLiesIn log records log.anchor.third page
-    → IsHoming log records disk windows old n now → Shows log.layout windows disk old left
+    → IsHoming log records disk windows old n now → ShowsDisk log.layout windows disk old left
 
 -- an image is lost only where the record enters the first third
 abbrev pub RecordCause : LogValue → (n : ℕ) → LoadFault → Type 0
@@ -95,8 +95,16 @@ pub record HomesInPart {D : Type 0} (M : Ghosts D) (log : LogValue) (most : ℕ)
   pub never_lost : (records : List Placed) (disk : List (List ℕ)) (windows : List WeakRun) → M.honest new → MayHome log windows (M.now old) →
       OwnsLog log records disk windows (M.now old).image → IsDevice fault
 
+-- A page does not go home. Both sectors of its last image in the log read damaged, or the disk failed; over a disk that
+-- shows pages, of which the log was entered at some moment before, nothing is lost.
+pub record HomesNoPage {D : Type 0} (M : Ghosts D) (log : LogValue) (old new : D) (fault : LoadFault) : Type 0 where
+  pub counted : M.tells new → WroteMost 2 (M.ledger old) (M.ledger new)
+  pub lost : M.honest new → LosesLogged log (M.now new).image fault
+  pub never_lost : (records : List Placed) (disk : List (List ℕ)) (windows : List WeakRun) (first : Moment) (n : ℕ) → M.honest new → MayHome log windows first →
+      IsHoming log records disk windows first n (M.now old) → IsDevice fault
+
 -- The homes and both anchors are written, and the log is what lies behind the first third.
-pub record Enters {D : Type 0} (M : Ghosts D) (log after : LogValue) (old new : D) : Type 0 where
+pub record EntersThird {D : Type 0} (M : Ghosts D) (log after : LogValue) (old new : D) : Type 0 where
   pub past : after ≡ moved log
   pub counted : M.tells new → M.ledger new ≡ wrote (M.ledger old) (2 * pages_in_first log + 2)
   pub shows : (records : List Placed) (disk : List (List ℕ)) (windows : List WeakRun) → M.honest new → MayHome log windows (M.now old) →

@@ -32,20 +32,20 @@ log_forced log (page ∷ more) = log_with (log_before log (length (page ∷ more
 
 -- The disk shows these pages, the log is its own, and the pages in memory are those of
 -- the disk but for the ones that wait.
-abbrev pub StandsOver : LogValue → (records : List Placed) → (disk : List (List ℕ)) → ResidentValue → List WeakRun → Image → Type 0
-StandsOver log records disk s windows i = Over log.layout log.anchor log.head records disk s.pages s.dirty windows i
+abbrev pub StandsOverDisk : LogValue → (records : List Placed) → (disk : List (List ℕ)) → ResidentValue → List WeakRun → Image → Type 0
+StandsOverDisk log records disk s windows i = Over log.layout log.anchor log.head records disk s.pages s.dirty windows i
 
 -- The map and the data area stay but for wear.
 abbrev pub KeepsData : Layout → Moment → Moment → Type 0
 KeepsData l old left = (s : ℕ) → map_start l ≤ s → SectorWorn (open_damage old.windows s) (sector_at old.image s) (sector_at left.image s)
 
 -- the sector is a home of a page
-abbrev pub IsHome : Layout → ℕ → Type 0
-IsHome l s = (page : ℕ) × (page < l.pages) × ((s ≡ home_a l page) ⊎ (s ≡ home_b l page))
+abbrev pub IsSomeHome : Layout → ℕ → Type 0
+IsSomeHome l s = (page : ℕ) × (page < l.pages) × ((s ≡ home_a l page) ⊎ (s ≡ home_b l page))
 
 -- what a force may write: the log, the anchors and the homes
 abbrev pub MayWrite : Layout → ℕ → Type 0
-MayWrite l s = InLog l s ⊎ (((s ≡ 8) ⊎ (s ≡ 12)) ⊎ IsHome l s)
+MayWrite l s = InLog l s ⊎ (((s ≡ 8) ⊎ (s ≡ 12)) ⊎ IsSomeHome l s)
 
 -- All other sectors stay but for wear: the roots, the map and the data. There are as many as before.
 pub record KeepsOutside (l : Layout) (old left : Moment) : Type 0 where
@@ -63,4 +63,4 @@ pub record Commits (l : Layout) (runs : List WeakRun) (disk now : List (List ℕ
 -- At the end it shows those that are in memory, and none waits.
 pub record Committed (log : LogValue) (s : ResidentValue) (windows : List WeakRun) (i : Image) : Type 0 where
   pub records : List Placed
-  pub stands : StandsOver log records s.pages s windows i
+  pub stands : StandsOverDisk log records s.pages s windows i

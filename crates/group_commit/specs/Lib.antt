@@ -5,6 +5,5 @@ pub mod Force
 pub mod Forces
 pub mod Newest
 pub mod KnownLaws
-pub mod Logged
 pub mod Resident
 pub mod Room

@@ -14,7 +14,7 @@ use Rattle.fsd_sound.specs.Shown.{newest, records_by}
 use Rattle.fsd_sound.specs.Sound.{EndIn, weak_of}
 use Rattle.fsd_sound.specs.Windows.{IsApart}
 use Rattle.log_thirds.specs.Append.{IsIndexed}
-use Rattle.log_thirds.specs.Images.{AreLogged, StandsAt}
+use Rattle.log_thirds.specs.Images.{AreLogged, StandsInSlot}
 use Rattle.log_thirds.specs.LogValue.{LogValue, FitsLayout}
 use Rattle.group_commit.specs.Entering.{OwnsLog}
 
@@ -44,8 +44,8 @@ abbrev pub IsUnlogged : LogValue → (page : ℕ) → Type 0
 IsUnlogged log page = slice_index_or log.slots page None ≡ None
 
 -- the sectors are the page's own and its copy in the log; or its two homes, where it is not logged
-abbrev pub AreCopies : LogValue → (page a b : ℕ) → Type 0
-AreCopies log page a b = AreLogged log page a b ⊎ (IsUnlogged log page × AreHomesOf log.layout page a b)
+abbrev pub AreCopiesIn : LogValue → (page a b : ℕ) → Type 0
+AreCopiesIn log page a b = AreLogged log page a b ⊎ (IsUnlogged log page × AreHomesOf log.layout page a b)
 
 -- ---- what stands in one of them
 
@@ -53,5 +53,5 @@ abbrev pub StandsAtHome : Layout → (page : ℕ) → Image → List ℕ → Typ
 StandsAtHome l page i bytes = (sector_at i (home_a l page) ≡ Whole bytes) ⊎ (sector_at i (home_b l page) ≡ Whole bytes)
 
 -- the bytes stand whole in one of the two copies
-abbrev pub StandsInCopy : LogValue → (page : ℕ) → Image → List ℕ → Type 0
-StandsInCopy log page i bytes = StandsAt (slice_index_or log.slots page None) i bytes ⊎ (IsUnlogged log page × StandsAtHome log.layout page i bytes)
+abbrev pub StandsByLog : LogValue → (page : ℕ) → Image → List ℕ → Type 0
+StandsByLog log page i bytes = StandsInSlot (slice_index_or log.slots page None) i bytes ⊎ (IsUnlogged log page × StandsAtHome log.layout page i bytes)

@@ -27,6 +27,6 @@ stamped stamp (page ∷ more) pages = stamped stamp more (slice_set pages page (
 -- ---- pages that wait
 
 -- the page in its place among ascending ones, once
-abbrev pub with_page : ℕ → List ℕ → List ℕ
-with_page page [] = page ∷ []
-with_page page (q ∷ more) = if nat_lt page q then page ∷ q ∷ more else (if q == page then q ∷ more else q ∷ with_page page more)
+abbrev pub page_added : ℕ → List ℕ → List ℕ
+page_added page [] = page ∷ []
+page_added page (q ∷ more) = if nat_lt page q then page ∷ q ∷ more else (if q == page then q ∷ more else q ∷ page_added page more)

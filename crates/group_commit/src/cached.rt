@@ -1,26 +1,19 @@
 //! The force of the dirty pages of a cache.
-ghost use Rattle.std.specs.Prelude.{◌≡◌, ◌<◌, ◌≤◌, ◌^◌, ◌-◌, ◌+◌, ℕ, true, List, [], length, take, slice_index, Some, ◌*◌, IsTrue, EachIndex, IfSome, IfOk, IfErr, OnOk};
-ghost use Rattle.sector_disk.specs.Damage.{IsDevice};
-ghost use Rattle.sector_disk.specs.declared.sector.WeakRun.{WeakRun};
+ghost use Rattle.std.specs.Prelude.{◌≡◌, ◌<◌, ◌≤◌, ◌^◌, ◌-◌, ℕ, true, List, [], length, take, slice_index, Some, ◌*◌, IsTrue, EachIndex, IfSome, IfOk, IfErr, OnOk};
 ghost use Rattle.sector_disk.specs.Calls.{WritesDisk, device_in, load_failed_at};
 ghost use Rattle.fsd_log.specs.Judged.{slice_of};
-ghost use Rattle.fsd_log.specs.Scan.{Placed};
-ghost use Rattle.fsd_sound.specs.Sound.{EndIn};
 ghost use Rattle.run_table.specs.Space.{contains};
-ghost use Rattle.volume_layout.specs.Kinds.{gap_of};
-ghost use Rattle.fsd_formats.specs.Record.{max_pages, AreStamped, are_pages, record_len};
+ghost use Rattle.fsd_formats.specs.Record.{max_pages, AreStamped, are_pages};
 ghost use Rattle.fsd_log.specs.Laid.{slices};
-ghost use Rattle.log_thirds.specs.Append.{stamp_now, log_with};
-ghost use Rattle.page_cache.specs.Cache.{IsCache, IsResident, bytes_of};
-ghost use Rattle.group_commit.specs.Resident.{IsImageOf, stamped};
-ghost use Rattle.group_commit.specs.Room.{log_before, sectors_before};
-ghost use Rattle.group_commit.specs.Commit.{ForceFails, Forces, RecordFails};
-ghost use Rattle.group_commit.specs.Force.{StandsOver, Committed, KeepsOutside};
-ghost use Rattle.group_commit.specs.Logged.{StandsLogged};
-ghost use Rattle.group_commit.specs.Newest.{KnowsImages};
+ghost use Rattle.log_thirds.specs.Append.{stamp_now};
+ghost use Rattle.page_cache.specs.Cache.{IsCache, IsResident, cached_bytes};
+ghost use Rattle.group_commit.specs.Resident.{IsImageOf};
+ghost use Rattle.group_commit.specs.Commit.{ForceFails, Forces, LogsNoPages, LogsPages};
+ghost use Rattle.group_commit.specs.Force.{KeepsOutside};
+ghost use Rattle.log_thirds.specs.Logged.{StandsLogged};
 ghost use Rattle.group_commit.specs.Cached.{AgreesWith, AreWaiting, CacheLeaves, FramesLeave, HasImages, ascending_of, stamped_frames};
 
-use crate::force::{Forced, Group};
+use crate::force::{ForcedPages, Group};
 use crate::frames::{lay_frames, stamp_frames};
 use crate::record::write_record;
 use crate::room::RecordRoom;
@@ -33,12 +26,12 @@ use sector_disk::{LoadFault, Machine};
 fn lay_record(log: &Log, cache: &mut Cache, waiting: &[u32], room: &mut RecordRoom)
     requires valid { IsCache cache.old }
     requires accepted { IsTrue (are_pages log.now.layout.pages waiting.now) }
-    requires images { (page : ℕ) → contains waiting.now page ≡ true → IfSome (bytes_of cache.old page) (IsImageOf page) }
+    requires images { (page : ℕ) → contains waiting.now page ≡ true → IfSome (cached_bytes cache.old page) (IsImageOf page) }
     requires inside { (page : ℕ) → contains waiting.now page ≡ true → IsResident cache.old page }
     ensures cache { cache.new ≡ stamped_frames (stamp_now log.now) waiting.now cache.old }
     ensures stamped { AreStamped (stamp_now log.now) waiting.now (slices (length waiting.now) (take (512 * length waiting.now) room.new)) }
     ensures laid { (pages : List (List ℕ)) → AgreesWith log.now.layout cache.old pages → HasImages log.now waiting.now room.new pages }
-    ensures frames { EachIndex waiting.now (λ k. bytes_of cache.new (slice_index waiting.now k) ≡ Some (slice_of room.new k)) }
+    ensures frames { EachIndex waiting.now (λ k. cached_bytes cache.new (slice_index waiting.now k) ≡ Some (slice_of room.new k)) }
 {
     stamp_frames(cache, waiting, log.epoch(), log.next_number());
     lay_frames(cache, waiting, room.images.as_mut_slice());
@@ -54,30 +47,16 @@ fn write_frames<M: Machine>(
 ) -> Result<(), LoadFault>
     requires valid { IsCache cache.old }
     requires accepted { IsTrue (are_pages log.old.layout.pages waiting.now) }
-    requires images { (page : ℕ) → contains waiting.now page ≡ true → IfSome (bytes_of cache.old page) (IsImageOf page) }
+    requires images { (page : ℕ) → contains waiting.now page ≡ true → IfSome (cached_bytes cache.old page) (IsImageOf page) }
     requires inside { (page : ℕ) → contains waiting.now page ≡ true → IsResident cache.old page }
     requires numbered { log.old.head.number < 2 ^ 32 - 1 }
     requires sectors { log.old.layout.sectors ≤ (M.report m.old).sectors }
     ensures disk { WritesDisk M.Machine (device_in load_failed_at result) (FramesLeave log.old cache.old waiting.now) m.old m.new }
     ensures rest { M.honest m.new → KeepsOutside log.old.layout (M.now m.old) (M.now m.new) }
-    ensures counted { OnOk result (M.tells m.new → (M.ledger m.new).written ≡ (M.ledger m.old).written + (sectors_before log.old (length waiting.now) + record_len (gap_of log.old.layout) (length waiting.now))) }
     ensures cache { cache.new ≡ stamped_frames (stamp_now log.old) waiting.now cache.old }
-    ensures past { OnOk result (log.new ≡ log_with (log_before log.old (length waiting.now)) waiting.now) }
-    ensures failed { IfErr result (RecordFails M.Machine log.old log.new (length waiting.now) m.old m.new) }
-    ensures never_lost { IfErr result (λ fault. (pages : List (List ℕ)) (windows : List WeakRun) (records : List Placed) (disk : List (List ℕ)) →
-        AgreesWith log.old.layout cache.old pages → M.honest m.new → EndIn (M.now m.old).windows windows →
-        StandsOver log.old records disk (record { pages = pages; dirty = waiting.now }) windows (M.now m.old).image →
-        KnowsImages log.old (M.now m.old).image → IsDevice fault) }
-    ensures done { OnOk result ((pages : List (List ℕ)) (windows : List WeakRun) (records : List Placed) (disk : List (List ℕ)) →
-        AgreesWith log.old.layout cache.old pages → M.honest m.new → EndIn (M.now m.old).windows windows →
-        StandsOver log.old records disk (record { pages = pages; dirty = waiting.now }) windows (M.now m.old).image →
-        KnowsImages log.old (M.now m.old).image →
-        Committed log.new (record { pages = stamped (stamp_now log.old) waiting.now pages; dirty = [] }) windows (M.now m.new).image) }
-    ensures knows { OnOk result ((pages : List (List ℕ)) (windows : List WeakRun) (records : List Placed) (disk : List (List ℕ)) →
-        AgreesWith log.old.layout cache.old pages → M.honest m.new → EndIn (M.now m.old).windows windows →
-        StandsOver log.old records disk (record { pages = pages; dirty = waiting.now }) windows (M.now m.old).image →
-        KnowsImages log.old (M.now m.old).image → KnowsImages log.new (M.now m.new).image) }
-    ensures logged { OnOk result (M.honest m.new → (page : ℕ) (bytes : List ℕ) → IsTrue (contains waiting.now page) → bytes_of cache.new page ≡ Some bytes → StandsLogged log.new (M.now m.new) page bytes) }
+    ensures done { OnOk result (LogsPages M.Machine log.old log.new (AgreesWith log.old.layout cache.old) waiting.now m.old m.new) }
+    ensures failed { IfErr result (LogsNoPages M.Machine log.old log.new (AgreesWith log.old.layout cache.old) waiting.now m.old m.new) }
+    ensures logged { OnOk result (M.honest m.new → (page : ℕ) (bytes : List ℕ) → IsTrue (contains waiting.now page) → cached_bytes cache.new page ≡ Some bytes → StandsLogged log.new (M.now m.new) page bytes) }
 {
     lay_record(log, cache, waiting, room);
     write_record(m, log, waiting, room.images.as_slice())
@@ -90,7 +69,7 @@ fn force_waiting<M: Machine>(
     cache: &mut Cache,
     waiting: &[u32],
     room: &mut RecordRoom,
-) -> Result<Forced, LoadFault>
+) -> Result<ForcedPages, LoadFault>
     requires valid { IsCache cache.old }
     requires are { waiting.now ≡ ascending_of cache.old.dirty }
     requires few { length waiting.now ≤ max_pages }
@@ -106,12 +85,12 @@ fn force_waiting<M: Machine>(
 {
     let count = waiting.len();
     if count == 0 {
-        return Ok(Forced { pages: 0 });
+        return Ok(ForcedPages { pages: 0 });
     }
     match write_frames(m, log, cache, waiting, room) {
         Ok(()) => {
             cache.cleaned();
-            Ok(Forced {
+            Ok(ForcedPages {
                 pages: count as u32,
             })
         }
@@ -129,7 +108,7 @@ impl Group {
         log: &mut Log,
         cache: &mut Cache,
         room: &mut RecordRoom,
-    ) -> Result<Forced, LoadFault>
+    ) -> Result<ForcedPages, LoadFault>
         requires waiting { AreWaiting log.old.layout.pages cache.old }
         requires numbered { log.old.head.number < 2 ^ 32 - 1 }
         requires sectors { log.old.layout.sectors ≤ (M.report m.old).sectors }

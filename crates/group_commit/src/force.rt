@@ -2,7 +2,7 @@
 
 /// What a force has written.
 #[derive(Clone, Copy, Debug, PartialEq, Eq)]
-pub struct Forced {
+pub struct ForcedPages {
     /// Name pages.
     pub pages: u32,
 }

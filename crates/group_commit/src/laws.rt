@@ -12,7 +12,7 @@ ghost use Rattle.log_thirds.specs.Append.{IsIndexed};
 ghost use Rattle.log_thirds.specs.LogValue.{LogValue, FitsLayout};
 ghost use Rattle.page_cache.specs.Cache.{AreNewest, CacheValue, IsCache, IsResident, cleaned};
 ghost use Rattle.group_commit.specs.Cached.{AgreesWith, AreWaiting, ascending_of, stamped_for, with_waiting};
-ghost use Rattle.group_commit.specs.Force.{Committed, StandsOver, stamped_by};
+ghost use Rattle.group_commit.specs.Force.{Committed, StandsOverDisk, stamped_by};
 ghost use Rattle.group_commit.specs.Newest.{newest_by, KnowsImages, KnowsPages};
 ghost use Rattle.group_commit.specs.Resident.{ResidentValue};
 
@@ -21,20 +21,20 @@ ghost use Rattle.group_commit.specs.Resident.{ResidentValue};
 /// records, and then it knows the pages too, in a window of the machine.
 pub fn pages_are_newest()
     ensures knows { (log : LogValue) (records : List Placed) (disk : List (List ℕ)) (s : ResidentValue) (windows : List WeakRun) (i : Image) →
-        StandsOver log records disk s windows i → KnowsImages log i ↔ IsIndexed log records }
+        StandsOverDisk log records disk s windows i → KnowsImages log i ↔ IsIndexed log records }
     ensures pages { (log : LogValue) (records : List Placed) (disk : List (List ℕ)) (s : ResidentValue) (windows : List WeakRun) (at : Moment) →
-        FitsLayout log → AreShort at.windows → EndIn at.windows windows → StandsOver log records disk s windows at.image → IsIndexed log records → KnowsPages log at }
+        FitsLayout log → AreShort at.windows → EndIn at.windows windows → StandsOverDisk log records disk s windows at.image → IsIndexed log records → KnowsPages log at }
     ensures shown { (log : LogValue) (records : List Placed) (disk : List (List ℕ)) (s : ResidentValue) (windows : List WeakRun) (i : Image) (page : ℕ) →
-        StandsOver log records disk s windows i → page < log.layout.pages → newest_by log i page ≡ Some (image_at disk page) }
+        StandsOverDisk log records disk s windows i → page < log.layout.pages → newest_by log i page ≡ Some (image_at disk page) }
     ensures in_memory { (log : LogValue) (records : List Placed) (disk : List (List ℕ)) (s : ResidentValue) (windows : List WeakRun) (i : Image) (page : ℕ) →
-        StandsOver log records disk s windows i → page < log.layout.pages → IsFalse (contains s.dirty page) → newest_by log i page ≡ Some (image_at s.pages page) }
+        StandsOverDisk log records disk s windows i → page < log.layout.pages → IsFalse (contains s.dirty page) → newest_by log i page ≡ Some (image_at s.pages page) }
 {}
 
 /// Behind a force of a cache the stamped pages agree with its stamped frames, and each frame of a clean page has the
 /// newest image by the log that is then. In what order the pages wait makes no difference to what stands below them.
 pub fn clean_frames_are_newest()
     ensures order { (log : LogValue) (records : List Placed) (disk : List (List ℕ)) (pages : List (List ℕ)) (dirty : List ℕ) (windows : List WeakRun) (i : Image) →
-        StandsOver log records disk (record { pages = pages; dirty = dirty }) windows i → StandsOver log records disk (record { pages = pages; dirty = ascending_of dirty }) windows i }
+        StandsOverDisk log records disk (record { pages = pages; dirty = dirty }) windows i → StandsOverDisk log records disk (record { pages = pages; dirty = ascending_of dirty }) windows i }
     ensures agrees { (log : LogValue) (c : CacheValue) (pages : List (List ℕ)) → AgreesWith log.layout c pages → IsCache c → AreWaiting log.layout.pages c →
         AgreesWith log.layout (cleaned (stamped_for log c)) (stamped_by log (with_waiting c pages)) }
     ensures newest { (log : LogValue) (c : CacheValue) (pages : List (List ℕ)) (windows : List WeakRun) (i : Image) → AgreesWith log.layout c pages →

@@ -13,7 +13,7 @@ mod room;
 mod waiting;
 
 pub use entering::make_room;
-pub use force::{Forced, Group};
+pub use force::{ForcedPages, Group};
 pub use laws::{clean_frames_are_newest, pages_are_newest};
 pub use newest::Newest;
 pub use room::RecordRoom;

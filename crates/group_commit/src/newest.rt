@@ -66,7 +66,7 @@ fn load_home<M: Machine>(
 }
 
 impl<'a> PageSource for Newest<'a> {
-    ghost use Rattle.group_commit.specs.Newest.{newest_by, KnowsPages, AreCopies, StandsInCopy};
+    ghost use Rattle.group_commit.specs.Newest.{newest_by, KnowsPages, AreCopiesIn, StandsByLog};
     ghost use Rattle.group_commit.specs.KnownLaws.{knows_worn, newest_worn};
 
     ghost pages = { λ log. log.layout.pages };
@@ -77,9 +77,9 @@ impl<'a> PageSource for Newest<'a> {
 
     ghost knows = { KnowsPages };
 
-    ghost copies = { AreCopies };
+    ghost copies = { AreCopiesIn };
 
-    ghost stands = { StandsInCopy };
+    ghost stands = { StandsByLog };
 
     ghost wears = { knows_worn };
 

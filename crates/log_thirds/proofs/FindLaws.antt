@@ -10,7 +10,7 @@ use Rattle.fsd_log.proofs.JudgedLaws.{is_judged}
 use Rattle.fsd_log.specs.Scan.{IsEnd, Head, Placed, place_of, record_here, behind, entered, next}
 use Rattle.log_thirds.specs.declared.find.Spot.{Spot}
 use Rattle.std.specs.Option.{option_or}
-use Rattle.log_thirds.specs.Reading.{GoesTo, Stepped, stepped_of}
+use Rattle.log_thirds.specs.Reading.{GoesOnTo, Stepped, stepped_of}
 use Rattle.fsd_log.proofs.PlaceLaws.{place_cases, place_inside, end_most, first_most}
 
 pub place_most : (l : Shape) (first w : ℕ) → first ≤ 2 → w ≤ 3 * l.third → place_of l first w ≤ 16 + 3 * l.third
@@ -28,8 +28,8 @@ judged_room gap p stamp room at s is = leb-true _ _ (is_judged gap p stamp room 
 
 -- ---- where the head goes
 
-pub goes_to : (l : Shape) (from at n end : ℕ) (spot : Spot) → spot ≡ record { at = at + (2 * n + (5 + 2 * (gap_of l))); end = end } → from ≤ at → at + (2 * n + (5 + 2 * (gap_of l))) ≤ end → end ≤ at + l.third → IsEnd l end → GoesTo l from spot
-goes_to l from at n end spot is le fits after ends = subst (GoesTo l from) (sym is) (record { on = omega arith; before = fits; after = omega arith; ends = ends })
+pub goes_to : (l : Shape) (from at n end : ℕ) (spot : Spot) → spot ≡ record { at = at + (2 * n + (5 + 2 * (gap_of l))); end = end } → from ≤ at → at + (2 * n + (5 + 2 * (gap_of l))) ≤ end → end ≤ at + l.third → IsEnd l end → GoesOnTo l from spot
+goes_to l from at n end spot is le fits after ends = subst (GoesOnTo l from) (sym is) (record { on = omega arith; before = fits; after = omega arith; ends = ends })
 
 some_step : (gap : ℕ) → (number at end : ℕ) (entry : Logged) (o : Option Logged) → Some entry ≡ o
     → ◌≡◌ {A = Option Stepped} (Some (record { from = at; entry = entry; at = at + (2 * length entry.pages + (5 + 2 * gap)); end = end })) (option_map stepped_of (option_map (behind gap number at end) o))

@@ -8,7 +8,7 @@ use Rattle.volume_layout.specs.Kinds.{gap_of}
 use Rattle.fsd_log.specs.Scan.{Placed, place_of}
 use Rattle.fsd_log.specs.Images.{image_in, last_image}
 use Rattle.log_thirds.specs.declared.slots.Slot.{Slot}
-use Rattle.log_thirds.specs.Slots.{slot_in, slot_at, slot_of}
+use Rattle.log_thirds.specs.Slots.{slot_in, slot_in_record, last_slot}
 use Rattle.log_thirds.proofs.ImageLaws.{no_last_image}
 
 -- the page is one of these, at this place among them
@@ -64,18 +64,18 @@ module _ (l : Shape) (third : ℕ) (P : List ℕ → (place copy : ℕ) → Type
       pub last : last_image page rs ≡ Some bytes
       pub is : P bytes slot.place slot.copy
 
-    gives_in : (r : Placed) (slot : Slot) → EachImage r → slot_at l third page r ≡ Some slot → (bytes : List ℕ) × (image_in page r.entry.pages r.entry.images ≡ Some bytes) × P bytes slot.place slot.copy
+    gives_in : (r : Placed) (slot : Slot) → EachImage r → slot_in_record l third page r ≡ Some slot → (bytes : List ℕ) × (image_in page r.entry.pages r.entry.images ≡ Some bytes) × P bytes slot.place slot.copy
     gives_in r slot each found =
         let at = among page r.entry.number (place_of l third r.at + 3 + (gap_of l)) (place_of l third r.at + 3 + (gap_of l) + length r.entry.pages + 1 + (gap_of l)) r.entry.pages r.entry.images each.many slot found in
         let first : place_of l third r.at + 3 + (gap_of l) + at.index ≡ slot.place = sym at.first in
         let second : place_of l third r.at + (4 + 2 * (gap_of l) + length r.entry.pages) + at.index ≡ slot.copy = omega (arith, at.second) in
         (get_or r.entry.images at.index [], at.image, subst (λ (p : ℕ). P (get_or r.entry.images at.index []) p slot.copy) first (subst (λ (p : ℕ). P (get_or r.entry.images at.index []) (place_of l third r.at + 3 + (gap_of l) + at.index) p) second (each.each at.index at.there)))
 
-    pub slot_gives : (rs : List Placed) (slot : Slot) → AllByRecursion EachImage rs → slot_of l third page rs ≡ Some slot → Gives rs slot
+    pub slot_gives : (rs : List Placed) (slot : Slot) → AllByRecursion EachImage rs → last_slot l third page rs ≡ Some slot → Gives rs slot
     slot_gives [] slot each found = absurd (cc found)
-    slot_gives (r ∷ rs) slot each found = by_rest (λ is. slot_gives rs slot each.1 is) (slot_of l third page rs) refl found
+    slot_gives (r ∷ rs) slot each found = by_rest (λ is. slot_gives rs slot each.1 is) (last_slot l third page rs) refl found
       where
-        by_rest : (slot_of l third page rs ≡ Some slot → Gives rs slot) → (o : Option Slot) → slot_of l third page rs ≡ o → option_or o (slot_at l third page r) ≡ Some slot → Gives (r ∷ rs) slot
+        by_rest : (last_slot l third page rs ≡ Some slot → Gives rs slot) → (o : Option Slot) → last_slot l third page rs ≡ o → option_or o (slot_in_record l third page r) ≡ Some slot → Gives (r ∷ rs) slot
         by_rest further (Some x) is given =
             let rest = further (is ∙ given) in
             record { bytes = rest.bytes; last = ap (λ (o : Option (List ℕ)). option_or o (image_in page r.entry.pages r.entry.images)) rest.last; is = rest.is }

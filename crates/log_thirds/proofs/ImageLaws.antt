@@ -21,9 +21,9 @@ use Rattle.sector_disk.proofs.Wear.{whole_of}
 use Rattle.log_thirds.specs.Disk.{reads}
 use Rattle.log_thirds.specs.LogValue.{LogValue}
 use Rattle.log_thirds.specs.Append.{IsCalmNow, IsIndexed, scan_of}
-use Rattle.log_thirds.specs.Images.{GivesSlot, LiesAt, SeesSlot, StandsAt, best_copy}
+use Rattle.log_thirds.specs.Images.{GivesSlot, LiesAt, SeesSlot, StandsInSlot, best_copy}
 use Rattle.log_thirds.specs.Reading.{ReadWorn}
-use Rattle.log_thirds.specs.Slots.{slot_in, slot_at, slot_of}
+use Rattle.log_thirds.specs.Slots.{slot_in, slot_in_record, last_slot}
 use Rattle.fsd_log.proofs.HereLaws.{here_some}
 use Rattle.fsd_log.proofs.PlaceLaws.{InThird, place_add, end_most}
 use Rattle.fsd_log.proofs.WalkLaws.{IsFound, Goes, found_goes_on, goes_of_walk}
@@ -101,11 +101,11 @@ no_image_in page number place copy (p ∷ pages) (image ∷ images) is = by_test
     by_test further true e = absurd (cc e)
     by_test further false e = further e
 
-pub no_last_image : (l : Shape) (third page : ℕ) (records : List Placed) → slot_of l third page records ≡ None → last_image page records ≡ None
+pub no_last_image : (l : Shape) (third page : ℕ) (records : List Placed) → last_slot l third page records ≡ None → last_image page records ≡ None
 no_last_image l third page [] is = refl
-no_last_image l third page (r ∷ records) is = by_rest (λ none. no_last_image l third page records none) (slot_of l third page records) refl is
+no_last_image l third page (r ∷ records) is = by_rest (λ none. no_last_image l third page records none) (last_slot l third page records) refl is
   where
-    by_rest : (slot_of l third page records ≡ None → last_image page records ≡ None) → (o : Option Slot) → slot_of l third page records ≡ o → option_or o (slot_at l third page r) ≡ None → option_or (last_image page records) (image_in page r.entry.pages r.entry.images) ≡ None
+    by_rest : (last_slot l third page records ≡ None → last_image page records ≡ None) → (o : Option Slot) → last_slot l third page records ≡ o → option_or o (slot_in_record l third page r) ≡ None → option_or (last_image page records) (image_in page r.entry.pages r.entry.images) ≡ None
     by_rest before None none e = λ i. option_or (before none i) (no_image_in page r.entry.number (place_of l third r.at + 3 + (gap_of l)) (place_of l third r.at + 3 + (gap_of l) + length r.entry.pages + 1 + (gap_of l)) r.entry.pages r.entry.images e i)
     by_rest before (Some s) none e = absurd (cc e)
 
@@ -135,7 +135,7 @@ module _ (l : Shape) (epoch third page : ℕ) (one_of : third ≤ 2) (disk : Rea
         ∙ cond-true (nat_lt (r.at + k) (3 * l.third)) (disk (place_of l third (r.at + k))) None (lt-ltb (r.at + k) (3 * l.third) (omega (arith, lt, within.to, end_most l is.end within.ends)))
         ∙ ap disk (place_add l third r.at (record_len (gap_of l) (length r.entry.pages)) is.end k within lt)
 
-    pub found_image : (slot : Slot) → slot_at l third page r ≡ Some slot → GivesSlot page epoch disk slot (image_in page r.entry.pages r.entry.images)
+    pub found_image : (slot : Slot) → slot_in_record l third page r ≡ Some slot → GivesSlot page epoch disk slot (image_in page r.entry.pages r.entry.images)
     found_image slot there =
         let n : ℕ = length r.entry.pages in
         let number : r.entry.number ≡ h.number = found_number l epoch (tape l third disk) h r h1 is in
@@ -146,13 +146,13 @@ module _ (l : Shape) (epoch third page : ℕ) (one_of : third ≤ 2) (disk : Rea
         (λ j lt. let place : place_of l third r.at + (4 + 2 * (gap_of l) + length r.entry.pages + j) ≡ place_of l third r.at + 3 + (gap_of l) + length r.entry.pages + 1 + (gap_of l) + j = omega arith in seen_at (4 + 2 * (gap_of l) + length r.entry.pages + j) (omega (arith, lt)) ∙ ap disk place)
         there
 
-  pub last_image_read : (h : Head) (records : List Placed) (end : Head) (slot : Slot) → IsIn l h → Goes l epoch (tape l third disk) h records end → slot_of l third page records ≡ Some slot → GivesSlot page epoch disk slot (last_image page records)
+  pub last_image_read : (h : Head) (records : List Placed) (end : Head) (slot : Slot) → IsIn l h → Goes l epoch (tape l third disk) h records end → last_slot l third page records ≡ Some slot → GivesSlot page epoch disk slot (last_image page records)
   last_image_read h [] end slot is_in goes is = absurd (cc is)
   last_image_read h (r ∷ records) end slot is_in goes is =
-      by_rest (λ s. last_image_read goes.0 records end slot (found_goes_on l epoch (tape l third disk) h r goes.0 is_in goes.1).is_in goes.2 s) (slot_of l third page records) refl is
+      by_rest (λ s. last_image_read goes.0 records end slot (found_goes_on l epoch (tape l third disk) h r goes.0 is_in goes.1).is_in goes.2 s) (last_slot l third page records) refl is
     where
-      by_rest : (slot_of l third page records ≡ Some slot → GivesSlot page epoch disk slot (last_image page records))
-          → (o : Option Slot) → slot_of l third page records ≡ o → option_or o (slot_at l third page r) ≡ Some slot → GivesSlot page epoch disk slot (option_or (last_image page records) (image_in page r.entry.pages r.entry.images))
+      by_rest : (last_slot l third page records ≡ Some slot → GivesSlot page epoch disk slot (last_image page records))
+          → (o : Option Slot) → last_slot l third page records ≡ o → option_or o (slot_in_record l third page r) ≡ Some slot → GivesSlot page epoch disk slot (option_or (last_image page records) (image_in page r.entry.pages r.entry.images))
       by_rest later (Some s) is1 e =
           let rest = later (is1 ∙ e) in
           record { image = rest.image; read = rest.read; is = ap (λ (o : Option (List ℕ)). option_or o (image_in page r.entry.pages r.entry.images)) rest.is }
@@ -246,7 +246,7 @@ read_there old place o bytes (inr hurt) is = absurd (none_some bytes (sym hurt.1
     none_some : (x : List ℕ) → None ≡ Some x → ⊥
     none_some x e = cc e
 
-pub stands_there : (old : Moment) (slot : Slot) (page epoch : ℕ) (image : List ℕ) → SeesSlot old slot page epoch (Some image) → StandsAt (Some slot) old.image image
+pub stands_there : (old : Moment) (slot : Slot) (page epoch : ℕ) (image : List ℕ) → SeesSlot old slot page epoch (Some image) → StandsInSlot (Some slot) old.image image
 stands_there old slot page epoch image sees =
     let test : List ℕ → Bool = bears page (record { epoch = epoch; number = slot.number }) in
     record {
@@ -260,7 +260,7 @@ stands_there old slot page epoch image sees =
     }
 
 -- a page's two sectors by the table are those by the records
-pub logged_by : (log : LogValue) (records : List Placed) (page a b : ℕ) → IsIndexed log records → LiesAt (get_or log.slots page None) a b → LiesAt (slot_of log.layout log.anchor.third page records) a b
+pub logged_by : (log : LogValue) (records : List Placed) (page a b : ℕ) → IsIndexed log records → LiesAt (get_or log.slots page None) a b → LiesAt (last_slot log.layout log.anchor.third page records) a b
 logged_by log records page a b are lies = elim (cases_lt page (length log.slots)) [
   | inl within ↦ record { number = lies.number; is = sym (are.slots page within) ∙ lies.is }
   | inr past ↦ absurd (none_some (record { place = a; copy = b; number = lies.number }) (sym (get_or_past log.slots page None past) ∙ lies.is))

@@ -24,11 +24,11 @@ use Rattle.log_thirds.specs.declared.slots.Slot.{Slot}
 use Rattle.log_thirds.specs.declared.firsts.Firsts.{Firsts}
 use Rattle.log_thirds.specs.Disk.{reads}
 use Rattle.log_thirds.specs.Firsts.{AreFirsts}
-use Rattle.log_thirds.specs.Slots.{slot_in, slot_at, slot_of, lies_in, AreSlots}
+use Rattle.log_thirds.specs.Slots.{slot_in, slot_in_record, last_slot, lies_in, AreLastSlots}
 use Rattle.log_thirds.specs.LogValue.{LogValue}
 use Rattle.log_thirds.specs.Append.{IsIndexed, IsLogWorn}
 use Rattle.log_thirds.specs.Anchoring.{AnchorsIn, with_anchors}
-use Rattle.log_thirds.specs.Moves.{back, head_back, IsNextThird, MovesOn}
+use Rattle.log_thirds.specs.Moves.{moved_back, head_back, IsNextThird, MovesOn}
 use Rattle.log_thirds.specs.Moving.{next_third, moved_anchor, slot_outside, moved, later, records_moved, MovesWorn}
 use Rattle.log_thirds.proofs.ShiftLaws.{moves_on, tape_shifts, tape_around, place_moved}
 use Rattle.log_thirds.proofs.WornMomentLaws.{under, under_other, under_worn}
@@ -70,17 +70,17 @@ all_more : (n m : ℕ) (rs : List Placed) → n ≤ m → AllByRecursion (λ r. 
 all_more n m [] le all = tt
 all_more n m (r ∷ rs) le all = (let lt = all.0 in omega (arith, lt, le), all_more n m rs le all.1)
 
-count_back : (t n : ℕ) (rs : List Placed) → AllByRecursion (λ r. t ≤ r.at) rs → count_by (λ x. nat_lt x.at n) (map (back t) rs) ≡ count_by (λ x. nat_lt x.at (t + n)) rs
+count_back : (t n : ℕ) (rs : List Placed) → AllByRecursion (λ r. t ≤ r.at) rs → count_by (λ x. nat_lt x.at n) (map (moved_back t) rs) ≡ count_by (λ x. nat_lt x.at (t + n)) rs
 count_back t n [] all = refl
 count_back t n (r ∷ rs) all = elim (cases_lt r.at (t + n)) [
   | inl lt ↦
       let le = all.0 in
       let rest = count_back t n rs all.1 in
-      count_yes n (back t r) (map (back t) rs) (omega (arith, le, lt)) ∙ ap (λ (k : ℕ). 1 + k) rest ∙ sym (count_yes (t + n) r rs lt)
+      count_yes n (moved_back t r) (map (moved_back t) rs) (omega (arith, le, lt)) ∙ ap (λ (k : ℕ). 1 + k) rest ∙ sym (count_yes (t + n) r rs lt)
   | inr ge ↦
       let le = all.0 in
       let rest = count_back t n rs all.1 in
-      count_no n (back t r) (map (back t) rs) (omega (arith, le, ge)) ∙ rest ∙ sym (count_no (t + n) r rs ge)
+      count_no n (moved_back t r) (map (moved_back t) rs) (omega (arith, le, ge)) ∙ rest ∙ sym (count_no (t + n) r rs ge)
 ]
 
 module _ (t first : ℕ) (front rest : List Placed) (before : AllByRecursion (λ r. r.at < t) front) (behind : AllByRecursion (λ r. t ≤ r.at) rest) (f : Firsts) (are : AreFirsts t first (front ++ rest) f) where
@@ -92,7 +92,7 @@ module _ (t first : ℕ) (front rest : List Placed) (before : AllByRecursion (λ
       let at = are.second in
       omega (arith, at, one, two, three)
 
-  pub firsts_moved : (number : ℕ) → number ≡ first + length (front ++ rest) → AllByRecursion (λ r. r.at < 3 * t) rest → AreFirsts t f.second (map (back t) rest) (record { second = f.last; last = number })
+  pub firsts_moved : (number : ℕ) → number ≡ first + length (front ++ rest) → AllByRecursion (λ r. r.at < 3 * t) rest → AreFirsts t f.second (map (moved_back t) rest) (record { second = f.last; last = number })
   firsts_moved number is inside =
       let here = second_is in
       let last = are.last in
@@ -149,9 +149,9 @@ in_pages page number place copy (p ∷ pages) = by_page (p == page) (slot_in pag
     by_page false (Some s) rest = let low = rest.0 in let high = rest.1 in (omega (arith, low), omega (arith, high))
 
 module _ (l : Shape) (third page : ℕ) (P : Slot → Type 0) where
-  each_slot : (rs : List Placed) → AllByRecursion (λ r. IfSome (slot_at l third page r) P) rs → IfSome (slot_of l third page rs) P
+  each_slot : (rs : List Placed) → AllByRecursion (λ r. IfSome (slot_in_record l third page r) P) rs → IfSome (last_slot l third page rs) P
   each_slot [] all = tt
-  each_slot (r ∷ rs) all = if_or P (slot_of l third page rs) (slot_at l third page r) (each_slot rs all.1) all.0
+  each_slot (r ∷ rs) all = if_or P (last_slot l third page rs) (slot_in_record l third page r) (each_slot rs all.1) all.0
 
 all_and : {A : Type 0} (P Q R : A → Type 0) → ((x : A) → P x → Q x → R x) → (xs : List A) → AllByRecursion P xs → AllByRecursion Q xs → AllByRecursion R xs
 all_and P Q R both [] p q = tt
@@ -161,11 +161,11 @@ assoc : (a b c : Option Slot) → option_or (option_or a b) c ≡ option_or a (o
 assoc None b c = refl
 assoc (Some x) b c = refl
 
-pub slot_of-joined : (l : Shape) (third page : ℕ) (front rest : List Placed) → slot_of l third page (front ++ rest) ≡ option_or (slot_of l third page rest) (slot_of l third page front)
-slot_of-joined l third page [] rest = option_or-none (slot_of l third page rest)
+pub slot_of-joined : (l : Shape) (third page : ℕ) (front rest : List Placed) → last_slot l third page (front ++ rest) ≡ option_or (last_slot l third page rest) (last_slot l third page front)
+slot_of-joined l third page [] rest = option_or-none (last_slot l third page rest)
 slot_of-joined l third page (r ∷ front) rest =
-    ap (λ (o : Option Slot). option_or o (slot_at l third page r)) (slot_of-joined l third page front rest)
-    ∙ assoc (slot_of l third page rest) (slot_of l third page front) (slot_at l third page r)
+    ap (λ (o : Option Slot). option_or o (slot_in_record l third page r)) (slot_of-joined l third page front rest)
+    ∙ assoc (last_slot l third page rest) (last_slot l third page front) (slot_in_record l third page r)
 
 lies_yes : (start count : ℕ) (s : Slot) → start ≤ s.place → s.place < start + count → lies_in start count (Some s) ≡ true
 lies_yes start count s low high = and_from (nat_le start s.place) (nat_lt s.place (start + count)) (le-leb start s.place low) (lt-ltb s.place (start + count) high)
@@ -187,8 +187,8 @@ module _ (l : Shape) (third next : ℕ) (low : third ≤ 2) (is_next : IsNextThi
   abbrev IsOutside : Slot → Type 0
   IsOutside s = lies_in (third_start l third) l.third (Some s) ≡ false
 
-  front_in : (r : Placed) → LiesOn l third r → r.at < l.third → IfSome (slot_at l third page r) IsInFirst
-  front_in r lies lt = by_slot (slot_at l third page r) (in_pages page r.entry.number (place_of l third r.at + 3 + (gap_of l)) (place_of l third r.at + 3 + (gap_of l) + length r.entry.pages + 1 + (gap_of l)) r.entry.pages)
+  front_in : (r : Placed) → LiesOn l third r → r.at < l.third → IfSome (slot_in_record l third page r) IsInFirst
+  front_in r lies lt = by_slot (slot_in_record l third page r) (in_pages page r.entry.number (place_of l third r.at + 3 + (gap_of l)) (place_of l third r.at + 3 + (gap_of l) + length r.entry.pages + 1 + (gap_of l)) r.entry.pages)
     where
       ends : lies.end ≡ l.third
       ends = ⊎_elim (λ e. e) (λ o. ⊎_elim (λ e. absurd (omega (arith, e, lies.inside.from, lt))) (λ e. absurd (omega (arith, e, lies.inside.from, lt))) o) lies.inside.ends
@@ -200,8 +200,8 @@ module _ (l : Shape) (third next : ℕ) (low : third ≤ 2) (is_next : IsNextThi
       by_slot None is = tt
       by_slot (Some s) is = let from = is.0 in let to = is.1 in lies_yes (third_start l third) l.third s (omega (arith, from, place)) (omega (arith, to, place, ends, lies.inside.to))
 
-  rest_out : (r : Placed) → LiesOn l third r → l.third ≤ r.at → IfSome (slot_at l third page r) IsOutside
-  rest_out r lies ge = by_slot (slot_at l third page r) (in_pages page r.entry.number (place_of l third r.at + 3 + (gap_of l)) (place_of l third r.at + 3 + (gap_of l) + length r.entry.pages + 1 + (gap_of l)) r.entry.pages)
+  rest_out : (r : Placed) → LiesOn l third r → l.third ≤ r.at → IfSome (slot_in_record l third page r) IsOutside
+  rest_out r lies ge = by_slot (slot_in_record l third page r) (in_pages page r.entry.number (place_of l third r.at + 3 + (gap_of l)) (place_of l third r.at + 3 + (gap_of l) + length r.entry.pages + 1 + (gap_of l)) r.entry.pages)
     where
       most : lies.end ≤ 3 * l.third
       most = ⊎_elim (λ e. omega (arith, e)) (λ o. ⊎_elim (λ e. omega (arith, e)) (λ e. omega (arith, e)) o) lies.inside.ends
@@ -216,12 +216,12 @@ module _ (l : Shape) (third next : ℕ) (low : third ≤ 2) (is_next : IsNextThi
             | inr p ↦ let at = p.0 in let far = p.1 in inl (omega (arith, at, far, to, most, lies.inside.to))
           ])
 
-  slot_moved : (r : Placed) → LiesOn l third r → l.third ≤ r.at → slot_at l next page (back l.third r) ≡ slot_at l third page r
+  slot_moved : (r : Placed) → LiesOn l third r → l.third ≤ r.at → slot_in_record l next page (moved_back l.third r) ≡ slot_in_record l third page r
   slot_moved r lies ge =
       let place = place_back l third next is_next r lies ge in
       λ i. slot_in page r.entry.number (place i + 3 + (gap_of l)) (place i + 3 + (gap_of l) + length r.entry.pages + 1 + (gap_of l)) r.entry.pages
 
-  slots_back : (rs : List Placed) → AllByRecursion (LiesOn l third) rs → AllByRecursion (λ r. l.third ≤ r.at) rs → slot_of l next page (map (back l.third) rs) ≡ slot_of l third page rs
+  slots_back : (rs : List Placed) → AllByRecursion (LiesOn l third) rs → AllByRecursion (λ r. l.third ≤ r.at) rs → last_slot l next page (map (moved_back l.third) rs) ≡ last_slot l third page rs
   slots_back [] lie behind = refl
   slots_back (r ∷ rs) lie behind = λ i. option_or (slots_back rs lie.1 behind.1 i) (slot_moved r lie.0 behind.0 i)
 
@@ -230,17 +230,17 @@ module _ (l : Shape) (third next : ℕ) (low : third ≤ 2) (is_next : IsNextThi
   by_slots None None out within = refl
   by_slots None (Some s) out within = cond-true (lies_in (third_start l third) l.third (Some s)) None (Some s) within
 
-  pub front_slots : (front : List Placed) → AllByRecursion (LiesOn l third) front → AllByRecursion (λ r. r.at < l.third) front → IfSome (slot_of l third page front) (λ s. lies_in (third_start l third) l.third (Some s) ≡ true)
+  pub front_slots : (front : List Placed) → AllByRecursion (LiesOn l third) front → AllByRecursion (λ r. r.at < l.third) front → IfSome (last_slot l third page front) (λ s. lies_in (third_start l third) l.third (Some s) ≡ true)
   front_slots front lie before =
-      each_slot l third page IsInFirst front (all_and (LiesOn l third) (λ r. r.at < l.third) (λ r. IfSome (slot_at l third page r) IsInFirst) front_in front lie before)
+      each_slot l third page IsInFirst front (all_and (LiesOn l third) (λ r. r.at < l.third) (λ r. IfSome (slot_in_record l third page r) IsInFirst) front_in front lie before)
 
   pub slot_of_moved : (front rest : List Placed) → AllByRecursion (LiesOn l third) front → AllByRecursion (LiesOn l third) rest → AllByRecursion (λ r. r.at < l.third) front → AllByRecursion (λ r. l.third ≤ r.at) rest
-      → slot_outside (third_start l third) l.third (slot_of l third page (front ++ rest)) ≡ slot_of l next page (map (back l.third) rest)
+      → slot_outside (third_start l third) l.third (last_slot l third page (front ++ rest)) ≡ last_slot l next page (map (moved_back l.third) rest)
   slot_of_moved front rest lie_front lie_rest before behind =
       ap (slot_outside (third_start l third) l.third) (slot_of-joined l third page front rest)
-      ∙ by_slots (slot_of l third page rest) (slot_of l third page front)
-      (each_slot l third page IsOutside rest (all_and (LiesOn l third) (λ r. l.third ≤ r.at) (λ r. IfSome (slot_at l third page r) IsOutside) rest_out rest lie_rest behind))
-      (each_slot l third page IsInFirst front (all_and (LiesOn l third) (λ r. r.at < l.third) (λ r. IfSome (slot_at l third page r) IsInFirst) front_in front lie_front before))
+      ∙ by_slots (last_slot l third page rest) (last_slot l third page front)
+      (each_slot l third page IsOutside rest (all_and (LiesOn l third) (λ r. l.third ≤ r.at) (λ r. IfSome (slot_in_record l third page r) IsOutside) rest_out rest lie_rest behind))
+      (each_slot l third page IsInFirst front (all_and (LiesOn l third) (λ r. r.at < l.third) (λ r. IfSome (slot_in_record l third page r) IsInFirst) front_in front lie_front before))
       ∙ sym (slots_back rest lie_rest behind)
 
 pub all_left : {A : Type 0} (P : A → Type 0) (xs ys : List A) → AllByRecursion P (xs ++ ys) → AllByRecursion P xs
@@ -252,7 +252,7 @@ all_right P [] ys all = all
 all_right P (x ∷ xs) ys all = all_right P xs ys all.1
 
 pub slots_moved : (l : Shape) (third next : ℕ) → third ≤ 2 → IsNextThird third next → (front rest : List Placed) → AllByRecursion (LiesOn l third) (front ++ rest) → AllByRecursion (λ r. r.at < l.third) front → AllByRecursion (λ r. l.third ≤ r.at) rest
-    → (slots : List (Option Slot)) → AreSlots l third (front ++ rest) slots → AreSlots l next (map (back l.third) rest) (map (slot_outside (third_start l third) l.third) slots)
+    → (slots : List (Option Slot)) → AreLastSlots l third (front ++ rest) slots → AreLastSlots l next (map (moved_back l.third) rest) (map (slot_outside (third_start l third) l.third) slots)
 slots_moved l third next low is_next front rest lie before behind slots are page lt =
     let within : page < length slots = omega (arith, lt, length-map slots (slot_outside (third_start l third) l.third)) in
     get_or-map (slot_outside (third_start l third) l.third) slots page None None within
@@ -355,8 +355,8 @@ module _ (log : LogValue) (may : MayMove log) (records : List Placed) where
 
     pub log_moved : IsLog log.layout log.anchor.epoch log.firsts.second (tape log.layout (next_third log.anchor.third) (reads i)) (records_moved log.layout records) (head_back log.layout.third log.head)
     log_moved =
-        subst (λ (rs : List Placed). IsLog log.layout log.anchor.epoch log.firsts.second (tape log.layout (next_third log.anchor.third) (reads i)) (map (back log.layout.third) rs) (head_back log.layout.third log.head)) (sym rest_is)
-        (subst (λ (n : ℕ). IsLog log.layout log.anchor.epoch n (tape log.layout (next_third log.anchor.third) (reads i)) (map (back log.layout.third) m.rest) (head_back log.layout.third log.head)) (sym first_is) m.log)
+        subst (λ (rs : List Placed). IsLog log.layout log.anchor.epoch log.firsts.second (tape log.layout (next_third log.anchor.third) (reads i)) (map (moved_back log.layout.third) rs) (head_back log.layout.third log.head)) (sym rest_is)
+        (subst (λ (n : ℕ). IsLog log.layout log.anchor.epoch n (tape log.layout (next_third log.anchor.third) (reads i)) (map (moved_back log.layout.third) m.rest) (head_back log.layout.third log.head)) (sym first_is) m.log)
 
     goes : Goes log.layout log.anchor.epoch (tape log.layout log.anchor.third (reads i)) (start log.layout log.anchor.first) records log.head
     unfolding scan
@@ -381,13 +381,13 @@ module _ (log : LogValue) (may : MayMove log) (records : List Placed) where
       lie_rest = all_right (LiesOn log.layout log.anchor.third) m.front m.rest all_lie;
     }
 
-    pub indexed_moved : AreSlots log.layout log.anchor.third records log.slots → IsIndexed (moved log) (records_moved log.layout records)
+    pub indexed_moved : AreLastSlots log.layout log.anchor.third records log.slots → IsIndexed (moved log) (records_moved log.layout records)
     indexed_moved slots =
         let lie = all_lie in
         let far = goes_far log.layout log.anchor.epoch (tape log.layout log.anchor.third (reads i)) (start log.layout log.anchor.first) records log.head starts goes in
-        subst (λ (rs : List Placed). IsIndexed (moved log) (map (back log.layout.third) rs)) (sym rest_is) (record {
+        subst (λ (rs : List Placed). IsIndexed (moved log) (map (moved_back log.layout.third) rs)) (sym rest_is) (record {
           slots = slots_moved log.layout log.anchor.third (next_third log.anchor.third) may.third (next_is log.anchor.third may.third) m.front m.rest lie m.before m.behind log.slots
-              (subst (λ (rs : List Placed). AreSlots log.layout log.anchor.third rs log.slots) m.joined slots);
+              (subst (λ (rs : List Placed). AreLastSlots log.layout log.anchor.third rs log.slots) m.joined slots);
           firsts = firsts_moved log.layout.third log.anchor.first m.front m.rest m.before m.behind log.firsts firsts_on log.head.number (far.number ∙ ap (λ (rs : List Placed). log.anchor.first + length rs) m.joined)
               (all_below log.layout log.anchor.third m.rest (all_right (LiesOn log.layout log.anchor.third) m.front m.rest lie));
         })

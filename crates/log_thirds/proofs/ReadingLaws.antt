@@ -14,7 +14,7 @@ use Rattle.fsd_log.proofs.LaidLaws.{slice_within, slice_behind, slice_all}
 use Rattle.fsd_formats.specs.Record.{Stamp}
 use Rattle.fsd_log.specs.Reach.{headers_len, len_by, reach}
 use Rattle.fsd_log.proofs.ReachLaws.{reach_most}
-use Rattle.log_thirds.specs.Reading.{ReadInto, ReadWorn, Sees, ReadsOn, ReadsRecord}
+use Rattle.log_thirds.specs.Reading.{ReadInto, ReadWorn, SeesAt, ReadsSectors, ReadsRecord}
 
 pub bytes_back : (o : Option (List ℕ)) → bytes_of (as_sector o) ≡ o
 bytes_back None = refl
@@ -48,24 +48,24 @@ module _ (whole whole1 : List Bool) (bytes bytes1 : List ℕ) (shows : Option (L
       (λ i. if get_or (into.noted i) k false then Some (slice_of (into.taken i) k) else None) ∙ (λ i. if flag i then Some (slice i) else None)
 
 -- what was seen up to a moment was seen up to a later one, and what is seen from a moment on is seen from an earlier one on
-sees_later : (old mid new : Moment) (place : ℕ) (o : Option (List ℕ)) → Wears mid new → Sees old mid place o → Sees old new place o
+sees_later : (old mid new : Moment) (place : ℕ) (o : Option (List ℕ)) → Wears mid new → SeesAt old mid place o → SeesAt old new place o
 sees_later old mid new place o wears sees = (sees.0, λ none. worn_damaged (open_damage mid.windows) mid.image new.image place wears.image (sees.1 none))
 
-sees_back : (old mid new : Moment) (place : ℕ) (o : Option (List ℕ)) → Wears old mid → Sees mid new place o → Sees old new place o
+sees_back : (old mid new : Moment) (place : ℕ) (o : Option (List ℕ)) → Wears old mid → SeesAt mid new place o → SeesAt old new place o
 sees_back old mid new place o wears sees = (read_back old mid place o wears sees.0, sees.1)
 
 pub reads_more : (honest honest1 : Type 0) (old mid new : Moment) (place k : ℕ) (whole whole1 whole2 : List Bool) (bytes bytes1 bytes2 : List ℕ) → (honest1 → honest) → (honest1 → Wears old mid) → (honest1 → Wears mid new) → length whole ≤ k
-    → ReadsOn honest old mid place k whole whole1 bytes bytes1 → ReadInto whole1 whole2 bytes1 bytes2 (λ o. honest1 → Sees mid new (place + k) o) → ReadsOn honest1 old new place (k + 1) whole whole2 bytes bytes2
+    → ReadsSectors honest old mid place k whole whole1 bytes bytes1 → ReadInto whole1 whole2 bytes1 bytes2 (λ o. honest1 → SeesAt mid new (place + k) o) → ReadsSectors honest1 old new place (k + 1) whole whole2 bytes bytes2
 reads_more honest honest1 old mid new place k whole whole1 whole2 bytes bytes1 bytes2 back wears later begun so_far into = record {
   many = ap length into.noted ∙ omega (arith, so_far.many, length-append whole1 (into.flag ∷ []));
   long = ap length into.taken ∙ omega (arith, so_far.long, into.long, length-append bytes1 into.sector);
   kept = λ j lt. read_before whole1 whole2 bytes1 bytes2 _ into k so_far.many so_far.long j (omega arith) ∙ so_far.kept j lt;
   sees = λ h j from lt. elim (cases_lt j k) [
-    | inl below ↦ subst (Sees old new (place + j)) (sym (read_before whole1 whole2 bytes1 bytes2 _ into k so_far.many so_far.long j below)) (sees_later old mid new (place + j) _ (later h) (so_far.sees (back h) j from below))
+    | inl below ↦ subst (SeesAt old new (place + j)) (sym (read_before whole1 whole2 bytes1 bytes2 _ into k so_far.many so_far.long j below)) (sees_later old mid new (place + j) _ (later h) (so_far.sees (back h) j from below))
     | inr past ↦
         let at : k ≡ j = omega arith in
-        subst (λ (n : ℕ). Sees old new (place + n) (read_of whole2 bytes2 n)) at
-        (subst (Sees old new (place + k)) (sym (read_last whole1 whole2 bytes1 bytes2 _ into k so_far.many so_far.long)) (sees_back old mid new (place + k) _ (wears h) (into.shown h)))
+        subst (λ (n : ℕ). SeesAt old new (place + n) (read_of whole2 bytes2 n)) at
+        (subst (SeesAt old new (place + k)) (sym (read_last whole1 whole2 bytes1 bytes2 _ into k so_far.many so_far.long)) (sees_back old mid new (place + k) _ (wears h) (into.shown h)))
   ];
 }
 
@@ -75,14 +75,14 @@ read_past whole bytes k past = ap (λ (b : Bool). if b then Some (slice_of bytes
 
 -- the headers, and then as far as they say
 pub record_read : (gap : ℕ) → (honest honest1 : Type 0) (old mid new : Moment) (p : ℕ) (stamp : Stamp) (place room first count : ℕ) (whole whole1 whole2 : List Bool) (bytes bytes1 bytes2 : List ℕ) → whole ≡ [] → (honest1 → honest) → (honest1 → Wears old mid) → (honest1 → Wears mid new)
-    → first ≡ min room (headers_len gap) → ReadsOn honest old mid place first whole whole1 bytes bytes1 → count ≡ reach gap p stamp room (read_of whole1 bytes1) → ReadsOn honest1 mid new place count whole1 whole2 bytes1 bytes2
+    → first ≡ min room (headers_len gap) → ReadsSectors honest old mid place first whole whole1 bytes bytes1 → count ≡ reach gap p stamp room (read_of whole1 bytes1) → ReadsSectors honest1 mid new place count whole1 whole2 bytes1 bytes2
     → ReadsRecord gap honest1 old new p stamp place room whole2 bytes2
 record_read gap honest honest1 old mid new p stamp place room first count whole whole1 whole2 bytes bytes1 bytes2 none back wears later is_first front is_count rest = record {
   run = record {
     many = refl;
     long = rest.long ∙ ap (λ (n : ℕ). 512 * n) (sym rest.many);
     sees = λ h j lt. elim (cases_lt j first) [
-      | inl below ↦ subst (Sees old new (place + j)) (sym (rest.kept j (omega (arith, front.many, below)))) (sees_later old mid new (place + j) _ (later h) (front.sees (back h) j (omega (arith, ap length none)) below))
+      | inl below ↦ subst (SeesAt old new (place + j)) (sym (rest.kept j (omega (arith, front.many, below)))) (sees_later old mid new (place + j) _ (later h) (front.sees (back h) j (omega (arith, ap length none)) below))
       | inr from ↦ sees_back old mid new (place + j) _ (wears h) (rest.sees h j (omega (arith, front.many, from)) (omega (arith, rest.many, lt)))
     ];
   };

@@ -11,7 +11,7 @@ use Rattle.log_thirds.specs.Reading.{Stepped, stepped_of}
 use Rattle.log_thirds.specs.declared.firsts.Firsts.{Firsts}
 use Rattle.log_thirds.specs.Firsts.{firsts_of, firsts_with, AreFirsts}
 use Rattle.log_thirds.proofs.FirstsLaws.{firsts_more}
-use Rattle.log_thirds.specs.Slots.{slots_with, AreSlots}
+use Rattle.log_thirds.specs.Slots.{slots_with, AreLastSlots}
 use Rattle.fsd_log.proofs.HereLaws.{here_some}
 use Rattle.fsd_log.proofs.WalkLaws.{IsFound, next_found, Goes, goes_more, walk_of_goes}
 use Rattle.log_thirds.specs.Copies.{Copies, AreCopiesOf, AreLastCopies}
@@ -22,7 +22,7 @@ use Rattle.log_thirds.proofs.CopyLaws.{last_more}
 pub record Reaches (l : Shape) (epoch first third : ℕ) (disk : Reader) (h : Head) (f : Firsts) (slots : List (Option Slot)) (c : Copies) : Type 0 where
   pub records : List Placed
   pub goes : Goes l epoch disk (start l first) records h
-  pub are : AreSlots l third records slots
+  pub are : AreLastSlots l third records slots
   pub firsts : AreFirsts l.third first records f
   pub last : AreLastCopies l epoch third records c
 
@@ -70,7 +70,7 @@ reaches_on l epoch first third disk h f slots step c c1 so_far of is = by_next (
 -- the scan ends there, with these records
 pub record EndsThere (l : Shape) (epoch first third : ℕ) (disk : Reader) (h : Head) (f : Firsts) (slots : List (Option Slot)) (c : Copies) : Type 0 where
   pub head : (scan l epoch disk first).head ≡ h
-  pub are : AreSlots l third (scan l epoch disk first).records slots
+  pub are : AreLastSlots l third (scan l epoch disk first).records slots
   pub firsts : AreFirsts l.third first (scan l epoch disk first).records f
   pub last : AreLastCopies l epoch third (scan l epoch disk first).records c
 
@@ -82,5 +82,5 @@ reaches_end l epoch first third disk h f slots c so_far is = by_next (next l epo
     by_next : (o : Option (Placed × Head)) → next l epoch disk h ≡ o → None ≡ option_map stepped_of o → EndsThere l epoch first third disk h f slots c
     by_next None found e =
         let walked = walk_of_goes (3 * l.third) l epoch disk (start l first) so_far.records h (record { before = omega arith; from = omega arith; ends = inl refl }) (omega arith) so_far.goes found in
-        record { head = ap (λ (w : Walked). w.head) walked; are = subst (λ (rs : List Placed). AreSlots l third rs slots) (ap (λ (w : Walked). w.records) (sym walked)) so_far.are; firsts = subst (λ (rs : List Placed). AreFirsts l.third first rs f) (ap (λ (w : Walked). w.records) (sym walked)) so_far.firsts; last = subst (λ (rs : List Placed). AreLastCopies l epoch third rs c) (ap (λ (w : Walked). w.records) (sym walked)) so_far.last }
+        record { head = ap (λ (w : Walked). w.head) walked; are = subst (λ (rs : List Placed). AreLastSlots l third rs slots) (ap (λ (w : Walked). w.records) (sym walked)) so_far.are; firsts = subst (λ (rs : List Placed). AreFirsts l.third first rs f) (ap (λ (w : Walked). w.records) (sym walked)) so_far.firsts; last = subst (λ (rs : List Placed). AreLastCopies l epoch third rs c) (ap (λ (w : Walked). w.records) (sym walked)) so_far.last }
     by_next (Some x) found e = absurd (cc)

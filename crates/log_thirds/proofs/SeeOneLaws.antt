@@ -13,11 +13,11 @@ use Rattle.fsd_formats.specs.declared.anchor.Anchor.{Anchor}
 use Rattle.fsd_log.specs.Scan.{anchor_in, newer_of}
 use Rattle.log_thirds.specs.Disk.{reads}
 use Rattle.log_thirds.specs.LogValue.{LogValue}
-use Rattle.log_thirds.specs.Reading.{Sees}
+use Rattle.log_thirds.specs.Reading.{SeesAt}
 use Rattle.log_thirds.specs.Seen.{AnchorsOn, LogOn, ScansOn, ReadsAnchor}
 use Rattle.log_thirds.proofs.ReadingLaws.{bytes_back}
 
-module _ (old new : Moment) (wears : Wears old new) (place : ℕ) (o : Option (List ℕ)) (sees : Sees old new place o) (j : List Sector) (jw : IsWorn (open_damage old.windows) j old.image) where
+module _ (old new : Moment) (wears : Wears old new) (place : ℕ) (o : Option (List ℕ)) (sees : SeesAt old new place o) (j : List Sector) (jw : IsWorn (open_damage old.windows) j old.image) where
   abbrev Worn1 : ℕ → Sector → Sector → Type 0
   Worn1 s a b = (b ≡ a) ⊎ (IsTrue (open_damage old.windows s) × (b ≡ Damaged))
 

@@ -11,7 +11,7 @@ use Rattle.fsd_log.specs.Borne.{Foreign}
 use Rattle.fsd_log.proofs.JudgedLaws.{foreign_absent}
 use Rattle.fsd_log.proofs.HereLaws.{here_none}
 use Rattle.fsd_log.specs.Scan.{last_number, IsIn, Head, Placed, Walked, room_at, window, record_here, next, scan, start, place_of, tape, IsLog}
-use Rattle.log_thirds.specs.Moves.{back, head_back, IsNextThird, MovesOn}
+use Rattle.log_thirds.specs.Moves.{moved_back, head_back, IsNextThird, MovesOn}
 use Rattle.fsd_log.proofs.WalkLaws.{stamp_of, IsHere, IsThere, IsFound, GoesOn, found_goes_on, Goes, goes_of_walk, walk_of_goes, none_next}
 use Rattle.fsd_log.proofs.AppendLaws.{none_foreign, window_foreign}
 use Rattle.fsd_log.proofs.PlaceLaws.{end_most}
@@ -37,7 +37,7 @@ module _ (l : Shape) (epoch : ℕ) (old new : Reader) (shifted : IsShifted l old
       ]
 
   -- behind the first third each step goes alike
-  found_back : (h : Head) (r : Placed) (h1 : Head) → IsIn l h → l.third < h.at → IsFound l epoch old h r h1 → IsFound l epoch new (head_back l.third h) (back l.third r) (head_back l.third h1)
+  found_back : (h : Head) (r : Placed) (h1 : Head) → IsIn l h → l.third < h.at → IsFound l epoch old h r h1 → IsFound l epoch new (head_back l.third h) (moved_back l.third r) (head_back l.third h1)
   found_back h r h1 is_in from is =
       let one = found_goes_on l epoch old h r h1 is_in is in
       let end : h1.end ≡ is.end = ap (λ (x : Head). x.end) is.goes_on in
@@ -58,7 +58,7 @@ module _ (l : Shape) (epoch : ℕ) (old new : Reader) (shifted : IsShifted l old
       moved_on : r.at + record_len (gap_of l) (length r.entry.pages) - l.third ≡ r.at - l.third + record_len (gap_of l) (length r.entry.pages)
       moved_on = let one = found_goes_on l epoch old h r h1 is_in is in omega (arith, one.from)
 
-  goes_back : (h : Head) (rs : List Placed) (end : Head) → IsIn l h → l.third < h.at → Goes l epoch old h rs end → Goes l epoch new (head_back l.third h) (map (back l.third) rs) (head_back l.third end)
+  goes_back : (h : Head) (rs : List Placed) (end : Head) → IsIn l h → l.third < h.at → Goes l epoch old h rs end → Goes l epoch new (head_back l.third h) (map (moved_back l.third) rs) (head_back l.third end)
   goes_back h [] end is_in from goes = ap (head_back l.third) goes
   goes_back h (r ∷ rs) end is_in from goes =
       let one = found_goes_on l epoch old h r goes.0 is_in goes.1 in
@@ -72,7 +72,7 @@ module _ (l : Shape) (epoch : ℕ) (old new : Reader) (shifted : IsShifted l old
     pub some : h.at ≡ 0 → 0 < length front
     pub before : AllByRecursion (λ r. r.at < l.third) front
     pub behind : AllByRecursion (λ r. l.third ≤ r.at) rest
-    pub goes : Goes l epoch new (start l (h.number + length front)) (map (back l.third) rest) (head_back l.third end)
+    pub goes : Goes l epoch new (start l (h.number + length front)) (map (moved_back l.third) rest) (head_back l.third end)
 
   -- what is found lies behind the head
   goes_behind : (from : ℕ) (h : Head) (rs : List Placed) (end : Head) → IsIn l h → from ≤ h.at → Goes l epoch old h rs end → AllByRecursion (λ r. from ≤ r.at) rs
@@ -102,7 +102,7 @@ module _ (l : Shape) (epoch : ℕ) (old new : Reader) (shifted : IsShifted l old
             some = λ at. omega arith;
             before = (omega (arith, one.to, one.is_in.before, ends, here.in_third, first), rest.before);
             behind = rest.behind;
-            goes = subst (λ (n : ℕ). Goes l epoch new (start l n) (map (back l.third) rest.rest) (head_back l.third end)) count rest.goes;
+            goes = subst (λ (n : ℕ). Goes l epoch new (start l n) (map (moved_back l.third) rest.rest) (head_back l.third end)) count rest.goes;
           }
       by_place (inr there) more =
           let at : r.at ≡ l.third = there.at_start ∙ first in
@@ -111,7 +111,7 @@ module _ (l : Shape) (epoch : ℕ) (old new : Reader) (shifted : IsShifted l old
           same_here h.number r.at goes.1.end (omega (arith, at)) (omega (arith, at, last)) (omega (arith, ends, end_most l goes.0.end one.is_in.ends)) ∙ goes.1.found in
           let count : h.number ≡ h.number + length {A = Placed} [] = omega arith in
           let moved : r.at + record_len (gap_of l) (length r.entry.pages) - l.third ≡ r.at - l.third + record_len (gap_of l) (length r.entry.pages) = omega (arith, at) in
-          let step : IsFound l epoch new (start l h.number) (back l.third r) (head_back l.third goes.0) = record {
+          let step : IsFound l epoch new (start l h.number) (moved_back l.third r) (head_back l.third goes.0) = record {
             end = goes.1.end - l.third;
             place = inl (record { at_head = omega (arith, at); in_third = omega (arith, last) });
             found = found;
@@ -124,7 +124,7 @@ module _ (l : Shape) (epoch : ℕ) (old new : Reader) (shifted : IsShifted l old
             some = λ none. absurd (let entered = there.enters.some in omega (arith, none, entered));
             before = tt;
             behind = (omega (arith, at), goes_behind l.third goes.0 rs end one.is_in (omega (arith, at, one.to)) goes.2);
-            goes = subst (λ (n : ℕ). Goes l epoch new (start l n) (map (back l.third) (r ∷ rs)) (head_back l.third end)) count
+            goes = subst (λ (n : ℕ). Goes l epoch new (start l n) (map (moved_back l.third) (r ∷ rs)) (head_back l.third end)) count
                 (head_back l.third goes.0, step, goes_back goes.0 rs end one.is_in (omega (arith, at, one.to)) goes.2);
           }
 
@@ -167,7 +167,7 @@ module _ (l : Shape) (epoch first : ℕ) (fits : epoch < 2 ^ 32) (third : 0 < l.
         before = split.before;
         behind = split.behind;
         log = record {
-          scanned = walk_of_goes (3 * l.third) l epoch new (start l (first + length split.front)) (map (back l.third) split.rest) (head_back l.third h) (record { before = omega arith; from = omega arith; ends = inl refl }) (omega arith) split.goes
+          scanned = walk_of_goes (3 * l.third) l epoch new (start l (first + length split.front)) (map (moved_back l.third) split.rest) (head_back l.third h) (record { before = omega arith; from = omega arith; ends = inl refl }) (omega arith) split.goes
               (none_next l epoch new (head_back l.third h) (none_at (h.at - l.third) (h.end - l.third)) (none_at (h.end - l.third) (h.end - l.third + l.third)));
           fresh = fresh;
         };

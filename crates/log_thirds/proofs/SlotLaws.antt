@@ -8,66 +8,66 @@ use Rattle.volume_layout.specs.Shape.{Shape}
 use Rattle.volume_layout.specs.Kinds.{gap_of}
 use Rattle.fsd_log.specs.Scan.{Placed, place_of}
 use Rattle.log_thirds.specs.declared.slots.Slot.{Slot}
-use Rattle.log_thirds.specs.Slots.{slot_in, slot_at, slot_of, noted, slots_with, AreSlots, LieInRecords, SlotsInside}
+use Rattle.log_thirds.specs.Slots.{slot_in, slot_in_record, last_slot, noted_slots, slots_with, AreLastSlots, LieInRecords, SlotsInside}
 use Rattle.fsd_log.proofs.PlaceLaws.{InThird, place_from, place_inside}
 use Rattle.fsd_log.specs.Places.{LieInRecord}
 use Rattle.sector_disk.proofs.ResultLaws.{option_or-assoc}
 
 module _ (number : ℕ) (slots : List (Option Slot)) where
-  pub length-noted : (place copy : ℕ) (pages : List ℕ) → length (noted number place copy pages slots) ≡ length slots
+  pub length-noted : (place copy : ℕ) (pages : List ℕ) → length (noted_slots number place copy pages slots) ≡ length slots
   length-noted place copy [] = refl
-  length-noted place copy (p ∷ pages) = length-set (noted number (place + 1) (copy + 1) pages slots) p _ ∙ length-noted (place + 1) (copy + 1) pages
+  length-noted place copy (p ∷ pages) = length-set (noted_slots number (place + 1) (copy + 1) pages slots) p _ ∙ length-noted (place + 1) (copy + 1) pages
 
-  pub noted_none : (place copy : ℕ) (pages : List ℕ) (left : ℕ) → length pages ≤ left → slots ≡ noted number place copy (drop left pages) slots
-  noted_none place copy pages left le = ap (λ (l : List ℕ). noted number place copy l slots) (sym (drop_all left pages le))
+  pub noted_none : (place copy : ℕ) (pages : List ℕ) (left : ℕ) → length pages ≤ left → slots ≡ noted_slots number place copy (drop left pages) slots
+  noted_none place copy pages left le = ap (λ (l : List ℕ). noted_slots number place copy l slots) (sym (drop_all left pages le))
 
   -- one page more, from the last one on
   pub noted_step : (place copy : ℕ) (pages : List ℕ) (j : ℕ) (left : ℕ) → left ≡ j + 1 → j < length pages
-      → set (noted number (place + left) (copy + left) (drop left pages) slots) (get_or pages j 0) (Some (record { place = place + j; copy = copy + j; number = number })) ≡ noted number (place + j) (copy + j) (drop j pages) slots
+      → set (noted_slots number (place + left) (copy + left) (drop left pages) slots) (get_or pages j 0) (Some (record { place = place + j; copy = copy + j; number = number })) ≡ noted_slots number (place + j) (copy + j) (drop j pages) slots
   noted_step place copy pages j left is lt =
       let p : place + left ≡ place + j + 1 = omega (arith, is) in
       let c : copy + left ≡ copy + j + 1 = omega (arith, is) in
       let n : left ≡ suc j = omega (arith, is) in
       let d : drop left pages ≡ drop (suc j) pages = ap (λ (m : ℕ). drop m pages) n in
-      (λ i. set (noted number (p i) (c i) (d i) slots) (get_or pages j 0) (Some (record { place = place + j; copy = copy + j; number = number })))
-      ∙ ap (λ (l : List ℕ). noted number (place + j) (copy + j) l slots) (sym (drop-cons pages j 0 lt))
+      (λ i. set (noted_slots number (p i) (c i) (d i) slots) (get_or pages j 0) (Some (record { place = place + j; copy = copy + j; number = number })))
+      ∙ ap (λ (l : List ℕ). noted_slots number (place + j) (copy + j) l slots) (sym (drop-cons pages j 0 lt))
 
   pub get-noted : (place copy page : ℕ) (pages : List ℕ) → page < length slots
-      → get_or (noted number place copy pages slots) page None ≡ option_or (slot_in page number place copy pages) (get_or slots page None)
+      → get_or (noted_slots number place copy pages slots) page None ≡ option_or (slot_in page number place copy pages) (get_or slots page None)
   get-noted place copy page [] lt = refl
   get-noted place copy page (p ∷ pages) lt = by_page (get-noted (place + 1) (copy + 1) page pages lt) (p == page) refl
     where
-      by_page : get_or (noted number (place + 1) (copy + 1) pages slots) page None ≡ option_or (slot_in page number (place + 1) (copy + 1) pages) (get_or slots page None)
-          → (b : Bool) → (p == page) ≡ b → get_or (set (noted number (place + 1) (copy + 1) pages slots) p (Some (record { place = place; copy = copy; number = number }))) page None
+      by_page : get_or (noted_slots number (place + 1) (copy + 1) pages slots) page None ≡ option_or (slot_in page number (place + 1) (copy + 1) pages) (get_or slots page None)
+          → (b : Bool) → (p == page) ≡ b → get_or (set (noted_slots number (place + 1) (copy + 1) pages slots) p (Some (record { place = place; copy = copy; number = number }))) page None
           ≡ option_or (cond b (Some (record { place = place; copy = copy; number = number })) (slot_in page number (place + 1) (copy + 1) pages)) (get_or slots page None)
       by_page rest true is =
           let same : p ≡ page = eqb-true p page is in
-          ap (λ (q : ℕ). get_or (set (noted number (place + 1) (copy + 1) pages slots) q (Some (record { place = place; copy = copy; number = number }))) page None) same
-          ∙ get_or-set_same (noted number (place + 1) (copy + 1) pages slots) page _ None (omega (arith, length-noted (place + 1) (copy + 1) pages))
+          ap (λ (q : ℕ). get_or (set (noted_slots number (place + 1) (copy + 1) pages slots) q (Some (record { place = place; copy = copy; number = number }))) page None) same
+          ∙ get_or-set_same (noted_slots number (place + 1) (copy + 1) pages slots) page _ None (omega (arith, length-noted (place + 1) (copy + 1) pages))
       by_page rest false is =
-          get_or-set_other (noted number (place + 1) (copy + 1) pages slots) p page _ None (λ e. eqb-false p page is (sym e))
+          get_or-set_other (noted_slots number (place + 1) (copy + 1) pages slots) p page _ None (λ e. eqb-false p page is (sym e))
           ∙ rest
 
-pub slot_of-append : (l : Shape) (third page : ℕ) (records : List Placed) (r : Placed) → slot_of l third page (records ++ r ∷ []) ≡ option_or (slot_at l third page r) (slot_of l third page records)
-slot_of-append l third page [] r = option_or-none (slot_at l third page r)
+pub slot_of-append : (l : Shape) (third page : ℕ) (records : List Placed) (r : Placed) → last_slot l third page (records ++ r ∷ []) ≡ option_or (slot_in_record l third page r) (last_slot l third page records)
+slot_of-append l third page [] r = option_or-none (slot_in_record l third page r)
   where
     option_or-none : (o : Option Slot) → o ≡ option_or o None
     option_or-none None = refl
     option_or-none (Some x) = refl
 slot_of-append l third page (q ∷ records) r =
-    ap (λ (o : Option Slot). option_or o (slot_at l third page q)) (slot_of-append l third page records r)
-    ∙ option_or-assoc (slot_at l third page r) (slot_of l third page records) (slot_at l third page q)
+    ap (λ (o : Option Slot). option_or o (slot_in_record l third page q)) (slot_of-append l third page records r)
+    ∙ option_or-assoc (slot_in_record l third page r) (last_slot l third page records) (slot_in_record l third page q)
 
 -- a record more
-pub slots_more : (l : Shape) (third : ℕ) (records : List Placed) (r : Placed) (slots : List (Option Slot)) → AreSlots l third records slots
-    → AreSlots l third (records ++ r ∷ []) (slots_with l third r.entry.number r.at r.entry.pages slots)
+pub slots_more : (l : Shape) (third : ℕ) (records : List Placed) (r : Placed) (slots : List (Option Slot)) → AreLastSlots l third records slots
+    → AreLastSlots l third (records ++ r ∷ []) (slots_with l third r.entry.number r.at r.entry.pages slots)
 slots_more l third records r slots are page lt =
     let within : page < length slots = omega (arith, lt, length-noted r.entry.number slots (place_of l third r.at + 3 + (gap_of l)) (place_of l third r.at + 3 + (gap_of l) + length r.entry.pages + 1 + (gap_of l)) r.entry.pages) in
     get-noted r.entry.number slots (place_of l third r.at + 3 + (gap_of l)) (place_of l third r.at + 3 + (gap_of l) + length r.entry.pages + 1 + (gap_of l)) page r.entry.pages within
-    ∙ ap (λ (o : Option Slot). option_or (slot_at l third page r) o) (are page within)
+    ∙ ap (λ (o : Option Slot). option_or (slot_in_record l third page r) o) (are page within)
     ∙ sym (slot_of-append l third page records r)
 
-pub no_records : (l : Shape) (third n : ℕ) → AreSlots l third [] (replicate n None)
+pub no_records : (l : Shape) (third n : ℕ) → AreLastSlots l third [] (replicate n None)
 no_records l third n page lt = get_or-replicate n page None None (omega (arith, lt, length-replicate {A = Option Slot} n None))
 
 -- ---- on the disk
@@ -77,9 +77,9 @@ module _ (P : Slot → Type 0) where
   abbrev pub Each : List (Option Slot) → Type 0
   Each slots = (page : ℕ) → IfSome (get_or slots page None) P
 
-  noted_each : (number place copy : ℕ) (pages : List ℕ) (slots : List (Option Slot)) → ((j : ℕ) → j < length pages → P (record { place = place + j; copy = copy + j; number = number })) → Each slots → Each (noted number place copy pages slots)
+  noted_each : (number place copy : ℕ) (pages : List ℕ) (slots : List (Option Slot)) → ((j : ℕ) → j < length pages → P (record { place = place + j; copy = copy + j; number = number })) → Each slots → Each (noted_slots number place copy pages slots)
   noted_each number place copy [] slots here before page = before page
-  noted_each number place copy (p ∷ pages) slots here before page = by_place (noted_each number (place + 1) (copy + 1) pages slots later before page) (cases_eq page p) (cases_lt p (length (noted number (place + 1) (copy + 1) pages slots)))
+  noted_each number place copy (p ∷ pages) slots here before page = by_place (noted_each number (place + 1) (copy + 1) pages slots later before page) (cases_eq page p) (cases_lt p (length (noted_slots number (place + 1) (copy + 1) pages slots)))
     where
       later : (j : ℕ) → j < length pages → P (record { place = place + 1 + j; copy = copy + 1 + j; number = number })
       later j lt =
@@ -95,18 +95,18 @@ module _ (P : Slot → Type 0) where
           let same : ◌≡◌ {A = Slot} (record { place = place + 0; copy = copy + 0; number = number }) (record { place = place; copy = copy; number = number }) = λ i. record { place = x i; copy = y i; number = number } in
           subst P same (here 0 (omega arith))
 
-      by_place : IfSome (get_or (noted number (place + 1) (copy + 1) pages slots) page None) P → (page ≡ p) ⊎ (page ≡ p → ⊥)
-          → (p < length (noted number (place + 1) (copy + 1) pages slots)) ⊎ (length (noted number (place + 1) (copy + 1) pages slots) ≤ p)
-          → IfSome (get_or (set (noted number (place + 1) (copy + 1) pages slots) p (Some (record { place = place; copy = copy; number = number }))) page None) P
+      by_place : IfSome (get_or (noted_slots number (place + 1) (copy + 1) pages slots) page None) P → (page ≡ p) ⊎ (page ≡ p → ⊥)
+          → (p < length (noted_slots number (place + 1) (copy + 1) pages slots)) ⊎ (length (noted_slots number (place + 1) (copy + 1) pages slots) ≤ p)
+          → IfSome (get_or (set (noted_slots number (place + 1) (copy + 1) pages slots) p (Some (record { place = place; copy = copy; number = number }))) page None) P
       by_place rest (inl same) (inl lt) =
           subst (λ (o : Option Slot). IfSome o P)
-          (sym (ap (λ (q : ℕ). get_or (set (noted number (place + 1) (copy + 1) pages slots) p (Some (record { place = place; copy = copy; number = number }))) q None) same
-          ∙ get_or-set_same (noted number (place + 1) (copy + 1) pages slots) p (Some (record { place = place; copy = copy; number = number })) None lt))
+          (sym (ap (λ (q : ℕ). get_or (set (noted_slots number (place + 1) (copy + 1) pages slots) p (Some (record { place = place; copy = copy; number = number }))) q None) same
+          ∙ get_or-set_same (noted_slots number (place + 1) (copy + 1) pages slots) p (Some (record { place = place; copy = copy; number = number })) None lt))
           first
       by_place rest (inl same) (inr past) =
-          subst (λ (l : List (Option Slot)). IfSome (get_or l page None) P) (sym (set_past (noted number (place + 1) (copy + 1) pages slots) p (Some (record { place = place; copy = copy; number = number })) past)) rest
+          subst (λ (l : List (Option Slot)). IfSome (get_or l page None) P) (sym (set_past (noted_slots number (place + 1) (copy + 1) pages slots) p (Some (record { place = place; copy = copy; number = number })) past)) rest
       by_place rest (inr other) at =
-          subst (λ (o : Option Slot). IfSome o P) (sym (get_or-set_other (noted number (place + 1) (copy + 1) pages slots) p page (Some (record { place = place; copy = copy; number = number })) None other)) rest
+          subst (λ (o : Option Slot). IfSome o P) (sym (get_or-set_other (noted_slots number (place + 1) (copy + 1) pages slots) p page (Some (record { place = place; copy = copy; number = number })) None other)) rest
 
   none_each : (n : ℕ) → Each (replicate n None)
   none_each n page = subst (λ (o : Option Slot). IfSome o P) (sym (by_place (cases_lt page n))) tt
@@ -116,7 +116,7 @@ module _ (P : Slot → Type 0) where
       by_place (inr past) = get_or_past (replicate {A = Option Slot} n None) page None (omega (arith, past, length-replicate {A = Option Slot} n None))
 
 pub noted_inside : (sectors number place copy : ℕ) (pages : List ℕ) (slots : List (Option Slot)) → place + length pages ≤ sectors → copy + length pages ≤ sectors → SlotsInside sectors slots
-    → SlotsInside sectors (noted number place copy pages slots)
+    → SlotsInside sectors (noted_slots number place copy pages slots)
 noted_inside sectors number place copy pages slots first second inside =
     noted_each (λ slot. (slot.place < sectors) × (slot.copy < sectors)) number place copy pages slots (λ j lt. (omega (arith, first, lt), omega (arith, second, lt))) inside
 
@@ -128,14 +128,14 @@ none_lie l n = none_each (λ slot. LieInRecord l slot.place slot.copy) n
 
 -- a record that ends in its third lies on the disk
 pub record_inside : (l : Shape) (third number at end place : ℕ) (pages : List ℕ) (slots : List (Option Slot)) → InThird l third at (2 * length pages + (5 + 2 * (gap_of l))) end → 16 + 3 * l.third ≤ l.sectors → place ≡ place_of l third at
-    → SlotsInside l.sectors slots → SlotsInside l.sectors (noted number (place + 3 + (gap_of l)) (place + 3 + (gap_of l) + length pages + 1 + (gap_of l)) pages slots)
+    → SlotsInside l.sectors slots → SlotsInside l.sectors (noted_slots number (place + 3 + (gap_of l)) (place + 3 + (gap_of l) + length pages + 1 + (gap_of l)) pages slots)
 record_inside l third number at end place pages slots within fits is inside =
     let last = place_inside l third at (2 * length pages + (5 + 2 * (gap_of l))) end within (omega arith) in
     noted_inside l.sectors number (place + 3 + (gap_of l)) (place + 3 + (gap_of l) + length pages + 1 + (gap_of l)) pages slots (omega (arith, last, fits, is)) (omega (arith, last, fits, is)) inside
 
 -- its pages' sectors are those of a record in the log
 pub record_lies : (l : Shape) (third number at end place : ℕ) (pages : List ℕ) (slots : List (Option Slot)) → InThird l third at (2 * length pages + (5 + 2 * (gap_of l))) end → place ≡ place_of l third at
-    → LieInRecords l slots → LieInRecords l (noted number (place + 3 + (gap_of l)) (place + 3 + (gap_of l) + length pages + 1 + (gap_of l)) pages slots)
+    → LieInRecords l slots → LieInRecords l (noted_slots number (place + 3 + (gap_of l)) (place + 3 + (gap_of l) + length pages + 1 + (gap_of l)) pages slots)
 record_lies l third number at end place pages slots within is before =
     let last = place_inside l third at (2 * length pages + (5 + 2 * (gap_of l))) end within (omega arith) in
     let from = place_from l third at in

@@ -10,7 +10,7 @@ use Rattle.log_thirds.specs.Disk.{reads}
 use Rattle.log_thirds.specs.LogValue.{LogValue}
 use Rattle.log_thirds.specs.Copies.{AreLastCopies}
 use Rattle.log_thirds.specs.Firsts.{firsts_with, AreFirsts}
-use Rattle.log_thirds.specs.Slots.{slots_with, AreSlots, slot_of, lies_in}
+use Rattle.log_thirds.specs.Slots.{slots_with, AreLastSlots, last_slot, lies_in}
 use Rattle.volume_layout.specs.declared.kind.Kind.{Kind}
 use Rattle.volume_layout.specs.Layout.{third_start, with_kind}
 use Rattle.volume_layout.specs.Kinds.{gap_of}
@@ -53,7 +53,7 @@ log_with log pages = record {
 
 -- The log knows of each page where its last image lies, and which numbers its thirds begin with.
 pub record IsIndexed (log : LogValue) (records : List Placed) : Type 0 where
-  pub slots : AreSlots log.layout log.anchor.third records log.slots
+  pub slots : AreLastSlots log.layout log.anchor.third records log.slots
   pub firsts : AreFirsts log.layout.third log.anchor.first records log.firsts
 
 -- the log has the copies of the last record, or there is none
@@ -78,7 +78,7 @@ IsLogIn log records at = IsLog log.layout log.anchor.epoch log.anchor.first (tap
 
 -- the page's last image lies in this third of the disk
 abbrev pub LastLiesIn : LogValue → List Placed → (t page : ℕ) → Type 0
-LastLiesIn log records t page = IsTrue (lies_in (third_start log.layout t) log.layout.third (slot_of log.layout log.anchor.third page records))
+LastLiesIn log records t page = IsTrue (lies_in (third_start log.layout t) log.layout.third (last_slot log.layout log.anchor.third page records))
 
 -- the least such page from one on
 pub record IsLeastOfThird (log : LogValue) (records : List Placed) (t first page : ℕ) : Type 0 where

@@ -17,7 +17,7 @@ use Rattle.fsd_log.specs.Places.{LieInRecord}
 use Rattle.log_thirds.specs.Disk.{reads}
 use Rattle.log_thirds.specs.Reading.{ReadWorn}
 use Rattle.log_thirds.specs.LogValue.{LogValue}
-use Rattle.log_thirds.specs.Slots.{slot_of}
+use Rattle.log_thirds.specs.Slots.{last_slot}
 use Rattle.log_thirds.specs.declared.slots.Slot.{Slot}
 
 -- The page, or else its copy, bears the record's stamp, and is the image that is meant.
@@ -28,7 +28,7 @@ pub record GivesSlot (page epoch : ℕ) (disk : Reader) (slot : Slot) (o : Optio
 
 -- where one of these records has the page, the slot in the last of them gives the image that it has there
 abbrev pub GivesLast : LogValue → List Placed → (page : ℕ) → List Sector → Type 0
-GivesLast log records page sectors = IfSome (slot_of log.layout log.anchor.third page records) (λ slot. GivesSlot page log.anchor.epoch (reads sectors) slot (last_image page records))
+GivesLast log records page sectors = IfSome (last_slot log.layout log.anchor.third page records) (λ slot. GivesSlot page log.anchor.epoch (reads sectors) slot (last_image page records))
 
 -- Of two copies the one that passes the test, the first where both do; where neither does, one that could be read.
 abbrev pub best_copy : (List ℕ → Bool) → Option (List ℕ) → Option (List ℕ) → Option (List ℕ)
@@ -68,7 +68,7 @@ pub record AreOfLogged (log : LogValue) (a b : ℕ) : Type 0 where
   pub logged : AreLogged log page a b
 
 -- The bytes stand whole in one of a slot's two sectors.
-pub record StandsAt (slot : Option Slot) (image : List Sector) (bytes : List ℕ) : Type 0 where
+pub record StandsInSlot (slot : Option Slot) (image : List Sector) (bytes : List ℕ) : Type 0 where
   pub a : ℕ
   pub b : ℕ
   pub lies : LiesAt slot a b

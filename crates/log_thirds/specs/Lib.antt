@@ -11,3 +11,4 @@ pub mod Moving
 pub mod Reading
 pub mod Slots
 pub mod Seen
+pub mod Logged

@@ -6,8 +6,8 @@ use Rattle.fsd_log.specs.Judged.{Reader}
 use Rattle.fsd_log.specs.Scan.{Head, Placed, IsLog}
 
 -- so much nearer to the start of the tape
-abbrev pub back : ℕ → Placed → Placed
-back t r = record { at = r.at - t; entry = r.entry }
+abbrev pub moved_back : ℕ → Placed → Placed
+moved_back t r = record { at = r.at - t; entry = r.entry }
 
 abbrev pub head_back : ℕ → Head → Head
 head_back t h = record { number = h.number; at = h.at - t; end = h.end - t }
@@ -23,4 +23,4 @@ pub record MovesOn (l : Shape) (epoch first : ℕ) (new : Reader) (rs : List Pla
   pub some : 0 < length front
   pub before : AllByRecursion (λ r. r.at < l.third) front
   pub behind : AllByRecursion (λ r. l.third ≤ r.at) rest
-  pub log : IsLog l epoch (first + length front) new (map (back l.third) rest) (head_back l.third h)
+  pub log : IsLog l epoch (first + length front) new (map (moved_back l.third) rest) (head_back l.third h)

@@ -10,7 +10,7 @@ use Rattle.log_thirds.specs.declared.slots.Slot.{Slot}
 use Rattle.log_thirds.specs.Slots.{lies_in}
 use Rattle.log_thirds.specs.Anchoring.{AnchorsIn, with_anchors}
 use Rattle.log_thirds.specs.Append.{IsIndexed, IsLogWorn}
-use Rattle.log_thirds.specs.Moves.{back, head_back}
+use Rattle.log_thirds.specs.Moves.{moved_back, head_back}
 use Rattle.log_thirds.specs.LogValue.{LogValue}
 
 -- the third of the disk that follows, round
@@ -42,7 +42,7 @@ later l records = filter (λ r. nat_le l.third r.at) records
 
 -- the same on the tape that begins with the following third
 abbrev pub records_moved : Shape → List Placed → List Placed
-records_moved l records = map (back l.third) (later l records)
+records_moved l records = map (moved_back l.third) (later l records)
 
 -- the last record lies in the last third of the tape, the one before the first third
 abbrev pub EndsInLastThird : LogValue → Type 0

@@ -6,7 +6,7 @@ use Rattle.volume_layout.specs.Shape.{Shape}
 use Rattle.fsd_log.specs.Scan.{tape, scan, anchor_in, anchor_on}
 use Rattle.fsd_formats.specs.declared.anchor.Anchor.{Anchor}
 use Rattle.sector_disk.specs.Machine.{Moment}
-use Rattle.log_thirds.specs.Reading.{Sees}
+use Rattle.log_thirds.specs.Reading.{SeesAt}
 use Rattle.log_thirds.specs.Disk.{reads}
 use Rattle.log_thirds.specs.LogValue.{LogValue}
 use Rattle.log_thirds.specs.Append.{IsIndexed, KnowsLast}
@@ -56,5 +56,5 @@ pub record LogOn (log : LogValue) (may : ℕ → Bool) (before new : List Sector
 -- what is read of an anchor's copy
 pub record ReadsAnchor (old new : Moment) (place : ℕ) (anchor : Option Anchor) : Type 0 where
   pub bytes : Option (List ℕ)
-  pub read : Sees old new place bytes
+  pub read : SeesAt old new place bytes
   pub is : anchor ≡ anchor_in bytes

@@ -12,26 +12,26 @@ abbrev pub slot_in : (page number place copy : ℕ) → (pages : List ℕ) → O
 slot_in page number place copy [] = None
 slot_in page number place copy (p ∷ pages) = if p == page then Some (record { place = place; copy = copy; number = number }) else slot_in page number (place + 1) (copy + 1) pages
 
-abbrev pub slot_at : Shape → (third page : ℕ) → Placed → Option Slot
-slot_at l third page r = let place = place_of l third r.at + 3 + gap_of l in slot_in page r.entry.number place (place + length r.entry.pages + 1 + gap_of l) r.entry.pages
+abbrev pub slot_in_record : Shape → (third page : ℕ) → Placed → Option Slot
+slot_in_record l third page r = let place = place_of l third r.at + 3 + gap_of l in slot_in page r.entry.number place (place + length r.entry.pages + 1 + gap_of l) r.entry.pages
 
 -- its slot in the last record that has it
-abbrev pub slot_of : Shape → (third page : ℕ) → List Placed → Option Slot
-slot_of l third page [] = None
-slot_of l third page (r ∷ records) = option_or (slot_of l third page records) (slot_at l third page r)
+abbrev pub last_slot : Shape → (third page : ℕ) → List Placed → Option Slot
+last_slot l third page [] = None
+last_slot l third page (r ∷ records) = option_or (last_slot l third page records) (slot_in_record l third page r)
 
 -- the table with the slots of these pages
-abbrev pub noted : (number place copy : ℕ) → (pages : List ℕ) → List (Option Slot) → List (Option Slot)
-noted number place copy [] slots = slots
-noted number place copy (p ∷ pages) slots = slice_set (noted number (place + 1) (copy + 1) pages slots) p (Some (record { place = place; copy = copy; number = number }))
+abbrev pub noted_slots : (number place copy : ℕ) → (pages : List ℕ) → List (Option Slot) → List (Option Slot)
+noted_slots number place copy [] slots = slots
+noted_slots number place copy (p ∷ pages) slots = slice_set (noted_slots number (place + 1) (copy + 1) pages slots) p (Some (record { place = place; copy = copy; number = number }))
 
 -- with those of a record that begins there on the tape
 abbrev pub slots_with : Shape → (third number at : ℕ) → (pages : List ℕ) → List (Option Slot) → List (Option Slot)
-slots_with l third number at pages slots = let place = place_of l third at + 3 + gap_of l in noted number place (place + length pages + 1 + gap_of l) pages slots
+slots_with l third number at pages slots = let place = place_of l third at + 3 + gap_of l in noted_slots number place (place + length pages + 1 + gap_of l) pages slots
 
 -- the table has of each page the slot in the last record that has it
-abbrev pub AreSlots : Shape → (third : ℕ) → List Placed → List (Option Slot) → Type 0
-AreSlots l third records slots = (page : ℕ) → page < length slots → slice_index_or slots page None ≡ slot_of l third page records
+abbrev pub AreLastSlots : Shape → (third : ℕ) → List Placed → List (Option Slot) → Type 0
+AreLastSlots l third records slots = (page : ℕ) → page < length slots → slice_index_or slots page None ≡ last_slot l third page records
 
 -- the slots lie on a disk of so many sectors
 abbrev pub SlotsInside : (sectors : ℕ) → List (Option Slot) → Type 0

@@ -2,14 +2,13 @@
 ghost use Rattle.std.specs.Prelude.{◌≡◌, ◌≤◌, ◌<◌, ◌+◌, ◌-◌, ◌*◌, List, length, IfOk, IfSome, IfNone, option_map};
 ghost use Rattle.sector_disk.specs.Calls.{OnlyReads, device_in};
 ghost use Rattle.volume_layout.specs.Kinds.{gap_of};
-ghost use Rattle.fsd_formats.specs.Record.{max_pages};
 ghost use Rattle.fsd_log.specs.Scan.{IsEnd, place_of, tape, room_at, last_number, record_here, entered, next};
 ghost use Rattle.log_thirds.specs.Copies.{AreCopies, entry_in};
 ghost use Rattle.log_thirds.specs.Disk.{reads};
 ghost use Rattle.log_thirds.specs.Seen.{SeesOn};
 ghost use Rattle.sector_disk.specs.declared.sector.Sector.{Sector};
 ghost use Rattle.sector_disk.specs.Image.{IsWorn, open_damage};
-ghost use Rattle.log_thirds.specs.Reading.{StepsOn, read_failed_at, stepped_in, stepped_of};
+ghost use Rattle.log_thirds.specs.Reading.{FitsThere, StepsOn, read_failed_at, stepped_in, stepped_of};
 
 use crate::copies::copies_in;
 use crate::form::{judge, record_sectors};
@@ -35,23 +34,23 @@ pub(crate) struct Spot {
 
 /// A record that was found, where on the tape it begins, and where the head goes behind it.
 #[derive(Drop)]
-pub(crate) struct Step {
+pub(crate) struct ScanStep {
     pub from: u32,
     pub found: Found,
     pub past: Spot,
 }
 
-impl Step {
+impl ScanStep {
     ghost use Rattle.std.specs.Prelude.{◌≡◌, ◌+◌, ◌*◌, ◌≤◌};
 
     // The step to a record that was found at this place, in a third that ends there.
-    fn over(layout: &Layout, found: Found, from: u32, end: u32) -> Step
+    fn over(layout: &Layout, found: Found, from: u32, end: u32) -> ScanStep
         requires { from + (2 * found.n + (5 + 2 * gap_of layout.now)) ≤ end }
         ensures { result ≡ record { from = from; found = found; past = record { at = from + (2 * found.n + (5 + 2 * gap_of layout.now)); end = end } } }
     {
         let at = from + record_sectors(layout, found.n);
         let past = Spot { at, end };
-        Step { from, found, past }
+        ScanStep { from, found, past }
     }
 }
 
@@ -117,11 +116,8 @@ fn find<M: Machine>(
     requires ends { IsEnd layout.now end }
     requires sectors { layout.now.sectors ≤ (M.report m.old).sectors }
     ensures reads { OnlyReads M.Machine (device_in read_failed_at result) m.old m.new }
-    ensures fits { IfOk result (λ o. IfSome o (λ found. at + (2 * found.n + (5 + 2 * gap_of layout.now)) ≤ end)) }
-    ensures counted { IfOk result (λ o. IfSome o (λ found. found.n ≡ length found.pages.items)) }
-    ensures few { IfOk result (λ o. IfSome o (λ found. found.n ≤ max_pages)) }
+    ensures found { IfOk result (λ o. IfSome o (FitsThere layout.now (record { epoch = anchor.now.epoch; number = number }) at end scratch.new.copies.items)) }
     ensures numbered { IfOk result (λ o. IfSome o (λ _. number < last_number)) }
-    ensures copied { IfOk result (λ o. IfSome o (λ found. AreCopies (record { epoch = anchor.now.epoch; number = number }) (length found.pages.items) scratch.new.copies.items)) }
     ensures kept { IfOk result (λ o. IfNone o (scratch.new.copies ≡ scratch.old.copies)) }
     ensures seen { IfOk result (λ o. (j : List Sector) → M.honest m.new → IsWorn (open_damage (M.now m.old).windows) j (M.now m.old).image
         → SeesOn layout.now anchor.now.third at (open_damage (M.now m.old).windows) j (M.now m.new).image
@@ -172,7 +168,7 @@ fn enter<M: Machine>(
     at: u32,
     end: u32,
     scratch: &mut Scratch,
-) -> Result<Option<Step>, ReadFault>
+) -> Result<Option<ScanStep>, ReadFault>
     requires first { anchor.now.third ≤ 2 }
     requires before { at ≤ end }
     requires from { end ≤ at + layout.now.third }
@@ -193,7 +189,7 @@ fn enter<M: Machine>(
         return Ok(None);
     }
     match find(m, layout, anchor, number, end, end + third, scratch) {
-        Ok(Some(found)) => Ok(Some(Step::over(layout, found, end, end + third))),
+        Ok(Some(found)) => Ok(Some(ScanStep::over(layout, found, end, end + third))),
         Ok(None) => Ok(None),
         Err(fault) => Err(fault),
     }
@@ -208,7 +204,7 @@ pub(crate) fn next<M: Machine>(
     at: u32,
     end: u32,
     scratch: &mut Scratch,
-) -> Result<Option<Step>, ReadFault>
+) -> Result<Option<ScanStep>, ReadFault>
     requires first { anchor.now.third ≤ 2 }
     requires before { at ≤ end }
     requires from { end ≤ at + layout.now.third }
@@ -225,7 +221,7 @@ pub(crate) fn next<M: Machine>(
         (next layout.now anchor.now.epoch (tape layout.now anchor.now.third (reads i)) (record { number = number; at = at; end = end })))) }
 {
     match find(m, layout, anchor, number, at, end, scratch) {
-        Ok(Some(found)) => Ok(Some(Step::over(layout, found, at, end))),
+        Ok(Some(found)) => Ok(Some(ScanStep::over(layout, found, at, end))),
         Ok(None) => enter(m, layout, anchor, number, at, end, scratch),
         Err(fault) => Err(fault),
     }

@@ -3,7 +3,7 @@ ghost use Rattle.std.specs.Prelude.{◌≡◌, ◌<◌, ◌+◌, ◌*◌, ◌^�
 ghost use Rattle.std.specs.List.{list_any};
 ghost use Rattle.volume_layout.specs.Kinds.{gap_of};
 ghost use Rattle.log_thirds.specs.Moving.{slot_outside};
-ghost use Rattle.log_thirds.specs.Slots.{noted, lies_in, IsLeastIn, NoneLiesIn};
+ghost use Rattle.log_thirds.specs.Slots.{noted_slots, lies_in, IsLeastIn, NoneLiesIn};
 
 use std::alloc::{AllocError, Global};
 use volume_layout::Layout;
@@ -54,7 +54,7 @@ fn put(slots: &mut [Option<Slot>], page: u32, slot: Slot)
 // Puts the slots of these pages, whose images begin at a place in a record of this number and with this gap.
 fn note_at(slots: &mut [Option<Slot>], number: u32, place: u32, gap: u32, pages: &[u32])
     requires { place + (2 * length pages.now + 1 + gap) < 2 ^ 32 }
-    ensures { slots.new ≡ noted number place (place + length pages.now + 1 + gap) pages.now slots.old }
+    ensures { slots.new ≡ noted_slots number place (place + length pages.now + 1 + gap) pages.now slots.old }
 {
     let n = pages.len();
     for k in 0..n {
@@ -80,7 +80,7 @@ pub(crate) fn note(
     pages: &[u32],
 )
     requires { place + (2 * length pages.now + (5 + 2 * gap_of layout.now)) < 2 ^ 32 }
-    ensures { slots.new ≡ noted number (place + 3 + gap_of layout.now) (place + 3 + gap_of layout.now + length pages.now + 1 + gap_of layout.now) pages.now slots.old }
+    ensures { slots.new ≡ noted_slots number (place + 3 + gap_of layout.now) (place + 3 + gap_of layout.now + length pages.now + 1 + gap_of layout.now) pages.now slots.old }
 {
     let gap = layout.kind().more();
     note_at(slots, number, place + 3 + gap, gap, pages);

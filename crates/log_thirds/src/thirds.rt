@@ -1,7 +1,7 @@
 //! The log, and where its next record goes.
 use crate::anchors::{find_anchor, write_anchor};
-use crate::fault::{LogFault, log_fault};
-use crate::find::{Scratch, Step, next, place_of};
+use crate::fault::LogFault;
+use crate::find::{ScanStep, Scratch, next, place_of};
 use crate::firsts::Firsts;
 use crate::form::{copies_place, record_sectors};
 use crate::images::read_slot;
@@ -77,7 +77,7 @@ impl Log {
     ghost use Rattle.log_thirds.specs.LogValue.{FitsLayout};
     ghost use Rattle.log_thirds.specs.Slots.{IsLeastIn, NoneLiesIn};
     ghost use Rattle.volume_layout.specs.Layout.{third_start};
-    ghost use Rattle.log_thirds.specs.Images.{StandsAt};
+    ghost use Rattle.log_thirds.specs.Images.{StandsInSlot};
     ghost use Rattle.log_thirds.specs.Giving.{GivesImage, LacksImage, LosesImage, Scans};
     ghost use Rattle.fsd_log.specs.Images.{last_image};
     ghost use Rattle.log_thirds.specs.Copies.{copies_count, IsLast};
@@ -154,7 +154,7 @@ impl Log {
         let mut firsts = Firsts::of(number);
         loop {
             match next(m, layout, anchor, number, at, end, &mut scratch) {
-                Ok(Some(Step { from, found, past })) => {
+                Ok(Some(ScanStep { from, found, past })) => {
                     let place = place_of(layout, anchor.third, from);
                     let pages = found.pages.as_slice();
                     note(slots.as_mut_slice(), layout, number, place, pages);
@@ -193,19 +193,29 @@ impl Log {
         ensures worn_out { result ≡ Err LogFault.WornOut → M.honest m.new → SeesLastEpoch (M.now m.old) }
         ensures found { IfOk result (Scans M.Machine layout.now m.old m.new) }
     {
+        // For the proof alone: its own call tells how long a layout is at least.
         let _sectors = layout.sectors();
         let anchor = match find_anchor(m) {
             Ok(Some(anchor)) => anchor,
             Ok(None) => return Err(LogFault::NoAnchor),
-            Err(fault) => return Err(log_fault(fault)),
+            Err(fault) => return Err(LogFault::Read(fault)),
         };
         if anchor.epoch == u32::MAX {
             return Err(LogFault::WornOut);
         }
         match Log::scan_by(alloc, m, layout, &anchor) {
             Ok(log) => Ok(log),
-            Err(fault) => Err(log_fault(fault)),
+            Err(fault) => Err(LogFault::Read(fault)),
         }
+    }
+
+    /// For the proof alone: it gives what a log keeps.
+    pub fn attest(&self)
+        ensures { FitsLayout self.now }
+    {
+        let _epoch = self.anchor.epoch;
+        let _number = self.number;
+        let _pages = self.layout.pages();
     }
 
     /// The layout of the volume.
@@ -213,9 +223,7 @@ impl Log {
         ensures value { result.now ≡ self.now.layout }
         ensures shape { FitsLayout self.now }
     {
-        let _epoch = self.anchor.epoch;
-        let _number = self.number;
-        let _pages = self.layout.pages();
+        self.attest();
         &self.layout
     }
 
@@ -272,6 +280,7 @@ impl Log {
         ensures no_slot { IfNone result (NoneLiesIn self.now.slots first (third_start self.now.layout t) self.now.layout.third) }
     {
         let third = self.layout.third();
+        // For the proof alone: its own call tells that a layout is planned.
         let _pages = self.layout.pages();
         let start = self.layout.third_start(t);
         least_in(self.slots.as_slice(), first, start, third)
@@ -307,7 +316,7 @@ impl Log {
         requires sectors { self.now.layout.sectors ≤ (M.report m.old).sectors }
         ensures reads { OnlyReads M.Machine (device_in load_failed_at result) m.old m.new }
         ensures absent { (result ≡ Ok false) ↔ (slice_index_or self.now.slots page None ≡ None) }
-        ensures whole { result ≡ Ok true → M.honest m.new → StandsAt (slice_index_or self.now.slots page None) (M.now m.old).image buf.new }
+        ensures whole { result ≡ Ok true → M.honest m.new → StandsInSlot (slice_index_or self.now.slots page None) (M.now m.old).image buf.new }
         ensures gives { IfOk result (GivesImage M.Machine self.now page m.old m.new buf.new) }
         ensures lacks { result ≡ Ok false → LacksImage self.now page buf.old buf.new }
         ensures failed { IfErr result (LosesImage M.Machine self.now page m.old m.new buf.old buf.new) }
@@ -427,6 +436,7 @@ impl Log {
         ensures past { OnOk result (self.new ≡ in_next_epoch self.old) }
         ensures kept { OnErr result (self.new ≡ self.old) }
     {
+        // For the proof alone: its own call tells how long a layout is at least.
         let _sectors = self.layout.sectors();
         let third = self.layout.third();
         let anchor = Anchor {

@@ -36,8 +36,8 @@ use Rattle.fsd_sound.proofs.LaidLaws.{has_worn, own_worn}
 use Rattle.fsd_sound.proofs.RenewLaws.{renewed_shows}
 use Rattle.fsd_sound.proofs.SettleLaws.{open_in_next, settles}
 use Rattle.fsd_sound.proofs.WritesLaws.{elsewhere}
-use Rattle.mount_recover.specs.Mending.{StaysBut, SameElsewhere, IsCompleted, IsMended, Stays, Settled, Begins}
-use Rattle.mount_recover.specs.Recover.{HasAnchors}
+use Rattle.mount_recover.specs.Mending.{StaysBut, SameElsewhere, IsCompleted, IsMended, StaysShown, HasSettled, StaysOrSettles}
+use Rattle.mount_recover.specs.Recover.{HasAnchorTwice}
 use Rattle.mount_recover.specs.Replay.{IsReplayed}
 use Rattle.mount_recover.proofs.KeepsLaws.{two_written}
 use Rattle.mount_recover.proofs.MountLaws.{open_settled}
@@ -135,7 +135,7 @@ stays_renewed anchor now mid new holds done =
 
 -- they stand then, but for what the run that is settled may wear
 pub anchors_stand : (epoch : ℕ) (now mid new : Moment) → 12 < length now.image → Holds now (with_anchors (fresh_anchor epoch) now.image 1 1) mid → IsWorn (open_damage mid.windows) mid.image new.image
-    → IsSome now.windows.next → new.windows ≡ settled now.windows.present now.windows.next → HasAnchors (fresh_anchor epoch) new
+    → IsSome now.windows.next → new.windows ≡ settled now.windows.present now.windows.next → HasAnchorTwice (fresh_anchor epoch) new
 anchors_stand epoch now mid new room holds done some is = (has 8 first, has 12 copy)
   where
     bytes_long : length (anchor_bytes (fresh_anchor epoch)) ≡ 512
@@ -263,7 +263,7 @@ module _ (l : Layout) (windows : List WeakRun) (choices : List (List (List ℕ))
   renewed (suc zero) (suc (suc k)) le once = absurd (omega (arith, le))
   renewed (suc (suc j)) k le once = absurd (omega (arith, once))
 
-  pub anchors_stay : (left : Moment) → AnchorsIn (fresh_anchor (log.anchor.epoch + 1)) now left → Stays l windows choices first left
+  pub anchors_stay : (left : Moment) → AnchorsIn (fresh_anchor (log.anchor.epoch + 1)) now left → StaysShown l windows choices first left
   anchors_stay left anchors =
       let is = renewed anchors.first anchors.copy anchors.in_order anchors.once in
       record {
@@ -280,7 +280,7 @@ module _ (l : Layout) (windows : List WeakRun) (choices : List (List (List ℕ))
     holds_mid : Holds first two mid
     holds_mid = subst (λ (i : Image). Holds first i mid) stands_two (over_two first now mid at.image 8 12 bytes 1 1 at.holds written)
 
-    pub stays_on : (left : Moment) → Wears mid left → Stays l windows choices first left
+    pub stays_on : (left : Moment) → Wears mid left → StaysShown l windows choices first left
     stays_on left wears = record {
       image = two;
       holds = holds_wears first two mid left holds_mid wears;
@@ -314,7 +314,7 @@ module _ (l : Layout) (windows : List WeakRun) (choices : List (List (List ℕ))
       worn_last : IsWorn (weak_of windows) two new.image
       worn_last = open_is_weak first.windows windows two new.image c.ends worn_new
 
-      pub settled_so : Settled l windows choices first new
+      pub settled_so : HasSettled l windows choices first new
       settled_so = record {
         after = record { run = named.0; settled = mounted.settled; pages = c.pages; chosen = c.chosen; shows = mounted.shows };
         log = λ s from inside. worn_twice (weak_of windows s) (sector_at first.image s) (sector_at two s) (sector_at new.image s) (inl (behind_two s from ∙ at.body s (omega (arith, from)) inside)) (worn_last.each s);
@@ -335,10 +335,10 @@ module _ (l : Layout) (windows : List WeakRun) (choices : List (List (List ℕ))
             );
           }
 
-      pub begins_before : (left : Moment) → Before mid new left → Begins l windows choices first left
+      pub begins_before : (left : Moment) → Before mid new left → StaysOrSettles l windows choices first left
       begins_before left (inl wears) = inl (stays_on left wears)
-      begins_before left (inr is) = inr (subst (Settled l windows choices first) (sym is) settled_so)
+      begins_before left (inr is) = inr (subst (HasSettled l windows choices first) (sym is) settled_so)
 
-    pub begins_failed : (new left : Moment) → Wears mid new → Before mid new left → Begins l windows choices first left
+    pub begins_failed : (new left : Moment) → Wears mid new → Before mid new left → StaysOrSettles l windows choices first left
     begins_failed new left failed (inl wears) = inl (stays_on left wears)
-    begins_failed new left failed (inr is) = inl (subst (Stays l windows choices first) (sym is) (stays_on new failed))
+    begins_failed new left failed (inr is) = inl (subst (StaysShown l windows choices first) (sym is) (stays_on new failed))

@@ -18,7 +18,7 @@ use Rattle.sector_disk.proofs.Wear.{stand_in, stand_other, length-stand}
 use Rattle.fsd_log.specs.Images.{last_image}
 use Rattle.fsd_log.specs.Judged.{Reader}
 use Rattle.fsd_log.specs.Scan.{Placed}
-use Rattle.fsd_files.specs.Disk.{Image, bytes_at, either_copy}
+use Rattle.fsd_files.specs.Disk.{Image, bytes_at, first_whole}
 use Rattle.fsd_sound.specs.Homes.{home_of}
 use Rattle.fsd_formats.specs.declared.anchor.Anchor.{Anchor}
 use Rattle.volume_layout.specs.Root.{read_root}
@@ -32,14 +32,14 @@ use Rattle.log_thirds.specs.Disk.{reads}
 use Rattle.log_thirds.specs.Images.{GivesSlot, GivesLast}
 use Rattle.log_thirds.specs.LogValue.{LogValue}
 use Rattle.log_thirds.specs.Copies.{copies_count}
-use Rattle.log_thirds.specs.Slots.{slot_of}
+use Rattle.log_thirds.specs.Slots.{last_slot}
 use Rattle.log_thirds.proofs.RunLaws.{calm_runs}
 use Rattle.fsd_files.specs.Scrub.{ReadsDamaged}
 use Rattle.twin_home.specs.Heal.{Mends, Heals, Healed, HealsRoots}
 use Rattle.fsd_sound.proofs.CommuteLaws.{with_same, with_other}
 use Rattle.fsd_sound.specs.declared.fault.MountFault.{MountFault}
 use Rattle.fsd_sound.specs.declared.fault.MountFault.TheVariants.{Lost}
-use Rattle.mount_recover.specs.Finding.{IsExcuse, IsFound}
+use Rattle.mount_recover.specs.Finding.{IsExcuse, HasSeenLog}
 use Rattle.mount_recover.specs.Lost.{StandAsShown}
 use Rattle.fsd_sound.specs.Lost.{LosesShown}
 use Rattle.mount_recover.specs.Mending.{KnowsLog, StaysBut}
@@ -76,20 +76,20 @@ gives_pages l log i same third indexed =
     by_own : IsIndexed log (records_by log.layout i log.anchor) → GivesPages log (records_by log.layout i log.anchor) i
     by_own indexed = record {
       indexed = indexed;
-      inside = λ page. if_some (λ slot. (slot.place < 16 + 3 * log.layout.third) × (slot.copy < 16 + 3 * log.layout.third)) (slot_of log.layout log.anchor.third page (records_by log.layout i log.anchor))
+      inside = λ page. if_some (λ slot. (slot.place < 16 + 3 * log.layout.third) × (slot.copy < 16 + 3 * log.layout.third)) (last_slot log.layout log.anchor.third page (records_by log.layout i log.anchor))
           (λ slot is. slot_inside log.layout log.anchor.third page (records_by log.layout i log.anchor) slot (scan_records log.layout i log.anchor third) is);
-      gives = λ page. if_some (λ slot. GivesSlot page log.anchor.epoch (reads i) slot (last_image page (records_by log.layout i log.anchor))) (slot_of log.layout log.anchor.third page (records_by log.layout i log.anchor))
+      gives = λ page. if_some (λ slot. GivesSlot page log.anchor.epoch (reads i) slot (last_image page (records_by log.layout i log.anchor))) (last_slot log.layout log.anchor.third page (records_by log.layout i log.anchor))
           (λ slot is. subst (λ (r : Reader). GivesSlot page log.anchor.epoch r slot (last_image page (records_by log.layout i log.anchor))) (sym (reads_bytes i)) (scan_gives log.layout i log.anchor page slot third is));
     }
 
 -- what the slots gave they give, where each record is as it was but maybe for copies of its images
 pub pages_again : (l : Layout) (log : LogValue) (i j : Image) (records : List Placed) → log.layout ≡ l → AllByRecursion (RecordAgain l log.anchor.third (bytes_at i) (bytes_at j)) records → GivesPages log records i → GivesPages log records j
-pages_again l log i j records same all given = record { indexed = given.indexed; inside = given.inside; gives = λ page. by_slot page (slot_of log.layout log.anchor.third page records) refl (given.gives page) }
+pages_again l log i j records same all given = record { indexed = given.indexed; inside = given.inside; gives = λ page. by_slot page (last_slot log.layout log.anchor.third page records) refl (given.gives page) }
   where
     again : AllByRecursion (RecordAgain log.layout log.anchor.third (bytes_at i) (bytes_at j)) records
     again = subst (λ (k : Layout). AllByRecursion (RecordAgain k log.anchor.third (bytes_at i) (bytes_at j)) records) (sym same) all
 
-    by_slot : (page : ℕ) (o : Option Slot) → slot_of log.layout log.anchor.third page records ≡ o → IfSome o (λ slot. GivesSlot page log.anchor.epoch (reads i) slot (last_image page records))
+    by_slot : (page : ℕ) (o : Option Slot) → last_slot log.layout log.anchor.third page records ≡ o → IfSome o (λ slot. GivesSlot page log.anchor.epoch (reads i) slot (last_image page records))
         → IfSome o (λ slot. GivesSlot page log.anchor.epoch (reads j) slot (last_image page records))
     by_slot page None is gives = tt
     by_slot page (Some slot) is gives =
@@ -99,7 +99,7 @@ pages_again l log i j records same all given = record { indexed = given.indexed;
 
 -- they give it of each image with the same log
 pub given_on : (l : Layout) (log : LogValue) (same : log.layout ≡ l) (records : List Placed) (i j : Image) (page : ℕ) → ((s : ℕ) → s < 16 + 3 * l.third → sector_at j s ≡ sector_at i s) → GivesPages log records i → GivesLast log records page j
-given_on l log same records i j page front given = by_slot (slot_of log.layout log.anchor.third page records) (given.inside page) (given.gives page)
+given_on l log same records i j page front given = by_slot (last_slot log.layout log.anchor.third page records) (given.inside page) (given.gives page)
   where
     reads_same : (s : ℕ) → s < 16 + 3 * log.layout.third → reads j s ≡ reads i s
     reads_same s within = let third : log.layout.third ≡ l.third = ap (λ (k : Layout). k.third) same in ap bytes_of (front s (omega (arith, within, third)))
@@ -112,13 +112,13 @@ given_on l log same records i j page front given = by_slot (slot_of log.layout l
 -- ---- one page
 
 pub home_same : (l : Layout) (i j : Image) (page : ℕ) → sector_at j (home_a l page) ≡ sector_at i (home_a l page) → sector_at j (home_b l page) ≡ sector_at i (home_b l page) → home_of l j page ≡ home_of l i page
-home_same l i j page first second = λ x. either_copy (bytes_of (first x)) (bytes_of (second x))
+home_same l i j page first second = λ x. first_whole (bytes_of (first x)) (bytes_of (second x))
 
 pub first_home : (l : Layout) (i : Image) (page : ℕ) (bytes : List ℕ) → sector_at i (home_a l page) ≡ Whole bytes → home_of l i page ≡ Some bytes
-first_home l i page bytes is = ap (λ (s : Sector). either_copy (bytes_of s) (bytes_at i (home_b l page))) is
+first_home l i page bytes is = ap (λ (s : Sector). first_whole (bytes_of s) (bytes_at i (home_b l page))) is
 
 second_home : (l : Layout) (i : Image) (page : ℕ) (bytes : List ℕ) → sector_at i (home_a l page) ≡ Damaged → sector_at i (home_b l page) ≡ Whole bytes → home_of l i page ≡ Some bytes
-second_home l i page bytes hurt is = ap (λ (s : Sector). either_copy (bytes_of s) (bytes_at i (home_b l page))) hurt ∙ ap bytes_of is
+second_home l i page bytes hurt is = ap (λ (s : Sector). first_whole (bytes_of s) (bytes_at i (home_b l page))) hurt ∙ ap bytes_of is
 
 module _ (l : Layout) (page : ℕ) (lt : page < l.pages) (old new : Moment) (still : IsCalmNow old) (long : home_b l l.pages ≤ length old.image) where
   may_damaged : (s : ℕ) → ReadsDamaged old s → sector_at old.image s ≡ Damaged
@@ -162,7 +162,7 @@ module _ (l : Layout) (page : ℕ) (lt : page < l.pages) (old new : Moment) (sti
       by_way : Heals (home_a l page) (home_b l page) old new → sector_at new.image (home_a l page) ≡ Damaged → sector_at new.image (home_b l page) ≡ Damaged → home_of l old.image page ≡ None
       by_way (inl holds) first second =
           let is : new.image ≡ old.image = still_holds old old.image new still holds in
-          ap (λ (i : Image). home_of l i page) (sym is) ∙ λ x. either_copy (bytes_of (first x)) (bytes_of (second x))
+          ap (λ (i : Image). home_of l i page) (sym is) ∙ λ x. first_whole (bytes_of (first x)) (bytes_of (second x))
       by_way (inr (inl mends)) first second = absurd (mends_whole (home_a l page) (home_b l page) (inl (omega (arith, lt))) mends second)
       by_way (inr (inr mends)) first second = absurd (mends_whole (home_b l page) (home_a l page) (inr (omega (arith, lt))) mends first)
 
@@ -239,7 +239,7 @@ calm_on one two calm present next = record { present = subst (λ (o : Option Wea
 -- ---- the whole mount
 
 -- the calls of a mount of an image on which nothing wears, up to the homes
-module _ (sectors : ℕ) (l : Layout) (log : LogValue) (old one two : Moment) (calm : IsCalm old.windows) (wears : Wears old one) (is : IsFound sectors l log old one) where
+module _ (sectors : ℕ) (l : Layout) (log : LogValue) (old one two : Moment) (calm : IsCalm old.windows) (wears : Wears old one) (is : HasSeenLog sectors l log old one) where
   as_old : one.image ≡ old.image
   as_old = calm_worn old.windows old.image one.image calm wears.image
 
@@ -269,7 +269,7 @@ module _ (sectors : ℕ) (l : Layout) (log : LogValue) (old one two : Moment) (c
         let first : sector_at old.image 0 ≡ Damaged = ap (λ (i : Image). sector_at i 0) (sym as_old) ∙ sym (laid.rest 0 (inl (omega arith))) ∙ none.0 in
         let second : sector_at old.image 4 ≡ Damaged = ap (λ (i : Image). sector_at i 4) (sym as_old) ∙ sym (laid.rest 4 (inl (omega arith))) ∙ none.1 in
         let at : Sector → Option Layout = λ s. option_and_then (counted_root sectors) (option_and_then read_root (bytes_of s)) in
-        let nothing : root_of sectors old.image ≡ None = λ x. either_copy (at (first x)) (at (second x)) in
+        let nothing : root_of sectors old.image ≡ None = λ x. first_whole (at (first x)) (at (second x)) in
         absurd (cc (nothing, volume_old.root))
 
     pub loses_shown : (fault : MountFault) → LosesNone l (records_by l one.image log.anchor) two.image fault → LosesShown sectors old.image fault

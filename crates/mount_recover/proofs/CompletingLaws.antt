@@ -26,7 +26,7 @@ use Rattle.fsd_sound.proofs.WindowLaws.{open_is_weak}
 use Rattle.log_thirds.specs.Append.{IsIndexed, StandsInPart}
 use Rattle.log_thirds.specs.Copies.{copies_count, AreCopiesOf, AreLastCopies}
 use Rattle.log_thirds.specs.LogValue.{LogValue}
-use Rattle.fsd_sound.specs.Logged.{IsLogged, Follows}
+use Rattle.fsd_sound.specs.Logged.{IsLogged, KeepsLogged}
 use Rattle.fsd_sound.specs.Windows.{IsNarrow}
 use Rattle.fsd_sound.specs.Writes.{WritesAsMount, mount_writes}
 use Rattle.fsd_sound.proofs.CoverLaws.{ends_so, logged_still}
@@ -115,7 +115,7 @@ module _ (l : Layout) (windows : List WeakRun) (choices : List (List (List ℕ))
   long : 16 + 3 * l.third ≤ length seen.image
   long = let bounds = planned_bounds l planned in omega (arith, bounds.third_least, bounds.sectors_least, seen.shows.readable.roots.fits)
 
-  follows : (m : ℕ) → m ≤ copies_count log.copies → Follows l windows choices log.anchor seen.image (stand seen.image log.copies.place log.copies.bytes m)
+  follows : (m : ℕ) → m ≤ copies_count log.copies → KeepsLogged l windows choices log.anchor seen.image (stand seen.image log.copies.place log.copies.bytes m)
   follows m le = completing l small windows seen.apart choices seen.image seen.shows log.anchor seen.knows.taken long log.copies seen.knows.last m le
 
   weaker : (i j : Image) → IsWorn (open_damage old.windows) i j → IsWorn (weak_of windows) i j
@@ -176,7 +176,7 @@ module _ (l : Layout) (windows : List WeakRun) (choices : List (List (List ℕ))
     abbrev clean : Image
     clean = stand seen.image log.copies.place log.copies.bytes (copies_count log.copies)
 
-    at_clean : Follows l windows choices log.anchor seen.image clean
+    at_clean : KeepsLogged l windows choices log.anchor seen.image clean
     at_clean = follows (copies_count log.copies) (omega arith)
 
     last_has : HasLastCopies l log.anchor (weak_of windows) (records_by l clean log.anchor) clean

@@ -1,6 +1,6 @@
 -- What a mount tells as a fault.
 use Rattle.std.proofs.Common.{◌≡◌, ℕ, List, Result, Ok, Err, refl, sym, ap, subst, ◌∙◌, arith}
-use Rattle.std.specs.Prelude.{IfErr, IsErrAnd}
+use Rattle.std.specs.Prelude.{IfErr, IsErrAnd, MatchResult, OnOk}
 use Rattle.volume_layout.specs.declared.layout.Layout.{Layout}
 use Rattle.volume_layout.specs.Layout.{home_a, home_b}
 use Rattle.sector_disk.specs.declared.machine.LoadFault.{LoadFault}
@@ -18,6 +18,7 @@ use Rattle.fsd_sound.specs.declared.fault.MountFault.{MountFault}
 use Rattle.fsd_sound.specs.declared.fault.MountFault.TheVariants.{NotVolume, Device, Lost, NoAnchor, Unsound}
 use Rattle.log_thirds.specs.declared.fault.LogFault.{LogFault}
 use Rattle.log_thirds.specs.declared.fault.LogFault.TheVariants as log
+use Rattle.log_thirds.specs.declared.reading.ReadFault.TheVariants as read
 use Rattle.log_thirds.specs.Reading.{log_failed_at}
 use Rattle.mount_recover.specs.Finding.{IsExcuse, mount_fault_of}
 use Rattle.fsd_sound.specs.Lost.{AreHomes, LostIn}
@@ -76,6 +77,16 @@ pub handed_up : {T : Type 0} (P : MountFault → Type 0) (r : Result T MountFaul
 handed_up P (Ok x) fault is holds = tt
 handed_up P (Err told) fault is holds = subst P (sym is) holds
 
+-- what holds of the fault alone holds of the result that hands it up
+pub handed_so : {T : Type 0} (P : Result T MountFault → Type 0) (r : Result T MountFault) (fault : MountFault) → IsErrAnd r (λ told. told ≡ fault) → P (Err fault) → P r
+handed_so P (Ok x) fault is holds = absurd is
+handed_so P (Err told) fault is holds = subst (λ (f : MountFault). P (Err f)) (sym is) holds
+
+-- what is so at the end, and at each fault
+pub either_end : {T : Type 0} (P R : Type 0) (Q S : MountFault → Type 0) (r : Result T MountFault) → (P → R) → ((fault : MountFault) → Q fault → S fault) → OnOk r P → IfErr r Q → MatchResult r (λ _. R) S
+either_end P R Q S (Ok x) more told p q = more p
+either_end P R Q S (Err fault) more told p q = told fault q
+
 -- by the end: what holds of each value, and of each fault of which this is known
 pub by_end : {T : Type 0} (P : Result T MountFault → Type 0) (Q : MountFault → Type 0) (r : Result T MountFault) → ((x : T) → P (Ok x)) → ((fault : MountFault) → Q fault → P (Err fault)) → IfErr r Q → P r
 by_end P Q (Ok x) done failed known = done x
@@ -100,16 +111,16 @@ is_load (load.Device s) told is = subst IsLoadFault (sym is) tt
 is_load (load.Lost a b) told is = subst IsLoadFault (sym is) tt
 
 pub scan_told : (fault : LogFault) (told : MountFault) → told ≡ mount_fault_of fault → device_of_mount told ≡ log_failed_at fault
-scan_told (log.Device s) told is = ap device_of_mount is
-scan_told log.Memory told is = ap device_of_mount is
+scan_told (log.Read (read.Device s)) told is = ap device_of_mount is
+scan_told (log.Read read.Memory) told is = ap device_of_mount is
 scan_told log.NoAnchor told is = ap device_of_mount is
 scan_told log.WornOut told is = ap device_of_mount is
 
 -- ---- what a mount does not say
 
 pub scan_sound : (fault : LogFault) (told : MountFault) → told ≡ mount_fault_of fault → IsNotUnsound told
-scan_sound (log.Device s) told is = subst IsNotUnsound (sym is) tt
-scan_sound log.Memory told is = subst IsNotUnsound (sym is) tt
+scan_sound (log.Read (read.Device s)) told is = subst IsNotUnsound (sym is) tt
+scan_sound (log.Read read.Memory) told is = subst IsNotUnsound (sym is) tt
 scan_sound log.NoAnchor told is = subst IsNotUnsound (sym is) tt
 scan_sound log.WornOut told is = subst IsNotUnsound (sym is) tt
 

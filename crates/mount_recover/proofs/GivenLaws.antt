@@ -17,7 +17,7 @@ use Rattle.fsd_sound.specs.Shown.{scan_by, records_by}
 use Rattle.fsd_sound.proofs.LogPlaces.{IsRecord, start_in, scan_goes}
 use Rattle.log_thirds.specs.declared.slots.Slot.{Slot}
 use Rattle.log_thirds.specs.Images.{GivesSlot}
-use Rattle.log_thirds.specs.Slots.{slot_in, slot_at, slot_of}
+use Rattle.log_thirds.specs.Slots.{slot_in, slot_in_record, last_slot}
 use Rattle.log_thirds.proofs.ImageLaws.{no_last_image, last_image_read}
 
 -- ---- one slot
@@ -114,11 +114,11 @@ pub record RecordAgain (l : Layout) (third : ℕ) (old new : Reader) (r : Placed
   pub copy : (j : ℕ) → j < length r.entry.pages → (new (place_of l third r.at + 3 + (gap_of l) + length r.entry.pages + 1 + (gap_of l) + j) ≡ old (place_of l third r.at + 3 + (gap_of l) + length r.entry.pages + 1 + (gap_of l) + j))
       ⊎ (new (place_of l third r.at + 3 + (gap_of l) + length r.entry.pages + 1 + (gap_of l) + j) ≡ Some (get_or r.entry.images j []))
 
-pub last_again : (l : Layout) (third page : ℕ) (old new : Reader) (rs : List Placed) (slot : Slot) → AllByRecursion (RecordAgain l third old new) rs → slot_of l third page rs ≡ Some slot → SlotAgain old new slot (last_image page rs)
+pub last_again : (l : Layout) (third page : ℕ) (old new : Reader) (rs : List Placed) (slot : Slot) → AllByRecursion (RecordAgain l third old new) rs → last_slot l third page rs ≡ Some slot → SlotAgain old new slot (last_image page rs)
 last_again l third page old new [] slot all is = absurd (cc (is))
-last_again l third page old new (r ∷ rs) slot all is = by_rest (λ e. last_again l third page old new rs slot all.1 e) (slot_of l third page rs) refl is
+last_again l third page old new (r ∷ rs) slot all is = by_rest (λ e. last_again l third page old new rs slot all.1 e) (last_slot l third page rs) refl is
   where
-    by_rest : (slot_of l third page rs ≡ Some slot → SlotAgain old new slot (last_image page rs)) → (o : Option Slot) → slot_of l third page rs ≡ o → option_or o (slot_at l third page r) ≡ Some slot
+    by_rest : (last_slot l third page rs ≡ Some slot → SlotAgain old new slot (last_image page rs)) → (o : Option Slot) → last_slot l third page rs ≡ o → option_or o (slot_in_record l third page r) ≡ Some slot
         → SlotAgain old new slot (option_or (last_image page rs) (image_in page r.entry.pages r.entry.images))
     by_rest later (Some s) is1 e =
         let rest = later (is1 ∙ e) in
@@ -128,11 +128,11 @@ last_again l third page old new (r ∷ rs) slot all is = by_rest (λ e. last_aga
         record { image = one.image; is = λ i. option_or (no_last_image l third page rs is1 i) (one.is i); place = one.place; copy = one.copy }
 
 -- a page's slot lies in the log
-pub slot_inside : (l : Layout) (third page : ℕ) (rs : List Placed) (slot : Slot) → AllByRecursion (IsRecord l third) rs → slot_of l third page rs ≡ Some slot → (slot.place < 16 + 3 * l.third) × (slot.copy < 16 + 3 * l.third)
+pub slot_inside : (l : Layout) (third page : ℕ) (rs : List Placed) (slot : Slot) → AllByRecursion (IsRecord l third) rs → last_slot l third page rs ≡ Some slot → (slot.place < 16 + 3 * l.third) × (slot.copy < 16 + 3 * l.third)
 slot_inside l third page [] slot are is = absurd (cc (is))
-slot_inside l third page (r ∷ rs) slot are is = by_rest (λ e. slot_inside l third page rs slot are.1 e) (slot_of l third page rs) refl is
+slot_inside l third page (r ∷ rs) slot are is = by_rest (λ e. slot_inside l third page rs slot are.1 e) (last_slot l third page rs) refl is
   where
-    by_rest : (slot_of l third page rs ≡ Some slot → (slot.place < 16 + 3 * l.third) × (slot.copy < 16 + 3 * l.third)) → (o : Option Slot) → slot_of l third page rs ≡ o → option_or o (slot_at l third page r) ≡ Some slot
+    by_rest : (last_slot l third page rs ≡ Some slot → (slot.place < 16 + 3 * l.third) × (slot.copy < 16 + 3 * l.third)) → (o : Option Slot) → last_slot l third page rs ≡ o → option_or o (slot_in_record l third page r) ≡ Some slot
         → (slot.place < 16 + 3 * l.third) × (slot.copy < 16 + 3 * l.third)
     by_rest later (Some s) is1 e = later (is1 ∙ e)
     by_rest later None is1 e =
@@ -142,6 +142,6 @@ slot_inside l third page (r ∷ rs) slot are is = by_rest (λ e. slot_inside l t
 -- ---- of an image
 
 -- the slots of its own records give their images
-pub scan_gives : (l : Layout) (i : Image) (a : Anchor) (page : ℕ) (slot : Slot) → a.third ≤ 2 → slot_of l a.third page (records_by l i a) ≡ Some slot → GivesSlot page a.epoch (bytes_at i) slot (last_image page (records_by l i a))
+pub scan_gives : (l : Layout) (i : Image) (a : Anchor) (page : ℕ) (slot : Slot) → a.third ≤ 2 → last_slot l a.third page (records_by l i a) ≡ Some slot → GivesSlot page a.epoch (bytes_at i) slot (last_image page (records_by l i a))
 scan_gives l i a page slot third is =
     last_image_read l a.epoch a.third page third (bytes_at i) (start l a.first) (records_by l i a) (scan_by l i a).head slot (start_in l a.first) (scan_goes l a.epoch a.first (tape l a.third (bytes_at i))) is

@@ -15,7 +15,7 @@ use Rattle.fsd_sound.specs.Homes.{HasBothHomes, HasSome}
 use Rattle.twin_home.specs.Heal.{Healed}
 use Rattle.log_thirds.specs.LogValue.{LogValue}
 use Rattle.log_thirds.specs.declared.slots.Slot.{Slot}
-use Rattle.mount_recover.specs.Mending.{AreHomed, IsHome, KeepsBut, LacksPage, StaysBut, logged_count, one_if_some}
+use Rattle.mount_recover.specs.Mending.{AreHomed, IsHomeOf, KeepsBut, LacksPage, StaysBut, logged_count, one_if_some}
 use Rattle.mount_recover.proofs.MendingLaws.{here_or, home_from, home_other, home_same_page}
 use Rattle.mount_recover.proofs.MountLaws.{open_settled}
 
@@ -61,7 +61,7 @@ module _ (l : Layout) (log : LogValue) where
   pub homed_none : (a : ℕ) → a ≡ home_a l 0 → (now : Moment) → AreHomed l log a 0 now
   homed_none a is now = record { written = λ page s within has home before. absurd (home_from l page s home (omega (arith, before, is))); healed = λ page lt. absurd (omega (arith, lt)) }
 
-  pub homed_further : (end to n : ℕ) (now : Moment) → ((page s : ℕ) → page < l.pages → IsHome l page s → s < to → s < end) → AreHomed l log end n now → AreHomed l log to n now
+  pub homed_further : (end to n : ℕ) (now : Moment) → ((page s : ℕ) → page < l.pages → IsHomeOf l page s → s < to → s < end) → AreHomed l log end n now → AreHomed l log to n now
   homed_further end to n now before at = record { written = λ page s within has home lt. at.written page s within has home (before page s within home lt); healed = at.healed }
 
   -- a home of a page was written
@@ -74,11 +74,11 @@ module _ (l : Layout) (log : LogValue) where
   }
 
   -- the log does not have the page
-  pub homed_skip : (page : ℕ) → page < l.pages → (place : ℕ) → IsHome l page place → LacksPage log page → (old new : Moment) → KeepsBut place place old new → AreHomed l log place 0 old → AreHomed l log (place + 1) 0 new
+  pub homed_skip : (page : ℕ) → page < l.pages → (place : ℕ) → IsHomeOf l page place → LacksPage log page → (old new : Moment) → KeepsBut place place old new → AreHomed l log place 0 old → AreHomed l log (place + 1) 0 new
   homed_skip page lt place home lacks old new but at = record {
     written = λ p s within has at_home before. ⊎_elim
         (λ less. let other : s ≢ place = λ is. omega (arith, is, less) in some_on old new place place s other other but (at.written p s within has at_home less))
-        (λ is. absurd (has (subst (LacksPage log) (sym (home_same_page l p page place within lt (subst (IsHome l p) is at_home) home)) lacks))) (here_or s place before);
+        (λ is. absurd (has (subst (LacksPage log) (sym (home_same_page l p page place within lt (subst (IsHomeOf l p) is at_home) home)) lacks))) (here_or s place before);
     healed = λ page lt. absurd (omega (arith, lt));
   }
 

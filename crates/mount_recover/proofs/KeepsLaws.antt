@@ -9,7 +9,7 @@ use Rattle.fsd_files.specs.Disk.{Image, SectorWorn}
 use Rattle.fsd_sound.proofs.WritesLaws.{beside, elsewhere}
 use Rattle.twin_home.specs.Home.{WritesPart}
 use Rattle.twin_home.specs.Heal.{Heals, HealsRoots}
-use Rattle.mount_recover.specs.Mending.{IsHome, Keeps, KeepsBut}
+use Rattle.mount_recover.specs.Mending.{IsHomeOf, KeepsUnwritten, KeepsBut}
 use Rattle.mount_recover.proofs.MendingLaws.{not_home}
 
 -- ---- but for two sectors
@@ -55,10 +55,10 @@ but_read a b old new wears = record { windows = wears.windows; said = wears.said
 
 -- ---- but where a mount writes
 
-pub keeps_none : (l : Layout) (old : Moment) → Keeps l old old
+pub keeps_none : (l : Layout) (old : Moment) → KeepsUnwritten l old old
 keeps_none l old = record { windows = refl; said = refl; rest = λ s out. inl refl }
 
-pub keeps_on : (l : Layout) (a b c : Moment) → Keeps l a b → Keeps l b c → Keeps l a c
+pub keeps_on : (l : Layout) (a b c : Moment) → KeepsUnwritten l a b → KeepsUnwritten l b c → KeepsUnwritten l a c
 keeps_on l a b c first second = record {
   windows = second.windows ∙ first.windows;
   said = second.said ∙ first.said;
@@ -66,7 +66,7 @@ keeps_on l a b c first second = record {
       (subst (λ (w : Windows). SectorWorn (open_damage w s) (sector_at b.image s) (sector_at c.image s)) first.windows (second.rest s out));
 }
 
-pub keeps_page : (l : Layout) (page : ℕ) → page < l.pages → (old new : Moment) → KeepsBut (home_a l page) (home_b l page) old new → Keeps l old new
+pub keeps_page : (l : Layout) (page : ℕ) → page < l.pages → (old new : Moment) → KeepsBut (home_a l page) (home_b l page) old new → KeepsUnwritten l old new
 keeps_page l page lt old new but = record {
   windows = but.windows;
   said = but.said;
@@ -74,14 +74,14 @@ keeps_page l page lt old new but = record {
 }
 
 -- one home of it
-pub keeps_home : (l : Layout) (page : ℕ) → page < l.pages → (place : ℕ) → IsHome l page place → (old new : Moment) → KeepsBut place place old new → Keeps l old new
+pub keeps_home : (l : Layout) (page : ℕ) → page < l.pages → (place : ℕ) → IsHomeOf l page place → (old new : Moment) → KeepsBut place place old new → KeepsUnwritten l old new
 keeps_home l page lt place home old new but = record {
   windows = but.windows;
   said = but.said;
   rest = λ s out. let is = elsewhere l s out in let other = not_home l page place s home (is.home page lt) (is.home_copy page lt) in but.others s other other;
 }
 
-pub keeps_roots : (l : Layout) (old new : Moment) → KeepsBut 0 4 old new → Keeps l old new
+pub keeps_roots : (l : Layout) (old new : Moment) → KeepsBut 0 4 old new → KeepsUnwritten l old new
 keeps_roots l old new but = record {
   windows = but.windows;
   said = but.said;

@@ -31,38 +31,38 @@ use Rattle.fsd_sound.proofs.WritesLaws.{elsewhere}
 use Rattle.fsd_sound.proofs.MendLaws.{logged_shows, mended_shows, rooted_shows}
 use Rattle.fsd_sound.proofs.PagesLaws.{home_is, logged_is}
 use Rattle.fsd_sound.proofs.AlikeLaws.{each_same, records_same}
-use Rattle.mount_recover.specs.Mending.{IsHome, IsCompleted, IsMending, IsMended, SameElsewhere, Stays}
+use Rattle.mount_recover.specs.Mending.{IsHomeOf, IsCompleted, IsMending, IsMended, SameElsewhere, StaysShown}
 use Rattle.volume_layout.proofs.KindLaws.{gap_most}
 
 -- ---- homes
 
-pub home_from : (l : Layout) (page s : ℕ) → IsHome l page s → s < home_a l 0 → ⊥
+pub home_from : (l : Layout) (page s : ℕ) → IsHomeOf l page s → s < home_a l 0 → ⊥
 home_from l page s (inl a) before = omega (arith, a, before)
 home_from l page s (inr b) before = omega (arith, b, before)
 
 -- a home is one page's
-pub home_same_page : (l : Layout) (page n s : ℕ) → page < l.pages → n < l.pages → IsHome l page s → IsHome l n s → page ≡ n
+pub home_same_page : (l : Layout) (page n s : ℕ) → page < l.pages → n < l.pages → IsHomeOf l page s → IsHomeOf l n s → page ≡ n
 home_same_page l page n s within lt (inl a) (inl b) = omega (arith, a, b)
 home_same_page l page n s within lt (inl a) (inr b) = absurd (omega (arith, a, b, within, lt))
 home_same_page l page n s within lt (inr a) (inl b) = absurd (omega (arith, a, b, within, lt))
 home_same_page l page n s within lt (inr a) (inr b) = omega (arith, a, b)
 
 -- so another page's home is another sector
-pub home_other : (l : Layout) (page n s p : ℕ) → page < l.pages → n < l.pages → page ≢ n → IsHome l page p → IsHome l n s → p ≢ s
-home_other l page n s p within lt other at place same = other (home_same_page l page n s within lt (subst (IsHome l page) same at) place)
+pub home_other : (l : Layout) (page n s p : ℕ) → page < l.pages → n < l.pages → page ≢ n → IsHomeOf l page p → IsHomeOf l n s → p ≢ s
+home_other l page n s p within lt other at place same = other (home_same_page l page n s within lt (subst (IsHomeOf l page) same at) place)
 
 -- the homes of the pages follow each other
-pub home_next : (l : Layout) (start page : ℕ) → IsHome l 0 start → IsHome l page (start + page)
+pub home_next : (l : Layout) (start page : ℕ) → IsHomeOf l 0 start → IsHomeOf l page (start + page)
 home_next l start page (inl a) = inl (omega (arith, a))
 home_next l start page (inr b) = inr (omega (arith, b))
 
 -- between the first homes and the second lies no home
-pub no_home_between : (l : Layout) (a b page s : ℕ) → a ≡ home_a l 0 → b ≡ home_b l 0 → page < l.pages → IsHome l page s → s < b → s < a + l.pages
+pub no_home_between : (l : Layout) (a b page s : ℕ) → a ≡ home_a l 0 → b ≡ home_b l 0 → page < l.pages → IsHomeOf l page s → s < b → s < a + l.pages
 no_home_between l a b page s is_a is_b within (inl here) before = omega (arith, here, is_a, within)
 no_home_between l a b page s is_a is_b within (inr here) before = absurd (omega (arith, here, is_b, before))
 
 -- a home lies on the disk
-pub home_inside : (l : Layout) (page s : ℕ) → plan l.kind l.sectors l.third l.pages ≡ Ok l → page < l.pages → IsHome l page s → s < l.sectors
+pub home_inside : (l : Layout) (page s : ℕ) → plan l.kind l.sectors l.third l.pages ≡ Ok l → page < l.pages → IsHomeOf l page s → s < l.sectors
 home_inside l page s planned lt home = let bounds = planned_bounds l planned in ⊎_elim (λ a. omega (arith, a, lt, bounds.sectors_least)) (λ b. omega (arith, b, lt, bounds.sectors_least)) home
 
 -- what is written of a page is one sector
@@ -70,7 +70,7 @@ pub one_sector : (bytes : List ℕ) → length bytes ≡ 512 → length bytes / 
 one_sector bytes size = omega (arith, size)
 
 -- a sector that is no home of a page
-pub not_home : (l : Layout) (n s p : ℕ) → IsHome l n s → p ≢ home_a l n → p ≢ home_b l n → p ≢ s
+pub not_home : (l : Layout) (n s p : ℕ) → IsHomeOf l n s → p ≢ home_a l n → p ≢ home_b l n → p ≢ s
 not_home l n s p place a b same = ⊎_elim (λ here. a (same ∙ here)) (λ here. b (same ∙ here)) place
 
 -- what is before the next sector is before this one, or it is it
@@ -97,7 +97,7 @@ module _ (l : Layout) (windows : List WeakRun) (choices : List (List (List ℕ))
   pub weaker : (i j : Image) → IsWorn (open_damage first.windows) i j → IsWorn (weak_of windows) i j
   weaker i j w = open_is_weak first.windows windows i j c.ends w
 
-  pub stays_show : (left : Moment) → Stays l windows choices first left → ShowsPages l windows choices left.image
+  pub stays_show : (left : Moment) → StaysShown l windows choices first left → ShowsPages l windows choices left.image
   stays_show left at = shows_still l windows narrow choices at.image left.image (weaker at.image left.image at.holds.worn) at.shows
 
   begin : IsMending l windows choices log first c (home_a l 0) 0 first
@@ -117,7 +117,7 @@ module _ (l : Layout) (windows : List WeakRun) (choices : List (List (List ℕ))
   logged_same n lt bytes last = logged_is l c.clean log.anchor c.taken c.pages c.shown n lt bytes last
 
   -- how many pages are mended may be told otherwise
-  pub further : (end to n : ℕ) (now : Moment) → ((page s : ℕ) → page < l.pages → IsHome l page s → s < to → s < end) → IsMending l windows choices log first c end n now → IsMending l windows choices log first c to n now
+  pub further : (end to n : ℕ) (now : Moment) → ((page s : ℕ) → page < l.pages → IsHomeOf l page s → s < to → s < end) → IsMending l windows choices log first c end n now → IsMending l windows choices log first c to n now
   further end to n now before at = record {
     image = at.image;
     holds = at.holds;
@@ -155,7 +155,7 @@ module _ (l : Layout) (windows : List WeakRun) (choices : List (List (List ℕ))
       rest = at.rest;
     }
 
-    pub stays : (left : Moment) → Wears now left → Stays l windows choices first left
+    pub stays : (left : Moment) → Wears now left → StaysShown l windows choices first left
     stays left wears = record { image = at.image; holds = holds_wears first at.image now left at.holds wears; shows = at.shows; log = λ s from inside. at.front s inside; rest = at.rest }
 
     long : home_b l l.pages ≤ length at.image
@@ -169,7 +169,7 @@ module _ (l : Layout) (windows : List WeakRun) (choices : List (List (List ℕ))
 
     -- ---- of a page a home was written, and nothing else
 
-    module _ (page : ℕ) (lt : page < l.pages) (s : ℕ) (place : IsHome l page s) where
+    module _ (page : ℕ) (lt : page < l.pages) (s : ℕ) (place : IsHomeOf l page s) where
       record Part (e : Image) : Type 0 where
         size : length e ≡ length at.image
         shows : ShowsPages l windows choices e
@@ -195,7 +195,7 @@ module _ (l : Layout) (windows : List WeakRun) (choices : List (List (List ℕ))
       part_stood bytes size part (suc zero) once = subst Part (sym (stand_one at.image s bytes size)) part
       part_stood bytes size part (suc (suc k)) once = absurd (omega (arith, once))
 
-      part_stays : (e : Image) → Part e → (left : Moment) → Holds first e left → Stays l windows choices first left
+      part_stays : (e : Image) → Part e → (left : Moment) → Holds first e left → StaysShown l windows choices first left
       part_stays e part left holds = record {
         image = e;
         holds = holds;
@@ -205,7 +205,7 @@ module _ (l : Layout) (windows : List WeakRun) (choices : List (List (List ℕ))
       }
 
       -- another page's homes are as they were
-      part_home : (e : Image) → Part e → (p q : ℕ) → p < l.pages → p ≢ page → IsHome l p q → sector_at e q ≡ sector_at at.image q
+      part_home : (e : Image) → Part e → (p q : ℕ) → p < l.pages → p ≢ page → IsHomeOf l p q → sector_at e q ≡ sector_at at.image q
       part_home e part p q within other home = part.others q (home_other l p page s q within lt other home place)
 
       part_front : (e : Image) → Part e → (p : ℕ) → p < 16 + 3 * l.third → sector_at e p ≡ sector_at first.image p
@@ -220,7 +220,7 @@ module _ (l : Layout) (windows : List WeakRun) (choices : List (List (List ℕ))
         put_part : Part (with_sector at.image s bytes)
         put_part = part_on bytes (logged_shows l (weak_of windows) choices page s bytes lt place windows refl narrow at.image home_room.0 (at.logged page has) at.shows)
 
-        pub put_stays : (left : Moment) → WritesPart s bytes now left → Stays l windows choices first left
+        pub put_stays : (left : Moment) → WritesPart s bytes now left → StaysShown l windows choices first left
         put_stays left part = part_stays (stand at.image s bytes part.stood) (part_stood bytes size put_part part.stood part.within) left (holds_on first now left at.image s bytes part.stood at.holds part.holds)
 
         -- another page is one that the log does not have
@@ -239,7 +239,7 @@ module _ (l : Layout) (windows : List WeakRun) (choices : List (List (List ℕ))
               written = λ p q within logged home before. ⊎_elim
                   (λ less. put_part.others q (λ is. omega (arith, is, less)) ∙ at.written p q within logged home (omega (arith, less, here)))
                   (λ is.
-                  let page_is : p ≡ page = home_same_page l p page s within lt (subst (IsHome l p) is home) place in
+                  let page_is : p ≡ page = home_same_page l p page s within lt (subst (IsHomeOf l p) is home) place in
                   ap (sector_at (with_sector at.image s bytes)) is ∙ with_same at.image s bytes home_room.0 ∙ ap (λ (b : List ℕ). Whole b) same ∙ ap (λ (k : ℕ). Whole (get_or c.pages k [])) (sym page_is))
                   (here_or q s before);
               healed = λ p le within none. let old = at.healed p le within none in (
@@ -263,7 +263,7 @@ module _ (l : Layout) (windows : List WeakRun) (choices : List (List (List ℕ))
         logged = at.logged;
         written = λ p q within logged home before. ⊎_elim
             (λ less. at.written p q within logged home (omega (arith, less, here)))
-            (λ is. absurd (logged (ap (λ (k : ℕ). last_image k (records_by l c.clean log.anchor)) (home_same_page l p page s within lt (subst (IsHome l p) is home) place) ∙ none)))
+            (λ is. absurd (logged (ap (λ (k : ℕ). last_image k (records_by l c.clean log.anchor)) (home_same_page l p page s within lt (subst (IsHomeOf l p) is home) place) ∙ none)))
             (here_or q s before);
         healed = at.healed;
         front = at.front;
@@ -280,13 +280,13 @@ module _ (l : Layout) (windows : List WeakRun) (choices : List (List (List ℕ))
         mended_part : Part (with_sector at.image s bytes)
         mended_part = part_on bytes (mended_shows l windows narrow choices page s twin lt twins at.image bytes whole home_room.0 twin_room at.shows)
 
-    mends_stay : (page : ℕ) → page < l.pages → (place twin : ℕ) → IsHome l page place → AreTwins l page place twin → (left : Moment) → Mends place twin now left → Stays l windows choices first left
+    mends_stay : (page : ℕ) → page < l.pages → (place twin : ℕ) → IsHomeOf l page place → AreTwins l page place twin → (left : Moment) → Mends place twin now left → StaysShown l windows choices first left
     mends_stay page lt place twin home twins left mends =
         part_stays page lt place home (stand at.image place mends.bytes mends.part.stood)
         (part_stood page lt place home mends.bytes mends.long (mended_part page lt place home twin twins mends.bytes (whole_at twin mends.bytes mends.whole)) mends.part.stood mends.part.within) left
         (holds_on first now left at.image place mends.bytes mends.part.stood at.holds mends.part.holds)
 
-    pub heals_stay : (page : ℕ) → page < l.pages → (left : Moment) → Heals (home_a l page) (home_b l page) now left → Stays l windows choices first left
+    pub heals_stay : (page : ℕ) → page < l.pages → (left : Moment) → Heals (home_a l page) (home_b l page) now left → StaysShown l windows choices first left
     heals_stay page lt left (inl holds) = part_stays page lt (home_a l page) (inl refl) at.image (part_here page lt (home_a l page) (inl refl)) left (holds_same left holds)
     heals_stay page lt left (inr (inl mends)) = mends_stay page lt (home_a l page) (home_b l page) (inl refl) (inl (refl, refl)) left mends
     heals_stay page lt left (inr (inr mends)) = mends_stay page lt (home_b l page) (home_a l page) (inr refl) (inr (refl, refl)) left mends
@@ -314,7 +314,7 @@ module _ (l : Layout) (windows : List WeakRun) (choices : List (List (List ℕ))
           (⊎_elim (λ a. inl (worn_whole (weak_of windows) c.clean first.image (home_a l n) bytes c.worn (sym same.0 ∙ a))) (λ b. inr (worn_whole (weak_of windows) c.clean first.image (home_b l n) bytes c.worn (sym same.1 ∙ b))) stands)
 
       -- one home was written at most, and both have the page
-      healed_next : (s : ℕ) (place : IsHome l n s) (e : Image) → Part n lt s place e → (new : Moment) → Holds first e new → IsAtHome l e n (get_or c.pages n []) → IsMending l windows choices log first c end (n + 1) new
+      healed_next : (s : ℕ) (place : IsHomeOf l n s) (e : Image) → Part n lt s place e → (new : Moment) → Holds first e new → IsAtHome l e n (get_or c.pages n []) → IsMending l windows choices log first c end (n + 1) new
       healed_next s place e part new holds home = record {
         image = e;
         holds = holds;
@@ -337,14 +337,14 @@ module _ (l : Layout) (windows : List WeakRun) (choices : List (List (List ℕ))
         rest = part_rest n lt s place e part;
       }
 
-      mended_next : (place twin : ℕ) → IsHome l n place → (twins : AreTwins l n place twin) (new : Moment) → Mended place twin now new → IsMending l windows choices log first c end (n + 1) new
+      mended_next : (place twin : ℕ) → IsHomeOf l n place → (twins : AreTwins l n place twin) (new : Moment) → Mended place twin now new → IsMending l windows choices log first c end (n + 1) new
       mended_next place twin at_home twins new mended =
           let whole = whole_at twin mended.bytes mended.whole in
           let holds : Holds first (stand at.image place mended.bytes 1) new = holds_on first now new at.image place mended.bytes 1 at.holds mended.stands in
           healed_next place at_home (with_sector at.image place mended.bytes) (mended_part n lt place at_home twin twins mended.bytes whole) new (subst (λ (i : Image). Holds first i new) (stand_one at.image place mended.bytes mended.long) holds)
           (by_twins place twin mended.bytes at_home whole twins)
         where
-          by_twins : (place twin : ℕ) (bytes : List ℕ) → IsHome l n place → sector_at at.image twin ≡ Whole bytes → AreTwins l n place twin → IsAtHome l (with_sector at.image place bytes) n (get_or c.pages n [])
+          by_twins : (place twin : ℕ) (bytes : List ℕ) → IsHomeOf l n place → sector_at at.image twin ≡ Whole bytes → AreTwins l n place twin → IsAtHome l (with_sector at.image place bytes) n (get_or c.pages n [])
           by_twins place twin bytes at_home whole (inl is) =
               let here : sector_at at.image (home_b l n) ≡ Whole bytes = ap (sector_at at.image) (sym is.1) ∙ whole in
               let same : bytes ≡ get_or c.pages n [] = home_bytes bytes (inr here) in
@@ -409,7 +409,7 @@ module _ (l : Layout) (windows : List WeakRun) (choices : List (List (List ℕ))
   rooted_two : (j k : ℕ) → j ≤ 1 → k ≤ 1 → Rooted (stand (stand at.image 0 (root_bytes l) j) 4 (root_bytes l) k)
   rooted_two j k once twice = rooted_some (stand at.image 0 (root_bytes l) j) (rooted_some at.image rooted_here 0 (inl refl) j once) 4 (inr refl) k twice
 
-  pub roots_stay : (left : Moment) → HealsRoots (root_bytes l) now left → Stays l windows choices first left
+  pub roots_stay : (left : Moment) → HealsRoots (root_bytes l) now left → StaysShown l windows choices first left
   roots_stay left roots =
       let is = rooted_two roots.first roots.second roots.once roots.once_more in
       record {

@@ -21,7 +21,7 @@ use Rattle.sector_disk.proofs.Damage.{lost_as}
 use Rattle.sector_disk.proofs.Wear.{worn_refl, worn_trans, worn_twice}
 use Rattle.fsd_log.specs.Scan.{Placed, place_of, start}
 use Rattle.fsd_log.proofs.PlaceLaws.{place_inside, place_from}
-use Rattle.fsd_files.specs.Disk.{Image, Sectors, SectorWorn, bytes_of, either_copy}
+use Rattle.fsd_files.specs.Disk.{Image, Sectors, SectorWorn, bytes_of, first_whole}
 use Rattle.fsd_sound.specs.Anchors.{anchor_of}
 use Rattle.fsd_sound.specs.Laid.{AllStand}
 use Rattle.fsd_sound.specs.Roots.{counted_root, root_at, root_of}
@@ -40,10 +40,10 @@ use Rattle.fsd_sound.specs.Windows.{IsNarrow, IsApart}
 use Rattle.fsd_sound.specs.Writes.{KeepsElsewhere, WritesAsMount}
 use Rattle.fsd_sound.specs.declared.fault.MountFault.{MountFault}
 use Rattle.fsd_sound.specs.declared.fault.MountFault.TheVariants.{NotVolume, Device, Memory, Lost, NoAnchor, Unsound}
-use Rattle.mount_recover.specs.Finding.{IsFound, NotFoundFor, IsNotFound, IsExcuse}
+use Rattle.mount_recover.specs.Finding.{HasSeenLog, NotFoundFor, IsNotFound, IsExcuse}
 use Rattle.fsd_sound.specs.Lost.{AreHomes, AreLoggedOn, AreHomesOn, AreCopiesOn, LosesShown, LostIn}
 use Rattle.fsd_sound.specs.Mounting.{HasRoot, last_epoch}
-use Rattle.mount_recover.specs.Mending.{IsLoadFault, AreOfAll, StaysElsewhere, Keeps, IsSeen, Completed, Stays, Settled, Begins}
+use Rattle.mount_recover.specs.Mending.{IsLoadFault, AreOfAll, StaysElsewhere, KeepsUnwritten, IsSeen, Completed, StaysShown, HasSettled, StaysOrSettles}
 use Rattle.log_thirds.specs.Anchoring.{in_next_epoch}
 use Rattle.log_thirds.proofs.SlotLaws.{no_records}
 use Rattle.mount_recover.specs.Recover.{IsFreshLog, IsRefusedFor, ShowsVolume}
@@ -87,10 +87,10 @@ module _ (l : Layout) (sectors : ℕ) (windows : List WeakRun) (choices : List (
           let none : root_at sectors i 0 ≡ None = ap (λ (x : Sector). option_and_then (counted_root sectors) (option_and_then read_root (bytes_of x))) is in
           let second : IsRootAt l i 4 = ⊎_elim (λ first. absurd (not_damaged (sector_at i 0) first.0 first.1 is)) (λ there. there) shows.readable.roots.some in
           let found = counts 4 second.0 second.1 second.2 (λ says. inr says) in
-          record { layout = found.0; said = found.1; root = ap (λ (r : Option Layout). either_copy r (root_at sectors i 4)) none ∙ found.2 }
+          record { layout = found.0; said = found.1; root = ap (λ (r : Option Layout). first_whole r (root_at sectors i 4)) none ∙ found.2 }
       by_sector (Whole bytes) is =
           let found = counts 0 bytes is (shows.readable.roots.first bytes is) (λ says. inl says) in
-          record { layout = found.0; said = found.1; root = ap (λ (r : Option Layout). either_copy r (root_at sectors i 4)) found.2 }
+          record { layout = found.0; said = found.1; root = ap (λ (r : Option Layout). first_whole r (root_at sectors i 4)) found.2 }
 
 some_same : (x y : Layout) → Some x ≡ Some y → x ≡ y
 some_same x y e = cc e
@@ -163,7 +163,7 @@ module _ (sectors : ℕ) (l : Layout) (windows : List WeakRun) (choices : List (
       by_fault (Unsound s) why = why
       by_fault other why = tt
 
-  module _ (one : Moment) (wears : Wears old one) (found : Layout) (log : LogValue) (is : IsFound sectors found log old one) where
+  module _ (one : Moment) (wears : Wears old one) (found : Layout) (log : LogValue) (is : HasSeenLog sectors found log old one) where
     -- the layout that was found is one that the image says
     pub found_said : IsSaid l old.image found
     found_said =
@@ -180,7 +180,7 @@ module _ (sectors : ℕ) (l : Layout) (windows : List WeakRun) (choices : List (
     }
 
   -- the log that was found, of the layout that is shown
-  module _ (one : Moment) (wears : Wears old one) (log : LogValue) (is : IsFound sectors l log old one) where
+  module _ (one : Moment) (wears : Wears old one) (log : LogValue) (is : HasSeenLog sectors l log old one) where
     pub is_seen : IsSeen l windows choices log one
     is_seen = record {
       image = is.seen;
@@ -226,7 +226,7 @@ module _ (sectors : ℕ) (l : Layout) (windows : List WeakRun) (choices : List (
       rest_two : (left : Moment) → WritesAsMount l (weak_of windows) two left → WritesAsMount l (weak_of windows) old left
       rest_two left on s out = from_one s (sector_at left.image s) (worn_twice (weak_of windows s) (sector_at one.image s) (sector_at two.image s) (sector_at left.image s) (done.rest s out) (on s out))
 
-      pub stays_replays : (left : Moment) → Stays l windows choices two left → Replays l windows choices old left
+      pub stays_replays : (left : Moment) → StaysShown l windows choices two left → Replays l windows choices old left
       stays_replays left at =
           let worn : IsWorn (weak_of windows) at.image left.image = open_is_weak two.windows windows at.image left.image done.is.ends at.holds.worn in
           record {
@@ -239,10 +239,10 @@ module _ (sectors : ℕ) (l : Layout) (windows : List WeakRun) (choices : List (
             said = at.holds.said ∙ done.said ∙ wears.said;
           }
 
-      settled_replays : (left : Moment) → Settled l windows choices two left → Replays l windows choices old left
+      settled_replays : (left : Moment) → HasSettled l windows choices two left → Replays l windows choices old left
       settled_replays left at = record { stage = inr at.after; order = inr (in_order left at.log); rest = rest_two left at.rest; said = at.said ∙ done.said ∙ wears.said }
 
-      pub begins_replays : (left : Moment) → Begins l windows choices two left → Replays l windows choices old left
+      pub begins_replays : (left : Moment) → StaysOrSettles l windows choices two left → Replays l windows choices old left
       begins_replays left (inl at) = stays_replays left at
       begins_replays left (inr at) = settled_replays left at
 
@@ -257,7 +257,7 @@ pub none_shown : (sectors : ℕ) (image : Image) (old : Moment) (fault : MountFa
 none_shown sectors image old (Lost a b) not = absurd not.why
 none_shown sectors image old other not = tt
 
-module _ (sectors : ℕ) (l : Layout) (log : LogValue) (old one : Moment) (same : log.layout ≡ l) (root : HasRoot sectors old.image l) (is : IsFound sectors l log old one) where
+module _ (sectors : ℕ) (l : Layout) (log : LogValue) (old one : Moment) (same : log.layout ≡ l) (root : HasRoot sectors old.image l) (is : HasSeenLog sectors l log old one) where
   as_old : IsCalm old.windows → is.seen ≡ old.image
   as_old calm = calm_worn old.windows old.image is.seen calm is.from
 
@@ -292,7 +292,7 @@ module _ (sectors : ℕ) (l : Layout) (log : LogValue) (old one : Moment) (same 
 
 -- ---- why it is refused
 
-pub mend_refused : (sectors : ℕ) (l : Layout) (log : LogValue) (old one : Moment) → log.anchor.epoch < last_epoch → IsFound sectors l log old one → (fault : MountFault) → IsLoadFault fault → IsRefusedFor sectors fault old
+pub mend_refused : (sectors : ℕ) (l : Layout) (log : LogValue) (old one : Moment) → log.anchor.epoch < last_epoch → HasSeenLog sectors l log old one → (fault : MountFault) → IsLoadFault fault → IsRefusedFor sectors fault old
 mend_refused sectors l log old one fits is (Lost a b) cause = record { seen = is.seen; from = is.from; why = record { layout = l; anchor = log.anchor; found = record { root = is.root; anchor = is.knows.taken }; epoch = fits } }
 mend_refused sectors l log old one fits is (Device s) cause = record { seen = is.seen; from = is.from; why = tt }
 mend_refused sectors l log old one fits is Memory cause = record { seen = is.seen; from = is.from; why = tt }
@@ -330,7 +330,7 @@ open_settled present None some s hurt = absurd (cc some)
 open_settled None (Some run) some s hurt = hurt
 open_settled (Some w) (Some run) some s hurt = (and_parts (in_run w s) (in_run run s) hurt).1
 
-rest_through : (l : Layout) (old one two three new : Moment) → Wears old one → StaysElsewhere l one two → Keeps l two three → StaysElsewhere l three new → ((s : ℕ) → IsTrue (open_damage three.windows s) → IsTrue (open_damage new.windows s)) → KeepsElsewhere l old new
+rest_through : (l : Layout) (old one two three new : Moment) → Wears old one → StaysElsewhere l one two → KeepsUnwritten l two three → StaysElsewhere l three new → ((s : ℕ) → IsTrue (open_damage three.windows s) → IsTrue (open_damage new.windows s)) → KeepsElsewhere l old new
 rest_through l old one two three new wears first second third in_new s out =
     let both : Bool = open_damage old.windows s || open_damage new.windows s in
     let to_one : SectorWorn (open_damage old.windows s || open_damage new.windows s) (sector_at old.image s) (sector_at one.image s) =
@@ -345,12 +345,12 @@ rest_through l old one two three new wears first second third in_new s out =
     worn_twice both (sector_at old.image s) (sector_at three.image s) (sector_at new.image s)
     (worn_twice both (sector_at old.image s) (sector_at two.image s) (sector_at three.image s) (worn_twice both (sector_at old.image s) (sector_at one.image s) (sector_at two.image s) to_one to_two) to_three) to_new
 
-pub rest_kept : (l : Layout) (old one two three new : Moment) → Wears old one → StaysElsewhere l one two → Keeps l two three → StaysElsewhere l three new → IsSome two.windows.next → new.windows ≡ settled three.windows.present three.windows.next → KeepsElsewhere l old new
+pub rest_kept : (l : Layout) (old one two three new : Moment) → Wears old one → StaysElsewhere l one two → KeepsUnwritten l two three → StaysElsewhere l three new → IsSome two.windows.next → new.windows ≡ settled three.windows.present three.windows.next → KeepsElsewhere l old new
 rest_kept l old one two three new wears first second third some is =
     rest_through l old one two three new wears first second third
     (λ s hurt. subst (λ (w : Windows). IsTrue (open_damage w s)) (sym is) (open_settled three.windows.present three.windows.next (subst (λ (w : Windows). IsSome w.next) (sym second.windows) some) s hurt))
 
 -- so it is where the windows stayed, too
-pub rest_left : (l : Layout) (old one two three new : Moment) → Wears old one → StaysElsewhere l one two → Keeps l two three → StaysElsewhere l three new → new.windows ≡ three.windows → KeepsElsewhere l old new
+pub rest_left : (l : Layout) (old one two three new : Moment) → Wears old one → StaysElsewhere l one two → KeepsUnwritten l two three → StaysElsewhere l three new → new.windows ≡ three.windows → KeepsElsewhere l old new
 rest_left l old one two three new wears first second third is =
     rest_through l old one two three new wears first second third (λ s hurt. subst (λ (w : Windows). IsTrue (open_damage w s)) (sym is) hurt)

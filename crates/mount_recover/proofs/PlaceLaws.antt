@@ -8,7 +8,7 @@ use Rattle.fsd_log.specs.Places.{last_places, places_in}
 use Rattle.fsd_log.specs.Scan.{Placed, place_of}
 use Rattle.log_thirds.specs.declared.slots.Slot.{Slot}
 use Rattle.log_thirds.specs.Images.{LiesAt}
-use Rattle.log_thirds.specs.Slots.{slot_at, slot_in, slot_of}
+use Rattle.log_thirds.specs.Slots.{slot_in_record, slot_in, last_slot}
 
 abbrev places_of : Slot → ℕ × ℕ
 places_of s = (s.place, s.copy)
@@ -26,13 +26,13 @@ either : (o p : Option Slot) → option_map places_of (option_or o p) ≡ option
 either None p = refl
 either (Some s) p = refl
 
-in_records : (l : Shape) (third page : ℕ) (records : List Placed) → option_map places_of (slot_of l third page records) ≡ last_places l third page records
+in_records : (l : Shape) (third page : ℕ) (records : List Placed) → option_map places_of (last_slot l third page records) ≡ last_places l third page records
 in_records l third page [] = refl
 in_records l third page (r ∷ records) =
     let start = place_of l third r.at + 3 + (gap_of l) in
-    either (slot_of l third page records) (slot_at l third page r)
-    ∙ ap (λ (o : Option (ℕ × ℕ)). option_or o (option_map places_of (slot_at l third page r))) (in_records l third page records)
+    either (last_slot l third page records) (slot_in_record l third page r)
+    ∙ ap (λ (o : Option (ℕ × ℕ)). option_or o (option_map places_of (slot_in_record l third page r))) (in_records l third page records)
     ∙ ap (λ (o : Option (ℕ × ℕ)). option_or (last_places l third page records) o) (in_pages page r.entry.number start (start + length r.entry.pages + 1 + (gap_of l)) r.entry.pages)
 
-pub lies_last : (l : Shape) (third page : ℕ) (records : List Placed) (a b : ℕ) → LiesAt (slot_of l third page records) a b → last_places l third page records ≡ Some (a, b)
+pub lies_last : (l : Shape) (third page : ℕ) (records : List Placed) (a b : ℕ) → LiesAt (last_slot l third page records) a b → last_places l third page records ≡ Some (a, b)
 lies_last l third page records a b lies = sym (in_records l third page records) ∙ ap (λ (o : Option Slot). option_map places_of o) lies.is

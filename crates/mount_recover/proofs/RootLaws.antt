@@ -12,7 +12,7 @@ use Rattle.sector_disk.specs.declared.sector.WeakRun.{WeakRun}
 use Rattle.sector_disk.specs.Image.{Windows, sector_at, IsWorn, open_damage}
 use Rattle.sector_disk.specs.Machine.{Moment, Wears}
 use Rattle.sector_disk.proofs.Wear.{worn_trans}
-use Rattle.fsd_files.specs.Disk.{Image, SectorWorn, bytes_of, either_copy}
+use Rattle.fsd_files.specs.Disk.{Image, SectorWorn, bytes_of, first_whole}
 use Rattle.fsd_sound.specs.Mounting.{EachBears, HasRoot}
 use Rattle.fsd_sound.specs.Roots.{counted_root, root_at, root_of}
 use Rattle.fsd_sound.proofs.CommuteLaws.{same_or}
@@ -22,11 +22,11 @@ use Rattle.mount_recover.specs.Finding.{SeesRoots}
 -- ---- the one that is taken
 
 -- what holds of each of two holds of the one that is taken
-pub taken_so : (P : Layout → Type 0) (first second : Option Layout) (l : Layout) → either_copy first second ≡ Some l → IfSome first P → IfSome second P → P l
+pub taken_so : (P : Layout → Type 0) (first second : Option Layout) (l : Layout) → first_whole first second ≡ Some l → IfSome first P → IfSome second P → P l
 taken_so P None second l is p q = subst (λ (o : Option Layout). IfSome o P) is q
 taken_so P (Some k) second l is p q = subst (λ (o : Option Layout). IfSome o P) is p
 
-taken_one : (first second : Option Layout) (l : Layout) → either_copy first second ≡ Some l → (first ≡ Some l) ⊎ (second ≡ Some l)
+taken_one : (first second : Option Layout) (l : Layout) → first_whole first second ≡ Some l → (first ≡ Some l) ⊎ (second ≡ Some l)
 taken_one None second l is = inr is
 taken_one (Some k) second l is = inl is
 
@@ -37,7 +37,7 @@ root_at_same sectors i j s same = ap (λ (x : Sector). option_and_then (counted_
 
 -- the roots are the first sectors
 pub root_of_same : (sectors : ℕ) (i j : Image) → sector_at j 0 ≡ sector_at i 0 → sector_at j 4 ≡ sector_at i 4 → root_of sectors j ≡ root_of sectors i
-root_of_same sectors i j first second = λ x. either_copy (root_at_same sectors i j 0 first x) (root_at_same sectors i j 4 second x)
+root_of_same sectors i j first second = λ x. first_whole (root_at_same sectors i j 0 first x) (root_at_same sectors i j 4 second x)
 
 -- a root that stands was there before
 root_before : (sectors : ℕ) (may : ℕ → Bool) (i j : Image) (s : ℕ) (l : Layout) → SectorWorn (may s) (sector_at i s) (sector_at j s) → root_at sectors j s ≡ Some l → root_at sectors i s ≡ Some l
@@ -108,8 +108,8 @@ sees_roots sectors first second old one two wears more one_is two_is =
 -- ---- of roots that were seen
 
 module _ (sectors : ℕ) (first second : Option Layout) (old mid : Moment) (roots : SeesRoots sectors first second old mid) where
-  pub seen_root : (o : Option Layout) → either_copy first second ≡ o → root_of sectors roots.seen ≡ o
-  seen_root o is = (λ x. either_copy (roots.at_first x) (roots.at_second x)) ∙ is
+  pub seen_root : (o : Option Layout) → first_whole first second ≡ o → root_of sectors roots.seen ≡ o
+  seen_root o is = (λ x. first_whole (roots.at_first x) (roots.at_second x)) ∙ is
 
   -- each root of an image with the same roots bears what both bear
   pub each_bears : (longest : ℕ) → IfSome first (λ l. longest ≤ longest_of l.kind) → IfSome second (λ l. longest ≤ longest_of l.kind)
@@ -120,7 +120,7 @@ module _ (sectors : ℕ) (first second : Option Layout) (old mid : Moment) (root
       subst (λ (o : Option Layout). IfSome o (λ k. longest ≤ longest_of k.kind)) (sym roots.at_second ∙ sym (root_at_same sectors roots.seen i 4 same_copy) ∙ is) two
 
   -- the root that is taken is one of the image before
-  pub taken_before : (l : Layout) → either_copy first second ≡ Some l → HasRoot sectors old.image l
+  pub taken_before : (l : Layout) → first_whole first second ≡ Some l → HasRoot sectors old.image l
   taken_before l is = ⊎_elim
       (λ one. inl (root_before sectors (open_damage old.windows) old.image roots.seen 0 l (roots.from.each 0) (roots.at_first ∙ one)))
       (λ two. inr (root_before sectors (open_damage old.windows) old.image roots.seen 4 l (roots.from.each 4) (roots.at_second ∙ two))) (taken_one first second l is)

@@ -12,7 +12,7 @@ use Rattle.sector_disk.specs.Machine.{Moment, Wears}
 use Rattle.sector_disk.proofs.Wear.{worn_refl, worn_trans}
 use Rattle.fsd_log.specs.Judged.{Reader}
 use Rattle.fsd_log.specs.Scan.{Placed, anchor_in, anchor_on, newer_of, scan, tape}
-use Rattle.fsd_files.specs.Disk.{Image, bytes_of, bytes_at, either_copy}
+use Rattle.fsd_files.specs.Disk.{Image, bytes_of, bytes_at, first_whole}
 use Rattle.fsd_sound.specs.Anchors.{anchor_of}
 use Rattle.fsd_sound.specs.Roots.{root_of}
 use Rattle.fsd_sound.specs.Shown.{records_by}
@@ -20,6 +20,7 @@ use Rattle.log_thirds.specs.Append.{IsIndexed}
 use Rattle.log_thirds.specs.Copies.{AreLastCopies}
 use Rattle.log_thirds.specs.declared.fault.LogFault.{LogFault}
 use Rattle.log_thirds.specs.declared.fault.LogFault.TheVariants as log
+use Rattle.log_thirds.specs.declared.reading.ReadFault.TheVariants as read
 use Rattle.log_thirds.specs.Disk.{reads}
 use Rattle.log_thirds.specs.LogValue.{LogValue}
 use Rattle.log_thirds.specs.Reading.{ReadWorn, SeesAnchor, SeesLastEpoch}
@@ -97,10 +98,10 @@ see_anchors at i o room same same_copy sees =
 -- ---- what is found
 
 -- neither root counts
-pub none_so : (sectors : ℕ) (first second : Option Layout) (old mid : Moment) → SeesRoots sectors first second old mid → either_copy first second ≡ None → IsNotFound sectors NotVolume old
+pub none_so : (sectors : ℕ) (first second : Option Layout) (old mid : Moment) → SeesRoots sectors first second old mid → first_whole first second ≡ None → IsNotFound sectors NotVolume old
 none_so sectors first second old mid roots none = record { seen = roots.seen; from = roots.from; why = seen_root sectors first second old mid roots None none }
 
-module _ (sectors : ℕ) (first second : Option Layout) (old mid : Moment) (wears : Wears old mid) (roots : SeesRoots sectors first second old mid) (l : Layout) (taken : either_copy first second ≡ Some l) where
+module _ (sectors : ℕ) (first second : Option Layout) (old mid : Moment) (wears : Wears old mid) (roots : SeesRoots sectors first second old mid) (l : Layout) (taken : first_whole first second ≡ Some l) where
   then_seen : (j : Image) → IsWorn (open_damage mid.windows) roots.seen j → IsWorn (open_damage old.windows) old.image j
   then_seen j worn = worn_trans (open_damage old.windows) old.image roots.seen j roots.from (subst (λ (w : Windows). IsWorn (open_damage w) roots.seen j) wears.windows worn)
 
@@ -130,8 +131,8 @@ module _ (sectors : ℕ) (first second : Option Layout) (old mid : Moment) (wear
       seen_anchors o = see_anchors mid roots.seen o (omega (arith, room, roots.to.size)) (roots.behind 8 (omega arith)) (roots.behind 12 (omega arith))
 
       by_fault : (f : LogFault) → (f ≡ log.NoAnchor → SeesAnchor mid None) → (f ≡ log.WornOut → SeesLastEpoch mid) → IsNotFound sectors (mount_fault_of f) old
-      by_fault (log.Device s) none last = record { seen = mid.image; from = wears.image; why = tt }
-      by_fault log.Memory none last = record { seen = mid.image; from = wears.image; why = tt }
+      by_fault (log.Read (read.Device s)) none last = record { seen = mid.image; from = wears.image; why = tt }
+      by_fault (log.Read read.Memory) none last = record { seen = mid.image; from = wears.image; why = tt }
       by_fault log.NoAnchor none last =
           let sees = seen_anchors None (none refl) in
           record {

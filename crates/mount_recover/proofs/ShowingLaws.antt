@@ -16,7 +16,7 @@ use Rattle.fsd_sound.specs.declared.fault.MountFault.TheVariants.{Lost}
 use Rattle.fsd_sound.proofs.CommuteLaws.{same_or, with_same, with_other}
 use Rattle.log_thirds.specs.Append.{IsCalmNow}
 use Rattle.log_thirds.specs.LogValue.{LogValue}
-use Rattle.mount_recover.specs.Mending.{IsHome, StaysBut}
+use Rattle.mount_recover.specs.Mending.{IsHomeOf, StaysBut}
 use Rattle.mount_recover.specs.Showing.{shows_of, ChangesHome, HasNoRoot, IsShowing, LosesNone, LosesHome}
 use Rattle.mount_recover.proofs.CalmLaws.{still_holds, home_same, first_home}
 use Rattle.mount_recover.proofs.MendingLaws.{here_or, home_same_page, home_other}
@@ -34,7 +34,7 @@ module _ (l : Layout) (records : List Placed) (first : Image) where
   pub showing_further : (end to : ℕ) (i : Image) → ((page : ℕ) → page < l.pages → home_a l page < to → home_a l page < end) → IsShowing l records first end i → IsShowing l records first to i
   showing_further end to i before at = record { front = at.front; written = λ page bytes within is lt. at.written page bytes within is (before page within lt); others = at.others }
 
-  module _ (page : ℕ) (lt : page < l.pages) (place : ℕ) (home : IsHome l page place) (i : Image) (at : IsShowing l records first place i) where
+  module _ (page : ℕ) (lt : page < l.pages) (place : ℕ) (home : IsHomeOf l page place) (i : Image) (at : IsShowing l records first place i) where
     -- a home of a page was written
     pub showing_put : (j : Image) (bytes : List ℕ) → last_image page records ≡ Some bytes → ((s : ℕ) → s ≢ place → sector_at j s ≡ sector_at i s) → sector_at j place ≡ Whole bytes → IsShowing l records first (place + 1) j
     showing_put j bytes logged others here = record {

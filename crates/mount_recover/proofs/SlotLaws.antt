@@ -27,9 +27,9 @@ use Rattle.fsd_sound.proofs.SectorFacts.{has_bytes, has_weak}
 use Rattle.fsd_sound.proofs.TwiceLaws.{image_stands}
 use Rattle.fsd_files.proofs.KeptLaws.{has_on}
 use Rattle.log_thirds.specs.Append.{IsIndexed}
-use Rattle.log_thirds.specs.Images.{AreLogged, LiesAt, StandsAt}
+use Rattle.log_thirds.specs.Images.{AreLogged, LiesAt, StandsInSlot}
 use Rattle.log_thirds.specs.LogValue.{LogValue}
-use Rattle.log_thirds.specs.Slots.{slot_of}
+use Rattle.log_thirds.specs.Slots.{last_slot}
 use Rattle.log_thirds.proofs.ImageLaws.{logged_by}
 use Rattle.log_thirds.proofs.GivesLaws.{EachImage, Gives, slot_gives as slot_gives_at}
 use Rattle.mount_recover.specs.Mending.{IsCompleted, IsMending}
@@ -59,8 +59,8 @@ module _ (l : Layout) (windows : List WeakRun) (choices : List (List (List ℕ))
       ((weaker l windows choices log first c at.image left.image later.worn).each s)
 
   module _ (a b : ℕ) (lies : LiesAt (slice_index_or log.slots n None) a b) where
-    found : slot_of l log.anchor.third n (records_by l c.clean log.anchor) ≡ Some (record { place = a; copy = b; number = (logged_by log (records_by l c.clean log.anchor) n a b indexed lies).number })
-    found = subst (λ (k : Layout). slot_of k log.anchor.third n (records_by l c.clean log.anchor) ≡ Some (record { place = a; copy = b; number = (logged_by log (records_by l c.clean log.anchor) n a b indexed lies).number })) same
+    found : last_slot l log.anchor.third n (records_by l c.clean log.anchor) ≡ Some (record { place = a; copy = b; number = (logged_by log (records_by l c.clean log.anchor) n a b indexed lies).number })
+    found = subst (λ (k : Layout). last_slot k log.anchor.third n (records_by l c.clean log.anchor) ≡ Some (record { place = a; copy = b; number = (logged_by log (records_by l c.clean log.anchor) n a b indexed lies).number })) same
         (logged_by log (records_by l c.clean log.anchor) n a b indexed lies).is
 
     gives : Gives l log.anchor.third (StandsTwice (gap_of l) (weak_of windows) c.clean) n (records_by l c.clean log.anchor) (record { place = a; copy = b; number = (logged_by log (records_by l c.clean log.anchor) n a b indexed lies).number })
@@ -85,7 +85,7 @@ module _ (l : Layout) (windows : List WeakRun) (choices : List (List (List ℕ))
       not_both first_is second_is = c.apart a b gives.is.apart (has_weak (weak_of windows) left.image gives.bytes a has_a first_is) (has_weak (weak_of windows) left.image gives.bytes b has_b second_is)
 
   -- what was read of it is its last image
-  pub slot_gives : (bytes : List ℕ) → Wears now now → StandsAt (slice_index_or log.slots n None) now.image bytes → last_image n (records_by l c.clean log.anchor) ≡ Some bytes
+  pub slot_gives : (bytes : List ℕ) → Wears now now → StandsInSlot (slice_index_or log.slots n None) now.image bytes → last_image n (records_by l c.clean log.anchor) ≡ Some bytes
   slot_gives bytes here stands = slot_bytes stands.a stands.b stands.lies now here bytes stands.stands
 
   -- it is not lost

@@ -8,7 +8,7 @@ use Rattle.sector_disk.specs.Machine.{Before, Moment, Names, Wears}
 use Rattle.fsd_formats.specs.declared.anchor.Anchor.{Anchor}
 use Rattle.log_thirds.specs.Anchoring.{AnchorsIn}
 use Rattle.log_thirds.specs.Append.{StandsInPart}
-use Rattle.mount_recover.specs.Mending.{Stays}
+use Rattle.mount_recover.specs.Mending.{StaysShown}
 use Rattle.mount_recover.specs.Replay.{IsUnturned, TurnsLast}
 
 present_as : (a b : Windows) → a ≡ b → a.present ≡ b.present
@@ -57,7 +57,7 @@ module _ (old one two three new : Moment) (wears : Wears old one) (completed : I
   pub completing_turns : (left : Moment) → IsUnturned one left → TurnsLast old new left
   completing_turns left still = inl (still ∙ at_one)
 
-  pub stays_turns : (l : Layout) (windows : List WeakRun) (choices : List (List (List ℕ))) (left : Moment) → Stays l windows choices two left → TurnsLast old new left
+  pub stays_turns : (l : Layout) (windows : List WeakRun) (choices : List (List (List ℕ))) (left : Moment) → StaysShown l windows choices two left → TurnsLast old new left
   stays_turns l windows choices left stays = inl (present_as left.windows two.windows stays.holds.windows ∙ completed ∙ at_one)
 
   pub beginning_turns : (left : Moment) → TurnsLast three new left → TurnsLast old new left

@@ -10,15 +10,16 @@ use Rattle.fsd_sound.specs.Roots.{root_at, root_of}
 use Rattle.fsd_sound.specs.Anchors.{anchor_of}
 use Rattle.log_thirds.specs.declared.fault.LogFault.{LogFault}
 use Rattle.log_thirds.specs.declared.fault.LogFault.TheVariants as log
+use Rattle.log_thirds.specs.declared.reading.ReadFault.TheVariants as read
 use Rattle.fsd_sound.specs.declared.fault.MountFault.{MountFault}
 use Rattle.fsd_sound.specs.declared.fault.MountFault.TheVariants.{NotVolume, Device, Memory, Lost, NoAnchor, Unsound, WornOut}
 use Rattle.log_thirds.specs.LogValue.{LogValue}
 use Rattle.mount_recover.specs.Mending.{KnowsLog}
-use Rattle.fsd_sound.specs.Mounting.{HasRoot, IsWornOut}
+use Rattle.fsd_sound.specs.Mounting.{HasRoot, HasLastEpoch}
 
 abbrev pub mount_fault_of : LogFault → MountFault
-mount_fault_of (log.Device s) = Device s
-mount_fault_of log.Memory = Memory
+mount_fault_of (log.Read (read.Device s)) = Device s
+mount_fault_of (log.Read read.Memory) = Memory
 mount_fault_of log.NoAnchor = NoAnchor
 mount_fault_of log.WornOut = WornOut
 
@@ -26,7 +27,7 @@ mount_fault_of log.WornOut = WornOut
 abbrev pub NotFoundFor : ℕ → Image → MountFault → Type 0
 NotFoundFor sectors i NotVolume = root_of sectors i ≡ None
 NotFoundFor sectors i NoAnchor = IsSome (root_of sectors i) × (anchor_of i ≡ None)
-NotFoundFor sectors i WornOut = IsWornOut sectors i
+NotFoundFor sectors i WornOut = HasLastEpoch sectors i
 NotFoundFor sectors i (Device s) = ⊤
 NotFoundFor sectors i Memory = ⊤
 NotFoundFor sectors i (Lost a b) = ⊥
@@ -44,7 +45,7 @@ pub record IsMountable (sectors : ℕ) (l : Layout) (log : LogValue) (longest : 
 
 -- An image was seen, which the old one may be worn to and that may be worn to the new one:
 -- it has this root, and this log.
-pub record IsFound (sectors : ℕ) (l : Layout) (log : LogValue) (old new : Moment) : Type 0 where
+pub record HasSeenLog (sectors : ℕ) (l : Layout) (log : LogValue) (old new : Moment) : Type 0 where
   pub seen : Image
   pub from : IsWorn (open_damage old.windows) old.image seen
   pub to : IsWorn (open_damage old.windows) seen new.image
@@ -53,7 +54,7 @@ pub record IsFound (sectors : ℕ) (l : Layout) (log : LogValue) (old new : Mome
 
 -- So it is, and each root of that image that counts bears a run of so many sectors.
 pub record IsBorneFound (sectors : ℕ) (l : Layout) (log : LogValue) (longest : ℕ) (old new : Moment) : Type 0 where
-  pub is : IsFound sectors l log old new
+  pub is : HasSeenLog sectors l log old new
   pub bears : (root : Layout) → HasRoot sectors is.seen root → longest ≤ longest_of root.kind
 
 -- Both roots are those of an image that was seen: the old one may be worn to it, and it to the new one, which differs

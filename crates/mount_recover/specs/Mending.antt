@@ -22,7 +22,7 @@ use Rattle.fsd_sound.specs.declared.fault.MountFault.{MountFault}
 use Rattle.fsd_sound.specs.declared.fault.MountFault.TheVariants.{NotVolume, Device, Memory, Lost, NoAnchor, Unsound, WornOut}
 use Rattle.log_thirds.specs.Images.{AreOfLogged}
 use Rattle.fsd_sound.specs.Lost.{AreHomes}
-use Rattle.mount_recover.specs.Replay.{HasLastCopies, KeepsBehindLog, IsAfter}
+use Rattle.mount_recover.specs.Replay.{HasLastCopies, KeepsBehindLog, IsBehindSettle}
 use Rattle.fsd_sound.specs.Logged.{IsLogged}
 use Rattle.fsd_sound.specs.Windows.{IsApart}
 use Rattle.fsd_sound.specs.Writes.{WritesAsMount, mount_writes}
@@ -68,7 +68,7 @@ abbrev pub StaysElsewhere : Layout → Moment → Moment → Type 0
 StaysElsewhere l old new = WritesAsMount l (open_damage old.windows) old new
 
 -- The windows, what was said, and each sector where a mount does not write stay, but for wear.
-pub record Keeps (l : Layout) (old new : Moment) : Type 0 where
+pub record KeepsUnwritten (l : Layout) (old new : Moment) : Type 0 where
   pub windows : new.windows ≡ old.windows
   pub said : new.said ≡ old.said
   pub rest : StaysElsewhere l old new
@@ -126,8 +126,8 @@ pub record Completed (l : Layout) (windows : List WeakRun) (choices : List (List
   pub said : new.said ≡ old.said
 
 -- the sector is a home of the page
-abbrev pub IsHome : Layout → (page s : ℕ) → Type 0
-IsHome l page s = (s ≡ home_a l page) ⊎ (s ≡ home_b l page)
+abbrev pub IsHomeOf : Layout → (page s : ℕ) → Type 0
+IsHomeOf l page s = (s ≡ home_a l page) ⊎ (s ≡ home_b l page)
 
 -- the log has no image of the page
 abbrev pub LacksPage : LogValue → (page : ℕ) → Type 0
@@ -150,7 +150,7 @@ pub record IsMending (l : Layout) (windows : List WeakRun) (choices : List (List
   pub holds : Holds first image now
   pub shows : ShowsPages l windows choices image
   pub logged : (page : ℕ) → (last_image page (records_by l c.clean log.anchor) ≡ None → ⊥) → IsLogged l (weak_of windows) page image
-  pub written : (page s : ℕ) → page < l.pages → (last_image page (records_by l c.clean log.anchor) ≡ None → ⊥) → IsHome l page s → s < end → sector_at image s ≡ Whole (get_or c.pages page [])
+  pub written : (page s : ℕ) → page < l.pages → (last_image page (records_by l c.clean log.anchor) ≡ None → ⊥) → IsHomeOf l page s → s < end → sector_at image s ≡ Whole (get_or c.pages page [])
   pub healed : (page : ℕ) → page < n → page < l.pages → last_image page (records_by l c.clean log.anchor) ≡ None → IsAtHome l image page (get_or c.pages page [])
   pub front : (s : ℕ) → s < 16 + 3 * l.third → sector_at image s ≡ sector_at first.image s
   pub left : (page : ℕ) → n ≤ page → page < l.pages → last_image page (records_by l c.clean log.anchor) ≡ None → (sector_at image (home_a l page) ≡ sector_at first.image (home_a l page)) × (sector_at image (home_b l page) ≡ sector_at first.image (home_b l page))
@@ -159,7 +159,7 @@ pub record IsMending (l : Layout) (windows : List WeakRun) (choices : List (List
 -- Of any image: of the pages that the log has each home before this sector stands, but for what the open window may wear;
 -- of the other pages both homes of so many first ones.
 pub record AreHomed (l : Layout) (log : LogValue) (end n : ℕ) (now : Moment) : Type 0 where
-  pub written : (page s : ℕ) → page < l.pages → (LacksPage log page → ⊥) → IsHome l page s → s < end → HasSome now s
+  pub written : (page s : ℕ) → page < l.pages → (LacksPage log page → ⊥) → IsHomeOf l page s → s < end → HasSome now s
   pub healed : (page : ℕ) → page < n → page < l.pages → LacksPage log page → HasBothHomes l now page
 
 -- All pages are mended, and both roots.
@@ -175,7 +175,7 @@ pub record IsMended (l : Layout) (windows : List WeakRun) (choices : List (List 
 
 -- A moment from `healing` on: it is worn from an image that shows the pages, and has the log as it was,
 -- and what lies where a mount does not write.
-pub record Stays (l : Layout) (windows : List WeakRun) (choices : List (List (List ℕ))) (first left : Moment) : Type 0 where
+pub record StaysShown (l : Layout) (windows : List WeakRun) (choices : List (List (List ℕ))) (first left : Moment) : Type 0 where
   pub image : Image
   pub holds : Holds first image left
   pub shows : ShowsPages l windows choices image
@@ -183,11 +183,11 @@ pub record Stays (l : Layout) (windows : List WeakRun) (choices : List (List (Li
   pub rest : SameElsewhere l first.image image
 
 -- So it is, or the mount has settled.
-pub record Settled (l : Layout) (windows : List WeakRun) (choices : List (List (List ℕ))) (first left : Moment) : Type 0 where
-  pub after : IsAfter l windows choices left
+pub record HasSettled (l : Layout) (windows : List WeakRun) (choices : List (List (List ℕ))) (first left : Moment) : Type 0 where
+  pub after : IsBehindSettle l windows choices left
   pub log : (s : ℕ) → 16 ≤ s → s < 16 + 3 * l.third → SectorWorn (weak_of windows s) (sector_at first.image s) (sector_at left.image s)
   pub rest : WritesAsMount l (weak_of windows) first left
   pub said : left.said ≡ first.said
 
-abbrev pub Begins : Layout → List WeakRun → List (List (List ℕ)) → (first left : Moment) → Type 0
-Begins l windows choices first left = Stays l windows choices first left ⊎ Settled l windows choices first left
+abbrev pub StaysOrSettles : Layout → List WeakRun → List (List (List ℕ)) → (first left : Moment) → Type 0
+StaysOrSettles l windows choices first left = StaysShown l windows choices first left ⊎ HasSettled l windows choices first left

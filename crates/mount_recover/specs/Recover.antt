@@ -45,8 +45,8 @@ pub record IsRefusedFor (sectors : ℕ) (fault : MountFault) (old : Moment) : Ty
   pub why : RefusedFor sectors seen fault
 
 -- the anchor stands at both of its places, or is damaged where it may be
-abbrev pub HasAnchors : Anchor → Moment → Type 0
-HasAnchors a now = Has (open_damage now.windows) now.image (anchor_bytes a) 8 × Has (open_damage now.windows) now.image (anchor_bytes a) 12
+abbrev pub HasAnchorTwice : Anchor → Moment → Type 0
+HasAnchorTwice a now = Has (open_damage now.windows) now.image (anchor_bytes a) 8 × Has (open_damage now.windows) now.image (anchor_bytes a) 12
 
 -- The sectors that a mount of so many pages writes at most: the copies of 96 images and of their end, two homes of each
 -- page, the roots and the anchors.

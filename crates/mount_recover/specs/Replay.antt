@@ -14,7 +14,7 @@ use Rattle.fsd_sound.specs.Shown.{records_by}
 use Rattle.fsd_sound.specs.Sound.{weak_of, IsSaid, ShowsPages}
 use Rattle.fsd_sound.specs.Writes.{WritesAsMount}
 pub use Rattle.fsd_sound.specs.Homes.{StandAtHome}
-pub use Rattle.fsd_sound.specs.Logged.{copies_at, copies_of, Follows}
+pub use Rattle.fsd_sound.specs.Logged.{copies_at, copies_of, KeepsLogged}
 
 -- ---- the order
 
@@ -50,7 +50,7 @@ pub record IsBefore (l : Layout) (windows : List WeakRun) (choices : List (List 
   pub shows : ShowsPages l windows choices left.image
 
 -- After it: the run that was named is the present one, and the image shows one page list of them.
-pub record IsAfter (l : Layout) (windows : List WeakRun) (choices : List (List (List ℕ))) (left : Moment) : Type 0 where
+pub record IsBehindSettle (l : Layout) (windows : List WeakRun) (choices : List (List (List ℕ))) (left : Moment) : Type 0 where
   pub run : WeakRun
   pub settled : left.windows ≡ record { present = Some run; next = None }
   pub pages : List (List ℕ)
@@ -60,7 +60,7 @@ pub record IsAfter (l : Layout) (windows : List WeakRun) (choices : List (List (
 -- A moment of a mount: the last record has its copies before anything is written behind the log,
 -- and nothing is written but where a mount writes.
 pub record Replays (l : Layout) (windows : List WeakRun) (choices : List (List (List ℕ))) (old left : Moment) : Type 0 where
-  pub stage : IsBefore l windows choices old left ⊎ IsAfter l windows choices left
+  pub stage : IsBefore l windows choices old left ⊎ IsBehindSettle l windows choices left
   pub order : KeepsBehindLog l (weak_of windows) old.image left.image ⊎ IsCompletedFrom l (weak_of windows) old.image left.image
   pub rest : WritesAsMount l (weak_of windows) old left
   pub said : left.said ≡ old.said
@@ -71,7 +71,7 @@ StandAtHomeBut l weak pages i = (page : ℕ) → page < l.pages → Has weak i (
 
 -- A mount that is done: the log of the new epoch is empty, and the one page list that is shown stands at both homes.
 pub record IsReplayed (l : Layout) (windows : List WeakRun) (choices : List (List (List ℕ))) (epoch : ℕ) (new : Moment) : Type 0 where
-  pub after : IsAfter l windows choices new
+  pub after : IsBehindSettle l windows choices new
   pub log : HasOwnLog l (fresh_anchor epoch) [] (start l 1) (weak_of (windows ++ after.run ∷ [])) new.image
   pub home : StandAtHomeBut l (weak_of (windows ++ after.run ∷ [])) after.pages new.image
 

@@ -13,7 +13,7 @@ use Rattle.fsd_sound.specs.Shown.{records_by}
 use Rattle.log_thirds.specs.Append.{IsIndexed}
 use Rattle.log_thirds.specs.Images.{GivesLast}
 use Rattle.log_thirds.specs.LogValue.{LogValue}
-use Rattle.log_thirds.specs.Slots.{slot_of}
+use Rattle.log_thirds.specs.Slots.{last_slot}
 use Rattle.fsd_sound.specs.declared.fault.MountFault.{MountFault}
 use Rattle.fsd_sound.specs.declared.fault.MountFault.TheVariants.{Lost}
 
@@ -21,7 +21,7 @@ use Rattle.fsd_sound.specs.declared.fault.MountFault.TheVariants.{Lost}
 -- and the image gives it there.
 pub record GivesPages (log : LogValue) (records : List Placed) (i : Image) : Type 0 where
   pub indexed : IsIndexed log records
-  pub inside : (page : ℕ) → IfSome (slot_of log.layout log.anchor.third page records) (λ slot. (slot.place < 16 + 3 * log.layout.third) × (slot.copy < 16 + 3 * log.layout.third))
+  pub inside : (page : ℕ) → IfSome (last_slot log.layout log.anchor.third page records) (λ slot. (slot.place < 16 + 3 * log.layout.third) × (slot.copy < 16 + 3 * log.layout.third))
   pub gives : (page : ℕ) → GivesLast log records page i
 
 -- what an image shows of a page by these records: its last image, or what stands at home

@@ -14,15 +14,15 @@ use Rattle.fsd_sound.specs.Mounting.{HasRoot}
 use Rattle.fsd_sound.specs.Windows.{IsNamedSince}
 use Rattle.fsd_sound.specs.Writes.{KeepsElsewhere, MountKeeps}
 use Rattle.fsd_sound.specs.declared.fault.MountFault.{MountFault}
-use Rattle.mount_recover.specs.declared.mounting.Settled.{Settled}
+use Rattle.mount_recover.specs.declared.mounting.SettledVolume.{SettledVolume}
 use Rattle.mount_recover.specs.Finding.{IsExcuse}
 use Rattle.mount_recover.specs.Lost.{StandAsShown, WritesMost}
-use Rattle.mount_recover.specs.Recover.{HasAnchors, IsFreshLog, IsNotUnsound, IsRefusedFor, IsSettledIn, LeavesAll, writes_most}
+use Rattle.mount_recover.specs.Recover.{HasAnchorTwice, IsFreshLog, IsNotUnsound, IsRefusedFor, IsSettledIn, LeavesAll, writes_most}
 use Rattle.mount_recover.specs.Replay.{IsReplayed, IsUnturned, ReplaysSaid, TurnsLast}
 
 module _ {D : Type 0} (M : Ghosts D) (sectors : ℕ) (old new : D) where
   -- It has settled, whatever the image was. What is said of the image is so over an honest machine.
-  pub record SettlesVolume (s : Settled) : Type 0 where
+  pub record SettlesVolume (s : SettledVolume) : Type 0 where
     pub room : s.layout.sectors ≤ sectors
     pub planned : plan s.layout.kind s.layout.sectors s.layout.third s.layout.pages ≡ Ok s.layout
     pub fresh : IsFreshLog s.layout s.log
@@ -37,7 +37,7 @@ module _ {D : Type 0} (M : Ghosts D) (sectors : ℕ) (old new : D) where
     -- all that it has written is on the disk then
     pub synced : M.honest new → IsSynced (M.now new)
     -- anchors and homes stand, but for what the open window may wear, and what a mount does not write stays
-    pub anchors : M.honest new → HasAnchors s.log.anchor (M.now new)
+    pub anchors : M.honest new → HasAnchorTwice s.log.anchor (M.now new)
     pub homes : M.honest new → (page : ℕ) → page < s.layout.pages → HasBothHomes s.layout (M.now new) page
     pub rest : M.honest new → KeepsElsewhere s.layout (M.now old) (M.now new)
     -- where nothing wears each page stands at home as the image showed it
@@ -62,7 +62,7 @@ module _ {D : Type 0} (M : Ghosts D) (sectors : ℕ) (old new : D) where
   -- it says, and the last record has its copies before anything is written behind the log. The windows turn last. Once it
   -- has settled by this layout, the log is empty and the pages stand at home; else it is refused for nothing but the disk,
   -- memory and the last epoch.
-  pub record Recovers (l : Layout) (windows : List WeakRun) (choices : List (List (List ℕ))) (result : Result Settled MountFault) : Type 0 where
+  pub record Recovers (l : Layout) (windows : List WeakRun) (choices : List (List (List ℕ))) (result : Result SettledVolume MountFault) : Type 0 where
     pub moments : ReplaysSaid l windows choices (λ layout. IfOk result (λ s. s.layout ≡ layout)) (LeavesOnly M.moment M.left_since old new) (M.now old) (M.now new)
     pub turns : LeavesOnly M.moment M.left_since old new (TurnsLast (M.now old) (M.now new))
     pub ends : MatchResult result (λ s. IsReplayed s.layout windows choices s.log.anchor.epoch (M.now new)) IsExcuse

@@ -3,7 +3,7 @@ ghost use Rattle.std.specs.Prelude.{◌≡◌, ◌≤◌, ℕ, List, Ok, OnOk};
 ghost use Rattle.volume_layout.specs.Kinds.{longest_of};
 ghost use Rattle.volume_layout.specs.Layout.{plan};
 ghost use Rattle.volume_layout.specs.declared.layout.Layout.{Layout as Plan};
-ghost use Rattle.sector_disk.specs.declared.sector.WeakRun.{WeakRun as Run};
+ghost use Rattle.sector_disk.specs.declared.sector.WeakRun.{WeakRun};
 ghost use Rattle.sector_disk.specs.Calls.{HealsDisk, device_in, failed_at};
 ghost use Rattle.fsd_files.specs.Disk.{Image};
 ghost use Rattle.mount_recover.specs.Mending.{IsSeen, KnowsLog, StaysElsewhere};
@@ -26,7 +26,7 @@ pub(crate) fn complete<M: Machine>(m: &mut M, log: &Log, longest: u32) -> Result
     ensures rest { (l : Plan) (j : Image) → M.honest m.new → plan l.kind l.sectors l.third l.pages ≡ Ok l → log.now.layout ≡ l → KnowsLog l log.now j → StaysElsewhere l (M.now m.old) (M.now m.new) }
 
     // Of an image that was seen and shows the pages of a volume.
-    ensures completes { (l : Plan) (windows : List Run) (choices : List (List (List ℕ))) → M.honest m.new → plan l.kind l.sectors l.third l.pages ≡ Ok l → log.now.layout ≡ l →
+    ensures completes { (l : Plan) (windows : List WeakRun) (choices : List (List (List ℕ))) → M.honest m.new → plan l.kind l.sectors l.third l.pages ≡ Ok l → log.now.layout ≡ l →
         (seen : IsSeen l windows choices log.now (M.now m.old)) → CompletesLog M.Machine l windows choices log.now m.old m.new seen result }
 
     // Of any image on which nothing wears.

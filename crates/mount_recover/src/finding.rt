@@ -8,14 +8,14 @@ ghost use Rattle.fsd_sound.specs.Mounting.{device_of_mount};
 
 use crate::root::find_roots;
 use fsd_sound::MountFault;
-use log_thirds::{Log, LogFault};
+use log_thirds::{Log, LogFault, ReadFault};
 use sector_disk::Machine;
 use std::alloc::Global;
 use volume_layout::Layout;
 
 /// A volume that was found, its log, and the sectors that the next window's run may have.
 #[derive(Drop)]
-pub(crate) struct Found {
+pub(crate) struct FoundVolume {
     pub layout: Layout,
     pub log: Log,
     pub longest: u32,
@@ -25,8 +25,8 @@ fn mount_fault(fault: LogFault) -> MountFault
     ensures { result ≡ mount_fault_of fault }
 {
     match fault {
-        LogFault::Device(place) => MountFault::Device(place),
-        LogFault::Memory => MountFault::Memory,
+        LogFault::Read(ReadFault::Device(place)) => MountFault::Device(place),
+        LogFault::Read(ReadFault::Memory) => MountFault::Memory,
         LogFault::NoAnchor => MountFault::NoAnchor,
         LogFault::WornOut => MountFault::WornOut,
     }
@@ -37,7 +37,7 @@ pub(crate) fn find_volume<M: Machine>(
     alloc: Global,
     m: &mut M,
     sectors: u32,
-) -> Result<Found, MountFault>
+) -> Result<FoundVolume, MountFault>
     requires { sectors ≡ (M.report m.old).sectors }
 
     ensures reads { OnlyReads M.Machine (device_in device_of_mount result) m.old m.new }
@@ -55,7 +55,7 @@ pub(crate) fn find_volume<M: Machine>(
     match find_roots(m, sectors) {
         Ok(roots) => match roots.taken() {
             Some(layout) => match Log::scan(alloc, m, &layout) {
-                Ok(log) => Ok(Found {
+                Ok(log) => Ok(FoundVolume {
                     layout,
                     log,
                     longest: roots.longest(),

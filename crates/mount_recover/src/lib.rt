@@ -8,4 +8,4 @@ mod mending;
 mod mounting;
 mod root;
 
-pub use mounting::{Settled, recover};
+pub use mounting::{SettledVolume, recover};

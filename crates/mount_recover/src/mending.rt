@@ -1,10 +1,9 @@
 //! A mount from `healing` on: of the pages that the log has the first homes are written, and then the second, each in
 //! ascending order, and of all else that stands twice what is damaged is written from its twin.
-ghost use Rattle.std.specs.Prelude.{◌≡◌, ◌+◌, ◌*◌, ◌<◌, ◌≤◌, ℕ, List, Ok, Some, None, IfErr, OnOk, slice_index_or};
+ghost use Rattle.std.specs.Prelude.{◌≡◌, ◌+◌, ◌*◌, ◌<◌, ◌≤◌, ℕ, List, Ok, Some, None, IfErr, MatchResult, OnOk, slice_index_or};
 ghost use Rattle.volume_layout.specs.Layout.{plan, home_a, home_b};
-ghost use Rattle.sector_disk.specs.declared.sector.WeakRun.{WeakRun as Run};
-ghost use Rattle.sector_disk.specs.Calls.{HealsDisk, device_in};
-ghost use Rattle.sector_disk.specs.Machine.{Moment as At, LeavesOnly};
+ghost use Rattle.sector_disk.specs.declared.sector.WeakRun.{WeakRun};
+ghost use Rattle.sector_disk.specs.Machine.{Moment as At};
 ghost use Rattle.fsd_log.specs.Images.{last_image};
 ghost use Rattle.fsd_log.specs.Scan.{Placed};
 ghost use Rattle.fsd_files.specs.Disk.{Image};
@@ -14,10 +13,9 @@ ghost use Rattle.log_thirds.specs.Append.{IsCalmNow};
 ghost use Rattle.log_thirds.specs.LogValue.{LogValue};
 ghost use Rattle.mount_recover.specs.Finding.{IsExcuse};
 ghost use Rattle.fsd_sound.specs.Lost.{AreHomes};
-ghost use Rattle.mount_recover.specs.Mending.{IsLoadFault, AreOfVolume, AreOfAll, AreRoots, IsHome, IsCompleted, IsMending, IsMended, AreHomed, Stays, Keeps, KeepsBut, logged_count, one_if_some};
+ghost use Rattle.mount_recover.specs.Mending.{AreOfVolume, AreOfAll, AreRoots, IsHomeOf, IsCompleted, IsMending, IsMended, AreHomed, KeepsUnwritten, KeepsBut, logged_count, one_if_some};
 ghost use Rattle.fsd_sound.specs.Homes.{HasBothHomes, HasSome};
-ghost use Rattle.fsd_sound.specs.Mounting.{device_of_mount};
-ghost use Rattle.mount_recover.specs.Steps.{MendsOn, MendsCopies, ShowOrAreLost};
+ghost use Rattle.mount_recover.specs.Steps.{GoesHome, MendsCopies, MendsFrom, MendsOn, ShowOrAreLost, ShowsFrom, WritesUpTo};
 ghost use Rattle.mount_recover.specs.Showing.{GivesPages, ChangesHome, HasNoRoot, IsShowing, LosesNone, LosesHome};
 
 use fsd_sound::MountFault;
@@ -36,22 +34,17 @@ fn put_home<M: Machine>(
 ) -> Result<(), MountFault>
     requires planned { plan l.now.kind l.now.sectors l.now.third l.now.pages ≡ Ok l.now }
     requires page { page < l.now.pages }
-    requires home { IsHome l.now page place }
+    requires home { IsHomeOf l.now page place }
     requires room { l.now.sectors ≤ (M.report m.old).sectors }
 
-    ensures disk { HealsDisk M.Machine (device_in device_of_mount result) m.old m.new }
-    ensures load { IfErr result IsLoadFault }
-    ensures most { M.tells m.new → (M.ledger m.new).written ≤ (M.ledger m.old).written + 1 }
-    ensures grows { OnOk result (M.tells m.new → (M.ledger m.old).written ≤ (M.ledger m.new).written) }
+    ensures writes { GoesHome M.Machine m.old m.new result }
+    ensures counts { WritesUpTo M.Machine 1 m.old m.new result }
     ensures keeps { M.honest m.new → KeepsBut place place (M.now m.old) (M.now m.new) }
     ensures home { OnOk result (M.honest m.new → HasSome (M.now m.new) place) }
-    ensures any_moment { (windows : List Run) (choices : List (List (List ℕ))) (log : LogValue) (first : At) (c : IsCompleted l.now windows choices log first) → M.honest m.new →
+    ensures goes_on { (windows : List WeakRun) (choices : List (List (List ℕ))) (log : LogValue) (first : At) (c : IsCompleted l.now windows choices log first) → M.honest m.new →
         (last_image page (records_by l.now c.clean log.anchor) ≡ None → ⊥) → IsMending l.now windows choices log first c place 0 (M.now m.old) →
-        LeavesOnly M.moment M.left_since m.old m.new (Stays l.now windows choices first) }
-    ensures done { OnOk result ((windows : List Run) (choices : List (List (List ℕ))) (log : LogValue) (first : At) (c : IsCompleted l.now windows choices log first) → M.honest m.new →
-        last_image page (records_by l.now c.clean log.anchor) ≡ Some b.now → IsMending l.now windows choices log first c place 0 (M.now m.old) →
-        IsMending l.now windows choices log first c (place + 1) 0 (M.now m.new)) }
-    ensures never_lost { IfErr result IsExcuse }
+        MendsOn M.Machine l.now windows choices first
+        (last_image page (records_by l.now c.clean log.anchor) ≡ Some b.now → IsMending l.now windows choices log first c (place + 1) 0 (M.now m.new)) m.old m.new result }
     ensures shown { OnOk result ((records : List Placed) (first : Image) → M.honest m.new → IsCalmNow (M.now m.old) → last_image page records ≡ Some b.now →
         IsShowing l.now records first place (M.now m.old).image → IsShowing l.now records first (place + 1) (M.now m.new).image) }
 {
@@ -72,25 +65,15 @@ fn write_logged<M: Machine>(
     requires layout { log.now.layout ≡ l.now }
     requires planned { plan l.now.kind l.now.sectors l.now.third l.now.pages ≡ Ok l.now }
     requires page { page < l.now.pages }
-    requires home { IsHome l.now page place }
+    requires home { IsHomeOf l.now page place }
     requires room { l.now.sectors ≤ (M.report m.old).sectors }
 
     ensures mends { MendsCopies M.Machine (AreOfVolume l.now log.now) m.old m.new result }
     ensures most { M.tells m.new → (M.ledger m.new).written ≤ (M.ledger m.old).written + one_if_some (slice_index_or log.now.slots page None) }
     ensures keeps { M.honest m.new → KeepsBut place place (M.now m.old) (M.now m.new) }
     ensures homes { OnOk result (M.honest m.new → AreHomed l.now log.now place 0 (M.now m.old) → AreHomed l.now log.now (place + 1) 0 (M.now m.new)) }
-    ensures any_moment { (windows : List Run) (choices : List (List (List ℕ))) (first : At) (c : IsCompleted l.now windows choices log.now first) → M.honest m.new →
-        IsMending l.now windows choices log.now first c place 0 (M.now m.old) →
-        LeavesOnly M.moment M.left_since m.old m.new (Stays l.now windows choices first) }
-    ensures done { OnOk result ((windows : List Run) (choices : List (List (List ℕ))) (first : At) (c : IsCompleted l.now windows choices log.now first) → M.honest m.new →
-        IsMending l.now windows choices log.now first c place 0 (M.now m.old) →
-        IsMending l.now windows choices log.now first c (place + 1) 0 (M.now m.new)) }
-    ensures never_lost { IfErr result (λ fault. (windows : List Run) (choices : List (List (List ℕ))) (first : At) (c : IsCompleted l.now windows choices log.now first) → M.honest m.new →
-        IsMending l.now windows choices log.now first c place 0 (M.now m.old) → IsExcuse fault) }
-    ensures shown { OnOk result ((records : List Placed) (first : Image) → M.honest m.new → IsCalmNow (M.now m.old) → GivesPages log.now records first → IsShowing l.now records first place (M.now m.old).image →
-        IsShowing l.now records first (place + 1) (M.now m.new).image) }
-    ensures not_shown { IfErr result (λ fault. (records : List Placed) (first : Image) → M.honest m.new → IsCalmNow (M.now m.old) → GivesPages log.now records first → IsShowing l.now records first place (M.now m.old).image →
-        LosesNone l.now records first fault) }
+    ensures goes_on { MendsFrom M.Machine l.now log.now place 0 (place + 1) 0 m.old m.new result }
+    ensures shown { ShowsFrom M.Machine l.now log.now place (place + 1) m.old m.new result }
 {
     let mut image = [0; 512];
     match log.image_of(m, page, &mut image) {
@@ -105,25 +88,15 @@ fn write_logged<M: Machine>(
 fn write_homes<M: Machine>(m: &mut M, l: &Layout, log: &Log, start: u32) -> Result<(), MountFault>
     requires layout { log.now.layout ≡ l.now }
     requires planned { plan l.now.kind l.now.sectors l.now.third l.now.pages ≡ Ok l.now }
-    requires start { IsHome l.now 0 start }
+    requires start { IsHomeOf l.now 0 start }
     requires room { l.now.sectors ≤ (M.report m.old).sectors }
 
     ensures mends { MendsCopies M.Machine (AreOfVolume l.now log.now) m.old m.new result }
     ensures most { M.tells m.new → (M.ledger m.new).written ≤ (M.ledger m.old).written + logged_count log.now l.now.pages }
-    ensures keeps { M.honest m.new → Keeps l.now (M.now m.old) (M.now m.new) }
+    ensures keeps { M.honest m.new → KeepsUnwritten l.now (M.now m.old) (M.now m.new) }
     ensures homes { OnOk result (M.honest m.new → AreHomed l.now log.now start 0 (M.now m.old) → AreHomed l.now log.now (start + l.now.pages) 0 (M.now m.new)) }
-    ensures any_moment { (windows : List Run) (choices : List (List (List ℕ))) (first : At) (c : IsCompleted l.now windows choices log.now first) → M.honest m.new →
-        IsMending l.now windows choices log.now first c start 0 (M.now m.old) →
-        LeavesOnly M.moment M.left_since m.old m.new (Stays l.now windows choices first) }
-    ensures done { OnOk result ((windows : List Run) (choices : List (List (List ℕ))) (first : At) (c : IsCompleted l.now windows choices log.now first) → M.honest m.new →
-        IsMending l.now windows choices log.now first c start 0 (M.now m.old) →
-        IsMending l.now windows choices log.now first c (start + l.now.pages) 0 (M.now m.new)) }
-    ensures never_lost { IfErr result (λ fault. (windows : List Run) (choices : List (List (List ℕ))) (first : At) (c : IsCompleted l.now windows choices log.now first) → M.honest m.new →
-        IsMending l.now windows choices log.now first c start 0 (M.now m.old) → IsExcuse fault) }
-    ensures shown { OnOk result ((records : List Placed) (first : Image) → M.honest m.new → IsCalmNow (M.now m.old) → GivesPages log.now records first → IsShowing l.now records first start (M.now m.old).image →
-        IsShowing l.now records first (start + l.now.pages) (M.now m.new).image) }
-    ensures not_shown { IfErr result (λ fault. (records : List Placed) (first : Image) → M.honest m.new → IsCalmNow (M.now m.old) → GivesPages log.now records first → IsShowing l.now records first start (M.now m.old).image →
-        LosesNone l.now records first fault) }
+    ensures goes_on { MendsFrom M.Machine l.now log.now start 0 (start + l.now.pages) 0 m.old m.new result }
+    ensures shown { ShowsFrom M.Machine l.now log.now start (start + l.now.pages) m.old m.new result }
 {
     for page in 0..l.pages() {
         write_logged(m, l, log, page, start + page)?;
@@ -142,16 +115,12 @@ fn heal_home<M: Machine>(m: &mut M, l: &Layout, page: u32) -> Result<(), MountFa
     ensures most { M.tells m.new → (M.ledger m.new).written ≤ (M.ledger m.old).written + 1 }
     ensures keeps { M.honest m.new → KeepsBut (home_a l.now page) (home_b l.now page) (M.now m.old) (M.now m.new) }
     ensures homes { OnOk result (M.honest m.new → HasBothHomes l.now (M.now m.new) page) }
-    ensures any_moment { (windows : List Run) (choices : List (List (List ℕ))) (log : LogValue) (first : At) (c : IsCompleted l.now windows choices log first) → M.honest m.new →
+    ensures goes_on { (windows : List WeakRun) (choices : List (List (List ℕ))) (log : LogValue) (first : At) (c : IsCompleted l.now windows choices log first) → M.honest m.new →
         IsMending l.now windows choices log first c (home_b l.now l.now.pages) page (M.now m.old) →
-        LeavesOnly M.moment M.left_since m.old m.new (Stays l.now windows choices first) }
-    ensures exit { (windows : List Run) (choices : List (List (List ℕ))) (log : LogValue) (first : At) (c : IsCompleted l.now windows choices log first) → M.honest m.new →
-        IsMending l.now windows choices log first c (home_b l.now l.now.pages) page (M.now m.old) → Stays l.now windows choices first (M.now m.new) }
-    ensures done { OnOk result ((windows : List Run) (choices : List (List (List ℕ))) (log : LogValue) (first : At) (c : IsCompleted l.now windows choices log first) → M.honest m.new →
-        last_image page (records_by l.now c.clean log.anchor) ≡ None → IsMending l.now windows choices log first c (home_b l.now l.now.pages) page (M.now m.old) →
-        IsMending l.now windows choices log first c (home_b l.now l.now.pages) (page + 1) (M.now m.new)) }
-    ensures shown { OnOk result (M.honest m.new → IsCalmNow (M.now m.old) → ChangesHome l.now page (M.now m.old).image (M.now m.new).image (home_of l.now (M.now m.old).image page)) }
-    ensures not_shown { IfErr result (λ fault. M.honest m.new → IsCalmNow (M.now m.old) → LosesHome l.now page (M.now m.old).image fault) }
+        MendsOn M.Machine l.now windows choices first
+        (last_image page (records_by l.now c.clean log.anchor) ≡ None → IsMending l.now windows choices log first c (home_b l.now l.now.pages) (page + 1) (M.now m.new)) m.old m.new result }
+    ensures shown { M.honest m.new → IsCalmNow (M.now m.old) →
+        MatchResult result (λ _. ChangesHome l.now page (M.now m.old).image (M.now m.new).image (home_of l.now (M.now m.old).image page)) (LosesHome l.now page (M.now m.old).image) }
 {
     match heal_page(m, l, page) {
         Ok(_) => Ok(()),
@@ -168,20 +137,10 @@ fn heal_other<M: Machine>(m: &mut M, l: &Layout, log: &Log, page: u32) -> Result
 
     ensures mends { MendsCopies M.Machine (AreHomes l.now) m.old m.new result }
     ensures most { M.tells m.new → (M.ledger m.new).written + one_if_some (slice_index_or log.now.slots page None) ≤ (M.ledger m.old).written + 1 }
-    ensures keeps { M.honest m.new → Keeps l.now (M.now m.old) (M.now m.new) }
+    ensures keeps { M.honest m.new → KeepsUnwritten l.now (M.now m.old) (M.now m.new) }
     ensures homes { OnOk result (M.honest m.new → AreHomed l.now log.now (home_b l.now l.now.pages) page (M.now m.old) → AreHomed l.now log.now (home_b l.now l.now.pages) (page + 1) (M.now m.new)) }
-    ensures any_moment { (windows : List Run) (choices : List (List (List ℕ))) (first : At) (c : IsCompleted l.now windows choices log.now first) → M.honest m.new →
-        IsMending l.now windows choices log.now first c (home_b l.now l.now.pages) page (M.now m.old) →
-        LeavesOnly M.moment M.left_since m.old m.new (Stays l.now windows choices first) }
-    ensures done { OnOk result ((windows : List Run) (choices : List (List (List ℕ))) (first : At) (c : IsCompleted l.now windows choices log.now first) → M.honest m.new →
-        IsMending l.now windows choices log.now first c (home_b l.now l.now.pages) page (M.now m.old) →
-        IsMending l.now windows choices log.now first c (home_b l.now l.now.pages) (page + 1) (M.now m.new)) }
-    ensures never_lost { IfErr result (λ fault. (windows : List Run) (choices : List (List (List ℕ))) (first : At) (c : IsCompleted l.now windows choices log.now first) → M.honest m.new →
-        IsMending l.now windows choices log.now first c (home_b l.now l.now.pages) page (M.now m.old) → IsExcuse fault) }
-    ensures shown { OnOk result ((records : List Placed) (first : Image) → M.honest m.new → IsCalmNow (M.now m.old) → GivesPages log.now records first → IsShowing l.now records first (home_b l.now l.now.pages) (M.now m.old).image →
-        IsShowing l.now records first (home_b l.now l.now.pages) (M.now m.new).image) }
-    ensures not_shown { IfErr result (λ fault. (records : List Placed) (first : Image) → M.honest m.new → IsCalmNow (M.now m.old) → GivesPages log.now records first → IsShowing l.now records first (home_b l.now l.now.pages) (M.now m.old).image →
-        LosesNone l.now records first fault) }
+    ensures goes_on { MendsFrom M.Machine l.now log.now (home_b l.now l.now.pages) page (home_b l.now l.now.pages) (page + 1) m.old m.new result }
+    ensures shown { ShowsFrom M.Machine l.now log.now (home_b l.now l.now.pages) (home_b l.now l.now.pages) m.old m.new result }
 {
     if log.has(page) {
         Ok(())
@@ -199,20 +158,10 @@ fn heal_others<M: Machine>(m: &mut M, l: &Layout, log: &Log) -> Result<(), Mount
 
     ensures mends { MendsCopies M.Machine (AreHomes l.now) m.old m.new result }
     ensures most { M.tells m.new → (M.ledger m.new).written + logged_count log.now l.now.pages ≤ (M.ledger m.old).written + l.now.pages }
-    ensures keeps { M.honest m.new → Keeps l.now (M.now m.old) (M.now m.new) }
+    ensures keeps { M.honest m.new → KeepsUnwritten l.now (M.now m.old) (M.now m.new) }
     ensures homes { OnOk result (M.honest m.new → AreHomed l.now log.now (home_b l.now l.now.pages) 0 (M.now m.old) → AreHomed l.now log.now (home_b l.now l.now.pages) l.now.pages (M.now m.new)) }
-    ensures any_moment { (windows : List Run) (choices : List (List (List ℕ))) (first : At) (c : IsCompleted l.now windows choices log.now first) → M.honest m.new →
-        IsMending l.now windows choices log.now first c (home_b l.now l.now.pages) 0 (M.now m.old) →
-        LeavesOnly M.moment M.left_since m.old m.new (Stays l.now windows choices first) }
-    ensures done { OnOk result ((windows : List Run) (choices : List (List (List ℕ))) (first : At) (c : IsCompleted l.now windows choices log.now first) → M.honest m.new →
-        IsMending l.now windows choices log.now first c (home_b l.now l.now.pages) 0 (M.now m.old) →
-        IsMending l.now windows choices log.now first c (home_b l.now l.now.pages) l.now.pages (M.now m.new)) }
-    ensures never_lost { IfErr result (λ fault. (windows : List Run) (choices : List (List (List ℕ))) (first : At) (c : IsCompleted l.now windows choices log.now first) → M.honest m.new →
-        IsMending l.now windows choices log.now first c (home_b l.now l.now.pages) 0 (M.now m.old) → IsExcuse fault) }
-    ensures shown { OnOk result ((records : List Placed) (first : Image) → M.honest m.new → IsCalmNow (M.now m.old) → GivesPages log.now records first → IsShowing l.now records first (home_b l.now l.now.pages) (M.now m.old).image →
-        IsShowing l.now records first (home_b l.now l.now.pages) (M.now m.new).image) }
-    ensures not_shown { IfErr result (λ fault. (records : List Placed) (first : Image) → M.honest m.new → IsCalmNow (M.now m.old) → GivesPages log.now records first → IsShowing l.now records first (home_b l.now l.now.pages) (M.now m.old).image →
-        LosesNone l.now records first fault) }
+    ensures goes_on { MendsFrom M.Machine l.now log.now (home_b l.now l.now.pages) 0 (home_b l.now l.now.pages) l.now.pages m.old m.new result }
+    ensures shown { ShowsFrom M.Machine l.now log.now (home_b l.now l.now.pages) (home_b l.now l.now.pages) m.old m.new result }
 {
     for page in 0..l.pages() {
         heal_other(m, l, log, page)?;
@@ -228,15 +177,12 @@ fn mend_pages<M: Machine>(m: &mut M, l: &Layout, log: &Log) -> Result<(), MountF
 
     ensures mends { MendsCopies M.Machine (AreOfVolume l.now log.now) m.old m.new result }
     ensures most { M.tells m.new → (M.ledger m.new).written ≤ (M.ledger m.old).written + 2 * l.now.pages }
-    ensures keeps { M.honest m.new → Keeps l.now (M.now m.old) (M.now m.new) }
+    ensures keeps { M.honest m.new → KeepsUnwritten l.now (M.now m.old) (M.now m.new) }
     ensures homes { OnOk result (M.honest m.new → (page : ℕ) → page < l.now.pages → HasBothHomes l.now (M.now m.new) page) }
-    ensures any_moment { (windows : List Run) (choices : List (List (List ℕ))) (c : IsCompleted l.now windows choices log.now (M.now m.old)) → M.honest m.new →
-        LeavesOnly M.moment M.left_since m.old m.new (Stays l.now windows choices (M.now m.old)) }
-    ensures done { OnOk result ((windows : List Run) (choices : List (List (List ℕ))) (c : IsCompleted l.now windows choices log.now (M.now m.old)) → M.honest m.new →
-        IsMending l.now windows choices log.now (M.now m.old) c (home_b l.now l.now.pages) l.now.pages (M.now m.new)) }
-    ensures never_lost { IfErr result (λ fault. (windows : List Run) (choices : List (List (List ℕ))) (c : IsCompleted l.now windows choices log.now (M.now m.old)) → M.honest m.new → IsExcuse fault) }
-    ensures shown { OnOk result ((records : List Placed) → M.honest m.new → IsCalmNow (M.now m.old) → GivesPages log.now records (M.now m.old).image → IsShowing l.now records (M.now m.old).image (home_b l.now l.now.pages) (M.now m.new).image) }
-    ensures not_shown { IfErr result (λ fault. (records : List Placed) → M.honest m.new → IsCalmNow (M.now m.old) → GivesPages log.now records (M.now m.old).image → LosesNone l.now records (M.now m.old).image fault) }
+    ensures goes_on { (windows : List WeakRun) (choices : List (List (List ℕ))) (c : IsCompleted l.now windows choices log.now (M.now m.old)) → M.honest m.new →
+        MendsOn M.Machine l.now windows choices (M.now m.old) (IsMending l.now windows choices log.now (M.now m.old) c (home_b l.now l.now.pages) l.now.pages (M.now m.new)) m.old m.new result }
+    ensures shown { (records : List Placed) → M.honest m.new → IsCalmNow (M.now m.old) → GivesPages log.now records (M.now m.old).image →
+        MatchResult result (λ _. IsShowing l.now records (M.now m.old).image (home_b l.now l.now.pages) (M.now m.new).image) (LosesNone l.now records (M.now m.old).image) }
 {
     write_homes(m, l, log, l.home_a(0))?;
     write_homes(m, l, log, l.home_b(0))?;
@@ -251,14 +197,9 @@ fn mend_roots<M: Machine>(m: &mut M, l: &Layout) -> Result<(), MountFault>
     ensures mends { MendsCopies M.Machine AreRoots m.old m.new result }
     ensures most { M.tells m.new → (M.ledger m.new).written ≤ (M.ledger m.old).written + 2 }
     ensures keeps { M.honest m.new → KeepsBut 0 4 (M.now m.old) (M.now m.new) }
-    ensures any_moment { (windows : List Run) (choices : List (List (List ℕ))) (log : LogValue) (first : At) (c : IsCompleted l.now windows choices log first) → M.honest m.new →
+    ensures goes_on { (windows : List WeakRun) (choices : List (List (List ℕ))) (log : LogValue) (first : At) (c : IsCompleted l.now windows choices log first) → M.honest m.new →
         IsMending l.now windows choices log first c (home_b l.now l.now.pages) l.now.pages (M.now m.old) →
-        LeavesOnly M.moment M.left_since m.old m.new (Stays l.now windows choices first) }
-    ensures done { OnOk result ((windows : List Run) (choices : List (List (List ℕ))) (log : LogValue) (first : At) (c : IsCompleted l.now windows choices log first) → M.honest m.new →
-        IsMending l.now windows choices log first c (home_b l.now l.now.pages) l.now.pages (M.now m.old) →
-        IsMended l.now windows choices log first c (M.now m.new)) }
-    ensures never_lost { IfErr result (λ fault. (windows : List Run) (choices : List (List (List ℕ))) (log : LogValue) (first : At) (c : IsCompleted l.now windows choices log first) → M.honest m.new →
-        IsMending l.now windows choices log first c (home_b l.now l.now.pages) l.now.pages (M.now m.old) → IsExcuse fault) }
+        MendsOn M.Machine l.now windows choices first (IsMended l.now windows choices log first c (M.now m.new)) m.old m.new result }
     ensures not_shown { IfErr result (λ fault. M.honest m.new → IsCalmNow (M.now m.old) → (HasNoRoot (M.now m.old).image → ⊥) → IsExcuse fault) }
 {
     match heal_root(m, l) {
@@ -275,11 +216,11 @@ pub(crate) fn mend<M: Machine>(m: &mut M, l: &Layout, log: &Log) -> Result<(), M
 
     ensures mends { MendsCopies M.Machine (AreOfAll l.now log.now) m.old m.new result }
     ensures most { M.tells m.new → (M.ledger m.new).written ≤ (M.ledger m.old).written + (2 * l.now.pages + 2) }
-    ensures keeps { M.honest m.new → Keeps l.now (M.now m.old) (M.now m.new) }
+    ensures keeps { M.honest m.new → KeepsUnwritten l.now (M.now m.old) (M.now m.new) }
     ensures homes { OnOk result (M.honest m.new → (page : ℕ) → page < l.now.pages → HasBothHomes l.now (M.now m.new) page) }
 
     // Of an image that shows a volume, and on which each record of the log is whole.
-    ensures goes_on { (windows : List Run) (choices : List (List (List ℕ))) (c : IsCompleted l.now windows choices log.now (M.now m.old)) → M.honest m.new →
+    ensures goes_on { (windows : List WeakRun) (choices : List (List (List ℕ))) (c : IsCompleted l.now windows choices log.now (M.now m.old)) → M.honest m.new →
         MendsOn M.Machine l.now windows choices (M.now m.old) (IsMended l.now windows choices log.now (M.now m.old) c (M.now m.new)) m.old m.new result }
 
     // Of any image on which nothing wears.

@@ -1,7 +1,7 @@
 //! The mount of a volume, up to its name table.
 ghost use Rattle.std.specs.Prelude.{◌≡◌, ℕ, List, IfOk, IfErr};
 ghost use Rattle.volume_layout.specs.declared.layout.Layout.{Layout as Plan};
-ghost use Rattle.sector_disk.specs.declared.sector.WeakRun.{WeakRun as Run};
+ghost use Rattle.sector_disk.specs.declared.sector.WeakRun.{WeakRun};
 ghost use Rattle.sector_disk.specs.Calls.{HealsDisk, device_in};
 ghost use Rattle.fsd_sound.specs.Mounting.{device_of_mount};
 ghost use Rattle.mount_recover.specs.Recover.{ShowsVolume};
@@ -9,7 +9,7 @@ ghost use Rattle.mount_recover.specs.Told.{FailsMount, Recovers, SettlesVolume};
 
 use crate::completing::complete;
 use crate::epoch::begin_epoch;
-use crate::finding::{Found, find_volume};
+use crate::finding::{FoundVolume, find_volume};
 use crate::mending::mend;
 use fsd_sound::MountFault;
 use log_thirds::Log;
@@ -19,7 +19,7 @@ use volume_layout::Layout;
 
 /// A volume whose log was replayed, and whose anchors name a new epoch in which nothing is logged yet.
 #[derive(Drop)]
-pub struct Settled {
+pub struct SettledVolume {
     pub layout: Layout,
     pub log: Log,
 }
@@ -27,7 +27,11 @@ pub struct Settled {
 /// Finds the volume of an image with so many sectors, brings every page that its log has home, and begins its next
 /// epoch (Hagmann 1987). What stands twice and is damaged is written from its twin. Needs room for the log and its
 /// table of the pages. The volume shows the same pages also where the disk fails, so it can be called again.
-pub fn recover<M: Machine>(alloc: Global, m: &mut M, sectors: u32) -> Result<Settled, MountFault>
+pub fn recover<M: Machine>(
+    alloc: Global,
+    m: &mut M,
+    sectors: u32,
+) -> Result<SettledVolume, MountFault>
     requires { sectors ≡ (M.report m.old).sectors }
 
     ensures disk { HealsDisk M.Machine (device_in device_of_mount result) m.old m.new }
@@ -35,10 +39,10 @@ pub fn recover<M: Machine>(alloc: Global, m: &mut M, sectors: u32) -> Result<Set
     ensures failed { IfErr result (FailsMount M.Machine sectors m.old m.new) }
 
     // Of an image that shows the pages of a volume.
-    ensures shows { (l : Plan) (windows : List Run) (choices : List (List (List ℕ))) → M.honest m.new → ShowsVolume sectors l windows choices (M.now m.old) →
+    ensures shows { (l : Plan) (windows : List WeakRun) (choices : List (List (List ℕ))) → M.honest m.new → ShowsVolume sectors l windows choices (M.now m.old) →
         Recovers M.Machine sectors m.old m.new l windows choices result }
 {
-    let Found {
+    let FoundVolume {
         layout,
         mut log,
         longest,
@@ -46,5 +50,5 @@ pub fn recover<M: Machine>(alloc: Global, m: &mut M, sectors: u32) -> Result<Set
     complete(m, &log, longest)?;
     mend(m, &layout, &log)?;
     begin_epoch(m, &mut log)?;
-    Ok(Settled { layout, log })
+    Ok(SettledVolume { layout, log })
 }

@@ -4,7 +4,7 @@ ghost use Rattle.volume_layout.specs.Layout.{plan};
 ghost use Rattle.volume_layout.specs.Root.{read_root};
 ghost use Rattle.sector_disk.specs.Calls.{OnlyReads, device_in, failed_at};
 ghost use Rattle.volume_layout.specs.Kinds.{longest_of};
-ghost use Rattle.fsd_files.specs.Disk.{either_copy};
+ghost use Rattle.fsd_files.specs.Disk.{first_whole};
 ghost use Rattle.fsd_sound.specs.Roots.{counted_root, root_at};
 ghost use Rattle.mount_recover.specs.Finding.{SeesRoots};
 
@@ -66,7 +66,7 @@ fn borne(root: Option<Layout>) -> u32
 impl Roots {
     // The first, else the second.
     pub(crate) fn taken(&self) -> Option<Layout>
-        ensures { result ≡ either_copy self.now.first self.now.second }
+        ensures { result ≡ first_whole self.now.first self.now.second }
     {
         match self.first {
             Some(l) => Some(l),

@@ -8,8 +8,8 @@ use Rattle.fsd_formats.specs.NamePage.{Content, read_page}
 use Rattle.fsd_formats.specs.declared.page.Page.{Page}
 use Rattle.name_page.specs.declared.fault.PageFault.{PageFault}
 use Rattle.name_page.specs.Reading.{head_of}
-use Rattle.page_cache.specs.Accepted.{AreAccepted}
-use Rattle.page_cache.specs.Cache.{Held, CacheValue, IsCache, held, frame_for, leaver, staying, used, entered, with_bytes, with_pins}
+use Rattle.page_cache.specs.Accepted.{HasAccepted}
+use Rattle.page_cache.specs.Cache.{Held, CacheValue, IsCache, held, frame_for, leaver, staying, used, entered_page, page_written, with_pins}
 use Rattle.page_cache.proofs.Entries.{by_bool, by_option}
 use Rattle.page_cache.proofs.CacheLaws.{altered_lookup, frames_apart}
 use Rattle.page_cache.proofs.NewestLaws.{Stood, stood, used_held}
@@ -34,7 +34,7 @@ no_mark : {P : Type 0} (n : ℕ) → n ≡ 0 → 0 < n → P
 no_mark n is some = absurd (omega (arith, is, some))
 
 -- where no frame is marked
-pub none_accepted : (n : ℕ) (c : CacheValue) → AreAccepted (no_marks n) c
+pub none_accepted : (n : ℕ) (c : CacheValue) → HasAccepted (no_marks n) c
 none_accepted n c page h is some = no_mark (slice_index_or (no_marks n) h.frame 0) (none_marked n h.frame) some
 
 -- the mark of another frame is what it was
@@ -51,14 +51,14 @@ unmarked_at : (marks : List ℕ) (frame : ℕ) (f : ℕ) {P : Type 0} → f ≡ 
 unmarked_at marks frame f is some =
     no_mark (slice_index_or (slice_set marks frame 0) f 0) (ap (λ (k : ℕ). slice_index_or (slice_set marks frame 0) k 0) is ∙ unmarked marks frame) some
 
-pub unmarked_accepted : (marks : List ℕ) (frame : ℕ) (c : CacheValue) → AreAccepted marks c → AreAccepted (slice_set marks frame 0) c
+pub unmarked_accepted : (marks : List ℕ) (frame : ℕ) (c : CacheValue) → HasAccepted marks c → HasAccepted (slice_set marks frame 0) c
 unmarked_accepted marks frame c all page h is some = by_bool (nat_eq h.frame frame)
     (λ t. unmarked_at marks frame h.frame (eqb-true h.frame frame t) some)
     (λ t. by_other marks frame 0 page h (eqb-false h.frame frame t) (all page h is) some)
 
 -- ---- use and pins
 
-pub used_accepted : (marks : List ℕ) (page : ℕ) (c : CacheValue) → AreAccepted marks c → AreAccepted marks (used page c)
+pub used_accepted : (marks : List ℕ) (page : ℕ) (c : CacheValue) → HasAccepted marks c → HasAccepted marks (used page c)
 used_accepted marks page c all q h is some = all q h (sym (used_held page c q) ∙ is) some
 
 module _ (marks : List ℕ) (page pins : ℕ) (c : CacheValue) where
@@ -68,7 +68,7 @@ module _ (marks : List ℕ) (page pins : ℕ) (c : CacheValue) where
   abbrev Fits : ℕ → Held → Type 0
   Fits q x = 0 < slice_index_or marks x.frame 0 → IsSome (read_page q (slice_index_or marks x.frame 0) x.bytes)
 
-  pub pinned_accepted : AreAccepted marks c → AreAccepted marks (with_pins page pins c)
+  pub pinned_accepted : HasAccepted marks c → HasAccepted marks (with_pins page pins c)
   pinned_accepted all q h is = by_option (held c q)
       (λ x on. by_bool (nat_eq page q)
       (λ t. let pinned : Some (set_pins x) ≡ Some h = rw (t, on) at here in
@@ -90,7 +90,7 @@ module _ (marks : List ℕ) (page : ℕ) (bytes : List ℕ) (c : CacheValue) whe
   abbrev set_bytes : Held → Held
   set_bytes x = record x { bytes = bytes }
 
-  pub written_accepted : (x : Held) → held c page ≡ Some x → AreAccepted marks c → AreAccepted (slice_set marks x.frame 0) (with_bytes page bytes c)
+  pub written_accepted : (x : Held) → held c page ≡ Some x → HasAccepted marks c → HasAccepted (slice_set marks x.frame 0) (page_written page bytes c)
   written_accepted x on all q h is some = by_bool (nat_eq page q)
       (λ t. let there : held c q ≡ Some x = subst (λ (k : ℕ). held c k ≡ Some x) (eqb-true page q t) on in
       let written : Some (set_bytes x) ≡ Some h = rw (t, there) at here in
@@ -104,7 +104,7 @@ module _ (marks : List ℕ) (page : ℕ) (bytes : List ℕ) (c : CacheValue) whe
   abbrev new : Held
   new = record { frame = frame_for c; bytes = bytes; pins = 0 }
 
-  pub entered_accepted : (frame : ℕ) → IsCache c → frame ≡ frame_for c → AreAccepted marks c → AreAccepted (slice_set marks frame 0) (entered page bytes c)
+  pub entered_accepted : (frame : ℕ) → IsCache c → frame ≡ frame_for c → HasAccepted marks c → HasAccepted (slice_set marks frame 0) (entered_page page bytes c)
   entered_accepted frame whole at all q h is some = by_bool (nat_eq q page)
       (λ t. let enters : Some new ≡ Some h = rw t at is in
       let one : new ≡ h = cc in
@@ -123,11 +123,11 @@ set_mark [] f n = inr refl
 set_mark (x ∷ marks) zero n = inl refl
 set_mark (x ∷ marks) (suc f) n = set_mark marks f n
 
-module _ (marks : List ℕ) (c : CacheValue) (whole : IsCache c) (all : AreAccepted marks c) (page pages : ℕ) (x : Held) (on : held c page ≡ Some x) where
+module _ (marks : List ℕ) (c : CacheValue) (whole : IsCache c) (all : HasAccepted marks c) (page pages : ℕ) (x : Held) (on : held c page ≡ Some x) where
   abbrev mark : ℕ → ℕ
   mark f = slice_index_or (slice_set marks x.frame pages) f 0
 
-  pub marked_accepted : IsSome (read_page page pages x.bytes) → AreAccepted (slice_set marks x.frame pages) c
+  pub marked_accepted : IsSome (read_page page pages x.bytes) → HasAccepted (slice_set marks x.frame pages) c
   marked_accepted accepts q h is some = by_bool (nat_eq h.frame x.frame)
       (λ t. by_bool (nat_eq q page)
       (λ u. here (eqb-true q page u) (set_mark marks x.frame pages))

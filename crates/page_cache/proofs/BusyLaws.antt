@@ -7,7 +7,7 @@ use Rattle.std.proofs.lemmas.Bool.{true≢false}
 use Rattle.std.proofs.lemmas.List.Folds.{list_any-append}
 use Rattle.std.proofs.lemmas.List.Sums.{sum_by-cons}
 use Rattle.std.proofs.lemmas.Map.Keys.{IsDistinct-head, IsDistinct-tail}
-use Rattle.page_cache.specs.Cache.{Held, CacheValue, IsCache, IsResident, held, is_one_of, is_idle, idle, IsBusy, busy, frame_for, leaver, staying, altered, used, entered, with_pins, with_dirty}
+use Rattle.page_cache.specs.Cache.{Held, CacheValue, IsCache, IsResident, held, is_among, may_leave, idle, IsBusy, busy, frame_for, leaver, staying, altered, used, entered_page, with_pins, with_dirty}
 use Rattle.page_cache.proofs.Entries.{by_bool, by_option, entry_some, find_back, entry_none, lookup_removed}
 use Rattle.page_cache.proofs.CacheLaws.{promoted_is, used_absent}
 use Rattle.page_cache.proofs.ShownLaws.{altered_none}
@@ -41,7 +41,7 @@ busy_used page c = by_option (held c page)
     (λ none. ap busy (used_absent page c none))
 
 -- a page that is not in memory is not dirty
-not_dirty : (page : ℕ) (P : ℕ → Type 0) (ds : List ℕ) → AllByRecursion P ds → (P page → ⊥) → is_one_of ds page ≡ false
+not_dirty : (page : ℕ) (P : ℕ → Type 0) (ds : List ℕ) → AllByRecursion P ds → (P page → ⊥) → is_among ds page ≡ false
 not_dirty page P [] h never = refl
 not_dirty page P (d ∷ ds) h never = by_bool (nat_eq d page) (λ t. absurd (never (subst P (eqb-true d page t) h.0))) (λ t. rw t (not_dirty page P ds h.1 never))
 
@@ -56,10 +56,10 @@ busy_staying c h = by_bool (length c.resident == c.frames)
     (λ none. rw (full, none) refl))
     (λ free. rw free refl)
 
-pub busy_entered : (page : ℕ) (bytes : List ℕ) (c : CacheValue) → IsCache c → held c page ≡ None → busy (entered page bytes c) ≡ busy c
+pub busy_entered : (page : ℕ) (bytes : List ℕ) (c : CacheValue) → IsCache c → held c page ≡ None → busy (entered_page page bytes c) ≡ busy c
 busy_entered page bytes c h new =
     let clean = not_dirty page (IsResident c) c.dirty h.waiting (λ some. true≢false (sym some ∙ ap is_some new)) in
-    let head : one (not (is_idle c.dirty page 0)) ≡ 0 = ap (λ (u : Bool). one (not ((0 == 0) && not u))) clean in
+    let head : one (not (may_leave c.dirty page 0)) ≡ 0 = ap (λ (u : Bool). one (not ((0 == 0) && not u))) clean in
     let first = count_cons (λ (e : ℕ × Held). not (idle c e)) (page, record { frame = frame_for c; bytes = bytes; pins = 0 }) (staying (leaver c) c.resident) in
     let rest = busy_staying c h in
     omega (arith, first, head, rest)
@@ -90,13 +90,13 @@ module _ (page pins : ℕ) (c : CacheValue) where
 
 module _ (page : ℕ) (ds : List ℕ) where
   abbrev was : ℕ × Held → Bool
-  was e = not (is_idle ds e.0 e.1.pins)
+  was e = not (may_leave ds e.0 e.1.pins)
 
   abbrev is : ℕ × Held → Bool
-  is e = not (is_idle (ds ++ page ∷ []) e.0 e.1.pins)
+  is e = not (may_leave (ds ++ page ∷ []) e.0 e.1.pins)
 
   other : (e : ℕ × Held) → nat_eq page e.0 ≡ false → is e ≡ was e
-  other e t = ap (λ (u : Bool). not ((e.1.pins == 0) && not u)) (list_any-append (λ q. nat_eq q e.0) ds (page ∷ []) ∙ rw t (or_nothing (is_one_of ds e.0)))
+  other e t = ap (λ (u : Bool). not ((e.1.pins == 0) && not u)) (list_any-append (λ q. nat_eq q e.0) ds (page ∷ []) ∙ rw t (or_nothing (is_among ds e.0)))
 
   count_same : (es : List (ℕ × Held)) → AllByRecursion (λ k. nat_eq page k ≡ false) (keys_of es) → count_by is es ≡ count_by was es
   count_same [] k = refl
@@ -114,7 +114,7 @@ module _ (page : ℕ) (ds : List ℕ) where
       (λ t. let on = count_more es (IsDistinct-tail nat_eq x.0 (keys_of es) d) in let eq : one (is x) ≡ one (was x) = ap one (other x t) in omega (arith, after, before, on, eq))
 
 pub busy_dirtied : (page : ℕ) (c : CacheValue) → IsCache c → busy (with_dirty page c) ≤ busy c + 1
-busy_dirtied page c h = by_bool (is_one_of c.dirty page) (λ t. rw t (omega arith)) (λ t. rw t (count_more page c.dirty c.resident h.pages))
+busy_dirtied page c h = by_bool (is_among c.dirty page) (λ t. rw t (omega arith)) (λ t. rw t (count_more page c.dirty c.resident h.pages))
 
 -- ---- so many at most: a dirty page is counted in the list, and a pinned one by its pins
 
@@ -152,24 +152,24 @@ neither true false = omega arith
 neither false true = omega arith
 neither false false = omega arith
 
-pub count_dirty : (ds : List ℕ) (es : List (ℕ × Held)) → IsDistinct nat_eq (keys_of es) → count_by (λ e. is_one_of ds e.0) es ≤ length ds
+pub count_dirty : (ds : List ℕ) (es : List (ℕ × Held)) → IsDistinct nat_eq (keys_of es) → count_by (λ e. is_among ds e.0) es ≤ length ds
 count_dirty [] es h = count_no es
   where
-    count_no : (fs : List (ℕ × Held)) → count_by (λ (e : ℕ × Held). is_one_of [] e.0) fs ≤ 0
+    count_no : (fs : List (ℕ × Held)) → count_by (λ (e : ℕ × Held). is_among [] e.0) fs ≤ 0
     count_no [] = omega arith
-    count_no (y ∷ fs) = let all = count_cons (λ e. is_one_of [] e.0) y fs in let on = count_no fs in omega (arith, all, on)
+    count_no (y ∷ fs) = let all = count_cons (λ e. is_among [] e.0) y fs in let on = count_no fs in omega (arith, all, on)
 count_dirty (d ∷ ds) es h =
-    let both = count_or (λ e. nat_eq d e.0) (λ e. is_one_of ds e.0) (λ e. is_one_of (d ∷ ds) e.0) (λ e. either (nat_eq d e.0) (is_one_of ds e.0)) es in
+    let both = count_or (λ e. nat_eq d e.0) (λ e. is_among ds e.0) (λ e. is_among (d ∷ ds) e.0) (λ e. either (nat_eq d e.0) (is_among ds e.0)) es in
     let a = count_key d es h in let b = count_dirty ds es h in omega (arith, both, a, b)
 
 pub busy_at_most : (c : CacheValue) → IsCache c → busy c ≤ length c.dirty + pinned c
 busy_at_most c h =
-    let both = count_or (λ e. not (e.1.pins == 0)) (λ e. is_one_of c.dirty e.0) (λ e. not (idle c e)) (λ e. neither (e.1.pins == 0) (is_one_of c.dirty e.0)) c.resident in
+    let both = count_or (λ e. not (e.1.pins == 0)) (λ e. is_among c.dirty e.0) (λ e. not (idle c e)) (λ e. neither (e.1.pins == 0) (is_among c.dirty e.0)) c.resident in
     let a = count_dirty c.dirty c.resident h.pages in omega (arith, both, a)
 
 -- ---- a page that is dirty or pinned stays
 
-pub busy_stays : (page : ℕ) (bytes : List ℕ) (c : CacheValue) (q : ℕ) (x : Held) → IsCache c → held c page ≡ None → IsBusy c q x → held (entered page bytes c) q ≡ Some x
+pub busy_stays : (page : ℕ) (bytes : List ℕ) (c : CacheValue) (q : ℕ) (x : Held) → IsCache c → held c page ≡ None → IsBusy c q x → held (entered_page page bytes c) q ≡ Some x
 busy_stays page bytes c q x h new busy_at =
     let apart : nat_eq q page ≡ false = by_bool (nat_eq q page) (λ t. let bad : Some x ≡ None = sym busy_at.0 ∙ subst (λ (k : ℕ). held c k ≡ None) (sym (eqb-true q page t)) new in cc) (λ t. t) in
     rw apart (by_bool (length c.resident == c.frames)
@@ -189,5 +189,5 @@ busy_stays page bytes c q x h new busy_at =
         let at : held c q ≡ Some e.1 = subst (λ (k : ℕ). held c k ≡ Some e.1) (sym (eqb-true q e.0 t)) (finds.value ∙ ap (λ (g : ℕ × Held). Some g.1) (sym first)) in
         let eq : Some x ≡ Some e.1 = sym busy_at.0 ∙ at in
         let value : x ≡ e.1 = cc in
-        absurd (true≢false (sym is_it ∙ (λ i. is_idle c.dirty (sym (eqb-true q e.0 t) i) (sym value i).pins) ∙ busy_at.1)))
+        absurd (true≢false (sym is_it ∙ (λ i. may_leave c.dirty (sym (eqb-true q e.0 t) i) (sym value i).pins) ∙ busy_at.1)))
         (λ t. t)

@@ -9,7 +9,7 @@ use Rattle.std.proofs.lemmas.Bool.{ne_eqb, eqb-false, true≢false, and_parts, n
 use Rattle.std.proofs.lemmas.Map.Keys.{IsDistinct-head, IsDistinct-tail, IsDistinct-cons, IsDistinct-push}
 use Rattle.lru.specs.LruCache.{promoted}
 use Rattle.fsd_table.proofs.BoundLaws.{all_append}
-use Rattle.page_cache.specs.Cache.{Held, CacheValue, IsCache, IsResident, held, is_one_of, idle, busy, leaver, staying, frame_for, altered, used, entered, with_bytes, with_pins, with_dirty, cleaned, no_pages, frames_of}
+use Rattle.page_cache.specs.Cache.{Held, CacheValue, IsCache, IsResident, held, is_among, idle, busy, leaver, staying, frame_for, altered, used, entered_page, page_written, with_pins, with_dirty, cleaned, no_pages, frames_held}
 use Rattle.page_cache.proofs.Entries.{by_bool, by_option, key_flips, key_moves, All-at, Finds, entry_none, entry_some, All-entry, All-removed, distinct_removed, apart_removed, length-removed, lookup_removed, find_back, some_back}
 
 module _ {X : Type 0} where
@@ -50,7 +50,7 @@ module _ {X : Type 0} where
 
 pub record SamePages (old new : CacheValue) : Type 0 where
   pub keys : keys_of new.resident ≡ keys_of old.resident
-  pub taken : frames_of new.resident ≡ frames_of old.resident
+  pub taken : frames_held new.resident ≡ frames_held old.resident
   pub count : length new.resident ≡ length old.resident
   pub frames : new.frames ≡ old.frames
   pub dirty : new.dirty ≡ old.dirty
@@ -60,7 +60,7 @@ pub same_cache : (old new : CacheValue) → SamePages old new → IsCache old �
 same_cache old new same h = record {
   pages = subst (IsDistinct nat_eq) (sym same.keys) h.pages;
   frames = subst (IsDistinct nat_eq) (sym same.taken) h.frames;
-  first = subst (λ n. AllByRecursion (λ frame. frame < n) (frames_of new.resident)) (sym same.count) (subst (AllByRecursion (λ frame. frame < length old.resident)) (sym same.taken) h.first);
+  first = subst (λ n. AllByRecursion (λ frame. frame < n) (frames_held new.resident)) (sym same.count) (subst (AllByRecursion (λ frame. frame < length old.resident)) (sym same.taken) h.first);
   fit = (let fits = h.fit in let c = same.count in let f = same.frames in omega arith);
   once = subst (IsDistinct nat_eq) (sym same.dirty) h.once;
   few = subst (λ (ds : List ℕ). length ds ≤ 96) (sym same.dirty) h.few;
@@ -76,7 +76,7 @@ module _ (page : ℕ) (f : Held → Held) where
   altered_length [] = refl
   altered_length (x ∷ es) = ap suc (altered_length es)
 
-  pub altered_frames : ((h : Held) → (f h).frame ≡ h.frame) → (es : List (ℕ × Held)) → frames_of (altered page f es) ≡ frames_of es
+  pub altered_frames : ((h : Held) → (f h).frame ≡ h.frame) → (es : List (ℕ × Held)) → frames_held (altered page f es) ≡ frames_held es
   altered_frames keeps [] = refl
   altered_frames keeps (x ∷ es) =
       let first : (cond (nat_eq page x.0) (f x.1) x.1).frame ≡ x.1.frame = by_bool (nat_eq page x.0) (λ t. rw t (keeps x.1)) (λ t. rw t refl) in
@@ -105,8 +105,8 @@ module _ (page : ℕ) (f : Held → Held) where
     there = λ q. altered_there q c.resident;
   }
 
-pub with_bytes_cache : (page : ℕ) (bytes : List ℕ) (c : CacheValue) → IsCache c → IsCache (with_bytes page bytes c)
-with_bytes_cache page bytes c = same_cache c (with_bytes page bytes c) (altered_same page (λ h. record h { bytes = bytes }) (λ h. refl) c)
+pub with_bytes_cache : (page : ℕ) (bytes : List ℕ) (c : CacheValue) → IsCache c → IsCache (page_written page bytes c)
+with_bytes_cache page bytes c = same_cache c (page_written page bytes c) (altered_same page (λ h. record h { bytes = bytes }) (λ h. refl) c)
 
 pub with_pins_cache : (page pins : ℕ) (c : CacheValue) → IsCache c → IsCache (with_pins page pins c)
 with_pins_cache page pins c = same_cache c (with_pins page pins c) (altered_same page (λ h. record h { pins = pins }) (λ h. refl) c)
@@ -124,7 +124,7 @@ used_there page c there h =
     record {
       pages = promoted_distinct page c.resident finds (λ e. e.0) h.pages;
       frames = promoted_distinct page c.resident finds (λ e. e.1.frame) h.frames;
-      first = subst (λ n. AllByRecursion (λ frame. frame < n) (frames_of (used page c).resident)) (sym long) (promoted_all page c.resident finds (λ e. e.1.frame) (λ frame. frame < length c.resident) h.first);
+      first = subst (λ n. AllByRecursion (λ frame. frame < n) (frames_held (used page c).resident)) (sym long) (promoted_all page c.resident finds (λ e. e.1.frame) (λ frame. frame < length c.resident) h.first);
       fit = (let fits = h.fit in omega arith);
       once = h.once;
       few = h.few;
@@ -145,14 +145,14 @@ pub cleaned_cache : (c : CacheValue) → IsCache c → IsCache (cleaned c)
 cleaned_cache c h = record { pages = h.pages; frames = h.frames; first = h.first; fit = h.fit; once = distinct_nil; few = omega arith; waiting = tt }
 
 -- the tests of a list for a page, in either order of the two sides
-any_flips : (page : ℕ) (xs : List ℕ) → list_any (nat_eq page) xs ≡ is_one_of xs page
+any_flips : (page : ℕ) (xs : List ℕ) → list_any (nat_eq page) xs ≡ is_among xs page
 any_flips page [] = refl
 any_flips page (x ∷ xs) = by_bool (nat_eq page x)
     (λ t. rw (t, key_flips page x true t) refl)
     (λ t. rw (t, key_flips page x false t) (any_flips page xs))
 
-pub with_dirty_cache : (page : ℕ) (c : CacheValue) → IsResident c page → (is_one_of c.dirty page ≡ false → length c.dirty < 96) → IsCache c → IsCache (with_dirty page c)
-with_dirty_cache page c there room h = by_bool (is_one_of c.dirty page)
+pub with_dirty_cache : (page : ℕ) (c : CacheValue) → IsResident c page → (is_among c.dirty page ≡ false → length c.dirty < 96) → IsCache c → IsCache (with_dirty page c)
+with_dirty_cache page c there room h = by_bool (is_among c.dirty page)
     (λ t. rw t h)
     (λ t. rw t (record {
       pages = h.pages;
@@ -170,9 +170,9 @@ with_dirty_cache page c there room h = by_bool (is_one_of c.dirty page)
 pub record Stays (c : CacheValue) (page frame : ℕ) (stay : List (ℕ × Held)) : Type 0 where
   pub pages : IsDistinct nat_eq (keys_of stay)
   pub new : AllByRecursion (λ y. nat_eq page y ≡ false) (keys_of stay)
-  pub frames : IsDistinct nat_eq (frames_of stay)
-  pub apart : AllByRecursion (λ y. nat_eq frame y ≡ false) (frames_of stay)
-  pub first : AllByRecursion (λ y. y < suc (length stay)) (frames_of stay)
+  pub frames : IsDistinct nat_eq (frames_held stay)
+  pub apart : AllByRecursion (λ y. nat_eq frame y ≡ false) (frames_held stay)
+  pub first : AllByRecursion (λ y. y < suc (length stay)) (frames_held stay)
   pub within : frame < suc (length stay)
   pub fit : length stay < c.frames
   pub waiting : AllByRecursion (λ q. IsSome (lookup (nat_eq q) stay)) c.dirty
@@ -181,7 +181,7 @@ pub stays_cache : (c : CacheValue) (page frame : ℕ) (bytes : List ℕ) (stay :
     → IsCache (record c { resident = (page, record { frame = frame; bytes = bytes; pins = 0 }) ∷ stay })
 stays_cache c page frame bytes stay s h = record {
   pages = IsDistinct-cons nat_eq page (keys_of stay) s.new s.pages;
-  frames = IsDistinct-cons nat_eq frame (frames_of stay) s.apart s.frames;
+  frames = IsDistinct-cons nat_eq frame (frames_held stay) s.apart s.frames;
   first = (s.within, s.first);
   fit = s.fit;
   once = h.once;
@@ -191,9 +191,9 @@ stays_cache c page frame bytes stay s h = record {
 }
 
 -- a page that is not in a list differs from each of it
-not_among : (k : ℕ) (xs : List ℕ) → is_one_of xs k ≡ false → AllByRecursion (λ q. nat_eq q k ≡ false) xs
+not_among : (k : ℕ) (xs : List ℕ) → is_among xs k ≡ false → AllByRecursion (λ q. nat_eq q k ≡ false) xs
 not_among k [] h = tt
-not_among k (x ∷ xs) h = let parts = or_parts (nat_eq x k) (is_one_of xs k) h in (parts.0, not_among k xs parts.1)
+not_among k (x ∷ xs) h = let parts = or_parts (nat_eq x k) (is_among xs k) h in (parts.0, not_among k xs parts.1)
 
 All-both : {X : Type 0} (P Q : X → Type 0) (xs : List X) → AllByRecursion P xs → AllByRecursion Q xs → AllByRecursion (λ x. P x × Q x) xs
 All-both P Q [] p q = tt
@@ -211,13 +211,13 @@ module _ (c : CacheValue) (page : ℕ) (h : IsCache c) (new : held c page ≡ No
       let long = length-removed (nat_eq e.0) c.resident finds in
       let count : suc (length (remove_entry (nat_eq e.0) c.resident)) ≡ length c.resident = omega arith in
       let whole : length c.resident ≡ c.frames = eqb-true (length c.resident) c.frames full in
-      let clean = not-true (is_one_of c.dirty e.0) (and_parts (e.1.pins == 0) (not (is_one_of c.dirty e.0)) on.1).1 in
+      let clean = not-true (is_among c.dirty e.0) (and_parts (e.1.pins == 0) (not (is_among c.dirty e.0)) on.1).1 in
       record {
         pages = distinct_removed (λ g. g.0) (nat_eq e.0) c.resident h.pages;
         new = All-removed (λ g. g.0) (λ y. nat_eq page y ≡ false) (nat_eq e.0) c.resident (all_apart page c.resident new);
         frames = distinct_removed (λ g. g.1.frame) (nat_eq e.0) c.resident h.frames;
         apart = apart_removed (λ g. g.1.frame) (nat_eq e.0) c.resident e h.frames on.0;
-        first = subst (λ n. AllByRecursion (λ y. y < n) (frames_of (remove_entry (nat_eq e.0) c.resident))) (sym count) (All-removed (λ g. g.1.frame) (λ y. y < length c.resident) (nat_eq e.0) c.resident h.first);
+        first = subst (λ n. AllByRecursion (λ y. y < n) (frames_held (remove_entry (nat_eq e.0) c.resident))) (sym count) (All-removed (λ g. g.1.frame) (λ y. y < length c.resident) (nat_eq e.0) c.resident h.first);
         within = subst (λ n. e.1.frame < n) (sym count) (All-entry (λ g. g.1.frame) (λ y. y < length c.resident) (nat_eq e.0) c.resident e h.first on.0);
         fit = omega arith;
         waiting = All-at (λ q. IsResident c q × (nat_eq q e.0 ≡ false)) (λ q. IsSome (lookup (nat_eq q) (remove_entry (nat_eq e.0) c.resident)))
@@ -236,8 +236,8 @@ module _ (c : CacheValue) (page : ℕ) (h : IsCache c) (new : held c page ≡ No
         pages = h.pages;
         new = all_apart page c.resident new;
         frames = h.frames;
-        apart = below_apart (length c.resident) (frames_of c.resident) h.first;
-        first = All-at (λ y. y < length c.resident) (λ y. y < suc (length c.resident)) (λ y lt. omega arith) (frames_of c.resident) h.first;
+        apart = below_apart (length c.resident) (frames_held c.resident) h.first;
+        first = All-at (λ y. y < length c.resident) (λ y. y < suc (length c.resident)) (λ y lt. omega arith) (frames_held c.resident) h.first;
         within = omega arith;
         fit = by_less ne fits;
         waiting = h.waiting;
@@ -259,14 +259,14 @@ module _ (c : CacheValue) (page : ℕ) (h : IsCache c) (new : held c page ≡ No
           let some = some_back (idle c) c.resident (subst (λ n. busy c < n) (sym whole) room) in
           true≢false (sym some ∙ ap is_some none)
 
-  pub entered_cache : (bytes : List ℕ) → IsCache (entered page bytes c)
+  pub entered_cache : (bytes : List ℕ) → IsCache (entered_page page bytes c)
   entered_cache bytes = stays_cache c page (frame_for c) bytes (staying (leaver c) c.resident) stays_of h
 
 -- pages that differ lie in frames that differ
-pub frames_apart : (es : List (ℕ × Held)) (p q : ℕ) (x y : Held) → IsDistinct nat_eq (frames_of es) → lookup (nat_eq p) es ≡ Some x → lookup (nat_eq q) es ≡ Some y → p ≢ q → x.frame ≢ y.frame
+pub frames_apart : (es : List (ℕ × Held)) (p q : ℕ) (x y : Held) → IsDistinct nat_eq (frames_held es) → lookup (nat_eq p) es ≡ Some x → lookup (nat_eq q) es ≡ Some y → p ≢ q → x.frame ≢ y.frame
 frames_apart [] p q x y d is on ne e = cc
 frames_apart (z ∷ es) p q x y d is on ne e =
-    let head = IsDistinct-head nat_eq z.1.frame (frames_of es) d in
+    let head = IsDistinct-head nat_eq z.1.frame (frames_held es) d in
     by_bool (nat_eq p z.0)
     (λ t. let z_x : Some z.1 ≡ Some x = rw t at is in let one : z.1 ≡ x = cc in
     by_bool (nat_eq q z.0)
@@ -275,9 +275,9 @@ frames_apart (z ∷ es) p q x y d is on ne e =
     (λ t. let rest = rw t at is in
     by_bool (nat_eq q z.0)
     (λ u. let z_y : Some z.1 ≡ Some y = rw u at on in let one : z.1 ≡ y = cc in eqb-false z.1.frame x.frame (behind es p x head rest) (ap (λ (h : Held). h.frame) one ∙ sym e))
-    (λ u. frames_apart es p q x y (IsDistinct-tail nat_eq z.1.frame (frames_of es) d) rest (rw u at on) ne e))
+    (λ u. frames_apart es p q x y (IsDistinct-tail nat_eq z.1.frame (frames_held es) d) rest (rw u at on) ne e))
   where
-    behind : (es : List (ℕ × Held)) (k : ℕ) (h : Held) → AllByRecursion (λ f. nat_eq z.1.frame f ≡ false) (frames_of es) → lookup (nat_eq k) es ≡ Some h → nat_eq z.1.frame h.frame ≡ false
+    behind : (es : List (ℕ × Held)) (k : ℕ) (h : Held) → AllByRecursion (λ f. nat_eq z.1.frame f ≡ false) (frames_held es) → lookup (nat_eq k) es ≡ Some h → nat_eq z.1.frame h.frame ≡ false
     behind es k h all is =
         let finds = entry_some (nat_eq k) es (rw is refl) in
         let same : Some h ≡ Some finds.entry.1 = sym is ∙ finds.value in

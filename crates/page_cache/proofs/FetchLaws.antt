@@ -1,25 +1,19 @@
 -- What a fetch leaves in memory.
 use Rattle.std.proofs.Common.{◌≡◌, ◌⊎◌, ℕ, List, Option, Result, Ok, Some, None, IsSome, refl, sym, ap, ◌∙◌, subst, inl, inr}
 use Rattle.std.specs.Prelude.{IfSome, OnOk, option_map}
-use Rattle.sector_disk.specs.declared.sector.Sector.{Sector}
-use Rattle.sector_disk.specs.declared.machine.LoadFault.{LoadFault}
-use Rattle.sector_disk.specs.declared.machine.LoadFault.TheVariants as load
-use Rattle.sector_disk.specs.Calls.{load_failed_at}
-use Rattle.sector_disk.specs.Damage as load_damage
 use Rattle.page_cache.specs.declared.fault.CacheFault.{CacheFault}
-use Rattle.page_cache.specs.Cache.{CacheValue, Held, IsCache, IsResident, IsBusy, bytes_of, held, used, entered}
-use Rattle.page_cache.specs.Fetch.{IsNotLost, LostCause, fault_of, fetch_failed_at}
+use Rattle.page_cache.specs.Cache.{CacheValue, Held, IsCache, IsResident, IsBusy, cached_bytes, held, used, entered_page}
 use Rattle.page_cache.proofs.Entries.{by_option, same_key}
 use Rattle.page_cache.proofs.NewestLaws.{used_held}
 use Rattle.page_cache.proofs.BusyLaws.{busy_stays}
 
 -- the page is in memory and is used, or it enters
 abbrev pub Fetched : ℕ → CacheValue → CacheValue → Type 0
-Fetched page old new = (IsResident old page × (new ≡ used page old)) ⊎ ((held old page ≡ None) × ((bytes : List ℕ) × (new ≡ entered page bytes old)))
+Fetched page old new = (IsResident old page × (new ≡ used page old)) ⊎ ((held old page ≡ None) × ((bytes : List ℕ) × (new ≡ entered_page page bytes old)))
 
 -- so it is where a fetch answers Ok
 pub fetched_of : (page : ℕ) (old new : CacheValue) (r : Result ℕ CacheFault) (frame : ℕ) (E : Type 0) → r ≡ Ok frame
-    → IfSome (held old page) (λ h. (r ≡ Ok h.frame) × (new ≡ used page old) × E) → (held old page ≡ None → OnOk r ((bytes : List ℕ) × (new ≡ entered page bytes old))) → Fetched page old new
+    → IfSome (held old page) (λ h. (r ≡ Ok h.frame) × (new ≡ used page old) × E) → (held old page ≡ None → OnOk r ((bytes : List ℕ) × (new ≡ entered_page page bytes old))) → Fetched page old new
 fetched_of page old new r frame E ok hit enters = by_option (held old page)
     (λ h is. inl (rw is refl, (rw is at hit).1))
     (λ none. inr (none, rw ok at (enters none)))
@@ -52,19 +46,5 @@ pub hit_of : (o : Option Held) (frame : ℕ) (P Q : Type 0) → Some frame ≡ o
 hit_of None frame P Q is p q = tt
 hit_of (Some h) frame P Q is p q = (cc is, p, q)
 
-pub entered_bytes : (page : ℕ) (bytes : List ℕ) (old new : CacheValue) → new ≡ entered page bytes old → bytes_of new page ≡ Some bytes
-entered_bytes page bytes old new is = ap (λ (c : CacheValue). bytes_of c page) is ∙ rw (same_key page) refl
-
--- ---- the fault of a load, as a fetch tells it
-
-pub load_place : (fault : LoadFault) → fetch_failed_at (fault_of fault) ≡ load_failed_at fault
-load_place (load.Device place) = refl
-load_place (load.Lost a b) = refl
-
-pub load_lost : (AreCopies : ℕ → ℕ → Type 0) (image : List Sector) (fault : LoadFault) → load_damage.LostCause AreCopies image fault → LostCause AreCopies image (fault_of fault)
-load_lost AreCopies image (load.Device place) lost = tt
-load_lost AreCopies image (load.Lost a b) lost = lost
-
-pub load_not_lost : (fault : LoadFault) → load_damage.IsDevice fault → IsNotLost (fault_of fault)
-load_not_lost (load.Device place) device = tt
-load_not_lost (load.Lost a b) device = device
+pub entered_bytes : (page : ℕ) (bytes : List ℕ) (old new : CacheValue) → new ≡ entered_page page bytes old → cached_bytes new page ≡ Some bytes
+entered_bytes page bytes old new is = ap (λ (c : CacheValue). cached_bytes c page) is ∙ rw (same_key page) refl

@@ -5,8 +5,8 @@ use Rattle.std.specs.List.{AllByRecursion, refill, length_refill}
 use Rattle.std.specs.Map.{keys_of, lookup}
 use Rattle.page_cache.specs.declared.cache.Slot.{Slot}
 use Rattle.page_cache.specs.declared.cache.Cache.TheInside.{Inside}
-use Rattle.page_cache.specs.Cache.{Held, CacheValue, IsCache, held, with_frames, frames_of}
-use Rattle.page_cache.specs.Inside.{shown, slot_shown, value_of, IsInside}
+use Rattle.page_cache.specs.Cache.{Held, CacheValue, IsCache, held, with_frames, frames_held}
+use Rattle.page_cache.specs.Inside.{entries_shown, slot_shown, value_of, IsInside}
 use Rattle.page_cache.proofs.Entries.{by_bool, by_option}
 use Rattle.page_cache.proofs.AcceptedLaws.{none_accepted}
 use Rattle.page_cache.proofs.CacheLaws.{same_cache}
@@ -20,7 +20,7 @@ module _ (ws : List (List ℕ)) where
   framed_keys [] = refl
   framed_keys (x ∷ es) = ap (λ l. x.0 ∷ l) (framed_keys es)
 
-  framed_frames : (es : List (ℕ × Held)) → frames_of (framed ws es) ≡ frames_of es
+  framed_frames : (es : List (ℕ × Held)) → frames_held (framed ws es) ≡ frames_held es
   framed_frames [] = refl
   framed_frames (x ∷ es) = ap (λ l. x.1.frame ∷ l) (framed_frames es)
 
@@ -56,7 +56,7 @@ module _ {X : Type 0} where
   got (x ∷ xs) (suc f) d h = got xs f d (omega arith)
 
 module _ (pool ws : List (List ℕ)) where
-  shown_refilled : (n : ℕ) (es : List (ℕ × Slot)) → n ≡ length pool → AllByRecursion (λ frame. frame < n) (frames_of (shown pool es)) → shown (refill n pool ws) es ≡ framed ws (shown pool es)
+  shown_refilled : (n : ℕ) (es : List (ℕ × Slot)) → n ≡ length pool → AllByRecursion (λ frame. frame < n) (frames_held (entries_shown pool es)) → entries_shown (refill n pool ws) es ≡ framed ws (entries_shown pool es)
   shown_refilled n [] e below = refl
   shown_refilled n (x ∷ es) e below =
       (λ i. (x.0, record { frame = x.1.frame; bytes = refill_at pool ws n x.1.frame [] below.0 e i; pins = x.1.pins }) ∷ shown_refilled n es e below.1 i)
@@ -66,8 +66,8 @@ All-less m n [] le h = tt
 All-less m n (x ∷ xs) le h = (omega (arith, h.0), All-less m n xs le h.1)
 
 module _ (i : Inside) (h : IsInside i) where
-  frames_below : AllByRecursion (λ frame. frame < length i.pool) (frames_of (value_of i).resident)
-  frames_below = All-less (length (value_of i).resident) (length i.pool) (frames_of (value_of i).resident) h.whole.fit h.whole.first
+  frames_below : AllByRecursion (λ frame. frame < length i.pool) (frames_held (value_of i).resident)
+  frames_below = All-less (length (value_of i).resident) (length i.pool) (frames_held (value_of i).resident) h.whole.fit h.whole.first
 
   -- all frames are written over
   pub frames_inside : (ws : List (List ℕ)) → let j : Inside = record i { pool = refill (length i.pool) i.pool ws; accepted = replicate 1024 0 } in IsInside j × (value_of j ≡ with_frames ws (value_of i))

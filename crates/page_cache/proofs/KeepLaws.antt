@@ -6,7 +6,7 @@ use Rattle.std.specs.Map.{lookup, keys_of}
 use Rattle.std.specs.Option.{option_map_or}
 use Rattle.std.proofs.lemmas.Bool.{true≢false, ne_eqb, eqb-false}
 use Rattle.std.proofs.lemmas.Map.Keys.{IsDistinct-head, IsDistinct-tail}
-use Rattle.page_cache.specs.Cache.{CacheValue, Held, IsCache, IsResident, held, bytes_of, pins_of, is_one_of, is_idle, busy, leaver, staying, with_pins}
+use Rattle.page_cache.specs.Cache.{CacheValue, Held, IsCache, IsResident, held, cached_bytes, pins_of, is_among, may_leave, busy, leaver, staying, with_pins}
 use Rattle.page_cache.proofs.Entries.{by_bool, by_option, same_key, key_flips}
 use Rattle.page_cache.proofs.CacheLaws.{all_gone, altered_lookup}
 use Rattle.page_cache.proofs.NewestLaws.{used_held, stood, Stood}
@@ -23,10 +23,10 @@ map_some : {A B : Type 0} (f : A → B) (o : Option A) → IsSome (option_map f 
 map_some f None h = h
 map_some f (Some x) h = refl
 
-pub resident_bytes : (c : CacheValue) (q : ℕ) → IsResident c q → IsSome (bytes_of c q)
+pub resident_bytes : (c : CacheValue) (q : ℕ) → IsResident c q → IsSome (cached_bytes c q)
 resident_bytes c q = some_map (λ (h : Held). h.bytes) (held c q)
 
-pub bytes_resident : (c : CacheValue) (q : ℕ) → IsSome (bytes_of c q) → IsResident c q
+pub bytes_resident : (c : CacheValue) (q : ℕ) → IsSome (cached_bytes c q) → IsResident c q
 bytes_resident c q = map_some (λ (h : Held). h.bytes) (held c q)
 
 -- a page that is pinned is there
@@ -46,7 +46,7 @@ module _ (page pins : ℕ) (c : CacheValue) (q : ℕ) where
   at : held (with_pins page pins c) q ≡ cond (nat_eq page q) (option_map set_pins (held c q)) (held c q)
   at = altered_lookup page set_pins q c.resident
 
-  pub pinned_bytes : bytes_of (with_pins page pins c) q ≡ bytes_of c q
+  pub pinned_bytes : cached_bytes (with_pins page pins c) q ≡ cached_bytes c q
   pinned_bytes = ap (option_map (λ (h : Held). h.bytes)) at ∙ by_bool (nat_eq page q) (λ t. rw t (same (held c q))) (λ t. rw t refl)
     where
       same : (o : Option Held) → option_map (λ (h : Held). h.bytes) (option_map set_pins o) ≡ option_map (λ (h : Held). h.bytes) o
@@ -69,7 +69,7 @@ no_pins o = option_map_or (λ h. h.pins) o 0
 
 module _ (page : ℕ) (old new : CacheValue) (whole : IsCache old) (at : Fetched page old new) where
   -- what is dirty or pinned has the bytes and the pins that it had
-  pub fetched_keeps : (q : ℕ) → IsResident old q → (is_one_of old.dirty q ≡ true) ⊎ (0 < pins_of old q) → held new q ≡ held old q
+  pub fetched_keeps : (q : ℕ) → IsResident old q → (is_among old.dirty q ≡ true) ⊎ (0 < pins_of old q) → held new q ≡ held old q
   fetched_keeps q there busy = by_option (held old q)
       (λ x is. fetched_stays page old new whole at q x (is, idle x is busy) ∙ sym is)
       (λ none. absurd (true≢false (sym there ∙ ap is_some none)))
@@ -78,11 +78,11 @@ module _ (page : ℕ) (old new : CacheValue) (whole : IsCache old) (at : Fetched
       and_not true = refl
       and_not false = refl
 
-      idle : (x : Held) → held old q ≡ Some x → (is_one_of old.dirty q ≡ true) ⊎ (0 < pins_of old q) → is_idle old.dirty q x.pins ≡ false
+      idle : (x : Held) → held old q ≡ Some x → (is_among old.dirty q ≡ true) ⊎ (0 < pins_of old q) → may_leave old.dirty q x.pins ≡ false
       idle x is (inl dirty) = ap (λ (t : Bool). (x.pins == 0) && not t) dirty ∙ and_not (x.pins == 0)
       idle x is (inr some) =
           let more : 0 < x.pins = subst (λ (o : Option Held). 0 < no_pins o) is some in
-          ap (λ (t : Bool). t && not (is_one_of old.dirty q)) (ne_eqb x.pins 0 (λ e. omega (arith, e, more)))
+          ap (λ (t : Bool). t && not (is_among old.dirty q)) (ne_eqb x.pins 0 (λ e. omega (arith, e, more)))
 
   -- no page's pins change
   pub fetched_pins : (q : ℕ) → pins_of new q ≡ pins_of old q
@@ -108,7 +108,7 @@ module _ (page : ℕ) (old new : CacheValue) (whole : IsCache old) (at : Fetched
 -- ---- room
 
 module _ (keep : List ℕ) where
-  one_more : (q : ℕ) (ks : List ℕ) → 0 < count_by (nat_eq q) ks → is_one_of ks q ≡ true
+  one_more : (q : ℕ) (ks : List ℕ) → 0 < count_by (nat_eq q) ks → is_among ks q ≡ true
   one_more q [] h = absurd (omega (arith, h))
   one_more q (k ∷ ks) h = by_bool (nat_eq q k)
       (λ t. rw (key_flips q k true t) refl)
@@ -116,14 +116,14 @@ module _ (keep : List ℕ) where
       rw (key_flips q k false t) (one_more q ks (omega (arith, all, head, h))))
 
   -- entries that are pinned are among the pages that are kept
-  count_kept : (es : List (ℕ × Held)) → IsDistinct nat_eq (keys_of es) → ((q : ℕ) → 0 < no_pins (lookup (nat_eq q) es) → is_one_of keep q ≡ true)
-      → count_by (λ e. not (e.1.pins == 0)) es ≤ count_by (λ e. is_one_of keep e.0) es
+  count_kept : (es : List (ℕ × Held)) → IsDistinct nat_eq (keys_of es) → ((q : ℕ) → 0 < no_pins (lookup (nat_eq q) es) → is_among keep q ≡ true)
+      → count_by (λ e. not (e.1.pins == 0)) es ≤ count_by (λ e. is_among keep e.0) es
   count_kept [] d h = omega arith
   count_kept (x ∷ es) d h =
       let a = count_cons (λ (e : ℕ × Held). not (e.1.pins == 0)) x es in
-      let b = count_cons (λ (e : ℕ × Held). is_one_of keep e.0) x es in
+      let b = count_cons (λ (e : ℕ × Held). is_among keep e.0) x es in
       let rest = count_kept es (IsDistinct-tail nat_eq x.0 (keys_of es) d) (λ q some. h q (further q some)) in
-      let first : one (not (x.1.pins == 0)) ≤ one (is_one_of keep x.0) = head in
+      let first : one (not (x.1.pins == 0)) ≤ one (is_among keep x.0) = head in
       omega (arith, a, b, rest, first)
     where
       further : (q : ℕ) → 0 < no_pins (lookup (nat_eq q) es) → 0 < no_pins (lookup (nat_eq q) (x ∷ es))
@@ -132,11 +132,11 @@ module _ (keep : List ℕ) where
           let none : no_pins (lookup (nat_eq q) es) ≡ 0 = ap no_pins gone in absurd (omega (arith, none, some)))
           (λ t. rw t some)
 
-      head : one (not (x.1.pins == 0)) ≤ one (is_one_of keep x.0)
+      head : one (not (x.1.pins == 0)) ≤ one (is_among keep x.0)
       head = by_bool (x.1.pins == 0)
           (λ t. rw t (omega arith))
           (λ t. let some : 0 < x.1.pins = positive x.1.pins (eqb-false x.1.pins 0 t) in
-          let kept : is_one_of keep x.0 ≡ true = h x.0 (rw (same_key x.0) some) in rw (t, kept) (omega arith))
+          let kept : is_among keep x.0 ≡ true = h x.0 (rw (same_key x.0) some) in rw (t, kept) (omega arith))
         where
           positive : (n : ℕ) → (n ≡ 0 → ⊥) → 0 < n
           positive n ne = omega (arith, ne)

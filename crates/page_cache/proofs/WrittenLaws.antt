@@ -6,27 +6,27 @@ use Rattle.std.specs.Map.{lookup}
 use Rattle.std.specs.Option.{option_map_or}
 use Rattle.std.proofs.lemmas.Bool.{true≢false}
 use Rattle.std.proofs.lemmas.List.Folds.{list_any-append}
-use Rattle.page_cache.specs.Cache.{CacheValue, Held, IsCache, IsResident, AreNewest, held, bytes_of, pins_of, is_one_of, altered, with_bytes, with_dirty, with_written}
+use Rattle.page_cache.specs.Cache.{CacheValue, Held, IsCache, IsResident, AreNewest, held, cached_bytes, pins_of, is_among, altered, page_written, with_dirty, with_written}
 use Rattle.page_cache.proofs.Entries.{by_bool, same_key, key_flips}
 use Rattle.page_cache.proofs.CacheLaws.{altered_lookup}
 use Rattle.page_cache.proofs.KeepLaws.{bytes_resident}
 
 -- ---- a page that becomes dirty
 
-pub one_dirty : (c : CacheValue) (page q : ℕ) → is_one_of (with_dirty page c).dirty q ≡ true → (is_one_of c.dirty q ≡ true) ⊎ (page ≡ q)
-one_dirty c page q = by_bool (is_one_of c.dirty page)
+pub one_dirty : (c : CacheValue) (page q : ℕ) → is_among (with_dirty page c).dirty q ≡ true → (is_among c.dirty q ≡ true) ⊎ (page ≡ q)
+one_dirty c page q = by_bool (is_among c.dirty page)
     (λ t. rw t (λ h. inl h))
-    (λ t. rw t (λ h. by_bool (is_one_of c.dirty q) (λ e. inl e)
+    (λ t. rw t (λ h. by_bool (is_among c.dirty q) (λ e. inl e)
     (λ e. let last = sym (list_any-append (λ d. nat_eq d q) c.dirty (page ∷ [])) ∙ h in
     by_bool (nat_eq page q) (λ is. inr (eqb-true page q is)) (λ is. absurd (true≢false (sym (rw (e, is) at last)))))))
 
-pub still_dirty : (c : CacheValue) (page q : ℕ) → is_one_of c.dirty q ≡ true → is_one_of (with_dirty page c).dirty q ≡ true
-still_dirty c page q h = by_bool (is_one_of c.dirty page)
+pub still_dirty : (c : CacheValue) (page q : ℕ) → is_among c.dirty q ≡ true → is_among (with_dirty page c).dirty q ≡ true
+still_dirty c page q h = by_bool (is_among c.dirty page)
     (λ t. rw t h)
     (λ t. rw t (list_any-append (λ d. nat_eq d q) c.dirty (page ∷ []) ∙ rw h refl))
 
-pub now_dirty : (c : CacheValue) (page : ℕ) → is_one_of (with_dirty page c).dirty page ≡ true
-now_dirty c page = by_bool (is_one_of c.dirty page)
+pub now_dirty : (c : CacheValue) (page : ℕ) → is_among (with_dirty page c).dirty page ≡ true
+now_dirty c page = by_bool (is_among c.dirty page)
     (λ t. rw t t)
     (λ t. rw t (list_any-append (λ d. nat_eq d page) c.dirty (page ∷ []) ∙ rw (t, same_key page) refl))
 
@@ -38,7 +38,7 @@ module _ (page : ℕ) (bytes : List ℕ) (c : CacheValue) where
       (λ there. rw there (altered_lookup page (λ h. record h { bytes = bytes }) q c.resident ∙ rw t refl))
       (λ absent. rw (absent, key_flips page q false t) refl)
 
-  pub bytes_written : bytes_of (with_written page bytes c) page ≡ Some bytes
+  pub bytes_written : cached_bytes (with_written page bytes c) page ≡ Some bytes
   bytes_written = by_bool (is_some (held c page))
       (λ there. rw there (ap (option_map (λ (h : Held). h.bytes)) (altered_lookup page (λ h. record h { bytes = bytes }) page c.resident ∙ rw (same_key page) refl) ∙ got (held c page) there))
       (λ absent. rw (absent, same_key page) refl)
@@ -47,7 +47,7 @@ module _ (page : ℕ) (bytes : List ℕ) (c : CacheValue) where
       got None h = absurd (true≢false (sym h))
       got (Some x) h = refl
 
-  pub bytes_beside : (q : ℕ) → nat_eq page q ≡ false → bytes_of (with_written page bytes c) q ≡ bytes_of c q
+  pub bytes_beside : (q : ℕ) → nat_eq page q ≡ false → cached_bytes (with_written page bytes c) q ≡ cached_bytes c q
   bytes_beside q t = ap (option_map (λ (h : Held). h.bytes)) (held_written q t)
 
   no_pins : Option Held → ℕ
@@ -77,30 +77,30 @@ module _ (page : ℕ) (bytes : List ℕ) (c : CacheValue) where
   there_written q t = subst (λ (k : ℕ). IsResident (with_written page bytes c) k) (eqb-true page q t) (bytes_resident (with_written page bytes c) page (ap is_some bytes_written))
 
   -- what is dirty is in memory
-  pub dirty_written : ((q : ℕ) → is_one_of c.dirty q ≡ true → IsResident c q) → (q : ℕ) → is_one_of (with_written page bytes c).dirty q ≡ true → IsResident (with_written page bytes c) q
+  pub dirty_written : ((q : ℕ) → is_among c.dirty q ≡ true → IsResident c q) → (q : ℕ) → is_among (with_written page bytes c).dirty q ≡ true → IsResident (with_written page bytes c) q
   dirty_written dirty q is = at (one_dirty c page q is)
     where
-      at : (is_one_of c.dirty q ≡ true) ⊎ (page ≡ q) → IsResident (with_written page bytes c) q
+      at : (is_among c.dirty q ≡ true) ⊎ (page ≡ q) → IsResident (with_written page bytes c) q
       at (inr is) = there_written q (eq-eqb page q is)
       at (inl was) = by_bool (nat_eq page q) (λ t. there_written q t) (λ t. subst (λ o. IsSome o) (sym (held_written q t)) (dirty q was))
 
   -- and what is not is the source's
   pub clean_written : (source : ℕ → Option (List ℕ)) → AreNewest source c → AreNewest source (with_written page bytes c)
   clean_written source clean q there not = by_bool (nat_eq page q)
-      (λ e. absurd (true≢false (sym (subst (λ (k : ℕ). is_one_of (with_dirty page c).dirty k ≡ true) (eqb-true page q e) (now_dirty c page)) ∙ not)))
+      (λ e. absurd (true≢false (sym (subst (λ (k : ℕ). is_among (with_dirty page c).dirty k ≡ true) (eqb-true page q e) (now_dirty c page)) ∙ not)))
       (λ e. bytes_beside q e ∙ clean q (subst (λ o. IsSome o) (held_written q e) there) before)
     where
-      before : is_one_of c.dirty q ≡ false
-      before = by_bool (is_one_of c.dirty q) (λ t. absurd (true≢false (sym (still_dirty c page q t) ∙ not))) (λ t. t)
+      before : is_among c.dirty q ≡ false
+      before = by_bool (is_among c.dirty q) (λ t. absurd (true≢false (sym (still_dirty c page q t) ∙ not))) (λ t. t)
 
   -- where it is in memory it is marked, and then written
-  pub written_is : IsResident c page → with_written page bytes c ≡ with_bytes page bytes (with_dirty page c)
+  pub written_is : IsResident c page → with_written page bytes c ≡ page_written page bytes (with_dirty page c)
   written_is there = rw there refl
 
 -- each dirty page is in memory
-pub dirty_there : (c : CacheValue) → IsCache c → (q : ℕ) → is_one_of c.dirty q ≡ true → IsResident c q
+pub dirty_there : (c : CacheValue) → IsCache c → (q : ℕ) → is_among c.dirty q ≡ true → IsResident c q
 dirty_there c whole q = each c.dirty whole.waiting
   where
-    each : (ds : List ℕ) → AllByRecursion (IsResident c) ds → is_one_of ds q ≡ true → IsResident c q
+    each : (ds : List ℕ) → AllByRecursion (IsResident c) ds → is_among ds q ≡ true → IsResident c q
     each [] all is = absurd (true≢false (sym is))
     each (d ∷ ds) all is = by_bool (nat_eq d q) (λ t. subst (IsResident c) (eqb-true d q t) all.0) (λ t. each ds all.1 (rw t at is))

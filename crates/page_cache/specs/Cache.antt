@@ -20,8 +20,8 @@ pub record CacheValue : Type 0 where
 
 -- ---- what a cache says of a page
 
-abbrev pub is_one_of : List ℕ → ℕ → Bool
-is_one_of pages page = list_any (λ other. nat_eq other page) pages
+abbrev pub is_among : List ℕ → ℕ → Bool
+is_among pages page = list_any (λ other. nat_eq other page) pages
 
 abbrev pub held : CacheValue → ℕ → Option Held
 held c page = lookup (nat_eq page) c.resident
@@ -29,36 +29,36 @@ held c page = lookup (nat_eq page) c.resident
 abbrev pub IsResident : CacheValue → ℕ → Type 0
 IsResident c page = IsSome (held c page)
 
-abbrev pub bytes_of : CacheValue → ℕ → Option (List ℕ)
-bytes_of c page = option_map (λ h. h.bytes) (held c page)
+abbrev pub cached_bytes : CacheValue → ℕ → Option (List ℕ)
+cached_bytes c page = option_map (λ h. h.bytes) (held c page)
 
 abbrev pub pins_of : CacheValue → ℕ → ℕ
 pins_of c page = option_map_or (λ h. h.pins) (held c page) 0
 
 -- the bytes of its frame where the page is in memory, else those of the source
-abbrev pub newest : CacheValue → (source : ℕ → Option (List ℕ)) → ℕ → Option (List ℕ)
-newest c source page = option_or (bytes_of c page) (source page)
+abbrev pub newest_bytes : CacheValue → (source : ℕ → Option (List ℕ)) → ℕ → Option (List ℕ)
+newest_bytes c source page = option_or (cached_bytes c page) (source page)
 
 -- each page in memory that is not dirty is the source's
 abbrev pub AreNewest : (source : ℕ → Option (List ℕ)) → CacheValue → Type 0
-AreNewest source c = (page : ℕ) → IsResident c page → is_one_of c.dirty page ≡ false → bytes_of c page ≡ source page
+AreNewest source c = (page : ℕ) → IsResident c page → is_among c.dirty page ≡ false → cached_bytes c page ≡ source page
 
 -- where that is so it stays so, and no page's newest bytes change
 abbrev pub KeepsNewest : (source : ℕ → Option (List ℕ)) → CacheValue → CacheValue → Type 0
-KeepsNewest source old new = AreNewest source old → AreNewest source new × ((page : ℕ) → newest new source page ≡ newest old source page)
+KeepsNewest source old new = AreNewest source old → AreNewest source new × ((page : ℕ) → newest_bytes new source page ≡ newest_bytes old source page)
 
 -- ---- which page goes when one more comes
 
 -- neither pinned nor dirty
-abbrev pub is_idle : (dirty : List ℕ) (page pins : ℕ) → Bool
-is_idle dirty page pins = (pins == 0) && not (is_one_of dirty page)
+abbrev pub may_leave : (dirty : List ℕ) (page pins : ℕ) → Bool
+may_leave dirty page pins = (pins == 0) && not (is_among dirty page)
 
 abbrev pub idle : CacheValue → ℕ × Held → Bool
-idle c e = is_idle c.dirty e.0 e.1.pins
+idle c e = may_leave c.dirty e.0 e.1.pins
 
 -- this is held of the page, which is dirty or pinned
 abbrev pub IsBusy : CacheValue → ℕ → Held → Type 0
-IsBusy c page h = (held c page ≡ Some h) × (is_idle c.dirty page h.pins ≡ false)
+IsBusy c page h = (held c page ≡ Some h) × (may_leave c.dirty page h.pins ≡ false)
 
 -- how many pages in memory are dirty or pinned
 abbrev pub busy : CacheValue → ℕ
@@ -94,11 +94,11 @@ abbrev pub used : ℕ → CacheValue → CacheValue
 used page c = record c { resident = promoted (nat_eq page) c.resident }
 
 -- the page with these bytes, not pinned, is the most recently used, and the one that goes has made room for it
-abbrev pub entered : (page : ℕ) (bytes : List ℕ) → CacheValue → CacheValue
-entered page bytes c = record c { resident = (page, record { frame = frame_for c; bytes = bytes; pins = 0 }) ∷ staying (leaver c) c.resident }
+abbrev pub entered_page : (page : ℕ) (bytes : List ℕ) → CacheValue → CacheValue
+entered_page page bytes c = record c { resident = (page, record { frame = frame_for c; bytes = bytes; pins = 0 }) ∷ staying (leaver c) c.resident }
 
-abbrev pub with_bytes : (page : ℕ) (bytes : List ℕ) → CacheValue → CacheValue
-with_bytes page bytes c = record c { resident = altered page (λ h. record h { bytes = bytes }) c.resident }
+abbrev pub page_written : (page : ℕ) (bytes : List ℕ) → CacheValue → CacheValue
+page_written page bytes c = record c { resident = altered page (λ h. record h { bytes = bytes }) c.resident }
 
 -- each page with the bytes that its frame has among these
 abbrev pub with_frames : List (List ℕ) → CacheValue → CacheValue
@@ -109,7 +109,7 @@ with_pins page pins c = record c { resident = altered page (λ h. record h { pin
 
 -- the page is dirty, and stands in the list once
 abbrev pub with_dirty : ℕ → CacheValue → CacheValue
-with_dirty page c = record c { dirty = if is_one_of c.dirty page then c.dirty else c.dirty ++ page ∷ [] }
+with_dirty page c = record c { dirty = if is_among c.dirty page then c.dirty else c.dirty ++ page ∷ [] }
 
 -- the page is dirty and has these bytes, whether it was in memory or not
 abbrev pub with_written : (page : ℕ) (bytes : List ℕ) → CacheValue → CacheValue
@@ -123,15 +123,15 @@ cleaned c = record c { dirty = [] }
 
 -- ---- what holds of every cache
 
-abbrev pub frames_of : List (ℕ × Held) → List ℕ
-frames_of es = map (λ e. e.1.frame) es
+abbrev pub frames_held : List (ℕ × Held) → List ℕ
+frames_held es = map (λ e. e.1.frame) es
 
 -- No page stands twice and no frame; the frames that are taken are the first ones; each dirty page is in memory, and
 -- stands in the list once; at most 96 are.
 pub record IsCache (c : CacheValue) : Type 0 where
   pub pages : IsDistinct nat_eq (keys_of c.resident)
-  pub frames : IsDistinct nat_eq (frames_of c.resident)
-  pub first : AllByRecursion (λ frame. frame < length c.resident) (frames_of c.resident)
+  pub frames : IsDistinct nat_eq (frames_held c.resident)
+  pub first : AllByRecursion (λ frame. frame < length c.resident) (frames_held c.resident)
   pub fit : length c.resident ≤ c.frames
   pub once : IsDistinct nat_eq c.dirty
   pub few : length c.dirty ≤ 96

@@ -56,11 +56,11 @@ impl Cache {
     ghost use Rattle.std.specs.Prelude.{◌<◌, ◌≤◌, ◌≢◌, ◌⊎◌, ◌+◌, ◌-◌, ◌^◌, ℕ, List, Option, Ok, Some, None, IsTrue, slice_get, IfSome, IfOk, IfErr, OnOk, OnErr, length, option_map, is_some};
     ghost use Rattle.std.specs.Borrow.{sem};
     ghost use Rattle.sector_disk.specs.Calls.{OnlyReads, device_in};
-    ghost use Rattle.page_cache.specs.Cache.{held, bytes_of, pins_of, busy, frame_for, is_one_of, IsResident, IsCache, KeepsNewest, no_pages, used, entered, with_pins, with_dirty, cleaned};
-    ghost use Rattle.page_cache.specs.Accepted.{content_in};
+    ghost use Rattle.page_cache.specs.Cache.{held, cached_bytes, pins_of, busy, frame_for, is_among, IsResident, IsCache, KeepsNewest, no_pages, used, entered_page, with_pins, with_dirty, cleaned};
+    ghost use Rattle.page_cache.specs.Accepted.{cached_content};
     ghost use Rattle.page_cache.specs.Fetch.{fetch_failed_at};
-    ghost use Rattle.page_cache.specs.Fetched.{KeepsFrames, TakesIn, TakesNone};
-    ghost use Rattle.page_cache.specs.Lends.{LendsBytes, LendsFrames};
+    ghost use Rattle.page_cache.specs.Fetched.{KeepsFrames, TakesIn, FetchesNone};
+    ghost use Rattle.page_cache.specs.Lends.{LendsBytes, LendsCacheFrames};
     ghost use Rattle.page_cache.specs.declared.cache.TheConstants.{MOST_DIRTY};
 
     /// A cache of so many frames, with no page in memory.
@@ -99,7 +99,7 @@ impl Cache {
             KeepsNewest (S.newest source.now (M.now m.old).image) self.old self.new) }
 
         ensures reads { OnlyReads M.Machine (device_in fetch_failed_at result) m.old m.new }
-        ensures failed { IfErr result (TakesNone M.Machine S.PageSource source.now page m.old m.new self.old self.new) }
+        ensures failed { IfErr result (FetchesNone M.Machine S.PageSource source.now page m.old m.new self.old self.new) }
         ensures frames { KeepsFrames self.old self.new }
     {
         match self.hit(page) {
@@ -136,7 +136,7 @@ impl Cache {
             KeepsNewest (S.newest source.now (M.now m.old).image) self.old self.new) }
 
         ensures reads { OnlyReads M.Machine (device_in fetch_failed_at result) m.old m.new }
-        ensures failed { IfErr result (TakesNone M.Machine S.PageSource source.now page m.old m.new self.old self.new) }
+        ensures failed { IfErr result (FetchesNone M.Machine S.PageSource source.now page m.old m.new self.old self.new) }
         ensures frames { KeepsFrames self.old self.new }
     {
         let mut bytes = [0; 512];
@@ -149,7 +149,7 @@ impl Cache {
         requires new { held self.old page ≡ None }
         requires room { busy self.old < self.old.frames }
         ensures frame { IfOk result (λ frame. frame ≡ frame_for self.old) }
-        ensures entered { OnOk result (self.new ≡ entered page bytes.now self.old) }
+        ensures entered { OnOk result (self.new ≡ entered_page page bytes.now self.old) }
         ensures newest { OnOk result ((source : ℕ → Option (List ℕ)) → source page ≡ Some bytes.now → KeepsNewest source self.old self.new) }
         ensures busy { busy self.new ≡ busy self.old }
         ensures kept { OnErr result (self.new ≡ self.old) }
@@ -185,7 +185,7 @@ impl Cache {
     /// The bytes of a page in memory.
     pub fn bytes(&self, page: u32) -> &[u8; 512]
         requires { IsResident self.now page }
-        ensures { bytes_of self.now page ≡ Some result.now }
+        ensures { cached_bytes self.now page ≡ Some result.now }
     {
         let slot = slot_of(&self.order, page);
         self.pool.get(slot.frame)
@@ -195,7 +195,7 @@ impl Cache {
     /// again only when its bytes came anew or were lent to be changed, or for another number of pages.
     pub fn is_accepted(&mut self, page: u32, pages: u32) -> bool
         requires { IsResident self.old page }
-        ensures accepted { result ≡ is_some (content_in self.old pages page) }
+        ensures accepted { result ≡ is_some (cached_content self.old pages page) }
         ensures kept { self.new ≡ self.old }
     {
         let frame = slot_of(&self.order, page).frame;
@@ -213,7 +213,7 @@ impl Cache {
     pub fn bytes_mut(&mut self, page: u32) -> &mut [u8; 512]
         requires { IsResident self.old page }
         ensures* writes_back { sem 𝓛 (LendsBytes self.entry page result) }
-        ensures value { bytes_of self.old page ≡ Some result.now }
+        ensures value { cached_bytes self.old page ≡ Some result.now }
     {
         let slot = slot_of(&self.order, page);
         self.accepted[slot.frame] = 0;
@@ -222,7 +222,7 @@ impl Cache {
 
     /// All frames side by side, to be changed. Where a page lies `fetch` has answered.
     pub fn frames_mut(&mut self) -> &mut [Sector]
-        ensures* writes_back { sem 𝓛 (LendsFrames self.entry result) }
+        ensures* writes_back { sem 𝓛 (LendsCacheFrames self.entry result) }
         ensures count { length result.now ≡ self.old.frames }
         ensures value { (page : ℕ) → IfSome (held self.old page) (λ h. slice_get result.now h.frame ≡ Some h.bytes) }
     {
@@ -236,8 +236,8 @@ impl Cache {
         requires first { IsResident self.old p }
         requires second { IsResident self.old q }
         requires apart { p ≢ q }
-        ensures first { bytes_of self.old p ≡ Some result.0.now }
-        ensures second { bytes_of self.old q ≡ Some result.1.now }
+        ensures first { cached_bytes self.old p ≡ Some result.0.now }
+        ensures second { cached_bytes self.old q ≡ Some result.1.now }
     {
         let (i, j) = (slot_of(&self.order, p).frame, slot_of(&self.order, q).frame);
         two_of(self.frames_mut(), i, j)
@@ -246,13 +246,20 @@ impl Cache {
     /// The page differs from what the source has.
     pub fn dirty(&mut self, page: u32)
         requires resident { IsResident self.old page }
-        requires room { IsTrue (is_one_of self.old.dirty page) ⊎ (length self.old.dirty < MOST_DIRTY) }
+        requires room { IsTrue (is_among self.old.dirty page) ⊎ (length self.old.dirty < MOST_DIRTY) }
         ensures list { self.new ≡ with_dirty page self.old }
         ensures busy { busy self.new ≤ busy self.old + 1 }
     {
         if !self.dirty.as_slice().contains(&page) {
             self.dirty.push(page);
         }
+    }
+
+    /// For the proof alone: it gives what a cache keeps.
+    pub fn attest(&self)
+        ensures { IsCache self.now }
+    {
+        let _ = &self.dirty;
     }
 
     /// The pages that are dirty, in the order in which they became so.

@@ -3,7 +3,7 @@ ghost use Rattle.std.specs.Prelude.{◌≡◌, ◌≤◌, ◌+◌, ◌∷◌, Is
 ghost use Rattle.std.specs.Map.{lookup};
 ghost use Rattle.std.specs.Option.{option_map_or};
 ghost use Rattle.lru.specs.LruCache.{lru_cache, promoted};
-ghost use Rattle.page_cache.specs.Cache.{is_idle, leaving, staying};
+ghost use Rattle.page_cache.specs.Cache.{may_leave, leaving, staying};
 
 use crate::cache::Slot;
 use lru::LruCache;
@@ -30,7 +30,7 @@ pub(crate) fn touch(order: &mut LruCache<u32, Slot>, page: u32) -> Option<usize>
 
 // The least recently used page that is neither pinned nor dirty.
 fn least_used_idle(order: &LruCache<u32, Slot>, dirty: &[u32]) -> Option<(u32, Slot)>
-    ensures { result ≡ find (λ e. is_idle dirty.now e.0 e.1.pins) (reverse order.now.entries) }
+    ensures { result ≡ find (λ e. may_leave dirty.now e.0 e.1.pins) (reverse order.now.entries) }
 {
     let mut rest = order.iter();
     while let Some((page, slot)) = rest.next_back() {
@@ -43,7 +43,7 @@ fn least_used_idle(order: &LruCache<u32, Slot>, dirty: &[u32]) -> Option<(u32, S
 
 // Which page goes when one more comes.
 fn leaver(order: &LruCache<u32, Slot>, dirty: &[u32], frames: usize) -> Option<(u32, Slot)>
-    ensures { result ≡ leaving frames (λ e. is_idle dirty.now e.0 e.1.pins) order.now.entries }
+    ensures { result ≡ leaving frames (λ e. may_leave dirty.now e.0 e.1.pins) order.now.entries }
 {
     if order.len() == frames {
         least_used_idle(order, dirty)
@@ -62,9 +62,9 @@ pub(crate) fn take_in(
     requires new { lookup (nat_eq page) order.old.entries ≡ None }
     requires fit { length order.old.entries ≤ frames }
     requires room { order.old.cap ≡ frames + 1 }
-    ensures frame { let goes = leaving frames (λ e. is_idle dirty.now e.0 e.1.pins) order.old.entries in
+    ensures frame { let goes = leaving frames (λ e. may_leave dirty.now e.0 e.1.pins) order.old.entries in
         IfOk result (λ frame. frame ≡ option_map_or (λ e. e.1.frame) goes (length order.old.entries)) }
-    ensures entries { let goes = leaving frames (λ e. is_idle dirty.now e.0 e.1.pins) order.old.entries in
+    ensures entries { let goes = leaving frames (λ e. may_leave dirty.now e.0 e.1.pins) order.old.entries in
         IfOk result (λ frame. order.new ≡ lru_cache ((page, record { frame = frame; pins = 0 }) ∷ staying goes order.old.entries) order.old.cap) }
     ensures kept { OnErr result (order.new ≡ order.old) }
 {

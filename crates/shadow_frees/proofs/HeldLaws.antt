@@ -11,14 +11,14 @@ use Rattle.run_table.specs.Space.{contains, where_free}
 use Rattle.sector_set.specs.Area.{Area, area, without, together, AreIn, AreOut, IsOwn}
 use Rattle.run_table.proofs.SameLaws.{same_runs_are, runs_are_same}
 use Rattle.sector_set.proofs.FreeLaws.{where_same, contains_where}
-use Rattle.shadow_frees.specs.Waits.{AreApart}
+use Rattle.shadow_frees.specs.Waits.{AreDisjoint}
 use Rattle.sector_set.specs.Meet.{meets}
-use Rattle.shadow_frees.specs.Readers.{Slots, Agrees, has_same, has_sector, is_held, unheld, with_held, AreTogether, IsVersion, IsSlot, AreSlots}
+use Rattle.shadow_frees.specs.Readers.{Slots, IsSameOrApart, has_same, has_sector, is_held, unheld, with_held, AreTogether, IsVersion, IsSlot, AreSlots}
 use Rattle.sector_set.proofs.MeetLaws.{none_any, any_none, all_any}
 
 -- ---- two versions are the same, or apart
 
-pub agrees_back : (a b : List Run) → Agrees a (Some b) → Agrees b (Some a)
+pub agrees_back : (a b : List Run) → IsSameOrApart a (Some b) → IsSameOrApart b (Some a)
 agrees_back a b agree = elim agree [
   | inl e ↦ inl (sym e)
   | inr fails ↦ inr (any_none (contains (sectors_of b)) (sectors_of a) (λ s in_a. false_from_ne_true (contains (sectors_of b) s) (λ in_b.
@@ -29,14 +29,14 @@ agrees_back a b agree = elim agree [
 has_none : (runs other : List Run) (u : ℕ) → meets (sectors_of runs) other ≡ false → contains (sectors_of runs) u ≡ true → contains (sectors_of other) u ≡ false
 has_none runs other u apart in_u = false_from_ne_true (contains (sectors_of other) u) (λ c. both_ways (contains (sectors_of runs) u) (none_any (contains (sectors_of runs)) (sectors_of other) apart u c) in_u)
 
-has_together : (runs : List Run) (slot : Option (List Run)) (s t : ℕ) → Agrees runs slot → contains (sectors_of runs) s ≡ true → contains (sectors_of runs) t ≡ true → has_sector s slot ≡ has_sector t slot
+has_together : (runs : List Run) (slot : Option (List Run)) (s t : ℕ) → IsSameOrApart runs slot → contains (sectors_of runs) s ≡ true → contains (sectors_of runs) t ≡ true → has_sector s slot ≡ has_sector t slot
 has_together runs None s t agree in_s in_t = refl
 has_together runs (Some other) s t agree in_s in_t = elim agree [
   | inl e ↦ ap (λ (x : List Run). contains (sectors_of x) s) e ∙ in_s ∙ sym in_t ∙ ap (λ (x : List Run). contains (sectors_of x) t) (sym e)
   | inr fails ↦ has_none runs other s fails in_s ∙ sym (has_none runs other t fails in_t)
 ]
 
-pub held_together : (slots : Slots) (runs : List Run) (s t : ℕ) → All (Agrees runs) slots → contains (sectors_of runs) s ≡ true → contains (sectors_of runs) t ≡ true → is_held slots s ≡ is_held slots t
+pub held_together : (slots : Slots) (runs : List Run) (s t : ℕ) → All (IsSameOrApart runs) slots → contains (sectors_of runs) s ≡ true → contains (sectors_of runs) t ≡ true → is_held slots s ≡ is_held slots t
 held_together [] runs s t agree in_s in_t = refl
 held_together (slot ∷ slots) runs s t agree in_s in_t =
     ap (λ (b : Bool). b || is_held slots s) (has_together runs slot s t (agree 0 None (omega arith)) in_s in_t)
@@ -117,7 +117,7 @@ removed_stays slots i slot removed now inside is so_far none =
     regroup true false false h = refl
     regroup false b c h = refl
 
-pub kept_stays : (slots : Slots) (i : ℕ) (slot : Option (List Run)) (removed kept now gone : Area) → i < length slots → get_or slots i None ≡ slot → now ≡ unheld (take i slots) removed → gone ≡ with_held (take i slots) kept removed → AreApart removed kept
+pub kept_stays : (slots : Slots) (i : ℕ) (slot : Option (List Run)) (removed kept now gone : Area) → i < length slots → get_or slots i None ≡ slot → now ≡ unheld (take i slots) removed → gone ≡ with_held (take i slots) kept removed → AreDisjoint removed kept
     → ((s : ℕ) → removed.from ≤ s → s < removed.to → has_sector s slot ≡ true → contains now.sectors s ≡ false) → gone ≡ with_held (take (i + 1) slots) kept removed
 kept_stays slots i slot removed kept now gone inside is so_far so_kept apart none =
     so_kept ∙ same_area kept.from kept.to _ _ (λ s low high.
@@ -145,7 +145,7 @@ still_together removed kept slots i runs now v so_far = λ s t in_s in_t.
     let b = v.within t in_t in
     has_where removed.from removed.to _ now s so_far a.0 a.1
     ∙ ap (λ (x : Bool). x && not (is_held (take i slots) s)) (v.whole s t in_s in_t)
-    ∙ ap (λ (x : Bool). contains removed.sectors t && not x) (held_together (take i slots) runs s t (All-take (Agrees runs) i slots v.agree) in_s in_t)
+    ∙ ap (λ (x : Bool). contains removed.sectors t && not x) (held_together (take i slots) runs s t (All-take (IsSameOrApart runs) i slots v.agree) in_s in_t)
     ∙ sym (has_where removed.from removed.to _ now t so_far b.0 b.1)
 
 pub all_removed : (removed kept : Area) (slots : Slots) (i : ℕ) (runs : List Run) (now : Area) → IsVersion removed kept slots runs → now ≡ unheld (take i slots) removed → meets now.sectors runs ≡ true
@@ -162,7 +162,7 @@ may_move removed kept slots i runs now v so_far holds = record {
   differ = v.differ;
 }
 
-pub may_come : (removed kept : Area) (slots : Slots) (i : ℕ) (runs : List Run) (now gone : Area) → AreApart removed kept → IsVersion removed kept slots runs → now ≡ unheld (take i slots) removed → gone ≡ with_held (take i slots) kept removed → meets now.sectors runs ≡ true → AreOut gone runs
+pub may_come : (removed kept : Area) (slots : Slots) (i : ℕ) (runs : List Run) (now gone : Area) → AreDisjoint removed kept → IsVersion removed kept slots runs → now ≡ unheld (take i slots) removed → gone ≡ with_held (take i slots) kept removed → meets now.sectors runs ≡ true → AreOut gone runs
 may_come removed kept slots i runs now gone apart v so_far so_kept holds = record {
   within = λ s c. let a = v.within s c in (omega (arith, a.0, apart.from, ap (λ (m : Area). m.from) so_kept), omega (arith, a.1, apart.to, ap (λ (m : Area). m.to) so_kept));
   outside = λ s c.
@@ -195,18 +195,18 @@ all_kept slots i kept removed now over is = is ∙ ap (λ (x : Slots). with_held
 pub are_equal : (other runs : List Run) (differ : Bool) → differ ≡ not (same_runs other runs) → differ ≡ false → other ≡ runs
 are_equal other runs differ is e = same_runs_are other runs (not-false (same_runs other runs) (sym is ∙ e))
 
-pub no_agreement : (other runs : List Run) (differ : Bool) → differ ≡ not (same_runs other runs) → differ ≡ true → meets (sectors_of runs) other ≡ true → Agrees runs (Some other) → ⊥
+pub no_agreement : (other runs : List Run) (differ : Bool) → differ ≡ not (same_runs other runs) → differ ≡ true → meets (sectors_of runs) other ≡ true → IsSameOrApart runs (Some other) → ⊥
 no_agreement other runs differ is e met agree = elim agree [
   | inl same ↦ both_ways (same_runs other runs) (not-true (same_runs other runs) (sym is ∙ e)) (ap (same_runs other) (sym same) ∙ runs_are_same other)
   | inr fails ↦ both_ways (meets (sectors_of runs) other) fails met
 ]
 
-pub agree_more : (slots : Slots) (i : ℕ) (runs : List Run) (slot : Option (List Run)) → i < length slots → get_or slots i None ≡ slot → All (Agrees runs) (take i slots) → Agrees runs slot → All (Agrees runs) (take (i + 1) slots)
-agree_more slots i runs slot inside at so_far agree = All-more (Agrees runs) slots i None inside so_far (subst (Agrees runs) (sym at) agree)
+pub agree_more : (slots : Slots) (i : ℕ) (runs : List Run) (slot : Option (List Run)) → i < length slots → get_or slots i None ≡ slot → All (IsSameOrApart runs) (take i slots) → IsSameOrApart runs slot → All (IsSameOrApart runs) (take (i + 1) slots)
+agree_more slots i runs slot inside at so_far agree = All-more (IsSameOrApart runs) slots i None inside so_far (subst (IsSameOrApart runs) (sym at) agree)
 
 -- ---- nobody else holds it
 
-pub nobody_holds : (slots : Slots) (runs : List Run) (s : ℕ) → All (Agrees runs) slots → list_any (has_same runs) slots ≡ false → contains (sectors_of runs) s ≡ true → is_held slots s ≡ false
+pub nobody_holds : (slots : Slots) (runs : List Run) (s : ℕ) → All (IsSameOrApart runs) slots → list_any (has_same runs) slots ≡ false → contains (sectors_of runs) s ≡ true → is_held slots s ≡ false
 nobody_holds [] runs s agree none c = refl
 nobody_holds (None ∷ slots) runs s agree none c = nobody_holds slots runs s (λ k d less. agree (suc k) d (omega arith)) none c
 nobody_holds (Some other ∷ slots) runs s agree none c =
@@ -214,6 +214,6 @@ nobody_holds (Some other ∷ slots) runs s agree none c =
     let first : contains (sectors_of other) s ≡ false = apart (agree 0 None (omega arith)) parts.0 in
     ap (λ (b : Bool). b || is_held slots s) first ∙ nobody_holds slots runs s (λ k d less. agree (suc k) d (omega arith)) parts.1 c
   where
-    apart : Agrees runs (Some other) → same_runs other runs ≡ false → contains (sectors_of other) s ≡ false
+    apart : IsSameOrApart runs (Some other) → same_runs other runs ≡ false → contains (sectors_of other) s ≡ false
     apart (inl e) differ = absurd (both_ways (same_runs other runs) differ (ap (same_runs other) (sym e) ∙ runs_are_same other))
     apart (inr fails) differ = has_none runs other s fails c

@@ -11,15 +11,15 @@ use Rattle.sector_set.specs.Area.{Area, area, without, together, AreIn, AreOut, 
 use Rattle.sector_set.proofs.AreaLaws.{free_passes}
 use Rattle.sector_set.proofs.CountLaws.{split_where, no_more_than}
 use Rattle.sector_set.proofs.FreeLaws.{where_same, contains_where}
-use Rattle.shadow_frees.specs.Waits.{AreApart, AreSound, waits, waiting_sectors}
-use Rattle.shadow_frees.specs.Readers.{Slots, Agrees, has_sector, is_held, unheld, with_held, IsVersion, IsSlot}
+use Rattle.shadow_frees.specs.Waits.{AreDisjoint, AreSound, waits_in, waiting_sectors}
+use Rattle.shadow_frees.specs.Readers.{Slots, IsSameOrApart, has_sector, is_held, unheld, with_held, IsVersion, IsSlot}
 use Rattle.sector_set.proofs.MeetLaws.{none_any, all_any}
 use Rattle.shadow_frees.proofs.HeldLaws.{agrees_back, own_of, has_where}
 use Rattle.shadow_frees.proofs.WaitLaws.{none_apart, freed_apart, begun_apart, ended_apart, given_apart, both, fewer, still_in}
 
 -- ---- at first
 
-all_cons : (P : Option (List Run) → Type 0) (x : Option (List Run)) (xs : Slots) → P x → All P xs → All P (x ∷ xs)
+pub all_cons : (P : Option (List Run) → Type 0) (x : Option (List Run)) (xs : Slots) → P x → All P xs → All P (x ∷ xs)
 all_cons P x xs h hs zero d less = h
 all_cons P x xs h hs (suc k) d less = hs k d (omega arith)
 
@@ -38,13 +38,13 @@ sound_at_first from to removed kept unfinished r k u = record {
 
 -- ---- sectors come and go
 
-agrees_together : (runs other : List Run) (s t : ℕ) → Agrees runs (Some other) → contains (sectors_of other) s ≡ true → contains (sectors_of other) t ≡ true → contains (sectors_of runs) s ≡ contains (sectors_of runs) t
+agrees_together : (runs other : List Run) (s t : ℕ) → IsSameOrApart runs (Some other) → contains (sectors_of other) s ≡ true → contains (sectors_of other) t ≡ true → contains (sectors_of runs) s ≡ contains (sectors_of runs) t
 agrees_together runs other s t agree in_s in_t = elim agree [
   | inl e ↦ ap (λ (x : List Run). contains (sectors_of x) s) (sym e) ∙ in_s ∙ sym in_t ∙ ap (λ (x : List Run). contains (sectors_of x) t) e
   | inr fails ↦ none_any (contains (sectors_of runs)) (sectors_of other) fails s in_s ∙ sym (none_any (contains (sectors_of runs)) (sectors_of other) fails t in_t)
 ]
 
-freed_slot : (removed kept new : Area) (slots : Slots) (runs : List Run) (slot : Option (List Run)) → new ≡ together removed runs → Agrees runs slot → IsSlot removed kept slots slot → IsSlot new kept slots slot
+freed_slot : (removed kept new : Area) (slots : Slots) (runs : List Run) (slot : Option (List Run)) → new ≡ together removed runs → IsSameOrApart runs slot → IsSlot removed kept slots slot → IsSlot new kept slots slot
 freed_slot removed kept new slots runs None is agree v = tt
 freed_slot removed kept new slots runs (Some other) is agree v = record {
   within = λ s c. let a = v.within s c in (omega (arith, a.0, ap (λ (m : Area). m.from) is), omega (arith, a.1, ap (λ (m : Area). m.to) is));
@@ -60,7 +60,7 @@ freed_slot removed kept new slots runs (Some other) is agree v = record {
   agree = v.agree;
 }
 
-pub sound_freed : (removed kept unfinished new : Area) (slots : Slots) (runs : List Run) → new ≡ together removed runs → AreSound removed kept unfinished slots → AreOut kept runs → AreOut unfinished runs → All (Agrees runs) slots → AreSound new kept unfinished slots
+pub sound_freed : (removed kept unfinished new : Area) (slots : Slots) (runs : List Run) → new ≡ together removed runs → AreSound removed kept unfinished slots → AreOut kept runs → AreOut unfinished runs → All (IsSameOrApart runs) slots → AreSound new kept unfinished slots
 sound_freed removed kept unfinished new slots runs is sound out_kept out_unfinished agree = record {
   removed_kept = freed_apart removed kept new runs is sound.removed_kept out_kept;
   removed_unfinished = freed_apart removed unfinished new runs is sound.removed_unfinished out_unfinished;
@@ -89,17 +89,17 @@ sound_ended removed kept unfinished new slots runs is sound = record {
 
 -- ---- readers come and go
 
-held_slot : (removed kept : Area) (slots : Slots) (i : ℕ) (runs : List Run) (slot : Option (List Run)) → Agrees runs slot → IsSlot removed kept slots slot → IsSlot removed kept (set slots i (Some runs)) slot
+held_slot : (removed kept : Area) (slots : Slots) (i : ℕ) (runs : List Run) (slot : Option (List Run)) → IsSameOrApart runs slot → IsSlot removed kept slots slot → IsSlot removed kept (set slots i (Some runs)) slot
 held_slot removed kept slots i runs None agree v = tt
 held_slot removed kept slots i runs (Some other) agree v = record {
   within = v.within;
   differ = v.differ;
   whole = v.whole;
   whole_kept = v.whole_kept;
-  agree = All-set (Agrees other) slots i (Some runs) (agrees_back runs other agree) v.agree;
+  agree = All-set (IsSameOrApart other) slots i (Some runs) (agrees_back runs other agree) v.agree;
 }
 
-pub sound_held : (removed kept unfinished : Area) (slots : Slots) (i : ℕ) (runs : List Run) → AreSound removed kept unfinished slots → AreOut removed runs → AreOut kept runs → All (Agrees runs) slots → AreSound removed kept unfinished (set slots i (Some runs))
+pub sound_held : (removed kept unfinished : Area) (slots : Slots) (i : ℕ) (runs : List Run) → AreSound removed kept unfinished slots → AreOut removed runs → AreOut kept runs → All (IsSameOrApart runs) slots → AreSound removed kept unfinished (set slots i (Some runs))
 sound_held removed kept unfinished slots i runs sound out out_kept agree = record {
   removed_kept = sound.removed_kept;
   removed_unfinished = sound.removed_unfinished;
@@ -114,7 +114,7 @@ sound_held removed kept unfinished slots i runs sound out out_kept agree = recor
       differ = out.differ;
       whole = λ s t in_s in_t. out.outside s in_s ∙ sym (out.outside t in_t);
       whole_kept = λ s t in_s in_t. out_kept.outside s in_s ∙ sym (out_kept.outside t in_t);
-      agree = All-set (Agrees runs) slots i (Some runs) (inl refl) agree;
+      agree = All-set (IsSameOrApart runs) slots i (Some runs) (inl refl) agree;
     }
 
 dropped_slot : (removed kept : Area) (slots : Slots) (i : ℕ) (slot : Option (List Run)) → IsSlot removed kept slots slot → IsSlot removed kept (set slots i None) slot
@@ -124,7 +124,7 @@ dropped_slot removed kept slots i (Some other) v = record {
   differ = v.differ;
   whole = v.whole;
   whole_kept = v.whole_kept;
-  agree = All-set (Agrees other) slots i None tt v.agree;
+  agree = All-set (IsSameOrApart other) slots i None tt v.agree;
 }
 
 pub sound_dropped : (removed kept unfinished : Area) (slots : Slots) (i : ℕ) → AreSound removed kept unfinished slots → AreSound removed kept unfinished (set slots i None)
@@ -136,7 +136,7 @@ sound_dropped removed kept unfinished slots i sound = record {
   slots = All-set (IsSlot removed kept (set slots i None)) slots i None tt (λ k d less. dropped_slot removed kept slots i (get_or slots k d) (sound.slots k d less));
 }
 
-given_slot : (removed kept new : Area) (slots : Slots) (runs : List Run) (slot : Option (List Run)) → AreApart removed kept → new ≡ without kept runs → Agrees runs slot → IsSlot removed kept slots slot → IsSlot removed new slots slot
+given_slot : (removed kept new : Area) (slots : Slots) (runs : List Run) (slot : Option (List Run)) → AreDisjoint removed kept → new ≡ without kept runs → IsSameOrApart runs slot → IsSlot removed kept slots slot → IsSlot removed new slots slot
 given_slot removed kept new slots runs None apart is agree v = tt
 given_slot removed kept new slots runs (Some other) apart is agree v = record {
   within = v.within;
@@ -152,7 +152,7 @@ given_slot removed kept new slots runs (Some other) apart is agree v = record {
   agree = v.agree;
 }
 
-pub sound_given : (removed kept unfinished new : Area) (slots : Slots) (runs : List Run) → new ≡ without kept runs → AreSound removed kept unfinished slots → All (Agrees runs) slots → AreSound removed new unfinished slots
+pub sound_given : (removed kept unfinished new : Area) (slots : Slots) (runs : List Run) → new ≡ without kept runs → AreSound removed kept unfinished slots → All (IsSameOrApart runs) slots → AreSound removed new unfinished slots
 sound_given removed kept unfinished new slots runs is sound agree = record {
   removed_kept = ended_apart removed kept new runs is sound.removed_kept;
   removed_unfinished = sound.removed_unfinished;
@@ -168,8 +168,8 @@ version_in removed kept unfinished slots i d runs sound inside is = subst (IsSlo
 pub kept_version : (removed kept unfinished : Area) (slots : Slots) (runs : List Run) → AreSound removed kept unfinished slots → IsVersion removed kept slots runs → list_any (contains kept.sectors) (sectors_of runs) ≡ true → AreIn kept runs
 kept_version removed kept unfinished slots runs sound v holds = record { inside = all_any (contains kept.sectors) (sectors_of runs) v.whole_kept holds; differ = v.differ }
 
-pub agree_dropped : (removed kept : Area) (slots : Slots) (i : ℕ) (runs : List Run) → IsVersion removed kept slots runs → All (Agrees runs) (set slots i None)
-agree_dropped removed kept slots i runs v = All-set (Agrees runs) slots i None tt v.agree
+pub agree_dropped : (removed kept : Area) (slots : Slots) (i : ℕ) (runs : List Run) → IsVersion removed kept slots runs → All (IsSameOrApart runs) (set slots i None)
+agree_dropped removed kept slots i runs v = All-set (IsSameOrApart runs) slots i None tt v.agree
 
 -- ---- after a force
 
@@ -198,7 +198,7 @@ not_both : (b : Bool) → not b ≡ true → b ≡ true → ⊥
 not_both true n e = both_ways false refl n
 not_both false n e = both_ways false refl e
 
-committed_slot : (removed kept left new : Area) (slots : Slots) (k : ℕ) (d slot : Option (List Run)) → k < length slots → get_or slots k d ≡ slot → AreApart removed kept → AreReleased slots removed left → new ≡ with_held slots kept removed → IsSlot removed kept slots slot → IsSlot left new slots slot
+committed_slot : (removed kept left new : Area) (slots : Slots) (k : ℕ) (d slot : Option (List Run)) → k < length slots → get_or slots k d ≡ slot → AreDisjoint removed kept → AreReleased slots removed left → new ≡ with_held slots kept removed → IsSlot removed kept slots slot → IsSlot left new slots slot
 committed_slot removed kept left new slots k d None inside at apart r is v = tt
 committed_slot removed kept left new slots k d (Some runs) inside at apart r is v = record {
   within = λ s c. let a = v.within s c in (omega (arith, a.0, r.0), omega (arith, a.1, r.1));
@@ -255,7 +255,7 @@ pub all_waiting : (removed kept unfinished : Area) (slots : Slots) → IsOwn rem
     → length (waiting_sectors (record { removed = removed; kept = kept; unfinished = unfinished; held = slots })) ≡ length removed.sectors + length kept.sectors + length unfinished.sectors
 all_waiting removed kept unfinished slots r k u sound =
     let one : Area = area removed.from removed.to (λ s. contains removed.sectors s || contains kept.sectors s) in
-    let apart : AreApart one unfinished = record {
+    let apart : AreDisjoint one unfinished = record {
       from = sound.removed_unfinished.from;
       to = sound.removed_unfinished.to;
       apart = λ s c. elim (or_cases (contains removed.sectors s) (contains kept.sectors s) (free_passes removed.from removed.to _ s c)) [
@@ -263,7 +263,7 @@ all_waiting removed kept unfinished slots r k u sound =
         | inr e ↦ sound.kept_unfinished.apart s e
       ];
     } in
-    let same : where_free (waits (record { removed = removed; kept = kept; unfinished = unfinished; held = slots })) removed.from removed.to ≡ where_free (λ s. contains one.sectors s || contains unfinished.sectors s) removed.from removed.to =
+    let same : where_free (waits_in (record { removed = removed; kept = kept; unfinished = unfinished; held = slots })) removed.from removed.to ≡ where_free (λ s. contains one.sectors s || contains unfinished.sectors s) removed.from removed.to =
     where_same _ _ removed.from removed.to (λ s low high. regrouped (contains removed.sectors s) (contains kept.sectors s) (contains unfinished.sectors s)
     ∙ ap (λ (b : Bool). b || contains unfinished.sectors s) (sym (contains_where (λ t. contains removed.sectors t || contains kept.sectors t) removed.from removed.to s low high))) in
     omega (arith, ap length same, both removed kept r k sound.removed_kept, both one unfinished (own_of removed.from removed.to _ one refl) u apart)
@@ -274,7 +274,7 @@ all_waiting removed kept unfinished slots r k u sound =
 
 pub few_waiting : (removed kept unfinished : Area) (slots : Slots) → IsOwn removed → IsOwn kept → IsOwn unfinished → AreSound removed kept unfinished slots → length removed.sectors + length kept.sectors + length unfinished.sectors ≤ removed.to - removed.from
 few_waiting removed kept unfinished slots r k u sound =
-    omega (arith, all_waiting removed kept unfinished slots r k u sound, no_more_than (waits (record { removed = removed; kept = kept; unfinished = unfinished; held = slots })) removed.from removed.to)
+    omega (arith, all_waiting removed kept unfinished slots r k u sound, no_more_than (waits_in (record { removed = removed; kept = kept; unfinished = unfinished; held = slots })) removed.from removed.to)
 
 -- ---- those that nobody holds
 

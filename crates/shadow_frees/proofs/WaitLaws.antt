@@ -13,18 +13,18 @@ use Rattle.sector_set.specs.Area.{Area, area, without, together, AreIn, AreOut, 
 use Rattle.sector_set.proofs.FreeLaws.{where_same, contains_range, total_of_runs}
 use Rattle.sector_set.proofs.CountLaws.{count_without, no_more_than, split_where}
 use Rattle.sector_set.proofs.AreaLaws.{free_within, free_passes}
-use Rattle.shadow_frees.specs.Waits.{AreApart, run_between}
+use Rattle.shadow_frees.specs.Waits.{AreDisjoint, run_between}
 
 -- ---- no sector waits twice
 
-pub none_apart : (from to : ℕ) (removed unfinished : Area) → removed ≡ area from to (λ s. false) → unfinished ≡ area from to (λ s. false) → AreApart removed unfinished
+pub none_apart : (from to : ℕ) (removed unfinished : Area) → removed ≡ area from to (λ s. false) → unfinished ≡ area from to (λ s. false) → AreDisjoint removed unfinished
 none_apart from to removed unfinished r u = record {
   from = ap (λ (m : Area). m.from) (r ∙ sym u);
   to = ap (λ (m : Area). m.to) (r ∙ sym u);
   apart = λ s c. absurd (both_ways false refl (free_passes from to (λ s. false) s (ap (λ (m : Area). contains m.sectors s) (sym r) ∙ c)));
 }
 
-pub freed_apart : (removed unfinished new : Area) (runs : List Run) → new ≡ together removed runs → AreApart removed unfinished → AreOut unfinished runs → AreApart new unfinished
+pub freed_apart : (removed unfinished new : Area) (runs : List Run) → new ≡ together removed runs → AreDisjoint removed unfinished → AreOut unfinished runs → AreDisjoint new unfinished
 freed_apart removed unfinished new runs is apart out = record {
   from = ap (λ (m : Area). m.from) is ∙ apart.from;
   to = ap (λ (m : Area). m.to) is ∙ apart.to;
@@ -34,7 +34,7 @@ freed_apart removed unfinished new runs is apart out = record {
   ];
 }
 
-pub begun_apart : (removed unfinished new : Area) (runs : List Run) → new ≡ together unfinished runs → AreApart removed unfinished → AreOut removed runs → AreApart removed new
+pub begun_apart : (removed unfinished new : Area) (runs : List Run) → new ≡ together unfinished runs → AreDisjoint removed unfinished → AreOut removed runs → AreDisjoint removed new
 begun_apart removed unfinished new runs is apart out = record {
   from = apart.from ∙ ap (λ (m : Area). m.from) (sym is);
   to = apart.to ∙ ap (λ (m : Area). m.to) (sym is);
@@ -48,14 +48,14 @@ begun_apart removed unfinished new runs is apart out = record {
 pub still_in : (m new : Area) (runs : List Run) (s : ℕ) → new ≡ without m runs → contains new.sectors s ≡ true → contains m.sectors s ≡ true
 still_in m new runs s is c = (and_parts (contains m.sectors s) (not (contains (sectors_of runs) s)) (free_passes m.from m.to _ s (ap (λ (m : Area). contains m.sectors s) (sym is) ∙ c))).0
 
-pub ended_apart : (removed unfinished new : Area) (runs : List Run) → new ≡ without unfinished runs → AreApart removed unfinished → AreApart removed new
+pub ended_apart : (removed unfinished new : Area) (runs : List Run) → new ≡ without unfinished runs → AreDisjoint removed unfinished → AreDisjoint removed new
 ended_apart removed unfinished new runs is apart = record {
   from = apart.from ∙ ap (λ (m : Area). m.from) (sym is);
   to = apart.to ∙ ap (λ (m : Area). m.to) (sym is);
   apart = λ s c. false_from_ne_true (contains new.sectors s) (λ d. both_ways (contains unfinished.sectors s) (apart.apart s c) (still_in unfinished new runs s is d));
 }
 
-pub given_apart : (removed unfinished new : Area) (runs : List Run) → new ≡ without removed runs → AreApart removed unfinished → AreApart new unfinished
+pub given_apart : (removed unfinished new : Area) (runs : List Run) → new ≡ without removed runs → AreDisjoint removed unfinished → AreDisjoint new unfinished
 given_apart removed unfinished new runs is apart = record {
   from = ap (λ (m : Area). m.from) is ∙ apart.from;
   to = ap (λ (m : Area). m.to) is ∙ apart.to;
@@ -130,7 +130,7 @@ fewer m new r own are is some =
     omega (arith, all, sum_by-cons (λ (r : Run). r.length) r [], ap (λ (v : Area). length v.sectors) is)
 
 -- two sets that are apart together have as many as both
-pub both : (one other : Area) → IsOwn one → IsOwn other → AreApart one other → length (where_free (λ s. contains one.sectors s || contains other.sectors s) one.from one.to) ≡ length one.sectors + length other.sectors
+pub both : (one other : Area) → IsOwn one → IsOwn other → AreDisjoint one other → length (where_free (λ s. contains one.sectors s || contains other.sectors s) one.from one.to) ≡ length one.sectors + length other.sectors
 both one other r u apart =
     let first : where_free (λ s. (contains one.sectors s || contains other.sectors s) && contains one.sectors s) one.from one.to ≡ where_free (contains one.sectors) one.from one.to =
     where_same _ _ one.from one.to (λ s h k. absorbed (contains one.sectors s) (contains other.sectors s)) in
@@ -157,5 +157,5 @@ both one other r u apart =
     rest false true h = refl
     rest false false h = refl
 
-pub few : (one other : Area) → IsOwn one → IsOwn other → AreApart one other → length one.sectors + length other.sectors ≤ one.to - one.from
+pub few : (one other : Area) → IsOwn one → IsOwn other → AreDisjoint one other → length one.sectors + length other.sectors ≤ one.to - one.from
 few one other r u apart = omega (arith, both one other r u apart, no_more_than (λ s. contains one.sectors s || contains other.sectors s) one.from one.to)

@@ -16,9 +16,9 @@ is_empty None = true
 is_empty (Some runs) = false
 
 -- a slot has these very runs, or none of their sectors
-abbrev pub Agrees : List Run → Option (List Run) → Type 0
-Agrees runs None = ⊤
-Agrees runs (Some other) = (other ≡ runs) ⊎ IsFalse (meets (sectors_of runs) other)
+abbrev pub IsSameOrApart : List Run → Option (List Run) → Type 0
+IsSameOrApart runs None = ⊤
+IsSameOrApart runs (Some other) = (other ≡ runs) ⊎ IsFalse (meets (sectors_of runs) other)
 
 abbrev pub has_same : List Run → Option (List Run) → Bool
 has_same runs None = false
@@ -57,7 +57,7 @@ pub record IsVersion (removed kept : Area) (slots : Slots) (runs : List Run) : T
   pub differ : IsTrue (all_differ (sectors_of runs))
   pub whole : AreTogether removed runs
   pub whole_kept : AreTogether kept runs
-  pub agree : All (Agrees runs) slots
+  pub agree : All (IsSameOrApart runs) slots
 
 abbrev pub IsSlot : Area → Area → Slots → Option (List Run) → Type 0
 IsSlot removed kept slots None = ⊤

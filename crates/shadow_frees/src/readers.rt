@@ -3,8 +3,8 @@ ghost use Rattle.std.specs.Prelude.{◌≡◌, ◌<◌, ◌↔◌, not, All, IsT
 ghost use Rattle.std.specs.List.{list_any};
 ghost use Rattle.sector_set.specs.Area.{IsOwn};
 ghost use Rattle.sector_set.specs.Meet.{meets};
-ghost use Rattle.shadow_frees.specs.Waits.{AreApart};
-ghost use Rattle.shadow_frees.specs.Readers.{is_empty, Agrees, AreSlots, AreTogether, AreWithin, has_same, unheld, with_held};
+ghost use Rattle.shadow_frees.specs.Waits.{AreDisjoint};
+ghost use Rattle.shadow_frees.specs.Readers.{is_empty, IsSameOrApart, AreSlots, AreTogether, AreWithin, has_same, unheld, with_held};
 
 use run_table::{Run, Runs};
 use sector_set::{SectorArea, overlap};
@@ -36,7 +36,7 @@ pub(crate) fn empty_slot(held: &[Option<Runs>]) -> usize
 
 /// Whether each slot has the very same runs or none of their sectors.
 pub(crate) fn agree(held: &[Option<Runs>], runs: &Runs) -> bool
-    ensures { IsTrue result ↔ All (Agrees runs.now) held.now }
+    ensures { IsTrue result ↔ All (IsSameOrApart runs.now) held.now }
 {
     for slot in held {
         if let Some(other) = slot {
@@ -78,7 +78,7 @@ pub(crate) fn are_in(area: &SectorArea, runs: &[Run]) -> bool
 
 /// The removed sectors that readers hold are kept for them.
 pub(crate) fn keep_held(held: &[Option<Runs>], removed: &mut SectorArea, kept: &mut SectorArea)
-    requires apart { AreApart removed.old kept.old }
+    requires apart { AreDisjoint removed.old kept.old }
     requires own { IsOwn removed.old }
     requires own_kept { IsOwn kept.old }
     requires slots { AreSlots removed.old kept.old held.now }

@@ -2,8 +2,8 @@
 ghost use Rattle.std.specs.Prelude.{◌≡◌, ◌+◌, ◌<◌, ◌≤◌, ◌||◌, ◌↔◌, not, false, [], ◌∷◌, length, replicate, set, get_or, None, Some, All, IsTrue, IsNone, IsSome, IfOk, IfSome, OnSome};
 ghost use Rattle.std.specs.List.{list_any};
 ghost use Rattle.sector_set.specs.Area.{area, without, together, AreIn};
-ghost use Rattle.shadow_frees.specs.Readers.{is_empty, Agrees, AreUnheld, unheld, with_held, given_back};
-ghost use Rattle.shadow_frees.specs.Waits.{AreIdle, AreSound, run_between, left_after, left_kept, waiting_sectors, waits};
+ghost use Rattle.shadow_frees.specs.Readers.{is_empty, IsSameOrApart, AreUnheld, unheld, given_back};
+ghost use Rattle.shadow_frees.specs.Waits.{AreIdle, AreSound, EmptiesSlot, GivesRun, run_between, waiting_sectors, waits_in};
 
 use crate::readers;
 use run_table::Runs;
@@ -90,7 +90,7 @@ impl Shadow {
     /// The sectors of a version that is removed wait for the next force, and then for the last reader that holds it.
     pub fn freed(&mut self, runs: &Runs)
         requires idle { AreIdle self.old runs.now }
-        requires agree { All (Agrees runs.now) self.old.held }
+        requires agree { All (IsSameOrApart runs.now) self.old.held }
         ensures removed { self.new.removed ≡ together self.old.removed runs.now }
         ensures kept { self.new.kept ≡ self.old.kept }
         ensures unfinished { self.new.unfinished ≡ self.old.unfinished }
@@ -103,7 +103,7 @@ impl Shadow {
     pub fn hold(&mut self, runs: &Runs) -> u32
         requires room { IsTrue (list_any is_empty self.old.held) }
         requires idle { AreIdle self.old runs.now }
-        requires agree { All (Agrees runs.now) self.old.held }
+        requires agree { All (IsSameOrApart runs.now) self.old.held }
         ensures inside { result < 8 }
         ensures empty { get_or self.old.held result None ≡ None }
         ensures held { self.new.held ≡ set self.old.held result (Some runs.now) }
@@ -123,10 +123,7 @@ impl Shadow {
         ensures result { result ≡ given_back self.old.kept (set self.old.held slot None) (get_or self.old.held slot None) }
         ensures given { IfSome result (λ runs. AreIn self.old.kept runs) }
         ensures left { IfSome result (λ runs. AreUnheld self.new.held runs) }
-        ensures held { self.new.held ≡ set self.old.held slot None }
-        ensures removed { self.new.removed ≡ self.old.removed }
-        ensures kept { self.new.kept ≡ left_kept self.old.kept result }
-        ensures unfinished { self.new.unfinished ≡ self.old.unfinished }
+        ensures waits { EmptiesSlot self.old self.new slot result }
     {
         let runs = self.held[slot as usize].take()?;
         if !readers::are_in(&self.kept, runs.as_slice()) || readers::have(&self.held, &runs) {
@@ -138,7 +135,7 @@ impl Shadow {
 
     /// Whether each reader holds the very same runs or none of their sectors.
     pub fn agrees(&self, runs: &Runs) -> bool
-        ensures { IsTrue result ↔ All (Agrees runs.now) self.now.held }
+        ensures { IsTrue result ↔ All (IsSameOrApart runs.now) self.now.held }
     {
         readers::agree(&self.held, runs)
     }
@@ -171,11 +168,8 @@ impl Shadow {
         ensures none { IsNone result ↔ ((unheld self.old.held self.old.removed).sectors ≡ []) }
         ensures some { IfSome result (λ p. p.0 < p.1) }
         ensures given { IfSome result (λ p. AreIn (unheld self.old.held self.old.removed) (run_between p ∷ [])) }
-        ensures left { self.new.removed ≡ left_after (unheld self.old.held self.old.removed) result }
-        ensures kept { self.new.kept ≡ with_held self.old.held self.old.kept self.old.removed }
+        ensures waits { GivesRun self.old self.new result }
         ensures fewer { OnSome result (length self.new.removed.sectors < length self.old.removed.sectors) }
-        ensures unfinished { self.new.unfinished ≡ self.old.unfinished }
-        ensures held { self.new.held ≡ self.old.held }
     {
         let from = self.removed.from();
         readers::keep_held(&self.held, &mut self.removed, &mut self.kept);
@@ -204,7 +198,7 @@ impl Shadow {
     pub fn waits(&self, s: u32) -> bool
         requires from { self.now.removed.from ≤ s }
         requires to { s < self.now.removed.to }
-        ensures { result ≡ waits self.now s }
+        ensures { result ≡ waits_in self.now s }
     {
         self.removed.contains(s) || self.kept.contains(s) || self.unfinished.contains(s)
     }

@@ -9,17 +9,18 @@ use Rattle.sector_disk.specs.Image.{open_damage}
 use Rattle.sector_disk.proofs.CallLaws.{reads_told}
 use Rattle.sector_disk.proofs.Wear.{worn_refl}
 use Rattle.page_cache.specs.declared.fault.CacheFault.{CacheFault}
-use Rattle.page_cache.specs.declared.fault.CacheFault.TheVariants.{Device, Memory, Lost}
+use Rattle.page_cache.specs.declared.fault.CacheFault.TheVariants.{Load, Memory}
+use Rattle.sector_disk.specs.declared.machine.LoadFault.TheVariants.{Device, Lost}
 use Rattle.page_cache.specs.declared.source.PageSource.{Ghosts as SourceGhosts}
-use Rattle.page_cache.specs.Cache.{CacheValue, Held, IsCache, IsResident, KeepsNewest, held, bytes_of, pins_of, is_one_of, busy, leaver, staying, used}
-use Rattle.page_cache.specs.Fetch.{LostCause, fetch_failed_at}
+use Rattle.page_cache.specs.Cache.{CacheValue, Held, IsCache, IsResident, KeepsNewest, held, cached_bytes, pins_of, is_among, busy, leaver, staying, used}
+use Rattle.page_cache.specs.Fetch.{LostAsTold, fetch_failed_at}
 use Rattle.page_cache.proofs.Entries.{by_bool, by_option}
 use Rattle.page_cache.proofs.FetchLaws.{Fetched, fetched_dirty}
 use Rattle.page_cache.proofs.KeepLaws.{fetched_keeps, fetched_pins, busy_within, bytes_resident, resident_bytes}
 use Rattle.page_cache.proofs.NewestLaws.{stood, used_held}
 use Rattle.name_page.specs.Pages.{outer_refusal}
-use Rattle.table_pages.specs.Bringing.{Brings, HasRoom, FetchesOnly, IsHit, given_by, refusal_for}
-use Rattle.table_pages.specs.Reads.{Fills, LosesFor, Stood, device_of}
+use Rattle.table_pages.specs.Bringing.{Brings, HasRoomFor, FetchesOnly, IsHit, given_by, refusal_for}
+use Rattle.table_pages.specs.Reads.{Fills, LosesFor, StoodWhole, outer_device}
 
 -- ---- the cache
 
@@ -36,8 +37,8 @@ brings_then a b c x y = record {
       y.keeps page still (busy_still page busy) ∙ same;
 }
   where
-    busy_still : (page : ℕ) → (is_one_of a.dirty page ≡ true) ⊎ (0 < pins_of a page) → (is_one_of b.dirty page ≡ true) ⊎ (0 < pins_of b page)
-    busy_still page (inl dirty) = inl (ap (λ (ds : List ℕ). is_one_of ds page) x.dirty ∙ dirty)
+    busy_still : (page : ℕ) → (is_among a.dirty page ≡ true) ⊎ (0 < pins_of a page) → (is_among b.dirty page ≡ true) ⊎ (0 < pins_of b page)
+    busy_still page (inl dirty) = inl (ap (λ (ds : List ℕ). is_among ds page) x.dirty ∙ dirty)
     busy_still page (inr pinned) = inr (omega (arith, pinned, x.pins page))
 
 pub fetched_brings : (page : ℕ) (old new : CacheValue) → IsCache old → Fetched page old new → Brings old new
@@ -48,7 +49,7 @@ fetched_brings page old new whole at = record {
 }
 
 -- a page that is there had its bytes, or it is the one that has entered
-had_or_entered : (page : ℕ) (old new : CacheValue) → IsCache old → Fetched page old new → (q : ℕ) (bytes : List ℕ) → bytes_of new q ≡ Some bytes → (bytes_of old q ≡ Some bytes) ⊎ ((q ≡ page) × (held old page ≡ None))
+had_or_entered : (page : ℕ) (old new : CacheValue) → IsCache old → Fetched page old new → (q : ℕ) (bytes : List ℕ) → cached_bytes new q ≡ Some bytes → (cached_bytes old q ≡ Some bytes) ⊎ ((q ≡ page) × (held old page ≡ None))
 had_or_entered page old new whole (inl hit) q bytes is =
     inl (sym (ap (option_map (λ (h : Held). h.bytes)) (ap (λ (c : CacheValue). held c q) hit.1 ∙ used_held page old q)) ∙ is)
 had_or_entered page old new whole (inr enters) q bytes is = by_bool (nat_eq q page)
@@ -56,14 +57,14 @@ had_or_entered page old new whole (inr enters) q bytes is = by_bool (nat_eq q pa
     (λ t. let beside : held new q ≡ lookup (nat_eq q) (staying (leaver old) old.resident) = ap (λ (c : CacheValue). held c q) enters.1.1 ∙ (rw t refl) in
     inl (on (lookup (nat_eq q) (staying (leaver old) old.resident)) (stood old whole q) (sym (ap (option_map (λ (h : Held). h.bytes)) beside) ∙ is)))
   where
-    on : (o : Option Held) → (o ≡ held old q) ⊎ ((o ≡ None) × IsResident old q × (is_one_of old.dirty q ≡ false)) → option_map (λ (h : Held). h.bytes) o ≡ Some bytes → bytes_of old q ≡ Some bytes
+    on : (o : Option Held) → (o ≡ held old q) ⊎ ((o ≡ None) × IsResident old q × (is_among old.dirty q ≡ false)) → option_map (λ (h : Held). h.bytes) o ≡ Some bytes → cached_bytes old q ≡ Some bytes
     on o (inl same) is = sym (ap (option_map (λ (h : Held). h.bytes)) same) ∙ is
     on o (inr out) is = absurd (true≢false (ap is_some (sym is ∙ ap (option_map (λ (h : Held). h.bytes)) out.0)))
 
 -- where the page was there nothing else has changed
 pub hit_all : {D : Type 0} (m m' : D) (page : ℕ) (old new : CacheValue) (r : Result ℕ CacheFault) → IfSome (held old page) (λ h. (r ≡ Ok h.frame) × (new ≡ used page old) × (m' ≡ m)) → IsResident old page → IsHit m m' old new
 hit_all m m' page old new r hit there = by_option (held old page)
-    (λ h is. let ok = rw is at hit in record { machine = ok.2; bytes = λ q. ap (λ (c : CacheValue). bytes_of c q) ok.1 ∙ ap (λ (o : Option Held). option_map (λ h. h.bytes) o) (used_held page old q) })
+    (λ h is. let ok = rw is at hit in record { machine = ok.2; bytes = λ q. ap (λ (c : CacheValue). cached_bytes c q) ok.1 ∙ ap (λ (o : Option Held). option_map (λ h. h.bytes) o) (used_held page old q) })
     (λ none. absurd (cc (none, there)))
 
 -- a page that is not fetched was not there
@@ -73,28 +74,28 @@ failed_missing page old new r fault E err hit there = by_option (held old page)
     (λ none. cc (none, there))
 
 -- there is a frame for one page more
-pub room_busy : (c : CacheValue) → IsCache c → HasRoom 1 c → busy c < c.frames
+pub room_busy : (c : CacheValue) → IsCache c → HasRoomFor 1 c → busy c < c.frames
 room_busy c whole room = omega (arith, busy_within room.keep c whole room.pins, room.few, room.frames)
 
 -- ---- with the machine
 
-told_place : (fault : CacheFault) → device_of (outer_refusal (refusal_for fault)) ≡ fetch_failed_at fault
-told_place (Device place) = refl
+told_place : (fault : CacheFault) → outer_device (outer_refusal (refusal_for fault)) ≡ fetch_failed_at fault
+told_place (Load (Device place)) = refl
+told_place (Load (Lost a b)) = refl
 told_place Memory = refl
-told_place (Lost a b) = refl
 
 module _ {D E : Type 0} (M : MachineGhosts D) (S : SourceGhosts E) (source : E) (m m' : D) (page : ℕ) where
-  pub fetched_fills : (old new : CacheValue) → IsCache old → new.frames ≡ old.frames → Fetched page old new → (held old page ≡ None → M.honest m' → IfSome (bytes_of new page) (S.stands source page (M.now m).image)) → Fills M S source m m' old new
+  pub fetched_fills : (old new : CacheValue) → IsCache old → new.frames ≡ old.frames → Fetched page old new → (held old page ≡ None → M.honest m' → IfSome (cached_bytes new page) (S.stands source page (M.now m).image)) → Fills M S source m m' old new
   fetched_fills old new whole frames at stands = record {
     frames = frames;
-    dirty = λ q is. ap (λ (ds : List ℕ). is_one_of ds q) (fetched_dirty page old new at) ∙ is;
+    dirty = λ q is. ap (λ (ds : List ℕ). is_among ds q) (fetched_dirty page old new at) ∙ is;
     stood = λ h q bytes out is. read h q bytes is (had_or_entered page old new whole at q bytes is);
   }
     where
-      read : M.honest m' → (q : ℕ) (bytes : List ℕ) → bytes_of new q ≡ Some bytes → (bytes_of old q ≡ Some bytes) ⊎ ((q ≡ page) × (held old page ≡ None)) → (bytes_of old q ≡ Some bytes) ⊎ Stood M S source (M.now m) q bytes
+      read : M.honest m' → (q : ℕ) (bytes : List ℕ) → cached_bytes new q ≡ Some bytes → (cached_bytes old q ≡ Some bytes) ⊎ ((q ≡ page) × (held old page ≡ None)) → (cached_bytes old q ≡ Some bytes) ⊎ StoodWhole M S source (M.now m) q bytes
       read h q bytes is (inl had) = inl had
       read h q bytes is (inr new_is) =
-          let here : bytes_of new page ≡ Some bytes = ap (bytes_of new) (sym new_is.0) ∙ is in
+          let here : cached_bytes new page ≡ Some bytes = ap (cached_bytes new) (sym new_is.0) ∙ is in
           let at_page : S.stands source page (M.now m).image bytes = subst (λ (o : Option (List ℕ)). IfSome o (S.stands source page (M.now m).image)) here (stands new_is.1 h) in
           inr (record {
             image = (M.now m).image;
@@ -102,13 +103,13 @@ module _ {D E : Type 0} (M : MachineGhosts D) (S : SourceGhosts E) (source : E) 
             stands = subst (λ (k : ℕ). S.stands source k (M.now m).image bytes) (sym new_is.0) at_page;
           })
 
-  loses_as : (fault : CacheFault) → page < S.pages source → (M.honest m' → LostCause (S.copies source page) (M.now m').image fault) → LosesFor M S source (outer_refusal (refusal_for fault)) m'
-  loses_as (Device place) within lost = tt
+  loses_as : (fault : CacheFault) → page < S.pages source → (M.honest m' → LostAsTold (S.copies source page) (M.now m').image fault) → LosesFor M S source (outer_refusal (refusal_for fault)) m'
+  loses_as (Load (Device place)) within lost = tt
+  loses_as (Load (Lost a b)) within lost = record { page = page; within = within; lost = lost }
   loses_as Memory within lost = tt
-  loses_as (Lost a b) within lost = record { page = page; within = within; lost = lost }
 
   -- one that was refused leaves the cache
-  pub refused_fetch : (c c' : CacheValue) (fault : CacheFault) → page < S.pages source → c' ≡ c → OnlyReads M (fetch_failed_at fault) m m' → (M.honest m' → LostCause (S.copies source page) (M.now m').image fault)
+  pub refused_fetch : (c c' : CacheValue) (fault : CacheFault) → page < S.pages source → c' ≡ c → OnlyReads M (fetch_failed_at fault) m m' → (M.honest m' → LostAsTold (S.copies source page) (M.now m').image fault)
       → FetchesOnly M S source (outer_refusal (refusal_for fault)) m m' c c'
   refused_fetch c c' fault within same reads lost = record {
     reads = reads_told (told_place fault) reads;

@@ -3,7 +3,7 @@ use Rattle.std.proofs.Common.{◌≡◌, ℕ, ◌+◌, ◌-◌, ◌<◌, ◌≤�
 use Rattle.std.specs.Prelude.{nat_eq, count_by}
 use Rattle.std.proofs.lemmas.List.{take_more}
 use Rattle.std.proofs.lemmas.List.Sums.{sum_by-append}
-use Rattle.page_cache.specs.Cache.{CacheValue, IsResident, bytes_of, pins_of, with_pins}
+use Rattle.page_cache.specs.Cache.{CacheValue, IsResident, cached_bytes, pins_of, with_pins}
 use Rattle.page_cache.proofs.Entries.{by_bool, key_flips}
 use Rattle.page_cache.proofs.BusyLaws.{count_cons, one}
 use Rattle.page_cache.proofs.KeepLaws.{bytes_resident, resident_bytes, pinned_bytes, pinned_pins, pinned_resident}
@@ -41,7 +41,7 @@ module _ (old new : CacheValue) (page n : ℕ) (set : new ≡ with_pins page n o
   set_only = record {
     frames = ap (λ (c : CacheValue). c.frames) set;
     dirty = ap (λ (c : CacheValue). c.dirty) set;
-    bytes = λ q. ap (λ (c : CacheValue). bytes_of c q) set ∙ pinned_bytes page n old q;
+    bytes = λ q. ap (λ (c : CacheValue). cached_bytes c q) set ∙ pinned_bytes page n old q;
   }
 
   pub set_pins : IsResident old page → (q : ℕ) → pins_of new q ≡ cond (nat_eq page q) n (pins_of old q)

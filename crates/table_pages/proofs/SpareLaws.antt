@@ -11,13 +11,13 @@ use Rattle.sector_disk.specs.Calls.{OnlyReads}
 use Rattle.sector_disk.proofs.CallLaws as calls
 use Rattle.sector_disk.specs.declared.machine.Machine.{Ghosts as MachineGhosts}
 use Rattle.page_cache.specs.declared.source.PageSource.{Ghosts as SourceGhosts}
-use Rattle.page_cache.specs.Cache.{CacheValue, IsResident, KeepsNewest, bytes_of, pins_of, is_one_of, with_dirty, with_pins}
+use Rattle.page_cache.specs.Cache.{CacheValue, IsResident, KeepsNewest, cached_bytes, pins_of, is_among, with_dirty, with_pins}
 use Rattle.page_cache.proofs.Entries.{by_bool, key_flips}
 use Rattle.page_cache.proofs.BusyLaws.{count_cons, one}
 use Rattle.page_cache.proofs.KeepLaws.{bytes_resident, pinned_bytes, resident_bytes}
 use Rattle.page_cache.proofs.WrittenLaws.{still_dirty}
-use Rattle.table_pages.specs.Reads.{Fills, LosesFor, device_of}
-use Rattle.table_pages.specs.Bringing.{HasRoom, OnlyPins, Brings, given_by, FetchesOnly}
+use Rattle.table_pages.specs.Reads.{Fills, LosesFor, outer_device}
+use Rattle.table_pages.specs.Bringing.{HasRoomFor, OnlyPins, Brings, given_by, FetchesOnly}
 use Rattle.table_pages.specs.Sparing.{AreSpare, SparesOnly}
 use Rattle.table_pages.proofs.PinLaws.{count_append, count_single, set_only, set_pins}
 use Rattle.table_pages.proofs.BringLaws.{brings_still, brings_then}
@@ -26,7 +26,7 @@ use Rattle.table_pages.specs.ReadLaws.{fills_still, fills_then}
 
 -- ---- so many pages are free at most as stand in a list of all of them
 
-pub one_of_count : (q : ℕ) (xs : List ℕ) → is_one_of xs q ≡ true → 1 ≤ count_by (nat_eq q) xs
+pub one_of_count : (q : ℕ) (xs : List ℕ) → is_among xs q ≡ true → 1 ≤ count_by (nat_eq q) xs
 one_of_count q [] h = absurd (true≢false (sym h))
 one_of_count q (x ∷ xs) h =
     let all = count_cons (nat_eq q) x xs in
@@ -34,11 +34,11 @@ one_of_count q (x ∷ xs) h =
     (λ t. let head : one (nat_eq q x) ≡ 1 = ap one (key_flips x q true t) in omega (arith, all, head))
     (λ t. let rest = one_of_count q xs (rw t at h) in omega (arith, all, rest))
 
-pub count_one_of : (q : ℕ) (xs : List ℕ) → is_one_of xs q ≡ false → count_by (nat_eq q) xs ≡ 0
+pub count_one_of : (q : ℕ) (xs : List ℕ) → is_among xs q ≡ false → count_by (nat_eq q) xs ≡ 0
 count_one_of q [] h = refl
 count_one_of q (x ∷ xs) h =
     let all = count_cons (nat_eq q) x xs in
-    let parts = or_parts (nat_eq x q) (is_one_of xs q) h in
+    let parts = or_parts (nat_eq x q) (is_among xs q) h in
     let head : one (nat_eq q x) ≡ 0 = ap one (key_flips x q false parts.0) in
     let rest = count_one_of q xs parts.1 in omega (arith, all, head, rest)
 
@@ -51,20 +51,20 @@ count_above a (x ∷ xs) =
     let x1 = count_cons (nat_le a) x xs in let x2 = count_cons (nat_le (a + 1)) x xs in let x3 = count_cons (nat_eq a) x xs in
     let on = count_above a xs in let head = one_above a x in omega (arith, x1, x2, x3, on, head)
 
-count_free : (free : List Bool) (a : ℕ) (xs : List ℕ) → ((i : ℕ) → i < length free → get_or free i false ≡ true → is_one_of xs (a + i) ≡ true) → count_by (λ f. f) free ≤ count_by (nat_le a) xs
+count_free : (free : List Bool) (a : ℕ) (xs : List ℕ) → ((i : ℕ) → i < length free → get_or free i false ≡ true → is_among xs (a + i) ≡ true) → count_by (λ f. f) free ≤ count_by (nat_le a) xs
 count_free [] a xs h = omega arith
 count_free (f ∷ fs) a xs h =
     let all = count_cons (λ (b : Bool). b) f fs in
-    let rest = count_free fs (a + 1) xs (λ i lt t. subst (λ (k : ℕ). is_one_of xs k ≡ true) (omega arith) (h (suc i) (omega (arith, lt)) t)) in
+    let rest = count_free fs (a + 1) xs (λ i lt t. subst (λ (k : ℕ). is_among xs k ≡ true) (omega arith) (h (suc i) (omega (arith, lt)) t)) in
     let parts = count_above a xs in
     by_bool f
-    (λ t. let here : is_one_of xs a ≡ true = subst (λ (k : ℕ). is_one_of xs k ≡ true) (omega arith) (h 0 (omega arith) t) in
+    (λ t. let here : is_among xs a ≡ true = subst (λ (k : ℕ). is_among xs k ≡ true) (omega arith) (h 0 (omega arith) t) in
     let some = one_of_count a xs here in let head : one f ≡ 1 = ap one t in omega (arith, all, rest, parts, some, head))
     (λ t. let head : one f ≡ 0 = ap one t in omega (arith, all, rest, parts, head))
 
-pub free_at_most : (free : List Bool) (xs : List ℕ) → ((page : ℕ) → page < length free → slice_index_or free page false ≡ true → is_one_of xs page ≡ true) → count_by (λ f. f) free ≤ length xs
+pub free_at_most : (free : List Bool) (xs : List ℕ) → ((page : ℕ) → page < length free → slice_index_or free page false ≡ true → is_among xs page ≡ true) → count_by (λ f. f) free ≤ length xs
 free_at_most free xs h =
-    let few = count_free free 0 xs (λ i lt t. subst (λ (k : ℕ). is_one_of xs k ≡ true) (omega arith) (h i lt t)) in let most = count_by-le-length (nat_le 0) xs in omega (arith, few, most)
+    let few = count_free free 0 xs (λ i lt t. subst (λ (k : ℕ). is_among xs k ≡ true) (omega arith) (h i lt t)) in let most = count_by-le-length (nat_le 0) xs in omega (arith, few, most)
 
 -- ---- the first page of a list
 
@@ -80,9 +80,9 @@ first_counts xs x some is =
 
 -- ---- one page more
 
-pub spare_more : (free : List Bool) (spares : List ℕ) (page : ℕ) → AreSpare free spares → slice_index_or free page false ≡ true → is_one_of spares page ≡ false → AreSpare free (spares ++ page ∷ [])
+pub spare_more : (free : List Bool) (spares : List ℕ) (page : ℕ) → AreSpare free spares → slice_index_or free page false ≡ true → is_among spares page ≡ false → AreSpare free (spares ++ page ∷ [])
 spare_more free spares page h is beside = record {
-  are = λ q one_is. by_bool (is_one_of spares q)
+  are = λ q one_is. by_bool (is_among spares q)
       (λ t. h.are q t)
       (λ t. let last = (sym (list_any-append (λ other. nat_eq other q) spares (page ∷ [])) ∙ one_is) in
       let here : nat_eq page q ≡ true = by_bool (nat_eq page q) (λ e. e) (λ e. absurd (true≢false (sym (rw (t, e) at last)))) in
@@ -92,7 +92,7 @@ spare_more free spares page h is beside = record {
       let last = count_single q page in
       let was = h.once q in
       by_bool (nat_eq q page)
-      (λ t. let none : count_by (nat_eq q) spares ≡ 0 = count_one_of q spares (subst (λ (k : ℕ). is_one_of spares k ≡ false) (sym (eqb-true q page t)) beside) in
+      (λ t. let none : count_by (nat_eq q) spares ≡ 0 = count_one_of q spares (subst (λ (k : ℕ). is_among spares k ≡ false) (sym (eqb-true q page t)) beside) in
       let head : one (nat_eq q page) ≡ 1 = ap one t in omega (arith, parts, last, none, head))
       (λ t. let head : one (nat_eq q page) ≡ 0 = ap one t in omega (arith, parts, last, was, head));
 }
@@ -101,7 +101,7 @@ spare_more free spares page h is beside = record {
 
 pub pins_newest : (source : ℕ → Option (List ℕ)) (old new : CacheValue) → OnlyPins old new → KeepsNewest source old new
 pins_newest source old new only clean = (
-  λ q there not. only.bytes q ∙ clean q (bytes_resident old q (subst (λ o. IsSome o) (only.bytes q) (resident_bytes new q there))) (ap (λ (ds : List ℕ). is_one_of ds q) (sym only.dirty) ∙ not),
+  λ q there not. only.bytes q ∙ clean q (bytes_resident old q (subst (λ o. IsSome o) (only.bytes q) (resident_bytes new q there))) (ap (λ (ds : List ℕ). is_among ds q) (sym only.dirty) ∙ not),
   λ q. ap (λ (o : Option (List ℕ)). option_or o (source q)) (only.bytes q),
 )
 
@@ -116,15 +116,15 @@ module _ {D E : Type 0} (M : MachineGhosts D) (S : SourceGhosts E) (source : E) 
   pub pinned_fills : (m : D) (old new : CacheValue) → OnlyPins old new → Fills M S source m m old new
   pinned_fills m old new only = record {
     frames = only.frames;
-    dirty = λ q is. ap (λ (ds : List ℕ). is_one_of ds q) only.dirty ∙ is;
+    dirty = λ q is. ap (λ (ds : List ℕ). is_among ds q) only.dirty ∙ is;
     stood = λ h q bytes out is. inl (sym (only.bytes q) ∙ is);
   }
 
   pub taken_fills : (m : D) (old new : CacheValue) (page n : ℕ) → new ≡ with_dirty page (with_pins page n old) → Fills M S source m m old new
   taken_fills m old new page n set = record {
     frames = ap (λ (c : CacheValue). c.frames) set;
-    dirty = λ q is. ap (λ (c : CacheValue). is_one_of c.dirty q) set ∙ still_dirty (with_pins page n old) page q is;
-    stood = λ h q bytes out is. inl (sym (ap (λ (c : CacheValue). bytes_of c q) set ∙ pinned_bytes page n old q) ∙ is);
+    dirty = λ q is. ap (λ (c : CacheValue). is_among c.dirty q) set ∙ still_dirty (with_pins page n old) page q is;
+    stood = λ h q bytes out is. inl (sym (ap (λ (c : CacheValue). cached_bytes c q) set ∙ pinned_bytes page n old q) ∙ is);
   }
 
   pub fetches_then : Lasts S → (refusal : Option Refusal) (m1 m2 m3 : D) (a b c : CacheValue) → FetchesOnly M S source None m1 m2 a b → FetchesOnly M S source refusal m2 m3 b c → FetchesOnly M S source refusal m1 m3 a c
@@ -151,12 +151,12 @@ module _ {D E : Type 0} (M : MachineGhosts D) (S : SourceGhosts E) (source : E) 
   }
 
   -- no call at all, where memory is short or nothing was asked of the outside
-  pub fetches_still : (refusal : Option Refusal) (m : D) (c : CacheValue) → OnlyReads M (device_of refusal) m m → LosesFor M S source refusal m → FetchesOnly M S source refusal m m c c
+  pub fetches_still : (refusal : Option Refusal) (m : D) (c : CacheValue) → OnlyReads M (outer_device refusal) m m → LosesFor M S source refusal m → FetchesOnly M S source refusal m m c c
   fetches_still refusal m c reads loses = record { reads = reads; loses = loses; fills = fills_still M S source m c; brings = brings_still c; newest = λ h knows clean. (clean, λ q. refl) }
 
 -- ---- room
 
-pub room_same : (k : ℕ) (old new : CacheValue) → new.frames ≡ old.frames → ((q : ℕ) → pins_of new q ≡ pins_of old q) → HasRoom k old → HasRoom k new
+pub room_same : (k : ℕ) (old new : CacheValue) → new.frames ≡ old.frames → ((q : ℕ) → pins_of new q ≡ pins_of old q) → HasRoomFor k old → HasRoomFor k new
 room_same k old new same pins room = record {
   frames = (let enough = room.frames in omega (arith, same, enough));
   keep = room.keep;
@@ -164,13 +164,13 @@ room_same k old new same pins room = record {
   few = room.few;
 }
 
-pub room_pins : (k : ℕ) (c : CacheValue) → HasRoom k c → (q : ℕ) → pins_of c q ≤ 96
+pub room_pins : (k : ℕ) (c : CacheValue) → HasRoomFor k c → (q : ℕ) → pins_of c q ≤ 96
 room_pins k c room q =
     let is = room.pins q in let most = count_by-le-length (nat_eq q) room.keep in let few = room.few in
     omega (arith, is, most, few)
 
 -- one more is pinned
-pub room_kept : (k : ℕ) (old new : CacheValue) (page : ℕ) → new ≡ with_pins page (pins_of old page + 1) old → IsResident old page → HasRoom (k + 1) old → HasRoom k new
+pub room_kept : (k : ℕ) (old new : CacheValue) (page : ℕ) → new ≡ with_pins page (pins_of old page + 1) old → IsResident old page → HasRoomFor (k + 1) old → HasRoomFor k new
 room_kept k old new page set there room = record {
   frames = (let same = (set_only old new page (pins_of old page + 1) set).frames in let enough = room.frames in omega (arith, same, enough));
   keep = page ∷ room.keep;
@@ -209,7 +209,7 @@ module _ {D E : Type 0} (M : MachineGhosts D) (S : SourceGhosts E) (source : E) 
 
   -- one page more is kept
   pub spares_more : (m1 m2 : D) (a b c : CacheValue) (spares : List ℕ) (page : ℕ) → FetchesOnly M S source refusal m1 m2 a b → ((q : ℕ) → pins_of b q ≡ pins_of a q)
-      → c ≡ with_pins page (pins_of b page + 1) b → IsResident b page → AreSpare free spares → slice_index_or free page false ≡ true → is_one_of spares page ≡ false
+      → c ≡ with_pins page (pins_of b page + 1) b → IsResident b page → AreSpare free spares → slice_index_or free page false ≡ true → is_among spares page ≡ false
       → SparesOnly M S source free refusal m1 m2 a c spares (spares ++ page ∷ [])
   spares_more m1 m2 a b c spares page fetches pins set there are is beside = record {
     fetches = fetches_pins M S source refusal m1 m2 a b c fetches (set_only b c page (pins_of b page + 1) set) (λ q. let more = kept_pins b c page set there q in omega (arith, more));
@@ -228,5 +228,5 @@ module _ {D E : Type 0} (M : MachineGhosts D) (S : SourceGhosts E) (source : E) 
   }
 
   -- no call at all
-  pub spares_still : (m : D) (c : CacheValue) (spares : List ℕ) → OnlyReads M (device_of refusal) m m → LosesFor M S source refusal m → AreSpare free spares → SparesOnly M S source free refusal m m c c spares spares
+  pub spares_still : (m : D) (c : CacheValue) (spares : List ℕ) → OnlyReads M (outer_device refusal) m m → LosesFor M S source refusal m → AreSpare free spares → SparesOnly M S source free refusal m m c c spares spares
   spares_still m c spares reads loses are = record { fetches = fetches_still M S source refusal m c reads loses; pins = λ q. refl; spares = are }

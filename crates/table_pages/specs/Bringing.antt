@@ -6,11 +6,12 @@ use Rattle.fsd_formats.specs.NamePage.{Content}
 use Rattle.sector_disk.specs.declared.machine.Machine.{Ghosts as MachineGhosts}
 use Rattle.sector_disk.specs.Calls.{OnlyReads}
 use Rattle.page_cache.specs.declared.fault.CacheFault.{CacheFault}
-use Rattle.page_cache.specs.declared.fault.CacheFault.TheVariants.{Device as CacheDevice, Memory as CacheMemory, Lost as CacheLost}
+use Rattle.page_cache.specs.declared.fault.CacheFault.TheVariants.{Load, Memory as CacheMemory}
+use Rattle.sector_disk.specs.declared.machine.LoadFault.TheVariants.{Device as LoadDevice, Lost as LoadLost}
 use Rattle.page_cache.specs.declared.source.PageSource.{Ghosts as SourceGhosts}
-use Rattle.page_cache.specs.Accepted.{content_in}
-use Rattle.page_cache.specs.Cache.{CacheValue, IsResident, AreNewest, KeepsNewest, bytes_of, pins_of, is_one_of}
-use Rattle.table_pages.specs.Reads.{device_of, LosesFor, Fills}
+use Rattle.page_cache.specs.Accepted.{cached_content}
+use Rattle.page_cache.specs.Cache.{CacheValue, IsResident, AreNewest, KeepsNewest, cached_bytes, pins_of, is_among}
+use Rattle.table_pages.specs.Reads.{outer_device, LosesFor, Fills}
 
 -- ---- the cache
 
@@ -18,11 +19,11 @@ use Rattle.table_pages.specs.Reads.{device_of, LosesFor, Fills}
 pub record Brings (old new : CacheValue) : Type 0 where
   pub dirty : new.dirty ≡ old.dirty
   pub pins : (page : ℕ) → pins_of old page ≤ pins_of new page
-  pub keeps : (page : ℕ) → IsResident old page → (is_one_of old.dirty page ≡ true) ⊎ (0 < pins_of old page) → bytes_of new page ≡ bytes_of old page
+  pub keeps : (page : ℕ) → IsResident old page → (is_among old.dirty page ≡ true) ⊎ (0 < pins_of old page) → cached_bytes new page ≡ cached_bytes old page
 
 -- the same pages are in the cache, with the same bytes
 abbrev pub KeepsBytes : (old new : CacheValue) → Type 0
-KeepsBytes old new = (page : ℕ) → bytes_of new page ≡ bytes_of old page
+KeepsBytes old new = (page : ℕ) → cached_bytes new page ≡ cached_bytes old page
 
 -- the page is free, or in the cache
 abbrev pub IsAtHand : (free : List Bool) → CacheValue → ℕ → Type 0
@@ -34,7 +35,7 @@ pub record IsHit {D : Type 0} (m m' : D) (old new : CacheValue) : Type 0 where
   pub bytes : KeepsBytes old new
 
 -- the pages that are pinned, each as often as it stands here, leave room for so many more
-pub record HasRoom (more : ℕ) (c : CacheValue) : Type 0 where
+pub record HasRoomFor (more : ℕ) (c : CacheValue) : Type 0 where
   pub frames : 192 ≤ c.frames
   pub keep : List ℕ
   pub pins : (page : ℕ) → pins_of c page ≡ count_by (nat_eq page) keep
@@ -44,7 +45,7 @@ pub record HasRoom (more : ℕ) (c : CacheValue) : Type 0 where
 pub record OnlyPins (old new : CacheValue) : Type 0 where
   pub frames : new.frames ≡ old.frames
   pub dirty : new.dirty ≡ old.dirty
-  pub bytes : (page : ℕ) → bytes_of new page ≡ bytes_of old page
+  pub bytes : (page : ℕ) → cached_bytes new page ≡ cached_bytes old page
 
 -- ---- with what happens outside
 
@@ -62,7 +63,7 @@ module _ {D E : Type 0} (M : MachineGhosts D) (S : SourceGhosts E) (source : E) 
 
   -- pages were read from the source into the cache, until the outside refused one so, if it did
   pub record FetchesOnly (refusal : Option Refusal) (m m' : D) (old new : CacheValue) : Type 0 where
-    pub reads : OnlyReads M (device_of refusal) m m'
+    pub reads : OnlyReads M (outer_device refusal) m m'
     pub loses : LosesFor M S source refusal m'
     pub fills : Fills M S source m m' old new
     pub brings : Brings old new
@@ -70,20 +71,20 @@ module _ {D E : Type 0} (M : MachineGhosts D) (S : SourceGhosts E) (source : E) 
 
 -- the refusal that a fault of the cache is
 abbrev pub refusal_for : CacheFault → Refusal
-refusal_for (CacheDevice place) = Device place
+refusal_for (Load (LoadDevice place)) = Device place
+refusal_for (Load (LoadLost a b)) = Lost a b
 refusal_for CacheMemory = Memory
-refusal_for (CacheLost a b) = Lost a b
 
 -- ---- the grammar
 
 -- what is in the cache stays there, and what the grammar accepts stays so
 pub record KeepsContent (old new : CacheValue) : Type 0 where
   pub there : (page : ℕ) → IsResident old page → IsResident new page
-  pub accepted : (pages page : ℕ) (x : Content) → content_in old pages page ≡ Some x → content_in new pages page ≡ Some x
+  pub accepted : (pages page : ℕ) (x : Content) → cached_content old pages page ≡ Some x → cached_content new pages page ≡ Some x
 
 -- the page is free, or the grammar refuses what the cache has of it
-abbrev pub IsRefused : List Bool → CacheValue → ℕ → Type 0
-IsRefused free c page = (slice_index_or free page false ≡ true) ⊎ (IsResident c page × (content_in c (length free) page ≡ None))
+abbrev pub IsPageRefused : List Bool → CacheValue → ℕ → Type 0
+IsPageRefused free c page = (slice_index_or free page false ≡ true) ⊎ (IsResident c page × (cached_content c (length free) page ≡ None))
 
 -- the sector of its home A
 abbrev pub home_in : (home_a page : ℕ) → ℕ
@@ -95,9 +96,9 @@ home_in home_a page = (home_a + page) % 2 ^ 32
 pub record IsBrought (free : List Bool) (c : CacheValue) (page : ℕ) : Type 0 where
   pub there : IsResident c page
   pub used : slice_index_or free page false ≡ false
-  pub accepted : IsSome (content_in c (length free) page)
+  pub accepted : IsSome (cached_content c (length free) page)
 
 -- A page at hand takes nothing of the machine, and no memory.
-pub record TakesNothing {D : Type 0} (refusal : Option Refusal) (m m' : D) (old new : CacheValue) : Type 0 where
+pub record FindsAtHand {D : Type 0} (refusal : Option Refusal) (m m' : D) (old new : CacheValue) : Type 0 where
   pub hit : IsHit m m' old new
   pub memory : refusal ≡ Some Memory → ⊥

@@ -5,13 +5,13 @@ use Rattle.sector_disk.specs.declared.machine.Machine.{Ghosts as MachineGhosts}
 use Rattle.sector_disk.specs.Machine.{Moment, Wears}
 use Rattle.sector_disk.proofs.Holding.{wears_on}
 use Rattle.page_cache.specs.declared.source.PageSource.{Ghosts as SourceGhosts}
-use Rattle.page_cache.specs.Cache.{CacheValue, bytes_of, is_one_of}
+use Rattle.page_cache.specs.Cache.{CacheValue, cached_bytes, is_among}
 use Rattle.page_cache.proofs.Entries.{by_bool}
-use Rattle.table_pages.specs.Reads.{Stood, Fills}
+use Rattle.table_pages.specs.Reads.{StoodWhole, Fills}
 
 module _ {D E : Type 0} (M : MachineGhosts D) (S : SourceGhosts E) (source : E) where
   -- what stood later stood as the earlier disk was worn
-  pub stood_before : (a b : Moment) (page : ℕ) (bytes : List ℕ) → Wears a b → Stood M S source b page bytes → Stood M S source a page bytes
+  pub stood_before : (a b : Moment) (page : ℕ) (bytes : List ℕ) → Wears a b → StoodWhole M S source b page bytes → StoodWhole M S source a page bytes
   stood_before a b page bytes worn s =
       let at_end : Moment = record b { image = s.image } in
       record {
@@ -30,9 +30,9 @@ module _ {D E : Type 0} (M : MachineGhosts D) (S : SourceGhosts E) (source : E) 
     stood = λ h page bytes out is. at h page bytes out (y.stood h page bytes out is);
   }
     where
-      clean : (page : ℕ) → is_one_of c.dirty page ≡ false → is_one_of b.dirty page ≡ false
-      clean page out = by_bool (is_one_of b.dirty page) (λ t. absurd (true≢false (sym (y.dirty page t) ∙ out))) (λ t. t)
+      clean : (page : ℕ) → is_among c.dirty page ≡ false → is_among b.dirty page ≡ false
+      clean page out = by_bool (is_among b.dirty page) (λ t. absurd (true≢false (sym (y.dirty page t) ∙ out))) (λ t. t)
 
-      at : M.honest m3 → (page : ℕ) (bytes : List ℕ) → is_one_of c.dirty page ≡ false → (bytes_of b page ≡ Some bytes) ⊎ Stood M S source (M.now m2) page bytes → (bytes_of a page ≡ Some bytes) ⊎ Stood M S source (M.now m1) page bytes
+      at : M.honest m3 → (page : ℕ) (bytes : List ℕ) → is_among c.dirty page ≡ false → (cached_bytes b page ≡ Some bytes) ⊎ StoodWhole M S source (M.now m2) page bytes → (cached_bytes a page ≡ Some bytes) ⊎ StoodWhole M S source (M.now m1) page bytes
       at h page bytes out (inl had) = x.stood (back h) page bytes (clean page out) had
       at h page bytes out (inr stood) = inr (stood_before (M.now m1) (M.now m2) page bytes (worn (back h)) stood)

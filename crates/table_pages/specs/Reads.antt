@@ -9,12 +9,12 @@ use Rattle.sector_disk.specs.Damage.{AreLost}
 use Rattle.sector_disk.specs.Image.{IsWorn, open_damage}
 use Rattle.sector_disk.specs.Machine.{Moment}
 use Rattle.page_cache.specs.declared.source.PageSource.{Ghosts as SourceGhosts}
-use Rattle.page_cache.specs.Cache.{CacheValue, bytes_of, is_one_of}
+use Rattle.page_cache.specs.Cache.{CacheValue, cached_bytes, is_among}
 
 -- the place of the call of the disk that failed, where the outside refused so
-abbrev pub device_of : Option Refusal → Option ℕ
-device_of (Some (Device place)) = Some place
-device_of other = None
+abbrev pub outer_device : Option Refusal → Option ℕ
+outer_device (Some (Device place)) = Some place
+outer_device other = None
 
 module _ {D E : Type 0} (M : MachineGhosts D) (S : SourceGhosts E) (source : E) where
   -- both copies of a page of the source are damaged
@@ -29,7 +29,7 @@ module _ {D E : Type 0} (M : MachineGhosts D) (S : SourceGhosts E) (source : E) 
   LosesFor other m = ⊤
 
   -- the bytes stood whole in one of a page's two copies, as the disk of this moment was worn since
-  pub record Stood (from : Moment) (page : ℕ) (bytes : List ℕ) : Type 0 where
+  pub record StoodWhole (from : Moment) (page : ℕ) (bytes : List ℕ) : Type 0 where
     pub image : List Sector
     pub worn : IsWorn (open_damage from.windows) from.image image
     pub stands : S.stands source page image bytes
@@ -38,12 +38,12 @@ module _ {D E : Type 0} (M : MachineGhosts D) (S : SourceGhosts E) (source : E) 
   -- or such as stood in one of its copies.
   pub record Fills (m m' : D) (old new : CacheValue) : Type 0 where
     pub frames : new.frames ≡ old.frames
-    pub dirty : (page : ℕ) → is_one_of old.dirty page ≡ true → is_one_of new.dirty page ≡ true
-    pub stood : M.honest m' → (page : ℕ) (bytes : List ℕ) → is_one_of new.dirty page ≡ false → bytes_of new page ≡ Some bytes
-        → (bytes_of old page ≡ Some bytes) ⊎ Stood (M.now m) page bytes
+    pub dirty : (page : ℕ) → is_among old.dirty page ≡ true → is_among new.dirty page ≡ true
+    pub stood : M.honest m' → (page : ℕ) (bytes : List ℕ) → is_among new.dirty page ≡ false → cached_bytes new page ≡ Some bytes
+        → (cached_bytes old page ≡ Some bytes) ⊎ StoodWhole (M.now m) page bytes
 
   -- the grammar refuses bytes that a page had in the cache, or in one of its copies, in a table of so many pages
   pub record HadRefused (from : Moment) (old : CacheValue) (pages page : ℕ) : Type 0 where
     pub bytes : List ℕ
-    pub had : (bytes_of old page ≡ Some bytes) ⊎ Stood from page bytes
+    pub had : (cached_bytes old page ≡ Some bytes) ⊎ StoodWhole from page bytes
     pub none : read_page page pages bytes ≡ None

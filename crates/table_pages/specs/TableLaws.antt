@@ -8,21 +8,21 @@ use Rattle.sector_disk.specs.Machine.{Moment}
 use Rattle.sector_disk.specs.declared.machine.Machine.{Ghosts as MachineGhosts}
 use Rattle.sector_disk.proofs.CallLaws as calls
 use Rattle.page_cache.specs.declared.source.PageSource.{Ghosts as SourceGhosts}
-use Rattle.page_cache.specs.Cache.{CacheValue, AreNewest, bytes_of, newest, is_one_of, with_written}
+use Rattle.page_cache.specs.Cache.{CacheValue, AreNewest, cached_bytes, newest_bytes, is_among, with_written}
 use Rattle.page_cache.proofs.Entries.{by_bool}
 use Rattle.page_cache.proofs.WrittenLaws.{bytes_beside, now_dirty, still_dirty}
 use Rattle.name_page.specs.Pages.{with_page}
-use Rattle.table_pages.specs.Reads.{Fills, Stood}
+use Rattle.table_pages.specs.Reads.{Fills, StoodWhole}
 use Rattle.table_pages.specs.Bringing.{given_by, home_in}
-use Rattle.table_pages.specs.Table.{step_of, written, BarsPlace, ReadsOnly, Trusted}
+use Rattle.table_pages.specs.Table.{step_of, table_written, BarsPlace, ReadsOnly, Trusted}
 use Rattle.table_pages.specs.declared.table.Table.{Table}
 use Rattle.table_pages.specs.ReadLaws.{fills_still, fills_then, stood_before}
 use Rattle.table_pages.specs.ImageLaws.{image_count, images_written}
 
 module _ {D E : Type 0} {M : MachineGhosts D} {S : SourceGhosts E} where
-  pub step_written : (t : Table D E M S) (page : ℕ) (bytes : List ℕ) → step_of (written t page bytes) ≡ with_page page bytes (step_of t)
+  pub step_written : (t : Table D E M S) (page : ℕ) (bytes : List ℕ) → step_of (table_written t page bytes) ≡ with_page page bytes (step_of t)
   step_written t page bytes =
-      ap (λ (images : List (List ℕ)). record (step_of (written t page bytes)) { images = images })
+      ap (λ (images : List (List ℕ)). record (step_of (table_written t page bytes)) { images = images })
       (images_written page bytes t.cache.now (given_by M S t.source.now t.m.now) (length t.free.now))
 
   -- a page that is written is dirty, and the others stay
@@ -33,9 +33,9 @@ module _ {D E : Type 0} {M : MachineGhosts D} {S : SourceGhosts E} where
     stood = λ h q was out is. inl (sym (bytes_beside page bytes c q (beside q out)) ∙ is);
   }
     where
-      beside : (q : ℕ) → is_one_of (with_written page bytes c).dirty q ≡ false → nat_eq page q ≡ false
+      beside : (q : ℕ) → is_among (with_written page bytes c).dirty q ≡ false → nat_eq page q ≡ false
       beside q out = by_bool (nat_eq page q)
-          (λ t. absurd (true≢false (sym (subst (λ (k : ℕ). is_one_of (with_written page bytes c).dirty k ≡ true) (eqb-true page q t) (now_dirty c page)) ∙ out)))
+          (λ t. absurd (true≢false (sym (subst (λ (k : ℕ). is_among (with_written page bytes c).dirty k ≡ true) (eqb-true page q t) (now_dirty c page)) ∙ out)))
           (λ t. t)
 
   module _ (only_now : (m : D) (c : Moment) → M.honest m → M.left_since m (M.moment m) c → c ≡ M.now m) where
@@ -56,7 +56,7 @@ module _ {D E : Type 0} {M : MachineGhosts D} {S : SourceGhosts E} where
       barred = λ h place is. inl is;
     }
 
-    pub reads_written : (t : Table D E M S) (page : ℕ) (bytes : List ℕ) → ReadsOnly None t (written t page bytes)
+    pub reads_written : (t : Table D E M S) (page : ℕ) (bytes : List ℕ) → ReadsOnly None t (table_written t page bytes)
     reads_written t page bytes = record {
       reads = calls.reads_none t.m.now (λ c h left. only_now t.m.now c h left);
       loses = tt;
@@ -100,17 +100,17 @@ module _ {D E : Type 0} {M : MachineGhosts D} {S : SourceGhosts E} where
       | inl free ↦ inl free
       | inr other ↦ elim other [
         | inl dirty ↦ inr (inl dirty)
-        | inr had ↦ inr (by_bool (is_one_of b.cache.now.dirty bars.page)
+        | inr had ↦ inr (by_bool (is_among b.cache.now.dirty bars.page)
             (λ t. inl (y.fills.dirty bars.page t))
             (λ t. inr (record { bytes = had.bytes; had = was had.bytes t had.had; none = had.none })))
       ]
     ];
   }
     where
-      was : (bytes : List ℕ) → is_one_of b.cache.now.dirty bars.page ≡ false → (bytes_of b.cache.now bars.page ≡ Some bytes) ⊎ Stood M S b.source.now (M.now b.m.now) bars.page bytes
-          → (bytes_of a.cache.now bars.page ≡ Some bytes) ⊎ Stood M S a.source.now (M.now a.m.now) bars.page bytes
+      was : (bytes : List ℕ) → is_among b.cache.now.dirty bars.page ≡ false → (cached_bytes b.cache.now bars.page ≡ Some bytes) ⊎ StoodWhole M S b.source.now (M.now b.m.now) bars.page bytes
+          → (cached_bytes a.cache.now bars.page ≡ Some bytes) ⊎ StoodWhole M S a.source.now (M.now a.m.now) bars.page bytes
       was bytes out (inl had) = x.fills.stood honest bars.page bytes out had
-      was bytes out (inr stood) = inr (stood_before M S a.source.now (M.now a.m.now) (M.now b.m.now) bars.page bytes (x.reads.worn honest) (subst (λ (source : E). Stood M S source (M.now b.m.now) bars.page bytes) x.source stood))
+      was bytes out (inr stood) = inr (stood_before M S a.source.now (M.now a.m.now) (M.now b.m.now) bars.page bytes (x.reads.worn honest) (subst (λ (source : E). StoodWhole M S source (M.now b.m.now) bars.page bytes) x.source stood))
 
   pub reads_then : (a b c : Table D E M S) (refusal : Option Refusal) → ReadsOnly None a b → ReadsOnly refusal b c → ReadsOnly refusal a c
   reads_then a b c refusal x y = record {
@@ -151,7 +151,7 @@ module _ {D E : Type 0} {M : MachineGhosts D} {S : SourceGhosts E} where
       }
 
   pub few_images : (t : Table D E M S) → length (step_of t).images ≤ 4096
-  few_images t = let count = image_count (newest t.cache.now (given_by M S t.source.now t.m.now)) (length t.free.now) in let few = t.kept.small in omega (arith, count, few)
+  few_images t = let count = image_count (newest_bytes t.cache.now (given_by M S t.source.now t.m.now)) (length t.free.now) in let few = t.kept.small in omega (arith, count, few)
 
   pub as_many : (t : Table D E M S) → length (step_of t).spares ≡ length (step_of t).images
-  as_many t = sym (image_count (newest t.cache.now (given_by M S t.source.now t.m.now)) (length t.free.now))
+  as_many t = sym (image_count (newest_bytes t.cache.now (given_by M S t.source.now t.m.now)) (length t.free.now))

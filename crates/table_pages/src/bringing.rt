@@ -4,21 +4,21 @@ ghost use Rattle.arrayvec.specs.ArrayVec.{array_vec_len};
 ghost use Rattle.fsd_bytes.specs.declared.refusal.Refusal.TheVariants.{Unsound};
 ghost use Rattle.name_page.specs.Pages.{IsOuter, outer_in};
 ghost use Rattle.page_cache.specs.Cache.{IsResident, pins_of, with_pins};
-ghost use Rattle.table_pages.specs.Bringing.{FetchesOnly, HasRoom, IsAtHand, IsBrought, IsHit, IsRefused, OnlyPins, TakesNothing, home_in, refusal_for};
+ghost use Rattle.table_pages.specs.Bringing.{FetchesOnly, HasRoomFor, IsAtHand, IsBrought, IsHit, IsPageRefused, OnlyPins, FindsAtHand, home_in, refusal_for};
 
 use crate::free::FreePages;
 use arrayvec::ArrayVec;
 use fsd_bytes::Refusal;
 use page_cache::{Cache, CacheFault, PageSource};
-use sector_disk::Machine;
+use sector_disk::{LoadFault, Machine};
 
 fn refusal_of(fault: CacheFault) -> Refusal
     ensures { result ≡ refusal_for fault }
 {
     match fault {
-        CacheFault::Device(place) => Refusal::Device(place),
+        CacheFault::Load(LoadFault::Device(place)) => Refusal::Device(place),
+        CacheFault::Load(LoadFault::Lost { a, b }) => Refusal::Lost { a, b },
         CacheFault::Memory => Refusal::Memory,
-        CacheFault::Lost { a, b } => Refusal::Lost { a, b },
     }
 }
 
@@ -31,14 +31,14 @@ pub fn bring<M: Machine, S: PageSource>(
 ) -> Result<(), Refusal>
     requires page { page < S.pages source.now }
     requires sectors { S.sectors source.now ≤ (M.report m.old).sectors }
-    requires room { HasRoom 1 cache.old }
+    requires room { HasRoomFor 1 cache.old }
     ensures fetches { FetchesOnly M.Machine S.PageSource source.now (outer_in result) m.old m.new cache.old cache.new }
     ensures pins { (q : ℕ) → pins_of cache.new q ≡ pins_of cache.old q }
     ensures there { OnOk result (IsResident cache.new page) }
     ensures hit { IsResident cache.old page → MatchResult result (λ x. IsHit m.old m.new cache.old cache.new) (λ refusal. ⊥) }
     ensures cause { IfErr result IsOuter }
 {
-    let _whole = cache.dirty_list();
+    cache.attest();
     match cache.fetch(m, page, source) {
         Ok(_) => Ok(()),
         Err(fault) => Err(refusal_of(fault)),
@@ -57,13 +57,13 @@ pub fn bring_used<M: Machine, S: PageSource>(
     requires pages { S.pages source.now ≡ length free.now }
     requires page { page < S.pages source.now }
     requires sectors { S.sectors source.now ≤ (M.report m.old).sectors }
-    requires room { HasRoom 1 cache.old }
+    requires room { HasRoomFor 1 cache.old }
     ensures fetches { FetchesOnly M.Machine S.PageSource source.now (outer_in result) m.old m.new cache.old cache.new }
     ensures pins { (q : ℕ) → pins_of cache.new q ≡ pins_of cache.old q }
-    ensures at_hand { IsAtHand free.now cache.old page → TakesNothing (outer_in result) m.old m.new cache.old cache.new }
+    ensures at_hand { IsAtHand free.now cache.old page → FindsAtHand (outer_in result) m.old m.new cache.old cache.new }
     ensures done { OnOk result (IsBrought free.now cache.new page) }
     ensures spare { slice_index_or free.now page false ≡ true → result ≡ Err (Unsound (home_in home_a page)) }
-    ensures cause { IfErr result (λ refusal. IsOuter refusal ⊎ ((refusal ≡ Unsound (home_in home_a page)) × IsRefused free.now cache.new page)) }
+    ensures cause { IfErr result (λ refusal. IsOuter refusal ⊎ ((refusal ≡ Unsound (home_in home_a page)) × IsPageRefused free.now cache.new page)) }
 {
     if free.has(page) {
         return Err(Refusal::Unsound(home_a.wrapping_add(page)));

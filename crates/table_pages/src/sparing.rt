@@ -2,9 +2,9 @@
 ghost use Rattle.std.specs.Prelude.{◌≡◌, ◌⊎◌, ℕ, ◌+◌, ◌-◌, ◌^◌, ◌<◌, ◌≤◌, ◌↔◌, ◌++◌, ◌∷◌, [], Err, true, false, IfSome, IfNone, IfErr, OnOk, length, count_by, nat_eq, slice_index_or, slice_set};
 ghost use Rattle.fsd_bytes.specs.declared.refusal.Refusal.TheVariants.{NameTableFull};
 ghost use Rattle.name_page.specs.Pages.{IsOuter, outer_in};
-ghost use Rattle.page_cache.specs.Cache.{pins_of, is_one_of, with_pins, with_dirty};
+ghost use Rattle.page_cache.specs.Cache.{pins_of, is_among, with_pins, with_dirty};
 ghost use Rattle.page_cache.specs.declared.cache.TheConstants.{MOST_DIRTY};
-ghost use Rattle.table_pages.specs.Bringing.{HasRoom};
+ghost use Rattle.table_pages.specs.Bringing.{HasRoomFor};
 ghost use Rattle.table_pages.specs.Sparing.{AreSpare, SparesOnly};
 
 use crate::bringing::{bring, keep};
@@ -19,7 +19,7 @@ pub const MOST_SPARE: usize = 16;
 
 // The first free page that is not among these.
 fn spare_beside(free: &FreePages, taken: &[u32]) -> Option<u32>
-    ensures found { IfSome result (λ page. (slice_index_or free.now page false ≡ true) × (is_one_of taken.now page ≡ false)) }
+    ensures found { IfSome result (λ page. (slice_index_or free.now page false ≡ true) × (is_among taken.now page ≡ false)) }
     ensures none { IfNone result (count_by (λ free. free) free.now ≤ length taken.now) }
 {
     for page in 0..free.pages() {
@@ -40,12 +40,12 @@ fn add_spare<M: Machine, S: PageSource>(
 ) -> Result<(), Refusal>
     requires pages { S.pages source.now ≡ length free.now }
     requires sectors { S.sectors source.now ≤ (M.report m.old).sectors }
-    requires room { HasRoom (16 - length spares.old.items) cache.old }
+    requires room { HasRoomFor (16 - length spares.old.items) cache.old }
     requires spares { AreSpare free.now spares.old.items }
     requires few { length spares.old.items < 16 }
     requires more { length spares.old.items < count_by (λ free. free) free.now }
     ensures only { SparesOnly M.Machine S.PageSource source.now free.now (outer_in result) m.old m.new cache.old cache.new spares.old.items spares.new.items }
-    ensures room { HasRoom (16 - length spares.new.items) cache.new }
+    ensures room { HasRoomFor (16 - length spares.new.items) cache.new }
     ensures added { OnOk result (length spares.new.items ≡ length spares.old.items + 1) }
     ensures few { length spares.new.items ≤ 16 }
     ensures more { length spares.old.items ≤ length spares.new.items }
@@ -68,7 +68,7 @@ fn add_spares<M: Machine, S: PageSource>(
 ) -> Result<(), Refusal>
     requires pages { S.pages source.now ≡ length free.now }
     requires sectors { S.sectors source.now ≤ (M.report m.old).sectors }
-    requires room { HasRoom (16 - length spares.old.items) cache.old }
+    requires room { HasRoomFor (16 - length spares.old.items) cache.old }
     requires spares { AreSpare free.now spares.old.items }
     requires few { length spares.old.items ≤ 16 }
     requires most { n ≤ 16 }
@@ -96,7 +96,7 @@ pub fn spare_pages<M: Machine, S: PageSource>(
 ) -> Result<(), Refusal>
     requires pages { S.pages source.now ≡ length free.now }
     requires sectors { S.sectors source.now ≤ (M.report m.old).sectors }
-    requires room { HasRoom (16 - length spares.old.items) cache.old }
+    requires room { HasRoomFor (16 - length spares.old.items) cache.old }
     requires spares { AreSpare free.now spares.old.items }
     requires few { length spares.old.items ≤ 16 }
     ensures only { SparesOnly M.Machine S.PageSource source.now free.now (outer_in result) m.old m.new cache.old cache.new spares.old.items spares.new.items }

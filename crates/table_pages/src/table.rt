@@ -1,6 +1,6 @@
 //! `Table`.
 ghost use Rattle.std.specs.Prelude.{◌≡◌, ◌<◌, ◌≤◌, ◌^◌, []};
-ghost use Rattle.table_pages.specs.Kept.{IsKept};
+ghost use Rattle.table_pages.specs.Kept.{IsKeptSince};
 
 use crate::bringing::{bring_used, keep, release};
 use crate::free::FreePages;
@@ -29,13 +29,13 @@ pub struct Table<'a, M: Machine, S: PageSource> {
     // The machine and the cache as they were when the table was made.
     made_over: Snapshot<M>,
     made_with: Snapshot<Cache>,
-    ghost kept: { IsKept M.Machine S.PageSource made_over.value made_with.value m.now cache.now source.now free.now reached.items spares.items promised },
+    ghost kept: { IsKeptSince M.Machine S.PageSource made_over.value made_with.value m.now cache.now source.now free.now reached.items spares.items promised },
 }
 
 impl<'a, M: Machine, S: PageSource> Table<'a, M, S> {
     ghost use Rattle.table_pages.specs.Bringing.{given_by};
     ghost use Rattle.table_pages.specs.Kept.{IsReady};
-    ghost use Rattle.table_pages.specs.Table.{step_of, begun, IsOver};
+    ghost use Rattle.table_pages.specs.Table.{step_of, fresh_step, IsOver};
 
     /// A table over these. `home_a` is the first sector of the homes A.
     pub fn new(
@@ -47,9 +47,9 @@ impl<'a, M: Machine, S: PageSource> Table<'a, M, S> {
     ) -> Table<'a, M, S>
         requires { IsReady M.Machine S.PageSource m.old cache.old source.now free.old }
         ensures over { IsOver m.entry cache.entry source.now free.entry result }
-        ensures step { step_of result ≡ begun (given_by M.Machine S.PageSource source.now m.old) cache.old free.old home_a }
+        ensures step { step_of result ≡ fresh_step (given_by M.Machine S.PageSource source.now m.old) cache.old free.old home_a }
     {
-        let _whole = cache.dirty_list();
+        cache.attest();
         let made_over = Snapshot::of(&*m);
         let made_with = Snapshot::of(&*cache);
         Table {
@@ -93,12 +93,12 @@ impl<'a, M: Machine, S: PageSource> Drop for Table<'a, M, S> {
 impl<'a, M: Machine, S: PageSource> Pages for Table<'a, M, S> {
     ghost use Rattle.std.specs.Prelude.{None};
     ghost use Rattle.name_page.specs.Pages.{NeedsNoMemory, rested};
-    ghost use Rattle.table_pages.specs.Table.{cache_of, free_of, machine_of, step_of, written, HasPage, Leaves, ReadsOnly, Trusted};
+    ghost use Rattle.table_pages.specs.Table.{cache_of, free_of, machine_of, step_of, table_written, HasPage, LeavesTable, ReadsOnly, Trusted};
     ghost use Rattle.table_pages.specs.TableLaws.{step_written, reads_written, reads_still, reads_then, trusted_earlier, few_images, as_many};
 
     ghost step = { step_of };
 
-    ghost written = { written };
+    ghost written = { table_written };
 
     ghost trusted = { Trusted };
 
@@ -186,7 +186,7 @@ impl<'a, M: Machine, S: PageSource> Pages for Table<'a, M, S> {
         ensures outside { ReadsOnly None self.old self.new }
         ensures memory { NeedsNoMemory step_of HasPage None self.old self.new }
         ensures step { step_of self.new ≡ rested (step_of self.old) }
-        ensures left { Leaves self.old (machine_of self.new) (cache_of self.new) (free_of self.new) }
+        ensures left { LeavesTable self.old (machine_of self.new) (cache_of self.new) (free_of self.new) }
     {
         self.promised = 0;
         self.refusal = None;

@@ -17,7 +17,7 @@ use Rattle.sector_disk.proofs.Holding.{holds_now}
 use Rattle.sector_disk.proofs.Wear.{length-stand, stand_other, worn_twice}
 use Rattle.fsd_files.specs.Disk.{Has, Image, SectorWorn, Sectors}
 use Rattle.fsd_files.specs.Kept.{IsWhole}
-use Rattle.fsd_files.specs.Scrub.{Counts, CountsTwins, ReadsDamaged}
+use Rattle.fsd_files.specs.Scrub.{CountsNeeds, CountsTwins, ReadsDamaged}
 use Rattle.fsd_files.proofs.KeptLaws.{has_on}
 use Rattle.fsd_files.proofs.ScrubLaws.{counts_as, counts_then}
 use Rattle.fsd_sound.specs.Homes.{HasBothHomes, HasSome}
@@ -25,7 +25,7 @@ use Rattle.fsd_sound.proofs.CommuteLaws.{same_or, with_other, with_same}
 use Rattle.fsd_sound.proofs.TwinLaws.{each_twin}
 use Rattle.fsd_sound.proofs.WritesLaws.{beside}
 use Rattle.twin_home.specs.Heal.{Heals, Healed, Mended}
-use Rattle.twin_home.specs.Twins.{CountsHomes, HealsPages, HealsTwins, HomesStand, TwinsStand, first_homes}
+use Rattle.twin_home.specs.Twins.{CountsHomes, HealsPages, HealsTwins, HomesStand, TwinsHaveSome, first_homes}
 
 -- ---- calls
 
@@ -181,15 +181,12 @@ pub whole_back : (old mid : Moment) (s : ℕ) → Stays old mid s → IsWhole mi
 whole_back old mid s (inl stays) (bytes, is) = (bytes, sym stays ∙ is)
 whole_back old mid s (inr worn) (bytes, is) = absurd (cc (is, worn.1))
 
-abbrev CountsIn : Moment → List ℕ → ℕ → Type 0
-CountsIn old xs n = Counts (ReadsDamaged old) (IsWhole old.image) xs n
-
-pub pair_counts : (a b count : ℕ) (old new : Moment) → Healed a b count old new → Counts (ReadsDamaged old) (IsWhole old.image) (a ∷ b ∷ []) count
+pub pair_counts : (a b count : ℕ) (old new : Moment) → Healed a b count old new → CountsNeeds (ReadsDamaged old) (IsWhole old.image) (a ∷ b ∷ []) count
 pair_counts a b count old new (inl (none, whole_a, whole_b, holds)) = inl (whole_a, inl (whole_b, none))
 pair_counts a b count old new (inr (one, inl mended)) = inr (0, one, mended.hurt, inl ((mended.bytes, mended.whole), refl))
 pair_counts a b count old new (inr (one, inr mended)) = inl ((mended.bytes, mended.whole), inr (0, one, mended.hurt, refl))
 
-pub counts_back : (old mid : Moment) → mid.windows ≡ old.windows → (xs : List ℕ) (n : ℕ) → AllByRecursion (Stays old mid) xs → Counts (ReadsDamaged mid) (IsWhole mid.image) xs n → Counts (ReadsDamaged old) (IsWhole old.image) xs n
+pub counts_back : (old mid : Moment) → mid.windows ≡ old.windows → (xs : List ℕ) (n : ℕ) → AllByRecursion (Stays old mid) xs → CountsNeeds (ReadsDamaged mid) (IsWhole mid.image) xs n → CountsNeeds (ReadsDamaged old) (IsWhole old.image) xs n
 counts_back old mid same xs n all counts = counts_as (Stays old mid) (ReadsDamaged mid) (IsWhole mid.image) (ReadsDamaged old) (IsWhole old.image) (needs_back old mid same) (whole_back old mid) xs n all counts
 
 range_more : (from n : ℕ) → range_with_len from (suc n) ≡ range_with_len from n ++ (from + n) ∷ []
@@ -210,7 +207,7 @@ homes_counted l page next a b count old mid new is lt sum heals before here =
     let all = counts_then (ReadsDamaged old) (IsWhole old.image) (first_homes l page) (home_a l page ∷ home_b l page ∷ []) a b before now in
     subst (λ (k : ℕ). CountsHomes l next old k) sum
     (subst (λ (n : ℕ). CountsHomes l n old (a + b)) (let same : suc page ≡ next = omega (arith, is) in same)
-    (subst (λ (xs : List ℕ). Counts (ReadsDamaged old) (IsWhole old.image) xs (a + b)) (sym (homes_more l page)) all))
+    (subst (λ (xs : List ℕ). CountsNeeds (ReadsDamaged old) (IsWhole old.image) xs (a + b)) (sym (homes_more l page)) all))
 
 -- ---- all that stands twice
 
@@ -237,7 +234,7 @@ module _ (l : Layout) (old roots_at anchors_at new : Moment) (roots : Heals 0 4 
       let head = counts_then (ReadsDamaged old) (IsWhole old.image) (0 ∷ 4 ∷ []) (8 ∷ 12 ∷ []) r a of_roots of_anchors in
       subst (CountsTwins l old) sum (counts_then (ReadsDamaged old) (IsWhole old.image) (0 ∷ 4 ∷ 8 ∷ 12 ∷ []) (first_homes l l.pages) (r + a) p head of_pages)
 
-  pub twins_stand : (r a : ℕ) → 16 ≤ length old.image → Healed 0 4 r old roots_at → Healed 8 12 a roots_at anchors_at → HealsPages l l.pages anchors_at new → HomesStand l l.pages new → TwinsStand l new
+  pub twins_stand : (r a : ℕ) → 16 ≤ length old.image → Healed 0 4 r old roots_at → Healed 8 12 a roots_at anchors_at → HealsPages l l.pages anchors_at new → HomesStand l l.pages new → TwinsHaveSome l new
   twins_stand r a room first second pages homes =
       let on_root : (s : ℕ) → HasSome roots_at s → HasSome new s = λ s has. some_paged l l.pages anchors_at new pages s (some_on 8 12 roots_at anchors_at anchors s has) in
       let both = healed_stand 0 4 r old roots_at first (omega (arith, room)) (omega (arith, room)) in

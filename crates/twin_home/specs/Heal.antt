@@ -1,5 +1,5 @@
 -- What healing one of two copies from the other leaves.
-use Rattle.std.specs.Prelude.{◌≡◌, ◌⊎◌, ⊤, ℕ, ◌+◌, ◌≤◌, List, length, Option, Some, None}
+use Rattle.std.specs.Prelude.{◌≡◌, ◌⊎◌, ⊤, ℕ, ◌+◌, ◌≤◌, List, length, Option, Some, None, OnOk, Result}
 use Rattle.sector_disk.specs.declared.sector.Sector.TheVariants.{Whole, Damaged}
 use Rattle.sector_disk.specs.declared.machine.LoadFault.{LoadFault}
 use Rattle.sector_disk.specs.declared.machine.LoadFault.TheVariants.{Device, Lost}
@@ -48,13 +48,18 @@ abbrev pub Healed : (a b count : ℕ) → Moment → Moment → Type 0
 Healed a b count old new = ((count ≡ 0) × WasWhole old a × WasWhole old b × Holds old old.image new) ⊎ ((count ≡ 1) × (Mended a b old new ⊎ Mended b a old new))
 
 -- the two copies are these
-abbrev pub AreCopies : (a b x y : ℕ) → Type 0
-AreCopies a b x y = (x ≡ a) × (y ≡ b)
+abbrev pub AreThese : (a b x y : ℕ) → Type 0
+AreThese a b x y = (x ≡ a) × (y ≡ b)
 
 -- what is lost is told by these two copies
 abbrev pub TellsCopies : (a b : ℕ) → LoadFault → Type 0
 TellsCopies a b (Device place) = ⊤
-TellsCopies a b (Lost x y) = AreCopies a b x y
+TellsCopies a b (Lost x y) = AreThese a b x y
+
+-- One sector is written where all goes well, and one at most.
+pub record WritesOnce {D T E : Type 0} (M : Ghosts D) (old new : D) (result : Result T E) : Type 0 where
+  pub counted : OnOk result (M.tells new → M.ledger new ≡ wrote (M.ledger old) 1)
+  pub most : M.tells new → (M.ledger new).written ≤ (M.ledger old).written + 1
 
 module _ {D : Type 0} (M : Ghosts D) (a b : ℕ) where
   -- So many of two copies were written from the other, one at most, and the count is told.
@@ -66,7 +71,7 @@ module _ {D : Type 0} (M : Ghosts D) (a b : ℕ) where
   -- What is lost is told by these two copies, and both are damaged.
   pub record LosesBoth (new : D) (fault : LoadFault) : Type 0 where
     pub copies : TellsCopies a b fault
-    pub lost : M.honest new → LostCause (AreCopies a b) (M.now new).image fault
+    pub lost : M.honest new → LostCause (AreThese a b) (M.now new).image fault
 
 -- ---- roots
 

@@ -1,13 +1,12 @@
 -- What healing all that stands twice outside the log leaves.
-use Rattle.std.specs.Prelude.{◌≡◌, ◌⊎◌, ℕ, zero, suc, ◌<◌, List, [], ◌∷◌, IsTrue}
+use Rattle.std.specs.Prelude.{ℕ, zero, suc, ◌<◌, List, [], ◌∷◌, IsTrue}
 use Rattle.std.specs.List.{flat_map, range_with_len}
 use Rattle.volume_layout.specs.declared.layout.Layout.{Layout}
 use Rattle.volume_layout.specs.Layout.{home_a, home_b}
 use Rattle.sector_disk.specs.Machine.{Moment, Holds}
 use Rattle.fsd_files.specs.Kept.{IsWhole}
-use Rattle.fsd_files.specs.Scrub.{Counts, ReadsDamaged}
+use Rattle.fsd_files.specs.Scrub.{CountsNeeds, ReadsDamaged}
 use Rattle.fsd_sound.specs.Homes.{HasBothHomes, HasSome}
-use Rattle.fsd_sound.specs.Lost.{AreHomes}
 use Rattle.fsd_sound.specs.Sound.{is_twin}
 use Rattle.twin_home.specs.Heal.{Heals}
 
@@ -34,16 +33,10 @@ first_homes l count = flat_map (λ page. home_a l page ∷ home_b l page ∷ [])
 
 -- of these so many read damaged, and the others are whole
 abbrev pub CountsHomes : Layout → (pages : ℕ) → Moment → ℕ → Type 0
-CountsHomes l pages old count = Counts (ReadsDamaged old) (IsWhole old.image) (first_homes l pages) count
+CountsHomes l pages old count = CountsNeeds (ReadsDamaged old) (IsWhole old.image) (first_homes l pages) count
 
 abbrev pub HomesStand : Layout → (count : ℕ) → Moment → Type 0
 HomesStand l count now = (page : ℕ) → page < count → HasBothHomes l now page
 
-abbrev pub TwinsStand : Layout → Moment → Type 0
-TwinsStand l now = (s : ℕ) → IsTrue (is_twin l s) → HasSome now s
-
--- ---- what is lost
-
--- the sectors are the two copies of the root, of the anchor, or of a page at home
-abbrev pub AreTwins : Layout → (a b : ℕ) → Type 0
-AreTwins l a b = ((a ≡ 0) × (b ≡ 4)) ⊎ (((a ≡ 8) × (b ≡ 12)) ⊎ AreHomes l a b)
+abbrev pub TwinsHaveSome : Layout → Moment → Type 0
+TwinsHaveSome l now = (s : ℕ) → IsTrue (is_twin l s) → HasSome now s

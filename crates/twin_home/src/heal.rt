@@ -3,11 +3,11 @@ ghost use Rattle.std.specs.Prelude.{◌≡◌, ◌↔◌, ◌<◌, ◌≤◌, �
 ghost use Rattle.sector_disk.specs.Damage.{IsDevice, LostCause};
 ghost use Rattle.sector_disk.specs.Calls.{OnlyReads, WritesDisk, device_in, failed_at, load_failed_at};
 ghost use Rattle.sector_disk.specs.Image.{stand};
-ghost use Rattle.sector_disk.specs.Machine.{Holds, wrote};
+ghost use Rattle.sector_disk.specs.Machine.{Holds};
 ghost use Rattle.volume_layout.specs.Layout.{home_a, home_b};
 ghost use Rattle.volume_layout.specs.Root.{root_bytes};
 ghost use Rattle.twin_home.specs.Home.{WritesPart};
-ghost use Rattle.twin_home.specs.Heal.{AreCopies, HealsOne, LosesBoth, ReadsBoth, Heals, TellsCopies, SetsRoot, SetsRoots, HealsRoots, RootsHealed};
+ghost use Rattle.twin_home.specs.Heal.{AreThese, HealsOne, LosesBoth, ReadsBoth, Heals, TellsCopies, SetsRoot, SetsRoots, HealsRoots, RootsHealed, WritesOnce};
 
 use sector_disk::{Failed, LoadFault, Machine, read_sector, write_sectors};
 use volume_layout::{Layout, root_bytes};
@@ -37,8 +37,7 @@ fn set_copy<M: Machine>(m: &mut M, place: u32, b: &[u8; 512]) -> Result<u32, Loa
     ensures device { IfErr result IsDevice }
     ensures one { IfOk result (λ count. count ≡ 1) }
     ensures long { length b.now ≡ 512 }
-    ensures counted { OnOk result (M.tells m.new → M.ledger m.new ≡ wrote (M.ledger m.old) 1) }
-    ensures most { M.tells m.new → (M.ledger m.new).written ≤ (M.ledger m.old).written + 1 }
+    ensures counts { WritesOnce M.Machine m.old m.new result }
     ensures done { OnOk result (M.honest m.new → Holds (M.now m.old) (stand (M.now m.old).image place b.now 1) (M.now m.new)) }
 {
     write_sectors(m, place, b)?;
@@ -166,7 +165,7 @@ pub fn heal_root<M: Machine>(m: &mut M, l: &Layout) -> Result<u32, LoadFault>
     ensures counted { IfOk result (λ count. M.tells m.new → (M.ledger m.new).written ≡ (M.ledger m.old).written + count) }
     ensures most { M.tells m.new → (M.ledger m.new).written ≤ (M.ledger m.old).written + 2 }
     ensures done { IfOk result (λ count. M.honest m.new → RootsHealed (root_bytes l.now) count (M.now m.old) (M.now m.new)) }
-    ensures lost { IfErr result (λ fault. M.honest m.new → LostCause (AreCopies 0 4) (M.now m.new).image fault) }
+    ensures lost { IfErr result (λ fault. M.honest m.new → LostCause (AreThese 0 4) (M.now m.new).image fault) }
 {
     let (first, second) = read_both(m, 0, 4)?;
     if first.is_none() && second.is_none() {

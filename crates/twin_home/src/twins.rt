@@ -5,8 +5,8 @@ ghost use Rattle.sector_disk.specs.Calls.{WritesDisk, device_in, load_failed_at}
 ghost use Rattle.sector_disk.specs.Damage.{LostCause};
 ghost use Rattle.sector_disk.specs.Machine.{wrote};
 ghost use Rattle.fsd_files.specs.Scrub.{CountsTwins};
-ghost use Rattle.fsd_sound.specs.Lost.{AreHomes};
-ghost use Rattle.twin_home.specs.Twins.{AreTwins, CountsHomes, HealsPages, HealsTwins, HomesStand, TwinsStand};
+ghost use Rattle.fsd_sound.specs.Lost.{AreHomes, AreTwinCopies};
+ghost use Rattle.twin_home.specs.Twins.{CountsHomes, HealsPages, HealsTwins, HomesStand, TwinsHaveSome};
 
 use crate::heal::{heal_anchor, heal_page, heal_roots};
 use sector_disk::{LoadFault, Machine};
@@ -40,8 +40,8 @@ pub fn heal_twins<M: Machine>(m: &mut M, l: &Layout) -> Result<u32, LoadFault>
     ensures writes { WritesDisk M.Machine (device_in load_failed_at result) (HealsTwins l.now) m.old m.new }
     ensures counted { IfOk result (λ count. M.tells m.new → M.ledger m.new ≡ wrote (M.ledger m.old) count) }
     ensures healed { IfOk result (λ count. M.honest m.new → CountsTwins l.now (M.now m.old) count) }
-    ensures mended { OnOk result (M.honest m.new → TwinsStand l.now (M.now m.new)) }
-    ensures lost { IfErr result (λ fault. M.honest m.new → LostCause (AreTwins l.now) (M.now m.new).image fault) }
+    ensures mended { OnOk result (M.honest m.new → TwinsHaveSome l.now (M.now m.new)) }
+    ensures lost { IfErr result (λ fault. M.honest m.new → LostCause (AreTwinCopies l.now) (M.now m.new).image fault) }
 {
     let roots = heal_roots(m)?;
     let anchors = heal_anchor(m)?;

@@ -4,7 +4,7 @@ use Rattle.run_table.specs.Space.{contains}
 use Rattle.fsd_formats.specs.Record.{record_len}
 use Rattle.log_thirds.specs.LogValue.{LogValue}
 use Rattle.log_thirds.specs.Append.{stamp_now}
-use Rattle.page_cache.specs.Cache.{CacheValue, bytes_of, cleaned}
+use Rattle.page_cache.specs.Cache.{CacheValue, cached_bytes, cleaned}
 use Rattle.sector_disk.specs.Calls.{WritesDisk, load_failed_at}
 use Rattle.sector_disk.proofs.CallLaws.{writes_none}
 use Rattle.group_commit.specs.Cached.{CacheLeaves, FramesLeave, ascending_of}
@@ -61,16 +61,16 @@ returns-in-Ok g c =
       disk = subst (λ (pages : List ℕ). WritesDisk g.M.Machine None (FramesLeave log cache pages) c.args.m.now c.write_frames.new.m) are wrote.disk;
       rest = wrote.rest;
       idle = λ clean. absurd (omega (arith, some, many, ap length clean));
-      layout = ap (λ (l : LogValue). l.layout) wrote.past ∙ before_layout log (length waiting);
+      layout = ap (λ (l : LogValue). l.layout) wrote.done.past ∙ before_layout log (length waiting);
       done = record {
         pages = many;
         cache = c.cleaned.ensures ∙ ap cleaned (wrote.cache ∙ all_stamped cache valid waiting are (stamp_now log));
-        past = wrote.past ∙ sym (forced_some log waiting some) ∙ ap (log_forced log) are;
-        counted = λ tells. wrote.counted tells
+        past = wrote.done.past ∙ sym (forced_some log waiting some) ∙ ap (log_forced log) are;
+        counted = λ tells. wrote.done.counted tells
             ∙ ap (λ (k : ℕ). (g.M.Machine.ledger c.args.m.now).written + k) ((λ i. sectors_before log (many i) + record_len (gap_of c.args.log.now.layout) (many i)) ∙ sym (written_some log cache.dirty (omega (arith, some, many))));
-        shows = rw (← are) wrote.done;
-        knows = rw (← are) wrote.knows;
-        logged = λ h page bytes is has. wrote.logged h page bytes (is_waiting cache valid waiting are page is) (subst (λ (v : CacheValue). bytes_of v page ≡ Some bytes) c.cleaned.ensures has);
+        shows = rw (← are) wrote.done.shows;
+        knows = rw (← are) wrote.done.knows;
+        logged = λ h page bytes is has. wrote.logged h page bytes (is_waiting cache valid waiting are page is) (subst (λ (v : CacheValue). cached_bytes v page ≡ Some bytes) c.cleaned.ensures has);
       };
       failed = tt;
     }
@@ -87,11 +87,11 @@ returns-in-Err g c =
       disk = subst (λ (pages : List ℕ). WritesDisk M (load_failed_at c.in-Err.fault) (FramesLeave log cache pages) c.args.m.now c.write_frames.new.m) are failed.disk;
       rest = failed.rest;
       idle = λ clean. absurd (omega (arith, some, many, ap length clean));
-      layout = ⊎_elim (λ same. ap (λ (l : LogValue). l.layout) same) (λ before. ap (λ (l : LogValue). l.layout) before.0 ∙ before_layout log (length waiting)) failed.failed.past;
+      layout = ⊎_elim (λ same. ap (λ (l : LogValue). l.layout) same) (λ before. ap (λ (l : LogValue). l.layout) before.0 ∙ before_layout log (length waiting)) failed.failed.write.past;
       done = tt;
       failed = record {
         cache = failed.cache ∙ all_stamped cache valid waiting are (stamp_now log);
-        write = subst (λ (n : ℕ). RecordFails M log c.write_frames.new.log n c.args.m.now c.write_frames.new.m c.in-Err.fault) many failed.failed;
-        never_lost = rw (← are) failed.never_lost;
+        write = subst (λ (n : ℕ). RecordFails M log c.write_frames.new.log n c.args.m.now c.write_frames.new.m c.in-Err.fault) many failed.failed.write;
+        never_lost = rw (← are) failed.failed.never_lost;
       };
     }

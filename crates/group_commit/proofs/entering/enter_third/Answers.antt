@@ -15,7 +15,7 @@ use Rattle.group_commit.proofs.OutsideLaws.{outside_anchors, outside_then}
 use Rattle.group_commit.proofs.entering.enter_third.Goals as goal
 
 pub home_third-requires-clause-low : goal.home_third-requires-clause-low
-home_third-requires-clause-low g c = omega (arith, c.layout-layout.ensures.shape.third, c.requires.first)
+home_third-requires-clause-low g c = omega (arith, c.attest.ensures.third, c.requires.first)
 
 pub returns-clause-disk : goal.returns-clause-disk
 returns-clause-disk g c =

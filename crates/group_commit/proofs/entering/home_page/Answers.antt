@@ -3,18 +3,15 @@ use Rattle.volume_layout.specs.declared.layout.Layout.{Layout}
 use Rattle.sector_disk.specs.declared.machine.LoadFault.TheVariants.{Device}
 use Rattle.sector_disk.specs.declared.sector.WeakRun.{WeakRun}
 use Rattle.sector_disk.specs.Calls.{load_failed_at}
-use Rattle.sector_disk.specs.Damage.{IsDevice}
 use Rattle.sector_disk.specs.Machine.{Holds, Ledger, Moment, Wears}
-use Rattle.sector_disk.specs.Written.{WroteMost}
 use Rattle.sector_disk.proofs.CallLaws.{reads_as_writes, reads_then_writes, told_up, writes_told}
 use Rattle.sector_disk.proofs.Damage.{cause_as}
 use Rattle.sector_disk.proofs.Holding.{wears_none}
-use Rattle.sector_disk.proofs.ResultLaws.{err_as}
 use Rattle.fsd_log.specs.Images.{last_image}
 use Rattle.fsd_log.specs.Scan.{Placed}
 use Rattle.log_thirds.specs.Images.{AreLogged, AreOfLogged}
 use Rattle.twin_home.specs.Home.{HomesIn, with_homes}
-use Rattle.group_commit.specs.Entering.{IsHoming, LosesLogged, MayHome, ShowsHoming}
+use Rattle.group_commit.specs.Entering.{HomesNoPage, IsHoming, MayHome, ShowsHoming}
 use Rattle.group_commit.specs.Force.{KeepsOutside}
 use Rattle.group_commit.proofs.CountLaws.{handed_up, wrote_on, wrote_same}
 use Rattle.group_commit.proofs.HomingLaws.{slot_gives, slot_not_lost, image_is, still, stays, homes_stay, homes_next}
@@ -85,14 +82,18 @@ returns-clause-done g c records disk windows old n h may lies between at =
     homes_next log records disk windows old may n read later c.args.page c.requires.page buf long (λ none. absurd (cc (none, last)))
     (image_is log records disk windows old may later.image later.over c.args.page buf c.requires.page last) between (M.now c.write_home.new.m) holds
 
-pub returns-in_err-write_home-clause-counted_err : goal.returns-in_err-write_home-clause-counted_err
-returns-in_err-write_home-clause-counted_err g c =
+pub returns-in_err-write_home-clause-failed : goal.returns-in_err-write_home-clause-failed
+returns-in_err-write_home-clause-failed g c =
     let M = g.M.Machine in
     let said = c.in_err-write_home.ensures in
-    err_as (M.tells c.write_home.new.m → WroteMost 2 (M.ledger c.args.m.now) (M.ledger c.write_home.new.m)) c.from_residual-in_err-write_home.result
-    (λ t. wrote_on (M.ledger c.args.m.now) (M.ledger c.image_of.new.m) (M.ledger c.write_home.new.m) 0 2 2
-    (let same = ap (λ (l : Ledger). l.written) (c.in_ok-image_of.ensures.reads.ledger (said.writes.trust.tells t)) in omega (arith, same))
-    (record { no_fewer = said.least t; no_more = said.most t }) (omega arith))
+    handed_up (HomesNoPage M c.args.log.now c.args.m.now c.write_home.new.m) c.from_residual-in_err-write_home.result (Device c.in_err-write_home.field-0.0.place) c.from_residual-in_err-write_home.ensures.1
+    (record {
+      counted = λ t. wrote_on (M.ledger c.args.m.now) (M.ledger c.image_of.new.m) (M.ledger c.write_home.new.m) 0 2 2
+          (let same = ap (λ (l : Ledger). l.written) (c.in_ok-image_of.ensures.reads.ledger (said.writes.trust.tells t)) in omega (arith, same))
+          (record { no_fewer = said.least t; no_more = said.most t }) (omega arith);
+      lost = λ h. tt;
+      never_lost = λ records disk windows old n h may at. tt;
+    })
 
 pub returns-clause-rest : goal.returns-clause-rest
 returns-clause-rest g c h = rest_homed g (goal.at.returns-clause-rest g c).After-write_home h
@@ -121,30 +122,19 @@ returns-in_err-image_of-clause-disk g c =
     writes_told (told_up load_failed_at c.from_residual.result c.in_err-image_of.field-0.0 c.from_residual.ensures.1)
     (reads_as_writes c.in_err-image_of.ensures.reads (λ h left wears records disk windows old n may lies at. stays c.args.log.now records disk windows old may n now at left wears))
 
-pub returns-in_err-image_of-clause-lost : goal.returns-in_err-image_of-clause-lost
-returns-in_err-image_of-clause-lost g c =
+pub returns-in_err-image_of-clause-failed : goal.returns-in_err-image_of-clause-failed
+returns-in_err-image_of-clause-failed g c =
     let M = g.M.Machine in
     let log = c.args.log.now in
-    let image = (M.now c.image_of.new.m).image in
-    handed_up (λ fault. M.honest c.image_of.new.m → LosesLogged log image fault) c.from_residual.result c.in_err-image_of.field-0.0 c.from_residual.ensures.1
-    (λ h. cause_as (AreLogged log c.args.page) (AreOfLogged log) image c.in_err-image_of.field-0.0
-    (λ a b logged. record { page = c.args.page; within = c.requires.page; logged = logged }) (c.in_err-image_of.ensures.failed.lost h))
-
-pub returns-in_err-image_of-clause-counted_err : goal.returns-in_err-image_of-clause-counted_err
-returns-in_err-image_of-clause-counted_err g c =
-    let M = g.M.Machine in
-    err_as (M.tells c.image_of.new.m → WroteMost 2 (M.ledger c.args.m.now) (M.ledger c.image_of.new.m)) c.from_residual.result
-    (λ t. wrote_same (M.ledger c.args.m.now) (M.ledger c.image_of.new.m) 2 (c.in_err-image_of.ensures.reads.ledger t))
-
-pub returns-in_err-image_of-clause-never_lost : goal.returns-in_err-image_of-clause-never_lost
-returns-in_err-image_of-clause-never_lost g c =
-    let M = g.M.Machine in
-    let log = c.args.log.now in
-    let now = M.now c.args.m.now in
-    handed_up (λ fault. (records : List Placed) (disk : List (List ℕ)) (windows : List WeakRun) (old : Moment) (n : ℕ) → M.honest c.image_of.new.m → MayHome log windows old → IsHoming log records disk windows old n now → IsDevice fault)
-    c.from_residual.result c.in_err-image_of.field-0.0 c.from_residual.ensures.1
-    (λ records disk windows old n h may at.
-    slot_not_lost log records disk windows old may n now at c.args.page (M.now c.image_of.new.m) (c.in_err-image_of.ensures.reads.worn h) c.in_err-image_of.field-0.0 (c.in_err-image_of.ensures.failed.lost h))
+    let now = M.now c.args.m.now in let read = M.now c.image_of.new.m in
+    let fault = c.in_err-image_of.field-0.0 in
+    let said = c.in_err-image_of.ensures in
+    handed_up (HomesNoPage M log c.args.m.now c.image_of.new.m) c.from_residual.result fault c.from_residual.ensures.1
+    (record {
+      counted = λ t. wrote_same (M.ledger c.args.m.now) (M.ledger c.image_of.new.m) 2 (said.reads.ledger t);
+      lost = λ h. cause_as (AreLogged log c.args.page) (AreOfLogged log) read.image fault (λ a b logged. record { page = c.args.page; within = c.requires.page; logged = logged }) (said.failed.lost h);
+      never_lost = λ records disk windows old n h may at. slot_not_lost log records disk windows old may n now at c.args.page read (said.reads.worn h) fault (said.failed.lost h);
+    })
 
 pub returns-in_err-image_of-clause-rest : goal.returns-in_err-image_of-clause-rest
 returns-in_err-image_of-clause-rest g c h =

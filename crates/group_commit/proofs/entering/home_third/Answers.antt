@@ -42,7 +42,7 @@ loop-page-preserved g c =
     let least : (records : List Placed) → IsIndexed log records → IsLeastOfThird log records log.anchor.third c.loop-page.from c.in-Some.page =
     λ records indexed. subst (λ (t : ℕ). IsLeastOfThird log records t c.loop-page.from c.in-Some.page) c.requires.first (c.in-Some.ensures.least records indexed) in
     record {
-      inside = omega (arith, slot.there, c.layout-layout.ensures.shape.table);
+      inside = omega (arith, slot.there, c.attest.ensures.table);
       disk = writes_then so_far.disk writes (λ h left so. so) (λ h left shows records disk windows may over.
           shows records disk windows old c.loop-page.from may ((least records over.indexed).lies) (so_far.homing records disk windows (writes.trust.honest h) may over));
       counted = λ t. c.in_ok-home_page-in-Some.ensures.counted t ∙ ap (λ x. wrote x 2) (so_far.counted (writes.trust.tells t)) ∙ wrote_twice (M.ledger c.args.m.now) _ 2 _ (omega (arith, next));
@@ -77,9 +77,9 @@ returns-in_err-home_page-in-Some-clause-failed g c =
     let said = c.in_err-home_page-in-Some.ensures in
     handed_up (HomesInPart M log (2 * pages_in_first log) c.args.m.now c.home_page.new.m) c.from_residual.result c.in_err-home_page-in-Some.field-0.0 c.from_residual.ensures.1
     (record {
-      counted = λ t. wrote_on (M.ledger c.args.m.now) (M.ledger c.loop-page.m) (M.ledger c.home_page.new.m) _ 2 _ (ap (λ (l : Ledger). l.written) (so_far.counted (said.disk.trust.tells t))) (said.counted_err t) (omega (arith, next, part));
-      lost = said.lost;
-      never_lost = λ records disk windows h may over. said.never_lost records disk windows (M.now c.args.m.now) c.loop-page.from h may (so_far.homing records disk windows (said.disk.trust.honest h) may over);
+      counted = λ t. wrote_on (M.ledger c.args.m.now) (M.ledger c.loop-page.m) (M.ledger c.home_page.new.m) _ 2 _ (ap (λ (l : Ledger). l.written) (so_far.counted (said.disk.trust.tells t))) (said.failed.counted t) (omega (arith, next, part));
+      lost = said.failed.lost;
+      never_lost = λ records disk windows h may over. said.failed.never_lost records disk windows (M.now c.args.m.now) c.loop-page.from h may (so_far.homing records disk windows (said.disk.trust.honest h) may over);
     })
 
 pub returns-in-None-clause-counted : goal.returns-in-None-clause-counted
@@ -88,7 +88,7 @@ returns-in-None-clause-counted g c t =
     let log = c.args.log.now in
     let none = subst (λ (t : ℕ). NoneLiesIn log.slots c.loop-page.from (third_start log.layout t) log.layout.third) c.requires.first c.in-None.ensures.no_slot in
     c.loop-page.invariant.counted t
-    ∙ ap (λ (n : ℕ). wrote (M.ledger c.args.m.now) (2 * n)) (count_done log.slots c.loop-page.from (third_start log.layout log.anchor.third) log.layout.third (omega (arith, c.loop-page.invariant.inside, c.layout-layout.ensures.shape.table)) none)
+    ∙ ap (λ (n : ℕ). wrote (M.ledger c.args.m.now) (2 * n)) (count_done log.slots c.loop-page.from (third_start log.layout log.anchor.third) log.layout.third (omega (arith, c.loop-page.invariant.inside, c.attest.ensures.table)) none)
 
 pub returns-in-None-clause-done : goal.returns-in-None-clause-done
 returns-in-None-clause-done g c records disk windows h may over =

@@ -1,4 +1,4 @@
-use Rattle.std.proofs.Common.{◌≡◌, ◌+◌, ◌*◌, ℕ, None, inl, inr, List, [], length, get_or, take, sym, ap, subst, ◌∙◌, arith}
+use Rattle.std.proofs.Common.{◌+◌, ◌*◌, ℕ, None, inl, inr, List, [], length, get_or, take, sym, ap, subst, ◌∙◌, arith}
 use Rattle.std.proofs.lemmas.List.{length-take-le}
 use Rattle.volume_layout.specs.declared.layout.Layout.{Layout}
 use Rattle.volume_layout.specs.Kinds.{gap_of}
@@ -6,7 +6,6 @@ use Rattle.fsd_formats.specs.Record.{Stamp, are_pages, record_len, AreStamped}
 use Rattle.fsd_log.specs.Judged.{slice_of}
 use Rattle.fsd_log.specs.Laid.{slices}
 use Rattle.sector_disk.specs.declared.machine.LoadFault.TheVariants.{Device}
-use Rattle.sector_disk.specs.Damage.{IsDevice}
 use Rattle.group_commit.proofs.CountLaws.{handed_up, wrote_on, wrote_same}
 use Rattle.fsd_log.specs.Scan.{Placed}
 use Rattle.sector_disk.specs.declared.sector.WeakRun.{WeakRun}
@@ -19,11 +18,11 @@ use Rattle.log_thirds.specs.Append.{IsApartNow, WritesRecord, log_with, stamp_no
 use Rattle.log_thirds.proofs.MomentLaws.{MayAppend, all_small}
 use Rattle.sector_disk.specs.Image.{open_damage}
 use Rattle.sector_disk.proofs.Wear.{worn_refl, slice_in_front}
-use Rattle.group_commit.specs.Commit.{RecordFails}
+use Rattle.group_commit.specs.Commit.{LogsNoPages}
 use Rattle.group_commit.specs.Entering.{HasRoomNow, MayHome, ShowsStill}
-use Rattle.group_commit.specs.Force.{StandsOver, Committed, KeepsOutside}
+use Rattle.group_commit.specs.Force.{StandsOverDisk, Committed, KeepsOutside}
 use Rattle.group_commit.specs.Cached.{HasImages, RecordLeaves}
-use Rattle.group_commit.specs.Logged.{StandsLogged}
+use Rattle.log_thirds.specs.Logged.{StandsLogged}
 use Rattle.group_commit.specs.Newest.{KnowsImages}
 use Rattle.group_commit.specs.Resident.{ResidentValue, stamped}
 use Rattle.group_commit.specs.Room.{sectors_before}
@@ -60,7 +59,7 @@ laid : (g : given.Over) (c : After-append g) (pages : List (List ℕ)) → Have 
 laid g c pages has = record { slices_are = has.laid; bear = c.requires.stamped }
 
 made : (g : given.Over) (c : After-append g) (pages : List (List ℕ)) (windows : List WeakRun) (records : List Placed) (disk : List (List ℕ)) → g.M.Machine.honest c.append.new.m → EndIn (g.M.Machine.now c.args.m.now).windows windows
-    → StandsOver c.args.log.now records disk (s g c pages) windows (g.M.Machine.now c.args.m.now).image → KnowsImages c.args.log.now (g.M.Machine.now c.args.m.now).image
+    → StandsOverDisk c.args.log.now records disk (s g c pages) windows (g.M.Machine.now c.args.m.now).image → KnowsImages c.args.log.now (g.M.Machine.now c.args.m.now).image
     → HasRoomNow c.make_room.new.log disk windows (g.M.Machine.now c.args.m.now) (g.M.Machine.now c.make_room.new.m)
 made g c pages windows records disk h ends over known =
     c.in_ok-make_room.ensures.done.shows records disk windows (c.append.ensures.writes.trust.honest h) (home_here g c windows over.shows.readable.borne ends) (owns c.args.log.now (s g c pages) records disk windows (g.M.Machine.now c.args.m.now) over known)
@@ -85,7 +84,7 @@ may_append g c h =
     }
 
 may : (g : given.Over) (c : After-append g) (pages : List (List ℕ)) (has : Have g c pages) (windows : List WeakRun) (records : List Placed) (disk : List (List ℕ)) (h : g.M.Machine.honest c.append.new.m) (ends : EndIn (g.M.Machine.now c.args.m.now).windows windows)
-    (over : StandsOver c.args.log.now records disk (s g c pages) windows (g.M.Machine.now c.args.m.now).image) (known : KnowsImages c.args.log.now (g.M.Machine.now c.args.m.now).image)
+    (over : StandsOverDisk c.args.log.now records disk (s g c pages) windows (g.M.Machine.now c.args.m.now).image) (known : KnowsImages c.args.log.now (g.M.Machine.now c.args.m.now).image)
     → MayForce c.make_room.new.log (s g c pages) (images g c) (made g c pages windows records disk h ends over known).records disk windows (g.M.Machine.now c.make_room.new.m)
 may g c pages has windows records disk h ends over known =
     let M = g.M.Machine in
@@ -156,54 +155,41 @@ returns-in_err-make_room-clause-disk g c =
     (may_home log c.layout-layout.result.now windows old c.layout-layout.ensures.value c.pages-pages.ensures.planned c.layout-layout.ensures.shape over.shows.readable.borne ends)
     (owns log (record { pages = pages; dirty = c.args.dirty.now }) records disk windows old over known))))
 
-pub returns-in_err-make_room-clause-never_lost : goal.returns-in_err-make_room-clause-never_lost
-returns-in_err-make_room-clause-never_lost g c =
+pub returns-in_err-make_room-clause-failed : goal.returns-in_err-make_room-clause-failed
+returns-in_err-make_room-clause-failed g c =
     let M = g.M.Machine in
     let old = M.now c.args.m.now in
     let log = c.args.log.now in
-    handed_up (λ fault. (pages : List (List ℕ)) (windows : List WeakRun) (records : List Placed) (disk : List (List ℕ)) → HasImages log c.args.dirty.now c.args.room.now pages → M.honest c.make_room.new.m → EndIn old.windows windows
-    → StandsOver log records disk (record { pages = pages; dirty = c.args.dirty.now }) windows old.image → KnowsImages log old.image → IsDevice fault)
-    c.from_residual.result c.in_err-make_room.field-0.0 c.from_residual.ensures.1
-    (λ pages windows records disk has h ends over known. c.in_err-make_room.ensures.failed.homes.never_lost records disk windows h
-    (may_home log c.layout-layout.result.now windows old c.layout-layout.ensures.value c.pages-pages.ensures.planned c.layout-layout.ensures.shape over.shows.readable.borne ends)
-    (owns log (record { pages = pages; dirty = c.args.dirty.now }) records disk windows old over known))
-
-pub returns-in_err-make_room-clause-failed : goal.returns-in_err-make_room-clause-failed
-returns-in_err-make_room-clause-failed g c =
-    let log = c.args.log.now in
-    let n = length c.args.dirty.now in
+    let dirty = c.args.dirty.now in
     let failed = c.in_err-make_room.ensures.failed in
-    handed_up (RecordFails g.M.Machine log c.make_room.new.log n c.args.m.now c.make_room.new.m) c.from_residual.result c.in_err-make_room.field-0.0 c.from_residual.ensures.1
-    (record { cause = record_cause log n failed.enters c.in_err-make_room.field-0.0; past = inl failed.kept; counted = failed.homes.counted; lost = failed.homes.lost })
+    handed_up (LogsNoPages M log c.make_room.new.log (HasImages log dirty c.args.room.now) dirty c.args.m.now c.make_room.new.m) c.from_residual.result c.in_err-make_room.field-0.0 c.from_residual.ensures.1
+    (record {
+      write = record { cause = record_cause log (length dirty) failed.enters c.in_err-make_room.field-0.0; past = inl failed.kept; counted = failed.homes.counted; lost = failed.homes.lost };
+      never_lost = λ pages windows records disk has h ends over known. failed.homes.never_lost records disk windows h
+          (may_home log c.layout-layout.result.now windows old c.layout-layout.ensures.value c.pages-pages.ensures.planned c.layout-layout.ensures.shape over.shows.readable.borne ends)
+          (owns log (record { pages = pages; dirty = dirty }) records disk windows old over known);
+    })
 
 pub returns-in_err-append-clause-failed : goal.returns-in_err-append-clause-failed
 returns-in_err-append-clause-failed g c =
     let M = g.M.Machine in
     let log = c.args.log.now in
-    let n = length c.args.dirty.now in
-    let before = sectors_before log n in
+    let dirty = c.args.dirty.now in
+    let before = sectors_before log (length dirty) in
     let made = c.in_ok-make_room.ensures.done in
     let failed = c.in_err-append.ensures.failed in
     let back = c.in_err-append.ensures.writes.trust.tells in
-    handed_up (RecordFails M log c.append.new.self n c.args.m.now c.append.new.m) c.from_residual-in_err-append.result (Device c.in_err-append.field-0.0.place) c.from_residual-in_err-append.ensures.1
+    handed_up (LogsNoPages M log c.append.new.self (HasImages log dirty c.args.room.now) dirty c.args.m.now c.append.new.m) c.from_residual-in_err-append.result (Device c.in_err-append.field-0.0.place) c.from_residual-in_err-append.ensures.1
     (record {
-      cause = tt;
-      past = inr (failed.kept ∙ made.past, λ t. ap (λ (l : Ledger). l.written) (failed.counted t) ∙ made.counted (back t));
-      counted = λ t. wrote_on (M.ledger c.args.m.now) (M.ledger c.make_room.new.m) (M.ledger c.append.new.m) before 0 before
-          (made.counted (back t)) (wrote_same (M.ledger c.make_room.new.m) (M.ledger c.append.new.m) 0 (failed.counted t)) (omega arith);
-      lost = λ h. tt;
+      write = record {
+        cause = tt;
+        past = inr (failed.kept ∙ made.past, λ t. ap (λ (l : Ledger). l.written) (failed.counted t) ∙ made.counted (back t));
+        counted = λ t. wrote_on (M.ledger c.args.m.now) (M.ledger c.make_room.new.m) (M.ledger c.append.new.m) before 0 before
+            (made.counted (back t)) (wrote_same (M.ledger c.make_room.new.m) (M.ledger c.append.new.m) 0 (failed.counted t)) (omega arith);
+        lost = λ h. tt;
+      };
+      never_lost = λ pages windows records disk has h ends over known. tt;
     })
-
-pub returns-clause-past : goal.returns-clause-past
-returns-clause-past g c = c.in_ok-append.ensures.done.past ∙ ap (λ (x : LogValue). log_with x c.args.dirty.now) c.in_ok-make_room.ensures.done.past
-
-pub returns-clause-counted : goal.returns-clause-counted
-returns-clause-counted g c t =
-    let M = g.M.Machine in
-    let n = length c.args.dirty.now in
-    let written = ap (λ (l : Ledger). l.written) (c.in_ok-append.ensures.done.counted t) in
-    let len = ap (λ (l : Layout). record_len (gap_of l) n) c.make_room.ensures.form.layout in
-    omega (arith, written, len, c.in_ok-make_room.ensures.done.counted (c.in_ok-append.ensures.writes.trust.tells t))
 
 pub returns-in_err-append-clause-disk : goal.returns-in_err-append-clause-disk
 returns-in_err-append-clause-disk g c =
@@ -216,40 +202,43 @@ returns-clause-disk g c =
     let c1 = (goal.at.returns-clause-disk g c).After-append in
     writes_then c.in_ok-make_room.ensures.disk c.in_ok-append.ensures.writes (λ h left shows. making_room g c1 left h shows) (λ h left part. shown g c1 left h part)
 
-pub returns-clause-done : goal.returns-clause-done
-returns-clause-done g c pages windows records disk has h ends over known =
-    let M = g.M.Machine in
-    let c1 = (goal.at.returns-clause-done g c).After-append in
-    let mid = M.now c.make_room.new.m in
-    let image = (M.now c.append.new.m).image in
-    let log = c.args.log.now in
-    let dirty = c.args.dirty.now in
-    let after = c.make_room.new.log in
-    let room = made g c1 pages windows records disk h ends over known in
-    let is = may g c1 pages has windows records disk h ends over known in
-    let past : c.append.new.self ≡ log_with after dirty = c.in_ok-append.ensures.done.past in
-    let done = committed after (s g c1 pages) (images g c1) room.records disk windows mid is (M.now c.append.new.m) (c.in_ok-append.ensures.done.stands h) in
-    subst (λ (x : LogValue). Committed x (record { pages = stamped (stamp_now log) dirty pages; dirty = [] }) windows image) (sym past)
-    (subst (λ (t : Stamp). Committed (log_with after dirty) (record { pages = stamped t dirty pages; dirty = [] }) windows image) c.make_room.ensures.form.stamp (record { records = done.records; stands = done.stands }))
-
 -- what the machine may wear now lies no farther apart than the last window's run
 apart_now : (gap : ℕ) (windows : List WeakRun) (at : Moment) → EndIn at.windows windows → IsApart gap (weak_of windows) → IsApartNow gap at
 apart_now gap windows at ends apart s d x y far =
     let weaker = fewer (last_or None windows) at.windows.present at.windows.next ends.last ends.some in
     apart s (s + d) (omega (arith, far)) (weaker s x) (weaker (s + d) y)
 
-pub returns-clause-knows : goal.returns-clause-knows
-returns-clause-knows g c pages windows records disk has h ends over kept =
+pub returns-clause-done : goal.returns-clause-done
+returns-clause-done g c =
     let M = g.M.Machine in
-    let c1 = (goal.at.returns-clause-knows g c).After-append in
+    let c1 = (goal.at.returns-clause-done g c).After-append in
     let mid = M.now c.make_room.new.m in
     let new = M.now c.append.new.m in
+    let log = c.args.log.now in
+    let dirty = c.args.dirty.now in
     let after = c.make_room.new.log in
-    let room = made g c1 pages windows records disk h ends over kept in
-    let is = may g c1 pages has windows records disk h ends over kept in
-    let before = log_in_window after (s g c1 pages) room.records disk windows mid is.few c.append.ensures.shape.epoch c.append.ensures.shape.third is.apart is.ends is.over in
-    let then = c.in_ok-append.ensures.done.worn room.records h (apart_now (gap_of after.layout) windows mid is.ends is.apart) before in
-    knows_log c.append.new.self _ new (then new.image (worn_refl (open_damage new.windows) new.image)) (c.in_ok-append.ensures.done.indexed room.records room.over.indexed)
+    let form = c.make_room.ensures.form in
+    let made_room = c.in_ok-make_room.ensures.done in
+    let appended = c.in_ok-append.ensures.done in
+    record {
+      past = appended.past ∙ ap (λ (x : LogValue). log_with x dirty) made_room.past;
+      counted = λ t.
+          let written = ap (λ (l : Ledger). l.written) (appended.counted t) in
+          let len = ap (λ (l : Layout). record_len (gap_of l) (length dirty)) form.layout in
+          omega (arith, written, len, made_room.counted (c.in_ok-append.ensures.writes.trust.tells t));
+      shows = λ pages windows records disk has h ends over known.
+          let room = made g c1 pages windows records disk h ends over known in
+          let is = may g c1 pages has windows records disk h ends over known in
+          let done = committed after (s g c1 pages) (images g c1) room.records disk windows mid is new (appended.stands h) in
+          subst (λ (x : LogValue). Committed x (record { pages = stamped (stamp_now log) dirty pages; dirty = [] }) windows new.image) (sym appended.past)
+          (subst (λ (t : Stamp). Committed (log_with after dirty) (record { pages = stamped t dirty pages; dirty = [] }) windows new.image) form.stamp (record { records = done.records; stands = done.stands }));
+      knows = λ pages windows records disk has h ends over known.
+          let room = made g c1 pages windows records disk h ends over known in
+          let is = may g c1 pages has windows records disk h ends over known in
+          let before = log_in_window after (s g c1 pages) room.records disk windows mid is.few c.append.ensures.shape.epoch c.append.ensures.shape.third is.apart is.ends is.over in
+          let then = appended.worn room.records h (apart_now (gap_of after.layout) windows mid is.ends is.apart) before in
+          knows_log c.append.new.self _ new (then new.image (worn_refl (open_damage new.windows) new.image)) (appended.indexed room.records room.over.indexed);
+    }
 
 pub returns-clause-logged : goal.returns-clause-logged
 returns-clause-logged g c h k lt =

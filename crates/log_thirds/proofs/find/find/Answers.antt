@@ -44,22 +44,21 @@ copies_in-requires-clause-room g c =
     let room : record_len (gap_of c.args.layout.now) (length c.in-Good.found.pages.items) ≤ length c.as_slice.result.now = judged_room (gap_of c.args.layout.now) c.pages-p.result stamp (length c.as_slice.result.now) (read_of c.as_slice.result.now c.as_slice-bytes.result.now) (serving_in c.in-Good.found) c.in-Good.ensures.judged in
     omega (arith, room, read.run.long)
 
-pub returns-in-Ok-copies_in-clause-fits : goal.returns-in-Ok-copies_in-clause-fits
-returns-in-Ok-copies_in-clause-fits g c =
+pub returns-in-Ok-copies_in-clause-found : goal.returns-in-Ok-copies_in-clause-found
+returns-in-Ok-copies_in-clause-found g c =
+    let gap = gap_of c.args.layout.now in let p = c.pages-p.result in
     let stamp : Stamp = record { epoch = c.args.anchor.now.epoch; number = c.args.number } in
-    let read = is_read g (goal.at.returns-in-Ok-copies_in-clause-fits g c).After-judge in
-    let room : record_len (gap_of c.args.layout.now) (length c.in-Good.found.pages.items) ≤ length c.as_slice.result.now = judged_room (gap_of c.args.layout.now) c.pages-p.result stamp (length c.as_slice.result.now) (read_of c.as_slice.result.now c.as_slice-bytes.result.now) (serving_in c.in-Good.found) c.in-Good.ensures.judged in
-    omega (arith, room, read.within, c.in-Good.ensures.count, c.requires.before)
-
-pub returns-in-Ok-copies_in-clause-few : goal.returns-in-Ok-copies_in-clause-few
-returns-in-Ok-copies_in-clause-few g c =
-    let stamp : Stamp = record { epoch = c.args.anchor.now.epoch; number = c.args.number } in
-    omega (arith, judged_few (gap_of c.args.layout.now) c.pages-p.result stamp (length c.as_slice.result.now) (read_of c.as_slice.result.now c.as_slice-bytes.result.now) (serving_in c.in-Good.found) (sym c.in-Good.ensures.judged), c.in-Good.ensures.count)
-
-pub returns-in-Ok-copies_in-clause-copied : goal.returns-in-Ok-copies_in-clause-copied
-returns-in-Ok-copies_in-clause-copied g c =
-    let stamp : Stamp = record { epoch = c.args.anchor.now.epoch; number = c.args.number } in
-    end_served (gap_of c.args.layout.now) c.as_slice.result.now c.as_slice-bytes.result.now c.pages-p.result stamp (serving_in c.in-Good.found) (sym c.in-Good.ensures.judged) c.copies_in.new.copies.items c.in-Ok-copies_in.ensures
+    let whole = c.as_slice.result.now in let bytes = c.as_slice-bytes.result.now in
+    let found = c.in-Good.found in
+    let judged = sym c.in-Good.ensures.judged in
+    let read = is_read g (goal.at.returns-in-Ok-copies_in-clause-found g c).After-judge in
+    let room : record_len gap (length found.pages.items) ≤ length whole = judged_room gap p stamp (length whole) (read_of whole bytes) (serving_in found) c.in-Good.ensures.judged in
+    record {
+      fits = omega (arith, room, read.within, c.in-Good.ensures.count, c.requires.before);
+      counted = c.in-Good.ensures.count;
+      few = omega (arith, judged_few gap p stamp (length whole) (read_of whole bytes) (serving_in found) judged, c.in-Good.ensures.count);
+      copied = end_served gap whole bytes p stamp (serving_in found) judged c.copies_in.new.copies.items c.in-Ok-copies_in.ensures;
+    }
 
 pub returns-in-Ok-copies_in-clause-seen : goal.returns-in-Ok-copies_in-clause-seen
 returns-in-Ok-copies_in-clause-seen g c j h jw =

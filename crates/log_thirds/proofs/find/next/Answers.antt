@@ -1,4 +1,4 @@
-use Rattle.std.proofs.Common.{◌≡◌, ◌+◌, ◌*◌, ◌≤◌, length, Some, arith, subst, ap, ◌∙◌, sym, refl, Option}
+use Rattle.std.proofs.Common.{◌≡◌, ◌+◌, ◌*◌, length, Some, arith, subst, ap, ◌∙◌, sym, refl, Option}
 use Rattle.std.specs.Prelude.{option_map, IfSome}
 use Rattle.std.proofs.lemmas.Result.{IfOk-weaker}
 use Rattle.volume_layout.specs.Kinds.{gap_of}
@@ -6,9 +6,9 @@ use Rattle.fsd_log.specs.Scan.{Head, tape, entered}
 use Rattle.log_thirds.specs.Disk.{reads}
 use Rattle.log_record.specs.declared.judging.Found.{Found}
 use Rattle.log_thirds.specs.Copies.{AreCopies, entry_in}
-use Rattle.log_thirds.specs.declared.find.Step.{Step}
+use Rattle.log_thirds.specs.declared.find.ScanStep.{ScanStep}
 use Rattle.fsd_formats.specs.Record.{Stamp}
-use Rattle.log_thirds.specs.Reading.{StepsOn, stepped_in, stepped_of}
+use Rattle.log_thirds.specs.Reading.{FitsThere, StepsOn, stepped_in, stepped_of}
 use Rattle.log_thirds.proofs.FindLaws.{goes_to, here_found, not_here}
 use Rattle.sector_disk.proofs.CallLaws.{reads_then}
 use Rattle.sector_disk.specs.Image.{Windows, IsWorn, open_damage}
@@ -17,18 +17,16 @@ use Rattle.log_thirds.proofs.SeenLaws.{sees_more, sees_on, here_below}
 use Rattle.log_thirds.proofs.find.next.Goals as goal
 
 pub over-requires : goal.over-requires
-over-requires g c = subst (λ (o : Option Found). IfSome o (λ f. c.args.at + (2 * f.n + (5 + 2 * (gap_of c.args.layout.now))) ≤ c.args.end)) c.in-Ok-Some.field-0-is c.in-Ok-Some.ensures.fits
+over-requires g c = (subst (λ (o : Option Found). IfSome o (FitsThere c.args.layout.now (record { epoch = c.args.anchor.now.epoch; number = c.args.number }) c.args.at c.args.end c.find.new.scratch.copies.items)) c.in-Ok-Some.field-0-is c.in-Ok-Some.ensures.found).fits
 
 pub returns-in-Ok-Some-clause-goes : goal.returns-in-Ok-Some-clause-goes
 returns-in-Ok-Some-clause-goes g c =
     let n = c.in-Ok-Some.found.n in
-    let fits = subst (λ (o : Option Found). IfSome o (λ f. c.args.at + (2 * f.n + (5 + 2 * (gap_of c.args.layout.now))) ≤ c.args.end)) c.in-Ok-Some.field-0-is c.in-Ok-Some.ensures.fits in
-    let counted = subst (λ (o : Option Found). IfSome o (λ f. f.n ≡ length f.pages.items)) c.in-Ok-Some.field-0-is c.in-Ok-Some.ensures.counted in
-    let few = subst (λ (o : Option Found). IfSome o (λ f. f.n ≤ 96)) c.in-Ok-Some.field-0-is c.in-Ok-Some.ensures.few in
+    let found = subst (λ (o : Option Found). IfSome o (FitsThere c.args.layout.now (record { epoch = c.args.anchor.now.epoch; number = c.args.number }) c.args.at c.args.end c.find.new.scratch.copies.items)) c.in-Ok-Some.field-0-is c.in-Ok-Some.ensures.found in
     subst (StepsOn c.args.layout.now c.args.at) (sym c.over.ensures) (record {
-      goes = goes_to c.args.layout.now c.args.at c.args.at n c.args.end (record { at = c.args.at + (2 * n + (5 + 2 * (gap_of c.args.layout.now))); end = c.args.end }) refl (omega arith) fits c.requires.from c.requires.ends;
-      lies = omega (arith, counted);
-      few = omega (arith, counted, few);
+      goes = goes_to c.args.layout.now c.args.at c.args.at n c.args.end (record { at = c.args.at + (2 * n + (5 + 2 * (gap_of c.args.layout.now))); end = c.args.end }) refl (omega arith) found.fits c.requires.from c.requires.ends;
+      lies = omega (arith, found.counted);
+      few = omega (arith, found.counted, found.few);
       in_third = c.requires.from;
     })
 
@@ -38,15 +36,15 @@ returns-in-Ok-None-clause-reads g c = reads_then c.in-Ok-None.ensures.reads c.en
 pub returns-in-Ok-Some-clause-copied : goal.returns-in-Ok-Some-clause-copied
 returns-in-Ok-Some-clause-copied g c =
     let stamp : Stamp = record { epoch = c.args.anchor.now.epoch; number = c.args.number } in
-    let found = subst (λ (o : Option Found). IfSome o (λ f. AreCopies stamp (length f.pages.items) c.find.new.scratch.copies.items)) c.in-Ok-Some.field-0-is c.in-Ok-Some.ensures.copied in
-    subst (λ (s : Step). AreCopies stamp (length s.found.pages.items) c.find.new.scratch.copies.items) (sym c.over.ensures) found
+    let found = subst (λ (o : Option Found). IfSome o (FitsThere c.args.layout.now (record { epoch = c.args.anchor.now.epoch; number = c.args.number }) c.args.at c.args.end c.find.new.scratch.copies.items)) c.in-Ok-Some.field-0-is c.in-Ok-Some.ensures.found in
+    subst (λ (s : ScanStep). AreCopies stamp (length s.found.pages.items) c.find.new.scratch.copies.items) (sym c.over.ensures) found.copied
 
 pub returns-in-Ok-Some-clause-seen : goal.returns-in-Ok-Some-clause-seen
 returns-in-Ok-Some-clause-seen g c j h jw =
     let M = g.M.Machine in
     let l = c.args.layout.now in let third = c.args.anchor.now.third in let epoch = c.args.anchor.now.epoch in
     let head : Head = record { number = c.args.number; at = c.args.at; end = c.args.end } in
-    let counted = subst (λ (o : Option Found). IfSome o (λ f. f.n ≡ length f.pages.items)) c.in-Ok-Some.field-0-is c.in-Ok-Some.ensures.counted in
+    let counted = (subst (λ (o : Option Found). IfSome o (FitsThere c.args.layout.now (record { epoch = c.args.anchor.now.epoch; number = c.args.number }) c.args.at c.args.end c.find.new.scratch.copies.items)) c.in-Ok-Some.field-0-is c.in-Ok-Some.ensures.found).counted in
     sees_more l third c.args.at (open_damage (M.now c.args.m.now).windows) j (M.now c.find.new.m).image _ _
     (λ i found.
     (λ k. Some (stepped_in c.args.number c.find.new.scratch.copies.items (c.over.ensures k)))

@@ -4,13 +4,13 @@ use Rattle.sector_disk.specs.Image.{Windows, settled}
 use Rattle.sector_disk.specs.Machine.{Ledger}
 use Rattle.fsd_formats.specs.declared.anchor.Anchor.{Anchor}
 use Rattle.log_thirds.specs.LogValue.{LogValue}
-use Rattle.mount_recover.specs.Recover.{HasAnchors}
+use Rattle.mount_recover.specs.Recover.{HasAnchorTwice}
 use Rattle.sector_disk.proofs.CallLaws.{heals_then, heals_told, told_up, turns, writes_as_heals}
 use Rattle.sector_disk.proofs.Moments.{goes_on, leaves_more}
 use Rattle.sector_disk.specs.Calls.{failed_at}
 use Rattle.fsd_sound.specs.Anchors.{fresh_anchor}
 use Rattle.log_thirds.specs.Anchoring.{AnchorsIn}
-use Rattle.mount_recover.specs.Mending.{Begins}
+use Rattle.mount_recover.specs.Mending.{StaysOrSettles}
 use Rattle.mount_recover.proofs.BeginningLaws.{stays_in_part, stays_renewed, anchors_stay, begins_before, begins_failed, replayed, anchors_stand}
 use Rattle.sector_disk.specs.Machine.{Before}
 use Rattle.mount_recover.specs.Replay.{TurnsLast}
@@ -65,7 +65,7 @@ returns-in_err-new_epoch-clause-begins g c l windows choices first is h planned 
           let M = g.M.Machine in
           let log = c.args.log.now in let now = M.now c.args.m.now in
           let fits : c.args.log.now.anchor.epoch + 1 < 2 ^ 32 = omega (arith, c.requires.epoch) in
-          leaves_more M.moment M.left_since c.args.m.now c.new_epoch.new.m (AnchorsIn (fresh_anchor (log.anchor.epoch + 1)) now) (Begins l windows choices first) (λ left anchors. inl (anchors_stay l windows choices log first is now at fits left anchors)) (c.new_epoch.ensures.writes.any_moment h);
+          leaves_more M.moment M.left_since c.args.m.now c.new_epoch.new.m (AnchorsIn (fresh_anchor (log.anchor.epoch + 1)) now) (StaysOrSettles l windows choices first) (λ left anchors. inl (anchors_stay l windows choices log first is now at fits left anchors)) (c.new_epoch.ensures.writes.any_moment h);
       done = tt;
     })
 
@@ -105,8 +105,8 @@ returns-in_err-settle-clause-begins g c l windows choices first is h planned som
           let log = c.args.log.now in let now = M.now c.args.m.now in let mid = M.now c.new_epoch.new.m in let new = M.now c.settle.new.self in
           let fits : c.args.log.now.anchor.epoch + 1 < 2 ^ 32 = omega (arith, c.requires.epoch) in
           let h1 = c.settle.ensures.trust.honest h in
-          let so_far = leaves_more M.moment M.left_since c.args.m.now c.new_epoch.new.m (AnchorsIn (fresh_anchor (log.anchor.epoch + 1)) now) (Begins l windows choices first) (λ left anchors. inl (anchors_stay l windows choices log first is now at fits left anchors)) (c.new_epoch.ensures.writes.any_moment h1) in
-          goes_on M.moment M.left_since c.args.m.now c.new_epoch.new.m c.settle.new.self (Begins l windows choices first) _ so_far (c.settle.ensures.time h)
+          let so_far = leaves_more M.moment M.left_since c.args.m.now c.new_epoch.new.m (AnchorsIn (fresh_anchor (log.anchor.epoch + 1)) now) (StaysOrSettles l windows choices first) (λ left anchors. inl (anchors_stay l windows choices log first is now at fits left anchors)) (c.new_epoch.ensures.writes.any_moment h1) in
+          goes_on M.moment M.left_since c.args.m.now c.new_epoch.new.m c.settle.new.self (StaysOrSettles l windows choices first) _ so_far (c.settle.ensures.time h)
           (λ left b. begins_failed l windows choices log first is now at fits mid (c.in_ok-new_epoch.ensures.done h1) new left (c.in_err-settle.ensures.failed h) b);
       done = tt;
     })
@@ -142,7 +142,7 @@ returns-clause-turns g c h =
           let sized = g.met.M.Machine.sized c.args.m.now (c.new_epoch.ensures.writes.trust.honest h1) in
           let done = c.in_ok-new_epoch.ensures.done h1 in
           let settles = c.in_ok-settle.ensures.settled h in
-          subst (λ (a : Anchor). HasAnchors a (M.now c.settle.new.self)) (sym (ap (λ (log : LogValue). log.anchor) c.in_ok-new_epoch.ensures.past))
+          subst (λ (a : Anchor). HasAnchorTwice a (M.now c.settle.new.self)) (sym (ap (λ (log : LogValue). log.anchor) c.in_ok-new_epoch.ensures.past))
           (anchors_stand (c.args.log.now.anchor.epoch + 1) now mid new (omega (arith, sized, wide)) done settles.image some (settles.windows ∙ λ i. settled (done.windows i).present (done.windows i).next));
     }
 
@@ -155,8 +155,8 @@ returns-clause-begins g c l windows choices first is h planned some at =
           let fits : c.args.log.now.anchor.epoch + 1 < 2 ^ 32 = omega (arith, c.requires.epoch) in
           let h1 = c.settle.ensures.trust.honest h in
           let short = g.met.M.Machine.short c.args.m.now (c.new_epoch.ensures.writes.trust.honest h1) in
-          let so_far = leaves_more M.moment M.left_since c.args.m.now c.new_epoch.new.m (AnchorsIn (fresh_anchor (log.anchor.epoch + 1)) now) (Begins l windows choices first) (λ left anchors. inl (anchors_stay l windows choices log first is now at fits left anchors)) (c.new_epoch.ensures.writes.any_moment h1) in
-          goes_on M.moment M.left_since c.args.m.now c.new_epoch.new.m c.settle.new.self (Begins l windows choices first) _ so_far (c.settle.ensures.time h)
+          let so_far = leaves_more M.moment M.left_since c.args.m.now c.new_epoch.new.m (AnchorsIn (fresh_anchor (log.anchor.epoch + 1)) now) (StaysOrSettles l windows choices first) (λ left anchors. inl (anchors_stay l windows choices log first is now at fits left anchors)) (c.new_epoch.ensures.writes.any_moment h1) in
+          goes_on M.moment M.left_since c.args.m.now c.new_epoch.new.m c.settle.new.self (StaysOrSettles l windows choices first) _ so_far (c.settle.ensures.time h)
           (λ left b. begins_before l windows choices log first is now at fits mid (c.in_ok-new_epoch.ensures.done h1) short some new (c.in_ok-settle.ensures.settled h) left b);
       done =
           let M = g.M.Machine in

@@ -2,7 +2,7 @@ use Rattle.std.proofs.Common.{◌≡◌, Err, Some, ◌<◌, ◌≤◌, Ok, leng
 use Rattle.volume_layout.specs.Layout.{plan}
 use Rattle.volume_layout.proofs.RootLaws.{planned_bounds}
 use Rattle.sector_disk.proofs.CallLaws.{reads_then, reads_told}
-use Rattle.fsd_files.specs.Disk.{either_copy}
+use Rattle.fsd_files.specs.Disk.{first_whole}
 use Rattle.mount_recover.proofs.FaultLaws.{scan_sound, scan_told}
 use Rattle.mount_recover.proofs.RootLaws.{taken_before, taken_so}
 use Rattle.mount_recover.proofs.SeenLaws.{found_so, none_so, not_found_so, seen_now}
@@ -41,7 +41,7 @@ returns-in-Err-scan-clause-refused g c h =
     let old = M.now c.args.m.now in let mid = M.now c.find_roots.new.m in
     let h1 = c.scan.ensures.reads.trust.honest h in
     let sized = g.met.M.Machine.sized c.find_roots.new.m h1 in
-    let taken : either_copy roots.first roots.second ≡ Some c.in-Some.layout = sym c.taken.ensures ∙ c.in-Some.is in
+    let taken : first_whole roots.first roots.second ≡ Some c.in-Some.layout = sym c.taken.ensures ∙ c.in-Some.is in
     let bounds = planned_bounds c.in-Some.layout (taken_so (λ k. plan k.kind k.sectors k.third k.pages ≡ Ok k) roots.first roots.second c.in-Some.layout taken c.in-Ok.ensures.planned.0 c.in-Ok.ensures.planned.1) in
     let fits = taken_so (λ k. k.sectors ≤ c.args.sectors) roots.first roots.second c.in-Some.layout taken c.in-Ok.ensures.fits.0 c.in-Ok.ensures.fits.1 in
     let room : 12 < length mid.image = omega (arith, sized, bounds.third_least, bounds.sectors_least, fits, c.requires, c.find_roots.ensures.reads.uses.sectors) in

@@ -1,18 +1,14 @@
-use Rattle.std.proofs.Common.{◌≡◌, ◌+◌, ◌<◌, ◌≤◌, ℕ, List, None, subst, arith}
+use Rattle.std.proofs.Common.{◌≡◌, ◌+◌, ◌<◌, ◌≤◌, ℕ, None, subst, arith}
+use Rattle.std.specs.Prelude.{MatchResult}
 use Rattle.volume_layout.specs.Layout.{home_b}
-use Rattle.sector_disk.specs.declared.sector.WeakRun.{WeakRun}
-use Rattle.sector_disk.specs.Machine.{Moment}
 use Rattle.sector_disk.proofs.Moments.{started, then_on}
 use Rattle.sector_disk.proofs.CallLaws.{heals_then, reads_as_heals, reads_none}
-use Rattle.mount_recover.specs.Finding.{IsExcuse}
 use Rattle.fsd_sound.specs.Lost.{AreHomes}
-use Rattle.mount_recover.specs.Mending.{AreHomed, IsCompleted, IsMending, Stays, logged_count}
-use Rattle.fsd_files.specs.Disk.{Image}
-use Rattle.fsd_log.specs.Scan.{Placed}
-use Rattle.log_thirds.specs.Append.{IsCalmNow}
-use Rattle.mount_recover.specs.Showing.{GivesPages, IsShowing, LosesNone}
+use Rattle.mount_recover.specs.Mending.{AreHomed, IsMending, StaysShown, logged_count}
+use Rattle.mount_recover.specs.Steps.{MendsOn}
+use Rattle.mount_recover.specs.Showing.{IsShowing, LosesNone}
 use Rattle.mount_recover.proofs.CalmLaws.{still_next}
-use Rattle.mount_recover.proofs.FaultLaws.{handed_up}
+use Rattle.mount_recover.proofs.FaultLaws.{handed_so}
 use Rattle.mount_recover.proofs.KeepsLaws.{keeps_none, keeps_on}
 use Rattle.mount_recover.proofs.MendingLaws.{stays}
 use Rattle.sector_disk.proofs.Holding.{wears_none}
@@ -31,7 +27,7 @@ loop-page-init g c =
       homes = λ h at. at;
       mending = λ windows choices first is h at. at;
       showing = λ records first h still given at. at;
-      moments = λ windows choices first is h at. started M.moment M.left_since c.args.m.now old (Stays l windows choices first) (λ left now. g.met.M.Machine.only_now c.args.m.now left h now)
+      moments = λ windows choices first is h at. started M.moment M.left_since c.args.m.now old (StaysShown l windows choices first) (λ left now. g.met.M.Machine.only_now c.args.m.now left h now)
           (stays l windows choices log first is (home_b c.args.l.now c.args.l.now.pages) 0 old at old (wears_none old));
     }
 
@@ -46,13 +42,13 @@ loop-page-preserved g c =
       grows = λ t. omega (arith, so_far.grows (c.heal_other.ensures.mends.disk.trust.tells t), c.in_ok-heal_other.ensures.mends.grows t);
       keeps = λ h. keeps_on l old mid new (so_far.keeps (c.heal_other.ensures.mends.disk.trust.honest h)) (c.heal_other.ensures.keeps h);
       homes = λ h at. (c.in_ok-heal_other.ensures.homes h (so_far.homes (c.heal_other.ensures.mends.disk.trust.honest h) at));
-      mending = λ windows choices first is h at. (c.in_ok-heal_other.ensures.done windows choices first is h (so_far.mending windows choices first is (c.heal_other.ensures.mends.disk.trust.honest h) at));
+      mending = λ windows choices first is h at. (c.in_ok-heal_other.ensures.goes_on windows choices first is h (so_far.mending windows choices first is (c.heal_other.ensures.mends.disk.trust.honest h) at)).done;
       showing = λ records first h still given at.
           let h1 = c.heal_other.ensures.mends.disk.trust.honest h in
           (c.in_ok-heal_other.ensures.shown records first h (still_next old mid (so_far.keeps h1).windows still) given (so_far.showing records first h1 still given at));
       moments = λ windows choices first is h at. let h1 = c.heal_other.ensures.mends.disk.trust.honest h in
-          then_on M.moment M.left_since c.args.m.now c.loop-page.m c.heal_other.new.m (Stays l windows choices first) (so_far.moments windows choices first is h1 at)
-          (c.heal_other.ensures.any_moment windows choices first is h (so_far.mending windows choices first is h1 at));
+          then_on M.moment M.left_since c.args.m.now c.loop-page.m c.heal_other.new.m (StaysShown l windows choices first) (so_far.moments windows choices first is h1 at)
+          (c.heal_other.ensures.goes_on windows choices first is h (so_far.mending windows choices first is h1 at)).any_moment;
     }
 
 pub returns-in_err-heal_other-clause-mends : goal.returns-in_err-heal_other-clause-mends
@@ -70,42 +66,44 @@ returns-in_err-heal_other-clause-keeps g c h =
     let lt : c.loop-page.page < c.args.l.now.pages = omega (arith, c.loop-page-test.true, c.loop-page.auto.page-end, c.pages-page-end.ensures.value) in
     keeps_on l (M.now c.args.m.now) mid new (c.loop-page.invariant.keeps (c.heal_other.ensures.mends.disk.trust.honest h)) (c.heal_other.ensures.keeps h)
 
-pub returns-in_err-heal_other-clause-any_moment : goal.returns-in_err-heal_other-clause-any_moment
-returns-in_err-heal_other-clause-any_moment g c windows choices first is h at =
+pub returns-in_err-heal_other-clause-goes_on : goal.returns-in_err-heal_other-clause-goes_on
+returns-in_err-heal_other-clause-goes_on g c windows choices first is h at =
     let M = g.M.Machine in
-    let so_far = c.loop-page.invariant in
+    let l = c.args.l.now in let new = M.now c.heal_other.new.m in let so_far = c.loop-page.invariant in
     let h1 = c.heal_other.ensures.mends.disk.trust.honest h in
-    then_on M.moment M.left_since c.args.m.now c.loop-page.m c.heal_other.new.m (Stays c.args.l.now windows choices first) (so_far.moments windows choices first is h1 at)
-    (c.heal_other.ensures.any_moment windows choices first is h (so_far.mending windows choices first is h1 at))
-
-pub returns-in_err-heal_other-clause-never_lost : goal.returns-in_err-heal_other-clause-never_lost
-returns-in_err-heal_other-clause-never_lost g c =
-    let M = g.M.Machine in
-    let l = c.args.l.now in let old = M.now c.args.m.now in let so_far = c.loop-page.invariant in
-    handed_up (λ fault. (windows : List WeakRun) (choices : List (List (List ℕ))) (first : Moment) (is : IsCompleted l windows choices c.args.log.now first) → M.honest c.heal_other.new.m → IsMending l windows choices c.args.log.now first is (home_b c.args.l.now c.args.l.now.pages) 0 old → IsExcuse fault)
+    let failed = c.in_err-heal_other.ensures.goes_on windows choices first is h (so_far.mending windows choices first is h1 at) in
+    handed_so (λ r. MendsOn M l windows choices first (IsMending l windows choices c.args.log.now first is (home_b l l.pages) l.pages new) c.args.m.now c.heal_other.new.m r)
     c.from_residual.result c.in_err-heal_other.field-0.0 c.from_residual.ensures.1
-    (λ windows choices first is h at. c.in_err-heal_other.ensures.never_lost windows choices first is h (so_far.mending windows choices first is (c.heal_other.ensures.mends.disk.trust.honest h) at))
+    (record {
+      any_moment = then_on M.moment M.left_since c.args.m.now c.loop-page.m c.heal_other.new.m (StaysShown l windows choices first) (so_far.moments windows choices first is h1 at) failed.any_moment;
+      done = tt;
+      never_lost = failed.never_lost;
+    })
 
-pub returns-in_err-heal_other-clause-not_shown : goal.returns-in_err-heal_other-clause-not_shown
-returns-in_err-heal_other-clause-not_shown g c =
+pub returns-in_err-heal_other-clause-shown : goal.returns-in_err-heal_other-clause-shown
+returns-in_err-heal_other-clause-shown g c records first h still given at =
     let M = g.M.Machine in
-    let l = c.args.l.now in let old = M.now c.args.m.now in let so_far = c.loop-page.invariant in
-    handed_up (λ fault. (records : List Placed) (first : Image) → M.honest c.heal_other.new.m → IsCalmNow old → GivesPages c.args.log.now records first → IsShowing l records first (home_b c.args.l.now c.args.l.now.pages) old.image → LosesNone l records first fault)
-    c.from_residual.result c.in_err-heal_other.field-0.0 c.from_residual.ensures.1
-    (λ records first h still given at.
+    let l = c.args.l.now in let so_far = c.loop-page.invariant in
     let h1 = c.heal_other.ensures.mends.disk.trust.honest h in
-    c.in_err-heal_other.ensures.not_shown records first h (still_next old (M.now c.loop-page.m) (so_far.keeps h1).windows still) given (so_far.showing records first h1 still given at))
+    handed_so (λ r. MatchResult r (λ _. (IsShowing l records first (home_b l l.pages) (M.now c.heal_other.new.m).image)) (LosesNone l records first))
+    c.from_residual.result c.in_err-heal_other.field-0.0 c.from_residual.ensures.1
+    (c.in_err-heal_other.ensures.shown records first h (still_next (M.now c.args.m.now) (M.now c.loop-page.m) (so_far.keeps h1).windows still) given (so_far.showing records first h1 still given at))
 
 pub returns-in_err-heal_other-clause-most : goal.returns-in_err-heal_other-clause-most
 returns-in_err-heal_other-clause-most g c t =
     let lt : c.loop-page.page < c.args.l.now.pages = omega (arith, c.loop-page-test.true, c.loop-page.auto.page-end, c.pages-page-end.ensures.value) in
     omega (arith, c.loop-page.invariant.most (c.heal_other.ensures.mends.disk.trust.tells t), c.heal_other.ensures.most t, count_next c.args.log.now c.loop-page.page, count_within_rest c.args.log.now c.loop-page.page c.args.l.now.pages lt)
 
-pub returns-clause-done : goal.returns-clause-done
-returns-clause-done g c windows choices first is h at =
+pub returns-clause-goes_on : goal.returns-clause-goes_on
+returns-clause-goes_on g c windows choices first is h at =
     let M = g.M.Machine in
+    let l = c.args.l.now in let log = c.args.log.now in
     let last : c.loop-page.page ≡ c.args.l.now.pages = omega (arith, c.loop-page-test.false, c.loop-page.auto.page-end, c.pages-page-end.ensures.value) in
-    subst (λ (k : ℕ). IsMending c.args.l.now windows choices c.args.log.now first is (home_b c.args.l.now c.args.l.now.pages) k (M.now c.loop-page.m)) last (c.loop-page.invariant.mending windows choices first is h at)
+    record {
+      any_moment = c.loop-page.invariant.moments windows choices first is h at;
+      done = subst (λ (k : ℕ). IsMending l windows choices log first is (home_b l l.pages) k (M.now c.loop-page.m)) last (c.loop-page.invariant.mending windows choices first is h at);
+      never_lost = tt;
+    }
 
 pub returns-clause-homes : goal.returns-clause-homes
 returns-clause-homes g c h at =
@@ -118,3 +116,6 @@ returns-clause-most g c t =
     let M = g.M.Machine in
     let last : c.loop-page.page ≡ c.args.l.now.pages = omega (arith, c.loop-page-test.false, c.loop-page.auto.page-end, c.pages-page-end.ensures.value) in
     subst (λ (k : ℕ). (M.ledger c.loop-page.m).written + logged_count c.args.log.now k ≤ (M.ledger c.args.m.now).written + k) last (c.loop-page.invariant.most t)
+
+pub returns-clause-shown : goal.returns-clause-shown
+returns-clause-shown g c records first h still given at = c.loop-page.invariant.showing records first h still given at

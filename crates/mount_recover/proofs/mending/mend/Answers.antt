@@ -1,19 +1,15 @@
-use Rattle.std.proofs.Common.{inl, inr, ◌<◌, ◌≤◌, ℕ, List, arith}
+use Rattle.std.proofs.Common.{inl, inr, ◌<◌, ◌≤◌, ℕ, arith}
 use Rattle.std.proofs.lemmas.Result.{IfErr-weaker, err_from_is_err_and, on_ok_weaker}
 use Rattle.mount_recover.proofs.HomesLaws.{both_rooted}
 use Rattle.mount_recover.proofs.KeepsLaws.{keeps_on, keeps_roots}
-use Rattle.volume_layout.specs.Layout.{home_b}
-use Rattle.sector_disk.specs.declared.sector.WeakRun.{WeakRun}
-use Rattle.sector_disk.specs.Machine.{Moment}
 use Rattle.sector_disk.proofs.CallLaws.{heals_then}
 use Rattle.sector_disk.proofs.Moments.{then_on}
 use Rattle.sector_disk.proofs.ResultLaws.{ok_as}
 use Rattle.fsd_sound.specs.Homes.{HasBothHomes}
 use Rattle.fsd_sound.specs.Lost.{LostIn}
 use Rattle.log_thirds.specs.Append.{IsCalmNow}
-use Rattle.log_thirds.specs.LogValue.{LogValue}
 use Rattle.mount_recover.specs.Finding.{IsExcuse}
-use Rattle.mount_recover.specs.Mending.{AreOfAll, AreOfVolume, AreRoots, IsCompleted, IsMending, IsMended, Stays}
+use Rattle.mount_recover.specs.Mending.{AreOfAll, AreOfVolume, AreRoots, StaysShown}
 use Rattle.mount_recover.specs.Showing.{HasNoRoot}
 use Rattle.mount_recover.specs.Steps.{ShowOrAreLost}
 use Rattle.mount_recover.proofs.CalmLaws.{excuse_loses, still_next}
@@ -32,11 +28,11 @@ returns-in_err-mend_pages g c =
       keeps = failed.keeps;
       homes = tt;
       goes_on = λ windows choices is h. record {
-        any_moment = failed.any_moment windows choices is h;
+        any_moment = (failed.goes_on windows choices is h).any_moment;
         done = tt;
-        never_lost = failed.never_lost windows choices is h;
+        never_lost = (failed.goes_on windows choices is h).never_lost;
       };
-      shown = λ records h still given some. failed.not_shown records h still given;
+      shown = λ records h still given some. failed.shown records h still given;
     })
 
 pub returns-clause-mends : goal.returns-clause-mends
@@ -69,17 +65,14 @@ pub returns-clause-goes_on : goal.returns-clause-goes_on
 returns-clause-goes_on g c windows choices is h =
     let M = g.M.Machine in
     let l = c.args.l.now in let log = c.args.log.now in
-    let old = M.now c.args.m.now in let mid = M.now c.mend_pages.new.m in let new = M.now c.mend_roots.new.m in
+    let old = M.now c.args.m.now in
     let h1 = c.mend_roots.ensures.mends.disk.trust.honest h in
-    let at = c.in_ok-mend_pages.ensures.done windows choices is h1 in
+    let pages = c.in_ok-mend_pages.ensures.goes_on windows choices is h1 in
+    let roots = c.mend_roots.ensures.goes_on windows choices log old is h pages.done in
     record {
-      any_moment = then_on M.moment M.left_since c.args.m.now c.mend_pages.new.m c.mend_roots.new.m (Stays l windows choices old) (c.mend_pages.ensures.any_moment windows choices is h1)
-          (c.mend_roots.ensures.any_moment windows choices log old is h at);
-      done = on_ok_weaker {P = (windows : List WeakRun) (choices : List (List (List ℕ))) (log : LogValue) (first : Moment) (is : IsCompleted l windows choices log first) → M.honest c.mend_roots.new.m → IsMending l windows choices log first is (home_b l l.pages) l.pages mid → IsMended l windows choices log first is new} {Q = IsMended l windows choices log old is new} c.mend_roots.result
-          (λ done. done windows choices log old is h at) c.mend_roots.ensures.done;
-      never_lost = IfErr-weaker c.mend_roots.result
-          (λ fault. (windows : List WeakRun) (choices : List (List (List ℕ))) (log : LogValue) (first : Moment) (is : IsCompleted l windows choices log first) → M.honest c.mend_roots.new.m → IsMending l windows choices log first is (home_b l l.pages) l.pages mid → IsExcuse fault)
-          IsExcuse (λ fault excused. excused windows choices log old is h at) c.mend_roots.ensures.never_lost;
+      any_moment = then_on M.moment M.left_since c.args.m.now c.mend_pages.new.m c.mend_roots.new.m (StaysShown l windows choices old) pages.any_moment roots.any_moment;
+      done = roots.done;
+      never_lost = roots.never_lost;
     }
 
 pub returns-clause-shown : goal.returns-clause-shown

@@ -1,20 +1,16 @@
-use Rattle.std.proofs.Common.{inl, inr, Ok, ◌+◌, ◌<◌, ℕ, List, refl, arith}
+use Rattle.std.proofs.Common.{inl, inr, Ok, ◌+◌, ◌<◌, ℕ, refl, arith}
+use Rattle.std.specs.Prelude.{MatchResult}
 use Rattle.std.proofs.lemmas.Result.{IfErr-weaker, on_ok_weaker}
 use Rattle.volume_layout.specs.Layout.{home_a, home_b}
-use Rattle.sector_disk.specs.declared.sector.WeakRun.{WeakRun}
-use Rattle.sector_disk.specs.Machine.{Moment}
 use Rattle.sector_disk.proofs.Moments.{then_on}
-use Rattle.fsd_files.specs.Disk.{Image}
-use Rattle.fsd_log.specs.Scan.{Placed}
 use Rattle.sector_disk.proofs.CallLaws.{heals_then}
 use Rattle.fsd_sound.specs.Homes.{HasBothHomes}
 use Rattle.fsd_sound.specs.Lost.{AreHomes, LostIn}
-use Rattle.log_thirds.specs.Append.{IsCalmNow}
-use Rattle.mount_recover.specs.Finding.{IsExcuse}
-use Rattle.mount_recover.specs.Mending.{AreHomed, AreOfVolume, IsCompleted, IsMending, Stays}
-use Rattle.mount_recover.specs.Showing.{GivesPages, IsShowing, LosesNone}
+use Rattle.mount_recover.specs.Steps.{MendsOn}
+use Rattle.mount_recover.specs.Mending.{AreHomed, AreOfVolume, IsMending, StaysShown}
+use Rattle.mount_recover.specs.Showing.{IsShowing, LosesNone}
 use Rattle.mount_recover.proofs.CalmLaws.{still_next}
-use Rattle.mount_recover.proofs.FaultLaws.{handed_up, lost_more}
+use Rattle.mount_recover.proofs.FaultLaws.{handed_so, lost_more}
 use Rattle.mount_recover.proofs.StepLaws.{mends_on, mends_up}
 use Rattle.mount_recover.proofs.HomesLaws.{all_homed, count_most, homed_none, homed_further}
 use Rattle.mount_recover.proofs.MendingLaws.{begin_at, no_home_between, to_second, to_others}
@@ -31,25 +27,22 @@ returns-in_err-write_homes-clause-mends g c =
 pub returns-in_err-write_homes-clause-most : goal.returns-in_err-write_homes-clause-most
 returns-in_err-write_homes-clause-most g c t = omega (arith, c.write_homes.ensures.most t, count_most c.args.log.now c.args.l.now.pages)
 
-pub returns-in_err-write_homes-clause-any_moment : goal.returns-in_err-write_homes-clause-any_moment
-returns-in_err-write_homes-clause-any_moment g c windows choices is h =
+pub returns-in_err-write_homes-clause-goes_on : goal.returns-in_err-write_homes-clause-goes_on
+returns-in_err-write_homes-clause-goes_on g c windows choices is h =
     let M = g.M.Machine in
     let l = c.args.l.now in let log = c.args.log.now in let old = M.now c.args.m.now in
-    c.write_homes.ensures.any_moment windows choices old is h (begin_at l windows choices log old is c.home_a.result c.home_a.ensures.place)
+    let failed = c.in_err-write_homes.ensures.goes_on windows choices old is h (begin_at l windows choices log old is c.home_a.result c.home_a.ensures.place) in
+    handed_so (λ r. MendsOn M l windows choices old (IsMending l windows choices log old is (home_b l l.pages) l.pages (M.now c.write_homes.new.m)) c.args.m.now c.write_homes.new.m r)
+    c.from_residual.result c.in_err-write_homes.field-0.0 c.from_residual.ensures.1
+    (record { any_moment = failed.any_moment; done = tt; never_lost = failed.never_lost })
 
-pub returns-in_err-write_homes-clause-never_lost : goal.returns-in_err-write_homes-clause-never_lost
-returns-in_err-write_homes-clause-never_lost g c =
+pub returns-in_err-write_homes-clause-shown : goal.returns-in_err-write_homes-clause-shown
+returns-in_err-write_homes-clause-shown g c records h still given =
     let M = g.M.Machine in
-    let l = c.args.l.now in let log = c.args.log.now in let old = M.now c.args.m.now in
-    handed_up (λ fault. (windows : List WeakRun) (choices : List (List (List ℕ))) (is : IsCompleted l windows choices log old) → M.honest c.write_homes.new.m → IsExcuse fault) c.from_residual.result c.in_err-write_homes.field-0.0 c.from_residual.ensures.1
-    (λ windows choices is h. c.in_err-write_homes.ensures.never_lost windows choices old is h (begin_at l windows choices log old is c.home_a.result c.home_a.ensures.place))
-
-pub returns-in_err-write_homes-clause-not_shown : goal.returns-in_err-write_homes-clause-not_shown
-returns-in_err-write_homes-clause-not_shown g c =
-    let M = g.M.Machine in
-    let l = c.args.l.now in let log = c.args.log.now in let old = M.now c.args.m.now in
-    handed_up (λ fault. (records : List Placed) → M.honest c.write_homes.new.m → IsCalmNow old → GivesPages log records old.image → LosesNone l records old.image fault) c.from_residual.result c.in_err-write_homes.field-0.0 c.from_residual.ensures.1
-    (λ records h still given. c.in_err-write_homes.ensures.not_shown records old.image h still given (showing_none l records old.image c.home_a.result c.home_a.ensures.place))
+    let l = c.args.l.now in let old = M.now c.args.m.now in
+    handed_so (λ r. MatchResult r (λ _. IsShowing l records old.image (home_b l l.pages) (M.now c.write_homes.new.m).image) (LosesNone l records old.image))
+    c.from_residual.result c.in_err-write_homes.field-0.0 c.from_residual.ensures.1
+    (c.in_err-write_homes.ensures.shown records old.image h still given (showing_none l records old.image c.home_a.result c.home_a.ensures.place))
 
 -- ---- the second homes
 
@@ -62,28 +55,29 @@ returns-in_err-write_homes-2-clause-mends g c =
 pub returns-in_err-write_homes-2-clause-most : goal.returns-in_err-write_homes-2-clause-most
 returns-in_err-write_homes-2-clause-most g c t = omega (arith, c.write_homes-2.ensures.most t, c.write_homes.ensures.most (c.write_homes-2.ensures.mends.disk.trust.tells t), count_most c.args.log.now c.args.l.now.pages)
 
-pub returns-in_err-write_homes-2-clause-any_moment : goal.returns-in_err-write_homes-2-clause-any_moment
-returns-in_err-write_homes-2-clause-any_moment g c windows choices is h =
+pub returns-in_err-write_homes-2-clause-goes_on : goal.returns-in_err-write_homes-2-clause-goes_on
+returns-in_err-write_homes-2-clause-goes_on g c windows choices is h =
     let M = g.M.Machine in
     let l = c.args.l.now in let log = c.args.log.now in let old = M.now c.args.m.now in
     let h1 = c.write_homes-2.ensures.mends.disk.trust.honest h in
-    then_on M.moment M.left_since c.args.m.now c.write_homes.new.m c.write_homes-2.new.m (Stays l windows choices old) (c.write_homes.ensures.any_moment windows choices old is h1 (begin_at l windows choices log old is c.home_a.result c.home_a.ensures.place))
-    (c.write_homes-2.ensures.any_moment windows choices old is h (to_second l windows choices log old is c.home_a.result c.home_b.result (M.now c.write_homes.new.m) c.home_a.ensures.place c.home_b.ensures.place (c.in_ok-write_homes.ensures.done windows choices old is h1 (begin_at l windows choices log old is c.home_a.result c.home_a.ensures.place))))
+    let first = c.in_ok-write_homes.ensures.goes_on windows choices old is h1 (begin_at l windows choices log old is c.home_a.result c.home_a.ensures.place) in
+    let failed = c.in_err-write_homes-2.ensures.goes_on windows choices old is h (to_second l windows choices log old is c.home_a.result c.home_b.result (M.now c.write_homes.new.m) c.home_a.ensures.place c.home_b.ensures.place first.done) in
+    handed_so (λ r. MendsOn M l windows choices old (IsMending l windows choices log old is (home_b l l.pages) l.pages (M.now c.write_homes-2.new.m)) c.args.m.now c.write_homes-2.new.m r)
+    c.from_residual-in_err-write_homes-2.result c.in_err-write_homes-2.field-0.0 c.from_residual-in_err-write_homes-2.ensures.1
+    (record {
+      any_moment = then_on M.moment M.left_since c.args.m.now c.write_homes.new.m c.write_homes-2.new.m (StaysShown l windows choices old) first.any_moment failed.any_moment;
+      done = tt;
+      never_lost = failed.never_lost;
+    })
 
-pub returns-in_err-write_homes-2-clause-never_lost : goal.returns-in_err-write_homes-2-clause-never_lost
-returns-in_err-write_homes-2-clause-never_lost g c =
+pub returns-in_err-write_homes-2-clause-shown : goal.returns-in_err-write_homes-2-clause-shown
+returns-in_err-write_homes-2-clause-shown g c records h still given =
     let M = g.M.Machine in
-    let l = c.args.l.now in let log = c.args.log.now in let old = M.now c.args.m.now in
-    handed_up (λ fault. (windows : List WeakRun) (choices : List (List (List ℕ))) (is : IsCompleted l windows choices log old) → M.honest c.write_homes-2.new.m → IsExcuse fault) c.from_residual-in_err-write_homes-2.result c.in_err-write_homes-2.field-0.0 c.from_residual-in_err-write_homes-2.ensures.1
-    (λ windows choices is h. let h1 = c.write_homes-2.ensures.mends.disk.trust.honest h in c.in_err-write_homes-2.ensures.never_lost windows choices old is h (to_second l windows choices log old is c.home_a.result c.home_b.result (M.now c.write_homes.new.m) c.home_a.ensures.place c.home_b.ensures.place (c.in_ok-write_homes.ensures.done windows choices old is h1 (begin_at l windows choices log old is c.home_a.result c.home_a.ensures.place))))
-
-pub returns-in_err-write_homes-2-clause-not_shown : goal.returns-in_err-write_homes-2-clause-not_shown
-returns-in_err-write_homes-2-clause-not_shown g c =
-    let M = g.M.Machine in
-    let l = c.args.l.now in let log = c.args.log.now in let old = M.now c.args.m.now in
-    handed_up (λ fault. (records : List Placed) → M.honest c.write_homes-2.new.m → IsCalmNow old → GivesPages log records old.image → LosesNone l records old.image fault) c.from_residual-in_err-write_homes-2.result c.in_err-write_homes-2.field-0.0 c.from_residual-in_err-write_homes-2.ensures.1
-    (λ records h still given. let h1 = c.write_homes-2.ensures.mends.disk.trust.honest h in
-    c.in_err-write_homes-2.ensures.not_shown records old.image h (still_next old (M.now c.write_homes.new.m) (c.write_homes.ensures.keeps h1).windows still) given (showing_further l records old.image (c.home_a.result + l.pages) c.home_b.result (M.now c.write_homes.new.m).image (λ page within before. no_home_between l c.home_a.result c.home_b.result page (home_a l page) c.home_a.ensures.place c.home_b.ensures.place within (inl refl) before) (c.in_ok-write_homes.ensures.shown records old.image h1 still given (showing_none l records old.image c.home_a.result c.home_a.ensures.place))))
+    let l = c.args.l.now in let old = M.now c.args.m.now in
+    let h1 = c.write_homes-2.ensures.mends.disk.trust.honest h in
+    handed_so (λ r. MatchResult r (λ _. IsShowing l records old.image (home_b l l.pages) (M.now c.write_homes-2.new.m).image) (LosesNone l records old.image))
+    c.from_residual-in_err-write_homes-2.result c.in_err-write_homes-2.field-0.0 c.from_residual-in_err-write_homes-2.ensures.1
+    (c.in_err-write_homes-2.ensures.shown records old.image h (still_next old (M.now c.write_homes.new.m) (c.write_homes.ensures.keeps h1).windows still) given (showing_further l records old.image (c.home_a.result + l.pages) c.home_b.result (M.now c.write_homes.new.m).image (λ page within before. no_home_between l c.home_a.result c.home_b.result page (home_a l page) c.home_a.ensures.place c.home_b.ensures.place within (inl refl) before) (c.in_ok-write_homes.ensures.shown records old.image h1 still given (showing_none l records old.image c.home_a.result c.home_a.ensures.place))))
 
 -- ---- the others
 
@@ -118,60 +112,27 @@ returns-clause-homes g c =
     all_homed l log new (homes h (homed_further l log (c.home_b.result + l.pages) (home_b l l.pages) 0 two (λ page s within home before. omega (arith, c.home_b.ensures.place, before)) second)))
     c.heal_others.ensures.homes
 
-pub returns-clause-any_moment : goal.returns-clause-any_moment
-returns-clause-any_moment g c windows choices is h =
+pub returns-clause-goes_on : goal.returns-clause-goes_on
+returns-clause-goes_on g c windows choices is h =
     let M = g.M.Machine in
     let l = c.args.l.now in let log = c.args.log.now in let old = M.now c.args.m.now in
     let h2 = c.heal_others.ensures.mends.disk.trust.honest h in let h1 = c.write_homes-2.ensures.mends.disk.trust.honest h2 in
-    then_on M.moment M.left_since c.args.m.now c.write_homes-2.new.m c.heal_others.new.m (Stays l windows choices old)
-    (then_on M.moment M.left_since c.args.m.now c.write_homes.new.m c.write_homes-2.new.m (Stays l windows choices old) (c.write_homes.ensures.any_moment windows choices old is h1 (begin_at l windows choices log old is c.home_a.result c.home_a.ensures.place))
-    (c.write_homes-2.ensures.any_moment windows choices old is h2 (to_second l windows choices log old is c.home_a.result c.home_b.result (M.now c.write_homes.new.m) c.home_a.ensures.place c.home_b.ensures.place (c.in_ok-write_homes.ensures.done windows choices old is h1 (begin_at l windows choices log old is c.home_a.result c.home_a.ensures.place)))))
-    (c.heal_others.ensures.any_moment windows choices old is h (to_others l windows choices log old is c.home_b.result (M.now c.write_homes-2.new.m) c.home_b.ensures.place (c.in_ok-write_homes-2.ensures.done windows choices old is h2 (to_second l windows choices log old is c.home_a.result c.home_b.result (M.now c.write_homes.new.m) c.home_a.ensures.place c.home_b.ensures.place (c.in_ok-write_homes.ensures.done windows choices old is h1 (begin_at l windows choices log old is c.home_a.result c.home_a.ensures.place))))))
-
-pub returns-clause-done : goal.returns-clause-done
-returns-clause-done g c =
-    let M = g.M.Machine in
-    let l = c.args.l.now in let log = c.args.log.now in let old = M.now c.args.m.now in
-    let two = M.now c.write_homes-2.new.m in let new = M.now c.heal_others.new.m in
-    on_ok_weaker {P = (windows : List WeakRun) (choices : List (List (List ℕ))) (first : Moment) (is : IsCompleted l windows choices log first) → M.honest c.heal_others.new.m → IsMending l windows choices log first is (home_b l l.pages) 0 two → IsMending l windows choices log first is (home_b l l.pages) l.pages new} {Q = (windows : List WeakRun) (choices : List (List (List ℕ))) (is : IsCompleted l windows choices log old) → M.honest c.heal_others.new.m → IsMending l windows choices log old is (home_b l l.pages) l.pages new} c.heal_others.result
-    (λ done windows choices is h.
-    let h2 = c.heal_others.ensures.mends.disk.trust.honest h in let h1 = c.write_homes-2.ensures.mends.disk.trust.honest h2 in
-    done windows choices old is h (to_others l windows choices log old is c.home_b.result (M.now c.write_homes-2.new.m) c.home_b.ensures.place (c.in_ok-write_homes-2.ensures.done windows choices old is h2 (to_second l windows choices log old is c.home_a.result c.home_b.result (M.now c.write_homes.new.m) c.home_a.ensures.place c.home_b.ensures.place (c.in_ok-write_homes.ensures.done windows choices old is h1 (begin_at l windows choices log old is c.home_a.result c.home_a.ensures.place))))))
-    c.heal_others.ensures.done
-
-pub returns-clause-never_lost : goal.returns-clause-never_lost
-returns-clause-never_lost g c =
-    let M = g.M.Machine in
-    let l = c.args.l.now in let log = c.args.log.now in let old = M.now c.args.m.now in
-    let two = M.now c.write_homes-2.new.m in
-    IfErr-weaker c.heal_others.result (λ fault. (windows : List WeakRun) (choices : List (List (List ℕ))) (first : Moment) (is : IsCompleted l windows choices log first) → M.honest c.heal_others.new.m → IsMending l windows choices log first is (home_b l l.pages) 0 two → IsExcuse fault)
-    (λ fault. (windows : List WeakRun) (choices : List (List (List ℕ))) (is : IsCompleted l windows choices log old) → M.honest c.heal_others.new.m → IsExcuse fault)
-    (λ fault excused windows choices is h.
-    let h2 = c.heal_others.ensures.mends.disk.trust.honest h in let h1 = c.write_homes-2.ensures.mends.disk.trust.honest h2 in
-    excused windows choices old is h (to_others l windows choices log old is c.home_b.result (M.now c.write_homes-2.new.m) c.home_b.ensures.place (c.in_ok-write_homes-2.ensures.done windows choices old is h2 (to_second l windows choices log old is c.home_a.result c.home_b.result (M.now c.write_homes.new.m) c.home_a.ensures.place c.home_b.ensures.place (c.in_ok-write_homes.ensures.done windows choices old is h1 (begin_at l windows choices log old is c.home_a.result c.home_a.ensures.place))))))
-    c.heal_others.ensures.never_lost
+    let first = c.in_ok-write_homes.ensures.goes_on windows choices old is h1 (begin_at l windows choices log old is c.home_a.result c.home_a.ensures.place) in
+    let second = c.in_ok-write_homes-2.ensures.goes_on windows choices old is h2 (to_second l windows choices log old is c.home_a.result c.home_b.result (M.now c.write_homes.new.m) c.home_a.ensures.place c.home_b.ensures.place first.done) in
+    let others = c.heal_others.ensures.goes_on windows choices old is h (to_others l windows choices log old is c.home_b.result (M.now c.write_homes-2.new.m) c.home_b.ensures.place second.done) in
+    record {
+      any_moment = then_on M.moment M.left_since c.args.m.now c.write_homes-2.new.m c.heal_others.new.m (StaysShown l windows choices old)
+          (then_on M.moment M.left_since c.args.m.now c.write_homes.new.m c.write_homes-2.new.m (StaysShown l windows choices old) first.any_moment second.any_moment) others.any_moment;
+      done = others.done;
+      never_lost = others.never_lost;
+    }
 
 pub returns-clause-shown : goal.returns-clause-shown
-returns-clause-shown g c =
+returns-clause-shown g c records h still given =
     let M = g.M.Machine in
-    let l = c.args.l.now in let log = c.args.log.now in let old = M.now c.args.m.now in
-    let two = M.now c.write_homes-2.new.m in let new = M.now c.heal_others.new.m in
-    on_ok_weaker {P = (records : List Placed) (first : Image) → M.honest c.heal_others.new.m → IsCalmNow two → GivesPages log records first → IsShowing l records first (home_b l l.pages) two.image → IsShowing l records first (home_b l l.pages) new.image} {Q = (records : List Placed) → M.honest c.heal_others.new.m → IsCalmNow old → GivesPages log records old.image → IsShowing l records old.image (home_b l l.pages) new.image} c.heal_others.result
-    (λ shown records h still given.
+    let l = c.args.l.now in let old = M.now c.args.m.now in
     let h2 = c.heal_others.ensures.mends.disk.trust.honest h in let h1 = c.write_homes-2.ensures.mends.disk.trust.honest h2 in
-    let still_one = (still_next old (M.now c.write_homes.new.m) (c.write_homes.ensures.keeps h1).windows still) in
-    shown records old.image h (still_next (M.now c.write_homes.new.m) (M.now c.write_homes-2.new.m) (c.write_homes-2.ensures.keeps h2).windows still_one) given (showing_further l records old.image (c.home_b.result + l.pages) (home_b l l.pages) (M.now c.write_homes-2.new.m).image (λ page within before. omega (arith, c.home_b.ensures.place, within)) (c.in_ok-write_homes-2.ensures.shown records old.image h2 still_one given (showing_further l records old.image (c.home_a.result + l.pages) c.home_b.result (M.now c.write_homes.new.m).image (λ page within before. no_home_between l c.home_a.result c.home_b.result page (home_a l page) c.home_a.ensures.place c.home_b.ensures.place within (inl refl) before) (c.in_ok-write_homes.ensures.shown records old.image h1 still given (showing_none l records old.image c.home_a.result c.home_a.ensures.place))))))
-    c.heal_others.ensures.shown
-
-pub returns-clause-not_shown : goal.returns-clause-not_shown
-returns-clause-not_shown g c =
-    let M = g.M.Machine in
-    let l = c.args.l.now in let log = c.args.log.now in let old = M.now c.args.m.now in
-    let two = M.now c.write_homes-2.new.m in
-    IfErr-weaker c.heal_others.result (λ fault. (records : List Placed) (first : Image) → M.honest c.heal_others.new.m → IsCalmNow two → GivesPages log records first → IsShowing l records first (home_b l l.pages) two.image → LosesNone l records first fault)
-    (λ fault. (records : List Placed) → M.honest c.heal_others.new.m → IsCalmNow old → GivesPages log records old.image → LosesNone l records old.image fault)
-    (λ fault loses records h still given.
-    let h2 = c.heal_others.ensures.mends.disk.trust.honest h in let h1 = c.write_homes-2.ensures.mends.disk.trust.honest h2 in
-    let still_one = (still_next old (M.now c.write_homes.new.m) (c.write_homes.ensures.keeps h1).windows still) in
-    loses records old.image h (still_next (M.now c.write_homes.new.m) (M.now c.write_homes-2.new.m) (c.write_homes-2.ensures.keeps h2).windows still_one) given (showing_further l records old.image (c.home_b.result + l.pages) (home_b l l.pages) (M.now c.write_homes-2.new.m).image (λ page within before. omega (arith, c.home_b.ensures.place, within)) (c.in_ok-write_homes-2.ensures.shown records old.image h2 still_one given (showing_further l records old.image (c.home_a.result + l.pages) c.home_b.result (M.now c.write_homes.new.m).image (λ page within before. no_home_between l c.home_a.result c.home_b.result page (home_a l page) c.home_a.ensures.place c.home_b.ensures.place within (inl refl) before) (c.in_ok-write_homes.ensures.shown records old.image h1 still given (showing_none l records old.image c.home_a.result c.home_a.ensures.place))))))
-    c.heal_others.ensures.not_shown
+    let still_one = still_next old (M.now c.write_homes.new.m) (c.write_homes.ensures.keeps h1).windows still in
+    c.heal_others.ensures.shown records old.image h (still_next (M.now c.write_homes.new.m) (M.now c.write_homes-2.new.m) (c.write_homes-2.ensures.keeps h2).windows still_one) given
+    (showing_further l records old.image (c.home_b.result + l.pages) (home_b l l.pages) (M.now c.write_homes-2.new.m).image (λ page within before. omega (arith, c.home_b.ensures.place, within))
+    (c.in_ok-write_homes-2.ensures.shown records old.image h2 still_one given (showing_further l records old.image (c.home_a.result + l.pages) c.home_b.result (M.now c.write_homes.new.m).image (λ page within before. no_home_between l c.home_a.result c.home_b.result page (home_a l page) c.home_a.ensures.place c.home_b.ensures.place within (inl refl) before) (c.in_ok-write_homes.ensures.shown records old.image h1 still given (showing_none l records old.image c.home_a.result c.home_a.ensures.place)))))

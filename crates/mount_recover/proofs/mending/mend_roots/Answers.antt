@@ -4,7 +4,7 @@ use Rattle.sector_disk.proofs.CallLaws.{heals_told, writes_as_heals}
 use Rattle.sector_disk.proofs.Moments.{leaves_more}
 use Rattle.volume_layout.specs.Root.{root_bytes}
 use Rattle.twin_home.specs.Heal.{HealsRoots}
-use Rattle.mount_recover.specs.Mending.{Stays, AreRoots}
+use Rattle.mount_recover.specs.Mending.{StaysShown, AreRoots}
 use Rattle.mount_recover.specs.Finding.{IsExcuse}
 use Rattle.mount_recover.proofs.CalmLaws.{roots_lose}
 use Rattle.mount_recover.proofs.FaultLaws.{load_excused, load_lost, load_not_lost, is_load, load_told, roots_serve}
@@ -23,18 +23,6 @@ returns-in-Err-clause-mends g c = record {
   grows = tt;
 }
 
-pub returns-in-Ok-clause-any_moment : goal.returns-in-Ok-clause-any_moment
-returns-in-Ok-clause-any_moment g c windows choices log first is h at =
-    let M = g.M.Machine in
-    let l = c.args.l.now in let now = M.now c.args.m.now in
-    leaves_more M.moment M.left_since c.args.m.now c.heal_root.new.m (HealsRoots (root_bytes l) now) (Stays l windows choices first) (λ left roots. roots_stay l windows choices log first is now at left roots) (c.heal_root.ensures.writes.any_moment h)
-
-pub returns-in-Err-clause-any_moment : goal.returns-in-Err-clause-any_moment
-returns-in-Err-clause-any_moment g c windows choices log first is h at =
-    let M = g.M.Machine in
-    let l = c.args.l.now in let now = M.now c.args.m.now in
-    leaves_more M.moment M.left_since c.args.m.now c.heal_root.new.m (HealsRoots (root_bytes l) now) (Stays l windows choices first) (λ left roots. roots_stay l windows choices log first is now at left roots) (c.heal_root.ensures.writes.any_moment h)
-
 pub returns-in-Ok-clause-keeps : goal.returns-in-Ok-clause-keeps
 returns-in-Ok-clause-keeps g c h =
     let M = g.M.Machine in
@@ -47,18 +35,27 @@ returns-in-Err-clause-keeps g c h =
     let run = c.heal_root.ensures.writes.any_moment h in
     but_roots (root_bytes c.args.l.now) (M.now c.args.m.now) (M.now c.heal_root.new.m) (run.each (M.now c.heal_root.new.m) (g.met.M.Machine.counts_now c.heal_root.new.m (M.moment c.args.m.now) h run.later))
 
-pub returns-in-Ok-clause-done : goal.returns-in-Ok-clause-done
-returns-in-Ok-clause-done g c windows choices log first is h at =
+pub returns-in-Ok-clause-goes_on : goal.returns-in-Ok-clause-goes_on
+returns-in-Ok-clause-goes_on g c windows choices log first is h at =
     let M = g.M.Machine in
-    roots_done c.args.l.now windows choices log first is (M.now c.args.m.now) at c.in-Ok.field-0 (M.now c.heal_root.new.m) (c.in-Ok.ensures.done h)
+    let l = c.args.l.now in let now = M.now c.args.m.now in
+    record {
+      any_moment = leaves_more M.moment M.left_since c.args.m.now c.heal_root.new.m (HealsRoots (root_bytes l) now) (StaysShown l windows choices first) (λ left roots. roots_stay l windows choices log first is now at left roots) (c.heal_root.ensures.writes.any_moment h);
+      done = roots_done l windows choices log first is now at c.in-Ok.field-0 (M.now c.heal_root.new.m) (c.in-Ok.ensures.done h);
+      never_lost = tt;
+    }
 
-pub returns-in-Err-clause-never_lost : goal.returns-in-Err-clause-never_lost
-returns-in-Err-clause-never_lost g c windows choices log first is h at =
+pub returns-in-Err-clause-goes_on : goal.returns-in-Err-clause-goes_on
+returns-in-Err-clause-goes_on g c windows choices log first is h at =
     let M = g.M.Machine in
     let l = c.args.l.now in let now = M.now c.args.m.now in let new = M.now c.heal_root.new.m in
     let run = c.heal_root.ensures.writes.any_moment h in
     let stays = roots_stay l windows choices log first is now at new (run.each new (g.met.M.Machine.counts_now c.heal_root.new.m (M.moment c.args.m.now) h run.later)) in
-    load_not_lost AreRoots new.image c.in-Err.fault c.from.result c.from.ensures (roots_serve l windows (narrow l windows choices log first is) choices new.image (stays_show l windows choices log first is new stays)) (c.in-Err.ensures.lost h)
+    record {
+      any_moment = leaves_more M.moment M.left_since c.args.m.now c.heal_root.new.m (HealsRoots (root_bytes l) now) (StaysShown l windows choices first) (λ left roots. roots_stay l windows choices log first is now at left roots) run;
+      done = tt;
+      never_lost = load_not_lost AreRoots new.image c.in-Err.fault c.from.result c.from.ensures (roots_serve l windows (narrow l windows choices log first is) choices new.image (stays_show l windows choices log first is new stays)) (c.in-Err.ensures.lost h);
+    }
 
 pub returns-in-Err-clause-not_shown : goal.returns-in-Err-clause-not_shown
 returns-in-Err-clause-not_shown g c h still some =

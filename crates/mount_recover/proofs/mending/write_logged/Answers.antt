@@ -1,9 +1,8 @@
-use Rattle.std.proofs.Common.{◌≡◌, inl, ◌+◌, ◌<◌, ◌≤◌, ℕ, Bool, List, Some, None, Ok, refl, sym, ap, subst, ◌∙◌, arith}
+use Rattle.std.proofs.Common.{◌≡◌, inl, ◌+◌, ◌<◌, ◌≤◌, Bool, List, Some, None, Ok, refl, sym, ap, subst, ◌∙◌, arith}
 use Rattle.std.specs.Prelude.{if◌then◌else◌, slice_index_or}
 use Rattle.std.proofs.lemmas.Result.{IfErr-weaker, on_ok_weaker}
 use Rattle.volume_layout.specs.declared.layout.Layout.{Layout}
-use Rattle.sector_disk.specs.declared.sector.WeakRun.{WeakRun}
-use Rattle.sector_disk.specs.Machine.{Ledger, Moment, Wears}
+use Rattle.sector_disk.specs.Machine.{Ledger, Wears}
 use Rattle.sector_disk.proofs.CallLaws.{heals_then, heals_told, reads_as_heals}
 use Rattle.sector_disk.proofs.Moments.{leaves_more, then_on}
 use Rattle.sector_disk.proofs.Holding.{wears_none}
@@ -13,13 +12,12 @@ use Rattle.fsd_files.specs.Disk.{Image}
 use Rattle.fsd_sound.specs.Homes.{HasSome}
 use Rattle.log_thirds.specs.Append.{IsCalmNow}
 use Rattle.fsd_sound.specs.Shown.{records_by}
-use Rattle.log_thirds.specs.LogValue.{LogValue}
 use Rattle.mount_recover.specs.Finding.{IsExcuse}
 use Rattle.fsd_sound.specs.Lost.{LostIn}
-use Rattle.mount_recover.specs.Mending.{AreHomed, AreOfVolume, IsCompleted, IsMending, LacksPage, Stays}
-use Rattle.mount_recover.specs.Showing.{GivesPages, IsShowing, LosesNone}
+use Rattle.mount_recover.specs.Mending.{AreHomed, AreOfVolume, IsMending, LacksPage, StaysShown}
+use Rattle.mount_recover.specs.Showing.{IsShowing, LosesNone}
 use Rattle.mount_recover.proofs.CalmLaws.{still_worn, still_next, given_on, device_loses, excuse_loses}
-use Rattle.mount_recover.proofs.FaultLaws.{excuse_lost, load_excused, load_lost, is_load, load_told}
+use Rattle.mount_recover.proofs.FaultLaws.{either_end, excuse_lost, load_excused, load_lost, is_load, load_told}
 use Rattle.mount_recover.proofs.HomesLaws.{count_has, homed_put, homed_skip}
 use Rattle.mount_recover.proofs.KeepsLaws.{but_read, but_then}
 use Rattle.mount_recover.proofs.MendingLaws.{stays, still, not_none, put_none}
@@ -32,12 +30,12 @@ returns-in-Ok-true-clause-mends g c =
     let M = g.M.Machine in
     let new = M.now c.put_home.new.m in
     record {
-      disk = heals_then (reads_as_heals c.in-Ok-true.ensures.reads) c.put_home.ensures.disk;
-      load = c.put_home.ensures.load;
+      disk = heals_then (reads_as_heals c.in-Ok-true.ensures.reads) c.put_home.ensures.writes.disk;
+      load = c.put_home.ensures.writes.load;
       lost = IfErr-weaker c.put_home.result IsExcuse (λ fault. M.honest c.put_home.new.m → LostIn (AreOfVolume c.args.l.now c.args.log.now) new.image fault)
-          (λ fault excuse h. excuse_lost (AreOfVolume c.args.l.now c.args.log.now) new.image fault excuse) c.put_home.ensures.never_lost;
+          (λ fault excuse h. excuse_lost (AreOfVolume c.args.l.now c.args.log.now) new.image fault excuse) c.put_home.ensures.writes.never_lost;
       grows = on_ok_weaker {P = M.tells c.put_home.new.m → (M.ledger c.image_of.new.m).written ≤ (M.ledger c.put_home.new.m).written} {Q = M.tells c.put_home.new.m → (M.ledger c.args.m.now).written ≤ (M.ledger c.put_home.new.m).written} c.put_home.result
-          (λ grows t. omega (arith, grows t, ap (λ (x : Ledger). x.written) (c.image_of.ensures.reads.ledger (c.put_home.ensures.disk.trust.tells t)))) c.put_home.ensures.grows;
+          (λ grows t. omega (arith, grows t, ap (λ (x : Ledger). x.written) (c.image_of.ensures.reads.ledger (c.put_home.ensures.writes.disk.trust.tells t)))) c.put_home.ensures.counts.grows;
     }
 
 pub returns-in-Ok-false-clause-mends : goal.returns-in-Ok-false-clause-mends
@@ -51,83 +49,58 @@ returns-in-Err-clause-mends g c = record {
   grows = tt;
 }
 
-pub returns-in-Ok-true-clause-any_moment : goal.returns-in-Ok-true-clause-any_moment
-returns-in-Ok-true-clause-any_moment g c windows choices first is h at =
-    let M = g.M.Machine in
-    let l = c.args.l.now in let log = c.args.log.now in let now = M.now c.args.m.now in let read = M.now c.image_of.new.m in
-    let h1 = c.put_home.ensures.disk.trust.honest h in
-    let given = slot_gives l windows choices log first is c.requires.layout c.args.page c.requires.page c.args.place 0 now at c.image_of.new.buf (wears_none now) (c.in-Ok-true.ensures.whole (λ i. Ok (c.in-Ok-true.field-0-test i)) h1) in
-    then_on M.moment M.left_since c.args.m.now c.image_of.new.m c.put_home.new.m (Stays l windows choices first)
-    (leaves_more M.moment M.left_since c.args.m.now c.image_of.new.m (Wears now) (Stays l windows choices first) (λ left wears. stays l windows choices log first is c.args.place 0 now at left wears) (c.image_of.ensures.reads.any_moment h1))
-    (c.put_home.ensures.any_moment windows choices log first is h (λ none. not_none _ _ given none) (still l windows choices log first is c.args.place 0 now at read (c.image_of.ensures.reads.worn h1)))
-
-pub returns-in-Ok-true-clause-done : goal.returns-in-Ok-true-clause-done
-returns-in-Ok-true-clause-done g c =
+pub returns-in-Ok-true-clause-goes_on : goal.returns-in-Ok-true-clause-goes_on
+returns-in-Ok-true-clause-goes_on g c windows choices first is h at =
     let M = g.M.Machine in
     let l = c.args.l.now in let log = c.args.log.now in let now = M.now c.args.m.now in let read = M.now c.image_of.new.m in let new = M.now c.put_home.new.m in
-    on_ok_weaker {P = (windows : List WeakRun) (choices : List (List (List ℕ))) (log : LogValue) (first : Moment) (is : IsCompleted l windows choices log first) → M.honest c.put_home.new.m →
-    last_image c.args.page (records_by l is.clean log.anchor) ≡ Some c.image_of.new.buf → IsMending l windows choices log first is c.args.place 0 read → IsMending l windows choices log first is (c.args.place + 1) 0 new} {Q = (windows : List WeakRun) (choices : List (List (List ℕ))) (first : Moment) (is : IsCompleted l windows choices log first) → M.honest c.put_home.new.m → IsMending l windows choices log first is c.args.place 0 now → IsMending l windows choices log first is (c.args.place + 1) 0 new} c.put_home.result
-    (λ done windows choices first is h at.
-    let h1 = c.put_home.ensures.disk.trust.honest h in
-    done windows choices log first is h
-    (slot_gives l windows choices log first is c.requires.layout c.args.page c.requires.page c.args.place 0 now at c.image_of.new.buf (wears_none now) (c.in-Ok-true.ensures.whole (λ i. Ok (c.in-Ok-true.field-0-test i)) h1))
-    (still l windows choices log first is c.args.place 0 now at read (c.image_of.ensures.reads.worn h1)))
-    c.put_home.ensures.done
+    let h1 = c.put_home.ensures.writes.disk.trust.honest h in
+    let given = slot_gives l windows choices log first is c.requires.layout c.args.page c.requires.page c.args.place 0 now at c.image_of.new.buf (wears_none now) (c.in-Ok-true.ensures.whole (λ i. Ok (c.in-Ok-true.field-0-test i)) h1) in
+    let put = c.put_home.ensures.goes_on windows choices log first is h (λ none. not_none _ _ given none) (still l windows choices log first is c.args.place 0 now at read (c.image_of.ensures.reads.worn h1)) in
+    record {
+      any_moment = then_on M.moment M.left_since c.args.m.now c.image_of.new.m c.put_home.new.m (StaysShown l windows choices first)
+          (leaves_more M.moment M.left_since c.args.m.now c.image_of.new.m (Wears now) (StaysShown l windows choices first) (λ left wears. stays l windows choices log first is c.args.place 0 now at left wears) (c.image_of.ensures.reads.any_moment h1))
+          put.any_moment;
+      done = on_ok_weaker {P = last_image c.args.page (records_by l is.clean log.anchor) ≡ Some c.image_of.new.buf → IsMending l windows choices log first is (c.args.place + 1) 0 new} {Q = IsMending l windows choices log first is (c.args.place + 1) 0 new} c.put_home.result
+          (λ done. done given) put.done;
+      never_lost = put.never_lost;
+    }
 
-pub returns-in-Ok-true-clause-never_lost : goal.returns-in-Ok-true-clause-never_lost
-returns-in-Ok-true-clause-never_lost g c =
-    let M = g.M.Machine in
-    IfErr-weaker c.put_home.result IsExcuse
-    (λ fault. (windows : List WeakRun) (choices : List (List (List ℕ))) (first : Moment) (is : IsCompleted c.args.l.now windows choices c.args.log.now first) → M.honest c.put_home.new.m → IsMending c.args.l.now windows choices c.args.log.now first is c.args.place 0 (M.now c.args.m.now) → IsExcuse fault)
-    (λ fault excuse windows choices first is h at. excuse) c.put_home.ensures.never_lost
-
-pub returns-in-Ok-false-clause-any_moment : goal.returns-in-Ok-false-clause-any_moment
-returns-in-Ok-false-clause-any_moment g c windows choices first is h at =
-    let M = g.M.Machine in
-    let l = c.args.l.now in let log = c.args.log.now in let now = M.now c.args.m.now in
-    leaves_more M.moment M.left_since c.args.m.now c.image_of.new.m (Wears now) (Stays l windows choices first) (λ left wears. stays l windows choices log first is c.args.place 0 now at left wears) (c.image_of.ensures.reads.any_moment h)
-
-pub returns-in-Ok-false-clause-done : goal.returns-in-Ok-false-clause-done
-returns-in-Ok-false-clause-done g c windows choices first is h at =
+pub returns-in-Ok-false-clause-goes_on : goal.returns-in-Ok-false-clause-goes_on
+returns-in-Ok-false-clause-goes_on g c windows choices first is h at =
     let M = g.M.Machine in
     let l = c.args.l.now in let log = c.args.log.now in let now = M.now c.args.m.now in let read = M.now c.image_of.new.m in
-    put_none l windows choices log first is c.args.place 0 read (still l windows choices log first is c.args.place 0 now at read (c.image_of.ensures.reads.worn h)) c.args.page c.requires.page c.args.place c.requires.home refl
-    (slot_none l windows choices log first is c.requires.layout c.args.page c.requires.page c.args.place 0 now at (c.in-Ok-false.ensures.lacks (λ i. Ok (c.in-Ok-false.field-0-test i))).nowhere)
+    record {
+      any_moment = leaves_more M.moment M.left_since c.args.m.now c.image_of.new.m (Wears now) (StaysShown l windows choices first) (λ left wears. stays l windows choices log first is c.args.place 0 now at left wears) (c.image_of.ensures.reads.any_moment h);
+      done = put_none l windows choices log first is c.args.place 0 read (still l windows choices log first is c.args.place 0 now at read (c.image_of.ensures.reads.worn h)) c.args.page c.requires.page c.args.place c.requires.home refl
+          (slot_none l windows choices log first is c.requires.layout c.args.page c.requires.page c.args.place 0 now at (c.in-Ok-false.ensures.lacks (λ i. Ok (c.in-Ok-false.field-0-test i))).nowhere);
+      never_lost = tt;
+    }
 
-pub returns-in-Err-clause-any_moment : goal.returns-in-Err-clause-any_moment
-returns-in-Err-clause-any_moment g c windows choices first is h at =
+pub returns-in-Err-clause-goes_on : goal.returns-in-Err-clause-goes_on
+returns-in-Err-clause-goes_on g c windows choices first is h at =
     let M = g.M.Machine in
     let l = c.args.l.now in let log = c.args.log.now in let now = M.now c.args.m.now in
-    leaves_more M.moment M.left_since c.args.m.now c.image_of.new.m (Wears now) (Stays l windows choices first) (λ left wears. stays l windows choices log first is c.args.place 0 now at left wears) (c.image_of.ensures.reads.any_moment h)
-
-pub returns-in-Err-clause-never_lost : goal.returns-in-Err-clause-never_lost
-returns-in-Err-clause-never_lost g c windows choices first is h at =
-    let M = g.M.Machine in
-    let l = c.args.l.now in let log = c.args.log.now in let now = M.now c.args.m.now in
-    subst IsExcuse (sym c.from.ensures) (load_excused c.in-Err.fault
-    (slot_not_lost l windows choices log first is c.requires.layout c.args.page c.requires.page c.args.place 0 now at (M.now c.image_of.new.m) (c.image_of.ensures.reads.worn h) c.in-Err.fault (c.in-Err.ensures.failed.lost h)))
+    record {
+      any_moment = leaves_more M.moment M.left_since c.args.m.now c.image_of.new.m (Wears now) (StaysShown l windows choices first) (λ left wears. stays l windows choices log first is c.args.place 0 now at left wears) (c.image_of.ensures.reads.any_moment h);
+      done = tt;
+      never_lost = subst IsExcuse (sym c.from.ensures) (load_excused c.in-Err.fault
+          (slot_not_lost l windows choices log first is c.requires.layout c.args.page c.requires.page c.args.place 0 now at (M.now c.image_of.new.m) (c.image_of.ensures.reads.worn h) c.in-Err.fault (c.in-Err.ensures.failed.lost h)));
+    }
 
 pub returns-in-Ok-true-clause-shown : goal.returns-in-Ok-true-clause-shown
-returns-in-Ok-true-clause-shown g c =
+returns-in-Ok-true-clause-shown g c records first h still given at =
     let M = g.M.Machine in
     let l = c.args.l.now in let log = c.args.log.now in let now = M.now c.args.m.now in let read = M.now c.image_of.new.m in let new = M.now c.put_home.new.m in
-    on_ok_weaker {P = (records : List Placed) (first : Image) → M.honest c.put_home.new.m → IsCalmNow read → last_image c.args.page records ≡ Some c.image_of.new.buf → IsShowing l records first c.args.place read.image → IsShowing l records first (c.args.place + 1) new.image} {Q = (records : List Placed) (first : Image) → M.honest c.put_home.new.m → IsCalmNow now → GivesPages log records first → IsShowing l records first c.args.place now.image → IsShowing l records first (c.args.place + 1) new.image} c.put_home.result
-    (λ done records first h still given at.
-    let h1 = c.put_home.ensures.disk.trust.honest h in
+    let h1 = c.put_home.ensures.writes.disk.trust.honest h in
     let worn = c.image_of.ensures.reads.worn h1 in
     let same = still_worn now now.image read.image still worn.image in
     let here = subst (IsShowing l records first c.args.place) (sym same) at in
     let logged = c.in-Ok-true.ensures.gives.given records h1 still given.indexed (given_on l log c.requires.layout records first now.image c.args.page at.front given) in
     let is : last_image c.args.page records ≡ Some c.image_of.new.buf = logged ∙ ap (λ (b : Bool). if b then Some c.image_of.new.buf else None) c.in-Ok-true.field-0-test in
-    done records first h (still_next now read worn.windows still) is here)
-    c.put_home.ensures.shown
-
-pub returns-in-Ok-true-clause-not_shown : goal.returns-in-Ok-true-clause-not_shown
-returns-in-Ok-true-clause-not_shown g c =
-    let M = g.M.Machine in
-    IfErr-weaker c.put_home.result IsExcuse
-    (λ fault. (records : List Placed) (first : Image) → M.honest c.put_home.new.m → IsCalmNow (M.now c.args.m.now) → GivesPages c.args.log.now records first → IsShowing c.args.l.now records first c.args.place (M.now c.args.m.now).image → LosesNone c.args.l.now records first fault)
-    (λ fault excuse records first h still given at. excuse_loses c.args.l.now records first fault excuse) c.put_home.ensures.never_lost
+    either_end ((records : List Placed) (first : Image) → M.honest c.put_home.new.m → IsCalmNow read → last_image c.args.page records ≡ Some c.image_of.new.buf → IsShowing l records first c.args.place read.image → IsShowing l records first (c.args.place + 1) new.image)
+    (IsShowing l records first (c.args.place + 1) new.image) IsExcuse (LosesNone l records first) c.put_home.result
+    (λ done. done records first h (still_next now read worn.windows still) is here) (λ fault excuse. excuse_loses l records first fault excuse)
+    c.put_home.ensures.shown c.put_home.ensures.writes.never_lost
 
 pub returns-in-Ok-false-clause-shown : goal.returns-in-Ok-false-clause-shown
 returns-in-Ok-false-clause-shown g c records first h still given at =
@@ -136,8 +109,8 @@ returns-in-Ok-false-clause-shown g c records first h still given at =
     let here = subst (IsShowing l records first c.args.place) (sym (still_worn now now.image read.image still (c.image_of.ensures.reads.worn h).image)) at in
     showing_skip l records first c.args.page c.requires.page c.args.place c.requires.home read.image here ((c.in-Ok-false.ensures.lacks (λ i. Ok (c.in-Ok-false.field-0-test i))).nowhere records given.indexed)
 
-pub returns-in-Err-clause-not_shown : goal.returns-in-Err-clause-not_shown
-returns-in-Err-clause-not_shown g c records first h still given at =
+pub returns-in-Err-clause-shown : goal.returns-in-Err-clause-shown
+returns-in-Err-clause-shown g c records first h still given at =
     let M = g.M.Machine in
     let l = c.args.l.now in let log = c.args.log.now in let now = M.now c.args.m.now in
     device_loses l records first c.in-Err.fault c.from.result c.from.ensures (c.in-Err.ensures.failed.none_lost records h still given.indexed (given_on l log c.requires.layout records first now.image c.args.page at.front given))
@@ -145,7 +118,7 @@ returns-in-Err-clause-not_shown g c records first h still given at =
 pub returns-in-Ok-true-clause-keeps : goal.returns-in-Ok-true-clause-keeps
 returns-in-Ok-true-clause-keeps g c h =
     let M = g.M.Machine in
-    but_then c.args.place c.args.place (M.now c.args.m.now) (M.now c.image_of.new.m) (M.now c.put_home.new.m) (c.image_of.ensures.reads.worn (c.put_home.ensures.disk.trust.honest h)) (c.put_home.ensures.keeps h)
+    but_then c.args.place c.args.place (M.now c.args.m.now) (M.now c.image_of.new.m) (M.now c.put_home.new.m) (c.image_of.ensures.reads.worn (c.put_home.ensures.writes.disk.trust.honest h)) (c.put_home.ensures.keeps h)
 
 pub returns-in-Ok-false-clause-keeps : goal.returns-in-Ok-false-clause-keeps
 returns-in-Ok-false-clause-keeps g c h = let M = g.M.Machine in but_read c.args.place c.args.place (M.now c.args.m.now) (M.now c.image_of.new.m) (c.image_of.ensures.reads.worn h)
@@ -158,7 +131,7 @@ returns-in-Ok-true-clause-homes g c =
     let M = g.M.Machine in
     let l = c.args.l.now in let log = c.args.log.now in let now = M.now c.args.m.now in let read = M.now c.image_of.new.m in let new = M.now c.put_home.new.m in
     on_ok_weaker {P = M.honest c.put_home.new.m → HasSome new c.args.place} {Q = M.honest c.put_home.new.m → AreHomed l log c.args.place 0 now → AreHomed l log (c.args.place + 1) 0 new} c.put_home.result
-    (λ some h at. homed_put l log c.args.place now new (but_then c.args.place c.args.place now read new (c.image_of.ensures.reads.worn (c.put_home.ensures.disk.trust.honest h)) (c.put_home.ensures.keeps h)) (some h) at)
+    (λ some h at. homed_put l log c.args.place now new (but_then c.args.place c.args.place now read new (c.image_of.ensures.reads.worn (c.put_home.ensures.writes.disk.trust.honest h)) (c.put_home.ensures.keeps h)) (some h) at)
     c.put_home.ensures.home
 
 pub returns-in-Ok-false-clause-homes : goal.returns-in-Ok-false-clause-homes
@@ -171,7 +144,7 @@ returns-in-Ok-false-clause-homes g c h at =
 pub returns-in-Ok-true-clause-most : goal.returns-in-Ok-true-clause-most
 returns-in-Ok-true-clause-most g c t =
     let has : LacksPage c.args.log.now c.args.page → ⊥ = λ lacks. absurd (cc (c.in-Ok-true.ensures.absent.1 lacks, c.in-Ok-true.field-0-test)) in
-    omega (arith, c.put_home.ensures.most t, ap (λ (x : Ledger). x.written) (c.image_of.ensures.reads.ledger (c.put_home.ensures.disk.trust.tells t)), count_has (slice_index_or c.args.log.now.slots c.args.page None) has)
+    omega (arith, c.put_home.ensures.counts.most t, ap (λ (x : Ledger). x.written) (c.image_of.ensures.reads.ledger (c.put_home.ensures.writes.disk.trust.tells t)), count_has (slice_index_or c.args.log.now.slots c.args.page None) has)
 
 pub returns-in-Ok-false-clause-most : goal.returns-in-Ok-false-clause-most
 returns-in-Ok-false-clause-most g c t = omega (arith, ap (λ (x : Ledger). x.written) (c.image_of.ensures.reads.ledger t))

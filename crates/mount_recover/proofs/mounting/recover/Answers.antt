@@ -9,7 +9,7 @@ use Rattle.log_thirds.specs.LogValue.{LogValue}
 use Rattle.fsd_sound.proofs.WritesLaws.{elsewhere}
 use Rattle.fsd_sound.specs.Lost.{AreCopiesOn}
 use Rattle.fsd_sound.specs.Sound.{IsSaid}
-use Rattle.mount_recover.specs.Mending.{Begins, IsCompleted, Stays}
+use Rattle.mount_recover.specs.Mending.{StaysOrSettles, IsCompleted, StaysShown}
 use Rattle.mount_recover.specs.Recover.{ShowsVolume}
 use Rattle.mount_recover.specs.Replay.{IsReplayed, IsUnturned, Replays, TurnsLast}
 use Rattle.std.specs.Prelude.{IfSome, IsSome}
@@ -69,7 +69,7 @@ module _ (g : given.Over) (c : After-mend g) (windows : List WeakRun) (choices :
       let seen = is_seen c.args.sectors found.layout windows choices old begin short one (c.find_volume.ensures.reads.worn h1) found.log (c.in_ok-layout.ensures.seen h1).is in
       (c.in_ok-complete.ensures.completes found.layout windows choices h2 begin.planned c.in_ok-layout.ensures.found.layout seen).done.is
 
-  stays : LeavesOnly g.M.Machine.moment g.M.Machine.left_since c.complete.new.m c.mend.new.m (Stays c.in_ok-layout.field-0.layout windows choices (g.M.Machine.now c.complete.new.m))
+  stays : LeavesOnly g.M.Machine.moment g.M.Machine.left_since c.complete.new.m c.mend.new.m (StaysShown c.in_ok-layout.field-0.layout windows choices (g.M.Machine.now c.complete.new.m))
   stays = (c.mend.ensures.goes_on windows choices is_completed h).any_moment
 
   to_mend : LeavesOnly g.M.Machine.moment g.M.Machine.left_since c.complete.new.m c.mend.new.m (Replays c.in_ok-layout.field-0.layout windows choices (g.M.Machine.now c.args.m.now))
@@ -82,7 +82,7 @@ module _ (g : given.Over) (c : After-mend g) (windows : List WeakRun) (choices :
       let is = (c.in_ok-layout.ensures.seen h1).is in
       let seen = is_seen c.args.sectors found.layout windows choices old begin short one wears found.log is in
       let done = (c.in_ok-complete.ensures.completes found.layout windows choices h2 begin.planned c.in_ok-layout.ensures.found.layout seen).done in
-      leaves_more M.moment M.left_since c.complete.new.m c.mend.new.m (Stays found.layout windows choices two) (Replays found.layout windows choices old) (λ left at. stays_replays c.args.sectors found.layout windows choices old begin short one wears found.log is two done left at) stays
+      leaves_more M.moment M.left_since c.complete.new.m c.mend.new.m (StaysShown found.layout windows choices two) (Replays found.layout windows choices old) (λ left at. stays_replays c.args.sectors found.layout windows choices old begin short one wears found.log is two done left at) stays
 
 module _ (g : given.Over) (c : After-begin_epoch g) (windows : List WeakRun) (choices : List (List (List ℕ))) (h : g.M.Machine.honest c.begin_epoch.new.m) (begin : ShowsVolume c.args.sectors c.in_ok-layout.field-0.layout windows choices (g.M.Machine.now c.args.m.now)) where
   to_begin : LeavesOnly g.M.Machine.moment g.M.Machine.left_since c.mend.new.m c.begin_epoch.new.m (Replays c.in_ok-layout.field-0.layout windows choices (g.M.Machine.now c.args.m.now))
@@ -95,12 +95,12 @@ module _ (g : given.Over) (c : After-begin_epoch g) (windows : List WeakRun) (ch
       let is = (c.in_ok-layout.ensures.seen h1).is in
       let seen = is_seen c.args.sectors found.layout windows choices old begin short one wears found.log is in
       let done = (c.in_ok-complete.ensures.completes found.layout windows choices h2 begin.planned c.in_ok-layout.ensures.found.layout seen).done in
-      leaves_more M.moment M.left_since c.mend.new.m c.begin_epoch.new.m (Begins found.layout windows choices two) (Replays found.layout windows choices old) (λ left at. begins_replays c.args.sectors found.layout windows choices old begin short one wears found.log is two done left at)
+      leaves_more M.moment M.left_since c.mend.new.m c.begin_epoch.new.m (StaysOrSettles found.layout windows choices two) (Replays found.layout windows choices old) (λ left at. begins_replays c.args.sectors found.layout windows choices old begin short one wears found.log is two done left at)
       ((c.begin_epoch.ensures.begins found.layout windows choices two done.is h begin.planned (c.in_ok-complete.ensures.names h2).named (c.in_ok-mend.ensures.goes_on windows choices done.is h3).done).any_moment)
 
 -- it turns its windows last
 turns_last : (g : given.Over) (c : After-begin_epoch g) (windows : List WeakRun) (choices : List (List (List ℕ))) → g.M.Machine.honest c.begin_epoch.new.m
-    → LeavesOnly g.M.Machine.moment g.M.Machine.left_since c.complete.new.m c.mend.new.m (Stays c.in_ok-layout.field-0.layout windows choices (g.M.Machine.now c.complete.new.m))
+    → LeavesOnly g.M.Machine.moment g.M.Machine.left_since c.complete.new.m c.mend.new.m (StaysShown c.in_ok-layout.field-0.layout windows choices (g.M.Machine.now c.complete.new.m))
     → LeavesOnly g.M.Machine.moment g.M.Machine.left_since c.args.m.now c.begin_epoch.new.m (TurnsLast (g.M.Machine.now c.args.m.now) (g.M.Machine.now c.begin_epoch.new.m))
 turns_last g c windows choices h stays =
     let M = g.M.Machine in
@@ -112,7 +112,7 @@ turns_last g c windows choices h stays =
     (then_on M.moment M.left_since c.args.m.now c.find_volume.new.m c.complete.new.m (TurnsLast old new)
     (leaves_more M.moment M.left_since c.args.m.now c.find_volume.new.m (Wears old) (TurnsLast old new) (λ left worn. worn_turns old one two three new wears present mended left worn) (c.find_volume.ensures.reads.any_moment h1))
     (leaves_more M.moment M.left_since c.find_volume.new.m c.complete.new.m (IsUnturned one) (TurnsLast old new) (λ left still. completing_turns old one two three new wears present mended left still) (c.complete.ensures.names h2).unturned))
-    (leaves_more M.moment M.left_since c.complete.new.m c.mend.new.m (Stays c.in_ok-layout.field-0.layout windows choices two) (TurnsLast old new) (λ left at. stays_turns old one two three new wears present mended c.in_ok-layout.field-0.layout windows choices left at) stays))
+    (leaves_more M.moment M.left_since c.complete.new.m c.mend.new.m (StaysShown c.in_ok-layout.field-0.layout windows choices two) (TurnsLast old new) (λ left at. stays_turns old one two three new wears present mended c.in_ok-layout.field-0.layout windows choices left at) stays))
     (leaves_more M.moment M.left_since c.mend.new.m c.begin_epoch.new.m (TurnsLast three new) (TurnsLast old new) (λ left at. beginning_turns old one two three new wears present mended left at) (c.begin_epoch.ensures.turns h).turns)
 
 -- ---- each way out
@@ -245,7 +245,7 @@ returns-in_err-mend g c =
             (then_on M.moment M.left_since c.args.m.now c.find_volume.new.m c.complete.new.m (TurnsLast old three)
             (leaves_more M.moment M.left_since c.args.m.now c.find_volume.new.m (Wears old) (TurnsLast old three) (λ left worn. worn_turns old one two three three wears present kept left worn) (reads.any_moment (one_on h)))
             (leaves_more M.moment M.left_since c.find_volume.new.m c.complete.new.m (IsUnturned one) (TurnsLast old three) (λ left still. completing_turns old one two three three wears present kept left still) (completed.names (two_on h)).unturned))
-            (leaves_more M.moment M.left_since c.complete.new.m c.mend.new.m (Stays found.layout windows choices two) (TurnsLast old three) (λ left at. stays_turns old one two three three wears present kept found.layout windows choices left at) (stays g at.After-mend windows choices h (begins g at.After-complete l windows choices (two_on h) start)));
+            (leaves_more M.moment M.left_since c.complete.new.m c.mend.new.m (StaysShown found.layout windows choices two) (TurnsLast old three) (λ left at. stays_turns old one two three three wears present kept found.layout windows choices left at) (stays g at.After-mend windows choices h (begins g at.After-complete l windows choices (two_on h) start)));
         ends = (failed.goes_on windows choices (is_completed g at.After-mend windows choices h (begins g at.After-complete l windows choices (two_on h) start)) h).never_lost;
       };
     })

@@ -3,7 +3,7 @@ use Rattle.std.proofs.lemmas.List.{take_all}
 use Rattle.run_table.specs.declared.run.Run.{Run}
 use Rattle.run_table.specs.RunTable.{sectors_of}
 use Rattle.sector_set.specs.Meet.{meets}
-use Rattle.shadow_frees.specs.Readers.{Agrees}
+use Rattle.shadow_frees.specs.Readers.{IsSameOrApart}
 use Rattle.shadow_frees.proofs.HeldLaws.{slot_at, are_equal, no_agreement, agree_more}
 use Rattle.shadow_frees.proofs.readers.agree.Goals.{in-Some+else-ne, else-ne-via-then-ne+else-overlap, else-ne-via-else-ne, in_default}
 use Rattle.shadow_frees.proofs.readers.agree.Goals as goal
@@ -13,7 +13,7 @@ returns-then-overlap c =
     let met = ap (λ (x : List Run). meets (sectors_of x) c.in-Some.other) (sym c.as_slice-then-ne.ensures.value) ∙ ap (meets (sectors_of c.as_slice-then-ne.result.now)) (sym c.as_slice.ensures.value) ∙ sym c.overlap.ensures ∙ c.if-overlap.true in (
       λ t. absurd cc,
       λ all. absurd (no_agreement c.in-Some.other c.args.runs.now c.ne.result c.ne.ensures c.if-ne.true met
-          (subst (Agrees c.args.runs.now) (sym c.slot-item.is ∙ c.in-Some.is) (all c.loop-slot.slot-index c.slot-item.result c.loop-slot-test.true))),
+          (subst (IsSameOrApart c.args.runs.now) (sym c.slot-item.is ∙ c.in-Some.is) (all c.loop-slot.slot-index c.slot-item.result c.loop-slot-test.true))),
     )
 
 pub loop-slot-preserved : goal.loop-slot-preserved
@@ -29,4 +29,4 @@ loop-slot-preserved c = elim c.match-slot.branch [
 ]
 
 pub returns : goal.returns
-returns c = (λ t. subst (All (Agrees c.args.runs.now)) (take_all c.loop-slot.slot-index c.args.held.now (omega arith)) c.loop-slot.invariant, λ all. refl)
+returns c = (λ t. subst (All (IsSameOrApart c.args.runs.now)) (take_all c.loop-slot.slot-index c.args.held.now (omega arith)) c.loop-slot.invariant, λ all. refl)

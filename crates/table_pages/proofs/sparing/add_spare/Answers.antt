@@ -2,8 +2,8 @@ use Rattle.std.proofs.Common.{◌≡◌, ℕ, ◌+◌, ◌-◌, List, Option, No
 use Rattle.std.proofs.lemmas.Result.{err_from_is_err_and}
 use Rattle.fsd_bytes.specs.declared.refusal.Refusal.{Refusal}
 use Rattle.name_page.specs.Pages.{outer_in, outer_refusal}
-use Rattle.page_cache.specs.Cache.{is_one_of}
-use Rattle.table_pages.specs.Bringing.{HasRoom}
+use Rattle.page_cache.specs.Cache.{is_among}
+use Rattle.table_pages.specs.Bringing.{HasRoomFor}
 use Rattle.table_pages.specs.Sparing.{SparesOnly}
 use Rattle.table_pages.proofs.SpareLaws.{room_same, room_pins, room_kept, spares_same, spares_more}
 use Rattle.table_pages.proofs.sparing.add_spare.Given as given
@@ -11,7 +11,7 @@ use Rattle.table_pages.proofs.sparing.add_spare.Goals as goal
 use Rattle.table_pages.proofs.sparing.add_spare.Goals.{After-bring}
 
 -- there is as much room as before
-room : (g : given.Over) (c : After-bring g) → HasRoom (16 - length c.args.spares.now.items) c.bring.new.cache
+room : (g : given.Over) (c : After-bring g) → HasRoomFor (16 - length c.args.spares.now.items) c.bring.new.cache
 room g c = room_same (16 - length c.args.spares.now.items) c.args.cache.now c.bring.new.cache c.bring.ensures.fetches.fills.frames c.bring.ensures.pins c.requires.room
 
 pub returns-in_err-bring-clause-only : goal.returns-in_err-bring-clause-only
@@ -37,7 +37,7 @@ returns-clause-only g c =
     let found = rw c.unwrap-page.ensures at c.spare_beside.ensures.found in
     subst (λ (spares : List ℕ). SparesOnly g.M.Machine g.S.PageSource c.args.source.now c.args.free.now None c.args.m.now c.bring.new.m c.args.cache.now c.keep.new.cache c.args.spares.now.items spares) (sym c.keep.ensures.noted)
     (spares_more g.M.Machine g.S.PageSource c.args.source.now c.args.free.now None c.args.m.now c.bring.new.m c.args.cache.now c.bring.new.cache c.keep.new.cache c.args.spares.now.items page
-    c.in_ok-bring.ensures.fetches c.bring.ensures.pins c.keep.ensures.pinned c.in_ok-bring.ensures.there c.requires.spares found.0 (subst (λ (spares : List ℕ). is_one_of spares page ≡ false) c.as_slice.ensures.value found.1))
+    c.in_ok-bring.ensures.fetches c.bring.ensures.pins c.keep.ensures.pinned c.in_ok-bring.ensures.there c.requires.spares found.0 (subst (λ (spares : List ℕ). is_among spares page ≡ false) c.as_slice.ensures.value found.1))
 
 pub returns-clause-room : goal.returns-clause-room
 returns-clause-room g c =
@@ -46,4 +46,4 @@ returns-clause-room g c =
     let few = c.requires.few in
     let more : 16 - n ≡ (16 - length c.keep.new.list.items) + 1 = omega (arith, long, few) in
     room_kept (16 - length c.keep.new.list.items) c.bring.new.cache c.keep.new.cache c.unwrap-page.result c.keep.ensures.pinned c.in_ok-bring.ensures.there
-    (subst (λ (k : ℕ). HasRoom k c.bring.new.cache) more (room g (goal.at.returns-clause-room g c).After-bring))
+    (subst (λ (k : ℕ). HasRoomFor k c.bring.new.cache) more (room g (goal.at.returns-clause-room g c).After-bring))

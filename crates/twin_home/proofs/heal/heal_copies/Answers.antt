@@ -30,8 +30,8 @@ returns-in-Some-None g c =
           (λ h left part.
           let whole = reads_whole old mid a c.in_ok-read_both.field-0.0 bytes c.in-Some-None.is-0 (both.read (trust.honest h)).first in
           inr (inr (mends old mid (both.reads.worn (trust.honest h)) b a bytes set.long whole left part)));
-      most = λ t. omega (arith, set.most t, ap (λ (x : Ledger). x.written) (both.reads.ledger (trust.tells t)));
-      healed = one_healed (M.tells c.set_copy.new.m → M.ledger c.set_copy.new.m ≡ wrote (M.ledger c.read_both.new.m) 1) _ (HealsOne M a b c.args.m.now c.set_copy.new.m) c.set_copy.result set.one set.counted set.done
+      most = λ t. omega (arith, set.counts.most t, ap (λ (x : Ledger). x.written) (both.reads.ledger (trust.tells t)));
+      healed = one_healed (M.tells c.set_copy.new.m → M.ledger c.set_copy.new.m ≡ wrote (M.ledger c.read_both.new.m) 1) _ (HealsOne M a b c.args.m.now c.set_copy.new.m) c.set_copy.result set.one set.counts.counted set.done
           (λ count one counted done. record {
             few = omega (arith, one);
             counted = λ t. counted t ∙ λ i. wrote (both.reads.ledger (trust.tells t) i) (sym one i);
@@ -57,8 +57,8 @@ returns-in-None-Some g c =
           (λ h left part.
           let whole = reads_whole old mid b c.in_ok-read_both.field-0.1 bytes c.in-None-Some.is-1 (both.read (trust.honest h)).second in
           inr (inl (mends old mid (both.reads.worn (trust.honest h)) a b bytes set.long whole left part)));
-      most = λ t. omega (arith, set.most t, ap (λ (x : Ledger). x.written) (both.reads.ledger (trust.tells t)));
-      healed = one_healed (M.tells c.set_copy-in-None-Some.new.m → M.ledger c.set_copy-in-None-Some.new.m ≡ wrote (M.ledger c.read_both.new.m) 1) _ (HealsOne M a b c.args.m.now c.set_copy-in-None-Some.new.m) c.set_copy-in-None-Some.result set.one set.counted set.done
+      most = λ t. omega (arith, set.counts.most t, ap (λ (x : Ledger). x.written) (both.reads.ledger (trust.tells t)));
+      healed = one_healed (M.tells c.set_copy-in-None-Some.new.m → M.ledger c.set_copy-in-None-Some.new.m ≡ wrote (M.ledger c.read_both.new.m) 1) _ (HealsOne M a b c.args.m.now c.set_copy-in-None-Some.new.m) c.set_copy-in-None-Some.result set.one set.counts.counted set.done
           (λ count one counted done. record {
             few = omega (arith, one);
             counted = λ t. counted t ∙ λ i. wrote (both.reads.ledger (trust.tells t) i) (sym one i);

@@ -4,7 +4,7 @@ use Rattle.sector_disk.specs.Machine.{Ledger}
 use Rattle.std.specs.Prelude.{is_none}
 use Rattle.sector_disk.proofs.CallLaws.{reads_as_writes, reads_then_writes}
 use Rattle.volume_layout.specs.Root.{root_bytes}
-use Rattle.twin_home.specs.Heal.{AreCopies, HealsRoots, SetsRoots}
+use Rattle.twin_home.specs.Heal.{AreThese, HealsRoots, SetsRoots}
 use Rattle.twin_home.proofs.HealLaws.{both_healed, device_copies, device_lost, roots_on, roots_still}
 use Rattle.twin_home.proofs.heal.heal_root.Goals.{else-is_none-via-then-is_none+else-is_none-2, else-is_none-via-else-is_none}
 use Rattle.twin_home.proofs.heal.heal_root.Goals as goal
@@ -31,7 +31,7 @@ returns-clause-counted g c =
     IfOk-weaker c.set_roots.result _ _ (λ count counted t. counted t ∙ ap (λ (x : Ledger). x.written + count) (reads.ledger (c.set_roots.ensures.writes.trust.tells t))) c.set_roots.ensures.counted
 
 pub returns-clause-lost : goal.returns-clause-lost
-returns-clause-lost g c = let M = g.M.Machine in device_lost (M.honest c.set_roots.new.m) (AreCopies 0 4) (M.now c.set_roots.new.m).image c.set_roots.result c.set_roots.ensures.device
+returns-clause-lost g c = let M = g.M.Machine in device_lost (M.honest c.set_roots.new.m) (AreThese 0 4) (M.now c.set_roots.new.m).image c.set_roots.result c.set_roots.ensures.device
 
 pub returns-clause-writes : goal.returns-clause-writes
 returns-clause-writes g c =

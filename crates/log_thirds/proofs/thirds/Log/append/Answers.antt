@@ -10,7 +10,7 @@ use Rattle.fsd_log.specs.Scan.{IsIn, IsEnd, Placed, spot_for, place_of}
 use Rattle.log_thirds.specs.LogValue.{FitsLayout, LogValue}
 use Rattle.std.proofs.lemmas.Result.{err_from_is_err_and}
 use Rattle.log_thirds.specs.Append.{AppendsWorn, StandsInPart, IsLogWorn, stamp_now, next_record, log_with, IsIndexed}
-use Rattle.log_thirds.specs.Slots.{noted, LieInRecords, SlotsInside}
+use Rattle.log_thirds.specs.Slots.{noted_slots, LieInRecords, SlotsInside}
 use Rattle.log_thirds.specs.Firsts.{firsts_with, AreNumbers}
 use Rattle.log_thirds.proofs.FirstsLaws.{firsts_more, numbers_more}
 use Rattle.log_thirds.proofs.SlotLaws.{length-noted, slots_more, record_inside, record_lies}
@@ -92,14 +92,14 @@ module _ {D : Type 0} (M : Ghosts D) (old new : D) (pages images : List ℕ) whe
         leaves_more M.moment M.left_since old new _ _ (λ left part. worn_appends log pages images (length (M.now old).image) (may (writes.trust.honest h)) (M.now old) refl records is_log left part) (writes.any_moment h)
 
 -- the table of slots has the record's
-slots_noted : (g : given.Over) (c : After-note g) → (with_items c.self.inside.slots c.note.new.slots).items ≡ noted c.self.inside.number (c.place-place.result + 3 + (gap_of c.self.inside.layout)) (c.place-place.result + 3 + (gap_of c.self.inside.layout) + length c.args.pages.now + 1 + (gap_of c.self.inside.layout)) c.args.pages.now c.self.inside.slots.items
+slots_noted : (g : given.Over) (c : After-note g) → (with_items c.self.inside.slots c.note.new.slots).items ≡ noted_slots c.self.inside.number (c.place-place.result + 3 + (gap_of c.self.inside.layout)) (c.place-place.result + 3 + (gap_of c.self.inside.layout) + length c.args.pages.now + 1 + (gap_of c.self.inside.layout)) c.args.pages.now c.self.inside.slots.items
 slots_noted g c =
     let held = c.as_mut_slice-2.ensures in
     let number : ℕ = c.self.inside.number in
     let place : ℕ = c.place-place.result + 3 + (gap_of c.self.inside.layout) in
     let copy : ℕ = place + length c.args.pages.now + 1 + (gap_of c.self.inside.layout) in
     let long : length c.note.new.slots ≡ length c.as_mut_slice-2.result.now = ap length c.note.ensures ∙ length-noted number c.as_mut_slice-2.result.now place copy c.args.pages.now in
-    with_items_is c.self.inside.slots c.note.new.slots (long ∙ held.len) ∙ c.note.ensures ∙ ap (noted number place copy c.args.pages.now) held.value
+    with_items_is c.self.inside.slots c.note.new.slots (long ∙ held.len) ∙ c.note.ensures ∙ ap (noted_slots number place copy c.args.pages.now) held.value
 
 pub write_record-requires-clause-in_range : goal.write_record-requires-clause-in_range
 write_record-requires-clause-in_range g c =
@@ -148,7 +148,7 @@ returns g c =
     λ h. subst (λ (at : ℕ × (Stamp × ℕ)). Holds old (stand old.image at.0 (laid_bytes at.1.1 at.1.0 pages c.args.images.now) (record_len at.1.1 (length pages))) new) (written_at g p) (wrote.done h) in
     let number : c.self.inside.number ≡ log.head.number = ap (λ (x : LogValue). x.head.number) c.self.view_is in
     let slots : (with_items c.self.inside.slots c.note.new.slots).items ≡ (log_with log pages).slots =
-    slots_noted g (goal.at.returns g c).After-note ∙ λ i. noted (number i) (place i + 3 + gap_of (c.self.view_is i).layout) (place i + 3 + gap_of (c.self.view_is i).layout + length pages + 1 + gap_of (c.self.view_is i).layout) pages (c.self.view_is i).slots in
+    slots_noted g (goal.at.returns g c).After-note ∙ λ i. noted_slots (number i) (place i + 3 + gap_of (c.self.view_is i).layout) (place i + 3 + gap_of (c.self.view_is i).layout + length pages + 1 + gap_of (c.self.view_is i).layout) pages (c.self.view_is i).slots in
     let sectors : c.record_sectors.result ≡ record_len (gap_of log.layout) (length pages) = c.record_sectors.ensures ∙ ap (λ (gap : ℕ). record_len gap (length pages)) (gap_is g p) in
     let firsts : c.with-self-inside.result ≡ firsts_with log.layout.third (spot_for log.layout (length pages) log.head).at log.firsts =
     c.with-self-inside.ensures ∙ λ i. firsts_with ((c.third.ensures.value ∙ ap (λ (x : LogValue). x.layout.third) c.self.view_is) i) (c.spot-at.ensures.at i) (c.self.view_is i).firsts in
@@ -200,11 +200,11 @@ invariant_of-self-2 g c =
           (record { before = omega (arith, spot.1.to, at, end, sectors); from = omega (arith, spot.1.from, at, end, sectors); ends = subst (IsEnd log.layout) (sym end) spot.1.ends });
       table = ap length noted_in ∙ length-noted c.self.inside.number c.self.inside.slots.items (c.place-place.result + 3 + (gap_of c.self.inside.layout)) (c.place-place.result + 3 + (gap_of c.self.inside.layout) + length c.args.pages.now + 1 + (gap_of c.self.inside.layout)) c.args.pages.now ∙ was.table;
       on_disk = subst (SlotsInside c.self.inside.layout.sectors) (sym noted_in)
-          (subst (λ (x : LogValue). SlotsInside x.layout.sectors (noted c.self.inside.number (c.place-place.result + 3 + gap_of x.layout) (c.place-place.result + 3 + gap_of x.layout + length c.args.pages.now + 1 + gap_of x.layout) c.args.pages.now c.self.inside.slots.items)) (sym c.self.view_is)
+          (subst (λ (x : LogValue). SlotsInside x.layout.sectors (noted_slots c.self.inside.number (c.place-place.result + 3 + gap_of x.layout) (c.place-place.result + 3 + gap_of x.layout + length c.args.pages.now + 1 + gap_of x.layout) c.args.pages.now c.self.inside.slots.items)) (sym c.self.view_is)
           (record_inside log.layout log.anchor.third c.self.inside.number (spot_for log.layout (length c.args.pages.now) log.head).at (spot_for log.layout (length c.args.pages.now) log.head).end c.place-place.result c.args.pages.now c.self.inside.slots.items
           within (inside g p) (place_is g p) on_disk));
       in_records = subst (LieInRecords c.self.inside.layout) (sym noted_in)
-          (subst (λ (x : LogValue). LieInRecords x.layout (noted c.self.inside.number (c.place-place.result + 3 + gap_of x.layout) (c.place-place.result + 3 + gap_of x.layout + length c.args.pages.now + 1 + gap_of x.layout) c.args.pages.now c.self.inside.slots.items)) (sym c.self.view_is)
+          (subst (λ (x : LogValue). LieInRecords x.layout (noted_slots c.self.inside.number (c.place-place.result + 3 + gap_of x.layout) (c.place-place.result + 3 + gap_of x.layout + length c.args.pages.now + 1 + gap_of x.layout) c.args.pages.now c.self.inside.slots.items)) (sym c.self.view_is)
           (record_lies log.layout log.anchor.third c.self.inside.number (spot_for log.layout (length c.args.pages.now) log.head).at (spot_for log.layout (length c.args.pages.now) log.head).end c.place-place.result c.args.pages.now c.self.inside.slots.items
           within (place_is g p) in_records));
       copied = was.copied;

@@ -13,7 +13,7 @@ use Rattle.log_thirds.specs.Append.{IsCalmNow, IsIndexed, scan_of}
 use Rattle.log_thirds.specs.Disk.{reads}
 use Rattle.log_thirds.specs.LogValue.{LogValue}
 use Rattle.log_thirds.specs.Slots.{LieInRecords}
-use Rattle.log_thirds.specs.Images.{AreLogged, GivesLast, GivesSlot, LiesAt, SeesSlot, StandsAt}
+use Rattle.log_thirds.specs.Images.{AreLogged, GivesLast, GivesSlot, LiesAt, SeesSlot, StandsInSlot}
 use Rattle.log_thirds.proofs.ImageLaws.{image_there, image_nowhere, slot_seen, stands_there}
 use Rattle.log_thirds.proofs.thirds.Log.image_of.Given as given
 use Rattle.log_thirds.proofs.thirds.Log.image_of.Goals.{After-index}
@@ -89,7 +89,7 @@ returns-in-Ok-Some g c =
     record {
       reads = read.reads;
       absent = (λ same. absurd (there_nowhere same), λ none. absurd (some_there g p slot is none));
-      whole = λ there h. subst (λ (o : Option Slot). StandsAt o (g.M.Machine.now c.args.m.now).image c.in-Ok-Some.image) (sym (at_page g p slot is)) (stands_there (g.M.Machine.now c.args.m.now) slot c.args.page c.args.self.now.anchor.epoch c.in-Ok-Some.image (sees h));
+      whole = λ there h. subst (λ (o : Option Slot). StandsInSlot o (g.M.Machine.now c.args.m.now).image c.in-Ok-Some.image) (sym (at_page g p slot is)) (stands_there (g.M.Machine.now c.args.m.now) slot c.args.page c.args.self.now.anchor.epoch c.in-Ok-Some.image (sees h));
       gives = record {
         image = λ records h calm are same. given_is g p slot is records are calm _ (sees h) (by_scan g p slot is records are same);
         given = λ records h calm are gives. given_is g p slot is records are calm _ (sees h) (by_sectors g p slot is records are gives);

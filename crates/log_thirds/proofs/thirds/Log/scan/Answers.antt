@@ -1,26 +1,11 @@
-use Rattle.std.proofs.Common.{◌≡◌, Option, Some, Result, Err, subst, ap, rules, sym, ◌∙◌}
+use Rattle.std.proofs.Common.{Option, Some, subst, ap, rules, sym, ◌∙◌}
 use Rattle.fsd_formats.specs.declared.anchor.Anchor.{Anchor}
-use Rattle.sector_disk.proofs.CallLaws.{reads_then, reads_told}
+use Rattle.sector_disk.proofs.CallLaws.{reads_then}
 use Rattle.sector_disk.specs.Image.{Windows, IsWorn, open_damage}
-use Rattle.log_thirds.specs.Reading.{SeesAnchor, log_fault_of}
+use Rattle.log_thirds.specs.Reading.{SeesAnchor}
 use Rattle.log_thirds.specs.Seen.{AnchorsOn, ScansOn}
-use Rattle.log_thirds.specs.declared.fault.LogFault.{LogFault}
-use Rattle.log_thirds.specs.declared.fault.LogFault.TheVariants.{NoAnchor, WornOut}
-use Rattle.log_thirds.specs.declared.reading.ReadFault.{ReadFault}
-use Rattle.log_thirds.specs.declared.reading.ReadFault.TheVariants.{Device, Memory}
 use Rattle.log_thirds.proofs.SeeOneLaws.{log_seen}
 use Rattle.log_thirds.proofs.thirds.Log.scan.Goals as goal
-
--- a fault of reading says neither that no anchor stands nor that no epoch is left
-read_fault : {T P : Type 0} (fault : ReadFault) (told : LogFault) → told ≡ log_fault_of fault → (◌≡◌ {A = Result T LogFault} (Err told) (Err NoAnchor) → P) × (◌≡◌ {A = Result T LogFault} (Err told) (Err WornOut) → P)
-read_fault (Device place) told is = (λ same. absurd cc, λ same. absurd cc)
-read_fault Memory told is = (λ same. absurd cc, λ same. absurd cc)
-
-pub returns-in-Err-clause-no_anchor : goal.returns-in-Err-clause-no_anchor
-returns-in-Err-clause-no_anchor g c same h = (read_fault c.in-Err.fault c.log_fault.result c.log_fault.ensures.value).0 same
-
-pub returns-in-Err-clause-worn_out : goal.returns-in-Err-clause-worn_out
-returns-in-Err-clause-worn_out g c same h = (read_fault c.in-Err.fault c.log_fault.result c.log_fault.ensures.value).1 same
 
 pub returns-in-Ok-clause-reads : goal.returns-in-Ok-clause-reads
 returns-in-Ok-clause-reads g c = reads_then c.in-Ok-Some.ensures.reads c.in-Ok.ensures.reads
@@ -45,10 +30,4 @@ returns-in-Ok-clause-found g c =
     }
 
 pub returns-in-Err-scan_by-clause-reads : goal.returns-in-Err-scan_by-clause-reads
-returns-in-Err-scan_by-clause-reads g c = reads_told c.log_fault-in-Err-scan_by.ensures.place (reads_then c.in-Ok-Some.ensures.reads c.in-Err-scan_by.ensures.reads)
-
-pub returns-in-Err-scan_by-clause-no_anchor : goal.returns-in-Err-scan_by-clause-no_anchor
-returns-in-Err-scan_by-clause-no_anchor g c same h = (read_fault c.in-Err-scan_by.fault c.log_fault-in-Err-scan_by.result c.log_fault-in-Err-scan_by.ensures.value).0 same
-
-pub returns-in-Err-scan_by-clause-worn_out : goal.returns-in-Err-scan_by-clause-worn_out
-returns-in-Err-scan_by-clause-worn_out g c same h = (read_fault c.in-Err-scan_by.fault c.log_fault-in-Err-scan_by.result c.log_fault-in-Err-scan_by.ensures.value).1 same
+returns-in-Err-scan_by-clause-reads g c = reads_then c.in-Ok-Some.ensures.reads c.in-Err-scan_by.ensures.reads

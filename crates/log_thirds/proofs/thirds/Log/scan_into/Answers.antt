@@ -3,11 +3,11 @@ use Rattle.std.specs.Prelude.{option_map, IfSome, IfNone, replicate}
 use Rattle.std.proofs.lemmas.List.{length-replicate, with_items_is}
 use Rattle.std.specs.Vec.{with_items}
 use Rattle.sector_disk.proofs.CallLaws.{reads_none, reads_then}
-use Rattle.log_thirds.specs.declared.find.Step.{Step}
+use Rattle.log_thirds.specs.declared.find.ScanStep.{ScanStep}
 use Rattle.log_thirds.specs.declared.slots.Slot.{Slot}
 use Rattle.fsd_log.specs.Scan.{Head, tape, scan, next, last_number}
 use Rattle.log_thirds.specs.Disk.{reads}
-use Rattle.log_thirds.specs.Slots.{noted, slots_with, LieInRecords, SlotsInside}
+use Rattle.log_thirds.specs.Slots.{noted_slots, slots_with, LieInRecords, SlotsInside}
 use Rattle.log_thirds.specs.Reading.{StepsOn, stepped_in, stepped_of}
 use Rattle.volume_layout.proofs.RootLaws.{planned_bounds}
 use Rattle.volume_layout.specs.Kinds.{gap_of}
@@ -52,10 +52,10 @@ loop-from-init g c =
 -- ---- a step to a record that was found
 
 stepped : (g : given.Over) (c : After-place_of-place g) → StepsOn c.args.layout.now c.loop-from.at c.in-Ok-Some.field-0-0
-stepped g c = subst (λ (o : Option Step). IfSome o (StepsOn c.args.layout.now c.loop-from.at)) c.in-Ok-Some.field-0-is c.in-Ok-Some.ensures.goes
+stepped g c = subst (λ (o : Option ScanStep). IfSome o (StepsOn c.args.layout.now c.loop-from.at)) c.in-Ok-Some.field-0-is c.in-Ok-Some.ensures.goes
 
 numbered : (g : given.Over) (c : After-place_of-place g) → c.loop-from.number < last_number
-numbered g c = subst (λ (o : Option Step). IfSome o (λ _. c.loop-from.number < last_number)) c.in-Ok-Some.field-0-is c.in-Ok-Some.ensures.numbered
+numbered g c = subst (λ (o : Option ScanStep). IfSome o (λ _. c.loop-from.number < last_number)) c.in-Ok-Some.field-0-is c.in-Ok-Some.ensures.numbered
 
 lies : (g : given.Over) (c : After-place_of-place g) → InThird c.args.layout.now c.args.anchor.now.third c.in-Ok-Some.field-0-0.from (2 * length c.in-Ok-Some.field-0-0.found.pages.items + (5 + 2 * (gap_of c.args.layout.now))) c.in-Ok-Some.field-0-0.past.end
 lies g c = let gone = stepped g c in record { one_of = c.requires.third; ends = gone.goes.ends; from = gone.in_third; to = omega (arith, gone.lies, gone.goes.before) }
@@ -68,7 +68,7 @@ placed g c =
 
 pub place_of-place-requires-clause-at : goal.place_of-place-requires-clause-at
 place_of-place-requires-clause-at g c =
-    let gone = subst (λ (o : Option Step). IfSome o (StepsOn c.args.layout.now c.loop-from.at)) c.in-Ok-Some.field-0-is c.in-Ok-Some.ensures.goes in
+    let gone = subst (λ (o : Option ScanStep). IfSome o (StepsOn c.args.layout.now c.loop-from.at)) c.in-Ok-Some.field-0-is c.in-Ok-Some.ensures.goes in
     omega (arith, gone.lies, gone.goes.before, end_most c.args.layout.now c.in-Ok-Some.field-0-0.past.end gone.goes.ends)
 
 pub copies_place-copies_at-requires : goal.copies_place-copies_at-requires
@@ -100,12 +100,12 @@ loop-from-preserved g c =
     let gone = stepped g p in
     let in_third : InThird c.args.layout.now c.args.anchor.now.third c.in-Ok-Some.field-0-0.from (2 * length c.as_slice-pages.result.now + (5 + 2 * (gap_of c.args.layout.now))) c.in-Ok-Some.field-0-0.past.end =
     subst (λ (pages : List ℕ). InThird c.args.layout.now c.args.anchor.now.third c.in-Ok-Some.field-0-0.from (2 * length pages + (5 + 2 * (gap_of c.args.layout.now))) c.in-Ok-Some.field-0-0.past.end) (sym c.as_slice-pages.ensures.value) (lies g p) in
-    let copied = subst (λ (o : Option Step). IfSome o (λ s. AreCopies (record { epoch = c.args.anchor.now.epoch; number = c.loop-from.number }) (length s.found.pages.items) c.next.new.scratch.copies.items)) c.in-Ok-Some.field-0-is c.in-Ok-Some.ensures.copied in
+    let copied = subst (λ (o : Option ScanStep). IfSome o (λ s. AreCopies (record { epoch = c.args.anchor.now.epoch; number = c.loop-from.number }) (length s.found.pages.items) c.next.new.scratch.copies.items)) c.in-Ok-Some.field-0-is c.in-Ok-Some.ensures.copied in
     let long : length c.note.new.slots ≡ length c.as_mut_slice.result.now =
     ap length c.note.ensures ∙ length-noted c.loop-from.number c.as_mut_slice.result.now (c.place_of-place.result + 3 + (gap_of c.args.layout.now)) (c.place_of-place.result + 3 + (gap_of c.args.layout.now) + length c.as_slice-pages.result.now + 1 + (gap_of c.args.layout.now)) c.as_slice-pages.result.now in
     let kept : (with_items c.loop-from.slots c.note.new.slots).items ≡ c.note.new.slots = with_items_is c.loop-from.slots c.note.new.slots (long ∙ c.as_mut_slice.ensures.len) in
     let table : c.note.new.slots ≡ slots_with c.args.layout.now c.args.anchor.now.third c.loop-from.number c.in-Ok-Some.field-0-0.from c.in-Ok-Some.field-0-0.found.pages.items c.loop-from.slots.items =
-    c.note.ensures ∙ λ i. noted c.loop-from.number (c.place_of-place.ensures i + 3 + (gap_of c.args.layout.now)) (c.place_of-place.ensures i + 3 + (gap_of c.args.layout.now) + length (c.as_slice-pages.ensures.value i) + 1 + (gap_of c.args.layout.now)) (c.as_slice-pages.ensures.value i) (c.as_mut_slice.ensures.value i) in
+    c.note.ensures ∙ λ i. noted_slots c.loop-from.number (c.place_of-place.ensures i + 3 + (gap_of c.args.layout.now)) (c.place_of-place.ensures i + 3 + (gap_of c.args.layout.now) + length (c.as_slice-pages.ensures.value i) + 1 + (gap_of c.args.layout.now)) (c.as_slice-pages.ensures.value i) (c.as_mut_slice.ensures.value i) in
     let firsts = c.with-firsts.ensures ∙ ap (λ (t : ℕ). firsts_with t c.in-Ok-Some.field-0-0.from c.loop-from.firsts) c.third-third.ensures.value in
     record {
       is_in = record { before = gone.goes.before; from = gone.goes.after; ends = gone.goes.ends };
@@ -150,7 +150,7 @@ loop-from-preserved g c =
 pub invariant_of-result : goal.invariant_of-result
 invariant_of-result g c =
     let so_far = c.loop-from.invariant in
-    let kept = subst (λ (o : Option Step). IfNone o (c.next.new.scratch.copies ≡ c.loop-from.scratch.copies)) c.in-Ok-None.field-0-is c.in-Ok-None.ensures.kept in
+    let kept = subst (λ (o : Option ScanStep). IfNone o (c.next.new.scratch.copies ≡ c.loop-from.scratch.copies)) c.in-Ok-None.field-0-is c.in-Ok-None.ensures.kept in
     let same : c.loop-from.scratch.copies.items ≡ c.next.new.scratch.copies.items = λ i. (sym kept i).items in
     record {
       least = omega (arith, c.third-third.ensures.least, c.third-third.ensures.value);
@@ -191,7 +191,7 @@ returns-in-Ok-None-clause-seen g c j h jw =
     (reaches_keeps c.args.layout.now c.args.anchor.now.epoch c.args.anchor.now.first c.args.anchor.now.third (omega (arith, c.fits-anchor.0.1)) (tape c.args.layout.now c.args.anchor.now.third (reads i)) (tape c.args.layout.now c.args.anchor.now.third (reads k)) (record { number = c.loop-from.number; at = c.loop-from.at; end = c.loop-from.end }) c.loop-from.firsts c.loop-from.slots.items (record { place = c.loop-from.copies_at; bytes = c.loop-from.scratch.copies.items }) (omega (arith, c.loop-from.auto.number-fits))
     (tape_worn c.args.layout.now c.args.anchor.now.third (open_damage (M.now c.args.m.now).windows) i k worn) below before)
     (ap (option_map (stepped_in c.loop-from.number c.next.new.scratch.copies.items)) (sym c.in-Ok-None.field-0-is) ∙ step)) in
-    let kept = subst (λ (o : Option Step). IfNone o (c.next.new.scratch.copies ≡ c.loop-from.scratch.copies)) c.in-Ok-None.field-0-is c.in-Ok-None.ensures.kept in
+    let kept = subst (λ (o : Option ScanStep). IfNone o (c.next.new.scratch.copies ≡ c.loop-from.scratch.copies)) c.in-Ok-None.field-0-is c.in-Ok-None.ensures.kept in
     let same_copies : c.loop-from.scratch.copies.items ≡ c.next.new.scratch.copies.items = λ i. (sym kept i).items in
     let last = subst (λ (b : List ℕ). AreLastCopies c.args.layout.now c.args.anchor.now.epoch c.args.anchor.now.third (scan c.args.layout.now c.args.anchor.now.epoch (tape c.args.layout.now c.args.anchor.now.third (reads ends.image)) c.args.anchor.now.first).records (record { place = c.loop-from.copies_at; bytes = b })) same_copies ends.is.last in
     record { image = ends.image; from = ends.from; to = ends.to; front = ends.front; scanned = record { head = ends.is.head; indexed = record { slots = ends.is.are; firsts = ends.is.firsts }; last = last } }

@@ -1,25 +1,19 @@
 use Rattle.std.proofs.Common.{◌≡◌, ◌∙◌, Option, List, ℕ, Some, refl, ap, sym, subst}
 use Rattle.std.specs.Prelude.{IfSome}
 use Rattle.std.proofs.lemmas.Result.{err_from_is_err_and}
-use Rattle.sector_disk.specs.Calls.{OnlyReads}
-use Rattle.page_cache.specs.Cache.{CacheValue, bytes_of}
-use Rattle.page_cache.proofs.FetchLaws.{entered_bytes, load_lost, load_not_lost, load_place}
+use Rattle.page_cache.specs.Cache.{CacheValue, cached_bytes}
+use Rattle.page_cache.proofs.FetchLaws.{entered_bytes}
 use Rattle.page_cache.proofs.cache.Cache.bring.Goals as goal
 
 pub returns-in_err-load : goal.returns-in_err-load
 returns-in_err-load g c =
-    let fault = c.in_err-load.field-0.0 in
     let failed = c.in_err-load.ensures in
     let p = err_from_is_err_and c.from_residual.result c.from_residual.ensures.1 in
     rw (p.1, p.2) (record {
       enters = tt;
       newest = tt;
-      reads = subst (λ (place : Option ℕ). OnlyReads g.M.Machine place c.args.m.now c.load.new.m) (sym (load_place fault)) failed.reads;
-      failed = record {
-        kept = refl;
-        lost = λ h. load_lost (g.S.PageSource.copies c.args.source.now c.args.page) (g.M.Machine.now c.load.new.m).image fault (failed.lost h);
-        never_lost = λ h knows. load_not_lost fault (failed.never_lost h knows);
-      };
+      reads = failed.reads;
+      failed = record { kept = refl; lost = failed.lost; never_lost = failed.never_lost };
       frames = record { in_use = refl; frames = refl };
     })
 
@@ -42,7 +36,7 @@ returns g c =
     let loaded = c.in_ok-load.ensures in
     let has = c.in_ok-enter.ensures in
     let bytes : List ℕ = c.load.new.buf in
-    let is : bytes_of c.enter.new.self c.args.page ≡ Some bytes = entered_bytes c.args.page bytes c.args.self.now c.enter.new.self has.entered in
+    let is : cached_bytes c.enter.new.self c.args.page ≡ Some bytes = entered_bytes c.args.page bytes c.args.self.now c.enter.new.self has.entered in
     record {
       enters = record {
         frame = has.frame;

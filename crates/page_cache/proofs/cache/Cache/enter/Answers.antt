@@ -1,5 +1,5 @@
 use Rattle.std.proofs.Common.{◌≡◌, ◌<◌, ◌∙◌, ℕ, None, length, set, sym, ap, subst, arith}
-use Rattle.page_cache.specs.Cache.{CacheValue, IsCache, KeepsNewest, held, busy, frame_for, entered}
+use Rattle.page_cache.specs.Cache.{CacheValue, IsCache, KeepsNewest, held, busy, frame_for, entered_page}
 use Rattle.page_cache.specs.Inside.{IsInside, value_of}
 use Rattle.page_cache.proofs.ShownLaws.{order_lacks, frame_is, frame_fits, frame_in, entered_inside}
 use Rattle.page_cache.proofs.NewestLaws.{entered_newest}
@@ -34,7 +34,7 @@ frame_low c = frame_in c.self.inside c.self.invariant c.args.page (none c) (free
 
 -- what the cache is made of then, and what it is
 made : (c : In_ok-frame) → let i : Inside = record c.self.inside { pool = set c.self.inside.pool c.in_ok-frame.frame c.args.bytes.now; order = c.take_in.new.order; accepted = set c.self.inside.accepted c.in_ok-frame.frame 0 } in
-    IsInside i × (value_of i ≡ entered c.args.page c.args.bytes.now (value_of c.self.inside))
+    IsInside i × (value_of i ≡ entered_page c.args.page c.args.bytes.now (value_of c.self.inside))
 made c =
     entered_inside c.self.inside c.self.invariant c.args.page (none c) (free c) c.len-frames.result c.as_slice.result.now c.in_ok-frame.frame c.args.bytes.now c.take_in.new.order c.len-frames.ensures c.as_slice.ensures.value c.in_ok-frame.ensures.frame
     c.in_ok-frame.ensures.entries
@@ -57,7 +57,7 @@ pub returns-clause-frame : goal.returns-clause-frame
 returns-clause-frame c = frame_here (goal.at.returns-clause-frame c).In_ok-frame ∙ ap frame_for c.self.view_is
 
 pub returns-clause-entered : goal.returns-clause-entered
-returns-clause-entered c = (made (goal.at.returns-clause-entered c).In_ok-frame).1 ∙ ap (entered c.args.page c.args.bytes.now) c.self.view_is
+returns-clause-entered c = (made (goal.at.returns-clause-entered c).In_ok-frame).1 ∙ ap (entered_page c.args.page c.args.bytes.now) c.self.view_is
 
 pub returns-clause-newest : goal.returns-clause-newest
 returns-clause-newest c source is = subst (KeepsNewest source c.args.self.now) (sym (returns-clause-entered c))

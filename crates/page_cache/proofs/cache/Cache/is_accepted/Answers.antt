@@ -4,7 +4,7 @@ use Rattle.std.specs.Map.{lookup}
 use Rattle.fsd_formats.specs.NamePage.{read_page}
 use Rattle.page_cache.specs.declared.cache.Slot.{Slot}
 use Rattle.page_cache.specs.declared.cache.Cache.TheInside.{Inside}
-use Rattle.page_cache.specs.Accepted.{content_in}
+use Rattle.page_cache.specs.Accepted.{cached_content}
 use Rattle.page_cache.specs.Cache.{CacheValue, Held, IsResident}
 use Rattle.page_cache.specs.Inside.{slot_shown, value_of, IsInside}
 use Rattle.page_cache.proofs.AcceptedLaws.{marked_accepted, read_tells}
@@ -16,17 +16,17 @@ module _ (i : Inside) (h : IsInside i) (page pages : ℕ) (slot : Slot) (is : lo
   mark = slice_index_or i.accepted slot.frame 0
 
   -- what is marked is accepted
-  known : (v : CacheValue) → value_of i ≡ v → 0 < pages → mark ≡ pages → true ≡ is_some (content_in v pages page)
+  known : (v : CacheValue) → value_of i ≡ v → 0 < pages → mark ≡ pages → true ≡ is_some (cached_content v pages page)
   known v view some at =
       let x = slot_shown i.pool slot in
       let on = held_is i.pool page i.order.entries slot is in
       let accepts = subst (λ (k : ℕ). true ≡ is_some (read_page page k x.bytes)) at (sym (h.accepted page x on (subst (λ (k : ℕ). 0 < k) (sym at) some))) in
-      subst (λ (w : CacheValue). true ≡ is_some (content_in w pages page)) view
+      subst (λ (w : CacheValue). true ≡ is_some (cached_content w pages page)) view
       (accepts ∙ ap (λ (o : Option (List ℕ)). is_some (option_and_then (read_page page pages) o)) (sym (ap (option_map (λ (y : Held). y.bytes)) on)))
 
   -- what the bytes of its frame have is what the cache has of the page
-  read : (v : CacheValue) → value_of i ≡ v → (bytes : List ℕ) → slice_get i.pool slot.frame ≡ Some bytes → is_some (read_page page pages bytes) ≡ is_some (content_in v pages page)
-  read v view bytes at = subst (λ (w : CacheValue). is_some (read_page page pages bytes) ≡ is_some (content_in w pages page)) view
+  read : (v : CacheValue) → value_of i ≡ v → (bytes : List ℕ) → slice_get i.pool slot.frame ≡ Some bytes → is_some (read_page page pages bytes) ≡ is_some (cached_content v pages page)
+  read v view bytes at = subst (λ (w : CacheValue). is_some (read_page page pages bytes) ≡ is_some (cached_content w pages page)) view
       (ap (λ (o : Option (List ℕ)). is_some (option_and_then (read_page page pages) o)) (sym (bytes_shown i page slot bytes is at)))
 
   -- a page that is read and accepted is marked

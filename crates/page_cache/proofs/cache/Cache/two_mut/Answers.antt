@@ -1,6 +1,6 @@
 use Rattle.std.proofs.Common.{◌≡◌, ◌<◌, ℕ, List, Some, option_map, sym, ap, subst, ◌∙◌}
 use Rattle.std.specs.Prelude.{IfSome, slice_get}
-use Rattle.page_cache.specs.Cache.{CacheValue, Held, IsResident, held, bytes_of}
+use Rattle.page_cache.specs.Cache.{CacheValue, Held, IsResident, held, cached_bytes}
 use Rattle.page_cache.specs.Inside.{slot_shown, value_of}
 use Rattle.page_cache.proofs.ShownLaws.{order_has, held_is, frame_in_pool}
 use Rattle.page_cache.proofs.CacheLaws.{frames_apart}
@@ -8,7 +8,7 @@ use Rattle.page_cache.proofs.cache.Cache.two_mut.Goals as goal
 
 -- the frame of a page has the bytes of the page
 bytes_at : (v : CacheValue) (page : ℕ) (h : Held) (frames : List (List ℕ)) (bytes : List ℕ) → held v page ≡ Some h → IfSome (held v page) (λ x. slice_get frames x.frame ≡ Some x.bytes)
-    → slice_get frames h.frame ≡ Some bytes → bytes_of v page ≡ Some bytes
+    → slice_get frames h.frame ≡ Some bytes → cached_bytes v page ≡ Some bytes
 bytes_at v page h frames bytes is all at = ap (option_map (λ (x : Held). x.bytes)) is ∙ sym (rw is at all) ∙ at
 
 pub slot_of-requires : goal.slot_of-requires

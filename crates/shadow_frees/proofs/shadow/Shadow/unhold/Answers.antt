@@ -1,7 +1,7 @@
 use Rattle.std.proofs.Common.{sym, subst, ap, ◌∙◌, All, set, None, List, Option, arith}
 use Rattle.run_table.specs.declared.run.Run.{Run}
 use Rattle.sector_set.specs.Meet.{meets}
-use Rattle.shadow_frees.specs.Readers.{Agrees}
+use Rattle.shadow_frees.specs.Readers.{IsSameOrApart}
 use Rattle.shadow_frees.specs.Waits.{Waits, AreSound}
 use Rattle.sector_set.specs.Area.{AreIn}
 use Rattle.shadow_frees.proofs.HeldLaws.{nobody_holds}
@@ -27,7 +27,7 @@ pub returns-clause-left : goal.returns-clause-left
 returns-clause-left c =
     let at = sym c.take.ensures.value ∙ c.in_ok-runs.was in
     let v = version_in c.self.inside.removed c.self.inside.kept c.self.inside.unfinished c.self.inside.held c.args.slot c.index-self-slot.result c.in_ok-runs.runs c.self.invariant (omega arith) at in
-    let agree = subst (λ (x : Option (List Run)). All (Agrees c.in_ok-runs.runs) (set c.self.inside.held c.args.slot x)) (sym c.take.ensures.after) (agree_dropped c.self.inside.removed c.self.inside.kept c.self.inside.held c.args.slot c.in_ok-runs.runs v) in
+    let agree = subst (λ (x : Option (List Run)). All (IsSameOrApart c.in_ok-runs.runs) (set c.self.inside.held c.args.slot x)) (sym c.take.ensures.after) (agree_dropped c.self.inside.removed c.self.inside.kept c.self.inside.held c.args.slot c.in_ok-runs.runs v) in
     λ s h. nobody_holds (set c.self.inside.held c.args.slot c.take.new.self) c.in_ok-runs.runs s agree (sym c.have.ensures ∙ c.if-have.false) h
 
 pub returns-clause-given : goal.returns-clause-given

@@ -2,12 +2,12 @@ use Rattle.std.proofs.Common.{◌≡◌, inl, inr, ◌∙◌, ℕ, ◌+◌, List
 use Rattle.std.specs.Prelude.{IsSome, option_and_then}
 use Rattle.fsd_bytes.specs.declared.refusal.Refusal.TheVariants.{Unsound}
 use Rattle.fsd_formats.specs.NamePage.{read_page}
-use Rattle.page_cache.specs.Cache.{IsResident, newest, pins_of}
+use Rattle.page_cache.specs.Cache.{IsResident, newest_bytes, pins_of}
 use Rattle.name_page.specs.Pages.{is_one_of, outer_in}
 use Rattle.name_page.proofs.StepLaws.{last_is_one}
-use Rattle.page_cache.specs.Accepted.{content_in}
-use Rattle.table_pages.specs.Bringing.{HasRoom, FetchesOnly, given_by, IsHit}
-use Rattle.table_pages.specs.Kept.{IsKept}
+use Rattle.page_cache.specs.Accepted.{cached_content}
+use Rattle.table_pages.specs.Bringing.{HasRoomFor, FetchesOnly, given_by, IsHit}
+use Rattle.table_pages.specs.Kept.{IsKeptSince}
 use Rattle.table_pages.specs.ImageLaws.{image_count}
 use Rattle.table_pages.proofs.LastLaws.{Lasts}
 use Rattle.table_pages.proofs.PinLaws.{set_only, only_there, same_there}
@@ -22,7 +22,7 @@ use Rattle.table_pages.proofs.table.TablePages.reach.Goals.{After-bring_used, Af
 lasts : (g : given.Over) → Lasts g.S.PageSource
 lasts g = record { knows = g.met.S.PageSource.wears; newest = g.met.S.PageSource.stays }
 
-room : (g : given.Over) (c : After-bring_used g) → HasRoom 1 c.args.self.now.cache.now
+room : (g : given.Over) (c : After-bring_used g) → HasRoomFor 1 c.args.self.now.cache.now
 room g c =
     let t = c.args.self.now in
     let more = c.requires.more in let few = t.kept.few_spares in
@@ -39,7 +39,7 @@ bring_used-requires-clause-room g c =
 
 -- what is kept once the page is brought
 brought : (g : given.Over) (c : After-bring_used g) → let t = c.args.self.now in
-    IsKept g.M.Machine g.S.PageSource t.made_over.value t.made_with.value c.bring_used.new.m c.bring_used.new.cache t.source.now t.free.now t.reached.items t.spares.items t.promised
+    IsKeptSince g.M.Machine g.S.PageSource t.made_over.value t.made_with.value c.bring_used.new.m c.bring_used.new.cache t.source.now t.free.now t.reached.items t.spares.items t.promised
 brought g c =
     let t = c.args.self.now in
     kept_brought g.M.Machine g.S.PageSource t.source.now t.made_over.value t.made_with.value t.m.now t.cache.now t.free.now t.reached.items t.spares.items t.promised t.kept (outer_in c.bring_used.result) c.bring_used.new.m c.bring_used.new.cache
@@ -59,7 +59,7 @@ invariant_of-self g c =
     let more = c.requires.more in
     let kept = kept_reached g.M.Machine g.S.PageSource t.source.now t.made_over.value t.made_with.value c.bring_used.new.m mid t.free.now t.reached.items t.spares.items t.promised
     (brought g (goal.at.invariant_of-self g c).After-bring_used) c.keep.new.cache c.args.page c.keep.ensures.pinned c.in-Ok.ensures.done.there (omega (arith, more)) in
-    record { kept = subst (λ (reached : List ℕ). IsKept g.M.Machine g.S.PageSource t.made_over.value t.made_with.value c.bring_used.new.m c.keep.new.cache t.source.now t.free.now reached t.spares.items t.promised) (sym c.keep.ensures.noted) kept }
+    record { kept = subst (λ (reached : List ℕ). IsKeptSince g.M.Machine g.S.PageSource t.made_over.value t.made_with.value c.bring_used.new.m c.keep.new.cache t.source.now t.free.now reached t.spares.items t.promised) (sym c.keep.ensures.noted) kept }
 
 pub invariant_of-self-in-Err : goal.invariant_of-self-in-Err
 invariant_of-self-in-Err g c = record { kept = brought g (goal.at.invariant_of-self-in-Err g c).After-bring_used }
@@ -94,7 +94,7 @@ returns-in-Ok-clause-reached g c =
     let t = c.args.self.now in
     let page = c.args.page in
     let lt = within_free t page c.requires.within in
-    let count = image_count (newest c.keep.new.cache (given_by g.M.Machine g.S.PageSource t.source.now c.bring_used.new.m)) (length t.free.now) in
+    let count = image_count (newest_bytes c.keep.new.cache (given_by g.M.Machine g.S.PageSource t.source.now c.bring_used.new.m)) (length t.free.now) in
     let one : is_one_of c.keep.new.list.items page ≡ true = ap (λ (pages : List ℕ). is_one_of pages page) c.keep.ensures.noted ∙ last_is_one t.reached.items page in
     (omega (arith, lt, count), rw one refl)
 
@@ -107,7 +107,7 @@ returns-in-Ok-clause-accepted g c =
     let only = set_only mid new page (pins_of mid page + 1) c.keep.ensures.pinned in
     let there : IsResident new page = only_there mid new only page c.in-Ok.ensures.done.there in
     let is = page_in new (given_by g.M.Machine g.S.PageSource t.source.now c.bring_used.new.m) (length t.free.now) page there (within_free t page c.requires.within) in
-    let same : content_in new (length t.free.now) page ≡ content_in mid (length t.free.now) page = ap (λ o. option_and_then (read_page page (length t.free.now)) o) (only.bytes page) in
+    let same : cached_content new (length t.free.now) page ≡ cached_content mid (length t.free.now) page = ap (λ o. option_and_then (read_page page (length t.free.now)) o) (only.bytes page) in
     subst (λ o. IsSome o) (sym (is ∙ same)) c.in-Ok.ensures.done.accepted
 
 pub returns-in-Err-clause-kept : goal.returns-in-Err-clause-kept

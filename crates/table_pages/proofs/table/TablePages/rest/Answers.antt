@@ -1,6 +1,6 @@
 use Rattle.std.proofs.Common.{inl, List, ℕ, [], length, refl, sym, subst, arith}
 use Rattle.sector_disk.proofs.CallLaws.{reads_none}
-use Rattle.table_pages.specs.Kept.{IsKept}
+use Rattle.table_pages.specs.Kept.{IsKeptSince}
 use Rattle.table_pages.proofs.KeptLaws.{spare_pins, reached_pins, kept_unreached, kept_unspared}
 use Rattle.table_pages.proofs.PinLaws.{only_then, only_there}
 use Rattle.table_pages.proofs.SpareLaws.{pinned_fills}
@@ -10,7 +10,7 @@ use Rattle.table_pages.proofs.table.TablePages.rest.Goals as goal
 use Rattle.table_pages.proofs.table.TablePages.rest.Goals.{After-release, After-release-2}
 
 -- what is kept once the pages that were reached are unpinned
-unreached : (g : given.Over) (c : After-release g) → let t = c.args.self.now in IsKept g.M.Machine g.S.PageSource t.made_over.value t.made_with.value t.m.now c.release.new.cache t.source.now t.free.now [] t.spares.items t.promised
+unreached : (g : given.Over) (c : After-release g) → let t = c.args.self.now in IsKeptSince g.M.Machine g.S.PageSource t.made_over.value t.made_with.value t.m.now c.release.new.cache t.source.now t.free.now [] t.spares.items t.promised
 unreached g c =
     let t = c.args.self.now in
     kept_unreached g.M.Machine g.S.PageSource t.source.now t.made_over.value t.made_with.value t.m.now t.cache.now t.free.now t.reached.items t.spares.items t.promised t.kept c.release.new.cache c.release.ensures.only c.release.ensures.pins
@@ -26,8 +26,8 @@ release-requires-2 g c =
     (omega arith, spare_pins g.M.Machine g.S.PageSource t.source.now t.made_over.value t.made_with.value t.m.now c.release.new.cache t.free.now [] t.spares.items t.promised (unreached g (goal.at.release-requires-2 g c).After-release))
 
 -- no page is kept any more
-unspared : (g : given.Over) (c : After-release-2 g) → let t = c.args.self.now in IsKept g.M.Machine g.S.PageSource t.made_over.value t.made_with.value t.m.now c.release.new.cache t.source.now t.free.now [] t.spares.items t.promised
-    → IsKept g.M.Machine g.S.PageSource t.made_over.value t.made_with.value t.m.now c.release-2.new.cache t.source.now t.free.now [] [] 0
+unspared : (g : given.Over) (c : After-release-2 g) → let t = c.args.self.now in IsKeptSince g.M.Machine g.S.PageSource t.made_over.value t.made_with.value t.m.now c.release.new.cache t.source.now t.free.now [] t.spares.items t.promised
+    → IsKeptSince g.M.Machine g.S.PageSource t.made_over.value t.made_with.value t.m.now c.release-2.new.cache t.source.now t.free.now [] [] 0
 unspared g c kept =
     let t = c.args.self.now in
     kept_unspared g.M.Machine g.S.PageSource t.source.now t.made_over.value t.made_with.value t.m.now c.release.new.cache t.free.now [] t.spares.items t.promised kept c.release-2.new.cache c.release-2.ensures.only c.release-2.ensures.pins
@@ -38,8 +38,8 @@ invariant_of-self g c =
     let S = g.S.PageSource in
     let t = c.args.self.now in
     let last = c.release-2.new.cache in
-    let reached = subst (λ (l : List ℕ). IsKept M S t.made_over.value t.made_with.value t.m.now last t.source.now t.free.now l [] 0) (sym c.release.ensures.none) (unspared g (goal.at.invariant_of-self g c).After-release-2 (unreached g (goal.at.invariant_of-self g c).After-release)) in
-    record { kept = subst (λ (l : List ℕ). IsKept M S t.made_over.value t.made_with.value t.m.now last t.source.now t.free.now c.release.new.list.items l 0) (sym c.release-2.ensures.none) reached }
+    let reached = subst (λ (l : List ℕ). IsKeptSince M S t.made_over.value t.made_with.value t.m.now last t.source.now t.free.now l [] 0) (sym c.release.ensures.none) (unspared g (goal.at.invariant_of-self g c).After-release-2 (unreached g (goal.at.invariant_of-self g c).After-release)) in
+    record { kept = subst (λ (l : List ℕ). IsKeptSince M S t.made_over.value t.made_with.value t.m.now last t.source.now t.free.now c.release.new.list.items l 0) (sym c.release-2.ensures.none) reached }
 
 pub returns-clause-left : goal.returns-clause-left
 returns-clause-left g c =

@@ -1,9 +1,9 @@
 use Rattle.std.proofs.Common.{rules, ◌<◌, ◌^◌, subst}
 use Rattle.log_thirds.specs.LogValue.{FitsLayout}
-use Rattle.log_thirds.proofs.thirds.Log.layout.Goals as goal
+use Rattle.log_thirds.proofs.thirds.Log.attest.Goals as goal
 
-pub returns-clause-shape : goal.returns-clause-shape
-returns-clause-shape c =
+pub returns : goal.returns
+returns c =
     let was = c.self.invariant in
     let epoch : c.self.inside.anchor.epoch < 2 ^ 32 = search rules in
     let number : c.self.inside.number < 2 ^ 32 = search rules in

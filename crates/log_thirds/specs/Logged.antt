@@ -1,15 +1,15 @@
--- What stands in the log behind a force.
+-- What stands in the log.
 use Rattle.std.specs.Prelude.{◌≡◌, ℕ, List}
+use Rattle.sector_disk.specs.declared.sector.Sector.{Sector}
 use Rattle.sector_disk.specs.declared.sector.Sector.TheVariants.{Whole}
 use Rattle.sector_disk.specs.Image.{IsWorn, open_damage, sector_at}
 use Rattle.sector_disk.specs.Machine.{Moment}
-use Rattle.fsd_files.specs.Disk.{Image}
 use Rattle.log_thirds.specs.Images.{AreLogged}
 use Rattle.log_thirds.specs.LogValue.{LogValue}
 
 -- These bytes of the page stand in both of its copies in the last record that has it, but for what has been worn since.
 pub record StandsLogged (log : LogValue) (now : Moment) (page : ℕ) (bytes : List ℕ) : Type 0 where
-  pub seen : Image
+  pub seen : List Sector
   pub worn : IsWorn (open_damage now.windows) seen now.image
   pub a : ℕ
   pub b : ℕ
