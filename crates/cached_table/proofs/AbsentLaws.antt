@@ -2,7 +2,7 @@
 use Rattle.std.proofs.Common.{◌≡◌, ◌∙◌, ◌⊎◌, inl, inr, ℕ, ◌+◌, ◌&&◌, Bool, true, false, cond, List, [], ◌∷◌, Option, Some, None, refl, sym, ap, subst}
 use Rattle.std.proofs.lemmas.Bool.{and_parts}
 use Rattle.std.specs.Borrow.{MutBor}
-use Rattle.std.specs.Prelude.{Err, Ok, OnErr, Result, length}
+use Rattle.std.specs.Prelude.{Err, IfErr, Ok, Result, length}
 use Rattle.std.specs.Option.{MatchOption}
 use Rattle.fsd_bytes.specs.declared.key.Key.{Key}
 use Rattle.fsd_bytes.specs.Keys.{key_lt}
@@ -19,20 +19,21 @@ use Rattle.name_page.specs.Looks.{Agrees}
 use Rattle.name_page.specs.Pages.{Step}
 use Rattle.name_page.proofs.SideLaws.{with_fits}
 use Rattle.name_page.proofs.LookLaws.{agrees_at}
-use Rattle.name_btree.specs.Lookup.{HasOtherLeft, HasRight, IsLeafBy, IsReadLeaf, ShowsAbsent, ShowsNext, ShowsNoVersion, ShowsNoneAfter}
+use Rattle.name_btree.specs.Lookup.{HasOtherLeft, HasRight, IsLeafBy, IsNextAfter, IsReadLeaf, ShowsAbsent, ShowsNext, ShowsNoVersion, ShowsNoneAfter}
 use Rattle.name_btree.proofs.DownLaws.{between}
 use Rattle.version_table.proofs.EditLaws.{with_is}
-use Rattle.volume_contract.specs.Absent.{LacksKey, LacksLater, Reaches}
+use Rattle.volume_contract.specs.Absent.{LacksKey, LacksLater, ReachesPage}
 use Rattle.volume_contract.specs.Found.{BeginsWith, HasNext}
 use Rattle.cached_table.specs.Absent.{EndsOther, LacksName}
 use Rattle.sector_disk.specs.declared.machine.Machine.{Ghosts as MachineGhosts}
 use Rattle.page_cache.specs.declared.source.PageSource.{Ghosts as SourceGhosts}
 use Rattle.page_cache.specs.Cache.{CacheValue}
-use Rattle.table_pages.specs.Table.{IsOver, Leaves, Trusted, step_of}
+use Rattle.table_pages.specs.Table.{IsOver, LeavesTable, Trusted, step_of}
 use Rattle.table_pages.specs.declared.table.Table.{Table}
 use Rattle.version_table.specs.declared.fault.VersionFault.{VersionFault}
 use Rattle.version_table.specs.declared.fault.VersionFault.TheVariants.{NoSuch}
-use Rattle.cached_table.specs.Editing.{ChangesNone}
+use Rattle.cached_table.specs.Editing.{KeepsNone}
+use Rattle.cached_table.specs.Finding.{IsNextIn}
 use Rattle.cached_table.specs.Looking.{HavePages}
 use Rattle.cached_table.proofs.StayLaws.{agrees_spared}
 
@@ -70,7 +71,7 @@ module _ (s : Step) (pages : List (List ℕ)) (agree : Agrees pages s) where
   ends_at : {before : Key → Bool} {leaf : Child} {entries : List Entry} → IsLeafBy s before leaf entries → AtLow before leaf.low × AtHigh before leaf.high
   ends_at {before} {leaf} at = between before pages at.above leaf (at.way pages agree)
 
-  pub lacks_key : (key : Key) → ShowsAbsent s key → Reaches (LacksKey key) pages
+  pub lacks_key : (key : Key) → ShowsAbsent s key → ReachesPage (LacksKey key) pages
   lacks_key key x =
       let ends = ends_at x.at in (
         visit_of pages (x.at.above + 1) x.leaf,
@@ -84,7 +85,7 @@ module _ (s : Step) (pages : List (List ℕ)) (agree : Agrees pages s) where
         },
       )
 
-  pub lacks_later : (after : Option Key) → ShowsNoneAfter s after → Reaches (LacksLater after) pages
+  pub lacks_later : (after : Option Key) → ShowsNoneAfter s after → ReachesPage (LacksLater after) pages
   lacks_later after x = (
     visit_of pages (x.at.above + 1) x.leaf,
     x.at.path pages agree,
@@ -99,18 +100,18 @@ module _ (s : Step) (pages : List (List ℕ)) (agree : Agrees pages s) where
   )
 
   -- the leaf behind one begins with the entry
-  begins_with : (depth : ℕ) (leaf : Child) (e : Entry) → HasRight s leaf e → Reaches (BeginsWith e (visit_of pages depth leaf)) pages
+  begins_with : (depth : ℕ) (leaf : Child) (e : Entry) → HasRight s leaf e → ReachesPage (BeginsWith e (visit_of pages depth leaf)) pages
   begins_with depth leaf e x = (
     visit_of pages x.depth x.right,
     x.path pages agree,
     record { rest = x.rest; leaf = has_leaf x.right _ x.is_read; fits = leaf_fits x.right _ x.is_read; beside = x.beside },
   )
 
-  firsts : (depth : ℕ) (leaf : Child) (e : Entry) (o : Option Entry) → MatchOption o (HasRight s leaf e) (λ x. x ≡ e) → MatchOption o (Reaches (BeginsWith e (visit_of pages depth leaf)) pages) (λ x. x ≡ e)
+  firsts : (depth : ℕ) (leaf : Child) (e : Entry) (o : Option Entry) → MatchOption o (HasRight s leaf e) (λ x. x ≡ e) → MatchOption o (ReachesPage (BeginsWith e (visit_of pages depth leaf)) pages) (λ x. x ≡ e)
   firsts depth leaf e None right = begins_with depth leaf e right
   firsts depth leaf e (Some x) same = same
 
-  pub has_next : (after : Option Key) (e : Entry) → ShowsNext s after e → Reaches (HasNext after e pages) pages
+  has_next : (after : Option Key) (e : Entry) → ShowsNext s after e → ReachesPage (HasNext after e pages) pages
   has_next after e x = (
     visit_of pages (x.at.above + 1) x.leaf,
     x.at.path pages agree,
@@ -119,12 +120,12 @@ module _ (s : Step) (pages : List (List ℕ)) (agree : Agrees pages s) where
       leaf = has_leaf x.leaf x.entries x.at.is_read;
       fits = leaf_fits x.leaf x.entries x.at.is_read;
       begins = begins_by after x.leaf.low (ends_at x.at).0;
-      first = subst (λ (o : Option Entry). MatchOption o (Reaches (BeginsWith e (visit_of pages (x.at.above + 1) x.leaf)) pages) (λ y. y ≡ e)) (behind_is after x.entries) (firsts (x.at.above + 1) x.leaf e (entry_after after x.entries) x.first);
+      first = subst (λ (o : Option Entry). MatchOption o (ReachesPage (BeginsWith e (visit_of pages (x.at.above + 1) x.leaf)) pages) (λ y. y ≡ e)) (behind_is after x.entries) (firsts (x.at.above + 1) x.leaf e (entry_after after x.entries) x.first);
     },
   )
 
   -- the leaf before one ends with another name
-  ends_other : (name : List ℕ) (depth : ℕ) (leaf : Child) → HasOtherLeft s name leaf → Reaches (EndsOther name (visit_of pages depth leaf)) pages
+  ends_other : (name : List ℕ) (depth : ℕ) (leaf : Child) → HasOtherLeft s name leaf → ReachesPage (EndsOther name (visit_of pages depth leaf)) pages
   ends_other name depth leaf x = (
     visit_of pages x.depth x.left,
     x.path pages agree,
@@ -132,12 +133,12 @@ module _ (s : Step) (pages : List (List ℕ)) (agree : Agrees pages s) where
   )
 
   others : (name : List ℕ) (depth : ℕ) (leaf : Child) (o : Option Entry) → MatchOption o ((leaf.low ≡ None) ⊎ HasOtherLeft s name leaf) (λ e. same_name e.key.name name ≡ false)
-      → MatchOption o ((leaf.low ≡ None) ⊎ Reaches (EndsOther name (visit_of pages depth leaf)) pages) (λ e. same_name e.key.name name ≡ false)
+      → MatchOption o ((leaf.low ≡ None) ⊎ ReachesPage (EndsOther name (visit_of pages depth leaf)) pages) (λ e. same_name e.key.name name ≡ false)
   others name depth leaf None (inl first) = inl first
   others name depth leaf None (inr left) = inr (ends_other name depth leaf left)
   others name depth leaf (Some e) other = other
 
-  pub lacks_name : (name : List ℕ) → ShowsNoVersion s name → Reaches (LacksName name pages) pages
+  pub lacks_name : (name : List ℕ) → ShowsNoVersion s name → ReachesPage (LacksName name pages) pages
   lacks_name name x =
       let ends = ends_at x.at in (
         visit_of pages (x.at.above + 1) x.leaf,
@@ -152,13 +153,17 @@ module _ (s : Step) (pages : List (List ℕ)) (agree : Agrees pages s) where
         },
       )
 
+-- the entry that comes next, in all pages with what a cache has
+pub next_in : (s : Step) (c : CacheValue) (count : ℕ) (after : Option Key) (e : Entry) → ((pages : List (List ℕ)) → HavePages c count pages → Agrees pages s) → IsNextAfter s after e → IsNextIn c count after e
+next_in s c count after e agree x = record { later = x.later; next = λ pages have. has_next s pages (agree pages have) after e x.next }
+
 -- ---- a table over a cache, where a keep is to be set
 
 module _ {D E : Type 0} {M : MachineGhosts D} {S : SourceGhosts E} {m : MutBor D} {cache : MutBor CacheValue} {source : E} {free : MutBor (List Bool)} {a b : Table D E M S} {m' : D} {cache' : CacheValue} {free' : List Bool}
-    (over : IsOver m cache source free a) (left : Leaves b m' cache' free') where
-  pub keep_absent : (name : List ℕ) (r : Result Key VersionFault) → OnErr r (ChangesNone (Trusted b) (step_of a) (step_of b)) → (r ≡ Err NoSuch → ShowsNoVersion (step_of b) name)
-      → r ≡ Err NoSuch → (pages : List (List ℕ)) → HavePages cache' (length free.now) pages → Reaches (LacksName name pages) pages
+    (over : IsOver m cache source free a) (left : LeavesTable b m' cache' free') where
+  pub keep_absent : (name : List ℕ) (r : Result Key VersionFault) → IfErr r (KeepsNone (Trusted b) (step_of a) (step_of b) name) → (r ≡ Err NoSuch → ShowsNoVersion (step_of b) name)
+      → r ≡ Err NoSuch → (pages : List (List ℕ)) → HavePages cache' (length free.now) pages → ReachesPage (LacksName name pages) pages
   keep_absent name (Ok key) none shown told pages have = absurd (cc told)
   keep_absent name (Err f) none shown told pages have =
       let before : HavePages b.cache.now (length free.now) pages = record { size = have.size; same = λ page bytes lt is. have.same page bytes lt (left.pins.bytes page ∙ is) } in
-      lacks_name (step_of b) pages (agrees_spared m cache source free a b over none.spares pages before) name (shown told)
+      lacks_name (step_of b) pages (agrees_spared m cache source free a b over none.kept.spares pages before) name (shown told)

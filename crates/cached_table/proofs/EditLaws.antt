@@ -13,19 +13,19 @@ use Rattle.fsd_table.specs.Table.{BreaksTable}
 use Rattle.fsd_table.specs.Tree.{IsTree, table_of}
 use Rattle.sector_disk.specs.declared.machine.Machine.{Ghosts as MachineGhosts}
 use Rattle.page_cache.specs.declared.source.PageSource.{Ghosts as SourceGhosts}
-use Rattle.page_cache.specs.Cache.{CacheValue, newest}
+use Rattle.page_cache.specs.Cache.{CacheValue, newest_bytes}
 use Rattle.name_page.specs.Pages.{Step, with_one, free_count}
 use Rattle.name_btree.specs.declared.fault.TreeFault.{TreeFault}
-use Rattle.name_btree.specs.Fault.{BarsTable, HasCause}
+use Rattle.name_btree.specs.Fault.{BarsTable, HasTreeCause}
 use Rattle.version_table.specs.declared.fault.VersionFault.{VersionFault}
 use Rattle.version_table.specs.declared.fault.VersionFault.TheVariants.{Table as InTable, NoSuch, VersionsUsedUp}
 use Rattle.name_btree.specs.Map.{HasTable, IsTable}
 use Rattle.name_btree.proofs.CallLaws.{same_table}
 use Rattle.table_pages.specs.Bringing.{IsTrusted, given_by}
 use Rattle.table_pages.specs.ImageLaws.{image_count}
-use Rattle.table_pages.specs.Table.{IsOver, Leaves, ReadsOnly, Trusted, begun, step_of}
+use Rattle.table_pages.specs.Table.{IsOver, LeavesTable, ReadsOnly, Trusted, fresh_step, step_of}
 use Rattle.table_pages.specs.declared.table.Table.{Table}
-use Rattle.cached_table.specs.Editing.{ChangesNone, ChangesOne, DirtiesAtMost, DirtiesOne, EditsOnly, EditsTable, FaultsEdit, FaultsKeep, KeepFails, SetsKeep, SetsKeepIn, StaysIn, as_step}
+use Rattle.cached_table.specs.Editing.{ChangesNone, ChangesOne, DirtiesAtMost, DirtiesOne, EditsOnly, EditsTable, FaultsEdit, FaultsKeep, GivesKeep, GivesKeepIn, KeepFails, KeepsNone, KeepsNoneIn, SetsKeep, SetsKeepIn, StaysInCache, as_step}
 use Rattle.cached_table.specs.Looking.{FaultIn, images_by, BarsPages}
 use Rattle.cached_table.proofs.LeftLaws.{clean_left, fills_left, images_left, loses_left, reads_left, ready_left, trusted_left}
 use Rattle.cached_table.proofs.LookLaws.{fault_there}
@@ -42,8 +42,8 @@ same_entries a b table images spares has = record {
 
 module _ {D E : Type 0} {M : MachineGhosts D} {S : SourceGhosts E} where
   module _ {refusal : Option Refusal} {m : MutBor D} {cache : MutBor CacheValue} {source : E} {free : MutBor (List Bool)} {home_a : ℕ} {a b : Table D E M S} {m' : D} {cache' : CacheValue} {free' : List Bool}
-      (over : IsOver m cache source free a) (begins : step_of a ≡ begun (given_by M S source m.now) cache.now free.now home_a)
-      (count : length (step_of b).images ≡ length (step_of a).images) (outside : ReadsOnly refusal a b) (left : Leaves b m' cache' free') where
+      (over : IsOver m cache source free a) (begins : step_of a ≡ fresh_step (given_by M S source m.now) cache.now free.now home_a)
+      (count : length (step_of b).images ≡ length (step_of a).images) (outside : ReadsOnly refusal a b) (left : LeavesTable b m' cache' free') where
     trusted_b : IsTrusted M S source m.now cache.now m' → Trusted b
     trusted_b = trusted_left over outside left
 
@@ -66,8 +66,8 @@ module _ {D E : Type 0} {M : MachineGhosts D} {S : SourceGhosts E} where
 
     size : length free' ≡ length free.now
     size =
-        let last = image_count (newest b.cache.now (given_by M S b.source.now b.m.now)) (length b.free.now) in
-        let first = image_count (newest a.cache.now (given_by M S a.source.now a.m.now)) (length a.free.now) in
+        let last = image_count (newest_bytes b.cache.now (given_by M S b.source.now b.m.now)) (length b.free.now) in
+        let first = image_count (newest_bytes a.cache.now (given_by M S a.source.now a.m.now)) (length a.free.now) in
         omega (arith, ap (λ (f : List Bool). length f) left.flags, last, first, count, ap (λ (f : MutBor (List Bool)). length f.now) over.spared)
 
     pub edits_left : EditsOnly M S source refusal m.now m' cache.now cache' free.now free'
@@ -102,7 +102,7 @@ module _ {D E : Type 0} {M : MachineGhosts D} {S : SourceGhosts E} where
     made_so edit (Err fault) makes = tt
     made_so edit (Ok x) makes = made (edit x) makes
 
-    pub sets_left : {F : Type 0} (r : Result Key F) (name : List ℕ) (keep : ℕ) → IfOk r (λ key. Trusted b → (height : ℕ) → IsTable (step_of a) height → SetsKeep (step_of a) (step_of b) name keep key height)
+    sets_left : {F : Type 0} (r : Result Key F) (name : List ℕ) (keep : ℕ) → IfOk r (λ key. Trusted b → (height : ℕ) → IsTable (step_of a) height → SetsKeep (step_of a) (step_of b) name keep key height)
         → IfOk r (SetsKeepIn M S source m.now m' cache.now cache' free.now free' name keep)
     sets_left (Err fault) name keep makes = tt
     sets_left (Ok key) name keep makes = record {
@@ -117,19 +117,24 @@ module _ {D E : Type 0} {M : MachineGhosts D} {S : SourceGhosts E} where
           };
     }
 
-    pub one_left : {T F : Type 0} (r : Result T F) → IfOk r (λ x. ChangesOne (step_of a) (step_of b)) → IfOk r (λ x. DirtiesOne (length free.now) cache.now cache')
+    one_left : {T F : Type 0} (r : Result T F) → IfOk r (λ x. ChangesOne (step_of a) (step_of b)) → IfOk r (λ x. DirtiesOne (length free.now) cache.now cache')
     one_left (Err fault) one = tt
     one_left (Ok x) one = record {
       page = one.page;
-      there = omega (arith, one.there, image_count (newest a.cache.now (given_by M S a.source.now a.m.now)) (length a.free.now), ap (λ (f : MutBor (List Bool)). length f.now) over.spared);
+      there = omega (arith, one.there, image_count (newest_bytes a.cache.now (given_by M S a.source.now a.m.now)) (length a.free.now), ap (λ (f : MutBor (List Bool)). length f.now) over.spared);
       changed = left.pins.dirty ∙ one.changed ∙ ap (λ (x : MutBor CacheValue). with_one x.now.dirty one.page) over.cached;
     }
+
+    pub gives_left : {F : Type 0} (r : Result Key F) (name : List ℕ) (keep : ℕ) → IfOk r (GivesKeep (Trusted b) (step_of a) (step_of b) name keep)
+        → IfOk r (GivesKeepIn M S source m.now m' cache.now cache' free.now free' name keep)
+    gives_left (Err fault) name keep gives = tt
+    gives_left {F = F} (Ok key) name keep gives = record { name_is = gives.name_is; one = one_left {T = Key} {F = F} (Ok key) gives.one; set = sets_left {F = F} (Ok key) name keep gives.set }
 
     -- how many more are dirty
     pub changes_left : (more : ℕ) → 96 - length a.cache.now.dirty ≤ 96 - length b.cache.now.dirty + more → DirtiesAtMost more cache.now cache'
     changes_left more fewer = record { few = omega (arith, fewer, ap (λ (x : MutBor CacheValue). length x.now.dirty) over.cached, ap (λ (d : List ℕ). length d) left.pins.dirty) }
 
-    pub stays_left : {T F : Type 0} (r : Result T F) → OnErr r (ChangesNone (Trusted b) (step_of a) (step_of b)) → OnErr r (StaysIn M S source m.now m' cache.now cache' free.now free')
+    pub stays_left : {T F : Type 0} (r : Result T F) → OnErr r (ChangesNone (Trusted b) (step_of a) (step_of b)) → OnErr r (StaysInCache M S source m.now m' cache.now cache' free.now free')
     stays_left (Ok x) none = tt
     stays_left (Err fault) none = record {
       dirty = left.pins.dirty ∙ none.changed ∙ ap (λ (x : MutBor CacheValue). x.now.dirty) over.cached;
@@ -138,7 +143,7 @@ module _ {D E : Type 0} {M : MachineGhosts D} {S : SourceGhosts E} where
     }
 
     -- why it failed
-    pub faults_left : (step_of b).home_a ≡ (step_of a).home_a → {T : Type 0} (r : Result T TreeFault) → IfErr r (λ fault. Trusted b → HasCause (step_of b) (BreaksTable (step_of b).images) (BarsTable (step_of b)) fault)
+    pub faults_left : (step_of b).home_a ≡ (step_of a).home_a → {T : Type 0} (r : Result T TreeFault) → IfErr r (λ fault. Trusted b → HasTreeCause (step_of b) (BreaksTable (step_of b).images) (BarsTable (step_of b)) fault)
         → IfErr r (FaultsEdit M S source m.now m' cache.now cache' free' home_a)
     faults_left same_home (Ok x) cause = tt
     faults_left same_home (Err fault) cause = record {
@@ -148,7 +153,7 @@ module _ {D E : Type 0} {M : MachineGhosts D} {S : SourceGhosts E} where
           (subst (λ (h : ℕ). FaultIn (step_of b).images (step_of b).spares h fault) (same_home ∙ ap (λ (s : Step). s.home_a) begins) (fault_there (step_of b) fault (cause (trusted_b t)))));
     }
 
-    pub keeps_left : (step_of b).home_a ≡ (step_of a).home_a → {T : Type 0} (name : List ℕ) (r : Result T VersionFault) → IfErr r (λ fault. KeepFails (Trusted b) (step_of a) (step_of b) name fault)
+    keeps_left : (step_of b).home_a ≡ (step_of a).home_a → {T : Type 0} (name : List ℕ) (r : Result T VersionFault) → IfErr r (λ fault. KeepFails (Trusted b) (step_of a) (step_of b) name fault)
         → IfErr r (FaultsKeep M S source m.now m' cache.now cache' free.now free' home_a name)
     keeps_left same_home name (Ok x) cause = tt
     keeps_left same_home {T = T} name (Err (InTable fault)) cause = faults_left same_home {T = T} (Err fault) cause
@@ -156,6 +161,11 @@ module _ {D E : Type 0} {M : MachineGhosts D} {S : SourceGhosts E} where
       none = λ t. subst (λ (images : List (List ℕ)). (height : ℕ) → IsTree images height → highest_entry name (table_of images height) ≡ None) images_first (cause (trusted_b t));
     }
     keeps_left same_home name (Err VersionsUsedUp) cause = cause
+
+    pub none_left : (step_of b).home_a ≡ (step_of a).home_a → {T : Type 0} (name : List ℕ) (r : Result T VersionFault) → IfErr r (KeepsNone (Trusted b) (step_of a) (step_of b) name)
+        → IfErr r (KeepsNoneIn M S source m.now m' cache.now cache' free.now free' home_a name)
+    none_left same_home name (Ok x) none = tt
+    none_left same_home {T = T} name (Err fault) none = record { kept = stays_left {T = T} {F = VersionFault} (Err fault) none.kept; cause = keeps_left same_home {T = T} name (Err fault) none.cause }
 
     -- what holds of the table that there was
     of_left : (Is : List Entry → Type 0) → (Trusted b → (height : ℕ) → IsTree (step_of a).images height → Is (table_of (step_of a).images height)) → OfTableIn M S source m.now m' cache.now free.now Is

@@ -1,6 +1,8 @@
 -- A version that is entered over pages: what is needed of its entry, what it makes, and why none is entered.
 use Rattle.std.proofs.Common.{◌≡◌, inl, inr, ℕ, ◌-◌, ◌<◌, length, ◌≤◌, ◌^◌, List, [], Option, None, refl, sym, ap, subst, ◌∙◌, arith}
+use Rattle.std.specs.Prelude.{Bool, Result, Ok, Err, IfErr, IfOk, OnErr, count_by}
 use Rattle.std.specs.List.{AllByRecursion}
+use Rattle.std.proofs.lemmas.Bool.{cases_lt}
 use Rattle.std.proofs.lemmas.List.Elements.{All-contains, All-from_recursion}
 use Rattle.fsd_bytes.specs.Keys.{max_u32}
 use Rattle.fsd_bytes.specs.declared.key.Key.{Key}
@@ -8,24 +10,29 @@ use Rattle.fsd_bytes.specs.declared.refusal.Refusal.{Refusal}
 use Rattle.fsd_bytes.specs.declared.refusal.Refusal.TheVariants as Why
 use Rattle.sector_set.specs.Area.{Area}
 use Rattle.shadow_frees.specs.Waits.{Waits}
+use Rattle.fsd_formats.specs.declared.entry.Entry.{Entry}
 use Rattle.fsd_table.specs.Table.{BreaksTable}
+use Rattle.sector_disk.specs.declared.machine.Machine.{Ghosts as MachineGhosts}
+use Rattle.page_cache.specs.declared.source.PageSource.{Ghosts as SourceGhosts}
+use Rattle.page_cache.specs.Cache.{CacheValue}
 use Rattle.name_page.specs.declared.pages.Pages.{Ghosts}
 use Rattle.name_page.specs.Looks.{OnlyWalks}
-use Rattle.name_page.specs.Pages.{IsOuter, changes, free_count, outer_refusal}
+use Rattle.name_page.specs.Pages.{IsOuter, changes, free_count, outer_in, outer_refusal}
 use Rattle.name_btree.specs.declared.fault.TreeFault.{TreeFault}
 use Rattle.name_btree.specs.declared.fault.TreeFault.TheVariants.{Pages, Broken}
-use Rattle.name_btree.specs.Fault.{BarsTable, FailsSpare, FailsTable, HasCause, IsOnWay, ShowsCause, outer_of}
+use Rattle.name_btree.specs.Fault.{BarsTable, FailsSpare, FailsTable, HasTreeCause, IsOnWay, ShowsCause, outer_of}
 use Rattle.version_table.specs.declared.fault.VersionFault.{VersionFault}
 use Rattle.version_table.specs.declared.fault.VersionFault.TheVariants.{Table, NoSuch, VersionsUsedUp}
 use Rattle.version_table.specs.declared.planning.Plan.{Plan}
-use Rattle.version_table.specs.Fault.{FailsLook, ShowsLook, outer_in}
-use Rattle.version_table.specs.Met.{IsMet}
+use Rattle.version_table.specs.Fault.{FailsLook, ShowsLook, outside_in}
+use Rattle.version_table.specs.Met.{IsMetBetween}
 use Rattle.version_table.specs.declared.oldest.Leaving.{Leaving}
-use Rattle.version_table.specs.Plan.{IsPlan, keys_left}
+use Rattle.version_table.specs.Plan.{IsPlan, keys_left, planned_entry, with_planned}
 use Rattle.version_table.specs.Table.{OfTable}
 use Rattle.version_table.specs.Versions.{next_key}
-use Rattle.cached_table.specs.Entering.{AreInTurn, EntersNone, LosesUntaken, RefusesFor, ShowsRefusal, TellsUntaken, enter_refusal, plan_refusal}
-use Rattle.cached_table.specs.Looking.{refusal_in}
+use Rattle.cached_table.specs.Entering.{AreInTurn, EntersAt, EntersIn, EntersNone, EntersNoneIn, LosesUntaken, OfTableIn, RefusesAt, RefusesFor, RefusesIn, ShowsRefusal, ShowsUnsound, TellsUntaken, enter_refusal, plan_refusal}
+use Rattle.cached_table.specs.Editing.{EditsTable, StaysInCache}
+use Rattle.cached_table.specs.Looking.{LooksOnly, refusal_in}
 use Rattle.cached_table.proofs.RefusalLaws.{outer_cases}
 
 -- ---- what holds of the table
@@ -34,6 +41,10 @@ use Rattle.cached_table.proofs.RefusalLaws.{outer_cases}
 pub is_usable : {D : Type 0} (P : Ghosts D) (old now new : D) (name : List ℕ) (given : Option ℕ) (plan : Plan) → plan.key.version < 2 ^ 32 → (P.trusted new → P.trusted now) → OfTable P old now (λ table. IsPlan name given table plan)
     → OfTable P old new (λ table. (next_key name table).version ≤ max_u32)
 is_usable P old now new name given plan small trust planned trusted height tree = omega (arith, small, ap (λ (k : Key). k.version) (planned (trust trusted) height tree).key)
+
+-- where fewer pages are not spare, so many are
+pub spare_enough : (now free : ℕ) → now ≡ free → (now < 8 → ⊥) → 8 ≤ free
+spare_enough now free same none = elim (cases_lt now 8) [ inl few ↦ absurd (none few) | inr enough ↦ omega (arith, same, enough) ]
 
 -- as many pages may be changed as before
 pub changes_stay : {D : Type 0} (P : Ghosts D) {refusal : Option Refusal} (old now : D) → OnlyWalks P refusal old now → changes (P.step now) ≡ changes (P.step old)
@@ -51,7 +62,7 @@ module _ {D : Type 0} (P : Ghosts D) (map : Area) (w : Waits) (name : List ℕ) 
   outer_refuses : (r : Refusal) → IsOuter r → None_for r
   outer_refuses r outer = outer_cases None_for (λ s. tt) (λ a b. tt) tt r outer
 
-  look_refuses : (f : TreeFault) → HasCause (P.step new) (BreaksTable (P.step new).images) (BarsTable (P.step new)) f → None_for (refusal_in home_a f)
+  look_refuses : (f : TreeFault) → HasTreeCause (P.step new) (BreaksTable (P.step new).images) (BarsTable (P.step new)) f → None_for (refusal_in home_a f)
   look_refuses (Broken page) broken = inl (λ trusted. (page, inl broken))
   look_refuses (Pages r) cause = elim cause.1 [
     | inl outer ↦ outer_refuses r outer
@@ -100,7 +111,7 @@ outer_entered (Pages (Why.Unsound s)) = refl
 outer_entered (Pages other) = refl
 outer_entered (Broken page) = refl
 
-pub outer_planned : (home_a : ℕ) (f : VersionFault) → outer_refusal (plan_refusal home_a f) ≡ outer_in f
+pub outer_planned : (home_a : ℕ) (f : VersionFault) → outer_refusal (plan_refusal home_a f) ≡ outside_in f
 outer_planned home_a (Table (Pages refusal)) = refl
 outer_planned home_a (Table (Broken page)) = refl
 outer_planned home_a NoSuch = refl
@@ -118,7 +129,7 @@ module _ {D : Type 0} (P : Ghosts D) (map : Area) (w : Waits) (name : List ℕ) 
   Shows_for r = ShowsRefusal P map w name home_a old new r
 
   -- a look-up's fault
-  look_shows : (f : TreeFault) → HasCause (P.step new) (BreaksTable (P.step new).images) (BarsTable (P.step new)) f → ShowsCause (P.step new) BreaksTable IsOnWay f → (r : Refusal) → r ≡ refusal_in home_a f → Shows_for r
+  look_shows : (f : TreeFault) → HasTreeCause (P.step new) (BreaksTable (P.step new).images) (BarsTable (P.step new)) f → ShowsCause (P.step new) BreaksTable IsOnWay f → (r : Refusal) → r ≡ refusal_in home_a f → Shows_for r
   look_shows f cause shown (Why.Unsound s) is = inl (f, sym is, cause, shown)
   look_shows f cause shown other is = tt
 
@@ -128,8 +139,8 @@ module _ {D : Type 0} (P : Ghosts D) (map : Area) (w : Waits) (name : List ℕ) 
   plan_shows VersionsUsedUp Absent UsedUp cause shown = tt
 
   -- a version that was met
-  pub gone_shows : (gone : List Leaving) (r : Refusal) → AllByRecursion (IsMet P name old new) gone → TellsUntaken home_a map w gone r → Shows_for r
-  gone_shows gone (Why.Unsound s) met tells = inr (tells.0, All-contains (IsMet P name old new) gone tells.0 (All-from_recursion (IsMet P name old new) gone met) tells.1, tells.2, tells.3)
+  pub gone_shows : (gone : List Leaving) (r : Refusal) → AllByRecursion (IsMetBetween P name old new) gone → TellsUntaken home_a map w gone r → Shows_for r
+  gone_shows gone (Why.Unsound s) met tells = inr (tells.0, All-contains (IsMetBetween P name old new) gone tells.0 (All-from_recursion (IsMetBetween P name old new) gone met) tells.1, tells.2, tells.3)
   gone_shows gone other met tells = tt
 
   -- a fault of the entry tells no place
@@ -151,3 +162,33 @@ refuses_so free free' same a b c e Why.VersionsUsedUp (inr (inl h)) = inr (inl (
 refuses_so free free' same a b c e Why.VersionsUsedUp (inr (inr h)) = inr (inr (b h))
 refuses_so free free' same a b c e (Why.NameTableFull n) h = (h.0 ∙ same, h.1, e h.2)
 refuses_so free free' same a b c e other h = h
+
+-- ---- what is told, of a result
+
+pub entered_each : {D F : Type 0} {P : Ghosts D} {map : Area} {w : Waits} {name : List ℕ} {given : Option ℕ} {draft : Entry} {old new : D} {Is : Plan → Type 0} (r : Result Plan F)
+    → ((plan : Plan) → EntersAt P map w name given draft old new plan → Is plan) → IfOk r (EntersAt P map w name given draft old new) → IfOk r Is
+entered_each (Ok plan) is enters = is plan enters
+entered_each (Err why) is enters = tt
+
+pub refused_each : {D T : Type 0} {P : Ghosts D} {map : Area} {w : Waits} {name : List ℕ} {home_a : ℕ} {old new : D} {Is : Refusal → Type 0} (r : Result T Refusal)
+    → ((why : Refusal) → RefusesAt P map w name home_a old new why → Is why) → IfErr r (RefusesAt P map w name home_a old new) → IfErr r Is
+refused_each (Ok x) is refuses = tt
+refused_each (Err why) is refuses = is why refuses
+
+pub refused_walks : {D T : Type 0} (P : Ghosts D) (map : Area) (w : Waits) (name : List ℕ) (home_a : ℕ) (old new : D) (r : Result T Refusal)
+    → IfErr r (RefusesAt P map w name home_a old new) → OnErr r (OnlyWalks P (outer_in r) old new)
+refused_walks P map w name home_a old new (Ok x) refuses = tt
+refused_walks P map w name home_a old new (Err why) refuses = refuses.kept
+
+-- and put together, in a cache
+module _ {D E : Type 0} (M : MachineGhosts D) (S : SourceGhosts E) (source : E) (map : Area) (w : Waits) (name : List ℕ) (m m' : D) (old new : CacheValue) (free flags : List Bool) where
+  pub enters_in : {F : Type 0} (given : Option ℕ) (draft : Entry) (r : Result Plan F) → IfOk r (λ plan. plan.key.name ≡ name) → IfOk r (λ plan. OfTableIn M S source m m' old free (λ table. IsPlan name given table plan))
+      → IfOk r (λ plan. AreInTurn map w [] plan.gone.items) → IfOk r (λ plan. 8 ≤ count_by (λ spare. spare) free)
+      → IfOk r (λ plan. EditsTable M S source m m' old new free flags (with_planned plan (planned_entry plan draft.serial draft.length draft.runs))) → IfOk r (EntersIn M S source map w name given draft m m' old new free flags)
+  enters_in given draft (Ok plan) name_is planned taken full made = record { name_is = name_is; planned = planned; taken = taken; full = full; made = made }
+  enters_in given draft (Err why) name_is planned taken full made = tt
+
+  pub refuses_in : {T : Type 0} (home_a : ℕ) (r : Result T Refusal) → OnErr r (StaysInCache M S source m m' old new free flags) → OnErr r (LooksOnly M S source (outer_in r) m m' old new free)
+      → IfErr r (EntersNoneIn M S source map w name m m' old new free flags) → IfErr r (ShowsUnsound M S source map w m m' old new free home_a) → IfErr r (RefusesIn M S source map w name m m' old new free flags home_a)
+  refuses_in home_a (Ok x) kept looks fault shown = tt
+  refuses_in home_a (Err why) kept looks fault shown = record { kept = kept; looks = looks; fault = fault; shown = shown }

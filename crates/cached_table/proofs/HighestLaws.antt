@@ -14,7 +14,7 @@ use Rattle.name_page.specs.Looks.{OnlyWalks}
 use Rattle.name_page.specs.Pages.{Step}
 use Rattle.name_btree.specs.declared.fault.TreeFault.{TreeFault}
 use Rattle.name_btree.specs.declared.fault.TreeFault.TheVariants.{Pages, Broken}
-use Rattle.name_btree.specs.Fault.{BarsTable, HasCause}
+use Rattle.name_btree.specs.Fault.{BarsTable, HasTreeCause}
 use Rattle.name_btree.specs.Map.{HasTable, IsTable}
 use Rattle.name_btree.proofs.CallLaws.{same_table}
 use Rattle.version_table.specs.declared.fault.VersionFault.{VersionFault}
@@ -82,7 +82,7 @@ none_after P refusal a b c first then = record {
 
 -- ---- why it fails
 
-pub fails_trusted : (trusted : Type 0) (s : Step) (fault : TreeFault) → HasCause s (λ page. trusted → BreaksTable s.images page) (λ page. trusted → BarsTable s page) fault → trusted → HasCause s (BreaksTable s.images) (BarsTable s) fault
+pub fails_trusted : (trusted : Type 0) (s : Step) (fault : TreeFault) → HasTreeCause s (λ page. trusted → BreaksTable s.images page) (λ page. trusted → BarsTable s page) fault → trusted → HasTreeCause s (BreaksTable s.images) (BarsTable s) fault
 fails_trusted trusted s (Pages refusal) fails t = (
   fails.0,
   elim fails.1 [

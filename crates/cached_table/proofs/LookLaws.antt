@@ -1,8 +1,8 @@
 -- What a table over a cache leaves where it was looked into.
 use Rattle.std.proofs.Common.{◌≡◌, ℕ, ◌<◌, Bool, true, List, length, Option, Some, None, Result, Ok, Err, refl, sym, ap, subst, ◌∙◌, arith, ◌⊎◌, inl, inr, ◌≤◌, false, ◌||◌}
-use Rattle.std.specs.Prelude.{IfErr, IfNone, IfOk, IfSome, slice_get, slice_index_or, nat_eq, option_and_then}
+use Rattle.std.specs.Prelude.{IfErr, IfOk, slice_get, slice_index_or, nat_eq, option_and_then}
 use Rattle.std.specs.Borrow.{MutBor}
-use Rattle.std.specs.Option.{option_or}
+use Rattle.std.specs.Option.{MatchOption, option_or}
 use Rattle.std.proofs.lemmas.Bool.{both_ways, eqb-true, or_right}
 use Rattle.fsd_bytes.specs.declared.refusal.Refusal.{Refusal}
 use Rattle.fsd_bytes.specs.declared.refusal.Refusal.TheVariants.{Unsound}
@@ -13,25 +13,26 @@ use Rattle.fsd_table.specs.Table.{BreaksTable}
 use Rattle.fsd_table.specs.Tree.{IsTree, table_of}
 use Rattle.sector_disk.specs.declared.machine.Machine.{Ghosts as MachineGhosts}
 use Rattle.page_cache.specs.declared.source.PageSource.{Ghosts as SourceGhosts}
-use Rattle.page_cache.specs.Cache.{CacheValue, is_one_of, newest}
+use Rattle.page_cache.specs.Cache.{CacheValue, is_among, newest_bytes}
 use Rattle.name_page.specs.Looks.{Agrees, Shows}
 use Rattle.name_page.specs.Pages.{Step, IsBarred, IsOuter, home_of, is_one_of as among, is_spare}
 use Rattle.name_page.proofs.LookLaws.{agrees_at, agrees_now}
 use Rattle.name_btree.specs.declared.fault.TreeFault.{TreeFault}
 use Rattle.name_btree.specs.declared.fault.TreeFault.TheVariants.{Pages, Broken}
-use Rattle.name_btree.specs.Fault.{BarsTable, HasCause, IsOnWay, ShowsCause}
+use Rattle.name_btree.specs.Fault.{BarsTable, HasTreeCause, IsOnWay, ShowsCause}
 use Rattle.name_btree.specs.declared.lookup.FoundEntry.{FoundEntry}
-use Rattle.name_btree.specs.Lookup.{IsLedTo, StandsIn, entry_of}
+use Rattle.name_btree.specs.Lookup.{IsLedTo, IsMetAs, StandsIn, found_entry}
 use Rattle.table_pages.specs.Bringing.{IsTrusted, given_by, home_in}
 use Rattle.table_pages.specs.Kept.{IsReady}
 use Rattle.table_pages.specs.ImageLaws.{image_at, image_count}
 use Rattle.table_pages.specs.Reads.{HadRefused}
-use Rattle.table_pages.specs.Table.{BarsPlace, IsOver, Leaves, ReadsOnly, Trusted, begun, step_of}
+use Rattle.table_pages.specs.Table.{BarsPlace, IsOver, LeavesTable, ReadsOnly, Trusted, fresh_step, step_of}
 use Rattle.table_pages.specs.declared.table.Table.{Table}
 use Rattle.table_pages.proofs.KeptLaws.{reached_there}
 use Rattle.cached_table.proofs.LeftLaws.{clean_left, fills_left, images_left, loses_left, reads_left, ready_left, trusted_left}
 use Rattle.cached_table.proofs.ResidentLaws.{in_memory}
-use Rattle.cached_table.specs.Looking.{FaultIn, FaultsOver, Had, HaveOthers, HavePages, LeadsTo, LooksOnly, ShowsFault, ShowsPlace, images_by}
+use Rattle.cached_table.specs.Finding.{FailsToFind, IsFoundIn, IsOfPages}
+use Rattle.cached_table.specs.Looking.{FaultIn, Had, HaveOthers, HavePages, LeadsTo, LooksOnly, ShowsFault, ShowsPlace, images_by}
 use Rattle.cached_table.proofs.StayLaws.{StaysStep, agrees_then, kept_then, leads_then}
 use Rattle.cached_table.proofs.VisitLaws.{refused_breaks, way_within}
 
@@ -44,14 +45,14 @@ home_named home_a page place is = cc is
 
 -- ---- faults
 
-pub fault_there : (s : Step) (f : TreeFault) → HasCause s (BreaksTable s.images) (BarsTable s) f → FaultIn s.images s.spares s.home_a f
+pub fault_there : (s : Step) (f : TreeFault) → HasTreeCause s (BreaksTable s.images) (BarsTable s) f → FaultIn s.images s.spares s.home_a f
 fault_there s (Pages refusal) cause = cause.1
 fault_there s (Broken page) cause = cause
 
 module _ {D E : Type 0} {M : MachineGhosts D} {S : SourceGhosts E} where
   module _ {refusal : Option Refusal} {m : MutBor D} {cache : MutBor CacheValue} {source : E} {free : MutBor (List Bool)} {home_a : ℕ} {a b : Table D E M S} {m' : D} {cache' : CacheValue} {free' : List Bool}
-      (over : IsOver m cache source free a) (begins : step_of a ≡ begun (given_by M S source m.now) cache.now free.now home_a)
-      (looks : StaysStep (step_of a) (step_of b)) (outside : ReadsOnly refusal a b) (left : Leaves b m' cache' free') where
+      (over : IsOver m cache source free a) (begins : step_of a ≡ fresh_step (given_by M S source m.now) cache.now free.now home_a)
+      (looks : StaysStep (step_of a) (step_of b)) (outside : ReadsOnly refusal a b) (left : LeavesTable b m' cache' free') where
     free_b : b.free.now ≡ free.now
     free_b = looks.spares ∙ ap (λ (f : MutBor (List Bool)). f.now) over.spared
 
@@ -69,18 +70,13 @@ module _ {D E : Type 0} {M : MachineGhosts D} {S : SourceGhosts E} where
     images_last = ap (λ (f : List Bool). images_by M S source m' cache' (length f)) (sym free_left) ∙ images_left over outside left
 
     within : (page : ℕ) → page < length (step_of b).images → page < length free.now
-    within page lt = omega (arith, lt, image_count (newest b.cache.now (given_by M S b.source.now b.m.now)) (length b.free.now), ap (λ (f : List Bool). length f) free_b)
-
-    pub pages_within : (r : Result (Option FoundEntry) TreeFault) → IfOk r (λ found. IfSome found (StandsIn (step_of b))) → IfOk r (λ found. IfSome found (λ f. f.page < length free.now))
-    pages_within (Err fault) there = tt
-    pages_within (Ok None) there = tt
-    pages_within (Ok (Some f)) there = within f.page there.reached.0
+    within page lt = omega (arith, lt, image_count (newest_bytes b.cache.now (given_by M S b.source.now b.m.now)) (length b.free.now), ap (λ (f : List Bool). length f) free_b)
 
     -- what was found in the table, where the outside is trusted
-    pub found_left : (look : List Entry → Option Entry) (r : Result (Option FoundEntry) TreeFault) → IfOk r (λ found. Trusted b → (height : ℕ) → IsTree (step_of a).images height → entry_of found ≡ look (table_of (step_of a).images height))
-        → IfOk r (λ found. IsTrusted M S source m.now cache.now m' → (height : ℕ) → IsTree (images_by M S source m.now cache.now (length free.now)) height → entry_of found ≡ look (table_of (images_by M S source m.now cache.now (length free.now)) height))
+    pub found_left : (look : List Entry → Option Entry) (r : Result (Option FoundEntry) TreeFault) → IfOk r (λ found. Trusted b → (height : ℕ) → IsTree (step_of a).images height → found_entry found ≡ look (table_of (step_of a).images height))
+        → IfOk r (λ found. IsTrusted M S source m.now cache.now m' → (height : ℕ) → IsTree (images_by M S source m.now cache.now (length free.now)) height → found_entry found ≡ look (table_of (images_by M S source m.now cache.now (length free.now)) height))
     found_left look (Err fault) found = tt
-    found_left look (Ok o) found = λ t height. subst (λ (pages : List (List ℕ)). IsTree pages height → entry_of o ≡ look (table_of pages height)) images_first (found (trusted_left over outside left t) height)
+    found_left look (Ok o) found = λ t height. subst (λ (pages : List (List ℕ)). IsTree pages height → found_entry o ≡ look (table_of pages height)) images_first (found (trusted_left over outside left t) height)
 
     -- pages with what is in the cache in the end have what was in it then
     have_before : (pages : List (List ℕ)) → HavePages cache' (length free.now) pages → HavePages b.cache.now (length free.now) pages
@@ -92,25 +88,20 @@ module _ {D E : Type 0} {M : MachineGhosts D} {S : SourceGhosts E} where
     leads : (f : FoundEntry) → StandsIn (step_of b) f → IsLedTo (step_of b) f → (pages : List (List ℕ)) → HavePages cache' (length free.now) pages → LeadsTo pages f
     leads f there way pages have = leads_then m cache source free a b over looks f there way pages (have_before pages have)
 
-    pub leads_left : (r : Result (Option FoundEntry) TreeFault) → IfOk r (λ found. IfSome found (StandsIn (step_of b))) → IfOk r (λ found. IfSome found (IsLedTo (step_of b)))
-        → IfOk r (λ found. IfSome found (λ f. (pages : List (List ℕ)) → HavePages cache' (length free.now) pages → LeadsTo pages f))
-    leads_left (Err fault) there way = tt
-    leads_left (Ok None) there way = tt
-    leads_left (Ok (Some f)) there way = leads f there way
-
-    -- where nothing is found, what is in the cache in the end shows why
-    pub absent_left : {Shown : Type 0} {Is : List (List ℕ) → Type 0} → ((pages : List (List ℕ)) → Agrees pages (step_of b) → Shown → Is pages) → (r : Result (Option FoundEntry) TreeFault) → IfOk r (λ found. IfNone found Shown)
-        → IfOk r (λ found. IfNone found ((pages : List (List ℕ)) → HavePages cache' (length free.now) pages → Is pages))
-    absent_left is (Err fault) shown = tt
-    absent_left is (Ok None) shown = λ pages have. is pages (agrees pages have) shown
-    absent_left is (Ok (Some f)) shown = tt
-
-    -- and where it is, what it is
-    pub found_shown : {Shown : FoundEntry → Type 0} {Is : FoundEntry → List (List ℕ) → Type 0} → ((f : FoundEntry) (pages : List (List ℕ)) → Agrees pages (step_of b) → Shown f → Is f pages) → (r : Result (Option FoundEntry) TreeFault) → IfOk r (λ found. IfSome found Shown)
-        → IfOk r (λ found. IfSome found (λ f. (pages : List (List ℕ)) → HavePages cache' (length free.now) pages → Is f pages))
-    found_shown is (Err fault) shown = tt
-    found_shown is (Ok None) shown = tt
-    found_shown is (Ok (Some f)) shown = λ pages have. is f pages (agrees pages have) shown
+    -- what is found, or where nothing is, what is in the cache in the end shows why
+    pub tells_left : {Lacks : Type 0} {Suits Is : Entry → Type 0} {Absent : List (List ℕ) → Type 0}
+        → ((pages : List (List ℕ)) → Agrees pages (step_of b) → Lacks → Absent pages)
+        → ((e : Entry) → ((pages : List (List ℕ)) → HavePages cache' (length free.now) pages → Agrees pages (step_of b)) → Suits e → Is e)
+        → (r : Result (Option FoundEntry) TreeFault) → IfOk r (λ found. MatchOption found Lacks (IsMetAs (step_of b) Suits))
+        → IfOk r (λ found. MatchOption found (IsOfPages cache' (length free.now) Absent) (IsFoundIn cache' (length free.now) Is))
+    tells_left lacks is (Err fault) told = tt
+    tells_left lacks is (Ok None) told = λ pages have. lacks pages (agrees pages have) told
+    tells_left lacks is (Ok (Some f)) told = record {
+      page = within f.page told.there.reached.0;
+      entry = told.entry;
+      suits = is f.entry agrees told.suits;
+      way = leads f told.there told.way;
+    }
 
     -- ---- what shows that a page breaks
 
@@ -118,7 +109,7 @@ module _ {D E : Type 0} {M : MachineGhosts D} {S : SourceGhosts E} where
     home_b = looks.home_a ∙ ap (λ (s : Step). s.home_a) begins
 
     count_b : length (step_of b).images ≡ length free.now
-    count_b = image_count (newest b.cache.now (given_by M S b.source.now b.m.now)) (length b.free.now) ∙ ap (λ (f : List Bool). length f) free_b
+    count_b = image_count (newest_bytes b.cache.now (given_by M S b.source.now b.m.now)) (length b.free.now) ∙ ap (λ (f : List Bool). length f) free_b
 
     -- the page was reached, or is dirty
     abbrev was_reached : ℕ → Bool
@@ -133,7 +124,7 @@ module _ {D E : Type 0} {M : MachineGhosts D} {S : SourceGhosts E} where
           let lt : q < length free.now = within q is.0 in
           let lt_b : q < length b.free.now = omega (arith, lt, ap (λ (f : List Bool). length f) free_b) in
           have.same q there.0 lt (other q is.1) (left.pins.bytes q ∙ there.1)
-          ∙ sym (image_at (newest b.cache.now (given_by M S b.source.now b.m.now)) (length b.free.now) q there.0 lt_b (ap (λ (o : Option (List ℕ)). option_or o (given_by M S b.source.now b.m.now q)) there.1));
+          ∙ sym (image_at (newest_bytes b.cache.now (given_by M S b.source.now b.m.now)) (length b.free.now) q there.0 lt_b (ap (λ (o : Option (List ℕ)). option_or o (given_by M S b.source.now b.m.now q)) there.1));
     }
       where
         other : (q : ℕ) → was_reached q ≡ true → nat_eq q page ≡ false
@@ -174,7 +165,7 @@ module _ {D E : Type 0} {M : MachineGhosts D} {S : SourceGhosts E} where
         ⊎ ((bytes : List ℕ) × (page < length free.now) × Had M S source (M.now m.now) cache.now page bytes × ((pages : List (List ℕ)) → HaveOthers cache' (length free.now) page bytes pages → BreaksTable pages page)))
 
     barred_how : (page : ℕ) → page < length free.now → IsBarred (step_of b) page → Shows (step_of b) (λ pages. IsOnWay pages page)
-        → (slice_index_or b.free.now page false ≡ true) ⊎ ((is_one_of b.cache.now.dirty page ≡ true) ⊎ HadRefused M S a.source.now (M.now a.m.now) a.cache.now (length b.free.now) page)
+        → (slice_index_or b.free.now page false ≡ true) ⊎ ((is_among b.cache.now.dirty page ≡ true) ⊎ HadRefused M S a.source.now (M.now a.m.now) a.cache.now (length b.free.now) page)
         → (place : ℕ) → place ≡ home_in home_a page → ShowsPlace M S source (M.now m.now) cache.now cache' free.now home_a place
     barred_how page lt bars way why place home = record { page = page; home = home; how = by (is_spare (step_of b).spares page) refl }
       where
@@ -186,7 +177,7 @@ module _ {D E : Type 0} {M : MachineGhosts D} {S : SourceGhosts E} where
         unread used (inr none) = none
 
         beside : is_spare (step_of b).spares page ≡ false → was_reached page ≡ false
-            → (slice_index_or b.free.now page false ≡ true) ⊎ ((is_one_of b.cache.now.dirty page ≡ true) ⊎ HadRefused M S a.source.now (M.now a.m.now) a.cache.now (length b.free.now) page) → How page
+            → (slice_index_or b.free.now page false ≡ true) ⊎ ((is_among b.cache.now.dirty page ≡ true) ⊎ HadRefused M S a.source.now (M.now a.m.now) a.cache.now (length b.free.now) page) → How page
         beside used out (inl free) = absurd (both_ways (is_spare (step_of b).spares page) used free)
         beside used out (inr (inl dirty)) = absurd (both_ways (was_reached page) out (or_right (among b.reached.items page) (among b.cache.now.dirty page) dirty))
         beside used out (inr (inr had)) = let was = was_had page had in inr (inr (was.0, lt, was.1, had_refused page was.0 out was.2 way))
@@ -218,25 +209,23 @@ module _ {D E : Type 0} {M : MachineGhosts D} {S : SourceGhosts E} where
             let lt : x.0 < length b.free.now = omega (arith, way_within (step_of b).images (omega (arith, bars.within, count_b, ap (λ (f : List Bool). length f) free_b)) x.0 (x.3 (step_of b).images (agrees_now (step_of b))), count_b, ap (λ (f : List Bool). length f) free_b) in
             let same : x.0 ≡ bars.page = same_page bars.page x.0 place bars.within lt bars.home place_is in
             barred_how x.0 (omega (arith, lt, ap (λ (f : List Bool). length f) free_b)) x.2 x.3
-            (subst (λ (page : ℕ). (slice_index_or b.free.now page false ≡ true) ⊎ ((is_one_of b.cache.now.dirty page ≡ true) ⊎ HadRefused M S a.source.now (M.now a.m.now) a.cache.now (length b.free.now) page)) (sym same) bars.why)
+            (subst (λ (page : ℕ). (slice_index_or b.free.now page false ≡ true) ⊎ ((is_among b.cache.now.dirty page ≡ true) ⊎ HadRefused M S a.source.now (M.now a.m.now) a.cache.now (length b.free.now) page)) (sym same) bars.why)
             place (place_is ∙ ap (λ (h : ℕ). home_in h x.0) home_b)
 
-    pub shows_fault : (f : TreeFault) → HasCause (step_of b) (BreaksTable (step_of b).images) (BarsTable (step_of b)) f → ShowsCause (step_of b) BreaksTable IsOnWay f → ShowsFault M S source m.now m' cache.now cache' free.now home_a f
+    pub shows_fault : (f : TreeFault) → HasTreeCause (step_of b) (BreaksTable (step_of b).images) (BarsTable (step_of b)) f → ShowsCause (step_of b) BreaksTable IsOnWay f → ShowsFault M S source m.now m' cache.now cache' free.now home_a f
     shows_fault (Broken page) cause shown = λ honest place is. record { page = page; home = home_named home_a page place is; how = inr (inl (λ pages have. shown pages (agrees pages have))) }
     shows_fault (Pages refused) cause shown = λ honest place is. refused_place honest refused cause.0 place is shown
 
-    pub shown_left : {T : Type 0} → (r : Result T TreeFault) → IfErr r (HasCause (step_of b) (BreaksTable (step_of b).images) (BarsTable (step_of b)))
-        → IfErr r (ShowsCause (step_of b) BreaksTable IsOnWay) → IfErr r (ShowsFault M S source m.now m' cache.now cache' free.now home_a)
-    shown_left (Ok x) cause shown = tt
-    shown_left (Err f) cause shown = shows_fault f cause shown
-
-    pub faults_left : {T : Type 0} → (r : Result T TreeFault) → IfErr r (HasCause (step_of b) (BreaksTable (step_of b).images) (BarsTable (step_of b)))
-        → IfErr r (FaultsOver M S source m' cache' free.now home_a)
-    faults_left (Ok x) cause = tt
-    faults_left (Err f) cause = record {
-      cause = subst (λ (images : List (List ℕ)). FaultIn images free.now home_a f) (sym images_last)
-          (subst (λ (flags : List Bool). FaultIn (step_of b).images flags home_a f) free_b
-          (subst (λ (h : ℕ). FaultIn (step_of b).images (step_of b).spares h f) home_b (fault_there (step_of b) f cause)));
+    pub fails_left : {T : Type 0} → (r : Result T TreeFault) → IfErr r (HasTreeCause (step_of b) (BreaksTable (step_of b).images) (BarsTable (step_of b)))
+        → IfErr r (ShowsCause (step_of b) BreaksTable IsOnWay) → IfErr r (FailsToFind M S source m.now m' cache.now cache' free.now home_a)
+    fails_left (Ok x) cause shown = tt
+    fails_left (Err f) cause shown = record {
+      cause = record {
+        cause = subst (λ (images : List (List ℕ)). FaultIn images free.now home_a f) (sym images_last)
+            (subst (λ (flags : List Bool). FaultIn (step_of b).images flags home_a f) free_b
+            (subst (λ (h : ℕ). FaultIn (step_of b).images (step_of b).spares h f) home_b (fault_there (step_of b) f cause)));
+      };
+      shown = shows_fault f cause shown;
     }
 
     pub looks_left : (Trusted b → (step_of b).images ≡ (step_of a).images) → LooksOnly M S source refusal m.now m' cache.now cache' free.now

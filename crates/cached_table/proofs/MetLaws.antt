@@ -15,10 +15,10 @@ use Rattle.name_page.specs.declared.pages.Pages.{Ghosts as PagesGhosts}
 use Rattle.name_page.specs.Looks.{OnlyWalks}
 use Rattle.name_page.specs.Pages.{Step}
 use Rattle.name_btree.specs.declared.fault.TreeFault.{TreeFault}
-use Rattle.name_btree.specs.Fault.{BarsTable, HasCause, IsOnWay, ShowsCause}
+use Rattle.name_btree.specs.Fault.{BarsTable, HasTreeCause, IsOnWay, ShowsCause}
 use Rattle.name_btree.specs.Lookup.{IsLedTo, StandsIn}
 use Rattle.table_pages.specs.Bringing.{given_by, home_in}
-use Rattle.table_pages.specs.Table.{IsOver, Leaves, ReadsOnly, begun, step_of}
+use Rattle.table_pages.specs.Table.{IsOver, LeavesTable, ReadsOnly, fresh_step, step_of}
 use Rattle.table_pages.specs.declared.table.Table.{Table}
 use Rattle.version_table.specs.Met.{found_of}
 use Rattle.version_table.specs.declared.oldest.Leaving.{Leaving}
@@ -41,7 +41,7 @@ pub record MetBy {T : Type 0} (step : T → Step) (outside : Option Refusal → 
 -- why a place is told as unsound, by the steps of the pages and what happened outside
 abbrev pub ShownBy : {T : Type 0} (step : T → Step) (outside : Option Refusal → T → T → Type 0) → Area → Waits → (home_a : ℕ) → (old new : T) → Refusal → Type 0
 ShownBy step outside map w home_a old new (Why.Unsound s) =
-    ((f : TreeFault) × (refusal_in home_a f ≡ Why.Unsound s) × HasCause (step new) (BreaksTable (step new).images) (BarsTable (step new)) f × ShowsCause (step new) BreaksTable IsOnWay f)
+    ((f : TreeFault) × (refusal_in home_a f ≡ Why.Unsound s) × HasTreeCause (step new) (BreaksTable (step new).images) (BarsTable (step new)) f × ShowsCause (step new) BreaksTable IsOnWay f)
     ⊎ ((g : Leaving) × MetBy step outside old new g × (s ≡ home_in home_a g.page) × (AreTaken map w g.entry.runs → ⊥))
 ShownBy step outside map w home_a old new other = ⊤
 
@@ -60,8 +60,8 @@ shown_steps P refusal map w name home_a old new (Err why) walks shown = (walks_s
 
 module _ {D E : Type 0} {M : MachineGhosts D} {S : SourceGhosts E} where
   module _ {refusal : Option Refusal} {m : MutBor D} {cache : MutBor CacheValue} {source : E} {free : MutBor (List Bool)} {home_a : ℕ} {a b : Table D E M S} {m' : D} {cache' : CacheValue} {free' : List Bool}
-      (over : IsOver m cache source free a) (begins : step_of a ≡ begun (given_by M S source m.now) cache.now free.now home_a)
-      (outside : ReadsOnly refusal a b) (left : Leaves b m' cache' free') (map : Area) (w : Waits) where
+      (over : IsOver m cache source free a) (begins : step_of a ≡ fresh_step (given_by M S source m.now) cache.now free.now home_a)
+      (outside : ReadsOnly refusal a b) (left : LeavesTable b m' cache' free') (map : Area) (w : Waits) where
     shown_by : StaysStep (step_of a) (step_of b) → (r : Refusal) → ShownBy step_of ReadsOnly map w home_a a b r → ShowsUnsound M S source map w m.now m' cache.now cache' free.now home_a r
     shown_by stays (Why.Unsound s) (inl x) = λ h. inl (shows_fault over begins stays outside left x.0 x.2 x.3 h s x.1)
     shown_by stays (Why.Unsound s) (inr x) = λ h.

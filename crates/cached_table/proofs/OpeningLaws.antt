@@ -33,11 +33,11 @@ use Rattle.name_btree.specs.Fault.{outer_of}
 use Rattle.name_btree.proofs.WithinLaws.{broken_within}
 use Rattle.name_btree.specs.Walk.{AreMarksOf}
 use Rattle.group_commit.proofs.NewestLaws.{lost_home}
-use Rattle.page_cache.specs.Cache.{CacheValue, Held, IsResident, bytes_of, held, is_one_of, newest, no_pages}
+use Rattle.page_cache.specs.Cache.{CacheValue, Held, IsResident, cached_bytes, held, is_among, newest_bytes, no_pages}
 use Rattle.table_pages.specs.Bringing.{IsTrusted, given_by, home_in}
 use Rattle.table_pages.specs.ImageLaws.{image_at, image_count}
-use Rattle.table_pages.specs.Reads.{LosesFor, device_of}
-use Rattle.table_pages.specs.Table.{begun}
+use Rattle.table_pages.specs.Reads.{LosesFor, outer_device}
+use Rattle.table_pages.specs.Table.{fresh_step}
 use Rattle.table_survey.specs.Survey.{IsSurveyed, visited}
 use Rattle.table_survey.specs.declared.surveying.TableCounts.{TableCounts}
 use Rattle.volume_contract.specs.Mount.{BreaksAt}
@@ -51,7 +51,7 @@ use Rattle.cached_table.specs.contracts.homes.HomesPageSource.TheImpl as at_home
 -- ---- the fault of a mount that a refusal is
 
 -- a refusal is the disk's, a loss, or a page that breaks the table; of any other a want of memory is told
-refusal_cases : (P : Refusal → MountFault → Type 0) → ((s : ℕ) → P (Why.Device s) (Fault.Device s)) → ((a b : ℕ) → P (Why.Lost a b) (Fault.Lost a b)) → ((s : ℕ) → P (Why.Unsound s) (Fault.Unsound s)) → ((r : Refusal) → device_of (outer_refusal r) ≡ None → P r Fault.Memory)
+refusal_cases : (P : Refusal → MountFault → Type 0) → ((s : ℕ) → P (Why.Device s) (Fault.Device s)) → ((a b : ℕ) → P (Why.Lost a b) (Fault.Lost a b)) → ((s : ℕ) → P (Why.Unsound s) (Fault.Unsound s)) → ((r : Refusal) → outer_device (outer_refusal r) ≡ None → P r Fault.Memory)
     → (r : Refusal) → P r (mount_fault_for r)
 refusal_cases P device lost unsound memory Why.NoSuch = memory Why.NoSuch refl
 refusal_cases P device lost unsound memory (Why.TooLong n) = memory (Why.TooLong n) refl
@@ -74,16 +74,16 @@ refusal_cases P device lost unsound memory (Why.Short declared got) = memory (Wh
 refusal_cases P device lost unsound memory (Why.Long declared got) = memory (Why.Long declared got) refl
 refusal_cases P device lost unsound memory (Why.LayoutIs n) = memory (Why.LayoutIs n) refl
 
-device_told : (home_a : ℕ) (f : TreeFault) → device_of_mount (mount_fault_in home_a f) ≡ device_of (outer_of f)
+device_told : (home_a : ℕ) (f : TreeFault) → device_of_mount (mount_fault_in home_a f) ≡ outer_device (outer_of f)
 device_told home_a (Broken page) = refl
-device_told home_a (Pages r) = refusal_cases (λ was told. device_of_mount told ≡ device_of (outer_refusal was)) (λ s. refl) (λ a b. refl) (λ s. refl) (λ r none. sym none) r
+device_told home_a (Pages r) = refusal_cases (λ was told. device_of_mount told ≡ outer_device (outer_refusal was)) (λ s. refl) (λ a b. refl) (λ s. refl) (λ r none. sym none) r
 
 pub opens_fault : (home_a : ℕ) (f : TreeFault) → IsOpenFault (mount_fault_in home_a f)
 opens_fault home_a (Broken page) = tt
 opens_fault home_a (Pages r) = refusal_cases (λ was told. IsOpenFault told) (λ s. tt) (λ a b. tt) (λ s. tt) (λ r none. tt) r
 
 module _ {D : Type 0} (M : MachineGhosts D) (l : Layout) (m m' : D) (home_a : ℕ) (f : TreeFault) where
-  pub reads_told : OnlyReads M (device_of (outer_of f)) m m' → OnlyReads M (device_of_mount (mount_fault_in home_a f)) m m'
+  pub reads_told : OnlyReads M (outer_device (outer_of f)) m m' → OnlyReads M (device_of_mount (mount_fault_in home_a f)) m m'
   reads_told reads = subst (λ (fault : Option ℕ). OnlyReads M fault m m') (sym (device_told home_a f)) reads
 
 module _ {D : Type 0} (M : MachineGhosts D) (l : Layout) (m' : D) (home_a : ℕ) where
@@ -161,7 +161,7 @@ module _ {D : Type 0} (M : MachineGhosts D) (l : Layout) (planned : plan l.kind 
   -- ---- the pages are a table
 
   module _ (refusal : Option Refusal) (only : SurveysOnly M at_home.ghosts l refusal m m' c0 c (length free)) where
-    resident : (page : ℕ) (bytes : List ℕ) → bytes_of c page ≡ Some bytes → IsResident c page
+    resident : (page : ℕ) (bytes : List ℕ) → cached_bytes c page ≡ Some bytes → IsResident c page
     resident page bytes there = by (held c page) there
       where
         by : (o : Option Held) → option_map (λ (h : Held). h.bytes) o ≡ Some bytes → IsSome o
@@ -169,22 +169,22 @@ module _ {D : Type 0} (M : MachineGhosts D) (l : Layout) (planned : plan l.kind 
         by (Some h) e = refl
 
     -- a page in memory is what stood at home
-    from_home : (page : ℕ) (bytes : List ℕ) → bytes_of c page ≡ Some bytes → home_by l (M.now m).image page ≡ Some bytes
+    from_home : (page : ℕ) (bytes : List ℕ) → cached_bytes c page ≡ Some bytes → home_by l (M.now m).image page ≡ Some bytes
     from_home page bytes there =
         let wears = only.reads.worn honest in
-        let rests : is_one_of c.dirty page ≡ false = ap (λ (d : List ℕ). is_one_of d page) (only.dirty ∙ ap (λ (x : CacheValue). x.dirty) is_new) in
+        let rests : is_among c.dirty page ≡ false = ap (λ (d : List ℕ). is_among d page) (only.dirty ∙ ap (λ (x : CacheValue). x.dirty) is_new) in
         sym (home_stays l (M.now m) (M.now m') wears.image wears.windows knows page) ∙ sym (only.clean trusted page (resident page bytes there) rests) ∙ there
 
-    inside : (page : ℕ) (bytes : List ℕ) → bytes_of c page ≡ Some bytes → page < l.pages
+    inside : (page : ℕ) (bytes : List ℕ) → cached_bytes c page ≡ Some bytes → page < l.pages
     inside page bytes there = elim (cases_lt page l.pages) [
       | inl lt ↦ lt
       | inr past ↦ absurd (cc (from_home page bytes there, past_homes l (M.now m).image page past))
     ]
 
-    memory : (page : ℕ) (bytes : List ℕ) → bytes_of c page ≡ Some bytes → page_in (home_pages l (M.now m).image) page ≡ bytes
+    memory : (page : ℕ) (bytes : List ℕ) → cached_bytes c page ≡ Some bytes → page_in (home_pages l (M.now m).image) page ≡ bytes
     memory page bytes there = get_or_from_slice_get (home_pages l (M.now m).image) page bytes [] (image_at (home_by l (M.now m).image) l.pages page bytes (inside page bytes there) (from_home page bytes there))
 
-    pub table_of : (area : Area) (marks spare : List Bool) (s : TableCounts) → (IsTrusted M at_home.ghosts l m c0 m' → IsSurveyed l (begun (given_by M at_home.ghosts l m) c0 free first) area marks s)
+    pub table_of : (area : Area) (marks spare : List Bool) (s : TableCounts) → (IsTrusted M at_home.ghosts l m c0 m' → IsSurveyed l (fresh_step (given_by M at_home.ghosts l m) c0 free first) area marks s)
         → (IsTrusted M at_home.ghosts l m c0 m' → (page : ℕ) → Breaks l (images_by M at_home.ghosts l m c0 (length free)) page → ⊥) → s.pages ≡ count_by (λ b. b) marks → length marks ≡ l.pages → length spare ≡ length marks → ((page : ℕ) → page < length marks → slice_index_or spare page false ≡ not (slice_index_or marks page false))
         → IsTableOf l (home_pages l (M.now m).image) (record { cache = c; free_pages = spare; map = area; versions = s.versions })
     table_of area marks spare s surveyed unbroken counted long as_long spares = let t = surveyed trusted in record {
@@ -212,7 +212,7 @@ module _ {D : Type 0} (M : MachineGhosts D) (l : Layout) (planned : plan l.kind 
   at_first page lt = ap (λ (h : ℕ). home_in h page) home_first ∙ home_number l planned page lt
 
   images_many : length (images_by M at_home.ghosts l m c0 (length free)) ≡ l.pages
-  images_many = image_count (newest c0 (given_by M at_home.ghosts l m)) (length free) ∙ count
+  images_many = image_count (newest_bytes c0 (given_by M at_home.ghosts l m)) (length free) ∙ count
 
   -- a page that is barred breaks them
   barred : (page : ℕ) → BarsPages (images_by M at_home.ghosts l m c0 (length free)) free page → BreaksAt l (home_pages l (M.now m).image) (home_in first page)

@@ -13,12 +13,12 @@ use Rattle.fsd_table.specs.Table.{max_height}
 use Rattle.fsd_forest.specs.Met.{is_up_to, met_at, met_below, pages_met, search_of}
 use Rattle.sector_disk.specs.declared.machine.Machine.{Ghosts as MachineGhosts}
 use Rattle.page_cache.specs.declared.source.PageSource.{Ghosts as SourceGhosts}
-use Rattle.page_cache.specs.Cache.{CacheValue, IsResident, bytes_of}
+use Rattle.page_cache.specs.Cache.{CacheValue, IsResident, cached_bytes}
 use Rattle.page_cache.proofs.KeepLaws.{bytes_resident}
 use Rattle.name_page.specs.Pages.{NeedsNoMemory, is_spare}
-use Rattle.page_cache.specs.Accepted.{content_in}
+use Rattle.page_cache.specs.Accepted.{cached_content}
 use Rattle.table_pages.specs.Bringing.{given_by}
-use Rattle.table_pages.specs.Table.{HasPage, IsOver, Leaves, step_of}
+use Rattle.table_pages.specs.Table.{HasPage, IsOver, LeavesTable, step_of}
 use Rattle.table_pages.specs.declared.table.Table.{Table}
 use Rattle.table_pages.proofs.PinLaws.{only_there}
 use Rattle.table_pages.proofs.StepLaws.{page_in, within_free}
@@ -70,8 +70,8 @@ module _ (In Other : ℕ → Type 0) where
 
 -- ---- over a cache
 
-content_there : (c : CacheValue) (count page : ℕ) → IsSome (content_in c count page) → IsResident c page
-content_there c count page some = bytes_resident c page (by (bytes_of c page) some)
+content_there : (c : CacheValue) (count page : ℕ) → IsSome (cached_content c count page) → IsResident c page
+content_there c count page some = bytes_resident c page (by (cached_bytes c page) some)
   where
     by : (o : Option (List ℕ)) → IsSome (option_and_then (read_page page count) o) → IsSome o
     by None h = h
@@ -79,7 +79,7 @@ content_there c count page some = bytes_resident c page (by (bytes_of c page) so
 
 module _ {D E : Type 0} {M : MachineGhosts D} {S : SourceGhosts E} where
   -- a page in the cache has by its bytes what it has by the images
-  in_images : (t : Table D E M S) (page : ℕ) → HasPage t page → page_at (step_of t).images page ≡ content_in t.cache.now (length t.free.now) page
+  in_images : (t : Table D E M S) (page : ℕ) → HasPage t page → page_at (step_of t).images page ≡ cached_content t.cache.now (length t.free.now) page
   in_images t page is = page_in t.cache.now (given_by M S t.source.now t.m.now) (length t.free.now) page is.1 is.0
 
   -- a page that is there, and has something
@@ -92,7 +92,7 @@ module _ {D E : Type 0} {M : MachineGhosts D} {S : SourceGhosts E} where
         let count = length a.free.now in
         let here : HasPathIn count name a.cache.now =
         subst (λ (f : MutBor (List Bool)). HasPathIn (length f.now) name a.cache.now) (sym over.spared) (subst (λ (x : MutBor CacheValue). HasPathIn (length free.now) name x.now) (sym over.cached) has) in
-        path_more (HasIn a.cache.now count) (Seen a) (content_in a.cache.now count) (page_at (step_of a).images)
+        path_more (HasIn a.cache.now count) (Seen a) (cached_content a.cache.now count) (page_at (step_of a).images)
         (λ page is. let there : HasPage a page = (is.0, content_there a.cache.now count page is.1) in let same = in_images a page there in ((there, subst (λ (o : Option Content). IsSome o) (sym same) is.1), same)) name here.all
 
     -- as the pages see it
@@ -100,7 +100,7 @@ module _ {D E : Type 0} {M : MachineGhosts D} {S : SourceGhosts E} where
     path_first has = all_weaker (Seen a) (HasPage a) (search_of (page_at (step_of a).images) name) (λ page is. is.0) (seen_first has)
 
     -- it is still there once a look-up that needed no memory has ended
-    pub path_left : {refusal : Option Refusal} {b : Table D E M S} {m' : D} {cache' : CacheValue} {free' : List Bool} → Leaves b m' cache' free' → (AllByRecursion (HasPage a) (search_of (page_at (step_of a).images) name) → NeedsNoMemory step_of HasPage refusal a b)
+    pub path_left : {refusal : Option Refusal} {b : Table D E M S} {m' : D} {cache' : CacheValue} {free' : List Bool} → LeavesTable b m' cache' free' → (AllByRecursion (HasPage a) (search_of (page_at (step_of a).images) name) → NeedsNoMemory step_of HasPage refusal a b)
         → HasPathIn (length free.now) name cache.now → HasPathIn (length free.now) name cache'
     path_left {b = b} {cache' = cache'} left looked has =
         let met = looked (path_first has) in
@@ -109,9 +109,9 @@ module _ {D E : Type 0} {M : MachineGhosts D} {S : SourceGhosts E} where
         let there = subst (λ (pages : List (List ℕ)). AllByRecursion (Seen b) (path pages)) (sym met.images) (all_weaker (Seen a) (Seen b) (path (step_of a).images) later (seen_first has)) in
         let count = length b.free.now in
         let last : HasPathIn count name cache' = record {
-          all = path_more (Seen b) (HasIn cache' count) (page_at (step_of b).images) (content_in cache' count)
+          all = path_more (Seen b) (HasIn cache' count) (page_at (step_of b).images) (cached_content cache' count)
               (λ page is.
-              let same : page_at (step_of b).images page ≡ content_in cache' count page = in_images b page is.0 ∙ ap (option_and_then (read_page page count)) (sym (left.pins.bytes page)) in
+              let same : page_at (step_of b).images page ≡ cached_content cache' count page = in_images b page is.0 ∙ ap (option_and_then (read_page page count)) (sym (left.pins.bytes page)) in
               ((is.0.0, subst (λ (o : Option Content). IsSome o) same is.1), sym same)) name there;
         } in
         let same : b.free.now ≡ free.now = met.spares ∙ ap (λ (f : MutBor (List Bool)). f.now) over.spared in
@@ -128,7 +128,7 @@ module _ {D E : Type 0} {M : MachineGhosts D} {S : SourceGhosts E} where
     used_first all page lt used = let within = within_free a page lt in (within, (used_here all).each page within used)
 
     -- they still are once a look-up has ended
-    pub used_left : {refusal : Option Refusal} {b : Table D E M S} {m' : D} {cache' : CacheValue} {free' : List Bool} → Leaves b m' cache' free' → NeedsNoMemory step_of HasPage refusal a b
+    pub used_left : {refusal : Option Refusal} {b : Table D E M S} {m' : D} {cache' : CacheValue} {free' : List Bool} → LeavesTable b m' cache' free' → NeedsNoMemory step_of HasPage refusal a b
         → HasAllUsed free.now cache.now → HasAllUsed free.now cache'
     used_left {b = b} {cache' = cache'} left looked all =
         let last : HasAllUsed a.free.now cache' = record { each = λ page lt used. only_there b.cache.now cache' left.pins page (looked.stays page (lt, (used_here all).each page lt used)).1 } in

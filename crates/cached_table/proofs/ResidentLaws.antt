@@ -4,10 +4,10 @@ use Rattle.std.specs.Prelude.{IsFalse, IsSome, ◌==◌, option_map}
 use Rattle.std.proofs.lemmas.Bool.{eqb-true}
 use Rattle.std.specs.List.{AllByRecursion}
 use Rattle.run_table.specs.Space.{contains}
-use Rattle.page_cache.specs.Cache.{CacheValue, Held, IsCache, IsResident, bytes_of, held}
+use Rattle.page_cache.specs.Cache.{CacheValue, Held, IsCache, IsResident, cached_bytes, held}
 
 -- the bytes of a page in memory
-pub in_memory : (c : CacheValue) (page : ℕ) → IsResident c page → (bytes : List ℕ) × (bytes_of c page ≡ Some bytes)
+pub in_memory : (c : CacheValue) (page : ℕ) → IsResident c page → (bytes : List ℕ) × (cached_bytes c page ≡ Some bytes)
 in_memory c page there = by (held c page) there
   where
     by : (o : Option Held) → IsSome o → (bytes : List ℕ) × (option_map (λ (h : Held). h.bytes) o ≡ Some bytes)
@@ -15,7 +15,7 @@ in_memory c page there = by (held c page) there
     by (Some h) some = (h.bytes, refl)
 
 -- a page that has no frame isn't dirty
-pub clean_absent : (c : CacheValue) → IsCache c → (page : ℕ) → bytes_of c page ≡ None → IsFalse (contains c.dirty page)
+pub clean_absent : (c : CacheValue) → IsCache c → (page : ℕ) → cached_bytes c page ≡ None → IsFalse (contains c.dirty page)
 clean_absent c is page none = out c.dirty is.waiting
   where
     no_frame : IsResident c page → ⊥

@@ -14,15 +14,15 @@ use Rattle.group_commit.specs.Cached.{AreWaiting, IsWaiting}
 use Rattle.group_commit.specs.Resident.{IsImageOf}
 use Rattle.sector_disk.specs.declared.machine.Machine.{Ghosts as MachineGhosts}
 use Rattle.page_cache.specs.declared.source.PageSource.{Ghosts as SourceGhosts}
-use Rattle.page_cache.specs.Cache.{CacheValue, bytes_of, is_one_of, newest}
+use Rattle.page_cache.specs.Cache.{CacheValue, cached_bytes, is_among, newest_bytes}
 use Rattle.name_btree.specs.declared.fault.TreeFault.{TreeFault}
-use Rattle.name_btree.specs.Fault.{BarsTable, HasCause}
+use Rattle.name_btree.specs.Fault.{BarsTable, HasTreeCause}
 use Rattle.name_page.specs.declared.pages.Pages.{Ghosts}
 use Rattle.name_page.specs.Looks.{ChangesPages, IsAccepted, IsAsChanged, OnlyWalks}
 use Rattle.name_page.specs.Pages.{Step}
 use Rattle.table_pages.specs.Bringing.{given_by}
 use Rattle.table_pages.specs.ImageLaws.{image_at, image_count}
-use Rattle.table_pages.specs.Table.{IsOver, Leaves, step_of}
+use Rattle.table_pages.specs.Table.{IsOver, LeavesTable, step_of}
 use Rattle.table_pages.specs.declared.table.Table.{Table}
 use Rattle.cached_table.specs.Editing.{ChangesNone}
 use Rattle.cached_table.proofs.HighestLaws.{fails_trusted, none_walked}
@@ -47,40 +47,40 @@ accepted_image images page bytes small there accepted = by (read_page page (leng
 
 module _ {D E : Type 0} {M : MachineGhosts D} {S : SourceGhosts E} where
   module _ {m : MutBor D} {cache : MutBor CacheValue} {source : E} {free : MutBor (List Bool)} {a b : Table D E M S} {m' : D} {cache' : CacheValue} {free' : List Bool}
-      (over : IsOver m cache source free a) (count : length (step_of b).images ≡ length (step_of a).images) (left : Leaves b m' cache' free') where
+      (over : IsOver m cache source free a) (count : length (step_of b).images ≡ length (step_of a).images) (left : LeavesTable b m' cache' free') where
     as_many : length b.free.now ≡ length free.now
     as_many =
-        let last = image_count (newest b.cache.now (given_by M S b.source.now b.m.now)) (length b.free.now) in
-        let first = image_count (newest a.cache.now (given_by M S a.source.now a.m.now)) (length a.free.now) in
+        let last = image_count (newest_bytes b.cache.now (given_by M S b.source.now b.m.now)) (length b.free.now) in
+        let first = image_count (newest_bytes a.cache.now (given_by M S a.source.now a.m.now)) (length a.free.now) in
         omega (arith, last, first, count, ap (λ (f : MutBor (List Bool)). length f.now) over.spared)
 
     -- the images of pages in memory
-    shown_last : (page : ℕ) (bytes : List ℕ) → page < length free.now → bytes_of b.cache.now page ≡ Some bytes → slice_get (step_of b).images page ≡ Some bytes
+    shown_last : (page : ℕ) (bytes : List ℕ) → page < length free.now → cached_bytes b.cache.now page ≡ Some bytes → slice_get (step_of b).images page ≡ Some bytes
     shown_last page bytes lt there =
-        image_at (newest b.cache.now (given_by M S b.source.now b.m.now)) (length b.free.now) page bytes (omega (arith, lt, as_many)) (ap (λ (o : Option (List ℕ)). option_or o (given_by M S b.source.now b.m.now page)) there)
+        image_at (newest_bytes b.cache.now (given_by M S b.source.now b.m.now)) (length b.free.now) page bytes (omega (arith, lt, as_many)) (ap (λ (o : Option (List ℕ)). option_or o (given_by M S b.source.now b.m.now page)) there)
 
-    shown_first : (page : ℕ) (bytes : List ℕ) → page < length free.now → bytes_of a.cache.now page ≡ Some bytes → slice_get (step_of a).images page ≡ Some bytes
+    shown_first : (page : ℕ) (bytes : List ℕ) → page < length free.now → cached_bytes a.cache.now page ≡ Some bytes → slice_get (step_of a).images page ≡ Some bytes
     shown_first page bytes lt there =
-        image_at (newest a.cache.now (given_by M S a.source.now a.m.now)) (length a.free.now) page bytes (omega (arith, lt, ap (λ (f : MutBor (List Bool)). length f.now) over.spared))
+        image_at (newest_bytes a.cache.now (given_by M S a.source.now a.m.now)) (length a.free.now) page bytes (omega (arith, lt, ap (λ (f : MutBor (List Bool)). length f.now) over.spared))
         (ap (λ (o : Option (List ℕ)). option_or o (given_by M S a.source.now a.m.now page)) there)
 
     small : length free.now ≤ 4096
     small = omega (arith, a.kept.small, ap (λ (f : MutBor (List Bool)). length f.now) over.spared)
 
     module _ (page : ℕ) where
-      if_some : (P : List ℕ → Type 0) → ((bytes : List ℕ) → bytes_of b.cache.now page ≡ Some bytes → P bytes) → IfSome (bytes_of cache' page) P
-      if_some P of = subst (λ (o : Option (List ℕ)). IfSome o P) (sym (left.pins.bytes page)) (by (bytes_of b.cache.now page) refl)
+      if_some : (P : List ℕ → Type 0) → ((bytes : List ℕ) → cached_bytes b.cache.now page ≡ Some bytes → P bytes) → IfSome (cached_bytes cache' page) P
+      if_some P of = subst (λ (o : Option (List ℕ)). IfSome o P) (sym (left.pins.bytes page)) (by (cached_bytes b.cache.now page) refl)
         where
-          by : (o : Option (List ℕ)) → bytes_of b.cache.now page ≡ o → IfSome o P
+          by : (o : Option (List ℕ)) → cached_bytes b.cache.now page ≡ o → IfSome o P
           by None none = tt
           by (Some bytes) there = of bytes there
 
       as_before : AreWaiting (length free.now) cache.now → IsAsChanged (step_of a) (step_of b) page → IsWaiting (length free.now) cache' page
       as_before were is =
-          let was : is_one_of cache.now.dirty page ≡ true = subst (λ (x : MutBor CacheValue). is_one_of x.now.dirty page ≡ true) over.cached is.was in
+          let was : is_among cache.now.dirty page ≡ true = subst (λ (x : MutBor CacheValue). is_among x.now.dirty page ≡ true) over.cached is.was in
           let waited = were page was in
           let first = in_memory a.cache.now page (a.kept.dirty page is.was) in
-          let image : IsImageOf page first.0 = subst (λ (o : Option (List ℕ)). IfSome o (IsImageOf page)) (sym (ap (λ (x : MutBor CacheValue). bytes_of x.now page) over.cached) ∙ first.1) waited.image in
+          let image : IsImageOf page first.0 = subst (λ (o : Option (List ℕ)). IfSome o (IsImageOf page)) (sym (ap (λ (x : MutBor CacheValue). cached_bytes x.now page) over.cached) ∙ first.1) waited.image in
           record {
             inside = waited.inside;
             image = if_some (IsImageOf page) (λ bytes there.
@@ -91,7 +91,7 @@ module _ {D E : Type 0} {M : MachineGhosts D} {S : SourceGhosts E} where
 
       now_read : IsAccepted (step_of b) page → IsWaiting (length free.now) cache' page
       now_read is =
-          let last = image_count (newest b.cache.now (given_by M S b.source.now b.m.now)) (length b.free.now) in
+          let last = image_count (newest_bytes b.cache.now (given_by M S b.source.now b.m.now)) (length b.free.now) in
           let lt : page < length free.now = omega (arith, is.there, last, as_many) in
           record {
             inside = lt;
@@ -101,7 +101,7 @@ module _ {D E : Type 0} {M : MachineGhosts D} {S : SourceGhosts E} where
     -- what waits then
     pub waits_left : ChangesPages (step_of a) (step_of b) → AreWaiting (length free.now) cache.now → AreWaiting (length free.now) cache'
     waits_left pages were = λ page is.
-        elim (pages.each page (ap (λ (d : List ℕ). is_one_of d page) (sym left.pins.dirty) ∙ is)) [
+        elim (pages.each page (ap (λ (d : List ℕ). is_among d page) (sym left.pins.dirty) ∙ is)) [
           | inl old ↦ as_before page were old
           | inr read ↦ now_read page read
         ]
@@ -112,6 +112,6 @@ pub none_failed : {D : Type 0} (P : Ghosts D) (refusal : Option Refusal) (a b : 
 none_failed P refusal a b (Ok x) walks = tt
 none_failed P refusal a b (Err fault) walks = none_walked P refusal a b walks
 
-pub each_fails : (trusted : Type 0) (s : Step) {T : Type 0} (r : Result T TreeFault) → IfErr r (HasCause s (λ page. trusted → BreaksTable s.images page) (λ page. trusted → BarsTable s page)) → IfErr r (λ fault. trusted → HasCause s (BreaksTable s.images) (BarsTable s) fault)
+pub each_fails : (trusted : Type 0) (s : Step) {T : Type 0} (r : Result T TreeFault) → IfErr r (HasTreeCause s (λ page. trusted → BreaksTable s.images page) (λ page. trusted → BarsTable s page)) → IfErr r (λ fault. trusted → HasTreeCause s (BreaksTable s.images) (BarsTable s) fault)
 each_fails trusted s (Ok x) fails = tt
 each_fails trusted s (Err fault) fails = fails_trusted trusted s fault fails

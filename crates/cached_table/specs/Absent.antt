@@ -8,7 +8,7 @@ use Rattle.fsd_table.specs.Table.{Visit}
 use Rattle.name_page.specs.Cut.{AtHigh, AtLow, is_before}
 use Rattle.name_page.specs.declared.cut.Cut.TheVariants.{Named}
 use Rattle.name_page.specs.Lookups.{last_that, same_name}
-use Rattle.volume_contract.specs.Absent.{Reaches}
+use Rattle.volume_contract.specs.Absent.{ReachesPage}
 
 -- a leaf that keeps within its bounds, which end where those of another begin, and whose last entry has another name
 pub record EndsOther (name : List ℕ) (v w : Visit) : Type 0 where
@@ -27,4 +27,4 @@ pub record LacksName (name : List ℕ) (pages : List (List ℕ)) (v : Visit) : T
   pub fits : content_fits v.low v.high v.content ≡ true
   pub low : AtLow (is_before (Named name)) v.low
   pub high : AtHigh (is_before (Named name)) v.high
-  pub other : MatchOption (last_that (λ e. is_before (Named name) e.key) entries) ((v.low ≡ None) ⊎ Reaches (EndsOther name v) pages) (λ e. same_name e.key.name name ≡ false)
+  pub other : MatchOption (last_that (λ e. is_before (Named name) e.key) entries) ((v.low ≡ None) ⊎ ReachesPage (EndsOther name v) pages) (λ e. same_name e.key.name name ≡ false)

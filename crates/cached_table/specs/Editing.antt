@@ -12,13 +12,13 @@ use Rattle.fsd_bytes.specs.declared.key.Key.{Key}
 use Rattle.fsd_files.specs.Answers.{entries_with_keep, highest_entry}
 use Rattle.name_page.specs.Pages.{Step, first_step, with_one}
 use Rattle.name_btree.specs.declared.fault.TreeFault.{TreeFault}
-use Rattle.name_btree.specs.Fault.{BarsTable, HasCause}
+use Rattle.name_btree.specs.Fault.{BarsTable, HasTreeCause}
 use Rattle.name_btree.specs.Map.{HasTable, IsTable}
 use Rattle.version_table.specs.declared.fault.VersionFault.{VersionFault}
 use Rattle.version_table.specs.declared.fault.VersionFault.TheVariants.{Table, NoSuch, VersionsUsedUp}
 use Rattle.table_pages.specs.Bringing.{IsTrusted, given_by}
 use Rattle.table_pages.specs.Kept.{IsReady}
-use Rattle.table_pages.specs.Reads.{Fills, LosesFor, device_of}
+use Rattle.table_pages.specs.Reads.{Fills, LosesFor, outer_device}
 use Rattle.cached_table.specs.Looking.{FaultIn, images_by}
 
 -- pages with these flags, before anything is done
@@ -29,7 +29,7 @@ module _ {D E : Type 0} (M : MachineGhosts D) (S : SourceGhosts E) (source : E) 
   -- Pages were read into the cache until the outside refused one so, if it did, and some were changed there: a page
   -- that was dirty is. A table can be made over it again.
   pub record EditsOnly (refusal : Option Refusal) (m m' : D) (old new : CacheValue) (free flags : List Bool) : Type 0 where
-    pub reads : OnlyReads M (device_of refusal) m m'
+    pub reads : OnlyReads M (outer_device refusal) m m'
     pub loses : LosesFor M S source refusal m'
     pub fills : Fills M S source m m' old new
     pub size : length flags ≡ length free
@@ -47,13 +47,13 @@ module _ {D E : Type 0} (M : MachineGhosts D) (S : SourceGhosts E) (source : E) 
     pub cause : IsTrusted M S source m old m' → FaultIn (images_by M S source m' new (length flags)) flags home_a fault
 
   -- Where it is trusted, the pages are no tree that has a version of the name.
-  pub record HasNone (m m' : D) (old : CacheValue) (free : List Bool) (name : List ℕ) : Type 0 where
+  pub record HasNoVersion (m m' : D) (old : CacheValue) (free : List Bool) (name : List ℕ) : Type 0 where
     pub none : IsTrusted M S source m old m' → (height : ℕ) → let images = images_by M S source m old (length free) in IsTree images height → highest_entry name (table_of images height) ≡ None
 
   -- why no keep was set: so it is
   abbrev pub FaultsKeep : (m m' : D) (old new : CacheValue) (free flags : List Bool) (home_a : ℕ) (name : List ℕ) → VersionFault → Type 0
   FaultsKeep m m' old new free flags home_a name (Table fault) = FaultsEdit m m' old new flags home_a fault
-  FaultsKeep m m' old new free flags home_a name NoSuch = HasNone m m' old free name
+  FaultsKeep m m' old new free flags home_a name NoSuch = HasNoVersion m m' old free name
   FaultsKeep m m' old new free flags home_a name VersionsUsedUp = ⊥
 
 -- Of the 96 pages that may be dirty at most so many are left fewer.
@@ -91,7 +91,7 @@ pub record SetsKeepIn {D E : Type 0} (M : MachineGhosts D) (S : SourceGhosts E) 
 -- Where the outside is trusted, the pages gave a refusal with its cause;
 -- or they are no tree that has a version of the name.
 abbrev pub KeepFails : (trusted : Type 0) → (old new : Step) → (name : List ℕ) → VersionFault → Type 0
-KeepFails trusted old new name (Table fault) = trusted → HasCause new (BreaksTable new.images) (BarsTable new) fault
+KeepFails trusted old new name (Table fault) = trusted → HasTreeCause new (BreaksTable new.images) (BarsTable new) fault
 KeepFails trusted old new name NoSuch = trusted → (height : ℕ) → IsTree old.images height → highest_entry name (table_of old.images height) ≡ None
 KeepFails trusted old new name VersionsUsedUp = ⊥
 
@@ -104,7 +104,31 @@ pub record ChangesNone (trusted : Type 0) (old new : Step) : Type 0 where
   pub images : trusted → new.images ≡ old.images
 
 -- The same in a cache.
-pub record StaysIn {D E : Type 0} (M : MachineGhosts D) (S : SourceGhosts E) (source : E) (m m' : D) (old new : CacheValue) (free flags : List Bool) : Type 0 where
+pub record StaysInCache {D E : Type 0} (M : MachineGhosts D) (S : SourceGhosts E) (source : E) (m m' : D) (old new : CacheValue) (free flags : List Bool) : Type 0 where
   pub dirty : new.dirty ≡ old.dirty
   pub same_flags : flags ≡ free
   pub images : IsTrusted M S source m old m' → images_by M S source m' new (length flags) ≡ images_by M S source m old (length free)
+
+-- ---- what another keep makes, and why it is not set
+
+-- The highest version of the name is given the keep, and this is its key.
+pub record GivesKeep (trusted : Type 0) (old new : Step) (name : List ℕ) (keep : ℕ) (key : Key) : Type 0 where
+  pub name_is : key.name ≡ name
+  pub one : ChangesOne old new
+  pub set : trusted → (height : ℕ) → IsTable old height → SetsKeep old new name keep key height
+
+-- Nothing is changed, for a cause.
+pub record KeepsNone (trusted : Type 0) (old new : Step) (name : List ℕ) (fault : VersionFault) : Type 0 where
+  pub kept : ChangesNone trusted old new
+  pub cause : KeepFails trusted old new name fault
+
+module _ {D E : Type 0} (M : MachineGhosts D) (S : SourceGhosts E) (source : E) where
+  -- the same in a cache
+  pub record GivesKeepIn (m m' : D) (old new : CacheValue) (free flags : List Bool) (name : List ℕ) (keep : ℕ) (key : Key) : Type 0 where
+    pub name_is : key.name ≡ name
+    pub one : DirtiesOne (length free) old new
+    pub set : SetsKeepIn M S source m m' old new free flags name keep key
+
+  pub record KeepsNoneIn (m m' : D) (old new : CacheValue) (free flags : List Bool) (home_a : ℕ) (name : List ℕ) (fault : VersionFault) : Type 0 where
+    pub kept : StaysInCache M S source m m' old new free flags
+    pub cause : FaultsKeep M S source m m' old new free flags home_a name fault

@@ -1,5 +1,5 @@
 -- The versions that go where one is entered, and why none is.
-use Rattle.std.specs.Prelude.{◌≡◌, ◌⊎◌, ⊤, ℕ, ◌<◌, ◌≤◌, Bool, List, [], ◌∷◌, ◌++◌, All, Contains, Some, IsFalse, length, count_by}
+use Rattle.std.specs.Prelude.{◌≡◌, ◌⊎◌, ⊤, ℕ, ◌<◌, ◌≤◌, Bool, List, [], ◌∷◌, ◌++◌, All, Contains, Option, Some, IsFalse, length, count_by}
 use Rattle.std.specs.List.{list_any}
 use Rattle.fsd_bytes.specs.Keys.{max_u32}
 use Rattle.fsd_bytes.specs.declared.key.Key.{Key}
@@ -11,34 +11,39 @@ use Rattle.sector_set.specs.Area.{Area, AreOut, together}
 use Rattle.sector_set.specs.Meet.{meets}
 use Rattle.sector_disk.specs.Machine.{Moment}
 use Rattle.sector_disk.specs.declared.machine.Machine.{Ghosts as MachineGhosts}
-use Rattle.shadow_frees.specs.Readers.{Agrees}
+use Rattle.shadow_frees.specs.Readers.{IsSameOrApart}
 use Rattle.shadow_frees.specs.Waits.{AreIdle, Waits}
 use Rattle.fsd_formats.specs.declared.entry.Entry.{Entry}
 use Rattle.fsd_table.specs.Table.{BreaksTable}
 use Rattle.fsd_table.specs.Tree.{IsTree, table_of}
 use Rattle.fsd_files.specs.Volume.{entries_at}
 use Rattle.name_page.specs.declared.pages.Pages.{Ghosts}
+use Rattle.name_page.specs.Looks.{OnlyWalks}
+use Rattle.name_page.specs.Pages.{free_count, outer_refusal}
 use Rattle.name_btree.specs.declared.fault.TreeFault.{TreeFault}
 use Rattle.name_btree.specs.declared.fault.TreeFault.TheVariants.{Pages, Broken}
 use Rattle.name_btree.specs.declared.lookup.FoundEntry.{FoundEntry}
-use Rattle.name_btree.specs.Fault.{BarsTable, HasCause, IsOnWay, ShowsCause}
+use Rattle.name_btree.specs.Fault.{BarsTable, HasTreeCause, IsOnWay, ShowsCause}
 use Rattle.page_cache.specs.declared.source.PageSource.{Ghosts as SourceGhosts}
-use Rattle.page_cache.specs.Cache.{CacheValue, bytes_of}
+use Rattle.page_cache.specs.Cache.{CacheValue, cached_bytes}
 use Rattle.table_pages.specs.Bringing.{IsTrusted, home_in}
 use Rattle.version_table.specs.declared.fault.VersionFault.{VersionFault}
 use Rattle.version_table.specs.declared.fault.VersionFault.TheVariants.{Table, NoSuch, VersionsUsedUp}
 use Rattle.version_table.specs.declared.oldest.Leaving.{Leaving}
-use Rattle.version_table.specs.Met.{IsMet, entries_left}
-use Rattle.version_table.specs.Table.{OfTable}
+use Rattle.version_table.specs.Met.{IsMetBetween, entries_left}
+use Rattle.version_table.specs.declared.planning.Plan.{Plan}
+use Rattle.version_table.specs.Plan.{IsPlan, planned_entry, with_planned}
+use Rattle.version_table.specs.Table.{MakesTable, OfTable}
 use Rattle.version_table.specs.Versions.{next_key}
-use Rattle.cached_table.specs.Looking.{BarsPages, Had, HavePages, LeadsTo, ShowsPlace, images_by, refusal_in}
+use Rattle.cached_table.specs.Editing.{EditsTable, StaysInCache}
+use Rattle.cached_table.specs.Looking.{BarsPages, Had, HavePages, LeadsTo, LooksOnly, ShowsPlace, images_by, refusal_in}
 
 -- ---- the versions that go
 
 -- the sectors are of the data area, each named once, and neither free nor waiting;
 -- and each reader holds these very runs, or none of their sectors
 abbrev pub AreTaken : Area → Waits → List Run → Type 0
-AreTaken map w runs = AreOut map runs × AreIdle w runs × All (Agrees runs) w.held
+AreTaken map w runs = AreOut map runs × AreIdle w runs × All (IsSameOrApart runs) w.held
 
 -- whether one of these versions has one of these sectors
 abbrev pub share : List Leaving → List Run → Bool
@@ -57,7 +62,7 @@ with_gone a (g ∷ gone) = with_gone (together a g.entry.runs) gone
 -- one after another they don't wait before they go, and each reader holds such a one whole or not at all
 abbrev pub AreIdleInTurn : Waits → List Leaving → Type 0
 AreIdleInTurn w [] = ⊤
-AreIdleInTurn w (g ∷ gone) = (AreIdle w g.entry.runs × All (Agrees g.entry.runs) w.held) × AreIdleInTurn (record w { removed = together w.removed g.entry.runs }) gone
+AreIdleInTurn w (g ∷ gone) = (AreIdle w g.entry.runs × All (IsSameOrApart g.entry.runs) w.held) × AreIdleInTurn (record w { removed = together w.removed g.entry.runs }) gone
 
 -- ---- why none is entered
 
@@ -105,8 +110,8 @@ EntersNone P map w name free old new = RefusesFor (P.trusted new → (page : ℕ
 -- barred; or a version that goes was met, and its sectors aren't taken.
 abbrev pub ShowsRefusal : {D : Type 0} (P : Ghosts D) → Area → Waits → (name : List ℕ) → (home_a : ℕ) → (old new : D) → Refusal → Type 0
 ShowsRefusal P map w name home_a old new (Why.Unsound s) =
-    ((f : TreeFault) × (refusal_in home_a f ≡ Why.Unsound s) × HasCause (P.step new) (BreaksTable (P.step new).images) (BarsTable (P.step new)) f × ShowsCause (P.step new) BreaksTable IsOnWay f)
-    ⊎ ((g : Leaving) × IsMet P name old new g × (s ≡ home_in home_a g.page) × (AreTaken map w g.entry.runs → ⊥))
+    ((f : TreeFault) × (refusal_in home_a f ≡ Why.Unsound s) × HasTreeCause (P.step new) (BreaksTable (P.step new).images) (BarsTable (P.step new)) f × ShowsCause (P.step new) BreaksTable IsOnWay f)
+    ⊎ ((g : Leaving) × IsMetBetween P name old new g × (s ≡ home_in home_a g.page) × (AreTaken map w g.entry.runs → ⊥))
 ShowsRefusal P map w name home_a old new other = ⊤
 
 module _ {D E : Type 0} (M : MachineGhosts D) (S : SourceGhosts E) (source : E) where
@@ -114,7 +119,7 @@ module _ {D E : Type 0} (M : MachineGhosts D) (S : SourceGhosts E) (source : E) 
   -- whatever the other pages have, a path leads to the leaf, which has the version.
   pub record ShowsMet (from : Moment) (old : CacheValue) (count : ℕ) (f : FoundEntry) : Type 0 where
     pub cache : CacheValue
-    pub had : (page : ℕ) (bytes : List ℕ) → page < count → bytes_of cache page ≡ Some bytes → Had M S source from old page bytes
+    pub had : (page : ℕ) (bytes : List ℕ) → page < count → cached_bytes cache page ≡ Some bytes → Had M S source from old page bytes
     pub leads : (pages : List (List ℕ)) → HavePages cache count pages → LeadsTo pages f
 
   -- so it is of the place that a refusal tells as unsound
@@ -135,3 +140,34 @@ module _ {D E : Type 0} (M : MachineGhosts D) (S : SourceGhosts E) (source : E) 
 
   pub record EntersNoneIn (map : Area) (w : Waits) (name : List ℕ) (m m' : D) (old new : CacheValue) (free flags : List Bool) (refusal : Refusal) : Type 0 where
     pub cause : NoneFor map w name m m' old new free flags refusal
+
+-- ---- what an entry makes, and why none is made
+
+-- A version is planned for a name and comes into the table, with the entry of a draft; what goes has taken sectors.
+pub record EntersAt {D : Type 0} (P : Ghosts D) (map : Area) (w : Waits) (name : List ℕ) (given : Option ℕ) (draft : Entry) (old new : D) (plan : Plan) : Type 0 where
+  pub name_is : plan.key.name ≡ name
+  pub planned : OfTable P old new (λ table. IsPlan name given table plan)
+  pub taken : AreInTurn map w [] plan.gone.items
+  pub room : 8 ≤ free_count (P.step old)
+  pub entered : MakesTable P old new (with_planned plan (planned_entry plan draft.serial draft.length draft.runs))
+
+-- Pages were reached, and nothing else, until it was refused, for a cause; what was reached shows it.
+pub record RefusesAt {D : Type 0} (P : Ghosts D) (map : Area) (w : Waits) (name : List ℕ) (home_a : ℕ) (old new : D) (refusal : Refusal) : Type 0 where
+  pub kept : OnlyWalks P (outer_refusal refusal) old new
+  pub fault : EntersNone P map w name (free_count (P.step old)) old new refusal
+  pub shown : ShowsRefusal P map w name home_a old new refusal
+
+module _ {D E : Type 0} (M : MachineGhosts D) (S : SourceGhosts E) (source : E) where
+  -- the same in a cache
+  pub record EntersIn (map : Area) (w : Waits) (name : List ℕ) (given : Option ℕ) (draft : Entry) (m m' : D) (old new : CacheValue) (free flags : List Bool) (plan : Plan) : Type 0 where
+    pub name_is : plan.key.name ≡ name
+    pub planned : OfTableIn M S source m m' old free (λ table. IsPlan name given table plan)
+    pub taken : AreInTurn map w [] plan.gone.items
+    pub full : 8 ≤ count_by (λ spare. spare) free
+    pub made : EditsTable M S source m m' old new free flags (with_planned plan (planned_entry plan draft.serial draft.length draft.runs))
+
+  pub record RefusesIn (map : Area) (w : Waits) (name : List ℕ) (m m' : D) (old new : CacheValue) (free flags : List Bool) (home_a : ℕ) (refusal : Refusal) : Type 0 where
+    pub kept : StaysInCache M S source m m' old new free flags
+    pub looks : LooksOnly M S source (outer_refusal refusal) m m' old new free
+    pub fault : EntersNoneIn M S source map w name m m' old new free flags refusal
+    pub shown : ShowsUnsound M S source map w m m' old new free home_a refusal

@@ -1,6 +1,7 @@
 pub mod Absent
 pub mod Editing
 pub mod Entering
+pub mod Finding
 pub mod HomeLaws
 pub mod Homes
 pub mod Looking

@@ -8,11 +8,11 @@ use Rattle.sector_disk.specs.declared.machine.Machine.{Ghosts as MachineGhosts}
 use Rattle.sector_disk.specs.Calls.{OnlyReads}
 use Rattle.sector_disk.specs.Machine.{Moment}
 use Rattle.page_cache.specs.declared.source.PageSource.{Ghosts as SourceGhosts}
-use Rattle.page_cache.specs.Cache.{AreNewest, CacheValue, IsResident, bytes_of, is_one_of, newest}
-use Rattle.page_cache.specs.Accepted.{content_in}
+use Rattle.page_cache.specs.Cache.{AreNewest, CacheValue, IsResident, cached_bytes, is_among, newest_bytes}
+use Rattle.page_cache.specs.Accepted.{cached_content}
 use Rattle.table_pages.specs.Bringing.{IsTrusted, given_by, home_in}
-use Rattle.table_pages.specs.Kept.{IsReady, images_of}
-use Rattle.table_pages.specs.Reads.{Fills, LosesFor, Stood, device_of}
+use Rattle.table_pages.specs.Kept.{IsReady, images_given}
+use Rattle.table_pages.specs.Reads.{Fills, LosesFor, StoodWhole, outer_device}
 use Rattle.fsd_forest.specs.Met.{search_of}
 use Rattle.fsd_table.specs.Pages.{content_fits, entries_of}
 use Rattle.fsd_table.specs.Table.{BreaksTable, Visit, visits}
@@ -21,7 +21,7 @@ use Rattle.name_btree.specs.declared.fault.TreeFault.{TreeFault}
 use Rattle.name_btree.specs.declared.fault.TreeFault.TheVariants.{Pages, Broken}
 use Rattle.name_btree.specs.Fault.{IsOnWay}
 use Rattle.name_btree.specs.declared.lookup.FoundEntry.{FoundEntry}
-use Rattle.name_btree.specs.Lookup.{entry_of}
+use Rattle.name_btree.specs.Lookup.{found_entry}
 
 -- the page breaks the table, or it is free and a path reaches it
 abbrev pub BarsPages : List (List ℕ) → List Bool → ℕ → Type 0
@@ -39,11 +39,11 @@ refusal_in home_a (Broken page) = Unsound (home_in home_a page)
 
 -- the page is one of so many, and in the cache, where the grammar accepts it
 abbrev pub HasIn : CacheValue → (count page : ℕ) → Type 0
-HasIn c count page = (page < count) × IsSome (content_in c count page)
+HasIn c count page = (page < count) × IsSome (cached_content c count page)
 
 -- so are all that the search for the highest version of a name meets
 pub record HasPathIn (count : ℕ) (name : List ℕ) (c : CacheValue) : Type 0 where
-  pub all : AllByRecursion (HasIn c count) (search_of (content_in c count) name)
+  pub all : AllByRecursion (HasIn c count) (search_of (cached_content c count) name)
 
 -- each page of the table is in the cache, but for those that are free
 pub record HasAllUsed (free : List Bool) (c : CacheValue) : Type 0 where
@@ -56,34 +56,34 @@ HasEnoughIn free name c = HasPathIn (length free) name c ⊎ HasAllUsed free c
 -- so many pages, with the bytes of those that the cache has
 pub record HavePages (c : CacheValue) (count : ℕ) (pages : List (List ℕ)) : Type 0 where
   pub size : length pages ≡ count
-  pub same : (page : ℕ) (bytes : List ℕ) → page < count → bytes_of c page ≡ Some bytes → slice_get pages page ≡ Some bytes
+  pub same : (page : ℕ) (bytes : List ℕ) → page < count → cached_bytes c page ≡ Some bytes → slice_get pages page ≡ Some bytes
 
 -- so many pages, one with these bytes, and the others with what the cache has
 pub record HaveOthers (c : CacheValue) (count page : ℕ) (bytes : List ℕ) (pages : List (List ℕ)) : Type 0 where
   pub size : length pages ≡ count
   pub here : slice_get pages page ≡ Some bytes
-  pub same : (other : ℕ) (x : List ℕ) → other < count → nat_eq other page ≡ false → bytes_of c other ≡ Some x → slice_get pages other ≡ Some x
+  pub same : (other : ℕ) (x : List ℕ) → other < count → nat_eq other page ≡ false → cached_bytes c other ≡ Some x → slice_get pages other ≡ Some x
 
 module _ {D E : Type 0} (M : MachineGhosts D) (S : SourceGhosts E) (source : E) where
   -- the bytes of so many pages: those in the cache, else what the source would give
   abbrev pub images_by : D → CacheValue → (count : ℕ) → List (List ℕ)
-  images_by m c count = images_of (newest c (given_by M S source m)) count
+  images_by m c count = images_given (newest_bytes c (given_by M S source m)) count
 
   -- Pages were read into the cache, and nothing else, until the outside refused one so, if it did: those that are dirty
   -- stay as they were, and where the outside is trusted all do. A table can be made over it again.
   pub record LooksOnly (refusal : Option Refusal) (m m' : D) (old new : CacheValue) (free : List Bool) : Type 0 where
-    pub reads : OnlyReads M (device_of refusal) m m'
+    pub reads : OnlyReads M (outer_device refusal) m m'
     pub loses : LosesFor M S source refusal m'
     pub fills : Fills M S source m m' old new
     pub ready : IsReady M S m' new source free
     pub dirty : new.dirty ≡ old.dirty
-    pub kept : (page : ℕ) → page < length free → is_one_of old.dirty page ≡ true → bytes_of new page ≡ bytes_of old page
+    pub kept : (page : ℕ) → page < length free → is_among old.dirty page ≡ true → cached_bytes new page ≡ cached_bytes old page
     pub clean : IsTrusted M S source m old m' → AreNewest (given_by M S source m') new
     pub stays : IsTrusted M S source m old m' → images_by m' new (length free) ≡ images_by m old (length free)
 
   -- the page had these bytes in the cache, or in one of its copies
   abbrev pub Had : Moment → CacheValue → ℕ → List ℕ → Type 0
-  Had from old page bytes = (bytes_of old page ≡ Some bytes) ⊎ Stood M S source from page bytes
+  Had from old page bytes = (cached_bytes old page ≡ Some bytes) ⊎ StoodWhole M S source from page bytes
 
   -- Whatever the other pages have: the page whose home A is there is free, and what the cache has now shows that a path
   -- reaches it; or that shows that it breaks the table; or it does so with bytes that it had.
@@ -110,13 +110,13 @@ LeadsTo pages f = (visit : Visit) × Contains (visits pages) visit × (visit.pag
 
 -- ---- what is told
 
-abbrev pub told : {T : Type 0} → (home_a : ℕ) → Result T TreeFault → Result T Refusal
-told home_a (Ok x) = Ok x
-told home_a (Err fault) = Err (refusal_in home_a fault)
+abbrev pub told_from : {T : Type 0} → (home_a : ℕ) → Result T TreeFault → Result T Refusal
+told_from home_a (Ok x) = Ok x
+told_from home_a (Err fault) = Err (refusal_in home_a fault)
 
 -- this entry is found, or a fault came from outside
-abbrev pub Finds : Option Entry → Result (Option FoundEntry) Refusal → Type 0
-Finds e (Ok found) = entry_of found ≡ e
-Finds e (Err (Device s)) = ⊤
-Finds e (Err Memory) = ⊤
-Finds e (Err other) = ⊥
+abbrev pub FindsEntry : Option Entry → Result (Option FoundEntry) Refusal → Type 0
+FindsEntry e (Ok found) = found_entry found ≡ e
+FindsEntry e (Err (Device s)) = ⊤
+FindsEntry e (Err Memory) = ⊤
+FindsEntry e (Err other) = ⊥

@@ -4,8 +4,8 @@ use Rattle.std.specs.List.{list_any}
 use Rattle.volume_layout.specs.declared.layout.Layout.{Layout}
 use Rattle.volume_layout.specs.Layout.{data_start}
 use Rattle.sector_set.specs.Area.{area}
-use Rattle.page_cache.specs.Cache.{bytes_of, no_pages, pins_of}
-use Rattle.table_pages.specs.Kept.{images_of}
+use Rattle.page_cache.specs.Cache.{cached_bytes, no_pages, pins_of}
+use Rattle.table_pages.specs.Kept.{images_given}
 use Rattle.fsd_table.specs.Breaks.{Breaks}
 use Rattle.fsd_table.specs.Table.{Telling, told_in, visits}
 use Rattle.fsd_files.specs.Disk.{Image}
@@ -31,7 +31,7 @@ frames = 256
 
 -- the pages that stand at home
 abbrev pub home_pages : Layout → Image → List (List ℕ)
-home_pages l i = images_of (home_by l i) l.pages
+home_pages l i = images_given (home_by l i) l.pages
 
 -- ---- over any machine
 
@@ -71,8 +71,8 @@ pub record IsTableOf (l : Layout) (pages : List (List ℕ)) (o : Opened) : Type 
   pub map : o.map ≡ area (data_start l) l.sectors (λ s. not (is_in (plans_of telling.entries) s))
   pub free_pages : (page : ℕ) → page < l.pages → slice_index_or o.free_pages page false ≡ not (is_reached pages page)
   pub spare : count_by (λ free. free) o.free_pages + telling.reached ≡ l.pages
-  pub inside : (page : ℕ) (bytes : List ℕ) → bytes_of o.cache page ≡ Some bytes → page < l.pages
-  pub memory : (page : ℕ) (bytes : List ℕ) → bytes_of o.cache page ≡ Some bytes → image_at pages page ≡ bytes
+  pub inside : (page : ℕ) (bytes : List ℕ) → cached_bytes o.cache page ≡ Some bytes → page < l.pages
+  pub memory : (page : ℕ) (bytes : List ℕ) → cached_bytes o.cache page ≡ Some bytes → image_at pages page ≡ bytes
 
 -- the disk or memory failed, or a page breaks them
 abbrev pub IsNoTable : Layout → List (List ℕ) → MountFault → Type 0

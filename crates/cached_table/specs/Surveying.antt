@@ -1,5 +1,5 @@
 -- What a survey leaves of a cache, and why one fails.
-use Rattle.std.specs.Prelude.{◌≡◌, ◌⊎◌, ℕ, ◌<◌, Bool, List, Option, length}
+use Rattle.std.specs.Prelude.{◌≡◌, ◌⊎◌, ℕ, ◌<◌, Bool, List, Option, length, count_by}
 use Rattle.fsd_bytes.specs.declared.refusal.Refusal.{Refusal}
 use Rattle.fsd_bytes.specs.declared.refusal.Refusal.TheVariants as Why
 use Rattle.volume_layout.specs.declared.layout.Layout.{Layout}
@@ -9,7 +9,10 @@ use Rattle.sector_disk.specs.Calls.{OnlyReads}
 use Rattle.page_cache.specs.declared.source.PageSource.{Ghosts as SourceGhosts}
 use Rattle.page_cache.specs.Cache.{AreNewest, CacheValue, pins_of}
 use Rattle.table_pages.specs.Bringing.{IsTrusted, given_by, home_in}
-use Rattle.table_pages.specs.Reads.{LosesFor, device_of}
+use Rattle.table_pages.specs.Reads.{LosesFor, outer_device}
+use Rattle.table_pages.specs.Table.{fresh_step}
+use Rattle.table_survey.specs.Survey.{IsSurveyed}
+use Rattle.table_survey.specs.declared.surveying.TableCounts.{TableCounts}
 use Rattle.fsd_table.specs.Breaks.{Breaks}
 use Rattle.fsd_sound.specs.declared.fault.MountFault.{MountFault}
 use Rattle.fsd_sound.specs.declared.fault.MountFault.TheVariants.{Device, Lost, Memory, Unsound}
@@ -34,7 +37,7 @@ module _ {D E : Type 0} (M : MachineGhosts D) (S : SourceGhosts E) (source : E) 
   -- Pages were read into the cache, and nothing else, until the outside refused one so, if it did; none is pinned.
   -- Where the outside is trusted all stay as they were.
   pub record SurveysOnly (refusal : Option Refusal) (m m' : D) (old new : CacheValue) (count : ℕ) : Type 0 where
-    pub reads : OnlyReads M (device_of refusal) m m'
+    pub reads : OnlyReads M (outer_device refusal) m m'
     pub loses : LosesFor M S source refusal m'
     pub frames : new.frames ≡ old.frames
     pub dirty : new.dirty ≡ old.dirty
@@ -45,6 +48,14 @@ module _ {D E : Type 0} (M : MachineGhosts D) (S : SourceGhosts E) (source : E) 
   -- So it is of the pages by the cache and the source at first.
   pub record SurveyFails (l : Layout) (m m' : D) (c : CacheValue) (free : List Bool) (home_a : ℕ) (fault : TreeFault) : Type 0 where
     pub cause : SurveyFaultIn (IsTrusted M S source m c m') l (images_by M S source m c (length free)) free home_a fault
+
+  -- So much is told: the map is of the data area, and the marked pages are counted; where the outside is trusted they
+  -- are those of a table that nothing breaks, as it was at first.
+  pub record SurveysTable (l : Layout) (m m' : D) (c : CacheValue) (free : List Bool) (home_a : ℕ) (map : Area) (marks : List Bool) (s : TableCounts) : Type 0 where
+    pub area_is : IsOfData l map
+    pub counted : s.pages ≡ count_by (λ mark. mark) marks
+    pub surveyed : IsTrusted M S source m c m' → IsSurveyed l (fresh_step (given_by M S source m) c free home_a) map marks s
+    pub unbroken : IsTrusted M S source m c m' → (page : ℕ) → Breaks l (images_by M S source m c (length free)) page → ⊥
 
 -- ---- what is told
 

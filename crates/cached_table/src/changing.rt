@@ -5,17 +5,16 @@ ghost use Rattle.fsd_files.specs.Volume.{entries_without};
 ghost use Rattle.name_btree.specs.Fault.{outer_told};
 ghost use Rattle.group_commit.specs.Cached.{AreWaiting};
 ghost use Rattle.name_btree.specs.Lookup.{ShowsNoVersion};
-ghost use Rattle.name_btree.specs.Map.{IsTable};
 ghost use Rattle.name_btree.specs.Path.{HasPath};
 ghost use Rattle.name_page.specs.declared.pages.TheConstants.{MOST_CHANGED, MOST_REACHED};
 ghost use Rattle.name_page.specs.Looks.{ChangesPages, HasAllIn, OnlyEdits};
 ghost use Rattle.name_page.specs.Pages.{changes};
 ghost use Rattle.version_table.specs.Fault.{outer_met};
 ghost use Rattle.table_pages.specs.Kept.{IsReady};
-ghost use Rattle.volume_contract.specs.Absent.{Reaches};
+ghost use Rattle.volume_contract.specs.Absent.{ReachesPage};
 ghost use Rattle.cached_table.specs.Absent.{LacksName};
 ghost use Rattle.cached_table.specs.Looking.{HasEnoughIn, HavePages};
-ghost use Rattle.cached_table.specs.Editing.{ChangesNone, ChangesOne, FaultsEdit, FaultsKeep, KeepFails, DirtiesAtMost, DirtiesOne, EditsOnly, EditsTable, SetsKeep, SetsKeepIn, StaysIn};
+ghost use Rattle.cached_table.specs.Editing.{FaultsEdit, DirtiesAtMost, EditsOnly, EditsTable, GivesKeep, GivesKeepIn, KeepsNone, KeepsNoneIn, StaysInCache};
 
 use crate::CachedTable;
 use fsd_bytes::{FileName, Key};
@@ -39,7 +38,7 @@ impl CachedTable {
         requires ready { IsReady M.Machine S.PageSource m.old self.old.cache source.now self.old.free_pages }
         requires room { length self.old.cache.dirty ≤ 56 }
         ensures edits { EditsOnly M.Machine S.PageSource source.now (outer_told result) m.old m.new self.old.cache self.new.cache self.old.free_pages self.new.free_pages }
-        ensures kept { OnErr result (StaysIn M.Machine S.PageSource source.now m.old m.new self.old.cache self.new.cache self.old.free_pages self.new.free_pages) }
+        ensures kept { OnErr result (StaysInCache M.Machine S.PageSource source.now m.old m.new self.old.cache self.new.cache self.old.free_pages self.new.free_pages) }
         ensures waiting { AreWaiting (length self.old.free_pages) self.old.cache → AreWaiting (length self.old.free_pages) self.new.cache }
         ensures changes { DirtiesAtMost 8 self.old.cache self.new.cache }
         ensures fault { IfErr result (FaultsEdit M.Machine S.PageSource source.now m.old m.new self.old.cache self.new.cache self.new.free_pages home_a) }
@@ -58,14 +57,11 @@ fn keep_at<T: Pages>(t: &mut T, name: &FileName, keep: u32) -> Result<Key, Versi
     requires changes { MOST_CHANGED ≤ changes (T.step t.old) }
     requires keep { keep ≤ 999 }
     ensures calls { OnlyEdits T.Pages (outer_met result) t.old t.new }
-    ensures kept { OnErr result (ChangesNone (T.trusted t.new) (T.step t.old) (T.step t.new)) }
     ensures pages { ChangesPages (T.step t.old) (T.step t.new) }
-    ensures name { IfOk result (λ key. key.name ≡ name.now) }
-    ensures one { IfOk result (λ key. ChangesOne (T.step t.old) (T.step t.new)) }
     ensures memory { HasPath T.Pages name.now t.old ⊎ HasAllIn T.Pages t.old → outer_met result ≡ Some Memory → ⊥ }
     ensures absent { result ≡ Err VersionFault.NoSuch → ShowsNoVersion (T.step t.new) name.now }
-    ensures fault { IfErr result (KeepFails (T.trusted t.new) (T.step t.old) (T.step t.new) name.now) }
-    ensures set { IfOk result (λ key. T.trusted t.new → (height : ℕ) → IsTable (T.step t.old) height → SetsKeep (T.step t.old) (T.step t.new) name.now keep key height) }
+    ensures set { IfOk result (GivesKeep (T.trusted t.new) (T.step t.old) (T.step t.new) name.now keep) }
+    ensures failed { IfErr result (KeepsNone (T.trusted t.new) (T.step t.old) (T.step t.new) name.now) }
 {
     let found = newest(t, name)?;
     match set_keep(t, &found.entry, keep) {
@@ -89,14 +85,11 @@ impl CachedTable {
         requires room { length self.old.cache.dirty ≤ 56 }
         requires keep { keep ≤ 999 }
         ensures edits { EditsOnly M.Machine S.PageSource source.now (outer_met result) m.old m.new self.old.cache self.new.cache self.old.free_pages self.new.free_pages }
-        ensures kept { OnErr result (StaysIn M.Machine S.PageSource source.now m.old m.new self.old.cache self.new.cache self.old.free_pages self.new.free_pages) }
         ensures waiting { AreWaiting (length self.old.free_pages) self.old.cache → AreWaiting (length self.old.free_pages) self.new.cache }
-        ensures name { IfOk result (λ key. key.name ≡ name.now) }
-        ensures one { IfOk result (λ key. DirtiesOne (length self.old.free_pages) self.old.cache self.new.cache) }
         ensures memory { HasEnoughIn self.old.free_pages name.now self.old.cache → outer_met result ≡ Some Memory → ⊥ }
-        ensures absent { result ≡ Err VersionFault.NoSuch → (pages : List (List ℕ)) → HavePages self.new.cache (length self.old.free_pages) pages → Reaches (LacksName name.now pages) pages }
-        ensures fault { IfErr result (FaultsKeep M.Machine S.PageSource source.now m.old m.new self.old.cache self.new.cache self.old.free_pages self.new.free_pages home_a name.now) }
-        ensures set { IfOk result (SetsKeepIn M.Machine S.PageSource source.now m.old m.new self.old.cache self.new.cache self.old.free_pages self.new.free_pages name.now keep) }
+        ensures absent { result ≡ Err VersionFault.NoSuch → (pages : List (List ℕ)) → HavePages self.new.cache (length self.old.free_pages) pages → ReachesPage (LacksName name.now pages) pages }
+        ensures set { IfOk result (GivesKeepIn M.Machine S.PageSource source.now m.old m.new self.old.cache self.new.cache self.old.free_pages self.new.free_pages name.now keep) }
+        ensures failed { IfErr result (KeepsNoneIn M.Machine S.PageSource source.now m.old m.new self.old.cache self.new.cache self.old.free_pages self.new.free_pages home_a name.now) }
     {
         let mut table = Table::new(m, &mut self.cache, source, home_a, &mut self.free_pages);
         let done = keep_at(&mut table, name, keep);

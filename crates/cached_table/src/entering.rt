@@ -1,18 +1,15 @@
 //! Versions that are entered into a table over a cache.
-ghost use Rattle.std.specs.Prelude.{◌≡◌, ◌↔◌, ◌+◌, ◌<◌, ◌≤◌, ◌^◌, [], IfErr, IfOk, IfSome, IsNone, IsSome, IsTrue, OnErr, OnOk, length, count_by};
+ghost use Rattle.std.specs.Prelude.{◌≡◌, ◌↔◌, ◌+◌, ◌<◌, ◌≤◌, ◌^◌, [], IfErr, IfOk, IfSome, IsNone, IsSome, IsTrue, length};
 ghost use Rattle.std.specs.List.{AllByRecursion};
 ghost use Rattle.fsd_formats.specs.NamePage.{is_entry};
 ghost use Rattle.name_page.specs.declared.pages.TheConstants.{MOST_CHANGED, MOST_REACHED};
 ghost use Rattle.group_commit.specs.Cached.{AreWaiting};
-ghost use Rattle.name_page.specs.Looks.{ChangesPages, OnlyEdits, OnlyWalks};
-ghost use Rattle.name_page.specs.Pages.{changes, free_count, outer_in};
+ghost use Rattle.name_page.specs.Looks.{ChangesPages, OnlyEdits};
+ghost use Rattle.name_page.specs.Pages.{changes, outer_in};
 ghost use Rattle.run_table.specs.RunTable.{FitsRun};
 ghost use Rattle.table_pages.specs.Kept.{IsReady};
-ghost use Rattle.version_table.specs.Plan.{IsPlan, planned_entry, with_planned};
-ghost use Rattle.version_table.specs.Table.{MakesTable, OfTable};
-ghost use Rattle.cached_table.specs.Editing.{DirtiesAtMost, EditsOnly, EditsTable, StaysIn};
-ghost use Rattle.cached_table.specs.Entering.{AreInTurn, AreTaken, EntersNone, EntersNoneIn, OfTableIn, ShowsRefusal, ShowsUnsound, TellsUntaken, enter_refusal, plan_refusal, share};
-ghost use Rattle.cached_table.specs.Looking.{LooksOnly};
+ghost use Rattle.cached_table.specs.Editing.{DirtiesAtMost, EditsOnly};
+ghost use Rattle.cached_table.specs.Entering.{AreInTurn, AreTaken, EntersAt, EntersIn, RefusesAt, RefusesIn, TellsUntaken, enter_refusal, plan_refusal, share};
 
 use crate::CachedTable;
 use crate::looking::table_refusal;
@@ -108,17 +105,12 @@ fn enter_at<T: Pages>(
     requires epoch { draft.now.serial.epoch < 2 ^ 32 }
     requires count { draft.now.serial.count < 2 ^ 32 }
     ensures calls { OnlyEdits T.Pages (outer_in result) t.old t.new }
-    ensures kept { OnErr result (OnlyWalks T.Pages (outer_in result) t.old t.new) }
     ensures pages { ChangesPages (T.step t.old) (T.step t.new) }
     ensures changes { changes (T.step t.old) ≤ changes (T.step t.new) + 36 }
-    ensures name { IfOk result (λ plan. plan.key.name ≡ name.now) }
-    ensures planned { IfOk result (λ plan. OfTable T.Pages t.old t.new (λ table. IsPlan name.now given table plan)) }
-    ensures taken { IfOk result (λ plan. AreInTurn map.now shadow.now [] plan.gone.items) }
-    ensures room { OnOk result (8 ≤ free_count (T.step t.old)) }
-    ensures entered { IfOk result (λ plan. MakesTable T.Pages t.old t.new (with_planned plan (planned_entry plan draft.now.serial draft.now.length draft.now.runs))) }
-    ensures fault { IfErr result (EntersNone T.Pages map.now shadow.now name.now (free_count (T.step t.old)) t.old t.new) }
-    ensures shown { IfErr result (ShowsRefusal T.Pages map.now shadow.now name.now home_a t.old t.new) }
+    ensures entered { IfOk result (EntersAt T.Pages map.now shadow.now name.now given draft.now t.old t.new) }
+    ensures refused { IfErr result (RefusesAt T.Pages map.now shadow.now name.now home_a t.old t.new) }
 {
+    // For the proof alone: its own call tells what a name keeps.
     let _name = name.as_bytes();
     let plan = match plan_version(t, name, given) {
         Ok(plan) => plan,
@@ -156,17 +148,10 @@ impl CachedTable {
         requires epoch { draft.now.serial.epoch < 2 ^ 32 }
         requires count { draft.now.serial.count < 2 ^ 32 }
         ensures edits { EditsOnly M.Machine S.PageSource source.now (outer_in result) m.old m.new self.old.cache self.new.cache self.old.free_pages self.new.free_pages }
-        ensures kept { OnErr result (StaysIn M.Machine S.PageSource source.now m.old m.new self.old.cache self.new.cache self.old.free_pages self.new.free_pages) }
         ensures waiting { AreWaiting (length self.old.free_pages) self.old.cache → AreWaiting (length self.old.free_pages) self.new.cache }
         ensures changes { DirtiesAtMost 36 self.old.cache self.new.cache }
-        ensures name { IfOk result (λ plan. plan.key.name ≡ name.now) }
-        ensures planned { IfOk result (λ plan. OfTableIn M.Machine S.PageSource source.now m.old m.new self.old.cache self.old.free_pages (λ table. IsPlan name.now given table plan)) }
-        ensures taken { IfOk result (λ plan. AreInTurn map.now shadow.now [] plan.gone.items) }
-        ensures full { OnOk result (8 ≤ count_by (λ spare. spare) self.old.free_pages) }
-        ensures made { IfOk result (λ plan. EditsTable M.Machine S.PageSource source.now m.old m.new self.old.cache self.new.cache self.old.free_pages self.new.free_pages (with_planned plan (planned_entry plan draft.now.serial draft.now.length draft.now.runs))) }
-        ensures fault { IfErr result (EntersNoneIn M.Machine S.PageSource source.now map.now shadow.now name.now m.old m.new self.old.cache self.new.cache self.old.free_pages self.new.free_pages) }
-        ensures looks { OnErr result (LooksOnly M.Machine S.PageSource source.now (outer_in result) m.old m.new self.old.cache self.new.cache self.old.free_pages) }
-        ensures shown { IfErr result (ShowsUnsound M.Machine S.PageSource source.now map.now shadow.now m.old m.new self.old.cache self.new.cache self.old.free_pages home_a) }
+        ensures entered { IfOk result (EntersIn M.Machine S.PageSource source.now map.now shadow.now name.now given draft.now m.old m.new self.old.cache self.new.cache self.old.free_pages self.new.free_pages) }
+        ensures refused { IfErr result (RefusesIn M.Machine S.PageSource source.now map.now shadow.now name.now m.old m.new self.old.cache self.new.cache self.old.free_pages self.new.free_pages home_a) }
     {
         let mut table = Table::new(m, &mut self.cache, source, home_a, &mut self.free_pages);
         let done = enter_at(&mut table, home_a, map, shadow, name, given, draft);

@@ -1,15 +1,10 @@
 //! The survey of a table over a cache.
-ghost use Rattle.std.specs.Prelude.{◌≡◌, ◌<◌, ℕ, IfOk, IfErr, [], length, count_by};
-ghost use Rattle.fsd_table.specs.Breaks.{Breaks};
+ghost use Rattle.std.specs.Prelude.{◌≡◌, ◌<◌, IfOk, IfErr, [], length};
 ghost use Rattle.name_btree.specs.Fault.{outer_told};
 ghost use Rattle.name_btree.specs.Walk.{AreMarksOf};
-ghost use Rattle.table_pages.specs.Bringing.{IsTrusted, given_by};
 ghost use Rattle.table_pages.specs.Kept.{IsReady};
-ghost use Rattle.table_pages.specs.Table.{begun};
 ghost use Rattle.table_survey.specs.Claims.{whole_area};
-ghost use Rattle.table_survey.specs.Survey.{IsSurveyed};
-ghost use Rattle.cached_table.specs.Looking.{images_by};
-ghost use Rattle.cached_table.specs.Surveying.{SurveyFails, SurveysOnly, mount_fault_for, mount_fault_in, IsOfData};
+ghost use Rattle.cached_table.specs.Surveying.{SurveyFails, SurveysOnly, SurveysTable, mount_fault_for, mount_fault_in};
 
 use crate::looking::table_refusal;
 use alloc_map::Map;
@@ -42,13 +37,8 @@ pub(crate) fn survey_in<M: Machine, S: PageSource>(
     requires map { map.old ≡ whole_area l.now }
     ensures only { SurveysOnly M.Machine S.PageSource source.now (outer_told result) m.old m.new cache.old cache.new (length free.old) }
     ensures free { free.new ≡ free.old }
-    ensures area { IfOk result (λ s. IsOfData l.now map.new) }
-    ensures counted { IfOk result (λ s. s.pages ≡ count_by (λ mark. mark) marks.new) }
     ensures long { length marks.new ≡ length marks.old }
-    ensures told { IfOk result (λ s. IsTrusted M.Machine S.PageSource source.now m.old cache.old m.new →
-        IsSurveyed l.now (begun (given_by M.Machine S.PageSource source.now m.old) cache.old free.old home_a) map.new marks.new s) }
-    ensures unbroken { IfOk result (λ s. IsTrusted M.Machine S.PageSource source.now m.old cache.old m.new → (page : ℕ) →
-        Breaks l.now (images_by M.Machine S.PageSource source.now m.old cache.old (length free.old)) page → ⊥) }
+    ensures told { IfOk result (SurveysTable M.Machine S.PageSource source.now l.now m.old m.new cache.old free.old home_a map.new marks.new) }
     ensures fault { IfErr result (SurveyFails M.Machine S.PageSource source.now l.now m.old m.new cache.old free.old home_a) }
 {
     let mut table = Table::new(m, cache, source, home_a, free);

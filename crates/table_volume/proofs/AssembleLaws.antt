@@ -1,17 +1,17 @@
 -- The volume that a mount assembles.
 use Rattle.std.proofs.Common.{inl, ◌≡◌, ℕ, false, ◌||◌, List, [], replicate, None, Ok, refl, sym, ap, ◌∙◌}
 use Rattle.std.proofs.lemmas.Bool.{true≢false}
-use Rattle.page_cache.specs.Cache.{is_one_of}
+use Rattle.page_cache.specs.Cache.{is_among}
 use Rattle.volume_layout.specs.declared.layout.Layout.{Layout}
 use Rattle.volume_layout.specs.Layout.{data_start, plan}
 use Rattle.run_table.specs.Space.{contains}
 use Rattle.sector_set.specs.Area.{area}
-use Rattle.shadow_frees.specs.Waits.{Waits, waits}
+use Rattle.shadow_frees.specs.Waits.{Waits, waits_in}
 use Rattle.log_thirds.specs.LogValue.{LogValue}
 use Rattle.table_volume.specs.Mounting.{assembled, no_area, none_waits}
 use Rattle.cached_table.specs.Opening.{IsOpened}
-use Rattle.volume_state.specs.Volume.{IsWhole}
-use Rattle.volume_state.proofs.FreeLaws.{nothing}
+use Rattle.volume_laws.specs.Volume.{IsWholeVolume}
+use Rattle.volume_laws.proofs.FreeLaws.{nothing}
 use Rattle.cached_table.specs.Surveying.{IsOfData}
 use Rattle.cached_table.specs.declared.opening.Opened.{Opened}
 
@@ -24,7 +24,7 @@ module _ (l : Layout) where
   none_of_data : IsOfData l (no_area l)
   none_of_data = ap (λ (xs : List ℕ). area (data_start l) l.sectors (contains xs)) (sym none_of_area)
 
-  pub none_wait : (s : ℕ) → waits (none_waits l) s ≡ false
+  pub none_wait : (s : ℕ) → waits_in (none_waits l) s ≡ false
   none_wait s = ap (λ (xs : List ℕ). contains xs s || (contains xs s || contains xs s)) none_of_area
 
   -- ---- the parts
@@ -50,7 +50,7 @@ module _ (l : Layout) where
       down = None;
     }
 
-    pub whole_assembled : plan l.kind l.sectors l.third l.pages ≡ Ok l → log.layout ≡ l → IsOpened l o → IsWhole (assembled l log o)
+    pub whole_assembled : plan l.kind l.sectors l.third l.pages ≡ Ok l → log.layout ≡ l → IsOpened l o → IsWholeVolume (assembled l log o)
     whole_assembled planned layout opened = record {
       planned = planned;
       map = opened.map;
@@ -69,7 +69,7 @@ module _ (l : Layout) where
       pages = opened.pages;
       room = opened.frames_are;
       unpinned = opened.unpinned;
-      waiting = λ up page dirty. absurd (true≢false (sym dirty ∙ ap (λ (d : List ℕ). is_one_of d page) opened.dirty));
+      waiting = λ up page dirty. absurd (true≢false (sym dirty ∙ ap (λ (d : List ℕ). is_among d page) opened.dirty));
       numbered = λ up. inl opened.dirty;
       still = λ none. none_of_area;
     }

@@ -21,16 +21,16 @@ use Rattle.fsd_sound.specs.declared.fault.MountFault.TheVariants.{Device, Lost, 
 use Rattle.log_thirds.specs.LogValue.{LogValue}
 use Rattle.mount_recover.specs.Lost.{StandAsShown}
 use Rattle.mount_recover.specs.Recover.{IsNotUnsound, IsSettled}
-use Rattle.table_pages.specs.Kept.{images_of}
-use Rattle.volume_contract.specs.Mount.{MountsCalm, MountsShown, ShowsVolume}
+use Rattle.table_pages.specs.Kept.{images_given}
+use Rattle.volume_contract.specs.Mount.{MountsCalm, MountsShown, ShowsVolumePages}
 use Rattle.cached_table.specs.HomeLaws.{in_homes}
 use Rattle.cached_table.specs.Homes.{KnowsHomes, home_by}
 use Rattle.table_volume.specs.Mounting.{IsAssembled, OpensKnown, fresh_mounted, opened_of}
 use Rattle.cached_table.specs.Opening.{IsNoTable, IsTableOf, home_pages}
-use Rattle.volume_state.specs.State.{Holds, state}
-use Rattle.volume_state.specs.Volume.{VolumeValue}
+use Rattle.volume_laws.specs.State.{IsMemoryOf, state}
+use Rattle.volume_laws.specs.Volume.{VolumeValue}
 use Rattle.table_volume.proofs.FreshLaws.{fresh_fits, fresh_holds}
-use Rattle.volume_state.proofs.ListLaws.{lists_of}
+use Rattle.volume_laws.proofs.ListLaws.{lists_of}
 
 -- ---- the pages at home are those that the image shows
 
@@ -43,21 +43,21 @@ module _ (sectors : ℕ) (l : Layout) (log : LogValue) (i : Image) (at : Moment)
         sym (stand page lt) ∙ there ∙ ap (λ (o : Option (List ℕ)). Some (unwrap_or o [])) (sym (in_homes l at.image page lt ∙ there))
 
     shown_pages : shown_by l i is.anchor ≡ Some (home_pages l at.image)
-    unfolding images_of
+    unfolding images_given
     shown_pages = each_of_all (newest l i (records_by l i is.anchor)) (λ page. unwrap_or (home_by l at.image page) []) (all_pages l)
         (all_in_range (λ page. newest l i (records_by l i is.anchor) page ≡ Some (unwrap_or (home_by l at.image page) [])) 0 l.pages (λ page from lt. at_home page (omega (arith, lt))))
 
-    pub shows : ShowsVolume sectors i l (home_pages l at.image)
+    pub shows : ShowsVolumePages sectors i l (home_pages l at.image)
     shows = record { anchor = is.anchor; found = is.found; shows = ap (option_and_then (shown_by l i)) is.found.anchor ∙ shown_pages }
 
-    no_table_shown : (fault : MountFault) → IsNoTable l (home_pages l at.image) fault → MountsCalm state Holds sectors i (Err fault)
+    no_table_shown : (fault : MountFault) → IsNoTable l (home_pages l at.image) fault → MountsCalm state IsMemoryOf sectors i (Err fault)
     no_table_shown (Unsound s) fails = (l, home_pages l at.image, shows, fails)
     no_table_shown (Device s) fails = tt
     no_table_shown Memory fails = tt
     no_table_shown other fails = absurd fails
 
     module _ (planned : plan l.kind l.sectors l.third l.pages ≡ Ok l) where
-      table_shown : (v : VolumeValue) → IsAssembled l log v → IsTableOf l (home_pages l at.image) (opened_of v) → MountsShown state Holds sectors i v
+      table_shown : (v : VolumeValue) → IsAssembled l log v → IsTableOf l (home_pages l at.image) (opened_of v) → MountsShown state IsMemoryOf sectors i v
       table_shown v a t =
           let pages = home_pages l at.image in
           let files : Files = map (λ (e : Entry). (e.key, record { bytes = []; keep = 0 })) t.telling.entries in
@@ -65,7 +65,7 @@ module _ (sectors : ℕ) (l : Layout) (log : LogValue) (i : Image) (at : Moment)
           let same : l ≡ (state v).layout = ap (λ (x : VolumeValue). x.layout) (sym a.is) in
           record {
             mounted = fresh_mounted l log pages t.telling files;
-            shows = subst (λ (k : Layout). ShowsVolume sectors i k pages) same shows;
+            shows = subst (λ (k : Layout). ShowsVolumePages sectors i k pages) same shows;
             holds = fresh_holds l planned log v a pages t files count;
             fits = fresh_fits l planned log v a pages t files count;
             lists = lists_of v (fresh_mounted l log pages t.telling files) [] (fresh_holds l planned log v a pages t files count);
@@ -74,17 +74,17 @@ module _ (sectors : ℕ) (l : Layout) (log : LogValue) (i : Image) (at : Moment)
           }
 
 module _ (sectors : ℕ) (l : Layout) (planned : plan l.kind l.sectors l.third l.pages ≡ Ok l) (log : LogValue) (i : Image) (at : Moment) (is : IsSettled sectors i l log) (stand : StandAsShown l is.anchor i at.image) (calm : IsCalm at.windows) where
-  pub mounts_calm : (r : Result VolumeValue MountFault) → IfOk r (IsAssembled l log) → KnowsHomes l at → OpensKnown l at r → MountsCalm state Holds sectors i r
+  pub mounts_calm : (r : Result VolumeValue MountFault) → IfOk r (IsAssembled l log) → KnowsHomes l at → OpensKnown l at r → MountsCalm state IsMemoryOf sectors i r
   mounts_calm (Ok v) a knows opens = table_shown sectors l log i at is stand knows calm planned v a opens
   mounts_calm (Err fault) a knows opens = no_table_shown sectors l log i at is stand knows calm fault opens
 
 -- ---- what fails before
 
-pub fails_calm : (sectors : ℕ) (i : Image) (fault : MountFault) → IsNotUnsound fault → LosesShown sectors i fault → MountsCalm state Holds sectors i (Err fault)
+pub fails_calm : (sectors : ℕ) (i : Image) (fault : MountFault) → IsNotUnsound fault → LosesShown sectors i fault → MountsCalm state IsMemoryOf sectors i (Err fault)
 fails_calm sectors i (Unsound s) sound loses = absurd sound
 fails_calm sectors i (Lost a b) sound loses = loses
 fails_calm sectors i other sound loses = tt
 
-pub calm_handed : (sectors : ℕ) (i : Image) (r : Result VolumeValue MountFault) (fault : MountFault) → IsErrAnd r (λ told. told ≡ fault) → MountsCalm state Holds sectors i (Err fault) → MountsCalm state Holds sectors i r
+pub calm_handed : (sectors : ℕ) (i : Image) (r : Result VolumeValue MountFault) (fault : MountFault) → IsErrAnd r (λ told. told ≡ fault) → MountsCalm state IsMemoryOf sectors i (Err fault) → MountsCalm state IsMemoryOf sectors i r
 calm_handed sectors i (Ok v) fault is fails = absurd is
-calm_handed sectors i (Err told) fault is fails = subst (λ (f : MountFault). MountsCalm state Holds sectors i (Err f)) (sym is) fails
+calm_handed sectors i (Err told) fault is fails = subst (λ (f : MountFault). MountsCalm state IsMemoryOf sectors i (Err f)) (sym is) fails

@@ -6,8 +6,8 @@ use Rattle.fsd_bytes.specs.declared.refusal.Refusal.TheVariants as Why
 use Rattle.fsd_formats.specs.declared.entry.Entry.{Entry}
 use Rattle.volume_contract.specs.Order.{Asks, LookUp, Test, entry_steps, is_idle}
 use Rattle.volume_contract.specs.State.{State}
-use Rattle.volume_state.specs.Taken.{are_taken, down_fault, met_entry}
-use Rattle.volume_state.specs.Volume.{VolumeValue}
+use Rattle.volume_laws.specs.Taken.{are_taken, down_fault, met_entry}
+use Rattle.volume_laws.specs.Volume.{VolumeValue}
 
 -- it is refused as down at some place
 pub told_down : (P : Refusal → Type 0) → ((place : ℕ) → P (Why.Down place)) → (d : Option ℕ) (why : Refusal) → down_fault d ≡ Err why → P why

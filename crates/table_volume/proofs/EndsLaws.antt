@@ -19,14 +19,14 @@ use Rattle.fsd_sound.proofs.WritesLaws.{data_stays}
 use Rattle.log_thirds.specs.LogValue.{LogValue}
 use Rattle.mount_recover.specs.Finding.{IsExcuse}
 use Rattle.mount_recover.specs.Recover.{IsFreshLog, IsRefusedFor, IsSettledIn}
-use Rattle.mount_recover.specs.Replay.{IsAfter, IsBefore, IsReplayed, IsUnturned, Replays, TurnsLast}
+use Rattle.mount_recover.specs.Replay.{IsBehindSettle, IsBefore, IsReplayed, IsUnturned, Replays, TurnsLast}
 use Rattle.volume_contract.specs.Mount.{EndsBefore, EndsSettled, ExcusesOf, FailsFor, IsSoundAt, SoundAbout, SoundBefore, SoundSince}
 use Rattle.cached_table.specs.Homes.{KnowsHomes}
 use Rattle.table_volume.specs.Mounting.{IsAssembled, OpensKnown}
-use Rattle.volume_state.specs.State.{Holds, state}
-use Rattle.volume_state.specs.Volume.{VolumeValue}
+use Rattle.volume_laws.specs.State.{IsMemoryOf, state}
+use Rattle.volume_laws.specs.Volume.{VolumeValue}
 use Rattle.table_volume.proofs.EpochLaws.{at_last_epoch}
-use Rattle.volume_state.proofs.MomentLaws.{before_of, sound_before}
+use Rattle.volume_laws.proofs.MomentLaws.{before_of, sound_before}
 use Rattle.table_volume.proofs.SettledLaws.{count, files_settled, known_new, knows_settled, mounts_new, settled_new, since_settled}
 
 -- ---- moments of which two things are known
@@ -82,7 +82,7 @@ module _ (sectors : ℕ) (l : Layout) (windows : List WeakRun) (h : List Change)
         writes = replays.rest;
       }
     where
-      staged : IsBefore l windows lists.choices old left ⊎ IsAfter l windows lists.choices left → IsBefore l windows lists.choices old left
+      staged : IsBefore l windows lists.choices old left ⊎ IsBehindSettle l windows lists.choices left → IsBefore l windows lists.choices old left
       staged (inl before) = before
       staged (inr is) = before_of l windows lists.choices old left begun.ends still is
 
@@ -90,7 +90,7 @@ module _ (sectors : ℕ) (l : Layout) (windows : List WeakRun) (h : List Change)
     -- it failed before it settled
     pub ends_before : (new : Moment) → LeavesOnly M.moment M.left_since a b (Replays l windows lists.choices old) → LeavesOnly M.moment M.left_since a b (TurnsLast old new)
         → Replays l windows lists.choices old new → IsUnturned old new → (r : Result VolumeValue MountFault) (fault : MountFault) → IsErrAnd r (λ told. told ≡ fault) → IsExcuse fault → IsRefusedFor sectors fault old
-        → EndsBefore state Holds l windows h f (LeavesOnly M.moment M.left_since a b) old new r
+        → EndsBefore state IsMemoryOf l windows h f (LeavesOnly M.moment M.left_since a b) old new r
     ends_before new replays turns exit still r fault is excuse refused = record {
       moments = leaves_more M.moment M.left_since a b (λ left. Replays l windows lists.choices old left × TurnsLast old new left) (SoundBefore l windows h f old)
           (λ left both. moment_before left both.0 (unturned left both.1))
@@ -132,7 +132,7 @@ module _ (sectors : ℕ) (l : Layout) (windows : List WeakRun) (h : List Change)
 
     pub ends_settled : LeavesOnly M.moment M.left_since a b (Replays l windows lists.choices old) → LeavesOnly M.moment M.left_since a b (TurnsLast old mid) → ReadsSynced M b c mid new
         → IsFreshLog l log → IsSettledIn sectors l log old mid → log.anchor.epoch < 2 ^ 32 → Wears mid new → (r : Result VolumeValue MountFault) → IfOk r (IsAssembled l log) → OpensKnown l mid r
-        → IsNamedSince (M.left_since c) (M.moment a) mid.windows.present → EndsSettled state Holds l windows h f (M.left_since c) (M.moment a) (LeavesOnly M.moment M.left_since a c) old new r
+        → IsNamedSince (M.left_since c) (M.moment a) mid.windows.present → EndsSettled state IsMemoryOf l windows h f (M.left_since c) (M.moment a) (LeavesOnly M.moment M.left_since a c) old new r
     ends_settled replays turns times fresh is fits wears r assembled opens named = record {
       count = count sectors l windows h f old begun lists log mid done short;
       prefix = (files_settled sectors l windows h f old begun lists log mid done short).prefix;

@@ -13,11 +13,11 @@ use Rattle.log_thirds.specs.LogValue.{LogValue}
 use Rattle.volume_contract.specs.State.{Fits, IsNew}
 use Rattle.table_volume.specs.Mounting.{IsAssembled, assembled, fresh_mounted, opened_of}
 use Rattle.cached_table.specs.Opening.{IsTableOf}
-use Rattle.volume_state.specs.State.{Holds, state}
-use Rattle.volume_state.specs.Volume.{VolumeValue}
+use Rattle.volume_laws.specs.State.{IsMemoryOf, state}
+use Rattle.volume_laws.specs.Volume.{VolumeValue}
 use Rattle.table_volume.proofs.AssembleLaws.{none_of_area}
-use Rattle.volume_state.proofs.CountLaws.{count_of_flags}
-use Rattle.volume_state.proofs.FreeLaws.{nothing}
+use Rattle.volume_laws.proofs.CountLaws.{count_of_flags}
+use Rattle.volume_laws.proofs.FreeLaws.{nothing}
 use Rattle.table_volume.proofs.MountLaws.{is_new}
 
 -- ---- where nothing waits
@@ -92,7 +92,7 @@ module _ (l : Layout) (planned : plan l.kind l.sectors l.third l.pages ≡ Ok l)
   pub fresh_fits : Fits (state v) (fresh_mounted l log pages t.telling files)
   fresh_fits = subst (λ (x : VolumeValue). Fits (state x) (fresh_mounted l log pages t.telling files)) (sym a.is) fits_there
 
-  holds_there : Holds (assembled l log (opened_of v)) (fresh_mounted l log pages t.telling files) []
+  holds_there : IsMemoryOf (assembled l log (opened_of v)) (fresh_mounted l log pages t.telling files) []
   holds_there = record {
     planned = planned;
     pages = t.memory;
@@ -107,5 +107,5 @@ module _ (l : Layout) (planned : plan l.kind l.sectors l.third l.pages ≡ Ok l)
     indexed = a.fresh.indexed;
   }
 
-  pub fresh_holds : Holds v (fresh_mounted l log pages t.telling files) []
-  fresh_holds = subst (λ (x : VolumeValue). Holds x (fresh_mounted l log pages t.telling files) []) (sym a.is) holds_there
+  pub fresh_holds : IsMemoryOf v (fresh_mounted l log pages t.telling files) []
+  fresh_holds = subst (λ (x : VolumeValue). IsMemoryOf x (fresh_mounted l log pages t.telling files) []) (sym a.is) holds_there

@@ -31,33 +31,34 @@ use Rattle.fsd_sound.proofs.TwinMendLaws.{ArePair, twin_mounted}
 use Rattle.fsd_sound.proofs.WindowLaws.{borne_narrow}
 use Rattle.fsd_sound.proofs.WritesLaws.{beside}
 use Rattle.twin_home.specs.Heal.{Heals, Mends}
-use Rattle.twin_home.specs.Twins.{AreTwins, HealsPages, HealsTwins, TwinsStand}
+use Rattle.fsd_sound.specs.Lost.{AreTwinCopies}
+use Rattle.twin_home.specs.Twins.{HealsPages, HealsTwins, TwinsHaveSome}
 use Rattle.twin_home.proofs.TwinsLaws.{IsNoHome, Stays, heals_length, heals_said, heals_stay, heals_windows, pages_length, pages_said, pages_stay, pages_windows, stays_on}
 use Rattle.volume_contract.specs.Ends.{device_of}
 use Rattle.volume_contract.specs.Healing.{LosesTwins, StandsStill, TwinsStand as AllStand}
 use Rattle.volume_contract.specs.Order.{Follows, Heal, Test, heal_steps, is_idle}
 use Rattle.volume_contract.specs.State.{Known, Leaves, ListsPages, StandWritten, Stands, State, forced_of}
-use Rattle.volume_state.specs.Forcing.{force_refusal}
-use Rattle.volume_state.specs.State.{Holds, state}
-use Rattle.volume_state.specs.Volume.{VolumeValue}
-use Rattle.volume_state.specs.WearLaws.{stands_worn}
-use Rattle.volume_state.proofs.ForceLeavesLaws.{tells_place}
+use Rattle.volume_laws.specs.Forcing.{force_refusal}
+use Rattle.volume_laws.specs.State.{IsMemoryOf, state}
+use Rattle.volume_laws.specs.Volume.{VolumeValue}
+use Rattle.volume_laws.specs.WearLaws.{stands_worn}
+use Rattle.volume_laws.proofs.ForceLeavesLaws.{tells_place}
 
 -- ---- over an image that is written outside the log
 
-module _ (v : VolumeValue) (k : Known) (old : Moment) (stands : Stands state Holds v k old) where
+module _ (v : VolumeValue) (k : Known) (old : Moment) (stands : Stands state IsMemoryOf v k old) where
   records_same : (j : Image) → SameLog k.mounted.volume.layout old.image j → records_by k.mounted.volume.layout old.image k.mounted.anchor ≡ records_by k.mounted.volume.layout j k.mounted.anchor
   records_same j same = ap (λ (w : Walked). w.records) (sym (same_scan k.mounted.volume.layout old.image j same k.mounted.anchor stands.disk.third))
 
   -- it stands there, and so it does as that is worn
   pub stands_written : AreShort old.windows → (j : Image) → SameLog k.mounted.volume.layout old.image j → IsMounted k.mounted k.windows k.changes (forced_of k) j → StandWritten (open_damage old.windows) j k.mounted.slices k.mounted.volume.drafts
-      → (left : Moment) → HoldsImage old j left → Stands state Holds v k left
+      → (left : Moment) → HoldsImage old j left → Stands state IsMemoryOf v k left
   stands_written short j same disk written left holds =
       let mid : Moment = record old { image = j } in
-      let here : Stands state Holds v k mid = record {
+      let here : Stands state IsMemoryOf v k mid = record {
         fits = stands.fits;
         opened = stands.opened;
-        holds = subst (Holds v k.mounted) (records_same j same) stands.holds;
+        holds = subst (IsMemoryOf v k.mounted) (records_same j same) stands.holds;
         lists = subst (ListsPages (state v) k.mounted.pages) (records_same j same) stands.lists;
         ends = stands.ends;
         disk = disk;
@@ -103,12 +104,12 @@ module _ (v : VolumeValue) (k : Known) (old : Moment) (stands : Stands state Hol
       let from = leb-true (data_start k.mounted.volume.layout) p (and_parts (nat_le (data_start k.mounted.volume.layout) p) (nat_lt p k.mounted.volume.layout.sectors) area).0 in
       inl (stand_other old.image s bytes stood p (beside p s stood (pair_before s t p pair from) once))) stands.written
 
-  stands_mended : AreShort old.windows → (s t : ℕ) → ArePair k.mounted.volume.layout s t → (left : Moment) → Mends s t old left → Stands state Holds v k left
+  stands_mended : AreShort old.windows → (s t : ℕ) → ArePair k.mounted.volume.layout s t → (left : Moment) → Mends s t old left → Stands state IsMemoryOf v k left
   stands_mended short s t pair left mends =
       stands_written short (stand old.image s mends.bytes mends.part.stood) (copy_log s t pair mends.bytes mends.part.stood mends.part.within)
       (mended_mounted short s t mends.part.stood mends.part.within pair left mends) (mended_written s t mends.part.stood mends.part.within pair mends.bytes) left mends.part.holds
 
-  pub stands_healed : AreShort old.windows → (a b : ℕ) → ArePair k.mounted.volume.layout a b → ArePair k.mounted.volume.layout b a → (left : Moment) → Heals a b old left → Stands state Holds v k left
+  pub stands_healed : AreShort old.windows → (a b : ℕ) → ArePair k.mounted.volume.layout a b → ArePair k.mounted.volume.layout b a → (left : Moment) → Heals a b old left → Stands state IsMemoryOf v k left
   stands_healed short a b pair turned left (inl holds) = stands_written short old.image (λ p within. refl) stands.disk stands.written left holds
   stands_healed short a b pair turned left (inr (inl mends)) = stands_mended short a b pair left mends
   stands_healed short a b pair turned left (inr (inr mends)) = stands_mended short b a turned left mends
@@ -116,7 +117,7 @@ module _ (v : VolumeValue) (k : Known) (old : Moment) (stands : Stands state Hol
 -- ---- all that stands twice
 
 module _ (v : VolumeValue) (k : Known) where
-  stands_paged : (count : ℕ) → count ≤ k.mounted.volume.layout.pages → (old left : Moment) → AreShort old.windows → Stands state Holds v k old → HealsPages k.mounted.volume.layout count old left → Stands state Holds v k left
+  stands_paged : (count : ℕ) → count ≤ k.mounted.volume.layout.pages → (old left : Moment) → AreShort old.windows → Stands state IsMemoryOf v k old → HealsPages k.mounted.volume.layout count old left → Stands state IsMemoryOf v k left
   stands_paged zero le old left short stands holds = stands_written v k old stands short old.image (λ p within. refl) stands.disk stands.written left holds
   stands_paged (suc page) le old left short stands (mid, before, here) =
       let lt : page < k.mounted.volume.layout.pages = omega (arith, le) in
@@ -124,7 +125,7 @@ module _ (v : VolumeValue) (k : Known) where
       (subst AreShort (sym (pages_windows k.mounted.volume.layout page old mid before)) short)
       (home_a k.mounted.volume.layout page) (home_b k.mounted.volume.layout page) (inr (inr (page, lt, inl (refl, refl)))) (inr (inr (page, lt, inr (refl, refl)))) left here
 
-  stands_twins : (old left : Moment) → AreShort old.windows → Stands state Holds v k old → HealsTwins k.mounted.volume.layout old left → Stands state Holds v k left
+  stands_twins : (old left : Moment) → AreShort old.windows → Stands state IsMemoryOf v k old → HealsTwins k.mounted.volume.layout old left → Stands state IsMemoryOf v k left
   stands_twins old left short stands heals =
       let one = stands_healed v k old stands short 0 4 (inl (inl (refl, refl))) (inl (inr (refl, refl))) heals.roots_at heals.roots in
       let short_1 : AreShort heals.roots_at.windows = subst AreShort (sym (heals_windows 0 4 old heals.roots_at heals.roots)) short in
@@ -133,7 +134,7 @@ module _ (v : VolumeValue) (k : Known) where
       stands_paged k.mounted.volume.layout.pages (omega arith) heals.anchors_at left short_2 two heals.pages
 
 -- what a stop leaves, and the end
-pub stands_all : (v : VolumeValue) (k : Known) (old left : Moment) → AreShort old.windows → HealsTwins v.layout old left → Stands state Holds v k old → Stands state Holds v k left
+pub stands_all : (v : VolumeValue) (k : Known) (old left : Moment) → AreShort old.windows → HealsTwins v.layout old left → Stands state IsMemoryOf v k old → Stands state IsMemoryOf v k left
 stands_all v k old left short heals stands = stands_twins v k old left short stands (subst (λ (l : Layout). HealsTwins l old left) (sym stands.fits.layout) heals)
 
 -- ---- what is written
@@ -159,7 +160,7 @@ twins_touch l old left heals = record {
       (stays_on heals.roots_at heals.anchors_at left s (heals_windows 8 12 heals.roots_at heals.anchors_at heals.anchors) two three);
 }
 
-pub twins_leave : (v : VolumeValue) (old left : Moment) → AreShort old.windows → HealsTwins v.layout old left → Leaves state Holds v (is_twin v.layout) old left
+pub twins_leave : (v : VolumeValue) (old left : Moment) → AreShort old.windows → HealsTwins v.layout old left → Leaves state IsMemoryOf v (is_twin v.layout) old left
 twins_leave v old left short heals k stands = record {
   sound = mounted_sound k.mounted k.windows k.changes (forced_of k) left.image (stands_all v k old left short heals stands).disk;
   windows = twins_windows v.layout old left heals;
@@ -167,7 +168,7 @@ twins_leave v old left short heals k stands = record {
   touches = twins_touch v.layout old left heals;
 }
 
-pub still_leaves : (v : VolumeValue) (may : Sectors) (at : Moment) → Leaves state Holds v may at at
+pub still_leaves : (v : VolumeValue) (may : Sectors) (at : Moment) → Leaves state IsMemoryOf v may at at
 still_leaves v may at k stands = record {
   sound = mounted_sound k.mounted k.windows k.changes (forced_of k) at.image stands.disk;
   windows = refl;
@@ -177,11 +178,11 @@ still_leaves v may at k stands = record {
 
 -- ---- what is told
 
-pub all_stand : (l : Layout) (now : Moment) → TwinsStand l now → AllStand l now
+pub all_stand : (l : Layout) (now : Moment) → TwinsHaveSome l now → AllStand l now
 all_stand l now stand s is = let some = stand s is in ⊎_elim (λ whole. inl (some.0, whole)) (λ hurt. inr hurt) some.1
 
 -- two copies are never both damaged while the volume stands
-never_lost : (v : VolumeValue) (k : Known) (now : Moment) → AreShort now.windows → Stands state Holds v k now → (a b : ℕ) → AreLost (AreTwins k.mounted.volume.layout) now.image a b → ⊥
+never_lost : (v : VolumeValue) (k : Known) (now : Moment) → AreShort now.windows → Stands state IsMemoryOf v k now → (a b : ℕ) → AreLost (AreTwinCopies k.mounted.volume.layout) now.image a b → ⊥
 never_lost v k now short stands a b lost = by lost.copies
   where
     weak : (s : ℕ) → IsTrue (is_twin k.mounted.volume.layout s) → sector_at now.image s ≡ Damaged → IsTrue (weak_of k.windows s)
@@ -193,16 +194,16 @@ never_lost v k now short stands a b lost = by lost.copies
     hurt : (s t : ℕ) → s ≡ t → sector_at now.image s ≡ Damaged → sector_at now.image t ≡ Damaged
     hurt s t e is = subst (λ (p : ℕ). sector_at now.image p ≡ Damaged) e is
 
-    by : AreTwins k.mounted.volume.layout a b → ⊥
+    by : AreTwinCopies k.mounted.volume.layout a b → ⊥
     by (inl r) = far 0 4 (omega arith) refl refl (hurt a 0 r.0 lost.first) (hurt b 4 r.1 lost.second)
     by (inr (inl r)) = far 8 12 (omega arith) refl refl (hurt a 8 r.0 lost.first) (hurt b 12 r.1 lost.second)
     by (inr (inr homes)) =
         let l = k.mounted.volume.layout in let page = homes.page in
         far (home_a l page) (home_b l page) (omega arith) (twin_a l page homes.within) (twin_b l page homes.within) (hurt a (home_a l page) homes.homes.first lost.first) (hurt b (home_b l page) homes.homes.second lost.second)
 
-stands_still : (T : Type 0) (v : VolumeValue) (k : Known) (now : Moment) → AreShort now.windows → Stands state Holds v k now → (f : LoadFault) → LostCause (AreTwins v.layout) now.image f → StandsStill state Holds {T = T} k v now (Err (force_refusal f))
+stands_still : (T : Type 0) (v : VolumeValue) (k : Known) (now : Moment) → AreShort now.windows → Stands state IsMemoryOf v k now → (f : LoadFault) → LostCause (AreTwinCopies v.layout) now.image f → StandsStill state IsMemoryOf {T = T} k v now (Err (force_refusal f))
 stands_still T v k now short stands (fault.Device s) lost = stands
-stands_still T v k now short stands (fault.Lost a b) lost = absurd (never_lost v k now short stands a b (subst (λ (l : Layout). AreLost (AreTwins l) now.image a b) (sym stands.fits.layout) lost))
+stands_still T v k now short stands (fault.Lost a b) lost = absurd (never_lost v k now short stands a b (subst (λ (l : Layout). AreLost (AreTwinCopies l) now.image a b) (sym stands.fits.layout) lost))
 
 -- ---- the answer
 
@@ -234,11 +235,11 @@ busy_heal s up idle =
     let no : is_idle (heal_steps s) ≡ false = ap (λ (why : Option Refusal). is_idle (Test why ∷ Heal ∷ [])) up in
     absurd (cc (no, idle))
 
-pub told_lost : (l : Layout) (i : Image) (P : Type 0) → P → (r : Result ℕ LoadFault) → IfErr r (λ f. P → LostCause (AreTwins l) i f) → IfErr (told_of r) (LosesTwins l i)
+pub told_lost : (l : Layout) (i : Image) (P : Type 0) → P → (r : Result ℕ LoadFault) → IfErr r (λ f. P → LostCause (AreTwinCopies l) i f) → IfErr (told_of r) (LosesTwins l i)
 told_lost l i P here (Ok count) lost = tt
 told_lost l i P here (Err (fault.Device s)) lost = tt
 told_lost l i P here (Err (fault.Lost a b)) lost = lost here
 
-pub told_still : (v : VolumeValue) (k : Known) (now : Moment) → AreShort now.windows → Stands state Holds v k now → (P : Type 0) → P → (r : Result ℕ LoadFault) → IfErr r (λ f. P → LostCause (AreTwins v.layout) now.image f) → StandsStill state Holds k v now (told_of r)
+pub told_still : (v : VolumeValue) (k : Known) (now : Moment) → AreShort now.windows → Stands state IsMemoryOf v k now → (P : Type 0) → P → (r : Result ℕ LoadFault) → IfErr r (λ f. P → LostCause (AreTwinCopies v.layout) now.image f) → StandsStill state IsMemoryOf k v now (told_of r)
 told_still v k now short stands P here (Ok count) lost = stands
 told_still v k now short stands P here (Err f) lost = stands_still ℕ v k now short stands f (lost here)

@@ -8,11 +8,11 @@ use Rattle.sector_disk.specs.Machine.{Moment, Wears}
 use Rattle.fsd_files.specs.Disk.{Has}
 use Rattle.fsd_files.proofs.KeptLaws.{has_on}
 use Rattle.log_thirds.specs.LogValue.{LogValue}
-use Rattle.mount_recover.specs.Recover.{HasAnchors}
+use Rattle.mount_recover.specs.Recover.{HasAnchorTwice}
 use Rattle.volume_contract.specs.Mount.{HealsAnchors, HealsHomes}
 use Rattle.table_volume.specs.Mounting.{IsAssembled}
-use Rattle.volume_state.specs.State.{state}
-use Rattle.volume_state.specs.Volume.{VolumeValue}
+use Rattle.volume_laws.specs.State.{state}
+use Rattle.volume_laws.specs.Volume.{VolumeValue}
 use Rattle.fsd_sound.specs.Homes.{HasBothHomes}
 
 module _ (mid new : Moment) (wears : Wears mid new) where
@@ -21,7 +21,7 @@ module _ (mid new : Moment) (wears : Wears mid new) where
   stands_read bytes s has = subst (λ (w : Windows). Has (open_damage w) new.image bytes s) (sym wears.windows) (has_on (open_damage mid.windows) mid.image new.image bytes s (wears.image.each s) has)
 
   module _ (l : Layout) (log : LogValue) (v : VolumeValue) (a : IsAssembled l log v) where
-    pub anchors_read : HasAnchors log.anchor mid → HealsAnchors (state v) new
+    pub anchors_read : HasAnchorTwice log.anchor mid → HealsAnchors (state v) new
     anchors_read has = subst (λ (x : VolumeValue). HealsAnchors (state x) new) (sym a.is) (record {
       first = stands_read (anchor_bytes log.anchor) 8 has.0;
       second = stands_read (anchor_bytes log.anchor) 12 has.1;

@@ -8,14 +8,14 @@ use Rattle.sector_disk.specs.declared.sector.Sector.TheVariants.{Whole}
 use Rattle.sector_disk.specs.Image.{IsCalm, bytes_of, sector_at}
 use Rattle.sector_disk.specs.Machine.{Moment}
 use Rattle.sector_disk.proofs.Calm.{calm_nowhere}
-use Rattle.fsd_files.specs.Disk.{bytes_at, either_copy}
+use Rattle.fsd_files.specs.Disk.{bytes_at, first_whole}
 use Rattle.fsd_sound.specs.Homes.{HasBothHomes, HasSome, home_of}
 use Rattle.fsd_sound.specs.declared.fault.MountFault.{MountFault}
 use Rattle.cached_table.specs.Homes.{KnowsHomes}
 use Rattle.cached_table.specs.Opening.{IsNoTable, IsTableOf, home_pages}
 use Rattle.cached_table.proofs.HomeReadLaws.{calm_knows}
 use Rattle.table_volume.specs.Mounting.{OpensKnown, opened_of}
-use Rattle.volume_state.specs.Volume.{VolumeValue}
+use Rattle.volume_laws.specs.Volume.{VolumeValue}
 
 module _ (l : Layout) (at : Moment) where
   pub opens_known : (r : Result VolumeValue MountFault) → IfOk r (λ v. KnowsHomes l at → IsTableOf l (home_pages l at.image) (opened_of v)) → IfErr r (λ fault. KnowsHomes l at → IsNoTable l (home_pages l at.image) fault) → KnowsHomes l at → OpensKnown l at r
@@ -29,7 +29,7 @@ module _ (l : Layout) (at : Moment) where
     whole_at s (bytes, inr hurt) = absurd (calm_nowhere at.windows.present at.windows.next s calm.present calm.next hurt.0)
 
     home_there : (page : ℕ) → HasBothHomes l at page → IsSome (home_of l at.image page)
-    home_there page both = subst (λ (s : Sector). IsSome (either_copy (bytes_of s) (bytes_at at.image (home_b l page)))) (sym (whole_at (home_a l page) both.0).1) refl
+    home_there page both = subst (λ (s : Sector). IsSome (first_whole (bytes_of s) (bytes_at at.image (home_b l page)))) (sym (whole_at (home_a l page) both.0).1) refl
 
     pub stand_known : ((page : ℕ) → page < l.pages → HasBothHomes l at page) → KnowsHomes l at
     stand_known both = calm_knows l at calm (λ page lt. home_there page (both page lt))

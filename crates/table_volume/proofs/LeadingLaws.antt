@@ -28,9 +28,9 @@ use Rattle.version_data.proofs.SingleLaws.{leader_inside}
 use Rattle.volume_contract.specs.Healing.{IsMet, LeavesWith}
 use Rattle.volume_contract.specs.Order.{Single, Test, is_idle, single_steps}
 use Rattle.volume_contract.specs.State.{Known, Stands, State, forced_of}
-use Rattle.volume_state.specs.State.{Holds, state}
-use Rattle.volume_state.specs.Volume.{VolumeValue}
-use Rattle.volume_state.proofs.RangeLaws.{all_below}
+use Rattle.volume_laws.specs.State.{IsMemoryOf, state}
+use Rattle.volume_laws.specs.Volume.{VolumeValue}
+use Rattle.volume_laws.proofs.RangeLaws.{all_below}
 use Rattle.table_volume.proofs.HealingLaws.{stands_written}
 use Rattle.table_volume.proofs.OpenLeaderLaws.{drafts_stand, open_stands}
 
@@ -60,7 +60,7 @@ leads entries e good has = by (is_leader entries (leader_place e)) refl
 
 -- ---- the volume
 
-module _ (v : VolumeValue) (k : Known) (old : Moment) (short : AreShort old.windows) (stands : Stands state Holds v k old) (e : Entry) (good : is_entry e ≡ true) (has : Contains k.mounted.volume.entries e) where
+module _ (v : VolumeValue) (k : Known) (old : Moment) (short : AreShort old.windows) (stands : Stands state IsMemoryOf v k old) (e : Entry) (good : is_entry e ≡ true) (has : Contains k.mounted.volume.entries e) where
   is_led : IsTrue (is_leader k.mounted.volume.entries (leader_place e))
   is_led = leads k.mounted.volume.entries e good has
 
@@ -74,7 +74,7 @@ module _ (v : VolumeValue) (k : Known) (old : Moment) (short : AreShort old.wind
   leader_log bytes stood once p within = stand_other old.image (leader_place e) bytes stood p
       (beside p (leader_place e) stood (λ is. let high = within.1 in omega (arith, is, from_data, high)) once)
 
-  pub stands_led : (left : Moment) → WritesLeader e old left → Stands state Holds v k left
+  pub stands_led : (left : Moment) → WritesLeader e old left → Stands state IsMemoryOf v k left
   stands_led left writes =
       let bytes = leader_bytes (leader_of e) in
       let j = stand old.image (leader_place e) bytes writes.stood in
@@ -102,7 +102,7 @@ leader_touches e old left writes =
           (writes.holds.worn.each s);
     }
 
-pub leader_leaves : (v : VolumeValue) (e : Entry) → is_entry e ≡ true → (old left : Moment) → AreShort old.windows → WritesLeader e old left → LeavesWith state Holds v e (λ s. s == leader_place e) old left
+pub leader_leaves : (v : VolumeValue) (e : Entry) → is_entry e ≡ true → (old left : Moment) → AreShort old.windows → WritesLeader e old left → LeavesWith state IsMemoryOf v e (λ s. s == leader_place e) old left
 leader_leaves v e good old left short writes k stands has = record {
   sound = mounted_sound k.mounted k.windows k.changes (forced_of k) left.image (stands_led v k old short stands e good has left writes).disk;
   windows = writes.holds.windows;
@@ -110,7 +110,7 @@ leader_leaves v e good old left short writes k stands has = record {
   touches = leader_touches e old left writes;
 }
 
-pub still_leaves_with : (v : VolumeValue) (e : Entry) (may : Sectors) (at : Moment) → LeavesWith state Holds v e may at at
+pub still_leaves_with : (v : VolumeValue) (e : Entry) (may : Sectors) (at : Moment) → LeavesWith state IsMemoryOf v e may at at
 still_leaves_with v e may at k stands has = record {
   sound = mounted_sound k.mounted k.windows k.changes (forced_of k) at.image stands.disk;
   windows = refl;

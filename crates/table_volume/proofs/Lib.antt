@@ -14,6 +14,7 @@ mod LookedLaws
 pub mod MountLaws
 pub mod RestLaws
 pub mod SettledLaws
+mod TableCallLaws
 pub mod UnbrokenLaws
 mod UpgradeLaws
 pub mod UnsoundLaws

@@ -14,11 +14,11 @@ use Rattle.volume_contract.specs.Causes.{IsTaken, meets_held}
 use Rattle.volume_contract.specs.Ends.{found_one}
 use Rattle.volume_contract.specs.Healing.{IsMet}
 use Rattle.volume_contract.specs.State.{held_runs}
-use Rattle.volume_changes.specs.Meeting.{met_found}
-use Rattle.volume_state.specs.State.{state}
-use Rattle.volume_state.specs.Taken.{are_taken, is_taken}
-use Rattle.volume_state.specs.Volume.{VolumeValue}
-use Rattle.volume_state.proofs.RangeLaws.{taken_data, taken_runs}
+use Rattle.volume_laws.specs.Meeting.{met_found}
+use Rattle.volume_laws.specs.State.{state}
+use Rattle.volume_laws.specs.Taken.{are_taken, is_taken}
+use Rattle.volume_laws.specs.Volume.{VolumeValue}
+use Rattle.volume_laws.proofs.RangeLaws.{taken_data, taken_runs}
 
 module _ (v : VolumeValue) (most : v.layout.sectors ≤ 2 ^ 24) (told : (e : Entry) → IsTrue (are_taken v e.runs) → IsTaken (state v) e) where
   is_met : (e : Entry) → is_entry e ≡ true → are_taken v e.runs ≡ true → IsMet (state v) e

@@ -9,7 +9,7 @@ use Rattle.run_table.specs.Space.{contains, runs_of, where_free}
 use Rattle.sector_set.specs.Area.{Area}
 use Rattle.sector_set.proofs.FreeLaws.{where_same}
 use Rattle.shadow_frees.specs.Readers.{is_held, unheld}
-use Rattle.shadow_frees.specs.Waits.{waits}
+use Rattle.shadow_frees.specs.Waits.{waits_in}
 use Rattle.sector_disk.specs.declared.machine.Machine.{Ghosts}
 use Rattle.sector_disk.specs.Image.{IsCalm, Windows}
 use Rattle.sector_disk.specs.Machine.{Moment, Wears}
@@ -27,9 +27,9 @@ use Rattle.volume_contract.specs.Mount.{CountsMount, IsFound, IsRefused, KeepsAl
 use Rattle.volume_contract.specs.State.{IsNew}
 use Rattle.table_volume.specs.Mounting.{IsAssembled, assembled, no_area, opened_of}
 use Rattle.cached_table.specs.Opening.{IsOpenFault}
-use Rattle.volume_state.specs.State.{freed_sectors, state}
-use Rattle.volume_state.specs.Volume.{VolumeValue}
-use Rattle.volume_state.proofs.FreeLaws.{nothing}
+use Rattle.volume_laws.specs.State.{freed_sectors, state}
+use Rattle.volume_laws.specs.Volume.{VolumeValue}
+use Rattle.volume_laws.proofs.FreeLaws.{nothing}
 use Rattle.cached_table.specs.declared.opening.Opened.{Opened}
 use Rattle.table_volume.proofs.AssembleLaws.{none_of_area, none_wait}
 
@@ -73,7 +73,7 @@ module _ (l : Layout) (log : LogValue) (v : VolumeValue) (a : IsAssembled l log 
     slots = slots;
     count = refl;
     dirty = a.opened.dirty;
-    waiting = where_same (waits (assembled l log (opened_of v)).shadow) (λ s. false) (data_start l) l.sectors (λ s from to. none_wait l s) ∙ nothing (data_start l) l.sectors;
+    waiting = where_same (waits_in (assembled l log (opened_of v)).shadow) (λ s. false) (data_start l) l.sectors (λ s from to. none_wait l s) ∙ nothing (data_start l) l.sectors;
     waits = ap (λ (xs : List ℕ). not (length xs == 0)) (none_of_area l);
     unfinished = none_of_area l;
     readers = refl;

@@ -3,7 +3,6 @@ use Rattle.std.proofs.Common.{◌≡◌, ◌≢◌, inl, inr, ℕ, ◌+◌, ◌<
 use Rattle.std.specs.Prelude.{◌==◌, Contains, IsTrue}
 use Rattle.std.specs.List.{AllByRecursion, AllZip, flat_map, list_all, list_any}
 use Rattle.std.proofs.lemmas.Bool.{and_parts, or_cases}
-use Rattle.std.proofs.lemmas.Grind.{flat_map-append}
 use Rattle.std.proofs.lemmas.List.Elements.{All-contains, All-from_recursion}
 use Rattle.run_table.specs.declared.run.Run.{Run}
 use Rattle.run_table.specs.RunTable.{same_runs, sectors_of}
@@ -14,10 +13,12 @@ use Rattle.fsd_formats.specs.declared.entry.Entry.{Entry}
 use Rattle.sector_disk.specs.Image.{sector_at}
 use Rattle.sector_set.proofs.MeetLaws.{any_at}
 use Rattle.fsd_files.specs.Disk.{Has, Image, Sectors}
-use Rattle.fsd_files.specs.Kept.{KeptIn, data_sectors, slices}
+use Rattle.fsd_files.specs.Kept.{KeptIn, data_sectors, filled_slices}
 use Rattle.fsd_files.specs.Volume.{plans_of}
 use Rattle.fsd_files.specs.Waiting.{IsSpaced, are_same_or_apart, is_leader}
-use Rattle.fsd_files.proofs.CountLaws.{contains_occurs, differ_occurs, occurs, occurs-append, used, used-cons}
+use Rattle.fsd_files.proofs.ChangeLaws.{used-append}
+use Rattle.fsd_table.proofs.BoundLaws.{all_weaker}
+use Rattle.fsd_files.proofs.CountLaws.{contains_occurs, differ_occurs, occurs, used, used-cons}
 use Rattle.fsd_files.proofs.KeptLaws.{behind_there, has_on}
 use Rattle.fsd_sound.specs.Mounted.{HasOpen, Mounted, Wrote}
 use Rattle.volume_contract.specs.State.{StandWritten}
@@ -50,7 +51,7 @@ module _ (i j : Image) (s : ℕ) (same : (t : ℕ) → t ≢ s → sector_at j t
   held_same [] [] beside kept = tt
   held_same [] (r ∷ held) beside kept = absurd kept
   held_same (b ∷ bytes) [] beside kept = absurd kept
-  held_same (b ∷ bytes) (r ∷ held) beside kept = (kept_same (slices b) (data_sectors r) beside.0 kept.0, held_same bytes held beside.1 kept.1)
+  held_same (b ∷ bytes) (r ∷ held) beside kept = (kept_same (filled_slices b) (data_sectors r) beside.0 kept.0, held_same bytes held beside.1 kept.1)
 
   drafts_same : (os : List (List (Option (List ℕ)))) (drafts : List (List Run)) → AllByRecursion (IsBeside s) drafts
       → AllZip (λ slices runs. AllZip (Wrote hurt i) slices (data_sectors runs)) os drafts → AllZip (λ slices runs. AllZip (Wrote hurt j) slices (data_sectors runs)) os drafts
@@ -72,9 +73,6 @@ used_led s (e ∷ entries) is = elim (or_cases (contains (take 1 (sectors_of e.r
   | inr more ↦ omega (arith, used-cons s e.runs (plans_of entries), used_led s entries more)
 ]
 
-used_both : (s : ℕ) (xs ys : List (List Run)) → used s (xs ++ ys) ≡ used s xs + used s ys
-used_both s xs ys = ap (occurs s) (flat_map-append sectors_of xs ys) ∙ occurs-append s (flat_map sectors_of xs) (flat_map sectors_of ys)
-
 none_used : (s : ℕ) (drafts : List (List Run)) → used s drafts ≡ 0 → AllByRecursion (IsBeside s) drafts
 none_used s [] none = tt
 none_used s (r ∷ drafts) none = (
@@ -89,10 +87,6 @@ none_used s (r ∷ drafts) none = (
 all_pass : {A : Type 0} (test : A → Bool) (xs : List A) → IsTrue (list_all test xs) → AllByRecursion (λ x. IsTrue (test x)) xs
 all_pass test [] all = tt
 all_pass test (x ∷ xs) all = let parts = and_parts (test x) (list_all test xs) all in (parts.0, all_pass test xs parts.1)
-
-all_more : {A : Type 0} (P Q : A → Type 0) (xs : List A) → ((x : A) → P x → Q x) → AllByRecursion P xs → AllByRecursion Q xs
-all_more P Q [] more all = tt
-all_more P Q (x ∷ xs) more all = (more x all.0, all_more P Q xs more all.1)
 
 -- a reader holds the leader's version, or nothing of it
 held_beside : (s : ℕ) (e : Entry) → IsTrue (contains (sectors_of e.runs) s) → IsBeside s e.runs → (held : List Run) → IsTrue (are_same_or_apart held e.runs) → IsBeside s held
@@ -114,7 +108,7 @@ beside_drafts m s spaced leads = none_used s m.volume.drafts none
     none =
         let plans = plans_of m.volume.entries in
         let once = differ_occurs (flat_map sectors_of (plans ++ m.volume.drafts)) (and_parts (all_differ (flat_map sectors_of (plans ++ m.volume.drafts))) _ spaced.apart).0 s in
-        omega (arith, once, used_both s plans m.volume.drafts, used_led s m.volume.entries leads)
+        omega (arith, once, used-append s plans m.volume.drafts, used_led s m.volume.entries leads)
 
 pub drafts_stand : (m : Mounted) (weak : Sectors) (i j : Image) (s : ℕ) → ((t : ℕ) → t ≢ s → sector_at j t ≡ sector_at i t) → IsSpaced m.volume → IsTrue (is_leader m.volume.entries s)
     → StandWritten weak i m.slices m.volume.drafts → StandWritten weak j m.slices m.volume.drafts
@@ -125,7 +119,7 @@ pub open_stands : (m : Mounted) (hurt : Sectors) (i j : Image) (e : Entry) (s : 
 open_stands m hurt i j e s same spaced has here leads beside stands = record {
   drafts = drafts_stand m hurt i j s same spaced leads stands.drafts;
   held = held_same i j s same hurt m.bytes m.volume.held
-      (all_more (λ r. IsTrue (list_all (λ x. are_same_or_apart r x.runs) m.volume.entries)) (IsBeside s) m.volume.held by_version
+      (all_weaker (λ r. IsTrue (list_all (λ x. are_same_or_apart r x.runs) m.volume.entries)) (IsBeside s) m.volume.held by_version
       (all_pass (λ r. list_all (λ x. are_same_or_apart r x.runs) m.volume.entries) m.volume.held spaced.held)) stands.held;
 }
   where

@@ -11,8 +11,8 @@ use Rattle.log_thirds.specs.LogValue.{LogValue}
 use Rattle.mount_recover.specs.Recover.{writes_most}
 use Rattle.volume_contract.specs.Mount.{CountsMount}
 use Rattle.table_volume.specs.Mounting.{IsAssembled}
-use Rattle.volume_state.specs.State.{state}
-use Rattle.volume_state.specs.Volume.{VolumeValue}
+use Rattle.volume_laws.specs.State.{state}
+use Rattle.volume_laws.specs.Volume.{VolumeValue}
 
 -- worn more, in the later windows
 worn_later : (a b : Bool) (x y z : Sector) → SectorWorn (a || b) x y → SectorWorn b y z → SectorWorn (a || b) x z

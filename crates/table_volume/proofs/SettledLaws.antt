@@ -18,7 +18,7 @@ use Rattle.fsd_formats.specs.declared.anchor.Anchor.{Anchor}
 use Rattle.fsd_formats.specs.declared.entry.Entry.{Entry}
 use Rattle.fsd_log.specs.Scan.{Head, Walked}
 use Rattle.fsd_table.specs.Table.{Telling}
-use Rattle.fsd_files.specs.Disk.{Has, Image, SectorWorn, bytes_at, bytes_of, either_copy, in_runs}
+use Rattle.fsd_files.specs.Disk.{Has, Image, SectorWorn, bytes_at, bytes_of, first_whole, in_runs}
 use Rattle.fsd_files.specs.Files.{Change, Files, after}
 use Rattle.fsd_files.specs.Kept.{Describes, IsEntryOf}
 use Rattle.fsd_files.proofs.WearLaws.{has_still, kept_still}
@@ -26,7 +26,7 @@ use Rattle.fsd_sound.specs.Anchors.{anchor_of, fresh_anchor}
 use Rattle.fsd_sound.specs.Homes.{home_of}
 use Rattle.fsd_sound.specs.Laid.{HasOwnLog}
 use Rattle.fsd_sound.specs.Choices.{TellsChoices}
-use Rattle.fsd_sound.specs.Mounted.{IsFresh, IsMounted, Mounted, SameData}
+use Rattle.fsd_sound.specs.Mounted.{IsFreshlyMounted, IsMounted, Mounted, SameData}
 use Rattle.fsd_sound.specs.Shown.{all_pages, records_by, shown, shown_by}
 use Rattle.fsd_sound.specs.Sound.{EndIn, ShowsOne, ShowsPages, weak_of}
 use Rattle.fsd_sound.specs.Windows.{IsApart}
@@ -42,19 +42,19 @@ use Rattle.log_thirds.specs.LogValue.{LogValue}
 use Rattle.mount_recover.specs.Recover.{IsFreshLog, IsSettledIn}
 use Rattle.mount_recover.specs.Replay.{IsReplayed}
 use Rattle.table_pages.specs.ImageLaws.{image_at as page_at, image_count}
-use Rattle.volume_contract.specs.Mount.{BreaksAt, Excuses, IsSoundAt, Mounts, Settled, SoundSince}
+use Rattle.volume_contract.specs.Mount.{BreaksAt, Excuses, IsSoundAt, Mounts, SettledDisk, SoundSince}
 use Rattle.volume_contract.specs.State.{Fits, Known, Stands, none_open}
 use Rattle.cached_table.specs.HomeLaws.{in_homes}
 use Rattle.cached_table.specs.Homes.{KnowsHomes, home_by}
 use Rattle.table_volume.specs.Mounting.{IsAssembled, OpensKnown, fresh_mounted, opened_of}
 use Rattle.cached_table.specs.Opening.{IsNoTable, IsTableOf, home_pages}
-use Rattle.volume_state.specs.State.{Holds, state}
-use Rattle.volume_state.specs.Volume.{VolumeValue}
+use Rattle.volume_laws.specs.State.{IsMemoryOf, state}
+use Rattle.volume_laws.specs.Volume.{VolumeValue}
 use Rattle.table_volume.proofs.EpochLaws.{raised}
 use Rattle.table_volume.proofs.FreshLaws.{fresh_fits, fresh_holds}
-use Rattle.volume_state.proofs.MomentLaws.{TellsFiles, described_since, files_now, sound_since, worn_both}
+use Rattle.volume_laws.proofs.MomentLaws.{TellsFiles, described_since, files_now, sound_since, worn_both}
 use Rattle.table_volume.proofs.UnbrokenLaws.{told_unbroken}
-use Rattle.volume_state.proofs.ListLaws.{lists_of}
+use Rattle.volume_laws.proofs.ListLaws.{lists_of}
 use Rattle.volume_layout.specs.Kinds.{gap_of}
 
 -- ---- how many pages are shown
@@ -83,9 +83,9 @@ as_many_entries (v ∷ files) (e ∷ entries) lists = let rest = as_many_entries
 -- ---- at home
 
 -- of two copies that aren't weak at once one gives the bytes
-twice_home : (weak : ℕ → Bool) (i : Image) (bytes : List ℕ) (a b : ℕ) → (IsTrue (weak a) → IsTrue (weak b) → ⊥) → Has weak i bytes a → Has weak i bytes b → either_copy (bytes_at i a) (bytes_at i b) ≡ Some bytes
-twice_home weak i bytes a b apart (inl first) second = ap (λ (s : Sector). either_copy (bytes_of s) (bytes_at i b)) first
-twice_home weak i bytes a b apart (inr hurt) (inl second) = ap (λ (s : Sector). either_copy (bytes_of s) (bytes_at i b)) hurt.1 ∙ ap bytes_of second
+twice_home : (weak : ℕ → Bool) (i : Image) (bytes : List ℕ) (a b : ℕ) → (IsTrue (weak a) → IsTrue (weak b) → ⊥) → Has weak i bytes a → Has weak i bytes b → first_whole (bytes_at i a) (bytes_at i b) ≡ Some bytes
+twice_home weak i bytes a b apart (inl first) second = ap (λ (s : Sector). first_whole (bytes_of s) (bytes_at i b)) first
+twice_home weak i bytes a b apart (inr hurt) (inl second) = ap (λ (s : Sector). first_whole (bytes_of s) (bytes_at i b)) hurt.1 ∙ ap bytes_of second
 twice_home weak i bytes a b apart (inr hurt) (inr more) = absurd (apart hurt.0 more.0)
 
 module _ (sectors : ℕ) (l : Layout) (windows : List WeakRun) (h : List Change) (f : ℕ) (old : Moment) (begun : IsSoundAt sectors l windows h f old) (lists : TellsChoices l windows h f old.image)
@@ -179,7 +179,7 @@ module _ (sectors : ℕ) (l : Layout) (windows : List WeakRun) (h : List Change)
       abbrev pub mounted_new : Mounted
       mounted_new = fresh_mounted l log pages files_settled.telling (after (take count h))
 
-      fresh_new : IsFresh (take count h) later new.image mounted_new
+      fresh_new : IsFreshlyMounted (take count h) later new.image mounted_new
       fresh_new = record {
         records = [];
         over = record { shows = shows_new; own = own_new; clean = record { size = refl; each = λ page out. refl } };
@@ -201,7 +201,7 @@ module _ (sectors : ℕ) (l : Layout) (windows : List WeakRun) (h : List Change)
       abbrev pub known_new : Known
       known_new = record { mounted = mounted_new; opened = none_open; windows = later; changes = take count h }
 
-      pub settled_new : Settled l windows run h count known_new old new
+      pub settled_new : SettledDisk l windows run h count known_new old new
       settled_new = record {
         settled = wears.windows ∙ done.after.settled;
         known = refl;
@@ -215,12 +215,12 @@ module _ (sectors : ℕ) (l : Layout) (windows : List WeakRun) (h : List Change)
 
       -- ---- what it answers
 
-      stands_new : (v : VolumeValue) → IsAssembled l log v → IsTableOf l pages (opened_of v) → Stands state Holds v known_new new
+      stands_new : (v : VolumeValue) → IsAssembled l log v → IsTableOf l pages (opened_of v) → Stands state IsMemoryOf v known_new new
       stands_new v a t =
           let telling : t.telling ≡ files_settled.telling = some_same t.telling files_settled.telling (sym t.told ∙ files_settled.told) in
           let as_many : length (after (take count h)) ≡ length t.telling.entries = as_many_entries (after (take count h)) files_settled.telling.entries described_new.lists ∙ ap (λ (x : Telling). length x.entries) (sym telling) in
-          let holds : Holds v mounted_new (records_by l new.image mounted_new.anchor) = subst (Holds v mounted_new) (sym (ap (λ (w : Walked). w.records) own_new.log.scanned))
-          (subst (λ (x : Telling). Holds v (fresh_mounted l log pages x (after (take count h))) []) telling (fresh_holds l begun.planned log v a pages t (after (take count h)) as_many)) in
+          let holds : IsMemoryOf v mounted_new (records_by l new.image mounted_new.anchor) = subst (IsMemoryOf v mounted_new) (sym (ap (λ (w : Walked). w.records) own_new.log.scanned))
+          (subst (λ (x : Telling). IsMemoryOf v (fresh_mounted l log pages x (after (take count h))) []) telling (fresh_holds l begun.planned log v a pages t (after (take count h)) as_many)) in
           record {
             fits = subst (λ (x : Telling). Fits (state v) (fresh_mounted l log pages x (after (take count h)))) telling (fresh_fits l begun.planned log v a pages t (after (take count h)) as_many);
             opened = record { drafts = refl; slices = refl; places = ap (λ (x : VolumeValue). x.shadow.held) a.is; bytes = refl };
@@ -243,6 +243,6 @@ module _ (sectors : ℕ) (l : Layout) (windows : List WeakRun) (h : List Change)
       excused (Unsound s) none = absurd (no_break s none)
       excused other none = absurd none
 
-      pub mounts_new : (r : Result VolumeValue MountFault) → IfOk r (IsAssembled l log) → OpensKnown l mid r → Mounts state Holds known_new new r
+      pub mounts_new : (r : Result VolumeValue MountFault) → IfOk r (IsAssembled l log) → OpensKnown l mid r → Mounts state IsMemoryOf known_new new r
       mounts_new (Ok v) a opens = stands_new v a (subst (λ (ps : List (List ℕ)). IsTableOf l ps (opened_of v)) pages_home opens)
       mounts_new (Err fault) a opens = excused fault (subst (λ (ps : List (List ℕ)). IsNoTable l ps fault) pages_home opens)

@@ -13,13 +13,13 @@ use Rattle.fsd_sound.specs.declared.fault.MountFault.{MountFault}
 use Rattle.fsd_sound.specs.declared.fault.MountFault.TheVariants.{Unsound}
 use Rattle.fsd_sound.proofs.EachLaws.{all_in_range, each_at, each_of_all}
 use Rattle.mount_recover.specs.Recover.{IsNotUnsound}
-use Rattle.table_pages.specs.Kept.{images_of}
+use Rattle.table_pages.specs.Kept.{images_given}
 use Rattle.volume_contract.specs.Mount.{BreaksAt, ReadAlike, UnsoundFor}
 use Rattle.cached_table.specs.HomeLaws.{in_homes}
 use Rattle.cached_table.specs.Homes.{KnowsHomes, home_by}
 use Rattle.table_volume.specs.Mounting.{OpensKnown}
 use Rattle.cached_table.specs.Opening.{home_pages}
-use Rattle.volume_state.specs.Volume.{VolumeValue}
+use Rattle.volume_laws.specs.Volume.{VolumeValue}
 
 module _ (l : Layout) (mid : Moment) (pages : List (List ℕ)) (alike : ReadAlike l (open_damage mid.windows) mid.image pages) where
   -- what reads alike at home is known there
@@ -35,7 +35,7 @@ module _ (l : Layout) (mid : Moment) (pages : List (List ℕ)) (alike : ReadAlik
       is ∙ ap (λ (o : Option (List ℕ)). Some (unwrap_or o [])) (sym (in_homes l mid.image page lt ∙ is))
 
   at_home : each_of (home_of l mid.image) (all_pages l) ≡ Some (home_pages l mid.image)
-  unfolding images_of
+  unfolding images_given
   at_home = each_of_all (home_of l mid.image) (λ page. unwrap_or (home_by l mid.image page) []) (all_pages l)
       (all_in_range (λ page. home_of l mid.image page ≡ Some (unwrap_or (home_by l mid.image page) [])) 0 l.pages (λ page from lt. there page (omega (arith, lt))))
 

@@ -1,6 +1,6 @@
 -- A volume without a record in its log is upgraded: it stands with layout 2 then, and each moment is sound as before.
-use Rattle.std.proofs.Common.{◌≡◌, ◌≢◌, ◌⊎◌, inl, inr, ⊎_elim, option_map, ℕ, zero, suc, ◌+◌, ◌^◌, ◌<◌, ◌≤◌, true, false, not, ◌&&◌, List, [], ◌∷◌, length, Option, Some, None, refl, sym, ap, subst, ◌∙◌, arith, eqb-true}
-use Rattle.std.specs.Prelude.{IfSome, IsFalse, IsSome, IsTrue, is_some, nat_le, nat_lt, slice_index_or, ◌==◌}
+use Rattle.std.proofs.Common.{◌≡◌, ◌≢◌, ◌⊎◌, inl, inr, ⊎_elim, option_map, ℕ, zero, suc, ◌^◌, ◌<◌, ◌≤◌, true, false, not, ◌&&◌, List, [], ◌∷◌, length, Option, Some, None, refl, sym, ap, subst, ◌∙◌, arith, eqb-true}
+use Rattle.std.specs.Prelude.{IfSome, IsTrue, is_some, nat_le, nat_lt, slice_index_or, ◌==◌}
 use Rattle.std.specs.List.{last_or, list_any}
 use Rattle.std.proofs.lemmas.List.{length-set}
 use Rattle.std.proofs.lemmas.Bool.{and_parts, both_ways, leb-true, not-true, or_left}
@@ -34,38 +34,19 @@ use Rattle.fsd_sound.proofs.TurningLaws.{own_turned, turned_mounted, turning_sou
 use Rattle.fsd_sound.proofs.WindowLaws.{open_is_weak}
 use Rattle.fsd_sound.proofs.WritesLaws.{beside}
 use Rattle.log_thirds.specs.declared.slots.Slot.{Slot}
-use Rattle.log_thirds.specs.Append.{HasNoPages, of_kind}
+use Rattle.log_thirds.specs.Append.{of_kind}
 use Rattle.log_thirds.specs.Firsts.{AreFirsts}
 use Rattle.twin_home.specs.Heal.{RootsIn}
 use Rattle.volume_contract.specs.Order.{Roots, Test, is_idle, is_root, layout_is, upgrade_steps}
-use Rattle.volume_contract.specs.State.{Known, Leaves, LeavesSound, StandWritten, Stands, State, forced_of}
-use Rattle.volume_contract.specs.Upgrade.{is_fresh, upgraded}
-use Rattle.volume_state.specs.State.{Holds, state}
-use Rattle.volume_state.specs.Volume.{IsWhole, VolumeValue}
-use Rattle.volume_state.proofs.ListLaws.{lists_of}
+use Rattle.volume_contract.specs.State.{Known, LeavesSound, StandWritten, Stands, State, forced_of}
+use Rattle.volume_contract.specs.Upgrade.{is_fresh, upgraded_known}
+use Rattle.volume_laws.specs.State.{IsMemoryOf, state}
+use Rattle.volume_laws.specs.Volume.{VolumeValue}
+use Rattle.volume_laws.proofs.ListLaws.{lists_of}
 
 -- the volume with layout 2
 abbrev pub with_kind_three : VolumeValue → VolumeValue
 with_kind_three v = record v { layout = with_kind Three v.layout; log = of_kind Three v.log }
-
-pub whole_three : (v : VolumeValue) → IsWhole v → IsWhole (with_kind_three v)
-whole_three v whole = record {
-  planned = planned_alike v.layout Three whole.planned;
-  map = whole.map;
-  removed = whole.removed;
-  kept = whole.kept;
-  unfinished = whole.unfinished;
-  apart = whole.apart;
-  once = whole.once;
-  log = ap (with_kind Three) whole.log;
-  epoch = whole.epoch;
-  pages = whole.pages;
-  room = whole.room;
-  unpinned = whole.unpinned;
-  waiting = whole.waiting;
-  numbered = whole.numbered;
-  still = whole.still;
-}
 
 -- ---- a fresh volume
 
@@ -126,7 +107,7 @@ busy_upgrade s up two idle =
 
 -- ---- a volume that stands
 
-module _ (v : VolumeValue) (k : Known) (old : Moment) (two : v.layout.kind ≡ Two) (fresh : IsTrue (is_fresh (state v))) (stands : Stands state Holds v k old) where
+module _ (v : VolumeValue) (k : Known) (old : Moment) (two : v.layout.kind ≡ Two) (fresh : IsTrue (is_fresh (state v))) (stands : Stands state IsMemoryOf v k old) where
   kind_is : k.mounted.volume.layout.kind ≡ Two
   kind_is = ap (λ (l : Layout). l.kind) stands.fits.layout ∙ two
 
@@ -191,7 +172,7 @@ module _ (v : VolumeValue) (k : Known) (old : Moment) (two : v.layout.kind ≡ T
         ap (λ (w : Walked). w.records) over.own.log.scanned
         ∙ none_yet k.mounted.volume.layout k.windows (stands.disk.disk ∷ []) k.mounted.anchor stands.disk.records k.mounted.head old.image over.shows over.own first
 
-    holds_empty : Holds (with_kind_three v) (known_by (with_kind Three k.mounted.volume.layout)).mounted []
+    holds_empty : IsMemoryOf (with_kind_three v) (known_by (with_kind Three k.mounted.volume.layout)).mounted []
     holds_empty = record {
       planned = planned_alike v.layout Three stands.holds.planned;
       pages = stands.holds.pages;
@@ -220,8 +201,8 @@ module _ (v : VolumeValue) (k : Known) (old : Moment) (two : v.layout.kind ≡ T
       };
     }
 
-    holds_new : Holds (with_kind_three v) (upgraded k).mounted (records_by (with_kind Three k.mounted.volume.layout) new.image k.mounted.anchor)
-    holds_new = subst (Holds (with_kind_three v) (upgraded k).mounted) (sym none_new) holds_empty
+    holds_new : IsMemoryOf (with_kind_three v) (upgraded_known k).mounted (records_by (with_kind Three k.mounted.volume.layout) new.image k.mounted.anchor)
+    holds_new = subst (IsMemoryOf (with_kind_three v) (upgraded_known k).mounted) (sym none_new) holds_empty
 
     written_new : StandWritten (open_damage new.windows) new.image k.mounted.slices k.mounted.volume.drafts
     written_new = subst (λ (w : Windows). StandWritten (open_damage w) new.image k.mounted.slices k.mounted.volume.drafts) (sym holds.windows)
@@ -230,7 +211,7 @@ module _ (v : VolumeValue) (k : Known) (old : Moment) (two : v.layout.kind ≡ T
         let from = leb-true (data_start k.mounted.volume.layout) p (and_parts (nat_le (data_start k.mounted.volume.layout) p) (nat_lt p k.mounted.volume.layout.sectors) area).0 in
         other_worn (root_bytes (with_kind Three v.layout)) old new done p (λ e. omega (arith, from, e)) (λ e. omega (arith, from, e))) stands.written)
 
-    pub stands_upgraded : Stands state Holds (with_kind_three v) (upgraded k) new
+    pub stands_upgraded : Stands state IsMemoryOf (with_kind_three v) (upgraded_known k) new
     stands_upgraded = record {
       fits = record {
         layout = ap (with_kind Three) stands.fits.layout;
@@ -250,7 +231,7 @@ module _ (v : VolumeValue) (k : Known) (old : Moment) (two : v.layout.kind ≡ T
       };
       opened = record { drafts = stands.opened.drafts; slices = stands.opened.slices; places = stands.opened.places; bytes = stands.opened.bytes };
       holds = holds_new;
-      lists = lists_of (with_kind_three v) (upgraded k).mounted (records_by (with_kind Three k.mounted.volume.layout) new.image k.mounted.anchor) holds_new;
+      lists = lists_of (with_kind_three v) (upgraded_known k).mounted (records_by (with_kind Three k.mounted.volume.layout) new.image k.mounted.anchor) holds_new;
       ends = subst (λ (w : Windows). EndIn w k.windows) (sym holds.windows) stands.ends;
       disk = disk_new;
       written = written_new;

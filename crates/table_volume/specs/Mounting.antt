@@ -12,7 +12,7 @@ use Rattle.fsd_table.specs.Table.{Telling}
 use Rattle.log_thirds.specs.LogValue.{FitsLayout, LogValue}
 use Rattle.mount_recover.specs.Recover.{IsFreshLog}
 use Rattle.cached_table.specs.Opening.{IsNoTable, IsOpened, IsTableOf, home_pages}
-use Rattle.volume_state.specs.Volume.{VolumeValue}
+use Rattle.volume_laws.specs.Volume.{VolumeValue}
 use Rattle.cached_table.specs.declared.opening.Opened.{Opened}
 
 -- no sector of the data area

@@ -9,13 +9,13 @@ ghost use Rattle.fsd_sound.specs.Writes.{force_writes};
 ghost use Rattle.version_data.specs.Writing.{WritesIn};
 ghost use Rattle.volume_contract.specs.Causes.{Causes};
 ghost use Rattle.volume_contract.specs.Ends.{device_of};
-ghost use Rattle.volume_contract.specs.Order.{Follows, IsDeviceIn, Keeps, enter_steps, is_idle};
+ghost use Rattle.volume_contract.specs.Order.{Follows, IsDeviceIn, KeepsRefused, enter_steps, is_idle};
 ghost use Rattle.volume_contract.specs.Pieces.{EndsEnter, Enters, IsDraft, in_leader, slices_if, slices_in};
 ghost use Rattle.volume_contract.specs.State.{Counted, GoesOn, HasCounted, Known, Leaves, Stands, change_len, downs_for, forces_first};
-ghost use Rattle.volume_changes.specs.Completed.{Completes, EndsComplete, draft_of};
-ghost use Rattle.volume_changes.specs.Entered.{enter_steps as look_steps};
-ghost use Rattle.volume_state.specs.Placing.{IsPlace};
-ghost use Rattle.volume_state.specs.State.{Holds, resident, state};
+ghost use Rattle.volume_laws.specs.Completed.{Completes, EndsComplete, draft_of};
+ghost use Rattle.volume_laws.specs.Entered.{entering_steps as look_steps};
+ghost use Rattle.volume_laws.specs.Placing.{IsPlace};
+ghost use Rattle.volume_laws.specs.State.{IsMemoryOf, resident, state};
 
 use crate::Volume;
 use crate::freeing::free_gone_if;
@@ -35,8 +35,7 @@ impl Volume {
         ensures good { IsTrue (is_entry result) }
         ensures same { draft.now ≡ draft_of result }
     {
-        // For the proof alone: a field that is read gives what the volume keeps.
-        let _ = &self.layout;
+        self.attest();
         Entry {
             key: first_key(name),
             keep: 0,
@@ -52,13 +51,12 @@ impl Volume {
         requires good { IsTrue (is_entry entry.now) }
         requires draft { IsDraft (state self.now) (draft_of entry.now) }
         ensures place { IfErr result (IsDeviceIn (in_leader entry.now.runs)) }
-        ensures disk { WritesDisk M.Machine (device_in device_of result) (Leaves state Holds self.now (in_leader entry.now.runs)) m.old m.new }
+        ensures disk { WritesDisk M.Machine (device_in device_of result) (Leaves state IsMemoryOf self.now (in_leader entry.now.runs)) m.old m.new }
         ensures writes { M.honest m.new → WritesIn (in_leader entry.now.runs) (M.now m.old) (M.now m.new) }
         ensures counted { M.tells m.new → Counted result 1 (M.ledger m.old) (M.ledger m.new) }
         ensures done { OnOk result (M.honest m.new → HasLeader (open_damage (M.now m.new).windows) (M.now m.new).image entry.now) }
     {
-        // For the proof alone: a field that is read gives what the volume keeps.
-        let _ = &self.layout;
+        self.attest();
         match write_leader(m, entry) {
             Ok(()) => Ok(()),
             Err(failed) => Err(Refusal::Device(failed.place)),
@@ -87,11 +85,10 @@ impl Volume {
         ensures name { IfOk result (λ key. key.name ≡ name.now) }
         ensures completes { MatchResult result (λ key. Completes entry.runs (state self.old) (state self.new)) (λ why. state self.new ≡ state self.old) }
         ensures causes { Causes M.Machine (resident self.old) (state self.old) (state self.new) m.old m.new result }
-        ensures done { M.honest m.new → (bytes : List ℕ) (k : Known) → Stands state Holds self.old k (M.now m.old) → (before : List (Option (List ℕ))) → slices_in k.opened.drafts entry.runs ≡ Some before →
+        ensures done { M.honest m.new → (bytes : List ℕ) (k : Known) → Stands state IsMemoryOf self.old k (M.now m.old) → (before : List (Option (List ℕ))) → slices_in k.opened.drafts entry.runs ≡ Some before →
             entry.length ≡ length bytes → HasVersion (open_damage (M.now m.old).windows) (M.now m.old).image bytes entry → EndsComplete name.now keep bytes entry k self.new (M.now m.new) result }
     {
-        // For the proof alone: its own call tells what the cache keeps.
-        let _whole = self.table.cache.dirty_list();
+        self.table.cache.attest();
         let home_a = self.layout.home_a(0);
         let source = Newest::over(&self.log, &self.layout);
         let done = self.table.enter(
@@ -124,21 +121,20 @@ impl Volume {
         requires good { IsTrue (is_entry entry) }
         requires draft { IsDraft (state self.old) (draft_of entry) }
         ensures order { Follows (enter_steps (state self.old) keep (in_leader entry.runs)) result }
-        ensures disk { WritesDisk M.Machine (device_in device_of result) (Leaves state Holds self.old (λ t. force_writes (state self.old).layout t || in_leader entry.runs t)) m.old m.new }
+        ensures disk { WritesDisk M.Machine (device_in device_of result) (Leaves state IsMemoryOf self.old (λ t. force_writes (state self.old).layout t || in_leader entry.runs t)) m.old m.new }
         ensures rest { M.honest m.new → Touches (λ t. force_writes (state self.old).layout t || in_leader entry.runs t) (M.now m.old) (M.now m.new) }
         ensures counted { M.tells m.new → Counted result (1 + change_len (state self.old)) (M.ledger m.old) (M.ledger m.new) }
         ensures state { MatchResult result (λ key. Enters entry.runs (state self.old) (state self.new)) (λ why. GoesOn (downs_for why) (state self.old) (state self.new)) }
         ensures idle { IsTrue (is_idle (enter_steps (state self.old) keep (in_leader entry.runs))) → m.new ≡ m.old }
         ensures name { IfOk result (λ key. key.name ≡ name.now) }
         ensures kept { let s = state self.old in
-            MatchResult result (λ key. HasCounted false (forces_first s) s (state self.new)) (λ why. Keeps (enter_steps s keep (in_leader entry.runs)) why s (state self.new)) }
+            MatchResult result (λ key. HasCounted false (forces_first s) s (state self.new)) (λ why. KeepsRefused (enter_steps s keep (in_leader entry.runs)) why s (state self.new)) }
         ensures causes { Causes M.Machine (resident self.old) (state self.old) (state self.new) m.old m.new result }
-        ensures done { M.honest m.new → (k : Known) → Stands state Holds self.old k (M.now m.old) →
+        ensures done { M.honest m.new → (k : Known) → Stands state IsMemoryOf self.old k (M.now m.old) →
             (bytes : List ℕ) → length bytes ≡ entry.length → slices_in k.opened.drafts entry.runs ≡ Some (slices_if true bytes) →
-            EndsEnter state Holds (draft_of entry) name.now bytes keep k self.new (M.now m.new) result }
+            EndsEnter state IsMemoryOf (draft_of entry) name.now bytes keep k self.new (M.now m.new) result }
     {
-        // For the proof alone: a field that is read gives what the volume keeps.
-        let _ = &self.layout;
+        self.attest();
         self.may_put(keep, 0)?;
         self.led(m, &entry)?;
         self.force_first(m)?;

@@ -1,7 +1,7 @@
 //! Taking a version out.
 ghost use Rattle.std.specs.Prelude.{◌≡◌, ◌<◌, ◌≤◌, ◌-◌, ◌^◌, All, IsTrue, None, Some, length};
 ghost use Rattle.sector_disk.specs.Calls.{OnlyReads, device_in};
-ghost use Rattle.shadow_frees.specs.Readers.{Agrees};
+ghost use Rattle.shadow_frees.specs.Readers.{IsSameOrApart};
 ghost use Rattle.shadow_frees.specs.Waits.{AreIdle};
 ghost use Rattle.fsd_files.specs.Answers.{delete_outcome, entry_of};
 ghost use Rattle.fsd_files.specs.Files.{Change};
@@ -10,9 +10,9 @@ ghost use Rattle.volume_contract.specs.Causes.{Causes};
 ghost use Rattle.volume_contract.specs.Ends.{device_of};
 ghost use Rattle.volume_contract.specs.Order.{Follows};
 ghost use Rattle.volume_contract.specs.State.{Known, Stands, volume_of};
-ghost use Rattle.volume_changes.specs.Ending.{Edits, EndsEdit, GivesUp, delete_tests, edit_steps, look_steps};
-ghost use Rattle.volume_state.specs.State.{Holds, resident, state};
-ghost use Rattle.volume_state.specs.Taken.{are_taken};
+ghost use Rattle.volume_laws.specs.Ending.{Edits, EndsEdit, GivesUp, delete_tests, edit_steps, look_steps};
+ghost use Rattle.volume_laws.specs.State.{IsMemoryOf, resident, state};
+ghost use Rattle.volume_laws.specs.Taken.{are_taken};
 
 use crate::Volume;
 use crate::keeping::edit_refusal;
@@ -28,7 +28,7 @@ use shadow_frees::Shadow;
 /// waits for a force nothing was taken out.
 fn give_up(shadow: &mut Shadow, versions: &mut u32, cache: &Cache, runs: &Runs)
     requires idle { AreIdle shadow.old runs.now }
-    requires agree { All (Agrees runs.now) shadow.old.held }
+    requires agree { All (IsSameOrApart runs.now) shadow.old.held }
     ensures { GivesUp cache.now.dirty runs.now shadow.old versions.old shadow.new versions.new }
 {
     if cache.dirty_list().len() == 0 || *versions == 0 {
@@ -61,16 +61,14 @@ impl Volume {
         ensures disk { OnlyReads M.Machine (device_in device_of result) m.old m.new }
         ensures edited { Edits (state self.old) (state self.new) result }
         ensures causes { Causes M.Machine (resident self.old) (state self.old) (state self.new) m.old m.new result }
-        ensures done { M.honest m.new → (k : Known) → Stands state Holds self.old k (M.now m.old) → entry_of entry.now.key (volume_of k).entries ≡ Some entry.now →
+        ensures done { M.honest m.new → (k : Known) → Stands state IsMemoryOf self.old k (M.now m.old) → entry_of entry.now.key (volume_of k).entries ≡ Some entry.now →
             EndsEdit (λ met. delete_outcome met (volume_of k) entry.now.key) (λ x. Deleted entry.now.key) (Change.Delete entry.now.key) k self.new (M.now m.new) result }
     {
-        // For the proof alone: its own call tells what the cache keeps.
-        let _whole = self.table.cache.dirty_list();
+        self.table.cache.attest();
         let home_a = self.layout.home_a(0);
         let source = Newest::over(&self.log, &self.layout);
         let done = self.table.take_out(m, &source, home_a, &entry.key);
-        // For the proof alone: its own call tells what the cache keeps.
-        let _edited = self.table.cache.dirty_list();
+        self.table.cache.attest();
         match done {
             Ok(()) => {
                 give_up(
@@ -95,7 +93,7 @@ impl Volume {
         ensures disk { OnlyReads M.Machine (device_in device_of result) m.old m.new }
         ensures edited { Edits (state self.old) (state self.new) result }
         ensures causes { Causes M.Machine (resident self.old) (state self.old) (state self.new) m.old m.new result }
-        ensures done { M.honest m.new → (k : Known) → Stands state Holds self.old k (M.now m.old) →
+        ensures done { M.honest m.new → (k : Known) → Stands state IsMemoryOf self.old k (M.now m.old) →
             EndsEdit (λ met. delete_outcome met (volume_of k) key.now) (λ x. Deleted key.now) (Change.Delete key.now) k self.new (M.now m.new) result }
     {
         match self.find(m, key)? {

@@ -1,6 +1,6 @@
 //! Entries that are met in the table, and whether anything is done.
 ghost use Rattle.std.specs.Prelude.{◌≡◌, ◌<◌};
-ghost use Rattle.volume_state.specs.Taken.{are_taken, down_fault, met_entry};
+ghost use Rattle.volume_laws.specs.Taken.{are_taken, down_fault, met_entry};
 
 use crate::Volume;
 use fsd_bytes::Refusal;

@@ -16,14 +16,14 @@ use volume_contract::{Draft, Files, Forced, Held, Stat};
 use volume_layout::Kind;
 
 impl<M: Machine> Files<M> for Volume {
-    ghost use Rattle.volume_state.specs.State.{Holds, resident, state};
-    ghost use Rattle.volume_state.specs.WearLaws.{stands_worn};
+    ghost use Rattle.volume_laws.specs.State.{IsMemoryOf, resident, state};
+    ghost use Rattle.volume_laws.specs.WearLaws.{stands_worn};
 
     ghost state = { state };
 
     ghost resident = { resident };
 
-    ghost holds = { Holds };
+    ghost holds = { IsMemoryOf };
 
     ghost wears = { stands_worn };
 
@@ -63,8 +63,7 @@ impl<M: Machine> Files<M> for Volume {
     }
 
     fn next_after(&mut self, m: &mut M, after: Option<&Key>) -> Result<Option<Entry>, Refusal> {
-        // For the proof alone: a field that is read gives what the volume keeps.
-        let _ = &self.layout;
+        self.attest();
         self.is_up()?;
         let found = self.find_next(m, after)?;
         self.met_found(found)
@@ -89,8 +88,7 @@ impl<M: Machine> Files<M> for Volume {
         first: u32,
         bytes: &[u8],
     ) -> Result<(), Refusal> {
-        // For the proof alone: a field that is read gives what the volume keeps.
-        let _ = &self.layout;
+        self.attest();
         self.is_up()?;
         match write_slices(m, &draft.runs, first, bytes) {
             Ok(()) => Ok(()),
@@ -142,8 +140,7 @@ impl<M: Machine> Files<M> for Volume {
         from: u32,
         buf: &mut [u8],
     ) -> Result<u32, Refusal> {
-        // For the proof alone: a field that is read gives what the volume keeps.
-        let _ = &self.layout;
+        self.attest();
         self.is_up()?;
         read_version(m, &held.entry, from, buf)
     }
@@ -160,8 +157,6 @@ impl<M: Machine> Files<M> for Volume {
     }
 
     fn heal(&mut self, m: &mut M) -> Result<u32, Refusal> {
-        // For the proof alone: a field that is read gives what the volume keeps.
-        let _ = &self.layout;
         self.is_up()?;
         match heal_twins(m, &self.layout) {
             Ok(count) => Ok(count),

@@ -9,9 +9,9 @@ ghost use Rattle.volume_contract.specs.Ends.{device_of};
 ghost use Rattle.volume_contract.specs.Found.{HasEntry};
 ghost use Rattle.volume_contract.specs.Order.{IsLookUp};
 ghost use Rattle.volume_contract.specs.State.{Known, Stands, volume_of};
-ghost use Rattle.cached_table.specs.Looking.{Finds};
-ghost use Rattle.volume_state.specs.State.{Holds, resident, state};
-ghost use Rattle.volume_state.specs.Taken.{are_taken, met_entry};
+ghost use Rattle.cached_table.specs.Looking.{FindsEntry};
+ghost use Rattle.volume_laws.specs.State.{IsMemoryOf, resident, state};
+ghost use Rattle.volume_laws.specs.Taken.{are_taken, met_entry};
 
 use crate::Volume;
 use cached_table::told;
@@ -36,17 +36,16 @@ impl Volume {
         ensures entry { IfOk result (λ found. IfSome found (λ f. is_entry f.entry ≡ true)) }
         ensures key { IfOk result (λ found. IfSome found (λ f. f.entry.key ≡ key.now)) }
         ensures cause { IfErr result IsLookUp }
-        ensures stands { M.honest m.new → (k : Known) → Stands state Holds self.old k (M.now m.old) → Stands state Holds self.new k (M.now m.new) }
-        ensures found { M.honest m.new → (k : Known) → Stands state Holds self.old k (M.now m.old) → Finds (entry_of key.now (volume_of k).entries) result }
-        ensures taken { M.honest m.new → (k : Known) → Stands state Holds self.old k (M.now m.old) → (e : Entry) → Contains (volume_of k).entries e → IsTrue (are_taken self.new e.runs) }
+        ensures stands { M.honest m.new → (k : Known) → Stands state IsMemoryOf self.old k (M.now m.old) → Stands state IsMemoryOf self.new k (M.now m.new) }
+        ensures found { M.honest m.new → (k : Known) → Stands state IsMemoryOf self.old k (M.now m.old) → FindsEntry (entry_of key.now (volume_of k).entries) result }
+        ensures taken { M.honest m.new → (k : Known) → Stands state IsMemoryOf self.old k (M.now m.old) → (e : Entry) → Contains (volume_of k).entries e → IsTrue (are_taken self.new e.runs) }
         ensures told { (e : Entry) → IsTrue (are_taken self.new e.runs) → IsTaken (state self.new) e }
         ensures causes { Causes M.Machine (resident self.old) (state self.old) (state self.new) m.old m.new result }
         ensures absent { IfOk result (λ found. IfNone found (ShowsReached M.Machine (resident self.old) (state self.old) (state self.new) m.old m.new (LacksKey key.now))) }
         ensures there { IfOk result (λ found. IfSome found (λ f. ShowsReached M.Machine (resident self.old) (state self.old) (state self.new) m.old m.new (HasEntry f.entry))) }
         ensures met { IfOk result (λ found. IfSome found (λ f. Causes M.Machine (resident self.old) (state self.old) (state self.new) m.old m.new (met_entry self.new f.page f.entry))) }
     {
-        // For the proof alone: its own call tells what the cache keeps.
-        let _whole = self.table.cache.dirty_list();
+        self.table.cache.attest();
         let home_a = self.layout.home_a(0);
         let source = Newest::over(&self.log, &self.layout);
         let found = self.table.find(m, &source, home_a, key);

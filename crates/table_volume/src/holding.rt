@@ -6,8 +6,8 @@ ghost use Rattle.fsd_files.specs.Kept.{KeptIn};
 ghost use Rattle.sector_disk.specs.Machine.{Moment};
 ghost use Rattle.volume_contract.specs.Pieces.{read_at, with_opened};
 ghost use Rattle.volume_contract.specs.State.{Known, Stands, volume_of};
-ghost use Rattle.volume_state.specs.State.{Holds, state};
-ghost use Rattle.volume_state.specs.Taken.{are_taken};
+ghost use Rattle.volume_laws.specs.State.{IsMemoryOf, state};
+ghost use Rattle.volume_laws.specs.Taken.{are_taken};
 
 use crate::Volume;
 use fsd_formats::Entry;
@@ -22,10 +22,8 @@ impl Volume {
         ensures there { slice_index_or (state self.new).readers result None ≡ Some entry.now.runs }
         ensures state { state self.new ≡ record (state self.old) { readers = set (state self.old).readers result (Some entry.now.runs) } }
         ensures stands { (k : Known) (now : Moment) (bytes : List ℕ) → Contains (volume_of k).entries entry.now → KeptIn now.image (in_runs k.windows) bytes entry.now.runs →
-            Stands state Holds self.old k now → Stands state Holds self.new (with_opened k (read_at k.opened result (Some (record { runs = entry.now.runs; bytes = bytes })))) now }
+            Stands state IsMemoryOf self.old k now → Stands state IsMemoryOf self.new (with_opened k (read_at k.opened result (Some (record { runs = entry.now.runs; bytes = bytes })))) now }
     {
-        // For the proof alone: a field that is read gives what the volume keeps.
-        let _ = &self.layout;
         self.shadow.hold(&entry.runs)
     }
 }

@@ -8,8 +8,8 @@ ghost use Rattle.volume_contract.specs.Causes.{Causes};
 ghost use Rattle.volume_contract.specs.Ends.{device_of, kept_key};
 ghost use Rattle.volume_contract.specs.Order.{Follows};
 ghost use Rattle.volume_contract.specs.State.{Known, Stands, volume_of};
-ghost use Rattle.volume_changes.specs.Ending.{Edits, EndsEdit, edit_refusal, edit_steps, keep_tests, kept_told, look_steps};
-ghost use Rattle.volume_state.specs.State.{HasEnoughFor, Holds, resident, state};
+ghost use Rattle.volume_laws.specs.Ending.{Edits, EndsEdit, edit_refusal, edit_steps, keep_tests, kept_told, look_steps};
+ghost use Rattle.volume_laws.specs.State.{HasEnoughFor, IsMemoryOf, resident, state};
 
 use crate::Volume;
 use fsd_bytes::{FileName, Key, Refusal};
@@ -74,16 +74,14 @@ impl Volume {
         ensures name { IfOk result (λ key. key.name ≡ name.now) }
         ensures memory { HasEnoughFor self.old name.now → result ≡ Err Why.Memory → ⊥ }
         ensures causes { Causes M.Machine (resident self.old) (state self.old) (state self.new) m.old m.new result }
-        ensures done { M.honest m.new → (k : Known) → Stands state Holds self.old k (M.now m.old) →
+        ensures done { M.honest m.new → (k : Known) → Stands state IsMemoryOf self.old k (M.now m.old) →
             EndsEdit (λ met. keep_outcome met (volume_of k) name.now keep) (kept_key keep) (Change.SetKeep name.now keep) k self.new (M.now m.new) result }
     {
-        // For the proof alone: its own call tells what the cache keeps.
-        let _whole = self.table.cache.dirty_list();
+        self.table.cache.attest();
         let home_a = self.layout.home_a(0);
         let source = Newest::over(&self.log, &self.layout);
         let done = self.table.set_keep(m, &source, home_a, name, keep);
-        // For the proof alone: its own call tells what the cache keeps.
-        let _edited = self.table.cache.dirty_list();
+        self.table.cache.attest();
         kept_told(done)
     }
 
@@ -105,7 +103,7 @@ impl Volume {
         ensures name { IfOk result (λ key. key.name ≡ name.now) }
         ensures memory { HasEnoughFor self.old name.now → result ≡ Err Why.Memory → ⊥ }
         ensures causes { Causes M.Machine (resident self.old) (state self.old) (state self.new) m.old m.new result }
-        ensures done { M.honest m.new → (k : Known) → Stands state Holds self.old k (M.now m.old) →
+        ensures done { M.honest m.new → (k : Known) → Stands state IsMemoryOf self.old k (M.now m.old) →
             EndsEdit (λ met. keep_outcome met (volume_of k) name.now keep) (kept_key keep) (Change.SetKeep name.now keep) k self.new (M.now m.new) result }
     {
         let found = self.find_highest(m, name)?;

@@ -8,9 +8,9 @@ ghost use Rattle.volume_contract.specs.Causes.{Causes};
 ghost use Rattle.volume_contract.specs.Ends.{device_of};
 ghost use Rattle.volume_contract.specs.Order.{Follows};
 ghost use Rattle.volume_contract.specs.State.{Known, Stands};
-ghost use Rattle.volume_changes.specs.Entered.{EndsEnter, Enters, enter_steps};
-ghost use Rattle.volume_state.specs.Placing.{IsPlace};
-ghost use Rattle.volume_state.specs.State.{Holds, resident, state};
+ghost use Rattle.volume_laws.specs.Entered.{EndsEntered, KeepsOnEnter, entering_steps};
+ghost use Rattle.volume_laws.specs.Placing.{IsPlace};
+ghost use Rattle.volume_laws.specs.State.{IsMemoryOf, resident, state};
 
 use crate::Volume;
 use crate::freeing::free_gone_if;
@@ -45,16 +45,15 @@ impl Volume {
         requires keep { IfSome keep (λ most. most ≤ 999) }
         requires good { IsTrue (is_entry draft) }
         requires place { IsPlace self.old.map (sectors_for draft.length) draft.runs }
-        ensures order { Follows (enter_steps (state self.old)) result }
+        ensures order { Follows (entering_steps (state self.old)) result }
         ensures disk { OnlyReads M.Machine (device_in device_of result) m.old m.new }
         ensures name { IfOk result (λ key. key.name ≡ name.now) }
-        ensures enters { MatchResult result (λ key. Enters (state self.old) (state self.new)) (λ why. state self.new ≡ state self.old) }
+        ensures enters { MatchResult result (λ key. KeepsOnEnter (state self.old) (state self.new)) (λ why. state self.new ≡ state self.old) }
         ensures causes { Causes M.Machine (resident self.old) (state self.old) (state self.new) m.old m.new result }
-        ensures done { M.honest m.new → (bytes : List ℕ) (k : Known) → Stands state Holds self.old k (M.now m.old) → draft.length ≡ length bytes → HasVersion (open_damage (M.now m.old).windows) (M.now m.old).image bytes draft →
-            EndsEnter name.now keep bytes draft k self.new (M.now m.new) result }
+        ensures done { M.honest m.new → (bytes : List ℕ) (k : Known) → Stands state IsMemoryOf self.old k (M.now m.old) → draft.length ≡ length bytes → HasVersion (open_damage (M.now m.old).windows) (M.now m.old).image bytes draft →
+            EndsEntered name.now keep bytes draft k self.new (M.now m.new) result }
     {
-        // For the proof alone: its own call tells what the cache keeps.
-        let _whole = self.table.cache.dirty_list();
+        self.table.cache.attest();
         let home_a = self.layout.home_a(0);
         let source = Newest::over(&self.log, &self.layout);
         let done = self.table.enter(

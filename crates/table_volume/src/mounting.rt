@@ -15,7 +15,7 @@ use cached_table::{CachedTable, Opened, open_table};
 use fsd_bytes::Serial;
 use fsd_sound::MountFault;
 use group_commit::RecordRoom;
-use mount_recover::Settled;
+use mount_recover::SettledVolume;
 use sector_disk::Machine;
 use shadow_frees::Shadow;
 use std::alloc::Global;
@@ -24,7 +24,7 @@ use std::alloc::Global;
 pub(crate) fn open_settled<M: Machine>(
     alloc: Global,
     m: &mut M,
-    settled: Settled,
+    settled: SettledVolume,
 ) -> Result<Volume, MountFault>
     requires planned { plan settled.layout.kind settled.layout.sectors settled.layout.third settled.layout.pages ≡ Ok settled.layout }
     requires sectors { settled.layout.sectors ≤ (M.report m.old).sectors }
@@ -40,7 +40,7 @@ pub(crate) fn open_settled<M: Machine>(
 }
 
 // The volume with what was opened; nothing waits.
-fn assemble(alloc: Global, settled: Settled, opened: Opened) -> Result<Volume, MountFault>
+fn assemble(alloc: Global, settled: SettledVolume, opened: Opened) -> Result<Volume, MountFault>
     requires planned { plan settled.layout.kind settled.layout.sectors settled.layout.third settled.layout.pages ≡ Ok settled.layout }
     requires log { IsFreshLog settled.layout settled.log }
     requires opened { IsOpened settled.layout opened }
@@ -48,7 +48,7 @@ fn assemble(alloc: Global, settled: Settled, opened: Opened) -> Result<Volume, M
     ensures is { IfOk result (λ volume. opened_of volume ≡ opened) }
     ensures memory { IfErr result (λ fault. fault ≡ Memory) }
 {
-    let Settled { layout, log } = settled;
+    let SettledVolume { layout, log } = settled;
     let Opened {
         cache,
         free_pages,
@@ -61,8 +61,7 @@ fn assemble(alloc: Global, settled: Settled, opened: Opened) -> Result<Volume, M
     let Ok(room) = RecordRoom::new(alloc) else {
         return Err(MountFault::Memory);
     };
-    // For the proof alone: its own call tells what the log keeps.
-    let _fits = log.layout();
+    log.attest();
     let serial = Serial {
         epoch: log.epoch(),
         count: 1,

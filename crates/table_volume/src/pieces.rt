@@ -3,10 +3,10 @@ ghost use Rattle.std.specs.Prelude.{◌≡◌, ◌≤◌, ◌<◌, ◌+◌, ◌^
 ghost use Rattle.sector_disk.specs.Machine.{Moment};
 ghost use Rattle.fsd_formats.specs.NamePage.{max_length, sectors_for};
 ghost use Rattle.volume_contract.specs.Order.{with_drawn};
-ghost use Rattle.volume_contract.specs.Pieces.{IsDraft, Takes, begun, with_opened};
+ghost use Rattle.volume_contract.specs.Pieces.{IsDraft, TakesPlace, draft_begun, with_opened};
 ghost use Rattle.volume_contract.specs.State.{Known, Stands};
-ghost use Rattle.volume_state.specs.Placing.{IsPlace, drawn_known};
-ghost use Rattle.volume_state.specs.State.{Holds, state};
+ghost use Rattle.volume_laws.specs.Placing.{IsPlace, drawn_known};
+ghost use Rattle.volume_laws.specs.State.{IsMemoryOf, state};
 
 use crate::Volume;
 use run_table::Runs;
@@ -38,8 +38,8 @@ impl Volume {
         ensures length { result.length ≡ length }
         ensures serial { result.serial ≡ self.old.serial }
         ensures runs { result.runs ≡ runs }
-        ensures takes { Takes runs (with_drawn (state self.old)) (state self.new) }
-        ensures stands { (k : Known) (now : Moment) → Stands state Holds self.old k now → Stands state Holds self.new (with_opened (drawn_known k) (begun k.opened runs length)) now }
+        ensures takes { TakesPlace runs (with_drawn (state self.old)) (state self.new) }
+        ensures stands { (k : Known) (now : Moment) → Stands state IsMemoryOf self.old k now → Stands state IsMemoryOf self.new (with_opened (drawn_known k) (draft_begun k.opened runs length)) now }
     {
         let serial = self.serial;
         self.map.take(&runs);

@@ -6,9 +6,9 @@ ghost use Rattle.volume_contract.specs.Ends.{device_of};
 ghost use Rattle.volume_contract.specs.Order.{is_idle};
 ghost use Rattle.fsd_sound.specs.Writes.{force_writes};
 ghost use Rattle.volume_contract.specs.State.{Counted, Known, Leaves, Stands, forces_for_place};
-ghost use Rattle.volume_state.specs.Behind.{IsBehind};
-ghost use Rattle.volume_state.specs.Placing.{EndsPlace, IsPlace, Places, place_len, place_now, place_steps};
-ghost use Rattle.volume_state.specs.State.{Holds, resident, state};
+ghost use Rattle.volume_contract.specs.Behind.{IsBehindForce};
+ghost use Rattle.volume_laws.specs.Placing.{EndsPlace, IsPlace, Places, place_len, place_now, place_steps};
+ghost use Rattle.volume_laws.specs.State.{IsMemoryOf, resident, state};
 ghost use Rattle.fsd_files.specs.Disk.{Touches};
 
 use crate::Volume;
@@ -47,17 +47,16 @@ impl Volume {
         requires up { self.old.down ≡ None }
         ensures places { Places need (state self.old) (state self.new) result }
         ensures free { IfOk result (IsPlace self.new.map need) }
-        ensures disk { WritesDisk M.Machine (device_in device_of result) (Leaves state Holds self.old (force_writes (state self.old).layout)) m.old m.new }
+        ensures disk { WritesDisk M.Machine (device_in device_of result) (Leaves state IsMemoryOf self.old (force_writes (state self.old).layout)) m.old m.new }
         ensures rest { M.honest m.new → Touches (force_writes (state self.old).layout) (M.now m.old) (M.now m.new) }
         ensures counted { M.tells m.new → Counted result (place_len (state self.old) need) (M.ledger m.old) (M.ledger m.new) }
         ensures idle { IsTrue (is_idle (place_steps (state self.old) need)) → m.new ≡ m.old }
         ensures causes { Causes M.Machine (resident self.old) (state self.old) (state self.new) m.old m.new result }
-        ensures behind { OnOk result (M.honest m.new → IsBehind (state self.old) (state self.new) (resident self.old) (resident self.new) (M.now m.new)) }
+        ensures behind { OnOk result (M.honest m.new → IsBehindForce (state self.old) (state self.new) (resident self.old) (resident self.new) (M.now m.new)) }
         ensures still { IsFalse (forces_for_place (state self.old) need) → self.new ≡ self.old }
-        ensures done { M.honest m.new → (k : Known) → Stands state Holds self.old k (M.now m.old) → EndsPlace need k self.new (M.now m.new) result }
+        ensures done { M.honest m.new → (k : Known) → Stands state IsMemoryOf self.old k (M.now m.old) → EndsPlace need k self.new (M.now m.new) result }
     {
-        // For the proof alone: a field that is read gives what the volume keeps.
-        let _ = &self.layout;
+        self.attest();
         let place = self.chosen(need);
         if place.is_ok() || !self.waits() {
             return place;

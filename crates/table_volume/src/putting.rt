@@ -13,8 +13,8 @@ ghost use Rattle.version_data.specs.Writing.{WritesIn};
 ghost use Rattle.volume_contract.specs.Ends.{device_of};
 ghost use Rattle.volume_contract.specs.Order.{Follows, IsDeviceIn};
 ghost use Rattle.volume_contract.specs.State.{Counted, Known, Leaves, Stands, is_worn};
-ghost use Rattle.volume_state.specs.Placing.{IsPlace, drawn_known, drawn_volume, test_steps};
-ghost use Rattle.volume_state.specs.State.{Holds, state};
+ghost use Rattle.volume_laws.specs.Placing.{IsPlace, drawn_known, drawn_volume, test_steps};
+ghost use Rattle.volume_laws.specs.State.{IsMemoryOf, state};
 ghost use Rattle.fsd_files.specs.Disk.{Touches};
 
 use crate::Volume;
@@ -113,16 +113,15 @@ impl Volume {
         requires free { AreIn self.old.map draft.now.runs }
         requires serials { self.old.serial.count + 1 < 2 ^ 32 }
         ensures place { IfErr result (IsDeviceIn (contains (sectors_of draft.now.runs))) }
-        ensures disk { WritesDisk M.Machine (device_in device_of result) (Leaves state Holds self.old (contains (sectors_of draft.now.runs))) m.old m.new }
+        ensures disk { WritesDisk M.Machine (device_in device_of result) (Leaves state IsMemoryOf self.old (contains (sectors_of draft.now.runs))) m.old m.new }
         ensures rest { M.honest m.new → Touches (contains (sectors_of draft.now.runs)) (M.now m.old) (M.now m.new) }
         ensures within { M.honest m.new → WritesIn (is_data self.old.layout) (M.now m.old) (M.now m.new) }
         ensures counted { M.tells m.new → Counted result (sectors_for (length bytes.now)) (M.ledger m.old) (M.ledger m.new) }
         ensures volume { self.new ≡ drawn_volume self.old }
-        ensures stands { M.honest m.new → (k : Known) → Stands state Holds self.old k (M.now m.old) → Stands state Holds self.new (drawn_known k) (M.now m.new) }
+        ensures stands { M.honest m.new → (k : Known) → Stands state IsMemoryOf self.old k (M.now m.old) → Stands state IsMemoryOf self.new (drawn_known k) (M.now m.new) }
         ensures done { OnOk result (M.honest m.new → HasVersion (open_damage (M.now m.new).windows) (M.now m.new).image bytes.now draft.now) }
     {
-        // For the proof alone: a field that is read gives what the volume keeps.
-        let _ = &self.layout;
+        self.attest();
         self.draw();
         match write_version(m, draft, bytes) {
             Ok(()) => Ok(()),

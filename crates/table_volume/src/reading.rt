@@ -15,12 +15,12 @@ ghost use Rattle.fsd_files.specs.Files.{File};
 ghost use Rattle.fsd_files.specs.Kept.{IsWhole, KeptIn, range_sectors};
 ghost use Rattle.volume_contract.specs.Absent.{LacksKey, ShowsReached};
 ghost use Rattle.volume_contract.specs.Causes.{Causes, IsTaken};
-ghost use Rattle.volume_contract.specs.Ends.{Looks, Reads, count_in, device_of, found_one};
+ghost use Rattle.volume_contract.specs.Ends.{LooksUp, ReadsRange, count_in, device_of, found_one};
 ghost use Rattle.volume_contract.specs.Found.{HasEntry};
 ghost use Rattle.volume_contract.specs.Order.{Follows, IsData, entry_steps, is_idle};
 ghost use Rattle.volume_contract.specs.State.{Known, Stands, volume_of};
-ghost use Rattle.volume_state.specs.State.{Holds, resident, state};
-ghost use Rattle.volume_state.specs.Taken.{are_taken};
+ghost use Rattle.volume_laws.specs.State.{IsMemoryOf, resident, state};
+ghost use Rattle.volume_laws.specs.Taken.{are_taken};
 
 use crate::Volume;
 use fsd_bytes::{Key, Refusal};
@@ -39,17 +39,16 @@ impl Volume {
         ensures good { IfOk result (λ e. is_entry e ≡ true) }
         ensures runs { IfOk result (λ e. All (λ r. r.start + r.length ≤ 2 ^ 32) e.runs) }
         ensures within { IfOk result (λ e. (s : ℕ) → IsTrue (contains (sectors_of e.runs) s) → IsTrue (is_data (state self.old).layout s)) }
-        ensures stands { M.honest m.new → (k : Known) → Stands state Holds self.old k (M.now m.old) → Stands state Holds self.new k (M.now m.new) }
+        ensures stands { M.honest m.new → (k : Known) → Stands state IsMemoryOf self.old k (M.now m.old) → Stands state IsMemoryOf self.new k (M.now m.new) }
         ensures causes { Causes M.Machine (resident self.old) (state self.old) (state self.new) m.old m.new result }
         ensures absent { result ≡ Err Why.NoSuch → ShowsReached M.Machine (resident self.old) (state self.old) (state self.new) m.old m.new (LacksKey key.now) }
         ensures key { IfOk result (λ e. e.key ≡ key.now) }
         ensures taken { IfOk result (IsTaken (state self.new)) }
         ensures here { IfOk result (λ e. IsTrue (are_taken self.new e.runs)) }
         ensures found { IfOk result (λ e. ShowsReached M.Machine (resident self.old) (state self.old) (state self.new) m.old m.new (HasEntry e)) }
-        ensures done { M.honest m.new → (k : Known) → Stands state Holds self.old k (M.now m.old) → Looks (entry_reply (volume_of k) key.now) (found_one result) }
+        ensures done { M.honest m.new → (k : Known) → Stands state IsMemoryOf self.old k (M.now m.old) → LooksUp (entry_reply (volume_of k) key.now) (found_one result) }
     {
-        // For the proof alone: a field that is read gives what the volume keeps.
-        let _ = &self.layout;
+        self.attest();
         self.is_up()?;
         match self.find(m, key)? {
             Some(found) => self.met_entry(found.entry, found.page),
@@ -76,7 +75,7 @@ pub(crate) fn read_version<M: Machine>(
     ensures count { IfOk result (λ n. n ≡ count_in e.now.length from (length buf.old)) }
     ensures whole { IfOk result (λ n. M.honest m.new → AllByRecursion (IsWhole (M.now m.old).image) (range_sectors e.now.runs from n)) }
     ensures gives { M.honest m.new → (file : File) (hurt : Sectors) → e.now.length ≡ length file.bytes → KeptIn (M.now m.old).image hurt file.bytes e.now.runs →
-        Reads (M.now m.old).image (M.now m.new).image (Some file) (Some e.now) from buf.old buf.new result }
+        ReadsRange (M.now m.old).image (M.now m.new).image (Some file) (Some e.now) from buf.old buf.new result }
 {
     if from >= e.length {
         return Ok(0);

@@ -8,11 +8,11 @@ ghost use Rattle.volume_contract.specs.Ends.{device_of};
 ghost use Rattle.volume_contract.specs.Order.{by_itself, is_idle};
 ghost use Rattle.fsd_sound.specs.Writes.{force_writes};
 ghost use Rattle.volume_contract.specs.State.{Counted, Known, Leaves, Stands, change_len, forces_first, forces_for_place, put_len, put_writes};
-ghost use Rattle.volume_state.specs.Behind.{IsBehind};
+ghost use Rattle.volume_contract.specs.Behind.{IsBehindForce};
 ghost use Rattle.table_pages.specs.Bringing.{KeepsContent};
-ghost use Rattle.volume_state.specs.Placing.{EndsStore, IsPlace, Stores, store_len, store_steps};
-ghost use Rattle.volume_state.specs.Preparing.{EndsForced, EndsPrepare, Forces, Prepares, prepare_steps};
-ghost use Rattle.volume_state.specs.State.{Holds, resident, state};
+ghost use Rattle.volume_laws.specs.Placing.{EndsStore, IsPlace, Stores, store_len, store_steps};
+ghost use Rattle.volume_laws.specs.Preparing.{EndsForced, EndsPrepare, ForcesByItself, Prepares, prepare_steps};
+ghost use Rattle.volume_laws.specs.State.{IsMemoryOf, resident, state};
 ghost use Rattle.fsd_files.specs.Disk.{Touches};
 
 use crate::Volume;
@@ -36,17 +36,17 @@ impl Volume {
         requires up { self.old.down ≡ None }
         requires serials { self.old.serial.count + 1 < 2 ^ 32 }
         ensures stores { Stores (sectors_for (length bytes.now)) (state self.old) (state self.new) result }
-        ensures disk { WritesDisk M.Machine (device_in device_of result) (Leaves state Holds self.old (put_writes (state self.old) (sectors_for (length bytes.now)))) m.old m.new }
+        ensures disk { WritesDisk M.Machine (device_in device_of result) (Leaves state IsMemoryOf self.old (put_writes (state self.old) (sectors_for (length bytes.now)))) m.old m.new }
         ensures rest { M.honest m.new → Touches (put_writes (state self.old) (sectors_for (length bytes.now))) (M.now m.old) (M.now m.new) }
         ensures counted { M.tells m.new → Counted result (store_len (state self.old) (sectors_for (length bytes.now))) (M.ledger m.old) (M.ledger m.new) }
         ensures idle { IsTrue (is_idle (store_steps (state self.old) (sectors_for (length bytes.now)))) → m.new ≡ m.old }
         ensures causes { Causes M.Machine (resident self.old) (state self.old) (state self.new) m.old m.new result }
-        ensures behind { OnOk result (M.honest m.new → IsBehind (state self.old) (state self.new) (resident self.old) (resident self.new) (M.now m.new)) }
+        ensures behind { OnOk result (M.honest m.new → IsBehindForce (state self.old) (state self.new) (resident self.old) (resident self.new) (M.now m.new)) }
         ensures still { IsFalse (forces_for_place (state self.old) (sectors_for (length bytes.now))) → resident self.new ≡ resident self.old }
         ensures place { IfOk result (λ e. IsPlace self.new.map (sectors_for (length bytes.now)) e.runs) }
         ensures good { IfOk result (λ e. IsTrue (is_entry e)) }
         ensures length { IfOk result (λ e. e.length ≡ length bytes.now) }
-        ensures done { M.honest m.new → (k : Known) → Stands state Holds self.old k (M.now m.old) → EndsStore (sectors_for (length bytes.now)) bytes.now k self.new (M.now m.new) result }
+        ensures done { M.honest m.new → (k : Known) → Stands state IsMemoryOf self.old k (M.now m.old) → EndsStore (sectors_for (length bytes.now)) bytes.now k self.new (M.now m.new) result }
     {
         let length = bytes.len() as u32;
         let runs = self.placed(m, 1 + length.div_ceil(512))?;
@@ -66,21 +66,20 @@ impl Volume {
     pub(crate) fn force_first<M: Machine>(&mut self, m: &mut M) -> Result<(), Refusal>
         requires room { (state self.old).layout.sectors ≤ (M.report m.old).sectors }
         requires up { self.old.down ≡ None }
-        ensures forces { Forces (state self.old) (state self.new) result }
-        ensures disk { WritesDisk M.Machine (device_in device_of result) (Leaves state Holds self.old (force_writes (state self.old).layout)) m.old m.new }
+        ensures forces { ForcesByItself (state self.old) (state self.new) result }
+        ensures disk { WritesDisk M.Machine (device_in device_of result) (Leaves state IsMemoryOf self.old (force_writes (state self.old).layout)) m.old m.new }
         ensures rest { M.honest m.new → Touches (force_writes (state self.old).layout) (M.now m.old) (M.now m.new) }
         ensures counted { M.tells m.new → Counted result (change_len (state self.old)) (M.ledger m.old) (M.ledger m.new) }
         ensures idle { IsTrue (is_idle (by_itself (state self.old) ∷ [])) → m.new ≡ m.old }
         ensures causes { Causes M.Machine (resident self.old) (state self.old) (state self.new) m.old m.new result }
-        ensures behind { OnOk result (M.honest m.new → IsBehind (state self.old) (state self.new) (resident self.old) (resident self.new) (M.now m.new)) }
+        ensures behind { OnOk result (M.honest m.new → IsBehindForce (state self.old) (state self.new) (resident self.old) (resident self.new) (M.now m.new)) }
         ensures still { IsFalse (forces_first (state self.old)) → self.new ≡ self.old }
         ensures few { OnOk result (length self.new.cache.dirty ≤ 56) }
         ensures free { OnOk result ((s : ℕ) → IsTrue (contains self.old.map.sectors s) → IsTrue (contains self.new.map.sectors s)) }
         ensures resident { OnOk result (KeepsContent self.old.cache self.new.cache) }
-        ensures done { M.honest m.new → (k : Known) → Stands state Holds self.old k (M.now m.old) → EndsForced k self.new (M.now m.new) result }
+        ensures done { M.honest m.new → (k : Known) → Stands state IsMemoryOf self.old k (M.now m.old) → EndsForced k self.new (M.now m.new) result }
     {
-        // For the proof alone: a field that is read gives what the volume keeps.
-        let _ = &self.layout;
+        self.attest();
         if !self.many_wait() {
             return Ok(());
         }
@@ -103,17 +102,17 @@ impl Volume {
         requires up { self.old.down ≡ None }
         requires serials { self.old.serial.count + 1 < 2 ^ 32 }
         ensures prepares { Prepares (sectors_for (length bytes.now)) (state self.old) (state self.new) result }
-        ensures disk { WritesDisk M.Machine (device_in device_of result) (Leaves state Holds self.old (put_writes (state self.old) (sectors_for (length bytes.now)))) m.old m.new }
+        ensures disk { WritesDisk M.Machine (device_in device_of result) (Leaves state IsMemoryOf self.old (put_writes (state self.old) (sectors_for (length bytes.now)))) m.old m.new }
         ensures rest { M.honest m.new → Touches (put_writes (state self.old) (sectors_for (length bytes.now))) (M.now m.old) (M.now m.new) }
         ensures counted { M.tells m.new → Counted result (put_len (state self.old) (sectors_for (length bytes.now))) (M.ledger m.old) (M.ledger m.new) }
         ensures idle { IsTrue (is_idle (prepare_steps (state self.old) (sectors_for (length bytes.now)))) → m.new ≡ m.old }
         ensures causes { Causes M.Machine (resident self.old) (state self.old) (state self.new) m.old m.new result }
-        ensures behind { OnOk result (M.honest m.new → IsBehind (state self.old) (state self.new) (resident self.old) (resident self.new) (M.now m.new)) }
+        ensures behind { OnOk result (M.honest m.new → IsBehindForce (state self.old) (state self.new) (resident self.old) (resident self.new) (M.now m.new)) }
         ensures few { OnOk result (length self.new.cache.dirty ≤ 56) }
         ensures place { IfOk result (λ e. IsPlace self.new.map (sectors_for (length bytes.now)) e.runs) }
         ensures good { IfOk result (λ e. IsTrue (is_entry e)) }
         ensures length { IfOk result (λ e. e.length ≡ length bytes.now) }
-        ensures done { M.honest m.new → (k : Known) → Stands state Holds self.old k (M.now m.old) → EndsPrepare (sectors_for (length bytes.now)) bytes.now k self.new (M.now m.new) result }
+        ensures done { M.honest m.new → (k : Known) → Stands state IsMemoryOf self.old k (M.now m.old) → EndsPrepare (sectors_for (length bytes.now)) bytes.now k self.new (M.now m.new) result }
     {
         let draft = self.stored(m, name, bytes)?;
         self.force_first(m)?;

@@ -29,11 +29,22 @@ pub struct Volume {
 }
 
 impl Model for Volume {
-    ghost use Rattle.volume_state.specs.Volume.{VolumeValue, IsWhole};
+    ghost use Rattle.volume_laws.specs.Volume.{VolumeValue, IsWholeVolume};
 
     ghost Value = { VolumeValue };
 
     ghost view = { λ v. record { layout = v.layout; map = v.map; shadow = v.shadow; log = v.log; cache = v.table.cache; free_pages = v.table.free_pages; serial = v.serial; versions = v.versions; down = v.down } };
 
-    ghost invariant = { λ v. IsWhole (record { layout = v.layout; map = v.map; shadow = v.shadow; log = v.log; cache = v.table.cache; free_pages = v.table.free_pages; serial = v.serial; versions = v.versions; down = v.down }) };
+    ghost invariant = { λ v. IsWholeVolume (record { layout = v.layout; map = v.map; shadow = v.shadow; log = v.log; cache = v.table.cache; free_pages = v.table.free_pages; serial = v.serial; versions = v.versions; down = v.down }) };
+}
+
+impl Volume {
+    ghost use Rattle.volume_laws.specs.Volume.{IsWholeVolume};
+
+    /// For the proof alone: it gives what a volume keeps.
+    pub(crate) fn attest(&self)
+        ensures { IsWholeVolume self.now }
+    {
+        let _ = &self.layout;
+    }
 }

@@ -9,7 +9,7 @@ use Rattle.fsd_table.specs.Pages.{content_fits, keys_fit, not_below}
 use Rattle.fsd_table.specs.Table.{Visit, visits}
 use Rattle.fsd_files.specs.Answers.{entry_after, entry_of}
 use Rattle.sector_disk.specs.declared.machine.Machine.{Ghosts}
-use Rattle.volume_contract.specs.Causes.{Shows}
+use Rattle.volume_contract.specs.Causes.{ShowsOfPages}
 use Rattle.volume_contract.specs.State.{State}
 
 -- a leaf that keeps within its bounds, between which the key stands, and that has no entry of it
@@ -31,9 +31,9 @@ pub record LacksLater (after : Option Key) (v : Visit) : Type 0 where
   pub none : entry_after after entries ≡ None
 
 -- a path from page 0 reaches a page of which this holds
-abbrev pub Reaches : (Visit → Type 0) → List (List ℕ) → Type 0
-Reaches Is pages = (visit : Visit) × Contains (visits pages) visit × Is visit
+abbrev pub ReachesPage : (Visit → Type 0) → List (List ℕ) → Type 0
+ReachesPage Is pages = (visit : Visit) × Contains (visits pages) visit × Is visit
 
 -- where the machine kept to its promise, the pages that were read show it
 abbrev pub ShowsReached : {D : Type 0} → (M : Ghosts D) → (resident : ℕ → Option (List ℕ)) → (old new : State) → (before now : D) → (Visit → Type 0) → Type 0
-ShowsReached M resident old new before now Is = M.honest now → Shows old new resident (M.now before) (M.now now) (Reaches Is)
+ShowsReached M resident old new before now Is = M.honest now → ShowsOfPages old new resident (M.now before) (M.now now) (ReachesPage Is)

@@ -27,16 +27,16 @@ use Rattle.volume_contract.specs.State.{State, held_of}
 
 -- the sectors are the two copies of the page: its own and the copy in the last record that has it, which lies in the
 -- log, or its homes where none has
-abbrev pub AreCopiesOf : State → (page a b : ℕ) → Type 0
-AreCopiesOf s page a b =
+abbrev pub AreCopiesOfPage : State → (page a b : ℕ) → Type 0
+AreCopiesOfPage s page a b =
     let slot = slice_index_or s.slots page None in
     AreOfSlot s.layout slot a b ⊎ ((slot ≡ None) × AreHomesOf s.layout page a b)
 
 -- so they are of some page, before the call or behind a force that it made
-pub record AreCopies (old new : State) (a b : ℕ) : Type 0 where
+pub record AreSomeCopies (old new : State) (a b : ℕ) : Type 0 where
   pub page : ℕ
   pub within : page < old.layout.pages
-  pub copies : AreCopiesOf old page a b ⊎ AreCopiesOf new page a b
+  pub copies : AreCopiesOfPage old page a b ⊎ AreCopiesOfPage new page a b
 
 -- ---- what is unsound
 
@@ -90,22 +90,22 @@ pub record HaveRead (s : State) (read : ℕ → Option (List ℕ)) (pages : List
   pub same : (page : ℕ) → IfSome (read page) (λ bytes. image_at pages page ≡ bytes)
 
 -- Some pages were read, and show this of all pages, whatever the others have.
-pub record Shows (old new : State) (resident : ℕ → Option (List ℕ)) (before now : Moment) (Is : List (List ℕ) → Type 0) : Type 0 where
+pub record ShowsOfPages (old new : State) (resident : ℕ → Option (List ℕ)) (before now : Moment) (Is : List (List ℕ) → Type 0) : Type 0 where
   pub read : ℕ → Option (List ℕ)
   pub are_read : (page : ℕ) → IfSome (read page) (IsRead old new resident before now page)
   pub is : (pages : List (List ℕ)) → HaveRead old read pages → Is pages
 
 -- the page at this home breaks the table
 abbrev pub ShowsBreak : (old new : State) → (resident : ℕ → Option (List ℕ)) → (before now : Moment) → (place : ℕ) → Type 0
-ShowsBreak old new resident before now place = Shows old new resident before now (λ pages. BreaksMounted old pages place)
+ShowsBreak old new resident before now place = ShowsOfPages old new resident before now (λ pages. BreaksMounted old pages place)
 
 -- ---- both
 
-abbrev pub HasCause : (old new : State) → (resident : ℕ → Option (List ℕ)) → (before now : Moment) → Refusal → Type 0
-HasCause old new resident before now (Why.Lost a b) = AreLost (AreCopies old new) now.image a b
-HasCause old new resident before now (Why.Unsound s) = ShowsBreak old new resident before now s
-HasCause old new resident before now why = ⊤
+abbrev pub HasCallCause : (old new : State) → (resident : ℕ → Option (List ℕ)) → (before now : Moment) → Refusal → Type 0
+HasCallCause old new resident before now (Why.Lost a b) = AreLost (AreSomeCopies old new) now.image a b
+HasCallCause old new resident before now (Why.Unsound s) = ShowsBreak old new resident before now s
+HasCallCause old new resident before now why = ⊤
 
 -- so it is of a refusal, where the machine kept to its promise
 abbrev pub Causes : {D T : Type 0} → (M : Ghosts D) → (resident : ℕ → Option (List ℕ)) → (old new : State) → (before now : D) → Result T Refusal → Type 0
-Causes M resident old new before now result = IfErr result (λ why. M.honest now → HasCause old new resident (M.now before) (M.now now) why)
+Causes M resident old new before now result = IfErr result (λ why. M.honest now → HasCallCause old new resident (M.now before) (M.now now) why)

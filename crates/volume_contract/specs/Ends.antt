@@ -63,8 +63,8 @@ module _ {S : Type 0} (state : S → State) (has : S → Mounted → List Placed
   abbrev pub DownOr : ℕ → Known → S → Moment → Type 0
   DownOr place k new now = ((state new).down ≡ Some place) ⊎ ((after : Known) × Unchanged k after × Stands state has new after now)
 
-  abbrev pub Answered : (Met → Outcome) → Reply → List Change → Known → S → Moment → Type 0
-  Answered outcome reply changes k new now = (after : Known) × Answers outcome reply changes k after × Stands state has new after now
+  abbrev pub AnswersAndStands : (Met → Outcome) → Reply → List Change → Known → S → Moment → Type 0
+  AnswersAndStands outcome reply changes k new now = (after : Known) × Answers outcome reply changes k after × Stands state has new after now
 
   -- a refusal: by the definitions, or from outside; nothing that was sound is lost or unsound
   abbrev pub EndsRefused : (Met → Outcome) → Known → S → Moment → Refusal → Type 0
@@ -74,10 +74,10 @@ module _ {S : Type 0} (state : S → State) (has : S → Mounted → List Placed
   EndsRefused outcome k new now (Why.Lost a b) = ⊥
   EndsRefused outcome k new now (Why.Unsound s) = ⊥
   EndsRefused outcome k new now (Why.Down s) = ⊥
-  EndsRefused outcome k new now why = Answered outcome (Refused why) [] k new now
+  EndsRefused outcome k new now why = AnswersAndStands outcome (Refused why) [] k new now
 
   abbrev pub Ends : {T : Type 0} → (Met → Outcome) → (T → Reply) → Change → Known → S → Moment → Result T Refusal → Type 0
-  Ends outcome says change k new now (Ok x) = Answered outcome (says x) (change ∷ []) k new now
+  Ends outcome says change k new now (Ok x) = AnswersAndStands outcome (says x) (change ∷ []) k new now
   Ends outcome says change k new now (Err why) = EndsRefused outcome k new now why
 
   -- The version of this key is made, and stands whole with its leader.
@@ -96,7 +96,7 @@ module _ {S : Type 0} (state : S → State) (has : S → Mounted → List Placed
   -- ---- forces
 
   abbrev pub EndsForce : {T : Type 0} → (Met → Outcome) → Reply → Known → S → Moment → Result T Refusal → Type 0
-  EndsForce outcome reply k new now (Ok x) = Answered outcome reply [] k new now
+  EndsForce outcome reply k new now (Ok x) = AnswersAndStands outcome reply [] k new now
   EndsForce outcome reply k new now (Err (Why.Device s)) = (state new).down ≡ Some s
   EndsForce outcome reply k new now (Err other) = ⊥
 
@@ -110,12 +110,12 @@ pub record Closes (k : Known) (i : Image) : Type 0 where
 -- ---- look-ups
 
 -- what is found by the definitions, or a fault from outside
-abbrev pub Looks : Reply → Result (Option Entry) Refusal → Type 0
-Looks reply (Ok e) = reply ≡ Found e
-Looks reply (Err (Why.Device s)) = ⊤
-Looks reply (Err Why.Memory) = ⊤
-Looks reply (Err Why.NoSuch) = reply ≡ Refused Why.NoSuch
-Looks reply (Err other) = ⊥
+abbrev pub LooksUp : Reply → Result (Option Entry) Refusal → Type 0
+LooksUp reply (Ok e) = reply ≡ Found e
+LooksUp reply (Err (Why.Device s)) = ⊤
+LooksUp reply (Err Why.Memory) = ⊤
+LooksUp reply (Err Why.NoSuch) = reply ≡ Refused Why.NoSuch
+LooksUp reply (Err other) = ⊥
 
 -- the entry found is of a later key
 abbrev pub IsLater : Option Key → Option Entry → Type 0
@@ -133,16 +133,16 @@ abbrev pub count_in : (len from room : ℕ) → ℕ
 count_in len from room = min (len - from) room
 
 -- The range's bytes stand in front of the buffer; its sectors were whole as the call began.
-pub record Gives (i : Image) (file : File) (e : Entry) (from : ℕ) (old new : List ℕ) (n : ℕ) : Type 0 where
+pub record GivesBytes (i : Image) (file : File) (e : Entry) (from : ℕ) (old new : List ℕ) (n : ℕ) : Type 0 where
   pub len : e.length ≡ length file.bytes
   pub count : n ≡ count_in e.length from (length old)
   pub whole : AllByRecursion (IsWhole i) (range_sectors e.runs from n)
   pub bytes : new ≡ take n (drop from file.bytes) ++ drop n old
 
-abbrev pub Reads : (i j : Image) → (file : Option File) → (e : Option Entry) → (from : ℕ) → (old new : List ℕ) → Result ℕ Refusal → Type 0
-Reads i j (Some file) (Some e) from old new (Ok n) = Gives i file e from old new n
-Reads i j (Some file) (Some e) from old new (Err (Why.Damaged s)) = FirstDamaged i j (range_sectors e.runs from (count_in e.length from (length old))) s
-Reads i j None None from old new (Err Why.NoSuch) = ⊤
-Reads i j file e from old new (Err (Why.Device s)) = ⊤
-Reads i j file e from old new (Err Why.Memory) = ⊤
-Reads i j file e from old new other = ⊥
+abbrev pub ReadsRange : (i j : Image) → (file : Option File) → (e : Option Entry) → (from : ℕ) → (old new : List ℕ) → Result ℕ Refusal → Type 0
+ReadsRange i j (Some file) (Some e) from old new (Ok n) = GivesBytes i file e from old new n
+ReadsRange i j (Some file) (Some e) from old new (Err (Why.Damaged s)) = FirstDamaged i j (range_sectors e.runs from (count_in e.length from (length old))) s
+ReadsRange i j None None from old new (Err Why.NoSuch) = ⊤
+ReadsRange i j file e from old new (Err (Why.Device s)) = ⊤
+ReadsRange i j file e from old new (Err Why.Memory) = ⊤
+ReadsRange i j file e from old new other = ⊥

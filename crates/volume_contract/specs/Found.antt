@@ -12,9 +12,9 @@ use Rattle.fsd_files.specs.Disk.{Image, Sectors}
 use Rattle.fsd_files.specs.Files.{File}
 use Rattle.fsd_files.specs.Kept.{IsWhole, KeptIn, range_sectors}
 use Rattle.sector_disk.specs.declared.machine.Machine.{Ghosts}
-use Rattle.volume_contract.specs.Absent.{Reaches}
-use Rattle.volume_contract.specs.Causes.{IsTaken, Shows}
-use Rattle.volume_contract.specs.Ends.{Gives, count_in}
+use Rattle.volume_contract.specs.Absent.{ReachesPage}
+use Rattle.volume_contract.specs.Causes.{IsTaken, ShowsOfPages}
+use Rattle.volume_contract.specs.Ends.{GivesBytes, count_in}
 use Rattle.volume_contract.specs.State.{State}
 
 -- a leaf that keeps within its bounds, and has the entry
@@ -37,11 +37,11 @@ pub record HasNext (after : Option Key) (e : Entry) (pages : List (List ℕ)) (v
   pub leaf : v.content ≡ Some (Leaf entries)
   pub fits : content_fits v.low v.high v.content ≡ true
   pub begins : MatchOption after (v.low ≡ None) (λ key. not_below v.low key ≡ true)
-  pub first : MatchOption (entry_after after entries) (Reaches (BeginsWith e v) pages) (λ x. x ≡ e)
+  pub first : MatchOption (entry_after after entries) (ReachesPage (BeginsWith e v) pages) (λ x. x ≡ e)
 
 -- where the machine kept to its promise, the pages that were read show it of the entry
 abbrev pub ShowsReachedNext : {D : Type 0} → (M : Ghosts D) → (resident : ℕ → Option (List ℕ)) → (old new : State) → (before now : D) → Option Key → Entry → Type 0
-ShowsReachedNext M resident old new before now after e = M.honest now → Shows old new resident (M.now before) (M.now now) (λ pages. Reaches (HasNext after e pages) pages)
+ShowsReachedNext M resident old new before now after e = M.honest now → ShowsOfPages old new resident (M.now before) (M.now now) (λ pages. ReachesPage (HasNext after e pages) pages)
 
 -- A leaf that has an entry of the key, whose sectors are taken. So many bytes are given as the entry has from a place on, up
 -- to the buffer's room. The range's sectors were whole in the image, and the bytes are those of a version that the entry's
@@ -53,4 +53,4 @@ pub record HasRange (s : State) (i : Image) (key : Key) (from : ℕ) (old new : 
   pub taken : IsTaken s entry
   pub count : n ≡ count_in entry.length from (length old)
   pub whole : AllByRecursion (IsWhole i) (range_sectors entry.runs from n)
-  pub gives : (file : File) (hurt : Sectors) → entry.length ≡ length file.bytes → KeptIn i hurt file.bytes entry.runs → Gives i file entry from old new n
+  pub gives : (file : File) (hurt : Sectors) → entry.length ≡ length file.bytes → KeptIn i hurt file.bytes entry.runs → GivesBytes i file entry from old new n

@@ -15,7 +15,7 @@ use Rattle.sector_disk.specs.Machine.{Moment}
 use Rattle.fsd_log.specs.Scan.{Placed}
 use Rattle.fsd_files.specs.Disk.{Image, Sectors}
 use Rattle.fsd_files.specs.Kept.{IsWhole}
-use Rattle.fsd_sound.specs.Lost.{AreHomes}
+use Rattle.fsd_sound.specs.Lost.{AreTwinCopies}
 use Rattle.fsd_sound.specs.Mounted.{Mounted}
 use Rattle.fsd_sound.specs.Sound.{is_twin}
 use Rattle.volume_contract.specs.Causes.{IsTaken}
@@ -34,13 +34,9 @@ pub record IsMet (s : State) (e : Entry) : Type 0 where
 
 -- ---- copies that stand twice
 
--- the sectors are the two copies of the root, of the anchor, or of a page at home
-abbrev pub AreTwins : Layout → (a b : ℕ) → Type 0
-AreTwins l a b = ((a ≡ 0) × (b ≡ 4)) ⊎ (((a ≡ 8) × (b ≡ 12)) ⊎ AreHomes l a b)
-
 -- what is told as lost is both copies, damaged in the image
 abbrev pub LosesTwins : Layout → Image → Refusal → Type 0
-LosesTwins l i (Why.Lost a b) = AreLost (AreTwins l) i a b
+LosesTwins l i (Why.Lost a b) = AreLost (AreTwinCopies l) i a b
 LosesTwins l i why = ⊤
 
 -- the sector is whole, or an open window has worn it

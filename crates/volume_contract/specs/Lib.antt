@@ -10,3 +10,4 @@ pub mod Healing
 pub mod Pieces
 pub mod Upgrade
 pub mod Telling
+pub mod Behind

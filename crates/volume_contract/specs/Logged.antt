@@ -7,11 +7,11 @@ use Rattle.sector_disk.specs.Machine.{Moment}
 use Rattle.fsd_formats.specs.NamePage.{Content}
 use Rattle.fsd_sound.specs.Laid.{StandsTwice}
 use Rattle.log_thirds.specs.Images.{AreOfSlot}
-use Rattle.volume_contract.specs.State.{State, content_of}
+use Rattle.volume_contract.specs.State.{State, resident_content}
 
 -- The page is in memory, and its bytes stand in both of its copies in the last record that has it,
 -- but for what the open window may wear.
-pub record StandsForced (s : State) (resident : ℕ → Option (List ℕ)) (now : Moment) (page : ℕ) : Type 0 where
+pub record StandsInBothCopies (s : State) (resident : ℕ → Option (List ℕ)) (now : Moment) (page : ℕ) : Type 0 where
   pub bytes : List ℕ
   pub there : resident page ≡ Some bytes
   pub place : ℕ
@@ -21,8 +21,8 @@ pub record StandsForced (s : State) (resident : ℕ → Option (List ℕ)) (now 
 
 -- so does each page that waited
 abbrev pub AllLogged : (old new : State) → (resident : ℕ → Option (List ℕ)) → Moment → Type 0
-AllLogged old new resident now = (page : ℕ) → IsTrue (contains old.dirty page) → StandsForced new resident now page
+AllLogged old new resident now = (page : ℕ) → IsTrue (contains old.dirty page) → StandsInBothCopies new resident now page
 
 -- what the grammar accepted of the pages in memory it accepts then, as the same
 abbrev pub KeepsPages : (old new : State) → (before after : ℕ → Option (List ℕ)) → Type 0
-KeepsPages old new before after = (page : ℕ) (x : Content) → content_of old before page ≡ Some x → content_of new after page ≡ Some x
+KeepsPages old new before after = (page : ℕ) (x : Content) → resident_content old before page ≡ Some x → resident_content new after page ≡ Some x

@@ -16,7 +16,7 @@ use Rattle.fsd_files.specs.Files.{Change}
 use Rattle.fsd_sound.specs.Anchors.{anchor_of}
 use Rattle.fsd_sound.specs.Homes.{home_of, HasBothHomes}
 use Rattle.fsd_sound.specs.Laid.{StandsTwice}
-use Rattle.fsd_sound.specs.Mounted.{Mounted, IsFresh, telling_of}
+use Rattle.fsd_sound.specs.Mounted.{Mounted, IsFreshlyMounted, telling_of}
 use Rattle.fsd_sound.specs.Shown.{all_pages, each_of, shown}
 use Rattle.fsd_sound.specs.Sound.{EndIn, IsPrefixOf, IsSaid, IsSound, weak_of}
 use Rattle.fsd_sound.specs.declared.fault.MountFault.{MountFault}
@@ -125,7 +125,7 @@ module _ {S : Type 0} (state : S → State) where
 -- ---- where nothing wears
 
 -- The image shows these pages of a volume.
-pub record ShowsVolume (sectors : ℕ) (i : Image) (l : Layout) (pages : List (List ℕ)) : Type 0 where
+pub record ShowsVolumePages (sectors : ℕ) (i : Image) (l : Layout) (pages : List (List ℕ)) : Type 0 where
   pub anchor : Anchor
   pub found : IsVolume sectors i l anchor
   pub shows : shown l i ≡ Some pages
@@ -135,7 +135,7 @@ module _ {S : Type 0} (state : S → State) (has : S → Mounted → List Placed
   -- they are a table, and none of them breaks it.
   pub record MountsShown (sectors : ℕ) (i : Image) (volume : S) : Type 0 where
     pub mounted : Mounted
-    pub shows : ShowsVolume sectors i (state volume).layout mounted.pages
+    pub shows : ShowsVolumePages sectors i (state volume).layout mounted.pages
     pub holds : has volume mounted []
     pub fits : Fits (state volume) mounted
     pub lists : ListsPages (state volume) mounted.pages []
@@ -145,7 +145,7 @@ module _ {S : Type 0} (state : S → State) (has : S → Mounted → List Placed
   -- it is mounted, or a page breaks, or one isn't shown
   abbrev pub MountsCalm : ℕ → Image → Result S MountFault → Type 0
   MountsCalm sectors i (Ok volume) = MountsShown sectors i volume
-  MountsCalm sectors i (Err (Unsound s)) = (l : Layout) × (pages : List (List ℕ)) × ShowsVolume sectors i l pages × BreaksAt l pages s
+  MountsCalm sectors i (Err (Unsound s)) = (l : Layout) × (pages : List (List ℕ)) × ShowsVolumePages sectors i l pages × BreaksAt l pages s
   MountsCalm sectors i (Err fault) = LosesShown sectors i fault
 
 -- ---- the mount of a sound disk
@@ -180,7 +180,7 @@ SoundAbout at l windows run h f n old left = (SoundBefore l windows h f old left
 
 -- The disk that settled, with run as its window, in the epoch behind that of the old one: it is this volume's, with
 -- nothing that waits.
-pub record Settled (l : Layout) (windows : List WeakRun) (run : WeakRun) (h : List Change) (n : ℕ) (k : Known) (old new : Moment) : Type 0 where
+pub record SettledDisk (l : Layout) (windows : List WeakRun) (run : WeakRun) (h : List Change) (n : ℕ) (k : Known) (old new : Moment) : Type 0 where
   pub settled : new.windows ≡ record { present = Some run; next = None }
   pub known : k.windows ≡ windows ++ run ∷ []
   pub opened : k.opened ≡ none_open
@@ -188,7 +188,7 @@ pub record Settled (l : Layout) (windows : List WeakRun) (run : WeakRun) (h : Li
   pub layout : k.mounted.volume.layout ≡ l
   pub first : k.mounted.volume.serial.count ≡ 1
   pub raised : RaisesEpoch windows old.image new.image
-  pub fresh : IsFresh k.changes k.windows new.image k.mounted
+  pub fresh : IsFreshlyMounted k.changes k.windows new.image k.mounted
 
 -- the disk failed, or memory was refused
 abbrev pub Excuses : MountFault → Type 0
@@ -235,7 +235,7 @@ module _ {S : Type 0} (state : S → State) (has : S → Mounted → List Placed
     pub held : at ≤ new.synced
     pub since : (left : Moment) → Past at left → SoundSince l windows next h count old left
     pub moments : Only (SoundAbout at l windows next h f count old)
-    pub settled : Settled l windows next h count known old new
+    pub settled : SettledDisk l windows next h count known old new
     pub ends : Mounts known new result
 
   -- both by this layout

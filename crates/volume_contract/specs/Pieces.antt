@@ -18,14 +18,14 @@ use Rattle.fsd_log.specs.Scan.{Placed}
 use Rattle.fsd_files.specs.Answers.{entry_of}
 use Rattle.fsd_files.specs.Disk.{Image, Sectors}
 use Rattle.fsd_files.specs.Files.{Change, File}
-use Rattle.fsd_files.specs.Kept.{data_sectors, slices}
-pub use Rattle.fsd_files.specs.Pieces.{drafted, undrafted, reserve_at, reserve_outcome, enter_unless, enter_outcome}
+use Rattle.fsd_files.specs.Kept.{data_sectors, filled_slices}
+pub use Rattle.fsd_files.specs.Pieces.{with_draft, undrafted, reserve_at, reserve_outcome, enter_unless, enter_outcome}
 use Rattle.fsd_sound.specs.Mounted.{Mounted}
 use Rattle.volume_contract.specs.declared.token.Draft.{Draft}
 use Rattle.volume_contract.specs.declared.token.Held.{Held}
-use Rattle.volume_contract.specs.Ends.{EndsPut, EndsRefused, Reads}
-use Rattle.volume_contract.specs.Order.{Keeps, enter_steps, reserve_steps, with_drawn}
-use Rattle.volume_contract.specs.State.{GoesOn, HasCounted, IsForced, Known, Opened, Reading, Stands, State, Written, downs, downs_for, forces_first, forces_for_place, force_len, readings, volume_of}
+use Rattle.volume_contract.specs.Ends.{EndsPut, EndsRefused, ReadsRange}
+use Rattle.volume_contract.specs.Order.{KeepsRefused, enter_steps, reserve_steps, with_drawn}
+use Rattle.volume_contract.specs.State.{GoesOn, HasCounted, IsForced, Known, OpenParts, HeldVersion, Stands, State, WrittenDraft, downs, downs_for, forces_first, forces_for_place, force_len, readings, volume_of}
 
 -- ---- tokens, over any machine
 
@@ -39,7 +39,7 @@ pub record IsDraft (s : State) (d : Draft) : Type 0 where
   pub unfinished : (t : ℕ) → IsTrue (contains (sectors_of d.runs) t) → IsTrue (contains s.unfinished t)
 
 -- The version is held at its place: its entry is one by the grammar, and its sectors are of the data area.
-pub record IsHeld (s : State) (h : Held) : Type 0 where
+pub record IsHeldVersion (s : State) (h : Held) : Type 0 where
   pub entry : is_entry h.entry ≡ true
   pub within : (t : ℕ) → IsTrue (contains (sectors_of h.entry.runs) t) → IsTrue (is_data s.layout t)
   pub there : h.place < length s.readers
@@ -48,7 +48,7 @@ pub record IsHeld (s : State) (h : Held) : Type 0 where
 -- ---- what becomes of the volume, over any machine
 
 -- These sectors, which were free, are an unfinished creation's.
-pub record Takes (runs : List Run) (old new : State) : Type 0 where
+pub record TakesPlace (runs : List Run) (old new : State) : Type 0 where
   pub is : new ≡ record old { free = new.free; freed = new.freed; waiting = new.waiting; unfinished = new.unfinished }
   pub unfinished : (t : ℕ) → contains new.unfinished t ≡ (contains old.unfinished t || contains (sectors_of runs) t)
   pub apart : (t : ℕ) → IsTrue (contains (sectors_of runs) t) → IsFalse (contains old.unfinished t)
@@ -81,13 +81,13 @@ pub record Reserves (need : ℕ) (old new : State) (d : Draft) : Type 0 where
   pub went : ((forces_for_place old need ≡ false) × (middle ≡ old)) ⊎ ((forces_for_place old need ≡ true) × IsForced old middle)
   pub place : pick middle.free need ≡ Some d.runs
   pub serial : d.serial ≡ middle.serial
-  pub takes : Takes d.runs (with_drawn middle) new
+  pub takes : TakesPlace d.runs (with_drawn middle) new
 
 -- What beginning a creation keeps: it is one of this volume's, of so many bytes; or the volume goes on.
 pub record KeepsReserve (len : ℕ) (old new : State) (result : Result Draft Refusal) : Type 0 where
   pub draft : IfOk result (λ d. (d.length ≡ len) × IsDraft new d)
   pub state : IfErr result (λ why. GoesOn (downs result) old new)
-  pub kept : MatchResult result (λ d. Reserves (sectors_for len) old new d) (λ why. Keeps (reserve_steps old len) why old new)
+  pub kept : MatchResult result (λ d. Reserves (sectors_for len) old new d) (λ why. KeepsRefused (reserve_steps old len) why old new)
 
 -- ---- sectors that a call writes
 
@@ -111,7 +111,7 @@ in_leader runs t = contains (take 1 (sectors_of runs)) t
 pub record KeepsEnter (draft : Draft) (keep : Option ℕ) (old new : State) (result : Result Key (Draft × Refusal)) : Type 0 where
   pub state : MatchResult result (λ key. Enters draft.runs old new) (λ p. GoesOn (downs_for p.1) old new)
   pub back : IfErr result (λ p. p.0 ≡ draft)
-  pub kept : MatchResult result (λ key. HasCounted false (forces_first old) old new) (λ p. Keeps (enter_steps old keep (in_leader draft.runs)) p.1 old new)
+  pub kept : MatchResult result (λ key. HasCounted false (forces_first old) old new) (λ p. KeepsRefused (enter_steps old keep (in_leader draft.runs)) p.1 old new)
 
 -- The bytes, laid from this slice on, lie within the length, and are whole slices or end there.
 pub record FitsDraft (len first count : ℕ) : Type 0 where
@@ -120,19 +120,19 @@ pub record FitsDraft (len first count : ℕ) : Type 0 where
 
 -- ---- what is open
 
-abbrev pub slices_in : List Written → List Run → Option (List (Option (List ℕ)))
+abbrev pub slices_in : List WrittenDraft → List Run → Option (List (Option (List ℕ)))
 slices_in [] runs = None
 slices_in (x ∷ drafts) runs = if same_runs x.runs runs then Some x.slices else slices_in drafts runs
 
-abbrev pub drafts_with : List Written → List Run → List (Option (List ℕ)) → List Written
+abbrev pub drafts_with : List WrittenDraft → List Run → List (Option (List ℕ)) → List WrittenDraft
 drafts_with [] runs slices = []
 drafts_with (x ∷ drafts) runs slices = if same_runs x.runs runs then record { runs = x.runs; slices = slices } ∷ drafts else x ∷ drafts_with drafts runs slices
 
-abbrev pub drafts_without : List Written → List Run → List Written
+abbrev pub drafts_without : List WrittenDraft → List Run → List WrittenDraft
 drafts_without drafts runs = filter (λ x. not (same_runs x.runs runs)) drafts
 
 -- the volume with this open
-abbrev pub with_opened : Known → Opened → Known
+abbrev pub with_opened : Known → OpenParts → Known
 with_opened k o = record k {
   mounted = record k.mounted {
     volume = record (volume_of k) { drafts = map (λ x. x.runs) o.drafts; held = map (λ x. x.runs) (readings o.readers) };
@@ -143,19 +143,19 @@ with_opened k o = record k {
 }
 
 -- one more creation, of which nothing is written
-abbrev pub begun : Opened → List Run → (len : ℕ) → Opened
-begun o runs len = record o { drafts = record { runs = runs; slices = replicate (slice_count len) None } ∷ o.drafts }
+abbrev pub draft_begun : OpenParts → List Run → (len : ℕ) → OpenParts
+draft_begun o runs len = record o { drafts = record { runs = runs; slices = replicate (slice_count len) None } ∷ o.drafts }
 
 -- the creation is over
-abbrev pub ended : Opened → List Run → Opened
+abbrev pub ended : OpenParts → List Run → OpenParts
 ended o runs = record o { drafts = drafts_without o.drafts runs }
 
 -- what is written of it
-abbrev pub wrote : Opened → List Run → List (Option (List ℕ)) → Opened
-wrote o runs slices = record o { drafts = drafts_with o.drafts runs slices }
+abbrev pub draft_wrote : OpenParts → List Run → List (Option (List ℕ)) → OpenParts
+draft_wrote o runs slices = record o { drafts = drafts_with o.drafts runs slices }
 
 -- what is read at a place
-abbrev pub read_at : Opened → (place : ℕ) → Option Reading → Opened
+abbrev pub read_at : OpenParts → (place : ℕ) → Option HeldVersion → OpenParts
 read_at o place reading = record o { readers = set o.readers place reading }
 
 -- the slices from a place on with these in front
@@ -164,14 +164,14 @@ with_slices old first new = take first old ++ new ++ drop (first + length new) o
 
 -- the slices that bytes are, the last of them filled up with zeros; or none of them
 abbrev pub slices_if : Bool → List ℕ → List (Option (List ℕ))
-slices_if done bytes = map (λ x. if done then Some x else None) (slices bytes)
+slices_if done bytes = map (λ x. if done then Some x else None) (filled_slices bytes)
 
 -- ---- over an honest machine
 
 -- what is told of the end of a creation, without the draft that is handed back
-abbrev pub told : {T X : Type 0} → Result T (X × Refusal) → Result T Refusal
-told (Ok x) = Ok x
-told (Err p) = Err p.1
+abbrev pub refusal_told : {T X : Type 0} → Result T (X × Refusal) → Result T Refusal
+refusal_told (Ok x) = Ok x
+refusal_told (Err p) = Err p.1
 
 module _ {S : Type 0} (state : S → State) (has : S → Mounted → List Placed → Type 0) where
   -- A creation is begun, as the definitions say.
@@ -179,7 +179,7 @@ module _ {S : Type 0} (state : S → State) (has : S → Mounted → List Placed
     pub after : Known
     pub is : reserve_outcome (volume_of k) len ≡ (Ok d.runs, volume_of after)
     pub serial : d.serial ≡ (volume_of k).serial
-    pub opened : after.opened ≡ begun k.opened d.runs len
+    pub opened : after.opened ≡ draft_begun k.opened d.runs len
     pub windows : after.windows ≡ k.windows
     pub changes : after.changes ≡ k.changes
     pub stands : Stands state has new after now
@@ -205,8 +205,8 @@ module _ {S : Type 0} (state : S → State) (has : S → Mounted → List Placed
 
   -- the slices are written; where the disk failed nothing is known of them
   abbrev pub EndsSlices : (d : Draft) → (first : ℕ) → (bytes : List ℕ) → (before : List (Option (List ℕ))) → Known → S → Moment → Result (Unit {0}) Refusal → Type 0
-  EndsSlices d first bytes before k new now (Ok x) = Stands state has new (with_opened k (wrote k.opened d.runs (with_slices before first (slices_if true bytes)))) now
-  EndsSlices d first bytes before k new now (Err (Why.Device s)) = Stands state has new (with_opened k (wrote k.opened d.runs (with_slices before first (slices_if false bytes)))) now
+  EndsSlices d first bytes before k new now (Ok x) = Stands state has new (with_opened k (draft_wrote k.opened d.runs (with_slices before first (slices_if true bytes)))) now
+  EndsSlices d first bytes before k new now (Err (Why.Device s)) = Stands state has new (with_opened k (draft_wrote k.opened d.runs (with_slices before first (slices_if false bytes)))) now
   EndsSlices d first bytes before k new now (Err why) = ⊥
 
   -- the version is made of the creation, which is over; or it is one as before
@@ -233,4 +233,4 @@ module _ {S : Type 0} (state : S → State) (has : S → Mounted → List Placed
 
 -- what a read of the version that is held gives, between these images
 abbrev pub ReadsHeld : (i j : Image) → Held → (bytes : List ℕ) → (from : ℕ) → (old new : List ℕ) → Result ℕ Refusal → Type 0
-ReadsHeld i j h bytes from old new result = Reads i j (Some (record { bytes = bytes; keep = h.entry.keep })) (Some h.entry) from old new result
+ReadsHeld i j h bytes from old new result = ReadsRange i j (Some (record { bytes = bytes; keep = h.entry.keep })) (Some h.entry) from old new result

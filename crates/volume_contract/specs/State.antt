@@ -32,7 +32,7 @@ use Rattle.fsd_sound.specs.Writes.{force_writes}
 use Rattle.log_thirds.specs.declared.slots.Slot.{Slot}
 use Rattle.log_thirds.specs.Moves.{head_back}
 use Rattle.log_thirds.specs.Moving.{next_third, slot_outside}
-use Rattle.log_thirds.specs.Slots.{AreSlots, lies_in}
+use Rattle.log_thirds.specs.Slots.{AreLastSlots, lies_in}
 use Rattle.fsd_runs.specs.Runs.{last_count}
 use Rattle.volume_layout.specs.Kinds.{gap_of}
 
@@ -122,12 +122,12 @@ pub record GoesOn (place : Option ℕ) (old new : State) : Type 0 where
   pub down : (new.down ≡ old.down) ⊎ (IsSome place × (new.down ≡ place))
 
 -- what the grammar accepts a page in memory for
-abbrev pub content_of : State → (resident : ℕ → Option (List ℕ)) → ℕ → Option Content
-content_of s resident page = option_and_then (read_page page s.layout.pages) (resident page)
+abbrev pub resident_content : State → (resident : ℕ → Option (List ℕ)) → ℕ → Option Content
+resident_content s resident page = option_and_then (read_page page s.layout.pages) (resident page)
 
 -- all that the search for the highest version of a name meets are pages in memory, as the grammar accepts them
 abbrev pub HasPathOf : State → (resident : ℕ → Option (List ℕ)) → (name : List ℕ) → Type 0
-HasPathOf s resident name = AllByRecursion (λ page. (page < s.layout.pages) × IsSome (content_of s resident page)) (search_of (content_of s resident) name)
+HasPathOf s resident name = AllByRecursion (λ page. (page < s.layout.pages) × IsSome (resident_content s resident page)) (search_of (resident_content s resident) name)
 
 -- every page that isn't a free one is in memory
 abbrev pub HasAllPages : State → (resident : ℕ → Option (List ℕ)) → Type 0
@@ -149,8 +149,8 @@ enters_again s = nat_lt s.head.end (s.head.at + record_len (gap_of s.layout) (le
 
 -- Its log lacks that third: the anchor names the following one, whose first record has this number, and the log has no
 -- page's last image in the one that it leaves.
-abbrev pub moved_on : State → (first : ℕ) → State
-moved_on s first = record s {
+abbrev pub moved_third : State → (first : ℕ) → State
+moved_third s first = record s {
   anchor = record { epoch = s.anchor.epoch; third = next_third s.anchor.third; first = first };
   head = head_back s.layout.third s.head;
   slots = map (slot_outside (third_start s.layout s.anchor.third) s.layout.third) s.slots;
@@ -158,7 +158,7 @@ moved_on s first = record s {
 
 -- the log behind which there is room for the next record
 abbrev pub with_room : State → (first : ℕ) → State
-with_room s first = if enters_again s then moved_on s first else s
+with_room s first = if enters_again s then moved_third s first else s
 
 -- where on the tape that record goes
 abbrev pub record_spot : State → Head
@@ -248,25 +248,25 @@ pub record WritesTold {D T : Type 0} (M : Ghosts D) (may : Sectors) (told : T �
 -- ---- over an honest machine
 
 -- An unfinished creation: its runs, and what was written in each of its data sectors, if anything was.
-pub record Written : Type 0 where
+pub record WrittenDraft : Type 0 where
   pub runs : List Run
   pub slices : List (Option (List ℕ))
 
 -- A version that a reader holds: its runs and its bytes.
-pub record Reading : Type 0 where
+pub record HeldVersion : Type 0 where
   pub runs : List Run
   pub bytes : List ℕ
 
 -- What clients of a volume have open: creations, the last that was begun first, and at eight places versions.
-pub record Opened : Type 0 where
-  pub drafts : List Written
-  pub readers : List (Option Reading)
+pub record OpenParts : Type 0 where
+  pub drafts : List WrittenDraft
+  pub readers : List (Option HeldVersion)
 
 -- nothing
-abbrev pub none_open : Opened
+abbrev pub none_open : OpenParts
 none_open = record { drafts = []; readers = no_readers }
 
-abbrev pub readings : List (Option Reading) → List Reading
+abbrev pub readings : List (Option HeldVersion) → List HeldVersion
 readings [] = []
 readings (None ∷ places) = readings places
 readings (Some x ∷ places) = x ∷ readings places
@@ -274,7 +274,7 @@ readings (Some x ∷ places) = x ∷ readings places
 -- What stands: the volume with what it has in memory, what is open, the windows so far, and the changes so far.
 pub record Known : Type 0 where
   pub mounted : Mounted
-  pub opened : Opened
+  pub opened : OpenParts
   pub windows : List WeakRun
   pub changes : List Change
 
@@ -303,7 +303,7 @@ pub record Fits (s : State) (m : Mounted) : Type 0 where
   pub up : s.down ≡ None
 
 -- What it has open is this, and so are what was written and what the versions have.
-pub record HasOpened (s : State) (o : Opened) (m : Mounted) : Type 0 where
+pub record HasOpened (s : State) (o : OpenParts) (m : Mounted) : Type 0 where
   pub drafts : m.volume.drafts ≡ map (λ x. x.runs) o.drafts
   pub slices : m.slices ≡ map (λ x. x.slices) o.drafts
   pub places : s.readers ≡ map (λ place. option_map (λ x. x.runs) place) o.readers
@@ -313,7 +313,7 @@ pub record HasOpened (s : State) (o : Opened) (m : Mounted) : Type 0 where
 -- the free name pages, which no path reaches.
 pub record ListsPages (s : State) (pages : List (List ℕ)) (records : List Placed) : Type 0 where
   pub table : length s.slots ≡ s.layout.pages
-  pub slots : AreSlots s.layout s.anchor.third records s.slots
+  pub slots : AreLastSlots s.layout s.anchor.third records s.slots
   pub free_pages : (page : ℕ) → page < s.layout.pages → contains s.free_pages page ≡ not (list_any (λ visit. visit.page == page) (visits pages))
 
 -- what is written of unfinished creations stands in their sectors, but for damage in these

@@ -1,5 +1,5 @@
 -- What the calls of a volume tell, and why, over any image.
-use Rattle.std.specs.Prelude.{◌≡◌, ◌≤◌, ℕ, Bool, List, length, Option, IsTrue, Result, Err, IfOk, IfSome, IfNone, IfErr, OnOk}
+use Rattle.std.specs.Prelude.{◌≡◌, ◌≤◌, ℕ, Bool, List, length, Option, IsTrue, Result, Err, IfOk, IfSome, IfNone, IfErr, IsFalse, OnErr, OnOk}
 use Rattle.volume_layout.specs.declared.layout.Layout.{Layout}
 use Rattle.volume_layout.specs.Layout.{is_data}
 use Rattle.fsd_bytes.specs.declared.key.Key.{Key}
@@ -15,12 +15,13 @@ use Rattle.fsd_files.specs.Disk.{Image}
 use Rattle.fsd_files.specs.Scrub.{CountsTwins, FindsLeader}
 use Rattle.volume_contract.specs.declared.files.Forced.{Forced}
 use Rattle.volume_contract.specs.Absent.{LacksKey, LacksLater, ShowsReached}
+use Rattle.volume_contract.specs.Behind.{IsBehindForce}
 use Rattle.volume_contract.specs.Causes.{Causes, IsTaken}
 use Rattle.volume_contract.specs.Ends.{IsLater, count_in}
 use Rattle.volume_contract.specs.Found.{HasEntry, HasRange, ShowsReachedNext}
 use Rattle.volume_contract.specs.Healing.{IsMet, LosesTwins, TwinsStand}
 use Rattle.volume_contract.specs.Logged.{AllLogged, KeepsPages}
-use Rattle.volume_contract.specs.State.{HasEnough, State}
+use Rattle.volume_contract.specs.State.{HasEnough, State, enters_again}
 
 -- It is a data sector, and damaged in the image.
 pub record IsDamagedData (l : Layout) (i : Image) (s : ℕ) : Type 0 where
@@ -79,6 +80,11 @@ module _ {D : Type 0} (M : Ghosts D) (resident : ℕ → Option (List ℕ)) (old
     pub pages_kept : IfOk result (λ x. KeepsPages old new resident then)
     pub logged : IfOk result (λ x. M.honest now → AllLogged old new then (M.now now))
     pub causes : Causes M resident old new before now result
+    -- what is lost lay so before; what is in memory then was so before, or stands in the log; where no third is entered
+    -- again, a force that fails has written nothing
+    pub lost : Causes M resident old old before now result
+    pub behind : OnOk result (M.honest now → IsBehindForce old new resident then (M.now now))
+    pub unwritten : OnErr result (M.tells now → IsFalse (enters_again old) → (M.ledger now).written ≡ (M.ledger before).written)
 
 -- ---- what is healed
 

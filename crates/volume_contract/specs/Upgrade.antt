@@ -24,13 +24,13 @@ RootsStand s now = StandsTwice 1 (open_damage now.windows) now.image (root_bytes
 -- ---- over an honest machine
 
 -- it bears runs of three, and all else is as it was
-abbrev pub upgraded : Known → Known
-upgraded k = record k { mounted = record k.mounted { volume = record (volume_of k) { layout = with_kind Three (volume_of k).layout } } }
+abbrev pub upgraded_known : Known → Known
+upgraded_known k = record k { mounted = record k.mounted { volume = record (volume_of k) { layout = with_kind Three (volume_of k).layout } } }
 
 module _ {S : Type 0} (state : S → State) (has : S → Mounted → List Placed → Type 0) where
   -- it is upgraded, or is already, or a write of a root has failed
   abbrev pub EndsUpgrade : {T : Type 0} → Known → S → Moment → Result T Refusal → Type 0
-  EndsUpgrade k new now (Ok x) = Stands state has new (upgraded k) now
+  EndsUpgrade k new now (Ok x) = Stands state has new (upgraded_known k) now
   EndsUpgrade k new now (Err (Why.Device s)) = (state new).down ≡ Some s
   EndsUpgrade k new now (Err (Why.LayoutIs number)) = Stands state has new k now
   EndsUpgrade k new now (Err other) = ⊥

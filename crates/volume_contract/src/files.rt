@@ -1,8 +1,8 @@
 //! A volume as its callers see it.
-ghost use Rattle.std.specs.Prelude.{◌≡◌, ◌≤◌, ◌<◌, ◌+◌, ◌==◌, ◌||◌, ℕ, List, Option, Contains, length, true, false, Some, IfOk, OnOk, IsTrue, MatchResult, is_none, option_map, slice_index_or};
+ghost use Rattle.std.specs.Prelude.{◌≡◌, ◌≤◌, ◌<◌, ◌+◌, ◌==◌, ◌||◌, ℕ, List, Option, Contains, length, true, false, Some, IfOk, IsFalse, OnErr, OnOk, IsTrue, MatchResult, is_none, option_map, slice_index_or};
 ghost use Rattle.std.specs.List.{list_any};
 ghost use Rattle.volume_layout.specs.declared.layout.Layout.{Layout as Plan};
-ghost use Rattle.sector_disk.specs.declared.sector.WeakRun.{WeakRun as Run};
+ghost use Rattle.sector_disk.specs.declared.sector.WeakRun.{WeakRun};
 ghost use Rattle.sector_disk.specs.Image.{AreShort, IsCalm};
 ghost use Rattle.sector_disk.specs.Calls.{HealsDisk, OnlyReads, WritesDisk, device_in};
 ghost use Rattle.sector_disk.specs.Machine.{Moment, LeavesOnly, wrote};
@@ -18,11 +18,11 @@ ghost use Rattle.fsd_files.specs.Kept.{data_sectors};
 ghost use Rattle.fsd_files.specs.Scrub.{leader_place, Sees, leader_count, slice_place};
 ghost use Rattle.fsd_sound.specs.Sound.{is_twin};
 ghost use Rattle.fsd_sound.specs.Mounted.{Mounted, image_at};
-ghost use Rattle.volume_contract.specs.State.{State, Known, Ages, WritesTold, WritesWithin, volume_of, Stands, HasCounted, IsForced as HasForced, Reading, Leaves, put_writes, force_len, change_len, put_len, forces_first, forces_for_place};
+ghost use Rattle.volume_contract.specs.State.{State, Known, Ages, WritesTold, WritesWithin, volume_of, Stands, HasCounted, IsForced as HasForced, HeldVersion, Leaves, put_writes, force_len, change_len, put_len, forces_first, forces_for_place, enters_again};
 ghost use Rattle.fsd_sound.specs.Writes.{force_writes};
-ghost use Rattle.volume_contract.specs.Order.{InOrder, IsDevice, Keeps, KeepsBy, put_steps, delete_steps, keep_steps, entry_steps, next_steps, read_steps, reserve_steps, slices_steps, enter_steps, held_steps, force_steps, heal_steps, single_steps, upgrade_steps, is_root, with_three};
-ghost use Rattle.volume_contract.specs.Pieces.{IsDraft, IsHeld, KeepsEnter, KeepsReserve, GivesBack, HoldsAt, Unholds, FitsDraft, reserve_len, slice_count, in_slices, in_leader, slices_in, slices_if, read_at, ended, with_opened, told, EndsReserve, EndsSlices, EndsEnter, EndsHold, ReadsHeld};
-ghost use Rattle.volume_contract.specs.Ends.{Ends, EndsPut, EndsForce, Closes, Looks, found_one, Reads, kept_key, device_of};
+ghost use Rattle.volume_contract.specs.Order.{InOrder, IsDeviceRefusal, KeepsRefused, KeepsBy, put_steps, delete_steps, keep_steps, entry_steps, next_steps, read_steps, reserve_steps, slices_steps, enter_steps, held_steps, force_steps, heal_steps, single_steps, upgrade_steps, is_root, with_three};
+ghost use Rattle.volume_contract.specs.Pieces.{IsDraft, IsHeldVersion, KeepsEnter, KeepsReserve, GivesBack, HoldsAt, Unholds, FitsDraft, reserve_len, slice_count, in_slices, in_leader, slices_in, slices_if, read_at, ended, with_opened, refusal_told, EndsReserve, EndsSlices, EndsEnter, EndsHold, ReadsHeld};
+ghost use Rattle.volume_contract.specs.Ends.{Ends, EndsPut, EndsForce, Closes, LooksUp, found_one, ReadsRange, kept_key, device_of};
 ghost use Rattle.volume_contract.specs.Causes.{Causes};
 ghost use Rattle.volume_contract.specs.Healing.{IsMet, LeavesWith, StandsStill};
 ghost use Rattle.volume_contract.specs.Telling.{TellsEntry, TellsForce, TellsHeld, TellsKept, TellsKey, TellsLeader, TellsNext, TellsRange, TellsTwins};
@@ -85,7 +85,7 @@ pub trait Files<M: Machine>: Sized {
 
         // A sound disk stays sound at each moment, and its files after a prefix of the changes,
         // with every forced one, are mounted.
-        ensures sound { M.honest m.new → (l : Plan) (windows : List Run) (h : List Change) (f : ℕ) → IsSoundAt sectors l windows h f (M.now m.old) →
+        ensures sound { M.honest m.new → (l : Plan) (windows : List WeakRun) (h : List Change) (f : ℕ) → IsSoundAt sectors l windows h f (M.now m.old) →
             MountsSound state holds l windows h f (M.left_since m.new) (M.moment m.old) (LeavesOnly M.moment M.left_since m.old m.new) (M.now m.old) (M.now m.new) result };
 
     /// Makes a version with these bytes.
@@ -138,7 +138,7 @@ pub trait Files<M: Machine>: Sized {
         ensures state { state self.new ≡ state self.old }
         ensures stands { M.honest m.new → (k : Known) → Stands state holds self.old k (M.now m.old) → Stands state holds self.new k (M.now m.new) }
         ensures tells { TellsEntry M.Machine (resident self.old) (state self.old) (state self.new) m.old m.new key.now (λ e. e) result }
-        ensures done { M.honest m.new → (k : Known) → Stands state holds self.old k (M.now m.old) → Looks (entry_reply (volume_of k) key.now) (found_one result) };
+        ensures done { M.honest m.new → (k : Known) → Stands state holds self.old k (M.now m.old) → LooksUp (entry_reply (volume_of k) key.now) (found_one result) };
 
     /// The entry of the version with the least later key, if there is one. A walk is a `for` over
     /// `0..stat().versions`; one that begins at a name asks for what comes after its version 0, which no version is.
@@ -149,7 +149,7 @@ pub trait Files<M: Machine>: Sized {
         ensures state { state self.new ≡ state self.old }
         ensures stands { M.honest m.new → (k : Known) → Stands state holds self.old k (M.now m.old) → Stands state holds self.new k (M.now m.new) }
         ensures tells { TellsNext M.Machine (resident self.old) (state self.old) (state self.new) m.old m.new (option_map (λ key. key.now) after.entry) result }
-        ensures done { M.honest m.new → (k : Known) → Stands state holds self.old k (M.now m.old) → Looks (next_reply (volume_of k) (option_map (λ key. key.now) after.entry)) result };
+        ensures done { M.honest m.new → (k : Known) → Stands state holds self.old k (M.now m.old) → LooksUp (next_reply (volume_of k) (option_map (λ key. key.now) after.entry)) result };
 
     /// Reads bytes of a version from a place on, as many as there are and the buffer has room for.
     fn read(&mut self, m: &mut M, key: &Key, from: u32, buf: &mut [u8]) -> Result<u32, Refusal>
@@ -160,7 +160,7 @@ pub trait Files<M: Machine>: Sized {
         ensures stands { M.honest m.new → (k : Known) → Stands state holds self.old k (M.now m.old) → Stands state holds self.new k (M.now m.new) }
         ensures tells { TellsRange M.Machine (resident self.old) (state self.old) (state self.new) m.old m.new key.now from buf.old buf.new result }
         ensures done { M.honest m.new → (k : Known) → Stands state holds self.old k (M.now m.old) →
-            Reads (M.now m.old).image (M.now m.new).image (file_of key_cmp key.now (volume_of k).files) (entry_of key.now (volume_of k).entries) from buf.old buf.new result };
+            ReadsRange (M.now m.old).image (M.now m.new).image (file_of key_cmp key.now (volume_of k).files) (entry_of key.now (volume_of k).entries) from buf.old buf.new result };
 
     /// Begins a version of so many bytes: its sectors are taken and its serial is drawn. It takes no memory.
     fn reserve(&mut self, m: &mut M, length: u64) -> Result<Draft, Refusal>
@@ -202,14 +202,14 @@ pub trait Files<M: Machine>: Sized {
     ) -> Result<Key, (Draft, Refusal)>
         requires room { (state self.old).layout.sectors ≤ (M.report m.old).sectors }
         requires draft { IsDraft (state self.old) draft }
-        ensures order { InOrder (enter_steps (state self.old) keep (in_leader draft.runs)) m.old m.new (told result) }
-        ensures disk { WritesDisk M.Machine (device_in device_of (told result)) (Leaves state holds self.old (λ t. force_writes (state self.old).layout t || in_leader draft.runs t)) m.old m.new }
-        ensures writes { WritesWithin M.Machine (λ t. force_writes (state self.old).layout t || in_leader draft.runs t) (1 + change_len (state self.old)) m.old m.new (told result) }
+        ensures order { InOrder (enter_steps (state self.old) keep (in_leader draft.runs)) m.old m.new (refusal_told result) }
+        ensures disk { WritesDisk M.Machine (device_in device_of (refusal_told result)) (Leaves state holds self.old (λ t. force_writes (state self.old).layout t || in_leader draft.runs t)) m.old m.new }
+        ensures writes { WritesWithin M.Machine (λ t. force_writes (state self.old).layout t || in_leader draft.runs t) (1 + change_len (state self.old)) m.old m.new (refusal_told result) }
         ensures keeps { KeepsEnter draft keep (state self.old) (state self.new) result }
-        ensures tells { TellsKey M.Machine (resident self.old) (state self.old) (state self.new) m.old m.new name.now (told result) }
+        ensures tells { TellsKey M.Machine (resident self.old) (state self.old) (state self.new) m.old m.new name.now (refusal_told result) }
         ensures done { M.honest m.new → (k : Known) → Stands state holds self.old k (M.now m.old) →
             (bytes : List ℕ) → length bytes ≡ draft.length → slices_in k.opened.drafts draft.runs ≡ Some (slices_if true bytes) →
-            EndsEnter state holds draft name.now bytes keep k self.new (M.now m.new) (told result) };
+            EndsEnter state holds draft name.now bytes keep k self.new (M.now m.new) (refusal_told result) };
 
     /// Gives a creation up: its sectors are free at once. It takes no memory, and a volume that is down does it too.
     fn abandon(&mut self, draft: Draft)
@@ -225,7 +225,7 @@ pub trait Files<M: Machine>: Sized {
         ensures order { InOrder (entry_steps (state self.old)) m.old m.new result }
         ensures disk { OnlyReads M.Machine (device_in device_of result) m.old m.new }
         ensures state { MatchResult result (λ h. HoldsAt h (state self.old) (state self.new)) (λ why. state self.new ≡ state self.old) }
-        ensures held { IfOk result (IsHeld (state self.new)) }
+        ensures held { IfOk result (IsHeldVersion (state self.new)) }
         ensures tells { TellsEntry M.Machine (resident self.old) (state self.old) (state self.new) m.old m.new key.now (λ h. h.entry) result }
         ensures done { M.honest m.new → (k : Known) → Stands state holds self.old k (M.now m.old) → EndsHold state holds key.now k self.new (M.now m.new) result };
 
@@ -239,20 +239,20 @@ pub trait Files<M: Machine>: Sized {
         buf: &mut [u8],
     ) -> Result<u32, Refusal>
         requires room { (state self.old).layout.sectors ≤ (M.report m.old).sectors }
-        requires held { IsHeld (state self.old) held.now }
+        requires held { IsHeldVersion (state self.old) held.now }
         ensures order { InOrder (held_steps (state self.old)) m.old m.new result }
         ensures disk { OnlyReads M.Machine (device_in device_of result) m.old m.new }
         ensures state { state self.new ≡ state self.old }
         ensures tells { TellsHeld M.Machine (state self.old).layout held.now.entry.length from (length buf.old) m.new result }
         ensures stands { M.honest m.new → (k : Known) → Stands state holds self.old k (M.now m.old) → Stands state holds self.new k (M.now m.new) }
         ensures done { M.honest m.new → (k : Known) → Stands state holds self.old k (M.now m.old) →
-            (reading : Reading) → slice_index_or k.opened.readers held.now.place None ≡ Some reading → held.now.entry.length ≡ length reading.bytes →
+            (reading : HeldVersion) → slice_index_or k.opened.readers held.now.place None ≡ Some reading → held.now.entry.length ≡ length reading.bytes →
             ReadsHeld (M.now m.old).image (M.now m.new).image held.now reading.bytes from buf.old buf.new result };
 
     /// A reader gives its version up: sectors that it alone kept are free. It takes no memory, and a volume that is down does
     /// it too.
     fn unhold(&mut self, held: Held)
-        requires { IsHeld (state self.old) held }
+        requires { IsHeldVersion (state self.old) held }
         ensures state { Unholds held.place (state self.old) (state self.new) }
         ensures done { (k : Known) (now : Moment) → Stands state holds self.old k now → Stands state holds self.new (with_opened k (read_at k.opened held.place None)) now };
 
@@ -336,7 +336,7 @@ pub trait Files<M: Machine>: Sized {
         ensures order { InOrder (upgrade_steps (state self.old)) m.old m.new result }
         ensures disk { WritesDisk M.Machine (device_in device_of result) (Leaves state holds self.old is_root) m.old m.new }
         ensures writes { WritesWithin M.Machine is_root 2 m.old m.new result }
-        ensures state { MatchResult result (λ x. state self.new ≡ with_three (state self.old)) (λ why. Keeps (upgrade_steps (state self.old)) why (state self.old) (state self.new)) }
+        ensures state { MatchResult result (λ x. state self.new ≡ with_three (state self.old)) (λ why. KeepsRefused (upgrade_steps (state self.old)) why (state self.old) (state self.new)) }
         ensures roots { OnOk result (M.honest m.new → RootsStand (state self.new) (M.now m.new)) }
         ensures done { M.honest m.new → (k : Known) → Stands state holds self.old k (M.now m.old) → EndsUpgrade state holds k self.new (M.now m.new) result };
 
@@ -347,7 +347,8 @@ pub trait Files<M: Machine>: Sized {
         ensures disk { WritesDisk M.Machine (device_in device_of result) (Leaves state holds self (force_writes (state self).layout)) m.old m.new }
         ensures writes { WritesWithin M.Machine (force_writes (state self).layout) (force_len (state self)) m.old m.new result }
         ensures causes { Causes M.Machine (resident self) (state self) (state self) m.old m.new result }
-        ensures done { M.honest m.new → (k : Known) → Stands state holds self k (M.now m.old) → MatchResult result (λ x. Closes k (M.now m.new).image) (λ why. IsDevice why) };
+        ensures unwritten { OnErr result (M.tells m.new → IsFalse (enters_again (state self)) → (M.ledger m.new).written ≡ (M.ledger m.old).written) }
+        ensures done { M.honest m.new → (k : Known) → Stands state holds self k (M.now m.old) → MatchResult result (λ x. Closes k (M.now m.new).image) (λ why. IsDeviceRefusal why) };
 
     /// A volume that stands over a disk stands over it as it is worn by any call of the machine.
     ghost wears: { (s : Self) (k : Known) (old new : Moment) → AreShort old.windows → Ages old new → Stands state holds s k old → Stands state holds s k new };

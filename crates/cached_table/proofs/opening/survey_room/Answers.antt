@@ -10,7 +10,7 @@ use Rattle.fsd_sound.specs.declared.fault.MountFault.{MountFault}
 use Rattle.fsd_table.specs.Breaks.{Breaks}
 use Rattle.table_pages.specs.Bringing.{IsTrusted, given_by}
 use Rattle.table_pages.specs.Reads.{LosesFor}
-use Rattle.table_pages.specs.Table.{begun}
+use Rattle.table_pages.specs.Table.{fresh_step}
 use Rattle.cached_table.specs.Looking.{images_by}
 use Rattle.table_survey.specs.Survey.{IsSurveyed}
 use Rattle.cached_table.specs.Opening.{IsNoTable, IsOpenFault, home_pages}
@@ -34,7 +34,7 @@ returns-in-Ok-clause-opened g c =
       dirty = only.dirty ∙ ap (λ (x : CacheValue). x.dirty) fresh.cache;
       unpinned = only.unpinned;
       pages = c.free_unmarked.ensures.count ∙ ap (λ (xs : List Bool). length xs) same ∙ c.in-Ok.ensures.long ∙ as_many c.as_mut_slice.result.now c.args.l.now.pages (c.as_mut_slice.ensures.value ∙ fresh.marks);
-      map = c.in-Ok.ensures.area;
+      map = c.in-Ok.ensures.told.area_is;
     }
 
 pub returns-in-Ok-clause-table : goal.returns-in-Ok-clause-table
@@ -52,9 +52,9 @@ returns-in-Ok-clause-table g c honest knows =
     table_of M l c.requires.planned m m' room.cache c.survey_in-counts.new.cache fresh.cache room.free_pages fresh.free_pages c.home_a-home_a.result c.home_a-home_a.ensures.place honest knows None
     (subst (λ (k : Layout). SurveysOnly M at_home.ghosts k None m m' room.cache c.survey_in-counts.new.cache (length room.free_pages)) of_l c.in-Ok.ensures.only)
     c.survey_in-counts.new.map marks c.free_unmarked.new.free c.in-Ok.counts
-    (subst (λ (k : Layout). IsTrusted M at_home.ghosts k m room.cache m' → IsSurveyed l (begun (given_by M at_home.ghosts k m) room.cache room.free_pages c.home_a-home_a.result) c.survey_in-counts.new.map marks c.in-Ok.counts) of_l c.in-Ok.ensures.told)
-    (subst (λ (k : Layout). IsTrusted M at_home.ghosts k m room.cache m' → (page : ℕ) → Breaks l (images_by M at_home.ghosts k m room.cache (length room.free_pages)) page → ⊥) of_l c.in-Ok.ensures.unbroken)
-    c.in-Ok.ensures.counted long (c.free_unmarked.ensures.count ∙ ap (λ (xs : List Bool). length xs) same) (subst (λ (xs : List Bool). (page : ℕ) → page < length xs → slice_index_or c.free_unmarked.new.free page false ≡ not (slice_index_or xs page false)) same c.free_unmarked.ensures.free)
+    (subst (λ (k : Layout). IsTrusted M at_home.ghosts k m room.cache m' → IsSurveyed l (fresh_step (given_by M at_home.ghosts k m) room.cache room.free_pages c.home_a-home_a.result) c.survey_in-counts.new.map marks c.in-Ok.counts) of_l c.in-Ok.ensures.told.surveyed)
+    (subst (λ (k : Layout). IsTrusted M at_home.ghosts k m room.cache m' → (page : ℕ) → Breaks l (images_by M at_home.ghosts k m room.cache (length room.free_pages)) page → ⊥) of_l c.in-Ok.ensures.told.unbroken)
+    c.in-Ok.ensures.told.counted long (c.free_unmarked.ensures.count ∙ ap (λ (xs : List Bool). length xs) same) (subst (λ (xs : List Bool). (page : ℕ) → page < length xs → slice_index_or c.free_unmarked.new.free page false ≡ not (slice_index_or xs page false)) same c.free_unmarked.ensures.free)
 
 pub returns-in-Err-clause-cause : goal.returns-in-Err-clause-cause
 returns-in-Err-clause-cause g c = subst IsOpenFault (sym c.survey_fault.ensures) (opens_fault c.home_a-home_a.result c.in-Err.fault)

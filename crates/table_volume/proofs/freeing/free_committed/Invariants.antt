@@ -1,5 +1,5 @@
 use Rattle.std.proofs.Common.{length}
-use Rattle.volume_state.proofs.FreeLaws.{Frees}
+use Rattle.volume_laws.proofs.FreeLaws.{Frees}
 use Rattle.table_volume.proofs.freeing.free_committed.Given as goal
 
 abbrev pub decreases-loop-start : goal.decreases-loop-start

@@ -1,5 +1,5 @@
 use Rattle.std.proofs.Common.{drop}
-use Rattle.volume_changes.proofs.GoingLaws.{FreesGone}
+use Rattle.volume_laws.proofs.GoingLaws.{FreesGone}
 use Rattle.table_volume.proofs.freeing.free_gone.Given as goal
 
 abbrev pub invariant-loop-one : goal.invariant-loop-one

@@ -7,11 +7,11 @@ use Rattle.sector_disk.specs.declared.sector.Sector.TheVariants.{Damaged}
 use Rattle.sector_disk.specs.Image.{sector_at}
 use Rattle.sector_disk.specs.Calls.{device_in}
 use Rattle.sector_disk.proofs.CallLaws.{reads_told}
-use Rattle.volume_contract.specs.Ends.{Reads, device_of}
+use Rattle.volume_contract.specs.Ends.{ReadsRange, device_of}
 use Rattle.volume_contract.specs.Order.{IsData}
 use Rattle.version_data.specs.Reading.{data_failed_at, refusal_of}
 use Rattle.version_data.proofs.PlaceLaws.{entry_count, entry_length}
-use Rattle.volume_state.proofs.RangeLaws.{damaged_reads, data_device, data_is, handed, reads_range, told_damaged, told_there}
+use Rattle.volume_laws.proofs.RangeLaws.{damaged_reads, data_device, data_is, handed, reads_range, told_damaged, told_there}
 use Rattle.table_volume.proofs.reading.read_version.Goals as goal
 
 pub read_range-requires-clause-end : goal.read_range-requires-clause-end
@@ -35,7 +35,7 @@ returns-in_err-read_range-clause-gives g c = λ h file hurt len kept.
     let j = (M.now c.read_range.new.m).image in
     let fault = c.in_err-read_range.field-0.0 in
     let e = c.args.e.now in
-    handed (λ r. Reads i j (Some file) (Some e) c.args.from c.args.buf.now c.read_range.new.buf r) c.from_residual.result (refusal_of fault) c.from_residual.ensures.1
+    handed (λ r. ReadsRange i j (Some file) (Some e) c.args.from c.args.buf.now c.read_range.new.buf r) c.from_residual.result (refusal_of fault) c.from_residual.ensures.1
     (damaged_reads i j file e c.args.from c.min-n.result c.args.buf.now c.read_range.new.buf fault (omega arith) (c.in_err-read_range.ensures.damaged h))
 
 pub returns-in_err-read_range-clause-damaged : goal.returns-in_err-read_range-clause-damaged

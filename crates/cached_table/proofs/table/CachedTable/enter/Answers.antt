@@ -1,9 +1,10 @@
-use Rattle.std.proofs.Common.{refl, rules}
+use Rattle.std.proofs.Common.{◌≤◌, ℕ, ap, refl, rules, subst}
 use Rattle.std.proofs.lemmas.Result.{on_err_weaker}
-use Rattle.name_page.specs.Pages.{outer_in}
+use Rattle.name_page.specs.Pages.{free_count, outer_in}
 use Rattle.version_table.specs.Plan.{IsPlan, planned_entry, with_planned}
 use Rattle.cached_table.proofs.LeftLaws.{left_as}
 use Rattle.cached_table.proofs.EditLaws.{changes_left, edits_left, made_so, of_so, refuses_left, stays_left}
+use Rattle.cached_table.proofs.EnteringLaws.{entered_each, enters_in, refused_each, refused_walks, refuses_in}
 use Rattle.cached_table.proofs.LookLaws.{looks_left}
 use Rattle.cached_table.proofs.MetLaws.{shown_steps, unsound_left}
 use Rattle.cached_table.proofs.StayLaws.{walks_stay}
@@ -13,30 +14,34 @@ use Rattle.cached_table.proofs.table.CachedTable.enter.Goals as goal
 pub returns-clause-edits : goal.returns-clause-edits
 returns-clause-edits g c = edits_left c.new-table.ensures.over c.new-table.ensures.step c.enter_at-done.ensures.calls.count c.enter_at-done.ensures.calls.outside (left_as c.rest.ensures.left (search rules) (search rules) (search rules))
 
-pub returns-clause-kept : goal.returns-clause-kept
-returns-clause-kept g c = stays_left c.new-table.ensures.over c.new-table.ensures.step c.enter_at-done.ensures.calls.count c.enter_at-done.ensures.calls.outside (left_as c.rest.ensures.left (search rules) (search rules) (search rules)) c.enter_at-done.result (none_failed _ (outer_in c.enter_at-done.result) c.new-table.result c.enter_at-done.new.t c.enter_at-done.result c.enter_at-done.ensures.kept)
-
-pub returns-clause-looks : goal.returns-clause-looks
-returns-clause-looks g c = on_err_weaker c.enter_at-done.result (λ walks. looks_left c.new-table.ensures.over c.new-table.ensures.step (walks_stay _ _ _ walks) c.enter_at-done.ensures.calls.outside (left_as c.rest.ensures.left (search rules) (search rules) refl) walks.stays) c.enter_at-done.ensures.kept
-
-pub returns-clause-shown : goal.returns-clause-shown
-returns-clause-shown g c =
-    let by = shown_steps _ (outer_in c.enter_at-done.result) c.args.map.now c.args.shadow.now c.args.name.now c.args.home_a c.new-table.result c.enter_at-done.new.t c.enter_at-done.result c.enter_at-done.ensures.kept c.enter_at-done.ensures.shown in
-    unsound_left c.new-table.ensures.over c.new-table.ensures.step c.enter_at-done.ensures.calls.outside (left_as c.rest.ensures.left (search rules) (search rules) refl) c.args.map.now c.args.shadow.now c.enter_at-done.result by.0 by.1
-
 pub returns-clause-waiting : goal.returns-clause-waiting
 returns-clause-waiting g c = waits_left c.new-table.ensures.over c.enter_at-done.ensures.calls.count (left_as c.rest.ensures.left refl (search rules) refl) c.enter_at-done.ensures.pages
 
 pub returns-clause-changes : goal.returns-clause-changes
 returns-clause-changes g c = changes_left c.new-table.ensures.over c.new-table.ensures.step c.enter_at-done.ensures.calls.count c.enter_at-done.ensures.calls.outside (left_as c.rest.ensures.left refl (search rules) refl) 36 c.enter_at-done.ensures.changes
 
-pub returns-clause-planned : goal.returns-clause-planned
-returns-clause-planned g c = of_so c.new-table.ensures.over c.new-table.ensures.step c.enter_at-done.ensures.calls.count c.enter_at-done.ensures.calls.outside (left_as c.rest.ensures.left (search rules) refl refl) (λ plan table. IsPlan c.args.name.now c.args.given table plan) c.enter_at-done.result c.enter_at-done.ensures.planned
+pub returns-clause-entered : goal.returns-clause-entered
+returns-clause-entered g c =
+    let r = c.enter_at-done.result in
+    let e = c.enter_at-done.ensures.entered in
+    let d = c.args.draft.now in
+    enters_in _ _ _ _ _ _ _ _ _ _ _ _ _ _ r (entered_each r (λ plan x. x.name_is) e)
+    (of_so c.new-table.ensures.over c.new-table.ensures.step c.enter_at-done.ensures.calls.count c.enter_at-done.ensures.calls.outside (left_as c.rest.ensures.left (search rules) refl refl) (λ plan table. IsPlan c.args.name.now c.args.given table plan) r (entered_each r (λ plan x. x.planned) e))
+    (entered_each r (λ plan x. x.taken) e)
+    (entered_each r (λ plan x. subst (λ (n : ℕ). 8 ≤ n) (ap free_count c.new-table.ensures.step) x.room) e)
+    (made_so c.new-table.ensures.over c.new-table.ensures.step c.enter_at-done.ensures.calls.count c.enter_at-done.ensures.calls.outside (left_as c.rest.ensures.left (search rules) (search rules) (search rules)) (λ plan. with_planned plan (planned_entry plan d.serial d.length d.runs)) r (entered_each r (λ plan x. x.entered) e))
 
-pub returns-clause-made : goal.returns-clause-made
-returns-clause-made g c =
-    made_so c.new-table.ensures.over c.new-table.ensures.step c.enter_at-done.ensures.calls.count c.enter_at-done.ensures.calls.outside (left_as c.rest.ensures.left (search rules) (search rules) (search rules))
-    (λ plan. with_planned plan (planned_entry plan c.args.draft.now.serial c.args.draft.now.length c.args.draft.now.runs)) c.enter_at-done.result c.enter_at-done.ensures.entered
-
-pub returns-clause-fault : goal.returns-clause-fault
-returns-clause-fault g c = refuses_left c.new-table.ensures.over c.new-table.ensures.step c.enter_at-done.ensures.calls.count c.enter_at-done.ensures.calls.outside (left_as c.rest.ensures.left (search rules) (search rules) (search rules)) c.args.map.now c.args.shadow.now c.args.name.now c.enter_at-done.result c.enter_at-done.ensures.fault
+pub returns-clause-refused : goal.returns-clause-refused
+returns-clause-refused g c =
+    let r = c.enter_at-done.result in
+    let map = c.args.map.now in
+    let w = c.args.shadow.now in
+    let e = c.enter_at-done.ensures.refused in
+    let walks = refused_walks _ map w c.args.name.now c.args.home_a c.new-table.result c.enter_at-done.new.t r e in
+    let outside = c.enter_at-done.ensures.calls.outside in
+    let by = shown_steps _ (outer_in r) map w c.args.name.now c.args.home_a c.new-table.result c.enter_at-done.new.t r walks (refused_each r (λ why x. x.shown) e) in
+    refuses_in _ _ _ _ _ _ _ _ _ _ _ _ _ r
+    (stays_left c.new-table.ensures.over c.new-table.ensures.step c.enter_at-done.ensures.calls.count c.enter_at-done.ensures.calls.outside (left_as c.rest.ensures.left (search rules) (search rules) (search rules)) r (none_failed _ (outer_in r) c.new-table.result c.enter_at-done.new.t r walks))
+    (on_err_weaker r (λ walks. looks_left c.new-table.ensures.over c.new-table.ensures.step (walks_stay _ _ _ walks) outside (left_as c.rest.ensures.left (search rules) (search rules) refl) walks.stays) walks)
+    (refuses_left c.new-table.ensures.over c.new-table.ensures.step c.enter_at-done.ensures.calls.count c.enter_at-done.ensures.calls.outside (left_as c.rest.ensures.left (search rules) (search rules) (search rules)) map w c.args.name.now r (refused_each r (λ why x. x.fault) e))
+    (unsound_left c.new-table.ensures.over c.new-table.ensures.step outside (left_as c.rest.ensures.left (search rules) (search rules) refl) map w r by.0 by.1)

@@ -1,4 +1,4 @@
-use Rattle.volume_state.proofs.PieceLaws.{draft_out, gives_over, stands_over, whole_over}
+use Rattle.volume_laws.proofs.PieceLaws.{draft_out, gives_over, stands_over, whole_over}
 use Rattle.table_volume.proofs.files.VolumeFiles.abandon.Goals as goal
 
 pub release-requires : goal.release-requires

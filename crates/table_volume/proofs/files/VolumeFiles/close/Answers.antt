@@ -2,7 +2,7 @@ use Rattle.fsd_files.specs.Answers.{force_outcome}
 use Rattle.fsd_files.specs.declared.reply.Reply.TheVariants.{Forced as IsForced}
 use Rattle.volume_contract.specs.declared.files.Forced.{Forced}
 use Rattle.volume_contract.specs.State.{volume_of}
-use Rattle.volume_state.proofs.CloseLaws.{closes, ends_device}
+use Rattle.volume_laws.proofs.CloseLaws.{closes, ends_device}
 use Rattle.table_volume.proofs.files.VolumeFiles.close.Goals as goal
 
 pub force_all-requires : goal.force_all-requires
@@ -16,6 +16,7 @@ returns-in-Ok g c =
       disk = forced.disk;
       writes = record { rest = forced.rest; counted = forced.counted };
       causes = tt;
+      unwritten = tt;
       done = λ honest k stands. closes k c.force_all.new.self (g.M.Machine.now c.force_all.new.m) (forced.done honest k stands);
     }
 
@@ -27,6 +28,7 @@ returns g c =
       disk = failed.disk;
       writes = record { rest = failed.rest; counted = failed.counted };
       causes = failed.lost;
+      unwritten = failed.counted_err;
       done = λ honest k stands.
           ends_device Forced (λ met. force_outcome (volume_of k)) IsForced k c.force_all.new.self (g.M.Machine.now c.force_all.new.m) c.in-Err.refusal (failed.done honest k stands);
     }

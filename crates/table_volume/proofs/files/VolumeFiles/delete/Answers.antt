@@ -9,16 +9,16 @@ use Rattle.fsd_sound.specs.Writes.{force_writes}
 use Rattle.volume_contract.specs.Ends.{device_of}
 use Rattle.volume_contract.specs.Order.{by_itself}
 use Rattle.volume_contract.specs.State.{Leaves, change_len, volume_of}
-use Rattle.volume_changes.specs.Ending.{delete_tests, look_steps}
-use Rattle.volume_state.specs.State.{Holds, resident, state}
-use Rattle.volume_changes.proofs.BehindLaws.{causes_behind, delete_causes, edited_layout, edited_slots}
-use Rattle.volume_changes.proofs.CauseLaws.{handed_cause}
-use Rattle.volume_changes.proofs.BehindForce.{busy, change_counts, change_ends, change_follows, change_goes, change_kept, failed_comes, failed_keeps, force_ends, is_up, keeps_refused, leaves_behind, not_worn, number_behind, up_behind}
-use Rattle.volume_state.proofs.StepLaws.{comes_more}
-use Rattle.volume_changes.proofs.TestedLaws.{delete_places, delete_refusals, delete_test_ends, delete_through}
-use Rattle.volume_state.proofs.WrittenLaws.{leaves_still}
-use Rattle.volume_state.proofs.ForceMomentLaws.{touches_none}
-use Rattle.volume_state.proofs.StoreLaws.{touches_read}
+use Rattle.volume_laws.specs.Ending.{delete_tests, look_steps}
+use Rattle.volume_laws.specs.State.{IsMemoryOf, resident, state}
+use Rattle.volume_laws.proofs.BehindLaws.{causes_behind, delete_causes, edited_layout, edited_slots}
+use Rattle.volume_laws.proofs.CauseLaws.{handed_cause}
+use Rattle.volume_laws.proofs.BehindForce.{busy, change_counts, change_ends, change_follows, change_goes, change_kept, failed_comes, failed_keeps, force_ends, is_up, keeps_refused, leaves_behind, not_worn, number_behind, up_behind}
+use Rattle.volume_laws.proofs.StepLaws.{comes_more}
+use Rattle.volume_laws.proofs.TestedLaws.{delete_places, delete_refusals, delete_test_ends, delete_through}
+use Rattle.volume_laws.proofs.WrittenLaws.{leaves_still}
+use Rattle.volume_laws.proofs.ForceMomentLaws.{touches_none}
+use Rattle.volume_laws.proofs.StoreLaws.{touches_read}
 use Rattle.table_volume.proofs.files.VolumeFiles.delete.Goals as goal
 
 -- ---- where a test refuses
@@ -37,7 +37,7 @@ returns-in_err-may_delete-clause-disk g c =
     let v = c.args.self.now in
     let at = c.args.m.now in
     writes_told (told_up device_of c.from_residual.result c.in_err-may_delete.field-0.0 c.from_residual.ensures.1 ∙ delete_places (state v) c.in_err-may_delete.field-0.0 c.in_err-may_delete.ensures)
-    (writes_none at (λ left h is. g.met.M.Machine.only_now at left h is) (Leaves state Holds v (force_writes v.layout)) (λ h. leaves_still v (g.M.Machine.now at) (force_writes v.layout)))
+    (writes_none at (λ left h is. g.met.M.Machine.only_now at left h is) (Leaves state IsMemoryOf v (force_writes v.layout)) (λ h. leaves_still v (g.M.Machine.now at) (force_writes v.layout)))
 
 pub returns-in_err-may_delete-clause-writes : goal.returns-in_err-may_delete-clause-writes
 returns-in_err-may_delete-clause-writes g c =

@@ -1,6 +1,6 @@
 use Rattle.std.proofs.Common.{refl, subst}
 use Rattle.volume_contract.specs.Pieces.{IsDraft}
-use Rattle.volume_state.specs.State.{state}
+use Rattle.volume_laws.specs.State.{state}
 use Rattle.table_volume.proofs.files.VolumeFiles.enter.Goals as goal
 
 pub finished-requires-clause-draft : goal.finished-requires-clause-draft

@@ -8,6 +8,6 @@ returns g c =
       disk = e.disk;
       writes = record { rest = e.rest; counted = e.counted };
       keeps = record { state = e.state; kept = e.kept };
-      tells = record { pages = e.pages; pages_kept = e.pages_kept; logged = e.logged; causes = e.causes };
+      tells = record { pages = e.pages; pages_kept = e.pages_kept; logged = e.logged; causes = e.causes; lost = e.lost; behind = e.behind; unwritten = e.counted_err };
       done = e.done;
     }

@@ -7,25 +7,26 @@ use Rattle.sector_disk.proofs.CallLaws.{writes_more, writes_none, writes_told}
 use Rattle.volume_layout.specs.declared.layout.Layout.{Layout}
 use Rattle.sector_disk.specs.Damage.{LostCause}
 use Rattle.fsd_files.specs.Scrub.{CountsTwins}
-use Rattle.twin_home.specs.Twins.{AreTwins, HealsTwins, TwinsStand}
-use Rattle.volume_state.specs.Volume.{VolumeValue}
+use Rattle.fsd_sound.specs.Lost.{AreTwinCopies}
+use Rattle.twin_home.specs.Twins.{HealsTwins, TwinsHaveSome}
+use Rattle.volume_laws.specs.Volume.{VolumeValue}
 use Rattle.fsd_bytes.specs.declared.refusal.Refusal.{Refusal}
 use Rattle.fsd_sound.specs.Sound.{is_twin}
 use Rattle.volume_contract.specs.Ends.{device_of}
 use Rattle.volume_contract.specs.Healing.{LosesTwins, StandsStill, TwinsStand as AllStand}
 use Rattle.volume_contract.specs.State.{Leaves}
 use Rattle.volume_contract.specs.Telling.{TellsTwins}
-use Rattle.volume_state.specs.State.{Holds, state}
-use Rattle.volume_state.specs.Taken.{down_fault}
-use Rattle.volume_state.proofs.ForceEndLaws.{not_down}
-use Rattle.volume_state.proofs.ForceLeavesLaws.{down_tells_none}
-use Rattle.volume_state.proofs.ForceMomentLaws.{touches_none}
+use Rattle.volume_laws.specs.State.{IsMemoryOf, state}
+use Rattle.volume_laws.specs.Taken.{down_fault}
+use Rattle.volume_laws.proofs.ForceEndLaws.{not_down}
+use Rattle.volume_laws.proofs.ForceLeavesLaws.{down_tells_none}
+use Rattle.volume_laws.proofs.ForceMomentLaws.{touches_none}
 use Rattle.table_volume.proofs.DownLaws.{down_step, told_down}
 use Rattle.table_volume.proofs.HealingLaws.{all_stand, busy_heal, stands_all, still_leaves, told_follows, told_lost, told_of, told_ok, told_on, told_place, told_still, twins_leave, twins_touch}
 use Rattle.table_volume.proofs.files.VolumeFiles.heal.Goals.{in-Ok, in-Err}
 use Rattle.fsd_bytes.specs.declared.refusal.Refusal.TheVariants as Why
 use Rattle.volume_contract.specs.Order.{Follows, heal_steps}
-use Rattle.volume_changes.proofs.NextLaws.{up_by}
+use Rattle.volume_laws.proofs.NextLaws.{up_by}
 use Rattle.table_volume.proofs.files.VolumeFiles.heal.Goals as goal
 
 pub returns-in_err-is_up : goal.returns-in_err-is_up
@@ -38,7 +39,7 @@ returns-in_err-is_up g c =
     let p = err_from_is_err_and c.from_residual.result c.from_residual.ensures.1 in
     rw (p.1, p.2) (record {
       order = record { follows = inl (down_step v.down why down); idle = λ idle. refl };
-      disk = writes_told (down_tells_none v.down why down) (writes_none at (λ left h is. g.met.M.Machine.only_now at left h is) (Leaves state Holds v (is_twin v.layout)) (λ h. still_leaves v (is_twin v.layout) now));
+      disk = writes_told (down_tells_none v.down why down) (writes_none at (λ left h is. g.met.M.Machine.only_now at left h is) (Leaves state IsMemoryOf v (is_twin v.layout)) (λ h. still_leaves v (is_twin v.layout) now));
       writes = record { rest = λ h. touches_none (is_twin v.layout) now; counted = tt };
       state = refl;
       tells = λ h. record { healed = tt; mended = tt; lost = told_down (LosesTwins v.layout now.image) (λ place. tt) v.down why down };
@@ -104,8 +105,8 @@ returns-clause-tells g c h =
     ] in
     subst (TellsTwins v.layout old new) (sym is) (record {
       healed = told_ok c.heal_twins.result _ (CountsTwins v.layout old) (λ count counts. subst (λ (l : Layout). CountsTwins l old count) at (counts h)) healed.healed;
-      mended = told_on c.heal_twins.result _ (AllStand v.layout new) (λ stand. all_stand v.layout new (subst (λ (l : Layout). TwinsStand l new) at (stand h))) healed.mended;
-      lost = told_lost v.layout new.image (M.honest c.heal_twins.new.m) h c.heal_twins.result (subst (λ (l : Layout). IfErr c.heal_twins.result (λ f. M.honest c.heal_twins.new.m → LostCause (AreTwins l) new.image f)) at healed.lost);
+      mended = told_on c.heal_twins.result _ (AllStand v.layout new) (λ stand. all_stand v.layout new (subst (λ (l : Layout). TwinsHaveSome l new) at (stand h))) healed.mended;
+      lost = told_lost v.layout new.image (M.honest c.heal_twins.new.m) h c.heal_twins.result (subst (λ (l : Layout). IfErr c.heal_twins.result (λ f. M.honest c.heal_twins.new.m → LostCause (AreTwinCopies l) new.image f)) at healed.lost);
     })
 
 pub returns-clause-done : goal.returns-clause-done
@@ -120,6 +121,6 @@ returns-clause-done g c h k stands =
       | in-Err w ↦ w.result-is ∙ ap (λ (r : Refusal). Err r) w.force_refusal.ensures ∙ sym (ap told_of w.in-Err.is)
     ] in
     let after = stands_all v k old new (g.met.M.Machine.short c.args.m.now (healed.writes.trust.honest h)) (subst (λ (l : Layout). HealsTwins l old new) at (healed.writes.exit h)) stands in
-    subst (StandsStill state Holds k v new) (sym is)
+    subst (StandsStill state IsMemoryOf k v new) (sym is)
     (told_still v k new (g.met.M.Machine.short c.heal_twins.new.m h) after (M.honest c.heal_twins.new.m) h c.heal_twins.result
-    (subst (λ (l : Layout). IfErr c.heal_twins.result (λ f. M.honest c.heal_twins.new.m → LostCause (AreTwins l) new.image f)) at healed.lost))
+    (subst (λ (l : Layout). IfErr c.heal_twins.result (λ f. M.honest c.heal_twins.new.m → LostCause (AreTwinCopies l) new.image f)) at healed.lost))

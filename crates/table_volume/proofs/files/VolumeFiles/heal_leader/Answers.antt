@@ -5,12 +5,12 @@ use Rattle.fsd_bytes.specs.declared.refusal.Refusal.TheVariants as Why
 use Rattle.fsd_files.specs.Disk.{Sectors}
 use Rattle.fsd_files.specs.Scrub.{leader_place}
 use Rattle.volume_contract.specs.Healing.{LeavesWith}
-use Rattle.volume_state.specs.State.{Holds, state}
-use Rattle.volume_state.specs.Taken.{down_fault}
-use Rattle.volume_state.proofs.ForceEndLaws.{not_down}
-use Rattle.volume_state.proofs.ForceLeavesLaws.{down_tells_none}
-use Rattle.volume_state.proofs.ForceMomentLaws.{touches_none}
-use Rattle.volume_changes.proofs.NextLaws.{up_by}
+use Rattle.volume_laws.specs.State.{IsMemoryOf, state}
+use Rattle.volume_laws.specs.Taken.{down_fault}
+use Rattle.volume_laws.proofs.ForceEndLaws.{not_down}
+use Rattle.volume_laws.proofs.ForceLeavesLaws.{down_tells_none}
+use Rattle.volume_laws.proofs.ForceMomentLaws.{touches_none}
+use Rattle.volume_laws.proofs.NextLaws.{up_by}
 use Rattle.table_volume.proofs.DownLaws.{down_step}
 use Rattle.table_volume.proofs.LeadingLaws.{busy_single, leader_leaves, leader_touches, met_inside, stands_led, still_leaves_with}
 use Rattle.table_volume.proofs.files.VolumeFiles.heal_leader.Goals as goal
@@ -30,7 +30,7 @@ returns-in_err-is_up g c =
     let p = err_from_is_err_and c.from_residual.result c.from_residual.ensures.1 in
     rw (p.1, p.2) (record {
       order = record { follows = inl (down_step v.down why down); idle = λ idle. refl };
-      disk = writes_told (down_tells_none v.down why down) (writes_none at (λ left h is. g.met.M.Machine.only_now at left h is) (LeavesWith state Holds v e may) (λ h. still_leaves_with v e may now));
+      disk = writes_told (down_tells_none v.down why down) (writes_none at (λ left h is. g.met.M.Machine.only_now at left h is) (LeavesWith state IsMemoryOf v e may) (λ h. still_leaves_with v e may now));
       writes = record { rest = λ h. touches_none may now; counted = tt };
       state = refl;
       tells = λ h. record { healed = tt; led = tt };

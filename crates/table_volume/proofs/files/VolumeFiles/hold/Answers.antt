@@ -3,16 +3,16 @@ use Rattle.std.specs.Prelude.{is_none, slice_index_or}
 use Rattle.std.proofs.lemmas.Result.{err_from_is_err_and}
 use Rattle.std.specs.List.{list_any}
 use Rattle.fsd_bytes.specs.declared.refusal.Refusal.{Refusal}
-use Rattle.volume_contract.specs.Absent.{Reaches}
+use Rattle.volume_contract.specs.Absent.{ReachesPage}
 use Rattle.volume_contract.specs.Causes.{IsTaken}
 use Rattle.volume_contract.specs.Found.{HasEntry}
 use Rattle.volume_contract.specs.Pieces.{EndsHold}
 use Rattle.volume_contract.specs.State.{State}
-use Rattle.volume_state.specs.State.{Holds, resident, state}
-use Rattle.volume_state.proofs.RangeLaws.{handed}
-use Rattle.volume_changes.proofs.AbsentLaws.{not_handed}
-use Rattle.volume_changes.proofs.CauseLaws.{handed_cause}
-use Rattle.volume_changes.proofs.HoldLaws.{hold_done, hold_refused, hold_token, shows_held}
+use Rattle.volume_laws.specs.State.{IsMemoryOf, resident, state}
+use Rattle.volume_laws.proofs.RangeLaws.{handed}
+use Rattle.volume_laws.proofs.AbsentLaws.{not_handed}
+use Rattle.volume_laws.proofs.CauseLaws.{handed_cause}
+use Rattle.volume_laws.proofs.HoldLaws.{hold_done, hold_refused, hold_token, shows_held}
 use Rattle.table_volume.proofs.files.VolumeFiles.hold.Goals as goal
 
 pub held_at-place-requires-clause-place : goal.held_at-place-requires-clause-place
@@ -45,7 +45,7 @@ returns-clause-tells g c =
       causes = tt;
       absent = λ is. absurd (cc is);
       found = λ honest.
-          shows_held s (state c.version.new.self) (state c.held_at-place.new.self) (resident c.args.self.now) (M.now c.args.m.now) (M.now c.version.new.m) (Reaches (HasEntry c.in_ok-entry.entry)) _ c.held_at-place.ensures.state (e.found honest);
+          shows_held s (state c.version.new.self) (state c.held_at-place.new.self) (resident c.args.self.now) (M.now c.args.m.now) (M.now c.version.new.m) (ReachesPage (HasEntry c.in_ok-entry.entry)) _ c.held_at-place.ensures.state (e.found honest);
     }
 
 pub returns-clause-done : goal.returns-clause-done
@@ -64,7 +64,7 @@ pub returns-in_err-entry-clause-done : goal.returns-in_err-entry-clause-done
 returns-in_err-entry-clause-done g c = λ h k stands.
     let now = g.M.Machine.now c.version.new.m in
     let why = c.in_err-entry.field-0.0 in
-    handed (EndsHold state Holds c.args.key.now k c.version.new.self now) c.from_residual.result why c.from_residual.ensures.1
+    handed (EndsHold state IsMemoryOf c.args.key.now k c.version.new.self now) c.from_residual.result why c.from_residual.ensures.1
     (hold_refused c.args.key.now k c.version.new.self now why (c.in_err-entry.ensures.done h k stands) (c.in_err-entry.ensures.stands h k stands))
 
 pub returns-in_err-entry-clause-tells : goal.returns-in_err-entry-clause-tells

@@ -12,10 +12,10 @@ use Rattle.volume_contract.specs.Mount.{HealsAnchors, HealsHomes, IsFound, IsRef
 use Rattle.cached_table.specs.Homes.{KnowsHomes}
 use Rattle.table_volume.specs.Mounting.{IsAssembled, OpensKnown}
 use Rattle.cached_table.specs.Opening.{IsOpenFault}
-use Rattle.volume_state.specs.State.{state}
+use Rattle.volume_laws.specs.State.{state}
 use Rattle.table_volume.proofs.CalmLaws.{calm_handed, fails_calm, mounts_calm}
 use Rattle.table_volume.proofs.EndsLaws.{ReadsSynced, ends_before, ends_settled, knows}
-use Rattle.volume_state.proofs.MomentLaws.{lists_now, said_at, said_lists, shows_now}
+use Rattle.volume_laws.proofs.MomentLaws.{lists_now, said_at, said_lists, shows_now}
 use Rattle.table_volume.proofs.HealsLaws.{anchors_read, homes_read}
 use Rattle.table_volume.proofs.KnownLaws.{stand_known}
 use Rattle.table_volume.proofs.MountLaws.{found_open, home_lost, keeps_early, keeps_open, opens_new, refused_early, refused_open, settled_in}

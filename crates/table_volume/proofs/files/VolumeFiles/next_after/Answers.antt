@@ -3,21 +3,21 @@ use Rattle.std.proofs.lemmas.Result.{err_from_is_err_and}
 use Rattle.std.specs.Option.{option_copied}
 use Rattle.fsd_formats.specs.declared.entry.Entry.{Entry}
 use Rattle.fsd_files.specs.Answers.{entry_after, next_reply}
-use Rattle.volume_contract.specs.Ends.{Looks}
+use Rattle.volume_contract.specs.Ends.{LooksUp}
 use Rattle.volume_contract.specs.Found.{ShowsReachedNext}
 use Rattle.volume_contract.specs.Order.{Follows, next_steps}
 use Rattle.volume_contract.specs.Telling.{TellsNext}
-use Rattle.volume_state.specs.State.{resident, state}
-use Rattle.volume_state.specs.Volume.{VolumeValue}
+use Rattle.volume_laws.specs.State.{resident, state}
+use Rattle.volume_laws.specs.Volume.{VolumeValue}
 use Rattle.volume_layout.proofs.RootLaws.{planned_bounds}
 use Rattle.table_volume.proofs.MetLaws.{found_is_met}
-use Rattle.volume_changes.proofs.AbsentLaws.{none_met}
-use Rattle.volume_changes.proofs.CauseLaws.{handed_cause, met_one}
-use Rattle.volume_changes.proofs.EntryLaws.{fault_looked_up}
-use Rattle.volume_changes.proofs.FoundLaws.{one_met}
-use Rattle.volume_changes.proofs.NextLaws.{busy_next, met_done, met_later, met_order, up_by}
+use Rattle.volume_laws.proofs.AbsentLaws.{none_met}
+use Rattle.volume_laws.proofs.CauseLaws.{handed_cause, met_one}
+use Rattle.volume_laws.proofs.EntryLaws.{fault_looked_up}
+use Rattle.volume_laws.proofs.FoundLaws.{one_met}
+use Rattle.volume_laws.proofs.NextLaws.{busy_next, met_done, met_later, met_order, up_by}
 use Rattle.fsd_bytes.specs.declared.refusal.Refusal.TheVariants as Why
-use Rattle.volume_contract.specs.Causes.{HasCause}
+use Rattle.volume_contract.specs.Causes.{HasCallCause}
 use Rattle.table_volume.proofs.DownLaws.{down_step, told_down}
 use Rattle.table_volume.proofs.files.VolumeFiles.next_after.Goals as goal
 
@@ -39,7 +39,7 @@ returns-in_err-is_up-clause-tells g c =
     record {
       later = rw p.1 tt;
       met = rw p.1 tt;
-      causes = handed_cause g.M.Machine (resident v) s s c.args.m.now c.args.m.now why back.result back.ensures.1 (λ h. told_down (HasCause s s (resident v) now now) (λ place. tt) v.down why (sym c.in_err-is_up.ensures));
+      causes = handed_cause g.M.Machine (resident v) s s c.args.m.now c.args.m.now why back.result back.ensures.1 (λ h. told_down (HasCallCause s s (resident v) now now) (λ place. tt) v.down why (sym c.in_err-is_up.ensures));
       absent = rw p.1 tt;
       found = rw p.1 tt;
     }
@@ -76,7 +76,7 @@ returns-clause-order g c =
 
 pub returns-clause-done : goal.returns-clause-done
 returns-clause-done g c = λ h k stands.
-    subst (Looks (next_reply k.mounted.volume (option_copied c.args.after))) (sym c.met_found.ensures)
+    subst (LooksUp (next_reply k.mounted.volume (option_copied c.args.after))) (sym c.met_found.ensures)
     (met_done c.find_next.new.self c.in_ok-found.found (option_copied c.args.after) k.mounted.volume.entries (c.in_ok-found.ensures.found h k stands) (c.in_ok-found.ensures.taken h k stands))
 
 pub returns-in_err-found-clause-done : goal.returns-in_err-found-clause-done
@@ -91,8 +91,8 @@ returns-clause-tells g c =
     let w = c.find_next.new.self in
     let after = option_copied c.args.after in
     let found = c.in_ok-found.ensures in
-    let bounds = planned_bounds c.self.inside.layout c.self.invariant.planned in
-    let most : w.layout.sectors ≤ 2 ^ 24 = omega (arith, bounds.sectors_most, ap (λ (v : VolumeValue). v.layout.sectors) c.self.view_is, ap (λ (v : VolumeValue). v.layout.sectors) found.cache) in
+    let bounds = planned_bounds c.args.self.now.layout c.attest.ensures.planned in
+    let most : w.layout.sectors ≤ 2 ^ 24 = omega (arith, bounds.sectors_most, ap (λ (v : VolumeValue). v.layout.sectors) found.cache) in
     let Is : Entry → Type 0 = ShowsReachedNext g.M.Machine (resident v) (state v) (state w) c.args.m.now c.find_next.new.m after in
     subst (TellsNext g.M.Machine (resident v) (state v) (state w) c.args.m.now c.find_next.new.m after) (sym c.met_found.ensures) (record {
       later = met_later w c.in_ok-found.found after found.later;

@@ -2,11 +2,11 @@ use Rattle.std.proofs.Common.{◌≡◌, inl, inr, Err, option_map, refl, sym, a
 use Rattle.std.proofs.lemmas.Result.{err_from_is_err_and}
 use Rattle.sector_disk.proofs.CallLaws.{reads_none, reads_told}
 use Rattle.fsd_bytes.specs.declared.refusal.Refusal.TheVariants as Why
-use Rattle.volume_state.specs.State.{state}
-use Rattle.volume_state.specs.Taken.{down_fault}
-use Rattle.volume_state.specs.WearLaws.{stands_worn}
-use Rattle.volume_state.proofs.ForceLeavesLaws.{down_tells_none}
-use Rattle.volume_changes.proofs.NextLaws.{up_by}
+use Rattle.volume_laws.specs.State.{state}
+use Rattle.volume_laws.specs.Taken.{down_fault}
+use Rattle.volume_laws.specs.WearLaws.{stands_worn}
+use Rattle.volume_laws.proofs.ForceLeavesLaws.{down_tells_none}
+use Rattle.volume_laws.proofs.NextLaws.{up_by}
 use Rattle.table_volume.proofs.DownLaws.{down_step}
 use Rattle.table_volume.proofs.LeadingLaws.{busy_single, met_inside}
 use Rattle.table_volume.proofs.files.VolumeFiles.probe.Goals as goal

@@ -7,23 +7,23 @@ use Rattle.fsd_formats.specs.NamePage.{sectors_for}
 use Rattle.fsd_files.specs.Answers.{keep_given, put_outcome}
 use Rattle.fsd_files.specs.Files.{Change}
 use Rattle.volume_contract.specs.Ends.{EndsPut, device_of}
-use Rattle.volume_contract.specs.Order.{Follows, Keeps, put_steps}
+use Rattle.volume_contract.specs.Order.{Follows, KeepsRefused, put_steps}
 use Rattle.volume_contract.specs.State.{Counted, GoesOn, HasCounted, Leaves, downs, forces_first, forces_for_place, put_len, put_writes, volume_of}
-use Rattle.volume_state.specs.Placing.{IsPlace, store_steps}
-use Rattle.volume_state.specs.State.{Holds, resident, state}
-use Rattle.volume_changes.proofs.BehindForce.{change_counts, is_up}
-use Rattle.volume_changes.proofs.BehindLaws.{causes_behind}
-use Rattle.volume_changes.proofs.CauseLaws.{handed_cause}
-use Rattle.volume_state.proofs.NoPlaceLaws.{ends_as_put}
-use Rattle.volume_state.proofs.PrepareLaws.{last}
-use Rattle.volume_changes.proofs.PutEnds.{keep_small, leaves_entering, length_small, number_ready, put_counts, put_ends, put_goes, layout_stays, slots_stay, serials_left, up_ready}
-use Rattle.volume_changes.proofs.PutLaws.{ends_tested, prepare_idle, prepared_kept, prepared_order, put_order, tested_kept, tested_order}
-use Rattle.volume_state.proofs.RangeLaws.{handed}
-use Rattle.volume_state.proofs.StepLaws.{idle_front}
-use Rattle.volume_state.proofs.StoreLaws.{busy_store, touches_read}
-use Rattle.volume_changes.proofs.TestedLaws.{put_places, put_test_cause}
-use Rattle.volume_state.proofs.WrittenLaws.{leaves_still}
-use Rattle.volume_state.proofs.ForceMomentLaws.{touches_none}
+use Rattle.volume_laws.specs.Placing.{IsPlace, store_steps}
+use Rattle.volume_laws.specs.State.{IsMemoryOf, resident, state}
+use Rattle.volume_laws.proofs.BehindForce.{change_counts, is_up}
+use Rattle.volume_laws.proofs.BehindLaws.{causes_behind}
+use Rattle.volume_laws.proofs.CauseLaws.{handed_cause}
+use Rattle.volume_laws.proofs.NoPlaceLaws.{ends_as_put}
+use Rattle.volume_laws.proofs.PrepareLaws.{last}
+use Rattle.volume_laws.proofs.PutEnds.{keep_small, leaves_entering, length_small, number_ready, put_counts, put_ends, put_goes, layout_stays, slots_stay, serials_left, up_ready}
+use Rattle.volume_laws.proofs.PutLaws.{ends_tested, prepare_idle, prepared_kept, prepared_order, put_order, tested_kept, tested_order}
+use Rattle.volume_laws.proofs.RangeLaws.{handed}
+use Rattle.volume_laws.proofs.StepLaws.{idle_front}
+use Rattle.volume_laws.proofs.StoreLaws.{busy_store, touches_read}
+use Rattle.volume_laws.proofs.TestedLaws.{put_places, put_test_cause}
+use Rattle.volume_laws.proofs.WrittenLaws.{leaves_still}
+use Rattle.volume_laws.proofs.ForceMomentLaws.{touches_none}
 use Rattle.table_volume.proofs.files.VolumeFiles.put.Goals as goal
 
 -- ---- a test refuses
@@ -47,7 +47,7 @@ returns-in_err-may_put-clause-disk g c =
     let why = c.in_err-may_put.field-0.0 in
     let may = put_writes (state v) (sectors_for len) in
     writes_told (told_up device_of c.from_residual.result why c.from_residual.ensures.1 ∙ put_places (state v) c.args.keep len why c.in_err-may_put.ensures)
-    (writes_none at (λ left h is. g.met.M.Machine.only_now at left h is) (Leaves state Holds v may) (λ h. leaves_still v (g.M.Machine.now at) may))
+    (writes_none at (λ left h is. g.met.M.Machine.only_now at left h is) (Leaves state IsMemoryOf v may) (λ h. leaves_still v (g.M.Machine.now at) may))
 
 pub returns-in_err-may_put-clause-writes : goal.returns-in_err-may_put-clause-writes
 returns-in_err-may_put-clause-writes g c =
@@ -67,7 +67,7 @@ returns-in_err-may_put-clause-keeps g c =
     let back = c.from_residual in
     record {
       state = record { layout = refl; epoch = refl; unfinished = refl; readers = refl; down = inl refl };
-      kept = handed (λ r. MatchResult r (λ key. HasCounted true (forces_for_place s (sectors_for len) || forces_first s) s s) (λ x. Keeps (put_steps s c.args.keep len) x s s)) back.result why back.ensures.1
+      kept = handed (λ r. MatchResult r (λ key. HasCounted true (forces_for_place s (sectors_for len) || forces_first s) s s) (λ x. KeepsRefused (put_steps s c.args.keep len) x s s)) back.result why back.ensures.1
           (tested_kept s c.args.keep len why c.in_err-may_put.ensures);
     }
 
@@ -91,7 +91,7 @@ returns-in_err-may_put-clause-done g c h k stands =
     let keep = c.args.keep in
     let now = g.M.Machine.now c.args.m.now in
     let why = c.in_err-may_put.field-0.0 in
-    handed (EndsPut state Holds (λ met. put_outcome met (volume_of k) name bytes keep) bytes (Change.Put name keep bytes) k v now) c.from_residual.result why c.from_residual.ensures.1
+    handed (EndsPut state IsMemoryOf (λ met. put_outcome met (volume_of k) name bytes keep) bytes (Change.Put name keep bytes) k v now) c.from_residual.result why c.from_residual.ensures.1
     (ends_tested v name bytes keep k now why c.in_err-may_put.ensures stands)
 
 -- ---- it is not prepared
@@ -141,7 +141,7 @@ returns-in_err-draft-clause-keeps g c =
     let back = c.from_residual-in_err-draft in
     record {
       state = handed (λ r. GoesOn (downs r) s t) back.result why back.ensures.1 failed.prepares.state;
-      kept = handed (λ r. MatchResult r (λ key. HasCounted true (forces_for_place s (sectors_for len) || forces_first s) s t) (λ x. Keeps (put_steps s c.args.keep len) x s t)) back.result why back.ensures.1
+      kept = handed (λ r. MatchResult r (λ key. HasCounted true (forces_for_place s (sectors_for len) || forces_first s) s t) (λ x. KeepsRefused (put_steps s c.args.keep len) x s t)) back.result why back.ensures.1
           (prepared_kept s c.args.keep len tests t why failed.prepares.kept);
     }
 
@@ -163,7 +163,7 @@ returns-in_err-draft-clause-done g c h k stands =
     let new = c.prepared.new.self in
     let now = g.M.Machine.now c.prepared.new.m in
     let why = c.in_err-draft.field-0.0 in
-    handed (EndsPut state Holds (λ met. put_outcome met (volume_of k) name bytes keep) bytes (Change.Put name keep bytes) k new now) c.from_residual-in_err-draft.result why c.from_residual-in_err-draft.ensures.1
+    handed (EndsPut state IsMemoryOf (λ met. put_outcome met (volume_of k) name bytes keep) bytes (Change.Put name keep bytes) k new now) c.from_residual-in_err-draft.result why c.from_residual-in_err-draft.ensures.1
     (ends_as_put (state c.args.self.now) name bytes keep k new now c.in_ok-may_put.ensures.1.0 stands.fits why c.in_err-draft.ensures.prepares.order (c.in_err-draft.ensures.done h k stands))
 
 -- ---- it is prepared

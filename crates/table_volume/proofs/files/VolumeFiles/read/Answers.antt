@@ -3,18 +3,18 @@ use Rattle.std.proofs.lemmas.Result.{err_from_is_err_and}
 use Rattle.std.specs.FinMap.{find}
 use Rattle.run_table.specs.RunTable.{sectors_of}
 use Rattle.fsd_bytes.specs.Keys.{key_cmp}
-use Rattle.volume_contract.specs.Ends.{Reads}
+use Rattle.volume_contract.specs.Ends.{ReadsRange}
 use Rattle.fsd_bytes.specs.declared.refusal.Refusal.{Refusal}
 use Rattle.sector_disk.proofs.CallLaws.{reads_then}
 use Rattle.fsd_files.specs.Answers.{entry_of}
-use Rattle.volume_state.specs.State.{resident, state}
-use Rattle.volume_changes.proofs.AbsentLaws.{not_data, not_handed}
-use Rattle.volume_changes.proofs.CauseLaws.{data_causes, handed_cause}
-use Rattle.volume_changes.proofs.FoundLaws.{range_found}
-use Rattle.volume_state.proofs.RangeLaws.{all_below, both_kept, busy_read, data_read, handed, none_damaged, reads_found, reads_refused}
-use Rattle.volume_state.specs.WearLaws.{stands_worn}
+use Rattle.volume_laws.specs.State.{resident, state}
+use Rattle.volume_laws.proofs.AbsentLaws.{not_data, not_handed}
+use Rattle.volume_laws.proofs.CauseLaws.{data_causes, handed_cause}
+use Rattle.volume_laws.proofs.FoundLaws.{range_found}
+use Rattle.volume_laws.proofs.RangeLaws.{all_below, both_kept, busy_read, data_read, handed, none_damaged, reads_found, reads_refused}
+use Rattle.volume_laws.specs.WearLaws.{stands_worn}
 use Rattle.volume_contract.specs.Order.{Data, entry_steps}
-use Rattle.volume_state.proofs.StepLaws.{comes_more, idle_front}
+use Rattle.volume_laws.proofs.StepLaws.{comes_more, idle_front}
 use Rattle.table_volume.proofs.files.VolumeFiles.read.Goals as goal
 
 pub read_version-requires-clause-within : goal.read_version-requires-clause-within
@@ -65,7 +65,7 @@ returns-in_err-e-clause-done g c = λ h k stands.
     let file = find key_cmp c.args.key.now k.mounted.volume.files in
     let e = entry_of c.args.key.now k.mounted.volume.entries in
     let there = c.in_err-e.ensures.stands h k stands in
-    handed (Reads i j file e c.args.from c.args.buf.now c.args.buf.now) c.from_residual.result c.in_err-e.field-0.0 c.from_residual.ensures.1
+    handed (ReadsRange i j file e c.args.from c.args.buf.now c.args.buf.now) c.from_residual.result c.in_err-e.field-0.0 c.from_residual.ensures.1
     (reads_refused i j j _ file e c.args.from c.args.buf.now c.args.buf.now c.in_err-e.field-0.0 (c.in_err-e.ensures.done h k stands)
     (both_kept j _ c.args.key.now k.mounted.volume.files k.mounted.volume.entries there.disk.described.lists there.disk.described.kept))
 

@@ -6,14 +6,13 @@ use Rattle.fsd_bytes.specs.declared.refusal.Refusal.{Refusal}
 use Rattle.fsd_bytes.specs.declared.refusal.Refusal.TheVariants as Why
 use Rattle.fsd_files.specs.Disk.{in_runs}
 use Rattle.sector_disk.proofs.CallLaws.{reads_none, reads_told}
-use Rattle.volume_state.specs.State.{state}
-use Rattle.volume_state.specs.Volume.{VolumeValue}
-use Rattle.volume_state.specs.WearLaws.{stands_worn}
-use Rattle.volume_state.proofs.ForceEndLaws.{not_down}
-use Rattle.volume_state.proofs.ForceLeavesLaws.{down_tells_none}
-use Rattle.volume_state.proofs.RangeLaws.{all_below, data_runs}
-use Rattle.volume_changes.proofs.NextLaws.{up_by}
-use Rattle.volume_changes.proofs.ReadHeldLaws.{busy_held, held_follows, held_kept}
+use Rattle.volume_laws.specs.State.{state}
+use Rattle.volume_laws.specs.WearLaws.{stands_worn}
+use Rattle.volume_laws.proofs.ForceEndLaws.{not_down}
+use Rattle.volume_laws.proofs.ForceLeavesLaws.{down_tells_none}
+use Rattle.volume_laws.proofs.RangeLaws.{all_below, data_runs}
+use Rattle.volume_laws.proofs.NextLaws.{up_by}
+use Rattle.volume_laws.proofs.ReadHeldLaws.{busy_held, held_follows, held_kept}
 use Rattle.table_volume.proofs.DownLaws.{down_step, told_down}
 use Rattle.table_volume.proofs.files.VolumeFiles.read_held.Goals as goal
 
@@ -43,8 +42,8 @@ read_version-requires-clause-good g c = c.requires.held.entry
 
 pub read_version-requires-clause-runs : goal.read_version-requires-clause-runs
 read_version-requires-clause-runs g c =
-    let bounds = planned_bounds c.self.inside.layout c.self.invariant.planned in
-    let most : c.args.self.now.layout.sectors ≤ 2 ^ 24 = omega (arith, bounds.sectors_most, ap (λ (v : VolumeValue). v.layout.sectors) c.self.view_is) in
+    let bounds = planned_bounds c.args.self.now.layout c.attest.ensures.planned in
+    let most : c.args.self.now.layout.sectors ≤ 2 ^ 24 = omega (arith, bounds.sectors_most) in
     data_runs c.args.self.now.layout c.args.held.now.entry c.requires.held.within most c.requires.held.entry
 
 pub read_version-requires-clause-within : goal.read_version-requires-clause-within

@@ -5,17 +5,17 @@ use Rattle.fsd_sound.specs.Writes.{force_writes}
 use Rattle.sector_disk.proofs.CallLaws.{writes_none, writes_told}
 use Rattle.volume_contract.specs.declared.token.Draft.{Draft}
 use Rattle.volume_contract.specs.Order.{is_idle}
-use Rattle.volume_contract.specs.Pieces.{begun, reserve_len, with_opened}
+use Rattle.volume_contract.specs.Pieces.{draft_begun, reserve_len, with_opened}
 use Rattle.volume_contract.specs.State.{Counted, Leaves, Stands}
-use Rattle.volume_state.specs.Placing.{EndsPlace, IsPlace, Places, drawn_known, place_steps}
-use Rattle.volume_state.specs.State.{Holds, resident, state}
-use Rattle.volume_state.proofs.ForceMomentLaws.{touches_none}
-use Rattle.volume_state.proofs.StoreLaws.{same_serial}
-use Rattle.volume_state.proofs.WrittenLaws.{leaves_still}
-use Rattle.volume_changes.proofs.BehindForce.{is_up}
-use Rattle.volume_changes.proofs.PutEnds.{length_small, serials_left}
-use Rattle.volume_changes.proofs.ReserveLaws.{begin_ends, begin_kept, begin_order, begun_ends, placed_busy, placed_order, placing_idle, reserves, unplaced_ends, unplaced_kept, unplaced_order}
-use Rattle.volume_changes.proofs.TestedLaws.{put_places, put_test_cause}
+use Rattle.volume_laws.specs.Placing.{EndsPlace, IsPlace, Places, drawn_known, place_steps}
+use Rattle.volume_laws.specs.State.{IsMemoryOf, resident, state}
+use Rattle.volume_laws.proofs.ForceMomentLaws.{touches_none}
+use Rattle.volume_laws.proofs.StoreLaws.{same_serial}
+use Rattle.volume_laws.proofs.WrittenLaws.{leaves_still}
+use Rattle.volume_laws.proofs.BehindForce.{is_up}
+use Rattle.volume_laws.proofs.PutEnds.{length_small, serials_left}
+use Rattle.volume_laws.proofs.ReserveLaws.{begin_ends, begin_kept, begin_order, begun_ends, placed_busy, placed_order, placing_idle, reserves, unplaced_ends, unplaced_kept, unplaced_order}
+use Rattle.volume_laws.proofs.TestedLaws.{put_places, put_test_cause}
 use Rattle.table_volume.proofs.files.VolumeFiles.reserve.Goals as goal
 
 -- ---- a test refuses
@@ -32,7 +32,7 @@ returns-in_err-may_put g c =
     let p = err_from_is_err_and c.from_residual.result c.from_residual.ensures.1 in
     rw (p.1, p.2) (record {
       order = record { follows = begin_order (state v) len why comes; idle = λ idle. refl };
-      disk = writes_told (put_places (state v) None len why comes) (writes_none at (λ left h is. g.met.M.Machine.only_now at left h is) (Leaves state Holds v may) (λ h. leaves_still v now may));
+      disk = writes_told (put_places (state v) None len why comes) (writes_none at (λ left h is. g.met.M.Machine.only_now at left h is) (Leaves state IsMemoryOf v may) (λ h. leaves_still v now may));
       writes = record { rest = λ h. touches_none may now; counted = λ tells. (omega arith, omega arith) };
       keeps = record {
         draft = tt;
@@ -124,5 +124,5 @@ returns g c =
       done = λ h k stands.
           let p = subst (λ (n : ℕ). EndsPlace n k mid now (Ok runs)) same (placed.done h k stands) in
           begun_ends v len k tests.1.0 stands.fits mid new runs c.begun.result now places.kept p e.runs e.serial
-          (subst (λ (n : ℕ). Stands state Holds new (with_opened (drawn_known p.after) (begun p.after.opened runs n)) now) c.small-size.ensures (e.stands p.after now p.stands));
+          (subst (λ (n : ℕ). Stands state IsMemoryOf new (with_opened (drawn_known p.after) (draft_begun p.after.opened runs n)) now) c.small-size.ensures (e.stands p.after now p.stands));
     }

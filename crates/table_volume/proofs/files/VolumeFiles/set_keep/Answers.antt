@@ -8,17 +8,17 @@ use Rattle.fsd_sound.specs.Writes.{force_writes}
 use Rattle.volume_contract.specs.Ends.{device_of, kept_key}
 use Rattle.volume_contract.specs.Order.{by_itself}
 use Rattle.volume_contract.specs.State.{Leaves, change_len, volume_of}
-use Rattle.volume_changes.specs.Ending.{keep_tests, look_steps}
-use Rattle.volume_state.specs.State.{Holds, resident, state}
-use Rattle.volume_changes.proofs.BehindLaws.{causes_behind, keep_causes, edited_layout, edited_slots}
-use Rattle.volume_changes.proofs.CauseLaws.{handed_cause}
-use Rattle.volume_changes.proofs.BehindForce.{busy, change_counts, change_ends, change_follows, change_goes, change_kept, failed_comes, failed_keeps, force_ends, is_up, keeps_refused, leaves_behind, not_worn, number_behind, up_behind}
-use Rattle.volume_changes.proofs.MemoryLaws.{enough_behind, force_needs, keep_test_needs}
-use Rattle.volume_state.proofs.StepLaws.{comes_more}
-use Rattle.volume_changes.proofs.TestedLaws.{keep_fits, keep_places, keep_refusals, keep_test_ends, keep_through}
-use Rattle.volume_state.proofs.WrittenLaws.{leaves_still}
-use Rattle.volume_state.proofs.ForceMomentLaws.{touches_none}
-use Rattle.volume_state.proofs.StoreLaws.{touches_read}
+use Rattle.volume_laws.specs.Ending.{keep_tests, look_steps}
+use Rattle.volume_laws.specs.State.{IsMemoryOf, resident, state}
+use Rattle.volume_laws.proofs.BehindLaws.{causes_behind, keep_causes, edited_layout, edited_slots}
+use Rattle.volume_laws.proofs.CauseLaws.{handed_cause}
+use Rattle.volume_laws.proofs.BehindForce.{busy, change_counts, change_ends, change_follows, change_goes, change_kept, failed_comes, failed_keeps, force_ends, is_up, keeps_refused, leaves_behind, not_worn, number_behind, up_behind}
+use Rattle.volume_laws.proofs.MemoryLaws.{enough_behind, force_needs, keep_test_needs}
+use Rattle.volume_laws.proofs.StepLaws.{comes_more}
+use Rattle.volume_laws.proofs.TestedLaws.{keep_fits, keep_places, keep_refusals, keep_test_ends, keep_through}
+use Rattle.volume_laws.proofs.WrittenLaws.{leaves_still}
+use Rattle.volume_laws.proofs.ForceMomentLaws.{touches_none}
+use Rattle.volume_laws.proofs.StoreLaws.{touches_read}
 use Rattle.table_volume.proofs.files.VolumeFiles.set_keep.Goals as goal
 
 -- ---- where a test refuses
@@ -37,7 +37,7 @@ returns-in_err-may_keep-clause-disk g c =
     let v = c.args.self.now in
     let at = c.args.m.now in
     writes_told (told_up device_of c.from_residual.result c.in_err-may_keep.field-0.0 c.from_residual.ensures.1 ∙ keep_places (state v) c.args.keep c.in_err-may_keep.field-0.0 c.in_err-may_keep.ensures)
-    (writes_none at (λ left h is. g.met.M.Machine.only_now at left h is) (Leaves state Holds v (force_writes v.layout)) (λ h. leaves_still v (g.M.Machine.now at) (force_writes v.layout)))
+    (writes_none at (λ left h is. g.met.M.Machine.only_now at left h is) (Leaves state IsMemoryOf v (force_writes v.layout)) (λ h. leaves_still v (g.M.Machine.now at) (force_writes v.layout)))
 
 pub returns-in_err-may_keep-clause-writes : goal.returns-in_err-may_keep-clause-writes
 returns-in_err-may_keep-clause-writes g c =

@@ -2,9 +2,9 @@ use Rattle.std.proofs.Common.{length, sym, ap, ◌∙◌}
 use Rattle.run_table.specs.RunTable.{total}
 use Rattle.run_table.specs.Space.{runs_of}
 use Rattle.sector_set.proofs.FreeLaws.{total_of_runs}
-use Rattle.volume_state.specs.State.{spare_pages}
-use Rattle.volume_state.specs.Volume.{VolumeValue}
-use Rattle.volume_state.proofs.CountLaws.{count_of_flags}
+use Rattle.volume_laws.specs.State.{spare_pages}
+use Rattle.volume_laws.specs.Volume.{VolumeValue}
+use Rattle.volume_laws.proofs.CountLaws.{count_of_flags}
 use Rattle.table_volume.proofs.files.VolumeFiles.stat.Goals as goal
 
 pub returns-clause-free : goal.returns-clause-free

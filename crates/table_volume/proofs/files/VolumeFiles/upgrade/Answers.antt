@@ -1,27 +1,22 @@
-use Rattle.std.proofs.Common.{◌≡◌, inl, inr, ⊎_elim, ◌+◌, ◌<◌, ◌≤◌, ℕ, length, None, Some, refl, sym, ap, subst, ◌∙◌, arith, option_map}
+use Rattle.std.proofs.Common.{◌≡◌, inl, inr, ⊎_elim, ℕ, Some, refl, sym, ap, subst, ◌∙◌, arith, option_map}
 use Rattle.std.specs.Prelude.{IsTrue}
 use Rattle.volume_layout.specs.declared.kind.Kind.TheVariants.{Two, Three}
 use Rattle.volume_layout.specs.declared.layout.Layout.{Layout}
 use Rattle.volume_layout.specs.Layout.{with_kind}
 use Rattle.volume_layout.specs.Root.{root_bytes}
 use Rattle.volume_layout.proofs.RootLaws.{planned_bounds}
-use Rattle.sector_disk.specs.Calls.{WritesDisk}
-use Rattle.sector_disk.specs.Image.{open_damage, stand}
+use Rattle.sector_disk.specs.Image.{stand}
 use Rattle.sector_disk.specs.Machine.{Holds as HoldsImage, Moment}
 use Rattle.sector_disk.proofs.CallLaws.{writes_more, writes_none}
 use Rattle.fsd_bytes.specs.declared.refusal.Refusal.TheVariants as Why
-use Rattle.fsd_files.specs.Disk.{Touches}
-use Rattle.fsd_sound.specs.Laid.{StandsTwice}
-use Rattle.log_thirds.specs.Append.{of_kind}
-use Rattle.log_thirds.specs.LogValue.{LogValue}
 use Rattle.twin_home.specs.Heal.{RootsIn}
 use Rattle.volume_contract.specs.Order.{is_root, layout_is}
 use Rattle.volume_contract.specs.State.{Leaves, Stands}
-use Rattle.volume_contract.specs.Upgrade.{is_fresh, upgraded}
-use Rattle.volume_state.specs.State.{Holds, state}
-use Rattle.volume_state.proofs.ForceMomentLaws.{touches_none}
-use Rattle.volume_state.specs.Volume.{VolumeValue}
-use Rattle.volume_changes.proofs.NextLaws.{up_by}
+use Rattle.volume_contract.specs.Upgrade.{upgraded_known}
+use Rattle.volume_laws.specs.State.{IsMemoryOf, state}
+use Rattle.volume_laws.proofs.ForceMomentLaws.{touches_none}
+use Rattle.volume_laws.specs.Volume.{VolumeValue}
+use Rattle.volume_laws.proofs.NextLaws.{up_by}
 use Rattle.table_volume.specs.declared.volume.Volume.TheInside.{Inside}
 use Rattle.table_volume.proofs.HealingLaws.{still_leaves}
 use Rattle.table_volume.proofs.UpgradeLaws.{busy_upgrade, roots_stand, roots_touch, stands_upgraded, upgrade_leaves, with_kind_three}
@@ -44,7 +39,7 @@ was_two g c = ap (λ (x : VolumeValue). x.layout.kind) (sym c.self.view_is) ∙ 
 three_is : (g : given.Over) (c : After-write_roots g) → c.with_kind-layout.result ≡ with_kind Three c.args.self.now.layout
 three_is g c = c.with_kind-layout.ensures ∙ ap (λ (x : VolumeValue). with_kind Three x.layout) c.self.view_is
 
-leaves : (g : given.Over) (c : After-write_roots g) → (old left : Moment) → RootsIn (root_bytes c.with_kind-layout.result) old left → Leaves state Holds c.args.self.now is_root old left
+leaves : (g : given.Over) (c : After-write_roots g) → (old left : Moment) → RootsIn (root_bytes c.with_kind-layout.result) old left → Leaves state IsMemoryOf c.args.self.now is_root old left
 leaves g c old left roots k stands =
     upgrade_leaves c.args.self.now k old (was_two g c) c.requires.fresh stands left (subst (λ (l : Layout). RootsIn (root_bytes l) old left) (three_is g c) roots)
 
@@ -70,7 +65,7 @@ returns-in-Three-clause-order g c =
 pub returns-in-Three-clause-disk : goal.returns-in-Three-clause-disk
 returns-in-Three-clause-disk g c =
     let M = g.M.Machine in
-    writes_none c.args.m.now (λ left h is. g.met.M.Machine.only_now c.args.m.now left h is) (Leaves state Holds c.args.self.now is_root) (λ h. still_leaves c.args.self.now is_root (M.now c.args.m.now))
+    writes_none c.args.m.now (λ left h is. g.met.M.Machine.only_now c.args.m.now left h is) (Leaves state IsMemoryOf c.args.self.now is_root) (λ h. still_leaves c.args.self.now is_root (M.now c.args.m.now))
 
 pub returns-in-Three-clause-writes : goal.returns-in-Three-clause-writes
 returns-in-Three-clause-writes g c = record { rest = λ h. touches_none is_root (g.M.Machine.now c.args.m.now); counted = λ tells. (omega arith, omega arith) }
@@ -114,7 +109,7 @@ returns-in-Ok-clause-done g c h k stands =
     let c1 = (goal.at.returns-in-Ok-clause-done g c).After-write_roots in
     let holds = subst (λ (l : Layout). HoldsImage old (stand (stand old.image 0 (root_bytes l) 1) 4 (root_bytes l) 1) new) (three_is g c1) (c.in-Ok.ensures.done h) in
     let is : with_kind_three v ≡ w = (λ i. record v { layout = sym c.with_kind-layout.ensures i; log = sym c.set_kind.ensures i }) in
-    subst (λ (x : VolumeValue). Stands state Holds x (upgraded k) new) (ap with_kind_three (sym c.self.view_is) ∙ is) (stands_upgraded c.args.self.now k old (was_two g c1) c.requires.fresh stands new holds)
+    subst (λ (x : VolumeValue). Stands state IsMemoryOf x (upgraded_known k) new) (ap with_kind_three (sym c.self.view_is) ∙ is) (stands_upgraded c.args.self.now k old (was_two g c1) c.requires.fresh stands new holds)
 
 pub returns-in-Err-clause-order : goal.returns-in-Err-clause-order
 returns-in-Err-clause-order g c =

@@ -1,18 +1,17 @@
-use Rattle.std.proofs.Common.{inl, inr, option_map, length, refl, sym, ap, subst, arith}
+use Rattle.std.proofs.Common.{inl, inr, option_map, length, refl, sym, ap, arith}
 use Rattle.std.proofs.lemmas.Result.{err_from_is_err_and}
 use Rattle.sector_disk.proofs.CallLaws.{writes_more, writes_none, writes_told}
 use Rattle.volume_contract.specs.Pieces.{in_slices}
 use Rattle.volume_contract.specs.State.{Leaves}
-use Rattle.volume_state.specs.State.{Holds, state}
-use Rattle.volume_state.specs.Volume.{IsWhole}
-use Rattle.volume_state.proofs.ForceEndLaws.{not_down}
-use Rattle.volume_state.proofs.ForceLeavesLaws.{down_tells_none}
-use Rattle.volume_state.proofs.ForceMomentLaws.{touches_none}
-use Rattle.volume_state.proofs.SliceFits.{busy_slices, draft_below, draft_runs, draft_small, slices_within}
-use Rattle.volume_state.proofs.SliceWriteLaws.{leaves_slices}
-use Rattle.volume_state.proofs.WrittenLaws.{leaves_still}
-use Rattle.volume_changes.proofs.NextLaws.{up_by}
-use Rattle.volume_changes.proofs.SliceEnds.{slices_lost, slices_stand}
+use Rattle.volume_laws.specs.State.{IsMemoryOf, state}
+use Rattle.volume_laws.proofs.ForceEndLaws.{not_down}
+use Rattle.volume_laws.proofs.ForceLeavesLaws.{down_tells_none}
+use Rattle.volume_laws.proofs.ForceMomentLaws.{touches_none}
+use Rattle.volume_laws.proofs.SliceFits.{busy_slices, draft_below, draft_runs, draft_small, slices_within}
+use Rattle.volume_laws.proofs.SliceWriteLaws.{leaves_slices}
+use Rattle.volume_laws.proofs.WrittenLaws.{leaves_still}
+use Rattle.volume_laws.proofs.NextLaws.{up_by}
+use Rattle.volume_laws.proofs.SliceEnds.{slices_lost, slices_stand}
 use Rattle.table_volume.proofs.DownLaws.{down_step}
 use Rattle.table_volume.proofs.files.VolumeFiles.write_slices.Goals as goal
 
@@ -29,7 +28,7 @@ returns-in_err-is_up g c =
     let p = err_from_is_err_and c.from_residual.result c.from_residual.ensures.1 in
     rw (p.1, p.2) (record {
       order = record { follows = inl (down_step v.down why down); idle = λ idle. refl };
-      disk = writes_told (down_tells_none v.down why down) (writes_none at (λ left h is. g.met.M.Machine.only_now at left h is) (Leaves state Holds v may) (λ h. leaves_still v now may));
+      disk = writes_told (down_tells_none v.down why down) (writes_none at (λ left h is. g.met.M.Machine.only_now at left h is) (Leaves state IsMemoryOf v may) (λ h. leaves_still v now may));
       writes = record { rest = λ h. touches_none may now; counted = λ tells. (omega arith, omega arith) };
       state = refl;
       done = λ h k stands before there. absurd (not_down v k now why down stands);
@@ -38,19 +37,19 @@ returns-in_err-is_up g c =
 -- ---- slices are written
 
 pub write_slices-requires-clause-runs : goal.write_slices-requires-clause-runs
-write_slices-requires-clause-runs g c = draft_runs c.args.self.now (subst IsWhole c.self.view_is c.self.invariant) c.args.draft.now c.requires.draft
+write_slices-requires-clause-runs g c = draft_runs c.args.self.now c.attest.ensures c.args.draft.now c.requires.draft
 
 pub write_slices-requires-clause-in_range : goal.write_slices-requires-clause-in_range
 write_slices-requires-clause-in_range g c k d lt =
-    let below = draft_below c.args.self.now (subst IsWhole c.self.view_is c.self.invariant) c.args.draft.now c.requires.draft k d lt in
+    let below = draft_below c.args.self.now c.attest.ensures c.args.draft.now c.requires.draft k d lt in
     omega (arith, below, c.requires.room)
 
 pub write_slices-requires-clause-small : goal.write_slices-requires-clause-small
-write_slices-requires-clause-small g c = draft_small c.args.self.now (subst IsWhole c.self.view_is c.self.invariant) c.args.draft.now c.requires.draft
+write_slices-requires-clause-small g c = draft_small c.args.self.now c.attest.ensures c.args.draft.now c.requires.draft
 
 pub write_slices-requires-clause-fits : goal.write_slices-requires-clause-fits
 write_slices-requires-clause-fits g c =
-    slices_within c.args.self.now (subst IsWhole c.self.view_is c.self.invariant) c.args.draft.now c.requires.draft c.args.first (length c.args.bytes.now) c.requires.fits
+    slices_within c.args.self.now c.attest.ensures c.args.draft.now c.requires.draft c.args.first (length c.args.bytes.now) c.requires.fits
 
 pub returns-in-Ok : goal.returns-in-Ok
 returns-in-Ok g c =
@@ -59,7 +58,7 @@ returns-in-Ok g c =
     let d = c.args.draft.now in
     let first = c.args.first in
     let bytes = c.args.bytes.now in
-    let whole = subst IsWhole c.self.view_is c.self.invariant in
+    let whole = c.attest.ensures in
     let old = M.now c.args.m.now in
     let new = M.now c.write_slices.new.m in
     let wrote = c.in-Ok.ensures in
@@ -81,7 +80,7 @@ returns-in-Err g c =
     let d = c.args.draft.now in
     let first = c.args.first in
     let bytes = c.args.bytes.now in
-    let whole = subst IsWhole c.self.view_is c.self.invariant in
+    let whole = c.attest.ensures in
     let old = M.now c.args.m.now in
     let new = M.now c.write_slices.new.m in
     let failed = c.in-Err.ensures in

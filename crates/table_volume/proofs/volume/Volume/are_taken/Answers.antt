@@ -1,6 +1,6 @@
 use Rattle.std.proofs.Common.{◌&&◌, sym, ◌∙◌}
 use Rattle.std.proofs.lemmas.Bool.{both_ways}
-use Rattle.volume_state.proofs.TakenLaws.{idle_not, taken_by, taken_not}
+use Rattle.volume_laws.proofs.TakenLaws.{idle_not, taken_by, taken_not}
 use Rattle.table_volume.proofs.volume.Volume.are_taken.Goals.{else-are_taken, then-are_taken}
 use Rattle.table_volume.proofs.volume.Volume.are_taken.Goals as goal
 

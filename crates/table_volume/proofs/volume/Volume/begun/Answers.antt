@@ -1,4 +1,4 @@
-use Rattle.volume_state.proofs.PieceLaws.{place_idle, place_in, stands_begun, takes_begun, unfinished_begun, whole_begun}
+use Rattle.volume_laws.proofs.PieceLaws.{place_idle, place_in, stands_begun, takes_begun, unfinished_begun, whole_begun}
 use Rattle.table_volume.proofs.volume.Volume.begun.Goals as goal
 
 pub take-requires : goal.take-requires

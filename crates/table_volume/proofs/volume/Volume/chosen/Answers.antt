@@ -1,6 +1,6 @@
 use Rattle.std.proofs.Common.{Err, sym, ap, ◌∙◌}
 use Rattle.alloc_map.specs.declared.no_place.NoPlace.{NoPlace}
-use Rattle.volume_state.proofs.PlaceLaws.{chosen_is, chosen_place, with_refusal}
+use Rattle.volume_laws.proofs.PlaceLaws.{chosen_is, chosen_place, with_refusal}
 use Rattle.table_volume.proofs.volume.Volume.chosen.Goals as goal
 
 pub returns-in-Err-NoSpace-clause-place : goal.returns-in-Err-NoSpace-clause-place

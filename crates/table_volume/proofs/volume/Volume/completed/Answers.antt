@@ -5,19 +5,19 @@ use Rattle.sector_disk.proofs.CallLaws.{reads_told, told_up}
 use Rattle.sector_set.specs.Area.{Area, AreIn, without}
 use Rattle.fsd_formats.specs.NamePage.{sectors_for}
 use Rattle.volume_contract.specs.Ends.{device_of}
-use Rattle.volume_state.specs.Placing.{IsPlace}
-use Rattle.volume_state.specs.State.{resident, state}
-use Rattle.volume_state.specs.Volume.{VolumeValue}
-use Rattle.volume_changes.proofs.CauseLaws.{handed_cause}
-use Rattle.volume_changes.proofs.CompleteLaws.{completes, ends_completed, whole_completed}
-use Rattle.volume_changes.proofs.EditedLaws.{stayed}
-use Rattle.volume_changes.proofs.EnterEnds.{ends_refused}
-use Rattle.volume_changes.proofs.EnteredCalls.{enter_comes, idle_gone, none_waits, place_told, through_entered, waiting_were}
-use Rattle.volume_changes.proofs.MakingLaws.{with_if}
-use Rattle.volume_changes.proofs.MetCauses.{enter_cause}
-use Rattle.volume_changes.proofs.WholeLaws.{whole_edited}
-use Rattle.volume_state.proofs.FreeStays.{version_worn}
-use Rattle.volume_state.proofs.RunFitLaws.{place_fits}
+use Rattle.volume_laws.specs.Placing.{IsPlace}
+use Rattle.volume_laws.specs.State.{resident, state}
+use Rattle.volume_laws.specs.Volume.{VolumeValue}
+use Rattle.volume_laws.proofs.CauseLaws.{handed_cause}
+use Rattle.volume_laws.proofs.CompleteLaws.{completes, ends_completed, whole_completed}
+use Rattle.volume_laws.proofs.EditedLaws.{stayed}
+use Rattle.volume_laws.proofs.EnterEnds.{ends_refused}
+use Rattle.volume_laws.proofs.EnteredCalls.{enter_comes, idle_gone, none_waits, place_told, through_entered, waiting_were}
+use Rattle.volume_laws.proofs.MakingLaws.{with_if}
+use Rattle.volume_laws.proofs.MetCauses.{enter_cause}
+use Rattle.volume_laws.proofs.WholeLaws.{whole_edited}
+use Rattle.volume_laws.proofs.FreeStays.{version_worn}
+use Rattle.volume_laws.proofs.RunFitLaws.{place_fits}
 use Rattle.table_volume.proofs.volume.Volume.completed.Goals as goal
 
 pub enter-done-requires-clause-runs : goal.enter-done-requires-clause-runs
@@ -25,7 +25,7 @@ enter-done-requires-clause-runs g c =
     place_fits c.self.inside.layout c.self.inside.shadow.unfinished c.self.invariant.unfinished (search rules) c.args.entry c.requires.good (subst (λ (x : VolumeValue). AreIn x.shadow.unfinished c.args.entry.runs) (sym c.self.view_is) c.requires.place.free)
 
 pub free_gone_if-requires : goal.free_gone_if-requires
-free_gone_if-requires g c = idle_gone _ _ _ _ c.as_slice.ensures.value c.in_ok-plan.ensures.taken
+free_gone_if-requires g c = idle_gone _ _ _ _ c.as_slice.ensures.value c.in_ok-plan.ensures.entered.taken
 
 pub ended-requires : goal.ended-requires
 ended-requires g c =
@@ -42,7 +42,7 @@ pub returns-in_err-plan-clause-order : goal.returns-in_err-plan-clause-order
 returns-in_err-plan-clause-order g c =
     let p = err_from_is_err_and c.from_residual.result c.from_residual.ensures.1 in
     let done = c.enter-done in
-    rw (p.1, p.2) (enter_comes _ c.args.self.now c.self.view_is g.M.Machine c.args.m.now done.new.m c.over-source.result c.args.name.now done.new.self.cache done.new.self.free_pages c.in_err-plan.field-0.0 c.in_err-plan.ensures.fault.cause)
+    rw (p.1, p.2) (enter_comes _ c.args.self.now c.self.view_is g.M.Machine c.args.m.now done.new.m c.over-source.result c.args.name.now done.new.self.cache done.new.self.free_pages c.in_err-plan.field-0.0 c.in_err-plan.ensures.refused.fault.cause)
 
 pub returns-in_err-plan-clause-disk : goal.returns-in_err-plan-clause-disk
 returns-in_err-plan-clause-disk g c =
@@ -52,7 +52,7 @@ pub returns-in_err-plan-clause-completes : goal.returns-in_err-plan-clause-compl
 returns-in_err-plan-clause-completes g c =
     let p = err_from_is_err_and c.from_residual.result c.from_residual.ensures.1 in
     let done = c.enter-done in
-    rw p.1 (stayed _ c.args.self.now c.self.view_is done.new.self.cache done.new.self.free_pages c.in_err-plan.ensures.kept.dirty c.in_err-plan.ensures.kept.same_flags)
+    rw p.1 (stayed _ c.args.self.now c.self.view_is done.new.self.cache done.new.self.free_pages c.in_err-plan.ensures.refused.kept.dirty c.in_err-plan.ensures.refused.kept.same_flags)
 
 pub returns-in_err-plan-clause-causes : goal.returns-in_err-plan-clause-causes
 returns-in_err-plan-clause-causes g c =
@@ -60,15 +60,15 @@ returns-in_err-plan-clause-causes g c =
     let w = c.args.self.now in
     handed_cause g.M.Machine (resident w) (state w) _ c.args.m.now done.new.m c.in_err-plan.field-0.0 c.from_residual.result c.from_residual.ensures.1
     (enter_cause g.M.Machine c.args.m.now done.new.m _ w c.self.view_is c.self.invariant done.new.self.cache done.new.self.free_pages c.over-source.result c.over-source.ensures c.home_a-home_a.result c.home_a-home_a.ensures.place c.in_err-plan.field-0.0
-    c.in_err-plan.ensures.edits c.in_err-plan.ensures.looks c.in_err-plan.ensures.shown)
+    c.in_err-plan.ensures.edits c.in_err-plan.ensures.refused.looks c.in_err-plan.ensures.refused.shown)
 
 pub returns-in_err-plan-clause-done : goal.returns-in_err-plan-clause-done
 returns-in_err-plan-clause-done g c = λ honest bytes k stands before there long written.
     let done = c.enter-done in
     let p = err_from_is_err_and c.from_residual.result c.from_residual.ensures.1 in
     rw (p.1, p.2)
-    (ends_refused g.M.Machine g.met.M.Machine.short c.args.m.now done.new.m _ c.args.self.now c.self.view_is c.self.invariant c.dirty_list-whole.ensures.valid done.new.self.cache done.new.self.free_pages c.over-source.result c.over-source.ensures
-    c.dirty_list.ensures.valid c.args.name.now c.args.keep c.args.entry (Err c.in_err-plan.field-0.0) c.in_err-plan.field-0.0 refl c.in_err-plan.ensures.edits c.in_err-plan.ensures.kept c.in_err-plan.ensures.fault.cause honest k stands bytes)
+    (ends_refused g.M.Machine g.met.M.Machine.short c.args.m.now done.new.m _ c.args.self.now c.self.view_is c.self.invariant c.attest.ensures done.new.self.cache done.new.self.free_pages c.over-source.result c.over-source.ensures
+    c.dirty_list.ensures.valid c.args.name.now c.args.keep c.args.entry (Err c.in_err-plan.field-0.0) c.in_err-plan.field-0.0 refl c.in_err-plan.ensures.edits c.in_err-plan.ensures.refused.kept c.in_err-plan.ensures.refused.fault.cause honest k stands bytes)
 
 -- ---- it is entered
 
@@ -84,10 +84,13 @@ invariant_of-self-2 g c =
     let unfinished = ends.unfinished ∙ ap (λ (a : Area). without a c.args.entry.runs) frees.unfinished in
     let left = whole_edited g.M.Machine _ c.over-source.result c.args.m.now done.new.m _ c.args.self.now c.self.view_is c.self.invariant None done.new.self.cache done.new.self.free_pages plan.ensures.edits done.ensures.waiting c.requires.up c.requires.numbered in
     whole_completed _ c.args.self.now c.self.view_is c.self.invariant done.new.self.cache done.new.self.free_pages left c.args.entry.runs place.free
-    plan.plan.gone.items plan.ensures.taken _ (none_waits c.is_empty-waits.result done.new.self.cache.dirty none) c.ended.new.self c.versions_with_one-self-inside.result removed (ends.kept ∙ frees.kept) unfinished (ends.held ∙ frees.held)
+    plan.plan.gone.items plan.ensures.entered.taken _ (none_waits c.is_empty-waits.result done.new.self.cache.dirty none) c.ended.new.self c.versions_with_one-self-inside.result removed (ends.kept ∙ frees.kept) unfinished (ends.held ∙ frees.held)
+
+pub returns-clause-name : goal.returns-clause-name
+returns-clause-name g c = c.in_ok-plan.ensures.entered.name_is
 
 pub returns-clause-order : goal.returns-clause-order
-returns-clause-order g c = through_entered _ c.args.self.now c.self.view_is c.in_ok-plan.ensures.full
+returns-clause-order g c = through_entered _ c.args.self.now c.self.view_is c.in_ok-plan.ensures.entered.full
 
 pub returns-clause-completes : goal.returns-clause-completes
 returns-clause-completes g c =
@@ -101,7 +104,7 @@ returns-clause-completes g c =
     let unfinished = ends.unfinished ∙ ap (λ (a : Area). without a c.args.entry.runs) frees.unfinished in
     let left = whole_edited g.M.Machine _ c.over-source.result c.args.m.now done.new.m _ c.args.self.now c.self.view_is c.self.invariant None done.new.self.cache done.new.self.free_pages plan.ensures.edits done.ensures.waiting c.requires.up c.requires.numbered in
     completes _ c.args.self.now c.self.view_is c.self.invariant done.new.self.cache done.new.self.free_pages left c.args.entry.runs place.free
-    plan.plan.gone.items plan.ensures.taken _ (none_waits c.is_empty-waits.result done.new.self.cache.dirty none) c.ended.new.self c.versions_with_one-self-inside.result removed (ends.kept ∙ frees.kept) unfinished (ends.held ∙ frees.held)
+    plan.plan.gone.items plan.ensures.entered.taken _ (none_waits c.is_empty-waits.result done.new.self.cache.dirty none) c.ended.new.self c.versions_with_one-self-inside.result removed (ends.kept ∙ frees.kept) unfinished (ends.held ∙ frees.held)
 
 pub returns-clause-done : goal.returns-clause-done
 returns-clause-done g c = λ honest bytes k stands before there long written.
@@ -115,10 +118,10 @@ returns-clause-done g c = λ honest bytes k stands before there long written.
     let unfinished = ends.unfinished ∙ ap (λ (a : Area). without a c.args.entry.runs) frees.unfinished in
     let left = whole_edited g.M.Machine _ c.over-source.result c.args.m.now done.new.m _ c.args.self.now c.self.view_is c.self.invariant None done.new.self.cache done.new.self.free_pages plan.ensures.edits done.ensures.waiting c.requires.up c.requires.numbered in
     let whole = whole_completed _ c.args.self.now c.self.view_is c.self.invariant done.new.self.cache done.new.self.free_pages left c.args.entry.runs place.free
-    plan.plan.gone.items plan.ensures.taken _ (none_waits c.is_empty-waits.result done.new.self.cache.dirty none) c.ended.new.self c.versions_with_one-self-inside.result removed (ends.kept ∙ frees.kept) unfinished (ends.held ∙ frees.held) in
+    plan.plan.gone.items plan.ensures.entered.taken _ (none_waits c.is_empty-waits.result done.new.self.cache.dirty none) c.ended.new.self c.versions_with_one-self-inside.result removed (ends.kept ∙ frees.kept) unfinished (ends.held ∙ frees.held) in
     let were = waiting_were _ c.args.self.now c.self.view_is c.self.invariant c.requires.up in
-    ends_completed g.M.Machine g.met.M.Machine.short c.args.m.now done.new.m _ c.args.self.now c.self.view_is c.self.invariant c.dirty_list-whole.ensures.valid done.new.self.cache done.new.self.free_pages c.over-source.result c.over-source.ensures
+    ends_completed g.M.Machine g.met.M.Machine.short c.args.m.now done.new.m _ c.args.self.now c.self.view_is c.self.invariant c.attest.ensures done.new.self.cache done.new.self.free_pages c.over-source.result c.over-source.ensures
     c.args.name.now c.args.keep c.args.entry plan.plan (search rules) (search rules) (subst (λ (x : VolumeValue). length x.cache.dirty ≤ 56) (sym c.self.view_is) c.requires.few) plan.ensures.edits done.ensures.changes (done.ensures.waiting were)
-    plan.ensures.planned plan.ensures.full plan.ensures.made place honest k stands before there bytes long
+    plan.ensures.entered.planned plan.ensures.entered.full plan.ensures.entered.made place honest k stands before there bytes long
     (version_worn (g.M.Machine.now c.args.m.now) (g.M.Machine.now done.new.m) bytes c.args.entry (plan.ensures.edits.reads.worn honest) written)
     c.ended.new.self c.versions_with_one-self-inside.result (c.versions_with_one-self-inside.ensures ∙ ap (λ (n : ℕ). min (c.self.inside.versions - n + 1) 4294967295) c.len.ensures.value) c.is_empty-waits.result none removed (ends.kept ∙ frees.kept) unfinished (ends.held ∙ frees.held) whole

@@ -7,16 +7,16 @@ use Rattle.fsd_formats.specs.declared.entry.Entry.{Entry}
 use Rattle.fsd_files.specs.Answers.{delete_outcome, entry_of as entry_in}
 use Rattle.fsd_files.specs.Files.{Change}
 use Rattle.fsd_files.specs.declared.reply.Reply.TheVariants.{Deleted}
-use Rattle.name_btree.specs.Lookup.{entry_of}
+use Rattle.name_btree.specs.Lookup.{found_entry}
 use Rattle.volume_contract.specs.Order.{IsLookUp}
 use Rattle.volume_contract.specs.State.{volume_of}
-use Rattle.volume_state.specs.Taken.{are_taken}
-use Rattle.volume_state.specs.State.{resident, state}
-use Rattle.volume_changes.proofs.ChangeEnds.{look_ended}
-use Rattle.volume_changes.proofs.DeleteEnds.{delete_none, keyed_ends, met_ended}
-use Rattle.volume_changes.proofs.EditedLaws.{causes_looked, edits_looked, follows_looked, state_looked}
-use Rattle.volume_changes.proofs.EntryLaws.{entry_key, met_refused, met_taken}
-use Rattle.volume_changes.proofs.CauseLaws.{met_handed}
+use Rattle.volume_laws.specs.Taken.{are_taken}
+use Rattle.volume_laws.specs.State.{resident, state}
+use Rattle.volume_laws.proofs.ChangeEnds.{look_ended}
+use Rattle.volume_laws.proofs.DeleteEnds.{delete_none, keyed_ends, met_ended}
+use Rattle.volume_laws.proofs.EditedLaws.{causes_looked, edits_looked, follows_looked, state_looked}
+use Rattle.volume_laws.proofs.EntryLaws.{entry_key, met_refused, met_taken}
+use Rattle.volume_laws.proofs.CauseLaws.{met_handed}
 use Rattle.table_volume.proofs.volume.Volume.delete_now.Goals as goal
 
 -- ---- where the look-up fails
@@ -51,7 +51,7 @@ returns-in-None-clause-edited g c = state_looked c.args.self.now c.find.new.self
 pub returns-in-None-clause-done : goal.returns-in-None-clause-done
 returns-in-None-clause-done g c = λ h k stands.
     delete_none k c.find.new.self (g.M.Machine.now c.find.new.m) c.args.key.now (omega (arith, c.requires.few, ap (λ (d : List ℕ). length d) stands.fits.dirty))
-    (sym (c.in_ok-found.ensures.found h k stands) ∙ ap entry_of c.in-None.is) (c.in_ok-found.ensures.stands h k stands)
+    (sym (c.in_ok-found.ensures.found h k stands) ∙ ap found_entry c.in-None.is) (c.in_ok-found.ensures.stands h k stands)
 
 -- ---- where it is none of the table
 
@@ -76,7 +76,7 @@ returns-in_err-entry-in-Some-clause-causes g c =
 
 pub returns-in_err-entry-in-Some-clause-done : goal.returns-in_err-entry-in-Some-clause-done
 returns-in_err-entry-in-Some-clause-done g c = λ h k stands. absurd
-    (met_ended c.find.new.self k c.args.key.now c.in-Some.found.page c.in-Some.found.entry c.in_err-entry-in-Some.field-0.0 (Err c.in_err-entry-in-Some.field-0.0) (sym (c.in_ok-found.ensures.found h k stands) ∙ ap entry_of c.in-Some.is) (c.in_ok-found.ensures.taken h k stands) c.in_err-entry-in-Some.ensures refl)
+    (met_ended c.find.new.self k c.args.key.now c.in-Some.found.page c.in-Some.found.entry c.in_err-entry-in-Some.field-0.0 (Err c.in_err-entry-in-Some.field-0.0) (sym (c.in_ok-found.ensures.found h k stands) ∙ ap found_entry c.in-Some.is) (c.in_ok-found.ensures.taken h k stands) c.in_err-entry-in-Some.ensures refl)
 
 -- ---- where it is
 
@@ -104,7 +104,7 @@ pub returns-in_ok-entry-in-Some-clause-done : goal.returns-in_ok-entry-in-Some-c
 returns-in_ok-entry-in-Some-clause-done g c = λ h k stands.
     let back = c.take_found.ensures.disk.trust.honest h in
     let met = met_taken c.find.new.self c.in-Some.found.page c.in-Some.found.entry c.in_ok-entry-in-Some.entry (Ok c.in_ok-entry-in-Some.entry) c.in_ok-entry-in-Some.ensures refl in
-    let there : entry_in c.args.key.now (volume_of k).entries ≡ Some c.in-Some.found.entry = sym (c.in_ok-found.ensures.found back k stands) ∙ ap entry_of c.in-Some.is in
+    let there : entry_in c.args.key.now (volume_of k).entries ≡ Some c.in-Some.found.entry = sym (c.in_ok-found.ensures.found back k stands) ∙ ap found_entry c.in-Some.is in
     let same = entry_key c.args.key.now (volume_of k).entries c.in-Some.found.entry there in
     let key : c.in_ok-entry-in-Some.entry.key ≡ c.args.key.now = ap (λ (e : Entry). e.key) met.0 ∙ same in
     let listed : entry_in c.in_ok-entry-in-Some.entry.key (volume_of k).entries ≡ Some c.in_ok-entry-in-Some.entry = ap (λ (x : Key). entry_in x (volume_of k).entries) key ∙ there ∙ ap (λ (e : Entry). Some e) (sym met.0) in

@@ -1,6 +1,6 @@
 use Rattle.std.proofs.Common.{arith, ◌≤◌}
 use Rattle.fsd_formats.specs.NamePage.{max_keep}
-use Rattle.volume_state.proofs.PlaceLaws.{entry_good}
+use Rattle.volume_laws.proofs.PlaceLaws.{entry_good}
 use Rattle.table_volume.proofs.volume.Volume.draft.Goals as goal
 
 pub returns-clause-good : goal.returns-clause-good

@@ -5,19 +5,19 @@ use Rattle.sector_disk.proofs.CallLaws.{reads_told, told_up}
 use Rattle.sector_set.specs.Area.{AreIn}
 use Rattle.fsd_formats.specs.NamePage.{sectors_for}
 use Rattle.volume_contract.specs.Ends.{device_of}
-use Rattle.volume_state.specs.Placing.{IsPlace}
-use Rattle.volume_state.specs.State.{resident, state}
-use Rattle.volume_state.specs.Volume.{VolumeValue}
-use Rattle.volume_changes.proofs.CauseLaws.{handed_cause}
-use Rattle.volume_changes.proofs.EditedLaws.{stayed}
-use Rattle.volume_changes.proofs.EnterDone.{ends_entered}
-use Rattle.volume_changes.proofs.EnterEnds.{ends_refused}
-use Rattle.volume_changes.proofs.EnteredCalls.{enter_comes, enters_told, idle_gone, none_waits, place_told, through_entered, waiting_were}
-use Rattle.volume_state.proofs.FreeStays.{version_worn}
-use Rattle.volume_changes.proofs.MakingLaws.{whole_entered, with_if}
-use Rattle.volume_changes.proofs.MetCauses.{enter_cause}
-use Rattle.volume_state.proofs.RunFitLaws.{place_fits}
-use Rattle.volume_changes.proofs.WholeLaws.{whole_edited}
+use Rattle.volume_laws.specs.Placing.{IsPlace}
+use Rattle.volume_laws.specs.State.{resident, state}
+use Rattle.volume_laws.specs.Volume.{VolumeValue}
+use Rattle.volume_laws.proofs.CauseLaws.{handed_cause}
+use Rattle.volume_laws.proofs.EditedLaws.{stayed}
+use Rattle.volume_laws.proofs.EnterDone.{ends_entered}
+use Rattle.volume_laws.proofs.EnterEnds.{ends_refused}
+use Rattle.volume_laws.proofs.EnteredCalls.{enter_comes, enters_told, idle_gone, none_waits, place_told, through_entered, waiting_were}
+use Rattle.volume_laws.proofs.FreeStays.{version_worn}
+use Rattle.volume_laws.proofs.MakingLaws.{whole_entered, with_if}
+use Rattle.volume_laws.proofs.MetCauses.{enter_cause}
+use Rattle.volume_laws.proofs.RunFitLaws.{place_fits}
+use Rattle.volume_laws.proofs.WholeLaws.{whole_edited}
 use Rattle.table_volume.proofs.volume.Volume.entered.Goals as goal
 
 pub enter-done-requires-clause-runs : goal.enter-done-requires-clause-runs
@@ -28,7 +28,7 @@ pub take-requires : goal.take-requires
 take-requires g c = subst (λ (x : VolumeValue). AreIn x.map c.args.draft.runs) (sym c.self.view_is) c.requires.place.free
 
 pub free_gone_if-requires : goal.free_gone_if-requires
-free_gone_if-requires g c = idle_gone _ _ _ _ c.as_slice.ensures.value c.in_ok-plan.ensures.taken
+free_gone_if-requires g c = idle_gone _ _ _ _ c.as_slice.ensures.value c.in_ok-plan.ensures.entered.taken
 
 -- ---- none is entered
 
@@ -41,7 +41,7 @@ pub returns-in_err-plan-clause-order : goal.returns-in_err-plan-clause-order
 returns-in_err-plan-clause-order g c =
     let p = err_from_is_err_and c.from_residual.result c.from_residual.ensures.1 in
     let done = c.enter-done in
-    rw (p.1, p.2) (enter_comes _ c.args.self.now c.self.view_is g.M.Machine c.args.m.now done.new.m c.over-source.result c.args.name.now done.new.self.cache done.new.self.free_pages c.in_err-plan.field-0.0 c.in_err-plan.ensures.fault.cause)
+    rw (p.1, p.2) (enter_comes _ c.args.self.now c.self.view_is g.M.Machine c.args.m.now done.new.m c.over-source.result c.args.name.now done.new.self.cache done.new.self.free_pages c.in_err-plan.field-0.0 c.in_err-plan.ensures.refused.fault.cause)
 
 pub returns-in_err-plan-clause-disk : goal.returns-in_err-plan-clause-disk
 returns-in_err-plan-clause-disk g c =
@@ -51,7 +51,7 @@ pub returns-in_err-plan-clause-enters : goal.returns-in_err-plan-clause-enters
 returns-in_err-plan-clause-enters g c =
     let p = err_from_is_err_and c.from_residual.result c.from_residual.ensures.1 in
     let done = c.enter-done in
-    rw p.1 (stayed _ c.args.self.now c.self.view_is done.new.self.cache done.new.self.free_pages c.in_err-plan.ensures.kept.dirty c.in_err-plan.ensures.kept.same_flags)
+    rw p.1 (stayed _ c.args.self.now c.self.view_is done.new.self.cache done.new.self.free_pages c.in_err-plan.ensures.refused.kept.dirty c.in_err-plan.ensures.refused.kept.same_flags)
 
 pub returns-in_err-plan-clause-causes : goal.returns-in_err-plan-clause-causes
 returns-in_err-plan-clause-causes g c =
@@ -59,13 +59,13 @@ returns-in_err-plan-clause-causes g c =
     let w = c.args.self.now in
     handed_cause g.M.Machine (resident w) (state w) _ c.args.m.now done.new.m c.in_err-plan.field-0.0 c.from_residual.result c.from_residual.ensures.1
     (enter_cause g.M.Machine c.args.m.now done.new.m _ w c.self.view_is c.self.invariant done.new.self.cache done.new.self.free_pages c.over-source.result c.over-source.ensures c.home_a-home_a.result c.home_a-home_a.ensures.place c.in_err-plan.field-0.0
-    c.in_err-plan.ensures.edits c.in_err-plan.ensures.looks c.in_err-plan.ensures.shown)
+    c.in_err-plan.ensures.edits c.in_err-plan.ensures.refused.looks c.in_err-plan.ensures.refused.shown)
 
 pub returns-in_err-plan-clause-done : goal.returns-in_err-plan-clause-done
 returns-in_err-plan-clause-done g c = λ honest bytes k stands long written.
     let done = c.enter-done in
-    ends_refused g.M.Machine g.met.M.Machine.short c.args.m.now done.new.m _ c.args.self.now c.self.view_is c.self.invariant c.dirty_list-whole.ensures.valid done.new.self.cache done.new.self.free_pages c.over-source.result c.over-source.ensures
-    c.dirty_list.ensures.valid c.args.name.now c.args.keep c.args.draft c.from_residual.result c.in_err-plan.field-0.0 c.from_residual.ensures.1 c.in_err-plan.ensures.edits c.in_err-plan.ensures.kept c.in_err-plan.ensures.fault.cause honest k stands bytes
+    ends_refused g.M.Machine g.met.M.Machine.short c.args.m.now done.new.m _ c.args.self.now c.self.view_is c.self.invariant c.attest.ensures done.new.self.cache done.new.self.free_pages c.over-source.result c.over-source.ensures
+    c.dirty_list.ensures.valid c.args.name.now c.args.keep c.args.draft c.from_residual.result c.in_err-plan.field-0.0 c.from_residual.ensures.1 c.in_err-plan.ensures.edits c.in_err-plan.ensures.refused.kept c.in_err-plan.ensures.refused.fault.cause honest k stands bytes
 
 -- ---- it is entered
 
@@ -75,11 +75,14 @@ invariant_of-self-2 g c =
     let plan = c.in_ok-plan in
     let frees = c.free_gone_if.ensures in
     let left = whole_edited g.M.Machine _ c.over-source.result c.args.m.now done.new.m _ c.args.self.now c.self.view_is c.self.invariant None done.new.self.cache done.new.self.free_pages plan.ensures.edits done.ensures.waiting c.requires.up c.requires.numbered in
-    whole_entered _ c.self.invariant done.new.self.cache done.new.self.free_pages left c.args.draft.runs plan.plan.gone.items plan.ensures.taken _ (none_waits c.is_empty-waits.result done.new.self.cache.dirty (c.is_empty-waits.ensures ∙ ap (λ (d : List ℕ). length d == 0) c.dirty_list.ensures.value))
+    whole_entered _ c.self.invariant done.new.self.cache done.new.self.free_pages left c.args.draft.runs plan.plan.gone.items plan.ensures.entered.taken _ (none_waits c.is_empty-waits.result done.new.self.cache.dirty (c.is_empty-waits.ensures ∙ ap (λ (d : List ℕ). length d == 0) c.dirty_list.ensures.value))
     c.take.new.self c.free_gone_if.new.shadow c.versions_with_one-self-inside.result c.take.ensures (frees.removed ∙ ap (with_if (not c.is_empty-waits.result) _) c.as_slice.ensures.value) frees.kept frees.unfinished frees.held
 
+pub returns-clause-name : goal.returns-clause-name
+returns-clause-name g c = c.in_ok-plan.ensures.entered.name_is
+
 pub returns-clause-order : goal.returns-clause-order
-returns-clause-order g c = through_entered _ c.args.self.now c.self.view_is c.in_ok-plan.ensures.full
+returns-clause-order g c = through_entered _ c.args.self.now c.self.view_is c.in_ok-plan.ensures.entered.full
 
 pub returns-clause-enters : goal.returns-clause-enters
 returns-clause-enters g c = enters_told _ c.args.self.now c.self.view_is c.take.new.self c.free_gone_if.new.shadow c.enter-done.new.self.cache c.enter-done.new.self.free_pages c.versions_with_one-self-inside.result c.free_gone_if.ensures.held c.free_gone_if.ensures.unfinished
@@ -92,10 +95,10 @@ returns-clause-done g c = λ honest bytes k stands long written.
     let none = c.is_empty-waits.ensures ∙ ap (λ (d : List ℕ). length d == 0) c.dirty_list.ensures.value in
     let removed = frees.removed ∙ ap (with_if (not c.is_empty-waits.result) _) c.as_slice.ensures.value in
     let left = whole_edited g.M.Machine _ c.over-source.result c.args.m.now done.new.m _ c.args.self.now c.self.view_is c.self.invariant None done.new.self.cache done.new.self.free_pages plan.ensures.edits done.ensures.waiting c.requires.up c.requires.numbered in
-    let whole = whole_entered _ c.self.invariant done.new.self.cache done.new.self.free_pages left c.args.draft.runs plan.plan.gone.items plan.ensures.taken _ (none_waits c.is_empty-waits.result done.new.self.cache.dirty none) c.take.new.self c.free_gone_if.new.shadow c.versions_with_one-self-inside.result c.take.ensures removed frees.kept frees.unfinished frees.held in
+    let whole = whole_entered _ c.self.invariant done.new.self.cache done.new.self.free_pages left c.args.draft.runs plan.plan.gone.items plan.ensures.entered.taken _ (none_waits c.is_empty-waits.result done.new.self.cache.dirty none) c.take.new.self c.free_gone_if.new.shadow c.versions_with_one-self-inside.result c.take.ensures removed frees.kept frees.unfinished frees.held in
     let were = waiting_were _ c.args.self.now c.self.view_is c.self.invariant c.requires.up in
-    ends_entered g.M.Machine g.met.M.Machine.short c.args.m.now done.new.m _ c.args.self.now c.self.view_is c.self.invariant c.dirty_list-whole.ensures.valid done.new.self.cache done.new.self.free_pages c.over-source.result c.over-source.ensures
+    ends_entered g.M.Machine g.met.M.Machine.short c.args.m.now done.new.m _ c.args.self.now c.self.view_is c.self.invariant c.attest.ensures done.new.self.cache done.new.self.free_pages c.over-source.result c.over-source.ensures
     c.args.name.now c.args.keep c.args.draft plan.plan (search rules) (search rules) (subst (λ (x : VolumeValue). length x.cache.dirty ≤ 56) (sym c.self.view_is) c.requires.few) plan.ensures.edits done.ensures.changes (done.ensures.waiting were)
-    plan.ensures.planned plan.ensures.full plan.ensures.made (subst (λ (x : VolumeValue). IsPlace x.map (sectors_for c.args.draft.length) c.args.draft.runs) (sym c.self.view_is) c.requires.place) honest k stands bytes long
+    plan.ensures.entered.planned plan.ensures.entered.full plan.ensures.entered.made (subst (λ (x : VolumeValue). IsPlace x.map (sectors_for c.args.draft.length) c.args.draft.runs) (sym c.self.view_is) c.requires.place) honest k stands bytes long
     (version_worn (g.M.Machine.now c.args.m.now) (g.M.Machine.now done.new.m) bytes c.args.draft (plan.ensures.edits.reads.worn honest) written)
     c.take.new.self c.free_gone_if.new.shadow c.versions_with_one-self-inside.result (c.versions_with_one-self-inside.ensures ∙ ap (λ (n : ℕ). min (c.self.inside.versions - n + 1) 4294967295) c.len.ensures.value) c.take.ensures c.is_empty-waits.result none removed frees.kept frees.unfinished frees.held whole

@@ -8,23 +8,22 @@ use Rattle.fsd_files.specs.Answers.{HasVersion}
 use Rattle.fsd_files.specs.Disk.{Sectors}
 use Rattle.fsd_sound.specs.Writes.{force_writes}
 use Rattle.volume_contract.specs.Pieces.{in_leader, slices_if, slices_in}
-use Rattle.volume_contract.specs.State.{Leaves, Opened, change_len}
-use Rattle.volume_changes.specs.Completed.{draft_of}
-use Rattle.volume_state.specs.State.{Holds, resident, state}
-use Rattle.volume_state.specs.Volume.{IsWhole}
-use Rattle.volume_state.proofs.CountedLaws.{counted_fewer, counted_then}
-use Rattle.volume_state.proofs.ForceMomentLaws.{touches_none}
-use Rattle.volume_state.proofs.FreeStays.{version_stays}
-use Rattle.volume_state.proofs.LeaderWriteLaws.{slices_kept, stands_led}
-use Rattle.volume_state.proofs.PutCauses.{written_causes}
-use Rattle.volume_state.proofs.SliceFits.{draft_data, place_of_draft}
-use Rattle.volume_state.proofs.StoreLaws.{touches_read}
-use Rattle.volume_state.proofs.WrittenLaws.{leaves_still}
-use Rattle.volume_changes.proofs.BehindForce.{change_counts, is_up, leaves_behind, not_worn, number_behind, up_behind}
-use Rattle.volume_changes.proofs.BehindLaws.{causes_behind}
-use Rattle.volume_changes.proofs.EnterLaws.{busy_enter, draft_behind, ends_finished, ends_unforced, ends_unled, ends_untested, entered_kept, entered_layout, entered_order, entered_slots, entered_state, force_cause_before, leaves_enter, leaves_led, refused_kept, refused_order, touches_enter, touches_led, unforced_kept, unforced_order, unled_kept, unled_order}
-use Rattle.volume_changes.proofs.PutEnds.{keep_small}
-use Rattle.volume_changes.proofs.TestedLaws.{put_places, put_test_cause}
+use Rattle.volume_contract.specs.State.{Leaves, OpenParts, change_len}
+use Rattle.volume_laws.specs.Completed.{draft_of}
+use Rattle.volume_laws.specs.State.{IsMemoryOf, resident, state}
+use Rattle.volume_laws.proofs.CountedLaws.{counted_fewer, counted_then}
+use Rattle.volume_laws.proofs.ForceMomentLaws.{touches_none}
+use Rattle.volume_laws.proofs.FreeStays.{version_stays}
+use Rattle.volume_laws.proofs.LeaderWriteLaws.{slices_kept, stands_led}
+use Rattle.volume_laws.proofs.PutCauses.{written_causes}
+use Rattle.volume_laws.proofs.SliceFits.{draft_data, place_of_draft}
+use Rattle.volume_laws.proofs.StoreLaws.{touches_read}
+use Rattle.volume_laws.proofs.WrittenLaws.{leaves_still}
+use Rattle.volume_laws.proofs.BehindForce.{change_counts, is_up, leaves_behind, not_worn, number_behind, up_behind}
+use Rattle.volume_laws.proofs.BehindLaws.{causes_behind}
+use Rattle.volume_laws.proofs.EnterLaws.{busy_enter, draft_behind, ends_finished, ends_unforced, ends_unled, ends_untested, entered_kept, entered_layout, entered_order, entered_slots, entered_state, force_cause_before, leaves_enter, leaves_led, refused_kept, refused_order, touches_enter, touches_led, unforced_kept, unforced_order, unled_kept, unled_order}
+use Rattle.volume_laws.proofs.PutEnds.{keep_small}
+use Rattle.volume_laws.proofs.TestedLaws.{put_places, put_test_cause}
 use Rattle.table_volume.proofs.volume.Volume.finished.Goals as goal
 
 -- ---- a test refuses
@@ -42,7 +41,7 @@ returns-in_err-may_put g c =
     let p = err_from_is_err_and c.from_residual.result c.from_residual.ensures.1 in
     rw (p.1, p.2) (record {
       order = refused_order s c.args.keep (in_leader e.runs) why comes;
-      disk = writes_told (put_places s c.args.keep 0 why comes) (writes_none at (λ left h is. g.met.M.Machine.only_now at left h is) (Leaves state Holds v may) (λ h. leaves_still v now may));
+      disk = writes_told (put_places s c.args.keep 0 why comes) (writes_none at (λ left h is. g.met.M.Machine.only_now at left h is) (Leaves state IsMemoryOf v may) (λ h. leaves_still v now may));
       rest = λ h. touches_none may now;
       counted = λ tells. (omega arith, omega arith);
       state = record { layout = refl; epoch = refl; unfinished = refl; readers = refl; down = inl refl };
@@ -60,7 +59,7 @@ returns-in_err-led g c =
     let M = g.M.Machine in
     let v = c.args.self.now in
     let s = state v in
-    let whole = subst IsWhole c.self.view_is c.self.invariant in
+    let whole = c.attest.ensures in
     let old = M.now c.args.m.now in
     let new = M.now c.led.new.m in
     let e = c.args.entry in
@@ -91,7 +90,7 @@ returns-in_err-force_first g c =
     let M = g.M.Machine in
     let v = c.args.self.now in
     let s = state v in
-    let whole = subst IsWhole c.self.view_is c.self.invariant in
+    let whole = c.attest.ensures in
     let u = c.force_first.new.self in
     let old = M.now c.args.m.now in
     let mid = M.now c.led.new.m in
@@ -145,7 +144,7 @@ returns g c =
     let M = g.M.Machine in
     let v = c.args.self.now in
     let s = state v in
-    let whole = subst IsWhole c.self.view_is c.self.invariant in
+    let whole = c.attest.ensures in
     let mid = c.force_first.new.self in
     let new = c.completed.new.self in
     let old = M.now c.args.m.now in
@@ -162,7 +161,7 @@ returns g c =
     record {
       order = entered_order s c.args.keep (in_leader e.runs) tests (state mid) (state new) force.forces r done.order;
       disk =
-          let later = writes_then {Q = Wears} {R = Leaves state Holds v (force_writes v.layout)} force.disk (reads_as_writes {R = Wears} done.disk (λ h left wears. wears)) (λ h left leaves. leaves) (λ h left wears.
+          let later = writes_then {Q = Wears} {R = Leaves state IsMemoryOf v (force_writes v.layout)} force.disk (reads_as_writes {R = Wears} done.disk (λ h left wears. wears)) (λ h left leaves. leaves) (λ h left wears.
           let back = done.disk.trust.honest h in
           leaves_behind v mid led_at forced_at left (g.met.M.Machine.short c.force_first.new.m back) (force.disk.windows back) (force.disk.quiet back) (force.done back) (force.disk.exit back) wears) in
           writes_then led.disk later (λ h left leaves. leaves_led v e.runs old left leaves) (λ h left leaves.
@@ -191,6 +190,6 @@ returns g c =
           let p = force.done back k led_stands in
           let version : HasVersion (open_damage led_at.windows) led_at.image bytes e = record { leader = led.done first; data_there = slices_kept v k led_at e.runs bytes led_stands there } in
           ends_finished c.args.name.now bytes c.args.keep e k tests.1.0 mid forced_at p new now c.requires.draft.size (sym long) r
-          (done.done h bytes p.after p.stands (slices_if true bytes) (subst (λ (o : Opened). slices_in o.drafts e.runs ≡ Some (slices_if true bytes)) (sym p.opened) there) (sym long)
+          (done.done h bytes p.after p.stands (slices_if true bytes) (subst (λ (o : OpenParts). slices_in o.drafts e.runs ≡ Some (slices_if true bytes)) (sym p.opened) there) (sym long)
           (version_stays v.layout led_at forced_at bytes e (force.disk.windows back) (draft_data v whole (draft_of e) c.requires.draft) (force.rest back) version));
     }

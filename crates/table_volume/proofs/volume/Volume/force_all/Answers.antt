@@ -11,9 +11,9 @@ use Rattle.sector_disk.specs.declared.machine.LoadFault.TheVariants as fault
 use Rattle.volume_layout.specs.declared.layout.Layout.{Layout}
 use Rattle.fsd_bytes.specs.declared.refusal.Refusal.TheVariants as Why
 use Rattle.group_commit.specs.Cached.{AreWaiting}
-use Rattle.volume_contract.specs.Ends.{device_of, Answered}
+use Rattle.volume_contract.specs.Ends.{device_of, AnswersAndStands}
 use Rattle.fsd_sound.specs.Writes.{force_writes}
-use Rattle.volume_contract.specs.Causes.{HasCause}
+use Rattle.volume_contract.specs.Causes.{HasCallCause}
 use Rattle.volume_contract.specs.State.{GoesOn, IsForced as HasForced, Leaves, Stands, State, downs_for, force_len, volume_of}
 use Rattle.fsd_files.specs.Answers.{force_outcome}
 use Rattle.fsd_files.specs.Disk.{Touches}
@@ -21,23 +21,23 @@ use Rattle.fsd_files.specs.declared.reply.Reply.TheVariants.{Forced as IsForced}
 use Rattle.volume_contract.specs.declared.files.Forced.{Forced}
 use Rattle.run_table.specs.Space.{contains}
 use Rattle.volume_contract.specs.Logged.{AllLogged, KeepsPages}
-use Rattle.volume_contract.specs.Order.{Comes, Force, IsLoss, Keeps, Test, Through, force_steps, is_idle}
-use Rattle.volume_state.specs.Behind.{IsBehind}
-use Rattle.volume_state.specs.Forcing.{force_refusal as refusal_of, place_of}
-use Rattle.volume_state.specs.State.{Holds, resident, state}
-use Rattle.volume_state.specs.Volume.{VolumeValue}
-use Rattle.volume_state.specs.Taken.{down_fault}
-use Rattle.volume_changes.proofs.BehindLaws.{behind_itself}
-use Rattle.volume_state.proofs.FailedLaws.{failed_cause, failed_counted, failed_none}
-use Rattle.volume_state.proofs.ForceLeavesLaws.{down_tells_none, tells_place}
-use Rattle.volume_state.proofs.ForceCountLaws.{forced_count}
-use Rattle.volume_state.proofs.ForceEndLaws.{ends_failed, ends_forced, ends_idle, forced_to, not_down}
-use Rattle.volume_state.proofs.ForceMomentLaws.{agrees, commits, force_touches, knows, leaves_forced, leaves_itself, over_waiting, touches_none}
-use Rattle.volume_state.proofs.ForcedLaws.{whole_down, whole_forced}
-use Rattle.volume_state.proofs.KeptLaws.{idle_forced, is_forced, kept_down}
-use Rattle.volume_changes.proofs.MemoryLaws.{forced_content}
-use Rattle.volume_state.proofs.LoggedLaws.{forced_behind, forced_logged}
-use Rattle.volume_changes.proofs.NextLaws.{up_by}
+use Rattle.volume_contract.specs.Order.{Comes, Force, IsLoss, KeepsRefused, Test, Through, force_steps, is_idle}
+use Rattle.volume_contract.specs.Behind.{IsBehindForce}
+use Rattle.volume_laws.specs.Forcing.{force_refusal as refusal_of, down_place}
+use Rattle.volume_laws.specs.State.{IsMemoryOf, resident, state}
+use Rattle.volume_laws.specs.Volume.{VolumeValue}
+use Rattle.volume_laws.specs.Taken.{down_fault}
+use Rattle.volume_laws.proofs.BehindLaws.{behind_itself}
+use Rattle.volume_laws.proofs.FailedLaws.{failed_cause, failed_counted, failed_none}
+use Rattle.volume_laws.proofs.ForceLeavesLaws.{down_tells_none, tells_place}
+use Rattle.volume_laws.proofs.ForceCountLaws.{forced_count}
+use Rattle.volume_laws.proofs.ForceEndLaws.{ends_failed, ends_forced, ends_idle, forced_to, not_down}
+use Rattle.volume_laws.proofs.ForceMomentLaws.{agrees, commits, force_touches, knows, leaves_forced, leaves_itself, over_waiting, touches_none}
+use Rattle.volume_laws.proofs.ForcedLaws.{whole_down, whole_forced}
+use Rattle.volume_laws.proofs.KeptLaws.{idle_forced, is_forced, kept_down}
+use Rattle.volume_laws.proofs.MemoryLaws.{forced_content}
+use Rattle.volume_laws.proofs.LoggedLaws.{forced_behind, forced_logged}
+use Rattle.volume_laws.proofs.NextLaws.{up_by}
 use Rattle.table_volume.specs.declared.volume.Volume.TheInside.{Inside}
 use Rattle.table_volume.proofs.DownLaws.{down_step, told_down}
 use Rattle.table_volume.proofs.volume.Volume.force_all.Goals as goal
@@ -68,11 +68,11 @@ returns-in_err-is_up g c =
     let why = c.in_err-is_up.field-0.0 in
     let down : down_fault c.args.self.now.down ≡ Err c.in_err-is_up.field-0.0 = sym c.in_err-is_up.ensures in
     let refused = down_step v.down why down in
-    let none = told_down (HasCause (state v) (state v) (resident v) now now) (λ place. tt) v.down why down in
+    let none = told_down (HasCallCause (state v) (state v) (resident v) now now) (λ place. tt) v.down why down in
     let p = err_from_is_err_and c.from_residual.result c.from_residual.ensures.1 in
     rw (p.1, p.2) (record {
       order = inl refused;
-      disk = writes_told (down_tells_none v.down why down) (writes_none at (λ left h is. g.met.M.Machine.only_now at left h is) (Leaves state Holds v (force_writes v.layout)) (λ h. leaves_itself v now));
+      disk = writes_told (down_tells_none v.down why down) (writes_none at (λ left h is. g.met.M.Machine.only_now at left h is) (Leaves state IsMemoryOf v (force_writes v.layout)) (λ h. leaves_itself v now));
       rest = λ h. touches_none (force_writes v.layout) now;
       counted = λ tells. (omega arith, omega arith);
       counted_err = λ tells never. refl;
@@ -102,7 +102,7 @@ returns-then-len-eq0 g c =
     let nil_now : c.args.self.now.cache.dirty ≡ [] = subst (λ (x : VolumeValue). x.cache.dirty ≡ []) c.self.view_is nil in
     record {
       order = (ap (option_map Why.Down) (up_by w.down (sym c.in_ok-is_up.ensures)), (tt, tt));
-      disk = writes_none at (λ left h is. g.met.M.Machine.only_now at left h is) (Leaves state Holds w (force_writes w.layout)) (λ h. leaves_itself w now);
+      disk = writes_none at (λ left h is. g.met.M.Machine.only_now at left h is) (Leaves state IsMemoryOf w (force_writes w.layout)) (λ h. leaves_itself w now);
       rest = λ h. touches_none (force_writes w.layout) now;
       counted = λ tells. let len : force_len (state w) ≡ 0 = ap (λ (dirty : List ℕ). force_len (record (state w) { dirty = dirty })) nil_now in omega (arith, len);
       counted_err = tt;
@@ -115,8 +115,8 @@ returns-then-len-eq0 g c =
       resident = record { there = λ page is. is; accepted = λ pages page x is. is };
       causes = tt;
       done = λ honest k stands.
-          let here : Stands state Holds v k (g.M.Machine.now c.args.m.now) = subst (λ (x : VolumeValue). Stands state Holds x k now) (sym c.self.view_is) stands in
-          subst (λ (x : VolumeValue). Answered state Holds (λ met. force_outcome (volume_of k)) IsForced [] k x now) c.self.view_is (ends_idle v k now c.self.invariant c.dirty_list.ensures.valid nil here);
+          let here : Stands state IsMemoryOf v k (g.M.Machine.now c.args.m.now) = subst (λ (x : VolumeValue). Stands state IsMemoryOf x k now) (sym c.self.view_is) stands in
+          subst (λ (x : VolumeValue). AnswersAndStands state IsMemoryOf (λ met. force_outcome (volume_of k)) IsForced [] k x now) c.self.view_is (ends_idle v k now c.self.invariant c.dirty_list.ensures.valid nil here);
       lost = tt;
       behind = λ honest. behind_itself (state w) (resident w) now;
     }
@@ -154,7 +154,7 @@ fault_loss : (f : LoadFault) → IsLoss (refusal_of f)
 fault_loss (fault.Device place) = tt
 fault_loss (fault.Lost a b) = tt
 
-fault_downs : (f : LoadFault) → Some (place_of f) ≡ downs_for (refusal_of f)
+fault_downs : (f : LoadFault) → Some (down_place f) ≡ downs_for (refusal_of f)
 fault_downs (fault.Device place) = refl
 fault_downs (fault.Lost a b) = refl
 
@@ -175,7 +175,7 @@ returns-in-Ok g c =
     let to = forced_to v c.self.invariant w.map w.shadow w.log w.cache freed.map freed.removed freed.kept freed.unfinished freed.held forced.past forced.cache in
     record {
       order = subst (λ (x : VolumeValue). Through (force_steps (state x))) c.self.view_is (ap (option_map Why.Down) up, (tt, tt));
-      disk = subst (λ (x : VolumeValue). WritesDisk M None (Leaves state Holds x (force_writes x.layout)) c.args.m.now c.force_cached.new.m) c.self.view_is
+      disk = subst (λ (x : VolumeValue). WritesDisk M None (Leaves state IsMemoryOf x (force_writes x.layout)) c.args.m.now c.force_cached.new.m) c.self.view_is
           (writes_more call.disk (λ h left leaves. leaves_forced v old left c.self.invariant valid leaves));
       rest = λ h. subst (λ (x : VolumeValue). Touches (force_writes x.layout) old new) c.self.view_is (force_touches v old new c.self.invariant (call.rest h));
       counted = λ tells. forced.counted tells ∙ ap (λ n. (M.ledger c.args.m.now).written + n) (forced_count v c.args.self.now c.self.view_is c.self.invariant some);
@@ -186,19 +186,19 @@ returns-in-Ok g c =
       kept = subst (λ (x : VolumeValue). HasForced (state x) (state w)) c.self.view_is
           (is_forced v c.self.invariant w.map w.shadow w.log w.cache freed.map freed.removed freed.kept freed.unfinished freed.held forced.past forced.cache valid some);
       pages_kept = subst (λ (x : VolumeValue). KeepsPages (state x) (state w) (resident x) (resident w)) c.self.view_is
-          (λ page x is. (forced_content v v refl c.layout-shape.ensures.shape w.cache forced.cache).accepted v.layout.pages page x is);
+          (λ page x is. (forced_content v v refl c.attest.ensures w.cache forced.cache).accepted v.layout.pages page x is);
       logged = λ honest. subst (λ (x : VolumeValue). AllLogged (state x) (state w) (resident w) new) c.self.view_is
           (forced_logged v w c.self.invariant whole to valid new (forced.logged honest));
-      resident = forced_content v c.args.self.now c.self.view_is c.layout-shape.ensures.shape w.cache forced.cache;
+      resident = forced_content v c.args.self.now c.self.view_is c.attest.ensures w.cache forced.cache;
       causes = tt;
       done = λ honest k stands.
-          let here : Stands state Holds v k (g.M.Machine.now c.args.m.now) = subst (λ (x : VolumeValue). Stands state Holds x k old) (sym c.self.view_is) stands in
+          let here : Stands state IsMemoryOf v k (g.M.Machine.now c.args.m.now) = subst (λ (x : VolumeValue). Stands state IsMemoryOf x k old) (sym c.self.view_is) stands in
           let left = commits v k old c.self.invariant valid here new (call.disk.exit honest) in
-          ends_forced v w k old new c.self.invariant whole valid here to c.layout-fits.ensures.shape left.kept left.windows
+          ends_forced v w k old new c.self.invariant whole valid here to c.attest-in-Ok.ensures left.kept left.windows
           (forced.shows k.mounted.pages k.windows here.disk.records here.disk.disk (agrees v k old c.self.invariant valid here) honest here.ends (over_waiting v k old c.self.invariant valid here) (knows v k old c.self.invariant valid here))
           (forced.knows k.mounted.pages k.windows here.disk.records here.disk.disk (agrees v k old c.self.invariant valid here) honest here.ends (over_waiting v k old c.self.invariant valid here) (knows v k old c.self.invariant valid here));
       lost = tt;
-      behind = λ honest. subst (λ (x : VolumeValue). IsBehind (state x) (state w) (resident x) (resident w) new) c.self.view_is
+      behind = λ honest. subst (λ (x : VolumeValue). IsBehindForce (state x) (state w) (resident x) (resident w) new) c.self.view_is
           (forced_behind v w c.self.invariant whole to new (forced.logged honest));
     }
 
@@ -223,7 +223,7 @@ returns-in-Err g c =
     let downs_is : Some c.place_of.result ≡ downs_for c.force_refusal.result = ap (λ (p : ℕ). Some p) c.place_of.ensures ∙ fault_downs f ∙ ap downs_for (sym told) in
     record {
       order = subst (λ (x : VolumeValue). Comes (force_steps (state x)) why) c.self.view_is (inr (passes, inl (some_waits (length v.cache.dirty) some, subst IsLoss (sym told) (fault_loss f))));
-      disk = subst (λ (x : VolumeValue). WritesDisk M (device_of why) (Leaves state Holds x (force_writes x.layout)) c.args.m.now c.force_cached.new.m) c.self.view_is
+      disk = subst (λ (x : VolumeValue). WritesDisk M (device_of why) (Leaves state IsMemoryOf x (force_writes x.layout)) c.args.m.now c.force_cached.new.m) c.self.view_is
           (writes_told (ap device_of told ∙ tells_place f) (writes_more call.disk (λ h left leaves. leaves_forced v old left c.self.invariant valid leaves)));
       rest = λ h. subst (λ (x : VolumeValue). Touches (force_writes x.layout) old new) c.self.view_is (force_touches v old new c.self.invariant (call.rest h));
       counted = λ tells. failed_counted v c.args.self.now c.self.view_is c.self.invariant some (M.ledger c.args.m.now) (M.ledger c.force_cached.new.m) (failed.write.counted tells);
@@ -231,14 +231,14 @@ returns-in-Err g c =
       pages = tt;
       state = subst (λ (x : VolumeValue). GoesOn (downs_for why) (state x) (state w)) c.self.view_is (record { layout = refl; epoch = refl; unfinished = refl; readers = refl; down = inr (subst IsSome downs_is refl, downs_is) });
       idle = subst (λ (x : VolumeValue). is_idle (force_steps (state x)) ≡ true → c.force_cached.new.m ≡ c.args.m.now) c.self.view_is (λ idle. absurd (busy (state v) up some idle));
-      kept = subst (λ (x : VolumeValue). Keeps (force_steps (state x)) why (state x) (state w)) c.self.view_is
+      kept = subst (λ (x : VolumeValue). KeepsRefused (force_steps (state x)) why (state x) (state w)) c.self.view_is
           (kept_down v c.self.invariant w.log w.cache c.place_of.result why f c.place_of.ensures told failed.cache _ failed.write.past up some);
       pages_kept = tt;
       logged = tt;
       resident = tt;
       causes = λ h. failed_cause v c.args.self.now c.self.view_is c.self.invariant (state w) old new f why told (failed.write.lost h);
       done = λ honest k stands.
-          let here : Stands state Holds v k (g.M.Machine.now c.args.m.now) = subst (λ (x : VolumeValue). Stands state Holds x k old) (sym c.self.view_is) stands in
+          let here : Stands state IsMemoryOf v k (g.M.Machine.now c.args.m.now) = subst (λ (x : VolumeValue). Stands state IsMemoryOf x k old) (sym c.self.view_is) stands in
           let device = failed.never_lost k.mounted.pages k.windows here.disk.records here.disk.disk (agrees v k old c.self.invariant valid here) honest here.ends (over_waiting v k old c.self.invariant valid here) (knows v k old c.self.invariant valid here) in
           ends_failed Forced (λ met. force_outcome (volume_of k)) IsForced k w new f c.place_of.result why c.place_of.ensures told refl device;
       lost = λ h. failed_cause v c.args.self.now c.self.view_is c.self.invariant (state c.args.self.now) old new f why told (failed.write.lost h);

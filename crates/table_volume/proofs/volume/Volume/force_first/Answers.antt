@@ -7,13 +7,12 @@ use Rattle.volume_contract.specs.declared.files.Forced.{Forced}
 use Rattle.volume_contract.specs.Order.{Force, is_idle}
 use Rattle.fsd_sound.specs.Writes.{force_writes}
 use Rattle.volume_contract.specs.State.{Counted, Leaves, force_len, forces_first, volume_of}
-use Rattle.volume_state.specs.State.{Holds, resident, state}
-use Rattle.volume_state.specs.Volume.{IsWhole}
-use Rattle.volume_changes.proofs.BehindLaws.{behind_itself}
-use Rattle.volume_state.proofs.FreeStays.{freed_has}
-use Rattle.volume_state.proofs.PrepareLaws.{ends_down_first, ends_forced, ends_not, few_forced, few_not, forces_done, forces_failed, forces_not}
-use Rattle.volume_state.proofs.WrittenLaws.{leaves_still}
-use Rattle.volume_state.proofs.ForceMomentLaws.{touches_none}
+use Rattle.volume_laws.specs.State.{IsMemoryOf, resident, state}
+use Rattle.volume_laws.proofs.BehindLaws.{behind_itself}
+use Rattle.volume_laws.proofs.FreeStays.{freed_has}
+use Rattle.volume_laws.proofs.PrepareLaws.{ends_down_first, ends_forced, ends_not, few_forced, few_not, forces_done, forces_failed, forces_not}
+use Rattle.volume_laws.proofs.WrittenLaws.{leaves_still}
+use Rattle.volume_laws.proofs.ForceMomentLaws.{touches_none}
 use Rattle.table_volume.proofs.volume.Volume.force_first.Goals as goal
 
 -- ---- few pages wait
@@ -25,7 +24,7 @@ pub returns-then-not-many_wait-clause-disk : goal.returns-then-not-many_wait-cla
 returns-then-not-many_wait-clause-disk g c =
     let v = c.args.self.now in
     let at = c.args.m.now in
-    writes_none at (λ left h is. g.met.M.Machine.only_now at left h is) (Leaves state Holds v (force_writes v.layout)) (λ h. leaves_still v (g.M.Machine.now at) (force_writes v.layout))
+    writes_none at (λ left h is. g.met.M.Machine.only_now at left h is) (Leaves state IsMemoryOf v (force_writes v.layout)) (λ h. leaves_still v (g.M.Machine.now at) (force_writes v.layout))
 
 pub returns-then-not-many_wait-clause-counted : goal.returns-then-not-many_wait-clause-counted
 returns-then-not-many_wait-clause-counted g c tells =
@@ -68,7 +67,7 @@ pub returns-in-Ok-clause-idle : goal.returns-in-Ok-clause-idle
 returns-in-Ok-clause-idle g c idle = absurd (cc (subst (λ (b : Bool). is_idle (Force b ∷ []) ≡ true) (sym c.many_wait.ensures ∙ c.if-not-many_wait.false) idle))
 
 pub returns-in-Ok-clause-free : goal.returns-in-Ok-clause-free
-returns-in-Ok-clause-free g c s there = freed_has c.args.self.now c.force_all.new.self (subst IsWhole c.self.view_is c.self.invariant) c.in-Ok.ensures.kept s there
+returns-in-Ok-clause-free g c s there = freed_has c.args.self.now c.force_all.new.self c.attest.ensures c.in-Ok.ensures.kept s there
 
 pub returns-in-Ok-clause-done : goal.returns-in-Ok-clause-done
 returns-in-Ok-clause-done g c h k stands =

@@ -1,5 +1,5 @@
 use Rattle.std.proofs.Common.{refl}
-use Rattle.volume_state.proofs.ReaderLaws.{empty_hold, hold_agree, hold_idle, hold_room, inside_hold, stands_hold, state_hold, there_hold, whole_hold}
+use Rattle.volume_laws.proofs.ReaderLaws.{empty_hold, hold_agree, hold_idle, hold_room, inside_hold, stands_hold, state_hold, there_hold, whole_hold}
 use Rattle.table_volume.proofs.volume.Volume.held_at.Goals as goal
 
 pub hold-requires-clause-room : goal.hold-requires-clause-room

@@ -7,11 +7,12 @@ use Rattle.sector_disk.specs.Calls.{device_in}
 use Rattle.volume_contract.specs.Ends.{device_of}
 use Rattle.volume_contract.specs.Order.{Follows}
 use Rattle.version_table.specs.Fault.{outer_met}
-use Rattle.volume_changes.specs.Ending.{edit_steps}
-use Rattle.volume_changes.proofs.ChangeEnds.{keep_ended}
-use Rattle.volume_changes.proofs.EditedLaws.{keep_causes, keep_edits, keep_follows, keep_memory, keep_name, keep_place}
-use Rattle.volume_changes.proofs.MemoryLaws.{enough_in}
-use Rattle.volume_changes.proofs.WholeLaws.{whole_edited}
+use Rattle.volume_laws.specs.Ending.{edit_steps}
+use Rattle.volume_laws.proofs.ChangeEnds.{keep_ended}
+use Rattle.volume_laws.proofs.EditedLaws.{keep_causes, keep_edits, keep_follows, keep_memory, keep_name, keep_place}
+use Rattle.volume_laws.proofs.MemoryLaws.{enough_in}
+use Rattle.volume_laws.proofs.WholeLaws.{whole_edited}
+use Rattle.table_volume.proofs.TableCallLaws.{given_each, kept_each}
 use Rattle.table_volume.proofs.volume.Volume.keep_found.Goals as goal
 
 pub invariant_of-self : goal.invariant_of-self
@@ -29,7 +30,7 @@ returns-clause-disk g c = reads_told (ap (device_in device_of) c.kept_told.ensur
 pub returns-clause-edited : goal.returns-clause-edited
 returns-clause-edited g c =
     keep_edits _ c.args.self.now c.self.view_is c.set_keep-done.new.self.cache c.set_keep-done.new.self.free_pages g.M.Machine c.args.m.now c.set_keep-done.new.m c.over-source.result c.set_keep-done.result c.kept_told.result c.kept_told.ensures
-    c.set_keep-done.ensures.kept
+    (kept_each c.set_keep-done.result (λ fault none. none.kept) c.set_keep-done.ensures.failed)
 
 pub returns-clause-causes : goal.returns-clause-causes
 returns-clause-causes g c =
@@ -38,13 +39,16 @@ returns-clause-causes g c =
 
 pub returns-clause-done : goal.returns-clause-done
 returns-clause-done g c = λ honest k stands.
+    let r = c.set_keep-done.result in
+    let gives = c.set_keep-done.ensures.set in
+    let failed = c.set_keep-done.ensures.failed in
     let edits = c.set_keep-done.ensures.edits in
     let whole_left =
     whole_edited g.M.Machine _ c.over-source.result c.args.m.now c.set_keep-done.new.m _ c.args.self.now c.self.view_is c.self.invariant (outer_met c.set_keep-done.result) c.set_keep-done.new.self.cache c.set_keep-done.new.self.free_pages
     edits c.set_keep-done.ensures.waiting c.requires.up c.requires.numbered in
-    keep_ended g.M.Machine g.met.M.Machine.short c.args.m.now c.set_keep-done.new.m _ c.args.self.now c.self.view_is c.self.invariant c.dirty_list-whole.ensures.valid c.set_keep-done.new.self.cache c.dirty_list-edited.ensures.valid c.set_keep-done.new.self.free_pages
+    keep_ended g.M.Machine g.met.M.Machine.short c.args.m.now c.set_keep-done.new.m _ c.args.self.now c.self.view_is c.self.invariant c.attest.ensures c.set_keep-done.new.self.cache c.attest-2.ensures c.set_keep-done.new.self.free_pages
     honest k stands c.args.name.now c.args.keep c.requires.keep c.requires.few c.home_a-home_a.result c.over-source.result c.over-source.ensures c.set_keep-done.result c.kept_told.result c.kept_told.ensures
-    edits c.set_keep-done.ensures.kept c.set_keep-done.ensures.one c.set_keep-done.ensures.set c.set_keep-done.ensures.fault whole_left
+    edits (kept_each r (λ fault none. none.kept) failed) (given_each r (λ key gives. gives.one) gives) (given_each r (λ key gives. gives.set) gives) (kept_each r (λ fault none. none.cause) failed) whole_left
 
 pub returns-clause-memory : goal.returns-clause-memory
 returns-clause-memory g c = λ has wants.
@@ -52,4 +56,4 @@ returns-clause-memory g c = λ has wants.
 
 pub returns-clause-name : goal.returns-clause-name
 returns-clause-name g c =
-    subst (λ (r : Result Key Refusal). IfOk r (λ key. key.name ≡ c.args.name.now)) (sym c.kept_told.ensures) (keep_name c.args.name.now c.set_keep-done.result c.set_keep-done.ensures.name)
+    subst (λ (r : Result Key Refusal). IfOk r (λ key. key.name ≡ c.args.name.now)) (sym c.kept_told.ensures) (keep_name c.args.name.now c.set_keep-done.result (given_each c.set_keep-done.result (λ key gives. gives.name_is) c.set_keep-done.ensures.set))

@@ -5,12 +5,12 @@ use Rattle.fsd_bytes.specs.declared.refusal.Refusal.{Refusal}
 use Rattle.sector_disk.proofs.CallLaws.{reads_then}
 use Rattle.fsd_files.specs.Answers.{highest_entry, keep_outcome}
 use Rattle.fsd_files.specs.Files.{Change}
-use Rattle.name_btree.specs.Lookup.{entry_of}
+use Rattle.name_btree.specs.Lookup.{found_entry}
 use Rattle.volume_contract.specs.Ends.{kept_key}
 use Rattle.volume_contract.specs.State.{volume_of}
-use Rattle.volume_state.specs.State.{resident, state}
-use Rattle.volume_changes.proofs.ChangeEnds.{keep_none, look_ended}
-use Rattle.volume_changes.proofs.EditedLaws.{causes_looked, edits_looked, follows_looked, state_looked}
+use Rattle.volume_laws.specs.State.{resident, state}
+use Rattle.volume_laws.proofs.ChangeEnds.{keep_none, look_ended}
+use Rattle.volume_laws.proofs.EditedLaws.{causes_looked, edits_looked, follows_looked, state_looked}
 use Rattle.table_volume.proofs.volume.Volume.keep_now.Goals as goal
 
 -- ---- where the look-up fails
@@ -45,7 +45,7 @@ returns-in-None-clause-edited g c = state_looked c.args.self.now c.find_highest.
 pub returns-in-None-clause-done : goal.returns-in-None-clause-done
 returns-in-None-clause-done g c = λ h k stands.
     keep_none k c.find_highest.new.self (g.M.Machine.now c.find_highest.new.m) c.args.name.now c.args.keep c.requires.keep (omega (arith, c.requires.few, ap (λ (d : List ℕ). length d) stands.fits.dirty))
-    (sym (c.in_ok-found.ensures.found h k stands) ∙ ap entry_of c.in-None.is) (c.in_ok-found.ensures.stands h k stands)
+    (sym (c.in_ok-found.ensures.found h k stands) ∙ ap found_entry c.in-None.is) (c.in_ok-found.ensures.stands h k stands)
 
 -- ---- where it is
 

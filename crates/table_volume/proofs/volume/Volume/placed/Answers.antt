@@ -8,17 +8,17 @@ use Rattle.volume_contract.specs.declared.files.Forced.{Forced}
 use Rattle.volume_contract.specs.Ends.{device_of}
 use Rattle.fsd_sound.specs.Writes.{force_writes}
 use Rattle.volume_contract.specs.State.{Counted, Leaves, forces_for_place, volume_of}
-use Rattle.volume_state.specs.Placing.{EndsPlace, Places, place_len}
-use Rattle.volume_state.specs.State.{Holds, resident, state}
-use Rattle.volume_changes.proofs.BehindLaws.{behind_itself}
-use Rattle.volume_changes.proofs.CauseLaws.{handed_cause}
-use Rattle.volume_state.proofs.CountedLaws.{counted_as, place_counted, place_forced_len}
-use Rattle.volume_state.proofs.PlaceSteps.{busy_place, ends_down, ends_now, ends_then, forces_as_waits, none_now, place_tells, places_down, places_now, places_then}
-use Rattle.volume_state.proofs.PutCauses.{place_causes}
-use Rattle.volume_state.proofs.RangeLaws.{handed}
-use Rattle.volume_state.proofs.WrittenLaws.{leaves_still}
+use Rattle.volume_laws.specs.Placing.{EndsPlace, Places, place_len}
+use Rattle.volume_laws.specs.State.{IsMemoryOf, resident, state}
+use Rattle.volume_laws.proofs.BehindLaws.{behind_itself}
+use Rattle.volume_laws.proofs.CauseLaws.{handed_cause}
+use Rattle.volume_laws.proofs.CountedLaws.{counted_as, place_counted, place_forced_len}
+use Rattle.volume_laws.proofs.PlaceSteps.{busy_place, ends_down, ends_now, ends_then, forces_as_waits, none_now, place_tells, places_down, places_now, places_then}
+use Rattle.volume_laws.proofs.PutCauses.{place_causes}
+use Rattle.volume_laws.proofs.RangeLaws.{handed}
+use Rattle.volume_laws.proofs.WrittenLaws.{leaves_still}
 use Rattle.table_volume.proofs.volume.Volume.placed.Goals.{then-is_ok-via-then-is_ok, then-is_ok-via-else-is_ok+then-not-waits}
-use Rattle.volume_state.proofs.ForceMomentLaws.{touches_none}
+use Rattle.volume_laws.proofs.ForceMomentLaws.{touches_none}
 use Rattle.table_volume.proofs.volume.Volume.placed.Goals as goal
 
 -- ---- without a force
@@ -35,7 +35,7 @@ returns-then-is_ok-clause-disk g c =
     let v = c.args.self.now in
     let at = c.args.m.now in
     writes_told (place_tells (state v) c.args.need c.chosen-place.result c.chosen-place.ensures.place)
-    (writes_none at (λ left h is. g.met.M.Machine.only_now at left h is) (Leaves state Holds v (force_writes v.layout)) (λ h. leaves_still v (g.M.Machine.now at) (force_writes v.layout)))
+    (writes_none at (λ left h is. g.met.M.Machine.only_now at left h is) (Leaves state IsMemoryOf v (force_writes v.layout)) (λ h. leaves_still v (g.M.Machine.now at) (force_writes v.layout)))
 
 pub returns-then-is_ok-clause-counted : goal.returns-then-is_ok-clause-counted
 returns-then-is_ok-clause-counted g c tells = place_counted (state c.args.self.now) c.args.need c.chosen-place.result c.chosen-place.ensures.place (g.M.Machine.ledger c.args.m.now)

@@ -6,18 +6,18 @@ use Rattle.sector_disk.proofs.CallLaws.{told_up, writes_then, writes_told}
 use Rattle.volume_contract.specs.Ends.{device_of}
 use Rattle.volume_contract.specs.Order.{Force, is_idle}
 use Rattle.volume_contract.specs.State.{Counted, change_len, put_len}
-use Rattle.volume_state.specs.Placing.{store_len, store_steps}
-use Rattle.volume_state.specs.Preparing.{EndsPrepare, Prepares}
-use Rattle.volume_state.specs.State.{resident, state}
-use Rattle.volume_changes.proofs.BehindLaws.{prepared_behind}
-use Rattle.volume_changes.proofs.CauseLaws.{handed_cause}
-use Rattle.volume_state.proofs.CountedLaws.{counted_fewer, counted_then, put_len_is, store_within}
-use Rattle.volume_state.proofs.FreeStays.{free_data, version_stays}
-use Rattle.volume_state.proofs.PrepareLaws.{ends_behind, ends_ready, ends_stored, last, leaves_ready, prepares_done, prepares_failed, prepares_refused}
-use Rattle.volume_state.proofs.PutCauses.{force_cause}
-use Rattle.volume_state.proofs.RangeLaws.{handed}
-use Rattle.volume_state.proofs.StepLaws.{idle_front}
-use Rattle.volume_state.proofs.StoreLaws.{busy_store, touches_ready}
+use Rattle.volume_laws.specs.Placing.{store_len, store_steps}
+use Rattle.volume_laws.specs.Preparing.{EndsPrepare, Prepares}
+use Rattle.volume_laws.specs.State.{resident, state}
+use Rattle.volume_laws.proofs.BehindLaws.{prepared_behind}
+use Rattle.volume_laws.proofs.CauseLaws.{handed_cause}
+use Rattle.volume_laws.proofs.CountedLaws.{counted_fewer, counted_then, put_len_is, store_within}
+use Rattle.volume_laws.proofs.FreeStays.{free_data, version_stays}
+use Rattle.volume_laws.proofs.PrepareLaws.{ends_behind, ends_ready, ends_stored, last, leaves_ready, prepares_done, prepares_failed, prepares_refused}
+use Rattle.volume_laws.proofs.PutCauses.{force_cause}
+use Rattle.volume_laws.proofs.RangeLaws.{handed}
+use Rattle.volume_laws.proofs.StepLaws.{idle_front}
+use Rattle.volume_laws.proofs.StoreLaws.{busy_store, touches_ready}
 use Rattle.table_volume.proofs.volume.Volume.prepared.Goals as goal
 
 -- ---- it is not stored

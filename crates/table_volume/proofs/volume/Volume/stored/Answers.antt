@@ -8,17 +8,17 @@ use Rattle.sector_disk.proofs.CallLaws.{told_up, writes_more, writes_then, write
 use Rattle.volume_contract.specs.Ends.{device_of}
 use Rattle.volume_contract.specs.Order.{Disk, Draw, IsDeviceIn, is_idle}
 use Rattle.volume_contract.specs.State.{Counted, Known, Leaves, Stands, forces_for_place, in_place, place_in}
-use Rattle.volume_state.specs.Behind.{IsBehind}
-use Rattle.volume_state.specs.Placing.{EndsPlace, EndsStore, IsPlace, Places, StandsFor, Stores, place_len, place_steps, store_len}
-use Rattle.volume_state.specs.State.{Holds, resident, state}
-use Rattle.volume_state.specs.Volume.{VolumeValue}
-use Rattle.volume_changes.proofs.BehindLaws.{written_behind}
-use Rattle.volume_changes.proofs.CauseLaws.{handed_cause}
-use Rattle.volume_state.proofs.CountedLaws.{counted_fewer, counted_then}
-use Rattle.volume_state.proofs.PutCauses.{written_causes}
-use Rattle.volume_state.proofs.RangeLaws.{handed}
-use Rattle.volume_state.proofs.StepLaws.{idle_front}
-use Rattle.volume_state.proofs.StoreLaws.{busy_store, drawn_stands, ends_failed, ends_refused, leaves_first, leaves_then, stores_done, stores_failed, stores_refused, touches_first, touches_placed}
+use Rattle.volume_contract.specs.Behind.{IsBehindForce}
+use Rattle.volume_laws.specs.Placing.{EndsPlace, EndsStore, IsPlace, Places, StandsFor, Stores, place_len, place_steps, store_len}
+use Rattle.volume_laws.specs.State.{IsMemoryOf, resident, state}
+use Rattle.volume_laws.specs.Volume.{VolumeValue}
+use Rattle.volume_laws.proofs.BehindLaws.{written_behind}
+use Rattle.volume_laws.proofs.CauseLaws.{handed_cause}
+use Rattle.volume_laws.proofs.CountedLaws.{counted_fewer, counted_then}
+use Rattle.volume_laws.proofs.PutCauses.{written_causes}
+use Rattle.volume_laws.proofs.RangeLaws.{handed}
+use Rattle.volume_laws.proofs.StepLaws.{idle_front}
+use Rattle.volume_laws.proofs.StoreLaws.{busy_store, drawn_stands, ends_failed, ends_refused, leaves_first, leaves_then, stores_done, stores_failed, stores_refused, touches_first, touches_placed}
 use Rattle.fsd_files.specs.Disk.{Touches}
 use Rattle.table_volume.proofs.volume.Volume.stored.Goals as goal
 
@@ -104,8 +104,8 @@ returns-in_err-written-clause-disk g c =
     writes_then first c.in_err-written.ensures.disk (λ h left leaves. leaves_first v n old left leaves)
     (λ h left leaves.
     let back = c.in_err-written.ensures.disk.trust.honest h in
-    let there = subst (λ (rs : List Run). Leaves state Holds mid (contains (sectors_of rs)) now left) c.draft-draft.ensures.runs leaves in
-    let goes : (k : Known) → Stands state Holds v k old → StandsFor n k mid now = λ k stands. subst (λ (x : ℕ). StandsFor x k mid now) same (c.in_ok-runs.ensures.done back k stands) in
+    let there = subst (λ (rs : List Run). Leaves state IsMemoryOf mid (contains (sectors_of rs)) now left) c.draft-draft.ensures.runs leaves in
+    let goes : (k : Known) → Stands state IsMemoryOf v k old → StandsFor n k mid now = λ k stands. subst (λ (x : ℕ). StandsFor x k mid now) same (c.in_ok-runs.ensures.done back k stands) in
     leaves_then v n mid c.in_ok-runs.runs places.kept.place old now left (first.windows back) (first.quiet back) goes (first.exit back) there))
 
 pub returns-in_err-written-clause-counted : goal.returns-in_err-written-clause-counted
@@ -176,8 +176,8 @@ returns-clause-disk g c =
     writes_then first c.in_ok-written.ensures.disk (λ h left leaves. leaves_first v n old left leaves)
     (λ h left leaves.
     let back = c.in_ok-written.ensures.disk.trust.honest h in
-    let there = subst (λ (rs : List Run). Leaves state Holds mid (contains (sectors_of rs)) now left) c.draft-draft.ensures.runs leaves in
-    let goes : (k : Known) → Stands state Holds v k old → StandsFor n k mid now = λ k stands. subst (λ (x : ℕ). StandsFor x k mid now) same (c.in_ok-runs.ensures.done back k stands) in
+    let there = subst (λ (rs : List Run). Leaves state IsMemoryOf mid (contains (sectors_of rs)) now left) c.draft-draft.ensures.runs leaves in
+    let goes : (k : Known) → Stands state IsMemoryOf v k old → StandsFor n k mid now = λ k stands. subst (λ (x : ℕ). StandsFor x k mid now) same (c.in_ok-runs.ensures.done back k stands) in
     leaves_then v n mid c.in_ok-runs.runs places.kept.place old now left (first.windows back) (first.quiet back) goes (first.exit back) there)
 
 pub returns-clause-counted : goal.returns-clause-counted
@@ -227,7 +227,7 @@ returns-clause-behind g c h =
     let v = c.args.self.now in
     let mid = c.placed.new.self in
     let now = M.now c.written.new.m in
-    subst (λ (x : VolumeValue). IsBehind (state v) (state x) (resident v) (resident x) now) (sym c.in_ok-written.ensures.volume)
+    subst (λ (x : VolumeValue). IsBehindForce (state v) (state x) (resident v) (resident x) now) (sym c.in_ok-written.ensures.volume)
     (written_behind mid.layout (M.now c.placed.new.m) now (c.in_ok-written.ensures.within h) (state v) (state mid) (resident v) (resident mid) refl (c.in_ok-runs.ensures.behind (c.in_ok-written.ensures.disk.trust.honest h)))
 
 pub returns-in_err-runs-clause-still : goal.returns-in_err-runs-clause-still

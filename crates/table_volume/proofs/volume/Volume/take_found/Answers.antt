@@ -2,12 +2,12 @@ use Rattle.std.proofs.Common.{◌≡◌, true, None, Err, refl, sym, ap, subst}
 use Rattle.fsd_bytes.specs.declared.refusal.Refusal.{Refusal}
 use Rattle.sector_disk.proofs.CallLaws.{reads_told}
 use Rattle.name_btree.specs.Fault.{outer_of}
-use Rattle.volume_state.specs.Taken.{are_taken}
-use Rattle.volume_state.specs.Volume.{VolumeValue}
-use Rattle.volume_changes.proofs.DeleteEnds.{delete_failed, deleted_ends}
-use Rattle.volume_changes.proofs.EditedLaws.{out_causes, out_edited, out_follows, out_place, out_stays}
-use Rattle.volume_changes.proofs.GivenUpLaws.{agree_runs, idle_runs, whole_given}
-use Rattle.volume_changes.proofs.WholeLaws.{whole_edited}
+use Rattle.volume_laws.specs.Taken.{are_taken}
+use Rattle.volume_laws.specs.Volume.{VolumeValue}
+use Rattle.volume_laws.proofs.DeleteEnds.{delete_failed, deleted_ends}
+use Rattle.volume_laws.proofs.EditedLaws.{out_causes, out_edited, out_follows, out_place, out_stays}
+use Rattle.volume_laws.proofs.GivenUpLaws.{agree_runs, idle_runs, whole_given}
+use Rattle.volume_laws.proofs.WholeLaws.{whole_edited}
 use Rattle.table_volume.proofs.volume.Volume.take_found.Goals as goal
 
 pub give_up-requires-clause-idle : goal.give_up-requires-clause-idle
@@ -42,7 +42,7 @@ returns-in-Ok-clause-done g c = λ honest k stands there.
     whole_edited g.M.Machine _ c.over-source.result c.args.m.now done.new.m _ c.args.self.now c.self.view_is c.self.invariant None done.new.self.cache done.new.self.free_pages c.in-Ok.ensures.edits done.ensures.waiting c.requires.up c.requires.numbered in
     let whole =
     whole_given _ left c.args.entry.now.runs (subst (λ (x : VolumeValue). are_taken x c.args.entry.now.runs ≡ true) (sym c.self.view_is) c.requires.taken) c.give_up.new.shadow c.give_up.new.versions c.give_up.ensures in
-    deleted_ends g.M.Machine g.met.M.Machine.short c.args.m.now done.new.m _ c.args.self.now c.self.view_is c.self.invariant c.dirty_list-whole.ensures.valid done.new.self.cache c.dirty_list-edited.ensures.valid done.new.self.free_pages honest k stands
+    deleted_ends g.M.Machine g.met.M.Machine.short c.args.m.now done.new.m _ c.args.self.now c.self.view_is c.self.invariant c.attest.ensures done.new.self.cache c.attest-2.ensures done.new.self.free_pages honest k stands
     c.over-source.result c.over-source.ensures c.args.entry.now.key c.args.entry.now refl there c.requires.few c.in-Ok.ensures.edits done.ensures.waiting c.requires.up done.ensures.changes c.in-Ok.ensures.made c.give_up.new.shadow c.give_up.new.versions c.give_up.ensures whole
 
 pub returns-in-Err-clause-order : goal.returns-in-Err-clause-order
@@ -64,5 +64,5 @@ returns-in-Err-clause-causes g c =
 pub returns-in-Err-clause-done : goal.returns-in-Err-clause-done
 returns-in-Err-clause-done g c = λ honest k stands there.
     let done = c.take_out-done in
-    delete_failed g.M.Machine g.met.M.Machine.short c.args.m.now done.new.m _ c.args.self.now c.self.view_is c.self.invariant c.dirty_list-whole.ensures.valid done.new.self.cache c.dirty_list-edited.ensures.valid done.new.self.free_pages honest k stands
+    delete_failed g.M.Machine g.met.M.Machine.short c.args.m.now done.new.m _ c.args.self.now c.self.view_is c.self.invariant c.attest.ensures done.new.self.cache c.attest-2.ensures done.new.self.free_pages honest k stands
     c.over-source.result c.over-source.ensures c.args.entry.now.key c.home_a-home_a.result c.in-Err.fault c.in-Err.ensures.edits c.in-Err.ensures.kept c.in-Err.ensures.fault _ (ap (λ (x : Refusal). Err x) c.edit_refusal.ensures)

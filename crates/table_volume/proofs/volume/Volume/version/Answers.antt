@@ -13,25 +13,25 @@ use Rattle.fsd_bytes.specs.declared.refusal.Refusal.TheVariants as Why
 use Rattle.fsd_formats.specs.declared.entry.Entry.{Entry}
 use Rattle.fsd_formats.specs.NamePage.{is_entry}
 use Rattle.fsd_files.specs.Answers.{entry_of as entry_in, entry_reply, found_or}
-use Rattle.name_btree.specs.Lookup.{entry_of}
+use Rattle.name_btree.specs.Lookup.{found_entry}
 use Rattle.volume_contract.specs.Absent.{ShowsReached}
-use Rattle.volume_contract.specs.Causes.{HasCause}
+use Rattle.volume_contract.specs.Causes.{HasCallCause}
 use Rattle.volume_contract.specs.Ends.{device_of}
 use Rattle.volume_contract.specs.Found.{HasEntry}
 use Rattle.volume_contract.specs.Order.{Follows, entry_steps}
 use Rattle.volume_contract.specs.State.{volume_of}
-use Rattle.volume_state.specs.State.{resident, state}
-use Rattle.volume_state.specs.Taken.{are_taken, down_fault}
-use Rattle.volume_state.specs.Volume.{VolumeValue}
-use Rattle.volume_changes.proofs.AbsentLaws.{none_found, not_down as down_is_told, not_look_up, not_met}
-use Rattle.volume_changes.proofs.CauseLaws.{met_handed}
-use Rattle.volume_changes.proofs.EditedLaws.{state_looked}
-use Rattle.volume_changes.proofs.EntryLaws.{entry_looked_up, fault_looked_up, key_met, taken_met}
-use Rattle.volume_changes.proofs.FoundLaws.{found_met}
-use Rattle.volume_changes.proofs.NextLaws.{up_by}
-use Rattle.volume_state.proofs.ForceEndLaws.{not_down}
-use Rattle.volume_state.proofs.ForceLeavesLaws.{down_tells_none}
-use Rattle.volume_state.proofs.RangeLaws.{met_good, taken_data, taken_runs}
+use Rattle.volume_laws.specs.State.{resident, state}
+use Rattle.volume_laws.specs.Taken.{are_taken, down_fault}
+use Rattle.volume_laws.specs.Volume.{VolumeValue}
+use Rattle.volume_laws.proofs.AbsentLaws.{none_found, not_down as down_is_told, not_look_up, not_met}
+use Rattle.volume_laws.proofs.CauseLaws.{met_handed}
+use Rattle.volume_laws.proofs.EditedLaws.{state_looked}
+use Rattle.volume_laws.proofs.EntryLaws.{entry_looked_up, fault_looked_up, key_met, taken_met}
+use Rattle.volume_laws.proofs.FoundLaws.{found_met}
+use Rattle.volume_laws.proofs.NextLaws.{up_by}
+use Rattle.volume_laws.proofs.ForceEndLaws.{not_down}
+use Rattle.volume_laws.proofs.ForceLeavesLaws.{down_tells_none}
+use Rattle.volume_laws.proofs.RangeLaws.{met_good, taken_data, taken_runs}
 use Rattle.table_volume.proofs.DownLaws.{busy_entry, down_step, met_either, told_down}
 use Rattle.table_volume.proofs.volume.Volume.version.Goals as goal
 
@@ -52,7 +52,7 @@ returns-in_err-is_up g c =
       runs = tt;
       within = tt;
       stands = λ h k stands. stands;
-      causes = λ h. told_down (HasCause (state v) (state v) (resident v) now now) (λ place. tt) v.down why down;
+      causes = λ h. told_down (HasCallCause (state v) (state v) (resident v) now now) (λ place. tt) v.down why down;
       absent = λ same. absurd (down_is_told v.down why down (cc same));
       key = tt;
       taken = tt;
@@ -106,7 +106,7 @@ returns-in-None g c =
       taken = tt;
       here = tt;
       found = tt;
-      done = λ h k stands. ap found_or (sym (found.found h k stands) ∙ ap entry_of c.in-None.is);
+      done = λ h k stands. ap found_or (sym (found.found h k stands) ∙ ap found_entry c.in-None.is);
     }
 
 pub returns-in-Some : goal.returns-in-Some
@@ -121,8 +121,8 @@ returns-in-Some g c =
     let met = c.met_entry.ensures in
     let passes = ap (option_map Why.Down) up in
     let good = subst (λ o. IfSome o (λ f. is_entry f.entry ≡ true)) c.in-Some.is c.in_ok-found.ensures.entry in
-    let bounds = planned_bounds c.self.inside.layout c.self.invariant.planned in
-    let most : c.find.new.self.layout.sectors ≤ 2 ^ 24 = omega (arith, bounds.sectors_most, ap (λ (v : VolumeValue). v.layout.sectors) c.self.view_is, ap (λ (v : VolumeValue). v.layout.sectors) c.in_ok-found.ensures.cache) in
+    let bounds = planned_bounds c.args.self.now.layout c.attest.ensures.planned in
+    let most : c.find.new.self.layout.sectors ≤ 2 ^ 24 = omega (arith, bounds.sectors_most, ap (λ (v : VolumeValue). v.layout.sectors) c.in_ok-found.ensures.cache) in
     let P : Layout → Entry → Type 0 = λ l e. (s : ℕ) → IsTrue (contains (sectors_of e.runs) s) → IsTrue (is_data l s) in
     let so : (Q : Entry → Type 0) → (are_taken w entry.runs ≡ true → Q entry) → IfOk r Q = λ Q holds. subst (λ r. IfOk r Q) (sym met) (met_good Q w page entry holds) in
     record {
@@ -141,5 +141,5 @@ returns-in-Some g c =
       here = so (λ (e : Entry). are_taken w e.runs ≡ true) (λ taken. taken);
       found = found_met (λ e. ShowsReached g.M.Machine (resident v) (state v) (state w) c.args.m.now c.find.new.m (HasEntry e)) w _ c.in-Some.found c.in-Some.is found.there r met;
       done = λ h k stands.
-          entry_looked_up w k.mounted.volume c.args.key.now page entry r (sym (found.found h k stands) ∙ ap entry_of c.in-Some.is) (found.taken h k stands) met;
+          entry_looked_up w k.mounted.volume c.args.key.now page entry r (sym (found.found h k stands) ∙ ap found_entry c.in-Some.is) (found.taken h k stands) met;
     }
