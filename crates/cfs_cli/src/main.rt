@@ -5,9 +5,9 @@ ghost use Rattle.std.specs.Prelude.{[], map, IfOk, IfErr};
 ghost use Rattle.std.specs.String.{string_bytes};
 ghost use Rattle.fsd_runs.specs.Words.{path_of, request_of};
 ghost use Rattle.cfs_program.specs.Program.{Ran};
-ghost use Rattle.fsd_runs.specs.declared.request.Request.TheVariants.{Outside};
+ghost use Rattle.fsd_runs.specs.declared.request.Request.TheVariants.{NoCommand};
 
-use cfs_program::{run_out_of_memory, run_outside, run_words};
+use cfs_program::{run_out_of_memory, run_words, say_usage};
 use image_file::FileMachine;
 use sector_disk::Machine;
 use std::alloc::Global;
@@ -23,12 +23,12 @@ fn main(rt: HostRuntime) -> ExitCode {
 // One run on a machine, which gives the status. Words that are no text are outside the command set.
 fn run<M: Machine>(alloc: Global, words: io::Result<Vec<String>>, m: &mut M) -> u8
     ensures ran { IfOk words (λ words. let asked = map string_bytes words.items in Ran M.Machine (request_of asked) (path_of asked) m.old m.new result) }
-    ensures no_words { IfErr words (λ error. Ran M.Machine Outside [] m.old m.new result) }
+    ensures no_words { IfErr words (λ error. Ran M.Machine NoCommand [] m.old m.new result) }
 {
     match words {
         Ok(words) => run_words::<M, Volume, Volume>(alloc, words.as_slice(), m),
         Err(error) if error.kind() == io::ErrorKind::OutOfMemory => run_out_of_memory(m),
-        Err(_) => run_outside(m),
+        Err(_) => say_usage(m),
     }
 }
 

@@ -20,7 +20,7 @@ use Rattle.fsd_runs.proofs.SafeLaws.{never_refused}
 use Rattle.volume_contract.specs.Mount.{IsSoundAt}
 use Rattle.volume_contract.specs.State.{Ages}
 use Rattle.volume_turns.specs.Answering.{SaysNoReply}
-use Rattle.volume_turns.specs.Causes.{FailsInput, SaysFault, SaysOfInput, TellsImage, is_of_fault}
+use Rattle.volume_turns.specs.Causes.{FailsInput, SaysFaultAt, SaysOfInput, TellsImage, is_of_fault}
 use Rattle.volume_turns.specs.Line.{EndsWith, IsStatusAs, is_unsaid}
 use Rattle.volume_turns.specs.Status.{CountsNone, CountsRun, CountsTaking}
 use Rattle.volume_turns.proofs.AnsweringLaws.{fault_alone}
@@ -141,7 +141,7 @@ module _ {D : Type 0} {M : Ghosts D} {path : List ℕ} {failed : Failed} {a b z 
   told : failed.place ≡ (M.report z).fault_place
   told = x.cause.names ∙ sym x.cause.told ∙ sym x.says.spares.place
 
-  pub unfound_last : IsTrue (is_of_fault status) → M.honest z → SaysFault (M.report z).fault_place (M.now z) status
+  pub unfound_last : IsTrue (is_of_fault status) → M.honest z → SaysFaultAt (M.report z).fault_place (M.now z) status
   unfound_last of h = ends_fault (M.report z).fault_place (M.now b) (M.now z) status (Ends.Device failed.place) told (x.ends h) of
 
   pub unfound_alone : M.honest z → SaysNoReply (M.now a) (M.now z) status

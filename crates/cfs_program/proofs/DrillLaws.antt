@@ -13,25 +13,25 @@ use Rattle.fsd_runs.specs.declared.request.Request.TheVariants.{Drill}
 use Rattle.volume_turns.specs.Line.{EndsWith, IsStatusAs, is_unsaid}
 use Rattle.volume_turns.proofs.QuietLaws.{quiet_unfailed}
 use Rattle.volume_turns.proofs.ReasonLaws.{ages_then}
-use Rattle.cfs_program.specs.Drill.{Begins, Drills, IsListOf, SaysDrill, SaysLives, Speaks, all_lives}
+use Rattle.cfs_program.specs.Drill.{BeginsSaying, Drills, IsListOf, SaysDrill, SaysLives, SpeaksBytes, all_lives}
 use Rattle.cfs_program.specs.Program.{Ran}
-use Rattle.fsd_runs.specs.Commands.{is_one_of}
+use Rattle.fsd_runs.specs.Commands.{is_status_of}
 use Rattle.cfs_program.proofs.AmongLaws.{one_at}
 use Rattle.cfs_program.proofs.CountsLaws.{input_alone, spares_none}
 use Rattle.cfs_program.proofs.FormatLaws.{untouched_by}
 
 -- ---- one after the other
 
-begins_by : (bytes : List ℕ) (old new : Moment) → Utters bytes old new → Begins bytes old new
+begins_by : (bytes : List ℕ) (old new : Moment) → Utters bytes old new → BeginsSaying bytes old new
 begins_by bytes old new u = record { part = take u.heard bytes; rest = drop u.heard bytes; whole = sym (take-append-drop u.heard bytes); said = u.said }
 
-begins_all : (bytes : List ℕ) (old new : Moment) → new.said ≡ old.said ++ bytes → Begins bytes old new
+begins_all : (bytes : List ℕ) (old new : Moment) → new.said ≡ old.said ++ bytes → BeginsSaying bytes old new
 begins_all bytes old new said = record { part = bytes; rest = []; whole = sym (append-nil bytes); said = said }
 
-begins_more : (x y : List ℕ) (old new : Moment) → Begins x old new → Begins (x ++ y) old new
+begins_more : (x y : List ℕ) (old new : Moment) → BeginsSaying x old new → BeginsSaying (x ++ y) old new
 begins_more x y old new b = record { part = b.part; rest = b.rest ++ y; whole = ap (λ (l : List ℕ). l ++ y) b.whole ∙ append_assoc b.part b.rest y; said = b.said }
 
-begins_behind : (x y : List ℕ) (old mid new : Moment) → mid.said ≡ old.said ++ x → Begins y mid new → Begins (x ++ y) old new
+begins_behind : (x y : List ℕ) (old mid new : Moment) → mid.said ≡ old.said ++ x → BeginsSaying y mid new → BeginsSaying (x ++ y) old new
 begins_behind x y old mid new said b = record {
   part = x ++ b.part;
   rest = b.rest;
@@ -53,7 +53,7 @@ spares_then failed a b c first second = record {
     output false same = same ∙ first.output
 
 module _ {D : Type 0} (M : Ghosts D) where
-  speaks_none : (a : D) → Speaks M [] false a a
+  speaks_none : (a : D) → SpeaksBytes M [] false a a
   speaks_none a = record {
     spares = record { sectors = refl; place = refl; disk = refl; input = refl; output = refl };
     trust = record { tells = λ t. t; honest = λ h. h };
@@ -65,7 +65,7 @@ module _ {D : Type 0} (M : Ghosts D) where
 
   -- one call
   pub speaks_all : (bytes : List ℕ) (a b : D) → SparesDisk false false (M.report a) (M.report b) → Trusts (M.tells a) (M.tells b) (M.honest a) (M.honest b) → (M.tells b → M.ledger b ≡ M.ledger a)
-      → (M.honest b → Says bytes (M.now a) (M.now b)) → Speaks M bytes false a b
+      → (M.honest b → Says bytes (M.now a) (M.now b)) → SpeaksBytes M bytes false a b
   speaks_all bytes a b spares trust ledger says = record {
     spares = spares;
     trust = trust;
@@ -76,7 +76,7 @@ module _ {D : Type 0} (M : Ghosts D) where
   }
 
   pub speaks_part : (bytes : List ℕ) (a b : D) → SparesDisk false true (M.report a) (M.report b) → Trusts (M.tells a) (M.tells b) (M.honest a) (M.honest b) → (M.tells b → M.ledger b ≡ M.ledger a)
-      → (M.honest b → Utters bytes (M.now a) (M.now b)) → Speaks M bytes true a b
+      → (M.honest b → Utters bytes (M.now a) (M.now b)) → SpeaksBytes M bytes true a b
   speaks_part bytes a b spares trust ledger cut = record {
     spares = spares;
     trust = trust;
@@ -87,7 +87,7 @@ module _ {D : Type 0} (M : Ghosts D) where
   }
 
   -- the first has failed
-  pub speaks_cut : (x y : List ℕ) (a b : D) → Speaks M x true a b → Speaks M (x ++ y) true a b
+  pub speaks_cut : (x y : List ℕ) (a b : D) → SpeaksBytes M x true a b → SpeaksBytes M (x ++ y) true a b
   speaks_cut x y a b s = record {
     spares = s.spares;
     trust = s.trust;
@@ -97,7 +97,7 @@ module _ {D : Type 0} (M : Ghosts D) where
     says = λ all h. absurd (cc all);
   }
 
-  pub speaks_then : (x y : List ℕ) (failed : Bool) (a b c : D) → Speaks M x false a b → Speaks M y failed b c → Speaks M (x ++ y) failed a c
+  pub speaks_then : (x y : List ℕ) (failed : Bool) (a b c : D) → SpeaksBytes M x false a b → SpeaksBytes M y failed b c → SpeaksBytes M (x ++ y) failed a c
   speaks_then x y failed a b c first second = record {
     spares = spares_then failed (M.report a) (M.report b) (M.report c) first.spares second.spares;
     trust = record { tells = λ t. first.trust.tells (second.trust.tells t); honest = λ h. first.trust.honest (second.trust.honest h) };
@@ -113,7 +113,7 @@ module _ {D : Type 0} (M : Ghosts D) where
   says_none a = record { said = []; are = refl; speaks = speaks_none a }
 
   -- one more life
-  pub says_next : (lives : ℕ) (list : List ℕ) (a b c : D) → SaysLives M lives a b → IsListOf (suc lives) list → Speaks M (text (Lines.Life (suc lives)) ++ list) false b c → SaysLives M (suc lives) a c
+  pub says_next : (lives : ℕ) (list : List ℕ) (a b c : D) → SaysLives M lives a b → IsListOf (suc lives) list → SpeaksBytes M (text (Lines.Life (suc lives)) ++ list) false b c → SaysLives M (suc lives) a c
   says_next lives list a b c first is second =
       let line = text (Lines.Life (suc lives)) ++ list in
       record { said = first.said ++ line; are = (first.said, first.are, list, is, refl); speaks = speaks_then first.said line false a b c first.speaks second }
@@ -128,7 +128,7 @@ module _ {D : Type 0} (M : Ghosts D) where
     says = λ h. inl (refl, s.said, s.are, s.speaks.says refl h);
   }
 
-  pub drills_unsaid : (lives : ℕ) (list : List ℕ) (a b c : D) → lives < all_lives → SaysLives M lives a b → IsListOf (suc lives) list → Speaks M (text (Lines.Life (suc lives)) ++ list) true b c → Drills M a c 6
+  pub drills_unsaid : (lives : ℕ) (list : List ℕ) (a b c : D) → lives < all_lives → SaysLives M lives a b → IsListOf (suc lives) list → SpeaksBytes M (text (Lines.Life (suc lives)) ++ list) true b c → Drills M a c 6
   drills_unsaid lives list a b c inside first is second =
       let line = text (Lines.Life (suc lives)) ++ list in
       let s = speaks_then first.said line true a b c first.speaks second in
@@ -153,7 +153,7 @@ module _ {D : Type 0} (M : Ghosts D) where
     says = λ h. said h (ends h);
   }
     where
-      first : Speaks M lines.said false a b
+      first : SpeaksBytes M lines.said false a b
       first = lines.speaks
 
       by : IsStatusAs 7 result → (result ≡ 0) ⊎ ((result ≡ 7) ⊎ (result ≡ 6))
@@ -182,12 +182,12 @@ module _ {D : Type 0} (M : Ghosts D) where
     abbrev Status : Type 0
     Status = (result ≡ 0) ⊎ ((result ≡ 7) ⊎ (result ≡ 6))
 
-    status_is : Status → IsTrue (is_one_of (0 ∷ 7 ∷ 6 ∷ []) result)
+    status_is : Status → IsTrue (is_status_of (0 ∷ 7 ∷ 6 ∷ []) result)
     status_is (inl zero) = one_at (0 ∷ 7 ∷ 6 ∷ []) 0 result zero refl
     status_is (inr (inl seven)) = one_at (0 ∷ 7 ∷ 6 ∷ []) 7 result seven refl
     status_is (inr (inr six)) = one_at (0 ∷ 7 ∷ 6 ∷ []) 6 result six refl
 
-    complete_is : (result ≡ 6 → ⊥) → Status → IsTrue (is_one_of (0 ∷ 7 ∷ []) result)
+    complete_is : (result ≡ 6 → ⊥) → Status → IsTrue (is_status_of (0 ∷ 7 ∷ []) result)
     complete_is said (inl zero) = one_at (0 ∷ 7 ∷ []) 0 result zero refl
     complete_is said (inr (inl seven)) = one_at (0 ∷ 7 ∷ []) 7 result seven refl
     complete_is said (inr (inr six)) = absurd (said six)

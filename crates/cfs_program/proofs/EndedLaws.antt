@@ -16,7 +16,7 @@ use Rattle.fsd_texts.specs.declared.fault.Fault.{Fault}
 use Rattle.fsd_texts.specs.Text.{fault_text}
 use Rattle.fsd_runs.specs.declared.request.Request.{Request}
 use Rattle.fsd_runs.specs.Errands.{blank, fault_status}
-use Rattle.fsd_runs.specs.Leaves.{IsBroken, IsOutside, IsSoundAsSaid, IsSpent, IsUnsaid, LeavesSaid, LeftBefore, MayEnd, Unbegun, Whatever}
+use Rattle.fsd_runs.specs.Leaves.{IsBrokenOff, IsOutside, IsSoundAsSaid, IsSpent, IsUnsaid, LeavesSaid, LeftBefore, MayEnd, Unbegun, Whatever}
 use Rattle.volume_turns.specs.Line.{EndsWith, is_unsaid}
 use Rattle.cfs_program.specs.Opening.{IsSoundDisk}
 use Rattle.cfs_program.proofs.OpeningLaws.{left_start, left_worn, stops_before}
@@ -44,10 +44,10 @@ module _ {D : Type 0} (M : Ghosts D) (request : Request) (input rest : List ℕ)
       let rose : Rose (M.report b).output_faults (M.report c).output_faults = subst (λ (x : Bool). Counts x (M.report b).output_faults (M.report c).output_faults) (eq-eqb status 6 six) says.spares.output in
       record { ends = six; rose = omega (arith, later, rose) }
 
-  broken : status ≡ fault_status why → (M.now c).said ≡ (M.now b).said ++ fault_text why → IsBroken request Unbegun Whatever (M.report a) (M.report c) (blank ∷ []) (M.now a) (M.now c) status
+  broken : status ≡ fault_status why → (M.now c).said ≡ (M.now b).said ++ fault_text why → IsBrokenOff request Unbegun Whatever (M.report a) (M.report c) (blank ∷ []) (M.now a) (M.now c) status
   broken is all = record { why = why; outside = out; ends = is; says = record { whole = 0; more = refl; said = all ∙ ap (λ (s : List ℕ). s ++ fault_text why) worn.said }; held = tt; undone = λ is. refl }
 
-  ended : EndsWith why (M.now b) (M.now c) status → IsSpent (M.now a) (M.now c) status ⊎ (IsUnsaid (M.report a) (M.report c) status ⊎ IsBroken request Unbegun Whatever (M.report a) (M.report c) (blank ∷ []) (M.now a) (M.now c) status)
+  ended : EndsWith why (M.now b) (M.now c) status → IsSpent (M.now a) (M.now c) status ⊎ (IsUnsaid (M.report a) (M.report c) status ⊎ IsBrokenOff request Unbegun Whatever (M.report a) (M.report c) (blank ∷ []) (M.now a) (M.now c) status)
   ended (inl six) = inr (inl (unsaid six))
   ended (inr (is, all)) = inr (inr (broken is all.said))
 

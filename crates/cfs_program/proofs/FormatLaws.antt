@@ -17,7 +17,7 @@ use Rattle.fsd_sound.specs.Sound.{IsSound}
 use Rattle.fsd_sound.proofs.FormatSoundLaws.{format_is_sound}
 use Rattle.fsd_sound.proofs.SoundLaws.{sound_still}
 use Rattle.fsd_sound.proofs.WindowLaws.{borne_narrow}
-use Rattle.volume_format.specs.Formatting.{Formats, IsNew}
+use Rattle.volume_format.specs.Formatting.{Formats, IsNewImage}
 use Rattle.volume_layout.specs.declared.fault.LayoutFault.{LayoutFault}
 use Rattle.fsd_texts.specs.declared.line.Line.{Line}
 use Rattle.fsd_texts.specs.Text.{text}
@@ -33,7 +33,7 @@ sector_at-replicate (suc count) (suc s) = sector_at-replicate count s
 formatted_sound : (l : Layout) (run : WeakRun) (i : List Sector) → run.count ≤ longest_of l.kind → IsFormattedIn l run i → IsSound l (run ∷ []) [] 0 i
 formatted_sound l run i short f = sound_still l (run ∷ []) (borne_narrow l (run ∷ []) short) [] 0 f.written i f.worn (format_is_sound l (run ∷ []) short f.written f.formatted)
 
-pub volume_made : (l : Layout) (count : ℕ) (old mid new : Moment) → Makes count old mid → (IsNew mid → Formats l mid new) → MakesVolume l old new
+pub volume_made : (l : Layout) (count : ℕ) (old mid new : Moment) → Makes count old mid → (IsNewImage mid → Formats l mid new) → MakesVolume l old new
 volume_made l count old mid new made done =
     let formats = done (record {
       damaged = λ s. ap (λ (i : List Sector). sector_at i s) made.image ∙ sector_at-replicate count s;
@@ -62,7 +62,7 @@ holds_on l between after holds still =
     }
 
 pub made_of : {E : Type 0} (l : Layout) (count : ℕ) (old mid new : Moment) (H : Type 0) (result : Result (Unit {0}) E) → (H → Makes count old mid)
-    → OnOk result (H → IsNew mid → Formats l mid new) → OnOk result (H → MakesVolume l old new)
+    → OnOk result (H → IsNewImage mid → Formats l mid new) → OnOk result (H → MakesVolume l old new)
 made_of l count old mid new H (Ok x) makes done = λ h. volume_made l count old mid new (makes h) (done h)
 made_of l count old mid new H (Err e) makes done = tt
 

@@ -29,6 +29,7 @@ use Rattle.fsd_files.specs.declared.reply.Reply.TheVariants as Said
 use Rattle.fsd_files.specs.Volume.{Volume, drawn, forced_for_place, forced_if, place_for}
 use Rattle.fsd_sound.specs.Sound.{IsPrefixOf, IsSaid, IsSound}
 use Rattle.fsd_sound.proofs.WindowLaws.{last_snoc}
+use Rattle.fsd_sound.proofs.MountedLaws.{lists_long}
 use Rattle.fsd_texts.specs.declared.command.Command.{Command}
 use Rattle.fsd_texts.specs.declared.command.Command.TheVariants as Word
 use Rattle.fsd_texts.specs.declared.fault.Fault.{Fault}
@@ -39,8 +40,8 @@ use Rattle.fsd_texts.specs.Text.{text}
 use Rattle.fsd_runs.specs.declared.request.Request.{Request}
 use Rattle.fsd_runs.specs.declared.request.Request.TheVariants as Asks
 use Rattle.fsd_runs.specs.Commands.{answer, changes_of, version_line, reply_status}
-use Rattle.fsd_runs.specs.Errands.{Cut, Turn, MayCut, alone, alone_ending, answered_so, blank, fault_status}
-use Rattle.fsd_runs.specs.Leaves.{IsBroken, IsReplied, IsSoundAsSaid, IsSpent, IsUnderWay, IsUndone, IsUnsaid, LeavesBy, LeavesMounted, LeavesSaid, LeftSince, Unbegun, Whatever}
+use Rattle.fsd_runs.specs.Errands.{Cut, Turn, MayCut, errand_alone, alone_ending, answered_so, blank, fault_status}
+use Rattle.fsd_runs.specs.Leaves.{IsBrokenOff, IsReplied, IsSoundAsSaid, IsSpent, IsUnderWay, IsUndone, IsUnsaid, LeavesBy, LeavesMounted, LeavesSaid, LeftByTurns, Unbegun, Whatever}
 use Rattle.fsd_runs.specs.Sessions.{Meeting, session_over}
 use Rattle.fsd_runs.specs.Runs.{Goes, IsCutAt, IsThrough, answered, changes_in, errand_in, run_end, run_status, run_turns, said_in, turn_of, turns_of}
 use Rattle.cfs_program.specs.Drill.{KeepsFirst, ListsPrefix, list_text, version_text}
@@ -58,12 +59,6 @@ lines_are [] (e ∷ entries) lists = absurd lists
 lines_are (x ∷ files) [] lists = absurd lists
 lines_are (x ∷ files) (e ∷ entries) lists = λ i. line_is x e lists.0 i ++ lines_are files entries lists.1 i
 
-count_is : (files : Files) (entries : List Entry) → Lists files entries → length entries ≡ length files
-count_is [] [] lists = refl
-count_is [] (e ∷ entries) lists = absurd lists
-count_is (x ∷ files) [] lists = absurd lists
-count_is (x ∷ files) (e ∷ entries) lists = ap suc (count_is files entries lists.1)
-
 all_fit : (entries : List Entry) → filter (λ e. fits (Prefix []) e.key.name) entries ≡ entries
 all_fit [] = refl
 all_fit (e ∷ entries) = ap (λ (x : List Entry). e ∷ x) (all_fit entries)
@@ -73,7 +68,7 @@ listing entries = flat_map (λ e. text (version_line e)) entries ++ text (Says.L
 
 list_is : (files : Files) (entries : List Entry) → Lists files entries → listing (filter (λ e. fits (Prefix []) e.key.name) entries) ≡ list_text files
 list_is files entries lists =
-    ap listing (all_fit entries) ∙ (λ i. lines_are files entries lists i ++ text (Says.Listed (count_is files entries lists i)))
+    ap listing (all_fit entries) ∙ (λ i. lines_are files entries lists i ++ text (Says.Listed (lists_long files entries lists i)))
 
 -- ---- prefixes of changes
 
@@ -142,7 +137,7 @@ fault_not_zero Ends.InputTooLong e = omega (arith, e)
 fault_not_zero Ends.Memory e = omega (arith, e)
 fault_not_zero Ends.WornOut e = omega (arith, e)
 
-broken_not_zero : (request : Request) (Undone : ℕ → Image → Type 0) (Way : ℕ → Type 0) (before after : Report) (turns : List Turn) (old new : Moment) (result : ℕ) → IsUnsaid before after result ⊎ IsBroken request Undone Way before after turns old new result → result ≡ 0 → ⊥
+broken_not_zero : (request : Request) (Undone : ℕ → Image → Type 0) (Way : ℕ → Type 0) (before after : Report) (turns : List Turn) (old new : Moment) (result : ℕ) → IsUnsaid before after result ⊎ IsBrokenOff request Undone Way before after turns old new result → result ≡ 0 → ⊥
 broken_not_zero request Undone Way before now turns old new result (inl unsaid) nought = let six = unsaid.ends in omega (arith, nought, six)
 broken_not_zero request Undone Way before now turns old new result (inr broken) nought = fault_not_zero broken.why (sym broken.ends ∙ nought)
 
@@ -153,11 +148,11 @@ module _ (command : Command) (v : Volume) where
   reply_to x = (answer x.met v command).0
 
   abbrev turn_for : Meeting → Turn
-  turn_for x = turn_of (alone command) (answered_so (session_over v) (Plain command) (reply_to x))
+  turn_for x = turn_of (errand_alone command) (answered_so (session_over v) (Plain command) (reply_to x))
 
   -- it was answered
   record IsAnsweredBy (mets : List Meeting) (met : Meeting) : Type 0 where
-    turns : turns_of (alone command) mets (session_over v) ≡ turn_for met ∷ []
+    turns : turns_of (errand_alone command) mets (session_over v) ≡ turn_for met ∷ []
     status : (alone_ending (answered mets (session_over v) (Plain command ∷ []))).status ≡ reply_status (reply_to met)
 
   answered_once : (mets : List Meeting) → length mets ≡ 1 → (met : Meeting) × IsAnsweredBy mets met
@@ -165,8 +160,8 @@ module _ (command : Command) (v : Volume) where
   answered_once (met ∷ []) one = (met, record { turns = refl; status = refl })
   answered_once (met ∷ other ∷ mets) one = absurd (omega (arith, one))
 
-  turns_are : (hurt : Sectors) (Passed : Moment → Type 0) (Last : Volume → Image → Type 0) (said : List ℕ) (i : Image) (mets : List Meeting) → Goes hurt Passed Last (alone command) said i (session_over v) mets (Plain command ∷ [])
-      → (turns_of (alone command) mets (session_over v) ≡ blank ∷ []) ⊎ ((met : Meeting) × (turns_of (alone command) mets (session_over v) ≡ turn_for met ∷ []))
+  turns_are : (hurt : Sectors) (Passed : Moment → Type 0) (Last : Volume → Image → Type 0) (said : List ℕ) (i : Image) (mets : List Meeting) → Goes hurt Passed Last (errand_alone command) said i (session_over v) mets (Plain command ∷ [])
+      → (turns_of (errand_alone command) mets (session_over v) ≡ blank ∷ []) ⊎ ((met : Meeting) × (turns_of (errand_alone command) mets (session_over v) ≡ turn_for met ∷ []))
   turns_are hurt Passed Last said i [] goes = inl refl
   turns_are hurt Passed Last said i (met ∷ []) goes = inr (met, refl)
   turns_are hurt Passed Last said i (met ∷ other ∷ mets) (j, step, more) = absurd more
@@ -232,7 +227,7 @@ module _ (name : List ℕ) (byte : ℕ) where
   put_begun None may hurt Passed said i mets v goes whole = by (turns_are the_put v hurt Passed (IsCutAt None) said i mets goes)
     where
       turns : List Turn
-      turns = turns_of (alone the_put) mets (session_over v)
+      turns = turns_of (errand_alone the_put) mets (session_over v)
 
       first : (t : Turn) → turns ≡ t ∷ [] → changes_in (take (suc whole) turns) ≡ t.changes
       first t is = ap (λ (x : List Turn). changes_in (take (suc whole) x)) is ∙ ap changes_in (take_all (suc whole) (t ∷ []) (omega arith)) ∙ append-nil t.changes
@@ -308,13 +303,13 @@ module _ (name : List ℕ) (byte : ℕ) (h : List Change) (old new : Moment) (k 
   done_by : result ≡ 0 → Leaves → KeepsFirst more (length h + 1) new
   done_by nought (inl u) = absurd (by u.ends)
     where
-      by : IsSpent old new result ⊎ (IsUnsaid before after_it result ⊎ IsBroken (the_request name byte) Unbegun Whatever before after_it (blank ∷ []) old new result) → ⊥
+      by : IsSpent old new result ⊎ (IsUnsaid before after_it result ⊎ IsBrokenOff (the_request name byte) Unbegun Whatever before after_it (blank ∷ []) old new result) → ⊥
       by (inl spent) = let nine = spent.ends in omega (arith, nought, nine)
       by (inr other) = broken_not_zero (the_request name byte) Unbegun Whatever before after_it (blank ∷ []) old new result other nought
   done_by nought (inr m) = by m.ends
     where
       by : (IsThrough m.run × IsReplied k.layout k.windows m.next (take k.made h) m.count (run_turns m.run) (run_status m.run) (run_end m.run) Held old new result)
-          ⊎ (IsUnsaid before after_it result ⊎ IsBroken (the_request name byte) (IsUndone k.layout (k.windows ++ m.next ∷ []) (take m.count (take k.made h)) m.count (run_turns m.run)) (IsUnderWay k.layout (k.windows ++ m.next ∷ []) (take m.count (take k.made h)) m.count (run_turns m.run) Held) before after_it (run_turns m.run) old new result)
+          ⊎ (IsUnsaid before after_it result ⊎ IsBrokenOff (the_request name byte) (IsUndone k.layout (k.windows ++ m.next ∷ []) (take m.count (take k.made h)) m.count (run_turns m.run)) (IsUnderWay k.layout (k.windows ++ m.next ∷ []) (take m.count (take k.made h)) m.count (run_turns m.run) Held) before after_it (run_turns m.run) old new result)
           → KeepsFirst more (length h + 1) new
       by (inl (through, replied)) =
           let found = all_found m.count m.prefix in
@@ -342,7 +337,7 @@ module _ (name : List ℕ) (byte : ℕ) (h : List Change) (old new : Moment) (k 
   }
   left_by (inr m) = by (put_begun name byte m.run.cut m.run.may (in_runs (k.windows ++ m.next ∷ [])) (Past m.at) old.said m.from m.run.mets m.volume m.run.goes s.whole)
     where
-      s : LeftSince k.layout k.windows m.next (take k.made h) m.count (run_turns m.run) old new
+      s : LeftByTurns k.layout k.windows m.next (take k.made h) m.count (run_turns m.run) old new
       s = m.exit
 
       found : (m.count ≡ length h) × (take m.count (take k.made h) ≡ h)
@@ -361,13 +356,13 @@ module _ (h : List Change) (f : ℕ) (old new : Moment) (k : KeepsFirst h f old)
   listed_by : old.said ≡ [] → result ≡ 0 → LeavesBy (Asks.One all_versions) [] rest k.layout k.windows (take k.made h) k.forced Past Stops began Only Held before after_it old new result → ListsPrefix h f new.said
   listed_by unsaid nought (inl u) = absurd (by u.ends)
     where
-      by : IsSpent old new result ⊎ (IsUnsaid before after_it result ⊎ IsBroken (Asks.One all_versions) Unbegun Whatever before after_it (blank ∷ []) old new result) → ⊥
+      by : IsSpent old new result ⊎ (IsUnsaid before after_it result ⊎ IsBrokenOff (Asks.One all_versions) Unbegun Whatever before after_it (blank ∷ []) old new result) → ⊥
       by (inl spent) = let nine = spent.ends in omega (arith, nought, nine)
       by (inr other) = broken_not_zero (Asks.One all_versions) Unbegun Whatever before after_it (blank ∷ []) old new result other nought
   listed_by unsaid nought (inr m) = by m.ends
     where
       by : (IsThrough m.run × IsReplied k.layout k.windows m.next (take k.made h) m.count (run_turns m.run) (run_status m.run) (run_end m.run) Held old new result)
-          ⊎ (IsUnsaid before after_it result ⊎ IsBroken (Asks.One all_versions) (IsUndone k.layout (k.windows ++ m.next ∷ []) (take m.count (take k.made h)) m.count (run_turns m.run)) (IsUnderWay k.layout (k.windows ++ m.next ∷ []) (take m.count (take k.made h)) m.count (run_turns m.run) Held) before after_it (run_turns m.run) old new result)
+          ⊎ (IsUnsaid before after_it result ⊎ IsBrokenOff (Asks.One all_versions) (IsUndone k.layout (k.windows ++ m.next ∷ []) (take m.count (take k.made h)) m.count (run_turns m.run)) (IsUnderWay k.layout (k.windows ++ m.next ∷ []) (take m.count (take k.made h)) m.count (run_turns m.run) Held) before after_it (run_turns m.run) old new result)
           → ListsPrefix h f new.said
       by (inl (through, replied)) =
           let found = found_of h f old k m.count m.prefix in

@@ -27,10 +27,10 @@ use Rattle.fsd_texts.specs.Text.{fault_text}
 use Rattle.fsd_runs.specs.declared.request.Request.{Request}
 use Rattle.fsd_runs.specs.declared.request.Request.TheVariants.{Put}
 use Rattle.fsd_runs.specs.Errands.{Cut, Turn}
-use Rattle.fsd_runs.specs.Leaves.{CutCause, IsBroken, IsOutside, IsReplied, IsSoundAsSaid, IsSpent, IsUnderWay, IsUndone, IsUnsaid, LeavesBy, LeavesMounted, LeavesRoots, LeavesSaid, LeavesUnmounted, Left, LeftBefore, LeftSince, SaysFault}
+use Rattle.fsd_runs.specs.Leaves.{CutCause, IsBrokenOff, IsOutside, IsReplied, IsSoundAsSaid, IsSpent, IsUnderWay, IsUndone, IsUnsaid, LeavesBy, LeavesMounted, LeavesRoots, LeavesSaid, LeavesUnmounted, Left, LeftBefore, LeftByTurns, SaysFault}
 use Rattle.fsd_runs.proofs.LeaveLaws.{one_more}
 use Rattle.fsd_runs.specs.Sessions.{session_over}
-use Rattle.fsd_runs.specs.Runs.{Goes, IsCutAt, IsThrough, Run, errand_in, run_end, run_status, run_turns, said_in}
+use Rattle.fsd_runs.specs.Runs.{Goes, IsCutAt, IsThrough, Course, errand_in, run_end, run_status, run_turns, said_in}
 use Rattle.volume_contract.specs.Mount.{IsSoundAt}
 use Rattle.volume_turns.specs.Status.{CountsNone}
 use Rattle.cfs_program.specs.Opening.{IsSoundDisk}
@@ -93,7 +93,7 @@ module _ (l : Layout) (windows : List WeakRun) (h : List Change) (f : ℕ) (old 
     pub before_on : (left : Moment) → LeftBefore l windows h f at left → LeftBefore l windows h f old left
     before_on left x = record { present = x.present ∙ found.present; part = x.part; said = x.said ∙ ap (λ (s : List ℕ). s ++ x.part) found.said; fault = x.fault; sound = x.sound }
 
-    pub since_on : (run : WeakRun) (n : ℕ) (turns : List Turn) (left : Moment) → LeftSince l windows run h n turns at left → LeftSince l windows run h n turns old left
+    pub since_on : (run : WeakRun) (n : ℕ) (turns : List Turn) (left : Moment) → LeftByTurns l windows run h n turns at left → LeftByTurns l windows run h n turns old left
     since_on run n turns left x = record {
       settled = x.settled;
       whole = x.whole;
@@ -133,7 +133,7 @@ module _ (l : Layout) (windows : List WeakRun) (h : List Change) (f : ℕ) (old 
       unsaid_on : IsUnsaid b c status → IsUnsaid a c status
       unsaid_on x = record { ends = x.ends; rose = rose_on a.output_faults b.output_faults c.output_faults same.output x.rose }
 
-      broken_on : {Undone : ℕ → Image → Type 0} {Way : ℕ → Type 0} (turns : List Turn) → IsBroken request Undone Way b c turns at new status → IsBroken request Undone Way a c turns old new status
+      broken_on : {Undone : ℕ → Image → Type 0} {Way : ℕ → Type 0} (turns : List Turn) → IsBrokenOff request Undone Way b c turns at new status → IsBrokenOff request Undone Way a c turns old new status
       broken_on turns x = record {
         why = x.why;
         outside = outside_on request a b c x.why same x.outside;
@@ -143,11 +143,11 @@ module _ (l : Layout) (windows : List WeakRun) (h : List Change) (f : ℕ) (old 
         undone = x.undone;
       }
 
-      failed_on : {Undone : ℕ → Image → Type 0} {Way : ℕ → Type 0} (turns : List Turn) → IsUnsaid b c status ⊎ IsBroken request Undone Way b c turns at new status → IsUnsaid a c status ⊎ IsBroken request Undone Way a c turns old new status
+      failed_on : {Undone : ℕ → Image → Type 0} {Way : ℕ → Type 0} (turns : List Turn) → IsUnsaid b c status ⊎ IsBrokenOff request Undone Way b c turns at new status → IsUnsaid a c status ⊎ IsBrokenOff request Undone Way a c turns old new status
       failed_on turns (inl x) = inl (unsaid_on x)
       failed_on turns (inr x) = inr (broken_on turns x)
 
-      spent_or : {Undone : ℕ → Image → Type 0} {Way : ℕ → Type 0} (turns : List Turn) → IsSpent at new status ⊎ (IsUnsaid b c status ⊎ IsBroken request Undone Way b c turns at new status) → IsSpent old new status ⊎ (IsUnsaid a c status ⊎ IsBroken request Undone Way a c turns old new status)
+      spent_or : {Undone : ℕ → Image → Type 0} {Way : ℕ → Type 0} (turns : List Turn) → IsSpent at new status ⊎ (IsUnsaid b c status ⊎ IsBrokenOff request Undone Way b c turns at new status) → IsSpent old new status ⊎ (IsUnsaid a c status ⊎ IsBrokenOff request Undone Way a c turns old new status)
       spent_or turns (inl x) = inl (spent_on new status x)
       spent_or turns (inr x) = inr (failed_on turns x)
 
@@ -184,7 +184,7 @@ module _ {D : Type 0} (M : Ghosts D) (request : Request) (input rest : List ℕ)
     abbrev turns : List Turn
     turns = run_turns m.run
 
-    abbrev run_is : Run request input (windows ++ m.next ∷ []) (M.left_since c m.at) (M.now a).said m.volume m.from
+    abbrev run_is : Course request input (windows ++ m.next ∷ []) (M.left_since c m.at) (M.now a).said m.volume m.from
     run_is = record {
       cut = m.run.cut;
       may = m.run.may;
@@ -196,8 +196,8 @@ module _ {D : Type 0} (M : Ghosts D) (request : Request) (input rest : List ℕ)
     replied_on : IsReplied l windows m.next h m.count turns (run_status m.run) (run_end m.run) (IsHeld M c) (M.now b) (M.now c) status → IsReplied l windows m.next h m.count turns (run_status m.run) (run_end m.run) (IsHeld M c) (M.now a) (M.now c) status
     replied_on x = record { ends = x.ends; said = x.said ∙ ap (λ (s : List ℕ). s ++ said_in turns) found.said; settled = x.settled; sound = x.sound; held = x.held; tells = x.tells; roots = x.roots; rooted = x.rooted }
 
-    ends_on : (IsThrough m.run × IsReplied l windows m.next h m.count turns (run_status m.run) (run_end m.run) (IsHeld M c) (M.now b) (M.now c) status) ⊎ (IsUnsaid (M.report b) (M.report c) status ⊎ IsBroken request (IsUndone l (windows ++ m.next ∷ []) (take m.count h) m.count turns) (IsUnderWay l (windows ++ m.next ∷ []) (take m.count h) m.count turns (IsHeld M c)) (M.report b) (M.report c) turns (M.now b) (M.now c) status)
-        → (IsThrough run_is × IsReplied l windows m.next h m.count (run_turns run_is) (run_status run_is) (run_end run_is) (IsHeld M c) (M.now a) (M.now c) status) ⊎ (IsUnsaid (M.report a) (M.report c) status ⊎ IsBroken request (IsUndone l (windows ++ m.next ∷ []) (take m.count h) m.count (run_turns run_is)) (IsUnderWay l (windows ++ m.next ∷ []) (take m.count h) m.count (run_turns run_is) (IsHeld M c)) (M.report a) (M.report c) (run_turns run_is) (M.now a) (M.now c) status)
+    ends_on : (IsThrough m.run × IsReplied l windows m.next h m.count turns (run_status m.run) (run_end m.run) (IsHeld M c) (M.now b) (M.now c) status) ⊎ (IsUnsaid (M.report b) (M.report c) status ⊎ IsBrokenOff request (IsUndone l (windows ++ m.next ∷ []) (take m.count h) m.count turns) (IsUnderWay l (windows ++ m.next ∷ []) (take m.count h) m.count turns (IsHeld M c)) (M.report b) (M.report c) turns (M.now b) (M.now c) status)
+        → (IsThrough run_is × IsReplied l windows m.next h m.count (run_turns run_is) (run_status run_is) (run_end run_is) (IsHeld M c) (M.now a) (M.now c) status) ⊎ (IsUnsaid (M.report a) (M.report c) status ⊎ IsBrokenOff request (IsUndone l (windows ++ m.next ∷ []) (take m.count h) m.count (run_turns run_is)) (IsUnderWay l (windows ++ m.next ∷ []) (take m.count h) m.count (run_turns run_is) (IsHeld M c)) (M.report a) (M.report c) (run_turns run_is) (M.now a) (M.now c) status)
     ends_on (inl (through, replied)) = inl (through, replied_on replied)
     ends_on (inr failed) = inr (failed_on l windows h f (M.now a) sound short (M.now b) found request (M.report a) (M.report b) (M.report c) same (M.now c) status turns failed)
 

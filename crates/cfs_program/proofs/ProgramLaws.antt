@@ -20,7 +20,7 @@ use Rattle.fsd_texts.specs.declared.line.Line.{Line}
 use Rattle.fsd_texts.specs.declared.line.Line.TheVariants as Lines
 use Rattle.fsd_texts.specs.Text.{fault_text, text}
 use Rattle.fsd_runs.specs.declared.request.Request.{Request}
-use Rattle.fsd_runs.specs.declared.request.Request.TheVariants.{Outside, BadField, Format, Put, One, Script, Generate, Drill}
+use Rattle.fsd_runs.specs.declared.request.Request.TheVariants.{NoCommand, BadField, Format, Put, One, Script, Generate, Drill}
 use Rattle.fsd_runs.specs.Errands.{IfMounts}
 use Rattle.fsd_runs.specs.Leaves.{NoneRose}
 use Rattle.volume_contract.specs.State.{Ages}
@@ -33,7 +33,7 @@ use Rattle.volume_turns.specs.Line.{is_unsaid, EndsLast, EndsWith, IsStatusAs}
 use Rattle.cfs_program.specs.Formatting.{AsksAll, AsksAtMost, IsFormatStatus, RunsFormat, SparesUnplanned, format_status, plan_asks}
 use Rattle.cfs_program.specs.Opening.{AsksOrNot, is_from_outside, mount_asks}
 use Rattle.cfs_program.specs.Program.{LeavesInput, Ran, SaysAlone, SaysAnswer, asks_of, WritesAlone, SaysLine, SparesImage, SparesInput, complete_statuses, fault_statuses, field_line, input_for, plan_faults}
-use Rattle.fsd_runs.specs.Commands.{is_one_of}
+use Rattle.fsd_runs.specs.Commands.{is_status_of}
 use Rattle.cfs_program.proofs.AmongLaws.{one_at}
 use Rattle.cfs_program.proofs.AttachLaws.{EndsUnfound, unfound_ages, unfound_alone, unfound_asks, unfound_counts, unfound_last, unfound_leaves, unfound_outside, unfound_reading, unfound_trust}
 use Rattle.cfs_program.proofs.CountsLaws.{input_alone, spares_none}
@@ -43,11 +43,11 @@ use Rattle.cfs_program.proofs.FormatLaws.{untouched_by}
 
 -- ---- a line alone
 
-line_status : (result : ℕ) → IsStatusAs 2 result → IsTrue (is_one_of (2 ∷ 7 ∷ 6 ∷ []) result)
+line_status : (result : ℕ) → IsStatusAs 2 result → IsTrue (is_status_of (2 ∷ 7 ∷ 6 ∷ []) result)
 line_status result (inl two) = one_at (2 ∷ 7 ∷ 6 ∷ []) 2 result two refl
 line_status result (inr six) = one_at (2 ∷ 7 ∷ 6 ∷ []) 6 result six refl
 
-line_complete : (result : ℕ) → IsStatusAs 2 result → (result ≡ 6 → ⊥) → IsTrue (is_one_of (2 ∷ 7 ∷ []) result)
+line_complete : (result : ℕ) → IsStatusAs 2 result → (result ≡ 6 → ⊥) → IsTrue (is_status_of (2 ∷ 7 ∷ []) result)
 line_complete result (inl two) said = one_at (2 ∷ 7 ∷ []) 2 result two refl
 line_complete result (inr six) said = absurd (said six)
 
@@ -60,7 +60,7 @@ output_rose a b result spares six = subst (λ (x : Bool). Counts x a.output_faul
 
 -- the line of words that ask for nothing
 abbrev line_for : Request → Option Line
-line_for Outside = Some Lines.Usage
+line_for NoCommand = Some Lines.Usage
 line_for (BadField cause) = Some (field_line cause)
 line_for request = None
 
@@ -114,37 +114,37 @@ module _ {D : Type 0} (M : Ghosts D) (path : List ℕ) (a b : D) (line : Line) (
 -- ---- refused memory, before anything is known of the words
 
 -- its status is one of each request
-seven_format : (planned : Result Layout LayoutFault) → IsTrue (is_one_of (format_status planned ∷ 7 ∷ []) 7) × IsTrue (is_one_of ((format_status planned ∷ 7 ∷ []) ++ plan_faults planned) 7)
+seven_format : (planned : Result Layout LayoutFault) → IsTrue (is_status_of (format_status planned ∷ 7 ∷ []) 7) × IsTrue (is_status_of ((format_status planned ∷ 7 ∷ []) ++ plan_faults planned) 7)
 seven_format (Ok l) = (refl, refl)
 seven_format (Err why) = (refl, refl)
 
-six_format : (planned : Result Layout LayoutFault) → IsTrue (is_one_of ((format_status planned ∷ 7 ∷ []) ++ plan_faults planned) 6)
+six_format : (planned : Result Layout LayoutFault) → IsTrue (is_status_of ((format_status planned ∷ 7 ∷ []) ++ plan_faults planned) 6)
 six_format (Ok l) = refl
 six_format (Err why) = refl
 
-seven_one : (command : Command) → IsTrue (is_one_of (complete_statuses (One command)) 7) × IsTrue (is_one_of (complete_statuses (One command) ++ fault_statuses (One command)) 7)
+seven_one : (command : Command) → IsTrue (is_status_of (complete_statuses (One command)) 7) × IsTrue (is_status_of (complete_statuses (One command) ++ fault_statuses (One command)) 7)
 seven_one (Word.Put name bytes keep) = (refl, refl)
 seven_one command = (refl, refl)
 
-six_one : (command : Command) → IsTrue (is_one_of (complete_statuses (One command) ++ fault_statuses (One command)) 6)
+six_one : (command : Command) → IsTrue (is_status_of (complete_statuses (One command) ++ fault_statuses (One command)) 6)
 six_one (Word.Put name bytes keep) = refl
 six_one command = refl
 
-seven_is : (request : Request) → IsTrue (is_one_of (complete_statuses request) 7) × IsTrue (is_one_of (complete_statuses request ++ fault_statuses request) 7)
+seven_is : (request : Request) → IsTrue (is_status_of (complete_statuses request) 7) × IsTrue (is_status_of (complete_statuses request ++ fault_statuses request) 7)
 seven_is (Format n t p kind) = seven_format (plan kind n t p)
 seven_is (One command) = seven_one command
 seven_is other = (refl, refl)
 
-six_is : (request : Request) → IsTrue (is_one_of (complete_statuses request ++ fault_statuses request) 6)
+six_is : (request : Request) → IsTrue (is_status_of (complete_statuses request ++ fault_statuses request) 6)
 six_is (Format n t p kind) = six_format (plan kind n t p)
 six_is (One command) = six_one command
 six_is other = refl
 
-memory_status : (request : Request) (result : ℕ) → IsStatusAs 7 result → IsTrue (is_one_of (complete_statuses request ++ fault_statuses request) result)
+memory_status : (request : Request) (result : ℕ) → IsStatusAs 7 result → IsTrue (is_status_of (complete_statuses request ++ fault_statuses request) result)
 memory_status request result (inl seven) = one_at (complete_statuses request ++ fault_statuses request) 7 result seven (seven_is request).1
 memory_status request result (inr six) = one_at (complete_statuses request ++ fault_statuses request) 6 result six (six_is request)
 
-memory_complete : (request : Request) (result : ℕ) → IsStatusAs 7 result → (result ≡ 6 → ⊥) → IsTrue (is_one_of (complete_statuses request) result)
+memory_complete : (request : Request) (result : ℕ) → IsStatusAs 7 result → (result ≡ 6 → ⊥) → IsTrue (is_status_of (complete_statuses request) result)
 memory_complete request result (inl seven) said = one_at (complete_statuses request) 7 result seven (seven_is request).0
 memory_complete request result (inr six) said = absurd (said six)
 
@@ -153,7 +153,7 @@ spares_plan (Ok l) old new still = tt
 spares_plan (Err why) old new still = still
 
 spares_image : (request : Request) (old new : Moment) → Ages old new → SparesImage request old new
-spares_image Outside old new still = still
+spares_image NoCommand old new still = still
 spares_image (BadField cause) old new still = still
 spares_image (Format n t p kind) old new still = spares_plan (plan kind n t p) old new still
 spares_image Drill old new still = still
@@ -226,15 +226,15 @@ module _ {D : Type 0} (M : Ghosts D) (request : Request) (path : List ℕ) (a b 
 
 -- ---- an image that was not found
 
-four_one : (command : Command) → IsTrue (is_one_of (complete_statuses (One command) ++ fault_statuses (One command)) 4)
+four_one : (command : Command) → IsTrue (is_status_of (complete_statuses (One command) ++ fault_statuses (One command)) 4)
 four_one (Word.Put name bytes keep) = refl
 four_one command = refl
 
 module _ {D : Type 0} {M : Ghosts D} {path : List ℕ} {failed : Failed} {a b z : D} {status : ℕ} (x : EndsUnfound M path failed a b z status)
     (short : M.honest a → AreShort (M.now a).windows) (timed : (m : D) → M.honest m → IsTimed M m) where
-  module _ (request : Request) (four : IsTrue (is_one_of (complete_statuses request ++ fault_statuses request) 4)) (asks : asks_of request path ≡ mount_asks path)
+  module _ (request : Request) (four : IsTrue (is_status_of (complete_statuses request ++ fault_statuses request) 4)) (asks : asks_of request path ≡ mount_asks path)
       (no_answer : SaysAnswer request (M.report z).fault_place (M.now a) (M.now z) status) where
-    among : IsStatusAs 4 status → IsTrue (is_one_of (complete_statuses request ++ fault_statuses request) status)
+    among : IsStatusAs 4 status → IsTrue (is_status_of (complete_statuses request ++ fault_statuses request) status)
     among (inl is) = one_at (complete_statuses request ++ fault_statuses request) 4 status is four
     among (inr six) = one_at (complete_statuses request ++ fault_statuses request) 6 status six (six_is request)
 
@@ -283,14 +283,14 @@ module _ {D : Type 0} {M : Ghosts D} {path : List ℕ} {failed : Failed} {a b z 
 
 -- ---- a format
 
-format_status_is : (planned : Result Layout LayoutFault) (result : ℕ) → IsFormatStatus planned result → IsTrue (is_one_of ((format_status planned ∷ 7 ∷ []) ++ plan_faults planned) result)
+format_status_is : (planned : Result Layout LayoutFault) (result : ℕ) → IsFormatStatus planned result → IsTrue (is_status_of ((format_status planned ∷ 7 ∷ []) ++ plan_faults planned) result)
 format_status_is (Ok l) result (inl zero) = one_at (0 ∷ 7 ∷ 4 ∷ 6 ∷ []) 0 result zero refl
 format_status_is (Ok l) result (inr (inl four)) = one_at (0 ∷ 7 ∷ 4 ∷ 6 ∷ []) 4 result four refl
 format_status_is (Ok l) result (inr (inr six)) = one_at (0 ∷ 7 ∷ 4 ∷ 6 ∷ []) 6 result six refl
 format_status_is (Err why) result (inl one) = one_at (1 ∷ 7 ∷ 6 ∷ []) 1 result one refl
 format_status_is (Err why) result (inr six) = one_at (1 ∷ 7 ∷ 6 ∷ []) 6 result six refl
 
-format_complete : (planned : Result Layout LayoutFault) (result : ℕ) → IsFormatStatus planned result → (result ≡ 4 → ⊥) → (result ≡ 6 → ⊥) → IsTrue (is_one_of (format_status planned ∷ 7 ∷ []) result)
+format_complete : (planned : Result Layout LayoutFault) (result : ℕ) → IsFormatStatus planned result → (result ≡ 4 → ⊥) → (result ≡ 6 → ⊥) → IsTrue (is_status_of (format_status planned ∷ 7 ∷ []) result)
 format_complete (Ok l) result (inl zero) disk said = one_at (0 ∷ 7 ∷ []) 0 result zero refl
 format_complete (Ok l) result (inr (inl four)) disk said = absurd (disk four)
 format_complete (Ok l) result (inr (inr six)) disk said = absurd (said six)

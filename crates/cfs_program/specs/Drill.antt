@@ -64,7 +64,7 @@ all_lives = 6
 -- ---- what is said
 
 -- Some first bytes of a text are said.
-pub record Begins (bytes : List ℕ) (old new : Moment) : Type 0 where
+pub record BeginsSaying (bytes : List ℕ) (old new : Moment) : Type 0 where
   pub part : List ℕ
   pub rest : List ℕ
   pub whole : bytes ≡ part ++ rest
@@ -80,7 +80,7 @@ abbrev pub SaysDrill : (old new : Moment) → ℕ → Type 0
 SaysDrill old new result =
     ((result ≡ 0) × (said : List ℕ) × AreLives all_lives said × (new.said ≡ old.said ++ said))
     ⊎ (((result ≡ 7) × (lives : ℕ) × (lives < all_lives) × (said : List ℕ) × AreLives lives said × (new.said ≡ old.said ++ (said ++ memory_text)))
-    ⊎ ((result ≡ 6) × (bytes : List ℕ) × IsDrillText bytes × Begins bytes old new))
+    ⊎ ((result ≡ 6) × (bytes : List ℕ) × IsDrillText bytes × BeginsSaying bytes old new))
 
 -- ---- over a machine in memory
 
@@ -95,25 +95,25 @@ pub record KeepsFirst (h : List Change) (f : ℕ) (now : Moment) : Type 0 where
   pub sound : IsSoundDisk layout windows (take made h) forced now
 
 -- where the machine is honest
-abbrev pub IsKept : List Change → ℕ → MemoryMachine → Type 0
-IsKept h f m = IsHonest m → KeepsFirst h f (memory_now m)
+abbrev pub KeepsIfHonest : List Change → ℕ → MemoryMachine → Type 0
+KeepsIfHonest h f m = IsHonest m → KeepsFirst h f (memory_now m)
 
 -- ---- over any machine
 
 -- Bytes are said, all of them or, where the output failed, some first ones; nothing else is asked for.
-pub record Speaks {D : Type 0} (M : Ghosts D) (bytes : List ℕ) (failed : Bool) (a b : D) : Type 0 where
+pub record SpeaksBytes {D : Type 0} (M : Ghosts D) (bytes : List ℕ) (failed : Bool) (a b : D) : Type 0 where
   pub spares : SparesDisk false failed (M.report a) (M.report b)
   pub trust : Trusts (M.tells a) (M.tells b) (M.honest a) (M.honest b)
   pub ledger : M.tells b → M.ledger b ≡ M.ledger a
   pub ages : M.honest b → Ages (M.now a) (M.now b)
-  pub begins : M.honest b → Begins bytes (M.now a) (M.now b)
+  pub begins : M.honest b → BeginsSaying bytes (M.now a) (M.now b)
   pub says : IsFalse failed → M.honest b → (M.now b).said ≡ (M.now a).said ++ bytes
 
 -- The lines of the first lives are said, so many.
 pub record SaysLives {D : Type 0} (M : Ghosts D) (lives : ℕ) (a b : D) : Type 0 where
   pub said : List ℕ
   pub are : AreLives lives said
-  pub speaks : Speaks M said false a b
+  pub speaks : SpeaksBytes M said false a b
 
 -- A drill says some first lives and leaves the disk as it was but for wear.
 pub record Drills {D : Type 0} (M : Ghosts D) (a b : D) (result : ℕ) : Type 0 where

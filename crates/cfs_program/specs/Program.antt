@@ -15,8 +15,8 @@ use Rattle.fsd_texts.specs.Script.{max_input, script_in}
 use Rattle.fsd_texts.specs.Text.{text}
 use Rattle.fsd_texts.specs.declared.bad_line.Cause.{Cause}
 use Rattle.fsd_runs.specs.declared.request.Request.{Request}
-use Rattle.fsd_runs.specs.declared.request.Request.TheVariants.{Outside, BadField, Format, Put, One, Script, Generate, Drill}
-use Rattle.fsd_runs.specs.Commands.{is_one_of, reply_statuses, reply_text}
+use Rattle.fsd_runs.specs.declared.request.Request.TheVariants.{NoCommand, BadField, Format, Put, One, Script, Generate, Drill}
+use Rattle.fsd_runs.specs.Commands.{is_status_of, reply_statuses, reply_text}
 use Rattle.fsd_runs.specs.Errands.{IfMounts}
 use Rattle.fsd_runs.specs.Leaves.{IsSoundAsSaid, LeavesRun, NoneRose, Was}
 use Rattle.cfs_program.specs.Drill.{SaysDrill}
@@ -24,7 +24,7 @@ use Rattle.cfs_program.specs.Formatting.{IsMadeBy, SaysFormat, SparesUnplanned, 
 use Rattle.volume_contract.specs.State.{Ages}
 use Rattle.scrub.specs.Telling.{AreOfPage}
 use Rattle.volume_turns.specs.Answering.{SaysOne}
-use Rattle.volume_turns.specs.Causes.{FailsInput, HasSpent, HasVolume, SaysCause, SaysFault, SaysMade, SaysOfInput, is_of_fault, is_of_mounted}
+use Rattle.volume_turns.specs.Causes.{FailsInput, HasSpent, HasVolume, SaysCause, SaysFaultAt, SaysMade, SaysOfInput, is_of_fault, is_of_mounted}
 use Rattle.volume_turns.specs.Each.{SaysBadLine, SaysForced}
 use Rattle.volume_turns.specs.Status.{CountsInput, CountsNone, is_unfailed, is_quiet}
 use Rattle.volume_turns.specs.Commands.{MayLose}
@@ -34,7 +34,7 @@ use Rattle.cfs_program.specs.Opening.{AcceptsSound, AsFound, AsksOrNot, IsSoundD
 
 -- where no call of the outside fails
 abbrev pub complete_statuses : Request → List ℕ
-complete_statuses Outside = 2 ∷ 7 ∷ []
+complete_statuses NoCommand = 2 ∷ 7 ∷ []
 complete_statuses (BadField cause) = 2 ∷ 7 ∷ []
 complete_statuses (Format n t p kind) = format_status (plan kind n t p) ∷ 7 ∷ []
 complete_statuses (Put name keep) = 0 ∷ 1 ∷ 3 ∷ 5 ∷ 7 ∷ 9 ∷ []
@@ -49,7 +49,7 @@ plan_faults (Err why) = 6 ∷ []
 
 -- where one fails
 abbrev pub fault_statuses : Request → List ℕ
-fault_statuses Outside = 6 ∷ []
+fault_statuses NoCommand = 6 ∷ []
 fault_statuses (BadField cause) = 6 ∷ []
 fault_statuses (Format n t p kind) = plan_faults (plan kind n t p)
 fault_statuses (Put name keep) = 4 ∷ 5 ∷ 6 ∷ []
@@ -61,7 +61,7 @@ fault_statuses request = 4 ∷ 6 ∷ []
 
 -- the attaches that a request asks for
 abbrev pub asks_of : Request → List ℕ → List Asked
-asks_of Outside path = []
+asks_of NoCommand path = []
 asks_of (BadField cause) path = []
 asks_of (Format n t p kind) path = plan_asks (plan kind n t p) path
 asks_of Drill path = []
@@ -122,7 +122,7 @@ SaysMemory old new result = SaysLine (Says.Ended Ends.Memory) 7 old new result �
 
 -- of the requests that mount nothing; place is that of the disk's last fault
 abbrev pub SaysAnswer : Request → (place : ℕ) → (old new : Moment) → ℕ → Type 0
-SaysAnswer Outside place old new result = SaysLine Says.Usage 2 old new result
+SaysAnswer NoCommand place old new result = SaysLine Says.Usage 2 old new result
 SaysAnswer (BadField cause) place old new result = SaysLine (field_line cause) 2 old new result
 SaysAnswer (Format n t p kind) place old new result = SaysFormat (plan kind n t p) place old new result
 SaysAnswer Drill place old new result = SaysDrill old new result
@@ -167,14 +167,14 @@ WritesAlone request old new = ⊤
 -- After status 0, by what each moment since the last sync has, the present one among them: so a stop behind a format leaves
 -- its volume.
 abbrev pub HoldsAfter : Request → (Held : (Moment → Type 0) → Type 0) → Type 0
-HoldsAfter Outside Held = ⊥
+HoldsAfter NoCommand Held = ⊥
 HoldsAfter (BadField cause) Held = ⊥
 HoldsAfter (Format n t p kind) Held = IsMadeBy (plan kind n t p) Held
 HoldsAfter request Held = ⊤
 
 -- a request that asks for no attach leaves the disk as it was
 abbrev pub SparesImage : Request → (old new : Moment) → Type 0
-SparesImage Outside old new = Ages old new
+SparesImage NoCommand old new = Ages old new
 SparesImage (BadField cause) old new = Ages old new
 SparesImage (Format n t p kind) old new = SparesUnplanned (plan kind n t p) old new
 SparesImage Drill old new = Ages old new
@@ -184,8 +184,8 @@ SparesImage request old new = ⊤
 
 -- So a request that mounts its image leaves each sound disk, where each moment since the last sync is as sound as the run
 -- begins.
-abbrev pub LeavesSound : {D : Type 0} → Ghosts D → Request → (a b : D) → (result : ℕ) → Type 0
-LeavesSound M request a b result =
+abbrev pub LeavesEachSound : {D : Type 0} → Ghosts D → Request → (a b : D) → (result : ℕ) → Type 0
+LeavesEachSound M request a b result =
     (was : Was) → IsSoundDisk was.layout was.windows was.changes was.forced (M.now a) → IsHeld M a (λ c. IsSoundAsSaid was.layout was.windows was.changes was.forced (M.now a).image c.image) →
     IfMounts request (LeavesRun M request (input_for request (M.ledger a).input) (M.ledger b).input was a b result)
 
@@ -193,8 +193,8 @@ LeavesSound M request a b result =
 
 -- What the program does for a request, over any machine and over an honest one.
 pub record Ran {D : Type 0} (M : Ghosts D) (request : Request) (path : List ℕ) (a b : D) (result : ℕ) : Type 0 where
-  pub status : IsTrue (is_one_of (complete_statuses request ++ fault_statuses request) result)
-  pub complete : NoneRose (M.report a) (M.report b) → IsTrue (is_one_of (complete_statuses request) result)
+  pub status : IsTrue (is_status_of (complete_statuses request ++ fault_statuses request) result)
+  pub complete : NoneRose (M.report a) (M.report b) → IsTrue (is_status_of (complete_statuses request) result)
   pub device : result ≡ 4 → Rose (M.report a).disk_faults (M.report b).disk_faults
   pub output : result ≡ 6 → Rose (M.report a).output_faults (M.report b).output_faults
   pub quiet : IsTrue (is_quiet result) → CountsNone (M.report a) (M.report b)
@@ -214,10 +214,10 @@ pub record Ran {D : Type 0} (M : Ghosts D) (request : Request) (path : List ℕ)
   pub rest : M.honest b → WritesAlone request (M.now a) (M.now b)
   pub mounted : IsTrue (is_of_mounted result) → M.honest b → IfMounts request (AsFound HasVolume (M.now a))
   pub refused : result ≡ 3 → M.honest b → AsFound (λ sectors at. SaysCause (is_script request) (RunMayLose request) sectors at (M.now b)) (M.now a)
-  pub last : IsTrue (is_of_fault result) → M.honest b → IfMounts request (SaysFault (M.report b).fault_place (M.now b) result)
+  pub last : IsTrue (is_of_fault result) → M.honest b → IfMounts request (SaysFaultAt (M.report b).fault_place (M.now b) result)
   pub spent : result ≡ 9 → M.honest b → AsFound (HasSpent (made_for request)) (M.now a)
   pub all : result ≡ 0 → M.honest b → SaysToEnd request (M.left_since b (M.moment a)) (M.ledger a).input (M.now a).said (M.now b)
   pub image : result ≡ 0 → M.honest b → HoldsAfter request (IsHeld M b)
   pub untouched : M.honest b → SparesImage request (M.now a) (M.now b)
-  pub leaves : M.honest b → LeavesSound M request a b result
+  pub leaves : M.honest b → LeavesEachSound M request a b result
   pub accepted : M.honest b → AcceptsSound (M.now a) result

@@ -2,7 +2,7 @@
 ghost use Rattle.std.specs.Prelude.{is_err, ◌++◌};
 ghost use Rattle.fsd_texts.specs.Text.{text};
 ghost use Rattle.fsd_texts.specs.declared.line.Line.TheVariants as Says;
-ghost use Rattle.cfs_program.specs.Drill.{Drills, Speaks};
+ghost use Rattle.cfs_program.specs.Drill.{Drills, SpeaksBytes};
 
 use crate::lives::play;
 use fsd_texts::{Fault, Line};
@@ -33,7 +33,7 @@ pub fn run_drill<M: Machine, W: Files<MemoryMachine> + Drop>(alloc: Global, m: &
 
 // Says the lines of a life.
 fn say_life<M: Machine>(m: &mut M, number: u32, list: &[u8]) -> Result<(), Failed>
-    ensures { Speaks M.Machine (text (Says.Life number) ++ list.now) (is_err result) m.old m.new }
+    ensures { SpeaksBytes M.Machine (text (Says.Life number) ++ list.now) (is_err result) m.old m.new }
 {
     let line = lay_line(&Line::Life(number));
     match say(m, line.as_slice()) {
@@ -44,7 +44,7 @@ fn say_life<M: Machine>(m: &mut M, number: u32, list: &[u8]) -> Result<(), Faile
 
 // Says bytes.
 fn say<M: Machine>(m: &mut M, bytes: &[u8]) -> Result<(), Failed>
-    ensures { Speaks M.Machine bytes.now (is_err result) m.old m.new }
+    ensures { SpeaksBytes M.Machine bytes.now (is_err result) m.old m.new }
 {
     match m.say(bytes) {
         Ok(()) => Ok(()),

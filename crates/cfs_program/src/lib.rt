@@ -18,6 +18,6 @@ pub use making::run_made_up;
 pub use opening::run_command;
 pub use putting::run_input;
 pub use replies::{Alone, Scripted};
-pub use run::{run_out_of_memory, run_outside, run_request};
+pub use run::{run_out_of_memory, run_request, say_usage};
 pub use scripting::run_commands;
 pub use words::run_words;

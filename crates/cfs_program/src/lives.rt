@@ -2,7 +2,7 @@
 ghost use Rattle.std.specs.Prelude.{◌≡◌, ◌+◌, ◌++◌, ◌∷◌, [], List, ℕ, None, length, is_some, if◌then◌else◌, IfOk};
 ghost use Rattle.sector_disk.specs.Memory.{IsHonest, memory_now};
 ghost use Rattle.fsd_files.specs.Files.{Change};
-ghost use Rattle.cfs_program.specs.Drill.{IsKept, IsListOf, ListsPrefix, is_stopped, puts};
+ghost use Rattle.cfs_program.specs.Drill.{KeepsIfHonest, IsListOf, ListsPrefix, is_stopped, puts};
 
 use crate::formatting::run_format;
 use crate::opening::run_command;
@@ -88,7 +88,7 @@ fn put_both<W: Files<MemoryMachine> + Drop>(
     alloc: Global,
     life: &Life,
 ) -> Result<MemoryMachine, AllocError>
-    ensures { IfOk result (λ m. IsKept puts (if is_some life.now.stood then 1 else 2) m) }
+    ensures { IfOk result (λ m. KeepsIfHonest puts (if is_some life.now.stood then 1 else 2) m) }
 {
     let m = made(alloc, life.pair)?;
     let m = put_done::<W>(alloc, m, &FileName::parse(b"a").unwrap(), b'x')?;
@@ -101,7 +101,7 @@ fn put_both<W: Files<MemoryMachine> + Drop>(
 
 // An empty volume. Each weak pair begins at sector 1, but that of the window which the second mount behind it opens.
 fn made(alloc: Global, pair: u32) -> Result<MemoryMachine, AllocError>
-    ensures { IfOk result (λ m. IsKept [] 0 m) }
+    ensures { IfOk result (λ m. KeepsIfHonest [] 0 m) }
 {
     let pairs = [1, 1, 1, pair, 1].to_vec(alloc)?;
     let image = Vec::new(alloc);
@@ -119,7 +119,7 @@ fn put_done<W: Files<MemoryMachine> + Drop>(
     name: &FileName,
     byte: u8,
 ) -> Result<MemoryMachine, AllocError>
-    ensures { IfOk result (λ new. (h : List Change) → IsKept h (length h) m → IsKept (h ++ Change.Put name.now None (byte ∷ []) ∷ []) (length h + 1) new) }
+    ensures { IfOk result (λ new. (h : List Change) → KeepsIfHonest h (length h) m → KeepsIfHonest (h ++ Change.Put name.now None (byte ∷ []) ∷ []) (length h + 1) new) }
 {
     let (m, status) = put_by::<W>(alloc, m, name, byte, Vec::new(alloc))?;
     if status == 0 { Ok(m) } else { Err(AllocError) }
@@ -133,7 +133,7 @@ fn put_stopped<W: Files<MemoryMachine> + Drop>(
     byte: u8,
     stood: u32,
 ) -> Result<MemoryMachine, AllocError>
-    ensures { IfOk result (λ new. (h : List Change) → IsKept h (length h) m → IsKept (h ++ Change.Put name.now None (byte ∷ []) ∷ []) (length h) new) }
+    ensures { IfOk result (λ new. (h : List Change) → KeepsIfHonest h (length h) m → KeepsIfHonest (h ++ Change.Put name.now None (byte ∷ []) ∷ []) (length h) new) }
 {
     let stop = Event::StopIn {
         first: RECORD,
@@ -156,8 +156,8 @@ fn put_by<W: Files<MemoryMachine> + Drop>(
     byte: u8,
     events: Vec<Event>,
 ) -> Result<(MemoryMachine, u8), AllocError>
-    ensures done { IfOk result (λ ran. ran.1 ≡ 0 → (h : List Change) → IsKept h (length h) m → IsKept (h ++ Change.Put name.now None (byte ∷ []) ∷ []) (length h + 1) ran.0) }
-    ensures left { IfOk result (λ ran. (h : List Change) → IsKept h (length h) m → IsKept (h ++ Change.Put name.now None (byte ∷ []) ∷ []) (length h) ran.0) }
+    ensures done { IfOk result (λ ran. ran.1 ≡ 0 → (h : List Change) → KeepsIfHonest h (length h) m → KeepsIfHonest (h ++ Change.Put name.now None (byte ∷ []) ∷ []) (length h + 1) ran.0) }
+    ensures left { IfOk result (λ ran. (h : List Change) → KeepsIfHonest h (length h) m → KeepsIfHonest (h ++ Change.Put name.now None (byte ∷ []) ∷ []) (length h) ran.0) }
 {
     let input = [byte].to_vec(alloc)?;
     let mut m = m.again(events, input);
@@ -171,7 +171,7 @@ fn list_all<W: Files<MemoryMachine> + Drop>(
     m: MemoryMachine,
     hurts: &[u32],
 ) -> Result<MemoryMachine, AllocError>
-    ensures { IfOk result (λ new. IsHonest new → (h : List Change) (f : ℕ) → IsKept h f m → ListsPrefix h f (memory_now new).said) }
+    ensures { IfOk result (λ new. IsHonest new → (h : List Change) (f : ℕ) → KeepsIfHonest h f m → ListsPrefix h f (memory_now new).said) }
 {
     let events = hurt_at_once(alloc, hurts)?;
     list_by::<W>(alloc, m, events)
@@ -195,7 +195,7 @@ fn list_by<W: Files<MemoryMachine> + Drop>(
     m: MemoryMachine,
     events: Vec<Event>,
 ) -> Result<MemoryMachine, AllocError>
-    ensures { IfOk result (λ new. IsHonest new → (h : List Change) (f : ℕ) → IsKept h f m → ListsPrefix h f (memory_now new).said) }
+    ensures { IfOk result (λ new. IsHonest new → (h : List Change) (f : ℕ) → KeepsIfHonest h f m → ListsPrefix h f (memory_now new).said) }
 {
     let mut m = m.again(events, Vec::new(alloc));
     let all = Pattern::parse(b"*").unwrap();

@@ -89,7 +89,7 @@ fn text_of(alloc: Global, answer: &Reply) -> Result<Vec<u8>, AllocError>
             versions,
         } => line_text(
             alloc,
-            &Line::Stat {
+            &Line::Counted {
                 free: *free,
                 waiting: *waiting,
                 pages: *pages,

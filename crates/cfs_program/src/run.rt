@@ -1,7 +1,7 @@
 //! What the program does for a request.
 ghost use Rattle.std.specs.Prelude.{◌≡◌, ℕ, List};
 ghost use Rattle.fsd_runs.specs.declared.request.Request.{Request as Asked};
-ghost use Rattle.fsd_runs.specs.declared.request.Request.TheVariants.{Outside};
+ghost use Rattle.fsd_runs.specs.declared.request.Request.TheVariants.{NoCommand};
 ghost use Rattle.cfs_program.specs.Program.{Ran, field_line};
 
 use crate::drilling::run_drill;
@@ -28,7 +28,7 @@ pub fn run_request<M: Machine, V: Files<M> + Drop, W: Files<MemoryMachine> + Dro
     ensures { Ran M.Machine request.now path.now m.old m.new result }
 {
     match request {
-        Request::Outside => run_outside(m),
+        Request::NoCommand => say_usage(m),
         Request::BadField(cause) => last_line(m, &field_line(*cause), 2),
         Request::Format {
             sectors,
@@ -45,8 +45,8 @@ pub fn run_request<M: Machine, V: Files<M> + Drop, W: Files<MemoryMachine> + Dro
 }
 
 /// Says how it is used, where the words are outside the command set.
-pub fn run_outside<M: Machine>(m: &mut M) -> u8
-    ensures { (path : List ℕ) → Ran M.Machine Outside path m.old m.new result }
+pub fn say_usage<M: Machine>(m: &mut M) -> u8
+    ensures { (path : List ℕ) → Ran M.Machine NoCommand path m.old m.new result }
 {
     last_line(m, &Line::Usage, 2)
 }

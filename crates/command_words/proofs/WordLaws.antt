@@ -9,8 +9,8 @@ use Rattle.clap.specs.Takes.{takes}
 use Rattle.clap.specs.Faults.{fault_of, is_simple_and_free}
 use Rattle.clap.specs.declared.parser.matches.ArgMatches.TheViews.{out-SubCommand}
 use Rattle.clap.specs.declared.parser.matches.SubCommand.{SubCommand}
-use Rattle.fsd_runs.specs.declared.request.Request.TheVariants.{Outside}
-use Rattle.fsd_runs.specs.Words.{cfs, entered, image_in, path_of, request_of}
+use Rattle.fsd_runs.specs.declared.request.Request.TheVariants.{NoCommand}
+use Rattle.fsd_runs.specs.Words.{cfs, entered_request, image_word, path_of, request_of}
 use Rattle.command_words.proofs.TakenLaws.{taken_without_fault}
 
 pub word_or_none : (o : Option (Bor (List ℕ))) (d : Bor (List ℕ)) (word : Option (List ℕ)) → d.now ≡ [] → option_map (λ s. s.now) o ≡ word → (unwrap_or o d).now ≡ unwrap_or word []
@@ -37,11 +37,11 @@ module _ (a : App) (words : List Text) (is : a ≡ cfs) where
   taken : fault_of a words ≡ [] → takes cfs words ≡ true
   taken none = set_takes words (subst (λ (x : App). fault_of x words ≡ []) is none)
 
-  pub request_taken : fault_of a words ≡ [] → entered (subcommand_of a words) ≡ request_of words
-  request_taken none = ap (λ (x : App). entered (subcommand_of x words)) is ∙ sym (ap (λ (b : Bool). cond b (entered (subcommand_of cfs words)) Outside) (taken none))
+  pub request_taken : fault_of a words ≡ [] → entered_request (subcommand_of a words) ≡ request_of words
+  request_taken none = ap (λ (x : App). entered_request (subcommand_of x words)) is ∙ sym (ap (λ (b : Bool). cond b (entered_request (subcommand_of cfs words)) NoCommand) (taken none))
 
-  pub path_taken : fault_of a words ≡ [] → image_in (subcommand_of a words) ≡ path_of words
-  path_taken none = ap (λ (x : App). image_in (subcommand_of x words)) is ∙ sym (ap (λ (b : Bool). cond b (image_in (subcommand_of cfs words)) []) (taken none))
+  pub path_taken : fault_of a words ≡ [] → image_word (subcommand_of a words) ≡ path_of words
+  path_taken none = ap (λ (x : App). image_word (subcommand_of x words)) is ∙ sym (ap (λ (b : Bool). cond b (image_word (subcommand_of cfs words)) []) (taken none))
 
   refused : (takes a words ≡ true → ⊥) → takes cfs words ≡ false
   refused never = go (takes cfs words) refl
@@ -50,8 +50,8 @@ module _ (a : App) (words : List Text) (is : a ≡ cfs) where
       go true e = absurd (never (ap (λ (x : App). takes x words) is ∙ e))
       go false e = refl
 
-  pub request_refused : (takes a words ≡ true → ⊥) → Outside ≡ request_of words
-  request_refused never = sym (ap (λ (b : Bool). cond b (entered (subcommand_of cfs words)) Outside) (refused never))
+  pub request_refused : (takes a words ≡ true → ⊥) → NoCommand ≡ request_of words
+  request_refused never = sym (ap (λ (b : Bool). cond b (entered_request (subcommand_of cfs words)) NoCommand) (refused never))
 
   pub path_refused : (takes a words ≡ true → ⊥) → [] ≡ path_of words
-  path_refused never = sym (ap (λ (b : Bool). cond b (image_in (subcommand_of cfs words)) []) (refused never))
+  path_refused never = sym (ap (λ (b : Bool). cond b (image_word (subcommand_of cfs words)) []) (refused never))

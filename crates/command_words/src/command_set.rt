@@ -1,10 +1,15 @@
-//! The commands of the program, as `clap` is told of them.
+//! The commands of the program: as `clap` is told of them, and how the fields of each are read.
 ghost use Rattle.std.specs.Prelude.{◌≡◌, IfOk, codes, fold};
+ghost use Rattle.clap.specs.Matches.{found_of};
 ghost use Rattle.clap.specs.Simple.{app_of, new_app};
-ghost use Rattle.fsd_runs.specs.Words.{cfs};
+ghost use Rattle.clap.specs.Walk.{rows_of};
+ghost use Rattle.fsd_runs.specs.Words.{cfs, reads_fields, reads_format, reads_generate, reads_keep, reads_put};
 ghost use Rattle.command_words.specs.CommandSet.{IsCommand, shape_of, with_row};
 
-use clap::{Arg, Command};
+use crate::field::{field, keep_of, key_of, layout_of, name_of, number_at, pattern_of, seed_of};
+use clap::{Arg, ArgMatches, Command};
+use fsd_runs::Request;
+use fsd_texts::{Cause, Command as Word};
 use std::alloc::{AllocError, Global};
 
 // A command, its positionals, all of them required, and its options, each of which takes a value.
@@ -120,4 +125,64 @@ fn command_of<'a>(alloc: Global, row: &Row<'a>) -> Result<Command<'a>, AllocErro
         command = command.arg(Arg::new(alloc, option).long(option))?;
     }
     Ok(command)
+}
+
+/// The fields of a command, from the left.
+pub(crate) fn read_fields(name: &str, fields: &ArgMatches<'_>) -> Result<Request, Cause>
+    ensures { result ≡ reads_fields name.now (rows_of (found_of fields.now)) }
+{
+    match name {
+        "format" => read_format(fields),
+        "put" => read_put(fields),
+        "get" => Ok(Request::One(Word::Get(key_of(field(fields, "key"))?))),
+        "list" => Ok(Request::One(Word::List(pattern_of(field(fields, "pat"))?))),
+        "delete" => Ok(Request::One(Word::Delete(key_of(field(fields, "key"))?))),
+        "keep" => read_keep(fields),
+        "stat" => Ok(Request::One(Word::Stat)),
+        "scrub" => Ok(Request::One(Word::Scrub)),
+        "upgrade" => Ok(Request::One(Word::Upgrade)),
+        "script" => Ok(Request::Script),
+        "generate" => read_generate(fields),
+        "drill" => Ok(Request::Drill),
+        _ => Ok(Request::NoCommand),
+    }
+}
+
+fn read_format(fields: &ArgMatches<'_>) -> Result<Request, Cause>
+    ensures { result ≡ reads_format (rows_of (found_of fields.now)) }
+{
+    let sectors = number_at(fields, "n")?;
+    let third = number_at(fields, "t")?;
+    let pages = number_at(fields, "p")?;
+    let kind = layout_of(fields)?;
+    Ok(Request::Format {
+        sectors,
+        third,
+        pages,
+        kind,
+    })
+}
+
+fn read_put(fields: &ArgMatches<'_>) -> Result<Request, Cause>
+    ensures { result ≡ reads_put (rows_of (found_of fields.now)) }
+{
+    let name = name_of(field(fields, "name"))?;
+    let keep = keep_of(fields)?;
+    Ok(Request::Put { name, keep })
+}
+
+fn read_keep(fields: &ArgMatches<'_>) -> Result<Request, Cause>
+    ensures { result ≡ reads_keep (rows_of (found_of fields.now)) }
+{
+    let name = name_of(field(fields, "name"))?;
+    let keep = number_at(fields, "k")?;
+    Ok(Request::One(Word::Keep { name, keep }))
+}
+
+fn read_generate(fields: &ArgMatches<'_>) -> Result<Request, Cause>
+    ensures { result ≡ reads_generate (rows_of (found_of fields.now)) }
+{
+    let seed = seed_of(field(fields, "seed"))?;
+    let count = number_at(fields, "count")?;
+    Ok(Request::Generate { seed, count })
 }

@@ -18,7 +18,7 @@ use Rattle.sector_disk.specs.declared.sector.Sector.{Sector}
 use Rattle.sector_disk.specs.declared.sector.Sector.TheVariants.{Whole, Damaged}
 use Rattle.sector_disk.specs.Image.{sector_at}
 use Rattle.fsd_files.proofs.HistoryLaws.{fold_both}
-use Rattle.fsd_files.specs.Answers.{Met, Outcome, refused, enter_fault, entered_unless, entered, put_at, put_unless, size_fault, keep_given, deleted, keep_set, entry_of, highest_entry, upgraded, got, Finds, FindsIn}
+use Rattle.fsd_files.specs.Answers.{Met, Outcome, refused, enter_fault, entered_unless, entered_version, put_at, put_unless, size_fault, keep_given, deleted, keep_set, entry_of, highest_entry, upgraded, got, FindsDamage, FindsDamageIn}
 use Rattle.fsd_files.specs.Disk.{Image}
 use Rattle.fsd_files.specs.Files.{Change, File, Files, step}
 use Rattle.fsd_files.specs.Kept.{range_sectors}
@@ -28,7 +28,7 @@ use Rattle.fsd_texts.specs.declared.command.Command.{Command}
 use Rattle.fsd_texts.specs.declared.command.Command.TheVariants as Word
 use Rattle.fsd_runs.specs.Commands.{answer, changes_of, MayFind}
 use Rattle.fsd_runs.specs.Errands.{Turn, Errand, answered_so, is_forced}
-use Rattle.fsd_runs.specs.Runs.{behind, turn_of, changes_in, forced_in, turns_begun}
+use Rattle.fsd_runs.specs.Runs.{session_behind, turn_of, changes_in, forced_in, turns_begun}
 
 -- ---- one answer: nothing is changed, or the change is made
 
@@ -81,10 +81,10 @@ put_enters : (met : Met) (v : Volume) (name bytes : List ℕ) (given : Option �
 put_enters met v name bytes given runs serial (Some why) = inl (record { none = refl; same = same_itself v })
 put_enters met v name bytes given runs serial None = inr (record { change = Change.Put name given bytes; is = refl; files = refl; reached = refl; held = refl; unforced = omega arith })
 
-put_entered : (met : Met) (v : Volume) (name bytes : List ℕ) (given : Option ℕ) (runs : List Run) (serial : Serial) → Does met v (Word.Put name bytes given) (entered met v name bytes given runs serial)
+put_entered : (met : Met) (v : Volume) (name bytes : List ℕ) (given : Option ℕ) (runs : List Run) (serial : Serial) → Does met v (Word.Put name bytes given) (entered_version met v name bytes given runs serial)
 put_entered met v name bytes given runs serial =
     let at = forced_if met.forces v in
-    does_from met v at (Word.Put name bytes given) (entered met v name bytes given runs serial) (same_forced (met.forces && nat_le 2 v.unforced) v) (put_enters met at name bytes given runs serial (enter_fault at name))
+    does_from met v at (Word.Put name bytes given) (entered_version met v name bytes given runs serial) (same_forced (met.forces && nat_le 2 v.unforced) v) (put_enters met at name bytes given runs serial (enter_fault at name))
 
 put_placed : (met : Met) (v : Volume) (name bytes : List ℕ) (given : Option ℕ) (need : ℕ) (o : Option (List Run)) → Does met v (Word.Put name bytes given) (put_at met v name bytes given need o)
 put_placed met v name bytes given need None = inl (record { none = refl; same = same_itself v })
@@ -172,19 +172,19 @@ forces_all met v command e = absurd cc
 
 -- ---- each command meets something
 
-pub finds : (i : Image) (sectors : List ℕ) → (damaged : Option ℕ) × Finds i i sectors damaged
+pub finds : (i : Image) (sectors : List ℕ) → (damaged : Option ℕ) × FindsDamage i i sectors damaged
 finds i [] = (None, tt)
 finds i (s ∷ sectors) = by (sector_at i s) refl (finds i sectors)
   where
-    by : (x : Sector) → sector_at i s ≡ x → (damaged : Option ℕ) × Finds i i sectors damaged → (damaged : Option ℕ) × Finds i i (s ∷ sectors) damaged
+    by : (x : Sector) → sector_at i s ≡ x → (damaged : Option ℕ) × FindsDamage i i sectors damaged → (damaged : Option ℕ) × FindsDamage i i (s ∷ sectors) damaged
     by Damaged is rest = (Some s, inl (refl, is))
     by (Whole bytes) is (None, rest) = (None, ((bytes, is), rest))
     by (Whole bytes) is (Some t, rest) = (Some t, inr ((bytes, is), rest))
 
-finds_in : (i : Image) (v : Volume) (key : Key) → (damaged : Option ℕ) × FindsIn i i v key damaged
+finds_in : (i : Image) (v : Volume) (key : Key) → (damaged : Option ℕ) × FindsDamageIn i i v key damaged
 finds_in i v key = by (entry_of key v.entries)
   where
-    by : (o : Option Entry) → (damaged : Option ℕ) × IfSome o (λ e. Finds i i (range_sectors e.runs 0 e.length) damaged)
+    by : (o : Option Entry) → (damaged : Option ℕ) × IfSome o (λ e. FindsDamage i i (range_sectors e.runs 0 e.length) damaged)
     by None = (None, tt)
     by (Some e) = finds i (range_sectors e.runs 0 e.length)
 

@@ -16,7 +16,7 @@ use Rattle.fsd_texts.specs.declared.fault.Fault.TheVariants as Ends
 use Rattle.fsd_texts.specs.declared.end.End.TheVariants.{Done}
 use Rattle.fsd_texts.specs.Script.{script_in, script_of}
 use Rattle.fsd_runs.specs.Commands.{may_wear_out}
-use Rattle.fsd_runs.specs.Errands.{Errand, Turn, alone, blank, cut_off, forced_turn, scripted}
+use Rattle.fsd_runs.specs.Errands.{Errand, Turn, errand_alone, blank, cut_off, forced_turn, scripted}
 use Rattle.fsd_runs.specs.Runs.{IsCutBefore, IsStep, answered, last_count, said_in}
 use Rattle.fsd_runs.specs.Sessions.{Meeting, session_over}
 use Rattle.fsd_runs.proofs.Plain.{behind, default, fresh, lines, meets, plain, plainly, says, turns_on}
@@ -30,7 +30,7 @@ puts_a_b_c = lines (codes "put a 0" ∷ codes "" ∷ codes "put b 0" ∷ codes "
 -- ---- a bad line behind three puts
 
 abbrev three_and_bad : Errand
-three_and_bad = scripted (script_in (puts_a_b_c ++ lines (codes "stat x" ∷ [])))
+three_and_bad = scripted (script_in (puts_a_b_c ++ lines (codes "tick x" ∷ [])))
 
 says_three_and_bad : says three_and_bad default ≡ lines (codes "made a!1 1" ∷ codes "made b!1 1" ∷ codes "made c!1 1" ∷ codes "forced" ∷ codes "bad line 4: word count" ∷ [])
 unfolding digits
@@ -54,49 +54,29 @@ from_the_start = refl
 one_waits : (put_outcome plain small (codes "b") (replicate 20480 2) None).1.unforced ≡ 1
 one_waits = refl
 
--- ---- a force by itself
-
-abbrev forcing : Met
-forcing = record { forces = true; reached = 1; damaged = None; found = []; healed = 0 }
-
-abbrev three : List ScriptCommand
-three = map (λ c. Plain c) (Word.Put (codes "a") (codes "x") None ∷ Word.Delete (key_of (codes "a") 1) ∷ Word.Put (codes "b") (codes "y") None ∷ Word.Stat ∷ [])
-
-abbrev said_with : List Met → List ℕ
-said_with mets = said_in (turns_on (scripted (three, Done)) mets default)
-
--- it comes behind the pick, so b!1 lies behind what waits, which is free then
-forced_behind_the_pick : said_with (plain ∷ plain ∷ forcing ∷ plain ∷ [])
-    ≡ lines (codes "made a!1 2" ∷ codes "deleted a!1" ∷ codes "made b!1 2" ∷ codes "stat free 1125 waiting 0 pages 63 versions 1" ∷ codes "forced" ∷ [])
-unfolding digits
-forced_behind_the_pick = refl
-
--- with one change it can't come
-not_behind_one : said_with (plain ∷ forcing ∷ plain ∷ plain ∷ [])
-    ≡ lines (codes "made a!1 2" ∷ codes "deleted a!1" ∷ codes "made b!1 2" ∷ codes "stat free 1123 waiting 2 pages 63 versions 1" ∷ codes "forced" ∷ [])
-unfolding digits
-not_behind_one = refl
-
 -- ---- a damaged sector
 
 abbrev finds_922 : Met
 finds_922 = record { forces = false; reached = 1; damaged = Some 922; found = []; healed = 0 }
 
 abbrev gets : Errand
-gets = scripted (map (λ c. Plain c) (Word.Put (codes "a") (codes "x") None ∷ Word.Get (key_of (codes "a") 1) ∷ Word.Stat ∷ []), Done)
+gets = scripted (map (λ c. Plain c) (Word.Put (codes "a") (codes "x") None ∷ Word.Get (key_of (codes "a") 1) ∷ Word.Delete (key_of (codes "a") 1) ∷ []), Done)
 
 -- a script says it and goes on
-damaged_in_a_script : said_in (turns_on gets (plain ∷ finds_922 ∷ plain ∷ []) default) ≡ lines (codes "made a!1 2" ∷ codes "damaged a!1 922" ∷ codes "stat free 1125 waiting 0 pages 63 versions 1" ∷ codes "forced" ∷ [])
+damaged_in_a_script : said_in (turns_on gets (plain ∷ finds_922 ∷ plain ∷ []) default) ≡ lines (codes "made a!1 2" ∷ codes "damaged a!1 922" ∷ codes "deleted a!1" ∷ codes "forced" ∷ [])
 unfolding digits
 damaged_in_a_script = refl
 
 status_in_a_script : status gets (plain ∷ finds_922 ∷ plain ∷ []) default ≡ 0
 status_in_a_script = refl
 
-status_alone : status (alone (Word.Get (key_of (codes "a") 1))) (finds_922 ∷ []) (behind default (Word.Put (codes "a") (codes "x") None ∷ [])) ≡ 8
+status_alone : status (errand_alone (Word.Get (key_of (codes "a") 1))) (finds_922 ∷ []) (behind default (Word.Put (codes "a") (codes "x") None ∷ [])) ≡ 8
 status_alone = refl
 
 -- ---- a group that is cut off
+
+abbrev three : List ScriptCommand
+three = map (λ c. Plain c) (Word.Put (codes "a") (codes "x") None ∷ Word.Delete (key_of (codes "a") 1) ∷ Word.Put (codes "b") (codes "y") None ∷ Word.Get (key_of (codes "b") 1) ∷ [])
 
 abbrev worn : Errand
 worn = cut_off (Some (1, Ends.WornOut)) (scripted (three, Done))
@@ -112,8 +92,8 @@ status_worn_out = refl
 before_a_delete : IsCutBefore (Some (1, Ends.WornOut)) (session_over default) three
 before_a_delete = refl
 
-not_before_a_stat : IsCutBefore (Some (3, Ends.WornOut)) (session_over default) three → ⊥
-not_before_a_stat is = absurd (cc is)
+not_before_a_get : IsCutBefore (Some (3, Ends.WornOut)) (session_over default) three → ⊥
+not_before_a_get is = absurd (cc is)
 
 not_at_the_end : IsCutBefore (Some (4, Ends.WornOut)) (session_over default) three → ⊥
 not_at_the_end is = is
@@ -151,5 +131,5 @@ walk_fails_with_no_command : turns_on (scripted ([], Done)) [] default ≡ force
 walk_fails_with_no_command = refl
 
 -- of one change all is forced once it is said, and nothing before
-alone_is_forced : map (λ (t : Turn). t.forces) (turns_on (alone (Word.Put (codes "a") [] None)) (plain ∷ []) default) ≡ true ∷ []
+alone_is_forced : map (λ (t : Turn). t.forces) (turns_on (errand_alone (Word.Put (codes "a") [] None)) (plain ∷ []) default) ≡ true ∷ []
 alone_is_forced = refl

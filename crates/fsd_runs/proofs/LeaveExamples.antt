@@ -20,7 +20,7 @@ use Rattle.fsd_log.specs.Judged.{judged, record_in}
 use Rattle.fsd_log.specs.Scan.{Head, scan}
 use Rattle.fsd_table.specs.Pages.{page_at}
 use Rattle.fsd_table.specs.Table.{Telling, told_in, visits}
-use Rattle.fsd_files.specs.Answers.{FindsIn}
+use Rattle.fsd_files.specs.Answers.{FindsDamageIn}
 use Rattle.fsd_files.specs.Disk.{Image, nowhere, in_runs}
 use Rattle.fsd_files.specs.Files.{Change}
 use Rattle.fsd_files.specs.Kept.{Kept}
@@ -40,7 +40,7 @@ use Rattle.fsd_runs.specs.Commands.{answer, reply_text}
 use Rattle.fsd_runs.specs.declared.request.Request.TheVariants.{Script}
 use Rattle.fsd_runs.specs.Errands.{Turn, blank, forced_turn, generated, scripted}
 use Rattle.fsd_runs.specs.Leaves.{SaysNext}
-use Rattle.fsd_runs.specs.Runs.{Run, Goes, IsCutAt, IsStep, IsWornOut, Stood, forced_in, last_count}
+use Rattle.fsd_runs.specs.Runs.{Course, Goes, IsCutAt, IsStep, IsWornOut, StoodAt, forced_in, last_count}
 use Rattle.fsd_runs.specs.Sessions.{session_over}
 use Rattle.fsd_runs.proofs.Plain.{default, lines, meets, plain, turns_on}
 
@@ -118,7 +118,7 @@ get_a = Word.Get (key_of (codes "a") 1)
 abbrev at_any : Moment → Type 0
 at_any t = ⊤
 
-stood : (said : List ℕ) (i : Image) → Stood at_any said i
+stood : (said : List ℕ) (i : Image) → StoodAt at_any said i
 stood said i = record { moment = record { image = i; windows = record { present = None; next = None }; said = said; time = 0; synced = 0 }; passed = tt; image = refl; so_far = refl }
 
 -- right behind a mount neither the serials nor the log are used up
@@ -162,7 +162,7 @@ a_is_kept : Kept with_a after_put.files after_put.entries (in_runs window)
 unfolding with_a mounted
 a_is_kept = ((inl refl, tt), tt)
 
-a_is_found : FindsIn with_a with_a after_put (key_of (codes "a") 1) None
+a_is_found : FindsDamageIn with_a with_a after_put (key_of (codes "a") 1) None
 unfolding with_a mounted
 a_is_found = ((sector (codes "x"), refl), tt)
 
@@ -188,7 +188,7 @@ two_steps : Goes (in_runs window) at_any (IsCutAt None) (scripted spelled) [] mo
 unfolding said_of_put
 two_steps = (with_a, put_step [], (with_a, get_step said_of_put, tt))
 
-put_and_get : Run Script input window at_any [] default mounted
+put_and_get : Course Script input window at_any [] default mounted
 put_and_get = record {
   cut = None;
   may = tt;

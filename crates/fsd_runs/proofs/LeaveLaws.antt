@@ -1,5 +1,5 @@
 -- Runs go on from what a stop leaves; and where no fault is counted a run says all, or that memory was refused.
-use Rattle.std.proofs.Common.{◌≡◌, ◌⊎◌, inl, inr, ⊎_elim, ℕ, zero, suc, ◌+◌, ◌≤◌, List, [], ◌∷◌, ◌++◌, length, take, Option, Some, None, refl, sym, ap, ◌∙◌, arith}
+use Rattle.std.proofs.Common.{◌≡◌, ◌⊎◌, inl, inr, ⊎_elim, ℕ, zero, suc, ◌+◌, ◌≤◌, List, [], ◌∷◌, ◌++◌, length, take, None, refl, sym, ap, ◌∙◌, arith}
 use Rattle.std.specs.Prelude.{min}
 use Rattle.std.specs.List.{last_or}
 use Rattle.std.proofs.lemmas.List.{length-take, take-append-le}
@@ -16,18 +16,16 @@ use Rattle.fsd_files.specs.Files.{Change}
 use Rattle.fsd_sound.specs.Laid.{HasOwnRoots}
 use Rattle.fsd_sound.specs.Sound.{IsPrefixOf, IsRootAt, IsSaid, SaysTurned, weak_of}
 use Rattle.fsd_sound.proofs.TurnedLaws.{said_sound}
+use Rattle.fsd_sound.proofs.WindowLaws.{last_snoc}
+use Rattle.fsd_sound.proofs.SectorFacts.{has_bytes}
 use Rattle.fsd_texts.specs.declared.fault.Fault.{Fault}
 use Rattle.fsd_texts.specs.declared.fault.Fault.TheVariants as Ends
 use Rattle.fsd_texts.specs.Text.{fault_text, memory_text}
 use Rattle.fsd_runs.specs.declared.request.Request.{Request}
 use Rattle.fsd_runs.specs.declared.request.Request.TheVariants as Asks
 use Rattle.fsd_runs.specs.Errands.{Turn, fault_status}
-use Rattle.fsd_runs.specs.Leaves.{IfOne, IsBroken, IsOutside, IsReplied, IsSoundAsSaid, IsUnsaid, Left, NoneRose, SaysThen, StaysSound}
+use Rattle.fsd_runs.specs.Leaves.{IfOne, IsBrokenOff, IsOutside, IsReplied, IsSoundAsSaid, IsUnsaid, Left, NoneRose, SaysThen, StaysSound}
 use Rattle.fsd_runs.specs.Runs.{changes_in}
-
-last_is : (windows : List WeakRun) (o : Option WeakRun) (run : WeakRun) → last_or o (windows ++ run ∷ []) ≡ Some run
-last_is [] o run = refl
-last_is (w ∷ windows) o run = last_is windows (Some w) run
 
 take_of_take : (f n : ℕ) (h : List Change) → f ≤ n → take f (take n h) ≡ take f h
 take_of_take zero n h le = refl
@@ -52,7 +50,7 @@ left_stays l layout form windows run h f n turns old left prefix ends (inr s) =
       changes = take n h ++ changes_in (take (suc s.whole) turns);
       count = n + s.forced;
       keeps = record { forced = omega (arith, forced); same = take-append-le f (take n h) (changes_in (take (suc s.whole) turns)) few ∙ take_of_take f n h forced };
-      present = last_is windows None run ∙ sym (ap (λ (w : Windows). w.present) s.settled);
+      present = last_snoc None windows run ∙ sym (ap (λ (w : Windows). w.present) s.settled);
       sound = s.sound;
     }
 
@@ -64,18 +62,13 @@ one_more request weaker fact = tt
 
 -- ---- with the same machine
 
--- a whole sector has the bytes that stand in it
-stands_as : (weak : Sectors) (i : Image) (bytes have : List ℕ) (s : ℕ) → Has weak i bytes s → sector_at i s ≡ Whole have → bytes ≡ have
-stands_as weak i bytes have s (inl stands) whole = cc (stands, whole)
-stands_as weak i bytes have s (inr (hurt, damaged)) whole = absurd (cc (damaged, whole))
-
 -- both of a disk's roots are as those of one that says the layout turned
 module _ (l own : Layout) (weak : Sectors) (i j : Image) (at_i : HasOwnRoots own weak i) (at_j : HasOwnRoots own weak j) (says : SaysTurned l i) where
   root_is : root_bytes own ≡ root_bytes (turned l)
-  root_is = ⊎_elim (λ first. stands_as weak i (root_bytes own) (root_bytes (turned l)) 0 at_i.0 first) (λ second. stands_as weak i (root_bytes own) (root_bytes (turned l)) 4 at_i.1 second) says
+  root_is = ⊎_elim (λ first. has_bytes weak i (root_bytes own) (root_bytes (turned l)) 0 at_i.0 first) (λ second. has_bytes weak i (root_bytes own) (root_bytes (turned l)) 4 at_i.1 second) says
 
   root_there : (s : ℕ) → Has weak j (root_bytes own) s → IsRootAt l j s → sector_at j s ≡ Whole (root_bytes (turned l))
-  root_there s has root = root.1 ∙ ap (λ (bytes : List ℕ). Whole bytes) (sym (stands_as weak j (root_bytes own) root.0 s has root.1) ∙ root_is)
+  root_there s has root = root.1 ∙ ap (λ (bytes : List ℕ). Whole bytes) (sym (has_bytes weak j (root_bytes own) root.0 s has root.1) ∙ root_is)
 
   turned_there : IsRootAt l j 0 ⊎ IsRootAt l j 4 → SaysTurned l j
   turned_there some = ⊎_elim (λ first. inl (root_there 0 at_j.0 first)) (λ second. inr (root_there 4 at_j.1 second)) some
@@ -92,7 +85,7 @@ replied_held l windows run h n turns status behind old new held result x layout 
 
 -- a run that neither says all nor has a fault counted says that memory was refused
 pub broken_by_memory : (request : Request) (Undone : ℕ → Image → Type 0) (UnderWay : ℕ → Type 0) (before after : Report) (turns : List Turn) (old new : Moment) (result : ℕ) → NoneRose before after
-    → IsUnsaid before after result ⊎ IsBroken request Undone UnderWay before after turns old new result → (result ≡ 7) × (x : SaysThen turns memory_text old new) × Undone x.whole new.image
+    → IsUnsaid before after result ⊎ IsBrokenOff request Undone UnderWay before after turns old new result → (result ≡ 7) × (x : SaysThen turns memory_text old new) × Undone x.whole new.image
 broken_by_memory request Undone UnderWay before after turns old new result none (inl unsaid) = absurd (none.output unsaid.rose)
 broken_by_memory request Undone UnderWay before after turns old new result none (inr broken) = by request broken.why broken.outside broken.ends broken.says broken.undone
   where

@@ -1,4 +1,5 @@
 pub mod AnswerLaws
+mod CountExamples
 pub mod EndExamples
 pub mod LeaveExamples
 pub mod LeaveLaws

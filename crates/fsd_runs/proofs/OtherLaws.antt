@@ -1,6 +1,6 @@
 -- No line of a script asks for a scrub or an upgrade, and no command that is made up is one.
 use Rattle.std.proofs.Common.{◌≡◌, ℕ, zero, suc, ◌+◌, ◌%◌, Bool, true, false, List, [], ◌∷◌, length, take, drop, Option, None, Some, Result, Ok, Err, subst}
-use Rattle.std.specs.Prelude.{◌&&◌, ◌==◌, IfOk, codes, nat_le, nat_lt, slice_index, if◌then◌else◌}
+use Rattle.std.specs.Prelude.{◌&&◌, ◌==◌, IfOk, IfSome, codes, nat_le, nat_lt, slice_index, if◌then◌else◌}
 use Rattle.std.specs.List.{AllByRecursion}
 use Rattle.fsd_texts.specs.declared.asking.Asking.{Asking}
 use Rattle.fsd_texts.specs.declared.asking.Asking.TheVariants.{OfClient, Piece, Plainly, Put}
@@ -15,8 +15,8 @@ use Rattle.fsd_texts.specs.declared.command.Command.TheVariants as Word
 use Rattle.fsd_texts.specs.declared.end.End.TheVariants.{TooLong}
 use Rattle.fsd_texts.specs.declared.script_command.ScriptCommand.{ScriptCommand}
 use Rattle.fsd_texts.specs.declared.script_command.ScriptCommand.TheVariants as Asked
-use Rattle.fsd_texts.specs.Generator.{amount_of, command_of_draw, command_of_kind, draw_of, kind_of, made_bytes, made_from, made_name, name_number, next_state}
-use Rattle.fsd_texts.specs.Script.{◌>>=◌, Script, asked_by, asks, asks_alone, asks_begin, asks_client, asks_keep, asks_piece, asks_put, call_with_field, call_with_none, command_at, commands_from, key_in, line_at, max_line, name_in, needs_more, number_in, pattern_in, script_from, then_more, whole_command, with_bytes, with_field, with_no_field, words_of}
+use Rattle.fsd_texts.specs.Generator.{amount_of, command_of_draw, command_of_kind, draw_of, drawn_kind, made_bytes, made_from, made_name, name_number, next_state}
+use Rattle.fsd_texts.specs.Script.{CommandRead, ◌>>=◌, Script, asked_by, asks, asks_alone, asks_begin, asks_client, asks_keep, asks_lone, asks_piece, asks_put, call_with_field, call_with_none, command_at, commands_from, key_in, line_at, lone_in, lone_words, max_line, name_in, needs_more, number_in, pattern_in, script_from, then_more, whole_command, taking_bytes, with_field, with_no_field, words_of}
 
 -- another command than a scrub and an upgrade
 abbrev pub IsOther : Command → Type 0
@@ -26,9 +26,6 @@ IsOther command = Unit {0}
 
 pub no_scrub : (command : Command) → IsOther command → command ≡ Word.Scrub → ⊥
 no_scrub command other is = subst IsOther is other
-
-pub no_upgrade : (command : Command) → IsOther command → command ≡ Word.Upgrade → ⊥
-no_upgrade command other is = subst IsOther is other
 
 abbrev pub AreOthers : List Command → Type 0
 AreOthers commands = AllByRecursion IsOther commands
@@ -139,10 +136,24 @@ client_asks word fields =
     (Err UnknownWord)
     (begin_asks fields, (piece_asks fields, (call_none Calls.Close fields, (call_none Calls.Drop fields, (call_field key_in Calls.Open fields, (call_field number_in Calls.Next fields, (call_none Calls.Done fields, tt))))))) tt
 
+-- by a word that stands alone
+
+abbrev AreOtherWords : List (List ℕ × Command) → Type 0
+AreOtherWords lone = AllByRecursion (λ x. IsOther x.1) lone
+
+lone_others : AreOtherWords lone_words
+lone_others = (tt, (tt, (tt, tt)))
+
+found_other : (lone : List (List ℕ × Command)) → AreOtherWords lone → (word : List ℕ) → IfSome (lone_in lone word) IsOther
+found_other [] others word = tt
+found_other (x ∷ lone) others word = pick (λ found. IfSome found IsOther) (same_bytes word x.0) (Some x.1) (lone_in lone word) others.0 (found_other lone others.1 word)
+
+lone_asks : (found : Option Command) → IfSome found IsOther → (word : List ℕ) (fields : List (List ℕ)) → IfOk (asks_lone found word fields) AsksOther
+lone_asks (Some command) other word fields = no_field command other fields
+lone_asks None other word fields = client_asks word fields
+
 alone_asks : (word : List ℕ) (fields : List (List ℕ)) → IfOk (asks_alone word fields) AsksOther
-alone_asks word fields =
-    each_first ReadsOther (is_word word (codes "force") (with_no_field Word.Force fields) ∷ is_word word (codes "tick") (with_no_field Word.Tick fields) ∷ is_word word (codes "stat") (with_no_field Word.Stat fields) ∷ []) (asks_client word fields)
-    (no_field Word.Force tt fields, (no_field Word.Tick tt fields, (no_field Word.Stat tt fields, tt))) (client_asks word fields)
+alone_asks word fields = lone_asks (lone_in lone_words word) (found_other lone_words lone_others word) word fields
 
 word_asks : (word : List ℕ) (fields : List (List ℕ)) → IfOk (asks word fields) AsksOther
 word_asks word fields =
@@ -162,9 +173,6 @@ line_asks ((b ∷ word) ∷ fields) = word_asks (b ∷ word) fields
 abbrev pub GivesOther : ScriptCommand × List ℕ → Type 0
 GivesOther x = IsOtherIn x.0
 
-abbrev CommandRead : Type 0
-CommandRead = Result (ScriptCommand × List ℕ) Cause
-
 abbrev ReadsWhole : CommandRead → Type 0
 ReadsWhole read = IfOk read GivesOther
 
@@ -174,7 +182,7 @@ short_of len rest = (nat_le (length rest) len, Err ShortBytes)
 abbrev bytes_of : (List ℕ → ScriptCommand) → ℕ → List ℕ → Bool × CommandRead
 bytes_of make len rest = (slice_index rest len == 10, Ok (make (take len rest), drop (len + 1) rest))
 
-bytes_other : (make : List ℕ → ScriptCommand) → ((bytes : List ℕ) → IsOtherIn (make bytes)) → (len : ℕ) (rest : List ℕ) → IfOk (with_bytes make len rest) GivesOther
+bytes_other : (make : List ℕ → ScriptCommand) → ((bytes : List ℕ) → IsOtherIn (make bytes)) → (len : ℕ) (rest : List ℕ) → IfOk (taking_bytes make len rest) GivesOther
 bytes_other make other len rest = each_first ReadsWhole (short_of len rest ∷ bytes_of make len rest ∷ []) (Err NoNewlineAfterBytes) (tt, (other (take len rest), tt)) tt
 
 whole_other : (asking : Asking) (rest : List ℕ) → AsksOther asking → IfOk (whole_command asking rest) GivesOther
@@ -225,7 +233,7 @@ kind_other kind i q u =
     Word.Force (tt, (tt, (tt, (tt, tt)))) tt
 
 draw_other : (i r : ℕ) → IsOther (command_of_draw i r)
-draw_other i r = kind_other (kind_of r) i (name_number r) (amount_of r)
+draw_other i r = kind_other (drawn_kind r) i (name_number r) (amount_of r)
 
 pub made_others : (count i x : ℕ) → AreOthers (made_from count i x)
 made_others zero i x = tt

@@ -12,26 +12,18 @@ use Rattle.fsd_files.specs.Volume.{Volume, free_count}
 use Rattle.fsd_texts.specs.declared.command.Command.TheVariants as Word
 use Rattle.fsd_texts.specs.Text.{newline}
 use Rattle.fsd_runs.specs.Commands.{answer, reply_status}
-use Rattle.fsd_runs.specs.Errands.{alone}
+use Rattle.fsd_runs.specs.Errands.{errand_alone}
 use Rattle.fsd_runs.specs.Runs.{said_in}
 use Rattle.fsd_runs.proofs.Plain.{behind, default, lines, plain, says, script_says, turns_on}
 
 fresh_count : free_count default ≡ 1127
 fresh_count = refl
 
-fresh_stat : says (alone Word.Stat) default ≡ lines (codes "stat free 1127 waiting 0 pages 63 versions 0" ∷ [])
-unfolding digits
-fresh_stat = refl
-
-first_put : says (alone (Word.Put (codes "a") [] None)) default ≡ lines (codes "made a!1 1" ∷ [])
+first_put : says (errand_alone (Word.Put (codes "a") [] None)) default ≡ lines (codes "made a!1 1" ∷ [])
 unfolding digits
 first_put = refl
 
--- of no bytes and of one slice more than before
-stat_after_put : script_says default (lines (codes "put a 0" ∷ codes "" ∷ codes "stat" ∷ [])) ≡ lines (codes "made a!1 1" ∷ codes "stat free 1126 waiting 0 pages 63 versions 1" ∷ codes "forced" ∷ [])
-unfolding digits
-stat_after_put = refl
-
+-- 512 bytes are one slice, and one byte more is of two
 slices_of_512 : script_says default (codes "put b 512" ++ newline ++ replicate 512 7 ++ newline ++ codes "put b 513" ++ newline ++ replicate 513 7 ++ newline) ≡ lines (codes "made b!1 2" ∷ codes "made b!2 3" ∷ codes "forced" ∷ [])
 unfolding digits
 slices_of_512 = refl
@@ -44,12 +36,6 @@ too_long = refl
 
 no_space : no_place default 8192 ≡ NoSpace 8192 1127
 no_space = refl
-
--- the oldest beyond the keep goes, and waits for a force
-keep_of_two : script_says default (lines (codes "put c 0" ∷ codes "" ∷ codes "put c 0" ∷ codes "" ∷ codes "put c 0" ∷ codes "" ∷ codes "get c!1" ∷ codes "stat" ∷ codes "force" ∷ codes "stat" ∷ []))
-    ≡ lines (codes "made c!1 1" ∷ codes "made c!2 1" ∷ codes "made c!3 1" ∷ codes "refused no-such" ∷ codes "stat free 1124 waiting 1 pages 63 versions 2" ∷ codes "forced" ∷ codes "stat free 1125 waiting 0 pages 63 versions 2" ∷ codes "forced" ∷ [])
-unfolding digits
-keep_of_two = refl
 
 -- d!1 waits, so e!1 takes the next place
 abbrev two_files : Volume
@@ -77,14 +63,14 @@ unfolding digits
 keeps_and_lists = refl
 
 -- a get by itself says the bytes alone
-bytes_alone : says (alone (Word.Get (key_of (codes "a") 1))) (behind default (Word.Put (codes "a") (codes "hi") None ∷ [])) ≡ codes "hi"
+bytes_alone : says (errand_alone (Word.Get (key_of (codes "a") 1))) (behind default (Word.Put (codes "a") (codes "hi") None ∷ [])) ≡ codes "hi"
 bytes_alone = refl
 
 -- a scrub by itself names the damaged data sectors by key, and counts what it has healed
 abbrev scrub_met : Met
 scrub_met = record plain { found = (key_of (codes "g") 1, 923) ∷ []; healed = 1 }
 
-scrub_says : said_in (turns_on (alone Word.Scrub) (scrub_met ∷ []) default) ≡ lines (codes "damaged g!1 923" ∷ codes "scrubbed healed 1 damaged 1" ∷ [])
+scrub_says : said_in (turns_on (errand_alone Word.Scrub) (scrub_met ∷ []) default) ≡ lines (codes "damaged g!1 923" ∷ codes "scrubbed healed 1 damaged 1" ∷ [])
 unfolding digits
 scrub_says = refl
 
@@ -98,14 +84,14 @@ scrub_well = refl
 abbrev three : Volume
 three = record default { layout = with_kind Three default.layout }
 
-upgrade_says : says (alone Word.Upgrade) default ≡ lines (codes "upgraded 2" ∷ [])
+upgrade_says : says (errand_alone Word.Upgrade) default ≡ lines (codes "upgraded 2" ∷ [])
 unfolding digits
 upgrade_says = refl
 
 upgrade_leaves : (answer plain default Word.Upgrade).1 ≡ three
 upgrade_leaves = refl
 
-upgraded_already : says (alone Word.Upgrade) three ≡ lines (codes "refused layout 2" ∷ [])
+upgraded_already : says (errand_alone Word.Upgrade) three ≡ lines (codes "refused layout 2" ∷ [])
 unfolding digits
 upgraded_already = refl
 
@@ -114,11 +100,11 @@ upgrade_status = refl
 
 -- ---- lines that are no commands
 
-bad_unknown_word : script_says default (codes " stat" ++ newline) ≡ lines (codes "forced" ∷ codes "bad line 1: unknown word" ∷ [])
+bad_unknown_word : script_says default (codes " tick" ++ newline) ≡ lines (codes "forced" ∷ codes "bad line 1: unknown word" ∷ [])
 unfolding digits
 bad_unknown_word = refl
 
-bad_word_count : script_says default (codes "stat x" ++ newline) ≡ lines (codes "forced" ∷ codes "bad line 1: word count" ∷ [])
+bad_word_count : script_says default (codes "tick x" ++ newline) ≡ lines (codes "forced" ∷ codes "bad line 1: word count" ∷ [])
 unfolding digits
 bad_word_count = refl
 
@@ -151,7 +137,7 @@ bad_empty_line : script_says default newline ≡ lines (codes "forced" ∷ codes
 unfolding digits
 bad_empty_line = refl
 
-bad_no_newline : script_says default (codes "stat") ≡ lines (codes "forced" ∷ codes "bad line 1: no newline" ∷ [])
+bad_no_newline : script_says default (codes "tick") ≡ lines (codes "forced" ∷ codes "bad line 1: no newline" ∷ [])
 unfolding digits
 bad_no_newline = refl
 

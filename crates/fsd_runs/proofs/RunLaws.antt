@@ -13,13 +13,13 @@ use Rattle.fsd_texts.specs.declared.script_command.ScriptCommand.{ScriptCommand}
 use Rattle.fsd_texts.specs.declared.script_command.ScriptCommand.TheVariants.{Plain}
 use Rattle.fsd_runs.specs.Commands.{answer}
 use Rattle.fsd_runs.specs.Errands.{Answered, Errand, Turn, answered_so, is_forced}
-use Rattle.fsd_runs.specs.Runs.{answered, behind, changes_in, forced_in, turn_of, turns_begun, volume_answered, volume_behind}
+use Rattle.fsd_runs.specs.Runs.{answered, session_behind, changes_in, forced_in, turn_of, turns_begun, volume_answered, volume_behind}
 use Rattle.fsd_runs.specs.Sessions.{Meeting, answer_in, changes_in_session}
 use Rattle.fsd_runs.proofs.SessionLaws.{all_forced, command_follows, command_grows}
 
 -- ---- the files
 
-pub run_follows : (e : Errand) (xs : List Meeting) (s : Session) (commands : List ScriptCommand) → (behind xs s commands).volume.files ≡ fold step s.volume.files (changes_in (turns_begun e xs s commands))
+pub run_follows : (e : Errand) (xs : List Meeting) (s : Session) (commands : List ScriptCommand) → (session_behind xs s commands).volume.files ≡ fold step s.volume.files (changes_in (turns_begun e xs s commands))
 run_follows e [] s commands = refl
 run_follows e (x ∷ xs) s [] = refl
 run_follows e (x ∷ xs) s (command ∷ commands) =
@@ -77,29 +77,29 @@ counts_step t more before mid now grows resets rest = by t.forces refl (any_forc
     }
 
 counts : (e : Errand) → ((r : Reply) → e.forces r ≡ is_forced r) → (xs : List Meeting) (s : Session) (commands : List ScriptCommand)
-    → Counts (length (changes_in (turns_begun e xs s commands))) s.volume.unforced (behind xs s commands).volume.unforced (turns_begun e xs s commands)
+    → Counts (length (changes_in (turns_begun e xs s commands))) s.volume.unforced (session_behind xs s commands).volume.unforced (turns_begun e xs s commands)
 counts e same [] s commands = record { grown = omega arith; told = λ t. absurd cc; none = λ t. refl }
 counts e same (x ∷ xs) s [] = record { grown = omega arith; told = λ t. absurd cc; none = λ t. refl }
 counts e same (x ∷ xs) s (command ∷ commands) =
     let out = answer_in x s command in
-    counts_step (turn_of e (answered_so s command out.0)) (turns_begun e xs out.1 commands) s.volume.unforced out.1.volume.unforced (behind xs out.1 commands).volume.unforced
+    counts_step (turn_of e (answered_so s command out.0)) (turns_begun e xs out.1 commands) s.volume.unforced out.1.volume.unforced (session_behind xs out.1 commands).volume.unforced
     (command_grows x s command) (λ t. all_forced x s command (sym (same out.0) ∙ t)) (counts e same xs out.1 commands)
 
 -- what the replies of a script tell as forced is forced
 pub told_is_forced : (e : Errand) → ((r : Reply) → e.forces r ≡ is_forced r) → (xs : List Meeting) (s : Session) (commands : List ScriptCommand)
-    → forced_in (turns_begun e xs s commands) + (behind xs s commands).volume.unforced ≤ length (changes_in (turns_begun e xs s commands)) + s.volume.unforced
+    → forced_in (turns_begun e xs s commands) + (session_behind xs s commands).volume.unforced ≤ length (changes_in (turns_begun e xs s commands)) + s.volume.unforced
 told_is_forced e same xs s commands = by (any_forces (turns_begun e xs s commands)) refl
   where
-    c : Counts (length (changes_in (turns_begun e xs s commands))) s.volume.unforced (behind xs s commands).volume.unforced (turns_begun e xs s commands)
+    c : Counts (length (changes_in (turns_begun e xs s commands))) s.volume.unforced (session_behind xs s commands).volume.unforced (turns_begun e xs s commands)
     c = counts e same xs s commands
 
-    by : (b : Bool) → any_forces (turns_begun e xs s commands) ≡ b → forced_in (turns_begun e xs s commands) + (behind xs s commands).volume.unforced ≤ length (changes_in (turns_begun e xs s commands)) + s.volume.unforced
+    by : (b : Bool) → any_forces (turns_begun e xs s commands) ≡ b → forced_in (turns_begun e xs s commands) + (session_behind xs s commands).volume.unforced ≤ length (changes_in (turns_begun e xs s commands)) + s.volume.unforced
     by true any = let told = c.told any in omega (arith, told)
     by false any = let none = c.none any in let grown = c.grown in omega (arith, none, grown)
 
 -- ---- commands of a volume alone
 
-pub clients_stay : (xs : List Meeting) (s : Session) (commands : List Command) → behind xs s (map (λ x. Plain x) commands) ≡ record s { volume = volume_behind (map (λ x. x.met) xs) s.volume commands }
+pub clients_stay : (xs : List Meeting) (s : Session) (commands : List Command) → session_behind xs s (map (λ x. Plain x) commands) ≡ record s { volume = volume_behind (map (λ x. x.met) xs) s.volume commands }
 clients_stay [] s commands = refl
 clients_stay (x ∷ xs) s [] = refl
 clients_stay (x ∷ xs) s (command ∷ commands) = clients_stay xs (record s { volume = (answer x.met s.volume command).1 }) commands

@@ -17,9 +17,9 @@ use Rattle.fsd_texts.specs.declared.end.End.TheVariants.{Done}
 use Rattle.fsd_texts.specs.Script.{max_input, script_in}
 use Rattle.fsd_runs.specs.declared.request.Request.{Request}
 use Rattle.fsd_runs.specs.declared.request.Request.TheVariants as Asks
-use Rattle.fsd_runs.specs.Errands.{Answered, Cut, Errand, IfMounts, MayCut, Turn, alone, blank, errand_of, fault_status, nothing_but, script_ending}
+use Rattle.fsd_runs.specs.Errands.{Answered, Cut, Errand, IfMounts, MayCut, Turn, errand_alone, blank, errand_of, fault_status, nothing_but, script_ending}
 use Rattle.fsd_runs.specs.Commands.{reply_status}
-use Rattle.fsd_runs.specs.Leaves.{IsBroken, IsOutside, IsReplied, IsUnderWay, IsUndone, IsSpent, IsUnsaid, LeavesBy, LeavesMounted, LeavesSaid, LeavesUnmounted, Unbegun, Whatever}
+use Rattle.fsd_runs.specs.Leaves.{IsBrokenOff, IsOutside, IsReplied, IsUnderWay, IsUndone, IsSpent, IsUnsaid, LeavesBy, LeavesMounted, LeavesSaid, LeavesUnmounted, Unbegun, Whatever}
 use Rattle.fsd_runs.specs.Runs.{IsThrough, answered, errand_in, run_end, run_status, run_turns}
 use Rattle.fsd_runs.specs.Sessions.{session_over}
 
@@ -37,7 +37,7 @@ reply_otherwise (Said.Scrubbed [] healed) e = absurd (omega (arith, e))
 reply_otherwise (Said.Scrubbed (x ∷ found) healed) e = absurd (omega (arith, e))
 reply_otherwise reply e = absurd (omega (arith, e))
 
-alone_otherwise : (command : Command) → EndsOtherwise (alone command)
+alone_otherwise : (command : Command) → EndsOtherwise (errand_alone command)
 alone_otherwise command [] e = absurd (omega (arith, e))
 alone_otherwise command (p ∷ done) e = reply_otherwise p.reply e
 
@@ -45,7 +45,7 @@ script_otherwise : (ends : End) → NotThree (script_ending ends).status
 script_otherwise Done e = absurd (omega (arith, e))
 script_otherwise end e = absurd (omega (arith, e))
 
-put_otherwise : (b : Bool) (command : Command) → EndsOtherwise (cond b (nothing_but Ends.InputTooLong) (alone command))
+put_otherwise : (b : Bool) (command : Command) → EndsOtherwise (cond b (nothing_but Ends.InputTooLong) (errand_alone command))
 put_otherwise true command done e = absurd (omega (arith, e))
 put_otherwise false command done e = alone_otherwise command done e
 
@@ -78,7 +78,7 @@ in_otherwise request input (Some x) may otherwise done e = cut_otherwise request
 
 -- ---- the whole
 
-broken_otherwise : (request : Request) (Undone : ℕ → Image → Type 0) (UnderWay : ℕ → Type 0) (before after : Report) (turns : List Turn) (old new : Moment) (result : ℕ) → IsUnsaid before after result ⊎ IsBroken request Undone UnderWay before after turns old new result → NotThree result
+broken_otherwise : (request : Request) (Undone : ℕ → Image → Type 0) (UnderWay : ℕ → Type 0) (before after : Report) (turns : List Turn) (old new : Moment) (result : ℕ) → IsUnsaid before after result ⊎ IsBrokenOff request Undone UnderWay before after turns old new result → NotThree result
 broken_otherwise request Undone UnderWay before after turns old new result (inl unsaid) e = let six = unsaid.ends in absurd (omega (arith, e, six))
 broken_otherwise request Undone UnderWay before after turns old new result (inr broken) e = by request broken.why broken.outside (sym broken.ends ∙ e)
   where
@@ -92,7 +92,7 @@ module _ (request : Request) (input rest : List ℕ) (l : Layout) (windows : Lis
   unmounted_otherwise : LeavesUnmounted request l windows h f Only Held before after old new result → NotThree result
   unmounted_otherwise u e = by u.ends
     where
-      by : IsSpent old new result ⊎ (IsUnsaid before after result ⊎ IsBroken request Unbegun Whatever before after (blank ∷ []) old new result) → ⊥
+      by : IsSpent old new result ⊎ (IsUnsaid before after result ⊎ IsBrokenOff request Unbegun Whatever before after (blank ∷ []) old new result) → ⊥
       by (inl spent) = let nine = spent.ends in omega (arith, e, nine)
       by (inr other) = broken_otherwise request Unbegun Whatever before after (blank ∷ []) old new result other e
 
@@ -100,7 +100,7 @@ module _ (request : Request) (input rest : List ℕ) (l : Layout) (windows : Lis
   mounted_otherwise otherwise m e = by m.ends
     where
       by : (IsThrough m.run × IsReplied l windows m.next h m.count (run_turns m.run) (run_status m.run) (run_end m.run) Held old new result)
-          ⊎ (IsUnsaid before after result ⊎ IsBroken request (IsUndone l (windows ++ m.next ∷ []) (take m.count h) m.count (run_turns m.run)) (IsUnderWay l (windows ++ m.next ∷ []) (take m.count h) m.count (run_turns m.run) Held) before after (run_turns m.run) old new result) → ⊥
+          ⊎ (IsUnsaid before after result ⊎ IsBrokenOff request (IsUndone l (windows ++ m.next ∷ []) (take m.count h) m.count (run_turns m.run)) (IsUnderWay l (windows ++ m.next ∷ []) (take m.count h) m.count (run_turns m.run) Held) before after (run_turns m.run) old new result) → ⊥
       by (inl through) = in_otherwise request input m.run.cut m.run.may otherwise (answered m.run.mets (session_over m.volume) (errand_in request input m.run.cut).commands) (sym through.1.ends ∙ e)
       by (inr other) = broken_otherwise request (IsUndone l (windows ++ m.next ∷ []) (take m.count h) m.count (run_turns m.run)) (IsUnderWay l (windows ++ m.next ∷ []) (take m.count h) m.count (run_turns m.run) Held) before after (run_turns m.run) old new result other e
 

@@ -11,7 +11,7 @@ use Rattle.run_table.specs.declared.run.Run.{Run}
 use Rattle.fsd_formats.specs.declared.entry.Entry.{Entry}
 use Rattle.fsd_formats.specs.NamePage.{max_length, sectors_for}
 use Rattle.fsd_files.specs.Answers.{Met, Outcome, enter_fault, entry_of}
-use Rattle.fsd_files.specs.Desk.{Session, Open, Nothing, Writes, Reads, begin_by, begun_with, close_by, closed_as, done_by, drop_by, is_client, next_by, next_count, open_by, opened_by, opened_with, piece_by, unanswered, with_client}
+use Rattle.fsd_files.specs.Desk.{Session, SessionOutcome, Open, Nothing, Writes, Reads, begin_by, begun_with, close_by, closed_as, done_by, drop_by, is_client, next_by, next_count, open_by, opened_by, opened_with, piece_by, unanswered, with_client}
 use Rattle.fsd_files.specs.Disk.{Image}
 use Rattle.fsd_files.specs.Files.{Change, File, Files, step}
 use Rattle.fsd_files.specs.Kept.{range_sectors}
@@ -29,9 +29,6 @@ use Rattle.fsd_runs.specs.Errands.{is_forced}
 use Rattle.fsd_runs.specs.Sessions.{CallMayFind, FindsNext, HoldsRead, MayMeet, Meeting, answer_in, call_answer, changes_closed, changes_in_session, read_by, runs_read}
 use Rattle.fsd_runs.proofs.AnswerLaws.{Changes, Does, IsSame, Refuses, does, finds, forces_all, may_find, met_with, same_forced, same_itself}
 
-abbrev Said : Type 0
-Said = Reply × Session
-
 -- ---- one answer: nothing is changed, or the change is made
 
 -- the files and the pages are as before, and no more is unforced
@@ -46,29 +43,29 @@ still_itself v = record { files = refl; reached = refl; unforced = omega arith }
 still_same : (v w : Volume) → IsSame v w → IsStill v w
 still_same v w same = record { files = same.files; reached = same.reached; unforced = same.unforced }
 
-record Remains (changes : Reply → List Change) (v : Volume) (out : Said) : Type 0 where
+record Remains (changes : Reply → List Change) (v : Volume) (out : SessionOutcome) : Type 0 where
   none : changes out.0 ≡ []
   still : IsStill v out.1.volume
 
-record Changed (x : Meeting) (changes : Reply → List Change) (v : Volume) (out : Said) : Type 0 where
+record Changed (x : Meeting) (changes : Reply → List Change) (v : Volume) (out : SessionOutcome) : Type 0 where
   change : Change
   is : changes out.0 ≡ change ∷ []
   files : out.1.volume.files ≡ step v.files change
   reached : out.1.volume.reached ≡ x.met.reached
   unforced : out.1.volume.unforced ≤ suc v.unforced
 
-abbrev DoesIn : Meeting → (Reply → List Change) → Volume → Said → Type 0
+abbrev DoesIn : Meeting → (Reply → List Change) → Volume → SessionOutcome → Type 0
 DoesIn x changes v out = Remains changes v out ⊎ Changed x changes v out
 
 -- and it is not answered as a force is
-record Goes (x : Meeting) (changes : Reply → List Change) (v : Volume) (out : Said) : Type 0 where
+record Goes (x : Meeting) (changes : Reply → List Change) (v : Volume) (out : SessionOutcome) : Type 0 where
   does : DoesIn x changes v out
   quiet : is_forced out.0 ≡ false
 
 abbrev no_change : Reply → List Change
 no_change reply = []
 
-goes_still : (x : Meeting) (v : Volume) (out : Said) → IsStill v out.1.volume → is_forced out.0 ≡ false → Goes x no_change v out
+goes_still : (x : Meeting) (v : Volume) (out : SessionOutcome) → IsStill v out.1.volume → is_forced out.0 ≡ false → Goes x no_change v out
 goes_still x v out still quiet = record { does = inl (record { none = refl; still = still }); quiet = quiet }
 
 -- ---- calls
@@ -107,7 +104,7 @@ begin_goes x (Ok (Writes n l runs serial bytes)) s c name len = goes_still x s.v
 begin_goes x (Ok (Reads key runs bytes place)) s c name len = goes_still x s.volume (begin_by (Ok (Reads key runs bytes place)) s c name len) (still_itself s.volume) refl
 
 -- a client has so many bytes, or they are too many
-abbrev took_or : Session → (c len sum : ℕ) → Open → Bool → Said
+abbrev took_or : Session → (c len sum : ℕ) → Open → Bool → SessionOutcome
 took_or s c len sum new too_many = cond too_many (unanswered s (Long len sum)) (Replies.Took c sum, with_client s c new)
 
 took_goes : (x : Meeting) (s : Session) (c len sum : ℕ) (new : Open) (b : Bool) → Goes x no_change s.volume (took_or s c len sum new b)
@@ -121,10 +118,10 @@ piece_goes x (Ok (Reads key runs old place)) s c bytes = goes_still x s.volume (
 piece_goes x (Ok (Writes name len runs serial old)) s c bytes = took_goes x s c len (length old + length bytes) (Writes name len runs serial (old ++ bytes)) (nat_lt len (length old + length bytes))
 
 -- a creation of all its bytes is entered, or it is told why not
-abbrev entered_or : Option Refusal → Session → Volume → (c : ℕ) → (name bytes : List ℕ) → List Run → Serial → (reached : ℕ) → Said
+abbrev entered_or : Option Refusal → Session → Volume → (c : ℕ) → (name bytes : List ℕ) → List Run → Serial → (reached : ℕ) → SessionOutcome
 entered_or o s at c name bytes runs serial reached = let out = enter_unless o at name bytes None runs serial reached in closed_as out.0 (record s { volume = out.1 }) c
 
-abbrev closed_or : Session → (c : ℕ) → (bytes : List ℕ) → (len : ℕ) → Said → Bool → Said
+abbrev closed_or : Session → (c : ℕ) → (bytes : List ℕ) → (len : ℕ) → SessionOutcome → Bool → SessionOutcome
 closed_or s c bytes len entered too_few = cond too_few (unanswered s (Short len (length bytes))) entered
 
 closed_goes : (x : Meeting) (s : Session) (c : ℕ) (name bytes : List ℕ) (len : ℕ) (runs : List Run) (serial : Serial) (at : Volume) (o : Option Refusal) → IsStill s.volume at
@@ -251,7 +248,7 @@ read_set (o ∷ clients) (suc i) x same = ap (λ (r : List (List Run)). runs_rea
 holds_still : (s : Session) (held : List (List Run)) (clients : List Open) → HoldsRead s → held ≡ s.volume.held → read_by clients ≡ read_by s.clients → (t : ℕ) → is_in held t ≡ is_in (read_by clients) t
 holds_still s held clients h same read t = ap (λ (r : List (List Run)). is_in r t) same ∙ h t ∙ sym (ap (λ (r : List (List Run)). is_in r t) read)
 
-abbrev Holds : Said → Type 0
+abbrev Holds : SessionOutcome → Type 0
 Holds out = HoldsRead out.1
 
 placed_held : (v at : Volume) (need : ℕ) (o : Option (List Run)) → at.held ≡ v.held → (reserve_at at need o).1.held ≡ v.held

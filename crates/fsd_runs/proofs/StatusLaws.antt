@@ -6,24 +6,24 @@ use Rattle.std.specs.Prelude.{IsTrue}
 use Rattle.std.specs.List.{AllByRecursion}
 use Rattle.fsd_texts.specs.declared.command.Command.{Command}
 use Rattle.fsd_texts.specs.declared.command.Command.TheVariants as Word
-use Rattle.fsd_runs.specs.Commands.{is_one_of, reply_statuses}
+use Rattle.fsd_runs.specs.Commands.{is_status_of, reply_statuses}
 
 -- what each has, one of them has
-pub one_has : (P : ℕ → Type 0) (statuses : List ℕ) → AllByRecursion P statuses → (status : ℕ) → IsTrue (is_one_of statuses status) → P status
+pub one_has : (P : ℕ → Type 0) (statuses : List ℕ) → AllByRecursion P statuses → (status : ℕ) → IsTrue (is_status_of statuses status) → P status
 one_has P [] each status is = absurd (cc is)
 one_has P (s ∷ statuses) each status is = by (s == status) refl is (λ later. one_has P statuses each.1 status later)
   where
-    by : (b : Bool) → (s == status) ≡ b → (b || is_one_of statuses status) ≡ true → (IsTrue (is_one_of statuses status) → P status) → P status
+    by : (b : Bool) → (s == status) ≡ b → (b || is_status_of statuses status) ≡ true → (IsTrue (is_status_of statuses status) → P status) → P status
     by true at is later = subst P (eqb-true s status at) each.0
     by false at is later = later is
 
-pub one_in_front : (front behind : List ℕ) (status : ℕ) → IsTrue (is_one_of front status) → IsTrue (is_one_of (front ++ behind) status)
-one_in_front front behind status is = list_any-append (λ s. s == status) front behind ∙ ap (λ (b : Bool). b || is_one_of behind status) is
+pub one_in_front : (front behind : List ℕ) (status : ℕ) → IsTrue (is_status_of front status) → IsTrue (is_status_of (front ++ behind) status)
+one_in_front front behind status is = list_any-append (λ s. s == status) front behind ∙ ap (λ (b : Bool). b || is_status_of behind status) is
 
-pub one_behind : (front behind : List ℕ) (status : ℕ) → IsTrue (is_one_of behind status) → IsTrue (is_one_of (front ++ behind) status)
-one_behind front behind status is = list_any-append (λ s. s == status) front behind ∙ by (is_one_of front status) is
+pub one_behind : (front behind : List ℕ) (status : ℕ) → IsTrue (is_status_of behind status) → IsTrue (is_status_of (front ++ behind) status)
+one_behind front behind status is = list_any-append (λ s. s == status) front behind ∙ by (is_status_of front status) is
   where
-    by : (b : Bool) → is_one_of behind status ≡ true → (b || is_one_of behind status) ≡ true
+    by : (b : Bool) → is_status_of behind status ≡ true → (b || is_status_of behind status) ≡ true
     by true is = refl
     by false is = is
 
@@ -40,5 +40,5 @@ each_of_reply Word.Scrub = (inl (omega arith), (inr refl, tt))
 each_of_reply Word.Upgrade = (inl (omega arith), (inl (omega arith), tt))
 each_of_reply command = (inl (omega arith), tt)
 
-pub of_reply : (command : Command) (status : ℕ) → IsTrue (is_one_of (reply_statuses command) status) → IsOfReply status
+pub of_reply : (command : Command) (status : ℕ) → IsTrue (is_status_of (reply_statuses command) status) → IsOfReply status
 of_reply command status is = one_has IsOfReply (reply_statuses command) (each_of_reply command) status is

@@ -6,7 +6,7 @@ use Rattle.fsd_bytes.specs.Keys.{key_of}
 use Rattle.fsd_bytes.specs.declared.pattern.Pattern.TheVariants.{Prefix}
 use Rattle.fsd_texts.specs.declared.bad_line.Cause.TheVariants.{BadNumber, BadName, BadKey}
 use Rattle.fsd_texts.specs.declared.command.Command.TheVariants as Word
-use Rattle.fsd_runs.specs.declared.request.Request.TheVariants.{Outside, BadField, Format, Put, One, Script, Generate, Drill}
+use Rattle.fsd_runs.specs.declared.request.Request.TheVariants.{NoCommand, BadField, Format, Put, One, Script, Generate, Drill}
 use Rattle.fsd_runs.specs.Words.{request_of, path_of}
 
 formats : request_of (codes "cfs" ∷ codes "format" ∷ codes "v" ∷ codes "2048" ∷ codes "256" ∷ codes "64" ∷ []) ≡ Format 2048 256 64 Two
@@ -30,7 +30,7 @@ no_layout_of_a_name : request_of (codes "cfs" ∷ codes "format" ∷ codes "v" �
 unfolding clap_on_literals
 no_layout_of_a_name = refl
 
-layout_twice : request_of (codes "cfs" ∷ codes "format" ∷ codes "v" ∷ codes "2048" ∷ codes "256" ∷ codes "64" ∷ codes "--layout" ∷ codes "1" ∷ codes "--layout" ∷ codes "2" ∷ []) ≡ Outside
+layout_twice : request_of (codes "cfs" ∷ codes "format" ∷ codes "v" ∷ codes "2048" ∷ codes "256" ∷ codes "64" ∷ codes "--layout" ∷ codes "1" ∷ codes "--layout" ∷ codes "2" ∷ []) ≡ NoCommand
 unfolding clap_on_literals
 layout_twice = refl
 
@@ -51,36 +51,36 @@ the_image : path_of (codes "cfs" ∷ codes "put" ∷ codes "--keep=7" ∷ codes 
 unfolding clap_on_literals
 the_image = refl
 
-unknown_word : request_of (codes "cfs" ∷ codes "frob" ∷ codes "v" ∷ []) ≡ Outside
+unknown_word : request_of (codes "cfs" ∷ codes "frob" ∷ codes "v" ∷ []) ≡ NoCommand
 unfolding clap_on_literals
 unknown_word = refl
 
-no_word : request_of (codes "cfs" ∷ []) ≡ Outside
+no_word : request_of (codes "cfs" ∷ []) ≡ NoCommand
 unfolding clap_on_literals
 no_word = refl
 
-no_name : request_of [] ≡ Outside
+no_name : request_of [] ≡ NoCommand
 unfolding clap_on_literals
 no_name = refl
 
-asks_for_help : request_of (codes "cfs" ∷ codes "help" ∷ []) ≡ Outside
+asks_for_help : request_of (codes "cfs" ∷ codes "help" ∷ []) ≡ NoCommand
 unfolding clap_on_literals
 asks_for_help = refl
 
-asks_for_help_of_one : request_of (codes "cfs" ∷ codes "get" ∷ codes "--help" ∷ []) ≡ Outside
+asks_for_help_of_one : request_of (codes "cfs" ∷ codes "get" ∷ codes "--help" ∷ []) ≡ NoCommand
 unfolding clap_on_literals
 asks_for_help_of_one = refl
 
-too_few : request_of (codes "cfs" ∷ codes "get" ∷ codes "v" ∷ []) ≡ Outside
+too_few : request_of (codes "cfs" ∷ codes "get" ∷ codes "v" ∷ []) ≡ NoCommand
 unfolding clap_on_literals
 too_few = refl
 
-too_many : request_of (codes "cfs" ∷ codes "scrub" ∷ codes "v" ∷ codes "w" ∷ []) ≡ Outside
+too_many : request_of (codes "cfs" ∷ codes "scrub" ∷ codes "v" ∷ codes "w" ∷ []) ≡ NoCommand
 unfolding clap_on_literals
 too_many = refl
 
 -- the option is a put's alone
-keeps_elsewhere : request_of (codes "cfs" ∷ codes "get" ∷ codes "v" ∷ codes "a!1" ∷ codes "--keep" ∷ codes "7" ∷ []) ≡ Outside
+keeps_elsewhere : request_of (codes "cfs" ∷ codes "get" ∷ codes "v" ∷ codes "a!1" ∷ codes "--keep" ∷ codes "7" ∷ []) ≡ NoCommand
 unfolding clap_on_literals
 keeps_elsewhere = refl
 
@@ -124,17 +124,17 @@ unfolding clap_on_literals
 keeps_between = refl
 
 -- it comes once
-keeps_twice : request_of (codes "cfs" ∷ codes "put" ∷ codes "v" ∷ codes "a" ∷ codes "--keep" ∷ codes "7" ∷ codes "--keep" ∷ codes "7" ∷ []) ≡ Outside
+keeps_twice : request_of (codes "cfs" ∷ codes "put" ∷ codes "v" ∷ codes "a" ∷ codes "--keep" ∷ codes "7" ∷ codes "--keep" ∷ codes "7" ∷ []) ≡ NoCommand
 unfolding clap_on_literals
 keeps_twice = refl
 
 -- it has a value
-keeps_nothing : request_of (codes "cfs" ∷ codes "put" ∷ codes "v" ∷ codes "a" ∷ codes "--keep" ∷ []) ≡ Outside
+keeps_nothing : request_of (codes "cfs" ∷ codes "put" ∷ codes "v" ∷ codes "a" ∷ codes "--keep" ∷ []) ≡ NoCommand
 unfolding clap_on_literals
 keeps_nothing = refl
 
 -- which may not begin as an option does
-keeps_minus : request_of (codes "cfs" ∷ codes "put" ∷ codes "v" ∷ codes "a" ∷ codes "--keep" ∷ codes "-1" ∷ []) ≡ Outside
+keeps_minus : request_of (codes "cfs" ∷ codes "put" ∷ codes "v" ∷ codes "a" ∷ codes "--keep" ∷ codes "-1" ∷ []) ≡ NoCommand
 unfolding clap_on_literals
 keeps_minus = refl
 
@@ -147,7 +147,7 @@ names_behind_dashes : request_of (codes "cfs" ∷ codes "put" ∷ codes "v" ∷ 
 unfolding clap_on_literals
 names_behind_dashes = refl
 
-no_name_with_a_dash : request_of (codes "cfs" ∷ codes "put" ∷ codes "v" ∷ codes "-a" ∷ []) ≡ Outside
+no_name_with_a_dash : request_of (codes "cfs" ∷ codes "put" ∷ codes "v" ∷ codes "-a" ∷ []) ≡ NoCommand
 unfolding clap_on_literals
 no_name_with_a_dash = refl
 
@@ -157,15 +157,15 @@ unfolding clap_on_literals
 no_image = refl
 
 -- help is asked for by any of these
-asks_for_help_by_one_letter : request_of (codes "cfs" ∷ codes "-h" ∷ []) ≡ Outside
+asks_for_help_by_one_letter : request_of (codes "cfs" ∷ codes "-h" ∷ []) ≡ NoCommand
 unfolding clap_on_literals
 asks_for_help_by_one_letter = refl
 
-asks_for_help_of_a_word : request_of (codes "cfs" ∷ codes "help" ∷ codes "put" ∷ []) ≡ Outside
+asks_for_help_of_a_word : request_of (codes "cfs" ∷ codes "help" ∷ codes "put" ∷ []) ≡ NoCommand
 unfolding clap_on_literals
 asks_for_help_of_a_word = refl
 
-asks_for_help_with_all : request_of (codes "cfs" ∷ codes "get" ∷ codes "v" ∷ codes "a!1" ∷ codes "--help" ∷ []) ≡ Outside
+asks_for_help_with_all : request_of (codes "cfs" ∷ codes "get" ∷ codes "v" ∷ codes "a!1" ∷ codes "--help" ∷ []) ≡ NoCommand
 unfolding clap_on_literals
 asks_for_help_with_all = refl
 
@@ -178,7 +178,7 @@ unfolding clap_on_literals
 an_upgrade = refl
 
 -- it names no layout
-upgrades_to_2_alone : request_of (codes "cfs" ∷ codes "upgrade" ∷ codes "v" ∷ codes "--layout" ∷ codes "2" ∷ []) ≡ Outside
+upgrades_to_2_alone : request_of (codes "cfs" ∷ codes "upgrade" ∷ codes "v" ∷ codes "--layout" ∷ codes "2" ∷ []) ≡ NoCommand
 unfolding clap_on_literals
 upgrades_to_2_alone = refl
 
@@ -191,6 +191,6 @@ drills_on_none : path_of (codes "cfs" ∷ codes "drill" ∷ []) ≡ []
 unfolding clap_on_literals
 drills_on_none = refl
 
-drills_alone : request_of (codes "cfs" ∷ codes "drill" ∷ codes "v" ∷ []) ≡ Outside
+drills_alone : request_of (codes "cfs" ∷ codes "drill" ∷ codes "v" ∷ []) ≡ NoCommand
 unfolding clap_on_literals
 drills_alone = refl

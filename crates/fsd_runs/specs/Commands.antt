@@ -5,7 +5,7 @@ use Rattle.std.specs.List.{flat_map, list_any}
 use Rattle.fsd_bytes.specs.declared.key.Key.{Key}
 use Rattle.fsd_formats.specs.declared.entry.Entry.{Entry}
 use Rattle.fsd_formats.specs.NamePage.{max_keep, sectors_for}
-use Rattle.fsd_files.specs.Answers.{Met, Outcome, put_outcome, delete_outcome, keep_outcome, force_outcome, scrub_outcome, upgrade_outcome, stat_reply, list_reply, get_reply, keep_given, size_fault, FindsIn}
+use Rattle.fsd_files.specs.Answers.{Met, Outcome, put_outcome, delete_outcome, keep_outcome, force_outcome, scrub_outcome, upgrade_outcome, stat_reply, list_reply, get_reply, keep_given, size_fault, FindsDamageIn}
 use Rattle.fsd_files.specs.Disk.{Image}
 use Rattle.fsd_files.specs.Files.{Change}
 use Rattle.fsd_files.specs.declared.reply.Reply.{Reply}
@@ -52,7 +52,7 @@ MayFind i j v (Word.Put name bytes keep) met = ⊤
 MayFind i j v (Word.Delete key) met = ⊤
 MayFind i j v (Word.Keep name keep) met = ⊤
 MayFind i j v (Word.List pattern) met = ⊤
-MayFind i j v (Word.Get key) met = FindsIn i j v key met.damaged
+MayFind i j v (Word.Get key) met = FindsDamageIn i j v key met.damaged
 MayFind i j v Word.Force met = ⊤
 MayFind i j v Word.Tick met = ⊤
 MayFind i j v Word.Stat met = ⊤
@@ -94,7 +94,7 @@ reply_text (Listed entries) = flat_map (λ e. text (version_line e)) entries ++ 
 reply_text (Bytes key bytes) = text (Says.Bytes key (length bytes)) ++ bytes ++ newline
 reply_text (DamagedAt key s) = text (Says.Damaged key s)
 reply_text Forced = text Says.Forced
-reply_text (Counts free waiting pages versions) = text (Says.Stat free waiting pages versions)
+reply_text (Counts free waiting pages versions) = text (Says.Counted free waiting pages versions)
 reply_text (Scrubbed found healed) = found_text found ++ text (Says.Scrubbed healed (length found))
 reply_text Upgraded = text Says.Upgraded
 reply_text (Begun client) = text (Says.Begun client)
@@ -135,5 +135,5 @@ reply_statuses Word.Stat = 0 ∷ []
 reply_statuses Word.Scrub = 0 ∷ 8 ∷ []
 reply_statuses Word.Upgrade = 0 ∷ 1 ∷ []
 
-abbrev pub is_one_of : List ℕ → ℕ → Bool
-is_one_of statuses status = list_any (λ s. s == status) statuses
+abbrev pub is_status_of : List ℕ → ℕ → Bool
+is_status_of statuses status = list_any (λ s. s == status) statuses

@@ -98,8 +98,8 @@ alone_ending [] = record { turns = []; status = 0 }
 alone_ending (p ∷ done) = record { turns = []; status = reply_status p.reply }
 
 -- the change is made and forced before its reply is said
-abbrev pub alone : Command → Errand
-alone command = record { commands = Plain command ∷ []; says = reply_alone; forces = λ reply. true; ends = alone_ending }
+abbrev pub errand_alone : Command → Errand
+errand_alone command = record { commands = Plain command ∷ []; says = reply_alone; forces = λ reply. true; ends = alone_ending }
 
 abbrev pub nothing_but : Fault → Errand
 nothing_but why = record { commands = []; says = reply_alone; forces = λ reply. true; ends = λ done. fault_ending why }
@@ -181,12 +181,12 @@ generated seed count = record {
 
 -- the whole input is put, if it isn't too long
 abbrev pub put_errand : (input : List ℕ) → Command → Errand
-put_errand input command = if nat_lt max_input (length input) then nothing_but Ends.InputTooLong else alone command
+put_errand input command = if nat_lt max_input (length input) then nothing_but Ends.InputTooLong else errand_alone command
 
 -- of a request that mounts; the others have nothing to do over a volume
 abbrev pub errand_of : Request → (input : List ℕ) → Errand
 errand_of (Put name keep) input = put_errand input (Word.Put name input keep)
-errand_of (One command) input = alone command
+errand_of (One command) input = errand_alone command
 errand_of Script input = scripted (script_in input)
 errand_of (Generate seed count) input = generated seed count
 errand_of request input = nothing_but Ends.NotVolume

@@ -26,7 +26,7 @@ use Rattle.fsd_texts.specs.Text.{fault_text}
 use Rattle.fsd_runs.specs.declared.request.Request.{Request}
 use Rattle.fsd_runs.specs.declared.request.Request.TheVariants.{One, Put}
 use Rattle.fsd_runs.specs.Errands.{Cut, Turn, blank, fault_status}
-use Rattle.fsd_runs.specs.Runs.{IsThrough, Run, Starts, Stood, changes_in, forced_in, run_end, run_status, run_turns, said_in}
+use Rattle.fsd_runs.specs.Runs.{IsThrough, Course, Starts, StoodAt, changes_in, forced_in, run_end, run_status, run_turns, said_in}
 
 -- ---- what is said
 
@@ -67,7 +67,7 @@ pub record LeftBefore (l : Layout) (windows : List WeakRun) (h : List Change) (f
 -- whole, and a part of what comes next. The image is sound for the n changes that were found, all of them forced, and
 -- those of the turns said and of the one under way, of which those are forced at least that are forced by what is said
 -- whole.
-pub record LeftSince (l : Layout) (windows : List WeakRun) (run : WeakRun) (h : List Change) (n : ℕ) (turns : List Turn) (old left : Moment) : Type 0 where
+pub record LeftByTurns (l : Layout) (windows : List WeakRun) (run : WeakRun) (h : List Change) (n : ℕ) (turns : List Turn) (old left : Moment) : Type 0 where
   pub settled : left.windows ≡ record { present = Some run; next = None }
   pub whole : ℕ
   pub part : List ℕ
@@ -88,7 +88,7 @@ IfOne (One command) P = P
 IfOne request P = ⊤
 
 abbrev pub Left : Layout → List WeakRun → (run : WeakRun) → List Change → (f n : ℕ) → List Turn → (old left : Moment) → Type 0
-Left l windows run h f n turns old left = LeftBefore l windows h f old left ⊎ LeftSince l windows run h n turns old left
+Left l windows run h f n turns old left = LeftBefore l windows h f old left ⊎ LeftByTurns l windows run h n turns old left
 
 -- ---- how a run ends
 
@@ -136,7 +136,7 @@ pub record IsUnderWay (l : Layout) (windows : List WeakRun) (h : List Change) (n
 
 -- A fault from outside has ended the run at once: its line is said behind some whole turns, and its status given.
 -- What is held back is of these turns and of the one under way. Where memory was refused, that one has changed nothing.
-pub record IsBroken (request : Request) (Undone : (whole : ℕ) → Image → Type 0) (UnderWay : (whole : ℕ) → Type 0) (before after : Report) (turns : List Turn) (old new : Moment) (result : ℕ) : Type 0 where
+pub record IsBrokenOff (request : Request) (Undone : (whole : ℕ) → Image → Type 0) (UnderWay : (whole : ℕ) → Type 0) (before after : Report) (turns : List Turn) (old new : Moment) (result : ℕ) : Type 0 where
   pub why : Fault
   pub outside : IsOutside request before after why
   pub ends : result ≡ fault_status why
@@ -211,7 +211,7 @@ pub record LeavesUnmounted (request : Request) (l : Layout) (windows : List Weak
   pub moments : Only (LeftBefore l windows h f old)
   pub exit : LeftBefore l windows h f old new
   pub held : Held (λ c. IsSound l windows h f c.image)
-  pub ends : IsSpent old new result ⊎ (IsUnsaid before after result ⊎ IsBroken request Unbegun Whatever before after (blank ∷ []) old new result)
+  pub ends : IsSpent old new result ⊎ (IsUnsaid before after result ⊎ IsBrokenOff request Unbegun Whatever before after (blank ∷ []) old new result)
 
 -- The mount's epoch is the next one behind that of the image, as its weak run may have worn.
 abbrev pub AreNext : Option Anchor → Option Anchor → Type 0
@@ -237,19 +237,19 @@ pub record LeavesMounted (request : Request) (input rest : List ℕ) (l : Layout
   pub named : IsNamedSince Past began (Some next)
   pub at : ℕ
   pub from : Image
-  pub stood : Stood (Past at) old.said from
+  pub stood : StoodAt (Past at) old.said from
   pub settled : stood.moment.windows ≡ record { present = Some next; next = None }
   pub raised : RaisesEpoch windows old.image from
   pub volume : Volume
   pub starts : Starts l (windows ++ next ∷ []) (take count h) volume from
   pub own : HasOwnRoots l (weak_of (windows ++ next ∷ [])) from
-  pub run : Run request input (windows ++ next ∷ []) (Past at) old.said volume from
+  pub run : Course request input (windows ++ next ∷ []) (Past at) old.said volume from
   pub cause : CutCause run.cut input rest before after
   pub moments : Only (Left l windows next h f count (run_turns run) old)
-  pub later : (left : Moment) → Stops at left → LeftSince l windows next h count (run_turns run) old left
+  pub later : (left : Moment) → Stops at left → LeftByTurns l windows next h count (run_turns run) old left
   pub rooted : IfOne request (Only (LeavesRoots (run_end run).layout (weak_of (windows ++ next ∷ [])) old))
-  pub exit : LeftSince l windows next h count (run_turns run) old new
-  pub ends : (IsThrough run × IsReplied l windows next h count (run_turns run) (run_status run) (run_end run) Held old new result) ⊎ (IsUnsaid before after result ⊎ IsBroken request (IsUndone l (windows ++ next ∷ []) (take count h) count (run_turns run)) (IsUnderWay l (windows ++ next ∷ []) (take count h) count (run_turns run) Held) before after (run_turns run) old new result)
+  pub exit : LeftByTurns l windows next h count (run_turns run) old new
+  pub ends : (IsThrough run × IsReplied l windows next h count (run_turns run) (run_status run) (run_end run) Held old new result) ⊎ (IsUnsaid before after result ⊎ IsBrokenOff request (IsUndone l (windows ++ next ∷ []) (take count h) count (run_turns run)) (IsUnderWay l (windows ++ next ∷ []) (take count h) count (run_turns run) Held) before after (run_turns run) old new result)
 
 -- sound by each layout that a root of the image says as it is read
 abbrev pub IsSoundAsSaid : Layout → List WeakRun → List Change → ℕ → (read : Image) → Image → Type 0

@@ -49,9 +49,9 @@ answered (x ∷ xs) s (command ∷ commands) =
 answered xs s commands = []
 
 -- the session behind them
-abbrev pub behind : List Meeting → Session → List ScriptCommand → Session
-behind (x ∷ xs) s (command ∷ commands) = behind xs (answer_in x s command).1 commands
-behind xs s commands = s
+abbrev pub session_behind : List Meeting → Session → List ScriptCommand → Session
+session_behind (x ∷ xs) s (command ∷ commands) = session_behind xs (answer_in x s command).1 commands
+session_behind xs s commands = s
 
 -- so it is of commands of the volume alone
 abbrev pub volume_answered : List Met → Volume → List Command → List Answered
@@ -110,7 +110,7 @@ IsWornOut v i = (last_count ≤ v.serial.count) ⊎ LogIsFull v.layout i
 -- ---- the images between commands
 
 -- an image of the run at which just this was said
-pub record Stood (Passed : Moment → Type 0) (said : List ℕ) (i : Image) : Type 0 where
+pub record StoodAt (Passed : Moment → Type 0) (said : List ℕ) (i : Image) : Type 0 where
   pub moment : Moment
   pub passed : Passed moment
   pub image : moment.image ≡ i
@@ -123,7 +123,7 @@ pub record IsStep (hurt : Sectors) (Passed : Moment → Type 0) (said : List ℕ
   pub kept : Kept i s.volume.files s.volume.entries hurt
   pub tells : s.volume.unforced ≡ 0 → told s.volume.layout i ≡ Some (telling_of s.volume)
   pub unworn : IsTrue (may_wear_out_in s command) → IsWornOut s.volume i → ⊥
-  pub exit : Stood Passed said j
+  pub exit : StoodAt Passed said j
   pub may : MayMeet i j s command x
 
 -- The commands are begun one after another, one for each of what they meet, and each is answered over images of the
@@ -156,14 +156,14 @@ errand_in request input cut = cut_off cut (errand_of request input)
 
 -- What the words ask for is done over this volume, from the image i on: where it is cut off, if it is, and what the
 -- commands that were begun meet. Passed is the moments of the run, and base what was said before it.
-pub record Run (request : Request) (input : List ℕ) (windows : List WeakRun) (Passed : Moment → Type 0) (base : List ℕ) (v : Volume) (i : Image) : Type 0 where
+pub record Course (request : Request) (input : List ℕ) (windows : List WeakRun) (Passed : Moment → Type 0) (base : List ℕ) (v : Volume) (i : Image) : Type 0 where
   pub cut : Cut
   pub may : MayCut request cut
   pub mets : List Meeting
-  pub before : IsCutBefore cut (behind mets (session_over v) (errand_in request input cut).commands) (errand_of request input).commands
+  pub before : IsCutBefore cut (session_behind mets (session_over v) (errand_in request input cut).commands) (errand_of request input).commands
   pub goes : Goes (in_runs windows) Passed (IsCutAt cut) (errand_in request input cut) base i (session_over v) mets (errand_in request input cut).commands
 
-module _ {request : Request} {input : List ℕ} {windows : List WeakRun} {Passed : Moment → Type 0} {base : List ℕ} {v : Volume} {i : Image} (r : Run request input windows Passed base v i) where
+module _ {request : Request} {input : List ℕ} {windows : List WeakRun} {Passed : Moment → Type 0} {base : List ℕ} {v : Volume} {i : Image} (r : Course request input windows Passed base v i) where
   abbrev pub run_turns : List Turn
   run_turns = turns_of (errand_in request input r.cut) r.mets (session_over v)
 
@@ -172,7 +172,7 @@ module _ {request : Request} {input : List ℕ} {windows : List WeakRun} {Passed
 
   -- the volume behind the commands that were begun: what clients have open is dropped, or done
   abbrev pub run_end : Volume
-  run_end = (finished (behind r.mets (session_over v) (errand_in request input r.cut).commands)).volume
+  run_end = (finished (session_behind r.mets (session_over v) (errand_in request input r.cut).commands)).volume
 
   -- all commands were begun
   abbrev pub IsThrough : Type 0

@@ -4,7 +4,7 @@ use Rattle.std.specs.List.{flat_map}
 use Rattle.run_table.specs.declared.run.Run.{Run}
 use Rattle.fsd_bytes.specs.declared.refusal.Refusal.{Refusal}
 use Rattle.fsd_formats.specs.NamePage.{max_length}
-use Rattle.fsd_files.specs.Answers.{Finds, Met, Outcome}
+use Rattle.fsd_files.specs.Answers.{FindsDamage, Met, Outcome}
 use Rattle.fsd_files.specs.Desk.{Session, Open, Nothing, Writes, Reads, begin_outcome, close_outcome, done_outcome, drop_outcome, next_count, next_outcome, no_clients, open_outcome, opened_by, piece_outcome}
 use Rattle.fsd_files.specs.Disk.{Image}
 use Rattle.fsd_files.specs.Files.{Change}
@@ -35,8 +35,8 @@ finished s = session_over (record s.volume { held = []; drafts = [] })
 -- ---- answers
 
 -- the volume answers, and the clients stay
-abbrev pub beside : Session → Outcome → Reply × Session
-beside s out = (out.0, record s { volume = out.1 })
+abbrev pub by_volume : Session → Outcome → Reply × Session
+by_volume s out = (out.0, record s { volume = out.1 })
 
 abbrev pub call_answer : Meeting → Session → (c : ℕ) → Call → Reply × Session
 call_answer x s c (Calls.Begin name len) = begin_outcome s c name len
@@ -49,7 +49,7 @@ call_answer x s c Calls.Done = done_outcome x.held s c
 
 -- what a command is answered, and the session then
 abbrev pub answer_in : Meeting → Session → ScriptCommand → Reply × Session
-answer_in x s (Plain command) = beside s (answer x.met s.volume command)
+answer_in x s (Plain command) = by_volume s (answer x.met s.volume command)
 answer_in x s (OfClient c call) = call_answer x s c call
 
 -- ---- where a mount is worn out
@@ -82,7 +82,7 @@ may_wear_out_in s (OfClient c call) = call_may_wear_out s.clients c call
 
 -- the sectors of so many next bytes
 abbrev pub FindsNext : Image → Image → Result Open Refusal → (len : ℕ) → Option ℕ → Type 0
-FindsNext i j (Ok (Reads key runs bytes place)) len damaged = Finds i j (range_sectors runs place (next_count bytes place len)) damaged
+FindsNext i j (Ok (Reads key runs bytes place)) len damaged = FindsDamage i j (range_sectors runs place (next_count bytes place len)) damaged
 FindsNext i j other len damaged = ⊤
 
 abbrev pub CallMayFind : Image → Image → List Open → (c : ℕ) → Call → Met → Type 0

@@ -13,7 +13,7 @@ use Rattle.fsd_texts.specs.declared.bad_line.Cause.TheVariants.{BadNumber}
 use Rattle.fsd_texts.specs.declared.command.Command.TheVariants as Word
 use Rattle.fsd_texts.specs.Script.{◌>>=◌, number_in, name_in, key_in, pattern_in}
 use Rattle.fsd_runs.specs.declared.request.Request.{Request}
-use Rattle.fsd_runs.specs.declared.request.Request.TheVariants.{Outside, BadField, Format, Put, One, Script, Generate, Drill}
+use Rattle.fsd_runs.specs.declared.request.Request.TheVariants.{NoCommand, BadField, Format, Put, One, Script, Generate, Drill}
 
 -- ---- the command set
 
@@ -101,8 +101,8 @@ reads_generate rows = do
   Ok (Generate seed count)
 
 -- the fields of a subcommand, from the left
-abbrev pub reads : Text → List Row → Result Request Cause
-reads name rows =
+abbrev pub reads_fields : Text → List Row → Result Request Cause
+reads_fields name rows =
     if same_bytes name (codes "format") then reads_format rows
     else (if same_bytes name (codes "put") then reads_put rows
     else (if same_bytes name (codes "get") then (key_in (field (codes "key") rows) >>= λ key. Ok (One (Word.Get key)))
@@ -115,7 +115,7 @@ reads name rows =
     else (if same_bytes name (codes "script") then Ok Script
     else (if same_bytes name (codes "generate") then reads_generate rows
     else (if same_bytes name (codes "drill") then Ok Drill
-    else Ok Outside)))))))))))
+    else Ok NoCommand)))))))))))
 
 -- ---- the words
 
@@ -123,18 +123,18 @@ abbrev pub or_bad_field : Result Request Cause → Request
 or_bad_field (Ok request) = request
 or_bad_field (Err cause) = BadField cause
 
-abbrev pub entered : Option (Text × List Row) → Request
-entered None = Outside
-entered (Some x) = or_bad_field (reads x.0 x.1)
+abbrev pub entered_request : Option (Text × List Row) → Request
+entered_request None = NoCommand
+entered_request (Some x) = or_bad_field (reads_fields x.0 x.1)
 
 -- what the words ask for; the program's name stands first
 abbrev pub request_of : List (List ℕ) → Request
-request_of words = if takes cfs words then entered (subcommand_of cfs words) else Outside
+request_of words = if takes cfs words then entered_request (subcommand_of cfs words) else NoCommand
 
-abbrev pub image_in : Option (Text × List Row) → List ℕ
-image_in None = []
-image_in (Some x) = field (codes "image") x.1
+abbrev pub image_word : Option (Text × List Row) → List ℕ
+image_word None = []
+image_word (Some x) = field (codes "image") x.1
 
 -- the image that the words name, where they are of the command set
 abbrev pub path_of : List (List ℕ) → List ℕ
-path_of words = if takes cfs words then image_in (subcommand_of cfs words) else []
+path_of words = if takes cfs words then image_word (subcommand_of cfs words) else []

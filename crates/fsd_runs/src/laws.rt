@@ -8,7 +8,7 @@ ghost use Rattle.sector_disk.specs.Machine.{Moment, Report};
 ghost use Rattle.fsd_sound.specs.Sound.{IsPrefixOf};
 ghost use Rattle.fsd_texts.specs.Text.{memory_text};
 ghost use Rattle.fsd_runs.specs.declared.request.Request.{Request};
-ghost use Rattle.fsd_runs.specs.Leaves.{IsBroken, IsReplied, IsSoundAsSaid, IsUndone, IsUnsaid, Left, NoneRose, SaysThen, StaysSound, Whatever};
+ghost use Rattle.fsd_runs.specs.Leaves.{IsBrokenOff, IsReplied, IsSoundAsSaid, IsUndone, IsUnsaid, Left, NoneRose, SaysThen, StaysSound, Whatever};
 ghost use Rattle.fsd_files.specs.Disk.{Image};
 ghost use Rattle.fsd_files.specs.Files.{Change, step};
 ghost use Rattle.fsd_files.specs.Desk.{Session};
@@ -18,14 +18,14 @@ ghost use Rattle.fsd_texts.specs.declared.script_command.ScriptCommand.{ScriptCo
 ghost use Rattle.fsd_texts.specs.declared.script_command.ScriptCommand.TheVariants.{Plain};
 ghost use Rattle.fsd_texts.specs.Script.{Script};
 ghost use Rattle.fsd_runs.specs.Errands.{Errand, Turn, scripted};
-ghost use Rattle.fsd_runs.specs.Runs.{answered, behind, changes_in, forced_in, turn_of, volume_answered, volume_behind};
+ghost use Rattle.fsd_runs.specs.Runs.{answered, session_behind, changes_in, forced_in, turn_of, volume_answered, volume_behind};
 ghost use Rattle.fsd_runs.specs.Sessions.{HoldsRead, MayMeet, Meeting, answer_in, changes_in_session};
 
 /// What commands do to the files is the changes that their replies accept, in order.
 pub fn replies_tell_the_changes()
     ensures command { (x : Meeting) (s : Session) (c : ScriptCommand) → (answer_in x s c).1.volume.files ≡ fold step s.volume.files (changes_in_session s c (answer_in x s c).0) }
     ensures run { (e : Errand) (xs : List Meeting) (s : Session) (commands : List ScriptCommand) →
-        (behind xs s commands).volume.files ≡ fold step s.volume.files (changes_in (map (turn_of e) (answered xs s commands))) }
+        (session_behind xs s commands).volume.files ≡ fold step s.volume.files (changes_in (map (turn_of e) (answered xs s commands))) }
 {}
 
 /// Commands of a volume alone go as it answers them one after another, whatever clients have open, and leave these.
@@ -33,13 +33,13 @@ pub fn a_volume_answers_alone()
     ensures answered { (xs : List Meeting) (s : Session) (commands : List Command) →
         answered xs s (map (λ c. Plain c) commands) ≡ volume_answered (map (λ x. x.met) xs) s.volume commands }
     ensures behind { (xs : List Meeting) (s : Session) (commands : List Command) →
-        behind xs s (map (λ c. Plain c) commands) ≡ record s { volume = volume_behind (map (λ x. x.met) xs) s.volume commands } }
+        session_behind xs s (map (λ c. Plain c) commands) ≡ record s { volume = volume_behind (map (λ x. x.met) xs) s.volume commands } }
 {}
 
 /// What the lines of a script tell as forced is forced: of all changes, those before the last `forced` wait no more.
 pub fn forced_lines_tell_what_is_forced()
     ensures { (script : Script) (xs : List Meeting) (s : Session) (commands : List ScriptCommand) → let turns = map (turn_of (scripted script)) (answered xs s commands) in
-        forced_in turns + (behind xs s commands).volume.unforced ≤ length (changes_in turns) + s.volume.unforced }
+        forced_in turns + (session_behind xs s commands).volume.unforced ≤ length (changes_in turns) + s.volume.unforced }
 {}
 
 /// Each command has an answer, whatever the disk.
@@ -66,5 +66,5 @@ pub fn replied_runs_go_on()
 /// what it has said whole.
 pub fn without_faults_memory_alone_is_refused()
     ensures { (request : Request) (l : Layout) (windows : List WeakRun) (g : List Change) (n : ℕ) (before after : Report) (turns : List Turn) (old new : Moment) (result : ℕ) → NoneRose before after →
-        IsUnsaid before after result ⊎ IsBroken request (IsUndone l windows g n turns) Whatever before after turns old new result → (result ≡ 7) × (x : SaysThen turns memory_text old new) × IsUndone l windows g n turns x.whole new.image }
+        IsUnsaid before after result ⊎ IsBrokenOff request (IsUndone l windows g n turns) Whatever before after turns old new result → (result ≡ 7) × (x : SaysThen turns memory_text old new) × IsUndone l windows g n turns x.whole new.image }
 {}

@@ -7,7 +7,7 @@ use volume_layout::Kind;
 #[derive(Debug, Drop)]
 pub enum Request {
     /// The words are outside the command set.
-    Outside,
+    NoCommand,
     /// The first field from the left that is refused.
     BadField(Cause),
     Format {

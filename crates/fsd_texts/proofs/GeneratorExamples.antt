@@ -3,7 +3,7 @@ use Rattle.std.proofs.Common.{◌≡◌, ℕ, [], ◌∷◌, map, refl, None, co
 use Rattle.std.specs.Fmt.{digits}
 use Rattle.fsd_bytes.specs.Keys.{key_of}
 use Rattle.fsd_texts.specs.declared.command.Command.TheVariants as Word
-use Rattle.fsd_texts.specs.Generator.{amount_of, draw_of, kind_of, made_bytes, made_up, name_number, next_state}
+use Rattle.fsd_texts.specs.Generator.{amount_of, draw_of, drawn_kind, made_bytes, made_up, name_number, next_state}
 
 states : map next_state (1 ∷ 2 ∷ 3 ∷ []) ≡ 7806831264735756412 ∷ 14170967488582549417 ∷ 2088359638719790806 ∷ []
 states = refl
@@ -11,7 +11,7 @@ states = refl
 draws : map (λ (seed : ℕ). draw_of (next_state seed)) (1 ∷ 2 ∷ 3 ∷ []) ≡ 908834774 ∷ 1649717740 ∷ 243117059 ∷ []
 draws = refl
 
-kinds : map kind_of (908834774 ∷ 1649717740 ∷ 243117059 ∷ []) ≡ 6 ∷ 4 ∷ 3 ∷ []
+kinds : map drawn_kind (908834774 ∷ 1649717740 ∷ 243117059 ∷ []) ≡ 6 ∷ 4 ∷ 3 ∷ []
 kinds = refl
 
 names : map name_number (908834774 ∷ 1649717740 ∷ 243117059 ∷ []) ≡ 58 ∷ 61 ∷ 0 ∷ []

@@ -22,10 +22,10 @@ cut_short : script_in (codes "put a 3" ++ newline ++ codes "xyz" ++ newline ++ c
 cut_short = refl
 
 each_word : script_in (codes "put a 0" ++ newline ++ newline ++ codes "put a 1 7" ++ newline ++ newline ++ newline ++ codes "delete a!1" ++ newline ++ codes "keep a 1000" ++ newline ++ codes "get a!4294967295" ++ newline
-    ++ codes "force" ++ newline ++ codes "tick" ++ newline ++ codes "stat" ++ newline)
+    ++ codes "force" ++ newline ++ codes "tick" ++ newline)
     ≡ (
       map (λ command. Plain command) (Word.Put (codes "a") [] None ∷ Word.Put (codes "a") newline (Some 7) ∷ Word.Delete (key_of (codes "a") 1) ∷ Word.Keep (codes "a") 1000 ∷ Word.Get (key_of (codes "a") 4294967295)
-          ∷ Word.Force ∷ Word.Tick ∷ Word.Stat ∷ []),
+          ∷ Word.Force ∷ Word.Tick ∷ []),
       Ends.Done,
     )
 each_word = refl
@@ -47,7 +47,7 @@ client_lines = refl
 
 -- what a script of one line ends with
 lines : map (λ (bytes : List ℕ). (script_of (bytes ++ newline)).1)
-    (replicate 129 97 ∷ [] ∷ replicate 128 97 ∷ codes " stat" ∷ codes "Stat" ∷ codes "scrub" ∷ codes "upgrade v" ∷ codes "stat " ∷ codes "put a" ∷ codes "put a 1 2 3" ∷ codes "put  3" ∷ codes "put a! 01" ∷ codes "put a 4294967296" ∷ codes "put a 1 01"
+    (replicate 129 97 ∷ [] ∷ replicate 128 97 ∷ codes " tick" ∷ codes "Tick" ∷ codes "scrub" ∷ codes "upgrade v" ∷ codes "tick " ∷ codes "put a" ∷ codes "put a 1 2 3" ∷ codes "put  3" ∷ codes "put a! 01" ∷ codes "put a 4294967296" ∷ codes "put a 1 01"
     ∷ codes "keep a -1" ∷ codes "keep a " ∷ codes "delete a!0" ∷ codes "get a" ∷ codes "list a*b" ∷ codes "put a 1" ∷ [])
     ≡ map (ends_at 1) (Causes.LongLine ∷ Causes.EmptyLine ∷ Causes.UnknownWord ∷ Causes.UnknownWord ∷ Causes.UnknownWord ∷ Causes.UnknownWord ∷ Causes.UnknownWord ∷ Causes.WordCount ∷ Causes.WordCount ∷ Causes.WordCount ∷ Causes.BadName ∷ Causes.BadName
     ∷ Causes.BadNumber ∷ Causes.BadNumber ∷ Causes.BadNumber ∷ Causes.BadNumber ∷ Causes.BadKey ∷ Causes.BadKey ∷ Causes.BadPattern ∷ Causes.ShortBytes ∷ [])
@@ -59,6 +59,6 @@ inputs : map (λ (bytes : List ℕ). (script_of bytes).1) (replicate 129 97 ∷ 
 inputs = refl
 
 -- with room for five bytes
-limits : map (λ (bytes : List ℕ). script_from 5 1 bytes) ((codes "stat" ++ newline) ∷ (codes "stat" ++ newline ++ codes "x") ∷ codes "force" ∷ (codes "force" ++ newline) ∷ (codes "nil" ++ newline ++ codes "stat") ∷ [])
-    ≡ (Plain Word.Stat ∷ [], Ends.Done) ∷ (Plain Word.Stat ∷ [], Ends.TooLong) ∷ ([], ends_at 1 Causes.NoNewline) ∷ ([], Ends.TooLong) ∷ ([], ends_at 1 Causes.UnknownWord) ∷ []
+limits : map (λ (bytes : List ℕ). script_from 5 1 bytes) ((codes "tick" ++ newline) ∷ (codes "tick" ++ newline ++ codes "x") ∷ codes "force" ∷ (codes "force" ++ newline) ∷ (codes "nil" ++ newline ++ codes "tick") ∷ [])
+    ≡ (Plain Word.Tick ∷ [], Ends.Done) ∷ (Plain Word.Tick ∷ [], Ends.TooLong) ∷ ([], ends_at 1 Causes.NoNewline) ∷ ([], Ends.TooLong) ∷ ([], ends_at 1 Causes.UnknownWord) ∷ []
 limits = refl

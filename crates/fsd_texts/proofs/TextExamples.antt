@@ -13,9 +13,9 @@ usage : text Says.Usage ≡ codes "usage: cfs COMMAND IMAGE WORDS" ++ newline
 usage = refl
 
 replies : map text (Says.Formatted 2048 1127 ∷ Says.Made (key_of (codes "a") 1) 2 ∷ Says.Deleted (key_of (codes "a") 1) ∷ Says.Kept (key_of (codes "a") 12) 7 ∷ Says.Version (key_of (codes "a/b") 1) 513 3 0 ∷ Says.Listed 1
-    ∷ Says.Bytes (key_of (codes "a") 1) 0 ∷ Says.Forced ∷ Says.Stat 1 2 3 4 ∷ Says.Damaged (key_of (codes "g") 1) 923 ∷ Says.Generated (record { count = 1; made = 2; deleted = 3; kept = 4; read = 5; bytes = 6; refused = 7 }) ∷ Says.Life 6 ∷ [])
+    ∷ Says.Bytes (key_of (codes "a") 1) 0 ∷ Says.Forced ∷ Says.Damaged (key_of (codes "g") 1) 923 ∷ Says.Generated (record { count = 1; made = 2; deleted = 3; kept = 4; read = 5; bytes = 6; refused = 7 }) ∷ Says.Life 6 ∷ [])
     ≡ map (λ (l : List ℕ). l ++ newline) (codes "formatted 2048 free 1127" ∷ codes "made a!1 2" ∷ codes "deleted a!1" ∷ codes "kept a!12 7" ∷ codes "a/b!1 513 3 0" ∷ codes "listed 1"
-    ∷ codes "bytes a!1 0" ∷ codes "forced" ∷ codes "stat free 1 waiting 2 pages 3 versions 4" ∷ codes "damaged g!1 923" ∷ codes "generated 1 made 2 deleted 3 kept 4 read 5 bytes 6 refused 7" ∷ codes "life 6" ∷ [])
+    ∷ codes "bytes a!1 0" ∷ codes "forced" ∷ codes "damaged g!1 923" ∷ codes "generated 1 made 2 deleted 3 kept 4 read 5 bytes 6 refused 7" ∷ codes "life 6" ∷ [])
 unfolding digits
 replies = refl
 

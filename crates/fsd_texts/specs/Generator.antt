@@ -13,8 +13,8 @@ abbrev pub draw_of : ℕ → ℕ
 draw_of x = x / 2 ^ 33
 
 -- the parts of what is drawn: which command, which name, and a number for it
-abbrev pub kind_of : ℕ → ℕ
-kind_of r = r % 8
+abbrev pub drawn_kind : ℕ → ℕ
+drawn_kind r = r % 8
 
 abbrev pub name_number : ℕ → ℕ
 name_number r = (r / 8) % 64
@@ -38,7 +38,7 @@ command_of_kind kind i q u =
     else Word.Force)))
 
 abbrev pub command_of_draw : (i r : ℕ) → Command
-command_of_draw i r = command_of_kind (kind_of r) i (name_number r) (amount_of r)
+command_of_draw i r = command_of_kind (drawn_kind r) i (name_number r) (amount_of r)
 
 -- so many commands, of which the next is command i
 abbrev pub made_from : (count i x : ℕ) → List Command

@@ -1,5 +1,5 @@
 -- Scripts: the commands that bytes spell, and how they end.
-use Rattle.std.specs.Prelude.{ℕ, zero, suc, ◌+◌, ◌^◌, Bool, true, false, ◌&&◌, List, [], ◌∷◌, length, take, drop, Some, None, Result, Ok, Err, ok_or, nat_lt, nat_le, ◌==◌, if◌then◌else◌, slice_index, codes}
+use Rattle.std.specs.Prelude.{ℕ, zero, suc, ◌+◌, ◌^◌, Bool, true, false, ◌&&◌, List, [], ◌∷◌, length, take, drop, Option, Some, None, Result, Ok, Err, ok_or, nat_lt, nat_le, ◌==◌, if◌then◌else◌, slice_index, codes}
 use Rattle.std.specs.List.{slice_split}
 use Rattle.fsd_bytes.specs.Bytes.{same_bytes}
 use Rattle.fsd_bytes.specs.declared.key.Key.{Key}
@@ -121,13 +121,22 @@ asks_client word fields =
     else (if same_bytes word (codes "done") then call_with_none Calls.Done fields
     else Err UnknownWord))))))
 
--- by a word that stands alone
+-- the words that stand alone, and the command of each
+abbrev pub lone_words : List (List ℕ × Command)
+lone_words = (codes "force", Word.Force) ∷ (codes "tick", Word.Tick) ∷ (codes "stat", Word.Stat) ∷ []
+
+-- the command of the first of these words that this one is
+abbrev pub lone_in : List (List ℕ × Command) → List ℕ → Option Command
+lone_in [] word = None
+lone_in (x ∷ lone) word = if same_bytes word x.0 then Some x.1 else lone_in lone word
+
+-- by a word that stands alone, where it is one
+abbrev pub asks_lone : Option Command → List ℕ → List (List ℕ) → Result Asking Cause
+asks_lone (Some command) word fields = with_no_field command fields
+asks_lone None word fields = asks_client word fields
+
 abbrev pub asks_alone : List ℕ → List (List ℕ) → Result Asking Cause
-asks_alone word fields =
-    if same_bytes word (codes "force") then with_no_field Word.Force fields
-    else (if same_bytes word (codes "tick") then with_no_field Word.Tick fields
-    else (if same_bytes word (codes "stat") then with_no_field Word.Stat fields
-    else asks_client word fields))
+asks_alone word fields = asks_lone (lone_in lone_words word) word fields
 
 -- by the first word, and the others
 abbrev pub asks : List ℕ → List (List ℕ) → Result Asking Cause
@@ -147,17 +156,21 @@ asked_by (word ∷ fields) = asks word fields
 
 -- ---- the bytes behind a line
 
+-- what is read of a command: it, and the bytes behind it; or why there is none
+abbrev pub CommandRead : Type 0
+CommandRead = Result (ScriptCommand × List ℕ) Cause
+
 -- so many bytes and a newline, and the command that they make with their line
-abbrev pub with_bytes : (List ℕ → ScriptCommand) → (len : ℕ) → List ℕ → Result (ScriptCommand × List ℕ) Cause
-with_bytes make len rest =
+abbrev pub taking_bytes : (List ℕ → ScriptCommand) → (len : ℕ) → List ℕ → Result (ScriptCommand × List ℕ) Cause
+taking_bytes make len rest =
     if nat_le (length rest) len then Err ShortBytes
     else (if slice_index rest len == 10 then Ok (make (take len rest), drop (len + 1) rest) else Err NoNewlineAfterBytes)
 
 abbrev pub whole_command : Asking → List ℕ → Result (ScriptCommand × List ℕ) Cause
 whole_command (Plainly command) rest = Ok (Asked.Plain command, rest)
-whole_command (Put name len keep) rest = with_bytes (λ bytes. Asked.Plain (Word.Put name bytes keep)) len rest
+whole_command (Put name len keep) rest = taking_bytes (λ bytes. Asked.Plain (Word.Put name bytes keep)) len rest
 whole_command (OfClient client call) rest = Ok (Asked.OfClient client call, rest)
-whole_command (Piece client len) rest = with_bytes (λ bytes. Asked.OfClient client (Calls.Piece bytes)) len rest
+whole_command (Piece client len) rest = taking_bytes (λ bytes. Asked.OfClient client (Calls.Piece bytes)) len rest
 
 -- the command that begins the bytes, and what follows it; or why none does
 abbrev pub command_at : List ℕ → Result (ScriptCommand × List ℕ) Cause

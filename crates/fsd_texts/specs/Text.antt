@@ -13,7 +13,7 @@ use Rattle.fsd_texts.specs.declared.bad_line.BadLine.{BadLine}
 use Rattle.fsd_texts.specs.declared.fault.Fault.{Fault}
 use Rattle.fsd_texts.specs.declared.fault.Fault.TheVariants as Ends
 use Rattle.fsd_texts.specs.declared.line.Line.{Line}
-use Rattle.fsd_texts.specs.declared.line.Line.TheVariants.{Usage, Bad, Formatted, Unplanned, Made, Deleted, Kept, Version, Listed, Bytes, Forced, Stat, Damaged, Scrubbed, Upgraded, Generated, Life, Begun, Took, Dropped, Opened, Given, Done, Refused, Ended}
+use Rattle.fsd_texts.specs.declared.line.Line.TheVariants.{Usage, Bad, Formatted, Unplanned, Made, Deleted, Kept, Version, Listed, Bytes, Forced, Counted, Damaged, Scrubbed, Upgraded, Generated, Life, Begun, Took, Dropped, Opened, Given, Done, Refused, Ended}
 
 abbrev pub newline : List ℕ
 newline = 10 ∷ []
@@ -101,7 +101,7 @@ text (Version key len sectors keep) = line (key_text key ∷ number len ∷ numb
 text (Listed count) = line (codes "listed" ∷ number count ∷ [])
 text (Bytes key len) = line (codes "bytes" ∷ key_text key ∷ number len ∷ [])
 text Forced = codes "forced" ++ newline
-text (Stat free waiting pages versions) = line (codes "stat" ∷ codes "free" ∷ number free ∷ codes "waiting" ∷ number waiting ∷ codes "pages" ∷ number pages ∷ codes "versions" ∷ number versions ∷ [])
+text (Counted free waiting pages versions) = line (codes "stat" ∷ codes "free" ∷ number free ∷ codes "waiting" ∷ number waiting ∷ codes "pages" ∷ number pages ∷ codes "versions" ∷ number versions ∷ [])
 text (Damaged key s) = line (codes "damaged" ∷ key_text key ∷ number s ∷ [])
 text (Scrubbed healed damaged) = line (codes "scrubbed" ∷ codes "healed" ∷ number healed ∷ codes "damaged" ∷ number damaged ∷ [])
 text Upgraded = codes "upgraded 2" ++ newline

@@ -1,4 +1,7 @@
 //! The commands of a volume.
+ghost use Rattle.std.specs.Prelude.{◌≡◌};
+ghost use Rattle.fsd_texts.specs.Script.{lone_in, lone_words};
+
 use crate::bytes::Bytes;
 use fsd_bytes::{FileName, Key, Pattern};
 
@@ -26,4 +29,21 @@ pub enum Command {
     Scrub,
     /// The volume is one of layout 2 then. No line of a script asks for it.
     Upgrade,
+}
+
+impl Command {
+    /// What this word of a script asks for, where it is one that stands alone.
+    pub fn lone(word: &[u8]) -> Option<Command>
+        ensures { result ≡ lone_in lone_words word.now }
+    {
+        if word == b"force".as_slice() {
+            Some(Command::Force)
+        } else if word == b"tick".as_slice() {
+            Some(Command::Tick)
+        } else if word == b"stat".as_slice() {
+            Some(Command::Stat)
+        } else {
+            None
+        }
+    }
 }

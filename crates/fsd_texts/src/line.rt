@@ -41,7 +41,7 @@ pub enum Line {
         length: u32,
     },
     Forced,
-    Stat {
+    Counted {
         free: u32,
         waiting: u32,
         pages: u32,

@@ -1,6 +1,6 @@
 -- A command that bytes begin with is the same whatever stands behind them, and so is the cause why they begin with none, unless it is
 -- that they end too early.
-use Rattle.std.proofs.Common.{◌≡◌, Bool, true, false, cond, ℕ, zero, suc, ◌+◌, ◌<◌, ◌≤◌, List, [], ◌∷◌, ◌++◌, length, take, drop, Option, Result, Ok, Err, refl, sym, ap, ◌∙◌, arith, length-append, length-drop}
+use Rattle.std.proofs.Common.{◌≡◌, Bool, true, false, cond, ℕ, zero, suc, ◌+◌, ◌<◌, ◌≤◌, List, [], ◌∷◌, ◌++◌, length, take, drop, Result, Ok, Err, refl, sym, ap, ◌∙◌, arith, length-append, length-drop}
 use Rattle.std.specs.Prelude.{nat_le, ◌==◌, slice_index}
 use Rattle.std.proofs.lemmas.Bool.{leb-false, lt-leb}
 use Rattle.std.proofs.lemmas.List.{take-append-le, drop-append-le, get_or_append_left}
@@ -12,7 +12,7 @@ use Rattle.fsd_texts.specs.declared.call.Call.TheVariants as Calls
 use Rattle.fsd_texts.specs.declared.script_command.ScriptCommand.{ScriptCommand}
 use Rattle.fsd_texts.specs.declared.script_command.ScriptCommand.TheVariants as Asked
 use Rattle.fsd_texts.specs.declared.command.Command.TheVariants as Word
-use Rattle.fsd_texts.specs.Script.{◌>>=◌, asked_by, command_at, ends_early, line_at, max_line, whole_command, with_bytes, words_of}
+use Rattle.fsd_texts.specs.Script.{CommandRead, ◌>>=◌, asked_by, command_at, ends_early, line_at, max_line, whole_command, taking_bytes, words_of}
 
 -- what was read failed for want of more bytes
 abbrev pub early : {A : Type 0} → Result A Cause → Bool
@@ -57,9 +57,6 @@ line_more (suc room) (b ∷ bytes) more late = longer (b == 10) b bytes more (li
 
 -- ---- the bytes behind a line
 
-abbrev CommandRead : Type 0
-CommandRead = Result (ScriptCommand × List ℕ) Cause
-
 abbrev picked : (short newline : Bool) → ScriptCommand × List ℕ → CommandRead
 picked short newline x = cond short (Err ShortBytes) (cond newline (Ok x) (Err NoNewlineAfterBytes))
 
@@ -84,7 +81,7 @@ found_more make len rest more short =
     let back : drop (len + 1) (rest ++ more) ≡ drop (len + 1) rest ++ more = drop-append-le (len + 1) rest more (omega arith) in
     (lt-leb (length (rest ++ more)) len (omega (arith, length-append rest more)), ap (λ (b : ℕ). b == 10) at, rw (front, back) refl)
 
-bytes_more : (make : List ℕ → ScriptCommand) (len : ℕ) (rest more : List ℕ) → early (with_bytes make len rest) ≡ false → with_bytes make len (rest ++ more) ≡ with_more (with_bytes make len rest) more
+bytes_more : (make : List ℕ → ScriptCommand) (len : ℕ) (rest more : List ℕ) → early (taking_bytes make len rest) ≡ false → taking_bytes make len (rest ++ more) ≡ with_more (taking_bytes make len rest) more
 bytes_more make len rest more late =
     pick_more (nat_le (length rest) len) (nat_le (length (rest ++ more)) len) (slice_index rest len == 10) (slice_index (rest ++ more) len == 10) (found make len rest) (found make len (rest ++ more)) more
     (found_more make len rest more) late
@@ -136,7 +133,7 @@ pick_ends true newline first command left rest is = absurd cc
 pick_ends false true first command left rest is = sym (ap left_of is)
 pick_ends false false first command left rest is = absurd cc
 
-bytes_shrink : (make : List ℕ → ScriptCommand) (len : ℕ) (bytes : List ℕ) (command : ScriptCommand) (rest : List ℕ) → with_bytes make len bytes ≡ Ok (command, rest) → length rest ≤ length bytes
+bytes_shrink : (make : List ℕ → ScriptCommand) (len : ℕ) (bytes : List ℕ) (command : ScriptCommand) (rest : List ℕ) → taking_bytes make len bytes ≡ Ok (command, rest) → length rest ≤ length bytes
 bytes_shrink make len bytes command rest read =
     let e : length rest ≡ length (drop (len + 1) bytes) = pick_ends (nat_le (length bytes) len) (slice_index bytes len == 10) (make (take len bytes)) command (drop (len + 1) bytes) rest read in
     omega (arith, e, length-drop (len + 1) bytes)

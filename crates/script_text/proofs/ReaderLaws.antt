@@ -9,7 +9,7 @@ use Rattle.fsd_texts.specs.declared.end.End.{End}
 use Rattle.fsd_texts.specs.declared.end.End.TheVariants.{Done, Bad, TooLong}
 use Rattle.fsd_texts.specs.Script.{command_at, ends_early, max_input, script_from}
 use Rattle.script_text.specs.Reading.{IsReading, Reading, end_after, end_by, room_of, script_left, unless_ended}
-use Rattle.script_text.specs.Taking.{Comes, Grows}
+use Rattle.script_text.specs.Taking.{ComesIn, TakesBytes}
 use Rattle.script_text.proofs.LeftLaws.{from_done, from_ends, from_fails, from_long, script, some_wait}
 
 -- a reader that has not ended
@@ -45,10 +45,10 @@ bad_line r cause input h read late =
 -- ---- bytes that are taken
 
 -- where the script ends now, and where nothing is changed
-pub stays : (old new : Reading) (ledger : Ledger) → new.taken ≡ old.taken → new.waiting ≡ old.waiting → (new.end ≡ None → ⊥) → Grows old new ledger ledger
+pub stays : (old new : Reading) (ledger : Ledger) → new.taken ≡ old.taken → new.waiting ≡ old.waiting → (new.end ≡ None → ⊥) → TakesBytes old new ledger ledger
 stays old new ledger taken waiting ended = record { count = 0; some = omega arith; left = refl; taken = omega arith; needed = λ some. absurd (omega (arith, some)); waiting = waiting ∙ sym (append-nil old.waiting); ahead = λ still rest. absurd (ended still) }
 
-pub nothing_came : (old new : Reading) (before now : Ledger) → new ≡ old → now ≡ before → Grows old new before now
+pub nothing_came : (old new : Reading) (before now : Ledger) → new ≡ old → now ≡ before → TakesBytes old new before now
 nothing_came old new before now same left = record {
   count = 0;
   some = omega arith;
@@ -66,7 +66,7 @@ ended_here r cause (b ∷ bytes) is fits read =
     ∙ ap (script []) (cond-false (length (b ∷ bytes) == 0) Done (Bad (record { line = r.given + 1; cause = cause })) (ne_eqb (length (b ∷ bytes)) 0 (λ e. omega arith)))
     ∙ sym (ap (script_from (room_of r) (r.given + 1)) (append-nil (b ∷ bytes)) ∙ from_ends (room_of r) (r.given + 1) (b ∷ bytes) fits cause (omega arith) read)
 
-module _ (old : Reading) (h : IsOpen old) (cause : Cause) (read : command_at old.waiting ≡ Err cause) (short : ends_early cause ≡ true) (before now : Ledger) (items : List ℕ) (count : ℕ) (comes : Comes old.waiting items count before now)
+module _ (old : Reading) (h : IsOpen old) (cause : Cause) (read : command_at old.waiting ≡ Err cause) (short : ends_early cause ≡ true) (before now : Ledger) (items : List ℕ) (count : ℕ) (comes : ComesIn old.waiting items count before now)
     (room : ℕ) (room_is : room ≡ max (min (max_input - old.taken) 4096) 1) (roomy : count ≤ room) where
   abbrev new_with : Option End → Reading
   new_with end = record { waiting = items; taken = old.taken + count; given = old.given; end = end }
@@ -106,7 +106,7 @@ module _ (old : Reading) (h : IsOpen old) (cause : Cause) (read : command_at old
   pub taken_on : (end : Option End) → end ≡ end_after (end_by old cause) count (old.taken + count) → script_left (new_with end) now.input ≡ script_left old before.input
   taken_on end is = ap (λ (e : Option End). script_left (new_with e) now.input) is ∙ by_tests (count == 0) (nat_lt max_input (old.taken + count)) refl refl
 
-  pub grown_on : (end : Option End) → Grows old (new_with end) before now
+  pub grown_on : (end : Option End) → TakesBytes old (new_with end) before now
   grown_on end = record {
     count = count;
     some = comes.some;

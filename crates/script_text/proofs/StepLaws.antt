@@ -12,14 +12,14 @@ use Rattle.script_text.specs.declared.fault.BodyFault.TheVariants as Stops
 use Rattle.fsd_texts.specs.declared.end.End.TheVariants as Ends
 use Rattle.script_text.specs.declared.fault.ScriptFault.{ScriptFault}
 use Rattle.script_text.specs.declared.fault.ScriptFault.TheVariants as Faults
-use Rattle.script_text.specs.Reading.{Ahead, Gives, GivesFirst, GoesOn, IsShort, IsSpelled, NoneWaits, Reading, answer_of, room_of, script_left}
-use Rattle.script_text.specs.Taking.{Grows, Moves}
+use Rattle.script_text.specs.Reading.{Ahead, GivesCommand, GivesFirst, ReadsFurther, WantsMore, IsSpelledCommand, NoneWaits, Reading, end_answer, room_of, script_left}
+use Rattle.script_text.specs.Taking.{TakesBytes, MovesInput}
 use Rattle.script_text.proofs.LeftLaws.{after, from_gives}
 use Rattle.script_text.proofs.ReaderLaws.{IsOpen, room_fits, script_open}
 
 -- ---- a command is given
 
-pub gives_next : (r new : Reading) (command : ScriptCommand) (input : List ℕ) → IsOpen r → Gives r command new → script_left r input ≡ after command (script_left new input)
+pub gives_next : (r new : Reading) (command : ScriptCommand) (input : List ℕ) → IsOpen r → GivesCommand r command new → script_left r input ≡ after command (script_left new input)
 gives_next r new command input h given =
     let shorter : Reading = record { waiting = drop given.used r.waiting; taken = r.taken; given = r.given + 1; end = r.end } in
     let less : length (drop given.used r.waiting) ≡ length r.waiting - given.used = length-drop given.used r.waiting in
@@ -32,11 +32,11 @@ gives_next r new command input h given =
 -- ---- what is taken
 
 -- bytes are taken only where they are needed
-needed_then : (first second : ℕ) (a b input : List ℕ) → (0 < first → IsShort a) → (0 < second → IsShort b) → b ≡ a ++ take first input → 0 < first + second → IsShort a
-needed_then zero second a b input one two is some = subst IsShort (is ∙ append-nil a) (two (omega (arith, some)))
+needed_then : (first second : ℕ) (a b input : List ℕ) → (0 < first → WantsMore a) → (0 < second → WantsMore b) → b ≡ a ++ take first input → 0 < first + second → WantsMore a
+needed_then zero second a b input one two is some = subst WantsMore (is ∙ append-nil a) (two (omega (arith, some)))
 needed_then (suc first) second a b input one two is some = one (omega arith)
 
-pub grows_then : (a b c : Reading) (x y z : Ledger) → b.end ≡ None → Grows a b x y → Grows b c y z → Grows a c x z
+pub grows_then : (a b c : Reading) (x y z : Ledger) → b.end ≡ None → TakesBytes a b x y → TakesBytes b c y z → TakesBytes a c x z
 grows_then a b c x y z open_still first second =
     let left : y.input ≡ drop first.count x.input = ap (λ (l : Ledger). l.input) first.left in
     record {
@@ -56,10 +56,10 @@ grows_then a b c x y z open_still first second =
           ∙ first.ahead open_still (take second.count y.input ++ rest) ∙ second.ahead still rest;
     }
 
-waits_more : (a b : Reading) (x y : Ledger) (grows : Grows a b x y) → length b.waiting ≡ length a.waiting + grows.count
+waits_more : (a b : Reading) (x y : Ledger) (grows : TakesBytes a b x y) → length b.waiting ≡ length a.waiting + grows.count
 waits_more a b x y grows = ap length grows.waiting ∙ length-append a.waiting (take grows.count x.input) ∙ ap (λ (n : ℕ). length a.waiting + n) (length-take-le grows.count x.input grows.some)
 
-pub moves_from : (a b c : Reading) (command : ScriptCommand) (x y : Ledger) → IsOpen b → Grows a b x y → Gives b command c → Moves (Ok (Some command)) a c x y
+pub moves_from : (a b c : Reading) (command : ScriptCommand) (x y : Ledger) → IsOpen b → TakesBytes a b x y → GivesCommand b command c → MovesInput (Ok (Some command)) a c x y
 moves_from a b c command x y h grows given = record {
   count = grows.count;
   some = grows.some;
@@ -76,7 +76,7 @@ moves_from a b c command x y h grows given = record {
 abbrev pub Answer : Type 0
 Answer = Result (Option ScriptCommand) ScriptFault
 
-pub moves_still : (result : Answer) (a b c : Reading) (x y : Ledger) → Grows a b x y → c ≡ b → ((s t : Script) → (b.end ≡ None → s ≡ t) → Ahead result s t) → Moves result a c x y
+pub moves_still : (result : Answer) (a b c : Reading) (x y : Ledger) → TakesBytes a b x y → c ≡ b → ((s t : Script) → (b.end ≡ None → s ≡ t) → Ahead result s t) → MovesInput result a c x y
 moves_still result a b c x y grows same ahead_of = record {
   count = grows.count;
   some = grows.some;
@@ -97,36 +97,36 @@ fault_ahead Faults.Input s t e = e
 fault_ahead Faults.TooLong s t e = tt
 fault_ahead Faults.Memory s t e = e
 
-pub end_ahead : (end : End) (s t : Script) → Ahead (answer_of end) s t
+pub end_ahead : (end : End) (s t : Script) → Ahead (end_answer end) s t
 end_ahead Ends.Done s t = tt
 end_ahead (Ends.Bad bad) s t = tt
 end_ahead Ends.TooLong s t = tt
 
-pub fault_waits : (fault : ScriptFault) (waiting : List ℕ) → IsShort waiting → NoneWaits (Err fault) waiting
+pub fault_waits : (fault : ScriptFault) (waiting : List ℕ) → WantsMore waiting → NoneWaits (Err fault) waiting
 fault_waits (Faults.Bad bad) waiting short = tt
 fault_waits Faults.Input waiting short = short
 fault_waits Faults.TooLong waiting short = tt
 fault_waits Faults.Memory waiting short = tt
 
-pub end_waits : (end : End) (waiting : List ℕ) → NoneWaits (answer_of end) waiting
+pub end_waits : (end : End) (waiting : List ℕ) → NoneWaits (end_answer end) waiting
 end_waits Ends.Done waiting = tt
 end_waits (Ends.Bad bad) waiting = tt
 end_waits Ends.TooLong waiting = tt
 
-pub answer_ahead : (end : Option End) (result : Answer) (s t : Script) → is_some end ≡ true → IfSome end (λ e. result ≡ answer_of e) → Ahead result s t
+pub answer_ahead : (end : Option End) (result : Answer) (s t : Script) → is_some end ≡ true → IfSome end (λ e. result ≡ end_answer e) → Ahead result s t
 answer_ahead None result s t some is = absurd cc
 answer_ahead (Some end) result s t some is = subst (λ (r : Answer). Ahead r s t) (sym is) (end_ahead end s t)
 
-end_spelled : (end : End) → IsSpelled (answer_of end)
+end_spelled : (end : End) → IsSpelledCommand (end_answer end)
 end_spelled Ends.Done = tt
 end_spelled (Ends.Bad bad) = tt
 end_spelled Ends.TooLong = tt
 
-pub answer_spelled : (end : Option End) (result : Answer) → is_some end ≡ true → IfSome end (λ e. result ≡ answer_of e) → IsSpelled result
+pub answer_spelled : (end : Option End) (result : Answer) → is_some end ≡ true → IfSome end (λ e. result ≡ end_answer e) → IsSpelledCommand result
 answer_spelled None result some is = absurd cc
-answer_spelled (Some end) result some is = subst IsSpelled (sym is) (end_spelled end)
+answer_spelled (Some end) result some is = subst IsSpelledCommand (sym is) (end_spelled end)
 
-pub answer_waits : (end : Option End) (result : Answer) (waiting : List ℕ) → is_some end ≡ true → IfSome end (λ e. result ≡ answer_of e) → NoneWaits result waiting
+pub answer_waits : (end : Option End) (result : Answer) (waiting : List ℕ) → is_some end ≡ true → IfSome end (λ e. result ≡ end_answer e) → NoneWaits result waiting
 answer_waits None result waiting some is = absurd cc
 answer_waits (Some end) result waiting some is = subst (λ (r : Answer). NoneWaits r waiting) (sym is) (end_waits end waiting)
 
@@ -141,7 +141,7 @@ falls_by None None before now still more most within = omega (arith, more refl, 
 falls_by None (Some end) before now still more most within = omega arith
 falls_by (Some end) is before now still more most within = absurd cc
 
-pub falls : (old new : Reading) → is_none old.end ≡ true → GoesOn old new → cond (is_none new.end) (max_input + 1 - new.taken) 0 < cond (is_none old.end) (max_input + 1 - old.taken) 0
+pub falls : (old new : Reading) → is_none old.end ≡ true → ReadsFurther old new → cond (is_none new.end) (max_input + 1 - new.taken) 0 < cond (is_none old.end) (max_input + 1 - old.taken) 0
 falls old new still on = falls_by old.end new.end old.taken new.taken still on.more on.most on.within
 
 -- ---- a reader that had ended takes no step

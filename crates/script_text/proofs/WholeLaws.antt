@@ -7,7 +7,7 @@ use Rattle.fsd_texts.specs.declared.script_command.ScriptCommand.{ScriptCommand}
 use Rattle.fsd_texts.specs.declared.end.End.{End}
 use Rattle.fsd_texts.specs.declared.end.End.TheVariants.{Done, Bad, TooLong}
 use Rattle.fsd_texts.specs.Script.{Script, command_at, commands_from, ends_early, needs_more, script_from, then_more}
-use Rattle.script_text.specs.Reading.{IsShort, Reading, room_of, script_left}
+use Rattle.script_text.specs.Reading.{WantsMore, Reading, room_of, script_left}
 use Rattle.script_text.proofs.LeftLaws.{after, cut, script}
 use Rattle.std.proofs.lemmas.List.{take-append-drop}
 use Rattle.script_text.proofs.MoreLaws.{command_more, early, with_more}
@@ -83,7 +83,7 @@ short_gives most ordinal bytes short =
     cut_keeps (nat_lt most (length bytes)) (needs_more (commands_from (length front) ordinal front).1) (commands_from (length front) ordinal front)
     ∙ none_given ordinal front (early_front front (drop most bytes) (early (command_at front)) refl (ap (λ (bs : List ℕ). early (command_at bs)) whole ∙ short))
 
-pub short_waits : (r : Reading) → r.end ≡ None → IsShort r.waiting → (script_left r []).0 ≡ []
+pub short_waits : (r : Reading) → r.end ≡ None → WantsMore r.waiting → (script_left r []).0 ≡ []
 short_waits r still h =
     ap (λ (s : Script). s.0) (script_open r [] still)
     ∙ ap (λ (bs : List ℕ). (script_from (room_of r) (r.given + 1) bs).0) (append-nil r.waiting)

@@ -9,28 +9,28 @@ use Rattle.script_text.specs.declared.fault.BodyFault.{BodyFault}
 use Rattle.script_text.specs.declared.fault.BodyFault.TheVariants.{Bad, Memory}
 
 -- what is read is this, unless memory is refused
-abbrev pub Finds : {A : Type 0} → Result A BodyFault → Result A Cause → Type 0
-Finds (Ok x) read = read ≡ Ok x
-Finds (Err (Bad cause)) read = read ≡ Err cause
-Finds (Err Memory) read = Unit {0}
+abbrev pub ReadsSo : {A : Type 0} → Result A BodyFault → Result A Cause → Type 0
+ReadsSo (Ok x) read = read ≡ Ok x
+ReadsSo (Err (Bad cause)) read = read ≡ Err cause
+ReadsSo (Err Memory) read = Unit {0}
 
 -- a command that takes so many first bytes
-pub record Takes (read : Result (ScriptCommand × List ℕ) Cause) (bytes : List ℕ) (command : ScriptCommand) (used : ℕ) : Type 0 where
+pub record TakesCommand (read : Result (ScriptCommand × List ℕ) Cause) (bytes : List ℕ) (command : ScriptCommand) (used : ℕ) : Type 0 where
   pub found : read ≡ Ok (command, drop used bytes)
   pub within : used ≤ length bytes
 
 abbrev pub TakesFirst : Result (ScriptCommand × List ℕ) Cause → List ℕ → Result (ScriptCommand × ℕ) BodyFault → Type 0
-TakesFirst read bytes (Ok x) = Takes read bytes x.0 x.1
+TakesFirst read bytes (Ok x) = TakesCommand read bytes x.0 x.1
 TakesFirst read bytes (Err (Bad cause)) = read ≡ Err cause
 TakesFirst read bytes (Err Memory) = Unit {0}
 
 -- the command that bytes begin with, by how many of them it takes, or why they begin with none
-abbrev pub BeginsWith : List ℕ → Result (ScriptCommand × ℕ) BodyFault → Type 0
-BeginsWith bytes result = TakesFirst (command_at bytes) bytes result
+abbrev pub BeginsWithCommand : List ℕ → Result (ScriptCommand × ℕ) BodyFault → Type 0
+BeginsWithCommand bytes result = TakesFirst (command_at bytes) bytes result
 
 -- the same of the bytes behind a line
-abbrev pub Behind : Asking → List ℕ → Result (ScriptCommand × ℕ) BodyFault → Type 0
-Behind asking rest result = TakesFirst (whole_command asking rest) rest result
+abbrev pub BehindLine : Asking → List ℕ → Result (ScriptCommand × ℕ) BodyFault → Type 0
+BehindLine asking rest result = TakesFirst (whole_command asking rest) rest result
 
 -- so many bytes and a newline, or why not
 abbrev pub bytes_in : List ℕ → ℕ → Result (List ℕ) Cause

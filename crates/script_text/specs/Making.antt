@@ -11,8 +11,8 @@ pub record Making : Type 0 where
   pub state : ℕ
 
 -- nothing is made up yet
-abbrev pub begun : (seed count : ℕ) → Making
-begun seed count = record { left = count; ordinal = 1; state = seed }
+abbrev pub making_begun : (seed count : ℕ) → Making
+making_begun seed count = record { left = count; ordinal = 1; state = seed }
 
 -- the commands that are still to come
 abbrev pub made_left : Making → List Command

@@ -1,6 +1,6 @@
 //! The command that bytes begin with.
 ghost use Rattle.std.specs.Prelude.{◌≡◌, ◌<◌, IfOk, MatchResult, Ok, Err, length};
-ghost use Rattle.script_text.specs.Front.{BeginsWith, Behind, bytes_in};
+ghost use Rattle.script_text.specs.Front.{BeginsWithCommand, BehindLine, bytes_in};
 
 use crate::fault::BodyFault;
 use crate::line::{asking_of, line_of};
@@ -9,7 +9,7 @@ use std::alloc::Global;
 
 /// The command that the bytes begin with, and how many of them it takes.
 pub(crate) fn command_of(alloc: Global, body: &[u8]) -> Result<(ScriptCommand, usize), BodyFault>
-    ensures begins { BeginsWith body.now result }
+    ensures begins { BeginsWithCommand body.now result }
     ensures some { IfOk result (λ x. 0 < x.1) }
 {
     let line = line_of(body)?;
@@ -25,7 +25,7 @@ fn whole_command(
     asking: Asking,
     rest: &[u8],
 ) -> Result<(ScriptCommand, usize), BodyFault>
-    ensures { Behind asking rest.now result }
+    ensures { BehindLine asking rest.now result }
 {
     match asking {
         Asking::Plainly(command) => Ok((ScriptCommand::Plain(command), 0)),

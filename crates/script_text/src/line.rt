@@ -2,7 +2,7 @@
 ghost use Rattle.std.specs.Prelude.{◌≡◌, ◌<◌, ◌+◌, ◌∷◌, [], MatchResult, IfOk, Ok, Err, length, map, drop, ◌==◌, position};
 ghost use Rattle.fsd_texts.specs.declared.command.Command.TheVariants as Word;
 ghost use Rattle.fsd_texts.specs.Script.{asked_by, asks, asks_alone, asks_keep, asks_put, key_in, line_at, max_line, pattern_in, with_field, with_no_field, words_of};
-ghost use Rattle.script_text.specs.Front.{Finds};
+ghost use Rattle.script_text.specs.Front.{ReadsSo};
 
 use crate::client::of_client;
 use crate::fault::BodyFault;
@@ -35,7 +35,7 @@ fn newline_in(bytes: &[u8]) -> Option<usize>
 
 /// What a line asks for.
 pub(crate) fn asking_of(alloc: Global, line: &[u8]) -> Result<Asking, BodyFault>
-    ensures { Finds result (asked_by (words_of line.now)) }
+    ensures { ReadsSo result (asked_by (words_of line.now)) }
 {
     let words = words_of(alloc, line)?;
     Ok(asked_by(words.as_slice())?)
@@ -150,14 +150,9 @@ fn get_of(fields: &[&[u8]]) -> Result<Asking, Cause>
 fn alone(word: &[u8], fields: &[&[u8]]) -> Result<Asking, Cause>
     ensures { result ≡ asks_alone word.now (map (λ w. w.now) fields.now) }
 {
-    if word == b"force".as_slice() {
-        none_of(Command::Force, fields)
-    } else if word == b"tick".as_slice() {
-        none_of(Command::Tick, fields)
-    } else if word == b"stat".as_slice() {
-        none_of(Command::Stat, fields)
-    } else {
-        of_client(word, fields)
+    match Command::lone(word) {
+        Some(command) => none_of(command, fields),
+        None => of_client(word, fields),
     }
 }
 

@@ -3,7 +3,7 @@ ghost use Rattle.std.specs.Prelude.{◌≡◌, ◌<◌, ◌≤◌, ◌+◌, ◌%
 ghost use Rattle.std.specs.List.{range_with_len};
 ghost use Rattle.fsd_bytes.specs.Keys.{key_of};
 ghost use Rattle.fsd_texts.specs.Generator.{command_of_draw, made_name, next_state};
-ghost use Rattle.script_text.specs.Making.{MakesNext, begun};
+ghost use Rattle.script_text.specs.Making.{MakesNext, making_begun};
 
 use fsd_bytes::{FileName, Key};
 use fsd_texts::{Bytes, Command};
@@ -33,7 +33,7 @@ impl Model for Maker {
 impl Maker {
     /// Nothing is made up yet.
     pub fn new(seed: u64, count: u32) -> Maker
-        ensures { result ≡ begun seed count }
+        ensures { result ≡ making_begun seed count }
     {
         Maker {
             left: count,

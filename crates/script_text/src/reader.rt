@@ -2,9 +2,9 @@
 ghost use Rattle.std.specs.Prelude.{◌≡◌, ◌<◌, ◌≤◌, ◌+◌, ◌^◌, IfOk, IfErr, IfSome, OnOk, OnErr, Err, None, drop, true, false, vec_len};
 ghost use Rattle.sector_disk.specs.Calls.{LeavesDisk};
 ghost use Rattle.sector_disk.specs.Machine.{Wears};
-ghost use Rattle.fsd_texts.specs.Script.{command_at, ends_early, max_input};
-ghost use Rattle.script_text.specs.Reading.{Answers, IsShort, IsSpelled, NoneWaits, GivesFirst, GoesOn, answer_of, count_with, end_after, end_by, end_with, fresh, script_left};
-ghost use Rattle.script_text.specs.Taking.{Comes, Grows, IsUntaken, Moves, input_in};
+ghost use Rattle.fsd_texts.specs.Script.{command_at, ends_early};
+ghost use Rattle.script_text.specs.Reading.{AnswersAgain, AnswersScript, CountsOn, GivesFirst, GivesWhole, ReadsFurther, TakesNone, end_answer, end_after, end_by, fresh, script_left};
+ghost use Rattle.script_text.specs.Taking.{ComesIn, TakesBytes, IsUntaken, MovesInput, input_in};
 
 use crate::command::command_of;
 use crate::fault::{BodyFault, ScriptFault};
@@ -63,17 +63,11 @@ impl Reader {
         alloc: Global,
         m: &mut M,
     ) -> Result<Option<ScriptCommand>, ScriptFault>
-        ensures script { M.tells m.new → Answers result (script_left self.old (M.ledger m.old).input) (script_left self.new (M.ledger m.new).input) }
-        ensures end { self.new.end ≡ end_with result }
-        ensures given { self.new.given ≡ self.old.given + count_with result }
-        ensures again { IfSome self.old.end (λ end. (result ≡ answer_of end) × (self.new ≡ self.old)) }
-        ensures unasked { IfSome self.old.end (λ _. m.new ≡ m.old) }
-        ensures most { self.new.taken ≤ max_input + 1 }
-        ensures open { self.new.end ≡ None → self.new.taken ≤ max_input }
-        ensures few { self.new.given ≤ self.new.taken }
-        ensures moves { M.tells m.new → Moves result self.old self.new (M.ledger m.old) (M.ledger m.new) }
-        ensures waits { NoneWaits result self.new.waiting }
-        ensures spelled { IsSpelled result }
+        ensures script { M.tells m.new → AnswersScript result (script_left self.old (M.ledger m.old).input) (script_left self.new (M.ledger m.new).input) }
+        ensures counts { CountsOn result self.old self.new }
+        ensures again { IfSome self.old.end (λ end. AnswersAgain result end self.old self.new m.old m.new) }
+        ensures moves { M.tells m.new → MovesInput result self.old self.new (M.ledger m.old) (M.ledger m.new) }
+        ensures whole { GivesWhole result self.new.waiting }
         ensures calls { LeavesDisk M.Machine (input_in result) false Wears m.old m.new }
     {
         while self.end.is_none() {
@@ -102,11 +96,10 @@ impl Reader {
         requires open { self.old.end ≡ None }
         requires no_command { command_at self.old.waiting ≡ Err cause }
         ensures script { M.tells m.new → script_left self.new (M.ledger m.new).input ≡ script_left self.old (M.ledger m.old).input }
-        ensures on { OnOk result (GoesOn self.old self.new) }
-        ensures kept { OnErr result (self.new ≡ self.old) }
-        ensures grows { M.tells m.new → Grows self.old self.new (M.ledger m.old) (M.ledger m.new) }
+        ensures on { OnOk result (ReadsFurther self.old self.new) }
+        ensures none { OnErr result (TakesNone self.old self.new) }
+        ensures grows { M.tells m.new → TakesBytes self.old self.new (M.ledger m.old) (M.ledger m.new) }
         ensures cause { IfErr result IsUntaken }
-        ensures short { OnErr result (IsShort self.old.waiting) }
         ensures calls { LeavesDisk M.Machine (input_in result) false Wears m.old m.new }
     {
         if needs_more(cause) {
@@ -124,9 +117,9 @@ impl Reader {
         requires no_command { command_at self.old.waiting ≡ Err cause }
         requires early { ends_early cause ≡ true }
         ensures script { M.tells m.new → script_left self.new (M.ledger m.new).input ≡ script_left self.old (M.ledger m.old).input }
-        ensures on { OnOk result (GoesOn self.old self.new) }
-        ensures kept { OnErr result (self.new ≡ self.old) }
-        ensures grows { M.tells m.new → Grows self.old self.new (M.ledger m.old) (M.ledger m.new) }
+        ensures on { OnOk result (ReadsFurther self.old self.new) }
+        ensures none { OnErr result (TakesNone self.old self.new) }
+        ensures grows { M.tells m.new → TakesBytes self.old self.new (M.ledger m.old) (M.ledger m.new) }
         ensures cause { IfErr result IsUntaken }
         ensures calls { LeavesDisk M.Machine (input_in result) false Wears m.old m.new }
     {
@@ -188,7 +181,7 @@ fn take_behind<M: Machine>(
 ) -> Result<usize, ScriptFault>
     requires some { 0 < room }
     requires fits { vec_len bytes.old + room < 2 ^ 32 }
-    ensures comes { IfOk result (λ count. M.tells m.new → Comes bytes.old.items bytes.new.items count (M.ledger m.old) (M.ledger m.new)) }
+    ensures comes { IfOk result (λ count. M.tells m.new → ComesIn bytes.old.items bytes.new.items count (M.ledger m.old) (M.ledger m.new)) }
     ensures len { IfOk result (λ count. (count ≤ room) × (vec_len bytes.new ≡ vec_len bytes.old + count)) }
     ensures kept { OnErr result (bytes.new.items ≡ bytes.old.items) }
     ensures ledger { OnErr result (M.tells m.new → M.ledger m.new ≡ M.ledger m.old) }
@@ -217,7 +210,7 @@ fn needs_more(cause: Cause) -> bool
 
 // What is answered where the script has ended.
 fn answer(end: Option<End>) -> Result<Option<ScriptCommand>, ScriptFault>
-    ensures { IfSome end (λ end. result ≡ answer_of end) }
+    ensures { IfSome end (λ end. result ≡ end_answer end) }
 {
     match end {
         None | Some(End::Done) => Ok(None),

@@ -40,12 +40,12 @@ pub fn lay_line(line: &Line) -> LineText
         Line::Listed(count) => numbered("listed ", u64::from(*count)),
         Line::Bytes { key, length } => key_line("bytes ", key, *length),
         Line::Forced => words("forced\n"),
-        Line::Stat {
+        Line::Counted {
             free,
             waiting,
             pages,
             versions,
-        } => stat_text(*free, *waiting, *pages, *versions),
+        } => counted_text(*free, *waiting, *pages, *versions),
         Line::Damaged { key, sector } => key_line("damaged ", key, *sector),
         Line::Scrubbed { healed, damaged } => scrubbed_text(*healed, *damaged),
         Line::Upgraded => words("upgraded 2\n"),
@@ -105,8 +105,8 @@ fn version_text(key: &Key, length: u32, sectors: u32, keep: u32) -> LineText
     text
 }
 
-fn stat_text(free: u32, waiting: u32, pages: u32, versions: u32) -> LineText
-    ensures { result.items ≡ text (Says.Stat free waiting pages versions) }
+fn counted_text(free: u32, waiting: u32, pages: u32, versions: u32) -> LineText
+    ensures { result.items ≡ text (Says.Counted free waiting pages versions) }
 {
     let mut text = words("stat free ");
     put_counted(&mut text, "", u64::from(free));

@@ -25,14 +25,14 @@ use Rattle.fsd_texts.specs.declared.fault.Fault.TheVariants as Ends
 use Rattle.fsd_texts.specs.Text.{fault_text}
 use Rattle.fsd_runs.specs.Commands.{reply_alone, reply_status}
 use Rattle.volume_contract.specs.Mount.{IsFound}
-use Rattle.volume_contract.specs.Order.{Asks, Comes, Data, Force, IsData, IsDevice, IsDeviceIn, IsFetch, IsLookUp, IsLoss, LookUp, Refuses, Step, Test, down, force_steps, is_idle, is_root, no_place_in, place, runs_at, worn}
+use Rattle.volume_contract.specs.Order.{Asks, Comes, Data, Force, IsData, IsDeviceRefusal, IsDeviceIn, IsFetch, IsLookUp, IsLoss, LookUp, StepRefuses, CallStep, Test, down, force_steps, is_idle, is_root, no_place_in, place, runs_at, worn}
 use Rattle.volume_contract.specs.State.{Ages, State, in_place, is_worn, place_in, put_writes}
 use Rattle.scrub.specs.Scrub.{scrub_writes}
 use Rattle.scrub.specs.Telling.{AreOfPage}
 use Rattle.scrub.proofs.LeadLaws.{touches_then, worn_touches}
-use Rattle.volume_turns.specs.declared.turns.End.{End}
-use Rattle.volume_turns.specs.declared.turns.End.TheVariants.{Fault as Stopped, Output}
-use Rattle.volume_turns.specs.Answering.{Answers, AnswersAlone, ClosesBy, EndsOne, RunsOne, SaysBy, SaysNoReply, SaysOne, SaysReply}
+use Rattle.volume_turns.specs.declared.turns.Halt.{Halt}
+use Rattle.volume_turns.specs.declared.turns.Halt.TheVariants.{Fault as Stopped, Output}
+use Rattle.volume_turns.specs.Answering.{MayAnswer, AnswersAlone, ClosesBy, EndsOne, RunsOne, SaysBy, SaysNoReply, SaysOne, SaysReply}
 use Rattle.volume_turns.specs.Commands.{HasDamaged, KeepsState, LacksRoom, MayLose, MayReply, RefusesPut, WritesBehind, WritesForce, may_write}
 use Rattle.volume_turns.specs.Once.{unit_of}
 use Rattle.volume_turns.specs.Line.{EndsWith}
@@ -77,11 +77,11 @@ said_or_fault P Why.Memory said = tt
 said_or_fault P why said = said
 
 -- each step that refuses so has this
-abbrev pub Each : Refusal → Type 0 → List Step → Type 0
+abbrev pub Each : Refusal → Type 0 → List CallStep → Type 0
 Each why P [] = Unit {0}
-Each why P (step ∷ steps) = (Refuses step why → P) × Each why P steps
+Each why P (step ∷ steps) = (StepRefuses step why → P) × Each why P steps
 
-pub each : (why : Refusal) (P : Type 0) (steps : List Step) → Each why P steps → Comes steps why → P
+pub each : (why : Refusal) (P : Type 0) (steps : List CallStep) → Each why P steps → Comes steps why → P
 each why P [] all comes = absurd comes
 each why P (step ∷ steps) all (inl here) = all.0 here
 each why P (step ∷ steps) all (inr later) = each why P steps all.1 later.1
@@ -102,7 +102,7 @@ module _ (P : Reply → Type 0) (why : Refusal) where
   fetches (Why.Lost x y) is = tt
   fetches w is = absurd is
 
-  devices : (w : Refusal) → IsDevice w → IsLookUp w
+  devices : (w : Refusal) → IsDeviceRefusal w → IsLookUp w
   devices (Why.Device s) is = tt
   devices w is = absurd is
 
@@ -225,13 +225,13 @@ module _ (s : State) (up : s.down ≡ None) (key : Key) (i : Image) where
 
 -- ---- the end of a volume
 
-pub said_by : (text : List ℕ) (a m b : Moment) → m.said ≡ a.said → {T : Type 0} (r : Result T End) → SaysBy text m b r → SaysBy text a b r
+pub said_by : (text : List ℕ) (a m b : Moment) → m.said ≡ a.said → {T : Type 0} (r : Result T Halt) → SaysBy text m b r → SaysBy text a b r
 said_by text a m b same (Ok x) says = says ∙ ap (λ (x : List ℕ). x ++ text) same
 said_by text a m b same (Err (Stopped why)) says = says ∙ same
 said_by text a m b same (Err Output) says = tt
 
 -- a reply that was said, or not
-pub says_so : (text : List ℕ) (old new : Moment) (r : Result (Unit {0}) End) → OnOk r (SaysAll text old new) → IfErr r (λ end. Unsaid old new end) → SaysBy text old new r
+pub says_so : (text : List ℕ) (old new : Moment) (r : Result (Unit {0}) Halt) → OnOk r (SaysAll text old new) → IfErr r (λ end. Unsaid old new end) → SaysBy text old new r
 says_so text old new (Ok x) all unsaid = all.said
 says_so text old new (Err (Stopped Ends.Memory)) all unsaid = unsaid.said
 says_so text old new (Err (Stopped (Ends.Device s))) all unsaid = unsaid.said
@@ -250,7 +250,7 @@ pub closed_still : {D : Type 0} (now : D → Moment) (s : State) (a m : D) → (
 closed_still {D = D} now s a m idle none = subst (λ (x : D). Touches nowhere (now a) (now x)) (sym (idle (idle_by s none))) (record { size = refl; others = λ n out. inl refl })
 
 -- a text behind a volume that was closed
-pub closed_by : {T : Type 0} (s : State) (text : List ℕ) (a m b : Moment) (r : Result T End) → m.windows ≡ a.windows → m.said ≡ a.said → Touches (force_writes s.layout) a m → (s.dirty ≡ [] → Touches nowhere a m) → Ages m b → SaysBy text m b r → (r ≡ Err (Stopped Ends.WornOut) → ⊥) → ((why : Fault) → r ≡ Err (Stopped why) → IsToldOn AreOfPage s.layout b.image why) → ClosesBy s text a b r
+pub closed_by : {T : Type 0} (s : State) (text : List ℕ) (a m b : Moment) (r : Result T Halt) → m.windows ≡ a.windows → m.said ≡ a.said → Touches (force_writes s.layout) a m → (s.dirty ≡ [] → Touches nowhere a m) → Ages m b → SaysBy text m b r → (r ≡ Err (Stopped Ends.WornOut) → ⊥) → ((why : Fault) → r ≡ Err (Stopped why) → IsToldOn AreOfPage s.layout b.image why) → ClosesBy s text a b r
 closed_by s text a m b r windows same rest still ages says unworn told = record {
   windows = ages.windows ∙ windows;
   says = said_by text a m b same r says;
@@ -293,17 +293,17 @@ alone_rest Word.Scrub s t a m b windows layout still none first closing quiet =
 alone_rest Word.Upgrade s t a m b windows layout still none first closing quiet = touches_then is_root nowhere is_root a m b (λ x out. out) (λ x out. refl) windows first (quiet (still ∙ none))
 alone_rest command s t a m b windows layout still none first closing quiet = touches_then nowhere nowhere nowhere a m b (λ x out. out) (λ x out. out) windows first (quiet (ap (λ (x : State). x.dirty) still ∙ none))
 
-keeps_said : (text : List ℕ) (a b : Moment) (r : Result ℕ End) → SaysBy text a b (unit_of r) → KeepsSaid a b r
+keeps_said : (text : List ℕ) (a b : Moment) (r : Result ℕ Halt) → SaysBy text a b (unit_of r) → KeepsSaid a b r
 keeps_said text a b (Ok status) says = tt
 keeps_said text a b (Err (Stopped why)) says = says
 keeps_said text a b (Err Output) says = tt
 
-replied : (command : Command) (reply : Reply) (a b : Moment) → MayReply command b.image reply → (r : Result ℕ End) → IfOk r (λ status. status ≡ reply_status reply) → SaysBy (reply_alone reply) a b (unit_of r) → IfOk r (SaysReply command a b)
+replied : (command : Command) (reply : Reply) (a b : Moment) → MayReply command b.image reply → (r : Result ℕ Halt) → IfOk r (λ status. status ≡ reply_status reply) → SaysBy (reply_alone reply) a b (unit_of r) → IfOk r (SaysReply command a b)
 replied command reply a b may (Ok status) gives says = record { reply = reply; may = may; gives = gives; said = says }
 replied command reply a b may (Err end) gives says = tt
 
 module _ (command : Command) (s t : State) (a m : Moment) (windows : m.windows ≡ a.windows) (same : m.said ≡ a.said) where
-  pub alone_closed : (b : Moment) (x : Reply) (r : Result ℕ End) → t.layout ≡ s.layout → Answers command s t a m (Ok x) → IfOk r (λ status. status ≡ reply_status x) → ClosesBy t (reply_alone x) m b (unit_of r) → AnswersAlone command s a b r
+  pub alone_closed : (b : Moment) (x : Reply) (r : Result ℕ Halt) → t.layout ≡ s.layout → MayAnswer command s t a m (Ok x) → IfOk r (λ status. status ≡ reply_status x) → ClosesBy t (reply_alone x) m b (unit_of r) → AnswersAlone command s a b r
   alone_closed b x r layout answers gives closes =
       let says = said_by (reply_alone x) a m b same (unit_of r) closes.says in
       record {
@@ -311,11 +311,11 @@ module _ (command : Command) (s t : State) (a m : Moment) (windows : m.windows �
         quiet = keeps_said (reply_alone x) a b r says;
         replies = λ none. replied command x a b (may_later command s t m b x answers.still none closes.still answers.replies) r gives says;
         rest = λ none. alone_rest command s t a m b windows layout answers.still none answers.rest closes.rest closes.still;
-        worn = λ is. absurd (closes.unworn (ap (λ (x : Result ℕ End). unit_of x) is));
-        told = λ why is. told_may command s.layout b.image why (subst (λ (l : Layout). IsToldOn AreOfPage l b.image why) layout (closes.told why (ap (λ (x : Result ℕ End). unit_of x) is)));
+        worn = λ is. absurd (closes.unworn (ap (λ (x : Result ℕ Halt). unit_of x) is));
+        told = λ why is. told_may command s.layout b.image why (subst (λ (l : Layout). IsToldOn AreOfPage l b.image why) layout (closes.told why (ap (λ (x : Result ℕ Halt). unit_of x) is)));
       }
 
-  pub alone_ended : (why : Fault) → Answers command s t a m (Err why) → AnswersAlone command s a m (Err (Stopped why))
+  pub alone_ended : (why : Fault) → MayAnswer command s t a m (Err why) → AnswersAlone command s a m (Err (Stopped why))
   alone_ended why answers = record {
     windows = windows;
     quiet = same;

@@ -7,8 +7,8 @@ use Rattle.fsd_texts.specs.declared.fault.Fault.{Fault}
 use Rattle.fsd_texts.specs.declared.fault.Fault.TheVariants as Ends
 use Rattle.volume_turns.specs.declared.script.Stop.{Stop}
 use Rattle.volume_turns.specs.declared.script.Stop.TheVariants.{Ended, Input}
-use Rattle.volume_turns.specs.declared.turns.End.{End}
-use Rattle.volume_turns.specs.declared.turns.End.TheVariants.{Fault as Stopped}
+use Rattle.volume_turns.specs.declared.turns.Halt.{Halt}
+use Rattle.volume_turns.specs.declared.turns.Halt.TheVariants.{Fault as Stopped}
 
 module _ {A E : Type 0} (r : Result A E) where
   pub ok_is : (x y : A) → r ≡ Ok x → r ≡ Ok y → x ≡ y
@@ -20,11 +20,11 @@ module _ {A E : Type 0} (r : Result A E) where
   pub ok_apart : (x : A) (y : E) → r ≡ Ok x → r ≡ Err y → ⊥
   ok_apart x y p q = cc
 
-pub fault_is : {A : Type 0} (r : Result A End) (x y : Fault) → r ≡ Err (Stopped x) → r ≡ Err (Stopped y) → x ≡ y
+pub fault_is : {A : Type 0} (r : Result A Halt) (x y : Fault) → r ≡ Err (Stopped x) → r ≡ Err (Stopped y) → x ≡ y
 fault_is r x y p q = cc
 
 -- what has not read a script to its end
-module _ (r : Result (Option Stop) End) (done : r ≡ Ok (Some (Ended Done))) where
+module _ (r : Result (Option Stop) Halt) (done : r ≡ Ok (Some (Ended Done))) where
   pub nothing_done : r ≡ Ok None → ⊥
   nothing_done is = cc
 
@@ -37,5 +37,5 @@ module _ (r : Result (Option Stop) End) (done : r ≡ Ok (Some (Ended Done))) wh
   pub input_done : r ≡ Ok (Some Input) → ⊥
   input_done is = cc
 
-pub memory_worn : {A : Type 0} (r : Result A End) → r ≡ Err (Stopped Ends.Memory) → r ≡ Err (Stopped Ends.WornOut) → ⊥
+pub memory_worn : {A : Type 0} (r : Result A Halt) → r ≡ Err (Stopped Ends.Memory) → r ≡ Err (Stopped Ends.WornOut) → ⊥
 memory_worn r p q = cc

@@ -25,9 +25,9 @@ use Rattle.fsd_runs.specs.Runs.{turns_of}
 use Rattle.volume_contract.specs.Mount.{IsFound, IsRefused, IsSoundAt, KeepsAll, MountsSound, UnsoundFor}
 use Rattle.volume_contract.specs.State.{IsNew, Known, Stands, State, forced_of, none_open, volume_of}
 use Rattle.volume_turns.specs.Answering.{EndsOne, RunsOne, SaysNoReply}
-use Rattle.volume_turns.specs.Causes.{FailsInput, SaysFault, SaysOfCall, SaysOfInput, TellsImage, is_of_fault}
+use Rattle.volume_turns.specs.Causes.{FailsInput, SaysFaultAt, SaysOfCall, SaysOfInput, TellsImage, is_of_fault}
 use Rattle.volume_turns.specs.Line.{EndsWith, IsStatusFor, is_unsaid}
-use Rattle.volume_turns.specs.Once.{fault_of}
+use Rattle.volume_turns.specs.Once.{end_by_mount}
 use Rattle.volume_turns.specs.Status.{CountsRun, CountsTaking}
 use Rattle.volume_turns.specs.Steps.{IsOfVolume}
 use Rattle.volume_turns.specs.Turns.{OnDisk}
@@ -109,7 +109,7 @@ pub record RefusedBy {D : Type 0} (M : Ghosts D) (sectors : ℕ) (fault : MountF
   pub rest : M.honest m → MountKeeps sectors (M.now a) (M.now m)
   pub lost : M.honest m → LostIn (AreCopiesOn sectors (M.now a)) (M.now m).image fault
   pub unsound : M.honest m → UnsoundFor sectors (M.now a) (M.now m) fault
-  pub is : why ≡ fault_of fault
+  pub is : why ≡ end_by_mount fault
   pub says : LeavesDisk M false (is_unsaid status) (Utters (fault_text why)) m b
   pub ends : M.honest b → EndsWith why (M.now m) (M.now b) status
   pub for : IsStatusFor why status
@@ -135,7 +135,7 @@ module _ {D : Type 0} {M : Ghosts D} {sectors : ℕ} {fault : MountFault} {why :
       let back = x.says.trust.honest h in
       tells_refused script AreCopies made sectors fault why (M.now a) (M.now m) (M.now b) status x.is (x.refused back) (x.lost back) (x.unsound back) (x.kept back) (x.rest back) (x.disk.quiet back) (x.says.exit h) (x.ends h) x.for
 
-  pub refused_last : IsTrue (is_of_fault status) → M.honest b → SaysFault (M.report b).fault_place (M.now b) status
+  pub refused_last : IsTrue (is_of_fault status) → M.honest b → SaysFaultAt (M.report b).fault_place (M.now b) status
   refused_last of h = mount_fault fault why (M.report a) (M.report m) (M.report b) (M.now m) (M.now b) status x.is x.disk.faults x.says.spares.place (x.ends h) of
 
   pub refused_alone : M.honest b → SaysNoReply (M.now a) (M.now b) status

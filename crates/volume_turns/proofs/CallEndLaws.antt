@@ -9,7 +9,7 @@ use Rattle.fsd_bytes.specs.declared.refusal.Refusal.TheVariants as Why
 use Rattle.sector_disk.specs.Machine.{Moment}
 use Rattle.fsd_log.specs.Scan.{Placed}
 use Rattle.fsd_files.specs.Desk.{begin_outcome, close_outcome, is_client, next_outcome, open_outcome, piece_outcome}
-use Rattle.fsd_files.specs.Answers.{Finds}
+use Rattle.fsd_files.specs.Answers.{FindsDamage}
 use Rattle.fsd_files.specs.Kept.{range_sectors}
 use Rattle.fsd_files.specs.declared.reply.Reply.{Reply}
 use Rattle.fsd_files.specs.declared.reply.Reply.TheVariants as Said
@@ -17,11 +17,11 @@ use Rattle.fsd_texts.specs.declared.call.Call.{Call}
 use Rattle.fsd_texts.specs.declared.call.Call.TheVariants as Calls
 use Rattle.fsd_texts.specs.declared.fault.Fault.{Fault}
 use Rattle.fsd_sound.specs.Mounted.{Mounted}
-use Rattle.volume_contract.specs.Order.{Comes, IsDevice}
+use Rattle.volume_contract.specs.Order.{Comes, IsDeviceRefusal}
 use Rattle.volume_contract.specs.State.{State}
 use Rattle.client_desk.specs.declared.client.Client.{Client}
-use Rattle.client_desk.specs.Clients.{IsDesk, begin_steps, client_at, close_steps, left_at, place_of}
-use Rattle.client_desk.specs.Ends.{Answers, EndsBegin, EndsClose, EndsNext, EndsOpen, EndsPiece, Refuses, Serves, Tells, open_at}
+use Rattle.client_desk.specs.Clients.{IsDesk, begin_steps, client_at, close_steps, left_at, client_place}
+use Rattle.client_desk.specs.Ends.{AnswersAs, EndsBegin, EndsClose, EndsNext, EndsOpen, EndsPiece, RefusesCall, ServesOpen, TellsDamage, open_at}
 use Rattle.volume_turns.specs.Calls.{CallMayReply, RefusesIdle, room_for}
 use Rattle.volume_turns.specs.Seats.{Seated, SitsAt, known_of, session_in}
 use Rattle.volume_turns.specs.Steps.{ended_by}
@@ -37,18 +37,18 @@ module _ {S : Type 0} (state : S → State) (has : S → Mounted → List Placed
   -- ---- a piece
 
   piece_refused : (bytes : List ℕ) (w : Refusal) → CallMayReply c (Calls.Piece bytes) [] (Said.Refused w) → (let r : Result ℕ Refusal = Err w in EndsPiece state has c bytes (known_of k) k.clients new left now r)
-      → Answers state has (λ s. piece_outcome s c bytes) (Said.Refused w) [] (known_of k) k.clients new left now
+      → AnswersAs state has (λ s. piece_outcome s c bytes) (Said.Refused w) [] (known_of k) k.clients new left now
   piece_refused bytes (Why.Device s) (inl may) ends = absurd may
   piece_refused bytes (Why.Device s) (inr may) ends = absurd may
   piece_refused bytes w may ends = ends
 
-  pub piece_does : (bytes : List ℕ) → Declines c (Calls.Piece bytes) [] IsDevice why → (let r : Result ℕ Refusal = Err why in EndsPiece state has c bytes (known_of k) k.clients new left now r) → Ends (Calls.Piece bytes)
+  pub piece_does : (bytes : List ℕ) → Declines c (Calls.Piece bytes) [] IsDeviceRefusal why → (let r : Result ℕ Refusal = Err why in EndsPiece state has c bytes (known_of k) k.clients new left now r) → Ends (Calls.Piece bytes)
   piece_does bytes (inl said) ends =
       subst (λ (r : Result Reply Fault). DoesSo state has c (Calls.Piece bytes) old new desk left k before now is_desk r) (sym (call_said c (Calls.Piece bytes) [] why said))
       (refused_so state has c (Calls.Piece bytes) old new desk left k before now is_desk (λ s. piece_outcome s c bytes) (record { met = met_none; held = [] }) refl tt why (λ may. cc may) (piece_refused bytes why said ends))
   piece_does bytes (inr broken) ends = by why broken
     where
-      by : (w : Refusal) → IsDevice w → DoesSo state has c (Calls.Piece bytes) old new desk left k before now is_desk (ended_by w)
+      by : (w : Refusal) → IsDeviceRefusal w → DoesSo state has c (Calls.Piece bytes) old new desk left k before now is_desk (ended_by w)
       by (Why.Device s) is = tt
       by w is = absurd is
 
@@ -57,7 +57,7 @@ module _ {S : Type 0} (state : S → State) (has : S → Mounted → List Placed
   pub open_does : (key : Key) → (let r : Result ℕ Refusal = Err why in EndsOpen state has c key (known_of k) k.clients new left now r) → (why ≡ Why.WornOut → ⊥) → Ends (Calls.Open key)
   open_does key ends unworn = by why ends unworn
     where
-      refused : (w : Refusal) → (w ≡ Why.WornOut → ⊥) → (held : List (List Run)) × Refuses state has (λ s. open_outcome held s c key) (known_of k) k.clients new left now w → DoesSo state has c (Calls.Open key) old new desk left k before now is_desk (ended_by w)
+      refused : (w : Refusal) → (w ≡ Why.WornOut → ⊥) → (held : List (List Run)) × RefusesCall state has (λ s. open_outcome held s c key) (known_of k) k.clients new left now w → DoesSo state has c (Calls.Open key) old new desk left k before now is_desk (ended_by w)
       refused w not_worn e =
           refuses_does state has c (Calls.Open key) old new desk left k before now is_desk (λ s. open_outcome e.0 s c key) (record { met = met_none; held = e.0 }) refl tt w (λ other may. cc may) (λ is. absurd (not_worn is)) e.1
 
@@ -68,9 +68,9 @@ module _ {S : Type 0} (state : S → State) (has : S → Mounted → List Placed
 
   -- ---- next
 
-  module _ (serves : Serves k.opened (client_at desk (c - 1)) (open_at k.clients (c - 1))) (len : ℕ) (before_buf buf : List ℕ) where
+  module _ (serves : ServesOpen k.opened (client_at desk (c - 1)) (open_at k.clients (c - 1))) (len : ℕ) (before_buf buf : List ℕ) where
     abbrev asked : ℕ
-    asked = room_for (left_at desk (place_of c)) len
+    asked = room_for (left_at desk (client_place c)) len
 
     abbrev NextEnds : Result ℕ Refusal → Type 0
     NextEnds r = EndsNext state has c asked before.image now.image (known_of k) k.clients before_buf buf new left now r
@@ -78,7 +78,7 @@ module _ {S : Type 0} (state : S → State) (has : S → Mounted → List Placed
     abbrev NextDoes : Result Reply Fault → Type 0
     NextDoes r = DoesSo state has c (Calls.Next len) old new desk left k before now is_desk r
 
-    unread_refused : (w : Refusal) → RefusesIdle c w → NextEnds (Err w) → Answers state has (λ s. next_outcome None s c asked) (Said.Refused w) [] (known_of k) k.clients new left now
+    unread_refused : (w : Refusal) → RefusesIdle c w → NextEnds (Err w) → AnswersAs state has (λ s. next_outcome None s c asked) (Said.Refused w) [] (known_of k) k.clients new left now
     unread_refused (Why.BadClient d) idle ends = ends
     unread_refused (Why.Idle d) idle ends = ends
     unread_refused w idle ends = absurd idle
@@ -90,7 +90,7 @@ module _ {S : Type 0} (state : S → State) (has : S → Mounted → List Placed
         (next_same k.opened desk k.clients c serves (session_in k) None len) (finds_none k.opened desk k.clients c serves before.image now.image len why unread.test) why (λ may. cc may) (unread_refused why unread.idle ends))
     next_does r (inr (inl damaged)) ends = subst (λ (x : Result Reply Fault). NextDoes x) (sym damaged.is) (by (subst (λ (w : Refusal). NextEnds (Err w)) damaged.refused ends))
       where
-        by : Tells state has c asked before.image now.image (known_of k) k.clients new left now damaged.sector → NextDoes (Ok (Said.DamagedAt damaged.key damaged.sector))
+        by : TellsDamage state has c asked before.image now.image (known_of k) k.clients new left now damaged.sector → NextDoes (Ok (Said.DamagedAt damaged.key damaged.sector))
         by tells =
             let same : Some tells.key ≡ Some damaged.key = sym (key_is k.opened desk k.clients c serves damaged.client tells.key tells.runs tells.bytes tells.place tells.was) ∙ damaged.reads in
             let key : tells.key ≡ damaged.key = cc same in
@@ -111,7 +111,7 @@ module _ {S : Type 0} (state : S → State) (has : S → Mounted → List Placed
         subst (λ (x : List ℕ). AnswersSo state has c (Calls.Next len) old new desk left k before now is_desk (Said.Given c x)) all
         (answers_does state has c (Calls.Next len) old new desk left k before now is_desk (λ s. next_outcome None s c asked) (record { met = met_none; held = [] })
         (next_same k.opened desk k.clients c serves (session_in k) None len)
-        (finds_is k.opened desk k.clients c serves client gives.key gives.runs gives.bytes gives.place gives.was before.image now.image len None (subst (λ (m : ℕ). Finds before.image now.image (range_sectors gives.runs gives.place m) None) gives.count gives.found))
+        (finds_is k.opened desk k.clients c serves client gives.key gives.runs gives.bytes gives.place gives.was before.image now.image len None (subst (λ (m : ℕ). FindsDamage before.image now.image (range_sectors gives.runs gives.place m) None) gives.count gives.found))
         (Said.Given c (take n buf)) [] refl (λ may. cc may) gives.answers)
 
   module _ (up : (state old).down ≡ None) (sits : SitsAt state has (old, desk) k before) where
@@ -120,7 +120,7 @@ module _ {S : Type 0} (state : S → State) (has : S → Mounted → List Placed
     pub begin_does : (name : List ℕ) (len : ℕ) → Comes (begin_steps (state old) desk c len) why → (let r : Result (Unit {0}) Refusal = Err why in EndsBegin state has c name len (known_of k) k.clients new left now r) → Ends (Calls.Begin name len)
     begin_does name len comes ends = by why refl ends
       where
-        refused : (w : Refusal) → w ≡ why → Refuses state has (λ s. begin_outcome s c name len) (known_of k) k.clients new left now w → DoesSo state has c (Calls.Begin name len) old new desk left k before now is_desk (ended_by w)
+        refused : (w : Refusal) → w ≡ why → RefusesCall state has (λ s. begin_outcome s c name len) (known_of k) k.clients new left now w → DoesSo state has c (Calls.Begin name len) old new desk left k before now is_desk (ended_by w)
         refused w is e =
             let at = subst (λ (x : Refusal). Comes (begin_steps (state old) desk c len) x) (sym is) comes in
             refuses_does state has c (Calls.Begin name len) old new desk left k before now is_desk (λ s. begin_outcome s c name len) (record { met = met_none; held = [] }) refl tt w

@@ -10,7 +10,7 @@ use Rattle.sector_disk.specs.Machine.{Moment}
 use Rattle.sector_disk.proofs.CallLaws.{reads_as_writes, writes_more, writes_none}
 use Rattle.fsd_log.specs.Scan.{Placed}
 use Rattle.fsd_files.specs.Answers.{Met}
-use Rattle.fsd_files.specs.Desk.{Answered, Open, Nothing, Writes, Reads, Session, opened_by}
+use Rattle.fsd_files.specs.Desk.{SessionOutcome, Open, Nothing, Writes, Reads, Session, opened_by}
 use Rattle.fsd_files.specs.Files.{Change}
 use Rattle.fsd_files.specs.declared.reply.Reply.{Reply}
 use Rattle.fsd_files.specs.declared.reply.Reply.TheVariants as Said
@@ -24,7 +24,7 @@ use Rattle.fsd_sound.specs.Mounted.{Mounted}
 use Rattle.volume_contract.specs.State.{Ages, Known, Leaves, Stands, State, forced_of, is_worn}
 use Rattle.client_desk.specs.declared.client.Client.{Client}
 use Rattle.client_desk.specs.Clients.{IsDesk}
-use Rattle.client_desk.specs.Ends.{Answers, LeavesOf, Refuses}
+use Rattle.client_desk.specs.Ends.{AnswersAs, LeavesOf, RefusesCall}
 use Rattle.client_desk.proofs.HeldLaws.{holds_read}
 use Rattle.volume_turns.specs.Calls.{AnswersIn, CallMayReply}
 use Rattle.volume_turns.specs.Seats.{DoesIn, IsAnsweredIn, IsRefusedWornIn, Seated, SitsAt, StaysIn, known_of, seated, session_in}
@@ -94,9 +94,9 @@ module _ {S : Type 0} (state : S → State) (has : S → Mounted → List Placed
     abbrev pub IsUnworn : Type 0
     IsUnworn = IsTrue (call_may_wear_out k.clients c call) → IsFalse (is_worn (state old))
 
-    module _ (outcome : Session → Answered) (met : Meeting) (same : call_answer met (session_in k) c call ≡ outcome (session_in k)) (find : CallMayFind before.image now.image k.clients c call met.met) where
+    module _ (outcome : Session → SessionOutcome) (met : Meeting) (same : call_answer met (session_in k) c call ≡ outcome (session_in k)) (find : CallMayFind before.image now.image k.clients c call met.met) where
       -- it is answered
-      pub answers_does : (reply : Reply) (made : List Change) → made ≡ call_changes k.clients c call reply → IsUnworn → Answers state has outcome reply made (known_of k) k.clients new left now → AnswersSo reply
+      pub answers_does : (reply : Reply) (made : List Change) → made ≡ call_changes k.clients c call reply → IsUnworn → AnswersAs state has outcome reply made (known_of k) k.clients new left now → AnswersSo reply
       answers_does reply made is unworn answers = (
         seated answers.after answers.left,
         record {
@@ -111,11 +111,11 @@ module _ {S : Type 0} (state : S → State) (has : S → Mounted → List Placed
         answers.sits,
       )
 
-      pub refused_so : (why : Refusal) → IsUnworn → Answers state has outcome (Said.Refused why) [] (known_of k) k.clients new left now → AnswersSo (Said.Refused why)
+      pub refused_so : (why : Refusal) → IsUnworn → AnswersAs state has outcome (Said.Refused why) [] (known_of k) k.clients new left now → AnswersSo (Said.Refused why)
       refused_so why unworn answers = answers_does (Said.Refused why) [] (sym (refused_none k.clients c call why)) unworn answers
 
       -- it is refused: the refusal is the reply, or ends the run
-      pub refuses_does : (why : Refusal) → ((why ≡ Why.WornOut → ⊥) → IsUnworn) → (why ≡ Why.WornOut → IsRefusedWornIn (OfClient c call) k (state old)) → Refuses state has outcome (known_of k) k.clients new left now why → DoesSo (ended_by why)
+      pub refuses_does : (why : Refusal) → ((why ≡ Why.WornOut → ⊥) → IsUnworn) → (why ≡ Why.WornOut → IsRefusedWornIn (OfClient c call) k (state old)) → RefusesCall state has outcome (known_of k) k.clients new left now why → DoesSo (ended_by why)
       refuses_does (Why.Device s) unworn worn ends = tt
       refuses_does (Why.Down s) unworn worn ends = absurd ends
       refuses_does (Why.Lost a b) unworn worn ends = absurd ends

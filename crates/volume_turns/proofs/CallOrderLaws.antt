@@ -22,7 +22,7 @@ use Rattle.fsd_texts.specs.declared.script_command.ScriptCommand.TheVariants.{Of
 use Rattle.scrub.specs.Telling.{AreOfPage}
 use Rattle.sector_disk.specs.Machine.{Moment}
 use Rattle.volume_contract.specs.Ends.{device_of}
-use Rattle.volume_contract.specs.Order.{Asks, Comes, Disk, Draw, Fetch, Force, IsDevice, IsDeviceIn, IsFetch, IsLookUp, LookUp, Step, Test, Through, by_itself, down, keep_size, length_size, no_place_in, place, runs_at, table_full, worn}
+use Rattle.volume_contract.specs.Order.{Asks, Comes, Disk, Draw, Fetch, Force, IsDeviceRefusal, IsDeviceIn, IsFetch, IsLookUp, LookUp, CallStep, Test, Through, by_itself, down, keep_size, length_size, no_place_in, place, runs_at, table_full, worn}
 use Rattle.volume_contract.specs.State.{State, forces_for_place, is_worn, place_in}
 use Rattle.client_desk.specs.declared.client.Client.{Client}
 use Rattle.client_desk.specs.declared.client.Client.TheVariants.{Idle, Writing, Reading}
@@ -94,7 +94,7 @@ pub look_up_more : (c : ℕ) (call : Call) (i : Image) (s : State) (why : Refusa
 look_up_more c call i s why (inl said) = inl said
 look_up_more c call i s why (inr broken) = inr (inl broken)
 
-pub device_more : (c : ℕ) (call : Call) (i : Image) (s : State) (why : Refusal) → Declines c call i IsDevice why → Declines c call i (EndsRun s) why
+pub device_more : (c : ℕ) (call : Call) (i : Image) (s : State) (why : Refusal) → Declines c call i IsDeviceRefusal why → Declines c call i (EndsRun s) why
 device_more c call i s why (inl said) = inl said
 device_more c call i s why (inr broken) = inr (inl (device_looks why broken))
 
@@ -122,12 +122,12 @@ module _ (c : ℕ) (call : Call) (i : Image) (s : State) (why : Refusal) where
   declined_worn (inr (inl broken)) r is at = look_up_worn s why r is broken at
   declined_worn (inr (inr worn)) r is at = worn.1
 
-  device_told : (w : Refusal) → IsDevice w → (l : Layout) → IsRefusedOn AreOfPage l i w
+  device_told : (w : Refusal) → IsDeviceRefusal w → (l : Layout) → IsRefusedOn AreOfPage l i w
   device_told (Why.Device t) broken l = tt
   device_told w broken l = absurd broken
 
   -- nothing is told of the image
-  pub declined_told : Declines c call i IsDevice why → (l : Layout) → IsRefusedOn AreOfPage l i why
+  pub declined_told : Declines c call i IsDeviceRefusal why → (l : Layout) → IsRefusedOn AreOfPage l i why
   declined_told (inl said) l = subst (λ (x : Result Reply Fault). IfErr x (IsToldOn AreOfPage l i)) (sym (call_said c call i why said)) tt
   declined_told (inr broken) l = device_told why broken l
 
@@ -245,14 +245,14 @@ fetch_looks (Why.Device s) is = tt
 fetch_looks (Why.Lost a b) is = tt
 fetch_looks why is = absurd is
 
-placed_device : (may : Sectors) (why : Refusal) → IsDeviceIn may why → IsDevice why
+placed_device : (may : Sectors) (why : Refusal) → IsDeviceIn may why → IsDeviceRefusal why
 placed_device may (Why.Device s) is = tt
 placed_device may why is = absurd is
 
-abbrev pub reserve_rest : State → ℕ → List Step
+abbrev pub reserve_rest : State → ℕ → List CallStep
 reserve_rest s len = Force (forces_for_place s (sectors_for len)) ∷ place s (sectors_for len) ∷ Draw ∷ []
 
-abbrev pub enter_rest : State → Sectors → List Step
+abbrev pub enter_rest : State → Sectors → List CallStep
 enter_rest s leader = Disk leader ∷ by_itself s ∷ LookUp ∷ Asks Why.VersionsUsedUp ∷ table_full s ∷ Fetch ∷ []
 
 module _ (s : State) (up : s.down ≡ None) (desk : List Client) (c : ℕ) (i : Image) (why : Refusal) where
@@ -280,7 +280,7 @@ module _ (s : State) (up : s.down ≡ None) (desk : List Client) (c : ℕ) (i : 
 
   -- ---- piece
 
-  pub piece_declines : (bytes : List ℕ) → Comes (piece_steps s desk c (length bytes)) why → Declines c (Calls.Piece bytes) i IsDevice why
+  pub piece_declines : (bytes : List ℕ) → Comes (piece_steps s desk c (length bytes)) why → Declines c (Calls.Piece bytes) i IsDeviceRefusal why
   piece_declines bytes (inl here) = inl (inl (writing_test desk c why here))
   piece_declines bytes (inr later) = fits later.1
     where
@@ -288,7 +288,7 @@ module _ (s : State) (up : s.down ≡ None) (desk : List Client) (c : ℕ) (i : 
       may t = in_data (client_at desk (c - 1)) t
 
       Out : Type 0
-      Out = Declines c (Calls.Piece bytes) i IsDevice why
+      Out = Declines c (Calls.Piece bytes) i IsDeviceRefusal why
 
       disk : Comes (Disk may ∷ []) why → Out
       disk (inl here) = inr (placed_device may why here)
@@ -394,7 +394,7 @@ ended_memory Why.WornOut is = absurd (cc is)
 ended_memory Why.Memory is = refl
 ended_memory why is = absurd (cc is)
 
-pub spared_by : (steps : List Step) → Never Why.Memory steps → (why : Refusal) → Comes steps why → (r : Result Reply Fault) → r ≡ ended_by why → r ≡ Err Ends.Memory → ⊥
+pub spared_by : (steps : List CallStep) → Never Why.Memory steps → (why : Refusal) → Comes steps why → (r : Result Reply Fault) → r ≡ ended_by why → r ≡ Err Ends.Memory → ⊥
 spared_by steps none why comes r is at = never Why.Memory steps none (subst (λ (w : Refusal). Comes steps w) (ended_memory why (sym is ∙ at)) comes)
 
 down_spares : (place : Option ℕ) → option_map Why.Down place ≡ Some Why.Memory → ⊥

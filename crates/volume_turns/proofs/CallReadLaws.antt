@@ -8,7 +8,7 @@ use Rattle.fsd_bytes.specs.declared.key.Serial.{Serial}
 use Rattle.fsd_bytes.specs.declared.refusal.Refusal.{Refusal}
 use Rattle.fsd_bytes.specs.declared.refusal.Refusal.TheVariants as Why
 use Rattle.fsd_formats.specs.NamePage.{sectors_for}
-use Rattle.fsd_files.specs.Answers.{Finds}
+use Rattle.fsd_files.specs.Answers.{FindsDamage}
 use Rattle.fsd_files.specs.Desk.{Open, Nothing, Writes, Reads, Session, is_client, next_by, next_count, opened_by, with_client}
 use Rattle.fsd_files.specs.Disk.{Image}
 use Rattle.fsd_files.specs.Files.{Change}
@@ -22,11 +22,11 @@ use Rattle.fsd_texts.specs.declared.fault.Fault.TheVariants as Ends
 use Rattle.fsd_runs.specs.Sessions.{FindsNext, changes_closed}
 use Rattle.volume_contract.specs.Ends.{device_of}
 use Rattle.volume_contract.specs.Order.{Comes, Data, IsData}
-use Rattle.volume_contract.specs.State.{Opened, State}
+use Rattle.volume_contract.specs.State.{OpenParts, State}
 use Rattle.client_desk.specs.declared.client.Client.{Client}
 use Rattle.client_desk.specs.declared.client.Client.TheVariants.{Idle, Writing, Reading}
-use Rattle.client_desk.specs.Clients.{as_reading, client_at, declared_at, declared_of, fault_in, found, key_at, key_of, left_at, left_of, next_steps, place_of, tested}
-use Rattle.client_desk.specs.Ends.{Serves, open_at}
+use Rattle.client_desk.specs.Clients.{as_reading, client_at, declared_at, declared_of, fault_in, found, client_key, key_read, left_at, bytes_to_read, desk_next_steps, client_place, tested}
+use Rattle.client_desk.specs.Ends.{ServesOpen, open_at}
 use Rattle.client_desk.proofs.SitsLaws.{opened_is}
 use Rattle.volume_turns.specs.Commands.{HasDamaged}
 use Rattle.volume_turns.specs.Calls.{CallMayReply, RefusesIdle, next_ended_by, room_for, sectors_made}
@@ -39,10 +39,10 @@ use Rattle.volume_turns.proofs.OrderLaws.{starts_up}
 count_room : (b : List ℕ) (p long from len : ℕ) → long ≡ length b → from ≡ p → next_count b p len ≡ next_count b p (min (long - from) len)
 count_room b p long from len at place = omega (arith, at, place)
 
-module _ (o : Opened) (desk : List Client) (clients : List Open) (c : ℕ) (serves : Serves o (client_at desk (c - 1)) (open_at clients (c - 1))) where
+module _ (o : OpenParts) (desk : List Client) (clients : List Open) (c : ℕ) (serves : ServesOpen o (client_at desk (c - 1)) (open_at clients (c - 1))) where
   -- what asks for no more than is left is answered as what asks for all
   abbrev room : ℕ → ℕ
-  room len = room_for (left_at desk (place_of c)) len
+  room len = room_for (left_at desk (client_place c)) len
 
   pub next_same : (s : Session) (damaged : Option ℕ) (len : ℕ) → next_by (opened_by clients c) damaged s c len ≡ next_by (opened_by clients c) damaged s c (room len)
   next_same s damaged len = by (is_client c)
@@ -51,12 +51,12 @@ module _ (o : Opened) (desk : List Client) (clients : List Open) (c : ℕ) (serv
       given key r b p m n None same = ap (λ (x : ℕ). (Given c (take x (drop p b)), with_client s c (Reads key r b (p + x)))) same
       given key r b p m n (Some t) same = refl
 
-      such : (x : Client) (y : Open) → Serves o x y → next_by (Ok y) damaged s c len ≡ next_by (Ok y) damaged s c (room_for (left_of x) len)
+      such : (x : Client) (y : Open) → ServesOpen o x y → next_by (Ok y) damaged s c len ≡ next_by (Ok y) damaged s c (room_for (bytes_to_read x) len)
       such x Nothing z = refl
       such x (Writes name l r t b) z = refl
       such Idle (Reads key r b p) z = absurd z
       such (Writing w) (Reads key r b p) z = absurd z
-      such (Reading w) (Reads key r b p) z = given key r b p len (room_for (left_of (Reading w)) len) damaged (count_room b p w.held.entry.length w.place len z.long z.from)
+      such (Reading w) (Reads key r b p) z = given key r b p len (room_for (bytes_to_read (Reading w)) len) damaged (count_room b p w.held.entry.length w.place len z.long z.from)
 
       by : (b : Bool) → next_by (cond b (Ok (open_at clients (c - 1))) (Err (Why.BadClient c))) damaged s c len
           ≡ next_by (cond b (Ok (open_at clients (c - 1))) (Err (Why.BadClient c))) damaged s c (room_for (left_at desk (cond b (Ok (c - 1)) (Err (Why.BadClient c)))) len)
@@ -68,16 +68,16 @@ module _ (o : Opened) (desk : List Client) (clients : List Open) (c : ℕ) (serv
     reads : opened_by clients c ≡ Ok (Reads key runs bytes place)
     reads = opened_is clients c (c - 1) client refl ∙ ap (λ (y : Open). Ok y) was
 
-    at_place : place_of c ≡ Ok (c - 1)
+    at_place : client_place c ≡ Ok (c - 1)
     at_place = ap (λ (b : Bool). cond b (Ok (c - 1)) (Err (Why.BadClient c))) client
 
-    serves_read : Serves o (client_at desk (c - 1)) (Reads key runs bytes place)
-    serves_read = subst (λ (y : Open). Serves o (client_at desk (c - 1)) y) was serves
+    serves_read : ServesOpen o (client_at desk (c - 1)) (Reads key runs bytes place)
+    serves_read = subst (λ (y : Open). ServesOpen o (client_at desk (c - 1)) y) was serves
 
     pub count_is : (len : ℕ) → next_count bytes place len ≡ next_count bytes place (room len)
     count_is len = such (client_at desk (c - 1)) serves_read ∙ sym (ap (λ (r : Result ℕ Refusal). next_count bytes place (room_for (left_at desk r) len)) at_place)
       where
-        such : (x : Client) → Serves o x (Reads key runs bytes place) → next_count bytes place len ≡ next_count bytes place (room_for (left_of x) len)
+        such : (x : Client) → ServesOpen o x (Reads key runs bytes place) → next_count bytes place len ≡ next_count bytes place (room_for (bytes_to_read x) len)
         such Idle s = absurd s
         such (Writing w) s = absurd s
         such (Reading w) s = count_room bytes place w.held.entry.length w.place len s.long s.from
@@ -85,28 +85,28 @@ module _ (o : Opened) (desk : List Client) (clients : List Open) (c : ℕ) (serv
     pub room_is : (len : ℕ) → room len ≡ next_count bytes place len
     room_is len = ap (λ (r : Result ℕ Refusal). room_for (left_at desk r) len) at_place ∙ such (client_at desk (c - 1)) serves_read
       where
-        such : (x : Client) → Serves o x (Reads key runs bytes place) → room_for (left_of x) len ≡ next_count bytes place len
+        such : (x : Client) → ServesOpen o x (Reads key runs bytes place) → room_for (bytes_to_read x) len ≡ next_count bytes place len
         such Idle s = absurd s
         such (Writing w) s = absurd s
         such (Reading w) s = let long = s.long in let from = s.from in omega (arith, long, from)
 
-    pub key_is : key_at desk (place_of c) ≡ Some key
-    key_is = ap (λ (r : Result ℕ Refusal). key_at desk r) at_place ∙ such (client_at desk (c - 1)) serves_read
+    pub key_is : client_key desk (client_place c) ≡ Some key
+    key_is = ap (λ (r : Result ℕ Refusal). client_key desk r) at_place ∙ such (client_at desk (c - 1)) serves_read
       where
-        such : (x : Client) → Serves o x (Reads key runs bytes place) → key_of x ≡ Some key
+        such : (x : Client) → ServesOpen o x (Reads key runs bytes place) → key_read x ≡ Some key
         such Idle s = absurd s
         such (Writing w) s = absurd s
         such (Reading w) s = ap (λ (k : Key). Some k) s.of_key
 
-    pub finds_is : (i j : Image) (len : ℕ) (damaged : Option ℕ) → Finds i j (range_sectors runs place (next_count bytes place (room len))) damaged → FindsNext i j (opened_by clients c) len damaged
+    pub finds_is : (i j : Image) (len : ℕ) (damaged : Option ℕ) → FindsDamage i j (range_sectors runs place (next_count bytes place (room len))) damaged → FindsNext i j (opened_by clients c) len damaged
     finds_is i j len damaged finds =
-        subst (λ (r : Result Open Refusal). FindsNext i j r len damaged) (sym reads) (subst (λ (n : ℕ). Finds i j (range_sectors runs place n) damaged) (sym (count_is len)) finds)
+        subst (λ (r : Result Open Refusal). FindsNext i j r len damaged) (sym reads) (subst (λ (n : ℕ). FindsDamage i j (range_sectors runs place n) damaged) (sym (count_is len)) finds)
 
   -- one that reads nothing finds nothing
   pub finds_none : (i j : Image) (len : ℕ) (why : Refusal) → fault_in (found as_reading desk c) ≡ Some why → FindsNext i j (opened_by clients c) len None
   finds_none i j len why is = by (is_client c) is
     where
-      such : (x : Client) (y : Open) → Serves o x y → fault_in (as_reading c (c - 1) x) ≡ Some why → FindsNext i j (Ok y) len None
+      such : (x : Client) (y : Open) → ServesOpen o x y → fault_in (as_reading c (c - 1) x) ≡ Some why → FindsNext i j (Ok y) len None
       such x Nothing s e = tt
       such x (Writes name l r t b) s e = tt
       such Idle (Reads key r b p) s e = absurd s
@@ -120,12 +120,12 @@ module _ (o : Opened) (desk : List Client) (clients : List Open) (c : ℕ) (serv
   -- ---- of a client that writes
 
   module _ (client : is_client c ≡ true) (name : List ℕ) (len : ℕ) (runs : List Run) (serial : Serial) (bytes : List ℕ) (was : open_at clients (c - 1) ≡ Writes name len runs serial bytes) where
-    pub made_is : sectors_made (declared_at desk (place_of c)) ≡ sectors_for len
+    pub made_is : sectors_made (declared_at desk (client_place c)) ≡ sectors_for len
     made_is =
         ap (λ (b : Bool). sectors_made (declared_at desk (cond b (Ok (c - 1)) (Err (Why.BadClient c))))) client
-        ∙ such (client_at desk (c - 1)) (subst (λ (y : Open). Serves o (client_at desk (c - 1)) y) was serves)
+        ∙ such (client_at desk (c - 1)) (subst (λ (y : Open). ServesOpen o (client_at desk (c - 1)) y) was serves)
       where
-        such : (x : Client) → Serves o x (Writes name len runs serial bytes) → sectors_made (declared_of x) ≡ sectors_for len
+        such : (x : Client) → ServesOpen o x (Writes name len runs serial bytes) → sectors_made (declared_of x) ≡ sectors_for len
         such Idle s = absurd s
         such (Writing w) s = ap (λ (n : ℕ). sectors_for n) s.long
         such (Reading w) s = absurd s
@@ -136,15 +136,15 @@ module _ (o : Opened) (desk : List Client) (clients : List Open) (c : ℕ) (serv
 -- ---- how a read that was refused ends
 
 -- a client that reads has a version
-pub reading_key : (desk : List Client) (c : ℕ) → fault_in (found as_reading desk c) ≡ None → (key : Key) × (key_at desk (place_of c) ≡ Some key)
+pub reading_key : (desk : List Client) (c : ℕ) → fault_in (found as_reading desk c) ≡ None → (key : Key) × (client_key desk (client_place c) ≡ Some key)
 reading_key desk c is = by (is_client c) is
   where
-    such : (x : Client) → fault_in (as_reading c (c - 1) x) ≡ None → (key : Key) × (key_of x ≡ Some key)
+    such : (x : Client) → fault_in (as_reading c (c - 1) x) ≡ None → (key : Key) × (key_read x ≡ Some key)
     such Idle e = absurd (cc e)
     such (Writing w) e = absurd (cc e)
     such (Reading w) e = (w.held.entry.key, refl)
 
-    by : (b : Bool) → fault_in (tested as_reading desk c (cond b (Ok (c - 1)) (Err (Why.BadClient c)))) ≡ None → (key : Key) × (key_at desk (cond b (Ok (c - 1)) (Err (Why.BadClient c))) ≡ Some key)
+    by : (b : Bool) → fault_in (tested as_reading desk c (cond b (Ok (c - 1)) (Err (Why.BadClient c)))) ≡ None → (key : Key) × (client_key desk (cond b (Ok (c - 1)) (Err (Why.BadClient c))) ≡ Some key)
     by true e = such (client_at desk (c - 1)) e
     by false e = absurd (cc e)
 
@@ -159,7 +159,7 @@ pub record IsDamagedAt (c : ℕ) (desk : List Client) (why : Refusal) (result : 
   pub key : Key
   pub sector : ℕ
   pub refused : why ≡ Why.Damaged sector
-  pub reads : key_at desk (place_of c) ≡ Some key
+  pub reads : client_key desk (client_place c) ≡ Some key
   pub client : IsTrue (is_client c)
   pub is : result ≡ Ok (Said.DamagedAt key sector)
 
@@ -179,13 +179,13 @@ unread_said c (Some key) (Why.BadClient d) is = refl
 unread_said c (Some key) (Why.Idle d) is = refl
 unread_said c key why is = absurd is
 
-pub next_refuses : (s : State) → s.down ≡ None → (desk : List Client) (c : ℕ) (why : Refusal) (r : Result Reply Fault) → Comes (next_steps s desk c) why → r ≡ next_ended_by (key_at desk (place_of c)) why → NextRefuses c desk why r
+pub next_refuses : (s : State) → s.down ≡ None → (desk : List Client) (c : ℕ) (why : Refusal) (r : Result Reply Fault) → Comes (desk_next_steps s desk c) why → r ≡ next_ended_by (client_key desk (client_place c)) why → NextRefuses c desk why r
 next_refuses s up desk c why r (inl here) is =
     let idle = reading_test desk c why here in
-    inl (record { test = here; idle = idle; is = is ∙ unread_said c (key_at desk (place_of c)) why idle })
+    inl (record { test = here; idle = idle; is = is ∙ unread_said c (client_key desk (client_place c)) why idle })
 next_refuses s up desk c why r (inr later) is = inr (read (starts_up s up (Data ∷ []) why later.1))
   where
-    key : (k : Key) × (key_at desk (place_of c) ≡ Some k)
+    key : (k : Key) × (client_key desk (client_place c) ≡ Some k)
     key = reading_key desk c later.0
 
     ends : r ≡ next_ended_by (Some key.0) why
@@ -208,9 +208,9 @@ next_refuses s up desk c why r (inr later) is = inr (read (starts_up s up (Data 
     read (inr more) = absurd more.1
 
 -- with the key that the desk tells behind it
-pub next_refused : (s : State) → s.down ≡ None → (desk after : List Client) (c : ℕ) (why : Refusal) (key : Option Key) (r : Result Reply Fault) → Comes (next_steps s desk c) why → after ≡ desk → key ≡ key_at after (place_of c) → r ≡ next_ended_by key why → NextRefuses c desk why r
+pub next_refused : (s : State) → s.down ≡ None → (desk after : List Client) (c : ℕ) (why : Refusal) (key : Option Key) (r : Result Reply Fault) → Comes (desk_next_steps s desk c) why → after ≡ desk → key ≡ client_key after (client_place c) → r ≡ next_ended_by key why → NextRefuses c desk why r
 next_refused s up desk after c why key r comes same told is =
-    next_refuses s up desk c why r comes (is ∙ ap (λ (o : Option Key). next_ended_by o why) (told ∙ ap (λ (d : List Client). key_at d (place_of c)) same))
+    next_refuses s up desk c why r comes (is ∙ ap (λ (o : Option Key). next_ended_by o why) (told ∙ ap (λ (d : List Client). client_key d (client_place c)) same))
 
 -- ---- what it says
 

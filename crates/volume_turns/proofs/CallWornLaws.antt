@@ -10,12 +10,12 @@ use Rattle.fsd_files.specs.Disk.{Sectors}
 use Rattle.fsd_texts.specs.declared.call.Call.TheVariants as Calls
 use Rattle.fsd_texts.specs.declared.script_command.ScriptCommand.TheVariants.{OfClient}
 use Rattle.fsd_runs.specs.Sessions.{may_begin, may_close}
-use Rattle.volume_contract.specs.Order.{Comes, Step, Test, down, keep_size, length_size, worn}
-use Rattle.volume_contract.specs.State.{Opened, State, is_worn}
+use Rattle.volume_contract.specs.Order.{Comes, CallStep, Test, down, keep_size, length_size, worn}
+use Rattle.volume_contract.specs.State.{OpenParts, State, is_worn}
 use Rattle.client_desk.specs.declared.client.Client.{Client}
 use Rattle.client_desk.specs.declared.client.Client.TheVariants.{Idle, Writing, Reading}
 use Rattle.client_desk.specs.Clients.{as_idle, as_writing, begin_steps, client_at, close_steps, fault_in, found, in_first, tested, too_short}
-use Rattle.client_desk.specs.Ends.{Serves, open_at}
+use Rattle.client_desk.specs.Ends.{ServesOpen, open_at}
 use Rattle.volume_turns.specs.Seats.{IsRefusedWornIn, Seated}
 use Rattle.volume_turns.proofs.OrderLaws.{is_no_fault, no_fault_is, past_test, past_worn, starts_up}
 use Rattle.volume_turns.proofs.CallOrderLaws.{begin_declines, close_declines, enter_rest, idle_test, reserve_rest, short_says, size_fits, size_none, size_says, worn_of, writing_test}
@@ -23,11 +23,11 @@ use Rattle.volume_turns.proofs.CallOrderLaws.{begin_declines, close_declines, en
 -- ---- what would change something
 
 -- so it is where the tests before the one of wear pass
-module _ (o : Opened) (desk : List Client) (clients : List Open) (c : ℕ) (serves : Serves o (client_at desk (c - 1)) (open_at clients (c - 1))) where
+module _ (o : OpenParts) (desk : List Client) (clients : List Open) (c : ℕ) (serves : ServesOpen o (client_at desk (c - 1)) (open_at clients (c - 1))) where
   begin_may : (len : ℕ) → may_begin (opened_by clients c) len ≡ (is_none (fault_in (found as_idle desk c)) && nat_le len max_length)
   begin_may len = by (is_client c)
     where
-      such : (x : Client) (y : Open) → Serves o x y → may_begin (Ok y) len ≡ (is_none (fault_in (as_idle c (c - 1) x)) && nat_le len max_length)
+      such : (x : Client) (y : Open) → ServesOpen o x y → may_begin (Ok y) len ≡ (is_none (fault_in (as_idle c (c - 1) x)) && nat_le len max_length)
       such Idle Nothing s = refl
       such Idle (Writes n l r t b) s = absurd s
       such Idle (Reads n r b p) s = absurd s
@@ -54,7 +54,7 @@ module _ (o : Opened) (desk : List Client) (clients : List Open) (c : ℕ) (serv
   close_may : may_close (opened_by clients c) ≡ (is_none (fault_in (found as_writing desk c)) && is_none (too_short (client_at desk (c - 1))))
   close_may = by (is_client c)
     where
-      such : (x : Client) (y : Open) → Serves o x y → may_close (Ok y) ≡ (is_none (fault_in (as_writing c (c - 1) x)) && is_none (too_short x))
+      such : (x : Client) (y : Open) → ServesOpen o x y → may_close (Ok y) ≡ (is_none (fault_in (as_writing c (c - 1) x)) && is_none (too_short x))
       such Idle Nothing s = refl
       such Idle (Writes n l r t b) s = absurd s
       such Idle (Reads n r b p) s = absurd s
@@ -74,13 +74,13 @@ module _ (o : Opened) (desk : List Client) (clients : List Open) (c : ℕ) (serv
 abbrev size_test : ℕ → Option Refusal
 size_test len = cond (nat_lt max_length len) (Some (Why.TooLong len)) None
 
-module _ (s : State) (up : s.down ≡ None) (desk : List Client) (clients : List Open) (c : ℕ) (o : Opened) (serves : Serves o (client_at desk (c - 1)) (open_at clients (c - 1))) where
+module _ (s : State) (up : s.down ≡ None) (desk : List Client) (clients : List Open) (c : ℕ) (o : OpenParts) (serves : ServesOpen o (client_at desk (c - 1)) (open_at clients (c - 1))) where
   -- ---- begin
 
   abbrev idle_fault : Option Refusal
   idle_fault = fault_in (found as_idle desk c)
 
-  abbrev reserves : ℕ → List Step
+  abbrev reserves : ℕ → List CallStep
   reserves len = length_size s len ∷ worn s ∷ reserve_rest s len
 
   -- where it isn't refused as worn out, and would change something, the mount isn't
@@ -112,7 +112,7 @@ module _ (s : State) (up : s.down ≡ None) (desk : List Client) (clients : List
   abbrev leader : Sectors
   leader t = in_first (client_at desk (c - 1)) t
 
-  abbrev enters : List Step
+  abbrev enters : List CallStep
   enters = keep_size s 0 ∷ worn s ∷ enter_rest s leader
 
   pub close_unworn : (why : Refusal) → Comes (close_steps s desk c) why → (why ≡ Why.WornOut → ⊥) → IsTrue (may_close (opened_by clients c)) → IsFalse (is_worn s)
@@ -132,7 +132,7 @@ module _ (s : State) (up : s.down ≡ None) (desk : List Client) (clients : List
 
 -- ---- the mount is worn out
 
-module _ (s : State) (up : s.down ≡ None) (desk : List Client) (k : Seated) (c : ℕ) (serves : Serves k.opened (client_at desk (c - 1)) (open_at k.clients (c - 1))) where
+module _ (s : State) (up : s.down ≡ None) (desk : List Client) (k : Seated) (c : ℕ) (serves : ServesOpen k.opened (client_at desk (c - 1)) (open_at k.clients (c - 1))) where
   pub begin_worn : (name : List ℕ) (len : ℕ) → Comes (begin_steps s desk c len) Why.WornOut → IsRefusedWornIn (OfClient c (Calls.Begin name len)) k s
   begin_worn name len comes = record {
     may = begin_passes s up desk k.clients c k.opened serves len comes;

@@ -26,13 +26,13 @@ use Rattle.volume_contract.specs.Mount.{IsFound, IsRefused, KeepsAll, UnsoundFor
 use Rattle.volume_contract.specs.State.{State}
 use Rattle.volume_turns.specs.declared.script.Stop.{Stop}
 use Rattle.volume_turns.specs.declared.script.Stop.TheVariants.{Ended, WornOut}
-use Rattle.volume_turns.specs.declared.turns.End.{End}
+use Rattle.volume_turns.specs.declared.turns.Halt.{Halt}
 use Rattle.volume_turns.specs.Causes.{HasSpent, HasVolume, IsOfInput, SaysOfCall, SaysOfImage, SaysOfInput, StandsBefore, TellsImage, is_of_mounted}
 use Rattle.volume_turns.specs.Each.{SaysBetween}
 use Rattle.volume_turns.specs.Line.{EndsWith, IsStatusFor}
 use Rattle.client_desk.specs.declared.client.Client.{Client}
-use Rattle.volume_turns.specs.Once.{fault_of}
-use Rattle.volume_turns.specs.Script.{Reads, WholeRead}
+use Rattle.volume_turns.specs.Once.{end_by_mount}
+use Rattle.volume_turns.specs.Script.{ReadsScript, WholeRead}
 use Rattle.volume_turns.proofs.SaidLaws.{no_replies}
 use Rattle.fsd_log.specs.Scan.{Placed}
 use Rattle.sector_disk.specs.declared.machine.Machine.{Ghosts}
@@ -103,16 +103,16 @@ tells_mounted script AreCopies made sectors s old mounted new status now same f 
     }
 
 -- no status of a mount's fault is one of a volume that is mounted
-not_mounted : (fault : MountFault) → IsTrue (is_of_mounted (fault_status (fault_of fault))) → ⊥
+not_mounted : (fault : MountFault) → IsTrue (is_of_mounted (fault_status (end_by_mount fault))) → ⊥
 not_mounted Refused.NotVolume is = cc is
 not_mounted fault is = cc is
 
-refused_not : (fault : MountFault) (status : ℕ) → IsStatusFor (fault_of fault) status → IsTrue (is_of_mounted status) → ⊥
+refused_not : (fault : MountFault) (status : ℕ) → IsStatusFor (end_by_mount fault) status → IsTrue (is_of_mounted status) → ⊥
 refused_not fault status (inl is) any = not_mounted fault (subst (λ (n : ℕ). IsTrue (is_of_mounted n)) is any)
 refused_not fault status (inr six) any = let no : IsTrue (is_of_mounted 6) = subst (λ (n : ℕ). IsTrue (is_of_mounted n)) six any in cc no
 
 -- status 9 is that of an epoch that is the last one
-worn_of : (sectors : ℕ) (old : Moment) (fault : MountFault) (status : ℕ) → IsStatusFor (fault_of fault) status → status ≡ 9 → IsRefused sectors fault old → IsRefused sectors Refused.WornOut old
+worn_of : (sectors : ℕ) (old : Moment) (fault : MountFault) (status : ℕ) → IsStatusFor (end_by_mount fault) status → status ≡ 9 → IsRefused sectors fault old → IsRefused sectors Refused.WornOut old
 worn_of sectors old fault status (inr six) nine refused = absurd (omega (arith, six, nine))
 worn_of sectors old Refused.WornOut status (inl is) nine refused = refused
 worn_of sectors old fault status (inl is) nine refused = absurd (omega (arith, is, nine))
@@ -121,7 +121,7 @@ spent_refused : (made : Option ℕ) (sectors : ℕ) (old : Moment) → IsRefused
 spent_refused (Some count) sectors old refused = inr refused
 spent_refused None sectors old refused = refused
 
-pub tells_refused : (script : Bool) (AreCopies : Layout → ℕ → ℕ → Type 0) (made : Option ℕ) (sectors : ℕ) (fault : MountFault) (why : Fault) (old ended new : Moment) (status : ℕ) → why ≡ fault_of fault → IsRefused sectors fault old → LostIn (AreCopiesOn sectors old) ended.image fault → UnsoundFor sectors old ended fault
+pub tells_refused : (script : Bool) (AreCopies : Layout → ℕ → ℕ → Type 0) (made : Option ℕ) (sectors : ℕ) (fault : MountFault) (why : Fault) (old ended new : Moment) (status : ℕ) → why ≡ end_by_mount fault → IsRefused sectors fault old → LostIn (AreCopiesOn sectors old) ended.image fault → UnsoundFor sectors old ended fault
     → KeepsAll fault old ended → MountKeeps sectors old ended → ended.said ≡ old.said → Utters (fault_text why) ended new → EndsWith why ended new status → IsStatusFor why status → TellsImage script AreCopies made sectors old new status
 tells_refused script AreCopies made sectors fault why old ended new status is refused lost unsound kept rest same utters ends for = record {
   mounted = λ any. absurd (refused_not fault status (subst (λ (w : Fault). IsStatusFor w status) is for) any);
@@ -170,12 +170,12 @@ long_input most ordinal input is =
 -- ---- a script that was read
 
 -- all that a closing volume passes on
-pub passes_on : (stop : Stop) (end : ScriptEnd) (result : Result Stop End) → IfOk result (λ x. x ≡ stop) → result ≡ Ok (Ended end) → stop ≡ Ended end
+pub passes_on : (stop : Stop) (end : ScriptEnd) (result : Result Stop Halt) → IfOk result (λ x. x ≡ stop) → result ≡ Ok (Ended end) → stop ≡ Ended end
 passes_on stop end (Ok x) same is = let e : x ≡ Ended end = cc is in sym same ∙ e
 passes_on stop end (Err why) same is = absurd (cc is)
 
 -- which for a worn-out mount is no end of the script
-pub worn_apart : (end : ScriptEnd) (result : Result Stop End) → IfOk result (λ x. x ≡ WornOut) → result ≡ Ok (Ended end) → ⊥
+pub worn_apart : (end : ScriptEnd) (result : Result Stop Halt) → IfOk result (λ x. x ≡ WornOut) → result ≡ Ok (Ended end) → ⊥
 worn_apart end result same is = let e : WornOut ≡ Ended end = passes_on WornOut end result same is in cc e
 
 -- what is read to its end does not stop for a worn-out mount
@@ -190,9 +190,9 @@ read_ends state has M e old a new b stop end x is =
     all.reads.0
 
 -- for each of its commands a reply is said
-pub read_says : {S D : Type 0} (state : S → State) (has : S → Mounted → List Placed → Type 0) (M : Ghosts D) (e : Errand) (last : Reading) (old : S × List Client) (a : D) (new : S × List Client) (b : D) (stop : Stop) (end : ScriptEnd) → Reads state has M e fresh last old a new b (Ok (Some stop)) → stop ≡ Ended end → SaysBetween M e.says (script_in (M.ledger a).input).0 a b
+pub read_says : {S D : Type 0} (state : S → State) (has : S → Mounted → List Placed → Type 0) (M : Ghosts D) (e : Errand) (last : Reading) (old : S × List Client) (a : D) (new : S × List Client) (b : D) (stop : Stop) (end : ScriptEnd) → ReadsScript state has M e fresh last old a new b (Ok (Some stop)) → stop ≡ Ended end → SaysBetween M e.says (script_in (M.ledger a).input).0 a b
 read_says state has M e last old a new b stop end x is =
-    let all : Reads state has M e fresh last old a new b (Ok (Some (Ended end))) = subst (λ (s : Stop). Reads state has M e fresh last old a new b (Ok (Some s))) is x in
+    let all : ReadsScript state has M e fresh last old a new b (Ok (Some (Ended end))) = subst (λ (s : Stop). ReadsScript state has M e fresh last old a new b (Ok (Some s))) is x in
     all.2
 
 -- ---- an input that is taken to its end

@@ -29,15 +29,15 @@ use Rattle.fsd_runs.specs.Errands.{Answered, moved_in, forced_turn, generated_li
 use Rattle.fsd_runs.specs.Runs.{answered}
 use Rattle.client_desk.specs.Clients.{no_desk}
 use Rattle.volume_contract.specs.State.{State, Ages, Known, Stands, forced_of, volume_of}
-use Rattle.volume_turns.specs.declared.turns.End.{End}
-use Rattle.volume_turns.specs.declared.turns.End.TheVariants.{Fault as Stopped, Output}
+use Rattle.volume_turns.specs.declared.turns.Halt.{Halt}
+use Rattle.volume_turns.specs.declared.turns.Halt.TheVariants.{Fault as Stopped, Output}
 use Rattle.volume_turns.specs.Generate.{CountedGroup, CountedRun, CountedStep, RunsCounted, StepsCounted, all_plain, silent}
 use Rattle.volume_turns.specs.Group.{is_worn_end}
 use Rattle.volume_turns.specs.Once.{ClosesAndSays, unit_of}
 use Rattle.volume_turns.specs.Seats.{DoesIn, IsAnsweredIn, Seated, SitsAt, StaysIn, known_of, seated, session_in}
-use Rattle.volume_turns.specs.Tally.{all_counted, counted, nothing}
-use Rattle.volume_turns.specs.Steps.{StaysSound}
-use Rattle.volume_turns.specs.Turns.{Follows, OnDisk, Told, Unheard, device_end, Runs, RunsFrom, SaysAll, Steps, UttersBehind}
+use Rattle.volume_turns.specs.Tally.{all_counted, counted, nothing_done}
+use Rattle.volume_turns.specs.Steps.{StaysSoundFor}
+use Rattle.volume_turns.specs.Turns.{KeepsCalls, OnDisk, FaultTold, Unheard, device_end, RunsTurns, RunsFrom, SaysAll, Steps, UttersBehind}
 use Rattle.volume_turns.proofs.GroupLaws.{group_all, group_all_mets, group_stop, group_worn}
 use Rattle.volume_turns.proofs.RunLaws.{from_both, from_both_mets, reply_is, runs_nil, runs_nil_mets, step_fault, step_ok, step_ok_met, step_unsaid}
 use Rattle.volume_turns.proofs.SeatLaws.{seat_wears}
@@ -55,23 +55,23 @@ field_is f g grows t (p ∷ done) =
     omega (arith, rest, one, sum)
 
 -- from none on
-sum_is : (f : Counts → ℕ) (g : Answered → ℕ) → ((t : Counts) (p : Answered) → f (counted t p.command p.reply) ≡ f t + g p) → f nothing ≡ 0 → (done : List Answered) → f (all_counted nothing done) ≡ sum_by g done
-sum_is f g grows none done = let all = field_is f g grows nothing done in omega (arith, all, none)
+sum_is : (f : Counts → ℕ) (g : Answered → ℕ) → ((t : Counts) (p : Answered) → f (counted t p.command p.reply) ≡ f t + g p) → f nothing_done ≡ 0 → (done : List Answered) → f (all_counted nothing_done done) ≡ sum_by g done
+sum_is f g grows none done = let all = field_is f g grows nothing_done done in omega (arith, all, none)
 
 count_is : (t : Counts) (done : List Answered) → (all_counted t done).count ≡ t.count + length done
 count_is t [] = omega arith
 count_is t (p ∷ done) = let rest = count_is (counted t p.command p.reply) done in omega (arith, rest)
 
-pub line_is : (done : List Answered) → Says.Generated (all_counted nothing done) ≡ generated_line done
+pub line_is : (done : List Answered) → Says.Generated (all_counted nothing_done done) ≡ generated_line done
 line_is done =
-    let t = all_counted nothing done in
+    let t = all_counted nothing_done done in
     let made = sum_is (λ x. x.made) (λ p. is_made p.reply) (λ t p. refl) refl done in
     let deleted = sum_is (λ x. x.deleted) (λ p. is_deleted p.reply) (λ t p. refl) refl done in
     let kept = sum_is (λ x. x.kept) (λ p. is_kept p.reply) (λ t p. refl) refl done in
     let read = sum_is (λ x. x.read) (λ p. is_read p.reply) (λ t p. refl) refl done in
     let bytes = sum_is (λ x. x.bytes) (λ p. moved_in p.command p.reply) (λ t p. refl) refl done in
     let refused = sum_is (λ x. x.refused) (λ p. is_refused p.reply) (λ t p. refl) refl done in
-    let count : t.count ≡ length done = let all = count_is nothing done in omega (arith, all) in
+    let count : t.count ≡ length done = let all = count_is nothing_done done in omega (arith, all) in
     λ i. Says.Generated (record { count = count i; made = made i; deleted = deleted i; kept = kept i; read = read i; bytes = bytes i; refused = refused i })
 
 -- so many commands are made up
@@ -144,12 +144,12 @@ module _ {S D : Type 0} (state : S → State) (has : S → Mounted → List Plac
     counts = ap (λ (mets : List Meeting). all_counted t (answered mets (session_in k) [])) (sym (runs_nil_mets state has M silent (v, no_desk) a wears timed short honest k f from stood aged held));
   }
 
-  pub counted_then : (command : Command) (commands : List Command) (v w z : S) (a m b : D) (t u : Counts) (result : Result Counts End) → Follows M m b → (M.honest m → M.moment a ≤ M.moment m)
+  pub counted_then : (command : Command) (commands : List Command) (v w z : S) (a m b : D) (t u : Counts) (result : Result Counts Halt) → KeepsCalls M m b → (M.honest m → M.moment a ≤ M.moment m)
       → StepsCounted state has M command v a w m t (Ok u) → RunsCounted state has M commands w m z b u result → RunsCounted state has M (command ∷ commands) v a z b t result
   counted_then command commands v w z a m b t u result follows later steps runs honest k f from stood aged held =
       let one : CountedStep state has M k f from command a m w t u = steps (follows.honest honest) k f from stood aged held in
       let rest : CountedRun state has M one.step.after one.step.told one.step.mid commands m b z u result = runs honest one.step.after one.step.told one.step.mid one.step.stands one.step.ages one.step.held in
-      let took : Runs state has M silent (all_plain commands) (w, no_desk) m (z, no_desk) b (unit_of result) = λ h x n c s g d. (runs h x n c s g d).ran in
+      let took : RunsTurns state has M silent (all_plain commands) (w, no_desk) m (z, no_desk) b (unit_of result) = λ h x n c s g d. (runs h x n c s g d).ran in
       let step : Steps state has M silent (Plain command) (v, no_desk) a (w, no_desk) m (Ok tt) = λ h x n c s g d. (steps h x n c s g d).step in
       record {
         ran = from_both state has M silent (Plain command) (all_plain commands) (v, no_desk) (w, no_desk) (z, no_desk) a m b (unit_of result) follows later step took honest k f from stood aged held;
@@ -157,7 +157,7 @@ module _ {S D : Type 0} (state : S → State) (has : S → Mounted → List Plac
             (on result one rest rest.counts);
       }
     where
-      on : (r : Result Counts End) (one : CountedStep state has M k f from command a m w t u) (rest : CountedRun state has M one.step.after one.step.told one.step.mid commands m b z u result)
+      on : (r : Result Counts Halt) (one : CountedStep state has M k f from command a m w t u) (rest : CountedRun state has M one.step.after one.step.told one.step.mid commands m b z u result)
           → IfOk r (λ x. x ≡ all_counted u (answered rest.ran.mets (session_in one.step.after) (all_plain commands)))
           → IfOk r (λ x. x ≡ all_counted t (answered (one.step.met ∷ rest.ran.mets) (session_in k) (all_plain (command ∷ commands))))
       on (Ok x) one rest is = is ∙ ap (λ (y : Session). all_counted u (answered rest.ran.mets y (all_plain commands))) one.step.is
@@ -165,19 +165,19 @@ module _ {S D : Type 0} (state : S → State) (has : S → Mounted → List Plac
       on (Err end) one rest is = tt
 
   -- one that ends them
-  pub counted_stop : (commands : List Command) (v z : S) (a b : D) (t : Counts) (end : End) → Runs state has M silent (all_plain commands) (v, no_desk) a (z, no_desk) b (Err end) → RunsCounted state has M commands v a z b t (Err end)
+  pub counted_stop : (commands : List Command) (v z : S) (a b : D) (t : Counts) (end : Halt) → RunsTurns state has M silent (all_plain commands) (v, no_desk) a (z, no_desk) b (Err end) → RunsCounted state has M commands v a z b t (Err end)
   counted_stop commands v z a b t end runs honest k f from stood aged held = record { ran = runs honest k f from stood aged held; counts = tt }
 
   -- memory was refused for the next of them
   pub counted_refused : (commands : List Command) (v : S) (a : D) → ((s : S) (k : Known) (old new : Moment) → AreShort old.windows → Ages old new → Stands state has s k old → Stands state has s k new)
-      → (M.honest a → IsTimed M a) → (M.honest a → (from : Moment) → Ages from (M.now a) → AreShort from.windows) → Runs state has M silent (all_plain commands) (v, no_desk) a (v, no_desk) a (Err (Stopped Ends.Memory))
+      → (M.honest a → IsTimed M a) → (M.honest a → (from : Moment) → Ages from (M.now a) → AreShort from.windows) → RunsTurns state has M silent (all_plain commands) (v, no_desk) a (v, no_desk) a (Err (Stopped Ends.Memory))
   counted_refused commands v a wears timed short honest k f from stood aged held =
       let now = seat_wears state has wears (v, no_desk) k from (M.now a) (short honest from aged) aged stood in
       let at = timed honest in
       record {
         mets = [];
         goes = λ t le. tt;
-        moments = λ rest. stays_stops M (known_of k) f a a at at (λ t left le was. was) (started M.moment M.left_since a (M.now a) (StaysSound (known_of k) (M.now a)) at.only
+        moments = λ rest. stays_stops M (known_of k) f a a at at (λ t left le was. was) (started M.moment M.left_since a (M.now a) (StaysSoundFor (known_of k) (M.now a)) at.only
             (record { sound = mounted_sound k.mounted k.windows k.changes (forced_of (known_of k)) (M.now a).image now.stands.disk; windows = refl; said = refl })) held rest;
         ends = (tt, said_nothing M (known_of k) f Ends.Memory a a at held refl refl);
       }
@@ -185,36 +185,36 @@ module _ {S D : Type 0} (state : S → State) (has : S → Mounted → List Plac
 -- ---- with the force behind them
 
 module _ {S D : Type 0} (state : S → State) (has : S → Mounted → List Placed → Type 0) (M : Ghosts D) (k : Known) (commands : List Command) (a m b : D) (w : S) (since : Since M m b) (later : M.moment a ≤ M.moment m) (timed : IsTimed M b) where
-  abbrev Closing : Result (Option Counts) End → Type 0
+  abbrev Closing : Result (Option Counts) Halt → Type 0
   Closing result = (x : Seated) (f : ℕ) → SitsAt state has (w, no_desk) x (M.now m) → OnDisk M (known_of x) f m → ClosesAndSays M (known_of x) f forced_turn.said m b (unit_of result)
 
   some_same : (t u : Counts) → Some t ≡ Some u → t ≡ u
   some_same t u is = cc is
 
-  pub counted_all : (tally : Counts) → CountedRun state has M (seated k no_clients) (forced_of k) (M.now a) commands a m w nothing (Ok tally) → (result : Result (Option Counts) End) → IfOk result (λ x. x ≡ Some tally) → Closing result → CountedGroup M k commands a b result
+  pub counted_all : (tally : Counts) → CountedRun state has M (seated k no_clients) (forced_of k) (M.now a) commands a m w nothing_done (Ok tally) → (result : Result (Option Counts) Halt) → IfOk result (λ x. x ≡ Some tally) → Closing result → CountedGroup M k commands a b result
   counted_all tally run (Ok None) same closes = absurd (cc same)
   counted_all tally run (Ok (Some t)) same closes = record {
     group = group_all state has M silent k (M.now a) (all_plain commands) a m b (w, no_desk) since later timed run.ran (Ok true) refl closes;
-    counts = some_same t tally same ∙ run.counts ∙ ap (λ (mets : List Meeting). all_counted nothing (answered mets (session_over (volume_of k)) (all_plain commands))) (sym (group_all_mets state has M silent k (M.now a) (all_plain commands) a m b (w, no_desk) since later timed run.ran (Ok true) refl closes));
+    counts = some_same t tally same ∙ run.counts ∙ ap (λ (mets : List Meeting). all_counted nothing_done (answered mets (session_over (volume_of k)) (all_plain commands))) (sym (group_all_mets state has M silent k (M.now a) (all_plain commands) a m b (w, no_desk) since later timed run.ran (Ok true) refl closes));
   }
   counted_all tally run (Err end) same closes = record { group = group_all state has M silent k (M.now a) (all_plain commands) a m b (w, no_desk) since later timed run.ran (Err end) tt closes; counts = tt }
 
-  pub counted_worn : (end : End) → is_worn_end end ≡ true → RunsFrom state has M silent (seated k no_clients) (forced_of k) (M.now a) (all_plain commands) a m (w, no_desk) (Err end) → (result : Result (Option Counts) End) → IfOk result (λ x. x ≡ None) → Closing result → CountedGroup M k commands a b result
+  pub counted_worn : (end : Halt) → is_worn_end end ≡ true → RunsFrom state has M silent (seated k no_clients) (forced_of k) (M.now a) (all_plain commands) a m (w, no_desk) (Err end) → (result : Result (Option Counts) Halt) → IfOk result (λ x. x ≡ None) → Closing result → CountedGroup M k commands a b result
   counted_worn end worn ran (Ok (Some t)) same closes = absurd (cc same)
   counted_worn end worn ran (Ok None) same closes = record { group = group_worn state has M silent k (M.now a) (all_plain commands) a m b (w, no_desk) since later timed end worn ran (Ok false) refl closes; counts = tt }
   counted_worn end worn ran (Err other) same closes = record { group = group_worn state has M silent k (M.now a) (all_plain commands) a m b (w, no_desk) since later timed end worn ran (Err other) tt closes; counts = tt }
 
-  pub counted_broken : (end : End) → is_worn_end end ≡ false → RunsFrom state has M silent (seated k no_clients) (forced_of k) (M.now a) (all_plain commands) a m (w, no_desk) (Err end) → CountedGroup M k commands a m (Err end)
+  pub counted_broken : (end : Halt) → is_worn_end end ≡ false → RunsFrom state has M silent (seated k no_clients) (forced_of k) (M.now a) (all_plain commands) a m (w, no_desk) (Err end) → CountedGroup M k commands a m (Err end)
   counted_broken end other ran = record { group = group_stop state has M silent k (M.now a) (all_plain commands) a m (w, no_desk) end other ran; counts = tt }
 
 -- ---- what is counted of faults
 
-pub unheard_on : {T : Type 0} (a b c : Report) → b.output_faults ≡ a.output_faults → (r : Result T End) → Unheard b c r → Unheard a c r
+pub unheard_on : {T : Type 0} (a b c : Report) → b.output_faults ≡ a.output_faults → (r : Result T Halt) → Unheard b c r → Unheard a c r
 unheard_on a b c same (Err Output) rose = omega (arith, same, rose)
 unheard_on a b c same (Err (Stopped fault)) is = is ∙ same
 unheard_on a b c same (Ok u) is = is ∙ same
 
-pub told_more : {T U : Type 0} (a b c : Report) (u : U) (r : Result T End) → Told {T = U} a b (Ok u) → Told {T = T} b c r → Told {T = T} a c r
+pub told_more : {T U : Type 0} (a b c : Report) (u : U) (r : Result T Halt) → FaultTold {T = U} a b (Ok u) → FaultTold {T = T} b c r → FaultTold {T = T} a c r
 told_more a b c u r x y = record {
   sectors = y.sectors ∙ x.sectors;
   disk = faults_then (device_end r) a b c x.disk y.disk;
@@ -223,17 +223,17 @@ told_more a b c u r x y = record {
   output = unheard_on a b c x.output r y.output;
 }
 
-pub told_all : {T U : Type 0} (a b : Report) (t : T) (u : U) → Told {T = T} a b (Ok t) → Told {T = U} a b (Ok u)
+pub told_all : {T U : Type 0} (a b : Report) (t : T) (u : U) → FaultTold {T = T} a b (Ok t) → FaultTold {T = U} a b (Ok u)
 told_all a b t u x = record { sectors = x.sectors; disk = x.disk; input = x.input; later = x.later; output = x.output }
 
-pub told_end : {T U : Type 0} (a b : Report) (end : End) → Told {T = T} a b (Err end) → Told {T = U} a b (Err end)
+pub told_end : {T U : Type 0} (a b : Report) (end : Halt) → FaultTold {T = T} a b (Err end) → FaultTold {T = U} a b (Err end)
 told_end a b (Stopped fault) x = record { sectors = x.sectors; disk = x.disk; input = x.input; later = x.later; output = x.output }
 told_end a b Output x = record { sectors = x.sectors; disk = x.disk; input = x.input; later = x.later; output = x.output }
 
 -- up to where the mount was worn out
-pub told_worn_out : {T : Type 0} (a b : Report) (end : End) → is_worn_end end ≡ true → Told {T = T} a b (Err end) → Told {T = Unit {0}} a b (Ok tt)
+pub told_worn_out : {T : Type 0} (a b : Report) (end : Halt) → is_worn_end end ≡ true → FaultTold {T = T} a b (Err end) → FaultTold {T = Unit {0}} a b (Ok tt)
 told_worn_out a b (Stopped Ends.WornOut) worn x = record { sectors = x.sectors; disk = x.disk; input = x.input; later = x.later; output = x.output }
 told_worn_out a b end worn x = cc worn
 
-pub told_none : (a : Report) → Told {T = Unit {0}} a a (Ok tt)
+pub told_none : (a : Report) → FaultTold {T = Unit {0}} a a (Ok tt)
 told_none a = record { sectors = refl; disk = (refl, refl); input = refl; later = omega arith; output = refl }

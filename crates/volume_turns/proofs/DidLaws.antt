@@ -19,9 +19,9 @@ use Rattle.sector_disk.specs.Machine.{Ledger, Moment, Wears}
 use Rattle.sector_disk.proofs.CallLaws.{reads_as_writes, writes_more, writes_told}
 use Rattle.scrub.specs.Scrub.{KeepsOpen}
 use Rattle.scrub.specs.Telling.{AreOfPage}
-use Rattle.volume_contract.specs.Causes.{HasCause}
+use Rattle.volume_contract.specs.Causes.{HasCallCause}
 use Rattle.volume_contract.specs.Ends.{device_of}
-use Rattle.volume_contract.specs.Order.{Comes, IsLookUp, Step}
+use Rattle.volume_contract.specs.Order.{Comes, IsLookUp, CallStep}
 use Rattle.volume_contract.specs.State.{GoesOn, Known, Leaves, Stands, State, downs_for, is_worn}
 use Rattle.volume_turns.specs.Commands.{Because, HasWrittenBy, IsStatusFrom, KeepsState, MayLose, MayReply, may_write, most_written}
 use Rattle.volume_turns.specs.Did.{Did}
@@ -129,8 +129,8 @@ module _ {D S : Type 0} (M : Ghosts D) (state : S → State) (holds : S → Moun
 
       -- ---- a step of the call refuses it
 
-      pub refused_did : (steps : List Step) (why : Refusal) → (state old).down ≡ None → Comes steps why → ((t : ℕ) → why ≡ Why.Down t → ⊥) → (Comes steps Why.WornOut → IsTrue (is_worn (state old)))
-          → GoesOn (downs_for why) (state old) (state new) → WritesDisk M (device_of why) (Stays state holds old) before now → (M.honest now → HasCause (state old) (state new) (resident old) (M.now before) (M.now now) why)
+      pub refused_did : (steps : List CallStep) (why : Refusal) → (state old).down ≡ None → Comes steps why → ((t : ℕ) → why ≡ Why.Down t → ⊥) → (Comes steps Why.WornOut → IsTrue (is_worn (state old)))
+          → GoesOn (downs_for why) (state old) (state new) → WritesDisk M (device_of why) (Stays state holds old) before now → (M.honest now → HasCallCause (state old) (state new) (resident old) (M.now before) (M.now now) why)
           → IsStatusFrom command 1 → (M.honest now → IfOk (ended_by why) (λ a. MayReply command (M.now now).image a)) → (M.tells now → IsUpTo (most_written command (state old)) (M.ledger before) (M.ledger now))
           → (M.honest now → Because state resident command (state old) (state new) (M.now before) (M.now now) (Said.Refused why)) → DoesSo (ended_by why) → Ended (ended_by why)
       refused_did steps why up comes down worn goes disk causes status replies counted because done = record {

@@ -16,11 +16,11 @@ use Rattle.fsd_texts.specs.declared.line.Line.TheVariants as Says
 use Rattle.fsd_texts.specs.Script.{script_in}
 use Rattle.fsd_runs.specs.Commands.{reply_text}
 use Rattle.fsd_runs.specs.Errands.{forced_turn}
-use Rattle.volume_turns.specs.declared.turns.End.{End}
+use Rattle.volume_turns.specs.declared.turns.Halt.{Halt}
 use Rattle.volume_turns.specs.Calls.{MayReplyTo}
 use Rattle.volume_turns.specs.Each.{AreReplies, SaysBadLine, SaysBetween, SaysEach, SaysForced, SaysOnce}
 use Rattle.volume_turns.specs.Line.{EndsLast}
-use Rattle.volume_turns.specs.Turns.{Follows, SaysAll, SaysReplies}
+use Rattle.volume_turns.specs.Turns.{KeepsCalls, SaysAll, SaysReplies}
 use Rattle.scrub.proofs.LeadLaws.{worn_touches}
 use Rattle.volume_turns.proofs.AnsweringLaws.{may_worn, stays_damaged}
 use Rattle.volume_turns.proofs.SaidLaws.{flat_then}
@@ -34,7 +34,7 @@ may_worn_to (OfClient c (Calls.Next len)) a b (Said.DamagedAt key n) quiet may =
 may_worn_to (OfClient c call) a b reply quiet may = may
 
 -- a reply of this command that was said
-pub once_by : (says : Reply → List ℕ) (command : ScriptCommand) (reply : Reply) (H K : Type 0) (a m b : Moment) → (H → K) → (K → m.said ≡ a.said) → (K → MayReplyTo command m.image reply) → (r : Result (Unit {0}) End) → OnOk r (H → SaysAll (says reply) m b) → OnOk r (H → SaysOnce says command a b)
+pub once_by : (says : Reply → List ℕ) (command : ScriptCommand) (reply : Reply) (H K : Type 0) (a m b : Moment) → (H → K) → (K → m.said ≡ a.said) → (K → MayReplyTo command m.image reply) → (r : Result (Unit {0}) Halt) → OnOk r (H → SaysAll (says reply) m b) → OnOk r (H → SaysOnce says command a b)
 once_by says command reply H K a m b back same may (Ok x) all = λ h.
     let y = all h in
     record { reply = reply; may = may_worn_to command m b reply (worn_touches nowhere m b y.ages.image) (may (back h)); said = y.said ∙ ap (λ (z : List ℕ). z ++ says reply) (same (back h)) }
@@ -84,7 +84,7 @@ module _ {D : Type 0} (M : Ghosts D) (says : Reply → List ℕ) where
         said = x.said ∙ ap (λ (y : List ℕ). y ++ says x.reply) (same honest) ∙ ap (λ (y : List ℕ). (M.now a).said ++ y) (sym (append-nil (says x.reply)));
       }
 
-  pub between_then : (first more : List ScriptCommand) (a m b : D) → (M.honest m → M.moment a ≤ M.moment m) → Follows M m b → SaysBetween M says first a m → SaysBetween M says more m b → SaysBetween M says (first ++ more) a b
+  pub between_then : (first more : List ScriptCommand) (a m b : D) → (M.honest m → M.moment a ≤ M.moment m) → KeepsCalls M m b → SaysBetween M says first a m → SaysBetween M says more m b → SaysBetween M says (first ++ more) a b
   between_then first more a m b later follows x y honest t le =
       let back = follows.honest honest in
       let reached = later back in
@@ -98,7 +98,7 @@ module _ {D : Type 0} (M : Ghosts D) (says : Reply → List ℕ) where
 
 -- ---- with the force behind them
 
-pub forced_by : {T : Type 0} (says : Reply → List ℕ) (P : Moment → Type 0) (commands : List ScriptCommand) (H : Type 0) (a m b : Moment) (x : T) (r : Result T End) → r ≡ Ok x → SaysEach says P commands a.said m.said → OnOk r (H → b.said ≡ m.said ++ forced_turn.said) → H
+pub forced_by : {T : Type 0} (says : Reply → List ℕ) (P : Moment → Type 0) (commands : List ScriptCommand) (H : Type 0) (a m b : Moment) (x : T) (r : Result T Halt) → r ≡ Ok x → SaysEach says P commands a.said m.said → OnOk r (H → b.said ≡ m.said ++ forced_turn.said) → H
     → SaysForced says P commands a.said b.said
 forced_by says P commands H a m b x (Ok y) is whole said h = record { front = m.said; whole = whole; said = said h }
 forced_by says P commands H a m b x (Err end) is whole said h = absurd (cc is)

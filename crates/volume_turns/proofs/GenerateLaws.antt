@@ -21,16 +21,16 @@ use Rattle.fsd_texts.specs.Generator.{made_up}
 use Rattle.fsd_runs.specs.declared.request.Request.TheVariants.{Generate}
 use Rattle.fsd_runs.specs.Errands.{Answered, Ending, Turn, blank, cut_ending, errand_of, forced_turn, generated_line, group_ending, line_turn}
 use Rattle.fsd_runs.specs.Sessions.{Meeting, session_over}
-use Rattle.fsd_runs.specs.Runs.{Goes, IsWornOut, WearsOut, answered, behind, turns_begun, turns_of}
+use Rattle.fsd_runs.specs.Runs.{Goes, IsWornOut, WearsOut, answered, session_behind, turns_begun, turns_of}
 use Rattle.volume_contract.specs.State.{Known, forced_of, volume_of}
-use Rattle.volume_turns.specs.declared.turns.End.{End}
-use Rattle.volume_turns.specs.declared.turns.End.TheVariants.{Fault as Stopped, Output}
+use Rattle.volume_turns.specs.declared.turns.Halt.{Halt}
+use Rattle.volume_turns.specs.declared.turns.Halt.TheVariants.{Fault as Stopped, Output}
 use Rattle.volume_turns.specs.Generate.{all_plain, silent}
 use Rattle.volume_turns.specs.Group.{CutsOff, EndsGroup, IsGroup, WornIf, is_through, turns_behind}
 use Rattle.volume_turns.specs.Line.{EndsLast, EndsWith, is_unsaid}
 use Rattle.volume_turns.specs.Once.{IsDone}
-use Rattle.volume_turns.specs.Tally.{all_counted, nothing}
-use Rattle.volume_turns.specs.Turns.{EndsAtOnce, InRun, Said, Told}
+use Rattle.volume_turns.specs.Tally.{all_counted, nothing_done}
+use Rattle.volume_turns.specs.Turns.{EndsAtOnce, InRun, Said, FaultTold}
 use Rattle.volume_turns.specs.Whole.{Always, RunsOut}
 use Rattle.volume_turns.proofs.CountLaws.{line_is}
 use Rattle.volume_turns.proofs.GroupEndLaws.{answered_cut, behind_cut, ended_as, finishes_broken, finishes_last, finishes_unsaid, goes_cut, goes_length, goes_within, turns_are}
@@ -89,7 +89,7 @@ module _ {D : Type 0} (M : Ghosts D) (seed count : ℕ) (input rest : List ℕ) 
       turns_all : turns_of (errand_of (Generate seed count) input) mets v ≡ turns ++ turns_behind (is_through false mets commands) (line_turn (generated_line (answered mets v commands)) ∷ [])
       turns_all = turns_are silent v mets commands commands refl ending (line_turn (generated_line (answered mets v commands)) ∷ []) refl (is_through false mets commands) (ap (λ (n : ℕ). n == length commands) (sym known))
 
-      pub all_said : IsTrue (is_through false mets commands) → IsDone M k front (behind mets v commands).volume a p → (line : Line) → line ≡ generated_line (answered mets v commands) → (M.report a).output_faults ≤ (M.report p).output_faults
+      pub all_said : IsTrue (is_through false mets commands) → IsDone M k front (session_behind mets v commands).volume a p → (line : Line) → line ≡ generated_line (answered mets v commands) → (M.report a).output_faults ≤ (M.report p).output_faults
           → LeavesDisk M false (is_unsaid status) (Utters (text line)) p b → EndsLast line 0 (M.now p) (M.now b) status → Over
       all_said through done line is counted says ended =
           let t = line_turn line in
@@ -103,11 +103,11 @@ module _ {D : Type 0} (M : Ghosts D) (seed count : ℕ) (input rest : List ℕ) 
             may = tt;
             cause = tt;
             rooted = tt;
-            finishes = finishes_last M (Generate seed count) (M.report a) k front line (behind mets v commands).volume 0 a p b moments done short ends at_p at_b counted status says honest (errand_of (Generate seed count) input) Always (WornIf false) mets tt turns_is (on (WornIf false) later goes)
+            finishes = finishes_last M (Generate seed count) (M.report a) k front line (session_behind mets v commands).volume 0 a p b moments done short ends at_p at_b counted status says honest (errand_of (Generate seed count) input) Always (WornIf false) mets tt turns_is (on (WornIf false) later goes)
                 (eqb-true (length mets) (length commands) through) refl refl ended;
           }
 
-      pub all_broken : (why : Fault) → Said M k (forced_of k) why turns a p → EndsAtOnce why → {T : Type 0} → Told {T = T} (M.report a) (M.report p) (Err (Stopped why)) → LeavesDisk M false (is_unsaid status) (Utters (fault_text why)) p b → EndsWith why (M.now p) (M.now b) status → Over
+      pub all_broken : (why : Fault) → Said M k (forced_of k) why turns a p → EndsAtOnce why → {T : Type 0} → FaultTold {T = T} (M.report a) (M.report p) (Err (Stopped why)) → LeavesDisk M false (is_unsaid status) (Utters (fault_text why)) p b → EndsWith why (M.now p) (M.now b) status → Over
       all_broken why said once told says ended = record {
         cut = None;
         may = tt;
@@ -117,7 +117,7 @@ module _ {D : Type 0} (M : Ghosts D) (seed count : ℕ) (input rest : List ℕ) 
             (errand_of (Generate seed count) input) Always (WornIf false) mets tt turns_all (on (WornIf false) later goes);
       }
 
-      pub all_unsaid : {T : Type 0} → status ≡ 6 → Told {T = T} (M.report a) (M.report b) (Err Output) → StopsOnly M a b (InRun k (forced_of k) (turns ++ turns_behind (is_through false mets commands) (line_turn (generated_line (answered mets v commands)) ∷ [])) (M.now a)) → Over
+      pub all_unsaid : {T : Type 0} → status ≡ 6 → FaultTold {T = T} (M.report a) (M.report b) (Err Output) → StopsOnly M a b (InRun k (forced_of k) (turns ++ turns_behind (is_through false mets commands) (line_turn (generated_line (answered mets v commands)) ∷ [])) (M.now a)) → Over
       all_unsaid six told moments = subst (λ (n : ℕ). RunsOut M (Generate seed count) input rest (M.report a) k a b n) (sym six) (record {
         cut = None;
         may = tt;
@@ -137,7 +137,7 @@ module _ {D : Type 0} (M : Ghosts D) (seed count : ℕ) (input rest : List ℕ) 
       abbrev Worn : Session → Type 0
       Worn s = WearsOut s (slice_get commands (length mets))
 
-      worn_behind : Worn (behind mets v done_commands)
+      worn_behind : Worn (session_behind mets v done_commands)
       worn_behind = subst Worn (sym (behind_cut mets v commands)) worn
 
       abbrev last_line : Turn
@@ -155,7 +155,7 @@ module _ {D : Type 0} (M : Ghosts D) (seed count : ℕ) (input rest : List ℕ) 
       went : (t : ℕ) → t ≤ M.moment a → Goes (in_runs k.windows) (M.left_since b t) (λ v i. IsWornOut v i) silent (M.now a).said (M.now a).image v mets done_commands
       went t le = goes_cut (in_runs k.windows) (M.left_since b t) silent (WornIf true) (λ v i. IsWornOut v i) (λ v i is. is) (M.now a).said (M.now a).image v mets commands (on (WornIf true) later_cut goes t le)
 
-      pub cut_said : IsDone M k front (behind mets v commands).volume a p → (M.report a).output_faults ≤ (M.report p).output_faults
+      pub cut_said : IsDone M k front (session_behind mets v commands).volume a p → (M.report a).output_faults ≤ (M.report p).output_faults
           → LeavesDisk M false (is_unsaid status) (Utters (fault_text Ends.WornOut)) p b → EndsLast (Says.Ended Ends.WornOut) 9 (M.now p) (M.now b) status → Over
       cut_said done counted says ended =
           let split : turns ++ forced_turn ∷ last_line ∷ [] ≡ front ++ last_line ∷ [] = sym (append_assoc turns (forced_turn ∷ []) (last_line ∷ [])) in
@@ -164,11 +164,11 @@ module _ {D : Type 0} (M : Ghosts D) (seed count : ℕ) (input rest : List ℕ) 
             may = tt;
             cause = tt;
             rooted = tt;
-            finishes = finishes_last M (Generate seed count) (M.report a) k front (Says.Ended Ends.WornOut) (behind mets v commands).volume 9 a p b (subst (λ (x : List Turn). StopsOnly M a p (InRun k (forced_of k) x (M.now a))) split (leaves (last_line ∷ []))) done short ends at_p at_b counted status says honest
+            finishes = finishes_last M (Generate seed count) (M.report a) k front (Says.Ended Ends.WornOut) (session_behind mets v commands).volume 9 a p b (subst (λ (x : List Turn). StopsOnly M a p (InRun k (forced_of k) x (M.now a))) split (leaves (last_line ∷ []))) done short ends at_p at_b counted status says honest
                 (ended_as silent done_commands cut_short) Worn (λ v i. IsWornOut v i) mets worn_behind (turns_cut ∙ split) went (sym within) refl (ap (λ (x : Session). x.volume) (sym (behind_cut mets v commands))) ended;
           }
 
-      pub cut_broken : (why : Fault) → Said M k (forced_of k) why turns a p → EndsAtOnce why → {T : Type 0} → Told {T = T} (M.report a) (M.report p) (Err (Stopped why)) → LeavesDisk M false (is_unsaid status) (Utters (fault_text why)) p b → EndsWith why (M.now p) (M.now b) status → Over
+      pub cut_broken : (why : Fault) → Said M k (forced_of k) why turns a p → EndsAtOnce why → {T : Type 0} → FaultTold {T = T} (M.report a) (M.report p) (Err (Stopped why)) → LeavesDisk M false (is_unsaid status) (Utters (fault_text why)) p b → EndsWith why (M.now p) (M.now b) status → Over
       cut_broken why said once told says ended = record {
         cut = Some (length mets, Ends.WornOut);
         may = tt;
@@ -177,7 +177,7 @@ module _ {D : Type 0} (M : Ghosts D) (seed count : ℕ) (input rest : List ℕ) 
         finishes = finishes_broken M (Generate seed count) (M.report a) k turns true (last_line ∷ []) a p b (leaves (last_line ∷ [])) why said short ends at_p at_b once told status says honest ended (ended_as silent done_commands cut_short) Worn (λ v i. IsWornOut v i) mets worn_behind turns_cut went;
       }
 
-      pub cut_unsaid : {T : Type 0} → status ≡ 6 → Told {T = T} (M.report a) (M.report b) (Err Output) → StopsOnly M a b (InRun k (forced_of k) (turns ++ forced_turn ∷ last_line ∷ []) (M.now a)) → Over
+      pub cut_unsaid : {T : Type 0} → status ≡ 6 → FaultTold {T = T} (M.report a) (M.report b) (Err Output) → StopsOnly M a b (InRun k (forced_of k) (turns ++ forced_turn ∷ last_line ∷ []) (M.now a)) → Over
       cut_unsaid six told moments = subst (λ (n : ℕ). RunsOut M (Generate seed count) input rest (M.report a) k a b n) (sym six) (record {
         cut = Some (length mets, Ends.WornOut);
         may = tt;
@@ -188,10 +188,10 @@ module _ {D : Type 0} (M : Ghosts D) (seed count : ℕ) (input rest : List ℕ) 
 
   -- ---- by how the group ended
 
-  abbrev Group : Result Bool End → Type 0
+  abbrev Group : Result Bool Halt → Type 0
   Group result = IsGroup M silent k (M.now a) commands a p result
 
-  pub made_said : (tally : Counts) → (g : Group (Ok true)) → tally ≡ all_counted nothing (answered g.mets v commands) → (line : Line) → line ≡ Says.Generated tally → (M.report a).output_faults ≤ (M.report p).output_faults
+  pub made_said : (tally : Counts) → (g : Group (Ok true)) → tally ≡ all_counted nothing_done (answered g.mets v commands) → (line : Line) → line ≡ Says.Generated tally → (M.report a).output_faults ≤ (M.report p).output_faults
       → LeavesDisk M false (is_unsaid status) (Utters (text line)) p b → EndsLast line 0 (M.now p) (M.now b) status → Over
   made_said tally g counts line is counted says ended = by g.cut g.goes g.moments g.ends
     where
@@ -207,7 +207,7 @@ module _ {D : Type 0} (M : Ghosts D) (seed count : ℕ) (input rest : List ℕ) 
       by false worn goes leaves e = cc e.0
       by true worn goes leaves e = cut_said g.mets worn goes leaves e.2 counted says ended
 
-  pub made_broken : (why : Fault) → Group (Err (Stopped why)) → {T : Type 0} → Told {T = T} (M.report a) (M.report p) (Err (Stopped why)) → LeavesDisk M false (is_unsaid status) (Utters (fault_text why)) p b → EndsWith why (M.now p) (M.now b) status → Over
+  pub made_broken : (why : Fault) → Group (Err (Stopped why)) → {T : Type 0} → FaultTold {T = T} (M.report a) (M.report p) (Err (Stopped why)) → LeavesDisk M false (is_unsaid status) (Utters (fault_text why)) p b → EndsWith why (M.now p) (M.now b) status → Over
   made_broken why g told says ended = by g.cut g.before g.goes g.moments g.ends
     where
       by : (cut : Bool) → CutsOff cut g.mets v commands → MayGo g.mets cut → Leaves g.mets (is_through cut g.mets commands) → EndsGroup M silent k cut g.mets commands a p (Err (Stopped why)) → Over
@@ -215,7 +215,7 @@ module _ {D : Type 0} (M : Ghosts D) (seed count : ℕ) (input rest : List ℕ) 
       by true worn goes leaves e = cut_broken g.mets worn goes leaves why e.1 e.0 told says ended
 
 -- the output has failed in the group
-pub made_unsaid : {D T : Type 0} (M : Ghosts D) (seed count : ℕ) (input rest : List ℕ) (k : Known) (a b : D) → M.honest b → AreShort (M.now b).windows → EndIn (M.now a).windows k.windows → IsTimed M b → IsGroup M silent k (M.now a) (all_plain (made_up seed count)) a b (Err Output) → Told {T = T} (M.report a) (M.report b) (Err Output)
+pub made_unsaid : {D T : Type 0} (M : Ghosts D) (seed count : ℕ) (input rest : List ℕ) (k : Known) (a b : D) → M.honest b → AreShort (M.now b).windows → EndIn (M.now a).windows k.windows → IsTimed M b → IsGroup M silent k (M.now a) (all_plain (made_up seed count)) a b (Err Output) → FaultTold {T = T} (M.report a) (M.report b) (Err Output)
     → RunsOut M (Generate seed count) input rest (M.report a) k a b 6
 made_unsaid M seed count input rest k a b honest short ends at_b g told = by g.cut g.before g.goes g.moments
   where

@@ -26,14 +26,14 @@ use Rattle.fsd_texts.specs.Text.{fault_text, text}
 use Rattle.fsd_runs.specs.Sessions.{Meeting, answer_in, session_over}
 use Rattle.fsd_runs.specs.declared.request.Request.{Request}
 use Rattle.fsd_runs.specs.Errands.{Answered, answered_so, Ending, Errand, Turn, blank, forced_turn, line_turn}
-use Rattle.fsd_runs.specs.Leaves.{IsBroken, IsUnsaid, SaysNext}
-use Rattle.fsd_runs.specs.Runs.{forced_in, Goes, answered, behind, changes_in, said_in, turns_begun, turns_of, turn_of}
+use Rattle.fsd_runs.specs.Leaves.{IsBrokenOff, IsUnsaid, SaysNext}
+use Rattle.fsd_runs.specs.Runs.{forced_in, Goes, answered, session_behind, changes_in, said_in, turns_begun, turns_of, turn_of}
 use Rattle.volume_contract.specs.State.{Known, forced_of, volume_of}
 use Rattle.volume_turns.specs.Group.{turns_behind}
-use Rattle.volume_turns.specs.declared.turns.End.TheVariants.{Fault as Stopped, Output}
+use Rattle.volume_turns.specs.declared.turns.Halt.TheVariants.{Fault as Stopped, Output}
 use Rattle.volume_turns.specs.Line.{EndsLast, EndsWith, is_unsaid}
 use Rattle.volume_turns.specs.Once.{IsDone}
-use Rattle.volume_turns.specs.Turns.{EndsAtOnce, InRun, Said, SaysAll, Told, Undone}
+use Rattle.volume_turns.specs.Turns.{EndsAtOnce, InRun, Said, SaysAll, FaultTold, Undone}
 use Rattle.volume_turns.specs.Whole.{Finishes, Halted, SaysOut, UnderWay}
 use Rattle.volume_turns.proofs.HaltLaws.{broken_ends, broken_moments, ends_mid, held_behind, said_halts, said_halts_forced, said_halts_whole, says_part, sound_worn, stops_saying}
 use Rattle.volume_turns.proofs.OnceLaws.{roots_worn}
@@ -62,7 +62,7 @@ answered_cut [] s commands = refl
 answered_cut (met ∷ mets) s [] = refl
 answered_cut (met ∷ mets) s (c ∷ commands) = ap (λ (xs : List Answered). answered_so s c (answer_in met s c).0 ∷ xs) (answered_cut mets (answer_in met s c).1 commands)
 
-pub behind_cut : (mets : List Meeting) (s : Session) (commands : List ScriptCommand) → behind mets s (take (length mets) commands) ≡ behind mets s commands
+pub behind_cut : (mets : List Meeting) (s : Session) (commands : List ScriptCommand) → session_behind mets s (take (length mets) commands) ≡ session_behind mets s commands
 behind_cut [] s commands = refl
 behind_cut (met ∷ mets) s [] = refl
 behind_cut (met ∷ mets) s (c ∷ commands) = behind_cut mets (answer_in met s c).1 commands
@@ -235,9 +235,9 @@ module _ {D : Type 0} (M : Ghosts D) (request : Request) (before : Report) (k : 
   last_ends (inr said) = inl (said.0, done_last M k front line after a m d short ends b at_m at_b honest status says said.1)
 
   -- the errand is done, and its last line is said
-  pub finishes_last : (e : Errand) (Ahead : Session → Type 0) (Last : Volume → Image → Type 0) (mets : List Meeting) → Ahead (behind mets (session_over (volume_of k)) e.commands) → turns_of e mets (session_over (volume_of k)) ≡ front ++ line_turn line ∷ []
+  pub finishes_last : (e : Errand) (Ahead : Session → Type 0) (Last : Volume → Image → Type 0) (mets : List Meeting) → Ahead (session_behind mets (session_over (volume_of k)) e.commands) → turns_of e mets (session_over (volume_of k)) ≡ front ++ line_turn line ∷ []
       → ((t : ℕ) → t ≤ M.moment a → Goes (in_runs k.windows) (M.left_since b t) Last e (M.now a).said (M.now a).image (session_over (volume_of k)) mets e.commands)
-      → length mets ≡ length e.commands → gives ≡ (e.ends (answered mets (session_over (volume_of k)) e.commands)).status → after ≡ (behind mets (session_over (volume_of k)) e.commands).volume → EndsLast line gives (M.now m) (M.now b) status → Finishes M request e Ahead Last before k a b status
+      → length mets ≡ length e.commands → gives ≡ (e.ends (answered mets (session_over (volume_of k)) e.commands)).status → after ≡ (session_behind mets (session_over (volume_of k)) e.commands).volume → EndsLast line gives (M.now m) (M.now b) status → Finishes M request e Ahead Last before k a b status
   finishes_last e Ahead Last mets ahead is goes through gives_is after_is ended = record {
     mets = mets;
     ahead = ahead;
@@ -247,11 +247,11 @@ module _ {D : Type 0} (M : Ghosts D) (request : Request) (before : Report) (k : 
   }
     where
       by : ((status ≡ gives) × IsDone M k (front ++ line_turn line ∷ []) after a b) ⊎ IsUnsaid before (M.report b) status
-          → SaysOut M e k mets a b status ⊎ (IsUnsaid before (M.report b) status ⊎ IsBroken request (Undone k (forced_of k) (turns_of e mets (session_over (volume_of k)))) (UnderWay M k (turns_of e mets (session_over (volume_of k))) b) before (M.report b) (turns_of e mets (session_over (volume_of k))) (M.now a) (M.now b) status)
+          → SaysOut M e k mets a b status ⊎ (IsUnsaid before (M.report b) status ⊎ IsBrokenOff request (Undone k (forced_of k) (turns_of e mets (session_over (volume_of k)))) (UnderWay M k (turns_of e mets (session_over (volume_of k))) b) before (M.report b) (turns_of e mets (session_over (volume_of k))) (M.now a) (M.now b) status)
       by (inl done) = inl (record {
         through = through;
         gives = done.0 ∙ gives_is;
-        done = subst (λ (ts : List Turn). IsDone M k ts (behind mets (session_over (volume_of k)) e.commands).volume a b) (sym is) (subst (λ (v : Volume). IsDone M k (front ++ line_turn line ∷ []) v a b) after_is done.1);
+        done = subst (λ (ts : List Turn). IsDone M k ts (session_behind mets (session_over (volume_of k)) e.commands).volume a b) (sym is) (subst (λ (v : Volume). IsDone M k (front ++ line_turn line ∷ []) v a b) after_is done.1);
       })
       by (inr u) = inr (inl u)
 
@@ -261,8 +261,8 @@ halted_behind M k why front true more a b said = said_halts M k why front forced
 halted_behind M k why front false more a b said = said_halts M k why front blank [] refl a b said
 
 pub finishes_broken : {D T : Type 0} (M : Ghosts D) (request : Request) (before : Report) (k : Known) (front : List Turn) (through : Bool) (more : List Turn) (a m b : D) → StopsOnly M a m (InRun k (forced_of k) (front ++ turns_behind through more) (M.now a)) → (why : Fault) → Said M k (forced_of k) why front a m
-    → AreShort (M.now m).windows → EndIn (M.now a).windows k.windows → IsTimed M m → IsTimed M b → EndsAtOnce why → Told {T = T} before (M.report m) (Err (Stopped why)) → (status : ℕ) → LeavesDisk M false (is_unsaid status) (Utters (fault_text why)) m b → M.honest b → EndsWith why (M.now m) (M.now b) status
-    → (e : Errand) (Ahead : Session → Type 0) (Last : Volume → Image → Type 0) (mets : List Meeting) → Ahead (behind mets (session_over (volume_of k)) e.commands) → turns_of e mets (session_over (volume_of k)) ≡ front ++ turns_behind through more
+    → AreShort (M.now m).windows → EndIn (M.now a).windows k.windows → IsTimed M m → IsTimed M b → EndsAtOnce why → FaultTold {T = T} before (M.report m) (Err (Stopped why)) → (status : ℕ) → LeavesDisk M false (is_unsaid status) (Utters (fault_text why)) m b → M.honest b → EndsWith why (M.now m) (M.now b) status
+    → (e : Errand) (Ahead : Session → Type 0) (Last : Volume → Image → Type 0) (mets : List Meeting) → Ahead (session_behind mets (session_over (volume_of k)) e.commands) → turns_of e mets (session_over (volume_of k)) ≡ front ++ turns_behind through more
     → ((t : ℕ) → t ≤ M.moment a → Goes (in_runs k.windows) (M.left_since b t) Last e (M.now a).said (M.now a).image (session_over (volume_of k)) mets e.commands) → Finishes M request e Ahead Last before k a b status
 finishes_broken M request before k front through more a m b moments why said short ends at_m at_b once told status says honest ended e Ahead Last mets ahead is goes =
     let turns = front ++ turns_behind through more in
@@ -272,12 +272,12 @@ finishes_broken M request before k front through more a m b moments why said sho
       ahead = ahead;
       goes = goes;
       moments = subst (λ (ts : List Turn). StopsOnly M a b (InRun k (forced_of k) ts (M.now a))) (sym is) (broken_moments M request before k turns a m b moments why halted short ends at_m at_b once told status says honest ended);
-      ends = inr (subst (λ (ts : List Turn). IsUnsaid before (M.report b) status ⊎ IsBroken request (Undone k (forced_of k) ts) (UnderWay M k ts b) before (M.report b) ts (M.now a) (M.now b) status) (sym is) (broken_ends M request before k turns a m b moments why halted short ends at_m at_b once told status says honest ended));
+      ends = inr (subst (λ (ts : List Turn). IsUnsaid before (M.report b) status ⊎ IsBrokenOff request (Undone k (forced_of k) ts) (UnderWay M k ts b) before (M.report b) ts (M.now a) (M.now b) status) (sym is) (broken_ends M request before k turns a m b moments why halted short ends at_m at_b once told status says honest ended));
     }
 
 -- the output has failed
-pub finishes_unsaid : {D T : Type 0} (M : Ghosts D) (request : Request) (before : Report) (k : Known) (said : List Turn) (a b : D) → StopsOnly M a b (InRun k (forced_of k) said (M.now a)) → Told {T = T} before (M.report b) (Err Output)
-    → (e : Errand) (Ahead : Session → Type 0) (Last : Volume → Image → Type 0) (mets : List Meeting) → Ahead (behind mets (session_over (volume_of k)) e.commands) → turns_of e mets (session_over (volume_of k)) ≡ said
+pub finishes_unsaid : {D T : Type 0} (M : Ghosts D) (request : Request) (before : Report) (k : Known) (said : List Turn) (a b : D) → StopsOnly M a b (InRun k (forced_of k) said (M.now a)) → FaultTold {T = T} before (M.report b) (Err Output)
+    → (e : Errand) (Ahead : Session → Type 0) (Last : Volume → Image → Type 0) (mets : List Meeting) → Ahead (session_behind mets (session_over (volume_of k)) e.commands) → turns_of e mets (session_over (volume_of k)) ≡ said
     → ((t : ℕ) → t ≤ M.moment a → Goes (in_runs k.windows) (M.left_since b t) Last e (M.now a).said (M.now a).image (session_over (volume_of k)) mets e.commands) → Finishes M request e Ahead Last before k a b 6
 finishes_unsaid M request before k said a b moments told e Ahead Last mets ahead is goes = record {
   mets = mets;

@@ -23,9 +23,9 @@ use Rattle.fsd_texts.specs.declared.fault.Fault.{Fault}
 use Rattle.fsd_texts.specs.declared.fault.Fault.TheVariants as Ends
 use Rattle.fsd_runs.specs.Sessions.{Meeting, answer_in, session_over}
 use Rattle.fsd_runs.specs.Errands.{Errand, Turn, forced_turn}
-use Rattle.fsd_runs.specs.Runs.{Goes, behind, changes_in, said_in, turns_begun}
-use Rattle.volume_turns.specs.declared.turns.End.{End}
-use Rattle.volume_turns.specs.declared.turns.End.TheVariants.{Fault as Stopped, Output}
+use Rattle.fsd_runs.specs.Runs.{Goes, session_behind, changes_in, said_in, turns_begun}
+use Rattle.volume_turns.specs.declared.turns.Halt.{Halt}
+use Rattle.volume_turns.specs.declared.turns.Halt.TheVariants.{Fault as Stopped, Output}
 use Rattle.sector_disk.specs.Calls.{IsTimed, Since, StopsOnly, stops}
 use Rattle.volume_turns.specs.Group.{IsGroup, CutsOff, EndsGroup, WornIf, is_through, is_worn_end, turns_behind}
 use Rattle.volume_turns.specs.Once.{ClosesAndSays, EndsClosed, InClose, IsDone, SaysClosed, Unclosed, unit_of}
@@ -62,11 +62,11 @@ module _ (H : Sectors) (P Q : Moment → Type 0) (wider : (c : Moment) → P c �
 
 module _ {S D : Type 0} (state : S → State) (has : S → Mounted → List Placed → Type 0) (M : Ghosts D) (e : Errand) (k : Known) (from : Moment) (commands : List ScriptCommand) (a m b : D) (w : S × List Client)
     (since : Since M m b) (later : M.moment a ≤ M.moment m) (timed : IsTimed M b) where
-  module _ (run : Result (Unit {0}) End) (ran : RunsFrom state has M e (seated k no_clients) (forced_of k) from commands a m w run) where
+  module _ (run : Result (Unit {0}) Halt) (ran : RunsFrom state has M e (seated k no_clients) (forced_of k) from commands a m w run) where
     abbrev turns : List Turn
     turns = turns_begun e ran.mets (session_over (volume_of k)) commands
 
-    module _ (behind_it : StandsBehind state has M e (seated k no_clients) (forced_of k) ran.mets commands w a m) (result : Result Bool End) (at_text : ClosesAndSays M (known_of behind_it.after) behind_it.told forced_turn.said m b (unit_of result)) where
+    module _ (behind_it : StandsBehind state has M e (seated k no_clients) (forced_of k) ran.mets commands w a m) (result : Result Bool Halt) (at_text : ClosesAndSays M (known_of behind_it.after) behind_it.told forced_turn.said m b (unit_of result)) where
       both : (more : List Turn) → StopsOnly M a b (InRun k (forced_of k) (turns ++ forced_turn ∷ more) (M.now a))
       both more = then_on M.moment (stops M) a m b (InRun k (forced_of k) (turns ++ forced_turn ∷ more) (M.now a)) (ran.moments (forced_turn ∷ more))
           (leaves_more M.moment (stops M) m b (InClose behind_it.after.mounted.volume.layout (known_of behind_it.after) behind_it.told forced_turn.said (M.now m)) (InRun k (forced_of k) (turns ++ forced_turn ∷ more) (M.now a))
@@ -81,19 +81,19 @@ module _ {S D : Type 0} (state : S → State) (has : S → Mounted → List Plac
           (subst (λ (x : List WeakRun). IsSound k.mounted.volume.layout x behind_it.after.changes (length behind_it.after.changes) i) behind_it.windows
           (subst (λ (l : Layout). IsSound l behind_it.after.windows behind_it.after.changes (length behind_it.after.changes) i) behind_it.layout sound))
 
-      own_as : (i : Image) → HasOwnRoots behind_it.after.mounted.volume.layout (weak_of behind_it.after.windows) i → HasOwnRoots (behind ran.mets (session_over (volume_of k)) commands).volume.layout (weak_of k.windows) i
+      own_as : (i : Image) → HasOwnRoots behind_it.after.mounted.volume.layout (weak_of behind_it.after.windows) i → HasOwnRoots (session_behind ran.mets (session_over (volume_of k)) commands).volume.layout (weak_of k.windows) i
       own_as i own = subst (λ (x : Session). HasOwnRoots x.volume.layout (weak_of k.windows) i) behind_it.is (subst (λ (x : List WeakRun). HasOwnRoots behind_it.after.mounted.volume.layout (weak_of x) i) behind_it.windows own)
 
-      done : SaysClosed M (known_of behind_it.after) forced_turn.said m b → IsDone M k (turns ++ forced_turn ∷ []) (behind ran.mets (session_over (volume_of k)) commands).volume a b
+      done : SaysClosed M (known_of behind_it.after) forced_turn.said m b → IsDone M k (turns ++ forced_turn ∷ []) (session_behind ran.mets (session_over (volume_of k)) commands).volume a b
       done c =
           record {
             windows = c.windows ∙ behind_it.open_windows;
             said = c.said ∙ ap (λ (x : List ℕ). x ++ forced_turn.said) behind_it.said ∙ append_assoc (M.now a).said (said_in turns) forced_turn.said ∙ ap (λ (x : List ℕ). (M.now a).said ++ x) (sym (said_last turns));
             sound = sound_all (M.now b).image c.sound;
             held = λ d left. sound_all d.image (c.held d left);
-            tells = subst (λ (l : Layout). told l (M.now b).image ≡ Some (telling_of (behind ran.mets (session_over (volume_of k)) commands).volume)) behind_it.layout (c.tells ∙ ap (λ (x : Session). Some (telling_of x.volume)) behind_it.is);
-            lasts = subst (λ (x : List WeakRun). AllWorn (weak_of x) (λ j. told k.mounted.volume.layout j ≡ Some (telling_of (behind ran.mets (session_over (volume_of k)) commands).volume)) (M.now b).image) behind_it.windows
-                (subst (λ (l : Layout). AllWorn (weak_of behind_it.after.windows) (λ j. told l j ≡ Some (telling_of (behind ran.mets (session_over (volume_of k)) commands).volume)) (M.now b).image) behind_it.layout
+            tells = subst (λ (l : Layout). told l (M.now b).image ≡ Some (telling_of (session_behind ran.mets (session_over (volume_of k)) commands).volume)) behind_it.layout (c.tells ∙ ap (λ (x : Session). Some (telling_of x.volume)) behind_it.is);
+            lasts = subst (λ (x : List WeakRun). AllWorn (weak_of x) (λ j. told k.mounted.volume.layout j ≡ Some (telling_of (session_behind ran.mets (session_over (volume_of k)) commands).volume)) (M.now b).image) behind_it.windows
+                (subst (λ (l : Layout). AllWorn (weak_of behind_it.after.windows) (λ j. told l j ≡ Some (telling_of (session_behind ran.mets (session_over (volume_of k)) commands).volume)) (M.now b).image) behind_it.layout
                 (subst (λ (x : Session). AllWorn (weak_of behind_it.after.windows) (λ j. told behind_it.after.mounted.volume.layout j ≡ Some (telling_of x.volume)) (M.now b).image) behind_it.is c.lasts));
             roots = own_as (M.now b).image c.roots;
             rooted = λ d left. own_as d.image (c.rooted d left);
@@ -102,7 +102,7 @@ module _ {S D : Type 0} (state : S → State) (has : S → Mounted → List Plac
       said_all : (why : Fault) → Unclosed M (known_of behind_it.after) behind_it.told m b → Said M k (forced_of k) why turns a b
       said_all why x = said_close M k (known_of behind_it.after) (forced_of k) behind_it.told turns behind_it.layout behind_it.windows behind_it.changes behind_it.least behind_it.forced a m b behind_it.open_windows behind_it.said timed x why
 
-      ends_by : (r : Result Bool End) (cut : Bool) → IfOk r (λ x. x ≡ not cut) → is_through cut ran.mets commands ≡ true → EndsClosed M (known_of behind_it.after) behind_it.told forced_turn.said m b (unit_of r) → EndsGroup M e k cut ran.mets commands a b r
+      ends_by : (r : Result Bool Halt) (cut : Bool) → IfOk r (λ x. x ≡ not cut) → is_through cut ran.mets commands ≡ true → EndsClosed M (known_of behind_it.after) behind_it.told forced_turn.said m b (unit_of r) → EndsGroup M e k cut ran.mets commands a b r
       ends_by (Ok x) cut same through c = (same, through, done c)
       ends_by (Err Output) cut same through c = tt
       ends_by (Err (Stopped fault)) cut same through c = (c.0, said_all fault c.1)
@@ -117,38 +117,38 @@ module _ {S D : Type 0} (state : S → State) (has : S → Mounted → List Plac
         ends = ends_by result cut same through at_text.ends;
       }
 
-pub worn_is : (end : End) → is_worn_end end ≡ true → end ≡ Stopped Ends.WornOut
+pub worn_is : (end : Halt) → is_worn_end end ≡ true → end ≡ Stopped Ends.WornOut
 worn_is (Stopped Ends.WornOut) is = refl
 worn_is (Stopped fault) is = cc is
 worn_is Output is = cc is
 
 module _ {S D : Type 0} (state : S → State) (has : S → Mounted → List Placed → Type 0) (M : Ghosts D) (e : Errand) (k : Known) (from : Moment) (commands : List ScriptCommand) where
   -- all were done
-  pub group_all : (a m b : D) (w : S × List Client) → Since M m b → M.moment a ≤ M.moment m → IsTimed M b → RunsFrom state has M e (seated k no_clients) (forced_of k) from commands a m w (Ok tt) → (result : Result Bool End) → IfOk result (λ x. x ≡ true)
+  pub group_all : (a m b : D) (w : S × List Client) → Since M m b → M.moment a ≤ M.moment m → IsTimed M b → RunsFrom state has M e (seated k no_clients) (forced_of k) from commands a m w (Ok tt) → (result : Result Bool Halt) → IfOk result (λ x. x ≡ true)
       → ((x : Seated) (f : ℕ) → SitsAt state has w x (M.now m) → OnDisk M (known_of x) f m → ClosesAndSays M (known_of x) f forced_turn.said m b (unit_of result)) → IsGroup M e k from commands a b result
   group_all a m b w since later timed ran result same closes =
       group_done state has M e k from commands a m b w since later timed (Ok tt) ran ran.ends.1 result (closes ran.ends.1.after ran.ends.1.told ran.ends.1.stands ran.ends.1.held) false same tt (eq-eqb (length ran.mets) (length commands) ran.ends.0) (λ v i is. tt)
 
-  pub group_all_mets : (a m b : D) (w : S × List Client) (since : Since M m b) (later : M.moment a ≤ M.moment m) (timed : IsTimed M b) (ran : RunsFrom state has M e (seated k no_clients) (forced_of k) from commands a m w (Ok tt)) (result : Result Bool End) (same : IfOk result (λ x. x ≡ true))
+  pub group_all_mets : (a m b : D) (w : S × List Client) (since : Since M m b) (later : M.moment a ≤ M.moment m) (timed : IsTimed M b) (ran : RunsFrom state has M e (seated k no_clients) (forced_of k) from commands a m w (Ok tt)) (result : Result Bool Halt) (same : IfOk result (λ x. x ≡ true))
       (closes : (x : Seated) (f : ℕ) → SitsAt state has w x (M.now m) → OnDisk M (known_of x) f m → ClosesAndSays M (known_of x) f forced_turn.said m b (unit_of result)) → (group_all a m b w since later timed ran result same closes).mets ≡ ran.mets
   unfolding group_all group_done
   group_all_mets a m b w since later timed ran result same closes = refl
 
-  pub group_all_cut : (a m b : D) (w : S × List Client) (since : Since M m b) (later : M.moment a ≤ M.moment m) (timed : IsTimed M b) (ran : RunsFrom state has M e (seated k no_clients) (forced_of k) from commands a m w (Ok tt)) (result : Result Bool End) (same : IfOk result (λ x. x ≡ true))
+  pub group_all_cut : (a m b : D) (w : S × List Client) (since : Since M m b) (later : M.moment a ≤ M.moment m) (timed : IsTimed M b) (ran : RunsFrom state has M e (seated k no_clients) (forced_of k) from commands a m w (Ok tt)) (result : Result Bool Halt) (same : IfOk result (λ x. x ≡ true))
       (closes : (x : Seated) (f : ℕ) → SitsAt state has w x (M.now m) → OnDisk M (known_of x) f m → ClosesAndSays M (known_of x) f forced_turn.said m b (unit_of result)) → (group_all a m b w since later timed ran result same closes).cut ≡ false
   unfolding group_all group_done
   group_all_cut a m b w since later timed ran result same closes = refl
 
   -- it was cut off
-  pub group_worn : (a m b : D) (w : S × List Client) → Since M m b → M.moment a ≤ M.moment m → IsTimed M b → (end : End) → is_worn_end end ≡ true → RunsFrom state has M e (seated k no_clients) (forced_of k) from commands a m w (Err end) → (result : Result Bool End) → IfOk result (λ x. x ≡ false)
+  pub group_worn : (a m b : D) (w : S × List Client) → Since M m b → M.moment a ≤ M.moment m → IsTimed M b → (end : Halt) → is_worn_end end ≡ true → RunsFrom state has M e (seated k no_clients) (forced_of k) from commands a m w (Err end) → (result : Result Bool Halt) → IfOk result (λ x. x ≡ false)
       → ((x : Seated) (f : ℕ) → SitsAt state has w x (M.now m) → OnDisk M (known_of x) f m → ClosesAndSays M (known_of x) f forced_turn.said m b (unit_of result)) → IsGroup M e k from commands a b result
-  group_worn a m b w since later timed end worn given result same closes = by (subst (λ (x : End). RunsFrom state has M e (seated k no_clients) (forced_of k) from commands a m w (Err x)) (worn_is end worn) given)
+  group_worn a m b w since later timed end worn given result same closes = by (subst (λ (x : Halt). RunsFrom state has M e (seated k no_clients) (forced_of k) from commands a m w (Err x)) (worn_is end worn) given)
     where
       by : RunsFrom state has M e (seated k no_clients) (forced_of k) from commands a m w (Err (Stopped Ends.WornOut)) → IsGroup M e k from commands a b result
       by ran = group_done state has M e k from commands a m b w since later timed (Err (Stopped Ends.WornOut)) ran ran.ends.1 result (closes ran.ends.1.after ran.ends.1.told ran.ends.1.stands ran.ends.1.held) true same ran.ends.0 refl (λ v i is. is)
 
   -- it was broken off
-  module _ (a m : D) (w : S × List Client) (end : End) (ran : RunsFrom state has M e (seated k no_clients) (forced_of k) from commands a m w (Err end)) where
+  module _ (a m : D) (w : S × List Client) (end : Halt) (ran : RunsFrom state has M e (seated k no_clients) (forced_of k) from commands a m w (Err end)) where
     broken_off : ((v : Volume) (i : Image) → Behind (Err end) v i → ⊤) → EndsGroup M e k false ran.mets commands a m (Err end) → IsGroup M e k from commands a m (Err end)
     broken_off last ends = record {
       mets = ran.mets;
@@ -159,7 +159,7 @@ module _ {S D : Type 0} (state : S → State) (has : S → Mounted → List Plac
       ends = ends;
     }
 
-  pub group_stop : (a m : D) (w : S × List Client) (end : End) → is_worn_end end ≡ false → RunsFrom state has M e (seated k no_clients) (forced_of k) from commands a m w (Err end) → IsGroup M e k from commands a m (Err end)
+  pub group_stop : (a m : D) (w : S × List Client) (end : Halt) → is_worn_end end ≡ false → RunsFrom state has M e (seated k no_clients) (forced_of k) from commands a m w (Err end) → IsGroup M e k from commands a m (Err end)
   group_stop a m w (Stopped Ends.WornOut) other ran = cc other
   group_stop a m w (Stopped why) other ran = broken_off a m w (Stopped why) ran (λ v i is. tt) ran.ends
   group_stop a m w Output other ran = broken_off a m w Output ran (λ v i is. tt) tt

@@ -18,12 +18,12 @@ use Rattle.fsd_texts.specs.declared.fault.Fault.TheVariants as Ends
 use Rattle.fsd_texts.specs.Text.{fault_text}
 use Rattle.fsd_runs.specs.declared.request.Request.{Request}
 use Rattle.fsd_runs.specs.Errands.{Turn, fault_status}
-use Rattle.fsd_runs.specs.Leaves.{IsBroken, IsOutside, IsUnsaid, MayEnd, SaysNext}
+use Rattle.fsd_runs.specs.Leaves.{IsBrokenOff, IsOutside, IsUnsaid, MayEnd, SaysNext}
 use Rattle.fsd_runs.specs.Runs.{changes_in, forced_in, said_in}
 use Rattle.volume_contract.specs.State.{Known, forced_of}
-use Rattle.volume_turns.specs.declared.turns.End.TheVariants.{Fault as Stopped}
+use Rattle.volume_turns.specs.declared.turns.Halt.TheVariants.{Fault as Stopped}
 use Rattle.volume_turns.specs.Line.{EndsWith, is_unsaid}
-use Rattle.volume_turns.specs.Turns.{EndsAtOnce, InRun, Said, SaysAll, Told, Undone}
+use Rattle.volume_turns.specs.Turns.{EndsAtOnce, InRun, Said, SaysAll, FaultTold, Undone}
 use Rattle.volume_turns.specs.Whole.{Halted, UnderWay}
 use Rattle.volume_turns.proofs.LineLaws.{at_once_ends, next_fault}
 use Rattle.volume_turns.proofs.TurnLaws.{now_held}
@@ -156,7 +156,7 @@ module _ {D : Type 0} (M : Ghosts D) (request : Request) (before : Report) (k : 
       let rose : Rose (M.report m).output_faults (M.report b).output_faults = subst (λ (x : Bool). Counts x (M.report m).output_faults (M.report b).output_faults) (eq-eqb status 6 six) says.spares.output in
       record { ends = six; rose = omega (arith, later, rose) }
 
-  broken : status ≡ fault_status why → SaysAll (fault_text why) (M.now m) (M.now b) → IsBroken request (Undone k (forced_of k) turns) (UnderWay M k turns b) before (M.report b) turns (M.now a) (M.now b) status
+  broken : status ≡ fault_status why → SaysAll (fault_text why) (M.now m) (M.now b) → IsBrokenOff request (Undone k (forced_of k) turns) (UnderWay M k turns b) before (M.report b) turns (M.now a) (M.now b) status
   broken gives all = record {
     why = why;
     outside = out;
@@ -181,21 +181,21 @@ module _ {D : Type 0} (M : Ghosts D) (request : Request) (before : Report) (k : 
     };
   }
 
-  by_end : EndsWith why (M.now m) (M.now b) status → IsUnsaid before (M.report b) status ⊎ IsBroken request (Undone k (forced_of k) turns) (UnderWay M k turns b) before (M.report b) turns (M.now a) (M.now b) status
+  by_end : EndsWith why (M.now m) (M.now b) status → IsUnsaid before (M.report b) status ⊎ IsBrokenOff request (Undone k (forced_of k) turns) (UnderWay M k turns b) before (M.report b) turns (M.now a) (M.now b) status
   by_end (inl six) = inl (unsaid six)
   by_end (inr (gives, all)) = inr (broken gives all)
 
-  pub stopped_ends : IsUnsaid before (M.report b) status ⊎ IsBroken request (Undone k (forced_of k) turns) (UnderWay M k turns b) before (M.report b) turns (M.now a) (M.now b) status
+  pub stopped_ends : IsUnsaid before (M.report b) status ⊎ IsBrokenOff request (Undone k (forced_of k) turns) (UnderWay M k turns b) before (M.report b) turns (M.now a) (M.now b) status
   stopped_ends = by_end ended
 
 -- ---- a fault that ends a run at once
 
 module _ {D T : Type 0} (M : Ghosts D) (request : Request) (before : Report) (k : Known) (turns : List Turn) (a m b : D) (moments : StopsOnly M a m (InRun k (forced_of k) turns (M.now a))) (why : Fault) (halted : Halted M k why turns a m)
-    (short : AreShort (M.now m).windows) (ends : EndIn (M.now a).windows k.windows) (at_m : IsTimed M m) (at_b : IsTimed M b) (once : EndsAtOnce why) (told : Told {T = T} before (M.report m) (Err (Stopped why)))
+    (short : AreShort (M.now m).windows) (ends : EndIn (M.now a).windows k.windows) (at_m : IsTimed M m) (at_b : IsTimed M b) (once : EndsAtOnce why) (told : FaultTold {T = T} before (M.report m) (Err (Stopped why)))
     (status : ℕ) (says : LeavesDisk M false (is_unsaid status) (Utters (fault_text why)) m b) (honest : M.honest b) (ended : EndsWith why (M.now m) (M.now b) status) where
   outside : (said : Fault) → EndsAtOnce said → said ≡ why → IsOutside request before (M.report b) said
   outside (Ends.Device s) at_once is =
-      let fault : Told {T = T} before (M.report m) (Err (Stopped (Ends.Device s))) = subst (λ (x : Fault). Told {T = T} before (M.report m) (Err (Stopped x))) (sym is) told in
+      let fault : FaultTold {T = T} before (M.report m) (Err (Stopped (Ends.Device s))) = subst (λ (x : Fault). FaultTold {T = T} before (M.report m) (Err (Stopped x))) (sym is) told in
       record { rose = subst (λ (n : ℕ). Rose before.disk_faults n) (sym says.spares.disk) fault.disk.rose; told = fault.disk.told ∙ sym says.spares.place }
   outside Ends.Memory at_once is = tt
   outside said at_once is = absurd at_once
@@ -203,5 +203,5 @@ module _ {D T : Type 0} (M : Ghosts D) (request : Request) (before : Report) (k 
   pub broken_moments : StopsOnly M a b (InRun k (forced_of k) turns (M.now a))
   broken_moments = stopped_moments M request before k turns a m b moments why halted short ends at_m at_b (at_once_ends why once) (outside why once refl) told.later status says honest ended
 
-  pub broken_ends : IsUnsaid before (M.report b) status ⊎ IsBroken request (Undone k (forced_of k) turns) (UnderWay M k turns b) before (M.report b) turns (M.now a) (M.now b) status
+  pub broken_ends : IsUnsaid before (M.report b) status ⊎ IsBrokenOff request (Undone k (forced_of k) turns) (UnderWay M k turns b) before (M.report b) turns (M.now a) (M.now b) status
   broken_ends = stopped_ends M request before k turns a m b moments why halted short ends at_m at_b (at_once_ends why once) (outside why once refl) told.later status says honest ended

@@ -26,17 +26,17 @@ use Rattle.fsd_texts.specs.declared.fault.Fault.TheVariants as Ends
 use Rattle.fsd_texts.specs.declared.line.Line.TheVariants as Says
 use Rattle.fsd_texts.specs.Script.{max_input}
 use Rattle.fsd_runs.specs.declared.request.Request.TheVariants.{One, Put}
-use Rattle.fsd_runs.specs.Errands.{Cut, Errand, MayCut, Turn, alone, errand_of, line_turn, nothing_but}
-use Rattle.fsd_runs.specs.Leaves.{IsBroken, IsOutside}
+use Rattle.fsd_runs.specs.Errands.{Cut, Errand, MayCut, Turn, errand_alone, errand_of, line_turn, nothing_but}
+use Rattle.fsd_runs.specs.Leaves.{IsBrokenOff, IsOutside}
 use Rattle.fsd_runs.specs.Sessions.{session_over}
 use Rattle.fsd_runs.specs.Runs.{IsCutAt, errand_in}
 use Rattle.volume_contract.specs.Ends.{device_of}
 use Rattle.volume_contract.specs.State.{State, Ages, Known, Stands, forced_of, volume_of}
-use Rattle.volume_turns.specs.declared.turns.End.TheVariants.{Fault as Stopped}
+use Rattle.volume_turns.specs.declared.turns.Halt.TheVariants.{Fault as Stopped}
 use Rattle.volume_turns.specs.Line.{EndsLast, EndsWith, is_unsaid}
 use Rattle.volume_turns.specs.Once.{IsDone, close_fault}
-use Rattle.volume_turns.specs.Steps.{IsOfCall, StaysSound, device_told}
-use Rattle.volume_turns.specs.Turns.{InRun, OnDisk, Told}
+use Rattle.volume_turns.specs.Steps.{IsOfCall, StaysSoundFor, device_told}
+use Rattle.volume_turns.specs.Turns.{InRun, OnDisk, FaultTold}
 use Rattle.volume_turns.specs.Whole.{Always, Finishes, RunsOut}
 use Rattle.volume_turns.proofs.GroupEndLaws.{finishes_last}
 use Rattle.volume_turns.proofs.GroupLaws.{goes_wider}
@@ -45,15 +45,15 @@ use Rattle.volume_turns.proofs.TurnLaws.{said_nothing, stays_held, stays_stops}
 
 -- ---- what a put of the input asks for
 
-pub asks_one : (name : List ℕ) (keep : Option ℕ) (input : List ℕ) → length input ≤ max_input → errand_of (Put name keep) input ≡ alone (Word.Put name input keep)
+pub asks_one : (name : List ℕ) (keep : Option ℕ) (input : List ℕ) → length input ≤ max_input → errand_of (Put name keep) input ≡ errand_alone (Word.Put name input keep)
 asks_one name keep input few = by (nat_lt max_input (length input)) refl
   where
-    by : (b : Bool) → nat_lt max_input (length input) ≡ b → errand_of (Put name keep) input ≡ alone (Word.Put name input keep)
+    by : (b : Bool) → nat_lt max_input (length input) ≡ b → errand_of (Put name keep) input ≡ errand_alone (Word.Put name input keep)
     by true is = absurd (let more = ltb-true max_input (length input) is in omega (arith, few, more))
-    by false is = ap (λ (b : Bool). if b then nothing_but Ends.InputTooLong else alone (Word.Put name input keep)) is
+    by false is = ap (λ (b : Bool). if b then nothing_but Ends.InputTooLong else errand_alone (Word.Put name input keep)) is
 
 pub asks_none : (name : List ℕ) (keep : Option ℕ) (input : List ℕ) → max_input < length input → errand_of (Put name keep) input ≡ nothing_but Ends.InputTooLong
-asks_none name keep input many = ap (λ (b : Bool). if b then nothing_but Ends.InputTooLong else alone (Word.Put name input keep)) (lt-ltb max_input (length input) many)
+asks_none name keep input many = ap (λ (b : Bool). if b then nothing_but Ends.InputTooLong else errand_alone (Word.Put name input keep)) (lt-ltb max_input (length input) many)
 
 -- ---- one command
 
@@ -62,7 +62,7 @@ outside_put name keep c before after (Ends.Device s) o = o
 outside_put name keep c before after Ends.Memory o = tt
 outside_put name keep c before after why o = absurd o
 
-broken_put : (name : List ℕ) (keep : Option ℕ) (c : Command) (before after : Report) {Over : ℕ → Image → Type 0} {Way : ℕ → Type 0} {turns : List Turn} {old new : Moment} {result : ℕ} → IsBroken (One c) Over Way before after turns old new result → IsBroken (Put name keep) Over Way before after turns old new result
+broken_put : (name : List ℕ) (keep : Option ℕ) (c : Command) (before after : Report) {Over : ℕ → Image → Type 0} {Way : ℕ → Type 0} {turns : List Turn} {old new : Moment} {result : ℕ} → IsBrokenOff (One c) Over Way before after turns old new result → IsBrokenOff (Put name keep) Over Way before after turns old new result
 broken_put name keep c before after x = record { why = x.why; outside = outside_put name keep c before after x.why x.outside; ends = x.ends; says = x.says; held = x.held; undone = x.undone }
 
 module _ {D : Type 0} (M : Ghosts D) (name : List ℕ) (keep : Option ℕ) (input rest : List ℕ) (few : length input ≤ max_input) (before : Report) (k : Known) (a b : D) (status : ℕ) where
@@ -88,7 +88,7 @@ module _ {D : Type 0} (M : Ghosts D) (name : List ℕ) (keep : Option ℕ) (inpu
     });
   }
     where
-      over : {A B : Type 0} {Over : ℕ → Image → Type 0} {Way : ℕ → Type 0} {turns : List Turn} {old new : Moment} → A ⊎ (B ⊎ IsBroken (One c) Over Way before (M.report b) turns old new status) → A ⊎ (B ⊎ IsBroken (Put name keep) Over Way before (M.report b) turns old new status)
+      over : {A B : Type 0} {Over : ℕ → Image → Type 0} {Way : ℕ → Type 0} {turns : List Turn} {old new : Moment} → A ⊎ (B ⊎ IsBrokenOff (One c) Over Way before (M.report b) turns old new status) → A ⊎ (B ⊎ IsBrokenOff (Put name keep) Over Way before (M.report b) turns old new status)
       over (inl x) = inl x
       over (inr (inl u)) = inr (inl u)
       over (inr (inr x)) = inr (inr (broken_put name keep c before (M.report b) x))
@@ -127,11 +127,11 @@ module _ {S D : Type 0} (state : S → State) (has : S → Mounted → List Plac
   stands_in : (left : Moment) → Wears (M.now a) left → Stands state has v k left
   stands_in left w = wears (M.now a) left (short a (reads.trust.honest back)) (record { image = w.image; windows = w.windows }) stands
 
-  stays : (left : Moment) → Wears (M.now a) left → StaysSound k (M.now a) left
+  stays : (left : Moment) → Wears (M.now a) left → StaysSoundFor k (M.now a) left
   stays left w = record { sound = mounted_sound k.mounted k.windows k.changes (forced_of k) left.image (stands_in left w).disk; windows = w.windows; said = w.said }
 
-  stays_run : LeavesOnly M.moment M.left_since a m (StaysSound k (M.now a))
-  stays_run = leaves_more M.moment M.left_since a m (Wears (M.now a)) (StaysSound k (M.now a)) stays (reads.any_moment back)
+  stays_run : LeavesOnly M.moment M.left_since a m (StaysSoundFor k (M.now a))
+  stays_run = leaves_more M.moment M.left_since a m (Wears (M.now a)) (StaysSoundFor k (M.now a)) stays (reads.any_moment back)
 
   moments : StopsOnly M a m (InRun k (forced_of k) (t ∷ []) (M.now a))
   moments = stays_stops M k (forced_of k) a m at_a at_m (reads.since back) stays_run on (t ∷ [])
@@ -173,7 +173,7 @@ module _ {S D : Type 0} (state : S → State) (has : S → Mounted → List Plac
         rooted = held_synced M m (λ c. HasOwnRoots k.mounted.volume.layout (weak_of k.windows) c.image) at_m synced there.over.own.roots;
       }
 
-  pub refused_broken : (place : ℕ) → Told {T = Unit {0}} (M.report a) (M.report m) (Err (Stopped (Ends.Device place))) → LeavesDisk M false (is_unsaid status) (Utters (fault_text (Ends.Device place))) m b → EndsWith (Ends.Device place) (M.now m) (M.now b) status → Over
+  pub refused_broken : (place : ℕ) → FaultTold {T = Unit {0}} (M.report a) (M.report m) (Err (Stopped (Ends.Device place))) → LeavesDisk M false (is_unsaid status) (Utters (fault_text (Ends.Device place))) m b → EndsWith (Ends.Device place) (M.now m) (M.now b) status → Over
   refused_broken place told says ended =
       let why = Ends.Device place in
       let halted = said_halts M k why [] t [] refl a m (said_nothing M k (forced_of k) why a m at_m held worn.windows worn.said) in

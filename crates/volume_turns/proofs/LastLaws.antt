@@ -10,9 +10,9 @@ use Rattle.fsd_texts.specs.declared.fault.Fault.{Fault}
 use Rattle.fsd_texts.specs.declared.fault.Fault.TheVariants as Ends
 use Rattle.fsd_texts.specs.declared.line.Line.{Line}
 use Rattle.fsd_runs.proofs.StatusLaws.{of_reply}
-use Rattle.volume_turns.specs.Causes.{SaysFault, is_of_fault}
+use Rattle.volume_turns.specs.Causes.{SaysFaultAt, is_of_fault}
 use Rattle.volume_turns.specs.Line.{EndsLast, EndsWith}
-use Rattle.volume_turns.specs.Once.{fault_of}
+use Rattle.volume_turns.specs.Once.{end_by_mount}
 use Rattle.volume_turns.specs.Commands.{IsStatusFrom}
 use Rattle.volume_turns.specs.Steps.{device_told}
 use Rattle.volume_turns.proofs.StatusLaws.{same_device}
@@ -42,18 +42,18 @@ module _ (place : ℕ) (old new : Moment) (status : ℕ) where
   abbrev IsPlaced : Fault → Type 0
   IsPlaced why = IfSome (device_told why) (λ s. s ≡ place)
 
-  pub ends_fault : (why : Fault) → IsPlaced why → EndsWith why old new status → IsTrue (is_of_fault status) → SaysFault place new status
+  pub ends_fault : (why : Fault) → IsPlaced why → EndsWith why old new status → IsTrue (is_of_fault status) → SaysFaultAt place new status
   ends_fault why at (inl six) of = absurd (fault_not 6 status refl of six)
   ends_fault why at (inr (gives, all)) of = record { why = why; gives = gives; at = at; front = old.said; said = all.said }
 
   -- a line that is none of a fault
-  pub line_other : (line : Line) (gives : ℕ) → IsFalse (is_of_fault gives) → EndsLast line gives old new status → IsTrue (is_of_fault status) → SaysFault place new status
+  pub line_other : (line : Line) (gives : ℕ) → IsFalse (is_of_fault gives) → EndsLast line gives old new status → IsTrue (is_of_fault status) → SaysFaultAt place new status
   line_other line gives other (inl six) of = absurd (fault_not 6 status refl of six)
   line_other line gives other (inr (is, all)) of = absurd (fault_not gives status other of is)
 
 -- a fault of a mount
-pub mount_fault : (fault : MountFault) (why : Fault) (a m b : Report) (old new : Moment) (status : ℕ) → why ≡ fault_of fault → DiskFaults (device_of_mount fault) a m → b.fault_place ≡ m.fault_place → EndsWith why old new status
-    → IsTrue (is_of_fault status) → SaysFault b.fault_place new status
+pub mount_fault : (fault : MountFault) (why : Fault) (a m b : Report) (old new : Moment) (status : ℕ) → why ≡ end_by_mount fault → DiskFaults (device_of_mount fault) a m → b.fault_place ≡ m.fault_place → EndsWith why old new status
+    → IsTrue (is_of_fault status) → SaysFaultAt b.fault_place new status
 mount_fault fault why a m b old new status is faults same ends of =
-    ends_fault b.fault_place old new status (fault_of fault) (told_place (fault_of fault) a m b (subst (λ (o : Option ℕ). DiskFaults o a m) (same_device fault) faults) same)
+    ends_fault b.fault_place old new status (end_by_mount fault) (told_place (end_by_mount fault) a m b (subst (λ (o : Option ℕ). DiskFaults o a m) (same_device fault) faults) same)
     (subst (λ (w : Fault). EndsWith w old new status) is ends) of

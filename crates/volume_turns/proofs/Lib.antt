@@ -28,6 +28,7 @@ pub mod OtherLaws
 pub mod PutLaws
 pub mod QuietLaws
 pub mod ReadLaws
+pub mod ReadingLaws
 pub mod ReasonLaws
 pub mod RunLaws
 pub mod SaidLaws
@@ -39,6 +40,7 @@ pub mod ScriptLaws
 pub mod ScriptRunLaws
 pub mod ScrubLaws
 pub mod SeatLaws
+pub mod SpeaksLaws
 pub mod StatusLaws
 pub mod StepLaws
 pub mod TakingLaws

@@ -21,9 +21,9 @@ use Rattle.fsd_sound.proofs.MoreLaws.{sound_more}
 use Rattle.fsd_sound.proofs.MountedLaws.{fresh_mounted, mounted_tells}
 use Rattle.fsd_texts.specs.declared.fault.Fault.TheVariants as Ends
 use Rattle.fsd_runs.specs.Errands.{Turn}
-use Rattle.fsd_runs.specs.Leaves.{IsUnderWay, IsUndone, Left, LeftSince, SaysFault}
+use Rattle.fsd_runs.specs.Leaves.{IsUnderWay, IsUndone, Left, LeftByTurns, SaysFault}
 use Rattle.fsd_runs.specs.Runs.{Starts, changes_in, forced_in, said_in}
-use Rattle.volume_contract.specs.Mount.{Settled}
+use Rattle.volume_contract.specs.Mount.{SettledDisk}
 use Rattle.volume_contract.specs.State.{Known, volume_of, forced_of}
 use Rattle.volume_turns.specs.Turns.{InRun, Undone}
 use Rattle.volume_turns.specs.Whole.{UnderWay}
@@ -37,7 +37,7 @@ sound_to l l2 w w2 h h2 f f2 i el ew eh ef sound =
 pub nothing_said : SaysFault []
 nothing_said = (Ends.Memory, 0, tt, refl)
 
-module _ (l : Layout) (windows : List WeakRun) (run : WeakRun) (h : List Change) (f n : ℕ) (prefix : IsPrefixOf h f n) (k : Known) (old mid : Moment) (s : Settled l windows run h n k old mid) (quiet : mid.said ≡ old.said) where
+module _ (l : Layout) (windows : List WeakRun) (run : WeakRun) (h : List Change) (f n : ℕ) (prefix : IsPrefixOf h f n) (k : Known) (old mid : Moment) (s : SettledDisk l windows run h n k old mid) (quiet : mid.said ≡ old.said) where
   pub taken : length (take n h) ≡ n
   taken = let made = prefix.made in let long = length-take n h in omega (arith, made, long)
 
@@ -52,7 +52,7 @@ module _ (l : Layout) (windows : List WeakRun) (run : WeakRun) (h : List Change)
   pub before_left : (turns : List Turn) (left : Moment) → left.windows.present ≡ old.windows.present → left.said ≡ old.said → IsSound l windows h f left.image → Left l windows run h f n turns old left
   before_left turns left present said sound = inl (record { present = present; part = []; said = said ∙ sym (append-nil old.said); fault = nothing_said; sound = sound })
 
-  pub since_left : (turns : List Turn) (left : Moment) → left.windows ≡ record { present = Some run; next = None } → left.said ≡ old.said → IsSound l (windows ++ run ∷ []) (take n h) n left.image → LeftSince l windows run h n turns old left
+  pub since_left : (turns : List Turn) (left : Moment) → left.windows ≡ record { present = Some run; next = None } → left.said ≡ old.said → IsSound l (windows ++ run ∷ []) (take n h) n left.image → LeftByTurns l windows run h n turns old left
   since_left turns left settled said sound = record {
     settled = settled;
     whole = 0;
@@ -69,7 +69,7 @@ module _ (l : Layout) (windows : List WeakRun) (run : WeakRun) (h : List Change)
   pub known_sound : (i : Image) → IsSound l (windows ++ run ∷ []) (take n h) n i → IsSound k.mounted.volume.layout k.windows k.changes (forced_of k) i
   known_sound i sound = sound_to l k.mounted.volume.layout (windows ++ run ∷ []) k.windows (take n h) k.changes n (forced_of k) i (sym s.layout) (sym s.known) (sym s.changes) (sym known_forced) sound
 
-  pub run_left : (turns : List Turn) (left : Moment) → InRun k (forced_of k) turns mid left → LeftSince l windows run h n turns old left
+  pub run_left : (turns : List Turn) (left : Moment) → InRun k (forced_of k) turns mid left → LeftByTurns l windows run h n turns old left
   run_left turns left r = record {
     settled = r.windows ∙ s.settled;
     whole = r.whole;

@@ -14,10 +14,10 @@ use Rattle.fsd_texts.specs.declared.fault.Fault.TheVariants as Ends
 use Rattle.fsd_texts.specs.declared.line.Line.{Line}
 use Rattle.fsd_texts.specs.declared.line.Line.TheVariants as Says
 use Rattle.fsd_texts.specs.Text.{text}
-use Rattle.volume_contract.specs.Order.{Step, Draw, Force, IsDownBy, Keeps, Passes, Refuses, Roots, delete_steps, force_steps, keep_steps, put_steps, with_drawn, with_three}
-use Rattle.volume_contract.specs.State.{HasCounted, IsDownAt, IsForced, IsNew, State, enters_again, forces_first, forces_for_place, is_worn, moved_on, numbered}
-use Rattle.volume_turns.specs.declared.turns.End.{End}
-use Rattle.volume_turns.specs.declared.turns.End.TheVariants.{Fault as Stopped}
+use Rattle.volume_contract.specs.Order.{CallStep, Draw, Force, IsDownBy, KeepsRefused, PassesTest, StepRefuses, Roots, delete_steps, force_steps, keep_steps, put_steps, with_drawn, with_three}
+use Rattle.volume_contract.specs.State.{HasCounted, IsDownAt, IsForced, IsNew, State, enters_again, forces_first, forces_for_place, is_worn, moved_third, numbered}
+use Rattle.volume_turns.specs.declared.turns.Halt.{Halt}
+use Rattle.volume_turns.specs.declared.turns.Halt.TheVariants.{Fault as Stopped}
 use Rattle.volume_turns.specs.Causes.{SaysMade}
 use Rattle.volume_turns.specs.Group.{is_worn_end}
 use Rattle.volume_turns.specs.Line.{EndsLast}
@@ -27,7 +27,7 @@ use Rattle.volume_turns.specs.Turns.{SaysAll}
 -- ---- a call that has ended
 
 -- what it answers
-abbrev pub ended : {T : Type 0} → End → Result T End
+abbrev pub ended : {T : Type 0} → Halt → Result T Halt
 ended end = Err end
 
 -- ---- a call that was answered
@@ -68,22 +68,22 @@ forced_goes s t f = record {
 -- ---- a call that was refused
 
 -- how many serials these steps may draw, and how many records they may number
-abbrev pub draws_in : List Step → ℕ
+abbrev pub draws_in : List CallStep → ℕ
 draws_in [] = 0
 draws_in (Draw ∷ steps) = suc (draws_in steps)
 draws_in (step ∷ steps) = draws_in steps
 
-abbrev pub forces_in : List Step → ℕ
+abbrev pub forces_in : List CallStep → ℕ
 forces_in [] = 0
 forces_in (Force comes ∷ steps) = cond comes 1 0 + forces_in steps
 forces_in (step ∷ steps) = forces_in steps
 
 -- No more than that.
-pub record GoesBy (steps : List Step) (s t : State) : Type 0 where
+pub record GoesBy (steps : List CallStep) (s t : State) : Type 0 where
   pub serials : t.serial.count ≤ s.serial.count + draws_in steps
   pub records : t.head.number ≤ s.head.number + forces_in steps
 
-room_same : (s : State) (first : ℕ) (b : Bool) → ((cond b (moved_on s first) s).serial.count ≡ s.serial.count) × ((cond b (moved_on s first) s).head.number ≡ s.head.number)
+room_same : (s : State) (first : ℕ) (b : Bool) → ((cond b (moved_third s first) s).serial.count ≡ s.serial.count) × ((cond b (moved_third s first) s).head.number ≡ s.head.number)
 room_same s first true = (refl, refl)
 room_same s first false = (refl, refl)
 
@@ -99,14 +99,14 @@ down_by_same (Why.Lost a b) s t d = down_same a s t d
 down_by_same r s t d = absurd d
 
 -- it was refused at this step, or at a later one, and neither draws nor forces
-stays : (steps : List Step) (P Q : Type 0) (r : Refusal) (s t : State) → (Keeps steps r s t → GoesBy steps s t) → (P × (t ≡ s)) ⊎ (Q × Keeps steps r s t) → GoesBy steps s t
+stays : (steps : List CallStep) (P Q : Type 0) (r : Refusal) (s t : State) → (KeepsRefused steps r s t → GoesBy steps s t) → (P × (t ≡ s)) ⊎ (Q × KeepsRefused steps r s t) → GoesBy steps s t
 stays steps P Q r s t on (inl here) = record {
   serials = let e = ap (λ (x : State). x.serial.count) here.1 in omega (arith, e);
   records = let e = ap (λ (x : State). x.head.number) here.1 in omega (arith, e);
 }
 stays steps P Q r s t on (inr later) = on later.1
 
-forces_then : (steps : List Step) (r : Refusal) (s t : State) → ((next : State) → Keeps steps r next t → GoesBy steps next t) → IsDownBy r s t ⊎ ((next : State) × IsForced s next × Keeps steps r next t) → GoesBy (Force true ∷ steps) s t
+forces_then : (steps : List CallStep) (r : Refusal) (s t : State) → ((next : State) → KeepsRefused steps r next t → GoesBy steps next t) → IsDownBy r s t ⊎ ((next : State) × IsForced s next × KeepsRefused steps r next t) → GoesBy (Force true ∷ steps) s t
 forces_then steps r s t on (inl d) =
     let same = down_by_same r s t d in
     record { serials = let e = same.0 in omega (arith, e); records = let e = same.1 in omega (arith, e) }
@@ -116,19 +116,19 @@ forces_then steps r s t on (inr x) =
     let more = on x.0 x.2 in
     record { serials = let a = more.serials in omega (arith, a, same); records = let a = more.records in let b = first.records in omega (arith, a, b) }
 
-pub keeps_goes : (steps : List Step) (r : Refusal) (s t : State) → Keeps steps r s t → GoesBy steps s t
+pub keeps_goes : (steps : List CallStep) (r : Refusal) (s t : State) → KeepsRefused steps r s t → GoesBy steps s t
 keeps_goes [] r s t keeps = absurd keeps
 keeps_goes (Draw ∷ steps) r s t keeps =
     let more = keeps_goes steps r (with_drawn s) t keeps in
     record { serials = let a = more.serials in omega (arith, a); records = more.records }
 keeps_goes (Force true ∷ steps) r s t keeps = forces_then steps r s t (λ next k. keeps_goes steps r next t k) keeps
-keeps_goes (Force false ∷ steps) r s t keeps = let x = stays steps (Refuses (Force false) r) (Passes (Force false)) r s t (λ k. keeps_goes steps r s t k) keeps in record { serials = x.serials; records = let n = x.records in omega (arith, n) }
+keeps_goes (Force false ∷ steps) r s t keeps = let x = stays steps (StepRefuses (Force false) r) (PassesTest (Force false)) r s t (λ k. keeps_goes steps r s t k) keeps in record { serials = x.serials; records = let n = x.records in omega (arith, n) }
 keeps_goes (Roots ∷ steps) r s t (inl here) = record {
   serials = let e = ap (λ (x : State). x.serial.count) here.1 in omega (arith, e);
   records = let e = ap (λ (x : State). x.head.number) here.1 in omega (arith, e);
 }
 keeps_goes (Roots ∷ steps) r s t (inr later) = let x = keeps_goes steps r (with_three s) t later in record { serials = x.serials; records = x.records }
-keeps_goes (step ∷ steps) r s t keeps = let x = stays steps (Refuses step r) (Passes step) r s t (λ k. keeps_goes steps r s t k) keeps in record { serials = x.serials; records = x.records }
+keeps_goes (step ∷ steps) r s t keeps = let x = stays steps (StepRefuses step r) (PassesTest step) r s t (λ k. keeps_goes steps r s t k) keeps in record { serials = x.serials; records = x.records }
 
 pub one_force : (b : Bool) → cond b 1 0 + 0 ≤ 1
 one_force true = omega arith
@@ -140,20 +140,20 @@ put_force true false = omega arith
 put_force false true = omega arith
 put_force false false = omega arith
 
-pub goes_by : (steps : List Step) (s t : State) → draws_in steps ≤ 1 → forces_in steps ≤ 1 → GoesBy steps s t → GoesUp 1 s t
+pub goes_by : (steps : List CallStep) (s t : State) → draws_in steps ≤ 1 → forces_in steps ≤ 1 → GoesBy steps s t → GoesUp 1 s t
 goes_by steps s t draws forces x = record { serials = let a = x.serials in omega (arith, a, draws); records = let a = x.records in omega (arith, a, forces) }
 
 module _ (s t : State) (r : Refusal) where
-  pub put_goes : (keep : Option ℕ) (len : ℕ) → Keeps (put_steps s keep len) r s t → GoesUp 1 s t
+  pub put_goes : (keep : Option ℕ) (len : ℕ) → KeepsRefused (put_steps s keep len) r s t → GoesUp 1 s t
   put_goes keep len keeps = goes_by (put_steps s keep len) s t (omega arith) (put_force (forces_for_place s (sectors_for len)) (forces_first s)) (keeps_goes (put_steps s keep len) r s t keeps)
 
-  pub delete_goes : Keeps (delete_steps s) r s t → GoesUp 1 s t
+  pub delete_goes : KeepsRefused (delete_steps s) r s t → GoesUp 1 s t
   delete_goes keeps = goes_by (delete_steps s) s t (omega arith) (one_force (forces_first s)) (keeps_goes (delete_steps s) r s t keeps)
 
-  pub keep_goes : (keep : ℕ) → Keeps (keep_steps s keep) r s t → GoesUp 1 s t
+  pub keep_goes : (keep : ℕ) → KeepsRefused (keep_steps s keep) r s t → GoesUp 1 s t
   keep_goes keep keeps = goes_by (keep_steps s keep) s t (omega arith) (one_force (forces_first s)) (keeps_goes (keep_steps s keep) r s t keeps)
 
-  pub force_goes : Keeps (force_steps s) r s t → GoesUp 1 s t
+  pub force_goes : KeepsRefused (force_steps s) r s t → GoesUp 1 s t
   force_goes keeps = goes_by (force_steps s) s t (omega arith) (one_force (nat_lt 0 (length s.dirty))) (keeps_goes (force_steps s) r s t keeps)
 
 -- ---- commands one after another
@@ -184,29 +184,29 @@ new_may many s new (inr worn) = let one : s.head.number ≡ 1 = ap (λ (x : Head
 
 -- ---- how they end
 
-pub other_end : (end : End) → is_worn_end end ≡ false → end ≡ Stopped Ends.WornOut → ⊥
-other_end end other is = let no : is_worn_end (Stopped Ends.WornOut) ≡ false = subst (λ (e : End). is_worn_end e ≡ false) is other in cc no
+pub other_end : (end : Halt) → is_worn_end end ≡ false → end ≡ Stopped Ends.WornOut → ⊥
+other_end end other is = let no : is_worn_end (Stopped Ends.WornOut) ≡ false = subst (λ (e : Halt). is_worn_end e ≡ false) is other in cc no
 
 -- what is passed on
-pub passed_on : {T : Type 0} (x y : T) (r : Result T End) → IfOk r (λ z. z ≡ x) → r ≡ Ok y → y ≡ x
-passed_on {T = T} x y r same is = subst (λ (z : Result T End). IfOk z (λ w. w ≡ x)) is same
+pub passed_on : {T : Type 0} (x y : T) (r : Result T Halt) → IfOk r (λ z. z ≡ x) → r ≡ Ok y → y ≡ x
+passed_on {T = T} x y r same is = subst (λ (z : Result T Halt). IfOk z (λ w. w ≡ x)) is same
 
-pub forced_behind : {T : Type 0} (H K : Type 0) (a m b : Moment) → (H → K) → (K → m.said ≡ a.said) → (r : Result T End) → OnOk r (H → b.said ≡ m.said ++ forced_turn.said) → OnOk r (H → b.said ≡ a.said ++ forced_turn.said)
+pub forced_behind : {T : Type 0} (H K : Type 0) (a m b : Moment) → (H → K) → (K → m.said ≡ a.said) → (r : Result T Halt) → OnOk r (H → b.said ≡ m.said ++ forced_turn.said) → OnOk r (H → b.said ≡ a.said ++ forced_turn.said)
 forced_behind H K a m b back same (Ok x) said = λ h. said h ∙ ap (λ (y : List ℕ). y ++ forced_turn.said) (same (back h))
 forced_behind H K a m b back same (Err end) said = tt
 
 -- and where nothing was said before
-pub said_forced : (H K : Type 0) (a m b : Moment) → (H → K) → (K → m.said ≡ a.said) → (r : Result (Unit {0}) End) → OnOk r (H → SaysAll forced_turn.said m b) → OnOk r (H → b.said ≡ a.said ++ forced_turn.said)
+pub said_forced : (H K : Type 0) (a m b : Moment) → (H → K) → (K → m.said ≡ a.said) → (r : Result (Unit {0}) Halt) → OnOk r (H → SaysAll forced_turn.said m b) → OnOk r (H → b.said ≡ a.said ++ forced_turn.said)
 said_forced H K a m b back same (Ok x) all = λ h. (all h).said ∙ ap (λ (y : List ℕ). y ++ forced_turn.said) (same (back h))
 said_forced H K a m b back same (Err end) all = tt
 
 -- ---- what is counted is passed on
 
-pub counts_on : (count : ℕ) (tally : Counts) → tally.count ≡ count → (r : Result (Option Counts) End) → IfOk r (λ x. x ≡ Some tally) → IfOk r (λ o. IfSome o (λ t. t.count ≡ count))
+pub counts_on : (count : ℕ) (tally : Counts) → tally.count ≡ count → (r : Result (Option Counts) Halt) → IfOk r (λ x. x ≡ Some tally) → IfOk r (λ o. IfSome o (λ t. t.count ≡ count))
 counts_on count tally all (Ok o) same = subst (λ (x : Option Counts). IfSome x (λ t. t.count ≡ count)) (sym same) all
 counts_on count tally all (Err end) same = tt
 
-pub counts_none : (count : ℕ) (r : Result (Option Counts) End) → IfOk r (λ x. x ≡ None) → IfOk r (λ o. IfSome o (λ t. t.count ≡ count))
+pub counts_none : (count : ℕ) (r : Result (Option Counts) Halt) → IfOk r (λ x. x ≡ None) → IfOk r (λ o. IfSome o (λ t. t.count ≡ count))
 counts_none count (Ok o) same = subst (λ (x : Option Counts). IfSome x (λ t. t.count ≡ count)) (sym same) tt
 counts_none count (Err end) same = tt
 

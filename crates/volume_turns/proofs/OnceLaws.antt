@@ -34,21 +34,21 @@ use Rattle.fsd_texts.specs.declared.script_command.ScriptCommand.TheVariants.{Pl
 use Rattle.fsd_runs.specs.Commands.{reply_alone, reply_status}
 use Rattle.fsd_runs.specs.Sessions.{answer_in, changes_in_session}
 use Rattle.fsd_runs.proofs.SessionLaws.{command_grows}
-use Rattle.fsd_runs.specs.Errands.{Turn, alone, blank}
+use Rattle.fsd_runs.specs.Errands.{Turn, errand_alone, blank}
 use Rattle.fsd_table.specs.Table.{Telling}
 use Rattle.fsd_files.specs.Disk.{Image, Sectors, in_runs}
 use Rattle.fsd_runs.specs.Runs.{Goes, forced_in, changes_in}
-use Rattle.volume_turns.specs.declared.turns.End.{End}
-use Rattle.volume_turns.specs.declared.turns.End.TheVariants.{Fault as Stopped, Output}
+use Rattle.volume_turns.specs.declared.turns.Halt.{Halt}
+use Rattle.volume_turns.specs.declared.turns.Halt.TheVariants.{Fault as Stopped, Output}
 use Rattle.sector_disk.specs.Calls.{IsHeld, IsTimed, Since, StopsOnly, WritesDisk, stops}
 use Rattle.client_desk.specs.Clients.{no_desk}
 use Rattle.client_desk.proofs.FinishLaws.{sits_fresh}
 use Rattle.volume_contract.specs.Ends.{Closes}
 use Rattle.volume_turns.specs.Once.{Anything, close_fault, InClose, SaysClosedBy, EndsClosedBy, ClosesAndSays, ClosesAndSaysBy, IsDone, EndsAlone, IsAlone, SaysRooted, Unclosed, unit_of}
-use Rattle.volume_contract.specs.Order.{IsDevice}
+use Rattle.volume_contract.specs.Order.{IsDeviceRefusal}
 use Rattle.volume_contract.specs.State.{State, Ages, Known, volume_of, forced_of, Stands, Leaves, is_worn, none_open}
 use Rattle.volume_turns.specs.Seats.{IsAnsweredIn, Seated, SitsAt, StaysIn, seated, session_in}
-use Rattle.volume_turns.specs.Steps.{Does, IsAnswered, Stays, StaysSound}
+use Rattle.volume_turns.specs.Steps.{Does, IsAnswered, Stays, StaysSoundFor}
 use Rattle.volume_turns.specs.Turns.{InRun, EndsAtOnce, OnDisk, SaysAll, Unsaid, UttersBehind, turn_by}
 use Rattle.volume_turns.proofs.TurnLaws.{in_part, in_saying_at, says_nothing, stays_held, stays_stops}
 use Rattle.volume_turns.proofs.RunLaws.{step_is}
@@ -58,7 +58,7 @@ use Rattle.volume_turns.proofs.CountLaws.{never}
 
 -- ---- the end of a volume
 
-pub device_ends : (why : Refusal) → IsDevice why → EndsAtOnce (close_fault why)
+pub device_ends : (why : Refusal) → IsDeviceRefusal why → EndsAtOnce (close_fault why)
 device_ends (Why.Device s) is = tt
 device_ends why is = absurd is
 
@@ -128,7 +128,7 @@ module _ {D : Type 0} (M : Ghosts D) (k : Known) (f : ℕ) (own : Layout) (text 
   unclosed : Wears (M.now m) (M.now b) → Unclosed M k f a b
   unclosed w = record { windows = w.windows ∙ windows; said = w.said ∙ quiet; held = held_by M m b (UttersBehind true text (M.now m)) (IsSoundFor f) at_m at_b since run disk.each (IsSoundFor f) (λ c s. s) fewer }
 
-  pub said_closed : (r : Result (Unit {0}) End) → OnOk r (SaysAll text (M.now m) (M.now b)) → OnOk r ((M.now m).time ≤ (M.now b).synced) → IfErr r (λ end. Unsaid (M.now m) (M.now b) end) → EndsClosedBy own M k f text a b r
+  pub said_closed : (r : Result (Unit {0}) Halt) → OnOk r (SaysAll text (M.now m) (M.now b)) → OnOk r ((M.now m).time ≤ (M.now b).synced) → IfErr r (λ end. Unsaid (M.now m) (M.now b) end) → EndsClosedBy own M k f text a b r
   said_closed (Ok x) says synced unsaid =
       let weak = open_is_weak (M.now m).windows k.windows (M.now m).image (M.now b).image ends says.ages.image in
       record {
@@ -148,22 +148,22 @@ module _ {D : Type 0} (M : Ghosts D) (k : Known) (f : ℕ) (own : Layout) (text 
 
 module _ {S D : Type 0} (state : S → State) (has : S → Mounted → List Placed → Type 0) (M : Ghosts D) (v : S) (a m b : D) (k : Known) (f : ℕ) (stands : Stands state has v k (M.now a)) (on : OnDisk M k f a) (text : List ℕ) (may : ℕ → Bool) (fault : Option ℕ)
     (disk : WritesDisk M fault (Leaves state has v may) a m) (honest : M.honest m) (at_a : IsTimed M a) (at_m : IsTimed M m) where
-  closing_run : LeavesOnly M.moment M.left_since a m (StaysSound k (M.now a))
-  closing_run = leaves_more M.moment M.left_since a m (Leaves state has v may (M.now a)) (StaysSound k (M.now a)) (λ left leaves. let l = leaves k stands in record { sound = l.sound; windows = l.windows; said = l.said }) (disk.any_moment honest)
+  closing_run : LeavesOnly M.moment M.left_since a m (StaysSoundFor k (M.now a))
+  closing_run = leaves_more M.moment M.left_since a m (Leaves state has v may (M.now a)) (StaysSoundFor k (M.now a)) (λ left leaves. let l = leaves k stands in record { sound = l.sound; windows = l.windows; said = l.said }) (disk.any_moment honest)
 
-  closing : (n : ℕ) → f ≤ n → (shown last : Moment) → StaysSound k (M.now a) last → IsSound k.mounted.volume.layout k.windows k.changes n shown.image → InClose k.mounted.volume.layout k f text (M.now a) (shows_of shown last)
+  closing : (n : ℕ) → f ≤ n → (shown last : Moment) → StaysSoundFor k (M.now a) last → IsSound k.mounted.volume.layout k.windows k.changes n shown.image → InClose k.mounted.volume.layout k f text (M.now a) (shows_of shown last)
   closing n least shown last stays sound =
       record { windows = stays.windows; forced = n; least = least; sound = sound; heard = 0; said = stays.said ∙ sym (append-nil (M.now a).said); all = λ some. absurd (omega (arith, some)); roots = λ some. absurd (omega (arith, some)) }
 
   pub close_moments : StopsOnly M a m (InClose k.mounted.volume.layout k f text (M.now a))
-  close_moments = stops_by M a m (StaysSound k (M.now a)) (λ c. IsSound k.mounted.volume.layout k.windows k.changes f c.image) at_a at_m (disk.since honest) closing_run on.each (InClose k.mounted.volume.layout k f text (M.now a))
+  close_moments = stops_by M a m (StaysSoundFor k (M.now a)) (λ c. IsSound k.mounted.volume.layout k.windows k.changes f c.image) at_a at_m (disk.since honest) closing_run on.each (InClose k.mounted.volume.layout k f text (M.now a))
       (λ c stays. closing (forced_of k) on.most c c stays stays.sound)
       (λ last shown stays left sooner lately either. ⊎_elim (λ was. closing f (omega arith) shown last stays was) (λ now. closing (forced_of k) on.most shown last stays now.sound) either)
 
   pub close_held : OnDisk M k f m
   close_held = stays_held M k f a m at_a at_m (disk.since honest) closing_run on
 
-  pub close_failed : (why : Refusal) → IsDevice why → ClosesAndSays M k f text a m (Err (Stopped (close_fault why)))
+  pub close_failed : (why : Refusal) → IsDeviceRefusal why → ClosesAndSays M k f text a m (Err (Stopped (close_fault why)))
   close_failed why is = record { moments = close_moments; ends = (device_ends why is, record { windows = disk.windows honest; said = disk.quiet honest; held = close_held.each }) }
 
   module _ (closes : Closes k (M.now m).image) (short : AreShort (M.now m).windows) (at_b : IsTimed M b) (since : Since M m b) (run : LeavesOnly M.moment M.left_since m b (UttersBehind true text (M.now m))) where
@@ -174,7 +174,7 @@ module _ {S D : Type 0} (state : S → State) (has : S → Mounted → List Plac
     both = then_on M.moment (stops M) a m b (InClose k.mounted.volume.layout k f text (M.now a)) close_moments
         (saying_moments M k f k.mounted.volume.layout text a m b (disk.windows honest) (disk.quiet honest) ends_in closes.sound closes.tells closes.roots short close_held at_m at_b since run)
 
-    pub close_said : (r : Result (Unit {0}) End) → OnOk r (SaysAll text (M.now m) (M.now b)) → OnOk r ((M.now m).time ≤ (M.now b).synced) → IfErr r (λ end. Unsaid (M.now m) (M.now b) end) → ClosesAndSays M k f text a b r
+    pub close_said : (r : Result (Unit {0}) Halt) → OnOk r (SaysAll text (M.now m) (M.now b)) → OnOk r ((M.now m).time ≤ (M.now b).synced) → IfErr r (λ end. Unsaid (M.now m) (M.now b) end) → ClosesAndSays M k f text a b r
     close_said r says synced unsaid = record {
       moments = both;
       ends = said_closed M k f k.mounted.volume.layout text a m b (disk.windows honest) (disk.quiet honest) ends_in closes.sound closes.tells closes.roots short close_held at_m at_b since run r says synced unsaid;
@@ -183,7 +183,7 @@ module _ {S D : Type 0} (state : S → State) (has : S → Mounted → List Plac
 -- where all was forced before, and the roots are those of this layout
 pub says_closed : {D : Type 0} (M : Ghosts D) (m b : D) (k : Known) (f : ℕ) (own : Layout) (text : List ℕ) → EndIn (M.now m).windows k.windows → IsSound k.mounted.volume.layout k.windows k.changes (length k.changes) (M.now m).image
     → AllWorn (weak_of k.windows) (λ j. told k.mounted.volume.layout j ≡ Some (telling_of (volume_of k))) (M.now m).image → HasOwnRoots own (weak_of k.windows) (M.now m).image → AreShort (M.now m).windows → OnDisk M k f m → IsTimed M m → IsTimed M b → Since M m b
-    → LeavesOnly M.moment M.left_since m b (UttersBehind true text (M.now m)) → (r : Result (Unit {0}) End) → OnOk r (SaysAll text (M.now m) (M.now b)) → OnOk r ((M.now m).time ≤ (M.now b).synced) → IfErr r (λ end. Unsaid (M.now m) (M.now b) end) → ClosesAndSaysBy own M k f text m b r
+    → LeavesOnly M.moment M.left_since m b (UttersBehind true text (M.now m)) → (r : Result (Unit {0}) Halt) → OnOk r (SaysAll text (M.now m) (M.now b)) → OnOk r ((M.now m).time ≤ (M.now b).synced) → IfErr r (λ end. Unsaid (M.now m) (M.now b) end) → ClosesAndSaysBy own M k f text m b r
 says_closed M m b k f own text ends sound tells roots short disk at_m at_b since run r says synced unsaid = record {
   moments = saying_moments M k f own text m m b refl refl ends sound tells roots short disk at_m at_b since run;
   ends = said_closed M k f own text m m b refl refl ends sound tells roots short disk at_m at_b since run r says synced unsaid;
@@ -192,9 +192,9 @@ says_closed M m b k f own text ends sound tells roots short disk at_m at_b since
 -- ---- what was not begun
 
 -- a run of calls that says nothing
-quiet_stops : {D : Type 0} (M : Ghosts D) (a m : D) (k : Known) (own : Layout) → IsTimed M a → IsTimed M m → Since M a m → LeavesOnly M.moment M.left_since a m (StaysSound k (M.now a)) → StopsOnly M a m (SaysRooted own k (M.now a))
+quiet_stops : {D : Type 0} (M : Ghosts D) (a m : D) (k : Known) (own : Layout) → IsTimed M a → IsTimed M m → Since M a m → LeavesOnly M.moment M.left_since a m (StaysSoundFor k (M.now a)) → StopsOnly M a m (SaysRooted own k (M.now a))
 quiet_stops M a m k own at_a at_m since run =
-    stops_by M a m (StaysSound k (M.now a)) (λ c. ⊤) at_a at_m since run (λ c left. tt) (SaysRooted own k (M.now a)) (λ c stays. inl stays.said) (λ last shown stays left sooner lately either. inl stays.said)
+    stops_by M a m (StaysSoundFor k (M.now a)) (λ c. ⊤) at_a at_m since run (λ c left. tt) (SaysRooted own k (M.now a)) (λ c stays. inl stays.said) (λ last shown stays left sooner lately either. inl stays.said)
 
 -- it leaves all as it is
 module _ {S D : Type 0} (state : S → State) (has : S → Mounted → List Placed → Type 0) (M : Ghosts D) (v : S) (a : D) (k : Known) (f : ℕ) (at_a : IsTimed M a) (stands : Stands state has v k (M.now a)) (on : OnDisk M k f a) where
@@ -204,17 +204,17 @@ module _ {S D : Type 0} (state : S → State) (has : S → Mounted → List Plac
   sound_here : IsSound k.mounted.volume.layout k.windows k.changes (forced_of k) (M.now a).image
   sound_here = mounted_sound k.mounted k.windows k.changes (forced_of k) (M.now a).image stands.disk
 
-  none_run : LeavesOnly M.moment M.left_since a a (StaysSound k (M.now a))
-  none_run = started M.moment M.left_since a (M.now a) (StaysSound k (M.now a)) at_a.only (record { sound = sound_here; windows = refl; said = refl })
+  none_run : LeavesOnly M.moment M.left_since a a (StaysSoundFor k (M.now a))
+  none_run = started M.moment M.left_since a (M.now a) (StaysSoundFor k (M.now a)) at_a.only (record { sound = sound_here; windows = refl; said = refl })
 
-  none_at : (text : List ℕ) (n : ℕ) → f ≤ n → (shown last : Moment) → StaysSound k (M.now a) last → IsSound k.mounted.volume.layout k.windows k.changes n shown.image → InClose k.mounted.volume.layout k f text (M.now a) (shows_of shown last)
+  none_at : (text : List ℕ) (n : ℕ) → f ≤ n → (shown last : Moment) → StaysSoundFor k (M.now a) last → IsSound k.mounted.volume.layout k.windows k.changes n shown.image → InClose k.mounted.volume.layout k f text (M.now a) (shows_of shown last)
   none_at text n least shown last stays sound =
       record { windows = stays.windows; forced = n; least = least; sound = sound; heard = 0; said = stays.said ∙ sym (append-nil (M.now a).said); all = λ some. absurd (omega (arith, some)); roots = λ some. absurd (omega (arith, some)) }
 
   -- what it would say was refused memory before it ended
   pub close_unbegun : (text : List ℕ) → ClosesAndSays M k f text a a (Err (Stopped Ends.Memory))
   close_unbegun text = record {
-    moments = stops_by M a a (StaysSound k (M.now a)) (λ c. IsSound k.mounted.volume.layout k.windows k.changes f c.image) at_a at_a still none_run on.each (InClose k.mounted.volume.layout k f text (M.now a))
+    moments = stops_by M a a (StaysSoundFor k (M.now a)) (λ c. IsSound k.mounted.volume.layout k.windows k.changes f c.image) at_a at_a still none_run on.each (InClose k.mounted.volume.layout k f text (M.now a))
         (λ c stays. none_at text (forced_of k) on.most c c stays stays.sound)
         (λ last shown stays left sooner lately either. ⊎_elim (λ was. none_at text f (omega arith) shown last stays was) (λ now. none_at text (forced_of k) on.most shown last stays now.sound) either);
     ends = (tt, record { windows = refl; said = refl; held = on.each });
@@ -271,8 +271,8 @@ module _ {S D : Type 0} (state : S → State) (has : S → Mounted → List Plac
   at_m : IsTimed M m
   at_m = timed m honest
 
-  stays_run : LeavesOnly M.moment M.left_since a m (StaysSound k (M.now a))
-  stays_run = leaves_more M.moment M.left_since a m (Stays state has v (M.now a)) (StaysSound k (M.now a)) (λ left stays. stays k stood) (disk.any_moment honest)
+  stays_run : LeavesOnly M.moment M.left_since a m (StaysSoundFor k (M.now a))
+  stays_run = leaves_more M.moment M.left_since a m (Stays state has v (M.now a)) (StaysSoundFor k (M.now a)) (λ left stays. stays k stood) (disk.any_moment honest)
 
   before : (turns : List Turn) → StopsOnly M a m (InRun k (forced_of k) turns (M.now a))
   before turns = stays_stops M k (forced_of k) a m at_a at_m (disk.since honest) stays_run on turns
@@ -314,7 +314,7 @@ module _ {S D : Type 0} (state : S → State) (has : S → Mounted → List Plac
     later_sits = seat_on state has v w no_desk idle after (M.now a) (M.now m) sits is.opened stands
 
     abbrev turn : Turn
-    turn = turn_by (alone command) (session_in idle) plain is_in.met
+    turn = turn_by (errand_alone command) (session_in idle) plain is_in.met
 
     abbrev out : Session
     out = (answer_in is_in.met (session_in idle) plain).1
@@ -331,7 +331,7 @@ module _ {S D : Type 0} (state : S → State) (has : S → Mounted → List Plac
     status_same : reply_status reply ≡ reply_status (answer_in is_in.met (session_in idle) plain).0
     status_same = ap (λ (r : Reply). reply_status r) reply_same
 
-    goes : (t : ℕ) → t ≤ M.moment a → Goes (in_runs k.windows) (M.left_since b t) Anything (alone command) (M.now a).said (M.now a).image (session_in idle) (is_in.met ∷ []) (plain ∷ [])
+    goes : (t : ℕ) → t ≤ M.moment a → Goes (in_runs k.windows) (M.left_since b t) Anything (errand_alone command) (M.now a).said (M.now a).image (session_in idle) (is_in.met ∷ []) (plain ∷ [])
     goes t le = ((M.now m).image, step_is state has M wears short timed silent never plain (v, no_desk) (w, no_desk) a m b idle (forced_of k) (M.now a) sits same sits fault desk_disk honest since on later reply is_in later_sits t le, tt)
 
     -- its reply is said behind what has these changes, all of them forced
@@ -387,7 +387,7 @@ module _ {S D : Type 0} (state : S → State) (has : S → Mounted → List Plac
             rooted = λ x left. own_as x.image (c.rooted x left);
           }
 
-      ended : (r : Result ℕ End) → (r ≡ Err (Stopped Ends.Memory) → b ≡ m) → IfOk r (λ status. status ≡ reply_status reply) → EndsClosedBy (volume_of after).layout M n (forced_of k) (reply_alone reply) m b (unit_of r) → EndsAlone M command k (is_in.met ∷ []) a b r
+      ended : (r : Result ℕ Halt) → (r ≡ Err (Stopped Ends.Memory) → b ≡ m) → IfOk r (λ status. status ≡ reply_status reply) → EndsClosedBy (volume_of after).layout M n (forced_of k) (reply_alone reply) m b (unit_of r) → EndsAlone M command k (is_in.met ∷ []) a b r
       ended (Ok status) undone gives c = (refl, gives ∙ status_same, done c)
       ended (Err Output) undone gives c = tt
       ended (Err (Stopped why)) undone gives c = record {
@@ -397,7 +397,7 @@ module _ {S D : Type 0} (state : S → State) (has : S → Mounted → List Plac
         held = λ x left. sound_as (λ (h : List Change). forced_of k) x.image (c.1.held x left);
       }
 
-      pub alone_closed_as : (r : Result ℕ End) → (r ≡ Err (Stopped Ends.Memory) → b ≡ m) → IfOk r (λ status. status ≡ reply_status reply) → ClosesAndSaysBy (volume_of after).layout M n (forced_of k) (reply_alone reply) m b (unit_of r) → IsAlone M command k a b r
+      pub alone_closed_as : (r : Result ℕ Halt) → (r ≡ Err (Stopped Ends.Memory) → b ≡ m) → IfOk r (λ status. status ≡ reply_status reply) → ClosesAndSaysBy (volume_of after).layout M n (forced_of k) (reply_alone reply) m b (unit_of r) → IsAlone M command k a b r
       alone_closed_as r undone gives c = record {
         mets = is_in.met ∷ [];
         goes = goes;
@@ -435,5 +435,5 @@ module _ {S D : Type 0} (state : S → State) (has : S → Mounted → List Plac
             (sound_more k.mounted.volume.layout k.windows k.changes turn.changes (forced_of k) c.image (alone_held.each c left))));
       }
 
-      pub alone_answered : (r : Result ℕ End) → (r ≡ Err (Stopped Ends.Memory) → b ≡ m) → IfOk r (λ status. status ≡ reply_status reply) → ClosesAndSays M after (forced_of k) (reply_alone reply) m b (unit_of r) → IsAlone M command k a b r
+      pub alone_answered : (r : Result ℕ Halt) → (r ≡ Err (Stopped Ends.Memory) → b ≡ m) → IfOk r (λ status. status ≡ reply_status reply) → ClosesAndSays M after (forced_of k) (reply_alone reply) m b (unit_of r) → IsAlone M command k a b r
       alone_answered = alone_closed_as after layout_same is_in.windows changes_same refl

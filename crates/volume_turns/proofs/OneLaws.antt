@@ -18,17 +18,17 @@ use Rattle.fsd_texts.specs.declared.fault.Fault.{Fault}
 use Rattle.fsd_texts.specs.declared.fault.Fault.TheVariants as Ends
 use Rattle.fsd_texts.specs.declared.script_command.ScriptCommand.TheVariants.{Plain}
 use Rattle.fsd_runs.specs.declared.request.Request.TheVariants.{One}
-use Rattle.fsd_runs.specs.Errands.{Turn, alone, errand_of}
+use Rattle.fsd_runs.specs.Errands.{Turn, errand_alone, errand_of}
 use Rattle.fsd_runs.specs.Leaves.{LeavesRoots, MayEnd}
 use Rattle.fsd_runs.specs.Sessions.{Meeting, session_over}
-use Rattle.fsd_runs.specs.Runs.{Goes, IsCutAt, behind, turns_of}
+use Rattle.fsd_runs.specs.Runs.{Goes, IsCutAt, session_behind, turns_of}
 use Rattle.volume_contract.specs.State.{Known, forced_of, volume_of}
-use Rattle.volume_turns.specs.declared.turns.End.{End}
-use Rattle.volume_turns.specs.declared.turns.End.TheVariants.{Fault as Stopped, Output}
+use Rattle.volume_turns.specs.declared.turns.Halt.{Halt}
+use Rattle.volume_turns.specs.declared.turns.Halt.TheVariants.{Fault as Stopped, Output}
 use Rattle.volume_turns.specs.Line.{EndsWith, is_unsaid}
 use Rattle.volume_turns.specs.Once.{Anything, IsAlone, SaysRooted, Unanswered}
-use Rattle.volume_turns.specs.Turns.{Told}
-use Rattle.volume_turns.specs.Whole.{Always, Halted, RunsOut}
+use Rattle.volume_turns.specs.Turns.{FaultTold}
+use Rattle.volume_turns.specs.Whole.{Halted, RunsOut}
 use Rattle.volume_turns.proofs.GroupLaws.{goes_wider}
 use Rattle.volume_turns.proofs.HaltLaws.{broken_ends, broken_moments}
 use Rattle.volume_turns.proofs.LineLaws.{alone_length, at_once_ends}
@@ -40,12 +40,12 @@ first_of (t ∷ turns) one = refl
 
 -- the run has a turn to say, whatever the volume
 pub some_one : (c : Command) (s : Session) → IsSome (slice_get (turns_of (errand_of (One c) []) [] s) 0)
-some_one c s = first_of (turns_of (alone c) [] s) (alone_length c [] s)
+some_one c s = first_of (turns_of (errand_alone c) [] s) (alone_length c [] s)
 
 -- where nothing of its one turn is said
-halted_one : {D : Type 0} (M : Ghosts D) (c : Command) (k : Known) (mets : List Meeting) (why : Fault) (a b : D) → (M.now b).windows ≡ (M.now a).windows → Unanswered M c k mets why a b → Halted M k why (turns_of (alone c) mets (session_over (volume_of k))) a b
+halted_one : {D : Type 0} (M : Ghosts D) (c : Command) (k : Known) (mets : List Meeting) (why : Fault) (a b : D) → (M.now b).windows ≡ (M.now a).windows → Unanswered M c k mets why a b → Halted M k why (turns_of (errand_alone c) mets (session_over (volume_of k))) a b
 halted_one M c k mets why a b windows u =
-    let turns = turns_of (alone c) mets (session_over (volume_of k)) in
+    let turns = turns_of (errand_alone c) mets (session_over (volume_of k)) in
     record {
       windows = windows;
       whole = 0;
@@ -86,17 +86,17 @@ module _ {D : Type 0} (M : Ghosts D) (k : Known) (own : Layout) (a p b : D) (why
 -- ---- to the last line
 
 abbrev one_end : Command → Known → List Meeting → Layout
-one_end c k mets = (behind mets (session_over (volume_of k)) (Plain c ∷ [])).volume.layout
+one_end c k mets = (session_behind mets (session_over (volume_of k)) (Plain c ∷ [])).volume.layout
 
 module _ {D : Type 0} (M : Ghosts D) (c : Command) (rest : List ℕ) (k : Known) (a p b : D) (since : Since M p b) where
-  went : {r : Result ℕ End} → (one : IsAlone M c k a p r) → (t : ℕ) → t ≤ M.moment a → Goes (in_runs k.windows) (M.left_since b t) (IsCutAt None) (alone c) (M.now a).said (M.now a).image (session_over (volume_of k)) one.mets (Plain c ∷ [])
+  went : {r : Result ℕ Halt} → (one : IsAlone M c k a p r) → (t : ℕ) → t ≤ M.moment a → Goes (in_runs k.windows) (M.left_since b t) (IsCutAt None) (errand_alone c) (M.now a).said (M.now a).image (session_over (volume_of k)) one.mets (Plain c ∷ [])
   went one t le = let later = one.moments.later in
-      goes_wider (in_runs k.windows) (M.left_since p t) (M.left_since b t) (λ x was. since t x (omega (arith, le, later)) was) Anything (IsCutAt None) (λ v i is. tt) (alone c) (M.now a).said (M.now a).image (session_over (volume_of k)) one.mets (Plain c ∷ []) (one.goes t le)
+      goes_wider (in_runs k.windows) (M.left_since p t) (M.left_since b t) (λ x was. since t x (omega (arith, le, later)) was) Anything (IsCutAt None) (λ v i is. tt) (errand_alone c) (M.now a).said (M.now a).image (session_over (volume_of k)) one.mets (Plain c ∷ []) (one.goes t le)
 
-  pub one_broken : M.honest b → AreShort (M.now p).windows → EndIn (M.now a).windows k.windows → (M.now p).windows ≡ (M.now a).windows → IsTimed M p → IsTimed M b → (why : Fault) → IsAlone M c k a p (Err (Stopped why)) → {T : Type 0} → Told {T = T} (M.report a) (M.report p) (Err (Stopped why))
+  pub one_broken : M.honest b → AreShort (M.now p).windows → EndIn (M.now a).windows k.windows → (M.now p).windows ≡ (M.now a).windows → IsTimed M p → IsTimed M b → (why : Fault) → IsAlone M c k a p (Err (Stopped why)) → {T : Type 0} → FaultTold {T = T} (M.report a) (M.report p) (Err (Stopped why))
       → (status : ℕ) → LeavesDisk M false (is_unsaid status) (Utters (fault_text why)) p b → EndsWith why (M.now p) (M.now b) status → RunsOut M (One c) [] rest (M.report a) k a b status
   one_broken honest short ends windows at_p at_b why one told status says ended =
-      let turns = turns_of (alone c) one.mets (session_over (volume_of k)) in
+      let turns = turns_of (errand_alone c) one.mets (session_over (volume_of k)) in
       let halted = halted_one M c k one.mets why a p windows one.ends in
       record {
         cut = None;
@@ -131,7 +131,7 @@ module _ {D : Type 0} (M : Ghosts D) (c : Command) (rest : List ℕ) (k : Known)
     rooted = one_rooted M k (one_end c k one.mets) a b one.rooted;
   }
 
-  pub one_unsaid : {T : Type 0} → IsAlone M c k a b (Err Output) → Told {T = T} (M.report a) (M.report b) (Err Output) → RunsOut M (One c) [] rest (M.report a) k a b 6
+  pub one_unsaid : {T : Type 0} → IsAlone M c k a b (Err Output) → FaultTold {T = T} (M.report a) (M.report b) (Err Output) → RunsOut M (One c) [] rest (M.report a) k a b 6
   one_unsaid one told = record {
     cut = None;
     may = tt;

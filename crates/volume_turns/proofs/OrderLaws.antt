@@ -12,7 +12,7 @@ use Rattle.fsd_formats.specs.NamePage.{max_keep, max_length}
 use Rattle.fsd_files.specs.Answers.{size_fault, least_pages}
 use Rattle.fsd_files.specs.Disk.{Sectors}
 use Rattle.volume_contract.specs.State.{State, forces_first, forces_for_place, in_place, is_worn, or_freed, place_in}
-use Rattle.volume_contract.specs.Order.{Step, Test, Asks, Draw, Disk, Force, LookUp, Fetch, Data, IsDeviceIn, Comes, Refuses, Through, IsLookUp, IsFetch, IsLoss, IsDevice, down, worn, place, by_itself, table_full, no_place_in, runs_at}
+use Rattle.volume_contract.specs.Order.{CallStep, Test, Asks, Draw, Disk, Force, LookUp, Fetch, Data, IsDeviceIn, Comes, StepRefuses, Through, IsLookUp, IsFetch, IsLoss, IsDeviceRefusal, down, worn, place, by_itself, table_full, no_place_in, runs_at}
 
 abbrev worn_test : Bool → Option Refusal
 worn_test b = cond b (Some Why.WornOut) None
@@ -25,30 +25,30 @@ pub refuses_worn : (b : Bool) (why : Refusal) → worn_test b ≡ Some why → (
 refuses_worn true why is = (cc, refl)
 refuses_worn false why is = absurd (cc (is))
 
-pub past_worn : (b : Bool) (rest : List Step) (why : Refusal) → (why ≡ Why.WornOut → ⊥) → Comes (Test (worn_test b) ∷ rest) why → IsFalse b
+pub past_worn : (b : Bool) (rest : List CallStep) (why : Refusal) → (why ≡ Why.WornOut → ⊥) → Comes (Test (worn_test b) ∷ rest) why → IsFalse b
 past_worn b rest why other (inl refuses) = absurd (other (refuses_worn b why refuses).0)
 past_worn b rest why other (inr later) = passes_worn b later.0
 
-pub at_worn : (b : Bool) (rest : List Step) → (Comes rest Why.WornOut → ⊥) → Comes (Test (worn_test b) ∷ rest) Why.WornOut → IsTrue b
+pub at_worn : (b : Bool) (rest : List CallStep) → (Comes rest Why.WornOut → ⊥) → Comes (Test (worn_test b) ∷ rest) Why.WornOut → IsTrue b
 at_worn b rest never (inl refuses) = (refuses_worn b Why.WornOut refuses).1
 at_worn b rest never (inr later) = absurd (never later.1)
 
 -- a test that refuses nothing
-pub past_test : (test : Option Refusal) (rest : List Step) (why : Refusal) → test ≡ None → Comes (Test test ∷ rest) why → Comes rest why
+pub past_test : (test : Option Refusal) (rest : List CallStep) (why : Refusal) → test ≡ None → Comes (Test test ∷ rest) why → Comes rest why
 past_test test rest why none (inl refuses) = absurd (cc (none, refuses))
 past_test test rest why none (inr later) = later.1
 
 -- one that would refuse otherwise
-pub past_other : (test : Option Refusal) (rest : List Step) (why : Refusal) → (test ≡ Some why → ⊥) → Comes (Test test ∷ rest) why → (test ≡ None) × Comes rest why
+pub past_other : (test : Option Refusal) (rest : List CallStep) (why : Refusal) → (test ≡ Some why → ⊥) → Comes (Test test ∷ rest) why → (test ≡ None) × Comes rest why
 past_other test rest why other (inl refuses) = absurd (other refuses)
 past_other test rest why other (inr later) = later
 
 -- no step of these refuses so
-abbrev pub Never : Refusal → List Step → Type 0
+abbrev pub Never : Refusal → List CallStep → Type 0
 Never why [] = Unit {0}
-Never why (step ∷ steps) = (Refuses step why → ⊥) × Never why steps
+Never why (step ∷ steps) = (StepRefuses step why → ⊥) × Never why steps
 
-pub never : (why : Refusal) (steps : List Step) → Never why steps → Comes steps why → ⊥
+pub never : (why : Refusal) (steps : List CallStep) → Never why steps → Comes steps why → ⊥
 never why [] none comes = comes
 never why (step ∷ steps) none (inl here) = none.0 here
 never why (step ∷ steps) none (inr later) = never why steps none.1 later.1
@@ -72,7 +72,7 @@ no_write Why.WornOut o may is = is
 no_write (Why.Down t) o may is = is
 no_write why o may is = absurd o
 
-not_looked : (why : Refusal) → IsOther why → (IsLookUp why → ⊥) × (IsFetch why → ⊥) × (IsLoss why → ⊥) × (IsDevice why → ⊥)
+not_looked : (why : Refusal) → IsOther why → (IsLookUp why → ⊥) × (IsFetch why → ⊥) × (IsLoss why → ⊥) × (IsDeviceRefusal why → ⊥)
 not_looked Why.WornOut o = (λ x. x, λ x. x, λ x. x, λ x. x)
 not_looked (Why.Down t) o = (λ x. x, λ x. x, λ x. x, λ x. x)
 not_looked why o = absurd o
@@ -98,13 +98,13 @@ place_never s need why o is = some_never (is_none (place_in s need)) (no_place_i
 -- ---- of a volume that is up
 
 -- The order of a call that may refuse for a size, then where the mount is worn out, and then does this.
-abbrev pub steps_of : State → Option Refusal → List Step → List Step
+abbrev pub steps_of : State → Option Refusal → List CallStep → List CallStep
 steps_of s size rest = down s ∷ Test size ∷ worn s ∷ rest
 
-abbrev pub put_rest : State → ℕ → List Step
+abbrev pub put_rest : State → ℕ → List CallStep
 put_rest s need = Force (forces_for_place s need) ∷ place s need ∷ Draw ∷ Disk (in_place (place_in s need)) ∷ Force (forces_first s && not (forces_for_place s need)) ∷ LookUp ∷ Asks Why.VersionsUsedUp ∷ table_full s ∷ Fetch ∷ []
 
-abbrev pub edit_rest : State → List Step
+abbrev pub edit_rest : State → List CallStep
 edit_rest s = by_itself s ∷ LookUp ∷ Asks Why.NoSuch ∷ []
 
 pub put_never : (s : State) (need : ℕ) (why : Refusal) → IsOther why → Never why (put_rest s need)
@@ -136,10 +136,10 @@ pub edit_never : (s : State) (why : Refusal) → IsOther why → Never why (edit
 edit_never s why o = let no_call = not_looked why o in (λ x. no_call.2 x.1, (no_call.0, (λ is. not_other Why.NoSuch why (λ x. x) o (sym is), tt)))
 
 module _ (s : State) (up : s.down ≡ None) where
-  pub starts_up : (rest : List Step) (why : Refusal) → Comes (down s ∷ rest) why → Comes rest why
+  pub starts_up : (rest : List CallStep) (why : Refusal) → Comes (down s ∷ rest) why → Comes rest why
   starts_up rest why comes = past_test (option_map Why.Down s.down) rest why (ap (λ (o : Option ℕ). option_map Why.Down o) up) comes
 
-  module _ (size : Option Refusal) (rest : List Step) (size_other : (why : Refusal) → IsOther why → size ≡ Some why → ⊥) (rest_other : (why : Refusal) → IsOther why → Never why rest) where
+  module _ (size : Option Refusal) (rest : List CallStep) (size_other : (why : Refusal) → IsOther why → size ≡ Some why → ⊥) (rest_other : (why : Refusal) → IsOther why → Never why rest) where
     -- it is not told as down
     pub never_down : (why : Refusal) → Comes (steps_of s size rest) why → (t : ℕ) → why ≡ Why.Down t → ⊥
     never_down why comes t is =
@@ -200,7 +200,7 @@ module _ (s : State) (need : ℕ) where
   few_best is = few (pick s.free need) refl is
 
 -- a call without a test of a size
-abbrev pub delete_all : State → List Step
+abbrev pub delete_all : State → List CallStep
 delete_all s = worn s ∷ edit_rest s
 
 module _ (s : State) (up : s.down ≡ None) where
@@ -224,10 +224,6 @@ delete_through s is = passes_worn (is_worn s) is.1.0
 pub force_loss : (s : State) → s.down ≡ None → (comes_one : Bool) (why : Refusal) → Comes (down s ∷ Force comes_one ∷ []) why → IsLoss why
 force_loss s up comes_one why comes = elim (starts_up s up (Force comes_one ∷ []) why comes) [ inl here ↦ here.1 | inr later ↦ absurd later.1 ]
 
-pub force_down : (s : State) → s.down ≡ None → (comes_one : Bool) (why : Refusal) → Comes (down s ∷ Force comes_one ∷ []) why → (t : ℕ) → why ≡ Why.Down t → ⊥
-force_down s up comes_one why comes t is =
-    elim (starts_up s up (Force comes_one ∷ []) (Why.Down t) (subst (λ (w : Refusal). Comes (down s ∷ Force comes_one ∷ []) w) is comes)) [ inl here ↦ here.1 | inr later ↦ later.1 ]
-
 -- a look-up, and the read behind it
 pub entry_down : (s : State) → s.down ≡ None → (why : Refusal) → Comes (down s ∷ LookUp ∷ Asks Why.NoSuch ∷ []) why → (t : ℕ) → why ≡ Why.Down t → ⊥
 entry_down s up why comes t is =
@@ -240,8 +236,6 @@ read_down s up why comes t is =
     never (Why.Down t) rest (λ x. x, (λ is. cc is, (λ x. x, tt))) (starts_up s up rest (Why.Down t) (subst (λ (w : Refusal). Comes (down s ∷ rest) w) is comes))
 
 -- none of these tells the mount as worn out
-pub force_worn : (s : State) → s.down ≡ None → (comes_one : Bool) → Comes (down s ∷ Force comes_one ∷ []) Why.WornOut → ⊥
-force_worn s up comes_one comes = force_loss s up comes_one Why.WornOut comes
 
 pub entry_worn : (s : State) → s.down ≡ None → Comes (down s ∷ LookUp ∷ Asks Why.NoSuch ∷ []) Why.WornOut → ⊥
 entry_worn s up comes =

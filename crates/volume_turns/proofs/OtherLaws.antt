@@ -10,7 +10,7 @@ use Rattle.fsd_texts.specs.declared.script_command.ScriptCommand.TheVariants.{Pl
 use Rattle.fsd_texts.specs.Script.{Script, script_from}
 use Rattle.fsd_runs.proofs.OtherLaws.{AreOthers, AreOthersIn, GivesOther, IsOther, IsOtherIn, command_other, made_others, script_others}
 use Rattle.script_text.specs.Making.{Making, made_left}
-use Rattle.script_text.specs.Reading.{Answers, IsSpelled, Reading, room_of, script_left, unless_ended}
+use Rattle.script_text.specs.Reading.{AnswersScript, IsSpelledCommand, Reading, room_of, script_left, unless_ended}
 use Rattle.volume_turns.specs.Steps.{is_upgrade, is_upgrade_in}
 
 unless_others : (end : Option End) (s : Script) → AreOthersIn s.0 → AreOthersIn (unless_ended end s).0
@@ -20,7 +20,7 @@ unless_others (Some end) s others = tt
 left_others : (r : Reading) (input : List ℕ) → AreOthersIn (script_left r input).0
 left_others r input = unless_others r.end (script_from (room_of r) (r.given + 1) (r.waiting ++ input)) (script_others (room_of r) (r.given + 1) (r.waiting ++ input))
 
-pub read_other : (r s : Reading) (before now : List ℕ) (command : ScriptCommand) → Answers (Ok (Some command)) (script_left r before) (script_left s now) → IsOtherIn command
+pub read_other : (r s : Reading) (before now : List ℕ) (command : ScriptCommand) → AnswersScript (Ok (Some command)) (script_left r before) (script_left s now) → IsOtherIn command
 read_other r s before now command is =
     let all : AreOthersIn (command ∷ (script_left s now).0) = subst (λ (x : Script). AreOthersIn x.0) is (left_others r before) in
     all.0
@@ -31,7 +31,7 @@ made_other old new command is =
     all.0
 
 -- one that some bytes begin with
-pub spelled_other : (command : ScriptCommand) → IsSpelled (Ok (Some command)) → IsOtherIn command
+pub spelled_other : (command : ScriptCommand) → IsSpelledCommand (Ok (Some command)) → IsOtherIn command
 spelled_other command is = subst (λ (r : Result (ScriptCommand × List ℕ) Cause). IfOk r GivesOther) is.2 (command_other is.0)
 
 pub not_upgrade : (command : Command) → IsOther command → is_upgrade command ≡ false

@@ -22,12 +22,12 @@ use Rattle.fsd_texts.specs.Script.{max_input}
 use Rattle.fsd_texts.specs.Text.{fault_text}
 use Rattle.fsd_runs.specs.declared.request.Request.TheVariants.{Put}
 use Rattle.fsd_runs.specs.Sessions.{MayFindIn, Meeting, session_over}
-use Rattle.fsd_runs.specs.Errands.{Cut, Errand, MayCut, Turn, alone, errand_of, nothing_but}
-use Rattle.fsd_runs.specs.Leaves.{IsBroken, IsOutside, IsUnsaid, MayEnd}
+use Rattle.fsd_runs.specs.Errands.{Cut, Errand, MayCut, Turn, errand_alone, errand_of, nothing_but}
+use Rattle.fsd_runs.specs.Leaves.{IsBrokenOff, IsOutside, IsUnsaid, MayEnd}
 use Rattle.fsd_runs.specs.Runs.{Goes, IsCutAt, IsCutBefore, changes_in, errand_in, said_in, turns_of}
 use Rattle.volume_contract.specs.State.{State, Ages, Known, Stands, forced_of, is_worn, volume_of}
 use Rattle.volume_turns.specs.Line.{EndsWith, is_unsaid}
-use Rattle.volume_turns.specs.Steps.{StaysSound}
+use Rattle.volume_turns.specs.Steps.{StaysSoundFor}
 use Rattle.volume_turns.specs.Turns.{InRun, OnDisk, Undone}
 use Rattle.volume_turns.specs.Whole.{Finishes, Halted, RunsOut, SaysOut, UnderWay}
 use Rattle.volume_turns.proofs.HaltLaws.{stopped_ends, stopped_moments}
@@ -39,7 +39,7 @@ use Rattle.volume_turns.proofs.WholeLaws.{runs_on}
 -- ---- what a put asks for, by how long its input is
 
 abbrev asked : Bool → (name input : List ℕ) → Option ℕ → Errand
-asked long name input keep = if long then nothing_but Ends.InputTooLong else alone (Word.Put name input keep)
+asked long name input keep = if long then nothing_but Ends.InputTooLong else errand_alone (Word.Put name input keep)
 
 -- the run has a turn to say, whatever the volume
 pub some_put : (name : List ℕ) (keep : Option ℕ) (input : List ℕ) (s : Session) → IsSome (slice_get (turns_of (errand_of (Put name keep) input) [] s) 0)
@@ -71,13 +71,13 @@ module _ {S D : Type 0} (state : S → State) (has : S → Mounted → List Plac
   pub stands_on : Stands state has v k (M.now m)
   stands_on = wears (M.now a) (M.now m) short (record { image = worn.image; windows = worn.windows }) stands
 
-  stays : (left : Moment) → Wears (M.now a) left → StaysSound k (M.now a) left
+  stays : (left : Moment) → Wears (M.now a) left → StaysSoundFor k (M.now a) left
   stays left w =
       let now = wears (M.now a) left short (record { image = w.image; windows = w.windows }) stands in
       record { sound = mounted_sound k.mounted k.windows k.changes (forced_of k) left.image now.disk; windows = w.windows; said = w.said }
 
-  stays_run : LeavesOnly M.moment M.left_since a m (StaysSound k (M.now a))
-  stays_run = leaves_more M.moment M.left_since a m (Wears (M.now a)) (StaysSound k (M.now a)) stays (read.any_moment back)
+  stays_run : LeavesOnly M.moment M.left_since a m (StaysSoundFor k (M.now a))
+  stays_run = leaves_more M.moment M.left_since a m (Wears (M.now a)) (StaysSoundFor k (M.now a)) stays (read.any_moment back)
 
   taking : (turns : List Turn) → StopsOnly M a m (InRun k (forced_of k) turns (M.now a))
   taking turns = stays_stops M k (forced_of k) a m at_a at_m (read.since back) stays_run on turns
@@ -104,7 +104,7 @@ module _ {S D : Type 0} (state : S → State) (has : S → Mounted → List Plac
     )
 
     abbrev Over : D → List Meeting → Type 0
-    Over x mets = SaysOut M e k mets x b status ⊎ (IsUnsaid before (M.report b) status ⊎ IsBroken (Put name keep) (Undone k (forced_of k) (turns_of e mets (session_over (volume_of k)))) (UnderWay M k (turns_of e mets (session_over (volume_of k))) b) before (M.report b) (turns_of e mets (session_over (volume_of k))) (M.now x) (M.now b) status)
+    Over x mets = SaysOut M e k mets x b status ⊎ (IsUnsaid before (M.report b) status ⊎ IsBrokenOff (Put name keep) (Undone k (forced_of k) (turns_of e mets (session_over (volume_of k)))) (UnderWay M k (turns_of e mets (session_over (volume_of k))) b) before (M.report b) (turns_of e mets (session_over (volume_of k))) (M.now x) (M.now b) status)
 
     ends_from : (mets : List Meeting) → Over m mets → Over a mets
     ends_from mets (inl out) = inl (record {

@@ -10,7 +10,7 @@ use Rattle.fsd_bytes.specs.declared.refusal.Refusal.{Refusal}
 use Rattle.fsd_bytes.specs.declared.refusal.Refusal.TheVariants as Why
 use Rattle.fsd_bytes.specs.Keys.{key_cmp}
 use Rattle.fsd_formats.specs.declared.entry.Entry.{Entry}
-use Rattle.fsd_files.specs.Answers.{got, Finds, entry_of, entry_reply, found_or}
+use Rattle.fsd_files.specs.Answers.{got, FindsDamage, entry_of, entry_reply, found_or}
 use Rattle.fsd_files.specs.Disk.{Image}
 use Rattle.fsd_files.specs.Files.{File}
 use Rattle.fsd_files.specs.Kept.{FirstDamaged, IsWhole, range_sectors}
@@ -23,7 +23,7 @@ use Rattle.sector_disk.specs.Image.{IsWorn}
 use Rattle.sector_disk.specs.Machine.{Moment}
 use Rattle.sector_disk.proofs.Wear.{worn_whole}
 use Rattle.fsd_sound.specs.Mounted.{Mounted}
-use Rattle.volume_contract.specs.Ends.{Reads, Looks, found_one}
+use Rattle.volume_contract.specs.Ends.{ReadsRange, LooksUp, found_one}
 use Rattle.volume_contract.specs.State.{State, Known, volume_of, Stands}
 use Rattle.fsd_files.proofs.FoundLaws.{no_file}
 use Rattle.volume_turns.specs.Steps.{Does, IsAnswered, ended_by, read_ended_by}
@@ -43,11 +43,11 @@ module _ (may : ℕ → Bool) (i j : Image) (worn : IsWorn may i j) where
   first_earlier k (t ∷ sectors) s (inl here) = inl here
   first_earlier k (t ∷ sectors) s (inr later) = inr (whole_earlier t later.0, first_earlier k sectors s later.1)
 
-  pub finds_earlier : (k : Image) (sectors : List ℕ) (damaged : Option ℕ) → Finds j k sectors damaged → Finds i k sectors damaged
+  pub finds_earlier : (k : Image) (sectors : List ℕ) (damaged : Option ℕ) → FindsDamage j k sectors damaged → FindsDamage i k sectors damaged
   finds_earlier k sectors None finds = all_earlier sectors finds
   finds_earlier k sectors (Some s) finds = first_earlier k sectors s finds
 
-  pub some_earlier : (k : Image) (e : Option Entry) (damaged : Option ℕ) → IfSome e (λ x. Finds j k (range_sectors x.runs 0 x.length) damaged) → IfSome e (λ x. Finds i k (range_sectors x.runs 0 x.length) damaged)
+  pub some_earlier : (k : Image) (e : Option Entry) (damaged : Option ℕ) → IfSome e (λ x. FindsDamage j k (range_sectors x.runs 0 x.length) damaged) → IfSome e (λ x. FindsDamage i k (range_sectors x.runs 0 x.length) damaged)
   some_earlier k None damaged finds = finds
   some_earlier k (Some e) damaged finds = finds_earlier k (range_sectors e.runs 0 e.length) damaged finds
 
@@ -57,9 +57,9 @@ module _ (may : ℕ → Bool) (i j : Image) (worn : IsWorn may i j) where
 record IsGot (key : Key) (file : Option File) (e : Option Entry) (i j : Image) (reply : Reply) : Type 0 where
   damaged : Option ℕ
   is : got key damaged file ≡ reply
-  finds : IfSome e (λ x. Finds i j (range_sectors x.runs 0 x.length) damaged)
+  finds : IfSome e (λ x. FindsDamage i j (range_sectors x.runs 0 x.length) damaged)
 
-read_got : (key : Key) (file : Option File) (e : Option Entry) (i j : Image) (old new : List ℕ) (n : ℕ) → IfSome e (λ x. x.length ≡ length old) → Reads i j file e 0 old new (Ok n) → IsGot key file e i j (Said.Bytes key new)
+read_got : (key : Key) (file : Option File) (e : Option Entry) (i j : Image) (old new : List ℕ) (n : ℕ) → IfSome e (λ x. x.length ≡ length old) → ReadsRange i j file e 0 old new (Ok n) → IsGot key file e i j (Said.Bytes key new)
 read_got key None None i j old new n len reads = absurd reads
 read_got key None (Some e) i j old new n len reads = absurd reads
 read_got key (Some file) None i j old new n len reads = absurd reads
@@ -84,7 +84,7 @@ GotBy key file e i j (Err (Ends.Device s)) = Unit {0}
 GotBy key file e i j (Err Ends.Memory) = Unit {0}
 GotBy key file e i j (Err fault) = ⊥
 
-got_by : (key : Key) (file : Option File) (e : Option Entry) (i j : Image) (old new : List ℕ) (why : Refusal) → IfSome e (λ x. x.length ≡ length old) → Reads i j file e 0 old new (Err why) → GotBy key file e i j (read_ended_by key why)
+got_by : (key : Key) (file : Option File) (e : Option Entry) (i j : Image) (old new : List ℕ) (why : Refusal) → IfSome e (λ x. x.length ≡ length old) → ReadsRange i j file e 0 old new (Err why) → GotBy key file e i j (read_ended_by key why)
 unfolding GotBy
 got_by key (Some file) (Some e) i j old new (Why.Damaged s) len reads =
     let all : min (e.length - 0) (length old) ≡ e.length = omega (arith, len) in
@@ -112,7 +112,7 @@ module _ {S : Type 0} (state : S → State) (has : S → Mounted → List Placed
     unworn = λ may. cc may;
   }
 
-  pub read_does : (before_buf buf : List ℕ) (n : ℕ) → IfSome entry_at (λ x. x.length ≡ length before_buf) → Reads before.image now.image file_at entry_at 0 before_buf buf (Ok n) → IsAnswered (Word.Get key) (state old) k k before.image now.image (Said.Bytes key buf)
+  pub read_does : (before_buf buf : List ℕ) (n : ℕ) → IfSome entry_at (λ x. x.length ≡ length before_buf) → ReadsRange before.image now.image file_at entry_at 0 before_buf buf (Ok n) → IsAnswered (Word.Get key) (state old) k k before.image now.image (Said.Bytes key buf)
   read_does before_buf buf n len reads = got_answered (Said.Bytes key buf) (read_got key file_at entry_at before.image now.image before_buf buf n len reads)
 
   -- a result of a read
@@ -123,7 +123,7 @@ module _ {S : Type 0} (state : S → State) (has : S → Mounted → List Placed
   does_by (Err Ends.Memory) stands is = tt
   does_by (Err fault) stands is = absurd is
 
-  pub unread_does : (before_buf buf : List ℕ) (why : Refusal) → IfSome entry_at (λ x. x.length ≡ length before_buf) → Stands state has new k now → Reads before.image now.image file_at entry_at 0 before_buf buf (Err why)
+  pub unread_does : (before_buf buf : List ℕ) (why : Refusal) → IfSome entry_at (λ x. x.length ≡ length before_buf) → Stands state has new k now → ReadsRange before.image now.image file_at entry_at 0 before_buf buf (Err why)
       → Does state has (Word.Get key) old new k before now (read_ended_by key why)
   unread_does before_buf buf why len stands reads = does_by (read_ended_by key why) stands (got_by key file_at entry_at before.image now.image before_buf buf why len reads)
 
@@ -150,7 +150,7 @@ module _ {S : Type 0} (state : S → State) (has : S → Mounted → List Placed
 
 -- ---- what the look-up says
 
-pub found_length : (o : Option Entry) (e : Entry) → Looks (found_or o) (found_one (Ok e)) → IfSome o (λ x. x.length ≡ e.length)
+pub found_length : (o : Option Entry) (e : Entry) → LooksUp (found_or o) (found_one (Ok e)) → IfSome o (λ x. x.length ≡ e.length)
 found_length None e looks = tt
 found_length (Some x) e looks = cc looks
 
@@ -159,7 +159,7 @@ none_such None is = refl
 none_such (Some e) is = cc is
 
 -- a version that isn't there, or a fault from outside
-pub unfound_does : {S : Type 0} (state : S → State) (has : S → Mounted → List Placed → Type 0) (key : Key) (old new : S) (k : Known) (before now : Moment) (why : Refusal) → Stands state has new k now → Looks (entry_reply (volume_of k) key) (found_one (Err why)) → Does state has (Word.Get key) old new k before now (ended_by why)
+pub unfound_does : {S : Type 0} (state : S → State) (has : S → Mounted → List Placed → Type 0) (key : Key) (old new : S) (k : Known) (before now : Moment) (why : Refusal) → Stands state has new k now → LooksUp (entry_reply (volume_of k) key) (found_one (Err why)) → Does state has (Word.Get key) old new k before now (ended_by why)
 unfound_does state has key old new k before now (Why.Device s) stands looks = tt
 unfound_does state has key old new k before now Why.Memory stands looks = tt
 unfound_does state has key old new k before now Why.NoSuch stands looks =
@@ -172,7 +172,7 @@ unfound_does state has key old new k before now Why.NoSuch stands looks =
         opened = refl;
         windows = refl;
         changes = sym (append-nil k.changes);
-        find = subst (λ (o : Option Entry). IfSome o (λ x. Finds before.image now.image (range_sectors x.runs 0 x.length) None)) (sym none) tt;
+        find = subst (λ (o : Option Entry). IfSome o (λ x. FindsDamage before.image now.image (range_sectors x.runs 0 x.length) None)) (sym none) tt;
         unworn = λ may. cc may;
       },
       stands,

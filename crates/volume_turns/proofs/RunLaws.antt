@@ -37,17 +37,17 @@ use Rattle.fsd_texts.specs.declared.script_command.ScriptCommand.{ScriptCommand}
 use Rattle.fsd_texts.specs.declared.script_command.ScriptCommand.TheVariants.{Plain, OfClient}
 use Rattle.fsd_runs.specs.Commands.{MayFind}
 use Rattle.fsd_runs.specs.Errands.{Errand, Turn}
-use Rattle.fsd_runs.specs.Runs.{Goes, IsStep, Stood, behind, changes_in, forced_in, said_in, turns_begun, WearsOut}
+use Rattle.fsd_runs.specs.Runs.{Goes, IsStep, StoodAt, session_behind, changes_in, forced_in, said_in, turns_begun, WearsOut}
 use Rattle.fsd_runs.specs.Sessions.{CallMayFind, FindsNext, HoldsRead, MayFindIn, Meeting, answer_in, changes_in_session}
 use Rattle.fsd_runs.proofs.SessionLaws.{command_grows}
 use Rattle.client_desk.specs.declared.client.Client.{Client}
-use Rattle.volume_turns.specs.declared.turns.End.{End}
-use Rattle.volume_turns.specs.declared.turns.End.TheVariants.{Fault as Stopped, Output}
+use Rattle.volume_turns.specs.declared.turns.Halt.{Halt}
+use Rattle.volume_turns.specs.declared.turns.Halt.TheVariants.{Fault as Stopped, Output}
 use Rattle.sector_disk.specs.Calls.{DiskFaults, IsHeld, IsTimed, Since, StopsOnly, WritesDisk, stops}
 use Rattle.volume_contract.specs.State.{State, Ages, Known, forced_of, Stands}
 use Rattle.volume_turns.specs.Seats.{DoesIn, IsAnsweredIn, Seated, SitsAt, StaysIn, known_of, session_in}
-use Rattle.volume_turns.specs.Steps.{StaysSound, device_told}
-use Rattle.volume_turns.specs.Turns.{Carries, Follows, InRun, OnDisk, RunsFrom, Runs, Steps, StepsBy, StepsOk, StandsBehind, EndsBy, Said, SaysAll, Unsaid, UttersBehind, Behind, Told, turn_by}
+use Rattle.volume_turns.specs.Steps.{StaysSoundFor, device_told}
+use Rattle.volume_turns.specs.Turns.{Carries, KeepsCalls, InRun, OnDisk, RunsFrom, RunsTurns, Steps, StepsBy, StepsOk, StandsBehind, EndsBy, Said, SaysAll, Unsaid, UttersBehind, Behind, FaultTold, turn_by}
 use Rattle.volume_turns.proofs.ReadLaws.{finds_earlier, some_earlier}
 use Rattle.volume_turns.proofs.SeatLaws.{seat_wears}
 use Rattle.volume_turns.proofs.TurnLaws.{in_saying_at, in_unsaid, in_behind, enough_from, said_before, said_more, said_nothing, stays_held, stays_stops, worn_state, state_worn}
@@ -94,8 +94,8 @@ module _ {S D : Type 0} (state : S → State) (has : S → Mounted → List Plac
     at_m : IsTimed M m
     at_m = timed m honest
 
-    stays_run : LeavesOnly M.moment M.left_since a m (StaysSound (known_of k) (M.now a))
-    stays_run = leaves_more M.moment M.left_since a m (StaysIn state has v (M.now a)) (StaysSound (known_of k) (M.now a)) (λ left stays. stays k stood) (disk.any_moment honest)
+    stays_run : LeavesOnly M.moment M.left_since a m (StaysSoundFor (known_of k) (M.now a))
+    stays_run = leaves_more M.moment M.left_since a m (StaysIn state has v (M.now a)) (StaysSoundFor (known_of k) (M.now a)) (λ left stays. stays k stood) (disk.any_moment honest)
 
     pub before_it : (turns : List Turn) → StopsOnly M a m (InRun (known_of k) f turns (M.now a))
     before_it turns = stays_stops M (known_of k) f a m at_a at_m (disk.since honest) stays_run held turns
@@ -119,7 +119,7 @@ module _ {S D : Type 0} (state : S → State) (has : S → Mounted → List Plac
       pub changes_is : after.changes ≡ k.changes ++ turn.changes
       changes_is = is.changes ∙ ap (λ (r : Reply). k.changes ++ changes_in_session (session_in k) command r) (sym reply_is)
 
-      passed : (t : ℕ) → t ≤ M.moment a → Stood (M.left_since b t) (M.now a).said (M.now m).image
+      passed : (t : ℕ) → t ≤ M.moment a → StoodAt (M.left_since b t) (M.now a).said (M.now m).image
       passed t le =
           let later = (disk.any_moment honest).later in
           let on : t ≤ M.moment m = omega (arith, le, later) in
@@ -284,14 +284,14 @@ module _ {S D : Type 0} (state : S → State) (has : S → Mounted → List Plac
           unsaid_so why worn = said_before M (known_of k) (known_of after) f turn [] layout_is is.windows changes_is a b (worn.windows ∙ disk.windows honest) held_unsaid why (λ is. spared_after worn) (worn.said ∙ disk.quiet honest)
 
           -- it was not said
-          pub step_unsaid : (end : End) → Unsaid (M.now m) (M.now b) end → (more : List ScriptCommand) → RunsFrom state has M e k f from (command ∷ more) a b w (Err end)
+          pub step_unsaid : (end : Halt) → Unsaid (M.now m) (M.now b) end → (more : List ScriptCommand) → RunsFrom state has M e k f from (command ∷ more) a b w (Err end)
           step_unsaid (Stopped Ends.Memory) unsaid more = record { mets = is.met ∷ []; goes = λ t le. ((M.now m).image, step_is t le, tt); moments = in_both; ends = (tt, unsaid_so Ends.Memory unsaid) }
           step_unsaid (Stopped (Ends.Device s)) unsaid more = record { mets = is.met ∷ []; goes = λ t le. ((M.now m).image, step_is t le, tt); moments = in_both; ends = (tt, unsaid_so (Ends.Device s) unsaid) }
           step_unsaid Output unsaid more = record { mets = is.met ∷ []; goes = λ t le. ((M.now m).image, step_is t le, tt); moments = in_both; ends = tt }
           step_unsaid (Stopped fault) unsaid more = absurd unsaid
 
           -- by how its reply was said
-          pub step_said : (r : Result (Unit {0}) End) → OnOk r (SaysAll (e.says reply) (M.now m) (M.now b)) → OnOk r (IsTrue (e.forces reply) → (M.now m).time ≤ (M.now b).synced) → IfErr r (λ end. Unsaid (M.now m) (M.now b) end) → StepsBy state has M e k f from command a b w r
+          pub step_said : (r : Result (Unit {0}) Halt) → OnOk r (SaysAll (e.says reply) (M.now m) (M.now b)) → OnOk r (IsTrue (e.forces reply) → (M.now m).time ≤ (M.now b).synced) → IfErr r (λ end. Unsaid (M.now m) (M.now b) end) → StepsBy state has M e k f from command a b w r
           step_said (Ok x) said synced unsaid = step_ok said synced
           step_said (Err end) said synced unsaid = step_unsaid end unsaid
 
@@ -355,7 +355,7 @@ later_on M a p b back first second h = let x = first (back h) in let y = second 
 pub writes_on : (a p b : Ledger) → b ≡ p → OnlyWrites a p → OnlyWrites a b
 writes_on a p b same writes = subst (λ (l : Ledger). OnlyWrites a l) (sym same) writes
 
-pub follows_then : {D : Type 0} (M : Ghosts D) (a b c : D) → Follows M a b → Follows M b c → Follows M a c
+pub follows_then : {D : Type 0} (M : Ghosts D) (a b c : D) → KeepsCalls M a b → KeepsCalls M b c → KeepsCalls M a c
 follows_then M a b c x y = record {
   honest = λ h. x.honest (y.honest h);
   since = λ h t left le was. let later = x.later (y.honest h) in y.since h t left (omega (arith, le, later)) (x.since (y.honest h) t left le was);
@@ -364,14 +364,14 @@ follows_then M a b c x y = record {
 
 module _ {S D : Type 0} (state : S → State) (has : S → Mounted → List Placed → Type 0) (M : Ghosts D) (e : Errand) where
   pub runs_nil : (v : S × List Client) (a : D) → ((s : S) (k : Known) (old new : Moment) → AreShort old.windows → Ages old new → Stands state has s k old → Stands state has s k new)
-      → (M.honest a → IsTimed M a) → (M.honest a → (from : Moment) → Ages from (M.now a) → AreShort from.windows) → Runs state has M e [] v a v a (Ok tt)
+      → (M.honest a → IsTimed M a) → (M.honest a → (from : Moment) → Ages from (M.now a) → AreShort from.windows) → RunsTurns state has M e [] v a v a (Ok tt)
   runs_nil v a wears timed short honest k f from stood aged held =
       let now = seat_wears state has wears v k from (M.now a) (short honest from aged) aged stood in
       let at = timed honest in
       record {
         mets = [];
         goes = λ t le. tt;
-        moments = λ rest. stays_stops M (known_of k) f a a at at (λ t left le was. was) (started M.moment M.left_since a (M.now a) (StaysSound (known_of k) (M.now a)) at.only
+        moments = λ rest. stays_stops M (known_of k) f a a at at (λ t left le was. was) (started M.moment M.left_since a (M.now a) (StaysSoundFor (known_of k) (M.now a)) at.only
             (record { sound = mounted_sound k.mounted k.windows k.changes (forced_of (known_of k)) (M.now a).image now.stands.disk; windows = refl; said = refl })) held rest;
         ends = (refl, record { after = k; is = refl; windows = refl; changes = sym (append-nil k.changes); said = sym (append-nil (M.now a).said); open_windows = refl; layout = refl; told = f; least = omega arith; forced = λ any. absurd (cc any); held = held; stands = now });
       }
@@ -382,8 +382,8 @@ module _ {S D : Type 0} (state : S → State) (has : S → Mounted → List Plac
   unfolding runs_nil
   runs_nil_mets v a wears timed short honest k f from stood aged held = refl
 
-  module _ (command : ScriptCommand) (commands : List ScriptCommand) (v w z : S × List Client) (a m b : D) (result : Result (Unit {0}) End) (follows : Follows M m b) (later : M.honest m → M.moment a ≤ M.moment m)
-      (steps : Steps state has M e command v a w m (Ok tt)) (runs : Runs state has M e commands w m z b result) where
+  module _ (command : ScriptCommand) (commands : List ScriptCommand) (v w z : S × List Client) (a m b : D) (result : Result (Unit {0}) Halt) (follows : KeepsCalls M m b) (later : M.honest m → M.moment a ≤ M.moment m)
+      (steps : Steps state has M e command v a w m (Ok tt)) (runs : RunsTurns state has M e commands w m z b result) where
     module _ (honest : M.honest b) (k : Seated) (f : ℕ) (from : Moment) (stood : SitsAt state has v k from) (aged : Ages from (M.now a)) (held : OnDisk M (known_of k) f a) where
       ok : StepsOk state has M e k f from command a m w
       ok = steps (follows.honest honest) k f from stood aged held
@@ -424,7 +424,7 @@ module _ {S D : Type 0} (state : S → State) (has : S → Mounted → List Plac
       stands_behind : StandsBehind state has M e ok.after ok.told rest.mets commands z m b → StandsBehind state has M e k f (ok.met ∷ rest.mets) (command ∷ commands) z a b
       stands_behind x = record {
         after = x.after;
-        is = x.is ∙ ap (λ (y : Session). behind rest.mets y commands) ok.is;
+        is = x.is ∙ ap (λ (y : Session). session_behind rest.mets y commands) ok.is;
         windows = x.windows ∙ ok.carries.windows;
         changes = x.changes ∙ ap (λ (h : List Change). h ++ changes_in (turns_begun e rest.mets (session_in ok.after) commands)) ok.carries.changes
             ∙ append_assoc k.changes this_turn.changes (changes_in (turns_begun e rest.mets (session_in ok.after) commands)) ∙ ap (λ (ts : List Turn). k.changes ++ (this_turn.changes ++ changes_in ts)) same_turns;
@@ -442,9 +442,9 @@ module _ {S D : Type 0} (state : S → State) (has : S → Mounted → List Plac
       said_behind : (why : Fault) → Said M (known_of ok.after) ok.told why (turns_begun e rest.mets (session_in ok.after) commands) m b → Said M (known_of k) f why (this_turn ∷ turns) a b
       said_behind why x = said_more M (known_of k) (known_of ok.after) f ok.told this_turn turns ok.carries a m b ok.open_windows ok.said why (subst (λ (ts : List Turn). Said M (known_of ok.after) ok.told why ts m b) same_turns x)
 
-      ends : (r : Result (Unit {0}) End) → EndsBy state has M e ok.after ok.told rest.mets commands z m b r → EndsBy state has M e k f (ok.met ∷ rest.mets) (command ∷ commands) z a b r
+      ends : (r : Result (Unit {0}) Halt) → EndsBy state has M e ok.after ok.told rest.mets commands z m b r → EndsBy state has M e k f (ok.met ∷ rest.mets) (command ∷ commands) z a b r
       ends (Ok x) is = (ap (λ (n : ℕ). suc n) is.0, stands_behind is.1)
-      ends (Err (Stopped Ends.WornOut)) is = (subst (λ (x : Session). WearsOut (behind rest.mets x commands) (slice_get commands (length rest.mets))) ok.is is.0, stands_behind is.1)
+      ends (Err (Stopped Ends.WornOut)) is = (subst (λ (x : Session). WearsOut (session_behind rest.mets x commands) (slice_get commands (length rest.mets))) ok.is is.0, stands_behind is.1)
       ends (Err Output) is = tt
       ends (Err (Stopped fault)) is = (is.0, said_behind fault is.1)
 
@@ -455,25 +455,25 @@ module _ {S D : Type 0} (state : S → State) (has : S → Mounted → List Plac
       unfolding from_both ok rest
       from_both_mets = refl
 
-    pub runs_then : Runs state has M e (command ∷ commands) v a z b result
+    pub runs_then : RunsTurns state has M e (command ∷ commands) v a z b result
     runs_then honest k f from stood aged held = from_both honest k f from stood aged held
 
   -- one that ends the run
-  pub runs_stop : (command : ScriptCommand) (commands : List ScriptCommand) (v z : S × List Client) (a b : D) (end : End) → Steps state has M e command v a z b (Err end) → Runs state has M e (command ∷ commands) v a z b (Err end)
+  pub runs_stop : (command : ScriptCommand) (commands : List ScriptCommand) (v z : S × List Client) (a b : D) (end : Halt) → Steps state has M e command v a z b (Err end) → RunsTurns state has M e (command ∷ commands) v a z b (Err end)
   runs_stop command commands v z a b end steps honest k f from stood aged held = steps honest k f from stood aged held commands
 
 -- ---- counts
 
-pub told_done : (old new : Report) → UsesDisk old new → DiskFaults None old new → Told {T = Unit {0}} old new (Ok tt)
+pub told_done : (old new : Report) → UsesDisk old new → DiskFaults None old new → FaultTold {T = Unit {0}} old new (Ok tt)
 told_done old new uses none = record { sectors = uses.sectors; disk = none; input = uses.input; later = let same = uses.output in omega (arith, same); output = uses.output }
 
-pub told_fault : (old new : Report) (fault : Fault) → UsesDisk old new → DiskFaults (device_told fault) old new → Told {T = Unit {0}} old new (Err (Stopped fault))
+pub told_fault : (old new : Report) (fault : Fault) → UsesDisk old new → DiskFaults (device_told fault) old new → FaultTold {T = Unit {0}} old new (Err (Stopped fault))
 told_fault old new fault uses faults = record { sectors = uses.sectors; disk = faults; input = uses.input; later = omega (arith, uses.output); output = uses.output }
 
-pub on_ok_said : {T : Type 0} {H : Type 0} (P : Type 0) (r : Result T End) → H → OnOk r (H → P) → OnOk r P
+pub on_ok_said : {T : Type 0} {H : Type 0} (P : Type 0) (r : Result T Halt) → H → OnOk r (H → P) → OnOk r P
 on_ok_said P (Ok x) h fact = fact h
 on_ok_said P (Err e) h fact = tt
 
-pub on_err_said : {T : Type 0} {H : Type 0} (P : End → Type 0) (r : Result T End) → H → IfErr r (λ end. H → P end) → IfErr r P
+pub on_err_said : {T : Type 0} {H : Type 0} (P : Halt → Type 0) (r : Result T Halt) → H → IfErr r (λ end. H → P end) → IfErr r P
 on_err_said P (Ok x) h fact = tt
 on_err_said P (Err e) h fact = fact h

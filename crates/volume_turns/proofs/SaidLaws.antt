@@ -5,8 +5,8 @@ use Rattle.std.specs.List.{flat_map}
 use Rattle.std.proofs.lemmas.List.{append-nil, append_assoc}
 use Rattle.sector_disk.specs.Machine.{Moment}
 use Rattle.fsd_files.specs.declared.reply.Reply.{Reply}
-use Rattle.volume_turns.specs.declared.turns.End.{End}
-use Rattle.volume_turns.specs.declared.turns.End.TheVariants.{Fault as Stopped, Output}
+use Rattle.volume_turns.specs.declared.turns.Halt.{Halt}
+use Rattle.volume_turns.specs.declared.turns.Halt.TheVariants.{Fault as Stopped, Output}
 use Rattle.volume_turns.specs.Answering.{SaysBy}
 use Rattle.volume_turns.specs.Group.{is_worn_end}
 use Rattle.volume_turns.specs.Turns.{BreaksWhole, EndsWhole, KeepsEnd, KeepsSaid, SaysReplies, SaysWhole}
@@ -32,36 +32,36 @@ replies_then says a b c (xs, first) (ys, then) = (xs ++ ys, flat_then says xs ys
 -- ---- by how it ended
 
 module _ (says : Reply → List ℕ) (a m b : Moment) where
-  pub whole_by : (reply : Reply) → m.said ≡ a.said → (r : Result (Unit {0}) End) → SaysBy (says reply) m b r → SaysWhole says a b r
+  pub whole_by : (reply : Reply) → m.said ≡ a.said → (r : Result (Unit {0}) Halt) → SaysBy (says reply) m b r → SaysWhole says a b r
   whole_by reply same (Ok x) said = one_reply says reply a.said b.said (said ∙ ap (λ (x : List ℕ). x ++ says reply) same)
   whole_by reply same (Err (Stopped why)) said = no_replies says a.said b.said (said ∙ same)
   whole_by reply same (Err Output) said = tt
 
-  pub whole_then : (end : End) → SaysReplies says a.said m.said → EndsWhole says m b end → EndsWhole says a b end
+  pub whole_then : (end : Halt) → SaysReplies says a.said m.said → EndsWhole says m b end → EndsWhole says a b end
   whole_then (Stopped why) first said = replies_then says a.said m.said b.said first said
   whole_then Output first said = tt
 
-  pub broken_by : {T : Type 0} (r : Result T End) → SaysReplies says a.said m.said → KeepsSaid m b r → BreaksWhole says a b r
+  pub broken_by : {T : Type 0} (r : Result T Halt) → SaysReplies says a.said m.said → KeepsSaid m b r → BreaksWhole says a b r
   broken_by (Ok x) first same = tt
   broken_by (Err (Stopped why)) first same = replies_then says a.said m.said b.said first (no_replies says m.said b.said same)
   broken_by (Err Output) first same = tt
 
-pub worn_whole : (says : Reply → List ℕ) (a b : Moment) (end : End) → is_worn_end end ≡ true → EndsWhole says a b end → SaysReplies says a.said b.said
+pub worn_whole : (says : Reply → List ℕ) (a b : Moment) (end : Halt) → is_worn_end end ≡ true → EndsWhole says a b end → SaysReplies says a.said b.said
 worn_whole says a b (Stopped why) is said = said
 worn_whole says a b Output is said = absurd (cc is)
 
 -- ---- in front of a fault
 
-pub keeps_by : {T : Type 0} (text : List ℕ) (a b : Moment) (r : Result T End) → SaysBy text a b r → KeepsSaid a b r
+pub keeps_by : {T : Type 0} (text : List ℕ) (a b : Moment) (r : Result T Halt) → SaysBy text a b r → KeepsSaid a b r
 keeps_by text a b (Ok x) said = tt
 keeps_by text a b (Err (Stopped why)) said = said
 keeps_by text a b (Err Output) said = tt
 
-pub keeps_then : {T : Type 0} (a m b : Moment) (r : Result T End) → m.said ≡ a.said → KeepsSaid m b r → KeepsSaid a b r
+pub keeps_then : {T : Type 0} (a m b : Moment) (r : Result T Halt) → m.said ≡ a.said → KeepsSaid m b r → KeepsSaid a b r
 keeps_then a m b (Ok x) same kept = tt
 keeps_then a m b (Err (Stopped why)) same kept = kept ∙ same
 keeps_then a m b (Err Output) same kept = tt
 
-pub keeps_end : (a b : Moment) (end : End) → b.said ≡ a.said → KeepsEnd a b end
+pub keeps_end : (a b : Moment) (end : Halt) → b.said ≡ a.said → KeepsEnd a b end
 keeps_end a b (Stopped why) same = same
 keeps_end a b Output same = tt

@@ -12,8 +12,8 @@ use Rattle.sector_disk.proofs.Holding.{wears_none}
 use Rattle.sector_disk.proofs.Moments.{goes_on, leaves_more, leaves_more_in, started, then_on}
 use Rattle.sector_disk.proofs.Wear.{worn_trans}
 use Rattle.fsd_texts.specs.declared.fault.Fault.TheVariants as Ends
-use Rattle.volume_turns.specs.declared.turns.End.TheVariants.{Fault as Stopped, Output}
-use Rattle.volume_turns.specs.Turns.{SaysAll, Told, UttersBehind}
+use Rattle.volume_turns.specs.declared.turns.Halt.TheVariants.{Fault as Stopped, Output}
+use Rattle.volume_turns.specs.Turns.{SaysAll, FaultTold, UttersBehind}
 
 -- ---- what is counted
 
@@ -24,10 +24,10 @@ module _ (a b : Report) where
   pub spares_unsaid : {T E : Type 0} (e : E) → OutputCause {T = T} a b (Err e) → SparesDisk false true a b
   spares_unsaid e c = record { sectors = c.sectors; place = c.place; disk = c.disk; input = c.input; output = c.output.failed }
 
-  pub told_said : {T U E : Type 0} (x : T) (y : U) → OutputCause {E = E} a b (Ok x) → Told {T = U} a b (Ok y)
+  pub told_said : {T U E : Type 0} (x : T) (y : U) → OutputCause {E = E} a b (Ok x) → FaultTold {T = U} a b (Ok y)
   told_said x y c = record { sectors = c.sectors; disk = (c.disk, c.place); input = c.input; later = c.output.later; output = c.output.stays }
 
-  pub told_unsaid : {T U E : Type 0} (e : E) → OutputCause {T = T} a b (Err e) → Told {T = U} a b (Err Output)
+  pub told_unsaid : {T U E : Type 0} (e : E) → OutputCause {T = T} a b (Err e) → FaultTold {T = U} a b (Err Output)
   told_unsaid e c = record { sectors = c.sectors; disk = (c.disk, c.place); input = c.input; later = c.output.later; output = c.output.failed }
 
   pub spares_taken : {T E : Type 0} (x : T) → InputCause {E = E} a b (Ok x) → SparesDisk false false a b
@@ -37,10 +37,10 @@ module _ (a b : Report) where
   spares_untaken e c = record { sectors = c.sectors; place = c.place; disk = c.disk; input = c.input.failed; output = c.output }
 
   -- of a sync, by the sectors that it keeps
-  pub told_synced : {T : Type 0} (x : T) → b.sectors ≡ a.sectors → DiskCause a b 0 (Ok x) → Told {T = Unit {0}} a b (Ok tt)
+  pub told_synced : {T : Type 0} (x : T) → b.sectors ≡ a.sectors → DiskCause a b 0 (Ok x) → FaultTold {T = Unit {0}} a b (Ok tt)
   told_synced x same c = record { sectors = same; disk = (c.disk.stays, c.untold); input = c.input; later = let output = c.output in omega (arith, output); output = c.output }
 
-  pub told_unsynced : {T U : Type 0} (failed : Failed) → b.sectors ≡ a.sectors → DiskCause {T = T} a b 0 (Err failed) → Told {T = U} a b (Err (Stopped (Ends.Device failed.place)))
+  pub told_unsynced : {T U : Type 0} (failed : Failed) → b.sectors ≡ a.sectors → DiskCause {T = T} a b 0 (Err failed) → FaultTold {T = U} a b (Err (Stopped (Ends.Device failed.place)))
   told_unsynced failed same c = record {
     sectors = same;
     disk = record { rose = c.disk.failed; told = c.names ∙ sym c.told };

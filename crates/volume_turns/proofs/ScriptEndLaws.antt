@@ -18,17 +18,17 @@ use Rattle.fsd_texts.specs.declared.line.Line.{Line}
 use Rattle.fsd_texts.specs.declared.line.Line.TheVariants as Says
 use Rattle.fsd_runs.specs.declared.request.Request.TheVariants.{Script}
 use Rattle.fsd_runs.specs.Errands.{Answered, Ending, Errand, Turn, cut_ending, forced_turn, group_ending, line_turn}
-use Rattle.fsd_runs.specs.Leaves.{IsBroken, IsOutside, IsUnsaid}
+use Rattle.fsd_runs.specs.Leaves.{IsBrokenOff, IsOutside, IsUnsaid}
 use Rattle.fsd_runs.specs.Sessions.{Meeting, session_over}
-use Rattle.fsd_runs.specs.Runs.{Goes, IsWornOut, WearsOut, answered, behind, turns_begun, turns_of}
+use Rattle.fsd_runs.specs.Runs.{Goes, IsWornOut, WearsOut, answered, session_behind, turns_begun, turns_of}
 use Rattle.volume_contract.specs.State.{Known, forced_of, volume_of}
-use Rattle.volume_turns.specs.declared.turns.End.{End}
-use Rattle.volume_turns.specs.declared.turns.End.TheVariants.{Fault as Stopped, Output}
+use Rattle.volume_turns.specs.declared.turns.Halt.{Halt}
+use Rattle.volume_turns.specs.declared.turns.Halt.TheVariants.{Fault as Stopped, Output}
 use Rattle.volume_turns.specs.Group.{CutsOff, EndsGroup, IsGroup, WornIf, is_through, turns_behind}
 use Rattle.volume_turns.specs.Line.{EndsLast, EndsWith, is_unsaid}
 use Rattle.volume_turns.specs.Once.{IsDone}
 use Rattle.volume_turns.specs.Script.{Heard}
-use Rattle.volume_turns.specs.Turns.{EndsAtOnce, InRun, Said, Told, device_end}
+use Rattle.volume_turns.specs.Turns.{EndsAtOnce, InRun, Said, FaultTold, device_end}
 use Rattle.volume_turns.specs.Whole.{Always, Finishes}
 use Rattle.volume_turns.proofs.GroupEndLaws.{answered_cut, behind_cut, ended_as, finishes_broken, finishes_last, finishes_unsaid, goes_cut, goes_length, goes_within, turns_are}
 use Rattle.volume_turns.proofs.GroupLaws.{goes_wider}
@@ -43,7 +43,7 @@ disk_but : (a b : Report) (o : Option ℕ) → DiskFaults o a b → DiskFaults o
 disk_but a b None x = x
 disk_but a b (Some place) x = record { rose = x.rose; told = x.told }
 
-pub told_but : {T : Type 0} (a b : Report) (r : Result T End) → Heard {T = T} a b r → Told {T = T} (but_input a b) b r
+pub told_but : {T : Type 0} (a b : Report) (r : Result T Halt) → Heard {T = T} a b r → FaultTold {T = T} (but_input a b) b r
 told_but a b (Ok x) h = record { sectors = h.sectors; disk = disk_but a b None h.disk; input = refl; later = h.later; output = h.output }
 told_but a b (Err (Stopped why)) h = record { sectors = h.sectors; disk = disk_but a b (device_end {T = Unit {0}} (Err (Stopped why))) h.disk; input = refl; later = h.later; output = h.output }
 told_but a b (Err Output) h = record { sectors = h.sectors; disk = disk_but a b None h.disk; input = refl; later = h.later; output = h.output }
@@ -53,13 +53,13 @@ outside_in a p b (Ends.Device s) o = record { rose = o.rose; told = o.told }
 outside_in a p b Ends.Memory o = tt
 outside_in a p b why o = absurd o
 
-broken_in : (a p b : Report) {Over : ℕ → Image → Type 0} {Way : ℕ → Type 0} {turns : List Turn} {old new : Moment} {status : ℕ} → IsBroken Script Over Way (but_input a p) b turns old new status → IsBroken Script Over Way a b turns old new status
+broken_in : (a p b : Report) {Over : ℕ → Image → Type 0} {Way : ℕ → Type 0} {turns : List Turn} {old new : Moment} {status : ℕ} → IsBrokenOff Script Over Way (but_input a p) b turns old new status → IsBrokenOff Script Over Way a b turns old new status
 broken_in a p b x = record { why = x.why; outside = outside_in a p b x.why x.outside; ends = x.ends; says = x.says; held = x.held; undone = x.undone }
 
 pub finishes_in : {D : Type 0} (M : Ghosts D) (e : Errand) (Ahead : Session → Type 0) (Last : Volume → Image → Type 0) (x p : Report) (k : Known) (a b : D) (status : ℕ) → Finishes M Script e Ahead Last (but_input x p) k a b status → Finishes M Script e Ahead Last x k a b status
 finishes_in M e Ahead Last x p k a b status f = record { mets = f.mets; ahead = f.ahead; goes = f.goes; moments = f.moments; ends = ended f.ends }
   where
-    ended : {All : Type 0} {Over : ℕ → Image → Type 0} {Way : ℕ → Type 0} {turns : List Turn} {old new : Moment} → All ⊎ (IsUnsaid (but_input x p) (M.report b) status ⊎ IsBroken Script Over Way (but_input x p) (M.report b) turns old new status) → All ⊎ (IsUnsaid x (M.report b) status ⊎ IsBroken Script Over Way x (M.report b) turns old new status)
+    ended : {All : Type 0} {Over : ℕ → Image → Type 0} {Way : ℕ → Type 0} {turns : List Turn} {old new : Moment} → All ⊎ (IsUnsaid (but_input x p) (M.report b) status ⊎ IsBrokenOff Script Over Way (but_input x p) (M.report b) turns old new status) → All ⊎ (IsUnsaid x (M.report b) status ⊎ IsBrokenOff Script Over Way x (M.report b) turns old new status)
     ended (inl out) = inl out
     ended (inr (inl u)) = inr (inl (record { ends = u.ends; rose = u.rose }))
     ended (inr (inr y)) = inr (inr (broken_in x p (M.report b) y))
@@ -106,7 +106,7 @@ module _ {D : Type 0} (M : Ghosts D) (before : Report) (k : Known) (a p b : D) (
       turns_all : turns_of all_errand mets v ≡ turns ++ turns_behind (is_through false mets commands) more
       turns_all = turns_are e v mets commands commands refl ending more is (is_through false mets commands) (ap (λ (n : ℕ). n == length commands) (sym known))
 
-      pub all_said : IsTrue (is_through false mets commands) → IsDone M k front (behind mets v commands).volume a p → (line : Line) → more ≡ line_turn line ∷ [] → (gives : ℕ) → gives ≡ (ending (answered mets v commands)).status → before.output_faults ≤ (M.report p).output_faults
+      pub all_said : IsTrue (is_through false mets commands) → IsDone M k front (session_behind mets v commands).volume a p → (line : Line) → more ≡ line_turn line ∷ [] → (gives : ℕ) → gives ≡ (ending (answered mets v commands)).status → before.output_faults ≤ (M.report p).output_faults
           → LeavesDisk M false (is_unsaid status) (Utters (text line)) p b → EndsLast line gives (M.now p) (M.now b) status → Finishes M Script all_errand Always (WornIf false) before k a b status
       all_said through done line one gives same counted says ended =
           let t = line_turn line in
@@ -115,21 +115,21 @@ module _ {D : Type 0} (M : Ghosts D) (before : Report) (k : Known) (a p b : D) (
           turns_all ∙ ap (λ (x : Bool). turns ++ turns_behind x more) through ∙ ap (λ (x : List Turn). turns ++ forced_turn ∷ x) one ∙ split in
           let moments : StopsOnly M a p (InRun k (forced_of k) (front ++ t ∷ []) (M.now a)) =
           subst (λ (x : List Turn). StopsOnly M a p (InRun k (forced_of k) x (M.now a))) split (subst (λ (x : Bool). StopsOnly M a p (InRun k (forced_of k) (turns ++ turns_behind x (t ∷ [])) (M.now a))) through (leaves (t ∷ []))) in
-          finishes_last M Script before k front line (behind mets v commands).volume gives a p b moments done short ends at_p at_b counted status says honest all_errand Always (WornIf false) mets tt turns_is (on (WornIf false) later goes)
+          finishes_last M Script before k front line (session_behind mets v commands).volume gives a p b moments done short ends at_p at_b counted status says honest all_errand Always (WornIf false) mets tt turns_is (on (WornIf false) later goes)
           (eqb-true (length mets) (length commands) through) same refl ended
 
-      pub all_broken : (why : Fault) → Said M k (forced_of k) why turns a p → EndsAtOnce why → {T : Type 0} → Told {T = T} before (M.report p) (Err (Stopped why)) → LeavesDisk M false (is_unsaid status) (Utters (fault_text why)) p b → EndsWith why (M.now p) (M.now b) status
+      pub all_broken : (why : Fault) → Said M k (forced_of k) why turns a p → EndsAtOnce why → {T : Type 0} → FaultTold {T = T} before (M.report p) (Err (Stopped why)) → LeavesDisk M false (is_unsaid status) (Utters (fault_text why)) p b → EndsWith why (M.now p) (M.now b) status
           → Finishes M Script all_errand Always (WornIf false) before k a b status
       all_broken why said once told says ended =
           finishes_broken M Script before k turns (is_through false mets commands) more a p b (leaves more) why said short ends at_p at_b once told status says honest ended all_errand Always (WornIf false) mets tt turns_all (on (WornIf false) later goes)
 
-      pub all_unsaid : {T : Type 0} → status ≡ 6 → Told {T = T} before (M.report b) (Err Output) → StopsOnly M a b (InRun k (forced_of k) (turns ++ turns_behind (is_through false mets commands) more) (M.now a)) → Finishes M Script all_errand Always (WornIf false) before k a b status
+      pub all_unsaid : {T : Type 0} → status ≡ 6 → FaultTold {T = T} before (M.report b) (Err Output) → StopsOnly M a b (InRun k (forced_of k) (turns ++ turns_behind (is_through false mets commands) more) (M.now a)) → Finishes M Script all_errand Always (WornIf false) before k a b status
       all_unsaid six told moments = subst (λ (n : ℕ). Finishes M Script all_errand Always (WornIf false) before k a b n) (sym six)
           (finishes_unsaid M Script before k (turns ++ turns_behind (is_through false mets commands) more) a b moments told all_errand Always (WornIf false) mets tt turns_all (on (WornIf false) later goes))
 
       -- and nothing is said behind the force
       pub all_quiet : more ≡ [] → IsTrue (is_through false mets commands) → status ≡ (ending (answered mets v commands)).status → StopsOnly M a b (InRun k (forced_of k) (turns ++ turns_behind (is_through false mets commands) []) (M.now a))
-          → IsDone M k front (behind mets v commands).volume a b → Finishes M Script all_errand Always (WornIf false) before k a b status
+          → IsDone M k front (session_behind mets v commands).volume a b → Finishes M Script all_errand Always (WornIf false) before k a b status
       all_quiet none through gives moments done =
           let turns_none : turns_of all_errand mets v ≡ turns ++ turns_behind (is_through false mets commands) [] = turns_all ∙ ap (λ (x : List Turn). turns ++ turns_behind (is_through false mets commands) x) none in
           let turns_is : turns_of all_errand mets v ≡ front = turns_none ∙ ap (λ (x : Bool). turns ++ turns_behind x []) through in
@@ -141,7 +141,7 @@ module _ {D : Type 0} (M : Ghosts D) (before : Report) (k : Known) (a p b : D) (
             ends = inl (record {
               through = eqb-true (length mets) (length commands) through;
               gives = gives;
-              done = subst (λ (x : List Turn). IsDone M k x (behind mets v commands).volume a b) (sym turns_is) done;
+              done = subst (λ (x : List Turn). IsDone M k x (session_behind mets v commands).volume a b) (sym turns_is) done;
             });
           }
 
@@ -156,7 +156,7 @@ module _ {D : Type 0} (M : Ghosts D) (before : Report) (k : Known) (a p b : D) (
       abbrev Worn : Session → Type 0
       Worn s = WearsOut s (slice_get commands (length mets))
 
-      worn_behind : Worn (behind mets v done_commands)
+      worn_behind : Worn (session_behind mets v done_commands)
       worn_behind = subst Worn (sym (behind_cut mets v commands)) worn
 
       abbrev cut_short : List Answered → Ending
@@ -177,23 +177,23 @@ module _ {D : Type 0} (M : Ghosts D) (before : Report) (k : Known) (a p b : D) (
       went : (t : ℕ) → t ≤ M.moment a → Goes (in_runs k.windows) (M.left_since b t) (λ v i. IsWornOut v i) e (M.now a).said (M.now a).image v mets done_commands
       went t le = goes_cut (in_runs k.windows) (M.left_since b t) e (WornIf true) (λ v i. IsWornOut v i) (λ v i is. is) (M.now a).said (M.now a).image v mets commands (on (WornIf true) later_cut goes t le)
 
-      pub cut_said : IsDone M k front (behind mets v commands).volume a p → before.output_faults ≤ (M.report p).output_faults
+      pub cut_said : IsDone M k front (session_behind mets v commands).volume a p → before.output_faults ≤ (M.report p).output_faults
           → LeavesDisk M false (is_unsaid status) (Utters (fault_text Ends.WornOut)) p b → EndsLast (Says.Ended Ends.WornOut) 9 (M.now p) (M.now b) status → WornOff M e commands before k a b status
       cut_said done counted says ended =
           let split : turns ++ forced_turn ∷ last_turn ∷ [] ≡ front ++ last_turn ∷ [] = sym (append_assoc turns (forced_turn ∷ []) (last_turn ∷ [])) in
           record {
             count = length mets;
-            finishes = finishes_last M Script before k front (Says.Ended Ends.WornOut) (behind mets v commands).volume 9 a p b (subst (λ (x : List Turn). StopsOnly M a p (InRun k (forced_of k) x (M.now a))) split (leaves (last_turn ∷ []))) done short ends at_p at_b counted status says honest
+            finishes = finishes_last M Script before k front (Says.Ended Ends.WornOut) (session_behind mets v commands).volume 9 a p b (subst (λ (x : List Turn). StopsOnly M a p (InRun k (forced_of k) x (M.now a))) split (leaves (last_turn ∷ []))) done short ends at_p at_b counted status says honest
                 (ended_as e done_commands cut_short) Worn (λ v i. IsWornOut v i) mets worn_behind (turns_cut ∙ split) went (sym within) refl (ap (λ (x : Session). x.volume) (sym (behind_cut mets v commands))) ended;
           }
 
-      pub cut_broken : (why : Fault) → Said M k (forced_of k) why turns a p → EndsAtOnce why → {T : Type 0} → Told {T = T} before (M.report p) (Err (Stopped why)) → LeavesDisk M false (is_unsaid status) (Utters (fault_text why)) p b → EndsWith why (M.now p) (M.now b) status → WornOff M e commands before k a b status
+      pub cut_broken : (why : Fault) → Said M k (forced_of k) why turns a p → EndsAtOnce why → {T : Type 0} → FaultTold {T = T} before (M.report p) (Err (Stopped why)) → LeavesDisk M false (is_unsaid status) (Utters (fault_text why)) p b → EndsWith why (M.now p) (M.now b) status → WornOff M e commands before k a b status
       cut_broken why said once told says ended = record {
         count = length mets;
         finishes = finishes_broken M Script before k turns true (last_turn ∷ []) a p b (leaves (last_turn ∷ [])) why said short ends at_p at_b once told status says honest ended (ended_as e done_commands cut_short) Worn (λ v i. IsWornOut v i) mets worn_behind turns_cut went;
       }
 
-      pub cut_unsaid : {T : Type 0} → status ≡ 6 → Told {T = T} before (M.report b) (Err Output) → StopsOnly M a b (InRun k (forced_of k) (turns ++ forced_turn ∷ last_turn ∷ []) (M.now a)) → WornOff M e commands before k a b status
+      pub cut_unsaid : {T : Type 0} → status ≡ 6 → FaultTold {T = T} before (M.report b) (Err Output) → StopsOnly M a b (InRun k (forced_of k) (turns ++ forced_turn ∷ last_turn ∷ []) (M.now a)) → WornOff M e commands before k a b status
       cut_unsaid six told moments = subst (λ (n : ℕ). WornOff M e commands before k a b n) (sym six) (record {
         count = length mets;
         finishes = finishes_unsaid M Script before k (turns ++ forced_turn ∷ last_turn ∷ []) a b moments told (ended_as e done_commands cut_short) Worn (λ v i. IsWornOut v i) mets worn_behind turns_cut went;
@@ -202,7 +202,7 @@ module _ {D : Type 0} (M : Ghosts D) (before : Report) (k : Known) (a p b : D) (
 -- ---- by how the group ended
 
 module _ {D : Type 0} (M : Ghosts D) (before : Report) (k : Known) (a p b : D) (honest : M.honest b) (since : Since M p b) (short : AreShort (M.now p).windows) (ends : EndIn (M.now a).windows k.windows) (at_p : IsTimed M p) (at_b : IsTimed M b) (status : ℕ) (e : Errand) (commands : List ScriptCommand) where
-  abbrev Group : Result Bool End → Type 0
+  abbrev Group : Result Bool Halt → Type 0
   Group result = IsGroup M e k (M.now a) commands a p result
 
   -- the errand ends so, whatever is answered
@@ -231,7 +231,7 @@ module _ {D : Type 0} (M : Ghosts D) (before : Report) (k : Known) (a p b : D) (
   Over more gives = Finishes M Script (ended_in more gives) Always (WornIf false) before k a b status ⊎ WornOff M e commands before k a b status
 
   module _ (more : List Turn) (gives : ℕ) where
-    pub group_fault : (why : Fault) → (g : Group (Err (Stopped why))) → {T : Type 0} → Told {T = T} before (M.report p) (Err (Stopped why)) → LeavesDisk M false (is_unsaid status) (Utters (fault_text why)) p b → EndsWith why (M.now p) (M.now b) status → Over more gives
+    pub group_fault : (why : Fault) → (g : Group (Err (Stopped why))) → {T : Type 0} → FaultTold {T = T} before (M.report p) (Err (Stopped why)) → LeavesDisk M false (is_unsaid status) (Utters (fault_text why)) p b → EndsWith why (M.now p) (M.now b) status → Over more gives
     group_fault why g told says ended = by g.cut g.before g.goes g.moments g.ends
       where
         by : (cut : Bool) → CutsOff cut g.mets (session_over (volume_of k)) commands → MayGo M before k a p b honest since short ends at_p at_b status e commands g.mets cut → Leaves M before k a p b honest since short ends at_p at_b status e commands g.mets (is_through cut g.mets commands) → EndsGroup M e k cut g.mets commands a p (Err (Stopped why)) → Over more gives
@@ -239,7 +239,7 @@ module _ {D : Type 0} (M : Ghosts D) (before : Report) (k : Known) (a p b : D) (
         by true worn goes leaves x = inr (cut_broken M before k a p b honest since short ends at_p at_b status e commands g.mets worn goes leaves why x.1 x.0 told says ended)
 
     -- it was not cut off
-    pub group_fault_all : (why : Fault) → (g : Group (Err (Stopped why))) → g.cut ≡ false → {T : Type 0} → Told {T = T} before (M.report p) (Err (Stopped why)) → LeavesDisk M false (is_unsaid status) (Utters (fault_text why)) p b → EndsWith why (M.now p) (M.now b) status
+    pub group_fault_all : (why : Fault) → (g : Group (Err (Stopped why))) → g.cut ≡ false → {T : Type 0} → FaultTold {T = T} before (M.report p) (Err (Stopped why)) → LeavesDisk M false (is_unsaid status) (Utters (fault_text why)) p b → EndsWith why (M.now p) (M.now b) status
         → Finishes M Script (ended_in more gives) Always (WornIf false) before k a b status
     group_fault_all why g uncut told says ended = by g.cut uncut g.goes g.moments g.ends
       where
@@ -261,7 +261,7 @@ module _ {D : Type 0} (M : Ghosts D) (before : Report) (k : Known) (a b : D) (ho
       by true goes leaves x = cc x.0
       by false goes leaves x = all_quiet M before k a b b honest still short ends at_b at_b 0 e commands g.mets (λ done. group_ending [] 0) [] refl goes leaves refl x.1 refl (leaves []) x.2
 
-  module _ (more : List Turn) (gives : ℕ) {T : Type 0} (told : Told {T = T} before (M.report b) (Err Output)) where
+  module _ (more : List Turn) (gives : ℕ) {T : Type 0} (told : FaultTold {T = T} before (M.report b) (Err Output)) where
     pub group_unsaid : IsGroup M e k (M.now a) commands a b (Err Output) → Finishes M Script (ended_as e commands (λ done. group_ending more gives)) Always (WornIf false) before k a b 6 ⊎ WornOff M e commands before k a b 6
     group_unsaid g = by g.cut g.before g.goes g.moments
       where

@@ -21,8 +21,8 @@ use Rattle.fsd_files.specs.Desk.{no_clients}
 use Rattle.client_desk.specs.declared.client.Client.{Client}
 use Rattle.volume_contract.specs.State.{State, Ages, Known, forced_of}
 use Rattle.volume_turns.specs.Seats.{Seated, SitsAt, known_of, seated}
-use Rattle.volume_turns.specs.declared.turns.End.{End}
-use Rattle.volume_turns.specs.declared.turns.End.TheVariants.{Fault as Stopped, Output}
+use Rattle.volume_turns.specs.declared.turns.Halt.{Halt}
+use Rattle.volume_turns.specs.declared.turns.Halt.TheVariants.{Fault as Stopped, Output}
 use Rattle.volume_turns.specs.declared.script.Stop.{Stop}
 use Rattle.volume_turns.specs.declared.script.Stop.TheVariants.{Ended, Input, WornOut}
 use Rattle.volume_turns.specs.Group.{is_worn_end}
@@ -62,14 +62,14 @@ module _ {S D : Type 0} (state : S → State) (has : S → Mounted → List Plac
   abbrev input : List ℕ
   input = (M.ledger a).input
 
-  abbrev Closing : Result Stop End → Type 0
+  abbrev Closing : Result Stop Halt → Type 0
   Closing result = (x : Seated) (f : ℕ) → SitsAt state has w x (M.now m) → OnDisk M (known_of x) f m → ClosesAndSays M (known_of x) f forced_turn.said m b (unit_of result)
 
   now : Ages (M.now a) (M.now a)
   now = record { image = worn_refl (open_damage (M.now a).windows) (M.now a).image; windows = refl }
 
   module _ (left : (M.ledger b).input ≡ (M.ledger m).input) (rose : Rose (M.report a).input_faults (M.report b).input_faults) (last : Reading) (few : last.end ≡ None → last.taken ≤ max_input) (f : FailsBehind state has M e fresh last v a w m)
-      (result : Result Bool End) (same : IfOk result (λ x. x ≡ true)) (closes : (x : Seated) (f : ℕ) → SitsAt state has w x (M.now m) → OnDisk M (known_of x) f m → ClosesAndSays M (known_of x) f forced_turn.said m b (unit_of result)) where
+      (result : Result Bool Halt) (same : IfOk result (λ x. x ≡ true)) (closes : (x : Seated) (f : ℕ) → SitsAt state has w x (M.now m) → OnDisk M (known_of x) f m → ClosesAndSays M (known_of x) f forced_turn.said m b (unit_of result)) where
     failed : FailedGroup M e k input (M.ledger b).input a b result
     failed = record {
       done = f.done;
@@ -88,7 +88,7 @@ module _ {S D : Type 0} (state : S → State) (has : S → Mounted → List Plac
   rose_on WornOut same rose = same ∙ rose
 
   module _ (left : (M.ledger b).input ≡ (M.ledger m).input) (counted : (M.report b).input_faults ≡ (M.report m).input_faults) where
-    pub group_stopped : (stop : Stop) (result : Result Stop End) → IfOk result (λ x. x ≡ stop) → RoseBy (M.report a) (M.report m) (Some stop) → WholeRead state has M e v a w m (Ok stop) → Closing result → GroupsBy M e k input (M.ledger b).input a b result
+    pub group_stopped : (stop : Stop) (result : Result Stop Halt) → IfOk result (λ x. x ≡ stop) → RoseBy (M.report a) (M.report m) (Some stop) → WholeRead state has M e v a w m (Ok stop) → Closing result → GroupsBy M e k input (M.ledger b).input a b result
     group_stopped (Ended end) (Ok s) same rose x closes = subst (λ (y : Stop). GroupsBy M e k input (M.ledger b).input a b (Ok y)) (sym same)
         (x.reads.0, group_all state has M e k (M.now a) (script_in input).0 a m b w since later timed (x.reads.1 honest (seated k no_clients) (forced_of k) (M.now a) stands now disk) (Ok true) refl closes)
     group_stopped Input (Ok s) same rose x closes = subst (λ (y : Stop). GroupsBy M e k input (M.ledger b).input a b (Ok y)) (sym same) (failed left (rose_on Input counted rose) x.last x.few x.reads (Ok true) refl closes)
@@ -97,16 +97,16 @@ module _ {S D : Type 0} (state : S → State) (has : S → Mounted → List Plac
     group_stopped Input (Err why) same rose x closes = inr (failed left (rose_on Input counted rose) x.last x.few x.reads (Err why) tt closes)
     group_stopped WornOut (Err why) same rose x closes = absurd x.reads
 
-  pub group_worn_out : (end : End) → is_worn_end end ≡ true → (result : Result Stop End) → IfOk result (λ x. x ≡ WornOut) → WholeRead state has M e v a w m (Err end) → Closing result → GroupsBy M e k input (M.ledger b).input a b result
+  pub group_worn_out : (end : Halt) → is_worn_end end ≡ true → (result : Result Stop Halt) → IfOk result (λ x. x ≡ WornOut) → WholeRead state has M e v a w m (Err end) → Closing result → GroupsBy M e k input (M.ledger b).input a b result
   group_worn_out end worn (Ok s) same x closes = subst (λ (y : Stop). GroupsBy M e k input (M.ledger b).input a b (Ok y)) (sym same)
       (group_worn state has M e k (M.now a) (script_in input).0 a m b w since later timed end worn (x.reads honest (seated k no_clients) (forced_of k) (M.now a) stands now disk) (Ok false) refl closes)
   group_worn_out end worn (Err why) same x closes = inl (group_worn state has M e k (M.now a) (script_in input).0 a m b w since later timed end worn (x.reads honest (seated k no_clients) (forced_of k) (M.now a) stands now disk) (Err why) tt closes)
 
-  pub group_broken : (end : End) → is_worn_end end ≡ false → WholeRead state has M e v a w m (Err end) → GroupsBy M e k input (M.ledger m).input a m (Err end)
+  pub group_broken : (end : Halt) → is_worn_end end ≡ false → WholeRead state has M e v a w m (Err end) → GroupsBy M e k input (M.ledger m).input a m (Err end)
   group_broken end other x = inl (group_stop state has M e k (M.now a) (script_in input).0 a m w end other (x.reads honest (seated k no_clients) (forced_of k) (M.now a) stands now disk))
 
 -- what is counted up to there
-pub heard_worn : (a b : Report) (end : End) → is_worn_end end ≡ true → Heard {T = Stop} a b (Err end) → Heard {T = Unit {0}} a b (Ok tt)
+pub heard_worn : (a b : Report) (end : Halt) → is_worn_end end ≡ true → Heard {T = Stop} a b (Err end) → Heard {T = Unit {0}} a b (Ok tt)
 heard_worn a b (Stopped Ends.WornOut) worn x = record { sectors = x.sectors; disk = x.disk; later = x.later; output = x.output }
 heard_worn a b (Stopped why) worn x = cc worn
 heard_worn a b Output worn x = cc worn

@@ -24,14 +24,14 @@ use Rattle.volume_contract.specs.State.{Known}
 use Rattle.scrub.specs.Telling.{AreOfPage}
 use Rattle.volume_turns.specs.declared.script.Stop.{Stop}
 use Rattle.volume_turns.specs.declared.script.Stop.TheVariants.{Ended, Input, WornOut}
-use Rattle.volume_turns.specs.declared.turns.End.{End}
-use Rattle.volume_turns.specs.declared.turns.End.TheVariants.{Fault as Stopped, Output}
-use Rattle.volume_turns.specs.Causes.{FailsInput, SaysFault, SaysOfCall, SaysOfInput, is_of_fault}
+use Rattle.volume_turns.specs.declared.turns.Halt.{Halt}
+use Rattle.volume_turns.specs.declared.turns.Halt.TheVariants.{Fault as Stopped, Output}
+use Rattle.volume_turns.specs.Causes.{FailsInput, SaysFaultAt, SaysOfCall, SaysOfInput, is_of_fault}
 use Rattle.volume_turns.specs.Last.{EndsSo, ending_line, ending_status}
 use Rattle.volume_turns.specs.Line.{EndsLast, is_unsaid}
 use Rattle.volume_turns.specs.Script.{GroupsBy, Heard, RoseBy, SparesWanting}
 use Rattle.volume_turns.specs.Status.{CountsTaking, IsScriptStatus}
-use Rattle.volume_turns.specs.Turns.{BreaksWhole, IsEndOfVolume, IsEndOn, Told}
+use Rattle.volume_turns.specs.Turns.{BreaksWhole, IsEndOfVolume, IsEndOn, FaultTold}
 use Rattle.volume_turns.specs.Whole.{RunsOut}
 use Rattle.volume_turns.proofs.CauseLaws.{call_says, long_input, says_input}
 use Rattle.volume_turns.proofs.LastLaws.{ends_fault, fault_not, line_other, told_place}
@@ -46,21 +46,21 @@ fault_unsaid : (why : Fault) → is_unsaid (fault_status why) ≡ false
 fault_unsaid Ends.NotVolume = refl
 fault_unsaid why = refl
 
-pub line_unsaid : (ended : Result Stop End) (line : Line) → ending_line ended ≡ Some line → is_unsaid (ending_status ended) ≡ false
+pub line_unsaid : (ended : Result Stop Halt) (line : Line) → ending_line ended ≡ Some line → is_unsaid (ending_status ended) ≡ false
 line_unsaid (Err (Stopped why)) line is = fault_unsaid why
 line_unsaid (Err Output) line is = absurd (cc is)
 line_unsaid (Ok (Ended Done)) line is = refl
 line_unsaid ended line is = refl
 
 -- the numbers of a mount
-pub script_spent : (P : Type 0) (ended : Result Stop End) → (ended ≡ Ok WornOut → P) → (ended ≡ Err (Stopped Ends.WornOut) → ⊥) → ending_status ended ≡ 9 → P
+pub script_spent : (P : Type 0) (ended : Result Stop Halt) → (ended ≡ Ok WornOut → P) → (ended ≡ Err (Stopped Ends.WornOut) → ⊥) → ending_status ended ≡ 9 → P
 script_spent P (Ok WornOut) used unworn is = used refl
 script_spent P (Err (Stopped why)) used unworn is = absurd (unworn (ap (λ (w : Fault). Err (Stopped w)) (fault_nine why is)))
 script_spent P (Ok (Ended Done)) used unworn is = absurd (omega (arith, is))
 script_spent P ended used unworn is = absurd (omega (arith, is))
 
 module _ {D : Type 0} (M : Ghosts D) (a p b : D) (status : ℕ) where
-  abbrev So : Result Stop End → Type 0
+  abbrev So : Result Stop Halt → Type 0
   So ended = EndsSo M (ending_line ended) (ending_status ended) p b status
 
   as_given : (line : Option Line) (gives : ℕ) → EndsSo M line gives p b status → (status ≡ gives) ⊎ (status ≡ 6)
@@ -68,26 +68,26 @@ module _ {D : Type 0} (M : Ghosts D) (a p b : D) (status : ℕ) where
   as_given None gives x = inl x.0
 
   -- it is the status of what has ended it
-  pub status_as : (n : ℕ) → eqb 6 n ≡ false → (ended : Result Stop End) → So ended → status ≡ n → ending_status ended ≡ n
+  pub status_as : (n : ℕ) → eqb 6 n ≡ false → (ended : Result Stop Halt) → So ended → status ≡ n → ending_status ended ≡ n
   status_as n other ended x at = ⊎_elim (λ is. sym is ∙ at) (λ six. absurd (eqb-false 6 n other (sym six ∙ at))) (as_given (ending_line ended) (ending_status ended) x)
 
   -- where nothing is said, the machine is as it was
   still : (P : D → ℕ → Type 0) (gives : ℕ) → (status ≡ gives) × (b ≡ p) → P p gives → P b status
   still P gives x here = subst (λ (y : D). P y status) (sym x.1) (subst (λ (n : ℕ). P p n) (sym x.0) here)
 
-  pub done_so : (ended : Result Stop End) → So ended → ending_status ended ≡ 0 → (ended ≡ Ok (Ended Done)) × (b ≡ p)
+  pub done_so : (ended : Result Stop Halt) → So ended → ending_status ended ≡ 0 → (ended ≡ Ok (Ended Done)) × (b ≡ p)
   done_so (Ok (Ended Done)) x is = (refl, x.1)
   done_so (Err (Stopped why)) x is = absurd (fault_some why is)
   done_so ended x is = absurd (omega (arith, is))
 
-  pub bad_so : (ended : Result Stop End) → So ended → ending_status ended ≡ 2 → (bad : BadLine) × (ended ≡ Ok (Ended (Bad bad))) × (M.honest b → EndsLast (Says.Bad bad) 2 (M.now p) (M.now b) status)
+  pub bad_so : (ended : Result Stop Halt) → So ended → ending_status ended ≡ 2 → (bad : BadLine) × (ended ≡ Ok (Ended (Bad bad))) × (M.honest b → EndsLast (Says.Bad bad) 2 (M.now p) (M.now b) status)
   bad_so (Ok (Ended (Bad bad))) x is = (bad, refl, x.ends)
   bad_so (Err (Stopped why)) x is = absurd (fault_not_two why is)
   bad_so ended x is = absurd (omega (arith, is))
 
   -- ---- the status, and what is counted
 
-  pub script_status : (ended : Result Stop End) → IfErr ended IsEndOfVolume → So ended → IsScriptStatus status
+  pub script_status : (ended : Result Stop Halt) → IfErr ended IsEndOfVolume → So ended → IsScriptStatus status
   script_status (Ok (Ended Done)) of x = inl x.0
   script_status (Ok (Ended (Bad bad))) of x = bad_is_script status x.status_is
   script_status (Ok (Ended TooLong)) of x = input_is_script status x.status_is
@@ -105,7 +105,7 @@ module _ {D : Type 0} (M : Ghosts D) (a p b : D) (status : ℕ) where
   abbrev Counts : D → ℕ → Type 0
   Counts y n = CountsTaking from (M.report y) n
 
-  pub script_counts_so : (ended : Result Stop End) → Heard {T = Stop} from mid ended → IfOk ended (λ stop. RoseBy from mid (Some stop)) → IfErr ended (SparesWanting from mid) → So ended → CountsTaking from (M.report b) status
+  pub script_counts_so : (ended : Result Stop Halt) → Heard {T = Stop} from mid ended → IfOk ended (λ stop. RoseBy from mid (Some stop)) → IfErr ended (SparesWanting from mid) → So ended → CountsTaking from (M.report b) status
   script_counts_so (Ok (Ended Done)) heard rose spare x = still Counts 0 x (script_done_counts (Ended Done) from mid heard rose)
   script_counts_so (Ok (Ended (Bad bad))) heard rose spare x = script_line_counts from mid (M.report b) status x.says.spares (Ended (Bad bad)) 2 (eqb-false 2 4 refl) (λ quiet. rose) heard x.status_is
   script_counts_so (Ok (Ended TooLong)) heard rose spare x = script_line_counts from mid (M.report b) status x.says.spares (Ended TooLong) 5 (eqb-false 5 4 refl) (λ quiet. rose) heard x.status_is
@@ -117,16 +117,16 @@ module _ {D : Type 0} (M : Ghosts D) (a p b : D) (status : ℕ) where
   -- ---- the input
 
   module _ (input : List ℕ) where
-    abbrev Spelled : Result Stop End → Type 0
+    abbrev Spelled : Result Stop Halt → Type 0
     Spelled ended = (end : ScriptEnd) → ended ≡ Ok (Ended end) → (script_in input).1 ≡ end
 
-    pub input_fails : (ended : Result Stop End) → IfErr ended IsEndOfVolume → IfOk ended (λ stop. RoseBy from mid (Some stop)) → Spelled ended → So ended → ending_status ended ≡ 5 → FailsInput input from (M.report b)
+    pub input_fails : (ended : Result Stop Halt) → IfErr ended IsEndOfVolume → IfOk ended (λ stop. RoseBy from mid (Some stop)) → Spelled ended → So ended → ending_status ended ≡ 5 → FailsInput input from (M.report b)
     input_fails (Ok Input) of rose ends x is = inl (subst (λ (n : ℕ). Rose from.input_faults n) (sym x.says.spares.input) rose)
     input_fails (Ok (Ended TooLong)) of rose ends x is = inr (long_input max_input 1 input (ends TooLong refl))
     input_fails (Err (Stopped why)) of rose ends x is = absurd (volume_not_five why (call_of_volume why of) is)
     input_fails ended of rose ends x is = absurd (omega (arith, is))
 
-    pub input_says : (ended : Result Stop End) → IfErr ended IsEndOfVolume → IfOk ended (λ stop. RoseBy from mid (Some stop)) → Spelled ended → So ended → ending_status ended ≡ 5 → status ≡ 5 → M.honest b → SaysOfInput input from (M.report b) (M.now b)
+    pub input_says : (ended : Result Stop Halt) → IfErr ended IsEndOfVolume → IfOk ended (λ stop. RoseBy from mid (Some stop)) → Spelled ended → So ended → ending_status ended ≡ 5 → status ≡ 5 → M.honest b → SaysOfInput input from (M.report b) (M.now b)
     input_says (Ok Input) of rose ends x is five h =
         says_input Ends.Input input from (M.report b) (M.now p) (M.now b) status (subst (λ (n : ℕ). Rose from.input_faults n) (sym x.says.spares.input) rose) (x.ends h) five
     input_says (Ok (Ended TooLong)) of rose ends x is five h = says_input Ends.InputTooLong input from (M.report b) (M.now p) (M.now b) status (long_input max_input 1 input (ends TooLong refl)) (x.ends h) five
@@ -135,7 +135,7 @@ module _ {D : Type 0} (M : Ghosts D) (a p b : D) (status : ℕ) where
 
   -- ---- the fault that is said
 
-  pub script_last : (ended : Result Stop End) → Heard {T = Stop} from mid ended → So ended → M.honest b → IsTrue (is_of_fault status) → SaysFault (M.report b).fault_place (M.now b) status
+  pub script_last : (ended : Result Stop Halt) → Heard {T = Stop} from mid ended → So ended → M.honest b → IsTrue (is_of_fault status) → SaysFaultAt (M.report b).fault_place (M.now b) status
   script_last (Ok (Ended Done)) heard x h of = absurd (fault_not 0 status refl of x.0)
   script_last (Ok (Ended (Bad bad))) heard x h of = line_other (M.report b).fault_place (M.now p) (M.now b) status (Says.Bad bad) 2 refl (x.ends h) of
   script_last (Ok (Ended TooLong)) heard x h of = ends_fault (M.report b).fault_place (M.now p) (M.now b) status Ends.InputTooLong tt (x.ends h) of
@@ -145,7 +145,7 @@ module _ {D : Type 0} (M : Ghosts D) (a p b : D) (status : ℕ) where
   script_last (Err Output) heard x h of = absurd (fault_not 6 status refl of x.0)
 
   -- one of the image
-  pub script_call : (l : Layout) (ended : Result Stop End) → IfErr ended IsEndOfVolume → BreaksWhole reply_text (M.now a) (M.now p) ended → IfErr ended (λ end. M.honest p → IsEndOn AreOfPage l (M.now p).image end) → M.honest p → So ended → ending_status ended ≡ 3 → status ≡ 3 → M.honest b
+  pub script_call : (l : Layout) (ended : Result Stop Halt) → IfErr ended IsEndOfVolume → BreaksWhole reply_text (M.now a) (M.now p) ended → IfErr ended (λ end. M.honest p → IsEndOn AreOfPage l (M.now p).image end) → M.honest p → So ended → ending_status ended ≡ 3 → status ≡ 3 → M.honest b
       → SaysOfCall true AreOfPage l (M.now a).said (M.now b)
   script_call l (Err (Stopped why)) of whole on back x is three h = call_says true AreOfPage l (M.now a).said why of (M.now p) (M.now b) status whole (x.says.exit h).image (on back) (x.ends h) three
   script_call l (Ok (Ended Done)) of whole on back x is three h = absurd (omega (arith, is))
@@ -163,7 +163,7 @@ module _ {D : Type 0} (M : Ghosts D) (a p b : D) (status : ℕ) where
     abbrev before : Report
     before = but_input from mid
 
-    pub script_runs : (ended : Result Stop End) → GroupsBy M e k input (M.ledger p).input a p ended → Heard {T = Stop} from mid ended → So ended → RunsOut M Script input rest from k a b status
+    pub script_runs : (ended : Result Stop Halt) → GroupsBy M e k input (M.ledger p).input a p ended → Heard {T = Stop} from mid ended → So ended → RunsOut M Script input rest from k a b status
     script_runs (Ok (Ended Done)) g heard x = still (λ y n. RunsOut M Script input (M.ledger y).input from k a y n) 0 x
         (runs_ended e says forces M input (M.ledger p).input from mid k a p 0 Done g.0 (group_quiet M before k a p back short ends at_p e (script_in input).0 g.1))
     script_runs (Ok (Ended (Bad bad))) g heard x = runs_ended e says forces M input rest from mid k a b status (Bad bad) g.0
@@ -182,7 +182,7 @@ module _ {D : Type 0} (M : Ghosts D) (a p b : D) (status : ℕ) where
         (group_fault_all M before k a p b h since short ends at_p at_b status e f.done (line_turn (Says.Ended Ends.Input) ∷ []) 5 why f.group f.uncut (told_but from mid (Err (Stopped why)) heard) x.says (x.ends h))
     script_runs (Err Output) g heard x = still (λ y n. RunsOut M Script input (M.ledger y).input from k a y n) 6 x (by g)
       where
-        told : Told {T = Stop} before mid (Err Output)
+        told : FaultTold {T = Stop} before mid (Err Output)
         told = told_but from mid (Err Output) heard
 
         by : GroupsBy M e k input (M.ledger p).input a p (Err Output) → RunsOut M Script input (M.ledger p).input from k a p 6

@@ -22,18 +22,18 @@ use Rattle.fsd_runs.specs.Errands.{Errand, Turn}
 use Rattle.fsd_runs.specs.Runs.{Goes, said_in, turns_begun}
 use Rattle.script_text.specs.declared.fault.ScriptFault.{ScriptFault}
 use Rattle.script_text.specs.Reading.{Ahead, Reading, script_left}
-use Rattle.script_text.specs.Taking.{Moves}
+use Rattle.script_text.specs.Taking.{MovesInput}
 use Rattle.client_desk.specs.declared.client.Client.{Client}
 use Rattle.volume_contract.specs.State.{State, Ages, Known, Stands, forced_of}
-use Rattle.volume_turns.specs.declared.turns.End.{End}
-use Rattle.volume_turns.specs.declared.turns.End.TheVariants.{Fault as Stopped, Output}
+use Rattle.volume_turns.specs.declared.turns.Halt.{Halt}
+use Rattle.volume_turns.specs.declared.turns.Halt.TheVariants.{Fault as Stopped, Output}
 use Rattle.volume_turns.specs.declared.script.Stop.{Stop}
 use Rattle.volume_turns.specs.declared.script.Stop.TheVariants.{Ended, Input, WornOut}
 use Rattle.volume_turns.specs.Each.{SaysBetween, SaysOnce}
-use Rattle.volume_turns.specs.Script.{DoneSo, Heard, Reads, RoseBy, Spells}
+use Rattle.volume_turns.specs.Script.{DoneSo, Heard, ReadsScript, RoseBy, Spells}
 use Rattle.volume_turns.specs.Seats.{Seated, SitsAt, known_of, session_in}
-use Rattle.volume_turns.specs.Steps.{StaysSound}
-use Rattle.volume_turns.specs.Turns.{Behind, EndsBy, Follows, InRun, Runs, RunsFrom, Said, SaysReplies, StandsBehind, Steps, Told, device_end}
+use Rattle.volume_turns.specs.Steps.{StaysSoundFor}
+use Rattle.volume_turns.specs.Turns.{Behind, EndsBy, KeepsCalls, InRun, RunsTurns, RunsFrom, Said, SaysReplies, StandsBehind, Steps, FaultTold, device_end}
 use Rattle.volume_turns.proofs.EachLaws.{between_none, between_one, between_replies, between_then}
 use Rattle.volume_turns.proofs.RunLaws.{follows_then, runs_nil, runs_stop, runs_then}
 use Rattle.volume_turns.proofs.SeatLaws.{seat_wears}
@@ -79,7 +79,7 @@ ages_on from old mid aged w = record {
 module _ {S D : Type 0} (state : S → State) (has : S → Mounted → List Placed → Type 0) (M : Ghosts D) (e : Errand)
     (wears : (s : S) (k : Known) (old new : Moment) → AreShort old.windows → Ages old new → Stands state has s k old → Stands state has s k new) where
   module _ (v : S × List Client) (k : Seated) (from : Moment) (short : AreShort from.windows) (stood : SitsAt state has v k from) where
-    stays_so : (old left : Moment) → Ages from old → Wears old left → StaysSound (known_of k) old left
+    stays_so : (old left : Moment) → Ages from old → Wears old left → StaysSoundFor (known_of k) old left
     stays_so old left aged w =
         let now = seat_wears state has wears v k from left short (ages_on from old left aged w) stood in
         record { sound = mounted_sound k.mounted k.windows k.changes (forced_of (known_of k)) left.image now.stands.disk; windows = w.windows; said = w.said }
@@ -87,7 +87,7 @@ module _ {S D : Type 0} (state : S → State) (has : S → Mounted → List Plac
   module _ (v : S × List Client) (a m : D) (trust : M.honest m → M.honest a) (timed : (x : D) → M.honest x → IsTimed M x) (worn : M.honest m → Wears (M.now a) (M.now m)) (read : M.honest m → LeavesOnly M.moment M.left_since a m (Wears (M.now a)))
       (since : M.honest m → Since M a m) (short : M.honest m → (from : Moment) → Ages from (M.now a) → AreShort from.windows) where
     -- the same commands, from before the read on
-    pub runs_read : (commands : List ScriptCommand) (z : S × List Client) (b : D) (result : Result (Unit {0}) End) → Follows M m b → Runs state has M e commands v m z b result → Runs state has M e commands v a z b result
+    pub runs_read : (commands : List ScriptCommand) (z : S × List Client) (b : D) (result : Result (Unit {0}) Halt) → KeepsCalls M m b → RunsTurns state has M e commands v m z b result → RunsTurns state has M e commands v a z b result
     runs_read commands z b result follows runs honest k f from stood aged held = record {
       mets = r.mets;
       goes = λ t le. let later = (read back).later in
@@ -111,8 +111,8 @@ module _ {S D : Type 0} (state : S → State) (has : S → Mounted → List Plac
         w : Wears (M.now a) (M.now m)
         w = worn back
 
-        stays : LeavesOnly M.moment M.left_since a m (StaysSound (known_of k) (M.now a))
-        stays = leaves_more M.moment M.left_since a m (Wears (M.now a)) (StaysSound (known_of k) (M.now a)) (λ left x. stays_so v k from (short back from aged) stood (M.now a) left aged x) (read back)
+        stays : LeavesOnly M.moment M.left_since a m (StaysSoundFor (known_of k) (M.now a))
+        stays = leaves_more M.moment M.left_since a m (Wears (M.now a)) (StaysSoundFor (known_of k) (M.now a)) (λ left x. stays_so v k from (short back from aged) stood (M.now a) left aged x) (read back)
 
         r : RunsFrom state has M e k f from commands m b z result
         r = runs honest k f from stood (ages_on from (M.now a) (M.now m) aged w) (stays_held M (known_of k) f a m at_a at_m (since back) stays held)
@@ -133,7 +133,7 @@ module _ {S D : Type 0} (state : S → State) (has : S → Mounted → List Plac
           stands = x.stands;
         }
 
-        by : (x : Result (Unit {0}) End) → EndsBy state has M e k f r.mets commands z m b x → EndsBy state has M e k f r.mets commands z a b x
+        by : (x : Result (Unit {0}) Halt) → EndsBy state has M e k f r.mets commands z m b x → EndsBy state has M e k f r.mets commands z a b x
         by (Ok x) is = (is.0, stands_so is.1)
         by (Err (Stopped Ends.WornOut)) is = (is.0, stands_so is.1)
         by (Err Output) is = tt
@@ -141,14 +141,14 @@ module _ {S D : Type 0} (state : S → State) (has : S → Mounted → List Plac
 
   -- memory was refused for the next of them
   pub runs_refused : (commands : List ScriptCommand) (v : S × List Client) (a : D) → (M.honest a → IsTimed M a) → (M.honest a → (from : Moment) → Ages from (M.now a) → AreShort from.windows)
-      → Runs state has M e commands v a v a (Err (Stopped Ends.Memory))
+      → RunsTurns state has M e commands v a v a (Err (Stopped Ends.Memory))
   runs_refused commands v a timed short honest k f from stood aged held =
       let now = seat_wears state has wears v k from (M.now a) (short honest from aged) aged stood in
       let at = timed honest in
       record {
         mets = [];
         goes = λ t le. tt;
-        moments = λ rest. stays_stops M (known_of k) f a a at at (λ t left le was. was) (started M.moment M.left_since a (M.now a) (StaysSound (known_of k) (M.now a)) at.only
+        moments = λ rest. stays_stops M (known_of k) f a a at at (λ t left le was. was) (started M.moment M.left_since a (M.now a) (StaysSoundFor (known_of k) (M.now a)) at.only
             (record { sound = mounted_sound k.mounted k.windows k.changes (forced_of (known_of k)) (M.now a).image now.stands.disk; windows = refl; said = refl })) held rest;
         ends = (tt, said_nothing M (known_of k) f Ends.Memory a a at held refl refl);
       }
@@ -156,7 +156,7 @@ module _ {S D : Type 0} (state : S → State) (has : S → Mounted → List Plac
 -- ---- what is taken
 
 -- a call of the reader, and what the ledger still has
-pub moves_spells : (result : Result (Option ScriptCommand) ScriptFault) (old new : Reading) (before now : Ledger) (left : List ℕ) (commands : List ScriptCommand) → left ≡ now.input → (m : Moves result old new before now)
+pub moves_spells : (result : Result (Option ScriptCommand) ScriptFault) (old new : Reading) (before now : Ledger) (left : List ℕ) (commands : List ScriptCommand) → left ≡ now.input → (m : MovesInput result old new before now)
     → ((rest : List ℕ) → Ahead result (script_left old (take m.count before.input ++ rest)) (script_left new rest) → script_left old (take m.count before.input ++ rest) ≡ (commands ++ (script_left new rest).0, (script_left new rest).1))
     → Spells before.input left old new commands
 moves_spells result old new before now left commands same m spells = record {
@@ -187,17 +187,17 @@ spells_here a b r s first x = ap (λ (z : List ℕ). script_left r z) x.all ∙ 
 -- ---- one after another
 
 module _ {S D : Type 0} (state : S → State) (has : S → Mounted → List Placed → Type 0) (M : Ghosts D) (e : Errand) where
-  pub reads_then : (r s t : Reading) (v w z : S × List Client) (a m b : D) (result : Result (Option Stop) End) → (M.honest m → M.moment a ≤ M.moment m) → Follows M m b → DoneSo state has M e r s v a w m → Reads state has M e s t w m z b result → Reads state has M e r t v a z b result
+  pub reads_then : (r s t : Reading) (v w z : S × List Client) (a m b : D) (result : Result (Option Stop) Halt) → (M.honest m → M.moment a ≤ M.moment m) → KeepsCalls M m b → DoneSo state has M e r s v a w m → ReadsScript state has M e s t w m z b result → ReadsScript state has M e r t v a z b result
   reads_then r s t v w z a m b (Ok None) later follows x y = record {
     done = x.done ++ y.done;
     taken = spells_then _ _ _ r s t x.done y.done x.taken y.taken;
     says = between_then M e.says x.done y.done a m b later follows x.says y.says;
-    leads = λ more u c result on runs. subst (λ (cs : List ScriptCommand). Runs state has M e cs v a u c result) (sym (append_assoc x.done y.done more)) (x.leads (y.done ++ more) u c result (follows_then M m b c follows on) (y.leads more u c result on runs));
+    leads = λ more u c result on runs. subst (λ (cs : List ScriptCommand). RunsTurns state has M e cs v a u c result) (sym (append_assoc x.done y.done more)) (x.leads (y.done ++ more) u c result (follows_then M m b c follows on) (y.leads more u c result on runs));
   }
   reads_then r s t v w z a m b (Ok (Some (Ended end))) later follows x y =
       let here = spells_here (M.ledger a).input (M.ledger m).input r s x.done x.taken in (
         ap (λ (q : Script). q.1) here ∙ y.0,
-        subst (λ (q : Script). Runs state has M e q.0 v a z b (Ok tt)) (sym here) (x.leads (script_left s (M.ledger m).input).0 z b (Ok tt) follows y.1),
+        subst (λ (q : Script). RunsTurns state has M e q.0 v a z b (Ok tt)) (sym here) (x.leads (script_left s (M.ledger m).input).0 z b (Ok tt) follows y.1),
         subst (λ (q : Script). SaysBetween M e.says q.0 a b) (sym here) (between_then M e.says x.done (script_left s (M.ledger m).input).0 a m b later follows x.says y.2),
       )
   reads_then r s t v w z a m b (Ok (Some Input)) later follows x y = record {
@@ -210,7 +210,7 @@ module _ {S D : Type 0} (state : S → State) (has : S → Mounted → List Plac
   reads_then r s t v w z a m b (Ok (Some WornOut)) later follows x y = absurd y
   reads_then r s t v w z a m b (Err end) later follows x y =
       let here = spells_here (M.ledger a).input (M.ledger m).input r s x.done x.taken in
-      subst (λ (q : Script). Runs state has M e q.0 v a z b (Err end)) (sym here) (x.leads (script_left s (M.ledger m).input).0 z b (Err end) follows y)
+      subst (λ (q : Script). RunsTurns state has M e q.0 v a z b (Err end)) (sym here) (x.leads (script_left s (M.ledger m).input).0 z b (Err end) follows y)
 
   pub done_none : (r : Reading) (v : S × List Client) (a : D) → DoneSo state has M e r r v a v a
   done_none r v a = record { done = []; taken = spells_none (M.ledger a).input r; says = between_none M e.says a a (λ h. refl); leads = λ more z c result follows runs. runs }
@@ -226,19 +226,19 @@ module _ {S D : Type 0} (state : S → State) (has : S → Mounted → List Plac
     (short : (m : D) → M.honest m → AreShort (M.now m).windows) (timed : (m : D) → M.honest m → IsTimed M m)
     (v : S × List Client) (a m : D) (trust : M.honest m → M.honest a) (worn : M.honest m → Wears (M.now a) (M.now m)) (read : M.honest m → LeavesOnly M.moment M.left_since a m (Wears (M.now a)))
     (since : M.honest m → Since M a m) where
-  here : Follows M m m
+  here : KeepsCalls M m m
   here = record { honest = λ h. h; since = λ h t left le was. was; later = λ h. omega arith }
 
-  first : (commands : List ScriptCommand) (z : S × List Client) (b : D) (result : Result (Unit {0}) End) → Follows M m b → Runs state has M e commands v m z b result → Runs state has M e commands v a z b result
+  first : (commands : List ScriptCommand) (z : S × List Client) (b : D) (result : Result (Unit {0}) Halt) → KeepsCalls M m b → RunsTurns state has M e commands v m z b result → RunsTurns state has M e commands v a z b result
   first = runs_read state has M e wears v a m trust timed worn read since (λ h from aged. subst (λ (w : Windows). AreShort w) aged.windows (short a (trust h)))
 
-  pub none_done : Runs state has M e [] v a v m (Ok tt)
+  pub none_done : RunsTurns state has M e [] v a v m (Ok tt)
   none_done = first [] v m (Ok tt) here (runs_nil state has M e v m wears (timed m) (λ h from aged. subst (λ (w : Windows). AreShort w) aged.windows (short m h)))
 
-  pub none_read : (commands : List ScriptCommand) → Runs state has M e commands v a v m (Err (Stopped Ends.Memory))
+  pub none_read : (commands : List ScriptCommand) → RunsTurns state has M e commands v a v m (Err (Stopped Ends.Memory))
   none_read commands = first commands v m (Err (Stopped Ends.Memory)) here (runs_refused state has M e wears commands v m (timed m) (λ h from aged. subst (λ (w : Windows). AreShort w) aged.windows (short m h)))
 
-  module _ (r s : Reading) (command : ScriptCommand) (w : S × List Client) (b : D) (step : Follows M m b) where
+  module _ (r s : Reading) (command : ScriptCommand) (w : S × List Client) (b : D) (step : KeepsCalls M m b) where
     pub one_done : Spells (M.ledger a).input (M.ledger b).input r s (command ∷ []) → (M.honest b → M.moment m ≤ M.moment b) → Steps state has M e command v m w b (Ok tt)
         → ((t : ℕ) → M.honest b → t ≤ M.moment b → M.left_since b t (M.now b)) → (M.honest b → SaysOnce e.says command (M.now m) (M.now b)) → DoneSo state has M e r s v a w b
     one_done taken later steps counts once = record {
@@ -248,19 +248,19 @@ module _ {S D : Type 0} (state : S → State) (has : S → Mounted → List Plac
       leads = λ more z c result follows runs. first (command ∷ more) z c result (follows_then M m b c step follows) (runs_then state has M e command more v w z m b c result follows later steps runs);
     }
 
-    pub one_stops : (end : End) (now : Script) → script_left r (M.ledger a).input ≡ (command ∷ now.0, now.1) → Steps state has M e command v m w b (Err end) → Runs state has M e (script_left r (M.ledger a).input).0 v a w b (Err end)
-    one_stops end now is steps = subst (λ (q : Script). Runs state has M e q.0 v a w b (Err end)) (sym is) (first (command ∷ now.0) w b (Err end) step (runs_stop state has M e command now.0 v w m b end steps))
+    pub one_stops : (end : Halt) (now : Script) → script_left r (M.ledger a).input ≡ (command ∷ now.0, now.1) → Steps state has M e command v m w b (Err end) → RunsTurns state has M e (script_left r (M.ledger a).input).0 v a w b (Err end)
+    one_stops end now is steps = subst (λ (q : Script). RunsTurns state has M e q.0 v a w b (Err end)) (sym is) (first (command ∷ now.0) w b (Err end) step (runs_stop state has M e command now.0 v w m b end steps))
 
-  pub ended_so : (r s : Reading) (end : ScriptEnd) → script_left r (M.ledger a).input ≡ ([], end) → Reads state has M e r s v a v m (Ok (Some (Ended end)))
+  pub ended_so : (r s : Reading) (end : ScriptEnd) → script_left r (M.ledger a).input ≡ ([], end) → ReadsScript state has M e r s v a v m (Ok (Some (Ended end)))
   ended_so r s end is = (
     ap (λ (q : Script). q.1) is,
-    subst (λ (q : Script). Runs state has M e q.0 v a v m (Ok tt)) (sym is) none_done,
+    subst (λ (q : Script). RunsTurns state has M e q.0 v a v m (Ok tt)) (sym is) none_done,
     subst (λ (q : Script). SaysBetween M e.says q.0 a m) (sym is) (between_none M e.says a m (λ h. (worn h).said)),
   )
 
 -- ---- what is counted
 
-pub heard_then : {T U : Type 0} (a b c : Report) (u : U) (r : Result T End) → Heard {T = U} a b (Ok u) → Heard {T = T} b c r → Heard {T = T} a c r
+pub heard_then : {T U : Type 0} (a b c : Report) (u : U) (r : Result T Halt) → Heard {T = U} a b (Ok u) → Heard {T = T} b c r → Heard {T = T} a c r
 heard_then a b c u r x y = record {
   sectors = y.sectors ∙ x.sectors;
   disk = faults_then (device_end r) a b c x.disk y.disk;
@@ -268,13 +268,13 @@ heard_then a b c u r x y = record {
   output = unheard_on a b c x.output r y.output;
 }
 
-pub heard_of : {T : Type 0} (a b : Report) (r : Result T End) → Told {T = T} a b r → Heard {T = T} a b r
+pub heard_of : {T : Type 0} (a b : Report) (r : Result T Halt) → FaultTold {T = T} a b r → Heard {T = T} a b r
 heard_of a b r x = record { sectors = x.sectors; disk = x.disk; later = x.later; output = x.output }
 
 pub heard_as : {T U : Type 0} (a b : Report) (t : T) (u : U) → Heard {T = T} a b (Ok t) → Heard {T = U} a b (Ok u)
 heard_as a b t u x = record { sectors = x.sectors; disk = x.disk; later = x.later; output = x.output }
 
-pub heard_end : {T U : Type 0} (a b : Report) (end : End) → Heard {T = T} a b (Err end) → Heard {T = U} a b (Err end)
+pub heard_end : {T U : Type 0} (a b : Report) (end : Halt) → Heard {T = T} a b (Err end) → Heard {T = U} a b (Err end)
 heard_end a b (Stopped fault) x = record { sectors = x.sectors; disk = x.disk; later = x.later; output = x.output }
 heard_end a b Output x = record { sectors = x.sectors; disk = x.disk; later = x.later; output = x.output }
 
@@ -294,6 +294,6 @@ rose_on a b c (Some Input) rose same = subst (λ (n : ℕ). Rose a.input_faults 
 rose_on a b c (Some (Ended end)) rose same = same ∙ rose
 rose_on a b c (Some WornOut) rose same = same ∙ rose
 
-pub rose_forced : (a b c : Report) (stop : Stop) (r : Result Stop End) → RoseBy a b (Some stop) → c.input_faults ≡ b.input_faults → IfOk r (λ x. x ≡ stop) → IfOk r (λ x. RoseBy a c (Some x))
+pub rose_forced : (a b c : Report) (stop : Stop) (r : Result Stop Halt) → RoseBy a b (Some stop) → c.input_faults ≡ b.input_faults → IfOk r (λ x. x ≡ stop) → IfOk r (λ x. RoseBy a c (Some x))
 rose_forced a b c stop (Ok x) rose same is = subst (λ (s : Stop). RoseBy a c (Some s)) (sym is) (rose_on a b c (Some stop) rose same)
 rose_forced a b c stop (Err end) rose same is = tt

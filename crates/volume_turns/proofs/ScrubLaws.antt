@@ -13,7 +13,7 @@ use Rattle.fsd_files.specs.declared.reply.Reply.TheVariants as Said
 use Rattle.fsd_sound.specs.Mounted.{Mounted}
 use Rattle.fsd_texts.specs.declared.command.Command.TheVariants as Word
 use Rattle.fsd_runs.specs.Commands.{reply_status}
-use Rattle.volume_contract.specs.Order.{Comes, Force, Heal, IsLookUp, Keeps, LookUp, Single}
+use Rattle.volume_contract.specs.Order.{Comes, Force, Heal, IsLookUp, KeepsRefused, LookUp, Single}
 use Rattle.volume_contract.specs.State.{Known, State}
 use Rattle.scrub.specs.declared.whole.Healed.{Healed}
 use Rattle.scrub.specs.Looking.{AreDamaged}
@@ -38,28 +38,28 @@ scrub_looks s up why comes =
 -- ---- the state
 
 -- where no page waits it stays
-pub scrub_still : (why : Refusal) (s t : State) → Keeps (scrub_steps s) why s t → s.dirty ≡ [] → t ≡ s
+pub scrub_still : (why : Refusal) (s t : State) → KeepsRefused (scrub_steps s) why s t → s.dirty ≡ [] → t ≡ s
 scrub_still why s t (inl here) none = here.1
 scrub_still why s t (inr (passes, later)) none = by (nat_lt 0 (length s.dirty)) (ap (λ (x : List ℕ). nat_lt 0 (length x)) none) later
   where
-    single : Keeps (Single ∷ []) why s t → t ≡ s
+    single : KeepsRefused (Single ∷ []) why s t → t ≡ s
     single (inl here) = here.1
     single (inr none) = absurd none.1
 
-    look : Keeps (LookUp ∷ Single ∷ []) why s t → t ≡ s
+    look : KeepsRefused (LookUp ∷ Single ∷ []) why s t → t ≡ s
     look (inl here) = here.1
     look (inr more) = single more.1
 
-    heal : Keeps (Heal ∷ LookUp ∷ Single ∷ []) why s t → t ≡ s
+    heal : KeepsRefused (Heal ∷ LookUp ∷ Single ∷ []) why s t → t ≡ s
     heal (inl here) = here.1
     heal (inr more) = look more.1
 
-    by : (comes : Bool) → comes ≡ false → Keeps (Force comes ∷ Heal ∷ LookUp ∷ Single ∷ []) why s t → t ≡ s
+    by : (comes : Bool) → comes ≡ false → KeepsRefused (Force comes ∷ Heal ∷ LookUp ∷ Single ∷ []) why s t → t ≡ s
     by true is keeps = absurd (cc is)
     by false is (inl here) = here.1
     by false is (inr more) = heal more.1
 
-pub scrub_goes : (why : Refusal) (s t : State) → Keeps (scrub_steps s) why s t → GoesUp 1 s t
+pub scrub_goes : (why : Refusal) (s t : State) → KeepsRefused (scrub_steps s) why s t → GoesUp 1 s t
 scrub_goes why s t keeps = goes_by (scrub_steps s) s t (omega arith) (one_force (nat_lt 0 (length s.dirty))) (keeps_goes (scrub_steps s) why s t keeps)
 
 -- ---- what it answers

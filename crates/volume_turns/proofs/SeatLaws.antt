@@ -17,17 +17,17 @@ use Rattle.fsd_texts.specs.declared.command.Command.{Command}
 use Rattle.fsd_texts.specs.declared.fault.Fault.{Fault}
 use Rattle.fsd_texts.specs.declared.fault.Fault.TheVariants as Ends
 use Rattle.fsd_texts.specs.declared.script_command.ScriptCommand.TheVariants.{Plain}
-use Rattle.fsd_runs.specs.Sessions.{HoldsRead, beside}
+use Rattle.fsd_runs.specs.Sessions.{HoldsRead, by_volume}
 use Rattle.client_desk.specs.declared.client.Client.{Client}
 use Rattle.client_desk.specs.Clients.{IsDesk, client_at}
-use Rattle.client_desk.specs.Ends.{Serves, open_at}
+use Rattle.client_desk.specs.Ends.{ServesOpen, open_at}
 use Rattle.client_desk.proofs.DeskLaws.{desk_same}
 use Rattle.client_desk.proofs.HeldLaws.{holds_read}
 use Rattle.scrub.specs.Scrub.{KeepsOpen}
 use Rattle.volume_contract.specs.Pieces.{slices_in, with_opened}
-use Rattle.volume_contract.specs.State.{Ages, Known, Opened, Stands, State, held_runs, none_open}
-use Rattle.volume_turns.specs.declared.turns.End.{End}
-use Rattle.volume_turns.specs.declared.turns.End.TheVariants.{Fault as Stopped, Output}
+use Rattle.volume_contract.specs.State.{Ages, Known, OpenParts, Stands, State, held_runs, none_open}
+use Rattle.volume_turns.specs.declared.turns.Halt.{Halt}
+use Rattle.volume_turns.specs.declared.turns.Halt.TheVariants.{Fault as Stopped, Output}
 use Rattle.volume_turns.specs.Once.{ClosesAndSays, EndsClosed, InClose}
 use Rattle.volume_turns.specs.Seats.{DoesIn, IsAnsweredIn, Seated, SitsAt, StaysIn, known_of, seated, session_in}
 use Rattle.volume_turns.specs.Steps.{Does, IsAnswered, Stays}
@@ -47,8 +47,8 @@ module _ {S : Type 0} (state : S → State) (has : S → Mounted → List Placed
   seat_on v w desk k after old now sits opened stands = record {
     stands = stands;
     size = sits.size;
-    each = λ i. subst (λ (o : Opened). Serves o (client_at desk i) (open_at k.clients i)) (sym opened) (sits.each i);
-    drafts = λ runs slices is. sits.drafts runs slices (subst (λ (o : Opened). slices_in o.drafts runs ≡ Some slices) opened is);
+    each = λ i. subst (λ (o : OpenParts). ServesOpen o (client_at desk i) (open_at k.clients i)) (sym opened) (sits.each i);
+    drafts = λ runs slices is. sits.drafts runs slices (subst (λ (o : OpenParts). slices_in o.drafts runs ≡ Some slices) opened is);
   }
 
   -- as it wears
@@ -63,7 +63,7 @@ module _ {S : Type 0} (state : S → State) (has : S → Mounted → List Placed
     pub plain_answered : (after : Known) (reply : Reply) → IsAnswered command (state v) (known_of k) after before.image now.image reply → Stands state has w after now → IsAnsweredIn (Plain command) (state v) k (seated after k.clients) before.image now.image reply
     plain_answered after reply is stands = record {
       met = record { met = is.met; held = [] };
-      is = ap (λ (o : Outcome). beside (session_in k) o) is.is;
+      is = ap (λ (o : Outcome). by_volume (session_in k) o) is.is;
       windows = is.windows;
       changes = is.changes;
       find = is.find;
@@ -84,22 +84,22 @@ module _ {S : Type 0} (state : S → State) (has : S → Mounted → List Placed
 
   -- where nothing is open
   pub none_holds : (w : S) (now : Moment) (after : Known) → after.opened ≡ none_open → Stands state has w after now → HoldsRead (session_in (seated after no_clients))
-  none_holds w now after none stands t = ap (λ (h : List (List Run)). is_in h t) (stands.fits.held ∙ ap (λ (r : List (Option (List Run))). held_runs r) (stands.opened.places ∙ ap (λ (o : Opened). map (λ place. option_map (λ x. x.runs) place) o.readers) none))
+  none_holds w now after none stands t = ap (λ (h : List (List Run)). is_in h t) (stands.fits.held ∙ ap (λ (r : List (Option (List Run))). held_runs r) (stands.opened.places ∙ ap (λ (o : OpenParts). map (λ place. option_map (λ x. x.runs) place) o.readers) none))
 
 -- ---- what is open is given up
 
-module _ (k : Known) (o : Opened) (f : ℕ) (text : List ℕ) where
+module _ (k : Known) (o : OpenParts) (f : ℕ) (text : List ℕ) where
   in_close_as : (old left : Moment) → InClose k.mounted.volume.layout (with_opened k o) f text old left → InClose k.mounted.volume.layout k f text old left
   in_close_as old left x = record { windows = x.windows; forced = x.forced; least = x.least; sound = x.sound; heard = x.heard; said = x.said; all = x.all; roots = x.roots }
 
   module _ {D : Type 0} (M : Ghosts D) (a b : D) where
-    ends_as : (r : Result (Unit {0}) End) → EndsClosed M (with_opened k o) f text a b r → EndsClosed M k f text a b r
+    ends_as : (r : Result (Unit {0}) Halt) → EndsClosed M (with_opened k o) f text a b r → EndsClosed M k f text a b r
     ends_as (Ok x) is = record { windows = is.windows; said = is.said; sound = is.sound; held = is.held; tells = is.tells; lasts = is.lasts; roots = is.roots; rooted = is.rooted }
     ends_as (Err (Stopped fault)) is = (is.0, record { windows = is.1.windows; said = is.1.said; held = is.1.held })
     ends_as (Err Output) is = tt
 
     -- its end is the same
-    pub closes_as : (r : Result (Unit {0}) End) → ClosesAndSays M (with_opened k o) f text a b r → ClosesAndSays M k f text a b r
+    pub closes_as : (r : Result (Unit {0}) Halt) → ClosesAndSays M (with_opened k o) f text a b r → ClosesAndSays M k f text a b r
     closes_as r x = record {
       moments = leaves_more M.moment (stops M) a b (InClose k.mounted.volume.layout (with_opened k o) f text (M.now a)) (InClose k.mounted.volume.layout k f text (M.now a)) (in_close_as (M.now a)) x.moments;
       ends = ends_as r x.ends;

@@ -7,7 +7,7 @@ use Rattle.sector_disk.specs.Machine.{Ledger, OnlyWrites, Report, Rose, UsesDisk
 use Rattle.fsd_bytes.specs.declared.key.Key.{Key}
 use Rattle.fsd_bytes.specs.declared.refusal.Refusal.{Refusal}
 use Rattle.fsd_bytes.specs.declared.refusal.Refusal.TheVariants as Why
-use Rattle.volume_contract.specs.Order.{Comes, Force, IsDevice, IsLookUp, IsLoss, down}
+use Rattle.volume_contract.specs.Order.{Comes, Force, IsDeviceRefusal, IsLookUp, IsLoss, down}
 use Rattle.volume_contract.specs.State.{State}
 use Rattle.volume_turns.proofs.OrderLaws.{force_loss}
 use Rattle.fsd_sound.specs.declared.fault.MountFault.{MountFault}
@@ -22,17 +22,17 @@ use Rattle.fsd_runs.specs.Errands.{fault_status}
 use Rattle.fsd_runs.specs.Commands.{reply_status}
 use Rattle.fsd_files.specs.declared.reply.Reply.{Reply}
 use Rattle.volume_turns.specs.declared.script.Stop.{Stop}
-use Rattle.volume_turns.specs.declared.turns.End.{End}
-use Rattle.volume_turns.specs.declared.turns.End.TheVariants.{Fault as Stopped, Output}
+use Rattle.volume_turns.specs.declared.turns.Halt.{Halt}
+use Rattle.volume_turns.specs.declared.turns.Halt.TheVariants.{Fault as Stopped, Output}
 use Rattle.volume_turns.specs.Causes.{FailsInput}
 use Rattle.volume_turns.specs.Line.{IsStatusAs, IsStatusFor, is_unsaid}
-use Rattle.volume_turns.specs.Once.{fault_of}
+use Rattle.volume_turns.specs.Once.{end_by_mount}
 use Rattle.fsd_runs.proofs.StatusLaws.{of_reply, one_has}
 use Rattle.volume_turns.specs.Script.{Heard, SparesWanting}
 use Rattle.volume_turns.specs.Status.{CountsRun, CountsTaking, IsMadeStatus, IsOneStatus, IsPutStatus, IsScriptStatus, IsStatusBroken, is_unfailed, is_quiet}
 use Rattle.volume_turns.specs.Commands.{IsStatusFrom}
 use Rattle.volume_turns.specs.Steps.{IsOfCall, IsOfVolume, device_told, ended_by, read_ended_by}
-use Rattle.volume_turns.specs.Turns.{IsWant, Told}
+use Rattle.volume_turns.specs.Turns.{IsWant, FaultTold}
 use Rattle.volume_turns.proofs.QuietLaws.{unfailed_not, unfailed_said, quiet_wants, quiet_unfailed, quiet_line, quiet_not}
 
 -- ---- replies
@@ -67,14 +67,14 @@ loss_looks (Why.Device s) is = tt
 loss_looks (Why.Lost x y) is = tt
 loss_looks why is = absurd is
 
-pub device_looks : (why : Refusal) → IsDevice why → IsLookUp why
+pub device_looks : (why : Refusal) → IsDeviceRefusal why → IsLookUp why
 device_looks (Why.Device s) is = tt
 device_looks why is = absurd is
 
 pub force_ends : (P : Reply → Type 0) (s : State) → s.down ≡ None → (comes_one : Bool) (why : Refusal) → Comes (down s ∷ Force comes_one ∷ []) why → (r : Result Reply Fault) → r ≡ ended_by why → IfOk r P
 force_ends P s up comes_one why comes r is = look_up_ends P why r is (loss_looks why (force_loss s up comes_one why comes))
 
-pub status_at : (P : ℕ → Type 0) (n : ℕ) (r : Result ℕ End) → IfOk r (λ status. status ≡ n) → P n → IfOk r P
+pub status_at : (P : ℕ → Type 0) (n : ℕ) (r : Result ℕ Halt) → IfOk r (λ status. status ≡ n) → P n → IfOk r P
 status_at P n (Ok status) is at = subst P (sym is) at
 status_at P n (Err end) is at = tt
 
@@ -177,7 +177,7 @@ module _ (a m b : Report) (status : ℕ) (spares : SparesDisk false (is_unsaid s
   disk_unfailed (Ends.Device s) disk (inr six) unfailed = absurd (unfailed_not 6 status refl unfailed six)
   disk_unfailed why disk for unfailed = spares.disk ∙ disk.0
 
-  pub fault_counts : {T : Type 0} (why : Fault) → Told {T = T} a m (Err (Stopped why)) → IsStatusFor why status → CountsRun a b status
+  pub fault_counts : {T : Type 0} (why : Fault) → FaultTold {T = T} a m (Err (Stopped why)) → IsStatusFor why status → CountsRun a b status
   fault_counts why told for = record {
     sectors = spares.sectors ∙ told.sectors;
     disk = λ four. disk_counted why told.disk four for;
@@ -187,7 +187,7 @@ module _ (a m b : Report) (status : ℕ) (spares : SparesDisk false (is_unsaid s
   }
 
   -- a last line behind what went well
-  pub line_counts : {T : Type 0} (t : T) (gives : ℕ) → (gives ≡ 4 → ⊥) → Told {T = T} a m (Ok t) → IsStatusAs gives status → CountsRun a b status
+  pub line_counts : {T : Type 0} (t : T) (gives : ℕ) → (gives ≡ 4 → ⊥) → FaultTold {T = T} a m (Ok t) → IsStatusAs gives status → CountsRun a b status
   line_counts t gives other told kind = record {
     sectors = spares.sectors ∙ told.sectors;
     disk = λ four. absurd (not_as 4 gives status other (λ e. omega (arith, e)) kind four);
@@ -251,14 +251,14 @@ counts_untaken takes a m b status why other none read spares for = record {
     said is = subst (λ (c : Bool). Counts c m.output_faults b.output_faults) is spares.output ∙ read.output
 
 -- where the output failed
-pub unsaid_counts : {T : Type 0} (a b : Report) → Told {T = T} a b (Err Output) → CountsRun a b 6
+pub unsaid_counts : {T : Type 0} (a b : Report) → FaultTold {T = T} a b (Err Output) → CountsRun a b 6
 unsaid_counts a b told = record { sectors = told.sectors; disk = λ four. absurd (omega (arith, four)); input = told.input; output = λ six. told.output; quiet = λ unfailed. absurd (unfailed_not 6 6 refl unfailed refl) }
 
 pub script_unsaid_counts : (a b : Report) → Heard {T = Stop} a b (Err Output) → CountsTaking a b 6
 script_unsaid_counts a b heard = record { sectors = heard.sectors; disk = λ four. absurd (omega (arith, four)); output = λ six. heard.output; quiet = λ quiet. absurd (quiet_not 6 6 refl quiet refl); unfailed = λ unfailed. absurd (unfailed_not 6 6 refl unfailed refl) }
 
 -- where a reply is said
-pub counts_said : (command : Command) (a b : Report) (status : ℕ) → IsStatusFrom command status → Told {T = ℕ} a b (Ok status) → CountsRun a b status
+pub counts_said : (command : Command) (a b : Report) (status : ℕ) → IsStatusFrom command status → FaultTold {T = ℕ} a b (Ok status) → CountsRun a b status
 counts_said command a b status from told = record {
   sectors = told.sectors;
   disk = λ four. absurd (from_not 4 command status (omega arith) (λ e. omega (arith, e)) from four);
@@ -331,21 +331,21 @@ script_counts a b status counts = record {
   unfailed = λ unfailed. let same = counts.quiet unfailed in record { disk = same.disk; output = same.output };
 }
 
-of_mount : (fault : MountFault) → IsOfVolume (fault_of fault)
+of_mount : (fault : MountFault) → IsOfVolume (end_by_mount fault)
 of_mount Refused.NotVolume = tt
 of_mount fault = tt
 
-pub mount_of_volume : (fault : MountFault) (why : Fault) → why ≡ fault_of fault → IsOfVolume why
+pub mount_of_volume : (fault : MountFault) (why : Fault) → why ≡ end_by_mount fault → IsOfVolume why
 mount_of_volume fault why is = subst IsOfVolume (sym is) (of_mount fault)
 
-pub same_device : (fault : MountFault) → device_of_mount fault ≡ device_told (fault_of fault)
+pub same_device : (fault : MountFault) → device_of_mount fault ≡ device_told (end_by_mount fault)
 same_device Refused.NotVolume = refl
 same_device fault = refl
 
-pub mount_counts : (a m b : Report) (status : ℕ) → SparesDisk false (is_unsaid status) m b → (fault : MountFault) → UsesDisk a m → DiskFaults (device_of_mount fault) a m → IsStatusFor (fault_of fault) status → CountsRun a b status
+pub mount_counts : (a m b : Report) (status : ℕ) → SparesDisk false (is_unsaid status) m b → (fault : MountFault) → UsesDisk a m → DiskFaults (device_of_mount fault) a m → IsStatusFor (end_by_mount fault) status → CountsRun a b status
 mount_counts a m b status spares fault uses faults for =
     let output = uses.output in
-    fault_counts a m b status spares {T = ℕ} (fault_of fault) (record {
+    fault_counts a m b status spares {T = ℕ} (end_by_mount fault) (record {
       sectors = uses.sectors;
       disk = subst (λ (o : Option ℕ). DiskFaults o a m) (same_device fault) faults;
       input = uses.input;

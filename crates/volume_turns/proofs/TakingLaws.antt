@@ -3,7 +3,7 @@ use Rattle.std.proofs.Common.{◌≡◌, ℕ, ◌+◌, ◌≤◌, List, [], ◌+
 use Rattle.std.proofs.lemmas.List.{take_all}
 use Rattle.std.proofs.Math.Seq.{take-add}
 use Rattle.sector_disk.specs.Machine.{Ledger, took}
-use Rattle.script_text.specs.Taking.{Comes}
+use Rattle.script_text.specs.Taking.{ComesIn}
 
 -- these bytes are what was taken
 pub record SoFar (old now : Ledger) (bytes : List ℕ) : Type 0 where
@@ -20,7 +20,7 @@ took_took old a b = ap (λ (i : List ℕ). record { input = i; attaches = old.at
 pub length_more : (bytes piece : List ℕ) (n : ℕ) → n ≤ length piece → length (bytes ++ take n piece) ≡ length bytes + n
 length_more bytes piece n room = length-append bytes (take n piece) ∙ ap (λ k. length bytes + k) (length-take-le n piece room)
 
-pub so_far_more : (old now next : Ledger) (bytes more : List ℕ) (n : ℕ) → SoFar old now bytes → Comes bytes more n now next → SoFar old next more
+pub so_far_more : (old now next : Ledger) (bytes more : List ℕ) (n : ℕ) → SoFar old now bytes → ComesIn bytes more n now next → SoFar old next more
 so_far_more old now next bytes more n s c =
     let rest : now.input ≡ drop (length bytes) old.input = ap (λ (l : Ledger). l.input) s.taken in
     let long : length more ≡ length bytes + n = ap (λ (x : List ℕ). length x) c.bytes ∙ length_more bytes now.input n c.some in
@@ -35,7 +35,7 @@ so_far_more old now next bytes more n s c =
     }
 
 -- the piece is the last one
-pub whole_so_far : (old now next : Ledger) (bytes more : List ℕ) → SoFar old now bytes → Comes bytes more 0 now next → more ≡ old.input
+pub whole_so_far : (old now next : Ledger) (bytes more : List ℕ) → SoFar old now bytes → ComesIn bytes more 0 now next → more ≡ old.input
 whole_so_far old now next bytes more s c =
     let rest : now.input ≡ drop (length bytes) old.input = ap (λ (l : Ledger). l.input) s.taken in
     let end : length (drop (length bytes) old.input) ≡ 0 = ap (λ (x : List ℕ). length x) (sym rest ∙ c.end refl) in

@@ -18,13 +18,13 @@ use Rattle.fsd_texts.specs.declared.fault.Fault.TheVariants as Ends
 use Rattle.fsd_texts.specs.declared.script_command.ScriptCommand.{ScriptCommand}
 use Rattle.fsd_texts.specs.declared.script_command.ScriptCommand.TheVariants.{Plain, OfClient}
 use Rattle.fsd_runs.proofs.OtherLaws.{IsOtherIn, no_scrub}
-use Rattle.volume_contract.specs.Causes.{Causes, HasCause}
+use Rattle.volume_contract.specs.Causes.{Causes, HasCallCause}
 use Rattle.volume_contract.specs.State.{State}
 use Rattle.scrub.specs.Telling.{AreOfPage, StandTwice, TellsOn}
 use Rattle.scrub.proofs.ToldLaws.{page_twice, told_lost, told_unsound}
 use Rattle.fsd_files.specs.declared.reply.Reply.{Reply}
-use Rattle.volume_turns.specs.declared.turns.End.{End}
-use Rattle.volume_turns.specs.declared.turns.End.TheVariants.{Fault as Stopped, Output}
+use Rattle.volume_turns.specs.declared.turns.Halt.{Halt}
+use Rattle.volume_turns.specs.declared.turns.Halt.TheVariants.{Fault as Stopped, Output}
 use Rattle.volume_turns.specs.Calls.{MayLoseIn}
 use Rattle.volume_turns.specs.Once.{close_fault}
 use Rattle.volume_turns.specs.Steps.{IsRefusedOn, IsToldOn, ended_by, read_ended_by}
@@ -40,12 +40,12 @@ refused_told l i (Why.Unsound s) told = told
 refused_told l i why told = tt
 
 module _ (old new : State) (resident : ℕ → Option (List ℕ)) (before now : Moment) (same : new.layout ≡ old.layout) where
-  pub told_of : (why : Refusal) → HasCause old new resident before now why → IsRefusedOn AreOfPage old.layout now.image why
+  pub told_of : (why : Refusal) → HasCallCause old new resident before now why → IsRefusedOn AreOfPage old.layout now.image why
   told_of (Why.Lost a b) cause = told_lost old new resident before now same a b cause
   told_of (Why.Unsound s) cause = told_unsound old new resident before now same s cause
   told_of why cause = tt
 
-  pub close_told : (why : Refusal) → HasCause old new resident before now why → IsToldOn AreOfPage old.layout now.image (close_fault why)
+  pub close_told : (why : Refusal) → HasCallCause old new resident before now why → IsToldOn AreOfPage old.layout now.image (close_fault why)
   close_told (Why.Lost a b) cause = told_lost old new resident before now same a b cause
   close_told (Why.Device s) cause = tt
   close_told why cause = tt
@@ -73,17 +73,17 @@ module _ (AreCopies : Layout → ℕ → ℕ → Type 0) (l : Layout) (i : Image
   unsaid_end old new (Ends.Device s) unsaid = tt
   unsaid_end old new why unsaid = absurd unsaid
 
-  pub unsaid_told : (old new : Moment) {T : Type 0} (r : Result T End) → IfErr r (λ end. Unsaid old new end) → (why : Fault) → r ≡ Err (Stopped why) → IsToldOn AreCopies l i why
-  unsaid_told old new {T = T} r unsaid why is = unsaid_end old new why (subst (λ (x : Result T End). IfErr x (λ end. Unsaid old new end)) is unsaid)
+  pub unsaid_told : (old new : Moment) {T : Type 0} (r : Result T Halt) → IfErr r (λ end. Unsaid old new end) → (why : Fault) → r ≡ Err (Stopped why) → IsToldOn AreCopies l i why
+  unsaid_told old new {T = T} r unsaid why is = unsaid_end old new why (subst (λ (x : Result T Halt). IfErr x (λ end. Unsaid old new end)) is unsaid)
 
   -- so it is of an end
-  pub unsaid_on : (Honest : Type 0) (old new : Moment) {T : Type 0} (r : Result T End) → IfErr r (λ end. Honest → Unsaid old new end) → IfErr r (λ end. Honest → IsEndOn AreCopies l i end)
+  pub unsaid_on : (Honest : Type 0) (old new : Moment) {T : Type 0} (r : Result T Halt) → IfErr r (λ end. Honest → Unsaid old new end) → IfErr r (λ end. Honest → IsEndOn AreCopies l i end)
   unsaid_on Honest old new (Ok x) unsaid = tt
   unsaid_on Honest old new (Err (Stopped why)) unsaid = λ honest. unsaid_end old new why (unsaid honest)
   unsaid_on Honest old new (Err Output) unsaid = λ honest. tt
 
 -- it is so by the layout of another volume, which is the same
-pub told_behind : (l m : Layout) → m ≡ l → (Honest : Type 0) (i : Image) {T : Type 0} (r : Result T End) → IfErr r (λ end. Honest → IsEndOn AreOfPage m i end) → IfErr r (λ end. Honest → IsEndOn AreOfPage l i end)
+pub told_behind : (l m : Layout) → m ≡ l → (Honest : Type 0) (i : Image) {T : Type 0} (r : Result T Halt) → IfErr r (λ end. Honest → IsEndOn AreOfPage m i end) → IfErr r (λ end. Honest → IsEndOn AreOfPage l i end)
 told_behind l m same Honest i r told = subst (λ (x : Layout). IfErr r (λ end. Honest → IsEndOn AreOfPage x i end)) same told
 
 -- ---- by the command
@@ -106,12 +106,12 @@ may_page command other l a b is = is
 pub told_may : (command : Command) (l : Layout) (i : Image) (why : Fault) → IsToldOn AreOfPage l i why → IsToldOn (MayLose command) l i why
 told_may command l i = told_as AreOfPage (MayLose command) l i (page_may command l)
 
-pub end_of_page : (command : Command) → (command ≡ Word.Scrub → ⊥) → (l : Layout) (i : Image) (end : End) → IsEndOn (MayLose command) l i end → IsEndOn AreOfPage l i end
+pub end_of_page : (command : Command) → (command ≡ Word.Scrub → ⊥) → (l : Layout) (i : Image) (end : Halt) → IsEndOn (MayLose command) l i end → IsEndOn AreOfPage l i end
 end_of_page command other l i (Stopped why) told = told_as (MayLose command) AreOfPage l i (may_page command other l) why told
 end_of_page command other l i Output told = tt
 
 -- so it is of a script's command
-pub end_of_page_in : (command : ScriptCommand) → IsOtherIn command → (l : Layout) (i : Image) (end : End) → IsEndOn (MayLoseIn command) l i end → IsEndOn AreOfPage l i end
+pub end_of_page_in : (command : ScriptCommand) → IsOtherIn command → (l : Layout) (i : Image) (end : Halt) → IsEndOn (MayLoseIn command) l i end → IsEndOn AreOfPage l i end
 end_of_page_in (Plain command) other l i end told = end_of_page command (no_scrub command other) l i end told
 end_of_page_in (OfClient c call) other l i end told = told
 

@@ -18,7 +18,7 @@ use Rattle.sector_disk.specs.Calls.{IsTimed, Since, WritesDisk}
 use Rattle.sector_disk.specs.Image.{AllWorn, AreShort, IsWorn, Windows, open_damage, sector_at}
 use Rattle.sector_disk.specs.Machine.{LeavesOnly, Moment}
 use Rattle.fsd_log.specs.Scan.{Head, Placed}
-use Rattle.fsd_files.specs.Answers.{Met, Outcome, upgraded as upgrade_outcome_of}
+use Rattle.fsd_files.specs.Answers.{Outcome, upgraded as upgrade_outcome_of}
 use Rattle.fsd_files.specs.Disk.{Image, Sectors, Has, Touches, nowhere}
 use Rattle.fsd_files.specs.declared.reply.Reply.{Reply}
 use Rattle.fsd_files.specs.declared.reply.Reply.TheVariants as Said
@@ -35,21 +35,22 @@ use Rattle.fsd_runs.specs.Commands.{reply_alone}
 use Rattle.fsd_texts.specs.declared.command.Command.TheVariants as Word
 use Rattle.fsd_texts.specs.declared.fault.Fault.{Fault}
 use Rattle.fsd_texts.specs.declared.fault.Fault.TheVariants as Ends
-use Rattle.volume_contract.specs.Order.{IsDeviceIn, Keeps, Roots, Test, Through, is_root, layout_is, upgrade_steps, with_three}
+use Rattle.volume_contract.specs.Order.{IsDeviceIn, KeepsRefused, Roots, Test, Through, is_root, layout_is, upgrade_steps, with_three}
 use Rattle.volume_contract.specs.State.{Ages, IsNew, Known, Stands, State, downs_for, forced_of, none_open, volume_of}
-use Rattle.volume_contract.specs.Upgrade.{EndsUpgrade, RootsStand, is_fresh, upgraded}
-use Rattle.volume_turns.specs.declared.turns.End.{End}
-use Rattle.volume_turns.specs.declared.turns.End.TheVariants.{Fault as Stopped}
-use Rattle.volume_turns.specs.Answering.{Answers, AnswersAlone, SaysBy}
+use Rattle.volume_contract.specs.Upgrade.{EndsUpgrade, RootsStand, is_fresh, upgraded_known}
+use Rattle.volume_turns.specs.declared.turns.Halt.{Halt}
+use Rattle.volume_turns.specs.declared.turns.Halt.TheVariants.{Fault as Stopped}
+use Rattle.volume_turns.specs.Answering.{MayAnswer, AnswersAlone, SaysBy}
 use Rattle.volume_turns.specs.Numbers.{GoesUp}
 use Rattle.volume_turns.specs.Once.{ClosesAndSaysBy, IsAlone, unit_of}
 use Rattle.scrub.specs.Telling.{AreOfPage}
-use Rattle.volume_turns.specs.Steps.{Does, IsToldOn, Stays, StaysSound, ended_by}
+use Rattle.volume_turns.specs.Steps.{Does, IsToldOn, Stays, StaysSoundFor, ended_by}
 use Rattle.volume_turns.specs.Turns.{OnDisk, SaysAll, Unsaid, UttersBehind}
 use Rattle.volume_turns.specs.Upgrade.{EndsState, is_upgraded}
 use Rattle.volume_turns.proofs.AnsweringLaws.{alone_closed, closed_by}
 use Rattle.volume_turns.proofs.NumberLaws.{goes_none}
 use Rattle.volume_turns.proofs.OnceLaws.{alone_closed_as, alone_held, says_closed}
+use Rattle.volume_turns.proofs.CallLaws.{met_none}
 
 -- ---- a volume that was just mounted
 
@@ -84,14 +85,14 @@ device_fails : (s t : State) (why : Refusal) → IsDeviceIn is_root why → t �
 device_fails s t (Why.Device place) is fails = (place, refl, fails)
 device_fails s t why is fails = absurd is
 
-kind_kept : (s t : State) (kind : Kind) (why : Refusal) → Keeps (Test (layout_is s kind) ∷ Roots ∷ []) why s t → ((why ≡ Why.LayoutIs 2) × (kind ≡ Three) × (t ≡ s)) ⊎ FailsRoots s t why
+kind_kept : (s t : State) (kind : Kind) (why : Refusal) → KeepsRefused (Test (layout_is s kind) ∷ Roots ∷ []) why s t → ((why ≡ Why.LayoutIs 2) × (kind ≡ Three) × (t ≡ s)) ⊎ FailsRoots s t why
 kind_kept s t Two why (inl here) = absurd (cc here.0)
 kind_kept s t Two why (inr (passes, inl roots)) = inr (device_fails s t why roots.0 roots.1)
 kind_kept s t Two why (inr (passes, inr none)) = absurd none
 kind_kept s t Three why (inl here) = inl (cc here.0, refl, here.1)
 kind_kept s t Three why (inr (passes, later)) = absurd (cc passes)
 
-pub upgrade_kept : (s t : State) → s.down ≡ None → (why : Refusal) → Keeps (upgrade_steps s) why s t → IsDone s t why ⊎ FailsRoots s t why
+pub upgrade_kept : (s t : State) → s.down ≡ None → (why : Refusal) → KeepsRefused (upgrade_steps s) why s t → IsDone s t why ⊎ FailsRoots s t why
 upgrade_kept s t up why (inl here) = let not_down : None ≡ Some why = subst (λ (o : Option ℕ). option_map Why.Down o ≡ Some why) up here.0 in absurd (cc not_down)
 upgrade_kept s t up why (inr (passes, later)) = kind_kept s t s.layout.kind why later
 
@@ -128,9 +129,6 @@ upgrade_refused P s t why r is (inr fails) layout device = subst P (sym (is ∙ 
 
 -- ---- how it ends over a volume that stands
 
-abbrev none_met : Met
-none_met = record { forces = false; reached = 0; damaged = None; found = []; healed = 0 }
-
 module _ {S : Type 0} (state : S → State) (has : S → Mounted → List Placed → Type 0) (v w : S) (k : Known) (before now : Moment) (stood : Stands state has v k before) where
   kind_of : (kind : Kind) → (state v).layout.kind ≡ kind → (volume_of k).layout.kind ≡ kind
   kind_of kind is = ap (λ (l : Layout). l.kind) stood.fits.layout ∙ is
@@ -138,10 +136,10 @@ module _ {S : Type 0} (state : S → State) (has : S → Mounted → List Placed
   answered_by : (kind : Kind) → (state v).layout.kind ≡ kind → upgrade_outcome_of (volume_of k).layout.kind (volume_of k) ≡ upgrade_outcome_of kind (volume_of k)
   answered_by kind is = ap (λ (x : Kind). upgrade_outcome_of x (volume_of k)) (kind_of kind is)
 
-  pub upgraded_does : (state v).layout.kind ≡ Two → Stands state has w (upgraded k) now → Does state has Word.Upgrade v w k before now (Ok Said.Upgraded)
+  pub upgraded_does : (state v).layout.kind ≡ Two → Stands state has w (upgraded_known k) now → Does state has Word.Upgrade v w k before now (Ok Said.Upgraded)
   upgraded_does two stands = (
-    upgraded k,
-    record { met = none_met; is = answered_by Two two; opened = refl; windows = refl; changes = sym (append-nil k.changes); find = tt; unworn = λ may. cc may },
+    upgraded_known k,
+    record { met = met_none; is = answered_by Two two; opened = refl; windows = refl; changes = sym (append-nil k.changes); find = tt; unworn = λ may. cc may },
     stands,
   )
 
@@ -151,7 +149,7 @@ module _ {S : Type 0} (state : S → State) (has : S → Mounted → List Placed
   pub done_does : (state v).layout.kind ≡ Three → Stands state has w k now → Does state has Word.Upgrade v w k before now (Ok (Said.Refused (Why.LayoutIs 2)))
   done_does three stands = (
     k,
-    record { met = none_met; is = answered_by Three three; opened = refl; windows = refl; changes = sym (append-nil k.changes); find = tt; unworn = λ may. cc may },
+    record { met = met_none; is = answered_by Three three; opened = refl; windows = refl; changes = sym (append-nil k.changes); find = tt; unworn = λ may. cc may },
     stands,
   )
 
@@ -175,7 +173,7 @@ module _ {S D : Type 0} (state : S → State) (has : S → Mounted → List Plac
   abbrev after : Known
   after = does.0
 
-  exit : StaysSound k (M.now a) (M.now m)
+  exit : StaysSoundFor k (M.now a) (M.now m)
   exit = disk.exit honest k stood
 
   sound : IsSound l k.windows k.changes (length k.changes) (M.now m).image
@@ -217,7 +215,7 @@ module _ {S D : Type 0} (state : S → State) (has : S → Mounted → List Plac
   own_roots : HasOwnRoots (volume_of after).layout (weak_of k.windows) (M.now m).image
   own_roots = subst (λ (ws : List WeakRun). HasOwnRoots (volume_of after).layout (weak_of ws) (M.now m).image) does.1.windows does.2.disk.over.own.roots
 
-  pub upgraded_alone : (text : List ℕ) → text ≡ reply_alone Said.Upgraded → M.honest b → LeavesOnly M.moment M.left_since m b (UttersBehind true text (M.now m)) → (r : Result ℕ End) → (r ≡ Err (Stopped Ends.Memory) → b ≡ m) → IfOk r (λ status. status ≡ 0)
+  pub upgraded_alone : (text : List ℕ) → text ≡ reply_alone Said.Upgraded → M.honest b → LeavesOnly M.moment M.left_since m b (UttersBehind true text (M.now m)) → (r : Result ℕ Halt) → (r ≡ Err (Stopped Ends.Memory) → b ≡ m) → IfOk r (λ status. status ≡ 0)
       → OnOk (unit_of r) (SaysAll text (M.now m) (M.now b)) → OnOk (unit_of r) ((M.now m).time ≤ (M.now b).synced) → IfErr (unit_of r) (λ end. Unsaid (M.now m) (M.now b) end) → IsAlone M Word.Upgrade k a b r
   upgraded_alone text is honest_b run r undone gives all synced unsaid =
       let held = alone_held state has M wears short timed Word.Upgrade v w a m b k none stood on fault disk honest since in
@@ -226,7 +224,7 @@ module _ {S D : Type 0} (state : S → State) (has : S → Mounted → List Plac
       (subst (λ (x : List ℕ). ClosesAndSaysBy (volume_of after).layout M k (forced_of k) x m b (unit_of r)) is closes)
 
 -- what it says and writes, whatever the image
-pub upgraded_answers : (s t : State) (a m b : Moment) → m.windows ≡ a.windows → m.said ≡ a.said → Answers Word.Upgrade s t a m (Ok Said.Upgraded) → Ages m b → (r : Result ℕ End) → IfOk r (λ status. status ≡ 0) → SaysBy (reply_alone Said.Upgraded) m b (unit_of r)
+pub upgraded_answers : (s t : State) (a m b : Moment) → m.windows ≡ a.windows → m.said ≡ a.said → MayAnswer Word.Upgrade s t a m (Ok Said.Upgraded) → Ages m b → (r : Result ℕ Halt) → IfOk r (λ status. status ≡ 0) → SaysBy (reply_alone Said.Upgraded) m b (unit_of r)
     → (unit_of r ≡ Err (Stopped Ends.WornOut) → ⊥) → ((why : Fault) → unit_of r ≡ Err (Stopped why) → IsToldOn AreOfPage s.layout b.image why) → AnswersAlone Word.Upgrade s a b r
 upgraded_answers s t a m b windows same answers ages r gives says unworn told =
     let still : Touches (force_writes s.layout) m m = record { size = refl; others = λ x out. inl refl } in

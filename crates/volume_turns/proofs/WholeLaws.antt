@@ -32,16 +32,16 @@ use Rattle.fsd_texts.specs.Text.{fault_text}
 use Rattle.fsd_runs.specs.declared.request.Request.{Request}
 use Rattle.fsd_runs.specs.declared.request.Request.TheVariants.{One, Put}
 use Rattle.fsd_runs.specs.Errands.{Cut, Turn, blank, errand_of, fault_status}
-use Rattle.fsd_runs.specs.Leaves.{CutCause, IfOne, IsBroken, IsOutside, IsReplied, IsSpent, IsUnderWay, IsUndone, IsUnsaid, LeavesBy, LeavesRoots, Left, LeftBefore, LeftSince, Unbegun, Whatever}
+use Rattle.fsd_runs.specs.Leaves.{CutCause, IfOne, IsBrokenOff, IsOutside, IsReplied, IsSpent, IsUnderWay, IsUndone, IsUnsaid, LeavesBy, LeavesRoots, Left, LeftBefore, LeftByTurns, Unbegun, Whatever}
 use Rattle.fsd_runs.proofs.LeaveLaws.{one_more}
 use Rattle.fsd_runs.specs.Sessions.{session_over}
-use Rattle.fsd_runs.specs.Runs.{Goes, IsCutAt, IsThrough, Run, changes_in, errand_in, run_end, run_status, run_turns, said_in, turns_of}
-use Rattle.volume_contract.specs.Mount.{EndsBefore, EndsSettled, Excuses, ExcusesOf, MountsAs, Settled, SoundAbout, SoundBefore, SoundSince}
+use Rattle.fsd_runs.specs.Runs.{Goes, IsCutAt, IsThrough, Course, changes_in, errand_in, run_end, run_status, run_turns, said_in, turns_of}
+use Rattle.volume_contract.specs.Mount.{EndsBefore, EndsSettled, Excuses, ExcusesOf, MountsAs, SettledDisk, SoundAbout, SoundBefore, SoundSince}
 use Rattle.volume_contract.specs.State.{State, Known, Stands, forced_of, none_open, volume_of}
-use Rattle.volume_turns.specs.declared.turns.End.TheVariants.{Fault as Stopped}
+use Rattle.volume_turns.specs.declared.turns.Halt.TheVariants.{Fault as Stopped}
 use Rattle.volume_turns.specs.Line.{EndsWith, is_unsaid}
-use Rattle.volume_turns.specs.Once.{fault_of}
-use Rattle.volume_turns.specs.Turns.{EndsAtOnce, InRun, OnDisk, SaysAll, Told, Undone}
+use Rattle.volume_turns.specs.Once.{end_by_mount}
+use Rattle.volume_turns.specs.Turns.{EndsAtOnce, InRun, OnDisk, SaysAll, FaultTold, Undone}
 use Rattle.volume_turns.specs.Whole.{Halted, RunsOut, SaysOut, UnderWay}
 use Rattle.volume_turns.proofs.HaltLaws.{broken_ends, broken_moments, held_behind, stops_saying}
 use Rattle.volume_turns.proofs.LineLaws.{at_once_ends, excused}
@@ -52,7 +52,7 @@ use Rattle.volume_turns.proofs.TurnLaws.{in_before_at, none_done, now_held}
 use Rattle.volume_turns.proofs.StatusLaws.{same_device}
 
 -- what was said before the mount is all that was said until it had settled
-broken_on_said : (a b : Report) (request : Request) (Over Now : ℕ → Image → Type 0) (Way To : ℕ → Type 0) (turns : List Turn) (old mid new : Moment) (status : ℕ) → mid.said ≡ old.said → ((whole : ℕ) (i : Image) → Over whole i → Now whole i) → ((whole : ℕ) → Way whole → To whole) → IsBroken request Over Way a b turns mid new status → IsBroken request Now To a b turns old new status
+broken_on_said : (a b : Report) (request : Request) (Over Now : ℕ → Image → Type 0) (Way To : ℕ → Type 0) (turns : List Turn) (old mid new : Moment) (status : ℕ) → mid.said ≡ old.said → ((whole : ℕ) (i : Image) → Over whole i → Now whole i) → ((whole : ℕ) → Way whole → To whole) → IsBrokenOff request Over Way a b turns mid new status → IsBrokenOff request Now To a b turns old new status
 broken_on_said a b request Over Now Way To turns old mid new status quiet on held x = record {
   why = x.why;
   outside = x.outside;
@@ -82,7 +82,7 @@ module _ (a m b : Report) (uses : UsesDisk a m) (faults : DiskFaults None a m) w
   outside_on (Put name keep) Ends.Input o = subst (λ (n : ℕ). Rose n b.input_faults) uses.input o
   outside_on request why o = absurd o
 
-  pub broken_on : (request : Request) {Over : ℕ → Image → Type 0} {Way : ℕ → Type 0} {turns : List Turn} {old new : Moment} {status : ℕ} → IsBroken request Over Way m b turns old new status → IsBroken request Over Way a b turns old new status
+  pub broken_on : (request : Request) {Over : ℕ → Image → Type 0} {Way : ℕ → Type 0} {turns : List Turn} {old new : Moment} {status : ℕ} → IsBrokenOff request Over Way m b turns old new status → IsBrokenOff request Over Way a b turns old new status
   broken_on request x = record { why = x.why; outside = outside_on request x.why x.outside; ends = x.ends; says = x.says; held = x.held; undone = x.undone }
 
   pub cause_on : (cut : Cut) (input rest : List ℕ) → CutCause cut input rest m b → CutCause cut input rest a b
@@ -105,7 +105,7 @@ runs_on M request input rest a m uses faults k c b status r = record {
   rooted = r.rooted;
 }
   where
-    ended : {All : Type 0} {Over : ℕ → Image → Type 0} {Way : ℕ → Type 0} {turns : List Turn} {old new : Moment} → All ⊎ (IsUnsaid m (M.report b) status ⊎ IsBroken request Over Way m (M.report b) turns old new status) → All ⊎ (IsUnsaid a (M.report b) status ⊎ IsBroken request Over Way a (M.report b) turns old new status)
+    ended : {All : Type 0} {Over : ℕ → Image → Type 0} {Way : ℕ → Type 0} {turns : List Turn} {old new : Moment} → All ⊎ (IsUnsaid m (M.report b) status ⊎ IsBrokenOff request Over Way m (M.report b) turns old new status) → All ⊎ (IsUnsaid a (M.report b) status ⊎ IsBrokenOff request Over Way a (M.report b) turns old new status)
     ended (inl out) = inl out
     ended (inr (inl u)) = inr (inl (unsaid_on a m (M.report b) uses faults status u))
     ended (inr (inr x)) = inr (inr (broken_on a m (M.report b) uses faults request x))
@@ -160,20 +160,20 @@ module _ {D : Type 0} (M : Ghosts D) (l : Layout) (windows : List WeakRun) (h : 
 -- ---- it was mounted
 
 -- the disk behind a mount that settled
-pub settled_disk : {D : Type 0} (M : Ghosts D) (l : Layout) (windows : List WeakRun) (run : WeakRun) (h : List Change) (f n : ℕ) → IsPrefixOf h f n → (k : Known) (a m : D) → Settled l windows run h n k (M.now a) (M.now m) → (M.now m).said ≡ (M.now a).said → IsTimed M m → (at : ℕ) → at ≤ (M.now m).synced
+pub settled_disk : {D : Type 0} (M : Ghosts D) (l : Layout) (windows : List WeakRun) (run : WeakRun) (h : List Change) (f n : ℕ) → IsPrefixOf h f n → (k : Known) (a m : D) → SettledDisk l windows run h n k (M.now a) (M.now m) → (M.now m).said ≡ (M.now a).said → IsTimed M m → (at : ℕ) → at ≤ (M.now m).synced
     → ((left : Moment) → M.left_since m at left → SoundSince l windows run h n (M.now a) left) → OnDisk M k (forced_of k) m
 settled_disk M l windows run h f n prefix k a m s quiet at_m at late settled = record {
   most = omega arith;
   each = λ c left. known_sound l windows run h f n prefix k (M.now a) (M.now m) s quiet c.image (settled c (at_m.history.sooner at (M.now m).synced c late left)).sound;
 }
 
-module _ {D : Type 0} (M : Ghosts D) (request : Request) (input rest : List ℕ) (l : Layout) (windows : List WeakRun) (run : WeakRun) (h : List Change) (f n : ℕ) (prefix : IsPrefixOf h f n) (k : Known) (a m b : D) (s : Settled l windows run h n k (M.now a) (M.now m)) (quiet : (M.now m).said ≡ (M.now a).said)
+module _ {D : Type 0} (M : Ghosts D) (request : Request) (input rest : List ℕ) (l : Layout) (windows : List WeakRun) (run : WeakRun) (h : List Change) (f n : ℕ) (prefix : IsPrefixOf h f n) (k : Known) (a m b : D) (s : SettledDisk l windows run h n k (M.now a) (M.now m)) (quiet : (M.now m).said ≡ (M.now a).said)
     (at_a : IsTimed M a) (at_m : IsTimed M m) (mounts : Since M a m) (held : IsHeld M a (λ c. IsSound l windows h f c.image)) (at : ℕ) (mount : LeavesOnly M.moment M.left_since a m (SoundAbout at l windows run h f n (M.now a))) (settled_at : (left : Moment) → M.left_since m at left → SoundSince l windows run h n (M.now a) left)
     (named : IsNamedSince (M.left_since m) (M.moment a) (Some run)) (since : Since M m b) (now : M.left_since b (M.moment m) (M.now b)) (status : ℕ) (r : RunsOut M request input rest (M.report a) k m b status) where
   abbrev turns : List Turn
   turns = turns_of (errand_in request input r.cut) r.finishes.mets (session_over (volume_of k))
 
-  on : (left : Moment) → InRun k (forced_of k) turns (M.now m) left → LeftSince l windows run h n turns (M.now a) left
+  on : (left : Moment) → InRun k (forced_of k) turns (M.now m) left → LeftByTurns l windows run h n turns (M.now a) left
   on left x = run_left l windows run h f n prefix k (M.now a) (M.now m) s quiet turns left x
 
   mount_left : StopsOnly M a m (Left l windows run h f n turns (M.now a))
@@ -185,7 +185,7 @@ module _ {D : Type 0} (M : Ghosts D) (request : Request) (input rest : List ℕ)
   stop_now : stops M b (M.moment m) (M.now b)
   stop_now = record { last = M.now b; passed = now; shown = M.now b; held = inl refl; is = refl }
 
-  abbrev run_is : Run request input (windows ++ run ∷ []) (M.left_since b (M.moment m)) (M.now a).said (volume_of k) (M.now m).image
+  abbrev run_is : Course request input (windows ++ run ∷ []) (M.left_since b (M.moment m)) (M.now a).said (volume_of k) (M.now m).image
   run_is = record {
     cut = r.cut;
     may = r.may;
@@ -235,10 +235,10 @@ module _ {D : Type 0} (M : Ghosts D) (request : Request) (input rest : List ℕ)
       }
 
   abbrev Over : Type 0
-  Over = IsUnsaid (M.report a) (M.report b) status ⊎ IsBroken request (Undone k (forced_of k) turns) (UnderWay M k turns b) (M.report a) (M.report b) turns (M.now m) (M.now b) status
+  Over = IsUnsaid (M.report a) (M.report b) status ⊎ IsBrokenOff request (Undone k (forced_of k) turns) (UnderWay M k turns b) (M.report a) (M.report b) turns (M.now m) (M.now b) status
 
   ended : SaysOut M (errand_in request input r.cut) k r.finishes.mets m b status ⊎ Over
-      → (IsThrough run_is × IsReplied l windows run h n (run_turns run_is) (run_status run_is) (run_end run_is) (IsHeld M b) (M.now a) (M.now b) status) ⊎ (IsUnsaid (M.report a) (M.report b) status ⊎ IsBroken request (IsUndone l (windows ++ run ∷ []) (take n h) n (run_turns run_is)) (IsUnderWay l (windows ++ run ∷ []) (take n h) n (run_turns run_is) (IsHeld M b)) (M.report a) (M.report b) (run_turns run_is) (M.now a) (M.now b) status)
+      → (IsThrough run_is × IsReplied l windows run h n (run_turns run_is) (run_status run_is) (run_end run_is) (IsHeld M b) (M.now a) (M.now b) status) ⊎ (IsUnsaid (M.report a) (M.report b) status ⊎ IsBrokenOff request (IsUndone l (windows ++ run ∷ []) (take n h) n (run_turns run_is)) (IsUnderWay l (windows ++ run ∷ []) (take n h) n (run_turns run_is) (IsHeld M b)) (M.report a) (M.report b) (run_turns run_is) (M.now a) (M.now b) status)
   ended (inl out) = inl (out.through, replied out)
   ended (inr (inl u)) = inr (inl u)
   ended (inr (inr x)) = inr (inr (broken_on_said (M.report a) (M.report b) request (Undone k (forced_of k) turns) (IsUndone l (windows ++ run ∷ []) (take n h) n turns) (UnderWay M k turns b) (IsUnderWay l (windows ++ run ∷ []) (take n h) n turns (IsHeld M b)) turns (M.now a) (M.now m) (M.now b) status quiet
@@ -270,24 +270,24 @@ module _ {D : Type 0} (M : Ghosts D) (request : Request) (input rest : List ℕ)
 
 -- ---- it was not
 
-at_once : (fault : MountFault) → Excuses fault → EndsAtOnce (fault_of fault)
+at_once : (fault : MountFault) → Excuses fault → EndsAtOnce (end_by_mount fault)
 at_once (Refused.Device s) is = tt
 at_once Refused.Memory is = tt
 at_once fault is = absurd is
 
 module _ {S D : Type 0} (state : S → State) (has : S → Mounted → List Placed → Type 0) (M : Ghosts D) (request : Request) (input rest : List ℕ) (l : Layout) (windows : List WeakRun) (h : List Change) (f : ℕ) (a m b : D) (at : EndIn (M.now a).windows windows)
-    (fault : MountFault) (quiet : (M.now m).said ≡ (M.now a).said) (uses : UsesDisk (M.report a) (M.report m)) (faults : DiskFaults (device_of_mount fault) (M.report a) (M.report m)) (status : ℕ) (says : LeavesDisk M false (is_unsaid status) (Utters (fault_text (fault_of fault))) m b)
-    (honest : M.honest b) (short : AreShort (M.now m).windows) (ended : EndsWith (fault_of fault) (M.now m) (M.now b) status) (at_a : IsTimed M a) (at_m : IsTimed M m) (at_b : IsTimed M b) (mounts : Since M a m)
+    (fault : MountFault) (quiet : (M.now m).said ≡ (M.now a).said) (uses : UsesDisk (M.report a) (M.report m)) (faults : DiskFaults (device_of_mount fault) (M.report a) (M.report m)) (status : ℕ) (says : LeavesDisk M false (is_unsaid status) (Utters (fault_text (end_by_mount fault))) m b)
+    (honest : M.honest b) (short : AreShort (M.now m).windows) (ended : EndsWith (end_by_mount fault) (M.now m) (M.now b) status) (at_a : IsTimed M a) (at_m : IsTimed M m) (at_b : IsTimed M b) (mounts : Since M a m)
     (held : IsHeld M a (λ c. IsSound l windows h f c.image)) where
   abbrev why : Fault
-  why = fault_of fault
+  why = end_by_mount fault
 
-  told_is : Told {T = Unit {0}} (M.report a) (M.report m) (Err (Stopped why))
+  told_is : FaultTold {T = Unit {0}} (M.report a) (M.report m) (Err (Stopped why))
   told_is = told_fault (M.report a) (M.report m) why uses (subst (λ (o : Option ℕ). DiskFaults o (M.report a) (M.report m)) (same_device fault) faults)
 
   outside : (said : Fault) → EndsAtOnce said → said ≡ why → IsOutside request (M.report a) (M.report b) said
   outside (Ends.Device s) once is =
-      let counted : Told {T = Unit {0}} (M.report a) (M.report m) (Err (Stopped (Ends.Device s))) = subst (λ (x : Fault). Told {T = Unit {0}} (M.report a) (M.report m) (Err (Stopped x))) (sym is) told_is in
+      let counted : FaultTold {T = Unit {0}} (M.report a) (M.report m) (Err (Stopped (Ends.Device s))) = subst (λ (x : Fault). FaultTold {T = Unit {0}} (M.report a) (M.report m) (Err (Stopped x))) (sym is) told_is in
       record { rose = subst (λ (n : ℕ). Rose (M.report a).disk_faults n) (sym says.spares.disk) counted.disk.rose; told = counted.disk.told ∙ sym says.spares.place }
   outside Ends.Memory once is = tt
   outside said once is = absurd once
@@ -298,7 +298,7 @@ module _ {S D : Type 0} (state : S → State) (has : S → Mounted → List Plac
       let later = told_is.later in
       record { ends = six; rose = omega (arith, later, rose) }
 
-  broken : IsOutside request (M.report a) (M.report b) why → status ≡ fault_status why → SaysAll (fault_text why) (M.now m) (M.now b) → IsBroken request Unbegun Whatever (M.report a) (M.report b) (blank ∷ []) (M.now a) (M.now b) status
+  broken : IsOutside request (M.report a) (M.report b) why → status ≡ fault_status why → SaysAll (fault_text why) (M.now m) (M.now b) → IsBrokenOff request Unbegun Whatever (M.report a) (M.report b) (blank ∷ []) (M.now a) (M.now b) status
   broken out gives all = record {
     why = why;
     outside = out;
@@ -335,8 +335,8 @@ module _ {S D : Type 0} (state : S → State) (has : S → Mounted → List Plac
     line_exit : Utters (fault_text why) (M.now m) (M.now b) → LeftBefore l windows h f (M.now a) (M.now b)
     line_exit utters = on_line (M.now b) (worn (M.now b).image u.exit.sound utters.image) utters.windows utters.heard utters.said
 
-    by_fault : (x : MountFault) → ExcusesOf (M.now a).image x → why ≡ fault_of x → status ≡ fault_status why → SaysAll (fault_text why) (M.now m) (M.now b)
-        → IsSpent (M.now a) (M.now b) status ⊎ (IsUnsaid (M.report a) (M.report b) status ⊎ IsBroken request Unbegun Whatever (M.report a) (M.report b) (blank ∷ []) (M.now a) (M.now b) status)
+    by_fault : (x : MountFault) → ExcusesOf (M.now a).image x → why ≡ end_by_mount x → status ≡ fault_status why → SaysAll (fault_text why) (M.now m) (M.now b)
+        → IsSpent (M.now a) (M.now b) status ⊎ (IsUnsaid (M.report a) (M.report b) status ⊎ IsBrokenOff request Unbegun Whatever (M.report a) (M.report b) (blank ∷ []) (M.now a) (M.now b) status)
     by_fault Refused.WornOut last is gives all = inl (record {
       anchor = last.anchor;
       taken = last.taken;
@@ -348,7 +348,7 @@ module _ {S D : Type 0} (state : S → State) (has : S → Mounted → List Plac
     by_fault Refused.Memory excuse is gives all = inr (inr (broken (outside why (subst EndsAtOnce (sym is) tt) refl) gives all))
     by_fault x excuse is gives all = absurd excuse
 
-    by_end : EndsWith why (M.now m) (M.now b) status → IsSpent (M.now a) (M.now b) status ⊎ (IsUnsaid (M.report a) (M.report b) status ⊎ IsBroken request Unbegun Whatever (M.report a) (M.report b) (blank ∷ []) (M.now a) (M.now b) status)
+    by_end : EndsWith why (M.now m) (M.now b) status → IsSpent (M.now a) (M.now b) status ⊎ (IsUnsaid (M.report a) (M.report b) status ⊎ IsBrokenOff request Unbegun Whatever (M.report a) (M.report b) (blank ∷ []) (M.now a) (M.now b) status)
     by_end (inl six) = inr (inl (unsaid six))
     by_end (inr (gives, all)) = by_fault fault u.why refl gives all
 

@@ -8,11 +8,11 @@ use Rattle.sector_disk.specs.Machine.{Moment}
 use Rattle.fsd_texts.specs.declared.fault.Fault.{Fault}
 use Rattle.fsd_texts.specs.declared.fault.Fault.TheVariants as Ends
 use Rattle.fsd_runs.specs.Errands.{fault_status}
-use Rattle.volume_contract.specs.Order.{Comes, IsLookUp, Step}
+use Rattle.volume_contract.specs.Order.{Comes, IsLookUp, CallStep}
 use Rattle.volume_contract.specs.State.{State, is_worn}
 use Rattle.fsd_files.specs.declared.reply.Reply.{Reply}
-use Rattle.volume_turns.specs.declared.turns.End.{End}
-use Rattle.volume_turns.specs.declared.turns.End.TheVariants.{Fault as Stopped}
+use Rattle.volume_turns.specs.declared.turns.Halt.{Halt}
+use Rattle.volume_turns.specs.declared.turns.Halt.TheVariants.{Fault as Stopped}
 use Rattle.volume_turns.specs.Line.{IsStatusFor}
 use Rattle.volume_turns.specs.Once.{close_fault}
 use Rattle.volume_turns.specs.Steps.{ended_by, read_ended_by}
@@ -29,10 +29,10 @@ read_ended_worn key (Why.Damaged s) is = absurd (cc is)
 read_ended_worn key why is = ended_worn why is
 
 -- what its steps refuse so is told so
-pub told_worn : (s : State) (steps : List Step) (why : Refusal) (r : Result Reply Fault) → r ≡ ended_by why → Comes steps why → (Comes steps Why.WornOut → IsTrue (is_worn s)) → r ≡ Err Ends.WornOut → IsTrue (is_worn s)
+pub told_worn : (s : State) (steps : List CallStep) (why : Refusal) (r : Result Reply Fault) → r ≡ ended_by why → Comes steps why → (Comes steps Why.WornOut → IsTrue (is_worn s)) → r ≡ Err Ends.WornOut → IsTrue (is_worn s)
 told_worn s steps why r by comes worn is = worn (subst (λ (w : Refusal). Comes steps w) (ended_worn why (sym by ∙ is)) comes)
 
-pub read_told_worn : (s : State) (steps : List Step) (key : Key) (why : Refusal) (r : Result Reply Fault) → r ≡ read_ended_by key why → Comes steps why → (Comes steps Why.WornOut → ⊥) → r ≡ Err Ends.WornOut → IsTrue (is_worn s)
+pub read_told_worn : (s : State) (steps : List CallStep) (key : Key) (why : Refusal) (r : Result Reply Fault) → r ≡ read_ended_by key why → Comes steps why → (Comes steps Why.WornOut → ⊥) → r ≡ Err Ends.WornOut → IsTrue (is_worn s)
 read_told_worn s steps key why r by comes never is = absurd (never (subst (λ (w : Refusal). Comes steps w) (read_ended_worn key why (sym by ∙ is)) comes))
 
 pub look_up_worn : (s : State) (why : Refusal) (r : Result Reply Fault) → r ≡ ended_by why → IsLookUp why → r ≡ Err Ends.WornOut → IsTrue (is_worn s)
@@ -44,8 +44,8 @@ pub close_unworn : (why : Refusal) → close_fault why ≡ Ends.WornOut → ⊥
 close_unworn (Why.Device s) is = cc is
 close_unworn why is = cc is
 
-pub unsaid_unworn : (old new : Moment) {T : Type 0} (r : Result T End) → IfErr r (λ end. Unsaid old new end) → r ≡ Err (Stopped Ends.WornOut) → ⊥
-unsaid_unworn old new {T = T} r unsaid is = subst (λ (x : Result T End). IfErr x (λ end. Unsaid old new end)) is unsaid
+pub unsaid_unworn : (old new : Moment) {T : Type 0} (r : Result T Halt) → IfErr r (λ end. Unsaid old new end) → r ≡ Err (Stopped Ends.WornOut) → ⊥
+unsaid_unworn old new {T = T} r unsaid is = subst (λ (x : Result T Halt). IfErr x (λ end. Unsaid old new end)) is unsaid
 
 -- ---- its status
 

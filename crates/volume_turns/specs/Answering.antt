@@ -13,8 +13,8 @@ use Rattle.fsd_runs.specs.Commands.{reply_alone, reply_status}
 use Rattle.fsd_runs.specs.Errands.{fault_status}
 use Rattle.volume_contract.specs.State.{State, is_worn}
 use Rattle.scrub.specs.Telling.{AreOfPage}
-use Rattle.volume_turns.specs.declared.turns.End.{End}
-use Rattle.volume_turns.specs.declared.turns.End.TheVariants.{Fault as Stopped, Output}
+use Rattle.volume_turns.specs.declared.turns.Halt.{Halt}
+use Rattle.volume_turns.specs.declared.turns.Halt.TheVariants.{Fault as Stopped, Output}
 use Rattle.volume_turns.specs.Numbers.{GoesUp}
 use Rattle.volume_turns.specs.Steps.{IsToldOn}
 use Rattle.volume_turns.specs.Commands.{KeepsState, MayLose, MayReply, WritesBehind, may_write}
@@ -23,7 +23,7 @@ use Rattle.volume_turns.specs.Turns.{KeepsSaid}
 -- ---- one command, step by step
 
 -- It is answered, or a fault has ended it.
-pub record Answers (command : Command) (s t : State) (old new : Moment) (result : Result Reply Fault) : Type 0 where
+pub record MayAnswer (command : Command) (s t : State) (old new : Moment) (result : Result Reply Fault) : Type 0 where
   pub replies : IfOk result (λ a. MayReply command new.image a)
   pub rest : Touches (may_write command s) old new
   pub still : KeepsState command s t
@@ -33,13 +33,13 @@ pub record Answers (command : Command) (s t : State) (old new : Moment) (result 
   pub told : IfErr result (IsToldOn (MayLose command) s.layout new.image)
 
 -- a text is said, and nothing in front of a fault
-abbrev pub SaysBy : {T : Type 0} → (text : List ℕ) → (old new : Moment) → Result T End → Type 0
+abbrev pub SaysBy : {T : Type 0} → (text : List ℕ) → (old new : Moment) → Result T Halt → Type 0
 SaysBy text old new (Ok x) = new.said ≡ old.said ++ text
 SaysBy text old new (Err (Stopped why)) = new.said ≡ old.said
 SaysBy text old new (Err Output) = ⊤
 
 -- The use of a volume has ended, and a text is said.
-pub record ClosesBy {T : Type 0} (s : State) (text : List ℕ) (old new : Moment) (result : Result T End) : Type 0 where
+pub record ClosesBy {T : Type 0} (s : State) (text : List ℕ) (old new : Moment) (result : Result T Halt) : Type 0 where
   pub windows : new.windows ≡ old.windows
   pub says : SaysBy text old new result
   pub rest : Touches (force_writes s.layout) old new
@@ -58,7 +58,7 @@ pub record SaysReply (command : Command) (old new : Moment) (status : ℕ) : Typ
 
 -- A command is done alone over a volume of this state;
 -- all is said of one of which no page waits, as it is behind a mount.
-pub record AnswersAlone (command : Command) (s : State) (old new : Moment) (result : Result ℕ End) : Type 0 where
+pub record AnswersAlone (command : Command) (s : State) (old new : Moment) (result : Result ℕ Halt) : Type 0 where
   pub windows : new.windows ≡ old.windows
   pub quiet : KeepsSaid old new result
   pub replies : s.dirty ≡ [] → IfOk result (SaysReply command old new)

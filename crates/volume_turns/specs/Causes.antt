@@ -22,7 +22,7 @@ use Rattle.fsd_runs.specs.Errands.{fault_status, forced_turn}
 use Rattle.fsd_runs.specs.Runs.{last_count}
 use Rattle.volume_contract.specs.Mount.{IsRefused, KeepsAll, UnsoundFor}
 use Rattle.volume_contract.specs.State.{Ages}
-use Rattle.volume_turns.specs.Once.{fault_of}
+use Rattle.volume_turns.specs.Once.{end_by_mount}
 use Rattle.volume_turns.specs.Steps.{IsOfImage, IsToldOn, device_told}
 use Rattle.volume_turns.specs.Turns.{SaysReplies}
 
@@ -48,7 +48,7 @@ is_of_mounted status = list_any (λ s. s == status) (0 ∷ 1 ∷ 2 ∷ 5 ∷ 8 �
 -- Its line is all that is said.
 pub record IsMountRefused (sectors : ℕ) (why : Fault) (old new : Moment) : Type 0 where
   pub fault : MountFault
-  pub is : why ≡ fault_of fault
+  pub is : why ≡ end_by_mount fault
   pub refused : IsRefused sectors fault old
   pub ended : Moment
   pub since : Ages ended new
@@ -112,7 +112,7 @@ abbrev pub is_of_fault : ℕ → Bool
 is_of_fault status = list_any (λ s. s == status) (4 ∷ 5 ∷ 7 ∷ 9 ∷ [])
 
 -- The last line that is said is that of a fault of this status; a fault of the disk has the place that was last told.
-pub record SaysFault (place : ℕ) (new : Moment) (status : ℕ) : Type 0 where
+pub record SaysFaultAt (place : ℕ) (new : Moment) (status : ℕ) : Type 0 where
   pub why : Fault
   pub gives : status ≡ fault_status why
   pub at : IfSome (device_told why) (λ s. s ≡ place)

@@ -19,7 +19,7 @@ use Rattle.fsd_texts.specs.declared.command.Command.TheVariants as Word
 use Rattle.fsd_texts.specs.declared.script_command.ScriptCommand.{ScriptCommand}
 use Rattle.fsd_texts.specs.declared.script_command.ScriptCommand.TheVariants.{Plain, OfClient}
 use Rattle.fsd_texts.specs.declared.fault.Fault.{Fault}
-use Rattle.fsd_runs.specs.Commands.{is_one_of, reply_statuses}
+use Rattle.fsd_runs.specs.Commands.{is_status_of, reply_statuses}
 use Rattle.volume_contract.specs.Order.{is_root}
 use Rattle.volume_contract.specs.State.{Ages, State, change_len, force_len, put_len, put_writes}
 use Rattle.scrub.specs.Scrub.{scrub_writes}
@@ -82,7 +82,7 @@ MayReply Word.Upgrade i reply = ⊥
 
 -- the status of a reply to it is one of these
 abbrev pub IsStatusFrom : Command → ℕ → Type 0
-IsStatusFrom command status = IsTrue (is_one_of (reply_statuses command) status)
+IsStatusFrom command status = IsTrue (is_status_of (reply_statuses command) status)
 
 -- ---- what is written
 

@@ -10,7 +10,7 @@ use Rattle.fsd_runs.specs.Commands.{reply_status}
 use Rattle.volume_contract.specs.State.{State, Known, Stands}
 use Rattle.scrub.specs.Scrub.{KeepsOpen}
 use Rattle.fsd_files.specs.declared.reply.Reply.{Reply}
-use Rattle.volume_turns.specs.Answering.{Answers}
+use Rattle.volume_turns.specs.Answering.{MayAnswer}
 use Rattle.volume_turns.specs.Commands.{Because, HasWrittenBy, IsStatusFrom}
 use Rattle.volume_turns.specs.Steps.{Does, IsOfCall, Stays, device_by}
 
@@ -25,7 +25,7 @@ pub record Did {D S : Type 0} (M : Ghosts D) (state : S → State) (holds : S �
   pub fault : IfErr result IsOfCall
   pub status : IfOk result (λ a. IsStatusFrom command (reply_status a))
   -- of any image: it may be answered so, so much is written, and this is why
-  pub answers : M.honest now → Answers command (state old) (state new) (M.now before) (M.now now) result
+  pub answers : M.honest now → MayAnswer command (state old) (state new) (M.now before) (M.now now) result
   pub written : M.tells now → HasWrittenBy command (state old) (M.ledger before) (M.ledger now) result
   pub because : M.honest now → IfOk result (λ a. Because state resident command (state old) (state new) (M.now before) (M.now now) a)
   -- of a volume that stands: it is answered as the definitions do

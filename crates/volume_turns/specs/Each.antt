@@ -1,5 +1,5 @@
 -- What a script has said, whatever the image: in order, for each of its commands a reply that this may have.
-use Rattle.std.specs.Prelude.{◌≡◌, ◌≤◌, ⊤, ℕ, List, [], ◌∷◌, ◌++◌}
+use Rattle.std.specs.Prelude.{◌≡◌, ◌≤◌, ⊤, ℕ, List, [], ◌∷◌, ◌++◌, Result, OnOk}
 use Rattle.std.specs.List.{flat_map}
 use Rattle.sector_disk.specs.declared.machine.Machine.{Ghosts}
 use Rattle.sector_disk.specs.Machine.{Moment}
@@ -12,13 +12,20 @@ use Rattle.fsd_texts.specs.Script.{script_in}
 use Rattle.fsd_texts.specs.Text.{text}
 use Rattle.fsd_runs.specs.Commands.{reply_text}
 use Rattle.fsd_runs.specs.Errands.{forced_turn}
+use Rattle.volume_turns.specs.declared.turns.Halt.{Halt}
 use Rattle.volume_turns.specs.Calls.{MayReplyTo}
+use Rattle.volume_turns.specs.Turns.{SaysWhole}
 
 -- One reply is said, which the command may have over the image as it is then.
 pub record SaysOnce (says : Reply → List ℕ) (command : ScriptCommand) (old new : Moment) : Type 0 where
   pub reply : Reply
   pub may : MayReplyTo command new.image reply
   pub said : new.said ≡ old.said ++ says reply
+
+-- A command has said whole replies, and no more; where it is done, one that it may have.
+pub record SaysStep {D T : Type 0} (M : Ghosts D) (says : Reply → List ℕ) (command : ScriptCommand) (a b : D) (result : Result T Halt) : Type 0 where
+  pub whole_replies : M.honest b → SaysWhole says (M.now a) (M.now b) result
+  pub once : OnOk result (M.honest b → SaysOnce says command (M.now a) (M.now b))
 
 -- it may be answered so over the image of one of these moments
 abbrev pub MayReplyIn : (Past : Moment → Type 0) → ScriptCommand → Reply → Type 0

@@ -9,10 +9,10 @@ use Rattle.fsd_files.specs.Volume.{Volume}
 use Rattle.fsd_texts.specs.declared.fault.Fault.TheVariants as Ends
 use Rattle.fsd_texts.specs.declared.script_command.ScriptCommand.{ScriptCommand}
 use Rattle.fsd_runs.specs.Errands.{Errand, Turn, blank, forced_turn}
-use Rattle.fsd_runs.specs.Runs.{Goes, IsWornOut, behind, WearsOut, turns_begun}
+use Rattle.fsd_runs.specs.Runs.{Goes, IsWornOut, session_behind, WearsOut, turns_begun}
 use Rattle.fsd_runs.specs.Sessions.{Meeting, session_over}
-use Rattle.volume_turns.specs.declared.turns.End.{End}
-use Rattle.volume_turns.specs.declared.turns.End.TheVariants.{Fault as Stopped, Output}
+use Rattle.volume_turns.specs.declared.turns.Halt.{Halt}
+use Rattle.volume_turns.specs.declared.turns.Halt.TheVariants.{Fault as Stopped, Output}
 use Rattle.volume_turns.specs.Once.{IsDone}
 use Rattle.volume_contract.specs.State.{Known, volume_of, forced_of}
 use Rattle.volume_turns.specs.Turns.{InRun, EndsAtOnce, Said}
@@ -24,7 +24,7 @@ WornIf false v i = ⊤
 
 -- a group is cut off in front of a command that a worn-out mount refuses
 abbrev pub CutsOff : Bool → List Meeting → Session → List ScriptCommand → Type 0
-CutsOff true mets s commands = WearsOut (behind mets s commands) (slice_get commands (length mets))
+CutsOff true mets s commands = WearsOut (session_behind mets s commands) (slice_get commands (length mets))
 CutsOff false mets s commands = ⊤
 
 -- all commands were begun, or those in front of which the group was cut off
@@ -37,14 +37,14 @@ abbrev pub turns_behind : (through : Bool) → (more : List Turn) → List Turn
 turns_behind true more = forced_turn ∷ more
 turns_behind false more = blank ∷ []
 
-abbrev pub EndsGroup : {D : Type 0} → (M : Ghosts D) → Errand → Known → (cut : Bool) → List Meeting → List ScriptCommand → (a b : D) → Result Bool End → Type 0
+abbrev pub EndsGroup : {D : Type 0} → (M : Ghosts D) → Errand → Known → (cut : Bool) → List Meeting → List ScriptCommand → (a b : D) → Result Bool Halt → Type 0
 EndsGroup M e k cut mets commands a b (Ok all) =
-    (all ≡ not cut) × IsTrue (is_through cut mets commands) × IsDone M k (turns_begun e mets (session_over (volume_of k)) commands ++ forced_turn ∷ []) (behind mets (session_over (volume_of k)) commands).volume a b
+    (all ≡ not cut) × IsTrue (is_through cut mets commands) × IsDone M k (turns_begun e mets (session_over (volume_of k)) commands ++ forced_turn ∷ []) (session_behind mets (session_over (volume_of k)) commands).volume a b
 EndsGroup M e k cut mets commands a b (Err (Stopped fault)) = EndsAtOnce fault × Said M k (forced_of k) fault (turns_begun e mets (session_over (volume_of k)) commands) a b
 EndsGroup M e k cut mets commands a b (Err Output) = ⊤
 
 -- Of a group from a moment on.
-pub record IsGroup {D : Type 0} (M : Ghosts D) (e : Errand) (k : Known) (from : Moment) (commands : List ScriptCommand) (a b : D) (result : Result Bool End) : Type 0 where
+pub record IsGroup {D : Type 0} (M : Ghosts D) (e : Errand) (k : Known) (from : Moment) (commands : List ScriptCommand) (a b : D) (result : Result Bool Halt) : Type 0 where
   pub mets : List Meeting
   pub cut : Bool
   pub before : CutsOff cut mets (session_over (volume_of k)) commands
@@ -52,6 +52,6 @@ pub record IsGroup {D : Type 0} (M : Ghosts D) (e : Errand) (k : Known) (from : 
   pub moments : (more : List Turn) → StopsOnly M a b (InRun k (forced_of k) (turns_begun e mets (session_over (volume_of k)) commands ++ turns_behind (is_through cut mets commands) more) (M.now a))
   pub ends : EndsGroup M e k cut mets commands a b result
 
-abbrev pub is_worn_end : End → Bool
+abbrev pub is_worn_end : Halt → Bool
 is_worn_end (Stopped Ends.WornOut) = true
 is_worn_end end = false

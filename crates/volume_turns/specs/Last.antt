@@ -11,12 +11,12 @@ use Rattle.fsd_texts.specs.Text.{text}
 use Rattle.fsd_runs.specs.Errands.{fault_status}
 use Rattle.volume_turns.specs.declared.script.Stop.{Stop}
 use Rattle.volume_turns.specs.declared.script.Stop.TheVariants.{Ended, Input, WornOut}
-use Rattle.volume_turns.specs.declared.turns.End.{End}
-use Rattle.volume_turns.specs.declared.turns.End.TheVariants.{Fault as Stopped, Output}
+use Rattle.volume_turns.specs.declared.turns.Halt.{Halt}
+use Rattle.volume_turns.specs.declared.turns.Halt.TheVariants.{Fault as Stopped, Output}
 use Rattle.volume_turns.specs.Line.{EndsLast, IsStatusAs, is_unsaid}
 
 -- the line that is said last, if one is
-abbrev pub ending_line : Result Stop End → Option Line
+abbrev pub ending_line : Result Stop Halt → Option Line
 ending_line (Ok (Ended Done)) = None
 ending_line (Ok (Ended (Bad bad))) = Some (Says.Bad bad)
 ending_line (Ok (Ended TooLong)) = Some (Says.Ended Ends.InputTooLong)
@@ -26,7 +26,7 @@ ending_line (Err (Stopped why)) = Some (Says.Ended why)
 ending_line (Err Output) = None
 
 -- and the status behind it
-abbrev pub ending_status : Result Stop End → ℕ
+abbrev pub ending_status : Result Stop Halt → ℕ
 ending_status (Ok (Ended Done)) = 0
 ending_status (Ok (Ended (Bad bad))) = 2
 ending_status (Ok (Ended TooLong)) = 5

@@ -1,5 +1,5 @@
 -- One command by itself: it is done, all is forced, and then its reply is said.
-use Rattle.std.specs.Prelude.{◌≡◌, ◌⊎◌, ⊤, ℕ, ◌<◌, ◌≤◌, List, [], ◌∷◌, ◌++◌, length, take, Some, Result, Ok, Err}
+use Rattle.std.specs.Prelude.{◌≡◌, ◌⊎◌, ⊤, ℕ, ◌<◌, ◌≤◌, List, [], ◌∷◌, ◌++◌, length, take, Some, Result, Ok, Err, OnOk, IfErr}
 use Rattle.volume_layout.specs.declared.layout.Layout.{Layout}
 use Rattle.fsd_bytes.specs.declared.refusal.Refusal.{Refusal}
 use Rattle.fsd_bytes.specs.declared.refusal.Refusal.TheVariants as Why
@@ -18,25 +18,26 @@ use Rattle.fsd_texts.specs.declared.command.Command.{Command}
 use Rattle.fsd_texts.specs.declared.fault.Fault.{Fault}
 use Rattle.fsd_texts.specs.declared.fault.Fault.TheVariants as Ends
 use Rattle.fsd_texts.specs.declared.script_command.ScriptCommand.TheVariants.{Plain}
-use Rattle.fsd_runs.specs.Errands.{Turn, alone, alone_ending}
-use Rattle.fsd_runs.specs.Runs.{Goes, answered, behind, changes_in, said_in, turns_of}
+use Rattle.fsd_runs.specs.Errands.{Turn, errand_alone, alone_ending, forced_turn}
+use Rattle.fsd_runs.specs.Runs.{Goes, answered, session_behind, changes_in, said_in, turns_of}
 use Rattle.fsd_runs.specs.Sessions.{Meeting, session_over}
 use Rattle.fsd_sound.specs.declared.fault.MountFault.{MountFault}
 use Rattle.fsd_sound.specs.declared.fault.MountFault.TheVariants as Refused
-use Rattle.volume_turns.specs.declared.turns.End.{End}
-use Rattle.volume_turns.specs.declared.turns.End.TheVariants.{Fault as Stopped, Output}
+use Rattle.volume_turns.specs.declared.turns.Halt.{Halt}
+use Rattle.volume_turns.specs.declared.turns.Halt.TheVariants.{Fault as Stopped, Output}
+use Rattle.scrub.specs.Telling.{AreOfPage}
 use Rattle.volume_contract.specs.State.{Known, volume_of, forced_of}
-use Rattle.volume_turns.specs.Turns.{InRun, EndsAtOnce}
+use Rattle.volume_turns.specs.Turns.{InRun, EndsAtOnce, IsEndOn, KeepsSaid}
 
 -- what a mount's fault is as the end of a run
-abbrev pub fault_of : MountFault → Fault
-fault_of Refused.NotVolume = Ends.NotVolume
-fault_of Refused.NoAnchor = Ends.NoAnchor
-fault_of (Refused.Lost a b) = Ends.Lost a b
-fault_of (Refused.Unsound s) = Ends.Unsound s
-fault_of (Refused.Device s) = Ends.Device s
-fault_of Refused.Memory = Ends.Memory
-fault_of Refused.WornOut = Ends.WornOut
+abbrev pub end_by_mount : MountFault → Fault
+end_by_mount Refused.NotVolume = Ends.NotVolume
+end_by_mount Refused.NoAnchor = Ends.NoAnchor
+end_by_mount (Refused.Lost a b) = Ends.Lost a b
+end_by_mount (Refused.Unsound s) = Ends.Unsound s
+end_by_mount (Refused.Device s) = Ends.Device s
+end_by_mount Refused.Memory = Ends.Memory
+end_by_mount Refused.WornOut = Ends.WornOut
 
 -- why a close has failed
 abbrev pub close_fault : Refusal → Fault
@@ -75,12 +76,12 @@ pub record Unclosed {D : Type 0} (M : Ghosts D) (k : Known) (f : ℕ) (a b : D) 
   pub said : (M.now b).said ≡ (M.now a).said
   pub held : IsHeld M b (λ c. IsSound k.mounted.volume.layout k.windows k.changes f c.image)
 
-abbrev pub EndsClosedBy : {D : Type 0} → Layout → (M : Ghosts D) → Known → (f : ℕ) → List ℕ → (a b : D) → Result (Unit {0}) End → Type 0
+abbrev pub EndsClosedBy : {D : Type 0} → Layout → (M : Ghosts D) → Known → (f : ℕ) → List ℕ → (a b : D) → Result (Unit {0}) Halt → Type 0
 EndsClosedBy own M k f text a b (Ok x) = SaysClosedBy own M k text a b
 EndsClosedBy own M k f text a b (Err (Stopped fault)) = EndsAtOnce fault × Unclosed M k f a b
 EndsClosedBy own M k f text a b (Err Output) = ⊤
 
-pub record ClosesAndSaysBy {D : Type 0} (own : Layout) (M : Ghosts D) (k : Known) (f : ℕ) (text : List ℕ) (a b : D) (result : Result (Unit {0}) End) : Type 0 where
+pub record ClosesAndSaysBy {D : Type 0} (own : Layout) (M : Ghosts D) (k : Known) (f : ℕ) (text : List ℕ) (a b : D) (result : Result (Unit {0}) Halt) : Type 0 where
   pub moments : StopsOnly M a b (InClose own k f text (M.now a))
   pub ends : EndsClosedBy own M k f text a b result
 
@@ -88,16 +89,24 @@ pub record ClosesAndSaysBy {D : Type 0} (own : Layout) (M : Ghosts D) (k : Known
 abbrev pub SaysClosed : {D : Type 0} → (M : Ghosts D) → Known → List ℕ → (a b : D) → Type 0
 SaysClosed M k text a b = SaysClosedBy k.mounted.volume.layout M k text a b
 
-abbrev pub EndsClosed : {D : Type 0} → (M : Ghosts D) → Known → (f : ℕ) → List ℕ → (a b : D) → Result (Unit {0}) End → Type 0
+abbrev pub EndsClosed : {D : Type 0} → (M : Ghosts D) → Known → (f : ℕ) → List ℕ → (a b : D) → Result (Unit {0}) Halt → Type 0
 EndsClosed M k f text a b result = EndsClosedBy k.mounted.volume.layout M k f text a b result
 
-abbrev pub ClosesAndSays : {D : Type 0} → (M : Ghosts D) → Known → (f : ℕ) → List ℕ → (a b : D) → Result (Unit {0}) End → Type 0
+abbrev pub ClosesAndSays : {D : Type 0} → (M : Ghosts D) → Known → (f : ℕ) → List ℕ → (a b : D) → Result (Unit {0}) Halt → Type 0
 ClosesAndSays M k f text a b result = ClosesAndSaysBy k.mounted.volume.layout M k f text a b result
+
+-- Over any image, of a volume of this layout: that all is forced is said where it is done, and nothing in front of a
+-- fault. What that fault tells of the image is so by this layout, and it is no worn-out mount.
+pub record SaysForcedOver {D T : Type 0} (M : Ghosts D) (l : Layout) (a b : D) (result : Result T Halt) : Type 0 where
+  pub image : IfErr result (λ end. M.honest b → IsEndOn AreOfPage l (M.now b).image end)
+  pub unworn : result ≡ Err (Stopped Ends.WornOut) → ⊥
+  pub says : OnOk result (M.honest b → (M.now b).said ≡ (M.now a).said ++ forced_turn.said)
+  pub quiet : M.honest b → KeepsSaid (M.now a) (M.now b) result
 
 -- ---- one command
 
 -- whether it has ended well
-abbrev pub unit_of : {T : Type 0} → Result T End → Result (Unit {0}) End
+abbrev pub unit_of : {T : Type 0} → Result T Halt → Result (Unit {0}) Halt
 unit_of (Ok x) = Ok tt
 unit_of (Err end) = Err end
 
@@ -126,10 +135,10 @@ pub record Unanswered {D : Type 0} (M : Ghosts D) (c : Command) (k : Known) (met
   pub once : EndsAtOnce fault
   pub said : (M.now b).said ≡ (M.now a).said
   pub spared : Spares k fault (M.now b).image
-  pub held : IsHeld M b (λ i. IsSound k.mounted.volume.layout k.windows (k.changes ++ changes_in (take 1 (turns_of (alone c) mets (session_over (volume_of k))))) (forced_of k) i.image)
+  pub held : IsHeld M b (λ i. IsSound k.mounted.volume.layout k.windows (k.changes ++ changes_in (take 1 (turns_of (errand_alone c) mets (session_over (volume_of k))))) (forced_of k) i.image)
 
-abbrev pub EndsAlone : {D : Type 0} → (M : Ghosts D) → Command → Known → List Meeting → (a b : D) → Result ℕ End → Type 0
-EndsAlone M c k mets a b (Ok status) = (length mets ≡ 1) × (status ≡ status_alone c mets (session_over (volume_of k))) × IsDone M k (turns_of (alone c) mets (session_over (volume_of k))) (behind mets (session_over (volume_of k)) (Plain c ∷ [])).volume a b
+abbrev pub EndsAlone : {D : Type 0} → (M : Ghosts D) → Command → Known → List Meeting → (a b : D) → Result ℕ Halt → Type 0
+EndsAlone M c k mets a b (Ok status) = (length mets ≡ 1) × (status ≡ status_alone c mets (session_over (volume_of k))) × IsDone M k (turns_of (errand_alone c) mets (session_over (volume_of k))) (session_behind mets (session_over (volume_of k)) (Plain c ∷ [])).volume a b
 EndsAlone M c k mets a b (Err (Stopped fault)) = Unanswered M c k mets fault a b
 EndsAlone M c k mets a b (Err Output) = ⊤
 
@@ -140,9 +149,9 @@ Anything v i = ⊤
 abbrev pub SaysRooted : Layout → Known → (old left : Moment) → Type 0
 SaysRooted own k old left = (left.said ≡ old.said) ⊎ HasOwnRoots own (weak_of k.windows) left.image
 
-pub record IsAlone {D : Type 0} (M : Ghosts D) (c : Command) (k : Known) (a b : D) (result : Result ℕ End) : Type 0 where
+pub record IsAlone {D : Type 0} (M : Ghosts D) (c : Command) (k : Known) (a b : D) (result : Result ℕ Halt) : Type 0 where
   pub mets : List Meeting
-  pub goes : (t : ℕ) → t ≤ M.moment a → Goes (in_runs k.windows) (M.left_since b t) Anything (alone c) (M.now a).said (M.now a).image (session_over (volume_of k)) mets (Plain c ∷ [])
-  pub moments : StopsOnly M a b (InRun k (forced_of k) (turns_of (alone c) mets (session_over (volume_of k))) (M.now a))
-  pub rooted : StopsOnly M a b (SaysRooted (behind mets (session_over (volume_of k)) (Plain c ∷ [])).volume.layout k (M.now a))
+  pub goes : (t : ℕ) → t ≤ M.moment a → Goes (in_runs k.windows) (M.left_since b t) Anything (errand_alone c) (M.now a).said (M.now a).image (session_over (volume_of k)) mets (Plain c ∷ [])
+  pub moments : StopsOnly M a b (InRun k (forced_of k) (turns_of (errand_alone c) mets (session_over (volume_of k))) (M.now a))
+  pub rooted : StopsOnly M a b (SaysRooted (session_behind mets (session_over (volume_of k)) (Plain c ∷ [])).volume.layout k (M.now a))
   pub ends : EndsAlone M c k mets a b result

@@ -13,8 +13,8 @@ use Rattle.fsd_texts.specs.declared.call.Call.{Call}
 use Rattle.fsd_texts.specs.declared.call.Call.TheVariants as Calls
 use Rattle.fsd_texts.specs.declared.fault.Fault.{Fault}
 use Rattle.sector_disk.specs.Machine.{Ledger, Moment}
-use Rattle.volume_contract.specs.Absent.{LacksKey, LacksLater, Reaches}
-use Rattle.volume_contract.specs.Causes.{Shows}
+use Rattle.volume_contract.specs.Absent.{LacksKey, LacksLater, ReachesPage}
+use Rattle.volume_contract.specs.Causes.{ShowsOfPages}
 use Rattle.volume_contract.specs.Found.{HasEntry, HasRange}
 use Rattle.volume_contract.specs.State.{Ages, State, force_len}
 use Rattle.volume_contract.specs.Upgrade.{RootsStand}
@@ -65,7 +65,7 @@ module _ {S : Type 0} (state : S → State) (resident : S → ℕ → Option (Li
     pub same : state by ≡ s
     pub from : Moment
     pub aged : Ages old from
-    pub shows : Shows (state by) t (resident by) from new (Reaches (Is from))
+    pub shows : ShowsOfPages (state by) t (resident by) from new (ReachesPage (Is from))
 
   -- So many versions were met in the order of their keys, and those that fit are listed:
   -- as many as the volume counts, or none was behind them.

@@ -2,7 +2,7 @@
 use Rattle.std.specs.Prelude.{◌≡◌, ◌≤◌, Bool, List, [], ℕ, length, IsTrue}
 use Rattle.volume_layout.specs.declared.layout.Layout.{Layout}
 use Rattle.sector_disk.specs.declared.machine.Machine.{Ghosts}
-use Rattle.sector_disk.specs.Calls.{IsHeld}
+use Rattle.sector_disk.specs.Calls.{IsHeld, Since}
 use Rattle.sector_disk.specs.Machine.{Moment, OnlyWrites, Trusts}
 use Rattle.fsd_texts.specs.declared.end.End.TheVariants.{Done}
 use Rattle.fsd_texts.specs.Script.{max_input, script_in}
@@ -10,7 +10,7 @@ use Rattle.fsd_runs.specs.Commands.{reply_text}
 use Rattle.fsd_runs.specs.Leaves.{IsSoundAsSaid, LeavesRun, Was}
 use Rattle.fsd_runs.specs.declared.request.Request.{Request}
 use Rattle.volume_contract.specs.Mount.{IsSoundAt}
-use Rattle.volume_turns.specs.Causes.{FailsInput, SaysFault, SaysOfCall, SaysOfInput, is_of_fault}
+use Rattle.volume_turns.specs.Causes.{FailsInput, SaysFaultAt, SaysOfCall, SaysOfInput, is_of_fault}
 use Rattle.volume_turns.specs.Each.{SaysBadLine, SaysForced}
 use Rattle.volume_turns.specs.Status.{CountsRun, CountsTaking}
 
@@ -19,7 +19,12 @@ use Rattle.volume_turns.specs.Status.{CountsRun, CountsTaking}
 pub record EndsRun {D : Type 0} (M : Ghosts D) (IsStatus : ℕ → Type 0) (a b : D) (result : ℕ) : Type 0 where
   pub status : IsStatus result
   pub trust : Trusts (M.tells a) (M.tells b) (M.honest a) (M.honest b)
-  pub last : IsTrue (is_of_fault result) → M.honest b → SaysFault (M.report b).fault_place (M.now b) result
+  pub last : IsTrue (is_of_fault result) → M.honest b → SaysFaultAt (M.report b).fault_place (M.now b) result
+
+-- So it is of a run over a volume that was just mounted; what a stop might have left before it might be left behind it.
+pub record EndsMounted {D : Type 0} (M : Ghosts D) (IsStatus : ℕ → Type 0) (a b : D) (result : ℕ) : Type 0 where
+  pub run : EndsRun M IsStatus a b result
+  pub since : M.honest b → Since M a b
 
 -- ---- the input
 
@@ -37,7 +42,7 @@ pub record TakesInput {D : Type 0} (M : Ghosts D) (a b : D) (result : ℕ) : Typ
   pub fails : result ≡ 5 → M.honest b → SaysOfInput (M.ledger a).input (M.report a) (M.report b) (M.now b)
 
 -- of a put the input is taken to its end, and is not too long
-pub record TakesAll (input left : List ℕ) : Type 0 where
+pub record TakesToEnd (input left : List ℕ) : Type 0 where
   pub whole : left ≡ []
   pub few : length input ≤ max_input
 

@@ -1,6 +1,6 @@
 -- A mounted volume with its desk, as a script has them: what stands, how one of the script's commands ends, and what a stop
 -- leaves of it.
-use Rattle.std.specs.Prelude.{◌≡◌, ⊤, List, ◌++◌, Result, Ok, Err, IsTrue, IsFalse}
+use Rattle.std.specs.Prelude.{◌≡◌, ⊤, List, ◌++◌, None, Result, Ok, Err, OnOk, IsTrue, IsFalse}
 use Rattle.sector_disk.specs.declared.sector.WeakRun.{WeakRun}
 use Rattle.sector_disk.specs.Machine.{Moment}
 use Rattle.fsd_log.specs.Scan.{Placed}
@@ -13,16 +13,17 @@ use Rattle.fsd_texts.specs.declared.fault.Fault.{Fault}
 use Rattle.fsd_texts.specs.declared.fault.Fault.TheVariants as Ends
 use Rattle.fsd_texts.specs.declared.script_command.ScriptCommand.{ScriptCommand}
 use Rattle.fsd_runs.specs.Sessions.{HoldsRead, MayFindIn, Meeting, answer_in, changes_in_session, may_wear_out_in}
-use Rattle.volume_contract.specs.State.{Known, Opened, State, is_worn}
+use Rattle.volume_contract.specs.State.{Known, OpenParts, State, is_worn}
 use Rattle.client_desk.specs.declared.client.Client.{Client}
+use Rattle.client_desk.specs.Clients.{IsDesk}
 use Rattle.client_desk.specs.Ends.{Sits, session_of}
-use Rattle.volume_turns.specs.Steps.{StaysSound}
+use Rattle.volume_turns.specs.Steps.{StaysSoundFor}
 
 -- What stands: the volume with what it has in memory, what is open, the windows and the changes so far, and what each
 -- client has open.
 pub record Seated : Type 0 where
   pub mounted : Mounted
-  pub opened : Opened
+  pub opened : OpenParts
   pub windows : List WeakRun
   pub changes : List Change
   pub clients : List Open
@@ -37,6 +38,12 @@ seated k clients = record { mounted = k.mounted; opened = k.opened; windows = k.
 
 abbrev pub session_in : Seated → Session
 session_in k = session_of (known_of k) k.clients
+
+-- The layout stays, and the desk is the volume's still; where all went well the volume is up.
+pub record KeepsSeat {T E : Type 0} (old new : State) (clients : List Client) (result : Result T E) : Type 0 where
+  pub layout : new.layout ≡ old.layout
+  pub up : OnOk result (new.down ≡ None)
+  pub desk : IsDesk new clients
 
 -- The command is answered as the definitions do, over the images from its entry to its exit, and isn't one that a worn-out
 -- mount refuses. The volume holds what clients read then.
@@ -61,7 +68,7 @@ module _ {S : Type 0} (state : S → State) (has : S → Mounted → List Placed
 
   -- what a stop leaves
   abbrev pub StaysIn : S × List Client → Moment → Moment → Type 0
-  StaysIn x old left = (k : Seated) → SitsAt x k old → StaysSound (known_of k) old left
+  StaysIn x old left = (k : Seated) → SitsAt x k old → StaysSoundFor (known_of k) old left
 
   -- how a command ends
   abbrev pub DoesIn : ScriptCommand → (old new : S × List Client) → Seated → (before now : Moment) → Result Reply Fault → Type 0

@@ -26,6 +26,12 @@ IsOneStatus command status = IsStatusFrom command status ⊎ IsStatusBroken stat
 abbrev pub IsPutStatus : ℕ → Type 0
 IsPutStatus status = (status ≤ 1) ⊎ ((status ≡ 5) ⊎ IsStatusBroken status)
 
+-- An input that is too long was refused: no put was made or refused, and the mount is not worn out.
+pub record IsStatusOfLong (status : ℕ) : Type 0 where
+  pub put : IsPutStatus status
+  pub unmade : status ≤ 1 → ⊥
+  pub unspent : status ≡ 9 → ⊥
+
 -- a script is done, or a line of it is bad, or the input failed or is too long
 abbrev pub IsScriptStatus : ℕ → Type 0
 IsScriptStatus status = (status ≡ 0) ⊎ ((status ≡ 2) ⊎ ((status ≡ 5) ⊎ IsStatusBroken status))

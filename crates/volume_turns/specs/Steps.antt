@@ -92,13 +92,13 @@ device_by (Err fault) = device_told fault
 -- ---- what a stop leaves
 
 -- The disk is sound as it was.
-pub record StaysSound (k : Known) (old left : Moment) : Type 0 where
+pub record StaysSoundFor (k : Known) (old left : Moment) : Type 0 where
   pub sound : IsSound k.mounted.volume.layout k.windows k.changes (forced_of k) left.image
   pub windows : left.windows ≡ old.windows
   pub said : left.said ≡ old.said
 
 abbrev pub Stays : {S : Type 0} → (state : S → State) → (has : S → Mounted → List Placed → Type 0) → S → Moment → Moment → Type 0
-Stays state has s old left = (k : Known) → Stands state has s k old → StaysSound k old left
+Stays state has s old left = (k : Known) → Stands state has s k old → StaysSoundFor k old left
 
 -- ---- how a command ends
 

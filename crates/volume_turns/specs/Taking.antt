@@ -4,7 +4,7 @@ use Rattle.volume_turns.specs.declared.taking.InputFault.{InputFault}
 use Rattle.volume_turns.specs.declared.taking.InputFault.TheVariants.{Failed}
 
 -- whether the input failed
-abbrev pub input_in : {T : Type 0} → Result T InputFault → Bool
-input_in (Ok x) = false
-input_in (Err Failed) = true
-input_in (Err other) = false
+abbrev pub taking_failed : {T : Type 0} → Result T InputFault → Bool
+taking_failed (Ok x) = false
+taking_failed (Err Failed) = true
+taking_failed (Err other) = false

@@ -6,8 +6,8 @@ use Rattle.fsd_files.specs.declared.reply.Reply.{Reply}
 use Rattle.fsd_runs.specs.Errands.{Answered, moved_in, is_deleted, is_kept, is_made, is_read, is_refused}
 
 -- nothing was done yet
-abbrev pub nothing : Counts
-nothing = record { count = 0; made = 0; deleted = 0; kept = 0; read = 0; bytes = 0; refused = 0 }
+abbrev pub nothing_done : Counts
+nothing_done = record { count = 0; made = 0; deleted = 0; kept = 0; read = 0; bytes = 0; refused = 0 }
 
 -- with one more
 abbrev pub counted : Counts → ScriptCommand → Reply → Counts

@@ -12,8 +12,8 @@ use Rattle.fsd_texts.specs.declared.fault.Fault.{Fault}
 use Rattle.fsd_texts.specs.declared.fault.Fault.TheVariants as Ends
 use Rattle.fsd_runs.specs.declared.request.Request.{Request}
 use Rattle.fsd_runs.specs.Errands.{Cut, Errand, MayCut, Turn, errand_of}
-use Rattle.fsd_runs.specs.Leaves.{CutCause, IfOne, IsBroken, IsUnsaid, LeavesRoots}
-use Rattle.fsd_runs.specs.Runs.{Goes, IsCutAt, IsCutBefore, answered, behind, changes_in, errand_in, forced_in, said_in, turns_of}
+use Rattle.fsd_runs.specs.Leaves.{CutCause, IfOne, IsBrokenOff, IsUnsaid, LeavesRoots}
+use Rattle.fsd_runs.specs.Runs.{Goes, IsCutAt, IsCutBefore, answered, session_behind, changes_in, errand_in, forced_in, said_in, turns_of}
 use Rattle.fsd_runs.specs.Sessions.{Meeting, session_over}
 use Rattle.volume_contract.specs.State.{Known, volume_of, forced_of}
 use Rattle.volume_turns.specs.Once.{IsDone}
@@ -53,16 +53,16 @@ Always s = ⊤
 pub record SaysOut {D : Type 0} (M : Ghosts D) (e : Errand) (k : Known) (mets : List Meeting) (a b : D) (status : ℕ) : Type 0 where
   pub through : length mets ≡ length e.commands
   pub gives : status ≡ (e.ends (answered mets (session_over (volume_of k)) e.commands)).status
-  pub done : IsDone M k (turns_of e mets (session_over (volume_of k))) (behind mets (session_over (volume_of k)) e.commands).volume a b
+  pub done : IsDone M k (turns_of e mets (session_over (volume_of k))) (session_behind mets (session_over (volume_of k)) e.commands).volume a b
 
 -- The commands of an errand, from the mounted volume to the end, and what is so behind them: all is said, or the output failed, or a fault has
 -- ended it, which was counted since before.
 pub record Finishes {D : Type 0} (M : Ghosts D) (request : Request) (e : Errand) (Ahead : Session → Type 0) (Last : Volume → Image → Type 0) (before : Report) (k : Known) (a b : D) (status : ℕ) : Type 0 where
   pub mets : List Meeting
-  pub ahead : Ahead (behind mets (session_over (volume_of k)) e.commands)
+  pub ahead : Ahead (session_behind mets (session_over (volume_of k)) e.commands)
   pub goes : (t : ℕ) → t ≤ M.moment a → Goes (in_runs k.windows) (M.left_since b t) Last e (M.now a).said (M.now a).image (session_over (volume_of k)) mets e.commands
   pub moments : StopsOnly M a b (InRun k (forced_of k) (turns_of e mets (session_over (volume_of k))) (M.now a))
-  pub ends : SaysOut M e k mets a b status ⊎ (IsUnsaid before (M.report b) status ⊎ IsBroken request (Undone k (forced_of k) (turns_of e mets (session_over (volume_of k)))) (UnderWay M k (turns_of e mets (session_over (volume_of k))) b) before (M.report b) (turns_of e mets (session_over (volume_of k))) (M.now a) (M.now b) status)
+  pub ends : SaysOut M e k mets a b status ⊎ (IsUnsaid before (M.report b) status ⊎ IsBrokenOff request (Undone k (forced_of k) (turns_of e mets (session_over (volume_of k)))) (UnderWay M k (turns_of e mets (session_over (volume_of k))) b) before (M.report b) (turns_of e mets (session_over (volume_of k))) (M.now a) (M.now b) status)
 
 -- A request over its mounted volume. Where one command by itself has begun to say its reply, both roots are those of the
 -- layout behind it.
@@ -71,4 +71,4 @@ pub record RunsOut {D : Type 0} (M : Ghosts D) (request : Request) (input rest :
   pub may : MayCut request cut
   pub cause : CutCause cut input rest before (M.report b)
   pub finishes : Finishes M request (errand_in request input cut) (λ s. IsCutBefore cut s (errand_of request input).commands) (IsCutAt cut) before k a b status
-  pub rooted : IfOne request (StopsOnly M a b (LeavesRoots (behind finishes.mets (session_over (volume_of k)) (errand_in request input cut).commands).volume.layout (weak_of k.windows) (M.now a)))
+  pub rooted : IfOne request (StopsOnly M a b (LeavesRoots (session_behind finishes.mets (session_over (volume_of k)) (errand_in request input cut).commands).volume.layout (weak_of k.windows) (M.now a)))

@@ -1,5 +1,5 @@
 //! One call of a client, over a mounted volume and its desk.
-ghost use Rattle.std.specs.Prelude.{◌≡◌, ◌≤◌, None, Err, OnOk, IfOk, IfErr, length};
+ghost use Rattle.std.specs.Prelude.{◌≡◌, ◌≤◌, None, Err, IfOk, IfErr, length};
 ghost use Rattle.fsd_formats.specs.NamePage.{sectors_for};
 ghost use Rattle.fsd_texts.specs.declared.call.Call.TheVariants as Calls;
 ghost use Rattle.fsd_texts.specs.declared.fault.Fault.TheVariants as Ends;
@@ -8,7 +8,7 @@ ghost use Rattle.sector_disk.specs.Calls.{WritesDisk};
 ghost use Rattle.client_desk.specs.Clients.{IsDesk};
 ghost use Rattle.volume_turns.specs.Calls.{AnswersIn, next_ended_by, room_for, sectors_made};
 ghost use Rattle.volume_turns.specs.Reasons.{BecauseCalled, BecauseOpened};
-ghost use Rattle.volume_turns.specs.Seats.{DoesIn, Seated, SitsAt, StaysIn};
+ghost use Rattle.volume_turns.specs.Seats.{DoesIn, KeepsSeat, Seated, SitsAt, StaysIn};
 ghost use Rattle.volume_turns.specs.Steps.{IsOfCall, device_by};
 
 use crate::answer::{ended_by, read_ended_by};
@@ -32,9 +32,7 @@ fn begin<M: Machine, V: Files<M>>(
     requires room { (V.state v.old).layout.sectors ≤ (M.report m.old).sectors }
     requires up { (V.state v.old).down ≡ None }
     requires desk { IsDesk (V.state v.old) desk.old }
-    ensures layout { (V.state v.new).layout ≡ (V.state v.old).layout }
-    ensures up { OnOk result ((V.state v.new).down ≡ None) }
-    ensures desk { IsDesk (V.state v.new) desk.new }
+    ensures keeps { KeepsSeat (V.state v.old) (V.state v.new) desk.new result }
     ensures disk { WritesDisk M.Machine (device_by result) (StaysIn V.state V.holds (v.old, desk.old)) m.old m.new }
     ensures fault { IfErr result IsOfCall }
     ensures spares { result ≡ Err Ends.Memory → ⊥ }
@@ -59,9 +57,7 @@ fn piece<M: Machine, V: Files<M>>(
     requires room { (V.state v.old).layout.sectors ≤ (M.report m.old).sectors }
     requires up { (V.state v.old).down ≡ None }
     requires desk { IsDesk (V.state v.old) desk.old }
-    ensures layout { (V.state v.new).layout ≡ (V.state v.old).layout }
-    ensures up { OnOk result ((V.state v.new).down ≡ None) }
-    ensures desk { IsDesk (V.state v.new) desk.new }
+    ensures keeps { KeepsSeat (V.state v.old) (V.state v.new) desk.new result }
     ensures disk { WritesDisk M.Machine (device_by result) (StaysIn V.state V.holds (v.old, desk.old)) m.old m.new }
     ensures fault { IfErr result IsOfCall }
     ensures spares { result ≡ Err Ends.Memory → ⊥ }
@@ -85,9 +81,7 @@ fn close<M: Machine, V: Files<M>>(
     requires room { (V.state v.old).layout.sectors ≤ (M.report m.old).sectors }
     requires up { (V.state v.old).down ≡ None }
     requires desk { IsDesk (V.state v.old) desk.old }
-    ensures layout { (V.state v.new).layout ≡ (V.state v.old).layout }
-    ensures up { OnOk result ((V.state v.new).down ≡ None) }
-    ensures desk { IsDesk (V.state v.new) desk.new }
+    ensures keeps { KeepsSeat (V.state v.old) (V.state v.new) desk.new result }
     ensures disk { WritesDisk M.Machine (device_by result) (StaysIn V.state V.holds (v.old, desk.old)) m.old m.new }
     ensures fault { IfErr result IsOfCall }
     ensures answers { M.honest m.new → AnswersIn (OfClient client Calls.Close) (V.state v.old) (V.state v.new) (M.now m.old) (M.now m.new) result }
@@ -111,9 +105,7 @@ fn drop_draft<M: Machine, V: Files<M>>(
     requires room { (V.state v.old).layout.sectors ≤ (M.report m.old).sectors }
     requires up { (V.state v.old).down ≡ None }
     requires desk { IsDesk (V.state v.old) desk.old }
-    ensures layout { (V.state v.new).layout ≡ (V.state v.old).layout }
-    ensures up { OnOk result ((V.state v.new).down ≡ None) }
-    ensures desk { IsDesk (V.state v.new) desk.new }
+    ensures keeps { KeepsSeat (V.state v.old) (V.state v.new) desk.new result }
     ensures disk { WritesDisk M.Machine (device_by result) (StaysIn V.state V.holds (v.old, desk.old)) m.old m.new }
     ensures fault { IfErr result IsOfCall }
     ensures spares { result ≡ Err Ends.Memory → ⊥ }
@@ -138,9 +130,7 @@ fn open<M: Machine, V: Files<M>>(
     requires room { (V.state v.old).layout.sectors ≤ (M.report m.old).sectors }
     requires up { (V.state v.old).down ≡ None }
     requires desk { IsDesk (V.state v.old) desk.old }
-    ensures layout { (V.state v.new).layout ≡ (V.state v.old).layout }
-    ensures up { OnOk result ((V.state v.new).down ≡ None) }
-    ensures desk { IsDesk (V.state v.new) desk.new }
+    ensures keeps { KeepsSeat (V.state v.old) (V.state v.new) desk.new result }
     ensures disk { WritesDisk M.Machine (device_by result) (StaysIn V.state V.holds (v.old, desk.old)) m.old m.new }
     ensures fault { IfErr result IsOfCall }
     ensures answers { M.honest m.new → AnswersIn (OfClient client (Calls.Open key.now)) (V.state v.old) (V.state v.new) (M.now m.old) (M.now m.new) result }
@@ -166,9 +156,7 @@ fn next<M: Machine, V: Files<M>>(
     requires room { (V.state v.old).layout.sectors ≤ (M.report m.old).sectors }
     requires up { (V.state v.old).down ≡ None }
     requires desk { IsDesk (V.state v.old) desk.old }
-    ensures layout { (V.state v.new).layout ≡ (V.state v.old).layout }
-    ensures up { OnOk result ((V.state v.new).down ≡ None) }
-    ensures desk { IsDesk (V.state v.new) desk.new }
+    ensures keeps { KeepsSeat (V.state v.old) (V.state v.new) desk.new result }
     ensures disk { WritesDisk M.Machine (device_by result) (StaysIn V.state V.holds (v.old, desk.old)) m.old m.new }
     ensures fault { IfErr result IsOfCall }
     ensures answers { M.honest m.new → AnswersIn (OfClient client (Calls.Next len)) (V.state v.old) (V.state v.new) (M.now m.old) (M.now m.new) result }
@@ -198,9 +186,7 @@ fn done<M: Machine, V: Files<M>>(
     requires room { (V.state v.old).layout.sectors ≤ (M.report m.old).sectors }
     requires up { (V.state v.old).down ≡ None }
     requires desk { IsDesk (V.state v.old) desk.old }
-    ensures layout { (V.state v.new).layout ≡ (V.state v.old).layout }
-    ensures up { OnOk result ((V.state v.new).down ≡ None) }
-    ensures desk { IsDesk (V.state v.new) desk.new }
+    ensures keeps { KeepsSeat (V.state v.old) (V.state v.new) desk.new result }
     ensures disk { WritesDisk M.Machine (device_by result) (StaysIn V.state V.holds (v.old, desk.old)) m.old m.new }
     ensures fault { IfErr result IsOfCall }
     ensures spares { result ≡ Err Ends.Memory → ⊥ }
@@ -226,9 +212,7 @@ pub(crate) fn call<M: Machine, V: Files<M>>(
     requires room { (V.state v.old).layout.sectors ≤ (M.report m.old).sectors }
     requires up { (V.state v.old).down ≡ None }
     requires desk { IsDesk (V.state v.old) desk.old }
-    ensures layout { (V.state v.new).layout ≡ (V.state v.old).layout }
-    ensures up { OnOk result ((V.state v.new).down ≡ None) }
-    ensures desk { IsDesk (V.state v.new) desk.new }
+    ensures keeps { KeepsSeat (V.state v.old) (V.state v.new) desk.new result }
     ensures disk { WritesDisk M.Machine (device_by result) (StaysIn V.state V.holds (v.old, desk.old)) m.old m.new }
     ensures fault { IfErr result IsOfCall }
     ensures answers { M.honest m.new → AnswersIn (OfClient client call.now) (V.state v.old) (V.state v.new) (M.now m.old) (M.now m.new) result }

@@ -6,7 +6,7 @@ ghost use Rattle.fsd_texts.specs.declared.command.Command.TheVariants as Word;
 ghost use Rattle.fsd_runs.specs.Commands.{reply_status};
 ghost use Rattle.sector_disk.specs.Calls.{OnlyReads};
 ghost use Rattle.volume_contract.specs.State.{Known, Stands, volume_of};
-ghost use Rattle.volume_turns.specs.Answering.{Answers};
+ghost use Rattle.volume_turns.specs.Answering.{MayAnswer};
 ghost use Rattle.volume_turns.specs.Did.{Did};
 ghost use Rattle.volume_turns.specs.Commands.{Because, HasWrittenBy, IsStatusFrom};
 ghost use Rattle.volume_turns.specs.Steps.{Does, IsOfCall, device_by, is_upgrade};
@@ -130,7 +130,7 @@ fn read_whole<M: Machine, V: Files<M>>(
     ensures disk { OnlyReads M.Machine (device_by result) m.old m.new }
     ensures fault { IfErr result IsOfCall }
     ensures status { IfOk result (λ a. IsStatusFrom (Word.Get key.now) (reply_status a)) }
-    ensures answers { M.honest m.new → Answers (Word.Get key.now) (V.state v.old) (V.state v.new) (M.now m.old) (M.now m.new) result }
+    ensures answers { M.honest m.new → MayAnswer (Word.Get key.now) (V.state v.old) (V.state v.new) (M.now m.old) (M.now m.new) result }
     ensures written { M.tells m.new → HasWrittenBy (Word.Get key.now) (V.state v.old) (M.ledger m.old) (M.ledger m.new) result }
     ensures because { M.honest m.new → IfOk result (λ a. Because V.state V.resident (Word.Get key.now) (V.state v.old) (V.state v.new) (M.now m.old) (M.now m.new) a) }
     ensures done { M.honest m.new → (k : Known) → Stands V.state V.holds v.old k (M.now m.old) → IfSome (entry_of key.now (volume_of k).entries) (λ e. e.length ≡ length) →

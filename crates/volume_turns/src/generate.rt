@@ -1,32 +1,31 @@
 //! Commands that are made up, from the mount to the line that tells what came of them.
-ghost use Rattle.std.specs.Prelude.{◌≡◌, ◌≤◌, ◌<◌, ◌+◌, ◌++◌, ◌^◌, ◌-◌, ℕ, List, None, Some, Ok, Err, false, OnOk, IfErr, IfOk, IfSome, IsTrue};
-ghost use Rattle.sector_disk.specs.Calls.{Since};
-ghost use Rattle.sector_disk.specs.Machine.{OnlyWrites, Trusts};
+ghost use Rattle.std.specs.Prelude.{◌≡◌, ◌≤◌, ◌<◌, ◌+◌, ◌^◌, ◌-◌, ℕ, List, None, Some, Ok, Err, false, IfErr, IfOk, IfSome};
 ghost use Rattle.fsd_texts.specs.Generator.{made_up};
 ghost use Rattle.fsd_texts.specs.declared.fault.Fault.TheVariants as Ends;
-ghost use Rattle.volume_turns.specs.declared.turns.End.TheVariants.{Fault as Stopped};
+ghost use Rattle.volume_turns.specs.declared.turns.Halt.TheVariants.{Fault as Stopped};
 ghost use Rattle.fsd_runs.specs.Errands.{forced_turn};
 ghost use Rattle.fsd_runs.specs.declared.request.Request.TheVariants.{Generate};
 ghost use Rattle.client_desk.specs.Clients.{IsDesk, no_desk};
 ghost use Rattle.volume_contract.specs.State.{Known, Stands, none_open, forced_of};
 ghost use Rattle.scrub.specs.Telling.{AreOfPage};
-ghost use Rattle.volume_turns.specs.Causes.{SaysFault, SaysMade, SaysOfCall, TellsImage, is_of_fault};
-ghost use Rattle.volume_turns.specs.Generate.{CountedGroup, Draws, RunsCounted, StepsCounted};
-ghost use Rattle.volume_turns.specs.Numbers.{GoesUp, MayWear};
-ghost use Rattle.volume_turns.specs.Once.{ClosesAndSays, unit_of};
-ghost use Rattle.volume_turns.specs.Running.{EndsRun, LeavesOver, TakesNothing};
-ghost use Rattle.volume_turns.specs.Status.{CountsRun, IsMadeStatus};
+ghost use Rattle.volume_turns.specs.Causes.{SaysMade, TellsImage};
+ghost use Rattle.volume_turns.specs.Generate.{CountedGroup, Draws, RunsCounted, SaysNothing, StepsCounted};
+ghost use Rattle.volume_turns.specs.Numbers.{MayWear, UsesNumbers};
+ghost use Rattle.volume_turns.specs.Once.{ClosesAndSays, SaysForcedOver, unit_of};
+ghost use Rattle.volume_turns.specs.Running.{EndsMounted, EndsRun, LeavesOver, TakesNothing, TellsMounted};
+ghost use Rattle.volume_turns.specs.Seats.{KeepsSeat};
+ghost use Rattle.volume_turns.specs.Status.{IsMadeStatus};
 ghost use Rattle.volume_turns.specs.Steps.{is_upgrade};
 ghost use Rattle.volume_turns.specs.Commands.{MayLose};
-ghost use Rattle.volume_turns.specs.Tally.{nothing};
-ghost use Rattle.volume_turns.specs.Turns.{IsEndOfVolume, IsEndOn, KeepsSaid, Told, WantsNone, OnDisk};
+ghost use Rattle.volume_turns.specs.Tally.{nothing_done};
+ghost use Rattle.volume_turns.specs.Turns.{OnDisk, Speaks, WantsNone};
 ghost use Rattle.volume_turns.specs.Whole.{RunsOut};
 
 use crate::commands;
 use crate::line::{end_with, last_line, say_forced};
 use crate::once::{close_fault, fault_of};
 use crate::tally::Tally;
-use crate::turns::{End, is_worn_end};
+use crate::turns::{Halt, is_worn_end};
 use fsd_texts::{Command, Fault, Line};
 use script_text::{Maker, lay_line};
 use sector_disk::Machine;
@@ -40,34 +39,25 @@ fn do_counted<M: Machine, V: Files<M>>(
     m: &mut M,
     c: &Command,
     tally: &Tally,
-) -> Result<Tally, End>
+) -> Result<Tally, Halt>
     requires room { (V.state v.old).layout.sectors ≤ (M.report m.old).sectors }
     requires up { (V.state v.old).down ≡ None }
     requires idle { IsDesk (V.state v.old) no_desk }
     requires other { is_upgrade c.now ≡ false }
     requires few { tally.now.count < 2 ^ 32 - 1 }
-    ensures layout { (V.state v.new).layout ≡ (V.state v.old).layout }
-    ensures up { OnOk result ((V.state v.new).down ≡ None) }
-    ensures idle { IsDesk (V.state v.new) no_desk }
-    ensures told { Told (M.report m.old) (M.report m.new) result }
-    ensures ledger { M.tells m.new → OnlyWrites (M.ledger m.old) (M.ledger m.new) }
-    ensures fault { IfErr result IsEndOfVolume }
-    ensures image { IfErr result (λ end. M.honest m.new → IsEndOn (MayLose c.now) (V.state v.old).layout (M.now m.new).image end) }
-    ensures grows { M.honest m.new → GoesUp 1 (V.state v.old) (V.state v.new) }
-    ensures used { result ≡ Err (Stopped Ends.WornOut) → M.honest m.new → MayWear 1 (V.state v.old) }
-    ensures trust { Trusts (M.tells m.old) (M.tells m.new) (M.honest m.old) (M.honest m.new) }
-    ensures since { M.honest m.new → Since M.Machine m.old m.new }
-    ensures later { M.honest m.new → M.moment m.old ≤ M.moment m.new }
+    ensures keeps { KeepsSeat (V.state v.old) (V.state v.new) no_desk result }
+    ensures speaks { Speaks M.Machine m.old m.new result }
+    ensures says { SaysNothing M.Machine (MayLose c.now) (V.state v.old).layout m.old m.new result }
+    ensures numbers { UsesNumbers M.Machine 1 (V.state v.old) (V.state v.new) m.new result }
     ensures counts { IfOk result (λ t. t.count ≡ tally.now.count + 1) }
-    ensures quiet { M.honest m.new → (M.now m.new).said ≡ (M.now m.old).said }
     ensures steps { StepsCounted V.state V.holds M.Machine c.now v.old m.old v.new m.new tally.now result }
 {
     match commands::answer(alloc, v, m, c) {
         Ok(answer) => match tally.count(c, &answer) {
             Ok(tally) => Ok(tally),
-            Err(fault) => Err(End::Fault(fault)),
+            Err(fault) => Err(Halt::Fault(fault)),
         },
-        Err(fault) => Err(End::Fault(fault)),
+        Err(fault) => Err(Halt::Fault(fault)),
     }
 }
 
@@ -78,25 +68,16 @@ fn draw<M: Machine, V: Files<M>>(
     m: &mut M,
     maker: &mut Maker,
     tally: &Tally,
-) -> Result<Option<Tally>, End>
+) -> Result<Option<Tally>, Halt>
     requires room { (V.state v.old).layout.sectors ≤ (M.report m.old).sectors }
     requires up { (V.state v.old).down ≡ None }
     requires idle { IsDesk (V.state v.old) no_desk }
     requires few { tally.now.count < 2 ^ 32 - 1 }
-    ensures layout { (V.state v.new).layout ≡ (V.state v.old).layout }
-    ensures up { OnOk result ((V.state v.new).down ≡ None) }
-    ensures idle { IsDesk (V.state v.new) no_desk }
-    ensures told { Told (M.report m.old) (M.report m.new) result }
-    ensures ledger { M.tells m.new → OnlyWrites (M.ledger m.old) (M.ledger m.new) }
-    ensures fault { IfErr result IsEndOfVolume }
-    ensures image { IfErr result (λ end. M.honest m.new → IsEndOn AreOfPage (V.state v.old).layout (M.now m.new).image end) }
-    ensures grows { M.honest m.new → GoesUp 1 (V.state v.old) (V.state v.new) }
-    ensures used { result ≡ Err (Stopped Ends.WornOut) → M.honest m.new → MayWear 1 (V.state v.old) }
-    ensures trust { Trusts (M.tells m.old) (M.tells m.new) (M.honest m.old) (M.honest m.new) }
-    ensures since { M.honest m.new → Since M.Machine m.old m.new }
-    ensures later { M.honest m.new → M.moment m.old ≤ M.moment m.new }
+    ensures keeps { KeepsSeat (V.state v.old) (V.state v.new) no_desk result }
+    ensures speaks { Speaks M.Machine m.old m.new result }
+    ensures says { SaysNothing M.Machine AreOfPage (V.state v.old).layout m.old m.new result }
+    ensures numbers { UsesNumbers M.Machine 1 (V.state v.old) (V.state v.new) m.new result }
     ensures counts { IfOk result (λ o. IfSome o (λ t. t.count ≡ tally.now.count + 1)) }
-    ensures quiet { M.honest m.new → (M.now m.new).said ≡ (M.now m.old).said }
     ensures draws { Draws V.state V.holds M.Machine maker.old maker.new v.old m.old v.new m.new tally.now result }
 {
     match maker.next_command(alloc) {
@@ -105,7 +86,7 @@ fn draw<M: Machine, V: Files<M>>(
             Err(end) => Err(end),
         },
         Ok(None) => Ok(None),
-        Err(_) => Err(End::Fault(Fault::Memory)),
+        Err(_) => Err(Halt::Fault(Fault::Memory)),
     }
 }
 
@@ -116,22 +97,16 @@ fn make_up<M: Machine, V: Files<M>>(
     m: &mut M,
     seed: u64,
     count: u32,
-) -> Result<Tally, End>
+) -> Result<Tally, Halt>
     requires room { (V.state v.old).layout.sectors ≤ (M.report m.old).sectors }
     requires up { (V.state v.old).down ≡ None }
     requires idle { IsDesk (V.state v.old) no_desk }
     ensures layout { (V.state v.new).layout ≡ (V.state v.old).layout }
-    ensures told { Told (M.report m.old) (M.report m.new) result }
-    ensures ledger { M.tells m.new → OnlyWrites (M.ledger m.old) (M.ledger m.new) }
-    ensures fault { IfErr result IsEndOfVolume }
-    ensures image { IfErr result (λ end. M.honest m.new → IsEndOn AreOfPage (V.state v.old).layout (M.now m.new).image end) }
+    ensures speaks { Speaks M.Machine m.old m.new result }
+    ensures says { SaysNothing M.Machine AreOfPage (V.state v.old).layout m.old m.new result }
     ensures used { result ≡ Err (Stopped Ends.WornOut) → M.honest m.new → MayWear count (V.state v.old) }
     ensures counts { IfOk result (λ t. t.count ≡ count) }
-    ensures trust { Trusts (M.tells m.old) (M.tells m.new) (M.honest m.old) (M.honest m.new) }
-    ensures since { M.honest m.new → Since M.Machine m.old m.new }
-    ensures later { M.honest m.new → M.moment m.old ≤ M.moment m.new }
-    ensures quiet { M.honest m.new → (M.now m.new).said ≡ (M.now m.old).said }
-    ensures runs { RunsCounted V.state V.holds M.Machine (made_up seed count) v.old m.old v.new m.new nothing result }
+    ensures runs { RunsCounted V.state V.holds M.Machine (made_up seed count) v.old m.old v.new m.new nothing_done result }
 {
     let mut maker = Maker::new(seed, count);
     let mut tally = Tally::new();
@@ -146,18 +121,10 @@ fn make_up<M: Machine, V: Files<M>>(
 }
 
 /// Ends the use of a volume, and says that all is forced.
-pub(crate) fn close_forced<M: Machine, V: Files<M>>(v: V, m: &mut M) -> Result<(), End>
+pub(crate) fn close_forced<M: Machine, V: Files<M>>(v: V, m: &mut M) -> Result<(), Halt>
     requires room { (V.state v).layout.sectors ≤ (M.report m.old).sectors }
-    ensures told { Told (M.report m.old) (M.report m.new) result }
-    ensures ledger { M.tells m.new → OnlyWrites (M.ledger m.old) (M.ledger m.new) }
-    ensures fault { IfErr result IsEndOfVolume }
-    ensures image { IfErr result (λ end. M.honest m.new → IsEndOn AreOfPage (V.state v).layout (M.now m.new).image end) }
-    ensures unworn { result ≡ Err (Stopped Ends.WornOut) → ⊥ }
-    ensures says { OnOk result (M.honest m.new → (M.now m.new).said ≡ (M.now m.old).said ++ forced_turn.said) }
-    ensures trust { Trusts (M.tells m.old) (M.tells m.new) (M.honest m.old) (M.honest m.new) }
-    ensures since { M.honest m.new → Since M.Machine m.old m.new }
-    ensures later { M.honest m.new → M.moment m.old ≤ M.moment m.new }
-    ensures quiet { M.honest m.new → KeepsSaid (M.now m.old) (M.now m.new) result }
+    ensures speaks { Speaks M.Machine m.old m.new result }
+    ensures forces { SaysForcedOver M.Machine (V.state v).layout m.old m.new result }
     ensures wants { (V.state v).down ≡ None → IfErr result WantsNone }
     ensures closes { M.honest m.new → (k : Known) (f : ℕ) → Stands V.state V.holds v k (M.now m.old) → OnDisk M.Machine k f m.old → ClosesAndSays M.Machine k f forced_turn.said m.old m.new result }
 {
@@ -166,7 +133,7 @@ pub(crate) fn close_forced<M: Machine, V: Files<M>>(v: V, m: &mut M) -> Result<(
             let said = lay_line(&Line::Forced);
             say_forced(m, said.as_slice())
         }
-        Err(why) => Err(End::Fault(close_fault(why))),
+        Err(why) => Err(Halt::Fault(close_fault(why))),
     }
 }
 
@@ -175,19 +142,12 @@ fn force_behind<M: Machine, V: Files<M>>(
     v: V,
     m: &mut M,
     tally: Option<Tally>,
-) -> Result<Option<Tally>, End>
+) -> Result<Option<Tally>, Halt>
     requires room { (V.state v).layout.sectors ≤ (M.report m.old).sectors }
-    ensures told { Told (M.report m.old) (M.report m.new) result }
-    ensures ledger { M.tells m.new → OnlyWrites (M.ledger m.old) (M.ledger m.new) }
-    ensures fault { IfErr result IsEndOfVolume }
-    ensures image { IfErr result (λ end. M.honest m.new → IsEndOn AreOfPage (V.state v).layout (M.now m.new).image end) }
-    ensures unworn { result ≡ Err (Stopped Ends.WornOut) → ⊥ }
-    ensures says { OnOk result (M.honest m.new → (M.now m.new).said ≡ (M.now m.old).said ++ forced_turn.said) }
-    ensures trust { Trusts (M.tells m.old) (M.tells m.new) (M.honest m.old) (M.honest m.new) }
-    ensures since { M.honest m.new → Since M.Machine m.old m.new }
-    ensures later { M.honest m.new → M.moment m.old ≤ M.moment m.new }
+    ensures speaks { Speaks M.Machine m.old m.new result }
+    ensures forces { SaysForcedOver M.Machine (V.state v).layout m.old m.new result }
+    ensures wants { (V.state v).down ≡ None → IfErr result WantsNone }
     ensures same { IfOk result (λ x. x ≡ tally) }
-    ensures quiet { M.honest m.new → KeepsSaid (M.now m.old) (M.now m.new) result }
     ensures closes { M.honest m.new → (k : Known) (f : ℕ) → Stands V.state V.holds v k (M.now m.old) → OnDisk M.Machine k f m.old → ClosesAndSays M.Machine k f forced_turn.said m.old m.new (unit_of result) }
 {
     match close_forced(v, m) {
@@ -204,22 +164,14 @@ fn make_group<M: Machine, V: Files<M> + Drop>(
     m: &mut M,
     seed: u64,
     count: u32,
-) -> Result<Option<Tally>, End>
+) -> Result<Option<Tally>, Halt>
     requires room { (V.state v).layout.sectors ≤ (M.report m.old).sectors }
     requires up { (V.state v).down ≡ None }
     requires idle { IsDesk (V.state v) no_desk }
-    ensures told { Told (M.report m.old) (M.report m.new) result }
-    ensures ledger { M.tells m.new → OnlyWrites (M.ledger m.old) (M.ledger m.new) }
-    ensures fault { IfErr result IsEndOfVolume }
-    ensures image { IfErr result (λ end. M.honest m.new → IsEndOn AreOfPage (V.state v).layout (M.now m.new).image end) }
+    ensures speaks { Speaks M.Machine m.old m.new result }
+    ensures forces { SaysForcedOver M.Machine (V.state v).layout m.old m.new result }
     ensures used { result ≡ Ok None → M.honest m.new → MayWear count (V.state v) }
-    ensures unworn { result ≡ Err (Stopped Ends.WornOut) → ⊥ }
     ensures counts { IfOk result (λ o. IfSome o (λ t. t.count ≡ count)) }
-    ensures says { OnOk result (M.honest m.new → (M.now m.new).said ≡ (M.now m.old).said ++ forced_turn.said) }
-    ensures trust { Trusts (M.tells m.old) (M.tells m.new) (M.honest m.old) (M.honest m.new) }
-    ensures since { M.honest m.new → Since M.Machine m.old m.new }
-    ensures later { M.honest m.new → M.moment m.old ≤ M.moment m.new }
-    ensures quiet { M.honest m.new → KeepsSaid (M.now m.old) (M.now m.new) result }
     ensures group { M.honest m.new → (k : Known) → k.opened ≡ none_open → Stands V.state V.holds v k (M.now m.old) → OnDisk M.Machine k (forced_of k) m.old → CountedGroup M.Machine k (made_up seed count) m.old m.new result }
 {
     let mut v = v;
@@ -246,22 +198,17 @@ fn generate_on<M: Machine, V: Files<M> + Drop>(
     requires room { (V.state v).layout.sectors ≤ (M.report m.old).sectors }
     requires up { (V.state v).down ≡ None }
     requires idle { IsDesk (V.state v) no_desk }
-    ensures ledger { M.tells m.new → OnlyWrites (M.ledger m.old) (M.ledger m.new) }
-    ensures status { IsMadeStatus result }
-    ensures counts { CountsRun (M.report m.old) (M.report m.new) result }
-    ensures trust { Trusts (M.tells m.old) (M.tells m.new) (M.honest m.old) (M.honest m.new) }
-    ensures since { M.honest m.new → Since M.Machine m.old m.new }
-    ensures says { result ≡ 3 → M.honest m.new → SaysOfCall false AreOfPage (V.state v).layout (M.now m.old).said (M.now m.new) }
-    ensures last { IsTrue (is_of_fault result) → M.honest m.new → SaysFault (M.report m.new).fault_place (M.now m.new) result }
-    ensures spent { result ≡ 9 → M.honest m.new → MayWear count (V.state v) }
+    ensures ends { EndsMounted M.Machine IsMadeStatus m.old m.new result }
+    ensures takes { TakesNothing M.Machine m.old m.new result }
+    ensures tells { M.honest m.new → TellsMounted false AreOfPage (V.state v).layout (MayWear count (V.state v)) (M.now m.old) (M.now m.new) result }
     ensures all { result ≡ 0 → M.honest m.new → SaysMade count (M.now m.old).said (M.now m.new) }
     ensures runs { M.honest m.new → (input rest : List ℕ) (k : Known) → k.opened ≡ none_open → Stands V.state V.holds v k (M.now m.old) → OnDisk M.Machine k (forced_of k) m.old → RunsOut M.Machine (Generate seed count) input rest (M.report m.old) k m.old m.new result }
 {
     match make_group(alloc, v, m, seed, count) {
         Ok(Some(tally)) => last_line(m, &tally.line(), 0),
         Ok(None) => last_line(m, &Line::Ended(Fault::WornOut), 9),
-        Err(End::Fault(why)) => end_with(m, why),
-        Err(End::Output) => 6,
+        Err(Halt::Fault(why)) => end_with(m, why),
+        Err(Halt::Output) => 6,
     }
 }
 

@@ -1,8 +1,7 @@
 //! A version of the input's bytes, from the mount to its reply.
-ghost use Rattle.std.specs.Prelude.{◌≡◌, ◌≤◌, ◌<◌, ℕ, List, [], None, Option, false, length, IsTrue};
+ghost use Rattle.std.specs.Prelude.{[], ◌≡◌, ◌≤◌, ◌<◌, ℕ, List, None, Option, false, length, IsTrue};
 ghost use Rattle.volume_turns.specs.Turns.{OnDisk};
-ghost use Rattle.sector_disk.specs.Calls.{Since};
-ghost use Rattle.sector_disk.specs.Machine.{OnlyWrites, Report, Trusts};
+ghost use Rattle.sector_disk.specs.Machine.{Report};
 ghost use Rattle.fsd_texts.specs.declared.command.Command.TheVariants as Word;
 ghost use Rattle.fsd_texts.specs.Script.{max_input};
 ghost use Rattle.fsd_runs.specs.Commands.{reply_alone};
@@ -11,9 +10,9 @@ ghost use Rattle.volume_contract.specs.State.{Known, Stands, is_worn, none_open,
 ghost use Rattle.volume_contract.specs.Upgrade.{is_fresh};
 ghost use Rattle.scrub.specs.Telling.{AreOfPage};
 ghost use Rattle.volume_turns.specs.Answering.{SaysNoReply, SaysOne};
-ghost use Rattle.volume_turns.specs.Causes.{FailsInput, SaysFault, SaysOfCall, SaysOfInput, TellsImage, is_of_fault};
-ghost use Rattle.volume_turns.specs.Running.{EndsRun, LeavesOver, TakesAll, TakesInput};
-ghost use Rattle.volume_turns.specs.Status.{CountsRun, CountsTaking, IsPutStatus};
+ghost use Rattle.volume_turns.specs.Causes.{SaysOfCall, SaysOfInput, TellsImage};
+ghost use Rattle.volume_turns.specs.Running.{EndsMounted, EndsRun, LeavesOver, TakesToEnd, TakesInput, TakesNothing, TellsMounted};
+ghost use Rattle.volume_turns.specs.Status.{IsPutStatus, IsStatusOfLong};
 ghost use Rattle.volume_turns.specs.Whole.{RunsOut};
 
 use crate::line::{end_with, last_line};
@@ -30,15 +29,9 @@ use volume_contract::Files;
 // Says that the input is too long, and gives the status. Nothing was changed, so there is nothing to force; what the
 // mount wrote is brought to the disk.
 fn refuse_input<M: Machine, V: Files<M> + Drop>(v: V, m: &mut M) -> u8
-    ensures ledger { M.tells m.new → OnlyWrites (M.ledger m.old) (M.ledger m.new) }
-    ensures status { IsPutStatus result }
-    ensures unmade { result ≤ 1 → ⊥ }
-    ensures unspent { result ≡ 9 → ⊥ }
-    ensures counts { CountsRun (M.report m.old) (M.report m.new) result }
-    ensures trust { Trusts (M.tells m.old) (M.tells m.new) (M.honest m.old) (M.honest m.new) }
-    ensures since { M.honest m.new → Since M.Machine m.old m.new }
+    ensures ends { EndsMounted M.Machine IsStatusOfLong m.old m.new result }
+    ensures takes { TakesNothing M.Machine m.old m.new result }
     ensures says { result ≡ 3 → M.honest m.new → SaysOfCall false AreOfPage (V.state v).layout (M.now m.old).said (M.now m.new) }
-    ensures last { IsTrue (is_of_fault result) → M.honest m.new → SaysFault (M.report m.new).fault_place (M.now m.new) result }
     ensures fault { M.honest m.new → SaysNoReply (M.now m.old) (M.now m.new) result }
     ensures long { result ≡ 5 → M.honest m.new → (input : List ℕ) (old new : Report) → max_input < length input → SaysOfInput input old new (M.now m.new) }
     ensures runs { M.honest m.new → (name : List ℕ) (keep : Option ℕ) (input rest : List ℕ) (k : Known) → max_input < length input → (volume_of k).unforced ≡ 0 → Stands V.state V.holds v k (M.now m.old) → OnDisk M.Machine k (forced_of k) m.old → RunsOut M.Machine (Put name keep) input rest (M.report m.old) k m.old m.new result }
@@ -63,18 +56,10 @@ fn put_on<M: Machine, V: Files<M> + Drop, T: Says>(
     requires unworn { is_worn (V.state v) ≡ false }
     requires fresh { IsTrue (is_fresh (V.state v)) }
     requires says { T.errand.says ≡ reply_alone }
-    ensures attaches { M.tells m.new → (M.ledger m.new).attaches ≡ (M.ledger m.old).attaches }
-    ensures status { IsPutStatus result }
-    ensures counts { CountsTaking (M.report m.old) (M.report m.new) result }
-    ensures input { result ≡ 5 → M.tells m.new → FailsInput (M.ledger m.old).input (M.report m.old) (M.report m.new) }
-    ensures fails { result ≡ 5 → M.honest m.new → SaysOfInput (M.ledger m.old).input (M.report m.old) (M.report m.new) (M.now m.new) }
-    ensures whole { result ≤ 1 → M.tells m.new → (M.ledger m.new).input ≡ [] }
-    ensures few { result ≤ 1 → M.tells m.new → length (M.ledger m.old).input ≤ max_input }
-    ensures trust { Trusts (M.tells m.old) (M.tells m.new) (M.honest m.old) (M.honest m.new) }
-    ensures since { M.honest m.new → Since M.Machine m.old m.new }
-    ensures says { result ≡ 3 → M.honest m.new → SaysOfCall false AreOfPage (V.state v).layout (M.now m.old).said (M.now m.new) }
-    ensures unspent { result ≡ 9 → M.honest m.new → ⊥ }
-    ensures last { IsTrue (is_of_fault result) → M.honest m.new → SaysFault (M.report m.new).fault_place (M.now m.new) result }
+    ensures ends { EndsMounted M.Machine IsPutStatus m.old m.new result }
+    ensures takes { TakesInput M.Machine m.old m.new result }
+    ensures whole { result ≤ 1 → M.tells m.new → TakesToEnd (M.ledger m.old).input (M.ledger m.new).input }
+    ensures tells { M.honest m.new → TellsMounted false AreOfPage (V.state v).layout ⊥ (M.now m.old) (M.now m.new) result }
     ensures one { M.honest m.new → (V.state v).dirty ≡ [] → SaysOne (Word.Put name (M.ledger m.old).input keep) (M.now m.old) (M.now m.new) result }
     ensures runs { M.honest m.new → (k : Known) → (volume_of k).unforced ≡ 0 → k.opened ≡ none_open → Stands V.state V.holds v k (M.now m.old) → OnDisk M.Machine k (forced_of k) m.old → RunsOut M.Machine (Put name keep) (M.ledger m.old).input (M.ledger m.new).input (M.report m.old) k m.old m.new result }
 {
@@ -99,7 +84,7 @@ pub fn run_put<M: Machine, V: Files<M> + Drop, T: Says>(
     requires says { T.errand.says ≡ reply_alone }
     ensures ends { EndsRun M.Machine IsPutStatus m.old m.new result }
     ensures takes { TakesInput M.Machine m.old m.new result }
-    ensures whole { result ≤ 1 → M.tells m.new → TakesAll (M.ledger m.old).input (M.ledger m.new).input }
+    ensures whole { result ≤ 1 → M.tells m.new → TakesToEnd (M.ledger m.old).input (M.ledger m.new).input }
     ensures image { M.honest m.new → TellsImage false AreOfPage None sectors (M.now m.old) (M.now m.new) result }
     ensures one { M.honest m.new → SaysOne (Word.Put name (M.ledger m.old).input keep) (M.now m.old) (M.now m.new) result }
     ensures leaves { M.honest m.new → LeavesOver M.Machine (Put name keep) (M.ledger m.old).input (M.ledger m.new).input sectors m.old m.new result }

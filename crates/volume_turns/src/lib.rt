@@ -23,5 +23,5 @@ pub use input::run_put;
 pub use line::last_line;
 pub use once::alone;
 pub use script::run_script;
-pub use turns::{End, Says};
+pub use turns::{Halt, Says};
 pub use whole::run_one;

@@ -1,14 +1,14 @@
 //! The last line of a run, such as that of the fault that ends it.
 ghost use Rattle.std.specs.Prelude.{◌≡◌, ◌⊎◌, ◌≤◌, false, true, IfErr, OnOk};
-ghost use Rattle.sector_disk.specs.Calls.{LeavesDisk, Since};
-ghost use Rattle.sector_disk.specs.Machine.{LeavesOnly, Trusts, Utters};
+ghost use Rattle.sector_disk.specs.Calls.{LeavesDisk};
+ghost use Rattle.sector_disk.specs.Machine.{LeavesOnly, Utters};
 ghost use Rattle.fsd_texts.specs.Text.{fault_text, text};
 ghost use Rattle.fsd_runs.specs.Errands.{fault_status};
 ghost use Rattle.volume_turns.specs.Line.{EndsLast, EndsWith, IsStatusAs, IsStatusFor, is_unsaid};
-ghost use Rattle.volume_turns.specs.Turns.{IsEndOfVolume, SaysAll, Told, Unsaid, UttersBehind, WantsNone};
-ghost use Rattle.volume_turns.specs.declared.turns.End.TheVariants.{Output};
+ghost use Rattle.volume_turns.specs.Turns.{SaysAll, SaysText, Unsaid, UttersBehind, WantsNone};
+ghost use Rattle.volume_turns.specs.declared.turns.Halt.TheVariants.{Output};
 
-use crate::turns::End;
+use crate::turns::Halt;
 use fsd_texts::{Fault, Line};
 use script_text::lay_line;
 use sector_disk::Machine;
@@ -64,13 +64,9 @@ fn say_text<M: Machine>(m: &mut M, text: &[u8], gives: u8) -> u8
 }
 
 /// Says a text that tells something as forced: all that was written is brought to the disk first.
-pub(crate) fn say_forced<M: Machine>(m: &mut M, text: &[u8]) -> Result<(), End>
-    ensures told { Told (M.report m.old) (M.report m.new) result }
-    ensures trust { Trusts (M.tells m.old) (M.tells m.new) (M.honest m.old) (M.honest m.new) }
-    ensures ledger { M.tells m.new → M.ledger m.new ≡ M.ledger m.old }
-    ensures fault { IfErr result IsEndOfVolume }
+pub(crate) fn say_forced<M: Machine>(m: &mut M, text: &[u8]) -> Result<(), Halt>
+    ensures says { SaysText M.Machine m.old m.new result }
     ensures wants { IfErr result WantsNone }
-    ensures since { M.honest m.new → Since M.Machine m.old m.new }
     ensures moments { M.honest m.new → LeavesOnly M.moment M.left_since m.old m.new (UttersBehind true text.now (M.now m.old)) }
     ensures synced { OnOk result (M.honest m.new → (M.now m.old).time ≤ (M.now m.new).synced) }
     ensures said { OnOk result (M.honest m.new → SaysAll text.now (M.now m.old) (M.now m.new)) }
@@ -78,22 +74,19 @@ pub(crate) fn say_forced<M: Machine>(m: &mut M, text: &[u8]) -> Result<(), End>
 {
     match m.sync() {
         Ok(()) => say_bytes(m, text),
-        Err(failed) => Err(End::Fault(Fault::Device(failed.place))),
+        Err(failed) => Err(Halt::Fault(Fault::Device(failed.place))),
     }
 }
 
 /// Says a text.
-pub(crate) fn say_bytes<M: Machine>(m: &mut M, text: &[u8]) -> Result<(), End>
-    ensures told { Told (M.report m.old) (M.report m.new) result }
-    ensures trust { Trusts (M.tells m.old) (M.tells m.new) (M.honest m.old) (M.honest m.new) }
-    ensures ledger { M.tells m.new → M.ledger m.new ≡ M.ledger m.old }
+pub(crate) fn say_bytes<M: Machine>(m: &mut M, text: &[u8]) -> Result<(), Halt>
+    ensures says { SaysText M.Machine m.old m.new result }
     ensures output { IfErr result (λ end. end ≡ Output) }
-    ensures since { M.honest m.new → Since M.Machine m.old m.new }
     ensures moments { M.honest m.new → LeavesOnly M.moment M.left_since m.old m.new (Utters text.now (M.now m.old)) }
     ensures said { OnOk result (M.honest m.new → SaysAll text.now (M.now m.old) (M.now m.new)) }
 {
     match m.say(text) {
         Ok(()) => Ok(()),
-        Err(_) => Err(End::Output),
+        Err(_) => Err(Halt::Output),
     }
 }

@@ -4,7 +4,7 @@ ghost use Rattle.fsd_files.specs.Answers.{next_reply};
 ghost use Rattle.fsd_texts.specs.declared.command.Command.TheVariants as Word;
 ghost use Rattle.sector_disk.specs.Calls.{OnlyReads, device_in};
 ghost use Rattle.volume_contract.specs.Absent.{LacksLater, ShowsReached};
-ghost use Rattle.volume_contract.specs.Ends.{Looks, device_of};
+ghost use Rattle.volume_contract.specs.Ends.{LooksUp, device_of};
 ghost use Rattle.volume_contract.specs.Order.{Follows, IsLookUp, next_steps};
 ghost use Rattle.volume_contract.specs.State.{Known, Stands, volume_of};
 ghost use Rattle.scrub.specs.Telling.{AreOfPage};
@@ -36,7 +36,7 @@ fn next_one<M: Machine, V: Files<M>>(
     ensures stands { M.honest m.new → (k : Known) → Stands V.state V.holds v.old k (M.now m.old) → Stands V.state V.holds v.new k (M.now m.new) }
     ensures told { IfErr result (λ why. M.honest m.new → IsRefusedOn AreOfPage (V.state v.old).layout (M.now m.new).image why) }
     ensures absent { IfOk result (λ found. IfNone found (ShowsReached M.Machine (V.resident v.old) (V.state v.old) (V.state v.new) m.old m.new (LacksLater last.now))) }
-    ensures done { M.honest m.new → (k : Known) → Stands V.state V.holds v.old k (M.now m.old) → Looks (next_reply (volume_of k) last.now) result }
+    ensures done { M.honest m.new → (k : Known) → Stands V.state V.holds v.old k (M.now m.old) → LooksUp (next_reply (volume_of k) last.now) result }
 {
     match last {
         Some(key) => v.next_after(m, Some(key)),

@@ -1,21 +1,19 @@
 //! One command by itself over a mounted volume, to its reply.
 ghost use Rattle.std.specs.Prelude.{◌≡◌, ◌≤◌, None, Err, IfErr, IfOk, IsTrue, false, ℕ};
-ghost use Rattle.sector_disk.specs.Machine.{OnlyWrites, Trusts};
 ghost use Rattle.fsd_runs.specs.Commands.{reply_alone, reply_status};
-ghost use Rattle.sector_disk.specs.Calls.{Since};
 ghost use Rattle.volume_turns.specs.Answering.{AnswersAlone, ClosesBy};
-ghost use Rattle.volume_turns.specs.Once.{ClosesAndSays, IsAlone, close_fault, fault_of, unit_of};
+ghost use Rattle.volume_turns.specs.Once.{ClosesAndSays, IsAlone, close_fault, end_by_mount, unit_of};
 ghost use Rattle.volume_turns.specs.Commands.{IsStatusFrom};
 ghost use Rattle.volume_contract.specs.State.{Known, Stands, is_worn, none_open, volume_of, forced_of};
 ghost use Rattle.volume_contract.specs.Upgrade.{is_fresh};
 ghost use Rattle.volume_turns.specs.Steps.{is_upgrade};
 ghost use Rattle.fsd_texts.specs.declared.fault.Fault.TheVariants as Ends;
-ghost use Rattle.volume_turns.specs.declared.turns.End.TheVariants.{Fault as Stopped};
-ghost use Rattle.volume_turns.specs.Turns.{IsEndOfVolume, Told, WantsNone, OnDisk};
+ghost use Rattle.volume_turns.specs.declared.turns.Halt.TheVariants.{Fault as Stopped};
+ghost use Rattle.volume_turns.specs.Turns.{OnDisk, Speaks, WantsNone};
 
 use crate::commands;
 use crate::line::say_forced;
-use crate::turns::{End, Says};
+use crate::turns::{Halt, Says};
 use crate::upgrade::upgrade_alone;
 use fsd_bytes::Refusal;
 use fsd_files::Reply;
@@ -41,21 +39,16 @@ pub(crate) fn close_and_say<M: Machine, V: Files<M>>(
     v: V,
     m: &mut M,
     text: &[u8],
-) -> Result<(), End>
+) -> Result<(), Halt>
     requires room { (V.state v).layout.sectors ≤ (M.report m.old).sectors }
-    ensures told { Told (M.report m.old) (M.report m.new) result }
-    ensures trust { Trusts (M.tells m.old) (M.tells m.new) (M.honest m.old) (M.honest m.new) }
-    ensures ledger { M.tells m.new → OnlyWrites (M.ledger m.old) (M.ledger m.new) }
-    ensures fault { IfErr result IsEndOfVolume }
-    ensures since { M.honest m.new → Since M.Machine m.old m.new }
-    ensures later { M.honest m.new → M.moment m.old ≤ M.moment m.new }
+    ensures speaks { Speaks M.Machine m.old m.new result }
     ensures closing { M.honest m.new → ClosesBy (V.state v) text.now (M.now m.old) (M.now m.new) result }
     ensures wants { (V.state v).down ≡ None → IfErr result WantsNone }
     ensures closes { M.honest m.new → (k : Known) (f : ℕ) → Stands V.state V.holds v k (M.now m.old) → OnDisk M.Machine k f m.old → ClosesAndSays M.Machine k f text.now m.old m.new result }
 {
     match v.close(m) {
         Ok(()) => say_forced(m, text),
-        Err(why) => Err(End::Fault(close_fault(why))),
+        Err(why) => Err(Halt::Fault(close_fault(why))),
     }
 }
 
@@ -78,22 +71,17 @@ pub(crate) fn close_as<M: Machine, V: Files<M> + Drop, T: Says>(
     v: V,
     m: &mut M,
     answer: &Reply,
-) -> Result<u8, End>
+) -> Result<u8, Halt>
     requires room { (V.state v).layout.sectors ≤ (M.report m.old).sectors }
     requires up { (V.state v).down ≡ None }
     ensures undone { result ≡ Err (Stopped Ends.Memory) → m.new ≡ m.old }
     ensures status { IfOk result (λ status. status ≡ reply_status answer.now) }
-    ensures told { Told (M.report m.old) (M.report m.new) result }
-    ensures trust { Trusts (M.tells m.old) (M.tells m.new) (M.honest m.old) (M.honest m.new) }
-    ensures ledger { M.tells m.new → OnlyWrites (M.ledger m.old) (M.ledger m.new) }
-    ensures fault { IfErr result IsEndOfVolume }
-    ensures since { M.honest m.new → Since M.Machine m.old m.new }
-    ensures later { M.honest m.new → M.moment m.old ≤ M.moment m.new }
+    ensures speaks { Speaks M.Machine m.old m.new result }
     ensures closing { M.honest m.new → ClosesBy (V.state v) (T.errand.says answer.now) (M.now m.old) (M.now m.new) (unit_of result) }
     ensures closes { M.honest m.new → (k : Known) (f : ℕ) → Stands V.state V.holds v k (M.now m.old) → OnDisk M.Machine k f m.old → ClosesAndSays M.Machine k f (T.errand.says answer.now) m.old m.new (unit_of result) }
 {
     let Ok(text) = T::text(alloc, answer) else {
-        return Err(End::Fault(Fault::Memory));
+        return Err(Halt::Fault(Fault::Memory));
     };
     match close_and_say(v, m, text.as_slice()) {
         Ok(()) => Ok(status_of(answer)),
@@ -107,19 +95,14 @@ pub fn alone<M: Machine, V: Files<M> + Drop, T: Says>(
     v: V,
     m: &mut M,
     c: &Command,
-) -> Result<u8, End>
+) -> Result<u8, Halt>
     requires room { (V.state v).layout.sectors ≤ (M.report m.old).sectors }
     requires up { (V.state v).down ≡ None }
     requires unworn { is_worn (V.state v) ≡ false }
     requires fresh { IsTrue (is_fresh (V.state v)) }
     requires says { T.errand.says ≡ reply_alone }
-    ensures told { Told (M.report m.old) (M.report m.new) result }
-    ensures trust { Trusts (M.tells m.old) (M.tells m.new) (M.honest m.old) (M.honest m.new) }
-    ensures ledger { M.tells m.new → OnlyWrites (M.ledger m.old) (M.ledger m.new) }
-    ensures fault { IfErr result IsEndOfVolume }
+    ensures speaks { Speaks M.Machine m.old m.new result }
     ensures status { IfOk result (IsStatusFrom c.now) }
-    ensures since { M.honest m.new → Since M.Machine m.old m.new }
-    ensures later { M.honest m.new → M.moment m.old ≤ M.moment m.new }
     ensures answers { M.honest m.new → AnswersAlone c.now (V.state v) (M.now m.old) (M.now m.new) result }
     ensures does { M.honest m.new → (k : Known) → (volume_of k).unforced ≡ 0 → k.opened ≡ none_open → Stands V.state V.holds v k (M.now m.old) → OnDisk M.Machine k (forced_of k) m.old → IsAlone M.Machine c.now k m.old m.new result }
 {
@@ -135,32 +118,27 @@ fn answer_alone<M: Machine, V: Files<M> + Drop, T: Says>(
     v: V,
     m: &mut M,
     c: &Command,
-) -> Result<u8, End>
+) -> Result<u8, Halt>
     requires room { (V.state v).layout.sectors ≤ (M.report m.old).sectors }
     requires up { (V.state v).down ≡ None }
     requires unworn { is_worn (V.state v) ≡ false }
     requires other { is_upgrade c.now ≡ false }
     requires says { T.errand.says ≡ reply_alone }
-    ensures told { Told (M.report m.old) (M.report m.new) result }
-    ensures trust { Trusts (M.tells m.old) (M.tells m.new) (M.honest m.old) (M.honest m.new) }
-    ensures ledger { M.tells m.new → OnlyWrites (M.ledger m.old) (M.ledger m.new) }
-    ensures fault { IfErr result IsEndOfVolume }
+    ensures speaks { Speaks M.Machine m.old m.new result }
     ensures status { IfOk result (IsStatusFrom c.now) }
-    ensures since { M.honest m.new → Since M.Machine m.old m.new }
-    ensures later { M.honest m.new → M.moment m.old ≤ M.moment m.new }
     ensures answers { M.honest m.new → AnswersAlone c.now (V.state v) (M.now m.old) (M.now m.new) result }
     ensures does { M.honest m.new → (k : Known) → (volume_of k).unforced ≡ 0 → k.opened ≡ none_open → Stands V.state V.holds v k (M.now m.old) → OnDisk M.Machine k (forced_of k) m.old → IsAlone M.Machine c.now k m.old m.new result }
 {
     let mut v = v;
     match commands::answer(alloc, &mut v, m, c) {
         Ok(answer) => close_as::<M, V, T>(alloc, v, m, &answer),
-        Err(fault) => Err(End::Fault(fault)),
+        Err(fault) => Err(Halt::Fault(fault)),
     }
 }
 
 // What a refused mount says.
 pub(crate) fn fault_of(fault: MountFault) -> Fault
-    ensures { result ≡ fault_of fault }
+    ensures { result ≡ end_by_mount fault }
 {
     match fault {
         MountFault::NotVolume => Fault::NotVolume,

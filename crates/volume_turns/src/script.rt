@@ -1,38 +1,35 @@
 //! A script, from the mount to the last line.
-ghost use Rattle.std.specs.Prelude.{◌≡◌, ◌≤◌, ◌+◌, ◌++◌, [], ℕ, None, true, Ok, Err, OnErr, OnOk, IfErr, IfOk, IsTrue, Some};
+ghost use Rattle.std.specs.Prelude.{◌≡◌, ◌≤◌, ◌+◌, ℕ, None, true, Ok, Err, IfErr, IfOk, IsTrue};
 ghost use Rattle.sector_disk.specs.Calls.{Since};
-ghost use Rattle.sector_disk.specs.Machine.{OnlyWrites, Trusts};
+ghost use Rattle.sector_disk.specs.Machine.{Trusts};
 ghost use Rattle.fsd_runs.specs.declared.request.Request.TheVariants.{Script};
 ghost use Rattle.scrub.specs.Telling.{AreOfPage};
 ghost use Rattle.volume_turns.specs.Whole.{RunsOut};
 ghost use Rattle.fsd_files.specs.Desk.{Session};
 ghost use Rattle.fsd_texts.specs.declared.script_command.ScriptCommand.{ScriptCommand as Word};
-ghost use Rattle.fsd_texts.specs.Script.{max_input, script_in};
+ghost use Rattle.fsd_texts.specs.Script.{max_input};
 ghost use Rattle.fsd_runs.specs.Commands.{reply_text};
 ghost use Rattle.fsd_runs.specs.Errands.{forced_turn, is_forced};
 ghost use Rattle.fsd_runs.specs.Sessions.{Meeting, answer_in};
 ghost use Rattle.client_desk.specs.Clients.{IsDesk, no_desk};
 ghost use Rattle.volume_contract.specs.State.{Known, Stands, none_open, forced_of};
-ghost use Rattle.volume_turns.specs.Causes.{FailsInput, SaysFault, SaysOfCall, SaysOfInput, TellsImage, is_of_fault};
-ghost use Rattle.volume_turns.specs.Each.{SaysBadLine, SaysBetween, SaysForced};
+ghost use Rattle.volume_turns.specs.Causes.{TellsImage};
 ghost use Rattle.volume_turns.specs.Last.{EndsSo, ending_line, ending_status};
-ghost use Rattle.volume_turns.specs.Numbers.{GoesUp, MayWear};
-ghost use Rattle.volume_turns.specs.Once.{ClosesAndSays, unit_of};
-ghost use Rattle.volume_turns.specs.Running.{EndsRun, LeavesOver, ReadsAll, SaysScript, TakesInput};
-ghost use Rattle.volume_turns.specs.Seats.{Seated, SitsAt, known_of};
-ghost use Rattle.volume_turns.specs.Status.{CountsTaking, IsScriptStatus};
-ghost use Rattle.fsd_texts.specs.declared.end.End.{End as EndOf};
-ghost use Rattle.fsd_texts.specs.declared.end.End.TheVariants.{Done};
-ghost use Rattle.volume_turns.specs.declared.script.Stop.TheVariants.{Ended, WornOut};
-ghost use Rattle.volume_turns.specs.declared.turns.End.TheVariants.{Fault as Stopped};
+ghost use Rattle.volume_turns.specs.Numbers.{MayWear, UsesNumbers};
+ghost use Rattle.volume_turns.specs.Once.{ClosesAndSays, SaysForcedOver, unit_of};
+ghost use Rattle.volume_turns.specs.Running.{EndsMounted, EndsRun, LeavesOver, ReadsAll, SaysScript, TakesInput, TellsMounted};
+ghost use Rattle.volume_turns.specs.Seats.{KeepsSeat, Seated, SitsAt, known_of};
+ghost use Rattle.volume_turns.specs.Status.{IsScriptStatus};
+ghost use Rattle.volume_turns.specs.declared.script.Stop.TheVariants.{WornOut};
+ghost use Rattle.volume_turns.specs.declared.turns.Halt.TheVariants.{Fault as Stopped};
 ghost use Rattle.fsd_texts.specs.declared.fault.Fault.TheVariants as Ends;
-ghost use Rattle.volume_turns.specs.Turns.{BreaksWhole, IsEndOfVolume, IsEndOn, KeepsSaid, SaysWhole, Told, WantsNone, OnDisk};
-ghost use Rattle.volume_turns.specs.Script.{GoesOn, GroupsBy, Heard, Reads, RoseBy, SparesWanting, WholeRead};
+ghost use Rattle.volume_turns.specs.Turns.{OnDisk, Speaks, WantsNone};
+ghost use Rattle.volume_turns.specs.Script.{BreaksRead, EndsScript, GroupsBy, HearsInput, ReadsInput, ReadsOn, ReadsScript, SaysAllRead, SaysRead, SpeaksReading, WholeRead};
 
 use crate::generate::close_forced;
 use crate::line::{end_with, fault_status, last_line};
 use crate::once::fault_of;
-use crate::turns::{End, Says, is_worn_end, step};
+use crate::turns::{Halt, Says, is_worn_end, step};
 use client_desk::Desk;
 use fsd_texts::{End as ScriptEnd, Fault, Line};
 use script_text::{Reader, ScriptFault};
@@ -58,30 +55,17 @@ fn read_on<M: Machine, V: Files<M>, T: Says>(
     desk: &mut Desk,
     m: &mut M,
     reader: &mut Reader,
-) -> Result<Option<Stop>, End>
+) -> Result<Option<Stop>, Halt>
     requires room { (V.state v.old).layout.sectors ≤ (M.report m.old).sectors }
     requires up { (V.state v.old).down ≡ None }
     requires desk { IsDesk (V.state v.old) desk.old }
     requires lazily { (x : Meeting) (s : Session) (w : Word) → IsTrue (T.errand.forces (answer_in x s w).0) → (answer_in x s w).1.volume.unforced ≡ 0 }
-    ensures layout { (V.state v.new).layout ≡ (V.state v.old).layout }
-    ensures up { OnOk result ((V.state v.new).down ≡ None) }
-    ensures desk { IsDesk (V.state v.new) desk.new }
-    ensures heard { Heard (M.report m.old) (M.report m.new) result }
-    ensures attaches { M.tells m.new → (M.ledger m.new).attaches ≡ (M.ledger m.old).attaches }
-    ensures fault { IfErr result IsEndOfVolume }
-    ensures image { IfErr result (λ end. M.honest m.new → IsEndOn AreOfPage (V.state v.old).layout (M.now m.new).image end) }
-    ensures grows { M.honest m.new → GoesUp 1 (V.state v.old) (V.state v.new) }
-    ensures used { result ≡ Err (Stopped Ends.WornOut) → M.honest m.new → MayWear 1 (V.state v.old) }
-    ensures rose { IfOk result (RoseBy (M.report m.old) (M.report m.new)) }
-    ensures quiet { OnErr result ((M.report m.new).input_faults ≡ (M.report m.old).input_faults) }
-    ensures trust { Trusts (M.tells m.old) (M.tells m.new) (M.honest m.old) (M.honest m.new) }
-    ensures since { M.honest m.new → Since M.Machine m.old m.new }
-    ensures later { M.honest m.new → M.moment m.old ≤ M.moment m.new }
-    ensures whole_replies { M.honest m.new → SaysWhole T.errand.says (M.now m.old) (M.now m.new) result }
-    ensures on { IfOk result (GoesOn reader.old reader.new) }
-    ensures few { reader.new.end ≡ None → reader.new.taken ≤ max_input }
-    ensures whole { result ≡ Ok (Some (Ended Done)) → reader.old.end ≡ None → M.tells m.new → (M.ledger m.new).input ≡ [] }
-    ensures reads { M.tells m.new → Reads V.state V.holds M.Machine T.errand reader.old reader.new (v.old, desk.old) m.old (v.new, desk.new) m.new result }
+    ensures keeps { KeepsSeat (V.state v.old) (V.state v.new) desk.new result }
+    ensures speaks { SpeaksReading M.Machine m.old m.new result }
+    ensures says { SaysRead M.Machine T.errand.says (V.state v.old).layout m.old m.new result }
+    ensures numbers { UsesNumbers M.Machine 1 (V.state v.old) (V.state v.new) m.new result }
+    ensures input { ReadsOn M.Machine reader.old reader.new m.old m.new result }
+    ensures reads { M.tells m.new → ReadsScript V.state V.holds M.Machine T.errand reader.old reader.new (v.old, desk.old) m.old (v.new, desk.new) m.new result }
 {
     match reader.next_command(alloc, m) {
         Ok(Some(c)) => match step::<M, V, T>(alloc, v, desk, m, &c) {
@@ -92,7 +76,7 @@ fn read_on<M: Machine, V: Files<M>, T: Says>(
         Err(ScriptFault::Bad(bad)) => Ok(Some(Stop::Ended(ScriptEnd::Bad(bad)))),
         Err(ScriptFault::TooLong) => Ok(Some(Stop::Ended(ScriptEnd::TooLong))),
         Err(ScriptFault::Input) => Ok(Some(Stop::Input)),
-        Err(ScriptFault::Memory) => Err(End::Fault(Fault::Memory)),
+        Err(ScriptFault::Memory) => Err(Halt::Fault(Fault::Memory)),
     }
 }
 
@@ -102,27 +86,16 @@ fn read_all<M: Machine, V: Files<M>, T: Says>(
     v: &mut V,
     desk: &mut Desk,
     m: &mut M,
-) -> Result<Stop, End>
+) -> Result<Stop, Halt>
     requires room { (V.state v.old).layout.sectors ≤ (M.report m.old).sectors }
     requires up { (V.state v.old).down ≡ None }
     requires desk { IsDesk (V.state v.old) desk.old }
     requires lazily { (x : Meeting) (s : Session) (w : Word) → IsTrue (T.errand.forces (answer_in x s w).0) → (answer_in x s w).1.volume.unforced ≡ 0 }
-    ensures layout { (V.state v.new).layout ≡ (V.state v.old).layout }
-    ensures up { OnOk result ((V.state v.new).down ≡ None) }
-    ensures desk { IsDesk (V.state v.new) desk.new }
-    ensures heard { Heard (M.report m.old) (M.report m.new) result }
-    ensures attaches { M.tells m.new → (M.ledger m.new).attaches ≡ (M.ledger m.old).attaches }
-    ensures fault { IfErr result IsEndOfVolume }
-    ensures image { IfErr result (λ end. M.honest m.new → IsEndOn AreOfPage (V.state v.old).layout (M.now m.new).image end) }
+    ensures keeps { KeepsSeat (V.state v.old) (V.state v.new) desk.new result }
+    ensures speaks { SpeaksReading M.Machine m.old m.new result }
+    ensures says { SaysAllRead M.Machine T.errand.says (V.state v.old).layout m.old m.new result }
+    ensures input { ReadsInput M.Machine m.old m.new result }
     ensures used { result ≡ Err (Stopped Ends.WornOut) → M.honest m.new → MayWear (max_input + 1) (V.state v.old) }
-    ensures rose { IfOk result (λ stop. RoseBy (M.report m.old) (M.report m.new) (Some stop)) }
-    ensures quiet { OnErr result ((M.report m.new).input_faults ≡ (M.report m.old).input_faults) }
-    ensures trust { Trusts (M.tells m.old) (M.tells m.new) (M.honest m.old) (M.honest m.new) }
-    ensures since { M.honest m.new → Since M.Machine m.old m.new }
-    ensures later { M.honest m.new → M.moment m.old ≤ M.moment m.new }
-    ensures whole_replies { M.honest m.new → SaysWhole T.errand.says (M.now m.old) (M.now m.new) result }
-    ensures replies { (end : EndOf) → result ≡ Ok (Ended end) → SaysBetween M.Machine T.errand.says (script_in (M.ledger m.old).input).0 m.old m.new }
-    ensures whole { result ≡ Ok (Ended Done) → M.tells m.new → (M.ledger m.new).input ≡ [] }
     ensures reads { M.tells m.new → WholeRead V.state V.holds M.Machine T.errand (v.old, desk.old) m.old (v.new, desk.new) m.new result }
 {
     let mut reader = Reader::new(alloc);
@@ -140,27 +113,16 @@ fn group_read<M: Machine, V: Files<M> + Drop, T: Says>(
     alloc: Global,
     v: V,
     m: &mut M,
-) -> Result<Stop, End>
+) -> Result<Stop, Halt>
     requires room { (V.state v).layout.sectors ≤ (M.report m.old).sectors }
     requires up { (V.state v).down ≡ None }
     requires idle { IsDesk (V.state v) no_desk }
     requires lazily { (x : Meeting) (s : Session) (w : Word) → IsTrue (T.errand.forces (answer_in x s w).0) → (answer_in x s w).1.volume.unforced ≡ 0 }
-    ensures heard { Heard (M.report m.old) (M.report m.new) result }
-    ensures attaches { M.tells m.new → (M.ledger m.new).attaches ≡ (M.ledger m.old).attaches }
-    ensures fault { IfErr result IsEndOfVolume }
-    ensures image { IfErr result (λ end. M.honest m.new → IsEndOn AreOfPage (V.state v).layout (M.now m.new).image end) }
+    ensures speaks { SpeaksReading M.Machine m.old m.new result }
+    ensures breaks { BreaksRead M.Machine T.errand.says (V.state v).layout m.old m.new result }
+    ensures input { HearsInput (M.report m.old) (M.report m.new) result }
+    ensures script { EndsScript M.Machine T.errand m.old m.new result }
     ensures used { result ≡ Ok WornOut → M.honest m.new → MayWear (max_input + 1) (V.state v) }
-    ensures unworn { result ≡ Err (Stopped Ends.WornOut) → ⊥ }
-    ensures says { (end : EndOf) → result ≡ Ok (Ended end) → M.honest m.new → (t : ℕ) → t ≤ M.moment m.old →
-        SaysForced T.errand.says (M.left_since m.new t) (script_in (M.ledger m.old).input).0 (M.now m.old).said (M.now m.new).said }
-    ensures rose { IfOk result (λ stop. RoseBy (M.report m.old) (M.report m.new) (Some stop)) }
-    ensures memory { IfErr result (SparesWanting (M.report m.old) (M.report m.new)) }
-    ensures ends { (end : EndOf) → result ≡ Ok (Ended end) → M.tells m.new → (script_in (M.ledger m.old).input).1 ≡ end }
-    ensures whole { result ≡ Ok (Ended Done) → M.tells m.new → (M.ledger m.new).input ≡ [] }
-    ensures trust { Trusts (M.tells m.old) (M.tells m.new) (M.honest m.old) (M.honest m.new) }
-    ensures since { M.honest m.new → Since M.Machine m.old m.new }
-    ensures later { M.honest m.new → M.moment m.old ≤ M.moment m.new }
-    ensures broken { M.honest m.new → BreaksWhole T.errand.says (M.now m.old) (M.now m.new) result }
     ensures group { M.honest m.new → (k : Known) → k.opened ≡ none_open → Stands V.state V.holds v k (M.now m.old) → OnDisk M.Machine k (forced_of k) m.old → GroupsBy M.Machine T.errand k (M.ledger m.old).input (M.ledger m.new).input m.old m.new result }
 {
     let mut v = v;
@@ -180,21 +142,18 @@ fn group_read<M: Machine, V: Files<M> + Drop, T: Says>(
 
 // What clients have open is dropped, or done; then it ends the use of the volume, says that all is forced, and passes on
 // what the commands have come to.
-fn force_read<M: Machine, V: Files<M>>(v: V, desk: Desk, m: &mut M, stop: Stop) -> Result<Stop, End>
+fn force_read<M: Machine, V: Files<M>>(
+    v: V,
+    desk: Desk,
+    m: &mut M,
+    stop: Stop,
+) -> Result<Stop, Halt>
     requires room { (V.state v).layout.sectors ≤ (M.report m.old).sectors }
     requires desk { IsDesk (V.state v) desk }
-    ensures told { Told (M.report m.old) (M.report m.new) result }
-    ensures ledger { M.tells m.new → OnlyWrites (M.ledger m.old) (M.ledger m.new) }
-    ensures fault { IfErr result IsEndOfVolume }
-    ensures image { IfErr result (λ end. M.honest m.new → IsEndOn AreOfPage (V.state v).layout (M.now m.new).image end) }
-    ensures unworn { result ≡ Err (Stopped Ends.WornOut) → ⊥ }
-    ensures says { OnOk result (M.honest m.new → (M.now m.new).said ≡ (M.now m.old).said ++ forced_turn.said) }
-    ensures trust { Trusts (M.tells m.old) (M.tells m.new) (M.honest m.old) (M.honest m.new) }
-    ensures since { M.honest m.new → Since M.Machine m.old m.new }
-    ensures later { M.honest m.new → M.moment m.old ≤ M.moment m.new }
-    ensures same { IfOk result (λ x. x ≡ stop) }
+    ensures speaks { Speaks M.Machine m.old m.new result }
+    ensures forces { SaysForcedOver M.Machine (V.state v).layout m.old m.new result }
     ensures wants { (V.state v).down ≡ None → IfErr result WantsNone }
-    ensures quiet { M.honest m.new → KeepsSaid (M.now m.old) (M.now m.new) result }
+    ensures same { IfOk result (λ x. x ≡ stop) }
     ensures closes { M.honest m.new → (k : Seated) (f : ℕ) → SitsAt V.state V.holds (v, desk) k (M.now m.old) → OnDisk M.Machine (known_of k) f m.old → ClosesAndSays M.Machine (known_of k) f forced_turn.said m.old m.new (unit_of result) }
 {
     let mut v = v;
@@ -206,21 +165,21 @@ fn force_read<M: Machine, V: Files<M>>(v: V, desk: Desk, m: &mut M, stop: Stop) 
 }
 
 // The line that is said last, if one is.
-fn ending_line(ended: Result<Stop, End>) -> Option<Line>
+fn ending_line(ended: Result<Stop, Halt>) -> Option<Line>
     ensures { result ≡ ending_line ended }
 {
     match ended {
-        Ok(Stop::Ended(ScriptEnd::Done)) | Err(End::Output) => None,
+        Ok(Stop::Ended(ScriptEnd::Done)) | Err(Halt::Output) => None,
         Ok(Stop::Ended(ScriptEnd::Bad(bad))) => Some(Line::Bad(bad)),
         Ok(Stop::Ended(ScriptEnd::TooLong)) => Some(Line::Ended(Fault::InputTooLong)),
         Ok(Stop::Input) => Some(Line::Ended(Fault::Input)),
         Ok(Stop::WornOut) => Some(Line::Ended(Fault::WornOut)),
-        Err(End::Fault(why)) => Some(Line::Ended(why)),
+        Err(Halt::Fault(why)) => Some(Line::Ended(why)),
     }
 }
 
 // And the status behind it.
-fn ending_status(ended: Result<Stop, End>) -> u8
+fn ending_status(ended: Result<Stop, Halt>) -> u8
     ensures { result ≡ ending_status ended }
 {
     match ended {
@@ -228,13 +187,13 @@ fn ending_status(ended: Result<Stop, End>) -> u8
         Ok(Stop::Ended(ScriptEnd::Bad(_))) => 2,
         Ok(Stop::Ended(ScriptEnd::TooLong)) | Ok(Stop::Input) => 5,
         Ok(Stop::WornOut) => 9,
-        Err(End::Fault(why)) => fault_status(why),
-        Err(End::Output) => 6,
+        Err(Halt::Fault(why)) => fault_status(why),
+        Err(Halt::Output) => 6,
     }
 }
 
 // Says the last line of a script, if there is one, and gives its status.
-fn say_last<M: Machine>(m: &mut M, ended: Result<Stop, End>) -> u8
+fn say_last<M: Machine>(m: &mut M, ended: Result<Stop, Halt>) -> u8
     ensures trust { Trusts (M.tells m.old) (M.tells m.new) (M.honest m.old) (M.honest m.new) }
     ensures since { M.honest m.new → Since M.Machine m.old m.new }
     ensures ledger { M.tells m.new → M.ledger m.new ≡ M.ledger m.old }
@@ -255,21 +214,11 @@ fn script_on<M: Machine, V: Files<M> + Drop, T: Says>(alloc: Global, v: V, m: &m
     requires lazily { (x : Meeting) (s : Session) (w : Word) → IsTrue (T.errand.forces (answer_in x s w).0) → (answer_in x s w).1.volume.unforced ≡ 0 }
     requires says { T.errand.says ≡ reply_text }
     requires forces { T.errand.forces ≡ is_forced }
-    ensures attaches { M.tells m.new → (M.ledger m.new).attaches ≡ (M.ledger m.old).attaches }
-    ensures status { IsScriptStatus result }
-    ensures counts { CountsTaking (M.report m.old) (M.report m.new) result }
-    ensures input { result ≡ 5 → M.tells m.new → FailsInput (M.ledger m.old).input (M.report m.old) (M.report m.new) }
-    ensures fails { result ≡ 5 → M.honest m.new → SaysOfInput (M.ledger m.old).input (M.report m.old) (M.report m.new) (M.now m.new) }
-    ensures whole { result ≡ 0 → M.tells m.new → (M.ledger m.new).input ≡ [] }
-    ensures spelled { result ≡ 0 → M.tells m.new → (script_in (M.ledger m.old).input).1 ≡ Done }
-    ensures bad { result ≡ 2 → M.honest m.new → (t : ℕ) → t ≤ M.moment m.old → SaysBadLine (M.left_since m.new t) (M.ledger m.old).input (M.now m.old).said (M.now m.new) }
-    ensures trust { Trusts (M.tells m.old) (M.tells m.new) (M.honest m.old) (M.honest m.new) }
-    ensures since { M.honest m.new → Since M.Machine m.old m.new }
-    ensures says { result ≡ 3 → M.honest m.new → SaysOfCall true AreOfPage (V.state v).layout (M.now m.old).said (M.now m.new) }
-    ensures last { IsTrue (is_of_fault result) → M.honest m.new → SaysFault (M.report m.new).fault_place (M.now m.new) result }
-    ensures spent { result ≡ 9 → M.honest m.new → MayWear (max_input + 1) (V.state v) }
-    ensures all { result ≡ 0 → M.honest m.new → (t : ℕ) → t ≤ M.moment m.old →
-        SaysForced reply_text (M.left_since m.new t) (script_in (M.ledger m.old).input).0 (M.now m.old).said (M.now m.new).said }
+    ensures ends { EndsMounted M.Machine IsScriptStatus m.old m.new result }
+    ensures takes { TakesInput M.Machine m.old m.new result }
+    ensures whole { result ≡ 0 → M.tells m.new → ReadsAll (M.ledger m.old).input (M.ledger m.new).input }
+    ensures tells { M.honest m.new → TellsMounted true AreOfPage (V.state v).layout (MayWear (max_input + 1) (V.state v)) (M.now m.old) (M.now m.new) result }
+    ensures says { M.honest m.new → SaysScript M.Machine m.old m.new result }
     ensures runs { M.honest m.new → (k : Known) → k.opened ≡ none_open → Stands V.state V.holds v k (M.now m.old) → OnDisk M.Machine k (forced_of k) m.old → RunsOut M.Machine Script (M.ledger m.old).input (M.ledger m.new).input (M.report m.old) k m.old m.new result }
 {
     let ended = group_read::<M, V, T>(alloc, v, m);

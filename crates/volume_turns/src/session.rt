@@ -1,10 +1,10 @@
 //! One command of a script over a mounted volume and its desk, to its reply.
-ghost use Rattle.std.specs.Prelude.{◌≡◌, ◌≤◌, false, None, IfErr, IfOk, OnOk};
+ghost use Rattle.std.specs.Prelude.{◌≡◌, ◌≤◌, false, None, IfErr, IfOk};
 ghost use Rattle.sector_disk.specs.Calls.{WritesDisk};
 ghost use Rattle.client_desk.specs.Clients.{IsDesk};
 ghost use Rattle.volume_turns.specs.Calls.{AnswersIn};
 ghost use Rattle.volume_turns.specs.Commands.{BecauseIn};
-ghost use Rattle.volume_turns.specs.Seats.{DoesIn, Seated, SitsAt, StaysIn};
+ghost use Rattle.volume_turns.specs.Seats.{DoesIn, KeepsSeat, Seated, SitsAt, StaysIn};
 ghost use Rattle.volume_turns.specs.Steps.{IsOfCall, device_by, is_upgrade_in};
 
 use crate::calls::call;
@@ -28,9 +28,7 @@ pub(crate) fn answer_in<M: Machine, V: Files<M>>(
     requires up { (V.state v.old).down ≡ None }
     requires desk { IsDesk (V.state v.old) desk.old }
     requires other { is_upgrade_in c.now ≡ false }
-    ensures layout { (V.state v.new).layout ≡ (V.state v.old).layout }
-    ensures up { OnOk result ((V.state v.new).down ≡ None) }
-    ensures desk { IsDesk (V.state v.new) desk.new }
+    ensures keeps { KeepsSeat (V.state v.old) (V.state v.new) desk.new result }
     ensures disk { WritesDisk M.Machine (device_by result) (StaysIn V.state V.holds (v.old, desk.old)) m.old m.new }
     ensures fault { IfErr result IsOfCall }
     ensures answers { M.honest m.new → AnswersIn c.now (V.state v.old) (V.state v.new) (M.now m.old) (M.now m.new) result }

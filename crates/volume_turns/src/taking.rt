@@ -3,9 +3,9 @@ ghost use Rattle.std.specs.Prelude.{◌≡◌, ◌+◌, ◌<◌, ◌≤◌, [], 
 ghost use Rattle.sector_disk.specs.Calls.{LeavesDisk};
 ghost use Rattle.sector_disk.specs.Machine.{Wears};
 ghost use Rattle.fsd_texts.specs.Script.{max_input};
-ghost use Rattle.script_text.specs.Taking.{Comes};
+ghost use Rattle.script_text.specs.Taking.{ComesIn};
 ghost use Rattle.volume_turns.specs.declared.taking.InputFault.TheVariants.{TooLong as Long};
-ghost use Rattle.volume_turns.specs.Taking.{input_in};
+ghost use Rattle.volume_turns.specs.Taking.{taking_failed};
 
 use fsd_texts::Bytes;
 use sector_disk::Machine;
@@ -27,8 +27,8 @@ pub(crate) enum InputFault {
 
 // Takes a piece of the input behind the others, and answers how many bytes; none only at its end.
 fn take_piece<M: Machine>(m: &mut M, bytes: &mut Bytes) -> Result<usize, InputFault>
-    ensures calls { LeavesDisk M.Machine (input_in result) false Wears m.old m.new }
-    ensures comes { IfOk result (λ count. M.tells m.new → Comes bytes.old bytes.new count (M.ledger m.old) (M.ledger m.new)) }
+    ensures calls { LeavesDisk M.Machine (taking_failed result) false Wears m.old m.new }
+    ensures comes { IfOk result (λ count. M.tells m.new → ComesIn bytes.old bytes.new count (M.ledger m.old) (M.ledger m.new)) }
     ensures more { IfOk result (λ count. length bytes.new ≡ length bytes.old + count) }
     ensures attaches { M.tells m.new → (M.ledger m.new).attaches ≡ (M.ledger m.old).attaches }
     ensures some { IfErr result (λ fault. fault ≡ Long → ⊥) }
@@ -45,7 +45,7 @@ fn take_piece<M: Machine>(m: &mut M, bytes: &mut Bytes) -> Result<usize, InputFa
 
 /// All bytes of the input. A byte past the most is taken, if it is there.
 pub(crate) fn read_input<M: Machine>(alloc: Global, m: &mut M) -> Result<Bytes, InputFault>
-    ensures calls { LeavesDisk M.Machine (input_in result) false Wears m.old m.new }
+    ensures calls { LeavesDisk M.Machine (taking_failed result) false Wears m.old m.new }
     ensures whole { IfOk result (λ bytes. M.tells m.new → bytes ≡ (M.ledger m.old).input) }
     ensures end { IfOk result (λ bytes. M.tells m.new → (M.ledger m.new).input ≡ []) }
     ensures few { IfOk result (λ bytes. length bytes ≤ max_input) }

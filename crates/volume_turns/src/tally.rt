@@ -4,7 +4,7 @@ ghost use Rattle.fsd_texts.specs.declared.fault.Fault.TheVariants as Ends;
 ghost use Rattle.fsd_texts.specs.declared.line.Line.TheVariants as Says;
 ghost use Rattle.fsd_texts.specs.declared.script_command.ScriptCommand.TheVariants.{Plain};
 ghost use Rattle.fsd_runs.specs.Errands.{bytes_moved, bytes_read, is_deleted, is_kept, is_made, is_read, is_refused};
-ghost use Rattle.volume_turns.specs.Tally.{counted, nothing};
+ghost use Rattle.volume_turns.specs.Tally.{counted, nothing_done};
 
 use fsd_files::Reply;
 use fsd_texts::{Command, Counts, Fault, Line};
@@ -30,7 +30,7 @@ impl Model for Tally {
 impl Tally {
     /// Nothing was done yet.
     pub(crate) fn new() -> Tally
-        ensures { result ≡ nothing }
+        ensures { result ≡ nothing_done }
     {
         let counts = Counts {
             count: 0,

@@ -1,20 +1,18 @@
 //! One command with its reply, and why commands were not all done.
-ghost use Rattle.std.specs.Prelude.{◌≡◌, ◌≤◌, false, None, Err, OnOk, IfOk, IfErr, IsTrue};
-ghost use Rattle.sector_disk.specs.Machine.{LeavesOnly, OnlyWrites, Trusts};
+ghost use Rattle.std.specs.Prelude.{◌≡◌, ◌≤◌, false, None, OnOk, IfOk, IfErr, IsTrue};
+ghost use Rattle.sector_disk.specs.Machine.{LeavesOnly};
 ghost use Rattle.fsd_files.specs.Desk.{Session};
 ghost use Rattle.fsd_texts.specs.declared.script_command.ScriptCommand.{ScriptCommand as Word};
 ghost use Rattle.fsd_runs.specs.Errands.{Errand};
 ghost use Rattle.fsd_runs.specs.Sessions.{Meeting, answer_in};
 ghost use Rattle.client_desk.specs.Clients.{IsDesk};
-ghost use Rattle.sector_disk.specs.Calls.{Since};
-ghost use Rattle.fsd_texts.specs.declared.fault.Fault.TheVariants as Ends;
 ghost use Rattle.volume_turns.specs.Calls.{MayLoseIn};
-ghost use Rattle.volume_turns.specs.Each.{SaysOnce};
+ghost use Rattle.volume_turns.specs.Each.{SaysStep};
 ghost use Rattle.volume_turns.specs.Group.{is_worn_end};
-ghost use Rattle.volume_turns.specs.Numbers.{GoesUp, MayWear};
+ghost use Rattle.volume_turns.specs.Numbers.{UsesNumbers};
+ghost use Rattle.volume_turns.specs.Seats.{KeepsSeat};
 ghost use Rattle.volume_turns.specs.Steps.{is_upgrade_in};
-ghost use Rattle.volume_turns.specs.declared.turns.End.TheVariants.{Fault as Stopped};
-ghost use Rattle.volume_turns.specs.Turns.{IsEndOfVolume, IsEndOn, Steps, SaysAll, SaysWhole, Told, Unsaid, UttersBehind};
+ghost use Rattle.volume_turns.specs.Turns.{IsEndOn, Speaks, Steps, SaysAll, SaysText, Unsaid, UttersBehind};
 
 use crate::line::{say_bytes, say_forced};
 use crate::session;
@@ -27,7 +25,7 @@ use volume_contract::Files;
 
 /// Why commands were not all done.
 #[derive(Clone, Copy, Debug, PartialEq, Eq)]
-pub enum End {
+pub enum Halt {
     /// A fault, which is to be said.
     Fault(Fault),
     /// The output has failed.
@@ -35,10 +33,10 @@ pub enum End {
 }
 
 // Whether a run ended since the mount is worn out.
-pub(crate) fn is_worn_end(end: &End) -> bool
+pub(crate) fn is_worn_end(end: &Halt) -> bool
     ensures { result ≡ is_worn_end end.now }
 {
-    matches!(end, End::Fault(Fault::WornOut))
+    matches!(end, Halt::Fault(Fault::WornOut))
 }
 
 /// How replies are said.
@@ -56,19 +54,15 @@ pub trait Says {
 }
 
 // Says a reply; one that tells as forced behind a sync.
-pub(crate) fn say<M: Machine, T: Says>(alloc: Global, m: &mut M, answer: &Reply) -> Result<(), End>
-    ensures told { Told (M.report m.old) (M.report m.new) result }
-    ensures trust { Trusts (M.tells m.old) (M.tells m.new) (M.honest m.old) (M.honest m.new) }
-    ensures ledger { M.tells m.new → M.ledger m.new ≡ M.ledger m.old }
-    ensures fault { IfErr result IsEndOfVolume }
-    ensures since { M.honest m.new → Since M.Machine m.old m.new }
+pub(crate) fn say<M: Machine, T: Says>(alloc: Global, m: &mut M, answer: &Reply) -> Result<(), Halt>
+    ensures says { SaysText M.Machine m.old m.new result }
     ensures moments { M.honest m.new → LeavesOnly M.moment M.left_since m.old m.new (UttersBehind (T.errand.forces answer.now) (T.errand.says answer.now) (M.now m.old)) }
     ensures synced { OnOk result (IsTrue (T.errand.forces answer.now) → M.honest m.new → (M.now m.old).time ≤ (M.now m.new).synced) }
     ensures said { OnOk result (M.honest m.new → SaysAll (T.errand.says answer.now) (M.now m.old) (M.now m.new)) }
     ensures unsaid { IfErr result (λ end. M.honest m.new → Unsaid (M.now m.old) (M.now m.new) end) }
 {
     let Ok(text) = T::text(alloc, answer) else {
-        return Err(End::Fault(Fault::Memory));
+        return Err(Halt::Fault(Fault::Memory));
     };
     if T::forces(answer) {
         say_forced(m, text.as_slice())
@@ -84,30 +78,21 @@ pub(crate) fn step<M: Machine, V: Files<M>, T: Says>(
     desk: &mut Desk,
     m: &mut M,
     c: &ScriptCommand,
-) -> Result<(), End>
+) -> Result<(), Halt>
     requires room { (V.state v.old).layout.sectors ≤ (M.report m.old).sectors }
     requires up { (V.state v.old).down ≡ None }
     requires desk { IsDesk (V.state v.old) desk.old }
     requires other { is_upgrade_in c.now ≡ false }
     requires lazily { (x : Meeting) (s : Session) (w : Word) → IsTrue (T.errand.forces (answer_in x s w).0) → (answer_in x s w).1.volume.unforced ≡ 0 }
-    ensures layout { (V.state v.new).layout ≡ (V.state v.old).layout }
-    ensures up { OnOk result ((V.state v.new).down ≡ None) }
-    ensures desk { IsDesk (V.state v.new) desk.new }
-    ensures told { Told (M.report m.old) (M.report m.new) result }
-    ensures trust { Trusts (M.tells m.old) (M.tells m.new) (M.honest m.old) (M.honest m.new) }
-    ensures since { M.honest m.new → Since M.Machine m.old m.new }
-    ensures later { M.honest m.new → M.moment m.old ≤ M.moment m.new }
+    ensures keeps { KeepsSeat (V.state v.old) (V.state v.new) desk.new result }
+    ensures speaks { Speaks M.Machine m.old m.new result }
     ensures steps { Steps V.state V.holds M.Machine T.errand c.now (v.old, desk.old) m.old (v.new, desk.new) m.new result }
-    ensures whole_replies { M.honest m.new → SaysWhole T.errand.says (M.now m.old) (M.now m.new) result }
-    ensures once { OnOk result (M.honest m.new → SaysOnce T.errand.says c.now (M.now m.old) (M.now m.new)) }
-    ensures ledger { M.tells m.new → OnlyWrites (M.ledger m.old) (M.ledger m.new) }
-    ensures fault { IfErr result IsEndOfVolume }
+    ensures says { SaysStep M.Machine T.errand.says c.now m.old m.new result }
     ensures image { IfErr result (λ end. M.honest m.new → IsEndOn (MayLoseIn c.now) (V.state v.old).layout (M.now m.new).image end) }
-    ensures grows { M.honest m.new → GoesUp 1 (V.state v.old) (V.state v.new) }
-    ensures used { result ≡ Err (Stopped Ends.WornOut) → M.honest m.new → MayWear 1 (V.state v.old) }
+    ensures numbers { UsesNumbers M.Machine 1 (V.state v.old) (V.state v.new) m.new result }
 {
     match session::answer_in(alloc, v, desk, m, c) {
         Ok(answer) => say::<M, T>(alloc, m, &answer),
-        Err(fault) => Err(End::Fault(fault)),
+        Err(fault) => Err(Halt::Fault(fault)),
     }
 }

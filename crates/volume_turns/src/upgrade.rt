@@ -3,24 +3,22 @@ ghost use Rattle.std.specs.Prelude.{◌≡◌, ◌≤◌, None, Err, IfErr, IfOk
 ghost use Rattle.fsd_texts.specs.declared.command.Command.TheVariants as Word;
 ghost use Rattle.fsd_texts.specs.declared.fault.Fault.TheVariants as Ends;
 ghost use Rattle.fsd_runs.specs.Commands.{reply_alone};
-ghost use Rattle.sector_disk.specs.Calls.{Since, WritesDisk};
-ghost use Rattle.sector_disk.specs.Machine.{OnlyWrites, Trusts};
+ghost use Rattle.sector_disk.specs.Calls.{WritesDisk};
 ghost use Rattle.volume_contract.specs.Order.{is_idle, upgrade_steps};
 ghost use Rattle.volume_contract.specs.State.{Known, Stands, none_open, volume_of, forced_of};
 ghost use Rattle.volume_contract.specs.Upgrade.{is_fresh};
-ghost use Rattle.volume_turns.specs.declared.turns.End.TheVariants.{Fault as Stopped};
-ghost use Rattle.volume_turns.specs.Answering.{Answers, AnswersAlone};
+ghost use Rattle.volume_turns.specs.declared.turns.Halt.TheVariants.{Fault as Stopped};
+ghost use Rattle.volume_turns.specs.Answering.{AnswersAlone};
 ghost use Rattle.volume_turns.specs.Once.{IsAlone};
-ghost use Rattle.volume_turns.specs.Reasons.{HasWritten};
-ghost use Rattle.volume_turns.specs.Commands.{Because, IsStatusFrom, most_written};
+ghost use Rattle.volume_turns.specs.Commands.{IsStatusFrom};
 ghost use Rattle.volume_turns.specs.Steps.{Does, IsOfCall, Stays, device_by};
-ghost use Rattle.volume_turns.specs.Turns.{IsEndOfVolume, Told, OnDisk};
-ghost use Rattle.volume_turns.specs.Upgrade.{EndsState, is_upgraded};
+ghost use Rattle.volume_turns.specs.Turns.{OnDisk, Speaks};
+ghost use Rattle.volume_turns.specs.Upgrade.{EndsState, TellsUpgrade, is_upgraded};
 
 use crate::answer::ended_by;
 use crate::line::say_forced;
 use crate::once::close_as;
-use crate::turns::{End, Says};
+use crate::turns::{Halt, Says};
 use fsd_files::Reply;
 use fsd_texts::Fault;
 use sector_disk::Machine;
@@ -36,9 +34,7 @@ fn upgrade<M: Machine, V: Files<M>>(v: &mut V, m: &mut M) -> Result<Reply, Fault
     ensures fault { IfErr result IsOfCall }
     ensures idle { IsTrue (is_idle (upgrade_steps (V.state v.old))) → m.new ≡ m.old }
     ensures ends { EndsState (V.state v.old) (V.state v.new) result }
-    ensures answers { M.honest m.new → Answers Word.Upgrade (V.state v.old) (V.state v.new) (M.now m.old) (M.now m.new) result }
-    ensures written { M.tells m.new → HasWritten (most_written Word.Upgrade (V.state v.old)) (M.ledger m.old) (M.ledger m.new) result }
-    ensures because { M.honest m.new → IfOk result (λ a. Because V.state V.resident Word.Upgrade (V.state v.old) (V.state v.new) (M.now m.old) (M.now m.new) a) }
+    ensures tells { TellsUpgrade M.Machine V.state V.resident v.old v.new m.old m.new result }
     ensures done { M.honest m.new → (k : Known) → Stands V.state V.holds v.old k (M.now m.old) →
         Does V.state V.holds Word.Upgrade v.old v.new k (M.now m.old) (M.now m.new) result }
 {
@@ -61,24 +57,19 @@ pub(crate) fn upgrade_alone<M: Machine, V: Files<M> + Drop, T: Says>(
     alloc: Global,
     v: V,
     m: &mut M,
-) -> Result<u8, End>
+) -> Result<u8, Halt>
     requires room { (V.state v).layout.sectors ≤ (M.report m.old).sectors }
     requires up { (V.state v).down ≡ None }
     requires fresh { IsTrue (is_fresh (V.state v)) }
     requires says { T.errand.says ≡ reply_alone }
     ensures undone { result ≡ Err (Stopped Ends.Memory) → m.new ≡ m.old }
-    ensures told { Told (M.report m.old) (M.report m.new) result }
-    ensures trust { Trusts (M.tells m.old) (M.tells m.new) (M.honest m.old) (M.honest m.new) }
-    ensures ledger { M.tells m.new → OnlyWrites (M.ledger m.old) (M.ledger m.new) }
-    ensures fault { IfErr result IsEndOfVolume }
+    ensures speaks { Speaks M.Machine m.old m.new result }
     ensures status { IfOk result (IsStatusFrom Word.Upgrade) }
-    ensures since { M.honest m.new → Since M.Machine m.old m.new }
-    ensures later { M.honest m.new → M.moment m.old ≤ M.moment m.new }
     ensures answers { M.honest m.new → AnswersAlone Word.Upgrade (V.state v) (M.now m.old) (M.now m.new) result }
     ensures does { M.honest m.new → (k : Known) → (volume_of k).unforced ≡ 0 → k.opened ≡ none_open → Stands V.state V.holds v k (M.now m.old) → OnDisk M.Machine k (forced_of k) m.old → IsAlone M.Machine Word.Upgrade k m.old m.new result }
 {
     let Ok(text) = T::text(alloc, &Reply::Upgraded) else {
-        return Err(End::Fault(Fault::Memory));
+        return Err(Halt::Fault(Fault::Memory));
     };
     let mut v = v;
     match upgrade(&mut v, m) {
@@ -92,6 +83,6 @@ pub(crate) fn upgrade_alone<M: Machine, V: Files<M> + Drop, T: Says>(
                 close_as::<M, V, T>(alloc, v, m, &answer)
             }
         }
-        Err(fault) => Err(End::Fault(fault)),
+        Err(fault) => Err(Halt::Fault(fault)),
     }
 }

@@ -15,7 +15,7 @@ ghost use Rattle.volume_turns.specs.Whole.{RunsOut};
 
 use crate::line::end_with;
 use crate::once::{alone, fault_of};
-use crate::turns::{End, Says};
+use crate::turns::{Halt, Says};
 use fsd_texts::Command;
 use sector_disk::Machine;
 use std::alloc::Global;
@@ -42,8 +42,8 @@ pub(crate) fn one_on<M: Machine, V: Files<M> + Drop, T: Says>(
 {
     match alone::<M, V, T>(alloc, v, m, c) {
         Ok(status) => status,
-        Err(End::Fault(why)) => end_with(m, why),
-        Err(End::Output) => 6,
+        Err(Halt::Fault(why)) => end_with(m, why),
+        Err(Halt::Output) => 6,
     }
 }
 

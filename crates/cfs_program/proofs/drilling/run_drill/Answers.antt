@@ -2,7 +2,7 @@ use Rattle.std.proofs.Common.{◌≡◌, ◌+◌, ◌++◌, ℕ, suc, Bool, true
 use Rattle.std.specs.Prelude.{is_err}
 use Rattle.fsd_texts.specs.declared.line.Line.TheVariants as Says
 use Rattle.fsd_texts.specs.Text.{text}
-use Rattle.cfs_program.specs.Drill.{IsListOf, SaysLives, Speaks}
+use Rattle.cfs_program.specs.Drill.{IsListOf, SaysLives, SpeaksBytes}
 use Rattle.cfs_program.proofs.DrillLaws.{drills_all, drills_starved, drills_unsaid, says_next}
 use Rattle.cfs_program.proofs.drilling.run_drill.Goals as goal
 
@@ -30,7 +30,7 @@ returns-then-is_err g c =
     let next : lives + 1 ≡ suc lives = omega arith in
     let is : IsListOf (suc lives) list = subst (λ (x : List ℕ). IsListOf (suc lives) x) (sym c.said.ensures) (subst (λ (n : ℕ). IsListOf n c.in-Ok.played.said.items) next c.in-Ok.ensures) in
     drills_unsaid M lives list c.args.m.now b d c.loop-life-test.true c.loop-life.invariant is
-    (subst (λ (n : ℕ). Speaks M (text (Says.Life n) ++ list) true b d) next (subst (λ (x : Bool). Speaks M (text (Says.Life (lives + 1)) ++ list) x b d) failed c.say_life.ensures))
+    (subst (λ (n : ℕ). SpeaksBytes M (text (Says.Life n) ++ list) true b d) next (subst (λ (x : Bool). SpeaksBytes M (text (Says.Life (lives + 1)) ++ list) x b d) failed c.say_life.ensures))
 
 pub loop-life-preserved : goal.loop-life-preserved
 loop-life-preserved g c =
@@ -44,4 +44,4 @@ loop-life-preserved g c =
     let next : lives + 1 ≡ suc lives = omega arith in
     let is : IsListOf (suc lives) list = subst (λ (x : List ℕ). IsListOf (suc lives) x) (sym c.said.ensures) (subst (λ (n : ℕ). IsListOf n c.in-Ok.played.said.items) next c.in-Ok.ensures) in
     subst (λ (n : ℕ). SaysLives M n a d) (sym next) (says_next M lives list a b d c.loop-life.invariant is
-    (subst (λ (n : ℕ). Speaks M (text (Says.Life n) ++ list) false b d) next (subst (λ (x : Bool). Speaks M (text (Says.Life (lives + 1)) ++ list) x b d) said c.say_life.ensures)))
+    (subst (λ (n : ℕ). SpeaksBytes M (text (Says.Life n) ++ list) false b d) next (subst (λ (x : Bool). SpeaksBytes M (text (Says.Life (lives + 1)) ++ list) x b d) said c.say_life.ensures)))

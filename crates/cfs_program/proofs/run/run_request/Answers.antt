@@ -5,8 +5,8 @@ use Rattle.cfs_program.proofs.DrillLaws.{ran_drill}
 use Rattle.cfs_program.proofs.ProgramLaws.{ran_format, ran_line}
 use Rattle.cfs_program.proofs.run.run_request.Goals as goal
 
-pub returns-in-Outside : goal.returns-in-Outside
-returns-in-Outside g c = rw c.in-Outside.is (c.run_outside.ensures c.args.path.now)
+pub returns-in-NoCommand : goal.returns-in-NoCommand
+returns-in-NoCommand g c = rw c.in-NoCommand.is (c.say_usage.ensures c.args.path.now)
 
 pub returns-in-BadField : goal.returns-in-BadField
 returns-in-BadField g c =

@@ -3,7 +3,7 @@ use Rattle.clap.specs.Matches.{found_of, subcommand_name_of}
 use Rattle.clap.specs.Walk.{rows_of}
 use Rattle.clap.specs.Simple.{subcommand_rows_of}
 use Rattle.clap.specs.declared.parser.matches.ArgMatches.TheViews.{out-ArgMatches}
-use Rattle.fsd_runs.specs.Words.{entered, image_in}
+use Rattle.fsd_runs.specs.Words.{entered_request, image_word}
 use Rattle.command_words.proofs.WordLaws.{rows_by_name}
 use Rattle.command_words.proofs.words.asked_by.Goals as goal
 
@@ -14,6 +14,6 @@ returns-in-Some c =
     let both : Some (c.in-Some.name.now, rows_of (found_of c.in-Some.fields.now)) ≡ subcommand_rows_of c.args.matches.now =
     rows_by_name (out-ArgMatches c.args.matches.now).subcommand _ _ name_is rows_are in
     record {
-      request = c.request_by.ensures ∙ ap entered both;
-      image = c.field.ensures ∙ ap image_in both;
+      request = c.request_by.ensures ∙ ap entered_request both;
+      image = c.field.ensures ∙ ap image_word both;
     }

@@ -12,7 +12,7 @@ use Rattle.fsd_sound.specs.Writes.{force_writes}
 use Rattle.client_desk.specs.Clients.{as_idle, begin_steps}
 use Rattle.volume_turns.specs.Seats.{DoesIn, known_of}
 use Rattle.volume_turns.proofs.CallEndLaws.{begin_does}
-use Rattle.volume_turns.proofs.CallKeepLaws.{begin_goes, ended_up, keeps_continues, reserves_continues, reserves_goes, still_up}
+use Rattle.volume_turns.proofs.CallKeepLaws.{begin_goes, keeps_continues, reserves_continues, reserves_goes, seat_ended, seat_still}
 use Rattle.volume_turns.proofs.CallLaws.{answers_does, writes_stay, met_none}
 use Rattle.volume_turns.proofs.CallOrderLaws.{begin_declines, begin_fits, begin_spares, begin_through, declined_answers, declined_device, spared_by, test_client}
 use Rattle.volume_turns.proofs.ToldLaws.{told_of}
@@ -20,19 +20,11 @@ use Rattle.volume_turns.proofs.calls.begin.Goals as goal
 
 -- ---- it is begun
 
-pub returns-in-Ok-clause-layout : goal.returns-in-Ok-clause-layout
-returns-in-Ok-clause-layout g c =
+pub returns-in-Ok-clause-keeps : goal.returns-in-Ok-clause-keeps
+returns-in-Ok-clause-keeps g c =
     let V = g.V.Files in
     let kept = c.in-Ok.ensures.state.kept in
-    (reserves_continues (sectors_for c.args.length) (V.state c.args.v.now) (V.state c.begin.new.v) kept.creation.draft kept.volume).layout
-
-pub returns-in-Ok-clause-up : goal.returns-in-Ok-clause-up
-returns-in-Ok-clause-up g c =
-    let V = g.V.Files in
-    let s = V.state c.args.v.now in
-    let t = V.state c.begin.new.v in
-    let kept = c.in-Ok.ensures.state.kept in
-    still_up s t (reserves_continues (sectors_for c.args.length) s t kept.creation.draft kept.volume) c.requires.up
+    seat_still (reserves_continues (sectors_for c.args.length) (V.state c.args.v.now) (V.state c.begin.new.v) kept.creation.draft kept.volume) c.requires.up c.in-Ok.ensures.state.desk
 
 pub returns-in-Ok-clause-disk : goal.returns-in-Ok-clause-disk
 returns-in-Ok-clause-disk g c =
@@ -62,18 +54,11 @@ returns-in-Ok-clause-done g c h k sits =
 
 -- ---- it is refused
 
-pub returns-in-Err-clause-layout : goal.returns-in-Err-clause-layout
-returns-in-Err-clause-layout g c =
+pub returns-in-Err-clause-keeps : goal.returns-in-Err-clause-keeps
+returns-in-Err-clause-keeps g c =
     let V = g.V.Files in
     let s = V.state c.args.v.now in
-    (keeps_continues (begin_steps s c.args.desk.now c.args.client c.args.length) tt c.in-Err.why s (V.state c.begin.new.v) c.in-Err.ensures.state.kept.volume).layout
-
-pub returns-in-Err-clause-up : goal.returns-in-Err-clause-up
-returns-in-Err-clause-up g c =
-    let V = g.V.Files in
-    let s = V.state c.args.v.now in
-    let t = V.state c.begin.new.v in
-    ended_up s t c.in-Err.why (keeps_continues (begin_steps s c.args.desk.now c.args.client c.args.length) tt c.in-Err.why s t c.in-Err.ensures.state.kept.volume) c.requires.up c.ended_by.result c.ended_by.ensures.is
+    seat_ended c.in-Err.why (keeps_continues (begin_steps s c.args.desk.now c.args.client c.args.length) tt c.in-Err.why s (V.state c.begin.new.v) c.in-Err.ensures.state.kept.volume) c.requires.up c.ended_by.ensures.is c.in-Err.ensures.state.desk
 
 pub returns-in-Err-clause-disk : goal.returns-in-Err-clause-disk
 returns-in-Err-clause-disk g c =

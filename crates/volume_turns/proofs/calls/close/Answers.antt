@@ -15,7 +15,7 @@ use Rattle.client_desk.specs.Clients.{as_writing, client_at, in_first}
 use Rattle.volume_turns.specs.Calls.{sectors_made}
 use Rattle.volume_turns.specs.Seats.{DoesIn, known_of}
 use Rattle.volume_turns.proofs.CallEndLaws.{close_does}
-use Rattle.volume_turns.proofs.CallKeepLaws.{close_goes}
+use Rattle.volume_turns.proofs.CallKeepLaws.{close_goes, seat_ended, seat_still}
 use Rattle.volume_turns.proofs.CallLaws.{AnswersSo, answers_does, writes_stay}
 use Rattle.volume_turns.proofs.CallOrderLaws.{close_declines, close_through, declined_answers, declined_device, test_client}
 use Rattle.volume_turns.proofs.CallReadLaws.{changes_are, made_is}
@@ -24,6 +24,9 @@ use Rattle.volume_turns.proofs.ToldLaws.{told_of}
 use Rattle.volume_turns.proofs.calls.close.Goals as goal
 
 -- ---- it is made
+
+pub returns-in-Ok-clause-keeps : goal.returns-in-Ok-clause-keeps
+returns-in-Ok-clause-keeps g c = seat_still c.in-Ok.ensures.state.goes c.requires.up c.in-Ok.ensures.state.desk
 
 pub returns-in-Ok-clause-disk : goal.returns-in-Ok-clause-disk
 returns-in-Ok-clause-disk g c =
@@ -62,6 +65,9 @@ returns-in-Ok-clause-done g c h k sits =
     (λ may. close_through (V.state c.args.v.now) desk client c.in-Ok.ensures.order) e.answers)
 
 -- ---- it is refused
+
+pub returns-in-Err-clause-keeps : goal.returns-in-Err-clause-keeps
+returns-in-Err-clause-keeps g c = seat_ended c.in-Err.why c.in-Err.ensures.state.goes c.requires.up c.ended_by.ensures.is c.in-Err.ensures.state.desk
 
 pub returns-in-Err-clause-disk : goal.returns-in-Err-clause-disk
 returns-in-Err-clause-disk g c =

@@ -10,24 +10,17 @@ use Rattle.client_desk.specs.Clients.{as_writing, client_at, drop_steps}
 use Rattle.volume_turns.specs.Calls.{AnswersIn}
 use Rattle.volume_turns.specs.Seats.{DoesIn, StaysIn, known_of}
 use Rattle.volume_turns.specs.Steps.{device_by}
-use Rattle.volume_turns.proofs.CallKeepLaws.{gives_continues, gives_goes, still_up}
+use Rattle.volume_turns.proofs.CallKeepLaws.{gives_continues, gives_goes, seat_same, seat_still}
 use Rattle.volume_turns.proofs.CallLaws.{answers_does, met_none, refused_so, says_refused, none_stays}
 use Rattle.volume_turns.proofs.CallOrderLaws.{drop_refuses, drop_spares, idle_said, spared_by, test_client}
 use Rattle.volume_turns.proofs.calls.drop_draft.Goals as goal
 
 -- ---- it is given up
 
-pub returns-in-Ok-clause-layout : goal.returns-in-Ok-clause-layout
-returns-in-Ok-clause-layout g c =
+pub returns-in-Ok-clause-keeps : goal.returns-in-Ok-clause-keeps
+returns-in-Ok-clause-keeps g c =
     let V = g.V.Files in
-    (gives_continues (client_at c.args.desk.now (c.args.client - 1)) (V.state c.args.v.now) (V.state c.drop_draft.new.v) c.in-Ok.ensures.kept.volume).layout
-
-pub returns-in-Ok-clause-up : goal.returns-in-Ok-clause-up
-returns-in-Ok-clause-up g c =
-    let V = g.V.Files in
-    let s = V.state c.args.v.now in
-    let t = V.state c.drop_draft.new.v in
-    still_up s t (gives_continues (client_at c.args.desk.now (c.args.client - 1)) s t c.in-Ok.ensures.kept.volume) c.requires.up
+    seat_still (gives_continues (client_at c.args.desk.now (c.args.client - 1)) (V.state c.args.v.now) (V.state c.drop_draft.new.v) c.in-Ok.ensures.kept.volume) c.requires.up c.in-Ok.ensures.desk
 
 pub returns-in-Ok-clause-disk : goal.returns-in-Ok-clause-disk
 returns-in-Ok-clause-disk g c =
@@ -54,6 +47,11 @@ returns-in-Ok-clause-done g c h k sits =
     (λ s. drop_outcome s c.args.client) (record { met = met_none; held = [] }) refl tt (Said.Dropped c.args.client) [] refl (λ may. cc may) (c.in-Ok.ensures.done (known_of k) k.clients now sits)
 
 -- ---- it is refused
+
+pub returns-in-Err-clause-keeps : goal.returns-in-Err-clause-keeps
+returns-in-Err-clause-keeps g c =
+    let V = g.V.Files in
+    seat_same (ap (λ (x : g.row.V.Denot). V.state x) c.in-Err.ensures.kept.0) c.requires.up c.in-Err.ensures.desk
 
 pub returns-in-Err-clause-disk : goal.returns-in-Err-clause-disk
 returns-in-Err-clause-disk g c =

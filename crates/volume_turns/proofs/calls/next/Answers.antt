@@ -7,13 +7,14 @@ use Rattle.fsd_files.specs.declared.reply.Reply.TheVariants as Said
 use Rattle.fsd_texts.specs.declared.call.Call.TheVariants as Calls
 use Rattle.scrub.specs.Telling.{AreOfPage}
 use Rattle.volume_contract.specs.Ends.{device_of}
-use Rattle.client_desk.specs.Clients.{as_reading, left_at, place_of}
+use Rattle.client_desk.specs.Clients.{as_reading, left_at, client_place}
 use Rattle.client_desk.specs.Ends.{EndsNext}
 use Rattle.volume_turns.proofs.AnsweringLaws.{data_inside}
 use Rattle.volume_turns.specs.Commands.{HasDamaged}
 use Rattle.volume_turns.specs.Calls.{room_for}
 use Rattle.volume_turns.specs.Seats.{known_of}
 use Rattle.volume_turns.proofs.CallEndLaws.{given_does, next_does}
+use Rattle.volume_turns.proofs.CallKeepLaws.{seat_same}
 use Rattle.volume_turns.proofs.CallLaws.{AnswersSo, none_stays, reads_stay}
 use Rattle.volume_turns.proofs.CallOrderLaws.{test_client}
 use Rattle.volume_turns.proofs.CallReadLaws.{next_device, next_refused, next_replies, next_told, next_unworn, room_within}
@@ -21,6 +22,9 @@ use Rattle.volume_turns.proofs.NumberLaws.{goes_none}
 use Rattle.volume_turns.proofs.calls.next.Goals as goal
 
 -- ---- it has them
+
+pub returns-in-Ok-next-clause-keeps : goal.returns-in-Ok-next-clause-keeps
+returns-in-Ok-next-clause-keeps g c = seat_same c.in-Ok-next.ensures.state.kept.volume c.requires.up c.in-Ok-next.ensures.state.desk
 
 pub returns-in-Ok-next-clause-disk : goal.returns-in-Ok-next-clause-disk
 returns-in-Ok-next-clause-disk g c =
@@ -56,9 +60,9 @@ returns-in-Ok-next-clause-done g c h k sits =
     let len = c.args.len in
     let buf = c.next.new.buf in
     let items = take_at buf (drop (length buf) c.in-Ok.bytes.items) c.in-Ok.bytes.len (omega (arith, c.in-Ok.ensures.len, c.as_mut_slice.ensures.len, c.next.auto.buf)) in
-    let room : c.room_for-room.result ≡ room_for (left_at desk (place_of client)) len = c.room_for-room.ensures ∙ ap (λ (o : Option ℕ). room_for o len) c.left.ensures in
-    let asked : length c.as_mut_slice.result.now ≡ room_for (left_at desk (place_of client)) len = omega (arith, room, c.in-Ok.ensures.len, c.as_mut_slice.ensures.len) in
-    let full : length buf ≡ room_for (left_at desk (place_of client)) len = omega (arith, asked, c.next.auto.buf) in
+    let room : c.room_for-room.result ≡ room_for (left_at desk (client_place client)) len = c.room_for-room.ensures ∙ ap (λ (o : Option ℕ). room_for o len) c.left.ensures in
+    let asked : length c.as_mut_slice.result.now ≡ room_for (left_at desk (client_place client)) len = omega (arith, room, c.in-Ok.ensures.len, c.as_mut_slice.ensures.len) in
+    let full : length buf ≡ room_for (left_at desk (client_place client)) len = omega (arith, asked, c.next.auto.buf) in
     let gives = c.in-Ok-next.ensures.done h (known_of k) k.clients sits in
     rw c.from.ensures
     (subst (λ (b : List ℕ). AnswersSo V.state V.holds client (Calls.Next len) v c.next.new.v desk c.next.new.self k (M.now c.args.m.now) (M.now c.next.new.m) c.in-Ok-next.ensures.state.desk (Said.Given client b)) (sym items)
@@ -68,6 +72,9 @@ returns-in-Ok-next-clause-done g c h k sits =
 
 -- ---- memory is refused
 
+pub returns-in_default-clause-keeps : goal.returns-in_default-clause-keeps
+returns-in_default-clause-keeps g c = seat_same refl c.requires.up c.requires.desk
+
 pub returns-in_default-clause-disk : goal.returns-in_default-clause-disk
 returns-in_default-clause-disk g c =
     let V = g.V.Files in
@@ -76,6 +83,9 @@ returns-in_default-clause-disk g c =
     none_stays V.state V.holds M at c.args.v.now c.args.desk.now (λ left h is. g.met.M.Machine.only_now at left h is)
 
 -- ---- it is refused
+
+pub returns-in-Err-clause-keeps : goal.returns-in-Err-clause-keeps
+returns-in-Err-clause-keeps g c = seat_same c.in-Err.ensures.state.kept.volume c.requires.up c.in-Err.ensures.state.desk
 
 pub returns-in-Err-clause-disk : goal.returns-in-Err-clause-disk
 returns-in-Err-clause-disk g c =
@@ -118,8 +128,8 @@ returns-in-Err-clause-done g c h k sits =
     let desk = c.args.desk.now in
     let client = c.args.client in
     let len = c.args.len in
-    let room : c.room_for-room.result ≡ room_for (left_at desk (place_of client)) len = c.room_for-room.ensures ∙ ap (λ (o : Option ℕ). room_for o len) c.left.ensures in
-    let asked : length c.as_mut_slice.result.now ≡ room_for (left_at desk (place_of client)) len = omega (arith, room, c.in-Ok.ensures.len, c.as_mut_slice.ensures.len) in
+    let room : c.room_for-room.result ≡ room_for (left_at desk (client_place client)) len = c.room_for-room.ensures ∙ ap (λ (o : Option ℕ). room_for o len) c.left.ensures in
+    let asked : length c.as_mut_slice.result.now ≡ room_for (left_at desk (client_place client)) len = omega (arith, room, c.in-Ok.ensures.len, c.as_mut_slice.ensures.len) in
     let refuses = next_refused s c.requires.up c.args.desk.now c.next.new.self c.args.client c.in-Err.why c.key.result c.next_ended_by.result c.in-Err.ensures.order c.in-Err.ensures.state.kept.desk c.key.ensures c.next_ended_by.ensures.is in
     let failed : Result ℕ Refusal = Err c.in-Err.why in
     next_does V.state V.holds client v c.next.new.v desk c.next.new.self k (M.now c.args.m.now) (M.now c.next.new.m) c.in-Err.ensures.state.desk c.in-Err.why (sits.each (client - 1)) len c.as_mut_slice.result.now c.next.new.buf c.next_ended_by.result refuses

@@ -13,7 +13,7 @@ use Rattle.client_desk.specs.Clients.{as_idle}
 use Rattle.volume_turns.specs.Reasons.{BecauseOpened}
 use Rattle.volume_turns.specs.Seats.{DoesIn, known_of}
 use Rattle.volume_turns.proofs.CallEndLaws.{open_does}
-use Rattle.volume_turns.proofs.CallKeepLaws.{holds_continues, holds_goes, still_up}
+use Rattle.volume_turns.proofs.CallKeepLaws.{holds_continues, holds_goes, seat_same, seat_still}
 use Rattle.volume_turns.proofs.CallLaws.{answers_does, met_none, reads_stay}
 use Rattle.volume_turns.proofs.CallOrderLaws.{declined_answers, declined_device, look_up_more, open_declines, open_unworn, test_client}
 use Rattle.volume_turns.proofs.NumberLaws.{goes_none}
@@ -23,19 +23,11 @@ use Rattle.volume_turns.proofs.calls.open.Goals as goal
 
 -- ---- it is open
 
-pub returns-in-Ok-clause-layout : goal.returns-in-Ok-clause-layout
-returns-in-Ok-clause-layout g c =
+pub returns-in-Ok-clause-keeps : goal.returns-in-Ok-clause-keeps
+returns-in-Ok-clause-keeps g c =
     let V = g.V.Files in
     let kept = c.in-Ok.ensures.state.kept in
-    (holds_continues kept.reader.held (V.state c.args.v.now) (V.state c.open_key.new.v) kept.volume).layout
-
-pub returns-in-Ok-clause-up : goal.returns-in-Ok-clause-up
-returns-in-Ok-clause-up g c =
-    let V = g.V.Files in
-    let s = V.state c.args.v.now in
-    let t = V.state c.open_key.new.v in
-    let kept = c.in-Ok.ensures.state.kept in
-    still_up s t (holds_continues kept.reader.held s t kept.volume) c.requires.up
+    seat_still (holds_continues kept.reader.held (V.state c.args.v.now) (V.state c.open_key.new.v) kept.volume) c.requires.up c.in-Ok.ensures.state.desk
 
 pub returns-in-Ok-clause-disk : goal.returns-in-Ok-clause-disk
 returns-in-Ok-clause-disk g c =
@@ -71,6 +63,9 @@ returns-in-Ok-clause-done g c h k sits =
     (λ s. open_outcome e.held s c.args.client c.args.key.now) (record { met = met_none; held = e.held }) refl tt (Said.Opened c.args.client c.in-Ok.length) [] refl (λ may. cc may) e.answers
 
 -- ---- it is refused
+
+pub returns-in-Err-clause-keeps : goal.returns-in-Err-clause-keeps
+returns-in-Err-clause-keeps g c = seat_same c.in-Err.ensures.state.kept.volume c.requires.up c.in-Err.ensures.state.desk
 
 pub returns-in-Err-clause-disk : goal.returns-in-Err-clause-disk
 returns-in-Err-clause-disk g c =

@@ -10,13 +10,16 @@ use Rattle.volume_contract.specs.Ends.{device_of}
 use Rattle.client_desk.specs.Clients.{as_writing, client_at, in_data, piece_steps}
 use Rattle.volume_turns.specs.Seats.{DoesIn, known_of}
 use Rattle.volume_turns.proofs.CallEndLaws.{piece_does}
-use Rattle.volume_turns.proofs.CallKeepLaws.{piece_continues, piece_goes, still_ended_up}
+use Rattle.volume_turns.proofs.CallKeepLaws.{piece_continues, piece_goes, seat_same, seat_still}
 use Rattle.volume_turns.proofs.CallLaws.{answers_does, writes_of_stay, met_none}
 use Rattle.volume_turns.proofs.CallOrderLaws.{declined_answers, declined_device, declined_told, device_more, piece_declines, piece_spares, spared_by, test_client}
 use Rattle.volume_turns.proofs.NumberLaws.{goes_none}
 use Rattle.volume_turns.proofs.calls.piece.Goals as goal
 
 -- ---- it has them
+
+pub returns-in-Ok-clause-keeps : goal.returns-in-Ok-clause-keeps
+returns-in-Ok-clause-keeps g c = seat_same c.in-Ok.ensures.state.kept.volume c.requires.up c.in-Ok.ensures.state.desk
 
 pub returns-in-Ok-clause-disk : goal.returns-in-Ok-clause-disk
 returns-in-Ok-clause-disk g c =
@@ -43,17 +46,10 @@ returns-in-Ok-clause-done g c h k sits =
 
 -- ---- it is refused
 
-pub returns-in-Err-clause-layout : goal.returns-in-Err-clause-layout
-returns-in-Err-clause-layout g c =
+pub returns-in-Err-clause-keeps : goal.returns-in-Err-clause-keeps
+returns-in-Err-clause-keeps g c =
     let V = g.V.Files in
-    (piece_continues c.in-Err.why (c.args.client - 1) c.args.desk.now c.piece.new.self (V.state c.args.v.now) (V.state c.piece.new.v) c.in-Err.ensures.state.kept).layout
-
-pub returns-in-Err-clause-up : goal.returns-in-Err-clause-up
-returns-in-Err-clause-up g c =
-    let V = g.V.Files in
-    let s = V.state c.args.v.now in
-    let t = V.state c.piece.new.v in
-    still_ended_up s t (piece_continues c.in-Err.why (c.args.client - 1) c.args.desk.now c.piece.new.self s t c.in-Err.ensures.state.kept) c.requires.up c.ended_by.result
+    seat_still (piece_continues c.in-Err.why (c.args.client - 1) c.args.desk.now c.piece.new.self (V.state c.args.v.now) (V.state c.piece.new.v) c.in-Err.ensures.state.kept) c.requires.up c.in-Err.ensures.state.desk
 
 pub returns-in-Err-clause-disk : goal.returns-in-Err-clause-disk
 returns-in-Err-clause-disk g c =

@@ -1,9 +1,12 @@
-use Rattle.std.proofs.Common.{◌≡◌, ◌∙◌, ap, subst, sym}
+use Rattle.std.proofs.Common.{◌≡◌, ◌∙◌, refl, ap, subst, sym}
 use Rattle.std.specs.Prelude.{Ok, Err}
 use Rattle.fsd_texts.specs.declared.fault.Fault.TheVariants as Ends
 use Rattle.sector_disk.specs.Image.{AreShort, Windows}
 use Rattle.fsd_texts.specs.declared.fault.Fault.{Fault}
-use Rattle.volume_turns.specs.Steps.{IsOfCall, IsToldOn}
+use Rattle.fsd_texts.specs.declared.counts.Counts.{Counts}
+use Rattle.volume_turns.specs.declared.turns.Halt.TheVariants.{Fault as Stopped}
+use Rattle.volume_turns.specs.Steps.{IsToldOn}
+use Rattle.volume_turns.specs.Turns.{Speaks}
 use Rattle.volume_turns.specs.Commands.{MayLose}
 use Rattle.sector_disk.proofs.CallLaws.{writes_more}
 use Rattle.client_desk.specs.Clients.{no_desk}
@@ -12,6 +15,7 @@ use Rattle.volume_turns.proofs.SeatLaws.{desk_holds, desk_on, plain_does, seat_w
 use Rattle.volume_turns.proofs.NumberLaws.{worn_may}
 use Rattle.volume_turns.proofs.SayLaws.{timed_by}
 use Rattle.volume_turns.proofs.CountLaws.{counted_fault, counted_none, counted_step}
+use Rattle.volume_turns.proofs.SpeaksLaws.{speaks_behind, speaks_failed, speaks_none, speaks_still}
 use Rattle.volume_turns.proofs.generate.do_counted.Goals as goal
 
 pub returns-in-Ok-count-clause-steps : goal.returns-in-Ok-count-clause-steps
@@ -56,60 +60,60 @@ returns-clause-steps g c h k f from stood aged held =
     let at = seat_wears V.state V.holds g.met.V.Files.wears (v, no_desk) k from (M.now a) (subst (λ (w : Windows). AreShort w) aged.windows (short a first)) aged stood in
     counted_fault V.state V.holds M g.met.V.Files.wears short (timed_by M g.met.M.Machine.dated g.met.M.Machine.history g.met.M.Machine.counts_now g.met.M.Machine.only_now) c.args.c.now v c.answer.new.v a c.answer.new.m k f from stood aged at _ disk c.in-Err.ensures.layout h held c.in-Err.fault (plain_does V.state V.holds c.args.c.now v c.answer.new.v no_desk k (M.now a) (M.now c.answer.new.m) at (desk_holds V.state V.holds v c.answer.new.v no_desk k (M.now a) (M.now c.answer.new.m) at (desk_on (V.state v) (V.state c.answer.new.v) no_desk c.answer.ensures.layout c.answer.ensures.opened c.requires.idle)) (Err c.in-Err.fault) (c.in-Err.ensures.done h (known_of k) at.stands))
 
-pub returns-in-Ok-clause-fault : goal.returns-in-Ok-clause-fault
-returns-in-Ok-clause-fault g c = subst IsOfCall (sym c.in-Err-count.ensures.err) tt
+-- ---- what it asks for and keeps
+
+pub returns-in-Ok-count-clause-speaks : goal.returns-in-Ok-count-clause-speaks
+returns-in-Ok-count-clause-speaks g c = speaks_behind c.in-Ok.ensures.disk (speaks_still c.answer.new.m c.in-Ok-count.tally)
+
+pub returns-in-Ok-clause-speaks : goal.returns-in-Ok-clause-speaks
+returns-in-Ok-clause-speaks g c =
+    subst (λ (w : Fault). Speaks {T = Counts} g.M.Machine c.args.m.now c.answer.new.m (Err (Stopped w))) (sym c.in-Err-count.ensures.err)
+    (speaks_behind c.in-Ok.ensures.disk (speaks_none c.answer.new.m))
+
+pub returns-clause-speaks : goal.returns-clause-speaks
+returns-clause-speaks g c = speaks_failed c.in-Err.fault refl c.in-Err.ensures.fault c.in-Err.ensures.disk
+
+pub returns-in-Ok-count-clause-keeps : goal.returns-in-Ok-count-clause-keeps
+returns-in-Ok-count-clause-keeps g c = record { layout = c.answer.ensures.layout; up = c.in-Ok.ensures.up; desk = desk_on (g.V.Files.state c.args.v.now) (g.V.Files.state c.answer.new.v) no_desk c.answer.ensures.layout c.answer.ensures.opened c.requires.idle }
+
+pub returns-in-Ok-clause-keeps : goal.returns-in-Ok-clause-keeps
+returns-in-Ok-clause-keeps g c = record { layout = c.answer.ensures.layout; up = tt; desk = desk_on (g.V.Files.state c.args.v.now) (g.V.Files.state c.answer.new.v) no_desk c.answer.ensures.layout c.answer.ensures.opened c.requires.idle }
+
+pub returns-clause-keeps : goal.returns-clause-keeps
+returns-clause-keeps g c = record { layout = c.answer.ensures.layout; up = tt; desk = desk_on (g.V.Files.state c.args.v.now) (g.V.Files.state c.answer.new.v) no_desk c.answer.ensures.layout c.answer.ensures.opened c.requires.idle }
 
 -- ---- nothing is said
 
-pub returns-in-Ok-count-clause-quiet : goal.returns-in-Ok-count-clause-quiet
-returns-in-Ok-count-clause-quiet g c h = c.in-Ok.ensures.disk.quiet h
+pub returns-in-Ok-count-clause-says : goal.returns-in-Ok-count-clause-says
+returns-in-Ok-count-clause-says g c = record { quiet = c.in-Ok.ensures.disk.quiet; image = tt }
 
-pub returns-in-Ok-clause-quiet : goal.returns-in-Ok-clause-quiet
-returns-in-Ok-clause-quiet g c h = c.in-Ok.ensures.disk.quiet h
+pub returns-in-Ok-clause-says : goal.returns-in-Ok-clause-says
+returns-in-Ok-clause-says g c = record {
+  quiet = c.in-Ok.ensures.disk.quiet;
+  image = λ h. subst (λ (w : Fault). IsToldOn (MayLose c.args.c.now) (g.V.Files.state c.args.v.now).layout (g.M.Machine.now c.answer.new.m).image w) (sym c.in-Err-count.ensures.err) tt;
+}
 
-pub returns-clause-quiet : goal.returns-clause-quiet
-returns-clause-quiet g c h = c.in-Err.ensures.disk.quiet h
-
--- ---- what is told of the image
-
-pub returns-in-Ok-clause-image : goal.returns-in-Ok-clause-image
-returns-in-Ok-clause-image g c h = subst (λ (w : Fault). IsToldOn (MayLose c.args.c.now) (g.V.Files.state c.args.v.now).layout (g.M.Machine.now c.answer.new.m).image w) (sym c.in-Err-count.ensures.err) tt
-
-pub returns-clause-image : goal.returns-clause-image
-returns-clause-image g c h = (c.in-Err.ensures.answers h).told
+pub returns-clause-says : goal.returns-clause-says
+returns-clause-says g c = record { quiet = c.in-Err.ensures.disk.quiet; image = λ h. (c.in-Err.ensures.answers h).told }
 
 -- ---- the numbers of a mount
 
-pub returns-in-Ok-count-clause-grows : goal.returns-in-Ok-count-clause-grows
-returns-in-Ok-count-clause-grows g c h = (c.answer.ensures.answers h).numbers
+pub returns-in-Ok-count-clause-numbers : goal.returns-in-Ok-count-clause-numbers
+returns-in-Ok-count-clause-numbers g c = record { grows = λ h. (c.answer.ensures.answers h).numbers; used = λ is h. absurd (cc is) }
 
-pub returns-in-Ok-clause-grows : goal.returns-in-Ok-clause-grows
-returns-in-Ok-clause-grows g c h = (c.answer.ensures.answers h).numbers
+pub returns-in-Ok-clause-numbers : goal.returns-in-Ok-clause-numbers
+returns-in-Ok-clause-numbers g c = record {
+  grows = λ h. (c.answer.ensures.answers h).numbers;
+  used = λ is h.
+      let e : c.in-Err-count.fault ≡ Ends.WornOut = cc is in
+      let no : Ends.WornOut ≡ Ends.Memory = sym e ∙ c.in-Err-count.ensures.err in
+      absurd (cc no);
+}
 
-pub returns-clause-grows : goal.returns-clause-grows
-returns-clause-grows g c h = (c.answer.ensures.answers h).numbers
-
-pub returns-in-Ok-count-clause-used : goal.returns-in-Ok-count-clause-used
-returns-in-Ok-count-clause-used g c is h = absurd (cc is)
-
-pub returns-in-Ok-clause-used : goal.returns-in-Ok-clause-used
-returns-in-Ok-clause-used g c is h =
-    let e : c.in-Err-count.fault ≡ Ends.WornOut = cc is in
-    let no : Ends.WornOut ≡ Ends.Memory = sym e ∙ c.in-Err-count.ensures.err in
-    absurd (cc no)
-
-pub returns-clause-used : goal.returns-clause-used
-returns-clause-used g c is h =
-    let e : c.in-Err.fault ≡ Ends.WornOut = cc is in
-    worn_may (g.V.Files.state c.args.v.now) ((c.in-Err.ensures.answers h).worn (ap (λ (w : Fault). Err w) e))
-
--- ---- nobody has anything open
-
-pub returns-in-Ok-count-clause-idle : goal.returns-in-Ok-count-clause-idle
-returns-in-Ok-count-clause-idle g c = desk_on (g.V.Files.state c.args.v.now) (g.V.Files.state c.answer.new.v) no_desk c.answer.ensures.layout c.answer.ensures.opened c.requires.idle
-
-pub returns-in-Ok-clause-idle : goal.returns-in-Ok-clause-idle
-returns-in-Ok-clause-idle g c = desk_on (g.V.Files.state c.args.v.now) (g.V.Files.state c.answer.new.v) no_desk c.answer.ensures.layout c.answer.ensures.opened c.requires.idle
-
-pub returns-clause-idle : goal.returns-clause-idle
-returns-clause-idle g c = desk_on (g.V.Files.state c.args.v.now) (g.V.Files.state c.answer.new.v) no_desk c.answer.ensures.layout c.answer.ensures.opened c.requires.idle
+pub returns-clause-numbers : goal.returns-clause-numbers
+returns-clause-numbers g c = record {
+  grows = λ h. (c.answer.ensures.answers h).numbers;
+  used = λ is h.
+      let e : c.in-Err.fault ≡ Ends.WornOut = cc is in
+      worn_may (g.V.Files.state c.args.v.now) ((c.in-Err.ensures.answers h).worn (ap (λ (w : Fault). Err w) e));
+}

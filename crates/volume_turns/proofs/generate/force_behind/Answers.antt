@@ -1,19 +1,22 @@
-use Rattle.std.proofs.Common.{◌≡◌, ap}
-use Rattle.fsd_texts.specs.declared.fault.Fault.TheVariants as Ends
-use Rattle.volume_turns.specs.declared.turns.End.TheVariants.{Fault as Stopped}
-use Rattle.volume_turns.proofs.NumberLaws.{ended}
+use Rattle.volume_turns.proofs.SpeaksLaws.{forced_done, forced_ended, speaks_done, speaks_ended}
 use Rattle.volume_turns.proofs.generate.force_behind.Goals as goal
 
-pub returns-in-Err-clause-quiet : goal.returns-in-Err-clause-quiet
-returns-in-Err-clause-quiet g c h = c.in-Err.ensures.quiet h
+pub returns-in-Ok-clause-speaks : goal.returns-in-Ok-clause-speaks
+returns-in-Ok-clause-speaks g c = speaks_done _ c.args.tally c.in-Ok.ensures.speaks
 
-pub returns-in-Err-clause-image : goal.returns-in-Err-clause-image
-returns-in-Err-clause-image g c h = c.in-Err.ensures.image h
+pub returns-in-Err-clause-speaks : goal.returns-in-Err-clause-speaks
+returns-in-Err-clause-speaks g c = speaks_ended c.in-Err.end c.in-Err.ensures.speaks
 
 -- ---- the force is said
 
-pub returns-in-Err-clause-unworn : goal.returns-in-Err-clause-unworn
-returns-in-Err-clause-unworn g c is = let e : c.in-Err.end ≡ Stopped Ends.WornOut = cc is in c.in-Err.ensures.unworn (ap ended e)
+pub returns-in-Ok-clause-forces : goal.returns-in-Ok-clause-forces
+returns-in-Ok-clause-forces g c = forced_done _ c.args.tally c.in-Ok.ensures.forces
 
-pub returns-in-Ok-clause-says : goal.returns-in-Ok-clause-says
-returns-in-Ok-clause-says g c h = c.in-Ok.ensures.says h
+pub returns-in-Err-clause-forces : goal.returns-in-Err-clause-forces
+returns-in-Err-clause-forces g c = forced_ended c.in-Err.end c.in-Err.ensures.forces
+
+pub returns-in-Ok-clause-wants : goal.returns-in-Ok-clause-wants
+returns-in-Ok-clause-wants g c up = tt
+
+pub returns-in-Err-clause-wants : goal.returns-in-Err-clause-wants
+returns-in-Err-clause-wants g c = c.in-Err.ensures.wants

@@ -18,21 +18,21 @@ returns-in-Ok g c =
     let M = g.M.Machine in
     let e = c.in-Ok.ensures in
     let does = c.generate_on.ensures in
-    let x : RunsOver g.V.Files.state M c.args.sectors c.in-Ok.v c.args.m.now c.mount.new.m c.generate_on.new.m = record { disk = e.disk; fresh = e.opens.fresh; found = λ h. (e.tells h).found; rest = λ h. (e.heals h).rest; trust = does.trust } in
+    let x : RunsOver g.V.Files.state M c.args.sectors c.in-Ok.v c.args.m.now c.mount.new.m c.generate_on.new.m = record { disk = e.disk; fresh = e.opens.fresh; found = λ h. (e.tells h).found; rest = λ h. (e.heals h).rest; trust = does.ends.run.trust } in
     record {
       ends = record {
-        status = does.status;
+        status = does.ends.run.status;
         trust = over_trust x;
-        last = does.last;
+        last = does.ends.run.last;
       };
       takes = record {
-        ledger = λ t. over_writes x t (does.ledger t);
-        counts = over_counts x does.counts;
+        ledger = λ t. over_writes x t (does.takes.ledger t);
+        counts = over_counts x does.takes.counts;
       };
-      image = λ h. over_image x false AreOfPage (Some c.args.count) c.generate_on.result h (λ three. does.says three h) (λ nine. new_may c.args.count (g.V.Files.state c.in-Ok.v) e.opens.fresh (does.spent nine h));
+      image = λ h. over_image x false AreOfPage (Some c.args.count) c.generate_on.result h (does.tells h).says (λ nine. new_may c.args.count (g.V.Files.state c.in-Ok.v) e.opens.fresh ((does.tells h).spent nine));
       all = λ zero h. subst (λ (before : List ℕ). SaysMade c.args.count before (M.now c.generate_on.new.m)) (over_said x h) (does.all zero h);
       leaves = λ h input rest was at held.
-          over_leaves x g.V.Files.holds (Generate c.args.seed c.args.count) input rest was c.generate_on.result h does.since (λ y t. g.met.M.Machine.counts_now y t) (timed_by M g.met.M.Machine.dated g.met.M.Machine.history g.met.M.Machine.counts_now g.met.M.Machine.only_now) held (e.sound (does.trust.honest h) was.layout was.windows was.changes was.forced at)
+          over_leaves x g.V.Files.holds (Generate c.args.seed c.args.count) input rest was c.generate_on.result h does.ends.since (λ y t. g.met.M.Machine.counts_now y t) (timed_by M g.met.M.Machine.dated g.met.M.Machine.history g.met.M.Machine.counts_now g.met.M.Machine.only_now) held (e.sound (does.ends.run.trust.honest h) was.layout was.windows was.changes was.forced at)
           (λ k none idle stands disk. does.runs h input rest k idle stands disk);
     }
 

@@ -34,18 +34,25 @@ returns-in-Ok g c =
     let bytes = c.in-Ok.bytes in
     let does = c.one_on.ensures in
     record {
-      attaches = λ t. (does.takes.ledger t).attaches ∙ came.attaches (does.ends.trust.tells t);
-      status = one_is_put c.args.name bytes c.args.keep status does.ends.status;
-      counts = counts_taken false (M.report a) (M.report m) (M.report b) status refl read.spares does.takes.counts;
-      input = λ five t. absurd (one_not_five (Word.Put c.args.name bytes c.args.keep) status does.ends.status five);
-      fails = λ five h. absurd (one_not_five (Word.Put c.args.name bytes c.args.keep) status does.ends.status five);
-      whole = λ low t. (does.takes.ledger t).input ∙ came.end (does.ends.trust.tells t);
-      few = λ low t. subst (λ (x : List ℕ). length x ≤ max_input) (came.whole (does.ends.trust.tells t)) came.few;
-      trust = trusts_on read.trust does.ends.trust;
-      since = since_on M a m b does.ends.trust.honest read.since (λ h. (read.any_moment h).later) does.since;
-      says = λ three h. call_since false AreOfPage layout (M.now a).said (M.now m).said (M.now b) (read.exit (does.ends.trust.honest h)).said ((does.tells h).says three);
-      unspent = λ nine h. (does.tells h).spent nine;
-      last = does.ends.last;
+      ends = record {
+        run = record {
+          status = one_is_put c.args.name bytes c.args.keep status does.ends.status;
+          trust = trusts_on read.trust does.ends.trust;
+          last = does.ends.last;
+        };
+        since = since_on M a m b does.ends.trust.honest read.since (λ h. (read.any_moment h).later) does.since;
+      };
+      takes = record {
+        attaches = λ t. (does.takes.ledger t).attaches ∙ came.attaches (does.ends.trust.tells t);
+        counts = counts_taken false (M.report a) (M.report m) (M.report b) status refl read.spares does.takes.counts;
+        input = λ five t. absurd (one_not_five (Word.Put c.args.name bytes c.args.keep) status does.ends.status five);
+        fails = λ five h. absurd (one_not_five (Word.Put c.args.name bytes c.args.keep) status does.ends.status five);
+      };
+      whole = λ low t. record { whole = (does.takes.ledger t).input ∙ came.end (does.ends.trust.tells t); few = subst (λ (x : List ℕ). length x ≤ max_input) (came.whole (does.ends.trust.tells t)) came.few };
+      tells = λ h. record {
+        says = λ three. call_since false AreOfPage layout (M.now a).said (M.now m).said (M.now b) (read.exit (does.ends.trust.honest h)).said ((does.tells h).says three);
+        spent = λ nine. (does.tells h).spent nine;
+      };
       one = λ h none. let back = does.ends.trust.honest h in
           subst (λ (x : List ℕ). SaysOne (Word.Put c.args.name x c.args.keep) (M.now a) (M.now b) status) (came.whole (g.met.M.Machine.honest_tells m back))
           (one_since (Word.Put c.args.name bytes c.args.keep) (M.now a) (M.now m) (M.now b) status (read.exit back).said (does.one h none).says);
@@ -75,20 +82,27 @@ returns-in-Err-TooLong g c =
     let status = c.refuse_input.result in
     let does = c.refuse_input.ensures in
     record {
-      attaches = λ t. (does.ledger t).attaches ∙ came.attaches (does.trust.tells t);
-      status = does.status;
-      counts = counts_taken false (M.report a) (M.report m) (M.report b) status refl read.spares does.counts;
-      input = λ five t. inr (came.long refl (does.trust.tells t));
-      fails = λ five h. does.long five h input (M.report a) (M.report b) (came.long refl (g.met.M.Machine.honest_tells m (does.trust.honest h)));
-      whole = λ low t. absurd (does.unmade low);
-      few = λ low t. absurd (does.unmade low);
-      trust = trusts_on read.trust does.trust;
-      since = since_on M a m b does.trust.honest read.since (λ h. (read.any_moment h).later) does.since;
-      says = λ three h. call_since false AreOfPage layout (M.now a).said (M.now m).said (M.now b) (read.exit (does.trust.honest h)).said (does.says three h);
-      unspent = λ nine h. does.unspent nine;
-      last = does.last;
-      one = λ h none. inr (no_reply_since (M.now a) (M.now m) (M.now b) status (read.exit (does.trust.honest h)).said (does.fault h));
-      runs = λ h k none idle stands on. let back = does.trust.honest h in let short = g.met.M.Machine.short a (read.trust.honest back) in
+      ends = record {
+        run = record {
+          status = does.ends.run.status.put;
+          trust = trusts_on read.trust does.ends.run.trust;
+          last = does.ends.run.last;
+        };
+        since = since_on M a m b does.ends.run.trust.honest read.since (λ h. (read.any_moment h).later) does.ends.since;
+      };
+      takes = record {
+        attaches = λ t. (does.takes.ledger t).attaches ∙ came.attaches (does.ends.run.trust.tells t);
+        counts = counts_taken false (M.report a) (M.report m) (M.report b) status refl read.spares does.takes.counts;
+        input = λ five t. inr (came.long refl (does.ends.run.trust.tells t));
+        fails = λ five h. does.long five h input (M.report a) (M.report b) (came.long refl (g.met.M.Machine.honest_tells m (does.ends.run.trust.honest h)));
+      };
+      whole = λ low t. absurd (does.ends.run.status.unmade low);
+      tells = λ h. record {
+        says = λ three. call_since false AreOfPage layout (M.now a).said (M.now m).said (M.now b) (read.exit (does.ends.run.trust.honest h)).said (does.says three h);
+        spent = λ nine. does.ends.run.status.unspent nine;
+      };
+      one = λ h none. inr (no_reply_since (M.now a) (M.now m) (M.now b) status (read.exit (does.ends.run.trust.honest h)).said (does.fault h));
+      runs = λ h k none idle stands on. let back = does.ends.run.trust.honest h in let short = g.met.M.Machine.short a (read.trust.honest back) in
           let timed = timed_by M g.met.M.Machine.dated g.met.M.Machine.history g.met.M.Machine.counts_now g.met.M.Machine.only_now in
           let at_a = timed a (read.trust.honest back) in
           let at_m = timed m back in
@@ -114,18 +128,25 @@ returns-in-Err-Failed g c =
     let line = c.end_with.ensures in
     let rose : Rose (M.report a).input_faults (M.report b).input_faults = subst (λ (n : ℕ). Rose (M.report a).input_faults n) (sym line.says.spares.input) read.spares.input in
     record {
-      attaches = λ t. ap (λ (x : Ledger). x.attaches) (line.ledger t) ∙ came.attaches (line.says.trust.tells t);
-      status = long_is_put status line.status;
-      counts = counts_untaken true (M.report a) (M.report m) (M.report b) status Ends.Input (λ e. omega (arith, e)) (λ want. absurd want) read.spares line.says.spares line.status;
-      input = λ five t. inl rose;
-      fails = λ five h. says_input Ends.Input input (M.report a) (M.report b) (M.now m) (M.now b) status rose (line.ends h) five;
+      ends = record {
+        run = record {
+          status = long_is_put status line.status;
+          trust = trusts_on read.trust line.says.trust;
+          last = λ of h. ends_fault (M.report b).fault_place (M.now m) (M.now b) status Ends.Input tt (line.ends h) of;
+        };
+        since = since_on M a m b line.says.trust.honest read.since (λ h. (read.any_moment h).later) line.says.since;
+      };
+      takes = record {
+        attaches = λ t. ap (λ (x : Ledger). x.attaches) (line.ledger t) ∙ came.attaches (line.says.trust.tells t);
+        counts = counts_untaken true (M.report a) (M.report m) (M.report b) status Ends.Input (λ e. omega (arith, e)) (λ want. absurd want) read.spares line.says.spares line.status;
+        input = λ five t. inl rose;
+        fails = λ five h. says_input Ends.Input input (M.report a) (M.report b) (M.now m) (M.now b) status rose (line.ends h) five;
+      };
       whole = λ low t. absurd (fault_not_low Ends.Input status line.status low);
-      few = λ low t. absurd (fault_not_low Ends.Input status line.status low);
-      trust = trusts_on read.trust line.says.trust;
-      since = since_on M a m b line.says.trust.honest read.since (λ h. (read.any_moment h).later) line.says.since;
-      says = λ three h. absurd (not_as 3 5 status (λ e. omega (arith, e)) (λ e. omega (arith, e)) line.status three);
-      unspent = λ nine h. not_as 9 5 status (λ e. omega (arith, e)) (λ e. omega (arith, e)) line.status nine;
-      last = λ of h. ends_fault (M.report b).fault_place (M.now m) (M.now b) status Ends.Input tt (line.ends h) of;
+      tells = λ h. record {
+        says = λ three. absurd (not_as 3 5 status (λ e. omega (arith, e)) (λ e. omega (arith, e)) line.status three);
+        spent = λ nine. not_as 9 5 status (λ e. omega (arith, e)) (λ e. omega (arith, e)) line.status nine;
+      };
       one = λ h none. inr (fault_alone Ends.Input (M.now a) (M.now m) (M.now b) status (read.exit (line.says.trust.honest h)).said (line.ends h));
       runs = λ h k none idle stands on. let back = line.says.trust.honest h in
           let timed = timed_by M g.met.M.Machine.dated g.met.M.Machine.history g.met.M.Machine.counts_now g.met.M.Machine.only_now in
@@ -147,18 +168,25 @@ returns-in-Err-Memory g c =
     let status = c.end_with-in-Err-Memory.result in
     let line = c.end_with-in-Err-Memory.ensures in
     record {
-      attaches = λ t. ap (λ (x : Ledger). x.attaches) (line.ledger t) ∙ came.attaches (line.says.trust.tells t);
-      status = fault_is_put Ends.Memory status tt line.status;
-      counts = counts_untaken false (M.report a) (M.report m) (M.report b) status Ends.Memory (λ e. omega (arith, e)) (λ want. refl) read.spares line.says.spares line.status;
-      input = λ five t. absurd (not_as 5 7 status (λ e. omega (arith, e)) (λ e. omega (arith, e)) line.status five);
-      fails = λ five h. absurd (not_as 5 7 status (λ e. omega (arith, e)) (λ e. omega (arith, e)) line.status five);
+      ends = record {
+        run = record {
+          status = fault_is_put Ends.Memory status tt line.status;
+          trust = trusts_on read.trust line.says.trust;
+          last = λ of h. ends_fault (M.report b).fault_place (M.now m) (M.now b) status Ends.Memory tt (line.ends h) of;
+        };
+        since = since_on M a m b line.says.trust.honest read.since (λ h. (read.any_moment h).later) line.says.since;
+      };
+      takes = record {
+        attaches = λ t. ap (λ (x : Ledger). x.attaches) (line.ledger t) ∙ came.attaches (line.says.trust.tells t);
+        counts = counts_untaken false (M.report a) (M.report m) (M.report b) status Ends.Memory (λ e. omega (arith, e)) (λ want. refl) read.spares line.says.spares line.status;
+        input = λ five t. absurd (not_as 5 7 status (λ e. omega (arith, e)) (λ e. omega (arith, e)) line.status five);
+        fails = λ five h. absurd (not_as 5 7 status (λ e. omega (arith, e)) (λ e. omega (arith, e)) line.status five);
+      };
       whole = λ low t. absurd (fault_not_low Ends.Memory status line.status low);
-      few = λ low t. absurd (fault_not_low Ends.Memory status line.status low);
-      trust = trusts_on read.trust line.says.trust;
-      since = since_on M a m b line.says.trust.honest read.since (λ h. (read.any_moment h).later) line.says.since;
-      says = λ three h. absurd (not_as 3 7 status (λ e. omega (arith, e)) (λ e. omega (arith, e)) line.status three);
-      unspent = λ nine h. not_as 9 7 status (λ e. omega (arith, e)) (λ e. omega (arith, e)) line.status nine;
-      last = λ of h. ends_fault (M.report b).fault_place (M.now m) (M.now b) status Ends.Memory tt (line.ends h) of;
+      tells = λ h. record {
+        says = λ three. absurd (not_as 3 7 status (λ e. omega (arith, e)) (λ e. omega (arith, e)) line.status three);
+        spent = λ nine. not_as 9 7 status (λ e. omega (arith, e)) (λ e. omega (arith, e)) line.status nine;
+      };
       one = λ h none. inr (fault_alone Ends.Memory (M.now a) (M.now m) (M.now b) status (read.exit (line.says.trust.honest h)).said (line.ends h));
       runs = λ h k none idle stands on. let back = line.says.trust.honest h in
           let timed = timed_by M g.met.M.Machine.dated g.met.M.Machine.history g.met.M.Machine.counts_now g.met.M.Machine.only_now in

@@ -27,15 +27,23 @@ returns-in-Ok g c =
     let uses : UsesDisk (M.report a) (M.report m) = record { sectors = sync.sectors; disk = sync.cause.disk.later; input = sync.cause.input; output = sync.cause.output } in
     let reads : OnlyReads M None a m = synced_reads M a m None uses told.disk sync.trust sync.ledger sync.worn sync.time (timed a) in
     record {
-      ledger = λ t. let same = line.ledger t ∙ sync.ledger (line.says.trust.tells t) in record { input = ap (λ (x : Ledger). x.input) same; attaches = ap (λ (x : Ledger). x.attaches) same };
-      status = long_is_put status line.status;
-      unmade = as_not_low 5 status (omega arith) line.status;
-      unspent = not_as 9 5 status (λ e. omega (arith, e)) (λ e. omega (arith, e)) line.status;
-      counts = line_counts (M.report a) (M.report m) (M.report b) status line.says.spares tt 5 (λ e. omega (arith, e)) told line.status;
-      trust = trusts_on sync.trust line.says.trust;
-      since = since_on M a m b line.says.trust.honest reads.since (λ h. (sync.time h).later) line.says.since;
+      ends = record {
+        run = record {
+          status = record {
+            put = long_is_put status line.status;
+            unmade = as_not_low 5 status (omega arith) line.status;
+            unspent = not_as 9 5 status (λ e. omega (arith, e)) (λ e. omega (arith, e)) line.status;
+          };
+          trust = trusts_on sync.trust line.says.trust;
+          last = λ of h. ends_fault (M.report b).fault_place (M.now m) (M.now b) status Ends.InputTooLong tt (line.ends h) of;
+        };
+        since = since_on M a m b line.says.trust.honest reads.since (λ h. (sync.time h).later) line.says.since;
+      };
+      takes = record {
+        ledger = λ t. let same = line.ledger t ∙ sync.ledger (line.says.trust.tells t) in record { input = ap (λ (x : Ledger). x.input) same; attaches = ap (λ (x : Ledger). x.attaches) same };
+        counts = line_counts (M.report a) (M.report m) (M.report b) status line.says.spares tt 5 (λ e. omega (arith, e)) told line.status;
+      };
       says = λ three h. absurd (not_as 3 5 status (λ e. omega (arith, e)) (λ e. omega (arith, e)) line.status three);
-      last = λ of h. ends_fault (M.report b).fault_place (M.now m) (M.now b) status Ends.InputTooLong tt (line.ends h) of;
       fault = λ h. fault_alone Ends.InputTooLong (M.now a) (M.now m) (M.now b) status (sync.worn (line.says.trust.honest h)).said (line.ends h);
       long = λ five h input old new many. says_input Ends.InputTooLong input old new (M.now m) (M.now b) status many (line.ends h) five;
       runs = λ h name keep input rest k many none stands on. let back = line.says.trust.honest h in
@@ -59,15 +67,23 @@ returns g c =
     let uses : UsesDisk (M.report a) (M.report m) = record { sectors = sync.sectors; disk = sync.cause.disk.later; input = sync.cause.input; output = sync.cause.output } in
     let reads : OnlyReads M (Some place) a m = synced_reads M a m (Some place) uses told.disk sync.trust sync.ledger sync.worn sync.time (timed a) in
     record {
-      ledger = λ t. let same = line.ledger t ∙ sync.ledger (line.says.trust.tells t) in record { input = ap (λ (x : Ledger). x.input) same; attaches = ap (λ (x : Ledger). x.attaches) same };
-      status = fault_is_put why status tt line.status;
-      unmade = fault_not_low why status line.status;
-      unspent = not_as 9 4 status (λ e. omega (arith, e)) (λ e. omega (arith, e)) line.status;
-      counts = fault_counts (M.report a) (M.report m) (M.report b) status line.says.spares {T = Unit {0}} why told line.status;
-      trust = trusts_on sync.trust line.says.trust;
-      since = since_on M a m b line.says.trust.honest reads.since (λ h. (sync.time h).later) line.says.since;
+      ends = record {
+        run = record {
+          status = record {
+            put = fault_is_put why status tt line.status;
+            unmade = fault_not_low why status line.status;
+            unspent = not_as 9 4 status (λ e. omega (arith, e)) (λ e. omega (arith, e)) line.status;
+          };
+          trust = trusts_on sync.trust line.says.trust;
+          last = λ of h. ends_fault (M.report b).fault_place (M.now m) (M.now b) status why (told_place why (M.report a) (M.report m) (M.report b) told.disk line.says.spares.place) (line.ends h) of;
+        };
+        since = since_on M a m b line.says.trust.honest reads.since (λ h. (sync.time h).later) line.says.since;
+      };
+      takes = record {
+        ledger = λ t. let same = line.ledger t ∙ sync.ledger (line.says.trust.tells t) in record { input = ap (λ (x : Ledger). x.input) same; attaches = ap (λ (x : Ledger). x.attaches) same };
+        counts = fault_counts (M.report a) (M.report m) (M.report b) status line.says.spares {T = Unit {0}} why told line.status;
+      };
       says = λ three h. absurd (not_as 3 4 status (λ e. omega (arith, e)) (λ e. omega (arith, e)) line.status three);
-      last = λ of h. ends_fault (M.report b).fault_place (M.now m) (M.now b) status why (told_place why (M.report a) (M.report m) (M.report b) told.disk line.says.spares.place) (line.ends h) of;
       fault = λ h. fault_alone why (M.now a) (M.now m) (M.now b) status (sync.worn (line.says.trust.honest h)).said (line.ends h);
       long = λ five h input old new many. absurd (fault_not_five why status tt line.status five);
       runs = λ h name keep input rest k many none stands on. let back = line.says.trust.honest h in

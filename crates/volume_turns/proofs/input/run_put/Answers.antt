@@ -21,26 +21,26 @@ returns-in-Ok g c =
     let M = g.M.Machine in
     let e = c.in-Ok.ensures in
     let does = c.put_on.ensures in
-    let x : RunsOver g.V.Files.state M c.args.sectors c.in-Ok.v c.args.m.now c.mount.new.m c.put_on.new.m = record { disk = e.disk; fresh = e.opens.fresh; found = λ h. (e.tells h).found; rest = λ h. (e.heals h).rest; trust = does.trust } in
+    let x : RunsOver g.V.Files.state M c.args.sectors c.in-Ok.v c.args.m.now c.mount.new.m c.put_on.new.m = record { disk = e.disk; fresh = e.opens.fresh; found = λ h. (e.tells h).found; rest = λ h. (e.heals h).rest; trust = does.ends.run.trust } in
     record {
       ends = record {
-        status = does.status;
+        status = does.ends.run.status;
         trust = over_trust x;
-        last = does.last;
+        last = does.ends.run.last;
       };
       takes = record {
-        attaches = λ t. over_attaches x t (does.attaches t);
-        counts = over_taking x does.counts;
-        input = λ five t. over_fails x t (does.input five t);
-        fails = λ five h. over_says_input x (g.met.M.Machine.honest_tells c.put_on.new.m h) (does.fails five h);
+        attaches = λ t. over_attaches x t (does.takes.attaches t);
+        counts = over_taking x does.takes.counts;
+        input = λ five t. over_fails x t (does.takes.input five t);
+        fails = λ five h. over_says_input x (g.met.M.Machine.honest_tells c.put_on.new.m h) (does.takes.fails five h);
       };
-      whole = λ low t. record { whole = does.whole low t; few = subst (λ (input : List ℕ). length input ≤ max_input) (over_input x t) (does.few low t) };
-      image = λ h. over_image x false AreOfPage None c.put_on.result h (λ three. does.says three h) (λ nine. does.unspent nine h);
+      whole = λ low t. record { whole = (does.whole low t).whole; few = subst (λ (input : List ℕ). length input ≤ max_input) (over_input x t) (does.whole low t).few };
+      image = λ h. over_image x false AreOfPage None c.put_on.result h (does.tells h).says (does.tells h).spent;
       one = λ h.
           subst (λ (input : List ℕ). SaysOne (Word.Put c.args.name input c.args.keep) (M.now c.args.m.now) (M.now c.put_on.new.m) c.put_on.result) (over_input x (g.met.M.Machine.honest_tells c.put_on.new.m h))
           (one_since _ (M.now c.args.m.now) (M.now c.mount.new.m) (M.now c.put_on.new.m) c.put_on.result (over_said x h) (does.one h e.opens.fresh.dirty));
       leaves = λ h was at held.
-          over_leaves x g.V.Files.holds (Put c.args.name c.args.keep) (M.ledger c.args.m.now).input (M.ledger c.put_on.new.m).input was c.put_on.result h does.since (λ y t. g.met.M.Machine.counts_now y t) (timed_by M g.met.M.Machine.dated g.met.M.Machine.history g.met.M.Machine.counts_now g.met.M.Machine.only_now) held (e.sound (does.trust.honest h) was.layout was.windows was.changes was.forced at)
+          over_leaves x g.V.Files.holds (Put c.args.name c.args.keep) (M.ledger c.args.m.now).input (M.ledger c.put_on.new.m).input was c.put_on.result h does.ends.since (λ y t. g.met.M.Machine.counts_now y t) (timed_by M g.met.M.Machine.dated g.met.M.Machine.history g.met.M.Machine.counts_now g.met.M.Machine.only_now) held (e.sound (does.ends.run.trust.honest h) was.layout was.windows was.changes was.forced at)
           (λ k none idle stands disk. subst (λ (input : List ℕ). RunsOut M (Put c.args.name c.args.keep) input (M.ledger c.put_on.new.m).input (M.report c.mount.new.m) k c.mount.new.m c.put_on.new.m c.put_on.result) (over_input x (g.met.M.Machine.honest_tells c.put_on.new.m h)) (does.runs h k none idle stands disk));
     }
 

@@ -10,11 +10,14 @@ returns-in-Ok g c =
     let text = c.args.text.now in
     let say = c.say.ensures in
     record {
-      told = told_said (M.report a) (M.report b) c.in-Ok.field-0 tt c.in-Ok.ensures.cause;
-      trust = say.trust;
-      ledger = say.ledger;
+      says = record {
+        told = told_said (M.report a) (M.report b) c.in-Ok.field-0 tt c.in-Ok.ensures.cause;
+        fault = tt;
+        ledger = say.ledger;
+        trust = say.trust;
+        since = λ h. (say.time h).keeps;
+      };
       output = tt;
-      since = λ h. (say.time h).keeps;
       moments = said_moments M a b (λ left h was. g.met.M.Machine.only_now a left h was) say.trust text text refl say.time;
       said = λ h. says_all text text (M.now a) (M.now b) refl (c.in-Ok.ensures.said h);
     }
@@ -27,11 +30,14 @@ returns-in-Err g c =
     let text = c.args.text.now in
     let say = c.say.ensures in
     record {
-      told = told_unsaid (M.report a) (M.report b) c.in-Err.field-0 c.in-Err.ensures.cause;
-      trust = say.trust;
-      ledger = say.ledger;
+      says = record {
+        told = told_unsaid (M.report a) (M.report b) c.in-Err.field-0 c.in-Err.ensures.cause;
+        fault = tt;
+        ledger = say.ledger;
+        trust = say.trust;
+        since = λ h. (say.time h).keeps;
+      };
       output = refl;
-      since = λ h. (say.time h).keeps;
       moments = said_moments M a b (λ left h was. g.met.M.Machine.only_now a left h was) say.trust text text refl say.time;
       said = tt;
     }

@@ -19,17 +19,19 @@ returns-in-Ok g c =
     let result = c.say_bytes.result in
     let timed = timed_by M g.met.M.Machine.dated g.met.M.Machine.history g.met.M.Machine.counts_now g.met.M.Machine.only_now in
     record {
-      told = told_more (M.report a) (M.report p) (M.report b) tt result (told_synced (M.report a) (M.report p) c.in-Ok.field-0 sync.sectors sync.cause) say.told;
-      trust = trusts_on sync.trust say.trust;
-      ledger = λ t. say.ledger t ∙ sync.ledger (say.trust.tells t);
-      fault = output_ends IsEndOfVolume tt result say.output;
+      says = record {
+        told = told_more (M.report a) (M.report p) (M.report b) tt result (told_synced (M.report a) (M.report p) c.in-Ok.field-0 sync.sectors sync.cause) say.says.told;
+        fault = output_ends IsEndOfVolume tt result say.output;
+        ledger = λ t. say.says.ledger t ∙ sync.ledger (say.says.trust.tells t);
+        trust = trusts_on sync.trust say.says.trust;
+        since = since_on M a p b say.says.trust.honest (λ h. (sync.time h).keeps) (λ h. (sync.time h).later) say.says.since;
+      };
       wants = output_ends WantsNone tt result say.output;
-      since = since_on M a p b say.trust.honest (λ h. (sync.time h).keeps) (λ h. (sync.time h).later) say.since;
-      moments = λ h. let back = say.trust.honest h in
-          forced_moments M a p b text (timed a (sync.trust.honest back)) (timed p back) (timed b h) (sync.time back) (sync.worn back) (sync.synced back) (say.since h) (say.moments h);
-      synced = on_ok_so result (λ h. let back = say.trust.honest h in
-          forced_synced M a p b text (timed a (sync.trust.honest back)) (timed p back) (timed b h) (sync.time back) (sync.worn back) (sync.synced back) (say.since h) (say.moments h));
-      said = on_ok_then result (λ all h. says_on text (M.now a) (M.now p) (M.now b) (sync.worn (say.trust.honest h)) (all h)) say.said;
+      moments = λ h. let back = say.says.trust.honest h in
+          forced_moments M a p b text (timed a (sync.trust.honest back)) (timed p back) (timed b h) (sync.time back) (sync.worn back) (sync.synced back) (say.says.since h) (say.moments h);
+      synced = on_ok_so result (λ h. let back = say.says.trust.honest h in
+          forced_synced M a p b text (timed a (sync.trust.honest back)) (timed p back) (timed b h) (sync.time back) (sync.worn back) (sync.synced back) (say.says.since h) (say.moments h));
+      said = on_ok_then result (λ all h. says_on text (M.now a) (M.now p) (M.now b) (sync.worn (say.says.trust.honest h)) (all h)) say.said;
       unsaid = output_ends (λ end. M.honest b → Unsaid (M.now a) (M.now b) end) (λ h. tt) result say.output;
     }
 
@@ -41,12 +43,14 @@ returns-in-Err g c =
     let sync = c.in-Err.ensures in
     let timed = timed_by M g.met.M.Machine.dated g.met.M.Machine.history g.met.M.Machine.counts_now g.met.M.Machine.only_now in
     record {
-      told = told_unsynced (M.report a) (M.report b) c.in-Err.failed sync.sectors sync.cause;
-      trust = sync.trust;
-      ledger = sync.ledger;
-      fault = tt;
+      says = record {
+        told = told_unsynced (M.report a) (M.report b) c.in-Err.failed sync.sectors sync.cause;
+        fault = tt;
+        ledger = sync.ledger;
+        trust = sync.trust;
+        since = λ h. (sync.time h).keeps;
+      };
       wants = λ want. want;
-      since = λ h. (sync.time h).keeps;
       moments = λ h. synced_moments M a b (timed a (sync.trust.honest h)) (sync.time h) c.args.text.now;
       synced = tt;
       said = tt;

@@ -14,8 +14,8 @@ use Rattle.volume_turns.proofs.ListLaws.{listed_all, listed_counted, listed_more
 use Rattle.volume_turns.proofs.OrderLaws.{next_refuses}
 use Rattle.std.specs.Prelude.{IfNone}
 use Rattle.fsd_bytes.specs.declared.key.Key.{Key}
-use Rattle.volume_contract.specs.Absent.{LacksLater, Reaches, ShowsReached}
-use Rattle.volume_contract.specs.Causes.{Shows}
+use Rattle.volume_contract.specs.Absent.{LacksLater, ReachesPage, ShowsReached}
+use Rattle.volume_contract.specs.Causes.{ShowsOfPages}
 use Rattle.volume_turns.proofs.ReasonLaws.{HasMet, met_more, met_none}
 use Rattle.volume_turns.proofs.listing.collect.Goals as goal
 
@@ -135,7 +135,7 @@ returns-in-Ok-None-clause-because g c h =
         same = was.state;
         from = now c.loop.m;
         aged = record { image = worn.image; windows = worn.windows };
-        shows = subst (λ (o : Option Key). Shows (V.state c.loop.v) (V.state c.next_one.new.v) (V.resident c.loop.v) (now c.loop.m) (now c.next_one.new.m) (Reaches (LacksLater o))) x.ends (absent h);
+        shows = subst (λ (o : Option Key). ShowsOfPages (V.state c.loop.v) (V.state c.next_one.new.v) (V.resident c.loop.v) (now c.loop.m) (now c.next_one.new.m) (ReachesPage (LacksLater o))) x.ends (absent h);
       });
     }
 

@@ -1,7 +1,7 @@
 use Rattle.std.proofs.Common.{Option, sym, subst}
 use Rattle.fsd_bytes.specs.declared.key.Key.{Key}
 use Rattle.fsd_files.specs.Answers.{next_reply}
-use Rattle.volume_contract.specs.Ends.{Looks}
+use Rattle.volume_contract.specs.Ends.{LooksUp}
 use Rattle.volume_contract.specs.State.{volume_of}
 use Rattle.volume_turns.proofs.ToldLaws.{told_next}
 use Rattle.std.specs.Prelude.{IfNone, IfOk}
@@ -9,10 +9,10 @@ use Rattle.volume_contract.specs.Absent.{LacksLater, ShowsReached}
 use Rattle.volume_turns.proofs.listing.next_one.Goals as goal
 
 pub returns-in-Some-clause-done : goal.returns-in-Some-clause-done
-returns-in-Some-clause-done g c h k stands = subst (λ (o : Option Key). Looks (next_reply (volume_of k) o) c.next_after.result) (sym c.in-Some.is) (c.next_after.ensures.done h k stands)
+returns-in-Some-clause-done g c h k stands = subst (λ (o : Option Key). LooksUp (next_reply (volume_of k) o) c.next_after.result) (sym c.in-Some.is) (c.next_after.ensures.done h k stands)
 
 pub returns-in-None-clause-done : goal.returns-in-None-clause-done
-returns-in-None-clause-done g c h k stands = subst (λ (o : Option Key). Looks (next_reply (volume_of k) o) c.next_after-in-None.result) (sym c.in-None.is) (c.next_after-in-None.ensures.done h k stands)
+returns-in-None-clause-done g c h k stands = subst (λ (o : Option Key). LooksUp (next_reply (volume_of k) o) c.next_after-in-None.result) (sym c.in-None.is) (c.next_after-in-None.ensures.done h k stands)
 
 pub returns-in-Some-clause-order : goal.returns-in-Some-clause-order
 returns-in-Some-clause-order g c = c.next_after.ensures.order.follows

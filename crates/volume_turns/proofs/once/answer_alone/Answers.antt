@@ -1,10 +1,11 @@
-use Rattle.std.proofs.Common.{ℕ, List, subst, arith}
+use Rattle.std.proofs.Common.{ℕ, List, refl, subst}
 use Rattle.fsd_files.specs.declared.reply.Reply.{Reply}
 use Rattle.fsd_runs.specs.Commands.{reply_status}
 use Rattle.volume_contract.specs.State.{forced_of}
 use Rattle.volume_turns.specs.Once.{ClosesAndSays, unit_of}
 use Rattle.volume_turns.proofs.OnceLaws.{alone_answered, alone_fault, answered_held}
 use Rattle.volume_turns.proofs.SayLaws.{timed_by}
+use Rattle.volume_turns.proofs.SpeaksLaws.{speaks_behind, speaks_failed}
 use Rattle.volume_turns.specs.Commands.{IsStatusFrom}
 use Rattle.volume_turns.proofs.StatusLaws.{status_at}
 use Rattle.volume_turns.specs.Answering.{ClosesBy}
@@ -20,12 +21,12 @@ returns-in-Ok-clause-does g c h k none idle stands on =
     let a = c.args.m.now in
     let m = c.answer.new.m in
     let b = c.close_as.new.m in
-    let back = c.close_as.ensures.trust.honest h in
+    let back = c.close_as.ensures.speaks.trust.honest h in
     let does = c.in-Ok.ensures.done back k stands in
     let reply = c.in-Ok.answer in
     let timed = timed_by M g.met.M.Machine.dated g.met.M.Machine.history g.met.M.Machine.counts_now g.met.M.Machine.only_now in
-    let held = answered_held V.state V.holds M g.met.V.Files.wears (λ x honest. g.met.M.Machine.short x honest) timed c.args.c.now v w a m b k idle stands on _ c.in-Ok.ensures.disk back (c.close_as.ensures.since h) does.0 reply does.1 does.2 c.in-Ok.ensures.layout in
-    alone_answered V.state V.holds M g.met.V.Files.wears (λ x honest. g.met.M.Machine.short x honest) timed c.args.c.now v w a m b k idle stands on _ c.in-Ok.ensures.disk back (c.close_as.ensures.since h) does.0 reply does.1 does.2 c.in-Ok.ensures.layout
+    let held = answered_held V.state V.holds M g.met.V.Files.wears (λ x honest. g.met.M.Machine.short x honest) timed c.args.c.now v w a m b k idle stands on _ c.in-Ok.ensures.disk back (c.close_as.ensures.speaks.since h) does.0 reply does.1 does.2 c.in-Ok.ensures.layout in
+    alone_answered V.state V.holds M g.met.V.Files.wears (λ x honest. g.met.M.Machine.short x honest) timed c.args.c.now v w a m b k idle stands on _ c.in-Ok.ensures.disk back (c.close_as.ensures.speaks.since h) does.0 reply does.1 does.2 c.in-Ok.ensures.layout
     c.close_as.result c.close_as.ensures.undone c.close_as.ensures.status
     (subst (λ (says : Reply → List ℕ). ClosesAndSays M does.0 (forced_of k) (says reply) m b (unit_of c.close_as.result)) c.requires.says (c.close_as.ensures.closes h does.0 (forced_of k) does.2 held))
 
@@ -37,15 +38,11 @@ returns-in-Err-clause-does g c h k none idle stands on =
     alone_fault V.state V.holds M g.met.V.Files.wears (λ m x. g.met.M.Machine.short m x) timed c.args.c.now c.args.v c.answer.new.v c.args.m.now c.answer.new.m c.answer.new.m k idle stands on _ c.in-Err.ensures.disk h (λ t left le was. was)
     c.in-Err.fault (λ is. c.requires.unworn) (c.in-Err.ensures.done h k stands)
 
-pub returns-in-Ok-clause-later : goal.returns-in-Ok-clause-later
-returns-in-Ok-clause-later g c h =
-    let back = c.close_as.ensures.trust.honest h in
-    let x = (c.in-Ok.ensures.disk.any_moment back).later in
-    let y = c.close_as.ensures.later h in
-    omega (arith, x, y)
+pub returns-in-Ok-clause-speaks : goal.returns-in-Ok-clause-speaks
+returns-in-Ok-clause-speaks g c = speaks_behind c.in-Ok.ensures.disk c.close_as.ensures.speaks
 
-pub returns-in-Err-clause-later : goal.returns-in-Err-clause-later
-returns-in-Err-clause-later g c h = (c.in-Err.ensures.disk.any_moment h).later
+pub returns-in-Err-clause-speaks : goal.returns-in-Err-clause-speaks
+returns-in-Err-clause-speaks g c = speaks_failed c.in-Err.fault refl c.in-Err.ensures.fault c.in-Err.ensures.disk
 
 pub returns-in-Ok-clause-status : goal.returns-in-Ok-clause-status
 returns-in-Ok-clause-status g c = status_at (IsStatusFrom c.args.c.now) (reply_status c.in-Ok.answer) c.close_as.result c.close_as.ensures.status c.in-Ok.ensures.status
@@ -56,7 +53,7 @@ pub returns-in-Ok-clause-answers : goal.returns-in-Ok-clause-answers
 returns-in-Ok-clause-answers g c h =
     let V = g.V.Files in
     let now = g.M.Machine.now in
-    let back = c.close_as.ensures.trust.honest h in
+    let back = c.close_as.ensures.speaks.trust.honest h in
     let e = c.in-Ok.ensures in
     let t = V.state c.answer.new.v in
     let m = now c.answer.new.m in

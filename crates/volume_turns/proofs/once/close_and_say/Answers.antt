@@ -1,6 +1,4 @@
-use Rattle.std.proofs.Common.{ℕ, ◌≤◌, Option, refl, subst}
-use Rattle.sector_disk.specs.Calls.{DiskFaults}
-use Rattle.sector_disk.proofs.Holding.{trusts_on}
+use Rattle.std.proofs.Common.{◌≤◌, refl, subst}
 use Rattle.fsd_sound.specs.Writes.{force_writes}
 use Rattle.fsd_texts.specs.declared.fault.Fault.{Fault}
 use Rattle.fsd_texts.specs.declared.fault.Fault.TheVariants as Ends
@@ -10,13 +8,13 @@ use Rattle.volume_turns.specs.Steps.{IsToldOn}
 use Rattle.volume_turns.specs.Turns.{SaysAll, Unsaid}
 use Rattle.volume_turns.proofs.AnsweringLaws.{closed_by, closed_still, says_so}
 use Rattle.volume_turns.proofs.ApartLaws.{fault_is}
-use Rattle.volume_turns.proofs.CountLaws.{told_more}
 use Rattle.volume_turns.proofs.InputLaws.{close_of_call, device_close}
 use Rattle.volume_turns.proofs.LineLaws.{close_wants, wants_not}
 use Rattle.volume_turns.proofs.OnceLaws.{close_failed, close_said}
 use Rattle.volume_turns.proofs.OrderLaws.{force_loss}
-use Rattle.volume_turns.proofs.RunLaws.{later_on, on_err_said, on_ok_said, since_on, told_done, told_fault, writes_on}
+use Rattle.volume_turns.proofs.RunLaws.{on_err_said, on_ok_said}
 use Rattle.volume_turns.proofs.SayLaws.{timed_by}
+use Rattle.volume_turns.proofs.SpeaksLaws.{speaks_behind, speaks_failed, speaks_text}
 use Rattle.volume_turns.proofs.ToldLaws.{close_told, unsaid_told}
 use Rattle.volume_turns.proofs.WornLaws.{close_unworn}
 use Rattle.volume_turns.proofs.once.close_and_say.Goals as goal
@@ -36,14 +34,9 @@ returns-in-Ok g c =
     let result = c.say_forced.result in
     let timed = timed_by M g.met.M.Machine.dated g.met.M.Machine.history g.met.M.Machine.counts_now g.met.M.Machine.only_now in
     record {
-      told = told_more (M.report a) (M.report m) (M.report b) tt result (told_done (M.report a) (M.report m) disk.uses disk.faults) say.told;
-      trust = trusts_on disk.trust say.trust;
-      ledger = λ t. writes_on (M.ledger a) (M.ledger m) (M.ledger b) (say.ledger t) (disk.ledger (say.trust.tells t));
-      fault = say.fault;
-      since = since_on M a m b say.trust.honest disk.since (λ h. (disk.any_moment h).later) say.since;
-      later = later_on M a m b say.trust.honest (λ h. (disk.any_moment h).later) (λ h. (say.moments h).later);
+      speaks = speaks_behind disk (speaks_text say.says (λ h. (say.moments h).later));
       closing = λ h.
-          let back = say.trust.honest h in
+          let back = say.says.trust.honest h in
           let run = say.moments h in
           let unsaid = on_err_said (Unsaid (M.now m) (M.now b)) result h say.unsaid in
           let utters = (run.each (M.now b) (g.met.M.Machine.counts_now b (M.moment m) h run.later)).utters in
@@ -51,8 +44,8 @@ returns-in-Ok g c =
           (says_so text (M.now m) (M.now b) result (on_ok_said (SaysAll text (M.now m) (M.now b)) result h say.said) unsaid) (wants_not Ends.WornOut tt result say.wants)
           (unsaid_told AreOfPage s.layout (M.now b).image (M.now m) (M.now b) result unsaid);
       wants = λ up. say.wants;
-      closes = λ h k f stands on. let back = say.trust.honest h in
-          close_said V.state V.holds M c.args.v a m b k f stands on text (force_writes s.layout) _ disk back (timed a (disk.trust.honest back)) (timed m back) (e.done back k stands) (g.met.M.Machine.short m back) (timed b h) (say.since h) (say.moments h)
+      closes = λ h k f stands on. let back = say.says.trust.honest h in
+          close_said V.state V.holds M c.args.v a m b k f stands on text (force_writes s.layout) _ disk back (timed a (disk.trust.honest back)) (timed m back) (e.done back k stands) (g.met.M.Machine.short m back) (timed b h) (say.says.since h) (say.moments h)
           result (on_ok_said (SaysAll text (M.now m) (M.now b)) result h say.said) (on_ok_said ((M.now m).time ≤ (M.now b).synced) result h say.synced) (on_err_said (Unsaid (M.now m) (M.now b)) result h say.unsaid);
     }
 
@@ -68,12 +61,7 @@ returns-in-Err g c =
     let disk = e.disk in
     let timed = timed_by M g.met.M.Machine.dated g.met.M.Machine.history g.met.M.Machine.counts_now g.met.M.Machine.only_now in
     rw c.close_fault.ensures (record {
-      told = told_fault (M.report a) (M.report m) (close_fault refused) disk.uses (subst (λ (o : Option ℕ). DiskFaults o (M.report a) (M.report m)) (device_close refused) disk.faults);
-      trust = disk.trust;
-      ledger = disk.ledger;
-      fault = close_of_call refused;
-      since = disk.since;
-      later = λ h. (disk.any_moment h).later;
+      speaks = speaks_failed (close_fault refused) (device_close refused) (close_of_call refused) disk;
       closing = λ h. record {
         windows = disk.windows h;
         says = disk.quiet h;

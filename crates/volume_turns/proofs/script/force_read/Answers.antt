@@ -1,15 +1,13 @@
-use Rattle.std.proofs.Common.{◌≡◌, ◌∙◌, ap, subst, arith}
+use Rattle.std.proofs.Common.{Ok, Err, ◌∙◌, ap, subst, arith}
 use Rattle.volume_layout.specs.declared.layout.Layout.{Layout}
 use Rattle.fsd_runs.specs.Errands.{forced_turn}
-use Rattle.fsd_texts.specs.declared.fault.Fault.TheVariants as Ends
-use Rattle.scrub.specs.Telling.{AreOfPage}
 use Rattle.volume_contract.specs.Pieces.{with_opened}
 use Rattle.volume_contract.specs.State.{State, none_open}
+use Rattle.volume_turns.specs.declared.script.Stop.{Stop}
+use Rattle.volume_turns.specs.Once.{SaysForcedOver}
 use Rattle.volume_turns.specs.Seats.{known_of}
-use Rattle.volume_turns.specs.Turns.{IsEndOn}
-use Rattle.volume_turns.specs.declared.turns.End.TheVariants.{Fault as Stopped}
-use Rattle.volume_turns.proofs.NumberLaws.{ended}
 use Rattle.volume_turns.proofs.SeatLaws.{closes_as, on_disk_as}
+use Rattle.volume_turns.proofs.SpeaksLaws.{forced_done, forced_ended, speaks_done, speaks_ended}
 use Rattle.volume_turns.proofs.script.force_read.Goals as goal
 
 pub close_forced-requires : goal.close_forced-requires
@@ -18,14 +16,11 @@ close_forced-requires g c =
     let room = c.requires.room in
     omega (arith, same, room)
 
-pub returns-in-Err-clause-quiet : goal.returns-in-Err-clause-quiet
-returns-in-Err-clause-quiet g c h = c.in-Err.ensures.quiet h
+pub returns-in-Ok-clause-speaks : goal.returns-in-Ok-clause-speaks
+returns-in-Ok-clause-speaks g c = speaks_done _ c.args.stop c.in-Ok.ensures.speaks
 
-pub returns-in-Err-clause-image : goal.returns-in-Err-clause-image
-returns-in-Err-clause-image g c h = subst (λ (l : Layout). IsEndOn AreOfPage l (g.M.Machine.now c.close_forced.new.m).image c.in-Err.end) (ap (λ (s : State). s.layout) c.finish.ensures.state.is) (c.in-Err.ensures.image h)
-
-pub returns-in-Err-clause-wants : goal.returns-in-Err-clause-wants
-returns-in-Err-clause-wants g c up = c.in-Err.ensures.wants (ap (λ (s : State). s.down) c.finish.ensures.state.is ∙ up)
+pub returns-in-Err-clause-speaks : goal.returns-in-Err-clause-speaks
+returns-in-Err-clause-speaks g c = speaks_ended c.in-Err.end c.in-Err.ensures.speaks
 
 pub returns-in-Ok-clause-closes : goal.returns-in-Ok-clause-closes
 returns-in-Ok-clause-closes g c h k f sits on =
@@ -43,8 +38,18 @@ returns-in-Err-clause-closes g c h k f sits on =
 
 -- ---- the force is said
 
-pub returns-in-Err-clause-unworn : goal.returns-in-Err-clause-unworn
-returns-in-Err-clause-unworn g c is = let e : c.in-Err.end ≡ Stopped Ends.WornOut = cc is in c.in-Err.ensures.unworn (ap ended e)
+pub returns-in-Ok-clause-forces : goal.returns-in-Ok-clause-forces
+returns-in-Ok-clause-forces g c =
+    let M = g.M.Machine in
+    subst (λ (l : Layout). SaysForcedOver {T = Stop} M l c.args.m.now c.close_forced.new.m (Ok c.args.stop)) (ap (λ (s : State). s.layout) c.finish.ensures.state.is) (forced_done _ c.args.stop c.in-Ok.ensures.forces)
 
-pub returns-in-Ok-clause-says : goal.returns-in-Ok-clause-says
-returns-in-Ok-clause-says g c h = c.in-Ok.ensures.says h
+pub returns-in-Err-clause-forces : goal.returns-in-Err-clause-forces
+returns-in-Err-clause-forces g c =
+    let M = g.M.Machine in
+    subst (λ (l : Layout). SaysForcedOver {T = Stop} M l c.args.m.now c.close_forced.new.m (Err c.in-Err.end)) (ap (λ (s : State). s.layout) c.finish.ensures.state.is) (forced_ended c.in-Err.end c.in-Err.ensures.forces)
+
+pub returns-in-Ok-clause-wants : goal.returns-in-Ok-clause-wants
+returns-in-Ok-clause-wants g c up = tt
+
+pub returns-in-Err-clause-wants : goal.returns-in-Err-clause-wants
+returns-in-Err-clause-wants g c up = c.in-Err.ensures.wants (ap (λ (s : State). s.down) c.finish.ensures.state.is ∙ up)

@@ -1,27 +1,26 @@
 use Rattle.std.proofs.Common.{◌+◌, Option, Some, None, Ok, Err, refl, sym, ◌∙◌, ap, subst, arith}
 use Rattle.std.specs.Prelude.{Result}
 use Rattle.volume_layout.specs.declared.layout.Layout.{Layout}
-use Rattle.sector_disk.proofs.Holding.{trusts_on}
 use Rattle.fsd_texts.specs.Script.{max_input}
 use Rattle.fsd_texts.specs.declared.end.End.TheVariants.{Done}
 use Rattle.fsd_texts.specs.declared.fault.Fault.TheVariants as Ends
 use Rattle.script_text.specs.Reading.{Reading, fresh}
 use Rattle.scrub.specs.Telling.{AreOfPage}
-use Rattle.volume_turns.specs.Script.{DoneSo, GoesOn, Reads, RoseBy, WholeRead}
-use Rattle.volume_turns.specs.Turns.{Follows, IsEndOn}
+use Rattle.volume_turns.specs.Script.{DoneSo, GoesOnReading, ReadsScript, RoseBy, WholeRead}
+use Rattle.volume_turns.specs.Turns.{IsEndOn}
 use Rattle.volume_turns.specs.declared.script.Stop.{Stop}
 use Rattle.volume_turns.specs.declared.script.Stop.TheVariants.{Ended}
-use Rattle.volume_turns.specs.declared.turns.End.{End}
-use Rattle.volume_turns.specs.declared.turns.End.TheVariants.{Fault as Stopped}
+use Rattle.volume_turns.specs.declared.turns.Halt.{Halt}
+use Rattle.volume_turns.specs.declared.turns.Halt.TheVariants.{Fault as Stopped}
 use Rattle.volume_turns.proofs.ApartLaws.{err_is, ok_apart, ok_is}
 use Rattle.volume_turns.proofs.CauseLaws.{read_says}
 use Rattle.volume_turns.proofs.NumberLaws.{ended, goes_none, goes_then, may_before}
-use Rattle.volume_turns.proofs.RunLaws.{follows_then, later_on, since_on}
+use Rattle.volume_turns.proofs.ReadingLaws.{reading_done, reading_ended, reading_keeps, reading_none, reading_then}
 use Rattle.volume_turns.proofs.SaidLaws.{replies_then, whole_then}
-use Rattle.volume_turns.proofs.ScriptLaws.{done_none, done_replies, heard_as, heard_end, heard_none, heard_then, reads_then, rose_then}
+use Rattle.volume_turns.proofs.ScriptLaws.{done_none, done_replies, reads_then, rose_then}
 use Rattle.volume_turns.proofs.script.read_all.Goals as goal
 
-abbrev read_so : Stop → Result (Option Stop) End
+abbrev read_so : Stop → Result (Option Stop) Halt
 read_so stop = Ok (Some stop)
 
 pub loop-stop-init : goal.loop-stop-init
@@ -32,12 +31,8 @@ loop-stop-init g c =
       layout = refl;
       up = c.requires.up;
       desk = c.requires.desk;
-      heard = heard_none (M.report c.args.m.now);
+      speaks = reading_none c.args.m.now;
       input = refl;
-      attaches = λ t. refl;
-      trust = record { tells = λ h. h; honest = λ h. h };
-      since = λ h t left le was. was;
-      later = λ h. omega arith;
       few = let same = ap (λ (r : Reading). r.given) c.new-reader.ensures in omega (arith, same);
       numbers = λ h. goes_none _ (V.state c.args.v.now) (V.state c.args.v.now) refl;
       going = ap (λ (r : Reading). r.end) c.new-reader.ensures;
@@ -47,7 +42,7 @@ loop-stop-init g c =
 pub read_on-requires-clause-room : goal.read_on-requires-clause-room
 read_on-requires-clause-room g c =
     let same = ap (λ (l : Layout). l.sectors) c.loop-stop.invariant.layout in
-    let sectors = c.loop-stop.invariant.heard.sectors in
+    let sectors = c.loop-stop.invariant.speaks.heard.sectors in
     let room = c.requires.room in
     omega (arith, same, sectors, room)
 
@@ -66,26 +61,25 @@ returns-in-Ok-Some g c =
     let reads : M.tells b → WholeRead V.state V.holds M e (c.args.v.now, c.args.desk.now) a (c.read_on.new.v, c.read_on.new.desk) b (Ok c.in-Ok-Some.stop) =
     λ t. record {
       last = c.read_on.new.reader;
-      few = does.few;
-      reads = reads_then V.state V.holds M e fresh l.reader c.read_on.new.reader (c.args.v.now, c.args.desk.now) (l.v, l.desk) (c.read_on.new.v, c.read_on.new.desk) a m b (Ok (Some c.in-Ok-Some.stop)) was.later (record { honest = does.trust.honest; since = does.since; later = does.later }) (was.so_far (does.trust.tells t)) (does.reads t);
+      few = does.input.few;
+      reads = reads_then V.state V.holds M e fresh l.reader c.read_on.new.reader (c.args.v.now, c.args.desk.now) (l.v, l.desk) (c.read_on.new.v, c.read_on.new.desk) a m b (Ok (Some c.in-Ok-Some.stop)) was.speaks.later (reading_keeps does.speaks) (was.so_far (does.speaks.trust.tells t)) (does.reads t);
     } in
     record {
-      layout = does.layout ∙ was.layout;
-      attaches = λ t. does.attaches t ∙ was.attaches (does.trust.tells t);
-      trust = trusts_on was.trust does.trust;
-      since = since_on M a m b does.trust.honest was.since was.later does.since;
-      later = later_on M a m b does.trust.honest was.later does.later;
-      up = does.up;
-      desk = does.desk;
-      heard = heard_as (M.report a) (M.report b) (Some c.in-Ok-Some.stop) c.in-Ok-Some.stop (heard_then (M.report a) (M.report m) (M.report b) tt (Ok (Some c.in-Ok-Some.stop)) was.heard does.heard);
-      fault = tt;
-      image = tt;
+      keeps = record { layout = does.keeps.layout ∙ was.layout; up = does.keeps.up; desk = does.keeps.desk };
+      speaks = reading_done (Some c.in-Ok-Some.stop) c.in-Ok-Some.stop (reading_then was.speaks does.speaks);
+      says = record {
+        read = record {
+          whole_replies = λ h. replies_then e.says (M.now a).said (M.now m).said (M.now b).said (so_far (does.speaks.trust.honest h)) (does.says.whole_replies h);
+          image = tt;
+        };
+        replies = λ end is h. read_says V.state V.holds M e c.read_on.new.reader (c.args.v.now, c.args.desk.now) a (c.read_on.new.v, c.read_on.new.desk) b c.in-Ok-Some.stop end (reads (g.met.M.Machine.honest_tells b h)).reads (ok_is _ c.in-Ok-Some.stop (Ended end) refl is) h;
+      };
+      input = record {
+        rose = rose_then (M.report a) (M.report m) (M.report b) (Some c.in-Ok-Some.stop) was.input does.input.rose;
+        quiet = tt;
+        whole = λ is t. does.input.whole (ap read_so (ok_is _ c.in-Ok-Some.stop (Ended Done) refl is)) was.going t;
+      };
       used = λ is h. absurd (ok_apart _ c.in-Ok-Some.stop (Stopped Ends.WornOut) refl is);
-      rose = rose_then (M.report a) (M.report m) (M.report b) (Some c.in-Ok-Some.stop) was.input does.rose;
-      quiet = tt;
-      whole_replies = λ h. replies_then e.says (M.now a).said (M.now m).said (M.now b).said (so_far (does.trust.honest h)) (does.whole_replies h);
-      replies = λ end is h. read_says V.state V.holds M e c.read_on.new.reader (c.args.v.now, c.args.desk.now) a (c.read_on.new.v, c.read_on.new.desk) b c.in-Ok-Some.stop end (reads (g.met.M.Machine.honest_tells b h)).reads (ok_is _ c.in-Ok-Some.stop (Ended end) refl is) h;
-      whole = λ is t. does.whole (ap read_so (ok_is _ c.in-Ok-Some.stop (Ended Done) refl is)) was.going t;
       reads = reads;
     }
 
@@ -104,34 +98,33 @@ returns-in-Err g c =
     let reads : M.tells b → WholeRead V.state V.holds M e (c.args.v.now, c.args.desk.now) a (c.read_on.new.v, c.read_on.new.desk) b (Err c.in-Err.end) =
     λ t. record {
       last = c.read_on.new.reader;
-      few = does.few;
-      reads = reads_then V.state V.holds M e fresh l.reader c.read_on.new.reader (c.args.v.now, c.args.desk.now) (l.v, l.desk) (c.read_on.new.v, c.read_on.new.desk) a m b (Err c.in-Err.end) was.later (record { honest = does.trust.honest; since = does.since; later = does.later }) (was.so_far (does.trust.tells t)) (does.reads t);
+      few = does.input.few;
+      reads = reads_then V.state V.holds M e fresh l.reader c.read_on.new.reader (c.args.v.now, c.args.desk.now) (l.v, l.desk) (c.read_on.new.v, c.read_on.new.desk) a m b (Err c.in-Err.end) was.speaks.later (reading_keeps does.speaks) (was.so_far (does.speaks.trust.tells t)) (does.reads t);
     } in
     record {
-      layout = does.layout ∙ was.layout;
-      attaches = λ t. does.attaches t ∙ was.attaches (does.trust.tells t);
-      trust = trusts_on was.trust does.trust;
-      since = since_on M a m b does.trust.honest was.since was.later does.since;
-      later = later_on M a m b does.trust.honest was.later does.later;
-      up = tt;
-      desk = does.desk;
-      heard = heard_end (M.report a) (M.report b) c.in-Err.end (heard_then (M.report a) (M.report m) (M.report b) tt (Err c.in-Err.end) was.heard does.heard);
-      fault = does.fault;
-      image = λ h. subst (λ (x : Layout). IsEndOn AreOfPage x (M.now b).image c.in-Err.end) was.layout (does.image h);
+      keeps = record { layout = does.keeps.layout ∙ was.layout; up = tt; desk = does.keeps.desk };
+      speaks = reading_ended c.in-Err.end (reading_then was.speaks does.speaks);
+      says = record {
+        read = record {
+          whole_replies = λ h. whole_then e.says (M.now a) (M.now m) (M.now b) c.in-Err.end (so_far (does.speaks.trust.honest h)) (does.says.whole_replies h);
+          image = λ h. subst (λ (x : Layout). IsEndOn AreOfPage x (M.now b).image c.in-Err.end) was.layout (does.says.image h);
+        };
+        replies = λ end is h. absurd (ok_apart _ (Ended end) c.in-Err.end is refl);
+      };
+      input = record {
+        rose = tt;
+        quiet = does.input.quiet ∙ was.input;
+        whole = λ is t. absurd (ok_apart _ (Ended Done) c.in-Err.end is refl);
+      };
       used = λ is h.
           let few = was.few in
-          may_before l.reader.given (max_input + 1) (V.state c.args.v.now) (V.state l.v) (omega (arith, few)) (was.numbers (does.trust.honest h)) (does.used (ap ended (err_is _ c.in-Err.end (Stopped Ends.WornOut) refl is)) h);
-      rose = tt;
-      quiet = does.quiet ∙ was.input;
-      whole_replies = λ h. whole_then e.says (M.now a) (M.now m) (M.now b) c.in-Err.end (so_far (does.trust.honest h)) (does.whole_replies h);
-      replies = λ end is h. absurd (ok_apart _ (Ended end) c.in-Err.end is refl);
-      whole = λ is t. absurd (ok_apart _ (Ended Done) c.in-Err.end is refl);
+          may_before l.reader.given (max_input + 1) (V.state c.args.v.now) (V.state l.v) (omega (arith, few)) (was.numbers (does.speaks.trust.honest h)) (does.numbers.used (ap ended (err_is _ c.in-Err.end (Stopped Ends.WornOut) refl is)) h);
       reads = reads;
     }
 
 pub loop-stop-smaller : goal.loop-stop-smaller
 loop-stop-smaller g c =
-    let on = subst (λ (o : Option Stop). GoesOn c.loop-stop.reader c.read_on.new.reader o) c.in-Ok-None.field-0-is c.in-Ok-None.ensures.on in
+    let on = subst (λ (o : Option Stop). GoesOnReading c.loop-stop.reader c.read_on.new.reader o) c.in-Ok-None.field-0-is c.in-Ok-None.ensures.input.on in
     let more = on.0 in
     let few = on.2 in
     omega (arith, more, few)
@@ -142,23 +135,18 @@ loop-stop-preserved g c =
     let M = g.M.Machine in
     let l = c.loop-stop in
     let was = l.invariant in
-    let on : Follows M c.args.m.now l.m = record { honest = was.trust.honest; since = was.since; later = was.later } in
-    let step : Follows M l.m c.read_on.new.m = record { honest = c.read_on.ensures.trust.honest; since = c.read_on.ensures.since; later = c.read_on.ensures.later } in
-    let both = follows_then M c.args.m.now l.m c.read_on.new.m on step in
-    let goes = subst (λ (o : Option Stop). GoesOn l.reader c.read_on.new.reader o) c.in-Ok-None.field-0-is c.in-Ok-None.ensures.on in
+    let does = c.in-Ok-None.ensures in
+    let step = reading_keeps does.speaks in
+    let goes = subst (λ (o : Option Stop). GoesOnReading l.reader c.read_on.new.reader o) c.in-Ok-None.field-0-is c.in-Ok-None.ensures.input.on in
     record {
-      layout = c.read_on.ensures.layout ∙ was.layout;
-      up = c.in-Ok-None.ensures.up;
-      desk = c.read_on.ensures.desk;
-      heard = heard_as (M.report c.args.m.now) (M.report c.read_on.new.m) c.in-Ok-None.field-0 tt (heard_then (M.report c.args.m.now) (M.report l.m) (M.report c.read_on.new.m) tt (Ok c.in-Ok-None.field-0) was.heard c.in-Ok-None.ensures.heard);
-      input = subst (λ (o : Option Stop). RoseBy (M.report l.m) (M.report c.read_on.new.m) o) c.in-Ok-None.field-0-is c.in-Ok-None.ensures.rose ∙ was.input;
-      attaches = λ t. c.read_on.ensures.attaches t ∙ was.attaches (c.read_on.ensures.trust.tells t);
-      trust = trusts_on was.trust c.read_on.ensures.trust;
-      since = both.since;
-      later = both.later;
+      layout = does.keeps.layout ∙ was.layout;
+      up = does.keeps.up;
+      desk = does.keeps.desk;
+      speaks = reading_done c.in-Ok-None.field-0 tt (reading_then was.speaks does.speaks);
+      input = subst (λ (o : Option Stop). RoseBy (M.report l.m) (M.report c.read_on.new.m) o) c.in-Ok-None.field-0-is does.input.rose ∙ was.input;
       few = goes.2;
-      numbers = λ h. goes_then l.reader.given c.read_on.new.reader.given (V.state c.args.v.now) (V.state l.v) (V.state c.read_on.new.v) goes.0 (was.numbers (c.read_on.ensures.trust.honest h)) (c.read_on.ensures.grows h);
+      numbers = λ h. goes_then l.reader.given c.read_on.new.reader.given (V.state c.args.v.now) (V.state l.v) (V.state c.read_on.new.v) goes.0 (was.numbers (does.speaks.trust.honest h)) (does.numbers.grows h);
       going = goes.1;
-      so_far = λ t. reads_then V.state V.holds M g.T.Says.errand fresh l.reader c.read_on.new.reader (c.args.v.now, c.args.desk.now) (l.v, l.desk) (c.read_on.new.v, c.read_on.new.desk) c.args.m.now l.m c.read_on.new.m (Ok None) was.later step (was.so_far (c.read_on.ensures.trust.tells t))
-          (subst (λ (o : Option Stop). Reads V.state V.holds M g.T.Says.errand l.reader c.read_on.new.reader (l.v, l.desk) l.m (c.read_on.new.v, c.read_on.new.desk) c.read_on.new.m (Ok o)) c.in-Ok-None.field-0-is (c.in-Ok-None.ensures.reads t));
+      so_far = λ t. reads_then V.state V.holds M g.T.Says.errand fresh l.reader c.read_on.new.reader (c.args.v.now, c.args.desk.now) (l.v, l.desk) (c.read_on.new.v, c.read_on.new.desk) c.args.m.now l.m c.read_on.new.m (Ok None) was.speaks.later step (was.so_far (does.speaks.trust.tells t))
+          (subst (λ (o : Option Stop). ReadsScript V.state V.holds M g.T.Says.errand l.reader c.read_on.new.reader (l.v, l.desk) l.m (c.read_on.new.v, c.read_on.new.desk) c.read_on.new.m (Ok o)) c.in-Ok-None.field-0-is (does.reads t));
     }

@@ -24,31 +24,31 @@ returns-in-Ok g c =
     let b = c.script_on.new.m in
     let e = c.in-Ok.ensures in
     let does = c.script_on.ensures in
-    let x : RunsOver g.V.Files.state M c.args.sectors c.in-Ok.v c.args.m.now c.mount.new.m c.script_on.new.m = record { disk = e.disk; fresh = e.opens.fresh; found = λ h. (e.tells h).found; rest = λ h. (e.heals h).rest; trust = does.trust } in
+    let x : RunsOver g.V.Files.state M c.args.sectors c.in-Ok.v c.args.m.now c.mount.new.m c.script_on.new.m = record { disk = e.disk; fresh = e.opens.fresh; found = λ h. (e.tells h).found; rest = λ h. (e.heals h).rest; trust = does.ends.run.trust } in
     record {
       ends = record {
-        status = does.status;
+        status = does.ends.run.status;
         trust = over_trust x;
-        last = does.last;
+        last = does.ends.run.last;
       };
       takes = record {
-        attaches = λ t. over_attaches x t (does.attaches t);
-        counts = over_taking x does.counts;
-        input = λ five t. over_fails x t (does.input five t);
-        fails = λ five h. over_says_input x (g.met.M.Machine.honest_tells b h) (does.fails five h);
+        attaches = λ t. over_attaches x t (does.takes.attaches t);
+        counts = over_taking x does.takes.counts;
+        input = λ five t. over_fails x t (does.takes.input five t);
+        fails = λ five h. over_says_input x (g.met.M.Machine.honest_tells b h) (does.takes.fails five h);
       };
       says = λ h. record {
-        bad = λ two t le. let reached = e.disk.later (does.trust.honest h) in
+        bad = λ two t le. let reached = e.disk.later (does.ends.run.trust.honest h) in
             subst (λ (before : List ℕ). SaysBadLine (M.left_since b t) (M.ledger c.args.m.now).input before (M.now b)) (over_said x h)
-            (subst (λ (input : List ℕ). SaysBadLine (M.left_since b t) input (M.now m).said (M.now b)) (over_input x (g.met.M.Machine.honest_tells b h)) (does.bad two h t (omega (arith, le, reached))));
-        all = λ zero t le. let reached = e.disk.later (does.trust.honest h) in
+            (subst (λ (input : List ℕ). SaysBadLine (M.left_since b t) input (M.now m).said (M.now b)) (over_input x (g.met.M.Machine.honest_tells b h)) ((does.says h).bad two t (omega (arith, le, reached))));
+        all = λ zero t le. let reached = e.disk.later (does.ends.run.trust.honest h) in
             subst (λ (before : List ℕ). SaysForced reply_text (M.left_since b t) (script_in (M.ledger c.args.m.now).input).0 before (M.now b).said) (over_said x h)
-            (subst (λ (input : List ℕ). SaysForced reply_text (M.left_since b t) (script_in input).0 (M.now m).said (M.now b).said) (over_input x (g.met.M.Machine.honest_tells b h)) (does.all zero h t (omega (arith, le, reached))));
+            (subst (λ (input : List ℕ). SaysForced reply_text (M.left_since b t) (script_in input).0 (M.now m).said (M.now b).said) (over_input x (g.met.M.Machine.honest_tells b h)) ((does.says h).all zero t (omega (arith, le, reached))));
       };
-      whole = λ zero t. record { whole = does.whole zero t; spelled = subst (λ (input : List ℕ). (script_in input).1 ≡ Done) (over_input x t) (does.spelled zero t) };
-      image = λ h. over_image x true AreOfPage None c.script_on.result h (λ three. does.says three h) (λ nine. let many = new_may (max_input + 1) (g.V.Files.state c.in-Ok.v) e.opens.fresh (does.spent nine h) in omega (arith, many));
+      whole = λ zero t. record { whole = (does.whole zero t).whole; spelled = subst (λ (input : List ℕ). (script_in input).1 ≡ Done) (over_input x t) (does.whole zero t).spelled };
+      image = λ h. over_image x true AreOfPage None c.script_on.result h (does.tells h).says (λ nine. let many = new_may (max_input + 1) (g.V.Files.state c.in-Ok.v) e.opens.fresh ((does.tells h).spent nine) in omega (arith, many));
       leaves = λ h was at held.
-          over_leaves x g.V.Files.holds Script (M.ledger c.args.m.now).input (M.ledger b).input was c.script_on.result h does.since (λ y t. g.met.M.Machine.counts_now y t) (timed_by M g.met.M.Machine.dated g.met.M.Machine.history g.met.M.Machine.counts_now g.met.M.Machine.only_now) held (e.sound (does.trust.honest h) was.layout was.windows was.changes was.forced at)
+          over_leaves x g.V.Files.holds Script (M.ledger c.args.m.now).input (M.ledger b).input was c.script_on.result h does.ends.since (λ y t. g.met.M.Machine.counts_now y t) (timed_by M g.met.M.Machine.dated g.met.M.Machine.history g.met.M.Machine.counts_now g.met.M.Machine.only_now) held (e.sound (does.ends.run.trust.honest h) was.layout was.windows was.changes was.forced at)
           (λ k none idle stands disk. subst (λ (input : List ℕ). RunsOut M Script input (M.ledger b).input (M.report m) k m b c.script_on.result) (over_input x (g.met.M.Machine.honest_tells b h)) (does.runs h k idle stands disk));
     }
 

@@ -15,9 +15,7 @@ returns-in-Plain g c =
     let does = c.answer.ensures in
     let of = desk_on (V.state v) (V.state w) desk does.layout does.opened c.requires.desk in
     rw c.in-Plain.is (record {
-      layout = does.layout;
-      up = does.up;
-      desk = of;
+      keeps = record { layout = does.layout; up = does.up; desk = of };
       disk = writes_more does.disk (λ h left stays. stays_in V.state V.holds (v, desk) old left stays);
       fault = does.fault;
       answers = λ h. let says = does.answers h in record { replies = says.replies; worn = says.worn; numbers = says.numbers; told = says.told };

@@ -2,7 +2,7 @@ use Rattle.std.proofs.Common.{◌≡◌, List, ℕ, length, refl, sym, ◌∙◌
 use Rattle.sector_disk.specs.Machine.{Ledger, Wears}
 use Rattle.sector_disk.proofs.CallLaws.{leaves_none, takes_then}
 use Rattle.sector_disk.proofs.Holding.{wears_none}
-use Rattle.script_text.specs.Taking.{Comes}
+use Rattle.script_text.specs.Taking.{ComesIn}
 use Rattle.volume_turns.specs.declared.taking.InputFault.TheVariants.{TooLong}
 use Rattle.volume_turns.proofs.TakingLaws.{SoFar, nothing_so_far, so_far_more, whole_so_far}
 use Rattle.volume_turns.proofs.taking.read_input.Goals as goal
@@ -57,12 +57,12 @@ returns-then-count-eq0-clause-whole g c t =
     let new = c.take_piece.new.bytes in
     let before = M.ledger c.loop.m in
     let now = M.ledger c.take_piece.new.m in
-    whole_so_far (M.ledger c.args.m.now) before now old new (c.loop.invariant.taken (c.take_piece.ensures.calls.trust.tells t)) (subst (λ (n : ℕ). Comes old new n before now) c.if-count-eq0.true (c.in-Ok.ensures.comes t))
+    whole_so_far (M.ledger c.args.m.now) before now old new (c.loop.invariant.taken (c.take_piece.ensures.calls.trust.tells t)) (subst (λ (n : ℕ). ComesIn old new n before now) c.if-count-eq0.true (c.in-Ok.ensures.comes t))
 
 pub returns-then-count-eq0-clause-end : goal.returns-then-count-eq0-clause-end
 returns-then-count-eq0-clause-end g c t =
     let M = g.M.Machine in
-    let comes = subst (λ (n : ℕ). Comes c.loop.bytes c.take_piece.new.bytes n (M.ledger c.loop.m) (M.ledger c.take_piece.new.m)) c.if-count-eq0.true (c.in-Ok.ensures.comes t) in
+    let comes = subst (λ (n : ℕ). ComesIn c.loop.bytes c.take_piece.new.bytes n (M.ledger c.loop.m) (M.ledger c.take_piece.new.m)) c.if-count-eq0.true (c.in-Ok.ensures.comes t) in
     ap (λ (l : Ledger). l.input) comes.left ∙ comes.end refl
 
 pub returns-then-count-eq0-clause-few : goal.returns-then-count-eq0-clause-few

@@ -16,11 +16,13 @@ returns-in_default g c =
     let text = g.T.Says.errand.says reply in
     let forces = g.T.Says.errand.forces reply in
     record {
-      told = record { sectors = refl; disk = (refl, refl); input = refl; later = omega arith; output = refl };
-      trust = record { tells = λ t. t; honest = λ h. h };
-      ledger = λ t. refl;
-      fault = tt;
-      since = λ h t left le was. was;
+      says = record {
+        told = record { sectors = refl; disk = (refl, refl); input = refl; later = omega arith; output = refl };
+        fault = tt;
+        ledger = λ t. refl;
+        trust = record { tells = λ t. t; honest = λ h. h };
+        since = λ h t left le was. was;
+      };
       moments = λ h. started M.moment M.left_since a (M.now a) (UttersBehind forces text (M.now a)) (λ left was. g.met.M.Machine.only_now a left h was) (record { utters = utters_same text (M.now a); synced = λ is. inl refl });
       synced = tt;
       said = tt;
@@ -40,11 +42,7 @@ returns-then-forces g c =
     let said = c.say_forced.ensures in
     let result = c.say_forced.result in
     record {
-      told = said.told;
-      trust = said.trust;
-      ledger = said.ledger;
-      fault = said.fault;
-      since = said.since;
+      says = said.says;
       moments = λ h. subst (λ (f : Bool). LeavesOnly M.moment M.left_since a b (UttersBehind f text (M.now a))) (sym so) (subst (λ (x : List ℕ). LeavesOnly M.moment M.left_since a b (UttersBehind true x (M.now a))) is (said.moments h));
       synced = on_ok_then result (λ late all h. late h) said.synced;
       said = on_ok_then result (λ all h. subst (λ (x : List ℕ). SaysAll x (M.now a) (M.now b)) is (all h)) said.said;
@@ -64,11 +62,13 @@ returns g c =
     let said = c.say_bytes.ensures in
     let result = c.say_bytes.result in
     record {
-      told = said.told;
-      trust = said.trust;
-      ledger = said.ledger;
-      fault = output_ends IsEndOfVolume tt result said.output;
-      since = said.since;
+      says = record {
+        told = said.says.told;
+        fault = output_ends IsEndOfVolume tt result said.output;
+        ledger = said.says.ledger;
+        trust = said.says.trust;
+        since = said.says.since;
+      };
       moments = λ h. leaves_more M.moment M.left_since a b (Utters text (M.now a)) (UttersBehind forces text (M.now a)) (λ left u. record { utters = u; synced = λ all. absurd (cc (all, none)) })
           (subst (λ (x : List ℕ). LeavesOnly M.moment M.left_since a b (Utters x (M.now a))) is (said.moments h));
       synced = on_ok_so result (λ all h. absurd (cc (all, none)));

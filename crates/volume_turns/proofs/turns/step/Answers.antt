@@ -1,17 +1,18 @@
-use Rattle.std.proofs.Common.{◌≡◌, ◌≤◌, List, ap, subst}
+use Rattle.std.proofs.Common.{◌≡◌, ◌≤◌, List, refl, ap, subst}
 use Rattle.std.specs.Prelude.{Err, IsTrue}
 use Rattle.fsd_texts.specs.declared.fault.Fault.{Fault}
 use Rattle.fsd_texts.specs.declared.fault.Fault.TheVariants as Ends
 use Rattle.sector_disk.specs.Image.{AreShort, Windows}
 use Rattle.volume_turns.specs.Calls.{MayLoseIn}
 use Rattle.volume_turns.specs.Turns.{SaysAll, Unsaid}
-use Rattle.volume_turns.proofs.RunLaws.{step_said, step_fault, told_fault, on_ok_said, on_err_said}
+use Rattle.volume_turns.proofs.RunLaws.{step_said, step_fault, on_ok_said, on_err_said}
 use Rattle.client_desk.specs.declared.client.Client.{Client}
 use Rattle.volume_turns.proofs.SeatLaws.{seat_wears}
 use Rattle.volume_turns.proofs.AnsweringLaws.{says_so}
 use Rattle.volume_turns.proofs.EachLaws.{once_by}
 use Rattle.volume_turns.proofs.SaidLaws.{no_replies, whole_by}
-use Rattle.volume_turns.proofs.SayLaws.{on_ok_then, timed_by}
+use Rattle.volume_turns.proofs.SayLaws.{on_ok_so, on_ok_then, timed_by}
+use Rattle.volume_turns.proofs.SpeaksLaws.{speaks_behind, speaks_failed, speaks_text}
 use Rattle.volume_turns.proofs.ToldLaws.{unsaid_on}
 use Rattle.volume_turns.proofs.WornLaws.{unsaid_unworn}
 use Rattle.volume_turns.proofs.NumberLaws.{worn_may}
@@ -23,18 +24,15 @@ returns-in-Ok-clause-steps g c h k f from stood aged held =
     let M = g.M.Machine in
     let a = c.args.m.now in
     let v : g.row.V.Denot × List Client = (c.args.v.now, c.args.desk.now) in
-    let back = c.say.ensures.trust.honest h in
+    let back = c.say.ensures.says.trust.honest h in
     let disk = c.answer_in.ensures.disk in
     let first = disk.trust.honest back in
     let short = λ (m : g.row.M.Denot) (x : M.honest m). g.met.M.Machine.short m x in
     let at = seat_wears V.state V.holds g.met.V.Files.wears v k from (M.now a) (subst (λ (w : Windows). AreShort w) aged.windows (short a first)) aged stood in
     let does = c.in-Ok.ensures.done back k at in
-    step_said V.state V.holds M g.met.V.Files.wears short (timed_by M g.met.M.Machine.dated g.met.M.Machine.history g.met.M.Machine.counts_now g.met.M.Machine.only_now) g.T.Says.errand c.requires.lazily c.args.c.now v (c.answer_in.new.v, c.answer_in.new.desk) a c.answer_in.new.m c.say.new.m k f from stood aged at _ c.in-Ok.ensures.disk back (c.say.ensures.since h) held
-    does.0 c.in-Ok.answer does.1 does.2 c.in-Ok.ensures.layout (timed_by M g.met.M.Machine.dated g.met.M.Machine.history g.met.M.Machine.counts_now g.met.M.Machine.only_now c.say.new.m h) (c.say.ensures.moments h) c.say.result (on_ok_said (SaysAll (g.T.Says.errand.says c.in-Ok.answer) (M.now c.answer_in.new.m) (M.now c.say.new.m)) c.say.result h c.say.ensures.said)
+    step_said V.state V.holds M g.met.V.Files.wears short (timed_by M g.met.M.Machine.dated g.met.M.Machine.history g.met.M.Machine.counts_now g.met.M.Machine.only_now) g.T.Says.errand c.requires.lazily c.args.c.now v (c.answer_in.new.v, c.answer_in.new.desk) a c.answer_in.new.m c.say.new.m k f from stood aged at _ c.in-Ok.ensures.disk back (c.say.ensures.says.since h) held
+    does.0 c.in-Ok.answer does.1 does.2 c.in-Ok.ensures.keeps.layout (timed_by M g.met.M.Machine.dated g.met.M.Machine.history g.met.M.Machine.counts_now g.met.M.Machine.only_now c.say.new.m h) (c.say.ensures.moments h) c.say.result (on_ok_said (SaysAll (g.T.Says.errand.says c.in-Ok.answer) (M.now c.answer_in.new.m) (M.now c.say.new.m)) c.say.result h c.say.ensures.said)
     (on_ok_then c.say.result (λ (x : IsTrue (g.T.Says.errand.forces c.in-Ok.answer) → M.honest c.say.new.m → (M.now c.answer_in.new.m).time ≤ (M.now c.say.new.m).synced) forces. x forces h) c.say.ensures.synced) (on_err_said (Unsaid (M.now c.answer_in.new.m) (M.now c.say.new.m)) c.say.result h c.say.ensures.unsaid)
-
-pub returns-in-Err-clause-told : goal.returns-in-Err-clause-told
-returns-in-Err-clause-told g c = told_fault (g.M.Machine.report c.args.m.now) (g.M.Machine.report c.answer_in.new.m) c.in-Err.fault c.in-Err.ensures.disk.uses c.in-Err.ensures.disk.faults
 
 pub returns-in-Err-clause-steps : goal.returns-in-Err-clause-steps
 returns-in-Err-clause-steps g c h k f from stood aged held =
@@ -51,25 +49,28 @@ returns-in-Err-clause-steps g c h k f from stood aged held =
 
 -- ---- what is said
 
-pub returns-in-Ok-clause-whole_replies : goal.returns-in-Ok-clause-whole_replies
-returns-in-Ok-clause-whole_replies g c h =
-    let now = g.M.Machine.now in
+pub returns-in-Ok-clause-says : goal.returns-in-Ok-clause-says
+returns-in-Ok-clause-says g c =
+    let M = g.M.Machine in
     let says = g.T.Says.errand.says in
     let reply = c.in-Ok.answer in
-    let m = now c.answer_in.new.m in
-    let b = now c.say.new.m in
-    whole_by says (now c.args.m.now) m b reply (c.in-Ok.ensures.disk.quiet (c.say.ensures.trust.honest h)) c.say.result
-    (says_so (says reply) m b c.say.result (on_ok_said (SaysAll (says reply) m b) c.say.result h c.say.ensures.said) (on_err_said (Unsaid m b) c.say.result h c.say.ensures.unsaid))
+    let a = M.now c.args.m.now in
+    let m = M.now c.answer_in.new.m in
+    let b = M.now c.say.new.m in
+    let say = c.say.ensures in
+    let result = c.say.result in
+    let disk = c.in-Ok.ensures.disk in
+    record {
+      whole_replies = λ h. whole_by says a m b reply (disk.quiet (say.says.trust.honest h)) result
+          (says_so (says reply) m b result (on_ok_said (SaysAll (says reply) m b) result h say.said) (on_err_said (Unsaid m b) result h say.unsaid));
+      once = once_by says c.args.c.now reply (M.honest c.say.new.m) (M.honest c.answer_in.new.m) a m b say.says.trust.honest disk.quiet (λ h. (c.in-Ok.ensures.answers h).replies) result say.said;
+    }
 
-pub returns-in-Err-clause-whole_replies : goal.returns-in-Err-clause-whole_replies
-returns-in-Err-clause-whole_replies g c h = no_replies g.T.Says.errand.says (g.M.Machine.now c.args.m.now).said (g.M.Machine.now c.answer_in.new.m).said (c.in-Err.ensures.disk.quiet h)
-
-pub returns-in-Ok-clause-once : goal.returns-in-Ok-clause-once
-returns-in-Ok-clause-once g c =
-    let M = g.M.Machine in
-    let m = c.answer_in.new.m in
-    let b = c.say.new.m in
-    once_by g.T.Says.errand.says c.args.c.now c.in-Ok.answer (M.honest b) (M.honest m) (M.now c.args.m.now) (M.now m) (M.now b) c.say.ensures.trust.honest c.in-Ok.ensures.disk.quiet (λ h. (c.in-Ok.ensures.answers h).replies) c.say.result c.say.ensures.said
+pub returns-in-Err-clause-says : goal.returns-in-Err-clause-says
+returns-in-Err-clause-says g c = record {
+  whole_replies = λ h. no_replies g.T.Says.errand.says (g.M.Machine.now c.args.m.now).said (g.M.Machine.now c.answer_in.new.m).said (c.in-Err.ensures.disk.quiet h);
+  once = tt;
+}
 
 -- ---- what is told of the image
 
@@ -84,19 +85,33 @@ returns-in-Err-clause-image g c h = (c.in-Err.ensures.answers h).told
 
 -- ---- the numbers of a mount
 
-pub returns-in-Ok-clause-grows : goal.returns-in-Ok-clause-grows
-returns-in-Ok-clause-grows g c h = (c.answer_in.ensures.answers (c.say.ensures.trust.honest h)).numbers
-
-pub returns-in-Err-clause-grows : goal.returns-in-Err-clause-grows
-returns-in-Err-clause-grows g c h = (c.answer_in.ensures.answers h).numbers
-
-pub returns-in-Ok-clause-used : goal.returns-in-Ok-clause-used
-returns-in-Ok-clause-used g c is h =
+pub returns-in-Ok-clause-numbers : goal.returns-in-Ok-clause-numbers
+returns-in-Ok-clause-numbers g c =
     let m = g.M.Machine.now c.answer_in.new.m in
     let b = g.M.Machine.now c.say.new.m in
-    absurd (unsaid_unworn m b c.say.result (on_err_said (Unsaid m b) c.say.result h c.say.ensures.unsaid) is)
+    record {
+      grows = λ h. (c.answer_in.ensures.answers (c.say.ensures.says.trust.honest h)).numbers;
+      used = λ is h. absurd (unsaid_unworn m b c.say.result (on_err_said (Unsaid m b) c.say.result h c.say.ensures.unsaid) is);
+    }
 
-pub returns-in-Err-clause-used : goal.returns-in-Err-clause-used
-returns-in-Err-clause-used g c is h =
-    let e : c.in-Err.fault ≡ Ends.WornOut = cc is in
-    worn_may (g.V.Files.state c.args.v.now) ((c.in-Err.ensures.answers h).worn (ap (λ (w : Fault). Err w) e))
+pub returns-in-Err-clause-numbers : goal.returns-in-Err-clause-numbers
+returns-in-Err-clause-numbers g c = record {
+  grows = λ h. (c.answer_in.ensures.answers h).numbers;
+  used = λ is h.
+      let e : c.in-Err.fault ≡ Ends.WornOut = cc is in
+      worn_may (g.V.Files.state c.args.v.now) ((c.in-Err.ensures.answers h).worn (ap (λ (w : Fault). Err w) e));
+}
+
+-- ---- what it asks for and keeps
+
+pub returns-in-Ok-clause-speaks : goal.returns-in-Ok-clause-speaks
+returns-in-Ok-clause-speaks g c = speaks_behind c.in-Ok.ensures.disk (speaks_text c.say.ensures.says (λ h. (c.say.ensures.moments h).later))
+
+pub returns-in-Err-clause-speaks : goal.returns-in-Err-clause-speaks
+returns-in-Err-clause-speaks g c = speaks_failed c.in-Err.fault refl c.in-Err.ensures.fault c.in-Err.ensures.disk
+
+pub returns-in-Ok-clause-keeps : goal.returns-in-Ok-clause-keeps
+returns-in-Ok-clause-keeps g c = let keeps = c.in-Ok.ensures.keeps in record { layout = keeps.layout; up = on_ok_so c.say.result keeps.up; desk = keeps.desk }
+
+pub returns-in-Err-clause-keeps : goal.returns-in-Err-clause-keeps
+returns-in-Err-clause-keeps g c = let keeps = c.in-Err.ensures.keeps in record { layout = keeps.layout; up = tt; desk = keeps.desk }

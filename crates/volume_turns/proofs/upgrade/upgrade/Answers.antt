@@ -8,7 +8,7 @@ use Rattle.volume_contract.specs.Ends.{device_of}
 use Rattle.volume_contract.specs.Order.{is_root}
 use Rattle.volume_contract.specs.State.{State}
 use Rattle.fsd_files.specs.declared.reply.Reply.{Reply}
-use Rattle.volume_turns.specs.Answering.{Answers}
+use Rattle.volume_turns.specs.Answering.{MayAnswer}
 use Rattle.volume_turns.specs.Reasons.{BecauseUpgraded}
 use Rattle.volume_turns.specs.Steps.{Does, Stays, device_by}
 use Rattle.volume_turns.specs.Upgrade.{EndsState}
@@ -28,29 +28,25 @@ returns-in-Ok-clause-disk g c =
 pub returns-in-Ok-clause-ends : goal.returns-in-Ok-clause-ends
 returns-in-Ok-clause-ends g c = (upgrade_through (g.V.Files.state c.args.v.now) c.in-Ok.ensures.order.follows, c.in-Ok.ensures.state)
 
-pub returns-in-Ok-clause-answers : goal.returns-in-Ok-clause-answers
-returns-in-Ok-clause-answers g c h =
+pub returns-in-Ok-clause-tells : goal.returns-in-Ok-clause-tells
+returns-in-Ok-clause-tells g c =
     let s = g.V.Files.state c.args.v.now in
     let e = c.in-Ok.ensures in
     record {
-      replies = tt;
-      rest = e.writes.rest h;
-      still = ap (λ (x : State). x.dirty) e.state;
-      worn = λ is. absurd (cc is);
-      numbers = upgrade_goes s (g.V.Files.state c.upgrade.new.self) (ap (λ (x : State). x.serial.count) e.state) (ap (λ (x : State). x.head.number) e.state);
-      told = tt;
+      answers = λ h. record {
+        replies = tt;
+        rest = e.writes.rest h;
+        still = ap (λ (x : State). x.dirty) e.state;
+        worn = λ is. absurd (cc is);
+        numbers = upgrade_goes s (g.V.Files.state c.upgrade.new.self) (ap (λ (x : State). x.serial.count) e.state) (ap (λ (x : State). x.head.number) e.state);
+        told = tt;
+      };
+      written = e.writes.counted;
+      because = λ h. (upgrade_through s e.order.follows, ap (λ (x : State). x.layout) e.state, e.roots h);
     }
 
 pub returns-in-Ok-clause-idle : goal.returns-in-Ok-clause-idle
 returns-in-Ok-clause-idle g c = c.in-Ok.ensures.order.idle
-
-pub returns-in-Ok-clause-written : goal.returns-in-Ok-clause-written
-returns-in-Ok-clause-written g c t = c.in-Ok.ensures.writes.counted t
-
-pub returns-in-Ok-clause-because : goal.returns-in-Ok-clause-because
-returns-in-Ok-clause-because g c h =
-    let e = c.in-Ok.ensures in
-    (upgrade_through (g.V.Files.state c.args.v.now) e.order.follows, ap (λ (x : State). x.layout) e.state, e.roots h)
 
 pub returns-in-Ok-clause-done : goal.returns-in-Ok-clause-done
 returns-in-Ok-clause-done g c h k stands =
@@ -77,36 +73,31 @@ returns-in-Err-clause-ends g c =
     let kept = upgrade_kept s t c.requires.up c.in-Err.why c.in-Err.ensures.state in
     upgrade_refused (λ r. EndsState s t r) s t c.in-Err.why c.ended_by.result c.ended_by.ensures.is kept (λ done. (refl, done.1, done.2)) (λ place is down. down)
 
-pub returns-in-Err-clause-answers : goal.returns-in-Err-clause-answers
-returns-in-Err-clause-answers g c h =
+pub returns-in-Err-clause-tells : goal.returns-in-Err-clause-tells
+returns-in-Err-clause-tells g c =
     let s = g.V.Files.state c.args.v.now in
     let t = g.V.Files.state c.upgrade.new.self in
     let e = c.in-Err.ensures in
-    let kept = upgrade_kept s t c.requires.up c.in-Err.why e.state in
-    let by = λ (r : Result Reply Fault). Answers Word.Upgrade s t (g.M.Machine.now c.args.m.now) (g.M.Machine.now c.upgrade.new.m) r in
-    upgrade_refused by s t c.in-Err.why c.ended_by.result c.ended_by.ensures.is kept
-    (λ done. record { replies = refl; rest = e.writes.rest h; still = ap (λ (x : State). x.dirty) done.2; worn = λ is. absurd (cc is); numbers = goes_none 1 s t done.2; told = tt })
-    (λ place is down. record {
-      replies = tt;
-      rest = e.writes.rest h;
-      still = ap (λ (x : State). x.dirty) down;
-      worn = λ is. absurd (cc is);
-      numbers = upgrade_goes s t (ap (λ (x : State). x.serial.count) down) (ap (λ (x : State). x.head.number) down);
-      told = tt;
-    })
+    let why = c.in-Err.why in
+    let kept = upgrade_kept s t c.requires.up why e.state in
+    let by = λ (r : Result Reply Fault). MayAnswer Word.Upgrade s t (g.M.Machine.now c.args.m.now) (g.M.Machine.now c.upgrade.new.m) r in
+    record {
+      answers = λ h. upgrade_refused by s t why c.ended_by.result c.ended_by.ensures.is kept
+          (λ done. record { replies = refl; rest = e.writes.rest h; still = ap (λ (x : State). x.dirty) done.2; worn = λ is. absurd (cc is); numbers = goes_none 1 s t done.2; told = tt })
+          (λ place is down. record {
+            replies = tt;
+            rest = e.writes.rest h;
+            still = ap (λ (x : State). x.dirty) down;
+            worn = λ is. absurd (cc is);
+            numbers = upgrade_goes s t (ap (λ (x : State). x.serial.count) down) (ap (λ (x : State). x.head.number) down);
+            told = tt;
+          });
+      written = λ t. refused_written 2 (g.M.Machine.ledger c.args.m.now) (g.M.Machine.ledger c.upgrade.new.m) why c.ended_by.result c.ended_by.ensures.is (e.writes.counted t);
+      because = λ h. upgrade_refused (λ r. IfOk r (λ a. BecauseUpgraded s t (g.M.Machine.now c.upgrade.new.m) a)) s t why c.ended_by.result c.ended_by.ensures.is kept (λ done. done.1) (λ place is down. tt);
+    }
 
 pub returns-in-Err-clause-idle : goal.returns-in-Err-clause-idle
 returns-in-Err-clause-idle g c = c.in-Err.ensures.order.idle
-
-pub returns-in-Err-clause-written : goal.returns-in-Err-clause-written
-returns-in-Err-clause-written g c t = refused_written 2 (g.M.Machine.ledger c.args.m.now) (g.M.Machine.ledger c.upgrade.new.m) c.in-Err.why c.ended_by.result c.ended_by.ensures.is (c.in-Err.ensures.writes.counted t)
-
-pub returns-in-Err-clause-because : goal.returns-in-Err-clause-because
-returns-in-Err-clause-because g c h =
-    let s = g.V.Files.state c.args.v.now in
-    let t = g.V.Files.state c.upgrade.new.self in
-    let kept = upgrade_kept s t c.requires.up c.in-Err.why c.in-Err.ensures.state in
-    upgrade_refused (λ r. IfOk r (λ a. BecauseUpgraded s t (g.M.Machine.now c.upgrade.new.m) a)) s t c.in-Err.why c.ended_by.result c.ended_by.ensures.is kept (λ done. done.1) (λ place is down. tt)
 
 pub returns-in-Err-clause-done : goal.returns-in-Err-clause-done
 returns-in-Err-clause-done g c h k stands =

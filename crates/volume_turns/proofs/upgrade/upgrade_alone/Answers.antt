@@ -7,9 +7,9 @@ use Rattle.fsd_texts.specs.declared.fault.Fault.TheVariants as Ends
 use Rattle.fsd_runs.specs.Commands.{reply_alone, reply_status}
 use Rattle.scrub.specs.Telling.{AreOfPage}
 use Rattle.volume_contract.specs.State.{State, forced_of}
-use Rattle.volume_turns.specs.declared.turns.End.{End}
-use Rattle.volume_turns.specs.declared.turns.End.TheVariants.{Fault as Stopped}
-use Rattle.volume_turns.specs.Answering.{Answers}
+use Rattle.volume_turns.specs.declared.turns.Halt.{Halt}
+use Rattle.volume_turns.specs.declared.turns.Halt.TheVariants.{Fault as Stopped}
+use Rattle.volume_turns.specs.Answering.{MayAnswer}
 use Rattle.volume_turns.specs.Commands.{IsStatusFrom}
 use Rattle.volume_turns.specs.Once.{ClosesAndSays, unit_of}
 use Rattle.volume_turns.specs.Reasons.{BecauseUpgraded}
@@ -21,6 +21,7 @@ use Rattle.volume_turns.proofs.LineLaws.{wants_not}
 use Rattle.volume_turns.proofs.OnceLaws.{alone_answered, alone_fault, alone_unbegun, answered_held}
 use Rattle.volume_turns.proofs.SayLaws.{timed_by}
 use Rattle.volume_turns.proofs.StatusLaws.{status_at}
+use Rattle.volume_turns.proofs.SpeaksLaws.{speaks_behind, speaks_done, speaks_ended, speaks_failed, speaks_none, speaks_text}
 use Rattle.volume_turns.proofs.ToldLaws.{unsaid_told}
 use Rattle.volume_turns.proofs.UpgradeLaws.{ends_done, ends_unworn, ends_upgraded, upgraded_alone, upgraded_answers}
 use Rattle.volume_turns.proofs.upgrade.upgrade_alone.Goals as goal
@@ -45,13 +46,13 @@ returns-in-Ok-say_forced-clause-does g c h k none idle stands on =
     let b = c.say_forced.new.m in
     let e = c.in-Ok-upgrade.ensures in
     let say = c.say_forced.ensures in
-    let back = say.trust.honest h in
+    let back = say.says.trust.honest h in
     let is : c.in-Ok-upgrade.answer ≡ Said.Upgraded = ends_upgraded c.in-Ok-upgrade.answer (sym c.is_upgraded.ensures ∙ c.if-is_upgraded.true) in
     let ends = subst (λ (x : Reply). EndsState (V.state v) (V.state w) (Ok x)) is e.ends in
-    let because = subst (λ (x : Reply). BecauseUpgraded (V.state v) (V.state w) (M.now m) x) is (e.because back) in
+    let because = subst (λ (x : Reply). BecauseUpgraded (V.state v) (V.state w) (M.now m) x) is (e.tells.because back) in
     let does = subst (λ (x : Reply). Does V.state V.holds Word.Upgrade v w k (M.now a) (M.now m) (Ok x)) is (e.done back k stands) in
     let timed = timed_by M g.met.M.Machine.dated g.met.M.Machine.history g.met.M.Machine.counts_now g.met.M.Machine.only_now in
-    upgraded_alone V.state V.holds M g.met.V.Files.wears (λ x honest. g.met.M.Machine.short x honest) timed v w a m b k idle none stands on _ e.disk back (say.since h) ends.0 ends.1 because.2 does
+    upgraded_alone V.state V.holds M g.met.V.Files.wears (λ x honest. g.met.M.Machine.short x honest) timed v w a m b k idle none stands on _ e.disk back (say.says.since h) ends.0 ends.1 because.2 does
     c.as_slice.result.now (c.as_slice.ensures.value ∙ c.in-Ok.ensures ∙ ap (λ (says : Reply → List ℕ). says Said.Upgraded) c.requires.says) h (say.moments h) (Ok 0) (λ wrong. absurd (cc wrong)) refl
     (c.in-Ok-say_forced.ensures.said h) (c.in-Ok-say_forced.ensures.synced h) tt
 
@@ -68,11 +69,11 @@ returns-then-is_upgraded-clause-answers g c h =
     let m = c.upgrade.new.m in
     let b = c.say_forced.new.m in
     let e = c.in-Ok-upgrade.ensures in
-    let back = c.say_forced.ensures.trust.honest h in
+    let back = c.say_forced.ensures.says.trust.honest h in
     let end = c.in-Err-say_forced.end in
-    let r : Result (Unit {0}) End = Err end in
+    let r : Result (Unit {0}) Halt = Err end in
     let is : c.in-Ok-upgrade.answer ≡ Said.Upgraded = ends_upgraded c.in-Ok-upgrade.answer (sym c.is_upgraded.ensures ∙ c.if-is_upgraded.true) in
-    let answers = subst (λ (x : Reply). Answers Word.Upgrade s t (M.now a) (M.now m) (Ok x)) is (e.answers back) in
+    let answers = subst (λ (x : Reply). MayAnswer Word.Upgrade s t (M.now a) (M.now m) (Ok x)) is (e.tells.answers back) in
     let run = c.say_forced.ensures.moments h in
     let utters = (run.each (M.now b) (g.met.M.Machine.counts_now b (M.moment m) h run.later)).utters in
     let unsaid = c.in-Err-say_forced.ensures.unsaid h in
@@ -90,14 +91,14 @@ returns-then-is_upgraded-clause-does g c h k none idle stands on =
     let b = c.say_forced.new.m in
     let e = c.in-Ok-upgrade.ensures in
     let say = c.say_forced.ensures in
-    let back = say.trust.honest h in
+    let back = say.says.trust.honest h in
     let end = c.in-Err-say_forced.end in
     let is : c.in-Ok-upgrade.answer ≡ Said.Upgraded = ends_upgraded c.in-Ok-upgrade.answer (sym c.is_upgraded.ensures ∙ c.if-is_upgraded.true) in
     let ends = subst (λ (x : Reply). EndsState (V.state v) (V.state w) (Ok x)) is e.ends in
-    let because = subst (λ (x : Reply). BecauseUpgraded (V.state v) (V.state w) (M.now m) x) is (e.because back) in
+    let because = subst (λ (x : Reply). BecauseUpgraded (V.state v) (V.state w) (M.now m) x) is (e.tells.because back) in
     let does = subst (λ (x : Reply). Does V.state V.holds Word.Upgrade v w k (M.now a) (M.now m) (Ok x)) is (e.done back k stands) in
     let timed = timed_by M g.met.M.Machine.dated g.met.M.Machine.history g.met.M.Machine.counts_now g.met.M.Machine.only_now in
-    upgraded_alone V.state V.holds M g.met.V.Files.wears (λ x honest. g.met.M.Machine.short x honest) timed v w a m b k idle none stands on _ e.disk back (say.since h) ends.0 ends.1 because.2 does
+    upgraded_alone V.state V.holds M g.met.V.Files.wears (λ x honest. g.met.M.Machine.short x honest) timed v w a m b k idle none stands on _ e.disk back (say.says.since h) ends.0 ends.1 because.2 does
     c.as_slice.result.now (c.as_slice.ensures.value ∙ c.in-Ok.ensures ∙ ap (λ (says : Reply → List ℕ). says Said.Upgraded) c.requires.says) h (say.moments h) (Err end)
     (λ is. let same : end ≡ Stopped Ends.Memory = cc is in absurd (subst WantsNone same c.in-Err-say_forced.ensures.wants tt)) tt tt tt (c.in-Err-say_forced.ensures.unsaid h)
 
@@ -114,14 +115,14 @@ returns-in-Ok-upgrade-clause-does g c h k none idle stands on =
     let b = c.close_as.new.m in
     let e = c.in-Ok-upgrade.ensures in
     let close = c.close_as.ensures in
-    let back = close.trust.honest h in
+    let back = close.speaks.trust.honest h in
     let done = ends_done (V.state v) (V.state w) c.in-Ok-upgrade.answer (sym c.is_upgraded.ensures ∙ c.if-is_upgraded.false) e.ends in
     let does = e.done back k stands in
     let reply = c.in-Ok-upgrade.answer in
     let layout = ap (λ (x : State). x.layout) done.2 in
     let timed = timed_by M g.met.M.Machine.dated g.met.M.Machine.history g.met.M.Machine.counts_now g.met.M.Machine.only_now in
-    let held = answered_held V.state V.holds M g.met.V.Files.wears (λ x honest. g.met.M.Machine.short x honest) timed Word.Upgrade v w a m b k idle stands on _ e.disk back (close.since h) does.0 reply does.1 does.2 layout in
-    alone_answered V.state V.holds M g.met.V.Files.wears (λ x honest. g.met.M.Machine.short x honest) timed Word.Upgrade v w a m b k idle stands on _ e.disk back (close.since h) does.0 reply does.1 does.2 layout c.close_as.result close.undone close.status
+    let held = answered_held V.state V.holds M g.met.V.Files.wears (λ x honest. g.met.M.Machine.short x honest) timed Word.Upgrade v w a m b k idle stands on _ e.disk back (close.speaks.since h) does.0 reply does.1 does.2 layout in
+    alone_answered V.state V.holds M g.met.V.Files.wears (λ x honest. g.met.M.Machine.short x honest) timed Word.Upgrade v w a m b k idle stands on _ e.disk back (close.speaks.since h) does.0 reply does.1 does.2 layout c.close_as.result close.undone close.status
     (subst (λ (says : Reply → List ℕ). ClosesAndSays M does.0 (forced_of k) (says reply) m b (unit_of c.close_as.result)) c.requires.says (close.closes h does.0 (forced_of k) does.2 held))
 
 pub returns-in-Ok-upgrade-clause-status : goal.returns-in-Ok-upgrade-clause-status
@@ -143,3 +144,22 @@ returns-clause-does g c h k none idle stands on =
     let timed = timed_by M g.met.M.Machine.dated g.met.M.Machine.history g.met.M.Machine.counts_now g.met.M.Machine.only_now in
     alone_fault V.state V.holds M g.met.V.Files.wears (λ x honest. g.met.M.Machine.short x honest) timed Word.Upgrade v w c.args.m.now c.upgrade.new.m c.upgrade.new.m k idle stands on _ e.disk h (λ t left le was. was)
     c.in-Err.fault (λ worn. absurd (ends_unworn (V.state v) (V.state w) c.in-Err.fault e.ends worn)) (e.done h k stands)
+
+-- ---- what it asks for and keeps
+
+pub returns-in_default-clause-speaks : goal.returns-in_default-clause-speaks
+returns-in_default-clause-speaks g c = speaks_none c.args.m.now
+
+pub returns-in-Ok-say_forced-clause-speaks : goal.returns-in-Ok-say_forced-clause-speaks
+returns-in-Ok-say_forced-clause-speaks g c =
+    speaks_behind c.in-Ok-upgrade.ensures.disk (speaks_done _ 0 (speaks_text c.in-Ok-say_forced.ensures.says (λ h. (c.say_forced.ensures.moments h).later)))
+
+pub returns-then-is_upgraded-clause-speaks : goal.returns-then-is_upgraded-clause-speaks
+returns-then-is_upgraded-clause-speaks g c =
+    speaks_behind c.in-Ok-upgrade.ensures.disk (speaks_ended c.in-Err-say_forced.end (speaks_text c.in-Err-say_forced.ensures.says (λ h. (c.say_forced.ensures.moments h).later)))
+
+pub returns-in-Ok-upgrade-clause-speaks : goal.returns-in-Ok-upgrade-clause-speaks
+returns-in-Ok-upgrade-clause-speaks g c = speaks_behind c.in-Ok-upgrade.ensures.disk c.close_as.ensures.speaks
+
+pub returns-clause-speaks : goal.returns-clause-speaks
+returns-clause-speaks g c = speaks_failed c.in-Err.fault refl c.in-Err.ensures.fault c.in-Err.ensures.disk

@@ -1,7 +1,7 @@
 use Rattle.std.proofs.Common.{false, inl, inr, Err, refl, ap, arith}
 use Rattle.sector_disk.proofs.Holding.{trusts_on}
 use Rattle.fsd_texts.specs.declared.fault.Fault.{Fault}
-use Rattle.volume_turns.specs.declared.turns.End.TheVariants.{Fault as Stopped}
+use Rattle.volume_turns.specs.declared.turns.Halt.TheVariants.{Fault as Stopped}
 use Rattle.volume_turns.specs.Commands.{MayLose}
 use Rattle.volume_turns.proofs.AnsweringLaws.{one_failed, one_replied, one_unheard}
 use Rattle.volume_turns.proofs.CauseLaws.{call_says}
@@ -26,18 +26,18 @@ returns-in-Ok g c =
     record {
       ends = record {
         status = inl does.status;
-        trust = does.trust;
+        trust = does.speaks.trust;
         last = λ of h. absurd (reply_not command status does.status of);
       };
       takes = record {
-        ledger = does.ledger;
-        counts = counts_said command (M.report a) (M.report b) status does.status does.told;
+        ledger = does.speaks.ledger;
+        counts = counts_said command (M.report a) (M.report b) status does.status does.speaks.told;
       };
       tells = λ h. record {
         says = λ three. absurd (from_not 3 command status (omega arith) (λ e. omega (arith, e)) does.status three);
         spent = λ nine. from_not 9 command status (omega arith) (λ e. omega (arith, e)) does.status nine;
       };
-      since = does.since;
+      since = does.speaks.since;
       one = λ h none. one_replied command (g.V.Files.state c.args.v) (M.now a) (M.now b) none status (does.answers h);
       runs = λ h rest k none idle stands disk. one_said M command rest k a b status (does.does h k none idle stands disk);
     }
@@ -58,26 +58,26 @@ returns-in-Err-Fault g c =
     let status = c.end_with.result in
     record {
       ends = record {
-        status = fault_is_one command came.why status (call_of_volume came.why does.fault) line.status;
-        trust = trusts_on does.trust line.says.trust;
-        last = λ of h. ends_fault (M.report b).fault_place (M.now p) (M.now b) status came.why (told_place came.why (M.report a) (M.report p) (M.report b) does.told.disk line.says.spares.place) (line.ends h) of;
+        status = fault_is_one command came.why status (call_of_volume came.why does.speaks.fault) line.status;
+        trust = trusts_on does.speaks.trust line.says.trust;
+        last = λ of h. ends_fault (M.report b).fault_place (M.now p) (M.now b) status came.why (told_place came.why (M.report a) (M.report p) (M.report b) does.speaks.told.disk line.says.spares.place) (line.ends h) of;
       };
       takes = record {
-        ledger = λ t. writes_on (M.ledger a) (M.ledger p) (M.ledger b) (line.ledger t) (does.ledger (line.says.trust.tells t));
-        counts = fault_counts (M.report a) (M.report p) (M.report b) status line.says.spares came.why does.told line.status;
+        ledger = λ t. writes_on (M.ledger a) (M.ledger p) (M.ledger b) (line.ledger t) (does.speaks.ledger (line.says.trust.tells t));
+        counts = fault_counts (M.report a) (M.report p) (M.report b) status line.says.spares came.why does.speaks.told line.status;
       };
       tells = λ h. record {
         says = λ three. let ended = does.answers (line.says.trust.honest h) in
-            call_says false (MayLose c.args.c.now) s.layout (M.now a).said came.why does.fault (M.now p) (M.now b) status ended.quiet (line.says.exit h).image (ended.told came.why refl) (line.ends h) three;
+            call_says false (MayLose c.args.c.now) s.layout (M.now a).said came.why does.speaks.fault (M.now p) (M.now b) status ended.quiet (line.says.exit h).image (ended.told came.why refl) (line.ends h) three;
         spent = λ nine.
             let worn = (does.answers (line.says.trust.honest h)).worn (ap (λ (w : Fault). Err (Stopped w)) (status_worn came.why status line.status nine)) in
             cc (worn, c.requires.unworn);
       };
-      since = since_on M a p b line.says.trust.honest does.since does.later line.says.since;
+      since = since_on M a p b line.says.trust.honest does.speaks.since does.speaks.later line.says.since;
       one = λ h none. one_failed command s (M.now a) (M.now p) none (M.now b) came.why status (does.answers (line.says.trust.honest h)) (line.says.exit h) (line.ends h);
       runs = λ h rest k none idle stands disk. let back = line.says.trust.honest h in
           let timed = timed_by M g.met.M.Machine.dated g.met.M.Machine.history g.met.M.Machine.counts_now g.met.M.Machine.only_now in
-          one_broken M command rest k a p b (line.says.since h) h (g.met.M.Machine.short p back) stands.ends (does.answers back).windows (timed p back) (timed b h) came.why (does.does back k none idle stands disk) does.told status line.says (line.ends h);
+          one_broken M command rest k a p b (line.says.since h) h (g.met.M.Machine.short p back) stands.ends (does.answers back).windows (timed p back) (timed b h) came.why (does.does back k none idle stands disk) does.speaks.told status line.says (line.ends h);
     }
 
 -- the output has failed
@@ -92,18 +92,18 @@ returns-in-Err-Output g c =
     record {
       ends = record {
         status = inr (inr refl);
-        trust = does.trust;
+        trust = does.speaks.trust;
         last = λ of h. absurd (fault_not 6 6 refl of refl);
       };
       takes = record {
-        ledger = does.ledger;
-        counts = unsaid_counts (M.report a) (M.report b) does.told;
+        ledger = does.speaks.ledger;
+        counts = unsaid_counts (M.report a) (M.report b) does.speaks.told;
       };
       tells = λ h. record {
         says = λ three. absurd (omega (arith, three));
         spent = λ nine. omega (arith, nine);
       };
-      since = does.since;
+      since = does.speaks.since;
       one = λ h none. one_unheard command (g.V.Files.state c.args.v) (M.now a) (M.now b) none (does.answers h);
-      runs = λ h rest k none idle stands disk. one_unsaid M command rest k a b (does.does h k none idle stands disk) does.told;
+      runs = λ h rest k none idle stands disk. one_unsaid M command rest k a b (does.does h k none idle stands disk) does.speaks.told;
     }

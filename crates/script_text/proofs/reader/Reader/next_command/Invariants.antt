@@ -4,7 +4,7 @@ use Rattle.fsd_texts.specs.Script.{max_input}
 use Rattle.script_text.specs.Reading.{script_left}
 use Rattle.sector_disk.specs.Calls.{LeavesDisk}
 use Rattle.sector_disk.specs.Machine.{Wears}
-use Rattle.script_text.specs.Taking.{Grows}
+use Rattle.script_text.specs.Taking.{TakesBytes}
 use Rattle.script_text.proofs.reader.Reader.next_command.Given as goal
 
 abbrev pub invariant-loop-alloc : goal.invariant-loop-alloc
@@ -15,7 +15,7 @@ invariant-loop-alloc g l =
       given : l.self.given ≡ l.fn.self.given;
       again : IfSome l.fn.self.end (λ end. l.self ≡ l.fn.self);
       unasked : IfSome l.fn.self.end (λ end. l.m ≡ l.fn.m);
-      grows : M.tells l.m → Grows l.fn.self l.self (M.ledger l.fn.m) (M.ledger l.m);
+      grows : M.tells l.m → TakesBytes l.fn.self l.self (M.ledger l.fn.m) (M.ledger l.m);
       calls : LeavesDisk M false false Wears l.fn.m l.m;
     }
 

@@ -5,7 +5,7 @@ use Rattle.sector_disk.specs.Machine.{Ledger}
 use Rattle.fsd_texts.specs.declared.end.End.{End}
 use Rattle.fsd_texts.specs.Script.{command_at}
 use Rattle.script_text.specs.Reading.{Reading, end_after, end_by, script_left}
-use Rattle.script_text.specs.Taking.{Comes, Grows}
+use Rattle.script_text.specs.Taking.{ComesIn, TakesBytes}
 use Rattle.script_text.proofs.ReaderLaws.{IsOpen, grown_on, nothing_came, open_after, open_of, taken_on}
 use Rattle.script_text.proofs.reader.Reader.take_more.Goals as goal
 
@@ -21,7 +21,7 @@ returns-in_err-count g c =
     rw (p.1, p.2) (record {
       script = λ h. λ i. script_left (same i) (failed.ledger h i).input;
       on = tt;
-      kept = same;
+      none = record { kept = same; short = record { cause = c.args.cause; read = c.requires.no_command; early = c.requires.early } };
       grows = λ h. nothing_came _ _ _ _ same (failed.ledger h);
       cause = failed.cause;
       calls = failed.calls;
@@ -48,12 +48,12 @@ returns g c =
     let more = λ (still : end ≡ None). open_after (end_by old c.args.cause) count (inside.taken + count) (sym ended ∙ still) in
     let taken : inside.taken ≡ c.args.self.now.taken = ap (λ (r : Reading). r.taken) is in
     record {
-      script = λ h. taken_on old is_open c.args.cause read c.requires.early before now items count (subst (λ (w : List ℕ). Comes w items count before now) c.close_up.ensures (came.comes h)) c.max-room.result room came.len.0 end ended
+      script = λ h. taken_on old is_open c.args.cause read c.requires.early before now items count (subst (λ (w : List ℕ). ComesIn w items count before now) c.close_up.ensures (came.comes h)) c.max-room.result room came.len.0 end ended
           ∙ ap (λ (r : Reading). script_left r before.input) is;
       on = record { more = λ still. omega (arith, (more still).0, taken); most = λ still. (more still).1; within = omega (arith, is_open.within, taken); given = ap (λ (r : Reading). r.given) is };
-      kept = tt;
-      grows = λ h. subst (λ (r : Reading). Grows r new before now) is
-          (grown_on old is_open c.args.cause read c.requires.early before now items count (subst (λ (w : List ℕ). Comes w items count before now) c.close_up.ensures (came.comes h)) c.max-room.result room came.len.0 end);
+      none = tt;
+      grows = λ h. subst (λ (r : Reading). TakesBytes r new before now) is
+          (grown_on old is_open c.args.cause read c.requires.early before now items count (subst (λ (w : List ℕ). ComesIn w items count before now) c.close_up.ensures (came.comes h)) c.max-room.result room came.len.0 end);
       cause = tt;
       calls = came.calls;
     }
