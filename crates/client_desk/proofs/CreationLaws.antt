@@ -20,39 +20,36 @@ use Rattle.fsd_sound.specs.Mounted.{Mounted, forces_by_itself}
 use Rattle.fsd_sound.proofs.MountedLaws.{mounted_sound}
 use Rattle.volume_contract.specs.Ends.{Answers as AnswersOf, EndsRefused, Unchanged, device_of}
 use Rattle.volume_contract.specs.Order.{Comes, IsDeviceIn, slices_steps}
-use Rattle.volume_contract.specs.Pieces.{drafts_with, drafts_without, ended, slices_in, with_opened, wrote}
-use Rattle.volume_contract.specs.State.{Known, Leaves, LeavesSound, Opened, Stands, State, Written, forced_of, volume_of}
+use Rattle.volume_contract.specs.Pieces.{drafts_with, drafts_without, ended, slices_in, with_opened, draft_wrote}
+use Rattle.volume_contract.specs.State.{Known, Leaves, LeavesSound, OpenParts, Stands, State, WrittenDraft, forced_of, volume_of}
 use Rattle.client_desk.specs.declared.client.Creation.{Creation}
 use Rattle.client_desk.specs.declared.client.Client.{Client}
 use Rattle.client_desk.specs.declared.client.Client.TheVariants.{Idle, Writing, Reading}
-use Rattle.client_desk.specs.Clients.{AllStays, AreApart, Ended, EndsAt, HasRoom, IsOf, IsWholeOne, IsWriter, WritesIn, as_writing, client_at, found, in_data, too_long, too_short}
-use Rattle.client_desk.specs.Ends.{Adds, Answers, Closes, EndsClose, EndsEntering, EndsPiece, EndsPieces, IsOpenIn, LeavesFor, LeavesOf, Remains, Serves, Sits, Stays, given_up, open_at, session_of}
+use Rattle.client_desk.specs.Clients.{AllStays, ShareNothing, Ended, EndsDraftAt, MayCome, IsOf, IsWholeOne, IsWriter, WritesDraftIn, as_writing, client_at, found, in_data, too_long, too_short}
+use Rattle.client_desk.specs.Ends.{AddsBytes, AnswersAs, ClosesDraft, EndsClose, EndsEntering, EndsPiece, EndsPieces, IsOpenIn, LeavesFor, LeavesOf, RemainsOpen, ServesOpen, Sits, StaysAs, given_up, open_at, session_of}
 use Rattle.client_desk.proofs.DeskLaws.{IsFoundAt, apart_differ, others_of, stays_of}
 use Rattle.client_desk.proofs.PieceLaws.{runs_with, with_others}
 use Rattle.client_desk.proofs.SitsLaws.{IsOfClient, KeepsOf, WritesAs, answers_still, drop_done, held_is, kept_draft, keeps_given, nothing_more, opened_is, refused_writing, serves_kept, serves_writing, refuses_client, sits_later, sits_set, writing_fault}
 
 -- ---- drafts
 
-keeps_wrote : (s : State) (o : Opened) (a : Creation) (slices : List (Option (List ℕ))) (x : Client) → IsOf s (Writing a) → AreApart (Writing a) x → KeepsOf o (wrote o a.draft.runs slices) x
+keeps_wrote : (s : State) (o : OpenParts) (a : Creation) (slices : List (Option (List ℕ))) (x : Client) → IsOf s (Writing a) → ShareNothing (Writing a) x → KeepsOf o (draft_wrote o a.draft.runs slices) x
 keeps_wrote s o a slices Idle of apart = tt
 keeps_wrote s o a slices (Writing w) of apart = with_others o.drafts a.draft.runs w.draft.runs slices (apart_differ s a w of apart)
 keeps_wrote s o a slices (Reading r) of apart = refl
 
-keeps_ended : (s : State) (o : Opened) (a : Creation) (k : Known) (x : Client) → IsOf s (Writing a) → AreApart (Writing a) x → KeepsOf k.opened (ended k.opened a.draft.runs) x
-keeps_ended s o a k x of apart = keeps_given s k (Writing a) x of apart
-
 -- what is over of a creation is over of it as it was
-without_with : (drafts : List Written) (a : List Run) (slices : List (Option (List ℕ))) → drafts_without (drafts_with drafts a slices) a ≡ drafts_without drafts a
+without_with : (drafts : List WrittenDraft) (a : List Run) (slices : List (Option (List ℕ))) → drafts_without (drafts_with drafts a slices) a ≡ drafts_without drafts a
 without_with [] a slices = refl
 without_with (x ∷ drafts) a slices = by (same_runs x.runs a) refl (without_with drafts a slices)
   where
     by : (b : Bool) → same_runs x.runs a ≡ b → drafts_without (drafts_with drafts a slices) a ≡ drafts_without drafts a
         → drafts_without (cond b (record { runs = x.runs; slices = slices } ∷ drafts) (x ∷ drafts_with drafts a slices)) a ≡ cond (not b) (x ∷ drafts_without drafts a) (drafts_without drafts a)
     by true e more = ap (λ (b : Bool). cond (not b) (record { runs = x.runs; slices = slices } ∷ drafts_without drafts a) (drafts_without drafts a)) e
-    by false e more = ap (λ (b : Bool). cond (not b) (x ∷ drafts_without (drafts_with drafts a slices) a) (drafts_without (drafts_with drafts a slices) a)) e ∙ ap (λ (xs : List Written). x ∷ xs) more
+    by false e more = ap (λ (b : Bool). cond (not b) (x ∷ drafts_without (drafts_with drafts a slices) a) (drafts_without (drafts_with drafts a slices) a)) e ∙ ap (λ (xs : List WrittenDraft). x ∷ xs) more
 
 -- what is there was there
-with_there : (drafts : List Written) (a runs : List Run) (slices z : List (Option (List ℕ))) → slices_in (drafts_with drafts a slices) runs ≡ Some z → (old : List (Option (List ℕ))) × (slices_in drafts runs ≡ Some old)
+with_there : (drafts : List WrittenDraft) (a runs : List Run) (slices z : List (Option (List ℕ))) → slices_in (drafts_with drafts a slices) runs ≡ Some z → (old : List (Option (List ℕ))) × (slices_in drafts runs ≡ Some old)
 with_there [] a runs slices z there = absurd (cc there)
 with_there (x ∷ drafts) a runs slices z there = by (same_runs x.runs a) (same_runs x.runs runs) refl (with_there drafts a runs slices z) there
   where
@@ -62,8 +59,8 @@ with_there (x ∷ drafts) a runs slices z there = by (same_runs x.runs a) (same_
     by true false e more there = (z, sym (ap (λ (c : Bool). cond c (Some slices) (slices_in drafts runs)) e) ∙ there)
     by false false e more there = more (sym (ap (λ (c : Bool). cond c (Some x.slices) (slices_in (drafts_with drafts a slices) runs)) e) ∙ there)
 
-writes_in_on : (a : Creation) (x : Client) (runs : List Run) → x ≡ Writing a → WritesIn x runs → a.draft.runs ≡ runs
-writes_in_on a x runs is own = subst (λ (z : Client). WritesIn z runs) is own
+writes_in_on : (a : Creation) (x : Client) (runs : List Run) → x ≡ Writing a → WritesDraftIn x runs → a.draft.runs ≡ runs
+writes_in_on a x runs is own = subst (λ (z : Client). WritesDraftIn z runs) is own
 
 pub writes_so : (desk : List Client) (i : ℕ) {c : ℕ} → IsFoundAt desk c i (λ x. (a : Creation) × (x ≡ Writing a)) → IsWriter (client_at desk i)
 writes_so desk i at = subst (λ (z : Client). IsWriter z) (sym at.is.1) tt
@@ -72,12 +69,12 @@ writes_so desk i at = subst (λ (z : Client). IsWriter z) (sym at.is.1) tt
 
 -- a refusal of the client's own tests is none of the disk
 pub piece_told : {S : Type 0} (state : S → State) (has : S → Mounted → List Placed → Type 0) (c : ℕ) (bytes : List ℕ) (k : Known) (opens : List Open) (v : S) (desk : List Client) (now : Moment) (why : Refusal) → IsOfClient c why
-    → Answers state has (λ s. piece_outcome s c bytes) (Refused why) [] k opens v desk now → (let r : Result ℕ Refusal = Err why in EndsPiece state has c bytes k opens v desk now r)
+    → AnswersAs state has (λ s. piece_outcome s c bytes) (Refused why) [] k opens v desk now → (let r : Result ℕ Refusal = Err why in EndsPiece state has c bytes k opens v desk now r)
 piece_told state has c bytes k opens v desk now why of answers = elim of [
-  | inl e ↦ subst (λ (r : Refusal). IsTold r) (sym e) (subst (λ (r : Refusal). Answers state has (λ s. piece_outcome s c bytes) (Refused r) [] k opens v desk now) e answers)
+  | inl e ↦ subst (λ (r : Refusal). IsTold r) (sym e) (subst (λ (r : Refusal). AnswersAs state has (λ s. piece_outcome s c bytes) (Refused r) [] k opens v desk now) e answers)
   | inr other ↦ elim other [
-    | inl e ↦ subst (λ (r : Refusal). IsTold r) (sym e) (subst (λ (r : Refusal). Answers state has (λ s. piece_outcome s c bytes) (Refused r) [] k opens v desk now) e answers)
-    | inr e ↦ subst (λ (r : Refusal). IsTold r) (sym e) (subst (λ (r : Refusal). Answers state has (λ s. piece_outcome s c bytes) (Refused r) [] k opens v desk now) e answers)
+    | inl e ↦ subst (λ (r : Refusal). IsTold r) (sym e) (subst (λ (r : Refusal). AnswersAs state has (λ s. piece_outcome s c bytes) (Refused r) [] k opens v desk now) e answers)
+    | inr e ↦ subst (λ (r : Refusal). IsTold r) (sym e) (subst (λ (r : Refusal). AnswersAs state has (λ s. piece_outcome s c bytes) (Refused r) [] k opens v desk now) e answers)
   ]
 ]
   where
@@ -85,22 +82,22 @@ piece_told state has c bytes k opens v desk now why of answers = elim of [
     IsTold why = (let r : Result ℕ Refusal = Err why in EndsPiece state has c bytes k opens v desk now r)
 
 -- all is as it was
-pub client_stays : (c i : ℕ) (clients after : List Client) (old new : State) (why : Refusal) → IsOfClient c why → AllStays clients after old new → EndsAt why i clients after old new
+pub client_stays : (c i : ℕ) (clients after : List Client) (old new : State) (why : Refusal) → IsOfClient c why → AllStays clients after old new → EndsDraftAt why i clients after old new
 client_stays c i clients after old new why of stays = elim of [
-  | inl e ↦ subst (λ (r : Refusal). EndsAt r i clients after old new) (sym e) stays
+  | inl e ↦ subst (λ (r : Refusal). EndsDraftAt r i clients after old new) (sym e) stays
   | inr other ↦ elim other [
-    | inl e ↦ subst (λ (r : Refusal). EndsAt r i clients after old new) (sym e) stays
-    | inr e ↦ subst (λ (r : Refusal). EndsAt r i clients after old new) (sym e) stays
+    | inl e ↦ subst (λ (r : Refusal). EndsDraftAt r i clients after old new) (sym e) stays
+    | inr e ↦ subst (λ (r : Refusal). EndsDraftAt r i clients after old new) (sym e) stays
   ]
 ]
 
-pub long_stays : (i count : ℕ) (clients after : List Client) (old new : State) (x : Client) (why : Refusal) → too_long x count ≡ Some why → AllStays clients after old new → EndsAt why i clients after old new
+pub long_stays : (i count : ℕ) (clients after : List Client) (old new : State) (x : Client) (why : Refusal) → too_long x count ≡ Some why → AllStays clients after old new → EndsDraftAt why i clients after old new
 long_stays i count clients after old new Idle why is stays = absurd (cc is)
 long_stays i count clients after old new (Reading r) why is stays = absurd (cc is)
 long_stays i count clients after old new (Writing w) why is stays = by (nat_lt w.draft.length (w.got + count)) is
   where
-    by : (b : Bool) → cond b (Some (Why.Long w.draft.length (w.got + count))) None ≡ Some why → EndsAt why i clients after old new
-    by true says = let e : Why.Long w.draft.length (w.got + count) ≡ why = cc says in subst (λ (r : Refusal). EndsAt r i clients after old new) e stays
+    by : (b : Bool) → cond b (Some (Why.Long w.draft.length (w.got + count))) None ≡ Some why → EndsDraftAt why i clients after old new
+    by true says = let e : Why.Long w.draft.length (w.got + count) ≡ why = cc says in subst (λ (r : Refusal). EndsDraftAt r i clients after old new) e stays
     by false says = absurd (cc says)
 
 -- it is no fault of the disk
@@ -123,7 +120,7 @@ short_device (Writing w) why is = by (nat_lt w.got w.draft.length) is
     by false says = absurd (cc says)
 
 -- the disk failed, or the volume is down
-pub broken_at : (s : State) (may : Sectors) (i : ℕ) (clients after : List Client) (old new : State) (why : Refusal) → Comes (slices_steps s may) why → Ended i clients after old new → EndsAt why i clients after old new
+pub broken_at : (s : State) (may : Sectors) (i : ℕ) (clients after : List Client) (old new : State) (why : Refusal) → Comes (slices_steps s may) why → Ended i clients after old new → EndsDraftAt why i clients after old new
 broken_at s may i clients after old new why comes ended = elim comes [
   | inl is ↦ down s.down is
   | inr later ↦ elim later.1 [
@@ -132,11 +129,11 @@ broken_at s may i clients after old new why comes ended = elim comes [
   ]
 ]
   where
-    down : (d : Option ℕ) → option_map Why.Down d ≡ Some why → EndsAt why i clients after old new
+    down : (d : Option ℕ) → option_map Why.Down d ≡ Some why → EndsDraftAt why i clients after old new
     down None says = absurd (cc says)
-    down (Some place) says = let e : Why.Down place ≡ why = cc says in subst (λ (r : Refusal). EndsAt r i clients after old new) e ended
+    down (Some place) says = let e : Why.Down place ≡ why = cc says in subst (λ (r : Refusal). EndsDraftAt r i clients after old new) e ended
 
-    failed : (r : Refusal) → IsDeviceIn may r → EndsAt r i clients after old new
+    failed : (r : Refusal) → IsDeviceIn may r → EndsDraftAt r i clients after old new
     failed (Why.Device t) is = ended
     failed r is = absurd is
 
@@ -149,7 +146,7 @@ module _ {S : Type 0} (state : S → State) (has : S → Mounted → List Placed
   leaves_of v desk i c client old left is place leaves k opens sits =
       let at : client ≡ client_at desk (c - 1) = is ∙ ap (λ (n : ℕ). client_at desk n) place in
       subst (λ (z : Client). LeavesSound k (in_data z) old left) at
-      (leaves k (open_at opens (c - 1)) (subst (λ (z : Client). Serves k.opened z (open_at opens (c - 1))) (sym at) (sits.each (c - 1))) sits.stands)
+      (leaves k (open_at opens (c - 1)) (subst (λ (z : Client). ServesOpen k.opened z (open_at opens (c - 1))) (sym at) (sits.each (c - 1))) sits.stands)
 
   -- nothing is written
   pub leaves_all : (v : S) (desk : List Client) (may : Sectors) (now : Moment) → LeavesOf state has v desk may now now
@@ -192,13 +189,13 @@ module _ {S : Type 0} (state : S → State) (has : S → Mounted → List Placed
     writer = at.is.0
 
     pub writes_as : WritesAs k.opened writer (open_at opens i)
-    writes_as = serves_writing k.opened writer (open_at opens i) (subst (λ (z : Client). Serves k.opened z (open_at opens i)) at.is.1 (sits.each i))
+    writes_as = serves_writing k.opened writer (open_at opens i) (subst (λ (z : Client). ServesOpen k.opened z (open_at opens i)) at.is.1 (sits.each i))
 
     abbrev pub was : Open
     was = Writes writes_as.name writes_as.len writes_as.runs writes_as.serial writes_as.bytes
 
-    pub serves_so : (x : Client) → x ≡ client_at desk i → Serves k.opened x was
-    serves_so x is = subst (λ (y : Open). Serves k.opened x y) writes_as.is (subst (λ (z : Client). Serves k.opened z (open_at opens i)) (sym is) (sits.each i))
+    pub serves_so : (x : Client) → x ≡ client_at desk i → ServesOpen k.opened x was
+    serves_so x is = subst (λ (y : Open). ServesOpen k.opened x y) writes_as.is (subst (λ (z : Client). ServesOpen k.opened z (open_at opens i)) (sym is) (sits.each i))
 
     piece_is : (bytes : List ℕ) → piece_outcome (session_of k opens) c bytes ≡ piece_by (Ok was) (session_of k opens) c bytes
     piece_is bytes = ap (λ (r : Result Open Refusal). piece_by r (session_of k opens) c bytes) (opened_is opens c i at.client at.place ∙ ap (λ (y : Open). Ok y) writes_as.is)
@@ -262,16 +259,16 @@ module _ {S : Type 0} (state : S → State) (has : S → Mounted → List Placed
 
     -- ---- it goes on
 
-    module _ (s : State) (w : S) (now : Moment) (inside : i < length desk) (many : length desk ≡ most_clients) (of : IsOf s (client_at desk i)) (apart : (j : ℕ) → (j ≡ i → ⊥) → AreApart (client_at desk i) (client_at desk j)) where
+    module _ (s : State) (w : S) (now : Moment) (inside : i < length desk) (many : length desk ≡ most_clients) (of : IsOf s (client_at desk i)) (apart : (j : ℕ) → (j ≡ i → ⊥) → ShareNothing (client_at desk i) (client_at desk j)) where
       writing_of : IsOf s (Writing writer)
       writing_of = subst (λ (z : Client). IsOf s z) at.is.1 of
 
-      writing_apart : (j : ℕ) → (j ≡ i → ⊥) → AreApart (Writing writer) (client_at desk j)
-      writing_apart j other = subst (λ (z : Client). AreApart z (client_at desk j)) at.is.1 (apart j other)
+      writing_apart : (j : ℕ) → (j ≡ i → ⊥) → ShareNothing (Writing writer) (client_at desk j)
+      writing_apart j other = subst (λ (z : Client). ShareNothing z (client_at desk j)) at.is.1 (apart j other)
 
-      pub piece_done : (x : Client) (bytes : List ℕ) (n : ℕ) → HasRoom (client_at desk i) (length bytes)
+      pub piece_done : (x : Client) (bytes : List ℕ) (n : ℕ) → MayCome (client_at desk i) (length bytes)
           → (let r : Result ℕ Refusal = Ok n in EndsPieces state has k (client_at desk i) x writes_as.name writes_as.len writes_as.runs writes_as.serial writes_as.bytes bytes w now r)
-          → Answers state has (λ t. piece_outcome t c bytes) (Took c n) [] k opens w (set desk i x) now
+          → AnswersAs state has (λ t. piece_outcome t c bytes) (Took c n) [] k opens w (set desk i x) now
       piece_done x bytes n room ends = record {
         after = with_opened k o;
         left = set opens (c - 1) y;
@@ -281,10 +278,10 @@ module _ {S : Type 0} (state : S → State) (has : S → Mounted → List Placed
         windows = refl;
         changes = sym (nothing_more state has k.changes);
         sits = subst (λ (m : ℕ). Sits state has w (set desk i x) (with_opened k o) (set opens m y) now) at.place
-            (sits_set state has w desk (with_opened k o) opens now i x y inside many sits.size adds.stands (subst (λ (z : Client). Serves o z y) (sym ends.1) adds.writing)
+            (sits_set state has w desk (with_opened k o) opens now i x y inside many sits.size adds.stands (subst (λ (z : Client). ServesOpen o z y) (sym ends.1) adds.writing)
             (λ j other. serves_kept k.opened o (client_at desk j) (open_at opens j)
-            (subst (λ (r : List Run). KeepsOf k.opened (wrote k.opened r adds.slices) (client_at desk j)) writes_as.writing.lies (keeps_wrote s k.opened writer adds.slices (client_at desk j) writing_of (writing_apart j other))) (sits.each j))
-            (λ runs slices there. stays_of desk i x (λ z. WritesIn z runs) (on runs) (sits.drafts runs (with_there k.opened.drafts writes_as.runs runs adds.slices slices there).0 (with_there k.opened.drafts writes_as.runs runs adds.slices slices there).1)));
+            (subst (λ (r : List Run). KeepsOf k.opened (draft_wrote k.opened r adds.slices) (client_at desk j)) writes_as.writing.lies (keeps_wrote s k.opened writer adds.slices (client_at desk j) writing_of (writing_apart j other))) (sits.each j))
+            (λ runs slices there. stays_of desk i x (λ z. WritesDraftIn z runs) (on runs) (sits.drafts runs (with_there k.opened.drafts writes_as.runs runs adds.slices slices there).0 (with_there k.opened.drafts writes_as.runs runs adds.slices slices there).1)));
       }
         where
           len : ℕ
@@ -293,17 +290,17 @@ module _ {S : Type 0} (state : S → State) (has : S → Mounted → List Placed
           sum : ℕ
           sum = length writes_as.bytes + length bytes
 
-          adds : Adds state has k ends.0 writes_as.name writes_as.len writes_as.runs writes_as.serial (writes_as.bytes ++ bytes) w now
+          adds : AddsBytes state has k ends.0 writes_as.name writes_as.len writes_as.runs writes_as.serial (writes_as.bytes ++ bytes) w now
           adds = ends.3
 
-          o : Opened
-          o = wrote k.opened writes_as.runs adds.slices
+          o : OpenParts
+          o = draft_wrote k.opened writes_as.runs adds.slices
 
           y : Open
           y = Writes writes_as.name len writes_as.runs writes_as.serial (writes_as.bytes ++ bytes)
 
           fits : nat_lt len sum ≡ false
-          fits = le-ltb len sum (let fit : writer.got + length bytes ≤ writer.draft.length = subst (λ (z : Client). HasRoom z (length bytes)) at.is.1 room in omega (arith, fit, writes_as.writing.got, writes_as.writing.long))
+          fits = le-ltb len sum (let fit : writer.got + length bytes ≤ writer.draft.length = subst (λ (z : Client). MayCome z (length bytes)) at.is.1 room in omega (arith, fit, writes_as.writing.got, writes_as.writing.long))
 
           counted : n ≡ sum
           counted = ends.2 ∙ length-append writes_as.bytes bytes
@@ -311,23 +308,23 @@ module _ {S : Type 0} (state : S → State) (has : S → Mounted → List Placed
           drafts : (volume_of k).drafts ≡ map (λ z. z.runs) o.drafts
           drafts = sits.stands.opened.drafts ∙ sym (runs_with k.opened.drafts writes_as.runs adds.slices)
 
-          on : (runs : List Run) → WritesIn (client_at desk i) runs → WritesIn x runs
+          on : (runs : List Run) → WritesDraftIn (client_at desk i) runs → WritesDraftIn x runs
           on runs own =
-              subst (λ (z : Client). WritesIn z runs) (sym ends.1)
+              subst (λ (z : Client). WritesDraftIn z runs) (sym ends.1)
               (adds.writing.lies ∙ sym writes_as.writing.lies ∙ writes_in_on writer (client_at desk i) runs at.is.1 own)
 
       pub piece_failed : (x : Client) (bytes : List ℕ) (why : Refusal) → x ≡ Idle
           → (let r : Result ℕ Refusal = Err why in EndsPieces state has k (client_at desk i) x writes_as.name writes_as.len writes_as.runs writes_as.serial writes_as.bytes bytes w now r)
           → (let r : Result ℕ Refusal = Err why in EndsPiece state has c bytes k opens w (set desk i x) now r)
       piece_failed x bytes (Why.Device t) idle ends =
-          subst (λ (z : Client). Answers state has (λ u. drop_outcome u c) (Dropped c) [] k opens w (set desk i z) now) (sym idle)
+          subst (λ (z : Client). AnswersAs state has (λ u. drop_outcome u c) (Dropped c) [] k opens w (set desk i z) now) (sym idle)
           (drop_done state has s c i k opens v w desk old now inside many of apart sits gives at)
         where
           gives : IsOpenIn k.opened (client_at desk i) → Stands state has v k old → Stands state has w (given_up k (client_at desk i)) now
           gives open_in stood =
               subst (λ (z : Client). Stands state has w (given_up k z) now) (sym at.is.1)
               (subst (λ (r : List Run). Stands state has w (with_opened k (ended k.opened r)) now) (sym writes_as.writing.lies)
-              (subst (λ (o : Opened). Stands state has w (with_opened k o) now) (λ j. record k.opened { drafts = without_with k.opened.drafts writes_as.runs ends.0 j }) ends.1))
+              (subst (λ (o : OpenParts). Stands state has w (with_opened k o) now) (λ j. record k.opened { drafts = without_with k.opened.drafts writes_as.runs ends.0 j }) ends.1))
       piece_failed x bytes why idle ends = absurd ends
 
       -- ---- it ends
@@ -343,7 +340,7 @@ module _ {S : Type 0} (state : S → State) (has : S → Mounted → List Placed
 
       pub close_done : (key : Key) → IsWholeOne (client_at desk i)
           → (let r : Result Key Refusal = Ok key in EndsEntering state has writes_as.name writes_as.runs writes_as.serial writes_as.bytes k w now r)
-          → Closes state has c k opens w (set desk i Idle) now key
+          → ClosesDraft state has c k opens w (set desk i Idle) now key
       close_done key whole ends = record {
         met = ends.answers.met;
         forces = ends.answers.forces;
@@ -363,10 +360,10 @@ module _ {S : Type 0} (state : S → State) (has : S → Mounted → List Placed
           changes = ends.answers.changes;
           sits = subst (λ (m : ℕ). Sits state has w (set desk i Idle) ends.after (set opens m Nothing) now) at.place
               (sits_set state has w desk ends.after opens now i Idle Nothing inside many sits.size ends.stands tt
-              (λ j other. subst (λ (o : Opened). Serves o (client_at desk j) (open_at opens j)) (sym opened) (serves_kept k.opened (ended k.opened writes_as.runs) (client_at desk j) (open_at opens j) (kept j other) (sits.each j)))
+              (λ j other. subst (λ (o : OpenParts). ServesOpen o (client_at desk j) (open_at opens j)) (sym opened) (serves_kept k.opened (ended k.opened writes_as.runs) (client_at desk j) (open_at opens j) (kept j other) (sits.each j)))
               (λ runs slices there.
-              let gone = kept_draft k.opened writes_as.runs runs slices (subst (λ (o : Opened). slices_in o.drafts runs ≡ Some slices) opened there) in
-              others_of desk i Idle (λ z. WritesIn z runs) (λ own. gone.1 (sym writes_as.writing.lies ∙ writes_in_on writer (client_at desk i) runs at.is.1 own)) (sits.drafts runs slices gone.0)));
+              let gone = kept_draft k.opened writes_as.runs runs slices (subst (λ (o : OpenParts). slices_in o.drafts runs ≡ Some slices) opened there) in
+              others_of desk i Idle (λ z. WritesDraftIn z runs) (λ own. gone.1 (sym writes_as.writing.lies ∙ writes_in_on writer (client_at desk i) runs at.is.1 own)) (sits.drafts runs slices gone.0)));
         };
         entry = ends.entry;
         entered = ends.entered;
@@ -390,13 +387,13 @@ module _ {S : Type 0} (state : S → State) (has : S → Mounted → List Placed
           → (let r : Result Key Refusal = Err why in EndsClose state has c k opens w desk now r)
       close_failed why whole ends = by why ends
         where
-          stays : ((after : Known) × Unchanged k after × Stands state has w after now) → Stays state has k opens w desk now
+          stays : ((after : Known) × Unchanged k after × Stands state has w after now) → StaysAs state has k opens w desk now
           stays so = record { after = so.0; unchanged = so.1; sits = still_sits so.0 so.1.opened so.2 }
 
           outcome : Met → Outcome
           outcome met = enter_outcome met (volume_of k) writes_as.name writes_as.bytes None writes_as.runs writes_as.serial
 
-          answered : (r : Refusal) → ((after : Known) × AnswersOf outcome (Refused r) [] k after × Stands state has w after now) → (met : Met) × (met.forces ≡ forces_by_itself k.mounted) × Answers state has (λ t. close_outcome met t c) (Refused r) [] k opens w desk now
+          answered : (r : Refusal) → ((after : Known) × AnswersOf outcome (Refused r) [] k after × Stands state has w after now) → (met : Met) × (met.forces ≡ forces_by_itself k.mounted) × AnswersAs state has (λ t. close_outcome met t c) (Refused r) [] k opens w desk now
           answered r so = (
             so.1.met,
             so.1.forces,
@@ -410,7 +407,7 @@ module _ {S : Type 0} (state : S → State) (has : S → Mounted → List Placed
             },
           )
 
-          by : (r : Refusal) → EndsRefused state has outcome k w now r → Remains state has c k opens w desk now r
+          by : (r : Refusal) → EndsRefused state has outcome k w now r → RemainsOpen state has c k opens w desk now r
           by (Why.Device t) (inl down) = record { met = no_met k; forces = refl; refuses = inl down }
           by (Why.Device t) (inr so) = record { met = no_met k; forces = refl; refuses = inr (stays so) }
           by Why.Memory so = record { met = no_met k; forces = refl; refuses = stays so }

@@ -15,7 +15,7 @@ use Rattle.fsd_bytes.specs.declared.refusal.Refusal.{Refusal}
 use Rattle.fsd_bytes.specs.declared.refusal.Refusal.TheVariants as Why
 use Rattle.fsd_files.specs.Desk.{is_client}
 use Rattle.volume_contract.specs.Order.{with_drawn}
-use Rattle.volume_contract.specs.Pieces.{Enters, HoldsAt, IsDraft, IsHeld, Takes}
+use Rattle.volume_contract.specs.Pieces.{Enters, HoldsAt, IsDraft, IsHeldVersion, TakesPlace}
 use Rattle.volume_contract.specs.State.{IsForced, State, most_readers, no_readers}
 use Rattle.volume_contract.specs.declared.token.Draft.{Draft}
 use Rattle.volume_contract.specs.declared.token.Held.{Held}
@@ -23,7 +23,7 @@ use Rattle.client_desk.specs.declared.client.Creation.{Creation}
 use Rattle.client_desk.specs.declared.client.Reader.{Reader}
 use Rattle.client_desk.specs.declared.client.Client.{Client}
 use Rattle.client_desk.specs.declared.client.Client.TheVariants.{Idle, Writing, Reading}
-use Rattle.client_desk.specs.Clients.{AreApart, Continuing, GivesUp, GoesTo, IsDesk, IsOf, ReadsAt, WritesAt, no_desk, as_idle, as_reading, as_writing, client_at, found, tested}
+use Rattle.client_desk.specs.Clients.{ShareNothing, Continuing, GivesUpPart, GoesOnBehind, IsDesk, IsOf, ReadsAt, WritesAt, no_desk, as_idle, as_reading, as_writing, client_at, found, tested}
 
 -- ---- drafts that are apart
 
@@ -53,7 +53,7 @@ draft_stays s t d more is = record { small = is.small; size = is.size; few = is.
 pub same_draft : (s t : State) (d : Draft) → t.unfinished ≡ s.unfinished → IsDraft s d → IsDraft t d
 same_draft s t d same is = draft_stays s t d (λ n there was. subst (λ (xs : List ℕ). IsTrue (contains xs n)) (sym same) was) is
 
-pub held_stays : (s t : State) (h : Held) → t.layout ≡ s.layout → length t.readers ≡ length s.readers → slice_index_or t.readers h.place None ≡ slice_index_or s.readers h.place None → IsHeld s h → IsHeld t h
+pub held_stays : (s t : State) (h : Held) → t.layout ≡ s.layout → length t.readers ≡ length s.readers → slice_index_or t.readers h.place None ≡ slice_index_or s.readers h.place None → IsHeldVersion s h → IsHeldVersion t h
 held_stays s t h planned size same is = record {
   entry = is.entry;
   within = λ n there. subst (λ (l : Layout). IsTrue (is_data l n)) (sym planned) (is.within n there);
@@ -61,7 +61,7 @@ held_stays s t h planned size same is = record {
   runs = same ∙ is.runs;
 }
 
-pub same_held : (s t : State) (h : Held) → t.layout ≡ s.layout → t.readers ≡ s.readers → IsHeld s h → IsHeld t h
+pub same_held : (s t : State) (h : Held) → t.layout ≡ s.layout → t.readers ≡ s.readers → IsHeldVersion s h → IsHeldVersion t h
 same_held s t h planned same is = held_stays s t h planned (ap (λ (xs : List (Option (List Run))). length xs) same) (ap (λ (xs : List (Option (List Run))). slice_index_or xs h.place None) same) is
 
 -- What a desk sees of a volume is the same.
@@ -84,10 +84,10 @@ and_true true = refl
 and_true false = refl
 
 -- what another gives up leaves it
-pub of_given : (s t : State) (a x : Client) → AreApart a x → GivesUp a s t → IsOf s x → IsOf t x
+pub of_given : (s t : State) (a x : Client) → ShareNothing a x → GivesUpPart a s t → IsOf s x → IsOf t x
 of_given s t a Idle apart gives is = tt
 of_given s t Idle (Writing w) apart gives is = subst (λ (y : State). IsDraft y w.draft) (sym gives) is
-of_given s t Idle (Reading r) apart gives is = subst (λ (y : State). IsHeld y r.held) (sym gives) is
+of_given s t Idle (Reading r) apart gives is = subst (λ (y : State). IsHeldVersion y r.held) (sym gives) is
 of_given s t (Writing a) (Writing w) apart gives is = draft_stays s t w.draft (λ n there was. gives.unfinished n ∙ by n (contains (sectors_of a.draft.runs) n) refl there ∙ was) is
   where
     by : (n : ℕ) (b : Bool) → contains (sectors_of a.draft.runs) n ≡ b → IsTrue (contains (sectors_of w.draft.runs) n) → (contains s.unfinished n && not b) ≡ contains s.unfinished n
@@ -101,13 +101,13 @@ of_given s t (Reading a) (Reading r) apart gives is =
     (ap (λ (xs : List (Option (List Run))). slice_index_or xs r.held.place None) readers ∙ get_or-set_other s.readers a.held.place r.held.place None None (λ same. apart (sym same))) is
 
 -- what is begun leaves it
-pub of_taken : (runs : List Run) (s t : State) (x : Client) → Takes runs s t → IsOf s x → IsOf t x
+pub of_taken : (runs : List Run) (s t : State) (x : Client) → TakesPlace runs s t → IsOf s x → IsOf t x
 of_taken runs s t Idle takes is = tt
 of_taken runs s t (Writing w) takes is = draft_stays s t w.draft (λ n there was. takes.unfinished n ∙ ap (λ (b : Bool). b || contains (sectors_of runs) n) was) is
 of_taken runs s t (Reading r) takes is = same_held s t r.held (ap (λ (y : State). y.layout) takes.is) (ap (λ (y : State). y.readers) takes.is) is
 
 -- the end of a creation leaves it
-pub of_entered : (a : Creation) (s t : State) (x : Client) → AreApart (Writing a) x → Enters a.draft.runs s t → IsOf s x → IsOf t x
+pub of_entered : (a : Creation) (s t : State) (x : Client) → ShareNothing (Writing a) x → Enters a.draft.runs s t → IsOf s x → IsOf t x
 of_entered a s t Idle apart enters is = tt
 of_entered a s t (Writing w) apart enters is = draft_stays s t w.draft (λ n there was. enters.unfinished n ∙ by n (contains (sectors_of a.draft.runs) n) refl there ∙ was) is
   where
@@ -117,7 +117,7 @@ of_entered a s t (Writing w) apart enters is = draft_stays s t w.draft (λ n the
 of_entered a s t (Reading r) apart enters is = same_held s t r.held enters.layout enters.readers is
 
 -- a place that is held isn't an empty one
-pub differ : (s : State) (r : Reader) {place : ℕ} → IsHeld s r.held → slice_index_or s.readers place None ≡ None → r.held.place ≢ place
+pub differ : (s : State) (r : Reader) {place : ℕ} → IsHeldVersion s r.held → slice_index_or s.readers place None ≡ None → r.held.place ≢ place
 differ s r {place = place} is empty same =
     let both : Some r.held.entry.runs ≡ None = sym is.runs ∙ ap (λ (n : ℕ). slice_index_or s.readers n None) same ∙ empty in
     absurd (cc both)
@@ -155,8 +155,8 @@ module _ (clients : List Client) (i : ℕ) (x : Client) (inside : i < length cli
 
   pub desk_set : (t : State) → IsOf t x
       → ((j : ℕ) → (j ≡ i → ⊥) → IsOf t (client_at clients j))
-      → ((j : ℕ) → (j ≡ i → ⊥) → AreApart x (client_at clients j) × AreApart (client_at clients j) x)
-      → ((j k : ℕ) → (j ≡ k → ⊥) → AreApart (client_at clients j) (client_at clients k))
+      → ((j : ℕ) → (j ≡ i → ⊥) → ShareNothing x (client_at clients j) × ShareNothing (client_at clients j) x)
+      → ((j k : ℕ) → (j ≡ k → ⊥) → ShareNothing (client_at clients j) (client_at clients k))
       → length t.readers ≡ most_readers
       → ((n : ℕ) → IsTrue (contains t.unfinished n) → Others (λ y. WritesAt y n))
       → ((place : ℕ) (runs : List Run) → slice_index_or t.readers place None ≡ Some runs → Others (λ y. ReadsAt y place))
@@ -174,22 +174,22 @@ module _ (clients : List Client) (i : ℕ) (x : Client) (inside : i < length cli
       each_by j (inr other) = subst (λ (y : Client). IsOf t y) (sym (client_other j other.1)) (others j other.1)
 
       apart_by : (j k : ℕ) → (j ≡ k → ⊥) → (((j == i) ≡ true) × (j ≡ i)) ⊎ (((j == i) ≡ false) × (j ≢ i)) → (((k == i) ≡ true) × (k ≡ i)) ⊎ (((k == i) ≡ false) × (k ≢ i))
-          → AreApart (client_at (set clients i x) j) (client_at (set clients i x) k)
+          → ShareNothing (client_at (set clients i x) j) (client_at (set clients i x) k)
       apart_by j k differs (inl a) (inl b) = absurd (differs (a.1 ∙ sym b.1))
       apart_by j k differs (inl a) (inr b) =
-          subst (λ (n : ℕ). AreApart (client_at (set clients i x) n) (client_at (set clients i x) k)) (sym a.1)
-          (subst (λ (y : Client). AreApart y (client_at (set clients i x) k)) (sym client_set)
-          (subst (λ (y : Client). AreApart x y) (sym (client_other k b.1)) (beside k b.1).0))
+          subst (λ (n : ℕ). ShareNothing (client_at (set clients i x) n) (client_at (set clients i x) k)) (sym a.1)
+          (subst (λ (y : Client). ShareNothing y (client_at (set clients i x) k)) (sym client_set)
+          (subst (λ (y : Client). ShareNothing x y) (sym (client_other k b.1)) (beside k b.1).0))
       apart_by j k differs (inr a) (inl b) =
-          subst (λ (n : ℕ). AreApart (client_at (set clients i x) j) (client_at (set clients i x) n)) (sym b.1)
-          (subst (λ (y : Client). AreApart (client_at (set clients i x) j) y) (sym client_set)
-          (subst (λ (y : Client). AreApart y x) (sym (client_other j a.1)) (beside j a.1).1))
+          subst (λ (n : ℕ). ShareNothing (client_at (set clients i x) j) (client_at (set clients i x) n)) (sym b.1)
+          (subst (λ (y : Client). ShareNothing (client_at (set clients i x) j) y) (sym client_set)
+          (subst (λ (y : Client). ShareNothing y x) (sym (client_other j a.1)) (beside j a.1).1))
       apart_by j k differs (inr a) (inr b) =
-          subst (λ (y : Client). AreApart y (client_at (set clients i x) k)) (sym (client_other j a.1))
-          (subst (λ (y : Client). AreApart (client_at clients j) y) (sym (client_other k b.1)) (apart j k differs))
+          subst (λ (y : Client). ShareNothing y (client_at (set clients i x) k)) (sym (client_other j a.1))
+          (subst (λ (y : Client). ShareNothing (client_at clients j) y) (sym (client_other k b.1)) (apart j k differs))
 
 -- nothing is apart from all
-pub idle_beside : (x : Client) → AreApart Idle x × AreApart x Idle
+pub idle_beside : (x : Client) → ShareNothing Idle x × ShareNothing x Idle
 idle_beside Idle = (tt, tt)
 idle_beside (Writing w) = (tt, tt)
 idle_beside (Reading r) = (tt, tt)
@@ -230,14 +230,14 @@ left_of_both true false is = (refl, refl)
 left_of_both true true is = absurd (cc is)
 left_of_both false c is = absurd (cc is)
 
-pub kept_sector : (s t : State) (a : Client) → GivesUp a s t → (n : ℕ) → IsTrue (contains t.unfinished n) → IsTrue (contains s.unfinished n) × (WritesAt a n → ⊥)
+pub kept_sector : (s t : State) (a : Client) → GivesUpPart a s t → (n : ℕ) → IsTrue (contains t.unfinished n) → IsTrue (contains s.unfinished n) × (WritesAt a n → ⊥)
 kept_sector s t Idle gives n there = (subst (λ (y : State). IsTrue (contains y.unfinished n)) gives there, λ own. own)
 kept_sector s t (Writing w) gives n there =
     let both = left_of_both (contains s.unfinished n) (contains (sectors_of w.draft.runs) n) (sym (gives.unfinished n) ∙ there) in
     (both.0, λ own. both_ways (contains (sectors_of w.draft.runs) n) both.1 own)
 kept_sector s t (Reading r) gives n there = (subst (λ (xs : List ℕ). IsTrue (contains xs n)) (ap (λ (y : State). y.unfinished) gives.is) there, λ own. own)
 
-pub kept_place : (s t : State) (a : Client) → IsOf s a → GivesUp a s t → (place : ℕ) (runs : List Run) → slice_index_or t.readers place None ≡ Some runs → (slice_index_or s.readers place None ≡ Some runs) × (ReadsAt a place → ⊥)
+pub kept_place : (s t : State) (a : Client) → IsOf s a → GivesUpPart a s t → (place : ℕ) (runs : List Run) → slice_index_or t.readers place None ≡ Some runs → (slice_index_or s.readers place None ≡ Some runs) × (ReadsAt a place → ⊥)
 kept_place s t Idle of gives place runs there = (ap (λ (y : State). slice_index_or y.readers place None) (sym gives) ∙ there, λ own. own)
 kept_place s t (Writing w) of gives place runs there = (ap (λ (y : State). slice_index_or y.readers place None) (sym gives.is) ∙ there, λ own. own)
 kept_place s t (Reading r) of gives place runs there = by (eqb_tells place r.held.place)
@@ -251,7 +251,7 @@ kept_place s t (Reading r) of gives place runs there = by (eqb_tells place r.hel
         absurd (cc gone)
     by (inr other) = (sym (get_or-set_other s.readers r.held.place place None None other.1) ∙ now, λ own. other.1 (sym own))
 
-kept_places : (s t : State) (a : Client) → GivesUp a s t → length t.readers ≡ length s.readers
+kept_places : (s t : State) (a : Client) → GivesUpPart a s t → length t.readers ≡ length s.readers
 kept_places s t Idle gives = ap (λ (y : State). length y.readers) gives
 kept_places s t (Writing w) gives = ap (λ (y : State). length y.readers) gives.is
 kept_places s t (Reading r) gives = ap (λ (y : State). length y.readers) gives.is ∙ length-set s.readers r.held.place None
@@ -272,7 +272,7 @@ desk_same s t clients same desk = record {
 pub desk_fresh : (s : State) → s.unfinished ≡ [] → s.readers ≡ no_readers → IsDesk s no_desk
 desk_fresh s unfinished readers = record {
   each = λ i. subst (λ (y : Client). IsOf s y) (sym (all_idle 8 i)) tt;
-  apart = λ i j other. subst (λ (y : Client). AreApart y (client_at no_desk j)) (sym (all_idle 8 i)) (idle_beside (client_at no_desk j)).0;
+  apart = λ i j other. subst (λ (y : Client). ShareNothing y (client_at no_desk j)) (sym (all_idle 8 i)) (idle_beside (client_at no_desk j)).0;
   places = ap (λ (xs : List (Option (List Run))). length xs) readers;
   drafts = λ n there. absurd (cc (subst (λ (xs : List ℕ). contains xs n ≡ true) unfinished there));
   held = λ place runs there. absurd (cc (sym there ∙ ap (λ (xs : List (Option (List Run))). slice_index_or xs place None) readers ∙ all_empty 8 place));
@@ -289,7 +289,7 @@ desk_fresh s unfinished readers = record {
     all_empty (suc n) (suc place) = all_empty n place
 
 -- a client's part is given up
-pub desk_ends : (s t : State) (clients : List Client) (i : ℕ) → i < length clients → IsDesk s clients → GivesUp (client_at clients i) s t → IsDesk t (set clients i Idle)
+pub desk_ends : (s t : State) (clients : List Client) (i : ℕ) → i < length clients → IsDesk s clients → GivesUpPart (client_at clients i) s t → IsDesk t (set clients i Idle)
 desk_ends s t clients i inside desk gives =
     desk_set clients i Idle inside t tt (λ j other. of_given s t (client_at clients i) (client_at clients j) (desk.apart i j (λ same. other (sym same))) gives (desk.each j))
     (λ j other. idle_beside (client_at clients j)) (λ j k other. desk.apart j k other)
@@ -301,7 +301,7 @@ desk_ends s t clients i inside desk gives =
 pub desk_enters : (s t : State) (clients : List Client) (i : ℕ) (w : Creation) → i < length clients → IsDesk s clients → client_at clients i ≡ Writing w → Enters w.draft.runs s t → IsDesk t (set clients i Idle)
 desk_enters s t clients i w inside desk is enters =
     desk_set clients i Idle inside t tt
-    (λ j other. of_entered w s t (client_at clients j) (subst (λ (y : Client). AreApart y (client_at clients j)) is (desk.apart i j (λ same. other (sym same)))) enters (desk.each j))
+    (λ j other. of_entered w s t (client_at clients j) (subst (λ (y : Client). ShareNothing y (client_at clients j)) is (desk.apart i j (λ same. other (sym same)))) enters (desk.each j))
     (λ j other. idle_beside (client_at clients j)) (λ j k other. desk.apart j k other)
     (ap (λ (xs : List (Option (List Run))). length xs) enters.readers ∙ desk.places)
     (λ n there.
@@ -311,7 +311,7 @@ desk_enters s t clients i w inside desk is enters =
     (desk.held place runs (ap (λ (xs : List (Option (List Run))). slice_index_or xs place None) (sym enters.readers) ∙ there)))
 
 -- of a client that begins, none has a sector
-pub taken_beside : (s t : State) (w : Creation) (x : Client) → Takes w.draft.runs s t → IsOf s x → AreApart (Writing w) x × AreApart x (Writing w)
+pub taken_beside : (s t : State) (w : Creation) (x : Client) → TakesPlace w.draft.runs s t → IsOf s x → ShareNothing (Writing w) x × ShareNothing x (Writing w)
 taken_beside s t w Idle takes is = (tt, tt)
 taken_beside s t w (Reading r) takes is = (tt, tt)
 taken_beside s t w (Writing a) takes is = (
@@ -327,13 +327,13 @@ taken_beside s t w (Writing a) takes is = (
     by_other n true e there = absurd (both_ways (contains s.unfinished n) (takes.apart n e) there)
     by_other n false e there = refl
 
-pub held_beside : (s t : State) (r : Reader) (x : Client) → HoldsAt r.held s t → IsOf s x → AreApart (Reading r) x × AreApart x (Reading r)
+pub held_beside : (s t : State) (r : Reader) (x : Client) → HoldsAt r.held s t → IsOf s x → ShareNothing (Reading r) x × ShareNothing x (Reading r)
 held_beside s t r Idle holds is = (tt, tt)
 held_beside s t r (Writing w) holds is = (tt, tt)
 held_beside s t r (Reading a) holds is = (λ same. differ s a is holds.empty (sym same), λ same. differ s a is holds.empty same)
 
 -- a creation is begun
-pub desk_takes : (s t : State) (clients : List Client) (i : ℕ) (w : Creation) → i < length clients → IsDesk s clients → client_at clients i ≡ Idle → Takes w.draft.runs s t → IsDraft t w.draft → IsDesk t (set clients i (Writing w))
+pub desk_takes : (s t : State) (clients : List Client) (i : ℕ) (w : Creation) → i < length clients → IsDesk s clients → client_at clients i ≡ Idle → TakesPlace w.draft.runs s t → IsDraft t w.draft → IsDesk t (set clients i (Writing w))
 desk_takes s t clients i w inside desk idle takes is =
     desk_set clients i (Writing w) inside t is (λ j other. of_taken w.draft.runs s t (client_at clients j) takes (desk.each j))
     (λ j other. taken_beside s t w (client_at clients j) takes (desk.each j)) (λ j k other. desk.apart j k other)
@@ -347,7 +347,7 @@ desk_takes s t clients i w inside desk idle takes is =
     by n false e there = others_of clients i (Writing w) (λ y. WritesAt y n) (λ own. idle_writes (client_at clients i) n idle own) (desk.drafts n (sym (or_false (contains s.unfinished n)) ∙ there))
 
 -- a version is held
-pub desk_holds : (s t : State) (clients : List Client) (i : ℕ) (r : Reader) → i < length clients → IsDesk s clients → client_at clients i ≡ Idle → HoldsAt r.held s t → IsHeld t r.held → IsDesk t (set clients i (Reading r))
+pub desk_holds : (s t : State) (clients : List Client) (i : ℕ) (r : Reader) → i < length clients → IsDesk s clients → client_at clients i ≡ Idle → HoldsAt r.held s t → IsHeldVersion t r.held → IsDesk t (set clients i (Reading r))
 desk_holds s t clients i r inside desk idle holds is =
     desk_set clients i (Reading r) inside t is (λ j other. of_held r.held s t (client_at clients j) holds (desk.each j))
     (λ j other. held_beside s t r (client_at clients j) holds (desk.each j)) (λ j k other. desk.apart j k other)
@@ -368,29 +368,29 @@ desk_holds s t clients i r inside desk idle holds is =
 
 -- ---- a reader goes on
 
-pub goes_of : (s : State) (n : ℕ) (a x : Client) → GoesTo n a x → IsOf s a → IsOf s x
+pub goes_of : (s : State) (n : ℕ) (a x : Client) → GoesOnBehind n a x → IsOf s a → IsOf s x
 goes_of s n Idle x goes is = absurd goes
 goes_of s n (Writing w) x goes is = absurd goes
 goes_of s n (Reading r) x goes is = subst (λ (z : Client). IsOf s z) (sym goes.0) is
 
-pub goes_apart : (n : ℕ) (a x y : Client) → GoesTo n a x → AreApart a y × AreApart y a → AreApart x y × AreApart y x
+pub goes_apart : (n : ℕ) (a x y : Client) → GoesOnBehind n a x → ShareNothing a y × ShareNothing y a → ShareNothing x y × ShareNothing y x
 goes_apart n Idle x y goes apart = absurd goes
 goes_apart n (Writing w) x y goes apart = absurd goes
-goes_apart n (Reading r) x Idle goes apart = subst (λ (z : Client). AreApart z Idle × AreApart Idle z) (sym goes.0) (tt, tt)
-goes_apart n (Reading r) x (Writing w) goes apart = subst (λ (z : Client). AreApart z (Writing w) × AreApart (Writing w) z) (sym goes.0) (tt, tt)
-goes_apart n (Reading r) x (Reading b) goes apart = subst (λ (z : Client). AreApart z (Reading b) × AreApart (Reading b) z) (sym goes.0) apart
+goes_apart n (Reading r) x Idle goes apart = subst (λ (z : Client). ShareNothing z Idle × ShareNothing Idle z) (sym goes.0) (tt, tt)
+goes_apart n (Reading r) x (Writing w) goes apart = subst (λ (z : Client). ShareNothing z (Writing w) × ShareNothing (Writing w) z) (sym goes.0) (tt, tt)
+goes_apart n (Reading r) x (Reading b) goes apart = subst (λ (z : Client). ShareNothing z (Reading b) × ShareNothing (Reading b) z) (sym goes.0) apart
 
-goes_writes : (n t : ℕ) (a x : Client) → GoesTo n a x → WritesAt a t → WritesAt x t
+goes_writes : (n t : ℕ) (a x : Client) → GoesOnBehind n a x → WritesAt a t → WritesAt x t
 goes_writes n t Idle x goes own = absurd goes
 goes_writes n t (Writing w) x goes own = absurd goes
 goes_writes n t (Reading r) x goes own = absurd own
 
-goes_reads : (n place : ℕ) (a x : Client) → GoesTo n a x → ReadsAt a place → ReadsAt x place
+goes_reads : (n place : ℕ) (a x : Client) → GoesOnBehind n a x → ReadsAt a place → ReadsAt x place
 goes_reads n place Idle x goes own = absurd goes
 goes_reads n place (Writing w) x goes own = absurd goes
 goes_reads n place (Reading r) x goes own = subst (λ (z : Client). ReadsAt z place) (sym goes.0) own
 
-pub desk_goes : (s : State) (clients : List Client) (i n : ℕ) (x : Client) → i < length clients → IsDesk s clients → GoesTo n (client_at clients i) x → IsDesk s (set clients i x)
+pub desk_goes : (s : State) (clients : List Client) (i n : ℕ) (x : Client) → i < length clients → IsDesk s clients → GoesOnBehind n (client_at clients i) x → IsDesk s (set clients i x)
 desk_goes s clients i n x inside desk goes =
     desk_set clients i x inside s (goes_of s n (client_at clients i) x goes (desk.each i)) (λ j other. desk.each j)
     (λ j other. goes_apart n (client_at clients i) x (client_at clients j) goes (desk.apart i j (λ same. other (sym same)), desk.apart j i other)) (λ j k other. desk.apart j k other)
@@ -415,13 +415,13 @@ on_of s Idle x on is = absurd on
 on_of s (Writing w) x on is = subst (λ (z : Client). IsOf s z) (sym on.1) (subst (λ (d : Draft). IsDraft s d) (sym on.2) is)
 on_of s (Reading r) x on is = absurd on
 
-on_apart : (a x y : Client) → WritesOn a x → AreApart a y × AreApart y a → AreApart x y × AreApart y x
+on_apart : (a x y : Client) → WritesOn a x → ShareNothing a y × ShareNothing y a → ShareNothing x y × ShareNothing y x
 on_apart Idle x y on apart = absurd on
 on_apart (Reading r) x y on apart = absurd on
-on_apart (Writing w) x Idle on apart = subst (λ (z : Client). AreApart z Idle × AreApart Idle z) (sym on.1) (tt, tt)
-on_apart (Writing w) x (Reading b) on apart = subst (λ (z : Client). AreApart z (Reading b) × AreApart (Reading b) z) (sym on.1) (tt, tt)
+on_apart (Writing w) x Idle on apart = subst (λ (z : Client). ShareNothing z Idle × ShareNothing Idle z) (sym on.1) (tt, tt)
+on_apart (Writing w) x (Reading b) on apart = subst (λ (z : Client). ShareNothing z (Reading b) × ShareNothing (Reading b) z) (sym on.1) (tt, tt)
 on_apart (Writing w) x (Writing b) on apart =
-    subst (λ (z : Client). AreApart z (Writing b) × AreApart (Writing b) z) (sym on.1)
+    subst (λ (z : Client). ShareNothing z (Writing b) × ShareNothing (Writing b) z) (sym on.1)
     (subst (λ (d : Draft). ((t : ℕ) → IsTrue (contains (sectors_of d.runs) t) → IsFalse (contains (sectors_of b.draft.runs) t)) × ((t : ℕ) → IsTrue (contains (sectors_of b.draft.runs) t) → IsFalse (contains (sectors_of d.runs) t))) (sym on.2) apart)
 
 on_writes : (t : ℕ) (a x : Client) → WritesOn a x → WritesAt a t → WritesAt x t

@@ -11,18 +11,18 @@ use Rattle.fsd_log.specs.Scan.{Placed}
 use Rattle.fsd_files.specs.Desk.{Open, Nothing, Writes, Reads, most_clients, no_clients}
 use Rattle.fsd_sound.specs.Mounted.{Mounted}
 use Rattle.volume_contract.specs.Pieces.{slices_in, with_opened}
-use Rattle.volume_contract.specs.State.{Known, Opened, Reading as Held, Stands, State, Written, no_readers, none_open}
+use Rattle.volume_contract.specs.State.{Known, OpenParts, HeldVersion as Held, Stands, State, WrittenDraft, no_readers, none_open}
 use Rattle.client_desk.specs.declared.client.Client.{Client}
 use Rattle.client_desk.specs.declared.client.Client.TheVariants.{Idle, Writing, Reading}
-use Rattle.client_desk.specs.Clients.{Frees, GivesUp, IsDesk, IsOf, LeavesNone, ReadsAt, WritesAt, WritesIn, client_at, cleared, no_desk}
-use Rattle.client_desk.specs.Ends.{IsOpenIn, Serves, Sits, given_up, open_at, slices_so_far}
+use Rattle.client_desk.specs.Clients.{Frees, GivesUpPart, IsDesk, IsOf, LeavesNone, ReadsAt, WritesAt, WritesDraftIn, client_at, cleared_clients, no_desk}
+use Rattle.client_desk.specs.Ends.{IsOpenIn, ServesOpen, Sits, given_up, open_at, slices_so_far}
 use Rattle.client_desk.proofs.DeskLaws.{desk_ends}
 use Rattle.client_desk.proofs.PieceLaws.{opened_itself}
 use Rattle.client_desk.proofs.SitsLaws.{gone_sits}
 
 -- ---- the front is idle
 
-pub cleared_client : (clients : List Client) (n : ℕ) → client_at (cleared n clients) n ≡ client_at clients n
+pub cleared_client : (clients : List Client) (n : ℕ) → client_at (cleared_clients n clients) n ≡ client_at clients n
 cleared_client [] zero = refl
 cleared_client [] (suc n) = behind n
   where
@@ -32,12 +32,12 @@ cleared_client [] (suc n) = behind n
 cleared_client (x ∷ clients) zero = refl
 cleared_client (x ∷ clients) (suc n) = cleared_client clients n
 
-pub cleared_next : (clients : List Client) (n : ℕ) → n < length clients → set (cleared n clients) n Idle ≡ cleared (suc n) clients
+pub cleared_next : (clients : List Client) (n : ℕ) → n < length clients → set (cleared_clients n clients) n Idle ≡ cleared_clients (suc n) clients
 cleared_next [] n inside = absurd (omega (arith, inside))
 cleared_next (x ∷ clients) zero inside = refl
 cleared_next (x ∷ clients) (suc n) inside = ap (λ (xs : List Client). Idle ∷ xs) (cleared_next clients n (omega (arith, inside)))
 
-pub cleared_length : (clients : List Client) (n : ℕ) → n ≤ length clients → length (cleared n clients) ≡ length clients
+pub cleared_length : (clients : List Client) (n : ℕ) → n ≤ length clients → length (cleared_clients n clients) ≡ length clients
 cleared_length clients zero inside = refl
 cleared_length [] (suc n) inside = absurd (omega (arith, inside))
 cleared_length (x ∷ clients) (suc n) inside = ap (λ (m : ℕ). suc m) (cleared_length clients n (omega (arith, inside)))
@@ -51,7 +51,7 @@ none_dropped : (n : ℕ) → drop {A = Client} n [] ≡ []
 none_dropped zero = refl
 none_dropped (suc n) = refl
 
-cleared_all : (clients : List Client) (n i : ℕ) → length clients ≤ n → client_at (cleared n clients) i ≡ Idle
+cleared_all : (clients : List Client) (n i : ℕ) → length clients ≤ n → client_at (cleared_clients n clients) i ≡ Idle
 cleared_all [] n i all = ap (λ (xs : List Client). client_at (replicate n Idle ++ xs) i) (none_dropped n) ∙ idle_front n i
 cleared_all (x ∷ clients) zero i all = absurd (omega (arith, all))
 cleared_all (x ∷ clients) (suc n) zero all = refl
@@ -59,7 +59,7 @@ cleared_all (x ∷ clients) (suc n) (suc i) all = cleared_all clients n i (omega
 
 -- ---- over any machine
 
-frees_by : (x : Client) (s t : State) → GivesUp x s t → Frees s t
+frees_by : (x : Client) (s t : State) → GivesUpPart x s t → Frees s t
 frees_by Idle s t gives = λ i. record (gives i) { free = t.free; freed = t.freed; waiting = t.waiting; unfinished = t.unfinished; readers = t.readers }
 frees_by (Writing w) s t gives = gives.is ∙ (λ i. record s { free = t.free; freed = t.freed; waiting = t.waiting; unfinished = t.unfinished; readers = sym (ap (λ (y : State). y.readers) gives.is) i })
 frees_by (Reading r) s t gives = gives.is ∙ (λ i. record s { free = t.free; freed = t.freed; waiting = t.waiting; unfinished = sym (ap (λ (y : State). y.unfinished) gives.is) i; readers = sym (ap (λ (y : State). y.readers) gives.is) i })
@@ -70,24 +70,24 @@ frees_then s t u first second = second ∙ ap (λ (y : State). record y { free =
 -- So many of eight clients have given up their parts.
 pub record Left (n : ℕ) (clients : List Client) (s t : State) : Type 0 where
   pub size : length clients ≡ 8
-  pub desk : IsDesk t (cleared n clients)
+  pub desk : IsDesk t (cleared_clients n clients)
   pub frees : Frees s t
 
 pub left_none : (s : State) (clients : List Client) → length clients ≡ 8 → IsDesk s clients → Left 0 clients s s
 left_none s clients size desk = record { size = size; desk = desk; frees = refl }
 
 -- one more has
-pub gone : (s t u : State) (clients : List Client) (n : ℕ) → n < 8 → Left n clients s t → GivesUp (client_at clients n) t u → Left (suc n) clients s u
+pub gone : (s t u : State) (clients : List Client) (n : ℕ) → n < 8 → Left n clients s t → GivesUpPart (client_at clients n) t u → Left (suc n) clients s u
 gone s t u clients n few left gives =
     let inside : n < length clients = omega (arith, few, left.size) in
     record {
       size = left.size;
       desk = subst (λ (xs : List Client). IsDesk u xs) (cleared_next clients n inside)
-          (desk_ends t u (cleared n clients) n (omega (arith, inside, cleared_length clients n (omega (arith, inside)))) left.desk (subst (λ (x : Client). GivesUp x t u) (sym (cleared_client clients n)) gives));
+          (desk_ends t u (cleared_clients n clients) n (omega (arith, inside, cleared_length clients n (omega (arith, inside)))) left.desk (subst (λ (x : Client). GivesUpPart x t u) (sym (cleared_client clients n)) gives));
       frees = frees_then s t u left.frees (frees_by (client_at clients n) t u gives);
     }
 
-pub of_next : (s : State) (clients : List Client) (n : ℕ) → IsDesk s (cleared n clients) → IsOf s (client_at clients n)
+pub of_next : (s : State) (clients : List Client) (n : ℕ) → IsDesk s (cleared_clients n clients) → IsOf s (client_at clients n)
 of_next s clients n desk = subst (λ (x : Client). IsOf s x) (cleared_client clients n) (desk.each n)
 
 no_sector : (xs : List ℕ) → ((t : ℕ) → contains xs t ≡ true → ⊥) → xs ≡ []
@@ -101,7 +101,7 @@ no_place (suc n) [] size none = absurd (omega (arith, size))
 no_place {X = X} (suc n) (None ∷ places) size none = ap (λ (xs : List (Option X)). None ∷ xs) (no_place n places (omega (arith, size)) (λ p x there. none (suc p) x there))
 no_place (suc n) (Some x ∷ places) size none = absurd (none 0 x refl)
 
-pub leaves_none : (s t : State) (clients : List Client) → length clients ≡ 8 → IsDesk t (cleared 8 clients) → Frees s t → LeavesNone s t
+pub leaves_none : (s t : State) (clients : List Client) → length clients ≡ 8 → IsDesk t (cleared_clients 8 clients) → Frees s t → LeavesNone s t
 leaves_none s t clients size desk freed = record {
   is = freed;
   unfinished = no_sector t.unfinished (λ n there.
@@ -112,7 +112,7 @@ leaves_none s t clients size desk freed = record {
 
 -- ---- over an honest one
 
-open_in : (o : Opened) (x : Client) (y : Open) → Serves o x y → IsOpenIn o x
+open_in : (o : OpenParts) (x : Client) (y : Open) → ServesOpen o x y → IsOpenIn o x
 open_in o Idle y serves = tt
 open_in o (Reading r) y serves = tt
 open_in o (Writing w) Nothing serves = absurd serves
@@ -131,10 +131,10 @@ module _ {S : Type 0} (state : S → State) (has : S → Mounted → List Placed
     stands = stands;
     size = refl;
     each = λ i. serves_none 8 i;
-    drafts = λ runs slices there. absurd (cc (sym there ∙ ap (λ (o : Opened). slices_in o.drafts runs) none));
+    drafts = λ runs slices there. absurd (cc (sym there ∙ ap (λ (o : OpenParts). slices_in o.drafts runs) none));
   }
     where
-      serves_none : (n i : ℕ) → Serves k.opened (client_at (replicate n Idle) i) (open_at (replicate n Nothing) i)
+      serves_none : (n i : ℕ) → ServesOpen k.opened (client_at (replicate n Idle) i) (open_at (replicate n Nothing) i)
       serves_none zero i = tt
       serves_none (suc n) zero = tt
       serves_none (suc n) (suc i) = serves_none n i
@@ -144,46 +144,46 @@ module _ {S : Type 0} (state : S → State) (has : S → Mounted → List Placed
     pub after : Known
     pub left : List Open
     pub is : after ≡ with_opened k after.opened
-    pub sits : Sits state has v (cleared n desk) after left now
+    pub sits : Sits state has v (cleared_clients n desk) after left now
 
   pub cleared_none : (desk : List Client) (k : Known) (opens : List Open) (v : S) (now : Moment) → Sits state has v desk k opens now → HasCleared 0 desk k v now
   cleared_none desk k opens v now sits = record { after = k; left = opens; is = sym (opened_itself state has v k now sits.stands); sits = sits }
 
-  pub cleared_more : (n : ℕ) (desk : List Client) (k : Known) (v w : S) (now : Moment) → length desk ≡ 8 → n < 8 → IsDesk (state v) (cleared n desk)
+  pub cleared_more : (n : ℕ) (desk : List Client) (k : Known) (v w : S) (now : Moment) → length desk ≡ 8 → n < 8 → IsDesk (state v) (cleared_clients n desk)
       → ((z : Known) → IsOpenIn z.opened (client_at desk n) → Stands state has v z now → Stands state has w (given_up z (client_at desk n)) now)
       → HasCleared n desk k v now → HasCleared (suc n) desk k w now
   cleared_more n desk k v w now size inside of gives was = record {
     after = given_up was.after (client_at desk n);
     left = set was.left n Nothing;
     is = given_on k was.after (client_at desk n) was.is;
-    sits = subst (λ (m : ℕ). Sits state has w (cleared (suc n) desk) (given_up was.after (client_at desk n)) (set was.left m Nothing) now) (sym place)
+    sits = subst (λ (m : ℕ). Sits state has w (cleared_clients (suc n) desk) (given_up was.after (client_at desk n)) (set was.left m Nothing) now) (sym place)
         (subst (λ (xs : List Client). Sits state has w xs (given_up was.after (client_at desk n)) (set was.left (suc n - 1) Nothing) now) (cleared_next desk n (omega (arith, size, inside)))
-        (gone_sits state has (state v) (suc n) n was.after was.left v w (cleared n desk) now now (omega (arith, inside, many)) many (of.each n) (λ j other. of.apart n j (λ same. other (sym same))) was.sits
+        (gone_sits state has (state v) (suc n) n was.after was.left v w (cleared_clients n desk) now now (omega (arith, inside, many)) many (of.each n) (λ j other. of.apart n j (λ same. other (sym same))) was.sits
         (λ open_so stood. subst (λ (x : Client). Stands state has w (given_up was.after x) now) (sym here) (gives was.after (subst (λ (x : Client). IsOpenIn was.after.opened x) here open_so) stood))
         (client_at desk n) (sym here) place
-        (subst (λ (x : Client). IsOpenIn was.after.opened x) here (open_in was.after.opened (client_at (cleared n desk) n) (open_at was.left n) (was.sits.each n)))));
+        (subst (λ (x : Client). IsOpenIn was.after.opened x) here (open_in was.after.opened (client_at (cleared_clients n desk) n) (open_at was.left n) (was.sits.each n)))));
   }
     where
       place : n ≡ suc n - 1
       place = omega arith
 
-      here : client_at (cleared n desk) n ≡ client_at desk n
+      here : client_at (cleared_clients n desk) n ≡ client_at desk n
       here = cleared_client desk n
 
-      many : length (cleared n desk) ≡ most_clients
+      many : length (cleared_clients n desk) ≡ most_clients
       many = cleared_length desk n (omega (arith, size, inside)) ∙ size
 
   -- all have
-  pub cleared_stands : (desk : List Client) (k : Known) (v : S) (now : Moment) → length desk ≡ 8 → IsDesk (state v) (cleared 8 desk) → HasCleared 8 desk k v now → Stands state has v (with_opened k none_open) now
+  pub cleared_stands : (desk : List Client) (k : Known) (v : S) (now : Moment) → length desk ≡ 8 → IsDesk (state v) (cleared_clients 8 desk) → HasCleared 8 desk k v now → Stands state has v (with_opened k none_open) now
   cleared_stands desk k v now size of was =
-      subst (λ (o : Opened). Stands state has v (with_opened k o) now) (λ i. record { drafts = no_draft was.after.opened.drafts was.sits.drafts i; readers = places i })
+      subst (λ (o : OpenParts). Stands state has v (with_opened k o) now) (λ i. record { drafts = no_draft was.after.opened.drafts was.sits.drafts i; readers = places i })
       (subst (λ (z : Known). Stands state has v z now) was.is was.sits.stands)
     where
-      no_draft : (drafts : List Written) → ((runs : List Run) (slices : List (Option (List ℕ))) → slices_in drafts runs ≡ Some slices → (i : ℕ) × WritesIn (client_at (cleared 8 desk) i) runs) → drafts ≡ []
+      no_draft : (drafts : List WrittenDraft) → ((runs : List Run) (slices : List (Option (List ℕ))) → slices_in drafts runs ≡ Some slices → (i : ℕ) × WritesDraftIn (client_at (cleared_clients 8 desk) i) runs) → drafts ≡ []
       no_draft [] owned = refl
       no_draft (x ∷ drafts) owned =
           let own = owned x.runs x.slices (ap (λ (b : Bool). cond b (Some x.slices) (slices_in drafts x.runs)) (runs_are_same x.runs)) in
-          absurd (subst (λ (y : Client). WritesIn y x.runs) (cleared_all desk 8 own.0 (omega (arith, size))) own.1)
+          absurd (subst (λ (y : Client). WritesDraftIn y x.runs) (cleared_all desk 8 own.0 (omega (arith, size))) own.1)
 
       same : (state v).readers ≡ map (λ (place : Option Held). option_map (λ x. x.runs) place) was.after.opened.readers
       same = was.sits.stands.opened.places

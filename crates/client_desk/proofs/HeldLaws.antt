@@ -9,16 +9,16 @@ use Rattle.run_table.proofs.SectorLaws.{contains-append}
 use Rattle.fsd_bytes.specs.declared.key.Key.{Key}
 use Rattle.sector_disk.specs.Machine.{Moment}
 use Rattle.fsd_log.specs.Scan.{Placed}
-use Rattle.fsd_files.specs.Desk.{Answered, Open, Nothing, Writes, Reads, Session}
+use Rattle.fsd_files.specs.Desk.{SessionOutcome, Open, Nothing, Writes, Reads, Session}
 use Rattle.fsd_files.specs.declared.reply.Reply.{Reply}
 use Rattle.fsd_files.specs.Volume.{is_in}
 use Rattle.fsd_runs.specs.Sessions.{HoldsRead, read_by}
 use Rattle.fsd_sound.specs.Mounted.{Mounted}
-use Rattle.volume_contract.specs.State.{Known, Reading as Held, State, readings}
+use Rattle.volume_contract.specs.State.{Known, HeldVersion as Held, State, readings}
 use Rattle.client_desk.specs.declared.client.Client.{Client}
 use Rattle.client_desk.specs.declared.client.Client.TheVariants.{Idle, Writing, Reading}
 use Rattle.client_desk.specs.Clients.{IsDesk, ReadsAt, client_at}
-use Rattle.client_desk.specs.Ends.{AnswersHeld, Serves, Sits, open_at, session_of}
+use Rattle.client_desk.specs.Ends.{AnswersHeld, ServesOpen, Sits, open_at, session_of}
 use Rattle.client_desk.proofs.SitsLaws.{AnswersBy, held_is}
 
 -- ---- at the places
@@ -109,7 +109,7 @@ module _ {S : Type 0} (state : S → State) (has : S → Mounted → List Placed
       there (z ∷ places) zero x is = ap (λ (place : Option Held). option_map (λ y. y.runs) place) is
       there (z ∷ places) (suc p) x is = there places p x is
 
-      served : (c : Client) (y : Open) (place : ℕ) (x : Held) → Serves k.opened c y → ReadsAt c place → slice_index_or k.opened.readers place None ≡ Some x → read_runs y ≡ x.runs
+      served : (c : Client) (y : Open) (place : ℕ) (x : Held) → ServesOpen k.opened c y → ReadsAt c place → slice_index_or k.opened.readers place None ≡ Some x → read_runs y ≡ x.runs
       served Idle y place x serves own is = absurd own
       served (Writing w) y place x serves own is = absurd own
       served (Reading r) Nothing place x serves own is = absurd serves
@@ -125,7 +125,7 @@ module _ {S : Type 0} (state : S → State) (has : S → Mounted → List Placed
           let own = of.held at.place at.reading.runs (ap (λ (xs : List (Option (List Run))). slice_index_or xs at.place None) same ∙ there k.opened.readers at.place at.reading at.is) in
           client_by opens own.0 t (ap (λ (runs : List Run). contains (sectors_of runs) t) (served (client_at desk own.0) (open_at opens own.0) at.place at.reading (sits.each own.0) own.1 at.is) ∙ at.has)
 
-      reads_there : (c : Client) (a : Key) (r : List Run) (b : List ℕ) (p : ℕ) → Serves k.opened c (Reads a r b p) → contains (sectors_of r) t ≡ true → is_in (map (λ x. x.runs) (readings k.opened.readers)) t ≡ true
+      reads_there : (c : Client) (a : Key) (r : List Run) (b : List ℕ) (p : ℕ) → ServesOpen k.opened c (Reads a r b p) → contains (sectors_of r) t ≡ true → is_in (map (λ x. x.runs) (readings k.opened.readers)) t ≡ true
       reads_there Idle a r b p serves in_runs = absurd serves
       reads_there (Writing w) a r b p serves in_runs = absurd serves
       reads_there (Reading z) a r b p serves in_runs = place_at k.opened.readers z.held.place t (record { runs = r; bytes = b }) serves.there in_runs
@@ -133,10 +133,10 @@ module _ {S : Type 0} (state : S → State) (has : S → Mounted → List Placed
       from : is_in (read_by opens) t ≡ true → is_in (map (λ x. x.runs) (readings k.opened.readers)) t ≡ true
       from is =
           let one = by_client opens t is in
-          reads_there (client_at desk one.client) one.key one.runs one.bytes one.from (subst (λ (y : Open). Serves k.opened (client_at desk one.client) y) one.is (sits.each one.client)) one.has
+          reads_there (client_at desk one.client) one.key one.runs one.bytes one.from (subst (λ (y : Open). ServesOpen k.opened (client_at desk one.client) y) one.is (sits.each one.client)) one.has
 
   -- and so it answers by what they read
-  pub answers_held : (outcome : List (List Run) → Session → Answered) (reply : Reply) (k : Known) (opens : List Open) (v : S) (desk : List Client) (now : Moment)
+  pub answers_held : (outcome : List (List Run) → Session → SessionOutcome) (reply : Reply) (k : Known) (opens : List Open) (v : S) (desk : List Client) (now : Moment)
       → IsDesk (state v) desk → AnswersBy state has outcome reply k opens v desk now → AnswersHeld state has outcome reply k opens v desk now
   answers_held outcome reply k opens v desk now of by = record {
     held = by.held;

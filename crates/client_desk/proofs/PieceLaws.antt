@@ -24,14 +24,14 @@ use Rattle.fsd_files.specs.Kept.{data_sectors}
 use Rattle.fsd_sound.specs.Mounted.{Mounted}
 use Rattle.fsd_sound.proofs.MountedLaws.{mounted_sound}
 use Rattle.volume_contract.specs.Order.{Comes, IsDeviceIn, slices_steps}
-use Rattle.volume_contract.specs.Pieces.{EndsSlices, drafts_with, ended, in_slices, slice_count, slices_if, slices_in, with_opened, with_slices, wrote}
-use Rattle.volume_contract.specs.State.{Known, Leaves, LeavesSound, Opened, Stands, State, Written, forced_of, volume_of}
+use Rattle.volume_contract.specs.Pieces.{EndsSlices, drafts_with, ended, in_slices, slice_count, slices_if, slices_in, with_opened, with_slices, draft_wrote}
+use Rattle.volume_contract.specs.State.{Known, Leaves, LeavesSound, OpenParts, Stands, State, WrittenDraft, forced_of, volume_of}
 use Rattle.volume_contract.specs.declared.token.Draft.{Draft}
 use Rattle.client_desk.specs.declared.client.Creation.{Creation}
 use Rattle.client_desk.specs.declared.client.Client.{Client}
 use Rattle.client_desk.specs.declared.client.Client.TheVariants.{Writing}
-use Rattle.client_desk.specs.Clients.{data_of, is_due, tail_of, whole_part, written_len}
-use Rattle.client_desk.specs.Ends.{Adds, EndsAdd, EndsEntering, EndsPieces, IsOpenIn, IsWriting, LeavesFor, given_up, slices_so_far}
+use Rattle.client_desk.specs.Clients.{draft_sectors, is_due, tail_of, whole_part, written_len}
+use Rattle.client_desk.specs.Ends.{AddsBytes, EndsAdd, EndsEntering, EndsPieces, IsOpenIn, IsWritingDraft, LeavesFor, given_up, slices_so_far}
 use Rattle.client_desk.proofs.SitsLaws.{held_is, serves_writing}
 use Rattle.client_desk.proofs.SliceLaws.{front_slices, nones, fill_kept, fill_written, laid_nothing, lay_tail, lay_written, start, tail_kept, tail_none, written_more}
 
@@ -41,15 +41,15 @@ append_none (x ∷ xs) = ap (λ (ys : List ℕ). x ∷ ys) (append_none xs)
 
 -- ---- drafts
 
-pub slices_same : (drafts : List Written) (r : List Run) (s : List (Option (List ℕ))) → slices_in drafts r ≡ Some s → drafts_with drafts r s ≡ drafts
+pub slices_same : (drafts : List WrittenDraft) (r : List Run) (s : List (Option (List ℕ))) → slices_in drafts r ≡ Some s → drafts_with drafts r s ≡ drafts
 slices_same [] r s is = refl
 slices_same (x ∷ drafts) r s is = by (same_runs x.runs r) (slices_same drafts r s) is
   where
     by : (b : Bool) → (slices_in drafts r ≡ Some s → drafts_with drafts r s ≡ drafts) → cond b (Some x.slices) (slices_in drafts r) ≡ Some s → cond b (record { runs = x.runs; slices = s } ∷ drafts) (x ∷ drafts_with drafts r s) ≡ x ∷ drafts
     by true more is = let e : s ≡ x.slices = cc in ap (λ (t : List (Option (List ℕ))). record { runs = x.runs; slices = t } ∷ drafts) e
-    by false more is = ap (λ (xs : List Written). x ∷ xs) (more is)
+    by false more is = ap (λ (xs : List WrittenDraft). x ∷ xs) (more is)
 
-pub slices_with : (drafts : List Written) (r : List Run) (s t : List (Option (List ℕ))) → slices_in drafts r ≡ Some s → slices_in (drafts_with drafts r t) r ≡ Some t
+pub slices_with : (drafts : List WrittenDraft) (r : List Run) (s t : List (Option (List ℕ))) → slices_in drafts r ≡ Some s → slices_in (drafts_with drafts r t) r ≡ Some t
 slices_with [] r s t is = absurd (cc is)
 slices_with (x ∷ drafts) r s t is = by (same_runs x.runs r) refl (slices_with drafts r s t) is
   where
@@ -58,16 +58,16 @@ slices_with (x ∷ drafts) r s t is = by (same_runs x.runs r) refl (slices_with 
     by true e more is = ap (λ (b : Bool). cond b (Some t) (slices_in drafts r)) e
     by false e more is = ap (λ (b : Bool). cond b (Some x.slices) (slices_in (drafts_with drafts r t) r)) e ∙ more is
 
-pub with_twice : (drafts : List Written) (r : List Run) (s t : List (Option (List ℕ))) → drafts_with (drafts_with drafts r s) r t ≡ drafts_with drafts r t
+pub with_twice : (drafts : List WrittenDraft) (r : List Run) (s t : List (Option (List ℕ))) → drafts_with (drafts_with drafts r s) r t ≡ drafts_with drafts r t
 with_twice [] r s t = refl
 with_twice (x ∷ drafts) r s t = by (same_runs x.runs r) refl (with_twice drafts r s t)
   where
     by : (b : Bool) → same_runs x.runs r ≡ b → drafts_with (drafts_with drafts r s) r t ≡ drafts_with drafts r t
         → drafts_with (cond b (record { runs = x.runs; slices = s } ∷ drafts) (x ∷ drafts_with drafts r s)) r t ≡ cond b (record { runs = x.runs; slices = t } ∷ drafts) (x ∷ drafts_with drafts r t)
     by true e more = ap (λ (b : Bool). cond b (record { runs = x.runs; slices = t } ∷ drafts) (record { runs = x.runs; slices = s } ∷ drafts_with drafts r t)) e
-    by false e more = ap (λ (b : Bool). cond b (record { runs = x.runs; slices = t } ∷ drafts_with drafts r s) (x ∷ drafts_with (drafts_with drafts r s) r t)) e ∙ ap (λ (xs : List Written). x ∷ xs) more
+    by false e more = ap (λ (b : Bool). cond b (record { runs = x.runs; slices = t } ∷ drafts_with drafts r s) (x ∷ drafts_with (drafts_with drafts r s) r t)) e ∙ ap (λ (xs : List WrittenDraft). x ∷ xs) more
 
-pub with_others : (drafts : List Written) (a r : List Run) (s : List (Option (List ℕ))) → same_runs a r ≡ false → slices_in (drafts_with drafts a s) r ≡ slices_in drafts r
+pub with_others : (drafts : List WrittenDraft) (a r : List Run) (s : List (Option (List ℕ))) → same_runs a r ≡ false → slices_in (drafts_with drafts a s) r ≡ slices_in drafts r
 with_others [] a r s other = refl
 with_others (x ∷ drafts) a r s other = by (same_runs x.runs a) refl (with_others drafts a r s other)
   where
@@ -78,7 +78,7 @@ with_others (x ∷ drafts) a r s other = by (same_runs x.runs a) refl (with_othe
         ap (λ (b : Bool). cond b (Some s) (slices_in drafts r)) not_it ∙ sym (ap (λ (b : Bool). cond b (Some x.slices) (slices_in drafts r)) not_it)
     by false e more = ap (λ (z : Option (List (Option (List ℕ)))). cond (same_runs x.runs r) (Some x.slices) z) more
 
-pub runs_with : (drafts : List Written) (r : List Run) (s : List (Option (List ℕ))) → map (λ x. x.runs) (drafts_with drafts r s) ≡ map (λ x. x.runs) drafts
+pub runs_with : (drafts : List WrittenDraft) (r : List Run) (s : List (Option (List ℕ))) → map (λ x. x.runs) (drafts_with drafts r s) ≡ map (λ x. x.runs) drafts
 runs_with [] r s = refl
 runs_with (x ∷ drafts) r s = by (same_runs x.runs r) (runs_with drafts r s)
   where
@@ -94,15 +94,15 @@ in_part n m xs t out =
     (or_parts (contains (take n (drop m xs)) t) (contains (drop n (drop m xs)) t)
     (sym (contains-append (take n (drop m xs)) (drop n (drop m xs)) t) ∙ ap (λ (ys : List ℕ). contains ys t) (take-append-drop n (drop m xs)) ∙ behind)).0
 
-pub device_in_data : (w : Creation) (first len : ℕ) (why : Refusal) → IsDeviceIn (in_slices w.draft.runs first len) why → IsDeviceIn (data_of w) why
-device_in_data w first len (Why.Device s) is = by (data_of w s) refl
+pub device_in_data : (w : Creation) (first len : ℕ) (why : Refusal) → IsDeviceIn (in_slices w.draft.runs first len) why → IsDeviceIn (draft_sectors w) why
+device_in_data w first len (Why.Device s) is = by (draft_sectors w s) refl
   where
-    by : (b : Bool) → data_of w s ≡ b → data_of w s ≡ true
+    by : (b : Bool) → draft_sectors w s ≡ b → draft_sectors w s ≡ true
     by true e = e
     by false e = absurd (cc (sym is ∙ in_part (slice_count len) first (data_sectors w.draft.runs) s e))
 device_in_data w first len why is = absurd is
 
-pub slices_refuse : (s : State) (w : Creation) (first len : ℕ) (why : Refusal) → Comes (slices_steps s (in_slices w.draft.runs first len)) why → Comes (slices_steps s (data_of w)) why
+pub slices_refuse : (s : State) (w : Creation) (first len : ℕ) (why : Refusal) → Comes (slices_steps s (in_slices w.draft.runs first len)) why → Comes (slices_steps s (draft_sectors w)) why
 slices_refuse s w first len why (inl down) = inl down
 slices_refuse s w first len why (inr later) = inr (
   later.0,
@@ -124,7 +124,7 @@ module _ {S : Type 0} (state : S → State) (has : S → Mounted → List Placed
     };
   }
 
-  pub leaves_more : (v : S) (client : Client) (w : Creation) (first len : ℕ) (old left : Moment) → Leaves state has v (in_slices w.draft.runs first len) old left → LeavesFor state has v client (data_of w) old left
+  pub leaves_more : (v : S) (client : Client) (w : Creation) (first len : ℕ) (old left : Moment) → Leaves state has v (in_slices w.draft.runs first len) old left → LeavesFor state has v client (draft_sectors w) old left
   leaves_more v client w first len old left leaves k y serves stands =
       let l = leaves k stands in
       record {
@@ -146,22 +146,22 @@ module _ {S : Type 0} (state : S → State) (has : S → Mounted → List Placed
 
   module _ (k : Known) (v : S) (now : Moment) (w : Creation) (name : List ℕ) (len : ℕ) (runs : List Run) (serial : Serial) where
     -- nothing was written
-    pub adds_unwritten : (x : Creation) (sofar : List ℕ) → Stands state has v k now → IsWriting k.opened x name len runs serial sofar → Adds state has k x name len runs serial sofar v now
+    pub adds_unwritten : (x : Creation) (sofar : List ℕ) → Stands state has v k now → IsWritingDraft k.opened x name len runs serial sofar → AddsBytes state has k x name len runs serial sofar v now
     adds_unwritten x sofar stands writing =
-        let same : wrote k.opened runs (slices_so_far len sofar) ≡ k.opened = λ i. record k.opened { drafts = slices_same k.opened.drafts runs (slices_so_far len sofar) writing.written i } in
+        let same : draft_wrote k.opened runs (slices_so_far len sofar) ≡ k.opened = λ i. record k.opened { drafts = slices_same k.opened.drafts runs (slices_so_far len sofar) writing.written i } in
         record {
           slices = slices_so_far len sofar;
-          stands = subst (λ (o : Opened). Stands state has v (with_opened k o) now) (sym same) (subst (λ (z : Known). Stands state has v z now) (sym (opened_itself v k now stands)) stands);
-          writing = subst (λ (o : Opened). IsWriting o x name len runs serial sofar) (sym same) writing;
+          stands = subst (λ (o : OpenParts). Stands state has v (with_opened k o) now) (sym same) (subst (λ (z : Known). Stands state has v z now) (sym (opened_itself v k now stands)) stands);
+          writing = subst (λ (o : OpenParts). IsWritingDraft o x name len runs serial sofar) (sym same) writing;
         }
 
     -- these slices were
-    pub adds_written : (x : Creation) (before sofar : List ℕ) (slices : List (Option (List ℕ))) → IsWriting k.opened w name len runs serial before
-        → Stands state has v (with_opened k (wrote k.opened w.draft.runs slices)) now → slices ≡ slices_so_far len sofar
-        → x.name ≡ w.name → x.draft ≡ w.draft → x.got ≡ length sofar → tail_of x ≡ drop (written_len len (length sofar)) sofar → Adds state has k x name len runs serial sofar v now
+    pub adds_written : (x : Creation) (before sofar : List ℕ) (slices : List (Option (List ℕ))) → IsWritingDraft k.opened w name len runs serial before
+        → Stands state has v (with_opened k (draft_wrote k.opened w.draft.runs slices)) now → slices ≡ slices_so_far len sofar
+        → x.name ≡ w.name → x.draft ≡ w.draft → x.got ≡ length sofar → tail_of x ≡ drop (written_len len (length sofar)) sofar → AddsBytes state has k x name len runs serial sofar v now
     adds_written x before sofar slices writing stands is same_name same_draft got tail = record {
       slices = slices;
-      stands = subst (λ (r : List Run). Stands state has v (with_opened k (wrote k.opened r slices)) now) writing.lies stands;
+      stands = subst (λ (r : List Run). Stands state has v (with_opened k (draft_wrote k.opened r slices)) now) writing.lies stands;
       writing = record {
         named = same_name ∙ writing.named;
         long = ap (λ d. d.length) same_draft ∙ writing.long;
@@ -197,7 +197,7 @@ written_due len got n due = by (got + n == len) refl (eqb_tells (got % 512 + n) 
 
 -- ---- the bytes of a creation in memory
 
-module _ (o : Opened) (w : Creation) (name : List ℕ) (len : ℕ) (runs : List Run) (serial : Serial) (before more : List ℕ) (slice : List ℕ) (writing : IsWriting o w name len runs serial before) where
+module _ (o : OpenParts) (w : Creation) (name : List ℕ) (len : ℕ) (runs : List Run) (serial : Serial) (before more : List ℕ) (slice : List ℕ) (writing : IsWritingDraft o w name len runs serial before) where
   grown : Creation
   grown = record { name = w.name; draft = w.draft; got = w.got + length more; slice = slice }
 
@@ -207,7 +207,7 @@ module _ (o : Opened) (w : Creation) (name : List ℕ) (len : ℕ) (runs : List 
   -- they fill no slice yet
   pub undue_writing : (w.got == w.draft.length) ≡ false → is_due w.draft.length (w.got % 512 + length more) (w.got + length more) ≡ false → w.got % 512 + length more ≤ 512
       → take (w.got % 512 + length more) slice ≡ take (w.got % 512) w.slice ++ more
-      → IsWriting o (record { name = w.name; draft = w.draft; got = w.got + length more; slice = slice }) name len runs serial (before ++ more)
+      → IsWritingDraft o (record { name = w.name; draft = w.draft; got = w.got + length more; slice = slice }) name len runs serial (before ++ more)
   undue_writing unended undue within front =
       let g = w.got in
       let d = w.draft.length in
@@ -310,7 +310,7 @@ module _ {S : Type 0} (state : S → State) (has : S → Mounted → List Placed
       → (let r : Result (Unit {0}) Refusal = Err why in EndsSlices state has d first bytes old k v now r) → (let r : Result T Refusal = Err why in EndsAdd state has adds k x name len runs serial before v now r)
   broken_off adds k x d name len runs serial before first bytes old v now (Why.Device s) lies ends = record {
     slices = with_slices old first (slices_if false bytes);
-    stands = subst (λ (r : List Run). Stands state has v (with_opened k (wrote k.opened r (with_slices old first (slices_if false bytes)))) now) lies ends;
+    stands = subst (λ (r : List Run). Stands state has v (with_opened k (draft_wrote k.opened r (with_slices old first (slices_if false bytes)))) now) lies ends;
   }
   broken_off adds k x d name len runs serial before first bytes old v now why lies ends = absurd ends
 
@@ -321,7 +321,7 @@ module _ {S : Type 0} (state : S → State) (has : S → Mounted → List Placed
     worn_then p x y z first (inl same) = subst (λ (u : Sector). SectorWorn p x u) (sym same) first
     worn_then p x y z first (inr gone) = inr gone
 
-    pub leaves_both : (k : Known) (o : Opened) → LeavesSound k may a b → LeavesSound (with_opened k o) may b left → LeavesSound k may a left
+    pub leaves_both : (k : Known) (o : OpenParts) → LeavesSound k may a b → LeavesSound (with_opened k o) may b left → LeavesSound k may a left
     leaves_both k o first second = record {
       sound = second.sound;
       windows = second.windows ∙ first.windows;
@@ -334,60 +334,55 @@ module _ {S : Type 0} (state : S → State) (has : S → Mounted → List Placed
     }
 
   pub leaves_on : (v w : S) (x y : Creation) (a b left : Moment) → y.draft ≡ x.draft
-      → LeavesFor state has v (Writing x) (data_of x) a b
-      → ((k : Known) → Stands state has v k a → (name : List ℕ) (len : ℕ) (runs : List Run) (serial : Serial) (before : List ℕ) → IsWriting k.opened x name len runs serial before → (sofar : List ℕ) × Adds state has k y name len runs serial sofar w b)
-      → LeavesFor state has w (Writing y) (data_of y) b left → LeavesFor state has v (Writing x) (data_of x) a left
+      → LeavesFor state has v (Writing x) (draft_sectors x) a b
+      → ((k : Known) → Stands state has v k a → (name : List ℕ) (len : ℕ) (runs : List Run) (serial : Serial) (before : List ℕ) → IsWritingDraft k.opened x name len runs serial before → (sofar : List ℕ) × AddsBytes state has k y name len runs serial sofar w b)
+      → LeavesFor state has w (Writing y) (draft_sectors y) b left → LeavesFor state has v (Writing x) (draft_sectors x) a left
   leaves_on v w x y a b left same first adds second k open_one serves stands =
       let was = serves_writing k.opened x open_one serves in
       let more = adds k stands was.name was.len was.runs was.serial was.bytes was.writing in
-      let o : Opened = wrote k.opened was.runs more.1.slices in
-      let one : LeavesSound (with_opened k o) (data_of y) b left = second (with_opened k o) (Writes was.name was.len was.runs was.serial more.0) more.1.writing more.1.stands in
-      leaves_both (data_of x) a b left k o (first k open_one serves stands) (subst (λ (d : Draft). LeavesSound (with_opened k o) (λ t. contains (data_sectors d.runs) t) b left) same one)
+      let o : OpenParts = draft_wrote k.opened was.runs more.1.slices in
+      let one : LeavesSound (with_opened k o) (draft_sectors y) b left = second (with_opened k o) (Writes was.name was.len was.runs was.serial more.0) more.1.writing more.1.stands in
+      leaves_both (draft_sectors x) a b left k o (first k open_one serves stands) (subst (λ (d : Draft). LeavesSound (with_opened k o) (λ t. contains (data_sectors d.runs) t) b left) same one)
 
   pub adds_then : (k : Known) (x y : Creation) (name : List ℕ) (len : ℕ) (runs : List Run) (serial : Serial) (sofar all : List ℕ) (slices : List (Option (List ℕ))) (v : S) (now : Moment)
-      → sofar ≡ all → Adds state has (with_opened k (wrote k.opened runs slices)) y name len runs serial sofar v now → Adds state has k y name len runs serial all v now
+      → sofar ≡ all → AddsBytes state has (with_opened k (draft_wrote k.opened runs slices)) y name len runs serial sofar v now → AddsBytes state has k y name len runs serial all v now
   adds_then k x y name len runs serial sofar all slices v now is adds =
-      let same : wrote (wrote k.opened runs slices) runs adds.slices ≡ wrote k.opened runs adds.slices = λ i. record k.opened { drafts = with_twice k.opened.drafts runs slices adds.slices i } in
+      let same : draft_wrote (draft_wrote k.opened runs slices) runs adds.slices ≡ draft_wrote k.opened runs adds.slices = λ i. record k.opened { drafts = with_twice k.opened.drafts runs slices adds.slices i } in
       record {
         slices = adds.slices;
-        stands = subst (λ (o : Opened). Stands state has v (with_opened k o) now) same adds.stands;
-        writing = subst (λ (xs : List ℕ). IsWriting (wrote k.opened runs adds.slices) y name len runs serial xs) is
-            (subst (λ (o : Opened). IsWriting o y name len runs serial sofar) same adds.writing);
+        stands = subst (λ (o : OpenParts). Stands state has v (with_opened k o) now) same adds.stands;
+        writing = subst (λ (xs : List ℕ). IsWritingDraft (draft_wrote k.opened runs adds.slices) y name len runs serial xs) is
+            (subst (λ (o : OpenParts). IsWritingDraft o y name len runs serial sofar) same adds.writing);
       }
 
   pub breaks_then : {T U : Type 0} (f : T → List ℕ) (h : U → List ℕ) (k : Known) (y z : Creation) (name : List ℕ) (len : ℕ) (runs : List Run) (serial : Serial) (sofar before : List ℕ) (slices : List (Option (List ℕ))) (v : S) (now : Moment) (why : Refusal)
-      → (let r : Result T Refusal = Err why in EndsAdd state has f (with_opened k (wrote k.opened runs slices)) y name len runs serial sofar v now r) → (let r : Result U Refusal = Err why in EndsAdd state has h k z name len runs serial before v now r)
+      → (let r : Result T Refusal = Err why in EndsAdd state has f (with_opened k (draft_wrote k.opened runs slices)) y name len runs serial sofar v now r) → (let r : Result U Refusal = Err why in EndsAdd state has h k z name len runs serial before v now r)
   breaks_then f h k y z name len runs serial sofar before slices v now (Why.Device s) ends =
-      let same : wrote (wrote k.opened runs slices) runs ends.slices ≡ wrote k.opened runs ends.slices = λ i. record k.opened { drafts = with_twice k.opened.drafts runs slices ends.slices i } in
-      record { slices = ends.slices; stands = subst (λ (o : Opened). Stands state has v (with_opened k o) now) same ends.stands }
+      let same : draft_wrote (draft_wrote k.opened runs slices) runs ends.slices ≡ draft_wrote k.opened runs ends.slices = λ i. record k.opened { drafts = with_twice k.opened.drafts runs slices ends.slices i } in
+      record { slices = ends.slices; stands = subst (λ (o : OpenParts). Stands state has v (with_opened k o) now) same ends.stands }
   breaks_then f h k y z name len runs serial sofar before slices v now why ends = absurd ends
 
-  pub breaks_as : {T U : Type 0} (f : T → List ℕ) (h : U → List ℕ) (k : Known) (y z : Creation) (name : List ℕ) (len : ℕ) (runs : List Run) (serial : Serial) (before : List ℕ) (v : S) (now : Moment) (why : Refusal)
-      → (let r : Result T Refusal = Err why in EndsAdd state has f k y name len runs serial before v now r) → (let r : Result U Refusal = Err why in EndsAdd state has h k z name len runs serial before v now r)
-  breaks_as f h k y z name len runs serial before v now (Why.Device s) ends = ends
-  breaks_as f h k y z name len runs serial before v now why ends = absurd ends
-
   -- it is given up where the disk failed
-  pub piece_broken : (k : Known) (w x : Creation) (new : Client) (name : List ℕ) (len : ℕ) (runs : List Run) (serial : Serial) (before more : List ℕ) (v u : S) (now : Moment) (why : Refusal) → IsWriting k.opened w name len runs serial before → x.draft ≡ w.draft
+  pub piece_broken : (k : Known) (w x : Creation) (new : Client) (name : List ℕ) (len : ℕ) (runs : List Run) (serial : Serial) (before more : List ℕ) (v u : S) (now : Moment) (why : Refusal) → IsWritingDraft k.opened w name len runs serial before → x.draft ≡ w.draft
       → ((z : Known) → IsOpenIn z.opened (Writing x) → Stands state has v z now → Stands state has u (given_up z (Writing x)) now)
       → (let r : Result (Unit {0}) Refusal = Err why in EndsAdd state has (λ y. more) k x name len runs serial before v now r)
       → (let r : Result ℕ Refusal = Err why in EndsPieces state has k (Writing w) new name len runs serial before more u now r)
   piece_broken k w x new name len runs serial before more v u now (Why.Device s) writing same gives ends =
       let lies : x.draft.runs ≡ runs = ap (λ (d : Draft). d.runs) same ∙ writing.lies in
       let there : slices_in (drafts_with k.opened.drafts runs ends.slices) x.draft.runs ≡ Some ends.slices = ap (λ (r : List Run). slices_in (drafts_with k.opened.drafts runs ends.slices) r) lies ∙ slices_with k.opened.drafts runs (slices_so_far len before) ends.slices writing.written in
-      (ends.slices, subst (λ (r : List Run). Stands state has u (with_opened k (ended (wrote k.opened runs ends.slices) r)) now) lies (gives (with_opened k (wrote k.opened runs ends.slices)) (ends.slices, there) ends.stands))
+      (ends.slices, subst (λ (r : List Run). Stands state has u (with_opened k (ended (draft_wrote k.opened runs ends.slices) r)) now) lies (gives (with_opened k (draft_wrote k.opened runs ends.slices)) (ends.slices, there) ends.stands))
   piece_broken k w x new name len runs serial before more v u now why writing same gives ends = absurd ends
 
 -- its end is that of the creation that it is
-pub entered_as : {S : Type 0} (state : S → State) (has : S → Mounted → List Placed → Type 0) (o : Opened) (w : Creation) (name : List ℕ) (len : ℕ) (runs : List Run) (serial : Serial) (bytes : List ℕ) (k : Known) (v : S) (now : Moment) (r : Result Key Refusal)
-    → IsWriting o w name len runs serial bytes → EndsEntering state has w.name w.draft.runs w.draft.serial bytes k v now r → EndsEntering state has name runs serial bytes k v now r
+pub entered_as : {S : Type 0} (state : S → State) (has : S → Mounted → List Placed → Type 0) (o : OpenParts) (w : Creation) (name : List ℕ) (len : ℕ) (runs : List Run) (serial : Serial) (bytes : List ℕ) (k : Known) (v : S) (now : Moment) (r : Result Key Refusal)
+    → IsWritingDraft o w name len runs serial bytes → EndsEntering state has w.name w.draft.runs w.draft.serial bytes k v now r → EndsEntering state has name runs serial bytes k v now r
 entered_as state has o w name len runs serial bytes k v now r writing ends =
     subst (λ (n : List ℕ). EndsEntering state has n runs serial bytes k v now r) writing.named
     (subst (λ (x : List Run). EndsEntering state has w.name x serial bytes k v now r) writing.lies
     (subst (λ (x : Serial). EndsEntering state has w.name w.draft.runs x bytes k v now r) writing.drawn ends))
 
 -- a creation that is whole is written whole
-pub whole_written : (o : Opened) (w : Creation) (name : List ℕ) (len : ℕ) (runs : List Run) (serial : Serial) (bytes : List ℕ) → IsWriting o w name len runs serial bytes → w.got ≡ w.draft.length
+pub whole_written : (o : OpenParts) (w : Creation) (name : List ℕ) (len : ℕ) (runs : List Run) (serial : Serial) (bytes : List ℕ) → IsWritingDraft o w name len runs serial bytes → w.got ≡ w.draft.length
     → (length bytes ≡ w.draft.length) × (slices_in o.drafts w.draft.runs ≡ Some (slices_if true bytes))
 whole_written o w name len runs serial bytes writing whole =
     let size : length bytes ≡ len = sym writing.got ∙ whole ∙ writing.long in

@@ -4,7 +4,7 @@ use Rattle.std.specs.Prelude.{◌==◌, map, replicate}
 use Rattle.std.proofs.lemmas.List.{drop-append-le, length-append, length-drop, length-map, length-take-le, map-append, take-append-drop, take-append-le}
 use Rattle.std.proofs.Math.Seq.{drop-append-add, drop-length, take-append-add, take-append_seam, take-length}
 use Rattle.fsd_bytes.specs.Bytes.{sector}
-use Rattle.fsd_files.specs.Kept.{slice_of, slices, slices_from}
+use Rattle.fsd_files.specs.Kept.{filled_slice, filled_slices, filled_slices_from}
 use Rattle.volume_contract.specs.Pieces.{slice_count, slices_if, with_slices}
 use Rattle.client_desk.specs.Clients.{whole_part, written_len}
 use Rattle.client_desk.specs.Ends.{slices_so_far}
@@ -19,53 +19,53 @@ count_more q m = omega arith
 
 -- ---- slices
 
-pub from_split : (k q n : ℕ) (xs : List ℕ) → slices_from k (q + n) xs ≡ slices_from k q xs ++ slices_from (k + q) n xs
-from_split k zero n xs = let a : 0 + n ≡ n = omega arith in let b : k + 0 ≡ k = omega arith in ap (λ (m : ℕ). slices_from k m xs) a ∙ sym (ap (λ (m : ℕ). slices_from m n xs) b)
+pub from_split : (k q n : ℕ) (xs : List ℕ) → filled_slices_from k (q + n) xs ≡ filled_slices_from k q xs ++ filled_slices_from (k + q) n xs
+from_split k zero n xs = let a : 0 + n ≡ n = omega arith in let b : k + 0 ≡ k = omega arith in ap (λ (m : ℕ). filled_slices_from k m xs) a ∙ sym (ap (λ (m : ℕ). filled_slices_from m n xs) b)
 from_split k (suc q) n xs =
     let a : suc q + n ≡ suc (q + n) = omega arith in
     let b : (k + 1) + q ≡ k + suc q = omega arith in
-    ap (λ (m : ℕ). slices_from k m xs) a
-    ∙ ap (λ (ys : List (List ℕ)). slice_of xs k ∷ ys) (from_split (k + 1) q n xs ∙ ap (λ (m : ℕ). slices_from (k + 1) q xs ++ slices_from m n xs) b)
+    ap (λ (m : ℕ). filled_slices_from k m xs) a
+    ∙ ap (λ (ys : List (List ℕ)). filled_slice xs k ∷ ys) (from_split (k + 1) q n xs ∙ ap (λ (m : ℕ). filled_slices_from (k + 1) q xs ++ filled_slices_from m n xs) b)
 
-pub from_same : (k q : ℕ) (xs ys : List ℕ) → ((j : ℕ) → j < k + q → slice_of xs j ≡ slice_of ys j) → slices_from k q xs ≡ slices_from k q ys
+pub from_same : (k q : ℕ) (xs ys : List ℕ) → ((j : ℕ) → j < k + q → filled_slice xs j ≡ filled_slice ys j) → filled_slices_from k q xs ≡ filled_slices_from k q ys
 from_same k zero xs ys same = refl
 from_same k (suc q) xs ys same =
-    ap (λ (x : List ℕ). x ∷ slices_from (k + 1) q xs) (same k (omega arith)) ∙ ap (λ (zs : List (List ℕ)). slice_of ys k ∷ zs) (from_same (k + 1) q xs ys (λ j lt. same j (omega (arith, lt))))
+    ap (λ (x : List ℕ). x ∷ filled_slices_from (k + 1) q xs) (same k (omega arith)) ∙ ap (λ (zs : List (List ℕ)). filled_slice ys k ∷ zs) (from_same (k + 1) q xs ys (λ j lt. same j (omega (arith, lt))))
 
-pub from_shift : (a k n : ℕ) (xs ys : List ℕ) → ((j : ℕ) → slice_of xs (a + j) ≡ slice_of ys j) → slices_from (a + k) n xs ≡ slices_from k n ys
+pub from_shift : (a k n : ℕ) (xs ys : List ℕ) → ((j : ℕ) → filled_slice xs (a + j) ≡ filled_slice ys j) → filled_slices_from (a + k) n xs ≡ filled_slices_from k n ys
 from_shift a k zero xs ys same = refl
 from_shift a k (suc n) xs ys same =
     let e : (a + k) + 1 ≡ a + (k + 1) = omega arith in
-    ap (λ (x : List ℕ). x ∷ slices_from ((a + k) + 1) n xs) (same k) ∙ ap (λ (zs : List (List ℕ)). slice_of ys k ∷ zs) (ap (λ (m : ℕ). slices_from m n xs) e ∙ from_shift a (k + 1) n xs ys same)
+    ap (λ (x : List ℕ). x ∷ filled_slices_from ((a + k) + 1) n xs) (same k) ∙ ap (λ (zs : List (List ℕ)). filled_slice ys k ∷ zs) (ap (λ (m : ℕ). filled_slices_from m n xs) e ∙ from_shift a (k + 1) n xs ys same)
 
-pub length_from : (k n : ℕ) (xs : List ℕ) → length (slices_from k n xs) ≡ n
+pub length_from : (k n : ℕ) (xs : List ℕ) → length (filled_slices_from k n xs) ≡ n
 length_from k zero xs = refl
 length_from k (suc n) xs = ap (λ (m : ℕ). suc m) (length_from (k + 1) n xs)
 
 module _ (front more : List ℕ) (q : ℕ) (whole : length front ≡ q * 512) where
-  slice_front : (j : ℕ) → j < 0 + q → slice_of (front ++ more) j ≡ slice_of front j
+  slice_front : (j : ℕ) → j < 0 + q → filled_slice (front ++ more) j ≡ filled_slice front j
   slice_front j lt =
       let near : j * 512 ≤ length front = omega (arith, lt, whole) in
       let rest : 512 ≤ length (drop (j * 512) front) = omega (arith, lt, whole, length-drop (j * 512) front) in
       ap (λ (xs : List ℕ). sector (take 512 xs)) (drop-append-le (j * 512) front more near) ∙ ap sector (take-append-le 512 (drop (j * 512) front) more rest)
 
-  slice_behind : (j : ℕ) → slice_of (front ++ more) (q + j) ≡ slice_of more j
+  slice_behind : (j : ℕ) → filled_slice (front ++ more) (q + j) ≡ filled_slice more j
   slice_behind j =
       let e : (q + j) * 512 ≡ length front + j * 512 = omega (arith, whole) in
       ap (λ (n : ℕ). sector (take 512 (drop n (front ++ more)))) e ∙ ap (λ (xs : List ℕ). sector (take 512 xs)) (drop-append-add front more (j * 512))
 
-  pub slices_append : slices (front ++ more) ≡ slices front ++ slices more
+  pub slices_append : filled_slices (front ++ more) ≡ filled_slices front ++ filled_slices more
   slices_append =
       let all : slice_count (length (front ++ more)) ≡ q + slice_count (length more) = ap slice_count (length-append front more ∙ ap (λ (n : ℕ). n + length more) whole) ∙ count_more q (length more) in
       let here : slice_count (length front) ≡ q = ap slice_count whole ∙ count_whole q in
       let zero_q : 0 + q ≡ q + 0 = omega arith in
-      ap (λ (n : ℕ). slices_from 0 n (front ++ more)) all
+      ap (λ (n : ℕ). filled_slices_from 0 n (front ++ more)) all
       ∙ from_split 0 q (slice_count (length more)) (front ++ more)
-      ∙ ap (λ (xs : List (List ℕ)). xs ++ slices_from (0 + q) (slice_count (length more)) (front ++ more)) (from_same 0 q (front ++ more) front slice_front ∙ ap (λ (n : ℕ). slices_from 0 n front) (sym here))
-      ∙ ap (λ (xs : List (List ℕ)). slices front ++ xs) (ap (λ (n : ℕ). slices_from n (slice_count (length more)) (front ++ more)) zero_q ∙ from_shift q 0 (slice_count (length more)) (front ++ more) more slice_behind)
+      ∙ ap (λ (xs : List (List ℕ)). xs ++ filled_slices_from (0 + q) (slice_count (length more)) (front ++ more)) (from_same 0 q (front ++ more) front slice_front ∙ ap (λ (n : ℕ). filled_slices_from 0 n front) (sym here))
+      ∙ ap (λ (xs : List (List ℕ)). filled_slices front ++ xs) (ap (λ (n : ℕ). filled_slices_from n (slice_count (length more)) (front ++ more)) zero_q ∙ from_shift q 0 (slice_count (length more)) (front ++ more) more slice_behind)
 
 pub length_slices_if : (done : Bool) (xs : List ℕ) → length (slices_if done xs) ≡ slice_count (length xs)
-length_slices_if done xs = length-map (slices xs) (λ x. cond done (Some x) None) ∙ length_from 0 (slice_count (length xs)) xs
+length_slices_if done xs = length-map (filled_slices xs) (λ x. cond done (Some x) None) ∙ length_from 0 (slice_count (length xs)) xs
 
 -- ---- what is written
 
@@ -96,7 +96,7 @@ laid_behind len q front more whole =
     ap (λ (xs : List (Option (List ℕ))). (xs ++ b) ++ drop (q + length b) (a ++ replicate n None)) in_front
     ∙ ap (λ (xs : List (Option (List ℕ))). (a ++ b) ++ xs) (behind ∙ ap (λ (m : ℕ). replicate m None) left)
     ∙ ap (λ (xs : List (Option (List ℕ))). xs ++ replicate (slice_count len - slice_count (length (front ++ more))) None)
-    (sym (ap (λ (xs : List (List ℕ)). map (λ x. cond true (Some x) None) xs) (slices_append front more q whole) ∙ map-append (λ x. cond true (Some x) None) (slices front) (slices more)))
+    (sym (ap (λ (xs : List (List ℕ)). map (λ x. cond true (Some x) None) xs) (slices_append front more q whole) ∙ map-append (λ x. cond true (Some x) None) (filled_slices front) (filled_slices more)))
 
 pub laid_nothing : (first : ℕ) (old : List (Option (List ℕ))) → with_slices old first [] ≡ old
 laid_nothing first old =
@@ -175,9 +175,6 @@ part_within n false = omega arith
 module _ (len : ℕ) (before more : List ℕ) (whole : length before % 512 ≡ 0) where
   abbrev pub part : ℕ
   part = whole_part (length more) (length before + length more == len)
-
-  part_le : part ≤ length more
-  part_le = part_within (length more) (length before + length more == len)
 
   end_is : written_len len (length (before ++ more)) ≡ length before + part
   end_is = ap (written_len len) (length-append before more) ∙ written_more len (length before) (length more) whole

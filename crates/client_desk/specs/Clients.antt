@@ -15,8 +15,8 @@ use Rattle.fsd_files.specs.Kept.{data_sectors}
 use Rattle.volume_contract.specs.Absent.{LacksKey, ShowsReached}
 use Rattle.volume_contract.specs.Causes.{Causes}
 use Rattle.volume_contract.specs.Found.{HasEntry}
-use Rattle.volume_contract.specs.Order.{Keeps, Step, Test, reserve_steps, slices_steps, enter_steps, entry_steps, held_steps}
-use Rattle.volume_contract.specs.Pieces.{IsDraft, IsHeld, Enters, GivesBack, HoldsAt, Reserves, Unholds, in_leader}
+use Rattle.volume_contract.specs.Order.{KeepsRefused, CallStep, Test, reserve_steps, slices_steps, enter_steps, entry_steps, held_steps}
+use Rattle.volume_contract.specs.Pieces.{IsDraft, IsHeldVersion, Enters, GivesBack, HoldsAt, Reserves, Unholds, in_leader}
 use Rattle.volume_contract.specs.State.{HasCounted, State, downs, forces_first, most_readers, no_readers}
 use Rattle.client_desk.specs.declared.client.Creation.{Creation}
 use Rattle.client_desk.specs.declared.client.Reader.{Reader}
@@ -27,11 +27,11 @@ abbrev pub client_at : List Client → ℕ → Client
 client_at clients i = get_or clients i Idle
 
 -- the sectors of a creation's bytes
-abbrev pub data_of : Creation → Sectors
-data_of w t = contains (data_sectors w.draft.runs) t
+abbrev pub draft_sectors : Creation → Sectors
+draft_sectors w t = contains (data_sectors w.draft.runs) t
 
 -- It has so many bytes more.
-pub record Grows (n : ℕ) (old new : Creation) : Type 0 where
+pub record GrowsBy (n : ℕ) (old new : Creation) : Type 0 where
   pub name : new.name ≡ old.name
   pub draft : new.draft ≡ old.draft
   pub got : new.got ≡ old.got + n
@@ -73,13 +73,13 @@ IsClient (Reading r) = r.place ≤ r.held.entry.length
 abbrev pub IsOf : State → Client → Type 0
 IsOf s Idle = ⊤
 IsOf s (Writing w) = IsDraft s w.draft
-IsOf s (Reading r) = IsHeld s r.held
+IsOf s (Reading r) = IsHeldVersion s r.held
 
 -- two clients share no sector that they write, and no place of a version that they read
-abbrev pub AreApart : Client → Client → Type 0
-AreApart (Writing a) (Writing b) = (t : ℕ) → IsTrue (contains (sectors_of a.draft.runs) t) → IsFalse (contains (sectors_of b.draft.runs) t)
-AreApart (Reading a) (Reading b) = a.held.place ≡ b.held.place → ⊥
-AreApart a b = ⊤
+abbrev pub ShareNothing : Client → Client → Type 0
+ShareNothing (Writing a) (Writing b) = (t : ℕ) → IsTrue (contains (sectors_of a.draft.runs) t) → IsFalse (contains (sectors_of b.draft.runs) t)
+ShareNothing (Reading a) (Reading b) = a.held.place ≡ b.held.place → ⊥
+ShareNothing a b = ⊤
 
 -- the sector is one of the creation that the client writes
 abbrev pub WritesAt : Client → ℕ → Type 0
@@ -92,23 +92,23 @@ ReadsAt (Reading r) place = r.held.place ≡ place
 ReadsAt other place = ⊥
 
 -- the client writes the creation that lies in these runs
-abbrev pub WritesIn : Client → List Run → Type 0
-WritesIn (Writing w) runs = w.draft.runs ≡ runs
-WritesIn other runs = ⊥
+abbrev pub WritesDraftIn : Client → List Run → Type 0
+WritesDraftIn (Writing w) runs = w.draft.runs ≡ runs
+WritesDraftIn other runs = ⊥
 
 -- What the clients have open is this volume's, each part of it one client's, and nobody else has anything open.
 pub record IsDesk (s : State) (clients : List Client) : Type 0 where
   pub each : (i : ℕ) → IsOf s (client_at clients i)
-  pub apart : (i j : ℕ) → (i ≡ j → ⊥) → AreApart (client_at clients i) (client_at clients j)
+  pub apart : (i j : ℕ) → (i ≡ j → ⊥) → ShareNothing (client_at clients i) (client_at clients j)
   pub places : length s.readers ≡ most_readers
   pub drafts : (t : ℕ) → IsTrue (contains s.unfinished t) → (i : ℕ) × WritesAt (client_at clients i) t
   pub held : (place : ℕ) (runs : List Run) → slice_index_or s.readers place None ≡ Some runs → (i : ℕ) × ReadsAt (client_at clients i) place
 
 -- what becomes of the volume where a client's part is given up
-abbrev pub GivesUp : Client → State → State → Type 0
-GivesUp Idle old new = new ≡ old
-GivesUp (Writing w) old new = GivesBack w.draft.runs old new
-GivesUp (Reading r) old new = Unholds r.held.place old new
+abbrev pub GivesUpPart : Client → State → State → Type 0
+GivesUpPart Idle old new = new ≡ old
+GivesUpPart (Writing w) old new = GivesBack w.draft.runs old new
+GivesUpPart (Reading r) old new = Unholds r.held.place old new
 
 -- the version that the client writes has this name
 abbrev pub IsNamed : Client → List ℕ → Type 0
@@ -120,9 +120,9 @@ IsReader (Reading r) = ⊤
 IsReader other = ⊥
 
 -- the reader goes on behind so many bytes more
-abbrev pub GoesTo : (n : ℕ) → Client → Client → Type 0
-GoesTo n (Reading r) new = (new ≡ Reading (record r { place = r.place + n })) × (r.place + n ≤ r.held.entry.length)
-GoesTo n other new = ⊥
+abbrev pub GoesOnBehind : (n : ℕ) → Client → Client → Type 0
+GoesOnBehind n (Reading r) new = (new ≡ Reading (record r { place = r.place + n })) × (r.place + n ≤ r.held.entry.length)
+GoesOnBehind n other new = ⊥
 
 -- so many bytes are those that it has left, or as many as there is room for
 abbrev pub CountsTo : (room n : ℕ) → Client → Type 0
@@ -139,13 +139,13 @@ IsWriter (Writing w) = ⊤
 IsWriter other = ⊥
 
 -- so many bytes more may come
-abbrev pub HasRoom : Client → ℕ → Type 0
-HasRoom (Writing w) count = w.got + count ≤ w.draft.length
-HasRoom other count = ⊥
+abbrev pub MayCome : Client → ℕ → Type 0
+MayCome (Writing w) count = w.got + count ≤ w.draft.length
+MayCome other count = ⊥
 
 -- it goes on, with so many bytes more, and so many in all
 abbrev pub Continuing : (count n : ℕ) → Client → Client → Type 0
-Continuing count n (Writing w) new = (x : Creation) × (new ≡ Writing x) × Grows count w x × (n ≡ x.got)
+Continuing count n (Writing w) new = (x : Creation) × (new ≡ Writing x) × GrowsBy count w x × (n ≡ x.got)
 Continuing count n other new = ⊥
 
 -- its creation is over
@@ -155,8 +155,8 @@ EntersFor other old new = ⊥
 
 -- ---- tests
 
-abbrev pub place_of : (c : ℕ) → Result ℕ Refusal
-place_of c = if is_client c then Ok (c - 1) else Err (Why.BadClient c)
+abbrev pub client_place : (c : ℕ) → Result ℕ Refusal
+client_place c = if is_client c then Ok (c - 1) else Err (Why.BadClient c)
 
 abbrev pub as_idle : (c i : ℕ) → Client → Result ℕ Refusal
 as_idle c i Idle = Ok i
@@ -176,7 +176,7 @@ tested as_such clients c (Ok i) = as_such c i (client_at clients i)
 tested as_such clients c (Err why) = Err why
 
 abbrev pub found : ((c i : ℕ) → Client → Result ℕ Refusal) → List Client → (c : ℕ) → Result ℕ Refusal
-found as_such clients c = tested as_such clients c (place_of c)
+found as_such clients c = tested as_such clients c (client_place c)
 
 -- ---- the order of refusals
 
@@ -184,7 +184,7 @@ abbrev pub fault_in : {T : Type 0} → Result T Refusal → Option Refusal
 fault_in (Ok x) = None
 fault_in (Err why) = Some why
 
-abbrev pub begin_steps : State → List Client → (c len : ℕ) → List Step
+abbrev pub begin_steps : State → List Client → (c len : ℕ) → List CallStep
 begin_steps s clients c len = Test (fault_in (found as_idle clients c)) ∷ reserve_steps s len
 
 -- the client's creation, where it has one
@@ -207,35 +207,35 @@ abbrev pub in_first : Client → Sectors
 in_first (Writing w) t = in_leader w.draft.runs t
 in_first other t = contains [] t
 
-abbrev pub piece_steps : State → List Client → (c count : ℕ) → List Step
+abbrev pub piece_steps : State → List Client → (c count : ℕ) → List CallStep
 piece_steps s clients c count =
     let client = client_at clients (c - 1) in
     Test (fault_in (found as_writing clients c)) ∷ Test (too_long client count) ∷ slices_steps s (in_data client)
 
-abbrev pub close_steps : State → List Client → (c : ℕ) → List Step
+abbrev pub close_steps : State → List Client → (c : ℕ) → List CallStep
 close_steps s clients c =
     let client = client_at clients (c - 1) in
     Test (fault_in (found as_writing clients c)) ∷ Test (too_short client) ∷ enter_steps s None (in_first client)
 
-abbrev pub drop_steps : List Client → (c : ℕ) → List Step
+abbrev pub drop_steps : List Client → (c : ℕ) → List CallStep
 drop_steps clients c = Test (fault_in (found as_writing clients c)) ∷ []
 
-abbrev pub open_steps : State → List Client → (c : ℕ) → List Step
+abbrev pub open_steps : State → List Client → (c : ℕ) → List CallStep
 open_steps s clients c = Test (fault_in (found as_idle clients c)) ∷ entry_steps s
 
-abbrev pub next_steps : State → List Client → (c : ℕ) → List Step
-next_steps s clients c = Test (fault_in (found as_reading clients c)) ∷ held_steps s
+abbrev pub desk_next_steps : State → List Client → (c : ℕ) → List CallStep
+desk_next_steps s clients c = Test (fault_in (found as_reading clients c)) ∷ held_steps s
 
-abbrev pub done_steps : List Client → (c : ℕ) → List Step
+abbrev pub done_steps : List Client → (c : ℕ) → List CallStep
 done_steps clients c = Test (fault_in (found as_reading clients c)) ∷ []
 
 -- how many bytes a client has left to read
-abbrev pub left_of : Client → Option ℕ
-left_of (Reading r) = Some (r.held.entry.length - r.place)
-left_of other = None
+abbrev pub bytes_to_read : Client → Option ℕ
+bytes_to_read (Reading r) = Some (r.held.entry.length - r.place)
+bytes_to_read other = None
 
 abbrev pub left_at : List Client → Result ℕ Refusal → Option ℕ
-left_at clients (Ok i) = left_of (client_at clients i)
+left_at clients (Ok i) = bytes_to_read (client_at clients i)
 left_at clients (Err why) = None
 
 -- how many bytes were declared of the version that it writes
@@ -248,13 +248,13 @@ declared_at clients (Ok i) = declared_of (client_at clients i)
 declared_at clients (Err why) = None
 
 -- the version that it reads
-abbrev pub key_of : Client → Option Key
-key_of (Reading r) = Some r.held.entry.key
-key_of other = None
+abbrev pub key_read : Client → Option Key
+key_read (Reading r) = Some r.held.entry.key
+key_read other = None
 
-abbrev pub key_at : List Client → Result ℕ Refusal → Option Key
-key_at clients (Ok i) = key_of (client_at clients i)
-key_at clients (Err why) = None
+abbrev pub client_key : List Client → Result ℕ Refusal → Option Key
+client_key clients (Ok i) = key_read (client_at clients i)
+client_key clients (Err why) = None
 
 -- ---- what a call keeps of a volume
 
@@ -265,9 +265,9 @@ pub record Continues (place : Option ℕ) (old new : State) : Type 0 where
   pub down : (new.down ≡ old.down) ⊎ (IsSome place × (new.down ≡ place))
 
 -- A refusal at one of these steps: the clients are as they were, and the volume is as the steps before left it.
-pub record DeclinesAt (steps : List Step) (why : Refusal) (clients after : List Client) (old new : State) : Type 0 where
+pub record DeclinesAt (steps : List CallStep) (why : Refusal) (clients after : List Client) (old new : State) : Type 0 where
   pub desk : after ≡ clients
-  pub volume : Keeps steps why old new
+  pub volume : KeepsRefused steps why old new
 
 -- The client writes a version of this name and length, of which no bytes came, where a place was reserved for it.
 pub record StartsWriting (i : ℕ) (name : List ℕ) (len : ℕ) (clients after : List Client) (old new : State) : Type 0 where
@@ -284,13 +284,13 @@ pub record WritesMore (i count total : ℕ) (clients after : List Client) (old n
   pub was : client_at clients i ≡ Writing before
   pub creation : Creation
   pub desk : after ≡ set clients i (Writing creation)
-  pub grows : Grows count before creation
+  pub grows : GrowsBy count before creation
   pub got : total ≡ creation.got
   pub volume : new ≡ old
 
 -- A version is made of the client's creation, which is over, and the client has nothing open any more. No serial is
 -- drawn, and a record is numbered where a force came first.
-pub record MakesVersion (i : ℕ) (clients after : List Client) (old new : State) : Type 0 where
+pub record MakesOfDraft (i : ℕ) (clients after : List Client) (old new : State) : Type 0 where
   pub desk : after ≡ set clients i Idle
   pub volume : EntersFor (client_at clients i) old new
   pub counted : HasCounted false (forces_first old) old new
@@ -315,7 +315,7 @@ pub record ReadsMore (i room n : ℕ) (clients after : List Client) (old new : S
 -- The client has given up what it had open, and has nothing open any more.
 pub record Ended (i : ℕ) (clients after : List Client) (old new : State) : Type 0 where
   pub desk : after ≡ set clients i Idle
-  pub volume : GivesUp (client_at clients i) old new
+  pub volume : GivesUpPart (client_at clients i) old new
 
 -- All is as it was.
 pub record AllStays (clients after : List Client) (old new : State) : Type 0 where
@@ -323,10 +323,10 @@ pub record AllStays (clients after : List Client) (old new : State) : Type 0 whe
   pub volume : new ≡ old
 
 -- a piece that is refused where the disk fails, or the volume is down, ends the creation
-abbrev pub EndsAt : Refusal → (i : ℕ) → (clients after : List Client) → State → State → Type 0
-EndsAt (Why.Device s) i clients after old new = Ended i clients after old new
-EndsAt (Why.Down s) i clients after old new = Ended i clients after old new
-EndsAt why i clients after old new = AllStays clients after old new
+abbrev pub EndsDraftAt : Refusal → (i : ℕ) → (clients after : List Client) → State → State → Type 0
+EndsDraftAt (Why.Device s) i clients after old new = Ended i clients after old new
+EndsDraftAt (Why.Down s) i clients after old new = Ended i clients after old new
+EndsDraftAt why i clients after old new = AllStays clients after old new
 
 -- ---- what a call promises over any machine
 
@@ -336,11 +336,11 @@ pub record KeepsDesk {T : Type 0} (answers : T → List Client → List Client �
   pub kept : MatchResult result (λ x. answers x clients after old new) (λ why. refuses why clients after old new)
 
 -- So it is of a close, whose version has the name of the client's creation; the volume goes on.
-pub record KeepsClosing (i : ℕ) (steps : List Step) (clients after : List Client) (old new : State) (result : Result Key Refusal) : Type 0 where
+pub record KeepsClosing (i : ℕ) (steps : List CallStep) (clients after : List Client) (old new : State) (result : Result Key Refusal) : Type 0 where
   pub desk : IsDesk new after
   pub name : IfOk result (λ key. IsNamed (client_at clients i) key.name)
   pub goes : Continues (downs result) old new
-  pub kept : MatchResult result (λ key. MakesVersion i clients after old new) (λ why. DeclinesAt steps why clients after old new)
+  pub kept : MatchResult result (λ key. MakesOfDraft i clients after old new) (λ why. DeclinesAt steps why clients after old new)
 
 -- Why a version is opened or not: what is lost or unsound, that the pages lack the key, or that they have its entry,
 -- which has so many bytes.
@@ -352,8 +352,8 @@ pub record CausesOpening {D : Type 0} (M : Ghosts D) (resident : ℕ → Option 
 -- ---- where all is given up
 
 -- the first so many have nothing open any more
-abbrev pub cleared : ℕ → List Client → List Client
-cleared n clients = replicate n Idle ++ drop n clients
+abbrev pub cleared_clients : ℕ → List Client → List Client
+cleared_clients n clients = replicate n Idle ++ drop n clients
 
 -- only what is open and what is free differs
 abbrev pub Frees : State → State → Type 0

@@ -2,7 +2,7 @@
 ghost use Rattle.std.specs.Prelude.{◌≡◌, ℕ, None, List, Option, Some};
 ghost use Rattle.sector_disk.specs.Machine.{Moment};
 ghost use Rattle.volume_contract.specs.State.{Known, Stands};
-ghost use Rattle.client_desk.specs.Clients.{GivesUp, IsOf};
+ghost use Rattle.client_desk.specs.Clients.{GivesUpPart, IsOf};
 ghost use Rattle.client_desk.specs.Ends.{IsOpenIn, given_up};
 
 use fsd_bytes::FileName;
@@ -35,7 +35,7 @@ pub enum Client {
 pub fn end<M: Machine, V: Files<M>>(v: &mut V, client: Client)
     requires { IsOf (V.state v.old) client }
     ensures idle { client ≡ Client.Idle → v.new ≡ v.old }
-    ensures state { GivesUp client (V.state v.old) (V.state v.new) }
+    ensures state { GivesUpPart client (V.state v.old) (V.state v.new) }
     ensures done { (k : Known) (now : Moment) → IsOpenIn k.opened client → Stands V.state V.holds v.old k now → Stands V.state V.holds v.new (given_up k client) now }
 {
     match client {

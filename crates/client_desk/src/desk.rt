@@ -12,12 +12,12 @@ ghost use Rattle.sector_disk.specs.Machine.{Moment};
 ghost use Rattle.fsd_sound.specs.Writes.{force_writes};
 ghost use Rattle.volume_contract.specs.Causes.{Causes};
 ghost use Rattle.volume_contract.specs.Ends.{device_of};
-ghost use Rattle.volume_contract.specs.Order.{Follows, Keeps, enter_steps, held_steps, slices_steps};
+ghost use Rattle.volume_contract.specs.Order.{Follows, KeepsRefused, enter_steps, held_steps, slices_steps};
 ghost use Rattle.volume_contract.specs.Pieces.{reserve_len, with_opened};
 ghost use Rattle.volume_contract.specs.State.{GoesOn, HasCounted, Known, Leaves, Stands, State, downs_for, forces_first, no_readers, none_open, WritesWithin};
 ghost use Rattle.volume_contract.specs.Telling.{IsDamagedData};
-ghost use Rattle.client_desk.specs.Clients.{AllStays, CausesOpening, Continuing, CountsTo, DeclinesAt, Ended, EndsAt, EntersFor, HasRoom, IsWholeOne, IsWriter, LeavesNone, in_data, in_first, GivesUp, GoesTo, IsClient, IsDesk, IsNamed, IsOf, IsReader, KeepsClosing, KeepsDesk, ReadsMore, StartsReading, StartsWriting, WritesMore, client_at, as_idle, as_reading, as_writing, begin_steps, close_steps, declared_at, done_steps, drop_steps, found, key_at, left_at, next_steps, no_desk, open_steps, piece_steps, place_of, too_long, too_short};
-ghost use Rattle.client_desk.specs.Ends.{EndsBegin, EndsClose, EndsEntering, EndsPiece, EndsPieces, LeavesFor, LeavesOf, EndsDone, EndsDrop, EndsNext, EndsOpen, IsOpenIn, ReadsOn, Serves, Sits, given_up};
+ghost use Rattle.client_desk.specs.Clients.{AllStays, CausesOpening, Continuing, CountsTo, DeclinesAt, Ended, EndsDraftAt, EntersFor, MayCome, IsWholeOne, IsWriter, LeavesNone, in_data, in_first, GivesUpPart, GoesOnBehind, IsClient, IsDesk, IsNamed, IsOf, IsReader, KeepsClosing, KeepsDesk, ReadsMore, StartsReading, StartsWriting, WritesMore, client_at, as_idle, as_reading, as_writing, begin_steps, close_steps, declared_at, done_steps, drop_steps, found, client_key, left_at, desk_next_steps, no_desk, open_steps, piece_steps, client_place, too_long, too_short};
+ghost use Rattle.client_desk.specs.Ends.{EndsBegin, EndsClose, EndsEntering, EndsPiece, EndsPieces, LeavesFor, LeavesOf, EndsDone, EndsDrop, EndsNext, EndsOpen, IsOpenIn, ReadsOn, ServesOpen, Sits, given_up};
 
 use crate::client::{Client, Creation, Reader, end};
 use crate::pieces::add;
@@ -73,7 +73,7 @@ fn begun(name: &FileName, draft: Draft) -> Creation
 
 // The place of a client.
 fn place_of(c: u32) -> Result<usize, Refusal>
-    ensures is { result ≡ place_of c }
+    ensures is { result ≡ client_place c }
     ensures inside { IfOk result (λ i. i < 8) }
 {
     if 1 <= c && c <= 8 {
@@ -201,7 +201,7 @@ impl Desk {
     fn end_at<M: Machine, V: Files<M>>(&mut self, v: &mut V, place: usize)
         requires inside { place < 8 }
         requires of { IsOf (V.state v.old) (client_at self.old place) }
-        ensures state { GivesUp (client_at self.old place) (V.state v.old) (V.state v.new) }
+        ensures state { GivesUpPart (client_at self.old place) (V.state v.old) (V.state v.new) }
         ensures clients { self.new ≡ set self.old place Client.Idle }
         ensures done { (k : Known) (now : Moment) → IsOpenIn k.opened (client_at self.old place) → Stands V.state V.holds v.old k now →
             Stands V.state V.holds v.new (given_up k (client_at self.old place)) now }
@@ -245,7 +245,7 @@ impl Desk {
         requires inside { place < 8 }
         requires small { count < 2 ^ 63 }
         ensures is { result ≡ too_long (client_at self.now place) count }
-        ensures room { result ≡ None → IsWriter (client_at self.now place) → HasRoom (client_at self.now place) count }
+        ensures room { result ≡ None → IsWriter (client_at self.now place) → MayCome (client_at self.now place) count }
     {
         match self.at(place) {
             Client::Writing(w) if count > (w.draft.length - w.got) as usize => {
@@ -286,7 +286,7 @@ impl Desk {
         requires desk { IsDesk (V.state v.old) self.old }
         ensures order { Follows (piece_steps (V.state v.old) self.old c (length bytes.now)) result }
         ensures disk { WritesDisk M.Machine (device_in device_of result) (LeavesOf V.state V.holds v.old self.old (in_data (client_at self.old (c - 1)))) m.old m.new }
-        ensures state { KeepsDesk (WritesMore (c - 1) (length bytes.now)) (λ why. EndsAt why (c - 1)) self.old self.new (V.state v.old) (V.state v.new) result }
+        ensures state { KeepsDesk (WritesMore (c - 1) (length bytes.now)) (λ why. EndsDraftAt why (c - 1)) self.old self.new (V.state v.old) (V.state v.new) result }
         ensures done { M.honest m.new → (k : Known) (clients : List Open) → Sits V.state V.holds v.old self.old k clients (M.now m.old) →
             EndsPiece V.state V.holds c bytes.now k clients v.new self.new (M.now m.new) result }
     {
@@ -308,7 +308,7 @@ impl Desk {
 
     /// How many bytes were declared of the version that a client writes.
     pub fn declared(&self, c: u32) -> Option<u32>
-        ensures { result ≡ declared_at self.now (place_of c) }
+        ensures { result ≡ declared_at self.now (client_place c) }
     {
         let Ok(place) = place_of(c) else {
             return None;
@@ -412,7 +412,7 @@ impl Desk {
     ) -> Result<u32, Refusal>
         requires room { (V.state v.old).layout.sectors ≤ (M.report m.old).sectors }
         requires desk { IsDesk (V.state v.old) self.old }
-        ensures order { Follows (next_steps (V.state v.old) self.old c) result }
+        ensures order { Follows (desk_next_steps (V.state v.old) self.old c) result }
         ensures disk { OnlyReads M.Machine (device_in device_of result) m.old m.new }
         ensures state { KeepsDesk (ReadsMore (c - 1) (length buf.old)) (λ why. AllStays) self.old self.new (V.state v.old) (V.state v.new) result }
         ensures damaged { (s : ℕ) → result ≡ Err (Why.Damaged s) → M.honest m.new → IsDamagedData (V.state v.old).layout (M.now m.new).image s }
@@ -434,7 +434,7 @@ impl Desk {
 
     /// How many bytes a client has left to read.
     pub fn left(&self, c: u32) -> Option<u32>
-        ensures { result ≡ left_at self.now (place_of c) }
+        ensures { result ≡ left_at self.now (client_place c) }
     {
         let Ok(place) = place_of(c) else {
             return None;
@@ -447,7 +447,7 @@ impl Desk {
 
     /// The version that a client reads.
     pub fn key(&self, c: u32) -> Option<Key>
-        ensures { result ≡ key_at self.now (place_of c) }
+        ensures { result ≡ client_key self.now (client_place c) }
     {
         let Ok(place) = place_of(c) else {
             return None;
@@ -513,13 +513,13 @@ fn piece_of<M: Machine, V: Files<M>>(
     requires room { (V.state v.old).layout.sectors ≤ (M.report m.old).sectors }
     requires valid { IsClient client }
     requires of { IsOf (V.state v.old) client }
-    requires writes { HasRoom client (length bytes.now) }
+    requires writes { MayCome client (length bytes.now) }
     ensures order { Follows (slices_steps (V.state v.old) (in_data client)) result.1 }
     ensures disk { WritesDisk M.Machine (device_in device_of result.1) (LeavesFor V.state V.holds v.old client (in_data client)) m.old m.new }
-    ensures client { MatchResult result.1 (λ n. (V.state v.new ≡ V.state v.old) × Continuing (length bytes.now) n client result.0) (λ why. GivesUp client (V.state v.old) (V.state v.new) × (result.0 ≡ Client.Idle)) }
+    ensures client { MatchResult result.1 (λ n. (V.state v.new ≡ V.state v.old) × Continuing (length bytes.now) n client result.0) (λ why. GivesUpPart client (V.state v.old) (V.state v.new) × (result.0 ≡ Client.Idle)) }
     ensures valid { IsClient result.0 }
     ensures done { M.honest m.new → (k : Known) → Stands V.state V.holds v.old k (M.now m.old) →
-        (name : List ℕ) (len : ℕ) (runs : List Run) (serial : Serial) (before : List ℕ) → Serves k.opened client (Writes name len runs serial before) →
+        (name : List ℕ) (len : ℕ) (runs : List Run) (serial : Serial) (before : List ℕ) → ServesOpen k.opened client (Writes name len runs serial before) →
         EndsPieces V.state V.holds k client result.0 name len runs serial before bytes.now v.new (M.now m.new) result.1 }
 {
     match client {
@@ -567,12 +567,12 @@ fn close_of<M: Machine, V: Files<M>>(
     ensures rest { M.honest m.new → Touches (λ t. force_writes (V.state v.old).layout t || in_first client t) (M.now m.old) (M.now m.new) }
     ensures name { IfOk result.1 (λ key. IsNamed client key.name) }
     ensures state { MatchResult result.1 (λ key. EntersFor client (V.state v.old) (V.state v.new)) (λ why. GoesOn (downs_for why) (V.state v.old) (V.state v.new)) }
-    ensures kept { let s = V.state v.old in MatchResult result.1 (λ key. HasCounted false (forces_first s) s (V.state v.new)) (λ why. Keeps (enter_steps s None (in_first client)) why s (V.state v.new)) }
+    ensures kept { let s = V.state v.old in MatchResult result.1 (λ key. HasCounted false (forces_first s) s (V.state v.new)) (λ why. KeepsRefused (enter_steps s None (in_first client)) why s (V.state v.new)) }
     ensures client { MatchResult result.1 (λ key. result.0 ≡ Client.Idle) (λ why. result.0 ≡ client) }
     ensures valid { IsClient result.0 }
     ensures causes { Causes M.Machine (V.resident v.old) (V.state v.old) (V.state v.new) m.old m.new result.1 }
     ensures done { M.honest m.new → (k : Known) → Stands V.state V.holds v.old k (M.now m.old) →
-        (name : List ℕ) (len : ℕ) (runs : List Run) (serial : Serial) (bytes : List ℕ) → Serves k.opened client (Writes name len runs serial bytes) →
+        (name : List ℕ) (len : ℕ) (runs : List Run) (serial : Serial) (bytes : List ℕ) → ServesOpen k.opened client (Writes name len runs serial bytes) →
         EndsEntering V.state V.holds name runs serial bytes k v.new (M.now m.new) result.1 }
 {
     match client {
@@ -607,12 +607,12 @@ fn next_of<M: Machine, V: Files<M>>(
     ensures order { Follows (held_steps (V.state v.old)) result.1 }
     ensures disk { OnlyReads M.Machine (device_in device_of result.1) m.old m.new }
     ensures state { V.state v.new ≡ V.state v.old }
-    ensures client { MatchResult result.1 (λ n. GoesTo n client result.0) (λ why. result.0 ≡ client) }
+    ensures client { MatchResult result.1 (λ n. GoesOnBehind n client result.0) (λ why. result.0 ≡ client) }
     ensures count { IfOk result.1 (λ n. CountsTo (length buf.old) n client) }
     ensures damaged { (s : ℕ) → result.1 ≡ Err (Why.Damaged s) → M.honest m.new → IsDamagedData (V.state v.old).layout (M.now m.new).image s }
     ensures valid { IsClient result.0 }
     ensures done { M.honest m.new → (k : Known) → Stands V.state V.holds v.old k (M.now m.old) →
-        (key : KeyOf) (runs : List Run) (bytes : List ℕ) (place : ℕ) → Serves k.opened client (Reads key runs bytes place) →
+        (key : KeyOf) (runs : List Run) (bytes : List ℕ) (place : ℕ) → ServesOpen k.opened client (Reads key runs bytes place) →
         ReadsOn (M.now m.old).image (M.now m.new).image runs bytes place buf.old buf.new result.1 × Stands V.state V.holds v.new k (M.now m.new) }
 {
     match client {

@@ -8,8 +8,8 @@ ghost use Rattle.volume_contract.specs.Order.{Comes, Follows, slices_steps};
 ghost use Rattle.volume_contract.specs.Pieces.{IsDraft};
 ghost use Rattle.volume_contract.specs.State.{Known, Stands};
 ghost use Rattle.client_desk.specs.declared.client.Client.TheVariants.{Writing};
-ghost use Rattle.client_desk.specs.Clients.{Grows, data_of, is_due, whole_part};
-ghost use Rattle.client_desk.specs.Ends.{EndsAdd, IsWriting, LeavesFor};
+ghost use Rattle.client_desk.specs.Clients.{GrowsBy, draft_sectors, is_due, whole_part};
+ghost use Rattle.client_desk.specs.Ends.{EndsAdd, IsWritingDraft, LeavesFor};
 
 use crate::client::Creation;
 use fsd_bytes::Refusal;
@@ -52,15 +52,15 @@ fn fill<M: Machine, V: Files<M>>(
     requires room { (V.state v.old).layout.sectors ≤ (M.report m.old).sectors }
     requires draft { IsDraft (V.state v.old) w.old.draft }
     requires fits { w.old.got + length bytes.now ≤ w.old.draft.length }
-    ensures order { IfErr result (λ why. Comes (slices_steps (V.state v.old) (data_of w.old)) why) }
-    ensures disk { WritesDisk M.Machine (device_in device_of result) (LeavesFor V.state V.holds v.old (Writing w.old) (data_of w.old)) m.old m.new }
+    ensures order { IfErr result (λ why. Comes (slices_steps (V.state v.old) (draft_sectors w.old)) why) }
+    ensures disk { WritesDisk M.Machine (device_in device_of result) (LeavesFor V.state V.holds v.old (Writing w.old) (draft_sectors w.old)) m.old m.new }
     ensures state { V.state v.new ≡ V.state v.old }
-    ensures grows { IfOk result (λ n. Grows n w.old w.new) }
+    ensures grows { IfOk result (λ n. GrowsBy n w.old w.new) }
     ensures part { IfOk result (λ n. n ≤ length bytes.now) }
     ensures seam { IfOk result (λ n. (w.new.got % 512 ≡ 0) ⊎ (n ≡ length bytes.now)) }
     ensures draft { w.new.draft ≡ w.old.draft }
     ensures done { M.honest m.new → (k : Known) → Stands V.state V.holds v.old k (M.now m.old) →
-        (name : List ℕ) (len : ℕ) (runs : List Run) (serial : Serial) (before : List ℕ) → IsWriting k.opened w.old name len runs serial before →
+        (name : List ℕ) (len : ℕ) (runs : List Run) (serial : Serial) (before : List ℕ) → IsWritingDraft k.opened w.old name len runs serial before →
         EndsAdd V.state V.holds (λ n. take n bytes.now) k w.new name len runs serial before v.new (M.now m.new) result }
 {
     let at = (w.got % 512) as usize;
@@ -98,13 +98,13 @@ fn lay<M: Machine, V: Files<M>>(
     requires draft { IsDraft (V.state v.old) w.old.draft }
     requires fits { w.old.got + length bytes.now ≤ w.old.draft.length }
     requires seam { (w.old.got % 512 ≡ 0) ⊎ (length bytes.now ≡ 0) }
-    ensures order { Follows (slices_steps (V.state v.old) (data_of w.old)) result }
-    ensures disk { WritesDisk M.Machine (device_in device_of result) (LeavesFor V.state V.holds v.old (Writing w.old) (data_of w.old)) m.old m.new }
+    ensures order { Follows (slices_steps (V.state v.old) (draft_sectors w.old)) result }
+    ensures disk { WritesDisk M.Machine (device_in device_of result) (LeavesFor V.state V.holds v.old (Writing w.old) (draft_sectors w.old)) m.old m.new }
     ensures state { V.state v.new ≡ V.state v.old }
-    ensures grows { IfOk result (λ x. Grows (length bytes.now) w.old w.new) }
+    ensures grows { IfOk result (λ x. GrowsBy (length bytes.now) w.old w.new) }
     ensures draft { w.new.draft ≡ w.old.draft }
     ensures done { M.honest m.new → (k : Known) → Stands V.state V.holds v.old k (M.now m.old) →
-        (name : List ℕ) (len : ℕ) (runs : List Run) (serial : Serial) (before : List ℕ) → IsWriting k.opened w.old name len runs serial before →
+        (name : List ℕ) (len : ℕ) (runs : List Run) (serial : Serial) (before : List ℕ) → IsWritingDraft k.opened w.old name len runs serial before →
         EndsAdd V.state V.holds (λ x. bytes.now) k w.new name len runs serial before v.new (M.now m.new) result }
 {
     let got = w.got + bytes.len() as u32;
@@ -130,13 +130,13 @@ pub fn add<M: Machine, V: Files<M>>(
     requires room { (V.state v.old).layout.sectors ≤ (M.report m.old).sectors }
     requires draft { IsDraft (V.state v.old) w.old.draft }
     requires fits { w.old.got + length bytes.now ≤ w.old.draft.length }
-    ensures order { Follows (slices_steps (V.state v.old) (data_of w.old)) result }
-    ensures disk { WritesDisk M.Machine (device_in device_of result) (LeavesFor V.state V.holds v.old (Writing w.old) (data_of w.old)) m.old m.new }
+    ensures order { Follows (slices_steps (V.state v.old) (draft_sectors w.old)) result }
+    ensures disk { WritesDisk M.Machine (device_in device_of result) (LeavesFor V.state V.holds v.old (Writing w.old) (draft_sectors w.old)) m.old m.new }
     ensures state { V.state v.new ≡ V.state v.old }
-    ensures grows { IfOk result (λ x. Grows (length bytes.now) w.old w.new) }
+    ensures grows { IfOk result (λ x. GrowsBy (length bytes.now) w.old w.new) }
     ensures draft { w.new.draft ≡ w.old.draft }
     ensures done { M.honest m.new → (k : Known) → Stands V.state V.holds v.old k (M.now m.old) →
-        (name : List ℕ) (len : ℕ) (runs : List Run) (serial : Serial) (before : List ℕ) → IsWriting k.opened w.old name len runs serial before →
+        (name : List ℕ) (len : ℕ) (runs : List Run) (serial : Serial) (before : List ℕ) → IsWritingDraft k.opened w.old name len runs serial before →
         EndsAdd V.state V.holds (λ x. bytes.now) k w.new name len runs serial before v.new (M.now m.new) result }
 {
     match fill(w, v, m, bytes) {

@@ -11,7 +11,7 @@ use Rattle.sector_disk.specs.Image.{sector_at}
 use Rattle.fsd_formats.specs.declared.entry.Entry.{Entry}
 use Rattle.fsd_files.specs.Disk.{Image, Sectors, SectorWorn, Has}
 use Rattle.fsd_files.specs.Files.{Files}
-use Rattle.fsd_files.specs.Kept.{slices, data_sectors, KeptIn, Kept}
+use Rattle.fsd_files.specs.Kept.{filled_slices, data_sectors, KeptIn, Kept}
 use Rattle.fsd_files.specs.Volume.{plans_of}
 
 -- ---- members
@@ -54,7 +54,7 @@ zip_on hurt i j (b ∷ bs) (y ∷ ys) agree kept =
     (has_on hurt i j b y (agree y (first_there y ys)) kept.0, zip_on hurt i j bs ys (λ s h. agree s (rest_there y s ys h)) kept.1)
 
 pub kept_in_worn : (hurt : Sectors) (i j : Image) (bytes : List ℕ) (runs : List Run) → AgreeWorn hurt (sectors_of runs) i j → KeptIn i hurt bytes runs → KeptIn j hurt bytes runs
-kept_in_worn hurt i j bytes runs agree kept = zip_on hurt i j (slices bytes) (data_sectors runs) (λ s h. agree s (behind_there s (sectors_of runs) h)) kept
+kept_in_worn hurt i j bytes runs agree kept = zip_on hurt i j (filled_slices bytes) (data_sectors runs) (λ s h. agree s (behind_there s (sectors_of runs) h)) kept
 
 abbrev pub plan_sectors : List Entry → List ℕ
 plan_sectors entries = flat_map sectors_of (plans_of entries)

@@ -17,7 +17,7 @@ use Rattle.fsd_bytes.specs.Keys.{key_cmp, same_key}
 use Rattle.run_table.specs.declared.run.Run.{Run}
 use Rattle.fsd_formats.specs.declared.entry.Entry.{Entry}
 use Rattle.fsd_formats.specs.NamePage.{sectors_for, max_keep}
-use Rattle.fsd_files.specs.Files.{File, Files, highest, without, new_key, new_keep, with_new, gone_keys, kept_at, file_kept, with_keep}
+use Rattle.fsd_files.specs.Files.{File, Files, highest, without_keys, new_key, new_keep, with_new, gone_keys, kept_at, file_kept, with_keep}
 use Rattle.fsd_files.specs.Kept.{IsEntryOf, Lists}
 use Rattle.fsd_files.specs.Volume.{Volume, forced, forced_for_place, forced_if, drawn, place_for, entries_at, entries_without}
 use Rattle.fsd_files.specs.Answers.{Met, refused, entry_put, entry_of, entry_kept, entries_with_keep, highest_entry, with_version, enter_fault, entered_unless, put_at, put_unless, keep_given, size_fault, deleted, keep_set, put_outcome, delete_outcome, keep_outcome}
@@ -81,7 +81,7 @@ lists_length [] (z ∷ entries) lists = absurd lists
 lists_length (y ∷ s) [] lists = absurd lists
 lists_length (y ∷ s) (z ∷ entries) lists = ap (λ (n : ℕ). suc n) (lists_length s entries lists.1)
 
-lists_without : (keys : List Key) (s : Files) (entries : List Entry) → Lists s entries → Lists (without keys s) (entries_without keys entries)
+lists_without : (keys : List Key) (s : Files) (entries : List Entry) → Lists s entries → Lists (without_keys keys s) (entries_without keys entries)
 lists_without keys s entries lists = lists_kept (λ k. not (list_any (same_key k) keys)) s entries lists
 
 -- ---- the highest of a name

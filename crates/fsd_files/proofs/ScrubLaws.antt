@@ -1,12 +1,12 @@
 -- What a scrub finds and heals, part by part.
-use Rattle.std.proofs.Common.{◌≡◌, ◌⊎◌, inl, inr, ℕ, suc, ◌+◌, List, [], ◌∷◌, ◌++◌, refl, sym, ap, ◌∙◌, subst, arith}
+use Rattle.std.proofs.Common.{◌≡◌, inl, inr, ℕ, ◌+◌, List, [], ◌∷◌, ◌++◌, sym, ap, subst, arith}
 use Rattle.std.specs.List.{AllByRecursion}
 use Rattle.fsd_bytes.specs.declared.key.Key.{Key}
 use Rattle.sector_disk.specs.declared.sector.Sector.TheVariants.{Damaged}
 use Rattle.sector_disk.specs.Image.{sector_at}
 use Rattle.fsd_files.specs.Disk.{Image}
 use Rattle.fsd_files.specs.Kept.{IsWhole}
-use Rattle.fsd_files.specs.Scrub.{Counts, Picks}
+use Rattle.fsd_files.specs.Scrub.{CountsNeeds, Picks}
 
 -- ---- what is found
 
@@ -27,15 +27,15 @@ picks_longer Stays h i j k back on (x ∷ xs) found all (inr (more, is, hurt, re
 
 -- ---- what is healed
 
-pub counts_then : {A : Type 0} (Needs Well : A → Type 0) (xs ys : List A) (m n : ℕ) → Counts Needs Well xs m → Counts Needs Well ys n → Counts Needs Well (xs ++ ys) (m + n)
-counts_then Needs Well [] ys m n first second = subst (Counts Needs Well ys) (let zero = first in let same : n ≡ m + n = omega (arith, zero) in same) second
+pub counts_then : {A : Type 0} (Needs Well : A → Type 0) (xs ys : List A) (m n : ℕ) → CountsNeeds Needs Well xs m → CountsNeeds Needs Well ys n → CountsNeeds Needs Well (xs ++ ys) (m + n)
+counts_then Needs Well [] ys m n first second = subst (CountsNeeds Needs Well ys) (let zero = first in let same : n ≡ m + n = omega (arith, zero) in same) second
 counts_then Needs Well (x ∷ xs) ys m n (inl (well, rest)) second = inl (well, counts_then Needs Well xs ys m n rest second)
 counts_then Needs Well (x ∷ xs) ys m n (inr (less, is, needs, rest)) second =
     inr (less + n, omega (arith, is), needs, counts_then Needs Well xs ys less n rest second)
 
 -- the same by other facts that follow, each of the one that it is said of
 pub counts_as : {A : Type 0} (Stays : A → Type 0) (Needs Well Needs' Well' : A → Type 0) → ((x : A) → Stays x → Needs x → Needs' x) → ((x : A) → Stays x → Well x → Well' x)
-    → (xs : List A) (n : ℕ) → AllByRecursion Stays xs → Counts Needs Well xs n → Counts Needs' Well' xs n
+    → (xs : List A) (n : ℕ) → AllByRecursion Stays xs → CountsNeeds Needs Well xs n → CountsNeeds Needs' Well' xs n
 counts_as Stays Needs Well Needs' Well' needs well [] n all counts = counts
 counts_as Stays Needs Well Needs' Well' needs well (x ∷ xs) n all (inl (is, rest)) = inl (well x all.0 is, counts_as Stays Needs Well Needs' Well' needs well xs n all.1 rest)
 counts_as Stays Needs Well Needs' Well' needs well (x ∷ xs) n all (inr (less, same, is, rest)) =

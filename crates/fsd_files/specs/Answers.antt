@@ -118,15 +118,15 @@ entered_unless (Some why) v name bytes given runs serial r = refused v why
 entered_unless None v name bytes given runs serial r = (Made (new_key name v.files) (total runs), with_version v name bytes given runs serial r)
 
 -- the end of a creation whose bytes stand in these runs
-abbrev pub entered : Met → Volume → List ℕ → List ℕ → Option ℕ → List Run → Serial → Outcome
-entered met v name bytes given runs serial =
+abbrev pub entered_version : Met → Volume → List ℕ → List ℕ → Option ℕ → List Run → Serial → Outcome
+entered_version met v name bytes given runs serial =
     let at = forced_if met.forces v in
     entered_unless (enter_fault at name) at name bytes given runs serial met.reached
 
 -- in the runs that were picked; the serial is drawn as they are
 abbrev pub put_at : Met → Volume → List ℕ → List ℕ → Option ℕ → ℕ → Option (List Run) → Outcome
 put_at met v name bytes given need None = refused v (no_place v need)
-put_at met v name bytes given need (Some runs) = entered met (drawn v) name bytes given runs v.serial
+put_at met v name bytes given need (Some runs) = entered_version met (drawn v) name bytes given runs v.serial
 
 abbrev pub put_unless : Option Refusal → Met → Volume → List ℕ → List ℕ → Option ℕ → Outcome
 put_unless (Some why) met v name bytes given = refused v why
@@ -228,13 +228,13 @@ get_reply met v key = got key met.damaged (find key_cmp key v.files)
 
 -- i is the image at a call's entry and j at its exit. Either all of these sectors are whole in i, or one is damaged in
 -- j, and those before it are whole in i.
-abbrev pub Finds : Image → Image → List ℕ → Option ℕ → Type 0
-Finds i j sectors None = AllByRecursion (IsWhole i) sectors
-Finds i j sectors (Some s) = FirstDamaged i j sectors s
+abbrev pub FindsDamage : Image → Image → List ℕ → Option ℕ → Type 0
+FindsDamage i j sectors None = AllByRecursion (IsWhole i) sectors
+FindsDamage i j sectors (Some s) = FirstDamaged i j sectors s
 
 -- of a version that is read whole
-abbrev pub FindsIn : Image → Image → Volume → Key → Option ℕ → Type 0
-FindsIn i j v key damaged = IfSome (entry_of key v.entries) (λ e. Finds i j (range_sectors e.runs 0 e.length) damaged)
+abbrev pub FindsDamageIn : Image → Image → Volume → Key → Option ℕ → Type 0
+FindsDamageIn i j v key damaged = IfSome (entry_of key v.entries) (λ e. FindsDamage i j (range_sectors e.runs 0 e.length) damaged)
 
 -- ---- leaders
 

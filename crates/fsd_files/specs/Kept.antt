@@ -15,23 +15,23 @@ use Rattle.volume_layout.specs.declared.layout.Layout.{Layout}
 use Rattle.run_table.specs.RunTable.{sectors_of}
 
 -- slice k of the bytes, filled up with zeros
-abbrev pub slice_of : List ℕ → ℕ → List ℕ
-slice_of bytes k = sector (take sector_len (drop (k * sector_len) bytes))
+abbrev pub filled_slice : List ℕ → ℕ → List ℕ
+filled_slice bytes k = sector (take sector_len (drop (k * sector_len) bytes))
 
-abbrev pub slices_from : ℕ → ℕ → List ℕ → List (List ℕ)
-slices_from k zero bytes = []
-slices_from k (suc n) bytes = slice_of bytes k ∷ slices_from (k + 1) n bytes
+abbrev pub filled_slices_from : ℕ → ℕ → List ℕ → List (List ℕ)
+filled_slices_from k zero bytes = []
+filled_slices_from k (suc n) bytes = filled_slice bytes k ∷ filled_slices_from (k + 1) n bytes
 
 -- all of them
-abbrev pub slices : List ℕ → List (List ℕ)
-slices bytes = slices_from 0 (sectors_for (length bytes) - 1) bytes
+abbrev pub filled_slices : List ℕ → List (List ℕ)
+filled_slices bytes = filled_slices_from 0 (sectors_for (length bytes) - 1) bytes
 
 -- behind the leader
 abbrev pub data_sectors : List Run → List ℕ
 data_sectors runs = drop 1 (sectors_of runs)
 
 abbrev pub KeptIn : Image → Sectors → List ℕ → List Run → Type 0
-KeptIn i hurt bytes runs = AllZip (Has hurt i) (slices bytes) (data_sectors runs)
+KeptIn i hurt bytes runs = AllZip (Has hurt i) (filled_slices bytes) (data_sectors runs)
 
 -- the entry is that of the version: its key, length and keep
 pub record IsEntryOf (version : Key × File) (e : Entry) : Type 0 where

@@ -1,5 +1,5 @@
 -- A version that is made in pieces: where it goes, and the end of its creation.
-use Rattle.std.specs.Prelude.{ℕ, not, List, [], ◌∷◌, filter, Option, Some, None, Result, Ok, Err, nat_lt, if◌then◌else◌}
+use Rattle.std.specs.Prelude.{ℕ, not, List, ◌∷◌, filter, Option, Some, None, Result, Ok, Err, nat_lt, if◌then◌else◌}
 use Rattle.run_table.specs.declared.run.Run.{Run}
 use Rattle.run_table.specs.RunTable.{same_runs, total}
 use Rattle.fsd_bytes.specs.declared.key.Serial.{Serial}
@@ -12,8 +12,8 @@ use Rattle.fsd_files.specs.declared.reply.Reply.TheVariants.{Made}
 use Rattle.fsd_files.specs.Volume.{Volume, drawn, forced_for_place, forced_if, place_for}
 
 -- a creation lies in these runs, and its serial is drawn
-abbrev pub drafted : Volume → List Run → Volume
-drafted v runs = record (drawn v) { drafts = runs ∷ v.drafts }
+abbrev pub with_draft : Volume → List Run → Volume
+with_draft v runs = record (drawn v) { drafts = runs ∷ v.drafts }
 
 abbrev pub undrafted : Volume → List Run → Volume
 undrafted v runs = record v { drafts = filter (λ d. not (same_runs d runs)) v.drafts }
@@ -22,7 +22,7 @@ undrafted v runs = record v { drafts = filter (λ d. not (same_runs d runs)) v.d
 
 abbrev pub reserve_at : Volume → ℕ → Option (List Run) → Result (List Run) Refusal × Volume
 reserve_at v need None = (Err (no_place v need), v)
-reserve_at v need (Some runs) = (Ok runs, drafted v runs)
+reserve_at v need (Some runs) = (Ok runs, with_draft v runs)
 
 -- the runs of a creation of so many bytes or why there are none, and the volume then
 abbrev pub reserve_outcome : Volume → (len : ℕ) → Result (List Run) Refusal × Volume

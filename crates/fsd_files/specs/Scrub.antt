@@ -1,5 +1,5 @@
 -- What a scrub finds of the versions' data, and how many other sectors it heals.
-use Rattle.std.specs.Prelude.{◌≡◌, ◌⊎◌, ⊤, ℕ, suc, ◌+◌, ◌-◌, ◌^◌, min, Bool, true, false, if◌then◌else◌, List, [], ◌∷◌, ◌++◌, map, IsTrue, slice_index_or}
+use Rattle.std.specs.Prelude.{◌≡◌, ◌⊎◌, ℕ, suc, ◌+◌, ◌-◌, ◌^◌, min, Bool, true, false, if◌then◌else◌, List, [], ◌∷◌, ◌++◌, map, IsTrue, slice_index_or}
 use Rattle.std.specs.List.{flat_map, range_with_len}
 use Rattle.fsd_bytes.specs.declared.key.Key.{Key}
 use Rattle.run_table.specs.RunTable.{sectors_of}
@@ -50,9 +50,9 @@ pub record PicksSome (i j : Image) (all found : List (Key × ℕ)) : Type 0 wher
 -- ---- what is healed
 
 -- so many of these need healing, and the others are well
-abbrev pub Counts : {A : Type 0} → (Needs Well : A → Type 0) → List A → ℕ → Type 0
-Counts Needs Well [] count = count ≡ 0
-Counts Needs Well (x ∷ xs) count = (Well x × Counts Needs Well xs count) ⊎ ((rest : ℕ) × (count ≡ suc rest) × Needs x × Counts Needs Well xs rest)
+abbrev pub CountsNeeds : {A : Type 0} → (Needs Well : A → Type 0) → List A → ℕ → Type 0
+CountsNeeds Needs Well [] count = count ≡ 0
+CountsNeeds Needs Well (x ∷ xs) count = (Well x × CountsNeeds Needs Well xs count) ⊎ ((rest : ℕ) × (count ≡ suc rest) × Needs x × CountsNeeds Needs Well xs rest)
 
 -- a sector that reads damaged in a call: it was so as the call began, or an open window may have worn it since
 abbrev pub ReadsDamaged : Moment → ℕ → Type 0
@@ -64,7 +64,7 @@ twins l = 0 ∷ 4 ∷ 8 ∷ 12 ∷ flat_map (λ page. home_a l page ∷ home_b l
 
 -- of these so many read damaged, and the others are whole
 abbrev pub CountsTwins : Layout → Moment → ℕ → Type 0
-CountsTwins l old count = Counts (ReadsDamaged old) (IsWhole old.image) (twins l) count
+CountsTwins l old count = CountsNeeds (ReadsDamaged old) (IsWhole old.image) (twins l) count
 
 -- the place of a version's leader
 abbrev pub leader_place : Entry → ℕ
@@ -87,7 +87,7 @@ abbrev pub leader_count : Bool → ℕ
 leader_count written = if written then 1 else 0
 
 abbrev pub CountsLeaders : List Entry → Moment → ℕ → Type 0
-CountsLeaders entries old count = Counts (NeedsLeader old) (StandsLed old.image) entries count
+CountsLeaders entries old count = CountsNeeds (NeedsLeader old) (StandsLed old.image) entries count
 
 -- So many twins and leaders are healed, as they stood at this moment; no more are counted than a number can tell.
 pub record CountsHealed (l : Layout) (entries : List Entry) (old : Moment) (count : ℕ) : Type 0 where

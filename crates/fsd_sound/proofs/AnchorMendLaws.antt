@@ -15,13 +15,13 @@ use Rattle.sector_disk.specs.Image.{sector_at, with_sector}
 use Rattle.fsd_log.specs.Scan.{Placed, Walked, newer_of, is_newer}
 use Rattle.fsd_log.specs.Images.{last_image}
 use Rattle.fsd_log.proofs.AnchorLaws.{third_in}
-use Rattle.fsd_files.specs.Disk.{Image, Sectors, bytes_of, bytes_at, either_copy}
+use Rattle.fsd_files.specs.Disk.{Image, Sectors, bytes_of, bytes_at, first_whole}
 use Rattle.fsd_sound.specs.Anchors.{anchor_at, anchor_of, EachAnchor}
 use Rattle.fsd_sound.specs.Homes.{home_of}
 use Rattle.fsd_sound.specs.Laid.{AllLaid, IsLaid}
 use Rattle.fsd_sound.specs.Shown.{records_by, newest, each_of, all_pages, shown_by, shown}
 use Rattle.fsd_sound.specs.Sound.{IfWhole, EachStamp, ScansAgree, ShowsOne, ShowsPages, weak_of}
-use Rattle.fsd_sound.specs.Stands.{Stands}
+use Rattle.fsd_sound.specs.Stands.{StandsShown}
 use Rattle.fsd_sound.specs.Windows.{IsNarrow}
 use Rattle.fsd_sound.proofs.CommuteLaws.{same_or, with_same, with_other, all_over, shows_all, both_same, all_shows}
 use Rattle.fsd_sound.proofs.EachLaws.{all_in_range, each_of_same}
@@ -36,7 +36,7 @@ either_same false x = refl
 
 -- ---- where the anchor was damaged
 
-module _ (l : Layout) (weak : Sectors) (choices : List (List (List ℕ))) (s t : ℕ) (at : AreAnchorPlaces s t) (i : Image) (bytes : List ℕ) (room : s < length i) (whole : sector_at i t ≡ Whole bytes) (hurt : sector_at i s ≡ Damaged) (stands : Stands l weak choices i) where
+module _ (l : Layout) (weak : Sectors) (choices : List (List (List ℕ))) (s t : ℕ) (at : AreAnchorPlaces s t) (i : Image) (bytes : List ℕ) (room : s < length i) (whole : sector_at i t ≡ Whole bytes) (hurt : sector_at i s ≡ Damaged) (stands : StandsShown l weak choices i) where
   abbrev j : Image
   j = with_sector i s bytes
 
@@ -120,7 +120,7 @@ module _ (l : Layout) (weak : Sectors) (choices : List (List (List ℕ))) (s t :
   records_same a low = ap (λ (x : Walked). x.records) (same_scan l i j log_same a low)
 
   home_same : (page : ℕ) → home_of l j page ≡ home_of l i page
-  home_same page = λ k. either_copy (bytes_of (behind (home_a l page) (omega arith) k)) (bytes_of (behind (home_b l page) (omega arith) k))
+  home_same page = λ k. first_whole (bytes_of (behind (home_a l page) (omega arith) k)) (bytes_of (behind (home_b l page) (omega arith) k))
 
   shown_same : shown l j ≡ shown l i
   shown_same = ap (λ (o : Option Anchor). option_and_then (shown_by l j) o) taken_now ∙ by_anchor (anchor_at i t) refl ∙ ap (λ (o : Option Anchor). option_and_then (shown_by l i) o) (sym taken_then)
@@ -155,7 +155,7 @@ module _ (l : Layout) (weak : Sectors) (choices : List (List (List ℕ))) (s t :
       (λ here b is. twin_reads b (whole ∙ sym j_s ∙ ap (sector_at j) (sym here) ∙ is))
       (λ other b is. before b (sym (j_other p other) ∙ is)) (same_or p s)
 
-  mended_stands : Stands l weak choices (with_sector i s bytes)
+  mended_stands : StandsShown l weak choices (with_sector i s bytes)
   mended_stands = record {
     roots = record {
       some = some_same l i j (head 0 (omega arith)) (head 4 (omega arith)) stands.roots.some;
@@ -199,7 +199,7 @@ pub anchor_shows : (l : Layout) (windows : List WeakRun) → IsNarrow (weak_of w
 anchor_shows l windows narrow choices s t at c bytes room whole hurt weak_s shows =
     all_shows l windows shows.readable.borne choices (with_sector c s bytes)
     (both_same l windows c (with_sector c s bytes) shows.readable (λ p head. with_other c s p bytes (λ e. elim at [ inl o ↦ omega (arith, e, o.0, head) | inr o ↦ omega (arith, e, o.0, head) ])))
-    (all_over (weak_of windows) (Stands l (weak_of windows) choices) c s bytes room (shows_all l windows narrow choices c shows)
+    (all_over (weak_of windows) (StandsShown l (weak_of windows) choices) c s bytes room (shows_all l windows narrow choices c shows)
     (λ i worn there stands. mended_stands l (weak_of windows) choices s t at i bytes (omega (arith, room, worn.size))
     (⊎_elim (λ same. same ∙ whole) (λ worse. absurd (anchors_apart (weak_of windows) narrow s t at weak_s worse.0)) (worn.each t)) (there ∙ hurt) stands))
 

@@ -16,7 +16,7 @@ use Rattle.fsd_sound.proofs.AlikeLaws.{unlogged_same}
 use Rattle.fsd_sound.proofs.SaidLaws.{says_same, says_worn}
 use Rattle.fsd_sound.proofs.SectorFacts.{not_damaged}
 use Rattle.fsd_sound.proofs.SoundLaws.{shows_still}
-use Rattle.fsd_sound.specs.Stands.{Stands, IsOver}
+use Rattle.fsd_sound.specs.Stands.{StandsShown, IsWrittenOver}
 use Rattle.fsd_sound.specs.Windows.{IsNarrow}
 
 pub same_or : (a b : ℕ) → (a ≡ b) ⊎ (a ≢ b)
@@ -45,7 +45,7 @@ module _ (may : Sectors) (c j : Image) (s : ℕ) (bytes : List ℕ) (room : s < 
   }
 
   -- else it is that sector over a worn one
-  stands_over : sector_at j s ≡ Whole bytes → IsOver may c s bytes j
+  stands_over : sector_at j s ≡ Whole bytes → IsWrittenOver may c s bytes j
   stands_over stands = record {
     under = under;
     worn = record { size = length-set j s (sector_at c s) ∙ long; each = λ p. ⊎_elim (at_place p) (λ other. elsewhere p other (w.each p)) (same_or p s) };
@@ -71,7 +71,7 @@ module _ (may : Sectors) (c j : Image) (s : ℕ) (bytes : List ℕ) (room : s < 
       elsewhere p other (inr worn) = inr (worn.0, get_or-set_other j s p (sector_at c s) Damaged other ∙ worn.1)
 
   -- an image worn from one with a sector written is worn from the old one, or has that sector over a worn one
-  pub worn_or_over : IsWorn may c j ⊎ IsOver may c s bytes j
+  pub worn_or_over : IsWorn may c j ⊎ IsWrittenOver may c s bytes j
   worn_or_over = ⊎_elim (λ same. inr (stands_over (same ∙ with_same c s bytes room))) (λ hurt. inl (hurt_again hurt.0 hurt.1)) (w.each s)
 
 -- what holds however a sector wears holds with one more sector, if it does of each image with it
@@ -88,7 +88,7 @@ whole_inside i s bytes is = elim (cases_lt s (length i)) [ inl lt ↦ lt | inr p
 
 -- ---- what is shown
 
-pub shows_all : (l : Layout) (windows : List WeakRun) → IsNarrow (weak_of windows) → (choices : List (List (List ℕ))) (c : Image) → ShowsPages l windows choices c → AllWorn (weak_of windows) (Stands l (weak_of windows) choices) c
+pub shows_all : (l : Layout) (windows : List WeakRun) → IsNarrow (weak_of windows) → (choices : List (List (List ℕ))) (c : Image) → ShowsPages l windows choices c → AllWorn (weak_of windows) (StandsShown l (weak_of windows) choices) c
 shows_all l windows narrow choices c shows = λ j w.
     let at = shows_still l windows narrow choices c j w shows in
     record {
@@ -100,7 +100,7 @@ shows_all l windows narrow choices c shows = λ j w.
       shows = shows.shows j w;
     }
 
-module _ (l : Layout) (weak : Sectors) (choices : List (List (List ℕ))) (c : Image) (all : AllWorn weak (Stands l weak choices) c) (says : SaysTurned l c) (j : Image) (w : IsWorn weak c j) where
+module _ (l : Layout) (weak : Sectors) (choices : List (List (List ℕ))) (c : Image) (all : AllWorn weak (StandsShown l weak choices) c) (says : SaysTurned l c) (j : Image) (w : IsWorn weak c j) where
   -- the root is worn, so what is logged is told by the image with it
   unlogged_without : (s : ℕ) → s < 8 → sector_at c s ≡ Whole (root_bytes (turned l)) → ((k : Image) → sector_at k s ≡ Whole (root_bytes (turned l)) → SaysTurned l k) → LogsNothing l j
   unlogged_without s head root say =
@@ -122,7 +122,7 @@ module _ (l : Layout) (weak : Sectors) (choices : List (List (List ℕ))) (c : I
 pub both_same : (l : Layout) (windows : List WeakRun) (c j : Image) → IsReadable l windows c → ((s : ℕ) → s < 8 → sector_at j s ≡ sector_at c s) → SaysTurned l j → BearsLast (turned l) windows
 both_same l windows c j readable head says = (readable.either (says_same l c j head says)).borne
 
-pub all_shows : (l : Layout) (windows : List WeakRun) → BearsLast l windows → (choices : List (List (List ℕ))) (c : Image) → (SaysTurned l c → BearsLast (turned l) windows) → AllWorn (weak_of windows) (Stands l (weak_of windows) choices) c → ShowsPages l windows choices c
+pub all_shows : (l : Layout) (windows : List WeakRun) → BearsLast l windows → (choices : List (List (List ℕ))) (c : Image) → (SaysTurned l c → BearsLast (turned l) windows) → AllWorn (weak_of windows) (StandsShown l (weak_of windows) choices) c → ShowsPages l windows choices c
 all_shows l windows borne choices c both all =
     let here = all c (worn_refl (weak_of windows) c) in
     record {

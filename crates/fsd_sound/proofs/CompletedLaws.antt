@@ -20,15 +20,15 @@ use Rattle.fsd_log.specs.Scan.{Placed, place_of, newer_of}
 use Rattle.fsd_log.specs.Images.{last_image}
 use Rattle.fsd_log.proofs.PlaceLaws.{place_inside, place_from}
 use Rattle.fsd_log.proofs.WalkLaws.{stamp_of as stamp_at}
-use Rattle.fsd_files.specs.Disk.{Image, Sectors, Has, bytes_of, either_copy}
+use Rattle.fsd_files.specs.Disk.{Image, Sectors, Has, bytes_of, first_whole}
 use Rattle.fsd_sound.specs.Anchors.{anchor_at, anchor_of, EachAnchor}
 use Rattle.fsd_sound.specs.Homes.{home_of}
 use Rattle.fsd_sound.specs.Laid.{IsLaid}
 use Rattle.fsd_sound.specs.Shown.{records_by, newest, each_of, all_pages, shown_by, shown}
 use Rattle.fsd_sound.specs.Sound.{EachStamp, SaysTurned, on_disk, disk_records, ScansAgree, ShowsOne, ShowsPages, weak_of}
 use Rattle.fsd_sound.proofs.LogPlaces.{IsRecord, scan_records}
-use Rattle.fsd_sound.specs.Logged.{Follows}
-use Rattle.fsd_sound.specs.Stands.{Stands}
+use Rattle.fsd_sound.specs.Logged.{KeepsLogged}
+use Rattle.fsd_sound.specs.Stands.{StandsShown}
 use Rattle.fsd_sound.specs.Windows.{IsNarrow, IsApart}
 use Rattle.fsd_sound.proofs.AnchorFacts.{IsAnchor}
 use Rattle.fsd_log.proofs.RobustLaws.{rows_of}
@@ -67,10 +67,10 @@ module _ (l : Layout) (small : l.pages ≤ 2 ^ 32) (windows : List WeakRun) (apa
   narrow : IsNarrow (weak_of windows)
   narrow = apart_narrow l windows apart
 
-  all : AllWorn (weak_of windows) (Stands l (weak_of windows) choices) c
+  all : AllWorn (weak_of windows) (StandsShown l (weak_of windows) choices) c
   all = shows_all l windows narrow choices c shows
 
-  here : Stands l (weak_of windows) choices c
+  here : StandsShown l (weak_of windows) choices c
   here = all c (worn_refl (weak_of windows) c)
 
   not_nil_behind : (f xs : List Placed) (x : Placed) → f ++ (xs ++ x ∷ []) ≡ [] → ⊥
@@ -257,7 +257,7 @@ module _ (l : Layout) (small : l.pages ≤ 2 ^ 32) (windows : List WeakRun) (apa
       taken_keeps = newer_one (Keeps y z) (anchor_at z 8) (anchor_at z 12) each_keeps.0 each_keeps.1
 
       home_same : (page : ℕ) → home_of l z page ≡ home_of l y page
-      home_same page = λ u. either_copy (bytes_of (outside (home_a l page) (inr (omega arith)) u)) (bytes_of (outside (home_b l page) (inr (omega arith)) u))
+      home_same page = λ u. first_whole (bytes_of (outside (home_a l page) (inr (omega arith)) u)) (bytes_of (outside (home_b l page) (inr (omega arith)) u))
 
       shown_same : shown l z ≡ shown l y
       shown_same = by_anchor (anchor_of z) refl taken_keeps
@@ -271,7 +271,7 @@ module _ (l : Layout) (small : l.pages ≤ 2 ^ 32) (windows : List WeakRun) (apa
               (all_in_range (λ page. newest l z (records_by l y b) page ≡ newest l y (records_by l y b) page) 0 l.pages (λ page ge lt. ap (option_or (last_image page (records_by l y b))) (home_same page)))
               ∙ sym (ap (option_and_then (shown_by l y)) (sym taken_y ∙ is))
 
-      pub completed_stands : Stands l (weak_of windows) choices i → Stands l (weak_of windows) choices (with_sector i s x)
+      pub completed_stands : StandsShown l (weak_of windows) choices i → StandsShown l (weak_of windows) choices (with_sector i s x)
       completed_stands stands =
           let on_y = all y y_is_worn in
           let z_s : sector_at z s ≡ Whole x = with_same i s x (omega (arith, s_to, long_i)) in
@@ -314,13 +314,13 @@ module _ (l : Layout) (small : l.pages ≤ 2 ^ 32) (windows : List WeakRun) (apa
           }
 
     -- one copy more
-    pub completed_one : Follows l windows choices t c (with_sector c s x)
+    pub completed_one : KeepsLogged l windows choices t c (with_sector c s x)
     completed_one = ⊎_elim
         (λ whole.
         let back : with_sector c f x ≡ c = set_back c f x (omega (arith, long, f_to whole c (worn_refl (weak_of windows) c))) whole in
         record {
           shows = all_shows l windows shows.readable.borne choices (with_sector c s x) (λ says. absurd (is_logged (says_same l c (with_sector c s x) (λ p lt. with_other c s p x (λ e. let from = s_from whole c (worn_refl (weak_of windows) c) in omega (arith, e, lt, from))) says)))
-              (all_over (weak_of windows) (Stands l (weak_of windows) choices) c s x (omega (arith, long, s_to whole c (worn_refl (weak_of windows) c))) all
+              (all_over (weak_of windows) (StandsShown l (weak_of windows) choices) c s x (omega (arith, long, s_to whole c (worn_refl (weak_of windows) c))) all
               (λ i worn there stands. completed_stands whole i worn stands));
           taken = taken_y whole c (worn_refl (weak_of windows) c) ∙ ap anchor_of back ∙ taken;
           records = (keeps whole c (worn_refl (weak_of windows) c) t taken_last).records ∙ ap (λ (v : Image). records_by l v t) back;

@@ -23,7 +23,7 @@ use Rattle.fsd_sound.proofs.SoundLaws.{shows_still}
 use Rattle.fsd_sound.proofs.WindowLaws.{open_is_weak, apart_narrow}
 use Rattle.fsd_sound.proofs.LogPlaces.{IsRecord, scan_records}
 use Rattle.fsd_log.specs.Copies.{Copies, copies_count, AreCopiesOf, AreLastCopies}
-use Rattle.fsd_sound.specs.Logged.{copies_of, Follows}
+use Rattle.fsd_sound.specs.Logged.{copies_of, KeepsLogged}
 use Rattle.fsd_sound.specs.Windows.{IsApart}
 use Rattle.fsd_log.proofs.RobustLaws.{length_more, get_left, get_last}
 use Rattle.fsd_sound.proofs.CoverLaws.{ends_so}
@@ -43,7 +43,7 @@ last_copies l epoch third (q ∷ p ∷ front) r c of = last_copies l epoch third
 
 module _ (l : Layout) (small : l.pages ≤ 2 ^ 32) (windows : List WeakRun) (apart : IsApart (gap_of l) (weak_of windows)) (choices : List (List (List ℕ))) (c : Image) (shows : ShowsPages l windows choices c)
     (t : Anchor) (taken : anchor_of c ≡ Some t) (long : 16 + 3 * l.third ≤ length c) (copies : Copies) where
-  self : Follows l windows choices t c c
+  self : KeepsLogged l windows choices t c c
   self = record { shows = shows; taken = taken; records = refl }
 
   module _ (front : List Placed) (r : Placed) (joined : records_by l c t ≡ front ++ r ∷ []) (of : AreCopiesOf l t.epoch t.third r copies) where
@@ -67,7 +67,7 @@ module _ (l : Layout) (small : l.pages ≤ 2 ^ 32) (windows : List WeakRun) (apa
           ap (λ (m : ℕ). get_or (copies_of t r) m []) here ∙ get_last r.entry.images (end_bytes (record { epoch = t.epoch; number = r.entry.number }) (length r.entry.pages)) ∙ sym of.copies.end ∙ ap (slice_of copies.bytes) there
     ]
 
-    pub laying : (m : ℕ) → m ≤ length r.entry.pages + 1 → Follows l windows choices t c (stand c copies.place copies.bytes m)
+    pub laying : (m : ℕ) → m ≤ length r.entry.pages + 1 → KeepsLogged l windows choices t c (stand c copies.place copies.bytes m)
     laying zero le = self
     laying (suc m) le =
         let so_far = laying m (omega arith) in
@@ -76,7 +76,7 @@ module _ (l : Layout) (small : l.pages ≤ 2 ^ 32) (windows : List WeakRun) (apa
         let place : place_of l t.third r.at + (4 + 2 * (gap_of l) + length r.entry.pages + m) ≡ copies.place + m = omega (arith, of.place) in
         let same : with_sector (stand c copies.place copies.bytes m) (place_of l t.third r.at + (4 + 2 * (gap_of l) + length r.entry.pages + m)) (get_or (copies_of t r) m []) ≡ stand c copies.place copies.bytes (suc m) =
         λ u. with_sector (stand c copies.place copies.bytes m) (place u) (row_is m (omega arith) u) in
-        let here : Follows l windows choices t (stand c copies.place copies.bytes m) (stand c copies.place copies.bytes (suc m)) = subst (Follows l windows choices t (stand c copies.place copies.bytes m)) same step in
+        let here : KeepsLogged l windows choices t (stand c copies.place copies.bytes m) (stand c copies.place copies.bytes (suc m)) = subst (KeepsLogged l windows choices t (stand c copies.place copies.bytes m)) same step in
         record { shows = here.shows; taken = here.taken; records = here.records ∙ so_far.records }
 
     -- at the end they stand
@@ -91,12 +91,12 @@ module _ (l : Layout) (small : l.pages ≤ 2 ^ 32) (windows : List WeakRun) (apa
         inl (ap (sector_at (stand c copies.place copies.bytes (copies_count copies))) (sym place) ∙ stand_in c copies.place copies.bytes (copies_count copies) k within room ∙ ap (λ (b : List ℕ). Whole b) (sym (row_is k le))))
 
   -- with or without a last record
-  pub completing : AreLastCopies l t.epoch t.third (records_by l c t) copies → (m : ℕ) → m ≤ copies_count copies → Follows l windows choices t c (stand c copies.place copies.bytes m)
+  pub completing : AreLastCopies l t.epoch t.third (records_by l c t) copies → (m : ℕ) → m ≤ copies_count copies → KeepsLogged l windows choices t c (stand c copies.place copies.bytes m)
   completing of m le = ⊎_elim
       (λ none.
       let empty : copies.bytes ≡ [] = subst (λ (rs : List Placed). AreLastCopies l t.epoch t.third rs copies) none of in
       let nothing : m ≡ 0 = omega (arith, le, ap (λ (b : List ℕ). length b) empty) in
-      subst (λ (k : ℕ). Follows l windows choices t c (stand c copies.place copies.bytes k)) (sym nothing) self)
+      subst (λ (k : ℕ). KeepsLogged l windows choices t c (stand c copies.place copies.bytes k)) (sym nothing) self)
       (λ last.
       let is = last_copies l t.epoch t.third last.0 last.1 copies (subst (λ (rs : List Placed). AreLastCopies l t.epoch t.third rs copies) last.2 of) in
       laying last.0 last.1 last.2 is m (omega (arith, le, count_is last.0 last.1 last.2 is)))

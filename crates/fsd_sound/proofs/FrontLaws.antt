@@ -12,7 +12,7 @@ use Rattle.sector_disk.specs.declared.sector.Sector.TheVariants.{Damaged}
 use Rattle.sector_disk.specs.Image.{sector_at, IsWorn}
 use Rattle.fsd_log.specs.Scan.{Placed}
 use Rattle.fsd_log.specs.Images.{last_image}
-use Rattle.fsd_files.specs.Disk.{Image, Sectors, bytes_of, either_copy}
+use Rattle.fsd_files.specs.Disk.{Image, Sectors, bytes_of, first_whole}
 use Rattle.fsd_sound.specs.Anchors.{anchor_of}
 use Rattle.fsd_sound.specs.Homes.{home_of}
 use Rattle.fsd_sound.specs.Shown.{records_by, newest, each_of, all_pages, shown_by, shown}
@@ -42,7 +42,7 @@ module _ (l : Layout) (i j : Image) (same : SameFront l i j) where
   front_log = log_same l i j log_front
 
   home_same : (page : ℕ) → page < l.pages → home_of l j page ≡ home_of l i page
-  home_same page lt = λ k. either_copy (bytes_of (same (home_a l page) (omega (arith, lt)) k)) (bytes_of (same (home_b l page) (omega (arith, lt)) k))
+  home_same page lt = λ k. first_whole (bytes_of (same (home_a l page) (omega (arith, lt)) k)) (bytes_of (same (home_b l page) (omega (arith, lt)) k))
 
   shown_by_same : (a : Anchor) → a.third ≤ 2 → shown_by l j a ≡ shown_by l i a
   shown_by_same a low =

@@ -10,7 +10,7 @@ use Rattle.sector_disk.specs.declared.sector.Sector.TheVariants.{Whole}
 use Rattle.sector_disk.specs.Image.{sector_at}
 use Rattle.fsd_log.specs.Borne.{borne_by}
 use Rattle.fsd_log.specs.Scan.{Placed, Walked, IsLog, start, tape}
-use Rattle.fsd_files.specs.Disk.{Image, Sectors, SectorWorn, bytes_of, bytes_at, either_copy}
+use Rattle.fsd_files.specs.Disk.{Image, Sectors, SectorWorn, bytes_of, bytes_at, first_whole}
 use Rattle.fsd_sound.specs.Anchors.{fresh_anchor}
 use Rattle.fsd_sound.specs.Homes.{home_of}
 use Rattle.fsd_sound.specs.Shown.{records_by, newest, all_pages, shown_by}
@@ -23,9 +23,9 @@ use Rattle.fsd_sound.proofs.SectorFacts.{same_bytes, whole_before}
 
 -- what is read of either copy, of which wear reaches one at most
 pub either_reads : (bytes : List ℕ) (b c : Bool) (x y x' y' : Sector) → (IsTrue b → IsTrue c → ⊥) → SectorWorn b x x' → SectorWorn c y y' → x ≡ Whole bytes → y ≡ Whole bytes
-    → either_copy (bytes_of x') (bytes_of y') ≡ Some bytes
-either_reads bytes b c x y x' y' apart (inl e) v w z = ap (λ (s : Sector). either_copy (bytes_of s) (bytes_of y')) (e ∙ w)
-either_reads bytes b c x y x' y' apart (inr d) (inl f) w z = ap (λ (s : Sector). either_copy (bytes_of s) (bytes_of y')) d.1 ∙ ap bytes_of (f ∙ z)
+    → first_whole (bytes_of x') (bytes_of y') ≡ Some bytes
+either_reads bytes b c x y x' y' apart (inl e) v w z = ap (λ (s : Sector). first_whole (bytes_of s) (bytes_of y')) (e ∙ w)
+either_reads bytes b c x y x' y' apart (inr d) (inl f) w z = ap (λ (s : Sector). first_whole (bytes_of s) (bytes_of y')) d.1 ∙ ap bytes_of (f ∙ z)
 either_reads bytes b c x y x' y' apart (inr d) (inr g) w z = absurd (apart d.0 g.0)
 
 pub if_more : {A : Type 0} (o : Option A) (P Q : A → Type 0) → ((x : A) → P x → Q x) → IfSome o P → IfSome o Q

@@ -12,7 +12,7 @@ use Rattle.sector_disk.specs.declared.sector.WeakRun.{WeakRun}
 use Rattle.sector_disk.specs.Image.{sector_at}
 use Rattle.fsd_files.specs.Disk.{Has, Image, Sectors, in_runs}
 use Rattle.fsd_files.specs.Files.{Change, Files, after}
-use Rattle.fsd_files.specs.Kept.{Describes, Kept, data_sectors, slices}
+use Rattle.fsd_files.specs.Kept.{Describes, Kept, data_sectors, filled_slices}
 use Rattle.fsd_files.specs.Volume.{is_in, plans_of}
 use Rattle.fsd_files.specs.Waiting.{is_leader}
 use Rattle.fsd_files.proofs.KeptLaws.{has_on}
@@ -37,7 +37,7 @@ module _ (i j : Image) (s : ℕ) (same : (t : ℕ) → t ≢ s → sector_at j t
   kept_beside hurt [] (e ∷ entries) differ kept = absurd kept
   kept_beside hurt (f ∷ files) [] differ kept = absurd kept
   kept_beside hurt (f ∷ files) (e ∷ entries) differ kept = (
-    zip_same hurt i j (slices f.1.bytes) (data_sectors e.runs) (λ t there. same t (differ.0 t there)) kept.0,
+    zip_same hurt i j (filled_slices f.1.bytes) (data_sectors e.runs) (λ t there. same t (differ.0 t there)) kept.0,
     kept_beside hurt files entries differ.1 kept.1,
   )
 

@@ -18,7 +18,6 @@ pub mod LaidLaws
 pub mod LeaderLaws
 pub mod LogPlaces
 pub mod MendLaws
-pub mod MendedMoments
 pub mod MoreLaws
 pub mod MountedLaws
 pub mod MountedWearLaws

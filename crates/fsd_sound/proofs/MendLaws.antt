@@ -10,7 +10,7 @@ use Rattle.sector_disk.specs.declared.sector.Sector.{Sector}
 use Rattle.sector_disk.specs.declared.sector.Sector.TheVariants.{Whole, Damaged}
 use Rattle.sector_disk.specs.Image.{sector_at, with_sector, IsWorn, AllWorn}
 use Rattle.fsd_log.specs.Images.{last_image}
-use Rattle.fsd_files.specs.Disk.{Image, Sectors, bytes_of, either_copy}
+use Rattle.fsd_files.specs.Disk.{Image, Sectors, bytes_of, first_whole}
 use Rattle.fsd_sound.specs.Anchors.{anchor_at, EachAnchor}
 use Rattle.fsd_sound.specs.Homes.{home_of}
 use Rattle.fsd_sound.specs.Shown.{records_by}
@@ -19,7 +19,7 @@ use Rattle.volume_layout.proofs.TurnedLaws.{roots_differ}
 use Rattle.fsd_sound.specs.Sound.{IfWhole, IsRootOf, SaysTurned, HasRoots, IsEither, ShowsPages, weak_of}
 use Rattle.fsd_sound.specs.Homes.{AreTwins}
 use Rattle.fsd_sound.specs.Logged.{IsLogged}
-use Rattle.fsd_sound.specs.Stands.{Stands}
+use Rattle.fsd_sound.specs.Stands.{StandsShown}
 use Rattle.fsd_sound.specs.Windows.{IsNarrow}
 use Rattle.fsd_sound.proofs.CommuteLaws.{same_or, with_same, with_other, all_over, shows_all, both_same, all_shows}
 use Rattle.fsd_sound.proofs.AlikeLaws.{records_same, each_same}
@@ -53,7 +53,7 @@ module _ (l : Layout) (weak : Sectors) (choices : List (List (List ℕ))) (page 
   logged_shows windows is narrow c room logged shows =
       all_shows l windows shows.readable.borne choices (with_sector c s bytes)
       (both_same l windows c (with_sector c s bytes) shows.readable (λ p head. with_other c s p bytes (λ e. ⊎_elim (λ here. omega (arith, here, e, head)) (λ here. omega (arith, here, e, head)) at)))
-      (all_over (weak_of windows) (Stands l (weak_of windows) choices) c s bytes room (shows_all l windows narrow choices c shows)
+      (all_over (weak_of windows) (StandsShown l (weak_of windows) choices) c s bytes room (shows_all l windows narrow choices c shows)
       (λ i worn there stands. rehomed_stands l (weak_of windows) choices page i (with_sector i s bytes) (logged_rehomes i (omega (arith, room, worn.size)) (logged i worn)) stands))
 
 -- ---- a page whose other home is whole
@@ -63,18 +63,18 @@ twins_apart : (l : Layout) (weak : Sectors) (page s t : ℕ) → IsNarrow weak �
 twins_apart l weak page s t narrow (inl at) hs ht = narrow s t (omega (arith, at.0, at.1)) hs ht
 twins_apart l weak page s t narrow (inr at) hs ht = narrow t s (omega (arith, at.0, at.1)) ht hs
 
-either_first : (x y : Sector) (bytes : List ℕ) → x ≡ Whole bytes → either_copy (bytes_of x) (bytes_of y) ≡ Some bytes
-either_first x y bytes is = ap (λ (s : Sector). either_copy (bytes_of s) (bytes_of y)) is
+either_first : (x y : Sector) (bytes : List ℕ) → x ≡ Whole bytes → first_whole (bytes_of x) (bytes_of y) ≡ Some bytes
+either_first x y bytes is = ap (λ (s : Sector). first_whole (bytes_of s) (bytes_of y)) is
 
-either_second : (x y : Sector) (bytes : List ℕ) → x ≡ Damaged → y ≡ Whole bytes → either_copy (bytes_of x) (bytes_of y) ≡ Some bytes
-either_second x y bytes hurt is = ap (λ (s : Sector). either_copy (bytes_of s) (bytes_of y)) hurt ∙ ap bytes_of is
+either_second : (x y : Sector) (bytes : List ℕ) → x ≡ Damaged → y ≡ Whole bytes → first_whole (bytes_of x) (bytes_of y) ≡ Some bytes
+either_second x y bytes hurt is = ap (λ (s : Sector). first_whole (bytes_of s) (bytes_of y)) hurt ∙ ap bytes_of is
 
 module _ (l : Layout) (windows : List WeakRun) (narrow : IsNarrow (weak_of windows)) (choices : List (List (List ℕ))) (page s t : ℕ) (lt : page < l.pages) (at : AreTwins l page s t) (c : Image)
     (bytes : List ℕ) (whole : sector_at c t ≡ Whole bytes) (room : s < length c) (room_t : t < length c) (shows : ShowsPages l windows choices c) where
   abbrev weak : Sectors
   weak = weak_of windows
 
-  all : AllWorn (weak_of windows) (Stands l (weak_of windows) choices) c
+  all : AllWorn (weak_of windows) (StandsShown l (weak_of windows) choices) c
   all = shows_all l windows narrow choices c shows
 
   s_not_t : s ≢ t
@@ -137,7 +137,7 @@ module _ (l : Layout) (windows : List WeakRun) (narrow : IsNarrow (weak_of windo
         let before : sector_at i s ≡ Whole bytes = there ∙ is ∙ ap (λ (b : List ℕ). Whole b) same in
         let as_was : (p : ℕ) → sector_at (with_sector i s bytes) p ≡ sector_at i p = λ p. ⊎_elim
         (λ here. ap (sector_at (with_sector i s bytes)) here ∙ new_s ∙ sym before ∙ ap (sector_at i) (sym here)) (λ other. with_other i s p bytes other) (same_or p s) in
-        λ k. either_copy (bytes_of (as_was (home_a l page) k)) (bytes_of (as_was (home_b l page) k))
+        λ k. first_whole (bytes_of (as_was (home_a l page) k)) (bytes_of (as_was (home_b l page) k))
 
     -- where this home was damaged the other serves
     home_hurt : sector_at c s ≡ Damaged → home_of l (with_sector i s bytes) page ≡ home_of l i page
@@ -188,7 +188,7 @@ module _ (l : Layout) (windows : List WeakRun) (narrow : IsNarrow (weak_of windo
   mended_shows =
       all_shows l windows shows.readable.borne choices (with_sector c s bytes)
       (both_same l windows c (with_sector c s bytes) shows.readable (λ p head. with_other c s p bytes (λ e. elim at [ inl a ↦ omega (arith, a.0, e, head) | inr b ↦ omega (arith, b.0, e, head) ])))
-      (all_over (weak_of windows) (Stands l (weak_of windows) choices) c s bytes room all
+      (all_over (weak_of windows) (StandsShown l (weak_of windows) choices) c s bytes room all
       (λ i worn there stands. rehomed_stands l (weak_of windows) choices page i (with_sector i s bytes) (mended_rehomes i worn there) stands))
 
 -- ---- a root
@@ -232,7 +232,7 @@ root_shows : (l : Layout) (windows : List WeakRun) → IsNarrow (weak_of windows
 root_shows l windows narrow choices s bytes c is turns at room shows =
     let may : SaysTurned l (with_sector c s bytes) → IsEither l windows c = λ says. ⊎_elim shows.readable.either turns (says_rooted l (weak_of windows) c s at bytes is room says) in
     all_shows l windows shows.readable.borne choices (with_sector c s bytes) (λ says. (may says).borne)
-    (all_over (weak_of windows) (Stands l (weak_of windows) choices) c s bytes room (shows_all l windows narrow choices c shows)
+    (all_over (weak_of windows) (StandsShown l (weak_of windows) choices) c s bytes room (shows_all l windows narrow choices c shows)
     (λ i worn there stands.
     let inside : s < length i = omega (arith, room, worn.size) in
     rooted_stands l (weak_of windows) choices i (with_sector i s bytes) (behind_root l (weak_of windows) i s at bytes is inside) (rooted_roots l (weak_of windows) i s at bytes is inside stands.roots)

@@ -26,7 +26,7 @@ use Rattle.fsd_table.specs.Table.{Telling, told_in}
 use Rattle.fsd_sound.specs.Shown.{shown, told}
 use Rattle.fsd_sound.specs.Sound.{ShowsOne, ShowsPages, IsSound, Tells, weak_of}
 use Rattle.sector_disk.proofs.Wear.{worn_refl}
-use Rattle.fsd_sound.specs.Mounted.{AgreeOutside, image_at, Mounted, StandsOver, HasForced, HasOpen, Wrote, IsMounted, SameStays, SameTaken, SameData, ChangesTo, IsSameEpoch, with_forced, IsFresh, telling_of, forces_by_itself}
+use Rattle.fsd_sound.specs.Mounted.{AgreeOutside, image_at, Mounted, StandsOver, HasForced, HasOpen, Wrote, IsMounted, SameStays, SameTaken, SameData, ChangesTo, IsSameEpoch, with_forced, IsFreshlyMounted, telling_of, forces_by_itself}
 use Rattle.fsd_files.specs.Waiting.{IsSpaced, is_kept_alone, is_let_go}
 use Rattle.fsd_files.proofs.WaitLaws.{version_stays, forced_is_spaced, let_go_free, open_taken, open_in_area, idle_is_spaced}
 use Rattle.fsd_sound.proofs.OpenLaws.{open_on, open_worn}
@@ -315,7 +315,7 @@ change_mounted m n windows h f i c is to =
 -- ---- a mount
 
 -- nothing waits right after a mount
-pub fresh_mounted : (m : Mounted) (windows : List WeakRun) (h : List Change) (i : Image) → IsFresh h windows i m → IsMounted m windows h (length h) i
+pub fresh_mounted : (m : Mounted) (windows : List WeakRun) (h : List Change) (i : Image) → IsFreshlyMounted h windows i m → IsMounted m windows h (length h) i
 fresh_mounted m windows h i fresh =
     let all : take (length h) h ≡ h = take_all (length h) h (omega arith) in
     record {
@@ -396,7 +396,7 @@ two_wait m windows h f i is many =
 
 -- ---- how many pages
 
-lists_long : (files : Files) (entries : List Entry) → Lists files entries → length entries ≡ length files
+pub lists_long : (files : Files) (entries : List Entry) → Lists files entries → length entries ≡ length files
 lists_long [] [] lists = refl
 lists_long [] (e ∷ entries) lists = absurd lists
 lists_long (x ∷ files) [] lists = absurd lists

@@ -16,7 +16,7 @@ use Rattle.sector_disk.specs.declared.sector.Sector.TheVariants.{Whole, Damaged}
 use Rattle.sector_disk.specs.Image.{sector_at}
 use Rattle.fsd_log.specs.Scan.{Placed, Walked, newer_of, is_newer}
 use Rattle.fsd_log.specs.Images.{last_image}
-use Rattle.fsd_files.specs.Disk.{Image, Sectors, bytes_of, either_copy}
+use Rattle.fsd_files.specs.Disk.{Image, Sectors, bytes_of, first_whole}
 use Rattle.fsd_sound.specs.Anchors.{anchor_at, anchor_of, EachAnchor}
 use Rattle.fsd_sound.specs.Homes.{home_of}
 use Rattle.fsd_sound.specs.Laid.{HasOwnRoots, IsLaid}
@@ -24,7 +24,7 @@ use Rattle.fsd_sound.specs.Shown.{records_by, newest, each_of, all_pages, shown_
 use Rattle.fsd_sound.specs.Sound.{IfWhole, EachStamp, HasAnchors, HasRoots, on_disk, disk_records, IsSuffix, ScansAgree, ShowsOne}
 use Rattle.fsd_sound.proofs.EachLaws.{all_in_range}
 use Rattle.fsd_sound.proofs.LogPlaces.{SameLog, same_scan, scan_records, laid_same}
-use Rattle.fsd_sound.specs.Stands.{Stands}
+use Rattle.fsd_sound.specs.Stands.{StandsShown}
 use Rattle.fsd_sound.proofs.CommuteLaws.{same_or}
 use Rattle.fsd_sound.proofs.SaidLaws.{own_roots_say, says_same, some_same}
 use Rattle.fsd_sound.proofs.SectorFacts.{not_damaged}
@@ -78,7 +78,7 @@ anchor_found a i s third some last first small stands =
 abbrev pub StaysOrHas : Image → List ℕ → Image → ℕ → Type 0
 StaysOrHas i bytes j s = (sector_at j s ≡ sector_at i s) ⊎ (sector_at j s ≡ Whole bytes)
 
-module _ (l : Layout) (old new : Anchor) (rs rest : List Placed) (pages : List (List ℕ)) (weak : Sectors) (i : Image) (may : MayMoveOn l old new rs rest pages weak i) (stands : Stands l weak (pages ∷ []) i)
+module _ (l : Layout) (old new : Anchor) (rs rest : List Placed) (pages : List (List ℕ)) (weak : Sectors) (i : Image) (may : MayMoveOn l old new rs rest pages weak i) (stands : StandsShown l weak (pages ∷ []) i)
     (j : Image) (size : length j ≡ length i) (same : (s : ℕ) → s ≢ 8 → s ≢ 12 → sector_at j s ≡ sector_at i s) (one : StaysOrHas i (anchor_bytes new) j 8) (two : StaysOrHas i (anchor_bytes new) j 12)
     (some : (sector_at j 8 ≡ Whole (anchor_bytes new)) ⊎ (sector_at j 12 ≡ Whole (anchor_bytes new))) where
   abbrev later : IsLater old new
@@ -194,7 +194,7 @@ module _ (l : Layout) (old new : Anchor) (rs rest : List Placed) (pages : List (
   home_b_same page = behind (home_b l page) (omega arith)
 
   home_same : (page : ℕ) → home_of l j page ≡ home_of l i page
-  home_same page = λ k. either_copy (bytes_of (home_a_same page k)) (bytes_of (home_b_same page k))
+  home_same page = λ k. first_whole (bytes_of (home_a_same page k)) (bytes_of (home_b_same page k))
 
   newest_same : (page : ℕ) → page < l.pages → newest l j (records_by l j new) page ≡ newest l i (records_by l i old) page
   newest_same page lt = ap (λ (r : List Placed). newest l j r page) records_new ∙ by_rest (last_image page rest) refl ∙ ap (λ (r : List Placed). newest l i r page) (sym may.records)
@@ -250,7 +250,7 @@ module _ (l : Layout) (old new : Anchor) (rs rest : List Placed) (pages : List (
     twins = λ p twin hurt. stands.roots.twins p twin (hurt_was p hurt);
   }
 
-  pub moved_stands : Stands l weak (pages ∷ []) j
+  pub moved_stands : StandsShown l weak (pages ∷ []) j
   moved_stands = record {
     roots = roots_now;
     empty = λ says. absurd (own_roots_say l weak i may.roots (says_same l i j front says));

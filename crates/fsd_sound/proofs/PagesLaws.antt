@@ -11,7 +11,7 @@ use Rattle.sector_disk.specs.declared.sector.Sector.TheVariants.{Whole, Damaged}
 use Rattle.sector_disk.specs.Image.{sector_at}
 use Rattle.sector_disk.proofs.Wear.{worn_refl}
 use Rattle.fsd_log.specs.Images.{last_image}
-use Rattle.fsd_files.specs.Disk.{Image, bytes_of, bytes_at, either_copy}
+use Rattle.fsd_files.specs.Disk.{Image, bytes_of, bytes_at, first_whole}
 use Rattle.fsd_sound.specs.Anchors.{anchor_at, anchor_of}
 use Rattle.fsd_sound.specs.Homes.{home_of}
 use Rattle.fsd_sound.specs.Shown.{records_by, newest, each_of, all_pages, shown_by, shown}
@@ -47,9 +47,9 @@ module _ (l : Layout) (i : Image) (t : Anchor) (taken : anchor_of i ≡ Some t) 
           subst (λ (o : Option Anchor). IfSome o P) taken (newer_one P (anchor_at i 8) (anchor_at i 12) homes.0 homes.1) page lt none
 
       by_first : (s : Sector) → sector_at i (home_a l page) ≡ s → sector_at i (home_b l page) ≡ Whole x → home_of l i page ≡ Some x
-      by_first (Whole u) first second = ap (λ (s : Sector). either_copy (bytes_of s) (bytes_at i (home_b l page))) first ∙ ap (λ (v : List ℕ). Some v) (alike u x first second)
-      by_first Damaged first second = ap (λ (s : Sector). either_copy (bytes_of s) (bytes_at i (home_b l page))) first ∙ ap bytes_of second
+      by_first (Whole u) first second = ap (λ (s : Sector). first_whole (bytes_of s) (bytes_at i (home_b l page))) first ∙ ap (λ (v : List ℕ). Some v) (alike u x first second)
+      by_first Damaged first second = ap (λ (s : Sector). first_whole (bytes_of s) (bytes_at i (home_b l page))) first ∙ ap bytes_of second
 
       at_home : (sector_at i (home_a l page) ≡ Whole x) ⊎ (sector_at i (home_b l page) ≡ Whole x) → home_of l i page ≡ Some x
-      at_home (inl first) = ap (λ (s : Sector). either_copy (bytes_of s) (bytes_at i (home_b l page))) first
+      at_home (inl first) = ap (λ (s : Sector). first_whole (bytes_of s) (bytes_at i (home_b l page))) first
       at_home (inr second) = by_first (sector_at i (home_a l page)) refl second

@@ -9,12 +9,12 @@ use Rattle.sector_disk.specs.declared.sector.Sector.TheVariants.{Whole, Damaged}
 use Rattle.sector_disk.specs.Image.{sector_at}
 use Rattle.fsd_log.specs.Scan.{Placed}
 use Rattle.fsd_log.specs.Images.{last_image}
-use Rattle.fsd_files.specs.Disk.{Image, Sectors, bytes_of, either_copy}
+use Rattle.fsd_files.specs.Disk.{Image, Sectors, bytes_of, first_whole}
 use Rattle.fsd_sound.specs.Anchors.{anchor_at, anchor_of, EachAnchor}
 use Rattle.fsd_sound.specs.Homes.{home_of}
 use Rattle.fsd_sound.specs.Shown.{records_by, newest, each_of, all_pages, shown_by, shown}
 use Rattle.fsd_sound.specs.Sound.{SaysTurned, HasRoots, LogsNothing, HasHomes, ShowsOne}
-use Rattle.fsd_sound.specs.Stands.{Stands}
+use Rattle.fsd_sound.specs.Stands.{StandsShown}
 use Rattle.fsd_sound.proofs.CommuteLaws.{same_or}
 use Rattle.fsd_sound.proofs.AlikeLaws.{taken_same, records_same, each_same, roots_same, anchors_same, has_log_same, unlogged_same}
 use Rattle.fsd_sound.proofs.AnchorFacts.{newer_one, taken_third, each_both}
@@ -56,7 +56,7 @@ module _ (l : Layout) (weak : Sectors) (choices : List (List (List ℕ))) (page 
   page_same a same q lt = ⊎_elim
       (λ here. newest_same (last_image q (records_by l i a)) (home_of l j q) (home_of l i q)
       (λ none. ap (home_of l j) here ∙ same (ap (λ p. last_image p (records_by l i a)) (sym here) ∙ none) ∙ ap (home_of l i) (sym here)))
-      (λ other. ap (option_or (last_image q (records_by l i a))) (λ k. either_copy (bytes_of (other_a q lt other k)) (bytes_of (other_b q lt other k))))
+      (λ other. ap (option_or (last_image q (records_by l i a))) (λ k. first_whole (bytes_of (other_a q lt other k)) (bytes_of (other_b q lt other k))))
       (same_or q page)
 
   shown_same : shown l j ≡ shown l i
@@ -70,7 +70,7 @@ module _ (l : Layout) (weak : Sectors) (choices : List (List (List ℕ))) (page 
           ∙ each_of_same (newest l j (records_by l i a)) (newest l i (records_by l i a)) (all_pages l)
           (all_in_range (λ q. newest l j (records_by l i a) q ≡ newest l i (records_by l i a) q) 0 l.pages (λ q le lt. page_same a same q (omega (arith, lt))))
 
-  pub rehomed_stands : Stands l weak choices i → Stands l weak choices j
+  pub rehomed_stands : StandsShown l weak choices i → StandsShown l weak choices j
   rehomed_stands stands = record {
     roots = roots_same l i j in_front weak re.size (λ s twin hurt. re.unhurt s hurt) (λ s lt. re.others s (λ e. omega arith) (λ e. omega arith)) stands.roots;
     empty = λ says. unlogged_same l i j in_front (stands.empty (says_same l i j (λ s lt. re.others s (λ e. omega arith) (λ e. omega arith)) says));
@@ -88,7 +88,7 @@ module _ (l : Layout) (weak : Sectors) (choices : List (List (List ℕ))) (i j :
   behind_front s from lt = behind s from
 
   home_behind : (q : ℕ) → home_of l j q ≡ home_of l i q
-  home_behind q = λ k. either_copy (bytes_of (behind (home_a l q) (omega arith) k)) (bytes_of (behind (home_b l q) (omega arith) k))
+  home_behind q = λ k. first_whole (bytes_of (behind (home_a l q) (omega arith) k)) (bytes_of (behind (home_b l q) (omega arith) k))
 
   shown_behind : shown l j ≡ shown l i
   shown_behind = ap (λ o. option_and_then (shown_by l j) o) (taken_same l i j behind_front) ∙ by_anchor (anchor_of i) (taken_third i)
@@ -100,7 +100,7 @@ module _ (l : Layout) (weak : Sectors) (choices : List (List (List ℕ))) (i j :
           ∙ each_of_same (newest l j (records_by l i a)) (newest l i (records_by l i a)) (all_pages l)
           (all_in_range (λ q. newest l j (records_by l i a) q ≡ newest l i (records_by l i a) q) 0 l.pages (λ q le lt. ap (option_or (last_image q (records_by l i a))) (home_behind q)))
 
-  pub rooted_stands : HasRoots l weak j → (SaysTurned l j → LogsNothing l i) → Stands l weak choices i → Stands l weak choices j
+  pub rooted_stands : HasRoots l weak j → (SaysTurned l j → LogsNothing l i) → StandsShown l weak choices i → StandsShown l weak choices j
   rooted_stands roots empty stands = record {
     roots = roots;
     empty = λ says. unlogged_same l i j behind_front (empty says);

@@ -23,7 +23,7 @@ use Rattle.fsd_sound.proofs.LogPlaces.{SameLog, same_scan, scan_records, laid_sa
 use Rattle.fsd_log.proofs.AnchorLaws.{third_in}
 use Rattle.fsd_sound.proofs.FreshLaws.{anchor_stands}
 use Rattle.fsd_sound.specs.Begun.{IsHomed, AreOlder}
-use Rattle.fsd_sound.specs.Stands.{Stands}
+use Rattle.fsd_sound.specs.Stands.{StandsShown}
 use Rattle.fsd_sound.specs.Windows.{IsNarrow}
 use Rattle.fsd_sound.proofs.CommuteLaws.{same_or, with_same, with_other, all_over, shows_all, both_same, all_shows}
 use Rattle.fsd_sound.proofs.HomedLaws.{stamps_up, no_records, homes_alike, pages_are}
@@ -39,7 +39,7 @@ either_same true x = refl
 either_same false x = refl
 
 module _ (l : Layout) (epoch : ℕ) (pages : List (List ℕ)) (c : Image) (homed : IsHomed l epoch pages c) (weak : Sectors) (narrow : IsNarrow weak) (choices : List (List (List ℕ))) (chosen : Contains choices pages)
-    (s t : ℕ) (at : AreAnchorPlaces s t) (i : Image) (room : s < length i) (worn : IsWorn weak c i) (older : EachAnchor i (λ a. (a.epoch < epoch) ⊎ (a ≡ fresh_anchor epoch))) (stands : Stands l weak choices i) where
+    (s t : ℕ) (at : AreAnchorPlaces s t) (i : Image) (room : s < length i) (worn : IsWorn weak c i) (older : EachAnchor i (λ a. (a.epoch < epoch) ⊎ (a ≡ fresh_anchor epoch))) (stands : StandsShown l weak choices i) where
   abbrev j : Image
   j = with_sector i s (anchor_bytes (fresh_anchor epoch))
 
@@ -195,7 +195,7 @@ module _ (l : Layout) (epoch : ℕ) (pages : List (List ℕ)) (c : Image) (homed
         (on_other (λ a. EachStamp l i (λ stamp. stamp.epoch ≤ a.epoch)) (λ a. EachStamp l j (λ stamp. stamp.epoch ≤ a.epoch)) (λ b low stamps p within x is. stamps p within x (sym (log_same p within) ∙ is)) stands.anchors.epochs);
   }
 
-  pub renewed_stands : Stands l weak choices (with_sector i s (anchor_bytes (fresh_anchor epoch)))
+  pub renewed_stands : StandsShown l weak choices (with_sector i s (anchor_bytes (fresh_anchor epoch)))
   renewed_stands = record {
     roots = record {
       some = some_same l i j (head 0 (omega arith)) (head 4 (omega arith)) stands.roots.some;
@@ -227,5 +227,5 @@ pub renewed_shows : (l : Layout) (windows : List WeakRun) → IsNarrow (weak_of 
 renewed_shows l windows narrow choices epoch pages s t c at room homed older chosen shows =
     all_shows l windows shows.readable.borne choices (with_sector c s (anchor_bytes (fresh_anchor epoch)))
     (both_same l windows c (with_sector c s (anchor_bytes (fresh_anchor epoch))) shows.readable (λ p head. with_other c s p (anchor_bytes (fresh_anchor epoch)) (λ e. elim at [ inl o ↦ omega (arith, e, o.0, head) | inr o ↦ omega (arith, e, o.0, head) ])))
-    (all_over (weak_of windows) (Stands l (weak_of windows) choices) c s (anchor_bytes (fresh_anchor epoch)) room (shows_all l windows narrow choices c shows)
+    (all_over (weak_of windows) (StandsShown l (weak_of windows) choices) c s (anchor_bytes (fresh_anchor epoch)) room (shows_all l windows narrow choices c shows)
     (λ i worn there stands. renewed_stands l epoch pages c homed (weak_of windows) narrow choices chosen s t at i (omega (arith, room, worn.size)) worn (older_worn l (weak_of windows) epoch c i worn older) stands))

@@ -5,7 +5,7 @@ use Rattle.volume_layout.specs.Layout.{home_a, home_b}
 use Rattle.sector_disk.specs.declared.sector.Sector.TheVariants.{Whole}
 use Rattle.sector_disk.specs.Image.{sector_at, open_damage}
 use Rattle.sector_disk.specs.Machine.{Moment}
-use Rattle.fsd_files.specs.Disk.{Image, bytes_at, either_copy, Has}
+use Rattle.fsd_files.specs.Disk.{Image, bytes_at, first_whole, Has}
 
 -- The sectors are the two homes of a page.
 pub record AreHomesOf (l : Layout) (page a b : ℕ) : Type 0 where
@@ -18,7 +18,7 @@ AreTwins l page s t = ((s ≡ home_a l page) × (t ≡ home_b l page)) ⊎ ((s �
 
 -- the first of a page's two homes that is Whole
 abbrev pub home_of : Layout → Image → ℕ → Option (List ℕ)
-home_of l i page = either_copy (bytes_at i (home_a l page)) (bytes_at i (home_b l page))
+home_of l i page = first_whole (bytes_at i (home_a l page)) (bytes_at i (home_b l page))
 
 -- both homes of the page are whole, with these bytes
 abbrev pub IsAtHome : Layout → Image → (page : ℕ) → List ℕ → Type 0

@@ -25,7 +25,7 @@ abbrev pub copies_of : Anchor → Placed → List (List ℕ)
 copies_of a r = r.entry.images ++ end_bytes (record { epoch = a.epoch; number = r.entry.number }) (length r.entry.pages) ∷ []
 
 -- The image j shows one of the page lists too, and has the anchor and the records of i.
-pub record Follows (l : Layout) (windows : List WeakRun) (choices : List (List (List ℕ))) (t : Anchor) (i j : Image) : Type 0 where
+pub record KeepsLogged (l : Layout) (windows : List WeakRun) (choices : List (List (List ℕ))) (t : Anchor) (i j : Image) : Type 0 where
   pub shows : ShowsPages l windows choices j
   pub taken : anchor_of j ≡ Some t
   pub records : records_by l j t ≡ records_by l i t

@@ -50,6 +50,10 @@ pub record AreHomesOn (sectors : ℕ) (old : Moment) (a b : ℕ) : Type 0 where
 
 -- ---- either
 
+-- the sectors are the two copies of the root, of the anchor, or of a page at home
+abbrev pub AreTwinCopies : Layout → (a b : ℕ) → Type 0
+AreTwinCopies l a b = ((a ≡ 0) × (b ≡ 4)) ⊎ (((a ≡ 8) × (b ≡ 12)) ⊎ AreHomes l a b)
+
 -- the sectors are the two copies of one page of the image, in its log or at home, or of the root
 abbrev pub AreCopiesOn : ℕ → Moment → ℕ → ℕ → Type 0
 AreCopiesOn sectors old a b = AreLoggedOn sectors old a b ⊎ (AreHomesOn sectors old a b ⊎ ((a ≡ 0) × (b ≡ 4)))

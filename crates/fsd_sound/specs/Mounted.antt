@@ -131,7 +131,7 @@ pub record IsSameEpoch (old new : Anchor) : Type 0 where
   pub third : new.third ≤ 2
 
 -- The volume is what the pages in memory tell, and nothing waits.
-pub record IsFresh (h : List Change) (windows : List WeakRun) (i : Image) (m : Mounted) : Type 0 where
+pub record IsFreshlyMounted (h : List Change) (windows : List WeakRun) (i : Image) (m : Mounted) : Type 0 where
   pub records : List Placed
   pub over : StandsOver m.volume.layout m.anchor m.head records m.pages m.pages m.dirty windows i
   pub clean : m.dirty ≡ []

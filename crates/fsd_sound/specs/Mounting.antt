@@ -30,7 +30,7 @@ pub record IsVolume (sectors : ℕ) (i : Image) (l : Layout) (a : Anchor) : Type
   pub anchor : anchor_of i ≡ Some a
 
 -- An anchor of the last epoch is chosen.
-pub record IsWornOut (sectors : ℕ) (i : Image) : Type 0 where
+pub record HasLastEpoch (sectors : ℕ) (i : Image) : Type 0 where
   pub layout : Layout
   pub anchor : Anchor
   pub found : IsVolume sectors i layout anchor
@@ -48,7 +48,7 @@ pub record HasNextEpoch (sectors : ℕ) (i : Image) : Type 0 where
 abbrev pub RefusedFor : ℕ → Image → MountFault → Type 0
 RefusedFor sectors i NotVolume = root_of sectors i ≡ None
 RefusedFor sectors i NoAnchor = IsSome (root_of sectors i) × (anchor_of i ≡ None)
-RefusedFor sectors i WornOut = IsWornOut sectors i
+RefusedFor sectors i WornOut = HasLastEpoch sectors i
 RefusedFor sectors i (Lost a b) = HasNextEpoch sectors i
 RefusedFor sectors i (Device s) = ⊤
 RefusedFor sectors i Memory = ⊤

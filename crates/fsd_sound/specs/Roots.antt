@@ -2,7 +2,7 @@
 use Rattle.std.specs.Prelude.{ℕ, Option, Some, None, option_and_then, nat_le, if◌then◌else◌}
 use Rattle.volume_layout.specs.declared.layout.Layout.{Layout}
 use Rattle.volume_layout.specs.Root.{read_root}
-use Rattle.fsd_files.specs.Disk.{Image, bytes_at, either_copy}
+use Rattle.fsd_files.specs.Disk.{Image, bytes_at, first_whole}
 
 -- a root counts where so many sectors have room for its layout
 abbrev pub counted_root : ℕ → Layout → Option Layout
@@ -13,4 +13,4 @@ root_at sectors i s = option_and_then (counted_root sectors) (option_and_then re
 
 -- the root at 0, else that at 4
 abbrev pub root_of : ℕ → Image → Option Layout
-root_of sectors i = either_copy (root_at sectors i 0) (root_at sectors i 4)
+root_of sectors i = first_whole (root_at sectors i 0) (root_at sectors i 4)

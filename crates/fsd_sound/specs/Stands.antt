@@ -7,7 +7,7 @@ use Rattle.fsd_sound.specs.Shown.{shown}
 use Rattle.fsd_sound.specs.Sound.{SaysTurned, HasRoots, HasAnchors, HasLog, LogsNothing, HasHomes, ShowsOne}
 
 -- What stands on a disk that shows one of these page lists.
-pub record Stands (l : Layout) (weak : Sectors) (choices : List (List (List ℕ))) (i : Image) : Type 0 where
+pub record StandsShown (l : Layout) (weak : Sectors) (choices : List (List (List ℕ))) (i : Image) : Type 0 where
   pub roots : HasRoots l weak i
   pub empty : SaysTurned l i → LogsNothing l i
   pub anchors : HasAnchors l i
@@ -16,7 +16,7 @@ pub record Stands (l : Layout) (weak : Sectors) (choices : List (List (List ℕ)
   pub shows : ShowsOne choices (shown l i)
 
 -- Over an image a sector was written: it stands, and under it is an image that the other may be worn to.
-pub record IsOver (may : Sectors) (c : Image) (s : ℕ) (bytes : List ℕ) (j : Image) : Type 0 where
+pub record IsWrittenOver (may : Sectors) (c : Image) (s : ℕ) (bytes : List ℕ) (j : Image) : Type 0 where
   pub under : Image
   pub worn : IsWorn may c under
   pub there : sector_at under s ≡ sector_at c s

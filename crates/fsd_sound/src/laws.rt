@@ -11,7 +11,7 @@ ghost use Rattle.fsd_files.specs.Files.{Change};
 ghost use Rattle.fsd_files.specs.Volume.{HasReach, drawn};
 ghost use Rattle.fsd_sound.specs.Format.{IsFormatted, IsFormattedIn};
 ghost use Rattle.fsd_log.specs.Scan.{Placed, Head};
-ghost use Rattle.fsd_sound.specs.Mounted.{Mounted, StandsOver, HasOpen, IsMounted, SameStays, SameTaken, SameData, ChangesTo, IsFresh, IsSameEpoch, forces_by_itself, telling_of, with_forced};
+ghost use Rattle.fsd_sound.specs.Mounted.{Mounted, StandsOver, HasOpen, IsMounted, SameStays, SameTaken, SameData, ChangesTo, IsFreshlyMounted, IsSameEpoch, forces_by_itself, telling_of, with_forced};
 ghost use Rattle.fsd_table.specs.Table.{one_leaf, told_in};
 ghost use Rattle.fsd_sound.specs.Shown.{told};
 ghost use Rattle.fsd_sound.specs.Sound.{BearsLast, EndIn, weak_of, IsSaid, IsSound, IsStill, ShowsPages, Tells, TellsPrefix};
@@ -138,7 +138,7 @@ pub fn forces_commit_all_changes()
 /// A volume is mounted where the pages that the disk shows tell its files,
 /// and its log has no record that it doesn't know.
 pub fn fresh_mounts_hold()
-    ensures { (m : Mounted) (windows : List WeakRun) (h : List Change) (i : Image) → IsFresh h windows i m → IsMounted m windows h (length h) i }
+    ensures { (m : Mounted) (windows : List WeakRun) (h : List Change) (i : Image) → IsFreshlyMounted h windows i m → IsMounted m windows h (length h) i }
 {}
 
 /// Where nothing wears, a disk is sound exactly where it shows one list of pages that tells the files after a prefix of

@@ -14,7 +14,7 @@ ghost use Rattle.fsd_sound.specs.Laid.{HasCopies, AllLaid, StandsTwice, HasOwnLo
 ghost use Rattle.fsd_sound.specs.Shown.{records_by};
 ghost use Rattle.fsd_log.specs.Images.{last_image};
 ghost use Rattle.fsd_sound.specs.Sound.{weak_of, BearsLast, EndIn, IsEither, ShowsPages};
-ghost use Rattle.fsd_sound.specs.Logged.{IsLogged, Follows, copies_of};
+ghost use Rattle.fsd_sound.specs.Logged.{IsLogged, KeepsLogged, copies_of};
 ghost use Rattle.fsd_sound.specs.Windows.{IsApart};
 ghost use Rattle.volume_layout.specs.Kinds.{gap_of};
 ghost use Rattle.volume_layout.specs.Layout.{turned};
@@ -47,7 +47,7 @@ pub fn completed_pages_are_logged()
 pub fn copies_may_be_laid()
     ensures { (l : Layout) (windows : List WeakRun) (choices : List (List (List ℕ))) (i : Image) (t : Anchor) (front : List Placed) (r : Placed) (k : ℕ) → l.pages ≤ 2 ^ 32 → IsApart (gap_of l) (weak_of windows) →
         16 + 3 * l.third ≤ length i → ShowsPages l windows choices i → anchor_of i ≡ Some t → records_by l i t ≡ front ++ r ∷ [] → k ≤ length r.entry.pages →
-        Follows l windows choices t i (with_sector i (place_of l t.third r.at + (4 + 2 * gap_of l + length r.entry.pages + k)) (get_or (copies_of t r) k [])) }
+        KeepsLogged l windows choices t i (with_sector i (place_of l t.third r.at + (4 + 2 * gap_of l + length r.entry.pages + k)) (get_or (copies_of t r) k [])) }
 {}
 
 /// A mount up to `healing`: while the last record is completed over an image that was seen, a stop at any moment leaves

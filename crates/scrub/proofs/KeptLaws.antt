@@ -5,7 +5,7 @@ use Rattle.std.proofs.lemmas.Bool.{ltb-false}
 use Rattle.fsd_bytes.specs.declared.refusal.Refusal.{Refusal}
 use Rattle.fsd_bytes.specs.declared.refusal.Refusal.TheVariants as Why
 use Rattle.sector_disk.specs.Machine.{Ledger, wrote}
-use Rattle.volume_contract.specs.Order.{Force, Heal, IsLookUp, Keeps, LookUp, Single, Test, force_steps, is_idle}
+use Rattle.volume_contract.specs.Order.{Force, Heal, IsLookUp, KeepsRefused, LookUp, Single, Test, force_steps, is_idle}
 use Rattle.volume_contract.specs.State.{IsForced, State}
 use Rattle.scrub.specs.declared.whole.Healed.{Healed}
 use Rattle.scrub.specs.Scrub.{WritesHealed, scrub_steps}
@@ -13,11 +13,11 @@ use Rattle.scrub.specs.Scrub.{WritesHealed, scrub_steps}
 -- ---- the state
 
 -- a force that has failed
-pub kept_down : (why : Refusal) (s t : State) → Keeps (force_steps s) why s t → Keeps (scrub_steps s) why s t
+pub kept_down : (why : Refusal) (s t : State) → KeepsRefused (force_steps s) why s t → KeepsRefused (scrub_steps s) why s t
 kept_down why s t (inl here) = inl here
 kept_down why s t (inr (passes, later)) = inr (passes, by (nat_lt 0 (length s.dirty)) later)
   where
-    by : (comes : Bool) → Keeps (Force comes ∷ []) why s t → Keeps (Force comes ∷ Heal ∷ LookUp ∷ Single ∷ []) why s t
+    by : (comes : Bool) → KeepsRefused (Force comes ∷ []) why s t → KeepsRefused (Force comes ∷ Heal ∷ LookUp ∷ Single ∷ []) why s t
     by true (inl failed) = inl failed
     by true (inr (next, forced, none)) = absurd none
     by false (inl here) = inl here
@@ -25,21 +25,21 @@ kept_down why s t (inr (passes, later)) = inr (passes, by (nat_lt 0 (length s.di
 
 -- behind a force nothing changes it
 module _ (s m t : State) (passes : option_map Why.Down s.down ≡ None) (forced : IsForced s m) (same : t ≡ m) where
-  kept_behind : (why : Refusal) → IsLookUp why → Keeps (scrub_steps s) why s t
+  kept_behind : (why : Refusal) → IsLookUp why → KeepsRefused (scrub_steps s) why s t
   kept_behind why refuses = inr (passes, by (nat_lt 0 (length s.dirty)) refl)
     where
-      behind : (at : State) → t ≡ at → Keeps (Heal ∷ LookUp ∷ Single ∷ []) why at t
+      behind : (at : State) → t ≡ at → KeepsRefused (Heal ∷ LookUp ∷ Single ∷ []) why at t
       behind at is = inr (tt, inl (refuses, is))
 
       none_is : (xs : List ℕ) → nat_lt 0 (length xs) ≡ false → xs ≡ []
       none_is [] none = refl
       none_is (x ∷ xs) none = let few = ltb-false 0 (length (x ∷ xs)) none in absurd (omega (arith, few))
 
-      by : (comes : Bool) → nat_lt 0 (length s.dirty) ≡ comes → Keeps (Force comes ∷ Heal ∷ LookUp ∷ Single ∷ []) why s t
+      by : (comes : Bool) → nat_lt 0 (length s.dirty) ≡ comes → KeepsRefused (Force comes ∷ Heal ∷ LookUp ∷ Single ∷ []) why s t
       by true is = inr (m, forced, behind m same)
       by false is = inr (tt, behind s (same ∙ forced.idle (none_is s.dirty is)))
 
-  pub kept_all : (r : Result Healed Refusal) → IfErr r IsLookUp → MatchResult r (λ x. IsForced s t) (λ why. Keeps (scrub_steps s) why s t)
+  pub kept_all : (r : Result Healed Refusal) → IfErr r IsLookUp → MatchResult r (λ x. IsForced s t) (λ why. KeepsRefused (scrub_steps s) why s t)
   kept_all (Ok x) refuses = subst (λ (y : State). IsForced s y) (sym same) forced
   kept_all (Err why) refuses = kept_behind why refuses
 

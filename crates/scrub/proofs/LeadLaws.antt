@@ -28,6 +28,7 @@ use Rattle.fsd_files.specs.Scrub.{CountsLeaders, NeedsLeader, StandsLed, leader_
 use Rattle.fsd_files.specs.Space.{Apart}
 use Rattle.fsd_files.specs.Volume.{plans_of}
 use Rattle.fsd_files.specs.Waiting.{is_leader}
+use Rattle.fsd_files.proofs.KeptLaws.{has_on}
 use Rattle.fsd_files.proofs.ScrubLaws.{counts_then}
 use Rattle.fsd_sound.specs.Mounted.{Mounted}
 use Rattle.fsd_sound.proofs.MountedLaws.{mounted_sound}
@@ -58,15 +59,10 @@ worn_touches may a b worn = record { size = worn.size; others = λ s out. worn.e
 
 -- ---- leaders that stand
 
-has_then : (weak : Sectors) (i j : Image) (bytes : List ℕ) (s : ℕ) → SectorWorn (weak s) (sector_at i s) (sector_at j s) → Has weak i bytes s → Has weak j bytes s
-has_then weak i j bytes s (inl same) (inl whole) = inl (same ∙ whole)
-has_then weak i j bytes s (inl same) (inr hurt) = inr (hurt.0, same ∙ hurt.1)
-has_then weak i j bytes s (inr worn) has = inr worn
-
 first_then : (weak : Sectors) (i j : Image) (bytes : List ℕ) (xs : List ℕ) → ((s : ℕ) → IsTrue (contains (take 1 xs) s) → SectorWorn (weak s) (sector_at i s) (sector_at j s))
     → IfSome (slice_get xs 0) (Has weak i bytes) → IfSome (slice_get xs 0) (Has weak j bytes)
 first_then weak i j bytes [] worn has = tt
-first_then weak i j bytes (x ∷ xs) worn has = has_then weak i j bytes x (worn x (first_there x [])) has
+first_then weak i j bytes (x ∷ xs) worn has = has_on weak i j bytes x (worn x (first_there x [])) has
 
 -- leaders stand on where they are only worn
 pub leaders_then : (weak : Sectors) (i j : Image) (es : List Entry) → ((s : ℕ) → IsTrue (is_leader es s) → SectorWorn (weak s) (sector_at i s) (sector_at j s)) → AllByRecursion (HasLeader weak i) es → AllByRecursion (HasLeader weak j) es

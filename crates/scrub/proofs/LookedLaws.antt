@@ -1,5 +1,5 @@
 -- What is found of the data of versions, one after another.
-use Rattle.std.proofs.Common.{◌≡◌, ℕ, ◌+◌, ◌≤◌, Bool, List, [], ◌∷◌, ◌++◌, Option, Some, None, refl, sym, ap, ◌∙◌, subst}
+use Rattle.std.proofs.Common.{◌≡◌, ℕ, ◌+◌, ◌≤◌, Bool, List, [], ◌∷◌, ◌++◌, Option, Some, None, sym, ap, ◌∙◌, subst}
 use Rattle.std.specs.Prelude.{Result, Ok, Err}
 use Rattle.fsd_bytes.specs.declared.key.Key.{Key}
 use Rattle.fsd_bytes.specs.declared.refusal.Refusal.{Refusal}
@@ -13,7 +13,7 @@ use Rattle.fsd_files.specs.Disk.{Image}
 use Rattle.fsd_files.specs.declared.reply.Reply.TheVariants.{Found}
 use Rattle.fsd_files.specs.Scrub.{Picks, PicksSome, all_data, data_of}
 use Rattle.fsd_sound.specs.Mounted.{Mounted}
-use Rattle.volume_contract.specs.Ends.{Looks}
+use Rattle.volume_contract.specs.Ends.{LooksUp}
 use Rattle.volume_contract.specs.State.{State, Known, Stands, volume_of}
 use Rattle.scrub.specs.Looking.{Adds, HasLooked}
 use Rattle.scrub.specs.Walk.{IsFromOutside}
@@ -55,7 +55,7 @@ module _ {S : Type 0} (state : S → State) (has : S → Mounted → List Placed
 
 -- ---- what a look-up of the next one refuses
 
-pub outside_only : (reply : Option Entry) (why : Refusal) → (let r : Result (Option Entry) Refusal = Err why in Looks (Found reply) r) → IsFromOutside why
+pub outside_only : (reply : Option Entry) (why : Refusal) → (let r : Result (Option Entry) Refusal = Err why in LooksUp (Found reply) r) → IsFromOutside why
 outside_only reply (Why.Device s) looks = tt
 outside_only reply Why.Memory looks = tt
 outside_only reply Why.NoSuch looks = absurd (cc looks)

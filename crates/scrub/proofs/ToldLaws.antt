@@ -13,16 +13,16 @@ use Rattle.sector_disk.specs.Machine.{Moment}
 use Rattle.sector_disk.proofs.Damage.{lost_as}
 use Rattle.fsd_files.specs.Disk.{Image}
 use Rattle.fsd_sound.specs.Mounted.{image_at}
-use Rattle.volume_contract.specs.Causes.{AreCopies, AreCopiesOf, Causes, HasCause, HaveRead, IsRead, ShowsBreak}
+use Rattle.volume_contract.specs.Causes.{AreSomeCopies, AreCopiesOfPage, Causes, HasCallCause, HaveRead, IsRead, ShowsBreak}
 use Rattle.volume_contract.specs.Healing.{LosesTwins}
-use Rattle.volume_contract.specs.Order.{Comes, IsDevice, IsLoss, heal_steps, single_steps}
+use Rattle.volume_contract.specs.Order.{Comes, IsDeviceRefusal, IsLoss, heal_steps, single_steps}
 use Rattle.volume_contract.specs.State.{State}
 use Rattle.scrub.specs.Telling.{AreOfPage, IsHomeOfPage, StandTwice, TellsOn}
 use Rattle.scrub.specs.Walk.{IsFromOutside}
 
 -- ---- by its cause
 
-of_copies : (s : State) (page a b : ℕ) → page < s.layout.pages → AreCopiesOf s page a b → AreOfPage s.layout a b
+of_copies : (s : State) (page a b : ℕ) → page < s.layout.pages → AreCopiesOfPage s page a b → AreOfPage s.layout a b
 of_copies s page a b within (inl slot) = inl slot.in_record
 of_copies s page a b within (inr home) = inr (record { page = page; within = within; homes = home.1 })
 
@@ -32,13 +32,13 @@ page_twice l a b (inl placed) = inl placed
 page_twice l a b (inr homes) = inr (inr (inr homes))
 
 module _ (old new : State) (resident : ℕ → Option (List ℕ)) (before now : Moment) (same : new.layout ≡ old.layout) where
-  of_page : (a b : ℕ) → AreCopies old new a b → AreOfPage old.layout a b
+  of_page : (a b : ℕ) → AreSomeCopies old new a b → AreOfPage old.layout a b
   of_page a b c = elim c.copies [
     | inl was ↦ of_copies old c.page a b c.within was
     | inr is ↦ subst (λ (l : Layout). AreOfPage l a b) same (of_copies new c.page a b (subst (λ (l : Layout). c.page < l.pages) (sym same) c.within) is)
   ]
 
-  pub told_lost : (a b : ℕ) → AreLost (AreCopies old new) now.image a b → AreLost (AreOfPage old.layout) now.image a b
+  pub told_lost : (a b : ℕ) → AreLost (AreSomeCopies old new) now.image a b → AreLost (AreOfPage old.layout) now.image a b
   told_lost a b lost = record { copies = of_page a b lost.copies; first = lost.first; second = lost.second }
 
   -- some pages are as they were read, and a page of them breaks the table
@@ -58,7 +58,7 @@ module _ (old new : State) (resident : ℕ → Option (List ℕ)) (before now : 
       have : HaveRead old shows.read pages
       have = record { size = length-map-range_with_len bytes_at 0 old.layout.pages; same = λ page. read_at page (shows.read page) refl (shows.are_read page) }
 
-  pub told_by : (why : Refusal) → HasCause old new resident before now why → TellsOn old.layout now.image why
+  pub told_by : (why : Refusal) → HasCallCause old new resident before now why → TellsOn old.layout now.image why
   told_by (Why.Lost a b) cause = lost_as (AreOfPage old.layout) a b (StandTwice old.layout) now.image (page_twice old.layout a b) (told_lost a b cause)
   told_by (Why.Unsound s) cause = told_unsound s cause
   told_by why cause = tt
@@ -93,7 +93,7 @@ module _ (l : Layout) (i : Image) where
     single_told (inl here) = absurd (not_down here)
     single_told (inr (passes, inl device)) = by why device
       where
-        by : (w : Refusal) → IsDevice w → TellsOn l i w
+        by : (w : Refusal) → IsDeviceRefusal w → TellsOn l i w
         by (Why.Device n) is = tt
         by w is = absurd is
     single_told (inr (passes, inr later)) = absurd later.1

@@ -1,5 +1,5 @@
 -- A whole scrub, step by step.
-use Rattle.std.proofs.Common.{◌≡◌, ◌≢◌, inl, inr, ℕ, ◌+◌, ◌-◌, ◌^◌, ◌≤◌, min, Bool, false, ◌||◌, ◌&&◌, nat_le, nat_lt, List, [], ◌∷◌, ◌++◌, length, Option, Some, None, sym, ap, ◌∙◌, subst, arith}
+use Rattle.std.proofs.Common.{◌≡◌, ◌≢◌, inl, inr, ℕ, ◌+◌, ◌-◌, ◌^◌, ◌≤◌, min, Bool, false, ◌||◌, ◌&&◌, nat_le, nat_lt, List, [], ◌∷◌, ◌++◌, length, sym, ap, ◌∙◌, subst, arith}
 use Rattle.std.specs.Prelude.{◌==◌, IsTrue, IsFalse, Result, Ok, Err}
 use Rattle.std.specs.List.{AllByRecursion, list_any}
 use Rattle.std.proofs.lemmas.List.{append-nil}
@@ -17,7 +17,7 @@ use Rattle.sector_disk.specs.declared.sector.WeakRun.{WeakRun}
 use Rattle.sector_disk.specs.Image.{Windows, open_damage, sector_at}
 use Rattle.sector_disk.specs.Machine.{Moment, Wears}
 use Rattle.fsd_files.specs.Answers.{HasLeader, Outcome, force_outcome}
-use Rattle.fsd_files.specs.Disk.{Image, SectorWorn, Sectors, Touches, in_runs}
+use Rattle.fsd_files.specs.Disk.{Image, SectorWorn, Sectors, Touches}
 use Rattle.fsd_files.specs.Files.{Change}
 use Rattle.fsd_files.specs.Kept.{IsWhole}
 use Rattle.fsd_files.specs.declared.reply.Reply.{Reply}

@@ -18,14 +18,14 @@ use Rattle.fsd_files.specs.Waiting.{is_leader}
 use Rattle.fsd_sound.specs.Mounted.{Mounted}
 use Rattle.fsd_sound.specs.Writes.{force_writes, mount_writes}
 use Rattle.volume_contract.specs.Healing.{TwinsStand}
-use Rattle.volume_contract.specs.Order.{Step, Force, Heal, Keeps, LookUp, Single, down, is_idle}
+use Rattle.volume_contract.specs.Order.{CallStep, Force, Heal, KeepsRefused, LookUp, Single, down, is_idle}
 use Rattle.volume_contract.specs.State.{IsForced, Known, LeavesSound, Stands, State, force_len, volume_of}
 use Rattle.scrub.specs.declared.whole.Healed.{Healed}
 use Rattle.scrub.specs.Looking.{AreDamaged}
 use Rattle.scrub.specs.Telling.{TellsOn}
 
 -- a force, what stands twice, look-ups, and sectors one by one
-abbrev pub scrub_steps : State → List Step
+abbrev pub scrub_steps : State → List CallStep
 scrub_steps s = down s ∷ Force (nat_lt 0 (length s.dirty)) ∷ Heal ∷ LookUp ∷ Single ∷ []
 
 -- where it may write, whatever the image: where a mount does, and leaders, which lie in the data area
@@ -57,7 +57,7 @@ pub record WritesScrub {D : Type 0} (M : Ghosts D) (s : State) (old new : D) (re
 pub record KeepsScrub (old new : State) (result : Result Healed Refusal) : Type 0 where
   pub layout : new.layout ≡ old.layout
   pub opened : KeepsOpen old new
-  pub kept : MatchResult result (λ x. IsForced old new) (λ why. Keeps (scrub_steps old) why old new)
+  pub kept : MatchResult result (λ x. IsForced old new) (λ why. KeepsRefused (scrub_steps old) why old new)
   pub up : OnOk result (new.down ≡ None)
 
 -- What it tells of any image: why it is refused, that twins stand where it answers, and which data sectors are damaged.

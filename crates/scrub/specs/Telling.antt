@@ -7,8 +7,7 @@ use Rattle.fsd_bytes.specs.declared.refusal.Refusal.TheVariants as Why
 use Rattle.fsd_log.specs.Places.{LieInRecord}
 use Rattle.sector_disk.specs.Damage.{AreLost}
 use Rattle.fsd_files.specs.Disk.{Image}
-use Rattle.fsd_sound.specs.Lost.{AreHomes}
-use Rattle.volume_contract.specs.Healing.{AreTwins}
+use Rattle.fsd_sound.specs.Lost.{AreHomes, AreTwinCopies}
 
 -- the sectors are two copies of one page: its own and its copy in a record in the log, or its homes
 abbrev pub AreOfPage : Layout → (a b : ℕ) → Type 0
@@ -17,7 +16,7 @@ AreOfPage l a b = LieInRecord l a b ⊎ AreHomes l a b
 -- the sectors are a page's own and its copy in a record in the log; or the two copies of the root, of the anchor,
 -- or of a page at home
 abbrev pub StandTwice : Layout → (a b : ℕ) → Type 0
-StandTwice l a b = LieInRecord l a b ⊎ AreTwins l a b
+StandTwice l a b = LieInRecord l a b ⊎ AreTwinCopies l a b
 
 -- it is the home of a page of the table
 abbrev pub IsHomeOfPage : Layout → ℕ → Type 0

@@ -2,7 +2,7 @@
 ghost use Rattle.std.specs.Prelude.{◌≡◌, ◌≤◌, None, IfErr, IfOk, IfSome};
 ghost use Rattle.fsd_files.specs.Answers.{next_reply};
 ghost use Rattle.sector_disk.specs.Calls.{OnlyReads, device_in};
-ghost use Rattle.volume_contract.specs.Ends.{Looks, device_of};
+ghost use Rattle.volume_contract.specs.Ends.{LooksUp, device_of};
 ghost use Rattle.volume_contract.specs.Healing.{IsMet};
 ghost use Rattle.volume_contract.specs.Order.{IsLookUp};
 ghost use Rattle.volume_contract.specs.State.{Known, Stands, volume_of};
@@ -27,7 +27,7 @@ pub(crate) fn next_one<M: Machine, V: Files<M>>(
     ensures told { IfErr result (λ why. M.honest m.new → TellsOn (V.state v.old).layout (M.now m.new).image why) }
     ensures met { IfOk result (λ found. IfSome found (IsMet (V.state v.new))) }
     ensures stands { M.honest m.new → (k : Known) → Stands V.state V.holds v.old k (M.now m.old) → Stands V.state V.holds v.new k (M.now m.new) }
-    ensures done { M.honest m.new → (k : Known) → Stands V.state V.holds v.old k (M.now m.old) → Looks (next_reply (volume_of k) last.now) result }
+    ensures done { M.honest m.new → (k : Known) → Stands V.state V.holds v.old k (M.now m.old) → LooksUp (next_reply (volume_of k) last.now) result }
 {
     match last {
         Some(key) => v.next_after(m, Some(key)),

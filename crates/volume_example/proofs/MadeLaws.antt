@@ -18,9 +18,9 @@ use Rattle.fsd_files.specs.declared.reply.Reply.{Reply}
 use Rattle.fsd_files.specs.declared.reply.Reply.TheVariants.{Forced}
 use Rattle.fsd_files.specs.Volume.{Volume}
 use Rattle.fsd_sound.specs.Mounted.{Mounted}
-use Rattle.volume_contract.specs.Ends.{Answered, EndsForce, MakesVersion, Reads}
+use Rattle.volume_contract.specs.Ends.{AnswersAndStands, EndsForce, MakesVersion, ReadsRange}
 use Rattle.volume_contract.specs.State.{State, Known, Stands, volume_of}
-use Rattle.volume_example.specs.Filling.{HasBytes, HasPut, IsUnread}
+use Rattle.volume_example.specs.Filling.{HasBytes, HasPut, IsUnreadCause}
 use Rattle.volume_example.specs.Forcing.{IsCommitted, IsDown}
 use Rattle.volume_example.proofs.PutLaws.{IsMade, file_there, is_made, made_bytes}
 use Rattle.volume_example.proofs.ReadLaws.{gives_whole, is_unread}
@@ -40,19 +40,19 @@ module _ {S : Type 0} (state : S → State) (has : S → Mounted → List Placed
   has_put new now stands = record { after = made.after; stands = stands; changes = made.answers.changes; version = has_bytes }
 
   -- a read is of this file and this entry
-  reads_it : (j : Image) (old new : List ℕ) (r : Result ℕ Refusal) → Reads at.image j (find key_cmp key (volume_of made.after).files) (entry_of key (volume_of made.after).entries) 0 old new r
-      → Reads at.image j (Some file.0) (Some made.entry) 0 old new r
-  reads_it j old new r reads = subst (λ (e : Option Entry). Reads at.image j (Some file.0) e 0 old new r) made.entered
-      (subst (λ (f : Option File). Reads at.image j f (entry_of key (volume_of made.after).entries) 0 old new r) file.1 reads)
+  reads_it : (j : Image) (old new : List ℕ) (r : Result ℕ Refusal) → ReadsRange at.image j (find key_cmp key (volume_of made.after).files) (entry_of key (volume_of made.after).entries) 0 old new r
+      → ReadsRange at.image j (Some file.0) (Some made.entry) 0 old new r
+  reads_it j old new r reads = subst (λ (e : Option Entry). ReadsRange at.image j (Some file.0) e 0 old new r) made.entered
+      (subst (λ (f : Option File). ReadsRange at.image j f (entry_of key (volume_of made.after).entries) 0 old new r) file.1 reads)
 
-  pub reads_put : (j : Image) (old new : List ℕ) (n : ℕ) → length old ≡ length bytes → Reads at.image j (find key_cmp key (volume_of made.after).files) (entry_of key (volume_of made.after).entries) 0 old new (Ok n) → new ≡ bytes
+  pub reads_put : (j : Image) (old new : List ℕ) (n : ℕ) → length old ≡ length bytes → ReadsRange at.image j (find key_cmp key (volume_of made.after).files) (entry_of key (volume_of made.after).entries) 0 old new (Ok n) → new ≡ bytes
   unfolding file has_bytes
   reads_put j old new n fits reads = gives_whole at.image file.0 made.entry bytes old new n has_bytes.same fits (reads_it j old new (Ok n) reads)
 
-  pub unread_put : (now : Moment) → Wears at now → (old new : List ℕ) (why : Refusal) → Reads at.image now.image (find key_cmp key (volume_of made.after).files) (entry_of key (volume_of made.after).entries) 0 old new (Err why) → IsUnread now why
+  pub unread_put : (now : Moment) → Wears at now → (old new : List ℕ) (why : Refusal) → ReadsRange at.image now.image (find key_cmp key (volume_of made.after).files) (entry_of key (volume_of made.after).entries) 0 old new (Err why) → IsUnreadCause now why
   unread_put now wears old new why reads = is_unread at now wears bytes file.0 made.entry old new made.written why (reads_it now.image old new (Err why) reads)
 
-  pub committed : (new : S) (now : Moment) → Answered state has (λ met. force_outcome (volume_of made.after)) Forced [] made.after new now → IsCommitted state has name bytes k new now key
+  pub committed : (new : S) (now : Moment) → AnswersAndStands state has (λ met. force_outcome (volume_of made.after)) Forced [] made.after new now → IsCommitted state has name bytes k new now key
   unfolding file has_bytes
   committed new now answered =
       let after = answered.0 in

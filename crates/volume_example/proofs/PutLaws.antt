@@ -14,7 +14,7 @@ use Rattle.run_table.specs.declared.run.Run.{Run}
 use Rattle.fsd_formats.specs.declared.entry.Entry.{Entry}
 use Rattle.fsd_formats.specs.NamePage.{sectors_for}
 use Rattle.fsd_files.specs.Answers.{Met, Outcome, enter_fault, entered_unless, entry_of, keep_given, put_at, put_outcome, put_unless, size_fault}
-use Rattle.fsd_files.specs.Files.{Change, File, Files, gone_keys, new_keep, new_key, step, with_new, without}
+use Rattle.fsd_files.specs.Files.{Change, File, Files, gone_keys, new_keep, new_key, step, with_new, without_keys}
 use Rattle.fsd_files.specs.Kept.{Lists}
 use Rattle.fsd_files.specs.declared.reply.Reply.TheVariants.{Made}
 use Rattle.fsd_files.specs.Volume.{Volume, drawn, forced, forced_for_place, forced_if, place_for}
@@ -79,7 +79,7 @@ module _ (name bytes : List ℕ) (given : Option ℕ) (key : Key) (n : ℕ) (v w
 -- ---- the bytes of the version
 
 -- what is found once some are out was found before
-find_in : (key : Key) (keys : List Key) (s : Files) (file : File) → find key_cmp key (without keys s) ≡ Some file → find key_cmp key s ≡ Some file
+find_in : (key : Key) (keys : List Key) (s : Files) (file : File) → find key_cmp key (without_keys keys s) ≡ Some file → find key_cmp key s ≡ Some file
 find_in key keys s file is = by (stays key) (sym (find-where_key key_cmp stays key (λ x e. ap stays (sym (alike_is key x e))) s) ∙ is)
   where
     stays : Key → Bool

@@ -14,13 +14,13 @@ use Rattle.sector_disk.specs.Machine.{Moment, Wears}
 use Rattle.fsd_files.specs.Answers.{HasVersion}
 use Rattle.fsd_files.specs.Disk.{Has, Image, Sectors}
 use Rattle.fsd_files.specs.Files.{File}
-use Rattle.fsd_files.specs.Kept.{FirstDamaged, KeptIn, data_sectors, range_sectors, slices}
-use Rattle.volume_contract.specs.Ends.{Gives, Reads, count_in}
-use Rattle.volume_example.specs.Filling.{IsUnread}
+use Rattle.fsd_files.specs.Kept.{FirstDamaged, KeptIn, data_sectors, range_sectors, filled_slices}
+use Rattle.volume_contract.specs.Ends.{GivesBytes, ReadsRange, count_in}
+use Rattle.volume_example.specs.Filling.{IsUnreadCause}
 
 -- ---- the whole version
 
-pub gives_whole : (i : Image) (file : File) (e : Entry) (bytes old new : List ℕ) (n : ℕ) → file.bytes ≡ bytes → length old ≡ length bytes → Gives i file e 0 old new n → new ≡ bytes
+pub gives_whole : (i : Image) (file : File) (e : Entry) (bytes old new : List ℕ) (n : ℕ) → file.bytes ≡ bytes → length old ≡ length bytes → GivesBytes i file e 0 old new n → new ≡ bytes
 gives_whole i file e bytes old new n same fits gives =
     let len = gives.len in
     let count = gives.count in
@@ -70,10 +70,10 @@ module _ (may : Sectors) (i j : Image) (worn : IsWorn may i j) where
   damaged_weak bytes runs (suc n) s kept first =
       let begins : ℕ = 0 / sector_len in
       kept_first (range_sectors runs 0 (suc n)) s
-      (kept_take ((0 + n) / sector_len + 1 - begins) (drop begins (data_sectors runs)) (kept_drop begins (data_sectors runs) (kept_all (slices bytes) (data_sectors runs) kept))) first
+      (kept_take ((0 + n) / sector_len + 1 - begins) (drop begins (data_sectors runs)) (kept_drop begins (data_sectors runs) (kept_all (filled_slices bytes) (data_sectors runs) kept))) first
 
 pub is_unread : (old new : Moment) → Wears old new → (bytes : List ℕ) (file : File) (e : Entry) (before after : List ℕ) → HasVersion (open_damage old.windows) old.image bytes e
-    → (why : Refusal) → Reads old.image new.image (Some file) (Some e) 0 before after (Err why) → IsUnread new why
+    → (why : Refusal) → ReadsRange old.image new.image (Some file) (Some e) 0 before after (Err why) → IsUnreadCause new why
 is_unread old new wears bytes file e before after has (Why.Damaged s) first =
     let may = open_damage old.windows in
     let told = damaged_weak may old.image new.image wears.image bytes e.runs (count_in e.length 0 (length before)) s has.data_there first in

@@ -24,11 +24,11 @@ pub record HasBytes (key : Key) (bytes : List ℕ) (k : Known) : Type 0 where
   pub same : file.bytes ≡ bytes
 
 -- where a sector reads damaged it is so, and the open window may wear it; else the disk failed, or memory was refused
-abbrev pub IsUnread : Moment → Refusal → Type 0
-IsUnread now (Why.Damaged s) = (sector_at now.image s ≡ Damaged) × IsTrue (open_damage now.windows s)
-IsUnread now (Why.Device s) = ⊤
-IsUnread now Why.Memory = ⊤
-IsUnread now other = ⊥
+abbrev pub IsUnreadCause : Moment → Refusal → Type 0
+IsUnreadCause now (Why.Damaged s) = (sector_at now.image s ≡ Damaged) × IsTrue (open_damage now.windows s)
+IsUnreadCause now (Why.Device s) = ⊤
+IsUnreadCause now Why.Memory = ⊤
+IsUnreadCause now other = ⊥
 
 module _ {S : Type 0} (state : S → State) (has : S → Mounted → List Placed → Type 0) where
   -- The volume stands; its changes are those before and this put; its version of the key has the bytes.
@@ -46,5 +46,5 @@ module _ {S : Type 0} (state : S → State) (has : S → Mounted → List Placed
   abbrev pub EndsRead : (name bytes : List ℕ) → Known → S → Moment → (buf : List ℕ) → Result Key Fault → Type 0
   EndsRead name bytes k new now buf (Ok key) = HasPut name bytes k new now key × (buf ≡ bytes)
   EndsRead name bytes k new now buf (Err (Put why)) = IsNotPut name bytes k new now why
-  EndsRead name bytes k new now buf (Err (Behind key why)) = HasPut name bytes k new now key × IsUnread now why
+  EndsRead name bytes k new now buf (Err (Behind key why)) = HasPut name bytes k new now key × IsUnreadCause now why
   EndsRead name bytes k new now buf (Err (Unsynced key place)) = ⊥

@@ -31,8 +31,8 @@ module _ {S : Type 0} (state : S → State) (has : S → Mounted → List Placed
   IsDown new (Why.Device s) = (state new).down ≡ Some s
   IsDown new other = ⊥
 
-  abbrev pub EndsForced : (name bytes : List ℕ) → Known → S → Moment → Result Key Fault → Type 0
-  EndsForced name bytes k new now (Ok key) = IsForGood name bytes k new now key
-  EndsForced name bytes k new now (Err (Put why)) = IsNotPut state has name bytes k new now why
-  EndsForced name bytes k new now (Err (Behind key why)) = IsDown new why
-  EndsForced name bytes k new now (Err (Unsynced key place)) = IsCommitted name bytes k new now key
+  abbrev pub EndsForGood : (name bytes : List ℕ) → Known → S → Moment → Result Key Fault → Type 0
+  EndsForGood name bytes k new now (Ok key) = IsForGood name bytes k new now key
+  EndsForGood name bytes k new now (Err (Put why)) = IsNotPut state has name bytes k new now why
+  EndsForGood name bytes k new now (Err (Behind key why)) = IsDown new why
+  EndsForGood name bytes k new now (Err (Unsynced key place)) = IsCommitted name bytes k new now key

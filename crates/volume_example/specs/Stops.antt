@@ -22,7 +22,7 @@ abbrev pub LeavesOneMore : {S : Type 0} → (state : S → State) → (has : S �
 LeavesOneMore state has s change old left = (k : Known) → Stands state has s k old → MayLeave k change left
 
 -- the place of the call of the disk that failed, where the fault tells one
-abbrev pub failed_at : Fault → Option ℕ
-failed_at (Put why) = device_of why
-failed_at (Behind key why) = device_of why
-failed_at (Unsynced key place) = Some place
+abbrev pub stopped_at : Fault → Option ℕ
+stopped_at (Put why) = device_of why
+stopped_at (Behind key why) = device_of why
+stopped_at (Unsynced key place) = Some place

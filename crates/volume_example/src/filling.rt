@@ -4,7 +4,7 @@ ghost use Rattle.fsd_files.specs.Files.{Change};
 ghost use Rattle.sector_disk.specs.Calls.{WritesDisk, device_in};
 ghost use Rattle.volume_contract.specs.State.{Known, Stands};
 ghost use Rattle.volume_example.specs.Filling.{EndsRead};
-ghost use Rattle.volume_example.specs.Stops.{LeavesOneMore, failed_at};
+ghost use Rattle.volume_example.specs.Stops.{LeavesOneMore, stopped_at};
 
 use crate::fault::Fault;
 use fsd_bytes::{FileName, Key};
@@ -22,7 +22,7 @@ pub fn put_and_read<M: Machine, V: Files<M>>(
     requires room { (V.state v.old).layout.sectors ≤ (M.report m.old).sectors }
     requires fits { length buf.old ≡ length bytes.now }
     ensures layout { (V.state v.new).layout ≡ (V.state v.old).layout }
-    ensures disk { WritesDisk M.Machine (device_in failed_at result) (LeavesOneMore V.state V.holds v.old (Change.Put name.now None bytes.now)) m.old m.new }
+    ensures disk { WritesDisk M.Machine (device_in stopped_at result) (LeavesOneMore V.state V.holds v.old (Change.Put name.now None bytes.now)) m.old m.new }
     ensures done { M.honest m.new → (k : Known) → Stands V.state V.holds v.old k (M.now m.old) → EndsRead V.state V.holds name.now bytes.now k v.new (M.now m.new) buf.new result }
 {
     match v.put(m, name, None, bytes) {

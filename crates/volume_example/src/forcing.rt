@@ -4,8 +4,8 @@ ghost use Rattle.fsd_files.specs.Files.{Change};
 ghost use Rattle.sector_disk.specs.Calls.{OnlyReads, WritesDisk, device_in, failed_at as sync_failed_at};
 ghost use Rattle.sector_disk.specs.Machine.{IsSynced};
 ghost use Rattle.volume_contract.specs.State.{Known, Stands};
-ghost use Rattle.volume_example.specs.Forcing.{EndsForced, IsRefusedDown};
-ghost use Rattle.volume_example.specs.Stops.{LeavesOneMore, failed_at};
+ghost use Rattle.volume_example.specs.Forcing.{EndsForGood, IsRefusedDown};
+ghost use Rattle.volume_example.specs.Stops.{LeavesOneMore, stopped_at};
 
 use crate::fault::Fault;
 use fsd_bytes::{FileName, Key};
@@ -21,9 +21,9 @@ pub fn put_and_force<M: Machine, V: Files<M>>(
 ) -> Result<Key, Fault>
     requires { (V.state v.old).layout.sectors ≤ (M.report m.old).sectors }
     ensures layout { (V.state v.new).layout ≡ (V.state v.old).layout }
-    ensures disk { WritesDisk M.Machine (device_in failed_at result) (LeavesOneMore V.state V.holds v.old (Change.Put name.now None bytes.now)) m.old m.new }
+    ensures disk { WritesDisk M.Machine (device_in stopped_at result) (LeavesOneMore V.state V.holds v.old (Change.Put name.now None bytes.now)) m.old m.new }
     ensures down { (place : ℕ) → (V.state v.old).down ≡ Some place → IsRefusedDown place result }
-    ensures done { M.honest m.new → (k : Known) → Stands V.state V.holds v.old k (M.now m.old) → EndsForced V.state V.holds name.now bytes.now k v.new (M.now m.new) result }
+    ensures done { M.honest m.new → (k : Known) → Stands V.state V.holds v.old k (M.now m.old) → EndsForGood V.state V.holds name.now bytes.now k v.new (M.now m.new) result }
 {
     match v.put(m, name, None, bytes) {
         Ok(key) => match v.force(m) {

@@ -13,7 +13,7 @@ use Rattle.sector_disk.specs.Machine.{Moment, Names, Settles, Holds}
 use Rattle.sector_disk.proofs.Wear.{length-lay, lay_in, lay_other, worn_trans, worn_damaged}
 use Rattle.sector_disk.proofs.ResultLaws.{some_is}
 use Rattle.fsd_sound.specs.Format.{IsFormatted, format_page}
-use Rattle.volume_format.specs.Formatting.{IsNew, Formats, with_pages, with_head, with_volume}
+use Rattle.volume_format.specs.Formatting.{IsNewImage, Formats, with_pages, with_head, with_volume}
 use Rattle.version_data.proofs.LayLaws.{holds_then, monotone_lay}
 use Rattle.volume_format.proofs.HeadLaws.{monotone_head, length-head, head_behind, head_at, head_blank}
 
@@ -86,7 +86,7 @@ windows_are w present next p n =
     ap (λ (x : Option WeakRun). made x w.next) p ∙ ap (λ (y : Option WeakRun). made present y) n
 
 module _ (l : Layout) (planned : plan l.kind l.sectors l.third l.pages ≡ Ok l) (old opened mid new : Moment) (long : l.sectors ≤ length old.image)
-    (fresh : IsNew old) (named : Names (longest_of l.kind) old opened) (holds : Holds opened (with_volume l opened.image) mid) (settles : Settles mid new) where
+    (fresh : IsNewImage old) (named : Names (longest_of l.kind) old opened) (holds : Holds opened (with_volume l opened.image) mid) (settles : Settles mid new) where
   in_window : (run : WeakRun) → opened.windows.next ≡ Some run → Formats l old new
   in_window run next =
       let windows : opened.windows ≡ record { present = None; next = Some run } =
@@ -111,7 +111,7 @@ module _ (l : Layout) (planned : plan l.kind l.sectors l.third l.pages ≡ Ok l)
   formats = let run = some_is opened.windows.next named.next in in_window run.0 run.1
 
 -- a call whose last step settles
-pub formats_if : {T E H : Type 0} {l : Layout} (old mid new : Moment) (r : Result T E) → OnOk r (H → Settles mid new) → (H → Settles mid new → IsNew old → Formats l old new) → OnOk r (H → IsNew old → Formats l old new)
+pub formats_if : {T E H : Type 0} {l : Layout} (old mid new : Moment) (r : Result T E) → OnOk r (H → Settles mid new) → (H → Settles mid new → IsNewImage old → Formats l old new) → OnOk r (H → IsNewImage old → Formats l old new)
 formats_if old mid new (Ok x) settles make = λ h fresh. make h (settles h) fresh
 formats_if old mid new (Err e) settles make = tt
 

@@ -9,7 +9,7 @@ use Rattle.sector_disk.specs.Machine.{Moment, Names, Settles, Wears}
 use Rattle.sector_disk.proofs.Wear.{worn_twice}
 use Rattle.fsd_files.specs.Disk.{Sectors, SectorWorn}
 use Rattle.version_data.specs.Writing.{WritesIn}
-use Rattle.volume_format.specs.Formatting.{KeepsOutside}
+use Rattle.volume_format.specs.Formatting.{KeepsOthers}
 
 more_worn : (few may : Bool) → (IsTrue few → IsTrue may) → (a b : Sector) → SectorWorn few a b → SectorWorn may a b
 more_worn few may more a b (inl same) = inl same
@@ -37,10 +37,10 @@ module _ {longest : ℕ} (may : Sectors) (old opened : Moment) (named : Names lo
       (more_worn before (before || behind) (or_left before behind) (sector_at old.image s) (sector_at opened.image s) (named.image.each s))
       (more_worn (open_damage opened.windows s) (before || behind) (λ is. or_right before behind (more is)) (sector_at opened.image s) (sector_at new.image s) next)
 
-  pub kept_written : (new : Moment) → WritesIn may opened new → KeepsOutside may old new
+  pub kept_written : (new : Moment) → WritesIn may opened new → KeepsOthers may old new
   kept_written new writes s out = named_then new s (λ is. subst (λ (w : Windows). IsTrue (open_damage w s)) (sym writes.windows) is) (writes.touches.others s out)
 
-  pub kept_settled : (mid new : Moment) → WritesIn may opened mid → Settles mid new ⊎ Wears mid new → KeepsOutside may old new
+  pub kept_settled : (mid new : Moment) → WritesIn may opened mid → Settles mid new ⊎ Wears mid new → KeepsOthers may old new
   kept_settled mid new writes (inl settles) s out =
       let turned : (is : IsTrue (open_damage opened.windows s)) → IsTrue (open_damage new.windows s) = λ is.
       subst (λ (w : Windows). IsTrue (open_damage w s)) (sym settles.windows)

@@ -18,7 +18,7 @@ use Rattle.fsd_sound.specs.Format.{IsFormattedIn, format_page, format_anchor}
 -- ---- the image
 
 -- No sector is whole, and no window was opened.
-pub record IsNew (moment : Moment) : Type 0 where
+pub record IsNewImage (moment : Moment) : Type 0 where
   pub damaged : (s : ℕ) → sector_at moment.image s ≡ Damaged
   pub windows : moment.windows ≡ record { present = None; next = None }
 
@@ -71,5 +71,5 @@ abbrev pub format_count : Layout → ℕ
 format_count l = l.pages + l.pages + 16
 
 -- The other sectors stay, but for wear in the windows of before and of now.
-abbrev pub KeepsOutside : Sectors → Moment → Moment → Type 0
-KeepsOutside may old new = (s : ℕ) → IsFalse (may s) → SectorWorn (open_damage old.windows s || open_damage new.windows s) (sector_at old.image s) (sector_at new.image s)
+abbrev pub KeepsOthers : Sectors → Moment → Moment → Type 0
+KeepsOthers may old new = (s : ℕ) → IsFalse (may s) → SectorWorn (open_damage old.windows s || open_damage new.windows s) (sector_at old.image s) (sector_at new.image s)

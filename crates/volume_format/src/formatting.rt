@@ -6,7 +6,7 @@ ghost use Rattle.sector_disk.specs.Machine.{Holds, IsSynced, wrote};
 ghost use Rattle.sector_disk.specs.Written.{WroteMost};
 ghost use Rattle.volume_layout.specs.Layout.{plan};
 ghost use Rattle.version_data.specs.Writing.{WritesIn};
-ghost use Rattle.volume_format.specs.Formatting.{Formats, IsNew, KeepsOutside, format_count, format_writes, head_sector, row, with_head, with_pages, with_volume};
+ghost use Rattle.volume_format.specs.Formatting.{Formats, IsNewImage, KeepsOthers, format_count, format_writes, head_sector, row, with_head, with_pages, with_volume};
 
 use crate::pages::format_page;
 use fsd_formats::Anchor;
@@ -32,10 +32,10 @@ pub fn format<M: Machine>(m: &mut M, l: &Layout) -> Result<(), Failed>
     ensures disk { HealsDisk M.Machine (device_in failed_at result) m.old m.new }
     ensures counted { OnOk result (M.tells m.new → M.ledger m.new ≡ wrote (M.ledger m.old) (format_count l.now)) }
     ensures counted_err { OnErr result (M.tells m.new → WroteMost (format_count l.now) (M.ledger m.old) (M.ledger m.new)) }
-    ensures rest { M.honest m.new → KeepsOutside (format_writes l.now) (M.now m.old) (M.now m.new) }
+    ensures rest { M.honest m.new → KeepsOthers (format_writes l.now) (M.now m.old) (M.now m.new) }
 
     // On a new image an empty volume stands then, also as the window of the format has worn it.
-    ensures done { OnOk result (M.honest m.new → IsNew (M.now m.old) → Formats l.now (M.now m.old) (M.now m.new)) }
+    ensures done { OnOk result (M.honest m.new → IsNewImage (M.now m.old) → Formats l.now (M.now m.old) (M.now m.new)) }
 
     // All of it is on the disk then: to settle is a sync.
     ensures synced { OnOk result (M.honest m.new → IsSynced (M.now m.new)) }

@@ -6,7 +6,7 @@ use Rattle.volume_contract.specs.Ends.{device_of}
 use Rattle.client_desk.specs.declared.client.Client.{Client}
 use Rattle.client_desk.specs.declared.client.Client.TheVariants.{Idle}
 use Rattle.client_desk.specs.Clients.{in_data}
-use Rattle.client_desk.specs.Ends.{EndsPieces, LeavesFor, Serves}
+use Rattle.client_desk.specs.Ends.{EndsPieces, LeavesFor, ServesOpen}
 use Rattle.client_desk.proofs.PieceLaws.{piece_broken}
 use Rattle.client_desk.proofs.desk.piece_of.Goals as goal
 
@@ -22,7 +22,7 @@ returns-in-Err-clause-disk g c =
 
 pub returns-in-Ok-clause-done : goal.returns-in-Ok-clause-done
 returns-in-Ok-clause-done g c h k stands name len runs serial before serves =
-    let writing = subst (λ (x : Client). Serves k.opened x (Writes name len runs serial before)) c.in-Writing.is serves in
+    let writing = subst (λ (x : Client). ServesOpen k.opened x (Writes name len runs serial before)) c.in-Writing.is serves in
     let adds = c.in-Ok.ensures.done h k stands name len runs serial before writing in
     (c.add.new.w, refl, adds.writing.got, adds)
 
@@ -31,7 +31,7 @@ returns-in-Err-clause-done g c h k stands name len runs serial before serves =
     let V = g.V.Files in
     let M = g.M.Machine in
     let w = c.in-Writing.w in
-    let writing = subst (λ (x : Client). Serves k.opened x (Writes name len runs serial before)) c.in-Writing.is serves in
+    let writing = subst (λ (x : Client). ServesOpen k.opened x (Writes name len runs serial before)) c.in-Writing.is serves in
     subst (λ (x : Client). let r : Result ℕ Refusal = Err c.in-Err.why in EndsPieces V.state V.holds k x Idle name len runs serial before c.args.bytes.now c.end.new.v (M.now c.add.new.m) r) (sym c.in-Writing.is)
     (piece_broken V.state V.holds k w c.add.new.w Idle name len runs serial before c.args.bytes.now c.add.new.v c.end.new.v (M.now c.add.new.m) c.in-Err.why writing c.in-Err.ensures.draft
     (λ z there was. c.end.ensures.done z (M.now c.add.new.m) there was) (c.in-Err.ensures.done h k stands name len runs serial before writing))

@@ -1,7 +1,7 @@
 use Rattle.std.proofs.Common.{◌≡◌, ℕ, ◌-◌, List, ◌++◌, length, take, drop, sym, ap, ◌∙◌}
 use Rattle.std.proofs.lemmas.List.{length-drop}
 use Rattle.std.proofs.Math.Seq.{take-length}
-use Rattle.volume_contract.specs.Pieces.{with_opened, wrote}
+use Rattle.volume_contract.specs.Pieces.{with_opened, draft_wrote}
 use Rattle.sector_disk.proofs.CallLaws.{writes_then}
 use Rattle.std.proofs.Common.{append_assoc}
 use Rattle.std.proofs.lemmas.List.{take-append-drop}
@@ -41,7 +41,7 @@ returns-in-Ok-lay-clause-done g c h k stands name len runs serial before writing
     let bytes = c.args.bytes.now in
     let b = c.in-Ok-lay.ensures.disk.trust.honest h in
     let first = c.in-Ok.ensures.done b k stands name len runs serial before writing in
-    let second = c.in-Ok-lay.ensures.done h (with_opened k (wrote k.opened runs first.slices)) first.stands name len runs serial (before ++ take n bytes) first.writing in
+    let second = c.in-Ok-lay.ensures.done h (with_opened k (draft_wrote k.opened runs first.slices)) first.stands name len runs serial (before ++ take n bytes) first.writing in
     adds_then V.state V.holds k c.fill.new.w c.lay.new.w name len runs serial _ (before ++ bytes) first.slices c.lay.new.v (M.now c.lay.new.m) (rest_is n before bytes _ (part_is n bytes)) second
 
 pub returns-in-Err-lay-clause-done : goal.returns-in-Err-lay-clause-done
@@ -52,5 +52,5 @@ returns-in-Err-lay-clause-done g c h k stands name len runs serial before writin
     let bytes = c.args.bytes.now in
     let b = c.in-Err-lay.ensures.disk.trust.honest h in
     let first = c.in-Ok.ensures.done b k stands name len runs serial before writing in
-    let second = c.in-Err-lay.ensures.done h (with_opened k (wrote k.opened runs first.slices)) first.stands name len runs serial (before ++ take n bytes) first.writing in
+    let second = c.in-Err-lay.ensures.done h (with_opened k (draft_wrote k.opened runs first.slices)) first.stands name len runs serial (before ++ take n bytes) first.writing in
     breaks_then V.state V.holds {T = Unit {0}} {U = Unit {0}} (λ x. take (length bytes - n) (drop n bytes)) (λ x. bytes) k c.lay.new.w c.lay.new.w name len runs serial (before ++ take n bytes) before first.slices c.lay.new.v (M.now c.lay.new.m) c.in-Err-lay.why second

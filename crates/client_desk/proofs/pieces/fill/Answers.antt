@@ -3,8 +3,8 @@ use Rattle.std.proofs.lemmas.List.{length-take-le}
 use Rattle.run_table.specs.declared.run.Run.{Run}
 use Rattle.sector_disk.proofs.CallLaws.{writes_more, writes_none}
 use Rattle.client_desk.specs.declared.client.Client.TheVariants.{Writing}
-use Rattle.client_desk.specs.Clients.{data_of, is_due}
-use Rattle.client_desk.specs.Ends.{IsWriting, LeavesFor}
+use Rattle.client_desk.specs.Clients.{draft_sectors, is_due}
+use Rattle.client_desk.specs.Ends.{IsWritingDraft, LeavesFor}
 use Rattle.client_desk.proofs.PieceLaws.{adds_unwritten, adds_written, append_none, leaves_more, leaves_still, slices_refuse, broken_off, due_slices, due_tail, undue_writing, unequal}
 use Rattle.volume_contract.specs.Pieces.{slices_if, slices_in, with_slices}
 use Rattle.client_desk.specs.Clients.{written_len}
@@ -16,32 +16,32 @@ pub returns-then-at-eq0-clause-disk : goal.returns-then-at-eq0-clause-disk
 returns-then-at-eq0-clause-disk g c =
     let V = g.V.Files in
     let at = c.args.m.now in
-    writes_none at (λ left h is. g.met.M.Machine.only_now at left h is) (LeavesFor V.state V.holds c.args.v.now (Writing c.args.w.now) (data_of c.args.w.now))
-    (λ h. leaves_still V.state V.holds c.args.v.now (Writing c.args.w.now) (data_of c.args.w.now) (g.M.Machine.now at))
+    writes_none at (λ left h is. g.met.M.Machine.only_now at left h is) (LeavesFor V.state V.holds c.args.v.now (Writing c.args.w.now) (draft_sectors c.args.w.now))
+    (λ h. leaves_still V.state V.holds c.args.v.now (Writing c.args.w.now) (draft_sectors c.args.w.now) (g.M.Machine.now at))
 
 pub returns-then-at-eq0-clause-done : goal.returns-then-at-eq0-clause-done
 returns-then-at-eq0-clause-done g c h k stands name len runs serial before writing =
     adds_unwritten g.V.Files.state g.V.Files.holds k c.args.v.now (g.M.Machine.now c.args.m.now) c.args.w.now name len runs serial c.args.w.now (before ++ []) stands
-    (subst (λ (xs : List ℕ). IsWriting k.opened c.args.w.now name len runs serial xs) (sym (append_none before)) writing)
+    (subst (λ (xs : List ℕ). IsWritingDraft k.opened c.args.w.now name len runs serial xs) (sym (append_none before)) writing)
 
 pub returns-then-w-clause-disk : goal.returns-then-w-clause-disk
 returns-then-w-clause-disk g c =
     let V = g.V.Files in
     let at = c.args.m.now in
-    writes_none at (λ left h is. g.met.M.Machine.only_now at left h is) (LeavesFor V.state V.holds c.args.v.now (Writing c.args.w.now) (data_of c.args.w.now))
-    (λ h. leaves_still V.state V.holds c.args.v.now (Writing c.args.w.now) (data_of c.args.w.now) (g.M.Machine.now at))
+    writes_none at (λ left h is. g.met.M.Machine.only_now at left h is) (LeavesFor V.state V.holds c.args.v.now (Writing c.args.w.now) (draft_sectors c.args.w.now))
+    (λ h. leaves_still V.state V.holds c.args.v.now (Writing c.args.w.now) (draft_sectors c.args.w.now) (g.M.Machine.now at))
 
 pub returns-then-w-clause-done : goal.returns-then-w-clause-done
 returns-then-w-clause-done g c h k stands name len runs serial before writing =
     adds_unwritten g.V.Files.state g.V.Files.holds k c.args.v.now (g.M.Machine.now c.args.m.now) c.args.w.now name len runs serial c.args.w.now (before ++ []) stands
-    (subst (λ (xs : List ℕ). IsWriting k.opened c.args.w.now name len runs serial xs) (sym (append_none before)) writing)
+    (subst (λ (xs : List ℕ). IsWritingDraft k.opened c.args.w.now name len runs serial xs) (sym (append_none before)) writing)
 
 pub returns-then-not-is_due-clause-disk : goal.returns-then-not-is_due-clause-disk
 returns-then-not-is_due-clause-disk g c =
     let V = g.V.Files in
     let at = c.args.m.now in
-    writes_none at (λ left h is. g.met.M.Machine.only_now at left h is) (LeavesFor V.state V.holds c.args.v.now (Writing c.args.w.now) (data_of c.args.w.now))
-    (λ h. leaves_still V.state V.holds c.args.v.now (Writing c.args.w.now) (data_of c.args.w.now) (g.M.Machine.now at))
+    writes_none at (λ left h is. g.met.M.Machine.only_now at left h is) (LeavesFor V.state V.holds c.args.v.now (Writing c.args.w.now) (draft_sectors c.args.w.now))
+    (λ h. leaves_still V.state V.holds c.args.v.now (Writing c.args.w.now) (draft_sectors c.args.w.now) (g.M.Machine.now at))
 
 pub returns-then-not-is_due-clause-done : goal.returns-then-not-is_due-clause-done
 returns-then-not-is_due-clause-done g c h k stands name len runs serial before writing =
@@ -54,7 +54,7 @@ returns-then-not-is_due-clause-done g c h k stands name len runs serial before w
     let within : w.got % 512 + n ≤ 512 = omega (arith, c.min-count.ensures) in
     adds_unwritten g.V.Files.state g.V.Files.holds k c.args.v.now (g.M.Machine.now c.args.m.now) w name len runs serial (record { name = w.name; draft = w.draft; got = w.got + n; slice = slice }) (before ++ more) stands
     (subst (λ (m : ℕ). is_due w.draft.length (w.got % 512 + m) (w.got + m) ≡ false → w.got % 512 + m ≤ 512 → take (w.got % 512 + m) slice ≡ take (w.got % 512) w.slice ++ more
-    → IsWriting k.opened (record { name = w.name; draft = w.draft; got = w.got + m; slice = slice }) name len runs serial (before ++ more)) size
+    → IsWritingDraft k.opened (record { name = w.name; draft = w.draft; got = w.got + m; slice = slice }) name len runs serial (before ++ more)) size
     (undue_writing k.opened w name len runs serial before more slice writing (unequal w.got w.draft.length c.if-w.false))
     undue within (ap (λ (m : ℕ). take (w.got % 512 + m) slice) (sym size) ∙ c.put_at.ensures.front))
 

@@ -1,8 +1,8 @@
 use Rattle.std.proofs.Common.{◌≡◌, ℕ, List, [], refl, arith, sym, ap, subst, ◌∙◌, inl, inr, set, Result}
 use Rattle.client_desk.specs.declared.client.Client.{Client}
 use Rattle.client_desk.specs.declared.client.Client.TheVariants.{Writing}
-use Rattle.client_desk.specs.Clients.{AreApart, IsDesk, IsOf, client_at, fault_in}
-use Rattle.client_desk.specs.Ends.{Answers}
+use Rattle.client_desk.specs.Clients.{ShareNothing, IsDesk, IsOf, client_at, fault_in}
+use Rattle.client_desk.specs.Ends.{AnswersAs}
 use Rattle.client_desk.proofs.DeskLaws.{found_idle, taken_beside}
 use Rattle.client_desk.proofs.SitsLaws.{client_device, idle_fault, begin_declined, begin_done, begin_refused}
 use Rattle.sector_disk.proofs.CallLaws.{writes_none, writes_told}
@@ -14,7 +14,7 @@ use Rattle.volume_contract.specs.State.{Leaves, forced_of}
 use Rattle.fsd_files.specs.Desk.{begin_outcome}
 use Rattle.fsd_files.specs.declared.reply.Reply.TheVariants.{Begun}
 use Rattle.volume_contract.specs.Order.{with_drawn}
-use Rattle.volume_contract.specs.Pieces.{Begins, IsDraft, Reserves, Takes}
+use Rattle.volume_contract.specs.Pieces.{Begins, IsDraft, Reserves, TakesPlace}
 use Rattle.volume_contract.specs.declared.token.Draft.{Draft}
 use Rattle.client_desk.proofs.DeskLaws.{desk_same, desk_takes, looks_middle, of_same}
 use Rattle.client_desk.proofs.desk.Desk.begin.Given as given
@@ -63,10 +63,10 @@ returns-in-Ok-reserve-clause-done g c h k clients sits =
     let length_is = c.in-Ok.ensures.inside.1 in
     let e = c.in-Ok-reserve.ensures in
     let is_draft : IsOf t (Writing x) = subst (λ (y : Draft). IsDraft t y) (sym c.begun.ensures.draft) e.keeps.draft.1 in
-    let takes : Takes x.draft.runs (with_drawn e.keeps.kept.middle) t = subst (λ (y : Draft). Takes y.runs (with_drawn e.keeps.kept.middle) t) (sym c.begun.ensures.draft) e.keeps.kept.takes in
-    let apart : (j : ℕ) → (j ≡ i → ⊥) → AreApart (Writing x) (client_at desk j) = λ j other. (taken_beside (with_drawn e.keeps.kept.middle) t x (client_at desk j) takes (of_same s (with_drawn e.keeps.kept.middle) (client_at desk j) (looks_middle s e.keeps.kept.middle e.keeps.kept.went) (c.requires.desk.each j))).0 in
-    subst (λ (w : V-of g). Answers V.state V.holds (λ y. begin_outcome y c.args.c c.args.name.now c.args.length) (Begun c.args.c) [] k clients w c.set.new.self (M.now c.reserve.new.m)) (sym c.set.ensures.volume)
-    (subst (λ (y : List Client). Answers V.state V.holds (λ z. begin_outcome z c.args.c c.args.name.now c.args.length) (Begun c.args.c) [] k clients c.reserve.new.self y (M.now c.reserve.new.m)) (sym c.set.ensures.clients)
+    let takes : TakesPlace x.draft.runs (with_drawn e.keeps.kept.middle) t = subst (λ (y : Draft). TakesPlace y.runs (with_drawn e.keeps.kept.middle) t) (sym c.begun.ensures.draft) e.keeps.kept.takes in
+    let apart : (j : ℕ) → (j ≡ i → ⊥) → ShareNothing (Writing x) (client_at desk j) = λ j other. (taken_beside (with_drawn e.keeps.kept.middle) t x (client_at desk j) takes (of_same s (with_drawn e.keeps.kept.middle) (client_at desk j) (looks_middle s e.keeps.kept.middle e.keeps.kept.went) (c.requires.desk.each j))).0 in
+    subst (λ (w : V-of g). AnswersAs V.state V.holds (λ y. begin_outcome y c.args.c c.args.name.now c.args.length) (Begun c.args.c) [] k clients w c.set.new.self (M.now c.reserve.new.m)) (sym c.set.ensures.volume)
+    (subst (λ (y : List Client). AnswersAs V.state V.holds (λ z. begin_outcome z c.args.c c.args.name.now c.args.length) (Begun c.args.c) [] k clients c.reserve.new.self y (M.now c.reserve.new.m)) (sym c.set.ensures.clients)
     (begin_done V.state V.holds t c.args.c c.args.name.now c.args.length i k clients c.args.v.now c.reserve.new.self desk (M.now c.args.m.now) (M.now c.reserve.new.m) x
     (omega (arith, c.in-Ok.ensures.inside.0, length_is)) length_is (found_idle desk c.args.c i (sym c.in-Ok.ensures.is)) is_draft apart c.begun.ensures.name (ap (λ (y : Draft). y.length) c.begun.ensures.draft ∙ e.keeps.draft.0) c.begun.ensures.got
     sits (subst (λ (y : Draft). Begins V.state V.holds c.args.length k c.reserve.new.self (M.now c.reserve.new.m) y) (sym c.begun.ensures.draft) (e.done h k sits.stands))))
@@ -110,7 +110,7 @@ returns-in-Ok-reserve-clause-state g c =
     let desk = c.args.self.now in
     let e = c.in-Ok-reserve.ensures in
     let is_draft : IsDraft t x.draft = subst (λ (y : Draft). IsDraft t y) (sym c.begun.ensures.draft) e.keeps.draft.1 in
-    let takes : Takes x.draft.runs (with_drawn e.keeps.kept.middle) t = subst (λ (y : Draft). Takes y.runs (with_drawn e.keeps.kept.middle) t) (sym c.begun.ensures.draft) e.keeps.kept.takes in
+    let takes : TakesPlace x.draft.runs (with_drawn e.keeps.kept.middle) t = subst (λ (y : Draft). TakesPlace y.runs (with_drawn e.keeps.kept.middle) t) (sym c.begun.ensures.draft) e.keeps.kept.takes in
     let need = sectors_for c.args.length in
     let at = found_idle desk c.args.c c.in-Ok.place (sym c.in-Ok.ensures.is) in
     record {

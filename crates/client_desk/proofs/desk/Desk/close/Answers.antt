@@ -8,12 +8,12 @@ use Rattle.fsd_sound.specs.Writes.{force_writes}
 use Rattle.volume_contract.specs.Ends.{device_of}
 use Rattle.fsd_bytes.specs.declared.key.Key.{Key}
 use Rattle.fsd_bytes.specs.declared.refusal.Refusal.{Refusal}
-use Rattle.volume_contract.specs.Order.{Keeps, enter_steps}
+use Rattle.volume_contract.specs.Order.{KeepsRefused, enter_steps}
 use Rattle.volume_contract.specs.State.{GoesOn, HasCounted, Leaves, downs_for, forces_first}
 use Rattle.client_desk.specs.declared.client.Client.{Client}
 use Rattle.client_desk.specs.declared.client.Client.TheVariants.{Idle}
 use Rattle.client_desk.specs.Clients.{Continues, client_at, EntersFor, fault_in, in_first, IsDesk, IsNamed, IsWholeOne, too_short}
-use Rattle.client_desk.specs.Ends.{Closes, EndsClose, EndsEntering}
+use Rattle.client_desk.specs.Ends.{ClosesDraft, EndsClose, EndsEntering}
 use Rattle.client_desk.proofs.CreationLaws.{close_done, close_failed, close_refused, close_short, leaves_as_was, serves_so, short_device, writes_as, writes_so}
 use Rattle.client_desk.proofs.DeskLaws.{desk_enters, desk_same, found_writing}
 use Rattle.client_desk.proofs.SitsLaws.{client_device, clients_are, writing_fault}
@@ -61,8 +61,8 @@ returns-in-Ok-closed-clause-done g c h k clients sits =
     (c.close_of-client.ensures.done h k sits.stands was.name was.len was.runs was.serial was.bytes serves) in
     let whole : IsWholeOne (client_at desk i) = c.in-None.ensures.whole refl (writes_so desk i at) in
     let self = clients_are desk c.take.new.self c.set.new.self i x c.set.ensures.clients c.take.ensures.clients ∙ ap (λ (z : Client). set desk i z) idle in
-    subst (λ (u : V-of g). Closes V.state V.holds c.args.c k clients u c.set.new.self now key) (sym c.set.ensures.volume)
-    (subst (λ (y : List Client). Closes V.state V.holds c.args.c k clients w y now key) (sym self)
+    subst (λ (u : V-of g). ClosesDraft V.state V.holds c.args.c k clients u c.set.new.self now key) (sym c.set.ensures.volume)
+    (subst (λ (y : List Client). ClosesDraft V.state V.holds c.args.c k clients w y now key) (sym self)
     (close_done V.state V.holds c.args.c i k clients v desk old at sits s w now (omega (arith, inside.0, inside.1)) inside.1 (c.requires.desk.each i) (λ j other. c.requires.desk.apart i j (λ same. other (sym same))) key whole ends))
 
 pub returns-in-Err-closed-clause-done : goal.returns-in-Err-closed-clause-done
@@ -196,7 +196,7 @@ returns-in-Ok-closed-clause-state g c =
     let enters = subst (λ (r : Result Key Refusal). MatchResult r (λ key. EntersFor c.take.result s (V.state w)) (λ why. GoesOn (downs_for why) s (V.state w))) c.in-Ok-closed.is c.close_of-client.ensures.state in
     let so = subst (λ (z : Client). EntersFor z s (V.state w)) (c.take.ensures.client ∙ at.is.1) enters in
     let self = clients_are desk c.take.new.self c.set.new.self i x c.set.ensures.clients c.take.ensures.clients ∙ ap (λ (z : Client). set desk i z) idle in
-    let counted = subst (λ (r : Result Key Refusal). MatchResult r (λ key. HasCounted false (forces_first s) s (V.state w)) (λ why. Keeps (enter_steps s None (in_first c.take.result)) why s (V.state w))) c.in-Ok-closed.is c.close_of-client.ensures.kept in
+    let counted = subst (λ (r : Result Key Refusal). MatchResult r (λ key. HasCounted false (forces_first s) s (V.state w)) (λ why. KeepsRefused (enter_steps s None (in_first c.take.result)) why s (V.state w))) c.in-Ok-closed.is c.close_of-client.ensures.kept in
     record {
       desk = subst (λ (u : V-of g). IsDesk (V.state u) c.set.new.self) (sym c.set.ensures.volume)
           (subst (λ (y : List Client). IsDesk (V.state w) y) (sym self)
@@ -224,7 +224,7 @@ returns-in-Err-closed-clause-state g c =
     let self = clients_are desk c.take.new.self c.set.new.self i x c.set.ensures.clients c.take.ensures.clients ∙ ap (λ (z : Client). set desk i z) (back ∙ c.take.ensures.client) ∙ set-get_or desk i Idle in
     let why = c.in-Err-closed.why in
     let at = found_writing desk c.args.c i (sym c.in-Ok.ensures.is) in
-    let keeps = subst (λ (r : Result Key Refusal). MatchResult r (λ key. HasCounted false (forces_first s) s (V.state w)) (λ z. Keeps (enter_steps s None (in_first c.take.result)) z s (V.state w))) c.in-Err-closed.is c.close_of-client.ensures.kept in
+    let keeps = subst (λ (r : Result Key Refusal). MatchResult r (λ key. HasCounted false (forces_first s) s (V.state w)) (λ z. KeepsRefused (enter_steps s None (in_first c.take.result)) z s (V.state w))) c.in-Err-closed.is c.close_of-client.ensures.kept in
     record {
       desk = subst (λ (u : V-of g). IsDesk (V.state u) c.set.new.self) (sym c.set.ensures.volume)
           (subst (λ (y : List Client). IsDesk (V.state w) y) (sym self)
@@ -237,8 +237,8 @@ returns-in-Err-closed-clause-state g c =
           ap (λ (r : Result ℕ Refusal). fault_in r) (sym c.in-Ok.ensures.is),
           inr (
             ap (λ (n : ℕ). too_short (client_at desk n)) (sym at.place) ∙ sym c.in-None.ensures.is,
-            subst (λ (u : V-of g). Keeps (enter_steps s None (in_first (client_at desk (c.args.c - 1)))) why s (V.state u)) (sym c.set.ensures.volume)
-                (subst (λ (z : Client). Keeps (enter_steps s None (in_first z)) why s (V.state w)) (c.take.ensures.client ∙ ap (λ (n : ℕ). client_at desk n) at.place) keeps),
+            subst (λ (u : V-of g). KeepsRefused (enter_steps s None (in_first (client_at desk (c.args.c - 1)))) why s (V.state u)) (sym c.set.ensures.volume)
+                (subst (λ (z : Client). KeepsRefused (enter_steps s None (in_first z)) why s (V.state w)) (c.take.ensures.client ∙ ap (λ (n : ℕ). client_at desk n) at.place) keeps),
           ),
         );
       };

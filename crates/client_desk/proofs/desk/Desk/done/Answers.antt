@@ -1,7 +1,7 @@
 use Rattle.std.proofs.Common.{ℕ, List, arith, set, sym, ap, subst, ◌∙◌}
 use Rattle.client_desk.specs.declared.client.Client.{Client}
 use Rattle.client_desk.specs.declared.client.Client.TheVariants.{Idle}
-use Rattle.client_desk.specs.Clients.{GivesUp, IsDesk, client_at}
+use Rattle.client_desk.specs.Clients.{GivesUpPart, IsDesk, client_at}
 use Rattle.client_desk.proofs.DeskLaws.{desk_ends, found_reading}
 use Rattle.client_desk.proofs.HeldLaws.{answers_held}
 use Rattle.client_desk.proofs.SitsLaws.{AnswersBy, done_done, done_refused}
@@ -36,5 +36,5 @@ returns-in-Ok-clause-kept g c =
     let at = found_reading desk c.args.c c.in-Ok.place (sym c.in-Ok.ensures.is) in
     record {
       desk = c.end_at.ensures.clients ∙ ap (λ (n : ℕ). set desk n Idle) at.place;
-      volume = subst (λ (n : ℕ). GivesUp (client_at desk n) (V.state c.args.v.now) (V.state c.end_at.new.v)) at.place c.end_at.ensures.state;
+      volume = subst (λ (n : ℕ). GivesUpPart (client_at desk n) (V.state c.args.v.now) (V.state c.end_at.new.v)) at.place c.end_at.ensures.state;
     }

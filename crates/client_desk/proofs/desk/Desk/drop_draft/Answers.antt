@@ -1,8 +1,8 @@
 use Rattle.std.proofs.Common.{ℕ, List, [], arith, set, sym, ap, subst, ◌∙◌}
 use Rattle.client_desk.specs.declared.client.Client.{Client}
 use Rattle.client_desk.specs.declared.client.Client.TheVariants.{Idle}
-use Rattle.client_desk.specs.Clients.{GivesUp, IsDesk, client_at}
-use Rattle.client_desk.specs.Ends.{Answers}
+use Rattle.client_desk.specs.Clients.{GivesUpPart, IsDesk, client_at}
+use Rattle.client_desk.specs.Ends.{AnswersAs}
 use Rattle.client_desk.proofs.DeskLaws.{desk_ends, found_writing}
 use Rattle.client_desk.proofs.SitsLaws.{drop_done, drop_refused}
 use Rattle.fsd_files.specs.Desk.{drop_outcome}
@@ -23,7 +23,7 @@ pub returns-in-Ok-clause-done : goal.returns-in-Ok-clause-done
 returns-in-Ok-clause-done g c k clients now sits =
     let V = g.V.Files in
     let i = c.in-Ok.place in
-    subst (λ (x : List Client). Answers V.state V.holds (λ s. drop_outcome s c.args.c) (Dropped c.args.c) [] k clients c.end_at.new.v x now) (sym c.end_at.ensures.clients)
+    subst (λ (x : List Client). AnswersAs V.state V.holds (λ s. drop_outcome s c.args.c) (Dropped c.args.c) [] k clients c.end_at.new.v x now) (sym c.end_at.ensures.clients)
     (drop_done V.state V.holds (V.state c.args.v.now) c.args.c i k clients c.args.v.now c.end_at.new.v c.args.self.now now now (omega (arith, c.in-Ok.ensures.inside.0, c.in-Ok.ensures.inside.1)) c.in-Ok.ensures.inside.1
     (c.requires.each i) (λ j other. c.requires.apart i j (λ same. other (sym same))) sits (c.end_at.ensures.done k now)
     (found_writing c.args.self.now c.args.c i (sym c.in-Ok.ensures.is)))
@@ -35,5 +35,5 @@ returns-in-Ok-clause-kept g c =
     let at = found_writing desk c.args.c c.in-Ok.place (sym c.in-Ok.ensures.is) in
     record {
       desk = c.end_at.ensures.clients ∙ ap (λ (n : ℕ). set desk n Idle) at.place;
-      volume = subst (λ (n : ℕ). GivesUp (client_at desk n) (V.state c.args.v.now) (V.state c.end_at.new.v)) at.place c.end_at.ensures.state;
+      volume = subst (λ (n : ℕ). GivesUpPart (client_at desk n) (V.state c.args.v.now) (V.state c.end_at.new.v)) at.place c.end_at.ensures.state;
     }

@@ -2,7 +2,7 @@ use Rattle.std.proofs.Common.{◌≡◌, ◌<◌, ◌∙◌, ℕ, set, List, Opt
 use Rattle.run_table.specs.declared.run.Run.{Run}
 use Rattle.fsd_bytes.specs.declared.refusal.Refusal.TheVariants as Why
 use Rattle.volume_contract.specs.Absent.{ShowsReached}
-use Rattle.volume_contract.specs.Causes.{HasCause}
+use Rattle.volume_contract.specs.Causes.{HasCallCause}
 use Rattle.volume_contract.specs.Found.{HasEntry}
 use Rattle.volume_contract.specs.Pieces.{HoldsAt}
 use Rattle.volume_contract.specs.State.{State}
@@ -106,7 +106,7 @@ returns-in-Err-clause-causes g c =
     let why = c.in-Err.why in
     let of = idle_fault c.args.self.now c.args.c why (sym c.in-Err.ensures.is) in
     record {
-      causes = λ h. told_so (λ r. Unit {0}) (λ r. HasCause s s (V.resident c.args.v.now) at at r) c.args.c why (λ told. tt) (λ told. tt) (λ told. tt) of tt;
+      causes = λ h. told_so (λ r. Unit {0}) (λ r. HasCallCause s s (V.resident c.args.v.now) at at r) c.args.c why (λ told. tt) (λ told. tt) (λ told. tt) of tt;
       absent = λ is. absurd (told_so (λ r. r ≡ Why.NoSuch) (λ r. ⊥) c.args.c why (λ e. cc e) (λ e. cc e) (λ e. cc e) of (cc is));
       found = tt;
     }

@@ -8,8 +8,8 @@ use Rattle.volume_contract.specs.Order.{Comes, Follows, slices_steps}
 use Rattle.volume_contract.specs.State.{State}
 use Rattle.client_desk.specs.declared.client.Client.{Client}
 use Rattle.client_desk.specs.declared.client.Client.TheVariants.{Idle, Writing}
-use Rattle.client_desk.specs.Clients.{Continuing, EndsAt, GivesUp, HasRoom, IsDesk, client_at, in_data}
-use Rattle.client_desk.specs.Ends.{Answers, EndsPiece, EndsPieces, LeavesFor, LeavesOf}
+use Rattle.client_desk.specs.Clients.{Continuing, EndsDraftAt, GivesUpPart, MayCome, IsDesk, client_at, in_data}
+use Rattle.client_desk.specs.Ends.{AnswersAs, EndsPiece, EndsPieces, LeavesFor, LeavesOf}
 use Rattle.fsd_files.specs.Desk.{piece_outcome}
 use Rattle.fsd_files.specs.declared.reply.Reply.TheVariants.{Took}
 use Rattle.client_desk.proofs.CreationLaws.{broken_at, client_stays, leaves_all, leaves_of, long_device, long_stays, piece_done, piece_failed, piece_long, piece_refused, serves_so, writes_as, writes_so}
@@ -54,9 +54,9 @@ returns-in-Ok-came-clause-done g c h k clients sits =
     let told = subst (λ (r : Result ℕ Refusal). EndsPieces V.state V.holds k c.take.result x was.name was.len was.runs was.serial was.bytes bytes w now r) c.in-Ok-came.is
     (c.piece_of-client.ensures.done h k sits.stands was.name was.len was.runs was.serial was.bytes serves) in
     let ends = subst (λ (z : Client). let r : Result ℕ Refusal = Ok n in EndsPieces V.state V.holds k z x was.name was.len was.runs was.serial was.bytes bytes w now r) c.take.ensures.client told in
-    let room : HasRoom (client_at desk i) (length bytes) = c.in-None.ensures.room refl (writes_so desk i at) in
-    subst (λ (u : V-of g). Answers V.state V.holds (λ z. piece_outcome z c.args.c bytes) (Took c.args.c n) [] k clients u c.set.new.self now) (sym c.set.ensures.volume)
-    (subst (λ (y : List Client). Answers V.state V.holds (λ z. piece_outcome z c.args.c bytes) (Took c.args.c n) [] k clients w y now) (sym (clients_are desk c.take.new.self c.set.new.self i x c.set.ensures.clients c.take.ensures.clients))
+    let room : MayCome (client_at desk i) (length bytes) = c.in-None.ensures.room refl (writes_so desk i at) in
+    subst (λ (u : V-of g). AnswersAs V.state V.holds (λ z. piece_outcome z c.args.c bytes) (Took c.args.c n) [] k clients u c.set.new.self now) (sym c.set.ensures.volume)
+    (subst (λ (y : List Client). AnswersAs V.state V.holds (λ z. piece_outcome z c.args.c bytes) (Took c.args.c n) [] k clients w y now) (sym (clients_are desk c.take.new.self c.set.new.self i x c.set.ensures.clients c.take.ensures.clients))
     (piece_done V.state V.holds c.args.c i k clients v desk old at sits s w now (omega (arith, inside.0, inside.1)) inside.1 (c.requires.desk.each i) (λ j other. c.requires.desk.apart i j (λ same. other (sym same))) x bytes n room ends))
 
 pub returns-in-Err-came-clause-done : goal.returns-in-Err-came-clause-done
@@ -77,7 +77,7 @@ returns-in-Err-came-clause-done g c h k clients sits =
     let at = found_writing desk c.args.c i (sym c.in-Ok.ensures.is) in
     let was = writes_as V.state V.holds c.args.c i k clients v desk old at sits in
     let serves = serves_so V.state V.holds c.args.c i k clients v desk old at sits c.take.result c.take.ensures.client in
-    let went = subst (λ (r : Result ℕ Refusal). MatchResult r (λ m. (V.state w ≡ V.state c.args.v.now) × Continuing (length c.args.bytes.now) m c.take.result x) (λ z. GivesUp c.take.result (V.state c.args.v.now) (V.state w) × (x ≡ Idle))) c.in-Err-came.is c.piece_of-client.ensures.client in
+    let went = subst (λ (r : Result ℕ Refusal). MatchResult r (λ m. (V.state w ≡ V.state c.args.v.now) × Continuing (length c.args.bytes.now) m c.take.result x) (λ z. GivesUpPart c.take.result (V.state c.args.v.now) (V.state w) × (x ≡ Idle))) c.in-Err-came.is c.piece_of-client.ensures.client in
     let told = subst (λ (r : Result ℕ Refusal). EndsPieces V.state V.holds k c.take.result x was.name was.len was.runs was.serial was.bytes bytes w now r) c.in-Err-came.is
     (c.piece_of-client.ensures.done h k sits.stands was.name was.len was.runs was.serial was.bytes serves) in
     let ends = subst (λ (z : Client). let r : Result ℕ Refusal = Err why in EndsPieces V.state V.holds k z x was.name was.len was.runs was.serial was.bytes bytes w now r) c.take.ensures.client told in
@@ -149,7 +149,7 @@ returns-in-Ok-came-clause-state g c =
     let x = c.piece_of-client.result.0 in
     let w = c.piece_of-client.new.v in
     let n = c.in-Ok-came.total in
-    let went = subst (λ (r : Result ℕ Refusal). MatchResult r (λ m. (V.state w ≡ V.state c.args.v.now) × Continuing (length c.args.bytes.now) m c.take.result x) (λ why. GivesUp c.take.result (V.state c.args.v.now) (V.state w) × (x ≡ Idle))) c.in-Ok-came.is c.piece_of-client.ensures.client in
+    let went = subst (λ (r : Result ℕ Refusal). MatchResult r (λ m. (V.state w ≡ V.state c.args.v.now) × Continuing (length c.args.bytes.now) m c.take.result x) (λ why. GivesUpPart c.take.result (V.state c.args.v.now) (V.state w) × (x ≡ Idle))) c.in-Ok-came.is c.piece_of-client.ensures.client in
     let goes = subst (λ (z : Client). Continuing (length c.args.bytes.now) n z x) c.take.ensures.client went.1 in
     let same = ap (λ (u : V-of g). V.state u) c.set.ensures.volume ∙ went.0 in
     let at = found_writing desk c.args.c i (sym c.in-Ok.ensures.is) in
@@ -177,8 +177,8 @@ returns-in-Err-came-clause-state g c =
     let x = c.piece_of-client.result.0 in
     let w = c.piece_of-client.new.v in
     let s = V.state c.args.v.now in
-    let went = subst (λ (r : Result ℕ Refusal). MatchResult r (λ m. (V.state w ≡ V.state c.args.v.now) × Continuing (length c.args.bytes.now) m c.take.result x) (λ why. GivesUp c.take.result (V.state c.args.v.now) (V.state w) × (x ≡ Idle))) c.in-Err-came.is c.piece_of-client.ensures.client in
-    let gives = subst (λ (z : Client). GivesUp z s (V.state w)) c.take.ensures.client went.0 in
+    let went = subst (λ (r : Result ℕ Refusal). MatchResult r (λ m. (V.state w ≡ V.state c.args.v.now) × Continuing (length c.args.bytes.now) m c.take.result x) (λ why. GivesUpPart c.take.result (V.state c.args.v.now) (V.state w) × (x ≡ Idle))) c.in-Err-came.is c.piece_of-client.ensures.client in
+    let gives = subst (λ (z : Client). GivesUpPart z s (V.state w)) c.take.ensures.client went.0 in
     let self = clients_are desk c.take.new.self c.set.new.self i x c.set.ensures.clients c.take.ensures.clients ∙ ap (λ (z : Client). set desk i z) went.1 in
     let at = found_writing desk c.args.c i (sym c.in-Ok.ensures.is) in
     let comes : Comes (slices_steps s (in_data c.take.result)) c.in-Err-came.why = subst (λ (r : Result ℕ Refusal). Follows (slices_steps s (in_data c.take.result)) r) c.in-Err-came.is c.piece_of-client.ensures.order in
@@ -186,7 +186,7 @@ returns-in-Err-came-clause-state g c =
       desk = subst (λ (u : V-of g). IsDesk (V.state u) c.set.new.self) (sym c.set.ensures.volume)
           (subst (λ (y : List Client). IsDesk (V.state w) y) (sym self)
           (desk_ends s (V.state w) desk i (omega (arith, c.in-Ok.ensures.inside.0, c.in-Ok.ensures.inside.1)) c.requires.desk gives));
-      kept = subst (λ (n : ℕ). EndsAt c.in-Err-came.why n desk c.set.new.self s (V.state c.set.new.v)) at.place
+      kept = subst (λ (n : ℕ). EndsDraftAt c.in-Err-came.why n desk c.set.new.self s (V.state c.set.new.v)) at.place
           (broken_at s (in_data c.take.result) i desk c.set.new.self s (V.state c.set.new.v) c.in-Err-came.why comes
-          (record { desk = self; volume = subst (λ (u : V-of g). GivesUp (client_at desk i) s (V.state u)) (sym c.set.ensures.volume) gives }));
+          (record { desk = self; volume = subst (λ (u : V-of g). GivesUpPart (client_at desk i) s (V.state u)) (sym c.set.ensures.volume) gives }));
     }
