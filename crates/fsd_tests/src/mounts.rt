@@ -2,7 +2,7 @@
 use crate::machines::{calm, repeated};
 use fsd_sound::MountFault;
 use log_record::lay;
-use mount_recover::{Settled, recover};
+use mount_recover::{SettledVolume, recover};
 use sector_disk::{Attach, Machine, MemoryMachine, Sector};
 use std::alloc::{AllocError, Global};
 use std::test::Fail;
@@ -61,7 +61,7 @@ fn homed(alloc: Global, whole: &[Placed]) -> Result<Vec<Sector>, AllocError> {
 fn mount(alloc: Global, m: &mut MemoryMachine) -> Result<Result<(u32, u32), MountFault>, Fail> {
     let sectors = m.attach("v", Attach::Old)?;
     Ok(match recover(alloc, m, sectors) {
-        Ok(Settled { log, .. }) => Ok((log.epoch(), log.next_number())),
+        Ok(SettledVolume { log, .. }) => Ok((log.epoch(), log.next_number())),
         Err(fault) => Err(fault),
     })
 }

@@ -4,9 +4,9 @@ ghost use Rattle.std.specs.Prelude.{◌≡◌, ◌<◌, ◌≤◌};
 
 use crate::machines::{calm, formatted, stop_in};
 use crate::waiting::force_page;
-use group_commit::Forced;
+use group_commit::ForcedPages;
 use log_thirds::Log;
-use mount_recover::{Settled, recover};
+use mount_recover::{SettledVolume, recover};
 use sector_disk::{Attach, Event, LoadFault, Machine, MemoryMachine, Sector};
 use std::alloc::Global;
 use std::test::Fail;
@@ -33,13 +33,13 @@ fn come_round(
     alloc: Global,
     page: u32,
     events: &[Event],
-) -> Result<(MemoryMachine, Option<Result<Forced, LoadFault>>), Fail>
+) -> Result<(MemoryMachine, Option<Result<ForcedPages, LoadFault>>), Fail>
     requires { page < 16 }
 {
     let m = calm(alloc, formatted(alloc, FORMAT)?);
     let mut m = m.again(events.to_vec(alloc)?, Vec::new(alloc));
     let sectors = m.attach("w", Attach::Old)?;
-    let Settled { layout, mut log } = recover(alloc, &mut m, sectors)?;
+    let SettledVolume { layout, mut log } = recover(alloc, &mut m, sectors)?;
     if layout.pages() != 16 || fill(alloc, &mut m, &mut log, page).is_none() {
         return Ok((m, None));
     }
@@ -75,7 +75,7 @@ fn a_page_of_the_first_third_goes_home_first(rt: HostRuntime) -> Result<(), Fail
     );
     assert_eq!(rt; record_mounted(alloc, m)?, Some(1));
     let (m, forced) = come_round(alloc, 6, &[])?;
-    assert_eq!(rt; forced, Some(Ok(Forced { pages: 1 })));
+    assert_eq!(rt; forced, Some(Ok(ForcedPages { pages: 1 })));
     assert_eq!(rt;
         (record_at(&m, 621), record_at(&m, 641)),
         (Some(1), Some(1))

@@ -3,7 +3,7 @@ ghost use Rattle.std.specs.Prelude.{◌≡◌, ◌<◌, ◌≤◌, take, codes, 
 ghost use Rattle.fsd_bytes.specs.Bytes.{u32_at};
 ghost use Rattle.group_commit.specs.Cached.{AreWaiting};
 
-use group_commit::{Forced, Group, Newest, RecordRoom};
+use group_commit::{ForcedPages, Group, Newest, RecordRoom};
 use log_thirds::Log;
 use name_page::write_free;
 use page_cache::Cache;
@@ -40,7 +40,7 @@ pub(crate) fn force_page<M: Machine>(
     m: &mut M,
     log: &mut Log,
     page: u32,
-) -> Option<Result<Forced, LoadFault>>
+) -> Option<Result<ForcedPages, LoadFault>>
     requires page { page < log.old.layout.pages }
     requires sectors { log.old.layout.sectors ≤ (M.report m.old).sectors }
     ensures layout { log.new.layout ≡ log.old.layout }

@@ -12,7 +12,7 @@ use Rattle.name_page.specs.declared.entries.Side.TheVariants.{Lesser, Greater}
 use Rattle.name_page.specs.Edits.{is_on, beside, without}
 use Rattle.name_page.specs.Lookups.{entry_with}
 use Rattle.name_btree.specs.declared.lookup.FoundEntry.{FoundEntry}
-use Rattle.name_btree.specs.Lookup.{entry_of}
+use Rattle.name_btree.specs.Lookup.{found_entry}
 use Rattle.name_btree.specs.Map.{without_all}
 use Rattle.name_btree.specs.Replace.{HasAsLong}
 
@@ -53,7 +53,7 @@ still_new before after key keys same new = λ height tree.
     (subst (λ (pages : List (List ℕ)). entry_with key (table_of pages height) ≡ None) (sym same) (new height (subst (λ (pages : List (List ℕ)). IsTree pages height) same tree)))
 
 pub none_found : (pages : List (List ℕ)) (key : Key) (found : Option FoundEntry) → is_some found ≡ false
-    → ((height : ℕ) → IsTree pages height → entry_of found ≡ entry_with key (table_of pages height))
+    → ((height : ℕ) → IsTree pages height → found_entry found ≡ entry_with key (table_of pages height))
     → (height : ℕ) → IsTree pages height → entry_with key (table_of pages height) ≡ None
 none_found pages key None none at = λ height tree. sym (at height tree)
 none_found pages key (Some f) none at = absurd cc
@@ -62,9 +62,9 @@ none_found pages key (Some f) none at = absurd cc
 
 -- the pages are still those in which an entry as long has the key
 pub still_as_long : (before after : List (List ℕ)) (entry : Entry) (found : Option FoundEntry) (old : FoundEntry) → after ≡ before → found ≡ Some old
-    → ((height : ℕ) → IsTree before height → entry_of found ≡ entry_with entry.key (table_of before height))
+    → ((height : ℕ) → IsTree before height → found_entry found ≡ entry_with entry.key (table_of before height))
     → length (entry_bytes old.entry) ≡ length (entry_bytes entry) → (height : ℕ) → IsTree after height → HasAsLong entry (table_of after height)
 still_as_long before after entry found old same is at long = λ height tree.
     let there : entry_with entry.key (table_of before height) ≡ Some old.entry =
-    sym (at height (subst (λ (pages : List (List ℕ)). IsTree pages height) same tree)) ∙ ap entry_of is in
+    sym (at height (subst (λ (pages : List (List ℕ)). IsTree pages height) same tree)) ∙ ap found_entry is in
     (old.entry, subst (λ (pages : List (List ℕ)). entry_with entry.key (table_of pages height) ≡ Some old.entry) (sym same) there, long)

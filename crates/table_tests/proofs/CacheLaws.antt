@@ -4,7 +4,7 @@ use Rattle.std.specs.Prelude.{◌==◌}
 use Rattle.std.specs.Map.{lookup}
 use Rattle.std.specs.Option.{option_map_or}
 use Rattle.std.proofs.lemmas.Bool.{ne_eqb, eqb-false}
-use Rattle.page_cache.specs.Cache.{CacheValue, Held, IsCache, IsBusy, IsResident, pins_of, is_idle, busy, leaver, staying, frame_for, entered, with_bytes, with_dirty, with_pins, cleaned}
+use Rattle.page_cache.specs.Cache.{CacheValue, Held, IsCache, IsBusy, IsResident, pins_of, may_leave, busy, leaver, staying, frame_for, entered_page, page_written, with_dirty, with_pins, cleaned}
 use Rattle.table_tests.specs.Caches.{HasFirst, HasMarks}
 use Rattle.page_cache.proofs.Entries.{by_bool}
 use Rattle.page_cache.proofs.CacheLaws.{altered_lookup, altered_there}
@@ -18,7 +18,7 @@ module _ (n : ℕ) (bytes : List ℕ) (c : CacheValue) (h : HasFirst n c) (few :
   stays = ap (λ o. staying o c.resident) none_goes
 
   -- one page more enters
-  pub first_enters : busy (entered n bytes c) ≡ busy c → HasFirst (n + 1) (entered n bytes c)
+  pub first_enters : busy (entered_page n bytes c) ≡ busy c → HasFirst (n + 1) (entered_page n bytes c)
   first_enters idle = record {
     frames = h.frames;
     count = (let e = ap length stays in let k = h.count in omega arith);
@@ -45,7 +45,7 @@ pub marks_stay : (page : ℕ) (old new : CacheValue) → IsCache old → Fetched
 marks_stay page old new whole at frames idle h =
     let keeps = fetched_stays page old new whole at in
     let same = fetched_dirty page old new at in
-    let again : (q : ℕ) (x : Held) → IsBusy old q x → IsBusy new q x = λ q x b. (keeps q x b, subst (λ (ds : List ℕ). is_idle ds q x.pins ≡ false) (sym same) b.1) in
+    let again : (q : ℕ) (x : Held) → IsBusy old q x → IsBusy new q x = λ q x b. (keeps q x b, subst (λ (ds : List ℕ). may_leave ds q x.pins ≡ false) (sym same) b.1) in
     record {
       frames = frames ∙ h.frames;
       zero = (h.zero.0, again 0 h.zero.0 h.zero.1);
@@ -66,8 +66,8 @@ marks_made c h few =
     let p0 = h.there 0 (omega arith) in let p1 = h.there 1 (omega arith) in let p2 = h.there 2 (omega arith) in
     record {
       frames = h.frames;
-      zero = (p0.0, (altered_lookup 2 (λ x. record x { pins = 1 }) 0 c.resident ∙ p0.1.0, ap (λ (ds : List ℕ). is_idle ds 0 p0.0.pins) list ∙ and_false (p0.0.pins == 0)));
-      one = (p1.0, (altered_lookup 2 (λ x. record x { pins = 1 }) 1 c.resident ∙ p1.1.0, ap (λ (ds : List ℕ). is_idle ds 1 p1.0.pins) list ∙ and_false (p1.0.pins == 0)));
+      zero = (p0.0, (altered_lookup 2 (λ x. record x { pins = 1 }) 0 c.resident ∙ p0.1.0, ap (λ (ds : List ℕ). may_leave ds 0 p0.0.pins) list ∙ and_false (p0.0.pins == 0)));
+      one = (p1.0, (altered_lookup 2 (λ x. record x { pins = 1 }) 1 c.resident ∙ p1.1.0, ap (λ (ds : List ℕ). may_leave ds 1 p1.0.pins) list ∙ and_false (p1.0.pins == 0)));
       two = (record p2.0 { pins = 1 }, ((altered_lookup 2 (λ x. record x { pins = 1 }) 2 c.resident ∙ ap (option_map (λ (x : Held). record x { pins = 1 })) p2.1.0, refl), refl));
       few = few;
     }
@@ -77,5 +77,5 @@ pub unpinned_there : (n : ℕ) (c u d : CacheValue) → u ≡ with_pins 2 n c �
 unpinned_there n c u d one two q h busy = subst (λ (v : CacheValue). IsResident v q) (sym (two ∙ ap cleaned one)) (altered_there 2 (λ x. record x { pins = n }) q c.resident (rw busy.0 refl))
 
 -- a page stays where one is written
-pub written_there : (page : ℕ) (w : List ℕ) (c : CacheValue) (q : ℕ) → IsResident c q → IsResident (with_bytes page w c) q
+pub written_there : (page : ℕ) (w : List ℕ) (c : CacheValue) (q : ℕ) → IsResident c q → IsResident (page_written page w c) q
 written_there page w c q = altered_there page (λ x. record x { bytes = w }) q c.resident

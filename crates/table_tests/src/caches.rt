@@ -71,7 +71,7 @@ fn fetched(cache: &mut Cache, m: &mut MemoryMachine, page: u32) -> Option<Frame>
     ensures marks { HasMarks cache.new }
     ensures there { OnSome result (IsResident cache.new page) }
 {
-    let _whole = cache.dirty_list();
+    cache.attest();
     match cache.fetch(m, page, &Numbered) {
         Ok(frame) => Some(frame),
         Err(_) => None,

@@ -184,7 +184,7 @@ fn move_on<M: Machine>(m: &mut M, log: &mut Log) -> bool
     requires { log.old.layout.sectors ≤ (M.report m.old).sectors }
     ensures { (M.report m.new).sectors ≡ (M.report m.old).sectors }
 {
-    let _layout = log.layout();
+    log.attest();
     match log.room(96) {
         Place::FirstThird(_) => log.move_anchor(m).is_ok(),
         _ => false,

@@ -1,5 +1,5 @@
 //! Version numbers and keep counts, as worked out on paper.
-use version_keep::{gone, keep_of, next_version};
+use version_table::{gone, keep_of, next_version};
 
 // The highest version of a name, and the next one.
 const NEXT: [(Option<u32>, Option<u32>); 3] = [

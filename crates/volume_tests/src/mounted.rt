@@ -1,7 +1,7 @@
 //! A mounted volume together with the machine under it, and its calls.
 ghost use Rattle.std.specs.Prelude.{◌≡◌, ◌≤◌, IfOk, length};
 ghost use Rattle.sector_disk.specs.Memory.{memory_report};
-ghost use Rattle.volume_state.specs.State.{state};
+ghost use Rattle.volume_laws.specs.State.{state};
 
 use crate::machines::blank;
 use fsd_bytes::{FileName, Key, Refusal};
@@ -25,7 +25,7 @@ pub struct Mounted {
 impl Model for Mounted {
     ghost use Rattle.std.specs.Prelude.{ℕ, ◌≤◌};
     ghost use Rattle.sector_disk.specs.Memory.{memory_report};
-    ghost use Rattle.volume_state.specs.State.{state};
+    ghost use Rattle.volume_laws.specs.State.{state};
 
     ghost Value = { ℕ };
 

@@ -11,7 +11,7 @@ is_fetched c =
 pub returns-in-Ok-clause-marks : goal.returns-in-Ok-clause-marks
 returns-in-Ok-clause-marks c =
     let at = is_fetched c in
-    marks_stay c.args.page c.args.cache.now c.fetch.new.self c.dirty_list-whole.ensures.valid at c.fetch.ensures.frames.frames c.fetch.ensures.frames.in_use c.requires.marks
+    marks_stay c.args.page c.args.cache.now c.fetch.new.self c.attest.ensures at c.fetch.ensures.frames.frames c.fetch.ensures.frames.in_use c.requires.marks
 
 pub returns-in-Ok-clause-there : goal.returns-in-Ok-clause-there
 returns-in-Ok-clause-there c =

@@ -20,10 +20,10 @@ returns-in_err-insert g c =
     let law = g.met.T.Pages in
     let p = err_from_is_err_and c.from_residual-in_err-insert.result c.from_residual-in_err-insert.ensures.1 in
     rw (p.1, p.2) (law.then c.args.t.now c.find.new.t c.insert.new.t _ c.in_ok-found.ensures.calls.outside
-    (law.then c.find.new.t c.rest.new.self c.insert.new.t _ c.rest.ensures.outside c.in_err-insert.ensures.calls.outside))
+    (law.then c.find.new.t c.rest.new.self c.insert.new.t _ c.rest.ensures.outside c.in_err-insert.ensures.edits.calls.outside))
 
 pub returns : goal.returns
 returns g c =
     let law = g.met.T.Pages in
     law.then c.args.t.now c.find.new.t c.insert.new.t _ c.in_ok-found.ensures.calls.outside
-    (law.then c.find.new.t c.rest.new.self c.insert.new.t _ c.rest.ensures.outside c.in_ok-insert.ensures.calls.outside)
+    (law.then c.find.new.t c.rest.new.self c.insert.new.t _ c.rest.ensures.outside c.in_ok-insert.ensures.edits.calls.outside)

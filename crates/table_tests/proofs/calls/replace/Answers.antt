@@ -21,10 +21,10 @@ pub returns-in-Ok : goal.returns-in-Ok
 returns-in-Ok g c =
     let law = g.met.T.Pages in
     law.then c.args.t.now c.find.new.t c.replace_same_size.new.t _ c.in_ok-old.ensures.calls.outside
-    (law.then c.find.new.t c.rest.new.self c.replace_same_size.new.t _ c.rest.ensures.outside c.in-Ok.ensures.calls.outside)
+    (law.then c.find.new.t c.rest.new.self c.replace_same_size.new.t _ c.rest.ensures.outside c.in-Ok.ensures.edits.calls.outside)
 
 pub returns-in-Err : goal.returns-in-Err
 returns-in-Err g c =
     let law = g.met.T.Pages in
     law.then c.args.t.now c.find.new.t c.replace_same_size.new.t _ c.in_ok-old.ensures.calls.outside
-    (law.then c.find.new.t c.rest.new.self c.replace_same_size.new.t _ c.rest.ensures.outside c.in-Err.ensures.calls.outside)
+    (law.then c.find.new.t c.rest.new.self c.replace_same_size.new.t _ c.rest.ensures.outside c.in-Err.ensures.edits.calls.outside)
