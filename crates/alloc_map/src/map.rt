@@ -25,7 +25,7 @@ impl Model for Map {
 }
 
 impl Map {
-    ghost use Rattle.sector_set.specs.Area.{area, without, together, AreIn, AreOut};
+    ghost use Rattle.sector_set.specs.Area.{area, without_sectors, together, AreIn, AreOut};
     ghost use Rattle.alloc_map.specs.NoPlace.{choice};
 
     /// The sectors of `from..to` that are in none of the runs. It takes a bit for each sector below `to`.
@@ -95,7 +95,7 @@ impl Map {
     /// Takes free sectors. It takes no memory.
     pub fn take(&mut self, runs: &Runs)
         requires { AreIn self.old runs.now }
-        ensures { self.new ≡ without self.old runs.now }
+        ensures { self.new ≡ without_sectors self.old runs.now }
     {
         self.free.remove(runs);
     }

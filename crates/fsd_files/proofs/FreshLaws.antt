@@ -80,7 +80,7 @@ at_most_highest name o (y ∷ s) sorted = by (same_bytes name y.0.name) refl (λ
     by true is rest = ((λ of. behind_it name y s of sorted), rest (Some y))
     by false is rest = ((λ of. absurd (let bad : true ≡ false = sym of ∙ is in cc)), rest o)
 
-of_T : (b : Bool) → T b → b ≡ true
+pub of_T : (b : Bool) → T b → b ≡ true
 of_T true h = refl
 of_T false h = absurd h
 

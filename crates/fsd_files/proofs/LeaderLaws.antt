@@ -1,5 +1,6 @@
 -- Leaders and data of versions whose sectors are apart.
 use Rattle.std.proofs.Common.{◌≡◌, inl, inr, ℕ, ◌+◌, ◌<◌, Bool, true, false, ◌||◌, List, [], ◌∷◌, ◌++◌, take, drop, map, refl, sym, ap, ◌∙◌, subst, arith}
+use Rattle.std.proofs.Math.Bool.{or-true}
 use Rattle.std.specs.Prelude.{◌==◌, IsTrue, IsFalse}
 use Rattle.std.specs.List.{AllByRecursion, flat_map, list_all}
 use Rattle.std.proofs.lemmas.Bool.{and_parts, both_ways, or_cases, or_parts, or_from, false_from_ne_true}
@@ -80,11 +81,7 @@ plan_there [] e more s is = contains-append (sectors_of e.runs) (flat_map sector
 plan_there (f ∷ front) e more s is =
     contains-append (sectors_of f.runs) (flat_map sectors_of (plans_of (front ++ e ∷ more))) s
     ∙ ap (λ (b : Bool). contains (sectors_of f.runs) s || b) (plan_there front e more s is)
-    ∙ always (contains (sectors_of f.runs) s)
-  where
-    always : (b : Bool) → (b || true) ≡ true
-    always true = refl
-    always false = refl
+    ∙ or-true (contains (sectors_of f.runs) s)
 
 -- ---- all data
 
@@ -137,15 +134,11 @@ leader_in_area l entries apart s is = in_area l (plans_of entries) apart s (plan
     front_in [] there = there
     front_in (x ∷ xs) there = elim (or_cases (x == s) false there) [ inl e ↦ ap (λ (b : Bool). b || contains xs s) e | inr never ↦ absurd (cc never) ]
 
-    always : (b : Bool) → (b || true) ≡ true
-    always true = refl
-    always false = refl
-
     planned : (entries : List Entry) → IsTrue (is_leader entries s) → IsTrue (contains (flat_map sectors_of (plans_of entries)) s)
     planned [] is = absurd (cc is)
     planned (e ∷ entries) is = contains-append (sectors_of e.runs) (flat_map sectors_of (plans_of entries)) s ∙ elim (or_cases (contains (take 1 (sectors_of e.runs)) s) (is_leader entries s) is) [
       | inl here ↦ ap (λ (b : Bool). b || contains (flat_map sectors_of (plans_of entries)) s) (front_in (sectors_of e.runs) here)
-      | inr more ↦ ap (λ (b : Bool). contains (sectors_of e.runs) s || b) (planned entries more) ∙ always (contains (sectors_of e.runs) s)
+      | inr more ↦ ap (λ (b : Bool). contains (sectors_of e.runs) s || b) (planned entries more) ∙ or-true (contains (sectors_of e.runs) s)
     ]
 
 -- what is a leader, where it is a version's at all, is none of the data

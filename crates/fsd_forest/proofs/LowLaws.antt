@@ -38,7 +38,7 @@ interior_within : (pages : List (List ℕ)) (P : Child → Type 0) (c : Child) (
 interior_within pages P c None at h = absurd h
 interior_within pages P c (Some x) at h = page_within pages c.page x at
 
-all_flat : (P : ℕ → Type 0) (f : Child → List ℕ) (cs : List Child) → AllByRecursion (λ d. AllByRecursion P (f d)) cs → AllByRecursion P (flat_map f cs)
+pub all_flat : {X Y : Type 0} (P : Y → Type 0) (f : X → List Y) (cs : List X) → AllByRecursion (λ d. AllByRecursion P (f d)) cs → AllByRecursion P (flat_map f cs)
 all_flat P f [] a = tt
 all_flat P f (c ∷ cs) a = all_append P (f c) (flat_map f cs) a.0 (all_flat P f cs a.1)
 

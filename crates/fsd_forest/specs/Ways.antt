@@ -68,6 +68,12 @@ ChildrenParted =
     → let c : Child = child_between first low high before behind in
     children first low high (before ++ s ∷ behind) ≡ children_before first low before ++ ((left_part c.page c s.key ∷ right_part s.child c s.key ∷ []) ++ children_from high behind)
 
+-- The children of a page are told by its separators: around one child, around two, and around the parts of one.
+pub record DividesChildren : Type 0 where
+  pub beside : ChildrenBeside
+  pub between : ChildrenBetween
+  pub parted : ChildrenParted
+
 -- what is left of a key, and right of it
 abbrev pub ChildrenEnd : Type 0
 ChildrenEnd = (key : Key) (first : ℕ) (low : Option Key) (before : List Separator) → AllByRecursion (IsUpToKey key) before → AllByRecursion (EndsUpTo key) (children_before first low before)

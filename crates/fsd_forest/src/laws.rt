@@ -2,7 +2,7 @@
 ghost use Rattle.fsd_forest.specs.Laws.{LeavesBecome, Widens, Rises, FollowsChange, Remains, TreesBecome, TreesGrow, TreesShrink, TreesAreLow};
 ghost use Rattle.fsd_forest.specs.Parts.{LeavesPart, LeavesJoin, InteriorsPart, InteriorsJoin, ChildrenPart};
 ghost use Rattle.fsd_forest.specs.Steps.{StepsUp, PageStepsUp, SidesStay, PageSidesStay};
-ghost use Rattle.fsd_forest.specs.Ways.{ChildrenBeside, ChildrenBetween, ChildrenParted, ChildrenEnd, ChildrenBegin, ChildrenAround, ChildAt, KeyInside};
+ghost use Rattle.fsd_forest.specs.Ways.{DividesChildren, ChildrenEnd, ChildrenBegin, ChildrenAround, ChildAt, KeyInside};
 
 /// A page is parted in two at a key, and two pages side by side are joined to one:
 /// the same entries, and the same children.
@@ -36,9 +36,7 @@ pub fn trees_follow()
 /// The children of an interior page around a key: those that end up to it, the child that it is inside,
 /// and those that begin behind it.
 pub fn ways_lead()
-    ensures beside { ChildrenBeside }
-    ensures between { ChildrenBetween }
-    ensures parted { ChildrenParted }
+    ensures divides { DividesChildren }
     ensures end { ChildrenEnd }
     ensures begin { ChildrenBegin }
     ensures around { ChildrenAround }

@@ -1,5 +1,6 @@
 -- Two tapes that differ in one record alone, and on which that record reads the same: the scans are the same.
 use Rattle.std.proofs.Common.{◌≡◌, ◌⊎◌, inl, inr, ⊎_elim, ℕ, zero, suc, ◌+◌, ◌*◌, ◌^◌, ◌<◌, ◌≤◌, Bool, true, false, cond, ◌&&◌, List, [], ◌∷◌, ◌++◌, length, Option, Some, None, nat_lt, refl, sym, ap, subst, ◌∙◌, arith}
+use Rattle.std.proofs.lemmas.Option.{same_Some}
 use Rattle.std.specs.Prelude.{option_map, unwrap_or, if◌then◌else◌}
 use Rattle.std.specs.Option.{option_or}
 use Rattle.std.specs.List.{AllByRecursion}
@@ -128,10 +129,7 @@ module _ (l : Shape) (epoch first : ℕ) (fits : epoch < 2 ^ 32) (X Y : Reader) 
   found_there : (e : Logged) → record_here l epoch Y mid.number r.at end ≡ Some e → e ≡ r.entry
   found_there e is = ⊎_elim
       (λ none. absurd (let looks = here_some l epoch Y mid.number r.at end e is in cc (none, looks.1)))
-      (λ some. let looks = here_some l epoch Y mid.number r.at end e is in some_same e r.entry (sym looks.1 ∙ some)) part
-    where
-      some_same : (x y : Logged) → Some x ≡ Some y → x ≡ y
-      some_same x y e = cc
+      (λ some. let looks = here_some l epoch Y mid.number r.at end e is in same_Some e r.entry (sym looks.1 ∙ some)) part
 
   -- what is found next is it, or lies behind it
   found_apart : (q : Placed) (h1 : Head) → IsFound l epoch Y mid q h1 → IsApartFrom (gap_of l) r q × (r.at + record_len (gap_of l) (length r.entry.pages) ≤ h1.at)

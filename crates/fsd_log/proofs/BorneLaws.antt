@@ -1,7 +1,7 @@
 -- Sectors that bear nothing of a record.
-use Rattle.std.proofs.Common.{◌≡◌, ℕ, Bool, true, false, ◌&&◌, ◌||◌, List, take, Option, Some, None, refl, sym, ap, ◌∙◌}
+use Rattle.std.proofs.Common.{◌≡◌, ℕ, true, false, ◌&&◌, ◌||◌, List, take, Option, Some, None, refl, sym, ap, ◌∙◌}
 use Rattle.std.specs.Prelude.{codes, if◌then◌else◌, ◌==◌}
-use Rattle.std.proofs.lemmas.Bool.{and_parts, eqb-true}
+use Rattle.std.proofs.lemmas.Bool.{and_parts, eqb-true, false_from_ne_true}
 use Rattle.std.proofs.lemmas.Nat.{from_be_bytes-to_be_bytes_4}
 use Rattle.fsd_bytes.specs.Bytes.{u32_at, same_bytes}
 use Rattle.fsd_formats.specs.Record.{Stamp, same_stamp, header_bytes, end_bytes, read_header, is_end, bears}
@@ -14,10 +14,6 @@ use Rattle.fsd_formats.specs.NamePage.{stamp_at}
 pub none_of : {A : Type 0} (o : Option A) → ((x : A) → o ≡ Some x → ⊥) → o ≡ None
 none_of None no_such = refl
 none_of (Some x) no_such = absurd (no_such x refl)
-
-pub false_of : (b : Bool) → (b ≡ true → ⊥) → b ≡ false
-false_of true never = absurd (never refl)
-false_of false never = refl
 
 module _ (stamp : Stamp) (fits : FitsStamp stamp) where
   pub header_bears : (pages : List ℕ) → borne_by (header_bytes stamp pages) ≡ Some stamp
@@ -54,8 +50,8 @@ module _ (stamp : Stamp) (fits : FitsStamp stamp) where
 
   pub foreign_end : (n : ℕ) (o : Option (List ℕ)) → Foreign stamp o → passes (is_end stamp n) o ≡ false
   foreign_end n None foreign = refl
-  foreign_end n (Some bytes) foreign = false_of (is_end stamp n bytes) (λ is. foreign (ap borne_by (sym (same_is (end_bytes stamp n) bytes is)) ∙ end_bears stamp fits n))
+  foreign_end n (Some bytes) foreign = false_from_ne_true (is_end stamp n bytes) (λ is. foreign (ap borne_by (sym (same_is (end_bytes stamp n) bytes is)) ∙ end_bears stamp fits n))
 
 pub foreign_page : (page : ℕ) (stamp : Stamp) (o : Option (List ℕ)) → Foreign stamp o → passes (bears page stamp) o ≡ false
 foreign_page page stamp None foreign = refl
-foreign_page page stamp (Some bytes) foreign = false_of (bears page stamp bytes) (λ is. foreign (page_bears page stamp bytes is))
+foreign_page page stamp (Some bytes) foreign = false_from_ne_true (bears page stamp bytes) (λ is. foreign (page_bears page stamp bytes is))

@@ -5,7 +5,7 @@ use Rattle.std.specs.Prelude.{◌&&◌, nat_lt, nat_le}
 use Rattle.std.proofs.lemmas.Bool.{cases_lt, and_parts, leb-true}
 use Rattle.fsd_formats.specs.Record.{Stamp, header_bytes, are_pages, ascending, record_len}
 use Rattle.fsd_bytes.specs.Names.{is_between}
-use Rattle.fsd_log.specs.Judged.{Reader, slice_of, record_in}
+use Rattle.fsd_log.specs.Judged.{Reader, sector_in, record_in}
 use Rattle.fsd_log.specs.Borne.{Foreign, FitsStamp}
 use Rattle.fsd_log.specs.Laid.{slices_from, new_record, IsTorn}
 use Rattle.fsd_log.proofs.JudgedLaws.{FrontStands, front_judged, endless_absent}
@@ -36,7 +36,7 @@ module _ (gap : ℕ) (p : ℕ) (stamp : Stamp) (fits : FitsStamp stamp) (pages i
       let stands : FrontStands gap stamp pages (slices_from 0 images (length pages)) new = record {
         header = torn.front 0 (omega arith) ∙ ap (λ (x : List ℕ). Some x) laid.header;
         whole = images_at stamp pages images 0 (3 + gap) new laid.stamped (λ j lt. torn.front (3 + gap + j) (omega arith) ∙ ap (λ (x : List ℕ). Some x) (laid.image j lt)
-            ∙ ap (λ (k : ℕ). Some (slice_of images k)) (let e : j ≡ 0 + j = omega arith in e));
+            ∙ ap (λ (k : ℕ). Some (sector_in images k)) (let e : j ≡ 0 + j = omega arith in e));
         ends = torn.front (3 + gap + length pages) past ∙ ap (λ (x : List ℕ). Some x) laid.ends;
       } in
       front_judged gap p stamp pages are.accepted are.small (omega (arith, are.few)) new room (slices_from 0 images (length pages)) stands long
@@ -48,5 +48,5 @@ module _ (gap : ℕ) (p : ℕ) (stamp : Stamp) (fits : FitsStamp stamp) (pages i
       foreign : (k : ℕ) → stood ≤ k → Foreign stamp (new k)
       foreign k past = subst (Foreign stamp) (sym (torn.behind k past)) (none k)
 
-      header : (k : ℕ) → slice_of bytes k ≡ header_bytes stamp pages → (new k ≡ Some (header_bytes stamp pages)) ⊎ Foreign stamp (new k)
+      header : (k : ℕ) → sector_in bytes k ≡ header_bytes stamp pages → (new k ≡ Some (header_bytes stamp pages)) ⊎ Foreign stamp (new k)
       header k is = elim (cases_lt k stood) [ inl lt ↦ inl (torn.front k lt ∙ ap (λ (x : List ℕ). Some x) is) | inr past ↦ inr (foreign k past) ]

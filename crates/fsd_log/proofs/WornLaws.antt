@@ -5,7 +5,7 @@ use Rattle.std.proofs.lemmas.Bool.{cond-true, le-leb}
 use Rattle.fsd_formats.specs.Record.{Stamp, header_bytes, end_bytes, read_header, is_end, bears, AreStamped, record_len}
 use Rattle.fsd_bytes.proofs.SameLaws.{is_same}
 use Rattle.fsd_formats.proofs.PageLaws.{header_is_read}
-use Rattle.fsd_log.specs.Judged.{Reader, slice_of, passes, serving, page_copies, Serving, judged_with, judged_by, judged, images_of, Logged, logged_of, record_in}
+use Rattle.fsd_log.specs.Judged.{Reader, sector_in, passes, serving, page_copies, Serving, judged_with, judged_by, judged, images_of, Logged, logged_of, record_in}
 use Rattle.fsd_log.specs.Borne.{Foreign, FitsStamp}
 use Rattle.fsd_log.specs.Laid.{slices_from, new_record}
 use Rattle.fsd_log.proofs.BorneLaws.{foreign_header, foreign_page}
@@ -19,8 +19,8 @@ AsLaid stamp bytes o = (o ≡ Some bytes) ⊎ Foreign stamp o
 pub record ReadsLaid (gap : ℕ) (stamp : Stamp) (pages images : List ℕ) (at : Reader) : Type 0 where
   pub header : AsLaid stamp (header_bytes stamp pages) (at 0)
   pub header_copy : AsLaid stamp (header_bytes stamp pages) (at (2 + gap))
-  pub first : (j : ℕ) → j < length pages → AsLaid stamp (slice_of images j) (at (3 + gap + j))
-  pub copy : (j : ℕ) → j < length pages → AsLaid stamp (slice_of images j) (at (4 + 2 * gap + length pages + j))
+  pub first : (j : ℕ) → j < length pages → AsLaid stamp (sector_in images j) (at (3 + gap + j))
+  pub copy : (j : ℕ) → j < length pages → AsLaid stamp (sector_in images j) (at (4 + 2 * gap + length pages + j))
 
 pub serves_which : (test : List ℕ → Bool) (a c : Option (List ℕ)) (d : Bool) → serving test a c ≡ Some d → passes test (if d then c else a) ≡ true
 serves_which test a c d e = by_tests (passes test a) (passes test c) refl refl d e
@@ -45,7 +45,7 @@ read_either : (at : Reader) (a c : ℕ) (d : Bool) → at (if d then c else a) �
 read_either at a c true = refl
 read_either at a c false = refl
 
-images_serve : (stamp : Stamp) (at : Reader) (a c from : ℕ) (pages images : List ℕ) (cs : List Bool) → ((j : ℕ) → j < length pages → AsLaid stamp (slice_of images (from + j)) (at (a + j))) → ((j : ℕ) → j < length pages → AsLaid stamp (slice_of images (from + j)) (at (c + j)))
+images_serve : (stamp : Stamp) (at : Reader) (a c from : ℕ) (pages images : List ℕ) (cs : List Bool) → ((j : ℕ) → j < length pages → AsLaid stamp (sector_in images (from + j)) (at (a + j))) → ((j : ℕ) → j < length pages → AsLaid stamp (sector_in images (from + j)) (at (c + j)))
     → page_copies stamp at a c pages ≡ Some cs → images_of at a c cs ≡ slices_from from images (length pages)
 images_serve stamp at a c from [] images cs first copy e = ap (λ (o : Option (List Bool)). images_of at a c (unwrap_or o [])) (sym e)
 images_serve stamp at a c from (page ∷ pages) images cs first copy e =
@@ -53,15 +53,15 @@ images_serve stamp at a c from (page ∷ pages) images cs first copy e =
     let e0 : from + 0 ≡ from = omega arith in
     let a0 : a + 0 ≡ a = omega arith in
     let c0 : c + 0 ≡ c = omega arith in
-    let la : AsLaid stamp (slice_of images from) (at a) = subst (λ (k : ℕ). AsLaid stamp (slice_of images from) (at k)) a0 (subst (λ (k : ℕ). AsLaid stamp (slice_of images k) (at (a + 0))) e0 (first 0 (omega arith))) in
-    let lc : AsLaid stamp (slice_of images from) (at c) = subst (λ (k : ℕ). AsLaid stamp (slice_of images from) (at k)) c0 (subst (λ (k : ℕ). AsLaid stamp (slice_of images k) (at (c + 0))) e0 (copy 0 (omega arith))) in
+    let la : AsLaid stamp (sector_in images from) (at a) = subst (λ (k : ℕ). AsLaid stamp (sector_in images from) (at k)) a0 (subst (λ (k : ℕ). AsLaid stamp (sector_in images k) (at (a + 0))) e0 (first 0 (omega arith))) in
+    let lc : AsLaid stamp (sector_in images from) (at c) = subst (λ (k : ℕ). AsLaid stamp (sector_in images from) (at k)) c0 (subst (λ (k : ℕ). AsLaid stamp (sector_in images k) (at (c + 0))) e0 (copy 0 (omega arith))) in
     let served : serving (bears page stamp) (at a) (at c) ≡ Some made.0 = head_served (serving (bears page stamp) (at a) (at c)) (page_copies stamp at (a + 1) (c + 1) pages) made.0 made.1 cs made.3 e in
-    let here : unwrap_or (at (if made.0 then c else a)) [] ≡ slice_of images from =
+    let here : unwrap_or (at (if made.0 then c else a)) [] ≡ sector_in images from =
     ap (λ (o : Option (List ℕ)). unwrap_or o []) (read_either at a c made.0)
-    ∙ image_serves stamp page (slice_of images from) (if made.0 then at c else at a) (choose stamp (slice_of images from) (at a) (at c) made.0 la lc) (serves_which (bears page stamp) (at a) (at c) made.0 served) in
+    ∙ image_serves stamp page (sector_in images from) (if made.0 then at c else at a) (choose stamp (sector_in images from) (at a) (at c) made.0 la lc) (serves_which (bears page stamp) (at a) (at c) made.0 served) in
     let rest = images_serve stamp at (a + 1) (c + 1) (suc from) pages images made.1
-    (λ j lt. subst (λ (k : ℕ). AsLaid stamp (slice_of images (suc from + j)) (at k)) (let x : a + suc j ≡ (a + 1) + j = omega arith in x) (subst (λ (k : ℕ). AsLaid stamp (slice_of images k) (at (a + suc j))) (let x : from + suc j ≡ suc from + j = omega arith in x) (first (suc j) (omega arith))))
-    (λ j lt. subst (λ (k : ℕ). AsLaid stamp (slice_of images (suc from + j)) (at k)) (let x : c + suc j ≡ (c + 1) + j = omega arith in x) (subst (λ (k : ℕ). AsLaid stamp (slice_of images k) (at (c + suc j))) (let x : from + suc j ≡ suc from + j = omega arith in x) (copy (suc j) (omega arith))))
+    (λ j lt. subst (λ (k : ℕ). AsLaid stamp (sector_in images (suc from + j)) (at k)) (let x : a + suc j ≡ (a + 1) + j = omega arith in x) (subst (λ (k : ℕ). AsLaid stamp (sector_in images k) (at (a + suc j))) (let x : from + suc j ≡ suc from + j = omega arith in x) (first (suc j) (omega arith))))
+    (λ j lt. subst (λ (k : ℕ). AsLaid stamp (sector_in images (suc from + j)) (at k)) (let x : c + suc j ≡ (c + 1) + j = omega arith in x) (subst (λ (k : ℕ). AsLaid stamp (sector_in images k) (at (c + suc j))) (let x : from + suc j ≡ suc from + j = omega arith in x) (copy (suc j) (omega arith))))
     made.2 in
     ap (images_of at a c) (sym made.3) ∙ (λ i. here i ∷ rest i)
   where
@@ -87,8 +87,8 @@ module _ (gap : ℕ) (p : ℕ) (stamp : Stamp) (fits : FitsStamp stamp) (pages i
       found f is same =
           let copies : page_copies stamp at (3 + gap) (4 + 2 * gap + length pages) pages ≡ Some f.page_copy = subst (λ (x : List ℕ). page_copies stamp at (3 + gap) (4 + 2 * gap + length x) x ≡ Some f.page_copy) same is.copies in
           let images_is : images_of at (3 + gap) (4 + 2 * gap + length pages) f.page_copy ≡ slices_from 0 images (length pages) = images_serve stamp at (3 + gap) (4 + 2 * gap + length pages) 0 pages images f.page_copy
-          (λ j lt. subst (λ (k : ℕ). AsLaid stamp (slice_of images k) (at (3 + gap + j))) (let x : j ≡ 0 + j = omega arith in x) (laid.first j lt))
-          (λ j lt. subst (λ (k : ℕ). AsLaid stamp (slice_of images k) (at (4 + 2 * gap + length pages + j))) (let x : j ≡ 0 + j = omega arith in x) (laid.copy j lt)) copies in
+          (λ j lt. subst (λ (k : ℕ). AsLaid stamp (sector_in images k) (at (3 + gap + j))) (let x : j ≡ 0 + j = omega arith in x) (laid.first j lt))
+          (λ j lt. subst (λ (k : ℕ). AsLaid stamp (sector_in images k) (at (4 + 2 * gap + length pages + j))) (let x : j ≡ 0 + j = omega arith in x) (laid.copy j lt)) copies in
           (λ i. record { number = stamp.number; pages = same i; images = images_of at (3 + gap) (4 + 2 * gap + length (same i)) f.page_copy }) ∙ (λ i. record { number = stamp.number; pages = pages; images = images_is i })
 
       by_judged : (o : Option Serving) → judged gap p stamp room at ≡ o → (record_in gap p stamp room at ≡ None) ⊎ (record_in gap p stamp room at ≡ Some (new_record stamp pages images))
@@ -102,29 +102,29 @@ module _ (gap : ℕ) (p : ℕ) (stamp : Stamp) (fits : FitsStamp stamp) (pages i
 pub record OneStands (gap : ℕ) (stamp : Stamp) (pages images : List ℕ) (at : Reader) : Type 0 where
   pub headers : (at 0 ≡ Some (header_bytes stamp pages)) ⊎ (at (2 + gap) ≡ Some (header_bytes stamp pages))
   pub ends : (at (3 + gap + length pages) ≡ Some (end_bytes stamp (length pages))) ⊎ (at (4 + 2 * gap + 2 * length pages) ≡ Some (end_bytes stamp (length pages)))
-  pub each : (j : ℕ) → j < length pages → (at (3 + gap + j) ≡ Some (slice_of images j)) ⊎ (at (4 + 2 * gap + length pages + j) ≡ Some (slice_of images j))
+  pub each : (j : ℕ) → j < length pages → (at (3 + gap + j) ≡ Some (sector_in images j)) ⊎ (at (4 + 2 * gap + length pages + j) ≡ Some (sector_in images j))
 
 serves_one : (test : List ℕ → Bool) (a c : Option (List ℕ)) (bytes : List ℕ) → test bytes ≡ true → (a ≡ Some bytes) ⊎ (c ≡ Some bytes) → serving test a c ≡ None → ⊥
 serves_one test a c bytes ok (inl is) none = let were = none_serves (passes test a) (passes test c) none in let yes : passes test a ≡ true = ap (passes test) is ∙ ok in cc (yes, were.0)
 serves_one test a c bytes ok (inr is) none = let were = none_serves (passes test a) (passes test c) none in let yes : passes test c ≡ true = ap (passes test) is ∙ ok in cc (yes, were.1)
 
 copies_one : (stamp : Stamp) (at : Reader) (a c from : ℕ) (pages images : List ℕ) → AreStamped stamp pages (slices_from from images (length pages))
-    → ((j : ℕ) → j < length pages → (at (a + j) ≡ Some (slice_of images (from + j))) ⊎ (at (c + j) ≡ Some (slice_of images (from + j)))) → page_copies stamp at a c pages ≡ None → ⊥
+    → ((j : ℕ) → j < length pages → (at (a + j) ≡ Some (sector_in images (from + j))) ⊎ (at (c + j) ≡ Some (sector_in images (from + j)))) → page_copies stamp at a c pages ≡ None → ⊥
 copies_one stamp at a c from [] images stamped one none = cc none
 copies_one stamp at a c from (page ∷ pages) images stamped one none =
     let e0 : from + 0 ≡ from = omega arith in
     let a0 : a + 0 ≡ a = omega arith in
     let c0 : c + 0 ≡ c = omega arith in
-    let here : (at a ≡ Some (slice_of images from)) ⊎ (at c ≡ Some (slice_of images from)) =
-    ⊎_elim (λ is. inl (ap at (sym a0) ∙ is ∙ ap (λ (k : ℕ). Some (slice_of images k)) e0)) (λ is. inr (ap at (sym c0) ∙ is ∙ ap (λ (k : ℕ). Some (slice_of images k)) e0)) (one 0 (omega arith)) in
+    let here : (at a ≡ Some (sector_in images from)) ⊎ (at c ≡ Some (sector_in images from)) =
+    ⊎_elim (λ is. inl (ap at (sym a0) ∙ is ∙ ap (λ (k : ℕ). Some (sector_in images k)) e0)) (λ is. inr (ap at (sym c0) ∙ is ∙ ap (λ (k : ℕ). Some (sector_in images k)) e0)) (one 0 (omega arith)) in
     ⊎_elim
-    (λ none_here. serves_one (bears page stamp) (at a) (at c) (slice_of images from) stamped.0 here none_here)
+    (λ none_here. serves_one (bears page stamp) (at a) (at c) (sector_in images from) stamped.0 here none_here)
     (λ none_behind. copies_one stamp at (a + 1) (c + 1) (suc from) pages images stamped.1
     (λ j lt.
     let ea : (a + 1) + j ≡ a + suc j = omega arith in
     let ec : (c + 1) + j ≡ c + suc j = omega arith in
     let ef : from + suc j ≡ suc from + j = omega arith in
-    ⊎_elim (λ is. inl (ap at ea ∙ is ∙ ap (λ (k : ℕ). Some (slice_of images k)) ef)) (λ is. inr (ap at ec ∙ is ∙ ap (λ (k : ℕ). Some (slice_of images k)) ef)) (one (suc j) (omega arith)))
+    ⊎_elim (λ is. inl (ap at ea ∙ is ∙ ap (λ (k : ℕ). Some (sector_in images k)) ef)) (λ is. inr (ap at ec ∙ is ∙ ap (λ (k : ℕ). Some (sector_in images k)) ef)) (one (suc j) (omega arith)))
     none_behind)
     (then_none (serving (bears page stamp) (at a) (at c)) (page_copies stamp at (a + 1) (c + 1) pages) (λ x more. x ∷ more) none)
 
@@ -134,7 +134,7 @@ module _ (gap : ℕ) (p : ℕ) (stamp : Stamp) (fits : FitsStamp stamp) (pages i
       ⊎_elim
       (λ no_end. serves_one (is_end stamp (length pages)) (at (3 + gap + length pages)) (at (4 + 2 * gap + 2 * length pages)) (end_bytes stamp (length pages)) (is_same (end_bytes stamp (length pages))) one.ends no_end)
       (λ no_pages. copies_one stamp at (3 + gap) (4 + 2 * gap + length pages) 0 pages images stamped
-      (λ j lt. let ef : j ≡ 0 + j = omega arith in ⊎_elim (λ is. inl (is ∙ ap (λ (k : ℕ). Some (slice_of images k)) ef)) (λ is. inr (is ∙ ap (λ (k : ℕ). Some (slice_of images k)) ef)) (one.each j lt)) no_pages)
+      (λ j lt. let ef : j ≡ 0 + j = omega arith in ⊎_elim (λ is. inl (is ∙ ap (λ (k : ℕ). Some (sector_in images k)) ef)) (λ is. inr (is ∙ ap (λ (k : ℕ). Some (sector_in images k)) ef)) (one.each j lt)) no_pages)
       (then_none (serving (is_end stamp (length pages)) (at (3 + gap + length pages)) (at (4 + 2 * gap + 2 * length pages))) (page_copies stamp at (3 + gap) (4 + 2 * gap + length pages) pages) (serving_with hc pages)
       (sym (cond-true (nat_le (record_len gap (length pages)) room) _ None (le-leb _ _ long)) ∙ none))
 

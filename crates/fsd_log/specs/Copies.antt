@@ -3,7 +3,7 @@ use Rattle.std.specs.Prelude.{◌≡◌, ◌≤◌, ℕ, ◌+◌, ◌*◌, ◌/�
 use Rattle.volume_layout.specs.Shape.{Shape}
 use Rattle.volume_layout.specs.Kinds.{gap_of}
 use Rattle.fsd_formats.specs.Record.{Stamp, end_bytes}
-use Rattle.fsd_log.specs.Judged.{slice_of}
+use Rattle.fsd_log.specs.Judged.{sector_in}
 use Rattle.fsd_log.specs.Laid.{slices}
 use Rattle.fsd_log.specs.Scan.{Placed, place_of}
 
@@ -22,7 +22,7 @@ pub record FitsDisk (sectors : ℕ) (c : Copies) : Type 0 where
 -- the images of n pages, and the end of their record
 pub record AreCopies (stamp : Stamp) (n : ℕ) (bytes : List ℕ) : Type 0 where
   pub long : length bytes ≡ 512 * (n + 1)
-  pub end : slice_of bytes n ≡ end_bytes stamp n
+  pub end : sector_in bytes n ≡ end_bytes stamp n
 
 -- they are those of this record, whose first copies lie before them
 pub record AreCopiesOf (l : Shape) (epoch third : ℕ) (r : Placed) (c : Copies) : Type 0 where

@@ -9,8 +9,8 @@ abbrev pub Reader : Type 0
 Reader = ℕ → Option (List ℕ)
 
 -- the bytes of one sector of many
-abbrev pub slice_of : List ℕ → ℕ → List ℕ
-slice_of bytes k = take sector_len (drop (sector_len * k) bytes)
+abbrev pub sector_in : List ℕ → ℕ → List ℕ
+sector_in bytes k = take sector_len (drop (sector_len * k) bytes)
 
 -- ---- the copies that serve
 

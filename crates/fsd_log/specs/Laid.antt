@@ -3,7 +3,7 @@ use Rattle.std.specs.Prelude.{◌≡◌, ℕ, zero, suc, ◌+◌, ◌*◌, ◌^�
 use Rattle.std.specs.List.{AllByRecursion}
 use Rattle.fsd_bytes.specs.Bytes.{zeros, sector_len}
 use Rattle.fsd_formats.specs.Record.{Stamp, header_bytes, end_bytes, are_pages, AreStamped}
-use Rattle.fsd_log.specs.Judged.{Reader, slice_of, Logged}
+use Rattle.fsd_log.specs.Judged.{Reader, sector_in, Logged}
 use Rattle.fsd_log.specs.Borne.{FitsStamp}
 
 abbrev pub blanks : ℕ → List ℕ
@@ -19,7 +19,7 @@ laid_bytes gap stamp pages images =
 -- the sectors of some bytes
 abbrev pub slices_from : ℕ → List ℕ → ℕ → List (List ℕ)
 slices_from k bytes zero = []
-slices_from k bytes (suc n) = slice_of bytes k ∷ slices_from (suc k) bytes n
+slices_from k bytes (suc n) = sector_in bytes k ∷ slices_from (suc k) bytes n
 
 abbrev pub slices : ℕ → List ℕ → List (List ℕ)
 slices n bytes = slices_from 0 bytes n
@@ -38,5 +38,5 @@ pub record AreLaid (p : ℕ) (stamp : Stamp) (pages images : List ℕ) : Type 0 
 
 -- the first sectors of a write stand, and then the old ones
 pub record IsTorn (bytes : List ℕ) (stood : ℕ) (old new : Reader) : Type 0 where
-  pub front : (k : ℕ) → k < stood → new k ≡ Some (slice_of bytes k)
+  pub front : (k : ℕ) → k < stood → new k ≡ Some (sector_in bytes k)
   pub behind : (k : ℕ) → stood ≤ k → new k ≡ old k

@@ -1,5 +1,5 @@
 -- What an anchor that is read is like, and which epochs have no record.
-use Rattle.std.proofs.Common.{◌≡◌, ℕ, ◌*◌, ◌^◌, ◌<◌, ◌≤◌, Bool, true, false, ◌&&◌, List, [], Option, Some, None, nat_le, refl, sym, ap, subst, ◌∙◌, arith, inl, inr}
+use Rattle.std.proofs.Common.{◌≡◌, ℕ, ◌*◌, ◌^◌, ◌<◌, ◌≤◌, Bool, true, false, ◌&&◌, List, [], Option, Some, None, nat_le, refl, sym, ap, subst, ◌∙◌, arith, inl, inr, cond}
 use Rattle.std.specs.Prelude.{IfSome, if◌then◌else◌}
 use Rattle.std.specs.Int.{w32, to_be_bytes, from_be_bytes}
 use Rattle.std.proofs.lemmas.Bool.{and_parts, leb-true, cases_lt}
@@ -23,6 +23,11 @@ use Rattle.fsd_log.proofs.WalkLaws.{stamp_of}
 use Rattle.fsd_sound.proofs.LogPlaces.{on_tape, off_tape, place_in_log}
 use Rattle.fsd_log.proofs.AnchorLaws.{third_in}
 use Rattle.fsd_sound.specs.Anchors.{EachAnchor, anchor_at, anchor_of}
+
+-- a choice between an anchor and itself
+pub either_same : (b : Bool) (x : Anchor) → cond b x x ≡ x
+either_same true x = refl
+either_same false x = refl
 
 -- an anchor that a sector may have
 pub record IsAnchor (a : Anchor) : Type 0 where

@@ -1,5 +1,5 @@
 -- An anchor is written from its twin: what is shown stays, however the window wears, and the log stays the volume's own.
-use Rattle.std.proofs.Common.{◌≡◌, ◌≢◌, inl, inr, ⊎_elim, ℕ, ◌<◌, ◌≤◌, Bool, true, false, cond, List, [], ◌∷◌, length, Option, Some, None, refl, sym, ap, subst, ◌∙◌, arith}
+use Rattle.std.proofs.Common.{◌≡◌, ◌≢◌, inl, inr, ⊎_elim, ℕ, ◌<◌, ◌≤◌, List, [], ◌∷◌, length, Option, Some, None, refl, sym, ap, subst, ◌∙◌, arith}
 use Rattle.std.specs.Prelude.{IfSome, IsSome, IsTrue, option_and_then}
 use Rattle.std.specs.Option.{option_or}
 use Rattle.std.specs.List.{AllByRecursion}
@@ -29,10 +29,7 @@ use Rattle.fsd_sound.proofs.LogPlaces.{IsRecord, SameLog, copies_same, front_sam
 use Rattle.fsd_sound.proofs.RenewLaws.{AreAnchorPlaces}
 use Rattle.fsd_sound.proofs.SaidLaws.{says_same, some_same}
 use Rattle.fsd_sound.proofs.SectorFacts.{not_damaged}
-
-either_same : (b : Bool) (x : Anchor) → cond b x x ≡ x
-either_same true x = refl
-either_same false x = refl
+use Rattle.fsd_sound.proofs.AnchorFacts.{either_same}
 
 -- ---- where the anchor was damaged
 

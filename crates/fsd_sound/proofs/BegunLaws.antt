@@ -1,5 +1,5 @@
 -- Once the homes are whole and alike and the new anchors stand, the pages are shown, however the window wears.
-use Rattle.std.proofs.Common.{◌≡◌, ◌⊎◌, inl, inr, ⊎_elim, ℕ, ◌≤◌, Bool, true, false, cond, List, [], ◌∷◌, get_or, Option, Some, None, refl, sym, ap, subst, ◌∙◌, arith}
+use Rattle.std.proofs.Common.{◌≡◌, ◌⊎◌, inl, inr, ⊎_elim, ℕ, ◌≤◌, Bool, false, List, [], ◌∷◌, get_or, Option, Some, None, refl, sym, ap, subst, ◌∙◌, arith}
 use Rattle.std.specs.Prelude.{IsTrue, IfSome, IsSome, option_and_then}
 use Rattle.volume_layout.specs.declared.layout.Layout.{Layout}
 use Rattle.volume_layout.specs.Root.{root_bytes}
@@ -24,6 +24,7 @@ use Rattle.fsd_sound.proofs.HomedLaws.{stamps_up, fresh_log, no_records, homes_a
 use Rattle.fsd_sound.specs.Begun.{IsHomed, IsBegun}
 use Rattle.fsd_sound.specs.Windows.{IsNarrow}
 use Rattle.fsd_sound.proofs.WindowLaws.{borne_narrow}
+use Rattle.fsd_sound.proofs.AnchorFacts.{either_same}
 
 module _ (l : Layout) (epoch : ℕ) (pages : List (List ℕ)) (i : Image) (is : IsBegun l epoch pages i) where
   homed : IsHomed l epoch pages i
@@ -115,10 +116,6 @@ module _ (l : Layout) (epoch : ℕ) (pages : List (List ℕ)) (i : Image) (is : 
               ∙ (λ k. newer_of (found_first k) (found_second k))
               ∙ ap (λ (x : Anchor). Some x) (either_same (is_newer_of (fresh_anchor epoch)) (fresh_anchor epoch))
             where
-              either_same : (b : Bool) (x : Anchor) → cond b x x ≡ x
-              either_same true x = refl
-              either_same false x = refl
-
               is_newer_of : Anchor → Bool
               is_newer_of a = Rattle.fsd_log.specs.Scan.is_newer a a
           by_copies (inl e) (inr d) =

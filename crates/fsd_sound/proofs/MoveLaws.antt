@@ -28,6 +28,7 @@ use Rattle.fsd_sound.specs.Stands.{StandsShown}
 use Rattle.fsd_sound.proofs.CommuteLaws.{same_or}
 use Rattle.fsd_sound.proofs.SaidLaws.{own_roots_say, says_same, some_same}
 use Rattle.fsd_sound.proofs.SectorFacts.{not_damaged}
+use Rattle.fsd_sound.proofs.AnchorFacts.{either_same}
 
 -- an anchor that may follow another in its epoch
 pub record IsLater (old new : Anchor) : Type 0 where
@@ -59,10 +60,6 @@ pub record MayMoveOn (l : Layout) (old new : Anchor) (rs rest : List Placed) (pa
   pub shown : shown_by l i old ≡ Some pages
   pub homed : (page : ℕ) → page < l.pages → IsHomedIn l rs rest i page
   pub alike : (page : ℕ) → page < l.pages → last_image page rs ≡ None → (x y : List ℕ) → sector_at i (home_a l page) ≡ Whole x → sector_at i (home_b l page) ≡ Whole y → x ≡ y
-
-either_same : (b : Bool) (x : Anchor) → cond b x x ≡ x
-either_same true x = refl
-either_same false x = refl
 
 each_same : (f g : ℕ → Option (List ℕ)) (xs : List ℕ) → AllByRecursion (λ x. f x ≡ g x) xs → each_of f xs ≡ each_of g xs
 each_same f g [] all = refl

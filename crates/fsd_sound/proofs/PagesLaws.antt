@@ -1,5 +1,6 @@
 -- What an image shows of each page: its last image in the log, or else what stands whole at either home.
 use Rattle.std.proofs.Common.{◌≡◌, ◌⊎◌, inl, inr, ℕ, ◌+◌, ◌<◌, List, [], get_or, Option, Some, None, refl, sym, ap, subst, ◌∙◌, arith}
+use Rattle.std.proofs.lemmas.Option.{same_Some}
 use Rattle.std.specs.Prelude.{IfSome, option_and_then}
 use Rattle.std.specs.Option.{option_or}
 use Rattle.volume_layout.specs.declared.layout.Layout.{Layout}
@@ -19,9 +20,6 @@ use Rattle.fsd_sound.specs.Sound.{HasHomes, ShowsPages, weak_of}
 use Rattle.fsd_sound.proofs.AnchorFacts.{newer_one}
 use Rattle.fsd_sound.proofs.EachLaws.{each_at}
 
-some_same : (x y : List ℕ) → Some x ≡ Some y → x ≡ y
-some_same x y e = cc
-
 module _ (l : Layout) (i : Image) (t : Anchor) (taken : anchor_of i ≡ Some t) (pages : List (List ℕ)) (is : shown l i ≡ Some pages) (page : ℕ) (lt : page < l.pages) where
   newest_is : newest l i (records_by l i t) page ≡ Some (get_or pages page [])
   newest_is =
@@ -31,11 +29,11 @@ module _ (l : Layout) (i : Image) (t : Anchor) (taken : anchor_of i ≡ Some t) 
 
   -- the page is logged
   pub logged_is : (x : List ℕ) → last_image page (records_by l i t) ≡ Some x → x ≡ get_or pages page []
-  logged_is x last = some_same x (get_or pages page []) (sym (ap (λ (o : Option (List ℕ)). option_or o (home_of l i page)) last) ∙ newest_is)
+  logged_is x last = same_Some x (get_or pages page []) (sym (ap (λ (o : Option (List ℕ)). option_or o (home_of l i page)) last) ∙ newest_is)
 
   -- it is not, and stands whole at one home
   pub home_is : (windows : List WeakRun) (choices : List (List (List ℕ))) → ShowsPages l windows choices i → last_image page (records_by l i t) ≡ None → (x : List ℕ) → (sector_at i (home_a l page) ≡ Whole x) ⊎ (sector_at i (home_b l page) ≡ Whole x) → x ≡ get_or pages page []
-  home_is windows choices shows none x stands = some_same x (get_or pages page []) (sym (at_home stands) ∙ shown_home)
+  home_is windows choices shows none x stands = same_Some x (get_or pages page []) (sym (at_home stands) ∙ shown_home)
     where
       shown_home : home_of l i page ≡ Some (get_or pages page [])
       shown_home = sym (ap (λ (o : Option (List ℕ)). option_or o (home_of l i page)) none) ∙ newest_is

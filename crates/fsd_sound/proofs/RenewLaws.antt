@@ -29,14 +29,11 @@ use Rattle.fsd_sound.proofs.CommuteLaws.{same_or, with_same, with_other, all_ove
 use Rattle.fsd_sound.proofs.HomedLaws.{stamps_up, no_records, homes_alike, pages_are}
 use Rattle.fsd_sound.proofs.SaidLaws.{own_roots_say, says_same, says_worn, some_same}
 use Rattle.fsd_sound.proofs.SectorFacts.{not_damaged}
+use Rattle.fsd_sound.proofs.AnchorFacts.{either_same}
 
 -- the places of the two anchors, in either order
 abbrev pub AreAnchorPlaces : ℕ → ℕ → Type 0
 AreAnchorPlaces s t = ((s ≡ 8) × (t ≡ 12)) ⊎ ((s ≡ 12) × (t ≡ 8))
-
-either_same : (b : Bool) (x : Anchor) → cond b x x ≡ x
-either_same true x = refl
-either_same false x = refl
 
 module _ (l : Layout) (epoch : ℕ) (pages : List (List ℕ)) (c : Image) (homed : IsHomed l epoch pages c) (weak : Sectors) (narrow : IsNarrow weak) (choices : List (List (List ℕ))) (chosen : Contains choices pages)
     (s t : ℕ) (at : AreAnchorPlaces s t) (i : Image) (room : s < length i) (worn : IsWorn weak c i) (older : EachAnchor i (λ a. (a.epoch < epoch) ⊎ (a ≡ fresh_anchor epoch))) (stands : StandsShown l weak choices i) where

@@ -4,7 +4,7 @@ use Rattle.std.specs.Prelude.{IsTrue}
 use Rattle.std.proofs.lemmas.Bool.{and_parts}
 use Rattle.volume_layout.specs.declared.layout.Layout.{Layout}
 use Rattle.sector_disk.specs.declared.sector.WeakRun.{WeakRun}
-use Rattle.sector_disk.specs.Image.{Windows, open_damage, settled, in_run, IsWorn, weak as in_window}
+use Rattle.sector_disk.specs.Image.{Windows, open_damage, settled, in_weak_run, IsWorn, weak as in_window}
 use Rattle.sector_disk.specs.Machine.{Moment, Holds, Settles}
 use Rattle.sector_disk.proofs.Wear.{worn_trans, worn_more}
 use Rattle.fsd_files.specs.Disk.{Image, Sectors}
@@ -20,9 +20,9 @@ open_in_next now windows run named s hurt =
     subst (λ (o : Option WeakRun). IsTrue (in_window o None s)) (sym (last_snoc None windows run))
     (by_present now.present (subst (λ (o : Option WeakRun). IsTrue (in_window now.present o s)) named hurt))
   where
-    by_present : (o : Option WeakRun) → IsTrue (in_window o (Some run) s) → IsTrue (in_run run s)
+    by_present : (o : Option WeakRun) → IsTrue (in_window o (Some run) s) → IsTrue (in_weak_run run s)
     by_present None h = h
-    by_present (Some w) h = (and_parts (in_run w s) (in_run run s) h).1
+    by_present (Some w) h = (and_parts (in_weak_run w s) (in_weak_run run s) h).1
 
 settled_run : (present next : Option WeakRun) (run : WeakRun) → next ≡ Some run → settled present next ≡ record { present = Some run; next = None }
 settled_run present None run named = absurd cc

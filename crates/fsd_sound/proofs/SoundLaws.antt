@@ -10,7 +10,7 @@ use Rattle.sector_disk.specs.declared.sector.WeakRun.{WeakRun}
 use Rattle.sector_disk.specs.declared.sector.Sector.{Sector}
 use Rattle.sector_disk.specs.declared.sector.Sector.TheVariants.{Whole, Damaged}
 use Rattle.fsd_files.specs.Disk.{Image, bytes_of, Sectors, in_runs, Within, SectorWorn}
-use Rattle.sector_disk.specs.Image.{weak as in_window, sector_at, in_run, IsWorn}
+use Rattle.sector_disk.specs.Image.{weak as in_window, sector_at, in_weak_run, IsWorn}
 use Rattle.fsd_files.specs.Files.{Change, after}
 use Rattle.fsd_sound.specs.Anchors.{EachAnchor}
 use Rattle.fsd_table.specs.Table.{Telling, told_in}
@@ -118,12 +118,12 @@ shows_still l windows narrow choices i j w s = record {
 -- ---- soundness from the pages
 
 -- the weak run is one of those where damage may have come
-last_is_among : (r : WeakRun) (windows : List WeakRun) (o : Option WeakRun) → last_or o windows ≡ Some r → (windows ≡ []) ⊎ ((s : ℕ) → IsTrue (in_run r s) → IsTrue (in_runs windows s))
+last_is_among : (r : WeakRun) (windows : List WeakRun) (o : Option WeakRun) → last_or o windows ≡ Some r → (windows ≡ []) ⊎ ((s : ℕ) → IsTrue (in_weak_run r s) → IsTrue (in_runs windows s))
 last_is_among r [] o e = inl refl
 last_is_among r (q ∷ windows) o e =
     elim (last_is_among r windows (Some q) e) [
-      | inl empty ↦ inr (λ s t. or_left (in_run q s) (list_any (λ r. in_run r s) windows) (subst (λ (x : WeakRun). IsTrue (in_run x s)) (sym (same_last windows empty e)) t))
-      | inr among ↦ inr (λ s t. or_right (in_run q s) (list_any (λ r. in_run r s) windows) (among s t))
+      | inl empty ↦ inr (λ s t. or_left (in_weak_run q s) (list_any (λ r. in_weak_run r s) windows) (subst (λ (x : WeakRun). IsTrue (in_weak_run x s)) (sym (same_last windows empty e)) t))
+      | inr among ↦ inr (λ s t. or_right (in_weak_run q s) (list_any (λ r. in_weak_run r s) windows) (among s t))
     ]
   where
     same_last : (ws : List WeakRun) → ws ≡ [] → last_or (Some q) ws ≡ Some r → q ≡ r

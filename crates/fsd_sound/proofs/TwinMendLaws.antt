@@ -45,9 +45,6 @@ module _ (m : Mounted) (windows : List WeakRun) (narrow : IsNarrow (weak_of wind
   abbrev l : Layout
   l = m.volume.layout
 
-  abbrev j : Image
-  j = with_sector i s bytes
-
   shows : ShowsPages m.volume.layout windows (is.disk ∷ []) i
   shows = is.over.shows
 

@@ -12,7 +12,7 @@ use Rattle.fsd_formats.specs.NamePage.{Content, Free, Leaf, page_bytes}
 use Rattle.sector_disk.specs.declared.sector.Sector.TheVariants.{Whole, Damaged}
 use Rattle.fsd_files.specs.Disk.{Image}
 use Rattle.sector_disk.specs.declared.sector.WeakRun.{WeakRun}
-use Rattle.sector_disk.specs.Image.{sector_at, in_run, IsWorn}
+use Rattle.sector_disk.specs.Image.{sector_at, in_weak_run, IsWorn}
 
 -- page 0 is an empty leaf, the others are free
 abbrev pub format_content : ℕ → Content
@@ -45,4 +45,4 @@ pub record IsFormatted (l : Layout) (i : Image) : Type 0 where
 pub record IsFormattedIn (l : Layout) (next : WeakRun) (i : Image) : Type 0 where
   pub written : Image
   pub formatted : IsFormatted l written
-  pub worn : IsWorn (in_run next) written i
+  pub worn : IsWorn (in_weak_run next) written i

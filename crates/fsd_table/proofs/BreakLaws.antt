@@ -2,7 +2,7 @@
 use Rattle.std.proofs.Common.{◌≡◌, ◌⊎◌, inl, inr, ℕ, zero, suc, ◌+◌, ◌≤◌, ◌<◌, Bool, true, false, cond, not, ◌&&◌, ◌||◌, List, [], ◌∷◌, ◌++◌, length, map, Option, Some, None, refl, sym, ap, subst, ◌∙◌, arith}
 use Rattle.std.specs.Prelude.{nat_le, slice_index_or, ◌==◌, count_by}
 use Rattle.std.specs.List.{list_all, flat_map, AllByRecursion, Contains}
-use Rattle.std.proofs.lemmas.Bool.{and_parts, and_left, and_right}
+use Rattle.std.proofs.lemmas.Bool.{and_parts, and_left, and_right, eq-eqb}
 use Rattle.std.proofs.lemmas.Bool.Decides.{nat_tests}
 use Rattle.std.proofs.lemmas.List.Sums.{sum_by-cons}
 use Rattle.run_table.specs.Space.{contains}
@@ -171,16 +171,13 @@ visited_between pages levels depth c cs before after some parts =
     let here = in_left v (f c) (flat_map f cs) (first_visit levels pages depth c some) in
     in_to v (visits pages) (subst (In v) (sym parts) (in_right v before (flat_map f (c ∷ cs) ++ after) (in_left v (flat_map f (c ∷ cs)) after here)))
 
-is_itself : (m n : ℕ) → m ≡ n → (m == n) ≡ true
-is_itself m n e = grind (arith, nat_tests)
-
 counts_one : (page : ℕ) (v : Visit) (xs : List Visit) → count_by (λ w. w.page == page) (v ∷ xs) ≡ cond (v.page == page) 1 0 + count_by (λ w. w.page == page) xs
 counts_one page v xs = sum_by-cons (λ (w : Visit). cond (w.page == page) 1 0) v xs
 
 counts_here : (page : ℕ) (xs : List Visit) (v : Visit) → In v xs → v.page ≡ page → 1 ≤ count_by (λ w. w.page == page) xs
 counts_here page [] v h e = absurd h
 counts_here page (w ∷ xs) v (inl same) e =
-    let here = ap {B = ℕ} (λ (b : Bool). cond b 1 0) (is_itself w.page page (ap (λ (x : Visit). x.page) same ∙ e)) in
+    let here = ap {B = ℕ} (λ (b : Bool). cond b 1 0) (eq-eqb w.page page (ap (λ (x : Visit). x.page) same ∙ e)) in
     omega (arith, counts_one page w xs, here)
 counts_here page (w ∷ xs) v (inr h) e = omega (arith, counts_one page w xs, counts_here page xs v h e)
 
@@ -233,7 +230,7 @@ kind_breaks pages depth c d h other unlike =
     by true e =
         let alike : (not (depth == depth) || kinds_agree (page_at pages d.page) (page_at pages c.page)) ≡ true =
         all_has (λ w. not (w.depth == depth) || kinds_agree w.content (page_at pages c.page)) (visit_of pages depth d) (visits pages) (in_from (visit_of pages depth d) (visits pages) other) e in
-        let same = is_itself depth depth refl in
+        let same = eq-eqb depth depth refl in
         cc
 
 -- ---- a tree

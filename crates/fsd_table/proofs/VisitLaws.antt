@@ -2,7 +2,7 @@
 use Rattle.std.proofs.Common.{◌≡◌, ℕ, zero, suc, ◌+◌, ◌-◌, ◌≤◌, ◌<◌, Bool, true, false, cond, not, ◌&&◌, ◌||◌, List, [], ◌∷◌, ◌++◌, length, map, Option, Some, None, refl, sym, ap, subst, ◌∙◌, arith, zero-add}
 use Rattle.std.specs.Prelude.{nat_le, ◌==◌, count_by}
 use Rattle.std.specs.List.{list_all, flat_map, AllByRecursion}
-use Rattle.std.proofs.lemmas.Bool.{and_parts, and_from, le-leb, or_parts}
+use Rattle.std.proofs.lemmas.Bool.{and_parts, and_from, le-leb, or_parts, eq-eqb, not-true}
 use Rattle.std.proofs.lemmas.Bool.Decides.{nat_tests}
 use Rattle.std.proofs.lemmas.List.{map-append, append-nil}
 use Rattle.std.proofs.lemmas.List.Concat.{flat_map-append}
@@ -112,9 +112,6 @@ others : (x : ℕ) (xs : List ℕ) → contains xs x ≡ false → AllByRecursio
 others x [] e = tt
 others x (y ∷ xs) e = let parts = or_parts (y == x) (contains xs x) e in (other_way x y parts.0, others x xs parts.1)
 
-same_itself : (x : ℕ) → (x == x) ≡ true
-same_itself x = grind (arith, nat_tests)
-
 both : {X : Type 0} (P Q R : X → Type 0) (xs : List X) → ((x : X) → P x → Q x → R x) → AllByRecursion P xs → AllByRecursion Q xs → AllByRecursion R xs
 both P Q R [] f a b = tt
 both P Q R (x ∷ xs) f a b = (f x a.0 b.0, both P Q R xs f a.1 b.1)
@@ -123,16 +120,12 @@ counted_once : (xs : List ℕ) → all_differ xs ≡ true → AllByRecursion (λ
 counted_once [] e = tt
 counted_once (x ∷ xs) e =
     let parts = and_parts (not (contains xs x)) (all_differ xs) e in
-    let absent : contains xs x ≡ false = unnot (contains xs x) parts.0 in (
-      sum_by-cons (λ (t : ℕ). cond (t == x) 1 0) x xs ∙ ap (λ (b : Bool). cond b 1 0 + count_by (λ t. t == x) xs) (same_itself x) ∙ ap (λ (n : ℕ). 1 + n) (no_count x xs absent),
+    let absent : contains xs x ≡ false = not-true (contains xs x) parts.0 in (
+      sum_by-cons (λ (t : ℕ). cond (t == x) 1 0) x xs ∙ ap (λ (b : Bool). cond b 1 0 + count_by (λ t. t == x) xs) (eq-eqb x x refl) ∙ ap (λ (n : ℕ). 1 + n) (no_count x xs absent),
       both (λ y. (x == y) ≡ false) (λ y. count_by (λ t. t == y) xs ≡ 1) (λ y. count_by (λ t. t == y) (x ∷ xs) ≡ 1) xs
           (λ y ne one. sum_by-cons (λ (t : ℕ). cond (t == y) 1 0) x xs ∙ ap (λ (b : Bool). cond b 1 0 + count_by (λ t. t == y) xs) ne ∙ zero-add (count_by (λ t. t == y) xs) ∙ one)
           (others x xs absent) (counted_once xs parts.1),
     )
-  where
-    unnot : (b : Bool) → not b ≡ true → b ≡ false
-    unnot false e = refl
-    unnot true e = absurd cc
 
 pub count_map : (x : ℕ) (all : List Visit) → count_by (λ w. w.page == x) all ≡ count_by (λ t. t == x) (map (λ v. v.page) all)
 count_map x [] = refl
@@ -176,9 +169,6 @@ list_all_from : (p : Visit → Bool) (xs : List Visit) → AllByRecursion (λ v.
 list_all_from p [] a = refl
 list_all_from p (x ∷ xs) a = and_from (p x) (list_all p xs) a.0 (list_all_from p xs a.1)
 
-eq_test : (m n : ℕ) → m ≡ n → (m == n) ≡ true
-eq_test m n e = grind (arith, nat_tests)
-
 shaped : (bottom level : ℕ) (pages : List (List ℕ)) (c : Child) (all : List Visit) → bottom ≤ max_height → Tells bottom level pages c all → all_differ (pages_below level pages c) ≡ true
     → list_all (in_shape all) all ≡ true
 shaped bottom level pages c all most t apart =
@@ -187,7 +177,7 @@ shaped bottom level pages c all most t apart =
     (λ v f one. and_from (visit_fits v && alone all v) (same_kind all v)
     (and_from (visit_fits v) (alone all v)
     (and_from (nat_le v.depth max_height) (content_fits v.low v.high v.content) (le-leb v.depth max_height (deep v.depth bottom f.within most)) f.fits)
-    (eq_test (count_by (λ w. w.page == v.page) all) 1 (count_map v.page all ∙ one)))
+    (eq-eqb (count_by (λ w. w.page == v.page) all) 1 (count_map v.page all ∙ one)))
     (kinds_same bottom v all f t.fine))
     t.fine once)
   where

@@ -3,7 +3,7 @@ use Rattle.std.specs.Prelude.{◌≡◌, ℕ, zero, suc, ◌+◌, Bool, true, fa
 use Rattle.std.specs.List.{list_all, flat_map, Contains}
 use Rattle.fsd_bytes.specs.declared.key.Key.{Key}
 use Rattle.fsd_formats.specs.declared.entry.Entry.{Entry}
-use Rattle.fsd_formats.specs.NamePage.{Content, kind_of}
+use Rattle.fsd_formats.specs.NamePage.{Content, kind_number}
 use Rattle.fsd_table.specs.declared.child.Child.{Child}
 use Rattle.fsd_table.specs.Pages.{page_at, children_of, entries_of, content_fits}
 
@@ -53,7 +53,7 @@ alone all v = count_by (λ w. w.page == v.page) all == 1
 
 -- a page that isn't read has no kind
 abbrev pub kinds_agree : Option Content → Option Content → Bool
-kinds_agree (Some a) (Some b) = kind_of a == kind_of b
+kinds_agree (Some a) (Some b) = kind_number a == kind_number b
 kinds_agree a b = true
 
 -- no page as deep is of another kind

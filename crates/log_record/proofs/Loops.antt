@@ -1,5 +1,6 @@
 -- What the loops keep.
 use Rattle.std.proofs.Common.{◌≡◌, ℕ, zero, suc, ◌+◌, ◌-◌, ◌*◌, ◌<◌, ◌≤◌, Bool, true, false, ◌&&◌, List, [], ◌∷◌, ◌++◌, length, get_or, take, drop, Option, Some, None, nat_lt, nat_le, refl, sym, ap, ◌∙◌, arith, append_assoc}
+use Rattle.std.proofs.Math.Bool.{and-false}
 use Rattle.std.specs.Prelude.{if◌then◌else◌, codes, option_map, option_and_then}
 use Rattle.std.specs.List.{flat_map, list_all}
 use Rattle.std.proofs.lemmas.Bool.{cond-false}
@@ -177,8 +178,4 @@ many_none p stamp bytes more = cond-false _ _ _ (too_many p stamp bytes (u16_at 
 pub unspelled_none : (p : ℕ) (stamp : Stamp) (bytes pages : List ℕ) (n : ℕ) → n ≡ u16_at 12 bytes → pages ≡ numbers_from n (drop 32 bytes) → same_bytes (header_bytes stamp pages) bytes ≡ false → read_header p stamp bytes ≡ None
 unspelled_none p stamp bytes pages n count is differs =
     let all : numbers_from (u16_at 12 bytes) (drop 32 bytes) ≡ pages = sym (is ∙ ap (λ (m : ℕ). numbers_from m (drop 32 bytes)) count) in
-    cond-false _ _ _ (ap (λ (x : List ℕ). are_pages p x && same_bytes (header_bytes stamp x) bytes) all ∙ ap (λ (b : Bool). are_pages p pages && b) differs ∙ and_false (are_pages p pages))
-  where
-    and_false : (b : Bool) → (b && false) ≡ false
-    and_false true = refl
-    and_false false = refl
+    cond-false _ _ _ (ap (λ (x : List ℕ). are_pages p x && same_bytes (header_bytes stamp x) bytes) all ∙ ap (λ (b : Bool). are_pages p pages && b) differs ∙ and-false (are_pages p pages))

@@ -2,7 +2,7 @@
 //! do nothing, the contract of each is a law.
 ghost use Rattle.std.specs.Prelude.{◌≡◌, ◌⊎◌, ◌+◌, ◌*◌, ◌<◌, ◌≤◌, ◌^◌, ℕ, List, Some, None, false, length, replicate};
 ghost use Rattle.fsd_formats.specs.Record.{Stamp, record_len};
-ghost use Rattle.fsd_log.specs.Judged.{Reader, Logged, Serving, judged, record_in, slice_of};
+ghost use Rattle.fsd_log.specs.Judged.{Reader, Logged, Serving, judged, record_in, sector_in};
 ghost use Rattle.fsd_log.specs.Good.{IsGood};
 ghost use Rattle.fsd_log.specs.Reach.{reach};
 ghost use Rattle.fsd_log.specs.Borne.{Foreign, FitsStamp, ReadsLess};
@@ -19,11 +19,11 @@ pub fn records_are_good_where_copies_serve()
 /// A record that is laid is good by its first sectors, and still there where two adjacent sectors of it and the gap were lost.
 pub fn laid_records_are_good()
     ensures good { (gap p : ℕ) (stamp : Stamp) (pages images : List ℕ) (room : ℕ) (at : Reader) → AreLaid p stamp pages images →
-        record_len gap (length pages) ≤ room → ((k : ℕ) → k < record_len gap (length pages) → at k ≡ Some (slice_of (laid_bytes gap stamp pages images) k)) →
+        record_len gap (length pages) ≤ room → ((k : ℕ) → k < record_len gap (length pages) → at k ≡ Some (sector_in (laid_bytes gap stamp pages images) k)) →
         judged gap p stamp room at ≡ Some (record { pages = pages; header_copy = false; end_copy = false; page_copy = replicate (length pages) false }) }
     ensures outlasts { (gap p : ℕ) (stamp : Stamp) (pages images : List ℕ) (room w : ℕ) (at : Reader) → AreLaid p stamp pages images →
         record_len gap (length pages) ≤ room →
-        ((k : ℕ) → k < record_len gap (length pages) → (at k ≡ Some (slice_of (laid_bytes gap stamp pages images) k)) ⊎ (Foreign stamp (at k) × (w ≤ k) × (k < w + (2 + gap)))) →
+        ((k : ℕ) → k < record_len gap (length pages) → (at k ≡ Some (sector_in (laid_bytes gap stamp pages images) k)) ⊎ (Foreign stamp (at k) × (w ≤ k) × (k < w + (2 + gap)))) →
         record_in gap p stamp room at ≡ Some (new_record stamp pages images) }
 {}
 
@@ -37,9 +37,9 @@ pub fn torn_records_are_whole_or_absent()
         record_len gap (length pages) ≤ room → IsTorn (laid_bytes gap stamp pages images) stood old new → stood ≤ 3 + gap + length pages →
         ((k : ℕ) → Foreign stamp (old k)) → record_in gap p stamp room new ≡ None }
     ensures hurt_absent { (gap p : ℕ) (stamp : Stamp) (pages images : List ℕ) (room stood : ℕ) (at : Reader) → AreLaid p stamp pages images → stood ≤ 3 + gap + length pages →
-        ((k : ℕ) → k < record_len gap (length pages) → ((at k ≡ Some (slice_of (laid_bytes gap stamp pages images) k)) × (k < stood)) ⊎ Foreign stamp (at k)) → record_in gap p stamp room at ≡ None }
+        ((k : ℕ) → k < record_len gap (length pages) → ((at k ≡ Some (sector_in (laid_bytes gap stamp pages images) k)) × (k < stood)) ⊎ Foreign stamp (at k)) → record_in gap p stamp room at ≡ None }
     ensures hurt { (gap p : ℕ) (stamp : Stamp) (pages images : List ℕ) (room : ℕ) (at : Reader) → AreLaid p stamp pages images →
-        ((k : ℕ) → k < record_len gap (length pages) → (at k ≡ Some (slice_of (laid_bytes gap stamp pages images) k)) ⊎ Foreign stamp (at k)) →
+        ((k : ℕ) → k < record_len gap (length pages) → (at k ≡ Some (sector_in (laid_bytes gap stamp pages images) k)) ⊎ Foreign stamp (at k)) →
         (record_in gap p stamp room at ≡ None) ⊎ (record_in gap p stamp room at ≡ Some (new_record stamp pages images)) }
 {}
 

@@ -7,10 +7,10 @@ use Rattle.std.proofs.lemmas.List.{ext_get_or}
 use Rattle.sector_disk.specs.declared.sector.Sector.{Sector}
 use Rattle.sector_disk.specs.declared.sector.Sector.TheVariants.{Whole, Damaged}
 use Rattle.sector_disk.specs.declared.sector.WeakRun.{WeakRun}
-use Rattle.sector_disk.specs.Image.{stand, with_sector, IsWorn, in_run, Windows, IsEmpty, IsCalm, weak, open_damage}
+use Rattle.sector_disk.specs.Image.{stand, with_sector, IsWorn, in_weak_run, Windows, IsEmpty, IsCalm, weak, open_damage}
 
 -- no place lies in an empty run
-in_empty : (run : WeakRun) (place : ℕ) → IsEmpty run → IsTrue (in_run run place) → ⊥
+in_empty : (run : WeakRun) (place : ℕ) → IsEmpty run → IsTrue (in_weak_run run place) → ⊥
 in_empty run place empty within = grind (arith, nat_tests)
 
 -- a calm window leaves no sector to damage
@@ -18,7 +18,7 @@ pub calm_nowhere : (present next : Option WeakRun) (place : ℕ) → IfSome pres
 calm_nowhere None None place p n h = absurd cc
 calm_nowhere (Some run) None place p n h = in_empty run place p h
 calm_nowhere None (Some next) place p n h = in_empty next place n h
-calm_nowhere (Some run) (Some next) place p n h = in_empty run place p (and_parts (in_run run place) (in_run next place) h).0
+calm_nowhere (Some run) (Some next) place p n h = in_empty run place p (and_parts (in_weak_run run place) (in_weak_run next place) h).0
 
 -- where no sector may be damaged, the image stays
 pub worn_not : (may : ℕ → Bool) (i j : List Sector) → ((place : ℕ) → IsTrue (may place) → ⊥) → IsWorn may i j → j ≡ i

@@ -1,5 +1,6 @@
 -- What a call that is refused or noted makes of the state.
-use Rattle.std.proofs.Common.{◌≡◌, inl, inr, ℕ, ◌+◌, ◌-◌, ◌/◌, ◌^◌, ◌==◌, min, replicate, Option, None, Some, Vec, Bool, true, false, ◌||◌, ◌&&◌, cond, List, [], ◌∷◌, ◌++◌, length, refl, sym, ◌∙◌, ap, subst, arith}
+use Rattle.std.proofs.Common.{◌≡◌, inl, inr, ℕ, ◌+◌, ◌-◌, ◌/◌, ◌^◌, ◌==◌, min, replicate, Option, None, Some, Vec, Bool, true, false, ◌&&◌, cond, List, [], ◌∷◌, ◌++◌, length, refl, sym, ◌∙◌, ap, subst, arith}
+use Rattle.std.proofs.lemmas.Bool.{or_parts}
 use Rattle.std.specs.Prelude.{if◌then◌else◌, count_by, drop, Result, Ok, Err, OnOk, OnErr, is_ok, is_err}
 use Rattle.std.specs.List.{list_any}
 use Rattle.std.proofs.lemmas.List.{append-nil}
@@ -23,7 +24,7 @@ use Rattle.sector_disk.specs.Machine.{wrote}
 use Rattle.sector_disk.specs.Image.{settled, stand}
 use Rattle.sector_disk.specs.Events.{verdict_at, verdict_of, or_else, counts_at, stood_by, is_going, is_stop}
 use Rattle.sector_disk.specs.Past.{hurt_all, attaches_in, attach_of, written_in, written_by, begins_at, is_write_at, due}
-use Rattle.sector_disk.specs.State.{State, Rests, noted, asked, opened, put, put_by, spoken, call_goes, write_verdict, Exactly, Calls, Attached, Written, same}
+use Rattle.sector_disk.specs.State.{DiskState, Rests, noted, asked, opened, put_sectors, put_by, spoken, call_goes, write_verdict, Exactly, Calls, Attached, Written, same}
 use Rattle.sector_disk.specs.Memory.{memory_state, memory_now, memory_ledger, memory_honest, Notes, Refuses, Fails as Failing, IsAttaching, IsWriting}
 use Rattle.sector_disk.specs.Windows.{all_weak}
 use Rattle.sector_disk.proofs.Calls.{noted_ledger}
@@ -70,7 +71,7 @@ count-push first past step =
     ∙ ap (λ (n : ℕ). count_by (begins_at first) past + n) (none_add (cond (begins_at first step) 1 0))
 
 -- the state after a noted call, by its work
-abbrev noted_by : Bool → Work → State → State
+abbrev noted_by : Bool → Work → DiskState → DiskState
 noted_by settle work s = record (noted settle s) {
   ledger = record { input = s.ledger.input; attaches = s.ledger.attaches ++ attach_of work; written = s.ledger.written + written_by work };
   begun = λ first. s.begun first + (if is_write_at first work then 1 else 0);
@@ -110,7 +111,7 @@ add_none : (n : ℕ) → n + 0 ≡ n
 add_none n = omega arith
 
 -- a call that neither asks nor writes
-plain : (settle : Bool) (s : State) → record (noted settle s) { ledger = record { input = s.ledger.input; attaches = s.ledger.attaches ++ []; written = s.ledger.written + 0 }; begun = λ first. s.begun first + 0 } ≡ noted settle s
+plain : (settle : Bool) (s : DiskState) → record (noted settle s) { ledger = record { input = s.ledger.input; attaches = s.ledger.attaches ++ []; written = s.ledger.written + 0 }; begun = λ first. s.begun first + 0 } ≡ noted settle s
 plain settle s = λ i. record (noted settle s) {
   ledger = record { input = s.ledger.input; attaches = append-nil s.ledger.attaches i; written = add_none s.ledger.written i };
   begun = λ first. add_none (s.begun first) i;
@@ -126,7 +127,7 @@ quiet_calls settle old new (Err e) ok (inl refused) goes = inl (refused_state ol
 quiet_calls settle old new (Err e) ok (inr failed) goes = inr (record { running = failed.0.running; goes = failed.1; after = quiet_state settle old new failed.0 })
 
 -- a call that fails, by its work
-pub failed_exactly : (settle : Bool) (work : Work) (old new : MemoryMachine) (done after : State) → noted_by settle work (memory_state old) ≡ after → Failing settle work old new → Exactly (call_goes (memory_state old)) done after same (memory_state old) (memory_state new) false
+pub failed_exactly : (settle : Bool) (work : Work) (old new : MemoryMachine) (done after : DiskState) → noted_by settle work (memory_state old) ≡ after → Failing settle work old new → Exactly (call_goes (memory_state old)) done after same (memory_state old) (memory_state new) false
 failed_exactly settle work old new done after is (inl refused) = inl (refused_state old new refused)
 failed_exactly settle work old new done after is (inr failed) = inr (record { running = failed.0.running; goes = failed.1; after = noted_state settle work old new failed.0 ∙ is })
 
@@ -139,7 +140,7 @@ room_state old said is = λ i. record (memory_state old) { now = record (memory_
 pub said_none : (bytes : List ℕ) (old : MemoryMachine) (said copy : Vec ℕ Global) (new : MemoryMachine) → said.items ≡ old.said.items → Failing false (Saying copy) (record old { said = said }) new → Calls false (spoken bytes) same (memory_state old) (memory_state new) false
 said_none bytes old said copy new is failed =
     let ready : MemoryMachine = record old { said = said } in
-    subst (λ (s : State). Calls false (spoken bytes) same s (memory_state new) false) (room_state old said is)
+    subst (λ (s : DiskState). Calls false (spoken bytes) same s (memory_state new) false) (room_state old said is)
     (failed_exactly false (Saying copy) ready new (spoken bytes (noted false (memory_state ready))) (noted false (memory_state ready)) (plain false (memory_state ready)) failed)
 
 pub said_all : (bytes : List ℕ) (old : MemoryMachine) (said copy : Vec ℕ Global) (new end : MemoryMachine) → said.items ≡ old.said.items → Notes false (Saying copy) (record old { said = said }) new → call_goes (memory_state (record old { said = said })) ≡ true
@@ -147,7 +148,7 @@ pub said_all : (bytes : List ℕ) (old : MemoryMachine) (said copy : Vec ℕ Glo
 said_all bytes old said copy new end is call goes rest all =
     let ready : MemoryMachine = record old { said = said } in
     let after : memory_state end ≡ spoken bytes (memory_state new) = ap memory_state rest ∙ (λ i. record (memory_state new) { now = record (memory_now new) { said = all i } }) in
-    subst (λ (s : State). Calls false (spoken bytes) same s (memory_state end) true) (room_state old said is) (record {
+    subst (λ (s : DiskState). Calls false (spoken bytes) same s (memory_state end) true) (room_state old said is) (record {
       running = call.running;
       goes = goes;
       after = after ∙ ap (spoken bytes) (noted_state false (Saying copy) ready new call ∙ plain false (memory_state ready));
@@ -155,7 +156,7 @@ said_all bytes old said copy new end is call goes rest all =
 
 -- AN ATTACH
 
-asking : (work : Work) (image : List Sector) (text : List ℕ) (how : Attach) (s : State) → IsAttaching image text how work → noted_by false work s ≡ asked text how (noted false s)
+asking : (work : Work) (image : List Sector) (text : List ℕ) (how : Attach) (s : DiskState) → IsAttaching image text how work → noted_by false work s ≡ asked text how (noted false s)
 asking (Attaching path asks kept) image text how s is = λ i. record (noted false s) {
   ledger = record { input = s.ledger.input; attaches = s.ledger.attaches ++ record { path = is.0 i; how = is.1 i } ∷ []; written = add_none s.ledger.written i };
   begun = λ first. add_none (s.begun first) i;
@@ -185,15 +186,15 @@ made_state work image text count sync fresh old new now is made call goes =
 -- A WRITE
 
 -- what is done to the state beside its ledger and the count of writes
-abbrev stands : ℕ → List ℕ → ℕ → Bool → State → State
+abbrev stands : ℕ → List ℕ → ℕ → Bool → DiskState → DiskState
 stands first text some stops s = record s {
   now = record s.now { image = stand s.now.image first text some };
   written = min (s.written + some) (2 ^ 64 - 1);
   stopped = stops;
 }
 
-writing : (work : Work) (image : List Sector) (first : ℕ) (text : List ℕ) (some : ℕ) (done stops : Bool) (s : State) → IsWriting image first text some done work → stands first text some stops (noted_by false work s) ≡ put first text some done stops (noted false s)
-writing (Writing from copy olds did) image first text some done stops s is = λ i. record (put first text some done stops (noted false s)) {
+writing : (work : Work) (image : List Sector) (first : ℕ) (text : List ℕ) (some : ℕ) (done stops : Bool) (s : DiskState) → IsWriting image first text some done work → stands first text some stops (noted_by false work s) ≡ put_sectors first text some done stops (noted false s)
+writing (Writing from copy olds did) image first text some done stops s is = λ i. record (put_sectors first text some done stops (noted false s)) {
   ledger = (counted_by ∙ counted done) i;
   begun = λ sector. s.begun sector + (if (is.0 i) == sector then 1 else 0);
 }
@@ -209,7 +210,7 @@ writing (Saying bytes) image first text some done stops s is = absurd is
 writing Quiet image first text some done stops s is = absurd is
 
 pub put_state : (work : Work) (first : ℕ) (text : List ℕ) (some : ℕ) (done stops : Bool) (old new end : MemoryMachine) → IsWriting old.image.items first text some done work → Notes false work old new → end.image.items ≡ stand new.image.items first text some
-    → end.written ≡ min (new.written + some) (2 ^ 64 - 1) → end ≡ record new { image = end.image; written = end.written; stopped = stops } → memory_state end ≡ put first text some done stops (noted false (memory_state old))
+    → end.written ≡ min (new.written + some) (2 ^ 64 - 1) → end ≡ record new { image = end.image; written = end.written; stopped = stops } → memory_state end ≡ put_sectors first text some done stops (noted false (memory_state old))
 put_state work first text some done stops old new end is call image written rest =
     ap memory_state rest
     ∙ (λ i. record (memory_state new) { now = record (memory_now new) { image = image i }; written = written i; stopped = stops })
@@ -218,15 +219,11 @@ put_state work first text some done stops old new end is call image written rest
 
 pub put_exactly : (work : Work) (first : ℕ) (text : List ℕ) (some : ℕ) (done stops : Bool) (old new end : MemoryMachine) → IsWriting old.image.items first text some done work → Notes false work old new → end.image.items ≡ stand new.image.items first text some
     → end.written ≡ min (new.written + some) (2 ^ 64 - 1) → end ≡ record new { image = end.image; written = end.written; stopped = stops }
-    → Exactly done (put first text some done stops (noted false (memory_state old))) (put first text some done stops (noted false (memory_state old))) same (memory_state old) (memory_state end) done
+    → Exactly done (put_sectors first text some done stops (noted false (memory_state old))) (put_sectors first text some done stops (noted false (memory_state old))) same (memory_state old) (memory_state end) done
 put_exactly work first text some true stops old new end is call image written rest = record { running = call.running; goes = refl; after = put_state work first text some true stops old new end is call image written rest }
 put_exactly work first text some false stops old new end is call image written rest = inr (record { running = call.running; goes = refl; after = put_state work first text some false stops old new end is call image written rest })
 
 -- COUNTS OF AN EVENT
-
-or_false : (a b : Bool) → (a || b) ≡ false → (a ≡ false) × (b ≡ false)
-or_false false b h = (refl, h)
-or_false true b h = absurd (cc h)
 
 uncounted_at : (event : Event) (write : Write) (n : ℕ) → counts_at write.first event ≡ false → verdict_at event write ≡ verdict_at event (record write { begun = n })
 uncounted_at (FailCall call stand) write n none = refl
@@ -241,7 +238,7 @@ uncounted_at (Pieces most) write n none = refl
 uncounted : (events : List Event) (write : Write) (n : ℕ) → list_any (counts_at write.first) events ≡ false → verdict_of events write ≡ verdict_of events (record write { begun = n })
 uncounted [] write n none = refl
 uncounted (event ∷ events) write n none =
-    let both = or_false (counts_at write.first event) (list_any (counts_at write.first) events) none in
+    let both = or_parts (counts_at write.first event) (list_any (counts_at write.first) events) none in
     λ i. or_else (uncounted_at event write n both.0 i) (uncounted events write n both.1 i)
 
 -- a verdict needs the count only where an event names the sector
@@ -263,27 +260,27 @@ by_ok (Ok x) P ok is = is
 by_ok (Err e) P ok is = absurd (cc ok)
 
 -- and the call does more than its part
-pub then_does : (settle : Bool) (does fault : State → State) (old new end : State) → Calls settle same same old new true → end ≡ does new → Calls settle does fault old end true
+pub then_does : (settle : Bool) (does fault : DiskState → DiskState) (old new end : DiskState) → Calls settle same same old new true → end ≡ does new → Calls settle does fault old end true
 then_does settle does fault old new end call is = record { running = call.running; goes = call.goes; after = is ∙ ap does call.after }
 
 -- or fails, and its fault is counted
-pub then_fails : (going : Bool) (done failed : State) (fault : State → State) (old new end : State) → Exactly going done failed same old new false → end ≡ fault new → Exactly going done failed fault old end false
+pub then_fails : (going : Bool) (done failed : DiskState) (fault : DiskState → DiskState) (old new end : DiskState) → Exactly going done failed same old new false → end ≡ fault new → Exactly going done failed fault old end false
 then_fails going done failed fault old new end (inl (inl stopped)) is = inl (inl (stopped.0, is ∙ ap fault stopped.1))
 then_fails going done failed fault old new end (inl (inr starved)) is = inl (inr (starved.0, is ∙ ap fault starved.1))
 then_fails going done failed fault old new end (inr runs) is = inr (record { running = runs.running; goes = runs.goes; after = is ∙ ap fault runs.after })
 
 -- a call that isn't a write
-pub call_fails : (settle : Bool) (does fault : State → State) (old new end : State) → Calls settle same same old new false → end ≡ fault new → Calls settle does fault old end false
+pub call_fails : (settle : Bool) (does fault : DiskState → DiskState) (old new end : DiskState) → Calls settle same same old new false → end ≡ fault new → Calls settle does fault old end false
 call_fails settle does fault old new end call is = then_fails (call_goes old) (does (noted settle old)) (noted settle old) fault old new end call is
 
 -- an attach
-pub attach_fails : (text : List ℕ) (how : Attach) (fault : State → State) (old new end : State) → Attached text how same old new false → end ≡ fault new → Attached text how fault old end false
+pub attach_fails : (text : List ℕ) (how : Attach) (fault : DiskState → DiskState) (old new end : DiskState) → Attached text how same old new false → end ≡ fault new → Attached text how fault old end false
 attach_fails text how fault old new end call is = then_fails (call_goes old) (opened how (asked text how (noted false old))) (asked text how (noted false old)) fault old new end call is
 
 -- a write, by the parts of its verdict
-pub written_as : (first : ℕ) (text : List ℕ) (some : ℕ) (goes stops : Bool) (verdict : Verdict) (fault : State → State) (old new : State) (ok : Bool) → some ≡ stood_by verdict (length text / 512) → goes ≡ is_going verdict → stops ≡ is_stop verdict → verdict ≡ write_verdict first (length text / 512) old
-    → Exactly goes (put first text some goes stops (noted false old)) (put first text some goes stops (noted false old)) fault old new ok → Written first text fault old new ok
+pub written_as : (first : ℕ) (text : List ℕ) (some : ℕ) (goes stops : Bool) (verdict : Verdict) (fault : DiskState → DiskState) (old new : DiskState) (ok : Bool) → some ≡ stood_by verdict (length text / 512) → goes ≡ is_going verdict → stops ≡ is_stop verdict → verdict ≡ write_verdict first (length text / 512) old
+    → Exactly goes (put_sectors first text some goes stops (noted false old)) (put_sectors first text some goes stops (noted false old)) fault old new ok → Written first text fault old new ok
 written_as first text some goes stops verdict fault old new ok some_is goes_is stops_is verdict_is exact =
-    let By : ℕ → Bool → Bool → Type 0 = λ (n : ℕ) (g s : Bool). Exactly g (put first text n g s (noted false old)) (put first text n g s (noted false old)) fault old new ok in
+    let By : ℕ → Bool → Bool → Type 0 = λ (n : ℕ) (g s : Bool). Exactly g (put_sectors first text n g s (noted false old)) (put_sectors first text n g s (noted false old)) fault old new ok in
     let by_verdict = subst (λ (n : ℕ). By n (is_going verdict) (is_stop verdict)) some_is (subst (λ (g : Bool). By some g (is_stop verdict)) goes_is (subst (λ (s : Bool). By some goes s) stops_is exact)) in
     subst (λ (v : Verdict). Exactly (is_going v) (put_by v first text (noted false old)) (put_by v first text (noted false old)) fault old new ok) verdict_is by_verdict

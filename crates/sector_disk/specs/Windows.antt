@@ -19,5 +19,5 @@ abbrev pub shorter : (longest : ℕ) → WeakRun → WeakRun
 shorter longest run = record { first = run.first; count = min run.count longest }
 
 -- the run that the healing after so many names, in a window that may have a run of so many sectors
-abbrev pub run_at : (longest : ℕ) → List WeakRun → ℕ → WeakRun
-run_at longest runs named = shorter longest (slice_index_or runs (min named (length runs - 1)) record { first = 0; count = 0 })
+abbrev pub weak_run_at : (longest : ℕ) → List WeakRun → ℕ → WeakRun
+weak_run_at longest runs named = shorter longest (slice_index_or runs (min named (length runs - 1)) record { first = 0; count = 0 })

@@ -1,13 +1,13 @@
 //! The weak runs of a machine in memory: which sectors they allow to be hurt, and which of them comes next.
 ghost use Rattle.std.specs.Prelude.{◌≡◌};
-ghost use Rattle.sector_disk.specs.Image.{in_run, weak};
-ghost use Rattle.sector_disk.specs.Windows.{all_weak, is_short, run_at, shorter};
+ghost use Rattle.sector_disk.specs.Image.{in_weak_run, weak};
+ghost use Rattle.sector_disk.specs.Windows.{all_weak, is_short, weak_run_at, shorter};
 
 use crate::past::Hurt;
 use crate::{LONGEST_RUN, WeakRun};
 
 fn is_in_run(run: WeakRun, place: u32) -> bool
-    ensures { result ≡ in_run run place }
+    ensures { result ≡ in_weak_run run place }
 {
     run.first <= place && place - run.first < run.count
 }
@@ -53,7 +53,7 @@ fn shorter(run: WeakRun, longest: u32) -> WeakRun
 // The run that the healing after so many names, where it may have so many sectors; the last one again when all are used
 // up.
 pub(crate) fn run_at(runs: &[WeakRun], named: usize, longest: u32) -> WeakRun
-    ensures { result ≡ run_at longest runs.now named }
+    ensures { result ≡ weak_run_at longest runs.now named }
 {
     if named < runs.len() {
         return shorter(runs[named], longest);

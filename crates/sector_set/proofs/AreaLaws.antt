@@ -1,5 +1,6 @@
 -- Sets of an interval and their numbers.
 use Rattle.std.proofs.Common.{[], IfSome, Bool, List, None, Option, Some, ap, arith, drop, false, get_or, inl, inr, length, not, refl, subst, sym, true, ℕ, ◌&&◌, ◌+◌, ◌-◌, ◌<◌, ◌^◌, ◌||◌, ◌∙◌, ◌∷◌, ◌≡◌, ◌≤◌}
+use Rattle.std.proofs.Math.Bool.{or_assoc, or-true}
 use Rattle.std.specs.Prelude.{nat_lt}
 use Rattle.std.proofs.lemmas.Bool.{cases_lt, both_ways, le-leb, lt-ltb}
 use Rattle.std.proofs.lemmas.List.{drop_more}
@@ -8,15 +9,15 @@ use Rattle.run_table.specs.declared.run.Run.{Run}
 use Rattle.run_table.specs.RunTable.{run_of, total, sectors_of}
 use Rattle.run_table.specs.Space.{contains, all_differ, where_free, runs_of}
 use Rattle.run_table.proofs.SectorLaws.{contains-cons}
-use Rattle.sector_set.specs.SectorSet.{SectorsBelow, below, in_run, runs_from, IsFirstRun}
+use Rattle.sector_set.specs.SectorSet.{SectorsBelow, set_of, in_run, free_runs_from, IsFirstRun}
 use Rattle.sector_set.proofs.FreeLaws.{where_same, contains_where, contains_where_outside, contains_range, total_of_runs}
 use Rattle.sector_set.proofs.SetLaws.{contains_below}
-use Rattle.sector_set.specs.Area.{Area, area, without, together, AreIn, AreOut, IsThere, Counts, IsOwn, left_of, IsFirstOf}
+use Rattle.sector_set.specs.Area.{Area, area, without_sectors, together, AreIn, AreOut, IsThere, CountsFree, IsOwn, left_of, IsFirstOf}
 use Rattle.sector_set.proofs.CountLaws.{none_where, count_without, count_together, no_more_than}
 
 -- ---- one run more
 
-pub remove_step : (runs : List Run) (i : ℕ) (d : Run) (set new : SectorsBelow) (s : ℕ) (all : Bool) → i < length runs → new ≡ below set.end (λ s. contains set.sectors s && not (in_run (get_or runs i d) s)) → s < set.end
+pub remove_step : (runs : List Run) (i : ℕ) (d : Run) (set new : SectorsBelow) (s : ℕ) (all : Bool) → i < length runs → new ≡ set_of set.end (λ s. contains set.sectors s && not (in_run (get_or runs i d) s)) → s < set.end
     → (contains set.sectors s && not (contains (sectors_of (drop i runs)) s)) ≡ all
     → (contains new.sectors s && not (contains (sectors_of (drop (i + 1) runs)) s)) ≡ all
 remove_step runs i d set new s all inside is less so_far =
@@ -31,19 +32,15 @@ remove_step runs i d set new s all inside is less so_far =
     regroup true false c = refl
     regroup false b c = refl
 
-pub insert_step : (runs : List Run) (i : ℕ) (d : Run) (set new : SectorsBelow) (s : ℕ) (all : Bool) → i < length runs → new ≡ below set.end (λ s. contains set.sectors s || in_run (get_or runs i d) s) → s < set.end
+pub insert_step : (runs : List Run) (i : ℕ) (d : Run) (set new : SectorsBelow) (s : ℕ) (all : Bool) → i < length runs → new ≡ set_of set.end (λ s. contains set.sectors s || in_run (get_or runs i d) s) → s < set.end
     → (contains set.sectors s || contains (sectors_of (drop i runs)) s) ≡ all
     → (contains new.sectors s || contains (sectors_of (drop (i + 1) runs)) s) ≡ all
 insert_step runs i d set new s all inside is less so_far =
     ap (λ (v : SectorsBelow). contains v.sectors s || contains (sectors_of (drop (i + 1) runs)) s) is
     ∙ ap (λ (b : Bool). b || contains (sectors_of (drop (i + 1) runs)) s) (contains_below set.end (λ s. contains set.sectors s || in_run (get_or runs i d) s) s less)
-    ∙ regroup (contains set.sectors s) (in_run (get_or runs i d) s) (contains (sectors_of (drop (i + 1) runs)) s)
+    ∙ or_assoc (contains set.sectors s) (in_run (get_or runs i d) s) (contains (sectors_of (drop (i + 1) runs)) s)
     ∙ ap (λ (b : Bool). contains set.sectors s || b) (sym (contains-cons (get_or runs i d) (drop (i + 1) runs) s) ∙ ap (λ (x : List Run). contains (sectors_of x) s) (sym (drop_more runs i d inside)))
     ∙ so_far
-  where
-    regroup : (a b c : Bool) → ((a || b) || c) ≡ (a || (b || c))
-    regroup true b c = refl
-    regroup false b c = refl
 
 -- ---- sectors out of it, and into it
 
@@ -61,7 +58,7 @@ pub free_passes : (from to : ℕ) (f : ℕ → Bool) (s : ℕ) → contains (whe
 free_passes from to f s c = let within = free_within from to f s c in sym (contains_where f from to s within.0 within.1) ∙ c
 
 pub area_without : (from end : ℕ) (old new : List ℕ) (runs : List Run) → ((s : ℕ) → s < end → contains new s ≡ (contains old s && not (contains (sectors_of runs) s)))
-    → area from end (contains new) ≡ without (area from end (contains old)) runs
+    → area from end (contains new) ≡ without_sectors (area from end (contains old)) runs
 area_without from end old new runs h =
     ap (λ (xs : List ℕ). record { from = from; to = end; sectors = xs }) (where_same (contains new) (λ s. contains (where_free (contains old) from end) s && not (contains (sectors_of runs) s)) from end
     (λ s low high. h s high ∙ ap (λ (b : Bool). b && not (contains (sectors_of runs) s)) (sym (contains_where (contains old) from end s low high))))
@@ -97,7 +94,7 @@ counted set at count all r first so_far =
       total_of_runs (where_free (contains set.sectors) at set.end),
       total_of_runs (where_free (contains set.sectors) (r.start + r.length) set.end),
       ap total first,
-      sum_by-cons (λ (r : Run). r.length) r (runs_from set (r.start + r.length)),
+      sum_by-cons (λ (r : Run). r.length) r (free_runs_from set (r.start + r.length)),
     )
 
 pub none_counted : (set : SectorsBelow) (at : ℕ) → IsFirstRun set at None → length (where_free (contains set.sectors) at set.end) ≡ 0
@@ -105,12 +102,12 @@ none_counted set at none = sym (total_of_runs (where_free (contains set.sectors)
 
 -- ---- the whole interval but for runs
 
-pub whole_but : (from end : ℕ) (all set new : SectorsBelow) (runs : List Run) → all ≡ below end (λ s. false) → set ≡ below all.end (λ s. contains all.sectors s || in_run (run_of from (end - from)) s)
+pub whole_but : (from end : ℕ) (all set new : SectorsBelow) (runs : List Run) → all ≡ set_of end (λ s. false) → set ≡ set_of all.end (λ s. contains all.sectors s || in_run (run_of from (end - from)) s)
     → new.end ≡ set.end → ((s : ℕ) → s < set.end → contains new.sectors s ≡ (contains set.sectors s && not (contains (sectors_of runs) s)))
     → area from new.end (contains new.sectors) ≡ area from end (λ s. not (contains (sectors_of runs) s))
 whole_but from end all set new runs none is same h =
-    let full : set ≡ below end (λ s. contains (where_free (λ s. false) 0 end) s || in_run (run_of from (end - from)) s) =
-    is ∙ ap (λ (v : SectorsBelow). below v.end (λ s. contains v.sectors s || in_run (run_of from (end - from)) s)) none in
+    let full : set ≡ set_of end (λ s. contains (where_free (λ s. false) 0 end) s || in_run (run_of from (end - from)) s) =
+    is ∙ ap (λ (v : SectorsBelow). set_of v.end (λ s. contains v.sectors s || in_run (run_of from (end - from)) s)) none in
     let to_end : set.end ≡ end = ap (λ (v : SectorsBelow). v.end) full in
     ap (λ (n : ℕ). area from n (contains new.sectors)) (same ∙ to_end)
     ∙ ap (λ (xs : List ℕ). record { from = from; to = end; sectors = xs }) (where_same (contains new.sectors) (λ s. not (contains (sectors_of runs) s)) from end
@@ -119,15 +116,11 @@ whole_but from end all set new runs none is same h =
     ∙ ap (λ (v : SectorsBelow). contains v.sectors s && not (contains (sectors_of runs) s)) full
     ∙ ap (λ (b : Bool). b && not (contains (sectors_of runs) s)) (inside s low high)))
   where
-    or_true : (a : Bool) → (a || true) ≡ true
-    or_true true = refl
-    or_true false = refl
-
     inside : (s : ℕ) → from ≤ s → s < end → contains (where_free (λ s. contains (where_free (λ s. false) 0 end) s || in_run (run_of from (end - from)) s) 0 end) s ≡ true
     inside s low high =
         contains_below end (λ s. contains (where_free (λ s. false) 0 end) s || in_run (run_of from (end - from)) s) s high
         ∙ ap (λ (b : Bool). contains (where_free (λ s. false) 0 end) s || b) (contains_range from (end - from) s ∙ ap (λ (b : Bool). b && nat_lt s (from + (end - from))) (le-leb from s low) ∙ lt-ltb s (from + (end - from)) (omega arith))
-        ∙ or_true (contains (where_free (λ s. false) 0 end) s)
+        ∙ or-true (contains (where_free (λ s. false) 0 end) s)
 
 -- ---- the set after a call
 
@@ -137,8 +130,8 @@ Without runs set new = (s : ℕ) → s < set.end → contains new.sectors s ≡ 
 abbrev pub Together : List Run → SectorsBelow → SectorsBelow → Type 0
 Together runs set new = (s : ℕ) → s < set.end → contains new.sectors s ≡ (contains set.sectors s || contains (sectors_of runs) s)
 
-pub removed_counts : (from count : ℕ) (set new : SectorsBelow) (runs : List Run) (m : Area) → area from set.end (contains set.sectors) ≡ m → Counts from set count → AreIn m runs → new.end ≡ set.end → Without runs set new
-    → (total runs ≤ count) × Counts from new (count - total runs)
+pub removed_counts : (from count : ℕ) (set new : SectorsBelow) (runs : List Run) (m : Area) → area from set.end (contains set.sectors) ≡ m → CountsFree from set count → AreIn m runs → new.end ≡ set.end → Without runs set new
+    → (total runs ≤ count) × CountsFree from new (count - total runs)
 removed_counts from count set new runs m is counts are same h =
     let parts = counts_without from set.end set.sectors new.sectors runs (subst (λ (v : Area). AreIn v runs) (sym is) are) h in
     let moved : length (where_free (contains new.sectors) from set.end) ≡ length (where_free (contains new.sectors) from new.end) = ap (λ (n : ℕ). length (where_free (contains new.sectors) from n)) (sym same) in (
@@ -150,8 +143,8 @@ removed_counts from count set new runs m is counts are same h =
       },
     )
 
-pub inserted_counts : (from count : ℕ) (set new : SectorsBelow) (runs : List Run) (m : Area) → area from set.end (contains set.sectors) ≡ m → Counts from set count → AreOut m runs → new.end ≡ set.end → Together runs set new
-    → (count + total runs < 2 ^ 32) × Counts from new (count + total runs)
+pub inserted_counts : (from count : ℕ) (set new : SectorsBelow) (runs : List Run) (m : Area) → area from set.end (contains set.sectors) ≡ m → CountsFree from set count → AreOut m runs → new.end ≡ set.end → Together runs set new
+    → (count + total runs < 2 ^ 32) × CountsFree from new (count + total runs)
 inserted_counts from count set new runs m is counts are same h =
     let parts = counts_together from set.end set.sectors new.sectors runs (subst (λ (v : Area). AreOut v runs) (sym is) are) h in
     let moved : length (where_free (contains new.sectors) from set.end) ≡ length (where_free (contains new.sectors) from new.end) = ap (λ (n : ℕ). length (where_free (contains new.sectors) from n)) (sym same) in (
@@ -163,9 +156,9 @@ inserted_counts from count set new runs m is counts are same h =
       },
     )
 
-pub removed_area : (from : ℕ) (set new : SectorsBelow) (runs : List Run) (m : Area) → area from set.end (contains set.sectors) ≡ m → new.end ≡ set.end → Without runs set new → area from new.end (contains new.sectors) ≡ without m runs
+pub removed_area : (from : ℕ) (set new : SectorsBelow) (runs : List Run) (m : Area) → area from set.end (contains set.sectors) ≡ m → new.end ≡ set.end → Without runs set new → area from new.end (contains new.sectors) ≡ without_sectors m runs
 removed_area from set new runs m is same h =
-    ap (λ (n : ℕ). area from n (contains new.sectors)) same ∙ area_without from set.end set.sectors new.sectors runs h ∙ ap (λ (v : Area). without v runs) is
+    ap (λ (n : ℕ). area from n (contains new.sectors)) same ∙ area_without from set.end set.sectors new.sectors runs h ∙ ap (λ (v : Area). without_sectors v runs) is
 
 pub inserted_area : (from : ℕ) (set new : SectorsBelow) (runs : List Run) (m : Area) → area from set.end (contains set.sectors) ≡ m → new.end ≡ set.end → Together runs set new → area from new.end (contains new.sectors) ≡ together m runs
 inserted_area from set new runs m is same h =
@@ -207,7 +200,7 @@ out_those from set m runs is are s c =
 
 -- ---- its runs from a place on
 
-same_left : (from : ℕ) (set : SectorsBelow) (at : ℕ) → from ≤ at → runs_from set at ≡ left_of (area from set.end (contains set.sectors)) at
+same_left : (from : ℕ) (set : SectorsBelow) (at : ℕ) → from ≤ at → free_runs_from set at ≡ left_of (area from set.end (contains set.sectors)) at
 same_left from set at h =
     ap runs_of (where_same (contains set.sectors) (contains (where_free (contains set.sectors) from set.end)) at set.end
     (λ s low high. sym (contains_where (contains set.sectors) from set.end s (omega arith) high)))
@@ -222,12 +215,12 @@ first_left from set m at (Some r) is low within first =
 
 -- ---- an empty set
 
-pub empty_area : (from end : ℕ) (set : SectorsBelow) → set ≡ below end (λ s. false) → area from set.end (contains set.sectors) ≡ area from end (λ s. false)
+pub empty_area : (from end : ℕ) (set : SectorsBelow) → set ≡ set_of end (λ s. false) → area from set.end (contains set.sectors) ≡ area from end (λ s. false)
 empty_area from end set is =
     let family : SectorsBelow → Type 0 = λ v. area from v.end (contains v.sectors) ≡ area from end (λ s. false) in
     subst family (sym is) (ap (λ (xs : List ℕ). record { from = from; to = end; sectors = xs }) (where_same (contains (where_free (λ s. false) 0 end)) (λ s. false) from end (λ s low high. contains_below end (λ s. false) s high)))
 
-pub empty_counts : (from end : ℕ) (set : SectorsBelow) → set ≡ below end (λ s. false) → from ≤ end → end < 2 ^ 32 → Counts from set 0
+pub empty_counts : (from end : ℕ) (set : SectorsBelow) → set ≡ set_of end (λ s. false) → from ≤ end → end < 2 ^ 32 → CountsFree from set 0
 empty_counts from end set is order small =
     let same : set.end ≡ end = ap (λ (v : SectorsBelow). v.end) is in
     record {

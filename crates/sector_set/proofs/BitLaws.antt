@@ -1,5 +1,6 @@
 -- Bits of words: masks, ranges of bits, and the first of a kind.
 use Rattle.std.proofs.Common.{◌≡◌, ◌≢◌, ℕ, zero, suc, ◌+◌, ◌-◌, ◌*◌, ◌/◌, ◌%◌, ◌^◌, ◌<◌, ◌≤◌, min, max, Bool, true, false, not, ◌&&◌, ◌||◌, List, length, get_or, set, take, bit_and, bit_or, w64, refl, sym, ap, ◌∙◌, inl, inr, arith}
+use Rattle.std.proofs.Math.Bool.{and_comm}
 use Rattle.std.specs.Prelude.{nat_le, nat_lt, ◌==◌}
 use Rattle.std.specs.Int.{bit_at, bit_not, trailing_zeros}
 use Rattle.std.proofs.lemmas.Bool.{and_parts, cases_Bool, cases_lt, eqb-true, eqb-false, leb-true, leb-false, ltb-true, ltb-false, lt-ltb, le-leb, le-ltb}
@@ -190,14 +191,8 @@ pub shows_first : (words : List ℕ) (at : ℕ) (wanted : Bool) (face : ℕ) →
 shows_first words at wanted face same i h =
     has_and face ((2 ^ 64 - 1) * 2 ^ (at % 64) % 2 ^ 64) i
     ∙ ap (λ (b : Bool). has_bit face i && b) (high_mask (at % 64) i (omega arith) h ∙ same_le (at % 64) i at (64 * (at / 64) + i) (λ e. omega arith) (λ e. omega arith))
-    ∙ and_swap (has_bit face i) (nat_le at (64 * (at / 64) + i))
+    ∙ and_comm (has_bit face i) (nat_le at (64 * (at / 64) + i))
     ∙ ap (λ (b : Bool). nat_le at (64 * (at / 64) + i) && b) (same i h)
-  where
-    and_swap : (a b : Bool) → (a && b) ≡ (b && a)
-    and_swap true true = refl
-    and_swap true false = refl
-    and_swap false true = refl
-    and_swap false false = refl
 
 pub shows_next : (words : List ℕ) (at : ℕ) (wanted : Bool) (w face : ℕ) → at ≤ 64 * w → ((i : ℕ) → i < 64 → has_bit face i ≡ agrees wanted (has_bit (get_or words w 0) i)) → Shows words at wanted w face
 shows_next words at wanted w face h same i k = same i k ∙ ap (λ (b : Bool). b && agrees wanted (has_bit (get_or words w 0) i)) (sym (le-leb at (64 * w + i) (omega arith)))

@@ -2,7 +2,7 @@
 use Rattle.std.proofs.Common.{◌≡◌, ℕ, suc, zero, ◌+◌, ◌<◌, ◌≤◌, ◌⊎◌, Bool, true, false, not, ◌-◌, ◌&&◌, ◌||◌, List, ◌++◌, length, take, drop, length-drop, get_or, refl, sym, ap, ◌∙◌, inl, inr, arith}
 use Rattle.std.specs.Prelude.{nat_lt}
 use Rattle.std.specs.List.{list_any, range_with_len}
-use Rattle.std.proofs.lemmas.Bool.{or_cases, or_left, or_right, and_from, both_ways, false_from_ne_true, lt-leb, not_from_false}
+use Rattle.std.proofs.lemmas.Bool.{or_cases, or_left, or_right, both_ways, lt-leb}
 use Rattle.std.proofs.lemmas.List.{drop_more, drop_all, take_all}
 use Rattle.std.proofs.lemmas.List.Folds.{list_any-append}
 use Rattle.run_table.specs.declared.run.Run.{Run}
@@ -56,16 +56,6 @@ own_here runs k d inside own s low high =
 
 -- ---- each sector named once
 
-range_differ : (a n : ℕ) (ys : List ℕ) → ((s : ℕ) → contains ys s ≡ true → a ≤ s → s < a + n → ⊥) → all_differ ys ≡ true → all_differ (range_with_len a n ++ ys) ≡ true
-range_differ a zero ys apart e = e
-range_differ a (suc n) ys apart e =
-    let tail : List ℕ = range_with_len (a + 1) n in
-    and_from (not (contains (tail ++ ys) a)) (all_differ (tail ++ ys))
-    (not_from_false (contains (tail ++ ys) a) (list_any-append _ tail ys
-    ∙ ap (λ (b : Bool). b || contains ys a) (contains_range (a + 1) n a ∙ ap (λ (b : Bool). b && nat_lt a (a + 1 + n)) (lt-leb (a + 1) a (omega arith)))
-    ∙ false_from_ne_true (contains ys a) (λ c. apart a c (omega arith) (omega arith))))
-    (range_differ (a + 1) n ys (λ s c low high. apart s c (omega arith) (omega arith)) e)
-
 de_morgan : (p q r : Bool) → (not p && (not q && r)) ≡ (not (p || q) && r)
 de_morgan true q r = refl
 de_morgan false q r = refl
@@ -102,13 +92,6 @@ differ_passed runs k d all found inside so_far here e =
     sym (differ_split runs k d inside
     ∙ ap (λ (b : Bool). not b && all_differ (sectors_of (drop (k + 1) runs))) (sym (behind runs k (range_with_len (get_or runs k d).start (get_or runs k d).length)) ∙ sym here ∙ e))
     ∙ so_far
-
-pub differ_more : (runs : List Run) (k : ℕ) (d : Run) → k < length runs
-    → ((s : ℕ) → contains (sectors_of (drop (k + 1) runs)) s ≡ true → (get_or runs k d).start ≤ s → s < (get_or runs k d).start + (get_or runs k d).length → ⊥)
-    → all_differ (sectors_of (drop (k + 1) runs)) ≡ true → all_differ (sectors_of (drop k runs)) ≡ true
-differ_more runs k d inside apart e =
-    ap (λ (x : List Run). all_differ (sectors_of x)) (drop_more runs k d inside)
-    ∙ range_differ (get_or runs k d).start (get_or runs k d).length (sectors_of (drop (k + 1) runs)) apart e
 
 pub differ_end : (runs : List Run) (k : ℕ) → length runs ≤ k → all_differ (sectors_of (drop k runs)) ≡ true
 differ_end runs k over = ap (λ (x : List Run). all_differ (sectors_of x)) (drop_all k runs over)

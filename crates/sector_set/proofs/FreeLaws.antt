@@ -1,5 +1,6 @@
 -- The sectors of an interval that pass a test, and their runs.
 use Rattle.std.proofs.Common.{◌≡◌, ℕ, zero, suc, ◌+◌, ◌-◌, ◌<◌, ◌≤◌, Bool, true, false, cond, ◌&&◌, ◌||◌, List, [], ◌∷◌, length, filter, refl, sym, ap, ◌∙◌, inl, inr, arith}
+use Rattle.std.proofs.Math.Bool.{and-true, and-false}
 use Rattle.std.specs.Prelude.{nat_le, nat_lt, ◌==◌}
 use Rattle.std.specs.List.{range_with_len}
 use Rattle.std.proofs.lemmas.Bool.{cases_Bool, cases_lt, leb-true, eqb-true, eqb-false, eq-eqb, le-leb, lt-ltb, le-ltb, ne_eqb}
@@ -56,11 +57,7 @@ contains_filter f a (suc n) s =
     here true true g e within h = ap (λ (t : Bool). t || contains (filter f (range_with_len (a + 1) n)) s) e ∙ sym within
     here true false g e within h = absurd cc
     here false true g e within h = absurd cc
-    here false false g e within h = h ∙ ap (λ (t : Bool). f s && t) (after a n s (eqb-true a s e)) ∙ no (f s)
-      where
-        no : (b : Bool) → (b && false) ≡ false
-        no true = refl
-        no false = refl
+    here false false g e within h = h ∙ ap (λ (t : Bool). f s && t) (after a n s (eqb-true a s e)) ∙ and-false (f s)
 
     there : (b : Bool) → (a == s) ≡ false → contains (filter f (range_with_len (a + 1) n)) s ≡ (f s && (nat_le (a + 1) s && nat_lt s (a + 1 + n)))
         → (nat_le (a + 1) s && nat_lt s (a + 1 + n)) ≡ (nat_le a s && nat_lt s (a + suc n))
@@ -68,21 +65,17 @@ contains_filter f a (suc n) s =
     there true e h same = ap (λ (t : Bool). t || contains (filter f (range_with_len (a + 1) n)) s) e ∙ h ∙ ap (λ (t : Bool). f s && t) same
     there false e h same = h ∙ ap (λ (t : Bool). f s && t) same
 
-yes : (b : Bool) → (b && true) ≡ b
-yes true = refl
-yes false = refl
-
 pub contains_where : (f : ℕ → Bool) (from to s : ℕ) → from ≤ s → s < to → contains (where_free f from to) s ≡ f s
 contains_where f from to s low high =
     let inside : (nat_le from s && nat_lt s (from + (to - from))) ≡ true = within (le-leb from s low) (lt-ltb s (from + (to - from)) (omega arith)) in
-    contains_filter f from (to - from) s ∙ ap (λ (t : Bool). f s && t) inside ∙ yes (f s)
+    contains_filter f from (to - from) s ∙ ap (λ (t : Bool). f s && t) inside ∙ and-true (f s)
   where
     within : nat_le from s ≡ true → nat_lt s (from + (to - from)) ≡ true → (nat_le from s && nat_lt s (from + (to - from))) ≡ true
     within x y = ap (λ (t : Bool). t && nat_lt s (from + (to - from))) x ∙ y
 
 pub contains_where_outside : (f : ℕ → Bool) (from to s : ℕ) → ((from ≤ s → s < to → ⊥)) → contains (where_free f from to) s ≡ false
 contains_where_outside f from to s out =
-    contains_filter f from (to - from) s ∙ ap (λ (t : Bool). f s && t) (beyond from to s out) ∙ no (f s)
+    contains_filter f from (to - from) s ∙ ap (λ (t : Bool). f s && t) (beyond from to s out) ∙ and-false (f s)
   where
     not_below : (from to s : ℕ) → from ≤ s → (from ≤ s → s < to → ⊥) → from + (to - from) ≤ s
     not_below from to s low out =
@@ -97,10 +90,6 @@ contains_where_outside f from to s out =
           | inl e ↦ ap (λ (t : Bool). t && nat_lt s (from + (to - from))) e ∙ le-ltb s (from + (to - from)) (not_below from to s (leb-true from s e) out)
           | inr e ↦ ap (λ (t : Bool). t && nat_lt s (from + (to - from))) e
         ]
-
-    no : (b : Bool) → (b && false) ≡ false
-    no true = refl
-    no false = refl
 
 pub contains_range : (a n s : ℕ) → contains (range_with_len a n) s ≡ (nat_le a s && nat_lt s (a + n))
 contains_range a n s = ap (λ (xs : List ℕ). contains xs s) (sym (all_of a n)) ∙ contains_filter (λ s. true) a n s

@@ -1,5 +1,6 @@
 -- Whether two lists of sectors share one.
 use Rattle.std.proofs.Common.{◌≡◌, ℕ, ◌+◌, ◌<◌, ◌≤◌, Bool, true, false, ◌&&◌, ◌||◌, List, [], ◌∷◌, length, drop, get_or, refl, sym, ap, ◌∙◌, inl, inr, arith}
+use Rattle.std.proofs.Math.Bool.{or-true}
 use Rattle.std.specs.Prelude.{nat_lt, nat_le, ◌==◌}
 use Rattle.std.specs.List.{list_any, range_with_len}
 use Rattle.std.proofs.lemmas.Bool.{cases_Bool, or_cases, or_parts, and_parts, both_ways, false_from_ne_true, eqb-true, leb-true, ltb-true, ltb-false, le-leb, lt-ltb, eq-eqb}
@@ -39,11 +40,7 @@ pub any_none : (f : ℕ → Bool) (xs : List ℕ) → ((s : ℕ) → contains xs
 any_none f [] h = refl
 any_none f (x ∷ xs) h =
     ap (λ (b : Bool). b || list_any f xs) (h x (ap (λ (b : Bool). b || contains xs x) (eq-eqb x x refl)))
-    ∙ any_none f xs (λ s c. h s (ap (λ (b : Bool). (x == s) || b) c ∙ or_true (x == s)))
-  where
-    or_true : (a : Bool) → (a || true) ≡ true
-    or_true true = refl
-    or_true false = refl
+    ∙ any_none f xs (λ s c. h s (ap (λ (b : Bool). (x == s) || b) c ∙ or-true (x == s)))
 
 pub any_at : (f : ℕ → Bool) (xs : List ℕ) (s : ℕ) → contains xs s ≡ true → f s ≡ true → list_any f xs ≡ true
 any_at f xs s c e =

@@ -9,11 +9,11 @@ use Rattle.run_table.specs.declared.run.Run.{Run}
 use Rattle.run_table.specs.RunTable.{run_of}
 use Rattle.run_table.specs.Space.{contains, where_free, runs_of}
 use Rattle.sector_set.specs.Bits.{has_bit, is_set, in_range}
-use Rattle.sector_set.specs.SectorSet.{in_run, SectorsBelow, below, IsFirst}
+use Rattle.sector_set.specs.SectorSet.{in_run, SectorsBelow, set_of, IsFirst}
 use Rattle.sector_set.proofs.BitLaws.{set_in_first}
 use Rattle.sector_set.proofs.FreeLaws.{where_same, contains_where, contains_range, no_run, first_run}
 
-pub same_below : (end : ℕ) (f g : ℕ → Bool) → ((s : ℕ) → s < end → f s ≡ g s) → below end f ≡ below end g
+pub same_below : (end : ℕ) (f g : ℕ → Bool) → ((s : ℕ) → s < end → f s ≡ g s) → set_of end f ≡ set_of end g
 same_below end f g h = ap (λ (xs : List ℕ). record { end = end; sectors = xs }) (where_same f g 0 end (λ s low high. h s high))
 
 pub contains_below : (end : ℕ) (f : ℕ → Bool) (s : ℕ) → s < end → contains (where_free f 0 end) s ≡ f s
@@ -27,7 +27,7 @@ run_is_range r end s h = as_tests (r.start) (r.length) end s h ∙ sym (contains
     as_tests a n end s h = grind (arith, nat_tests)
 
 pub inserted : (end : ℕ) (r : Run) (stop : ℕ) (old new : List ℕ) → stop ≡ min (r.start + r.length) end → ((s : ℕ) → is_set new s ≡ (is_set old s || in_range r.start stop s))
-    → below end (is_set new) ≡ below end (λ s. contains (where_free (is_set old) 0 end) s || in_run r s)
+    → set_of end (is_set new) ≡ set_of end (λ s. contains (where_free (is_set old) 0 end) s || in_run r s)
 inserted end r stop old new e h =
     same_below end (is_set new) (λ s. contains (where_free (is_set old) 0 end) s || in_run r s)
     (λ s less. h s
@@ -35,7 +35,7 @@ inserted end r stop old new e h =
     ∙ ap (λ (b : Bool). contains (where_free (is_set old) 0 end) s || b) (ap (λ (n : ℕ). in_range r.start n s) e ∙ run_is_range r end s less))
 
 pub removed : (end : ℕ) (r : Run) (stop : ℕ) (old new : List ℕ) → stop ≡ min (r.start + r.length) end → ((s : ℕ) → is_set new s ≡ (is_set old s && not (in_range r.start stop s)))
-    → below end (is_set new) ≡ below end (λ s. contains (where_free (is_set old) 0 end) s && not (in_run r s))
+    → set_of end (is_set new) ≡ set_of end (λ s. contains (where_free (is_set old) 0 end) s && not (in_run r s))
 removed end r stop old new e h =
     same_below end (is_set new) (λ s. contains (where_free (is_set old) 0 end) s && not (in_run r s))
     (λ s less. h s
@@ -81,7 +81,7 @@ run_from end at start stop f first some last =
     first_run f at start stop end first.from more last.to first.before last.before last.found
     ∙ ap (λ (x : ℕ). run_of start (stop - start) ∷ runs_of (where_free f x end)) there
 
-pub bit_of : (end : ℕ) (words : List ℕ) (s : ℕ) (set : SectorsBelow) (word : ℕ) → below end (is_set words) ≡ set → s < set.end → s / 64 < length words → word ≡ get_or words (s / 64) word
+pub bit_of : (end : ℕ) (words : List ℕ) (s : ℕ) (set : SectorsBelow) (word : ℕ) → set_of end (is_set words) ≡ set → s < set.end → s / 64 < length words → word ≡ get_or words (s / 64) word
     → (bit_and (word / 2 ^ (s % 64)) 1 == 1) ≡ contains set.sectors s
 unfolding is_set
 bit_of end words s set word is less inside at =
@@ -100,5 +100,5 @@ unset : (n s : ℕ) → is_set (replicate n 0) s ≡ false
 unfolding is_set
 unset n s = ap (λ (w : ℕ). has_bit w (s % 64)) (no_bit n (s / 64)) ∙ ap (λ (b : ℕ). b == 1) (bit_at-zero (s % 64))
 
-pub no_sector : (end n : ℕ) (words : List ℕ) → words ≡ replicate n 0 → below end (is_set words) ≡ below end (λ s. false)
+pub no_sector : (end n : ℕ) (words : List ℕ) → words ≡ replicate n 0 → set_of end (is_set words) ≡ set_of end (λ s. false)
 no_sector end n words zeros = same_below end (is_set words) (λ s. false) (λ s less. ap (λ (w : List ℕ). is_set w s) zeros ∙ unset n s)

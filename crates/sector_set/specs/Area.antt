@@ -20,8 +20,8 @@ abbrev pub IsOwn : Area → Type 0
 IsOwn m = m ≡ area m.from m.to (contains m.sectors)
 
 -- without the sectors of runs, or with them
-abbrev pub without : Area → List Run → Area
-without m runs = area m.from m.to (λ s. contains m.sectors s && not (contains (sectors_of runs) s))
+abbrev pub without_sectors : Area → List Run → Area
+without_sectors m runs = area m.from m.to (λ s. contains m.sectors s && not (contains (sectors_of runs) s))
 
 abbrev pub together : Area → List Run → Area
 together m runs = area m.from m.to (λ s. contains m.sectors s || contains (sectors_of runs) s)
@@ -42,7 +42,7 @@ abbrev pub IsThere : ℕ → SectorsBelow → Bool → ℕ → Type 0
 IsThere from set wanted s = (from ≤ s) × (s < set.end) × (contains set.sectors s ≡ wanted)
 
 -- the number of a set's sectors from a place on
-pub record Counts (from : ℕ) (set : SectorsBelow) (count : ℕ) : Type 0 where
+pub record CountsFree (from : ℕ) (set : SectorsBelow) (count : ℕ) : Type 0 where
   pub order : from ≤ set.end
   pub small : set.end < 2 ^ 32
   pub exact : count ≡ length (where_free (contains set.sectors) from set.end)

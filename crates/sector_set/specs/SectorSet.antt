@@ -13,17 +13,17 @@ abbrev pub in_run : Run → ℕ → Bool
 in_run r s = contains (range_with_len r.start r.length) s
 
 -- the sectors below the end that pass the test
-abbrev pub below : ℕ → (ℕ → Bool) → SectorsBelow
-below end test = record { end = end; sectors = where_free test 0 end }
+abbrev pub set_of : ℕ → (ℕ → Bool) → SectorsBelow
+set_of end test = record { end = end; sectors = where_free test 0 end }
 
 -- its sectors from a place on, as the longest intervals
-abbrev pub runs_from : SectorsBelow → ℕ → List Run
-runs_from set at = runs_of (where_free (contains set.sectors) at set.end)
+abbrev pub free_runs_from : SectorsBelow → ℕ → List Run
+free_runs_from set at = runs_of (where_free (contains set.sectors) at set.end)
 
 -- the first of the runs, and those behind it
 abbrev pub IsFirstRun : SectorsBelow → ℕ → Option Run → Type 0
-IsFirstRun set at None = runs_from set at ≡ []
-IsFirstRun set at (Some r) = runs_from set at ≡ r ∷ runs_from set (r.start + r.length)
+IsFirstRun set at None = free_runs_from set at ≡ []
+IsFirstRun set at (Some r) = free_runs_from set at ≡ r ∷ free_runs_from set (r.start + r.length)
 
 -- the first place from `at` on where the test says so, or the end
 pub record IsFirst (end : ℕ) (test : ℕ → Bool) (at : ℕ) (wanted : Bool) (s : ℕ) : Type 0 where

@@ -20,17 +20,17 @@ pub struct SectorArea {
 
 impl Model for SectorArea {
     ghost use Rattle.run_table.specs.Space.{contains};
-    ghost use Rattle.sector_set.specs.Area.{Area, area, Counts};
+    ghost use Rattle.sector_set.specs.Area.{Area, area, CountsFree};
 
     ghost Value = { Area };
 
     ghost view = { λ a. area a.from a.set.end (contains a.set.sectors) };
 
-    ghost invariant = { λ a. Counts a.from a.set a.count };
+    ghost invariant = { λ a. CountsFree a.from a.set a.count };
 }
 
 impl SectorArea {
-    ghost use Rattle.sector_set.specs.Area.{area, without, together, AreIn, AreOut, IsOwn, left_of, IsFirstOf};
+    ghost use Rattle.sector_set.specs.Area.{area, without_sectors, together, AreIn, AreOut, IsOwn, left_of, IsFirstOf};
 
     /// The sectors of `from..to` that are in none of the runs. It takes a bit for each sector below `to`.
     pub fn without_runs(
@@ -123,7 +123,7 @@ impl SectorArea {
     /// Takes sectors out.
     pub fn remove(&mut self, runs: &Runs)
         requires { AreIn self.old runs.now }
-        ensures { self.new ≡ without self.old runs.now }
+        ensures { self.new ≡ without_sectors self.old runs.now }
     {
         remove_all(&mut self.set, runs.as_slice());
         self.count -= runs.total();

@@ -16,22 +16,22 @@ pub struct SectorSet {
 impl Model for SectorSet {
     ghost use Rattle.std.specs.Prelude.{◌≡◌, ◌+◌, ◌/◌, ◌<◌, ◌^◌, vec_len};
     ghost use Rattle.sector_set.specs.Bits.{is_set};
-    ghost use Rattle.sector_set.specs.SectorSet.{SectorsBelow, below};
+    ghost use Rattle.sector_set.specs.SectorSet.{SectorsBelow, set_of};
 
     ghost Value = { SectorsBelow };
 
-    ghost view = { λ a. below a.end (is_set a.words.items) };
+    ghost view = { λ a. set_of a.end (is_set a.words.items) };
 
     ghost invariant = { λ a. (vec_len a.words ≡ a.end / 64 + 1) × (a.end < 2 ^ 32) };
 }
 
 impl SectorSet {
     ghost use Rattle.run_table.specs.Space.{contains};
-    ghost use Rattle.sector_set.specs.SectorSet.{below, in_run, IsFirstRun, IsFirst};
+    ghost use Rattle.sector_set.specs.SectorSet.{set_of, in_run, IsFirstRun, IsFirst};
 
     /// No sector of those below `end`. It takes a bit for each of them.
     pub fn new(alloc: Global, end: u32) -> Result<SectorSet, AllocError>
-        ensures { IfOk result (λ set. set ≡ below end (λ _. false)) }
+        ensures { IfOk result (λ set. set ≡ set_of end (λ _. false)) }
     {
         let words = vec![in alloc; 0; end as usize / 64 + 1]?;
         Ok(SectorSet { end, words })
@@ -54,7 +54,7 @@ impl SectorSet {
 
     /// Adds the sectors of a run, but for those from the end on.
     pub fn insert(&mut self, run: Run)
-        ensures { self.new ≡ below self.old.end (λ s. contains self.old.sectors s || in_run run s) }
+        ensures { self.new ≡ set_of self.old.end (λ s. contains self.old.sectors s || in_run run s) }
     {
         let stop = self.stop_of(run);
         bits::insert(&mut self.words, run.start as usize, stop as usize);
@@ -62,7 +62,7 @@ impl SectorSet {
 
     /// Removes the sectors of a run, as far as they are in it.
     pub fn remove(&mut self, run: Run)
-        ensures { self.new ≡ below self.old.end (λ s. contains self.old.sectors s && not (in_run run s)) }
+        ensures { self.new ≡ set_of self.old.end (λ s. contains self.old.sectors s && not (in_run run s)) }
     {
         let stop = self.stop_of(run);
         bits::remove(&mut self.words, run.start as usize, stop as usize);

@@ -8,7 +8,7 @@ use Rattle.std.proofs.lemmas.List.Folds.{list_any_more}
 use Rattle.run_table.specs.declared.run.Run.{Run}
 use Rattle.run_table.specs.RunTable.{sectors_of, same_runs}
 use Rattle.run_table.specs.Space.{contains, where_free}
-use Rattle.sector_set.specs.Area.{Area, area, without, together, AreIn, AreOut, IsOwn}
+use Rattle.sector_set.specs.Area.{Area, area, without_sectors, together, AreIn, AreOut, IsOwn}
 use Rattle.run_table.proofs.SameLaws.{same_runs_are, runs_are_same}
 use Rattle.sector_set.proofs.FreeLaws.{where_same, contains_where}
 use Rattle.shadow_frees.specs.Waits.{AreDisjoint}
@@ -74,9 +74,9 @@ nothing_kept kept removed own = own ∙ same_area kept.from kept.to (contains ke
 held_more : (slots : Slots) (i : ℕ) (slot : Option (List Run)) (s : ℕ) → i < length slots → get_or slots i None ≡ slot → is_held (take (i + 1) slots) s ≡ (is_held (take i slots) s || has_sector s slot)
 held_more slots i slot s inside is = list_any_more (has_sector s) slots i None inside ∙ ap (λ (x : Option (List Run)). is_held (take i slots) s || has_sector s x) is
 
-pub removed_moved : (slots : Slots) (i : ℕ) (runs : List Run) (removed now new : Area) → i < length slots → get_or slots i None ≡ Some runs → now ≡ unheld (take i slots) removed → new ≡ without now runs → new ≡ unheld (take (i + 1) slots) removed
+pub removed_moved : (slots : Slots) (i : ℕ) (runs : List Run) (removed now new : Area) → i < length slots → get_or slots i None ≡ Some runs → now ≡ unheld (take i slots) removed → new ≡ without_sectors now runs → new ≡ unheld (take (i + 1) slots) removed
 removed_moved slots i runs removed now new inside is so_far step =
-    step ∙ ap (λ (v : Area). without v runs) so_far
+    step ∙ ap (λ (v : Area). without_sectors v runs) so_far
     ∙ same_area removed.from removed.to _ _ (λ s low high.
     ap (λ (b : Bool). b && not (contains (sectors_of runs) s)) (contains_where (λ s. contains removed.sectors s && not (is_held (take i slots) s)) removed.from removed.to s low high)
     ∙ regroup (contains removed.sectors s) (is_held (take i slots) s) (contains (sectors_of runs) s)

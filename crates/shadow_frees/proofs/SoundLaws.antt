@@ -7,7 +7,7 @@ use Rattle.std.proofs.lemmas.List.Folds.{list_any_at}
 use Rattle.run_table.specs.declared.run.Run.{Run}
 use Rattle.run_table.specs.RunTable.{sectors_of}
 use Rattle.run_table.specs.Space.{contains, where_free, runs_of}
-use Rattle.sector_set.specs.Area.{Area, area, without, together, AreIn, AreOut, IsOwn, left_of}
+use Rattle.sector_set.specs.Area.{Area, area, without_sectors, together, AreIn, AreOut, IsOwn, left_of}
 use Rattle.sector_set.proofs.AreaLaws.{free_passes}
 use Rattle.sector_set.proofs.CountLaws.{split_where, no_more_than}
 use Rattle.sector_set.proofs.FreeLaws.{where_same, contains_where}
@@ -78,7 +78,7 @@ sound_begun removed kept unfinished new slots runs is sound out out_kept = recor
   slots = sound.slots;
 }
 
-pub sound_ended : (removed kept unfinished new : Area) (slots : Slots) (runs : List Run) → new ≡ without unfinished runs → AreSound removed kept unfinished slots → AreSound removed kept new slots
+pub sound_ended : (removed kept unfinished new : Area) (slots : Slots) (runs : List Run) → new ≡ without_sectors unfinished runs → AreSound removed kept unfinished slots → AreSound removed kept new slots
 sound_ended removed kept unfinished new slots runs is sound = record {
   removed_kept = sound.removed_kept;
   removed_unfinished = ended_apart removed unfinished new runs is sound.removed_unfinished;
@@ -136,7 +136,7 @@ sound_dropped removed kept unfinished slots i sound = record {
   slots = All-set (IsSlot removed kept (set slots i None)) slots i None tt (λ k d less. dropped_slot removed kept slots i (get_or slots k d) (sound.slots k d less));
 }
 
-given_slot : (removed kept new : Area) (slots : Slots) (runs : List Run) (slot : Option (List Run)) → AreDisjoint removed kept → new ≡ without kept runs → IsSameOrApart runs slot → IsSlot removed kept slots slot → IsSlot removed new slots slot
+given_slot : (removed kept new : Area) (slots : Slots) (runs : List Run) (slot : Option (List Run)) → AreDisjoint removed kept → new ≡ without_sectors kept runs → IsSameOrApart runs slot → IsSlot removed kept slots slot → IsSlot removed new slots slot
 given_slot removed kept new slots runs None apart is agree v = tt
 given_slot removed kept new slots runs (Some other) apart is agree v = record {
   within = v.within;
@@ -152,7 +152,7 @@ given_slot removed kept new slots runs (Some other) apart is agree v = record {
   agree = v.agree;
 }
 
-pub sound_given : (removed kept unfinished new : Area) (slots : Slots) (runs : List Run) → new ≡ without kept runs → AreSound removed kept unfinished slots → All (IsSameOrApart runs) slots → AreSound removed new unfinished slots
+pub sound_given : (removed kept unfinished new : Area) (slots : Slots) (runs : List Run) → new ≡ without_sectors kept runs → AreSound removed kept unfinished slots → All (IsSameOrApart runs) slots → AreSound removed new unfinished slots
 sound_given removed kept unfinished new slots runs is sound agree = record {
   removed_kept = ended_apart removed kept new runs is sound.removed_kept;
   removed_unfinished = sound.removed_unfinished;
@@ -184,7 +184,7 @@ released slots removed left is = (
   λ s c. and_parts (contains removed.sectors s) (not (is_held slots s)) (free_passes removed.from removed.to _ s (ap (λ (m : Area). contains m.sectors s) (sym is) ∙ c)),
 )
 
-pub released_less : (slots : Slots) (removed left less : Area) (runs : List Run) → AreReleased slots removed left → less ≡ without left runs → AreReleased slots removed less
+pub released_less : (slots : Slots) (removed left less : Area) (runs : List Run) → AreReleased slots removed left → less ≡ without_sectors left runs → AreReleased slots removed less
 released_less slots removed left less runs r is = (
   ap (λ (m : Area). m.from) is ∙ r.0,
   ap (λ (m : Area). m.to) is ∙ r.1,
@@ -288,6 +288,6 @@ pub unheld_fewer : (slots : Slots) (removed m : Area) → IsOwn removed → m �
 unheld_fewer slots removed m own is =
     omega (arith, split_where (contains removed.sectors) (is_held slots) removed.from removed.to, ap (λ (v : Area). length v.sectors) own, ap (λ (v : Area). length v.sectors) is)
 
-pub fewer_left : (slots : Slots) (removed m new : Area) (r : Run) → IsOwn removed → m ≡ unheld slots removed → AreIn m (r ∷ []) → new ≡ without m (r ∷ []) → 1 ≤ r.length → length new.sectors < length removed.sectors
+pub fewer_left : (slots : Slots) (removed m new : Area) (r : Run) → IsOwn removed → m ≡ unheld slots removed → AreIn m (r ∷ []) → new ≡ without_sectors m (r ∷ []) → 1 ≤ r.length → length new.sectors < length removed.sectors
 fewer_left slots removed m new r own is are left some =
     omega (arith, fewer m new r (own_of removed.from removed.to _ m is) are left some, unheld_fewer slots removed m own is)

@@ -9,7 +9,7 @@ use Rattle.run_table.specs.declared.run.Run.{Run}
 use Rattle.run_table.specs.RunTable.{run_of, total, sectors_of}
 use Rattle.run_table.specs.Space.{contains, all_differ, where_free, joined, runs_of}
 use Rattle.run_table.proofs.SectorLaws.{contains-append}
-use Rattle.sector_set.specs.Area.{Area, area, without, together, AreIn, AreOut, IsOwn}
+use Rattle.sector_set.specs.Area.{Area, area, without_sectors, together, AreIn, AreOut, IsOwn}
 use Rattle.sector_set.proofs.FreeLaws.{where_same, contains_range, total_of_runs}
 use Rattle.sector_set.proofs.CountLaws.{count_without, no_more_than, split_where}
 use Rattle.sector_set.proofs.AreaLaws.{free_within, free_passes}
@@ -45,17 +45,17 @@ begun_apart removed unfinished new runs is apart out = record {
       ]);
 }
 
-pub still_in : (m new : Area) (runs : List Run) (s : ℕ) → new ≡ without m runs → contains new.sectors s ≡ true → contains m.sectors s ≡ true
+pub still_in : (m new : Area) (runs : List Run) (s : ℕ) → new ≡ without_sectors m runs → contains new.sectors s ≡ true → contains m.sectors s ≡ true
 still_in m new runs s is c = (and_parts (contains m.sectors s) (not (contains (sectors_of runs) s)) (free_passes m.from m.to _ s (ap (λ (m : Area). contains m.sectors s) (sym is) ∙ c))).0
 
-pub ended_apart : (removed unfinished new : Area) (runs : List Run) → new ≡ without unfinished runs → AreDisjoint removed unfinished → AreDisjoint removed new
+pub ended_apart : (removed unfinished new : Area) (runs : List Run) → new ≡ without_sectors unfinished runs → AreDisjoint removed unfinished → AreDisjoint removed new
 ended_apart removed unfinished new runs is apart = record {
   from = apart.from ∙ ap (λ (m : Area). m.from) (sym is);
   to = apart.to ∙ ap (λ (m : Area). m.to) (sym is);
   apart = λ s c. false_from_ne_true (contains new.sectors s) (λ d. both_ways (contains unfinished.sectors s) (apart.apart s c) (still_in unfinished new runs s is d));
 }
 
-pub given_apart : (removed unfinished new : Area) (runs : List Run) → new ≡ without removed runs → AreDisjoint removed unfinished → AreDisjoint new unfinished
+pub given_apart : (removed unfinished new : Area) (runs : List Run) → new ≡ without_sectors removed runs → AreDisjoint removed unfinished → AreDisjoint new unfinished
 given_apart removed unfinished new runs is apart = record {
   from = ap (λ (m : Area). m.from) is ∙ apart.from;
   to = ap (λ (m : Area). m.to) is ∙ apart.to;
@@ -89,10 +89,6 @@ differ_range a (suc n) =
 nothing_more : (xs : List ℕ) → all_differ xs ≡ true → all_differ (xs ++ []) ≡ true
 nothing_more xs e = ap all_differ (append-nil xs) ∙ e
 
-or_false : (a : Bool) → (a || false) ≡ a
-or_false true = refl
-or_false false = refl
-
 -- the first of a set's runs is in it
 pub run_is_in : (m : Area) (r : Run) (rest : List Run) → runs_of m.sectors ≡ r ∷ rest → AreIn m (r ∷ [])
 run_is_in m r rest is = record {
@@ -121,9 +117,9 @@ between r = let e : r.start + r.length - r.start ≡ r.length = omega arith in �
 
 -- ---- their number
 
-pub fewer : (m new : Area) (r : Run) → IsOwn m → AreIn m (r ∷ []) → new ≡ without m (r ∷ []) → 1 ≤ r.length → length new.sectors < length m.sectors
+pub fewer : (m new : Area) (r : Run) → IsOwn m → AreIn m (r ∷ []) → new ≡ without_sectors m (r ∷ []) → 1 ≤ r.length → length new.sectors < length m.sectors
 fewer m new r own are is some =
-    let all : length m.sectors ≡ total (r ∷ []) + length (without m (r ∷ [])).sectors =
+    let all : length m.sectors ≡ total (r ∷ []) + length (without_sectors m (r ∷ [])).sectors =
     ap (λ (v : Area). length v.sectors) own
     ∙ count_without (contains m.sectors) (r ∷ []) m.from m.to are.differ
     (λ s c. free_within m.from m.to (contains m.sectors) s (ap (λ (v : Area). contains v.sectors s) (sym own) ∙ are.inside s c)) are.inside in

@@ -3,7 +3,7 @@ use Rattle.std.specs.Prelude.{ℕ, ◌-◌, ◌≡◌, Bool, ◌||◌, List, [],
 use Rattle.run_table.specs.declared.run.Run.{Run}
 use Rattle.run_table.specs.RunTable.{run_of}
 use Rattle.run_table.specs.Space.{contains, where_free}
-use Rattle.sector_set.specs.Area.{Area, without, AreOut, IsOwn}
+use Rattle.sector_set.specs.Area.{Area, without_sectors, AreOut, IsOwn}
 use Rattle.shadow_frees.specs.Readers.{Slots, AreSlots, unheld, with_held}
 
 -- those of versions that were removed since the last force, those of versions removed earlier that readers still hold,
@@ -47,12 +47,12 @@ run_between p = run_of p.0 (p.1 - p.0)
 -- what is left where a run was given
 abbrev pub left_after : Area → Option (ℕ × ℕ) → Area
 left_after removed None = removed
-left_after removed (Some p) = without removed (run_between p ∷ [])
+left_after removed (Some p) = without_sectors removed (run_between p ∷ [])
 
 -- what is left where runs were given back
 abbrev pub left_kept : Area → Option (List Run) → Area
 left_kept kept None = kept
-left_kept kept (Some runs) = without kept runs
+left_kept kept (Some runs) = without_sectors kept runs
 
 -- Of the sectors that nobody holds a run is given, if there is one; those that a reader holds are kept, and the rest stays.
 pub record GivesRun (old new : Waits) (given : Option (ℕ × ℕ)) : Type 0 where

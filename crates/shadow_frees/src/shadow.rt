@@ -1,7 +1,7 @@
 //! The sectors that wait.
 ghost use Rattle.std.specs.Prelude.{◌≡◌, ◌+◌, ◌<◌, ◌≤◌, ◌||◌, ◌↔◌, not, false, [], ◌∷◌, length, replicate, set, get_or, None, Some, All, IsTrue, IsNone, IsSome, IfOk, IfSome, OnSome};
 ghost use Rattle.std.specs.List.{list_any};
-ghost use Rattle.sector_set.specs.Area.{area, without, together, AreIn};
+ghost use Rattle.sector_set.specs.Area.{area, without_sectors, together, AreIn};
 ghost use Rattle.shadow_frees.specs.Readers.{is_empty, IsSameOrApart, AreUnheld, unheld, given_back};
 ghost use Rattle.shadow_frees.specs.Waits.{AreIdle, AreSound, EmptiesSlot, GivesRun, run_between, waiting_sectors, waits_in};
 
@@ -156,7 +156,7 @@ impl Shadow {
         requires { AreIn self.old.unfinished runs.now }
         ensures removed { self.new.removed ≡ self.old.removed }
         ensures kept { self.new.kept ≡ self.old.kept }
-        ensures unfinished { self.new.unfinished ≡ without self.old.unfinished runs.now }
+        ensures unfinished { self.new.unfinished ≡ without_sectors self.old.unfinished runs.now }
         ensures held { self.new.held ≡ self.old.held }
     {
         self.unfinished.remove(runs);

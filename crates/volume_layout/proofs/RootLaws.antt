@@ -37,7 +37,7 @@ root_is_read l planned n t p =
     ∙ cond-true (same_bytes (root_bytes l) (root_bytes l)) (Some l) None (is_same (root_bytes l))
 
 -- a value that is given where a test holds
-ok_if : (b : Bool) (r : Result Layout LayoutFault) (why : LayoutFault) (l : Layout) → cond b r (Err why) ≡ Ok l → (b ≡ true) × (r ≡ Ok l)
+pub ok_if : (b : Bool) (r : Result Layout LayoutFault) (why : LayoutFault) (l : Layout) → cond b r (Err why) ≡ Ok l → (b ≡ true) × (r ≡ Ok l)
 ok_if true r why l e = (refl, e)
 ok_if false r why l e = absurd cc
 

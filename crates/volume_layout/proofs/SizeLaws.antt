@@ -1,5 +1,5 @@
 -- A root is of a volume of 88 sectors or more.
-use Rattle.std.proofs.Common.{◌≡◌, ◌≤◌, ℕ, ◌^◌, Bool, true, false, cond, List, Some, Result, Ok, Err, refl, ap, arith}
+use Rattle.std.proofs.Common.{◌≡◌, ◌≤◌, ℕ, ◌^◌, List, Some, Result, Ok, Err, ap, arith}
 use Rattle.std.specs.Prelude.{nat_le}
 use Rattle.std.proofs.lemmas.Bool.{leb-true}
 use Rattle.fsd_bytes.specs.Bytes.{same_bytes, u32_at}
@@ -11,14 +11,11 @@ use Rattle.volume_layout.specs.declared.fault.LayoutFault.{LayoutFault}
 use Rattle.volume_layout.specs.Kinds.{kind_of}
 use Rattle.volume_layout.specs.Layout.{plan, least_size}
 use Rattle.volume_layout.specs.Root.{root_bytes, read_root, spelled_root}
+use Rattle.volume_layout.proofs.RootLaws.{ok_if}
 
 spelled_ok : (bytes : List ℕ) (r : Result Layout LayoutFault) (l : Layout) → spelled_root bytes r ≡ Some l → r ≡ Ok l
 spelled_ok bytes (Ok m) l e = ap Ok (given_if (same_bytes (root_bytes m) bytes) m l e).1
 spelled_ok bytes (Err why) l e = absurd cc
-
-ok_if : (b : Bool) (r : Result Layout LayoutFault) (why : LayoutFault) (l : Layout) → cond b r (Err why) ≡ Ok l → (b ≡ true) × (r ≡ Ok l)
-ok_if true r why l e = (refl, e)
-ok_if false r why l e = absurd cc
 
 ok_same : (x l : Layout) → ◌≡◌ {A = Result Layout LayoutFault} (Ok x) (Ok l) → x ≡ l
 ok_same x l e = cc

@@ -3,9 +3,7 @@ use Rattle.fsd_forest.proofs.laws.ways_lead.Goals as goal
 
 pub returns : goal.returns
 returns c = record {
-  beside = children_beside;
-  between = children_between;
-  parted = children_parted;
+  divides = record { beside = children_beside; between = children_between; parted = children_parted };
   end = children_end;
   begin = children_begin;
   around = children_around;

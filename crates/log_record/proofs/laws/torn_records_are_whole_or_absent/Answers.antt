@@ -1,6 +1,6 @@
 use Rattle.std.proofs.Common.{◌≡◌, ◌⊎◌, inl, inr, ⊎_elim, ℕ, ◌+◌, ◌*◌, ◌<◌, ◌≤◌, List, length, Option, Some, ap, ◌∙◌, arith}
 use Rattle.fsd_formats.specs.Record.{header_bytes, record_len}
-use Rattle.fsd_log.specs.Judged.{slice_of}
+use Rattle.fsd_log.specs.Judged.{sector_in}
 use Rattle.fsd_log.specs.Borne.{Foreign}
 use Rattle.fsd_log.specs.Laid.{laid_bytes}
 use Rattle.fsd_log.proofs.JudgedLaws.{endless_absent}
@@ -23,7 +23,7 @@ pub returns-clause-hurt_absent : goal.returns-clause-hurt_absent
 returns-clause-hurt_absent c gap p stamp pages images room stood at laid before each =
     let few = are_few p pages laid.accepted in
     let rows = laid_as gap stamp laid.fits pages images few laid.long laid.stamped in
-    let header : (k : ℕ) → k < record_len gap (length pages) → slice_of (laid_bytes gap stamp pages images) k ≡ header_bytes stamp pages → (at k ≡ Some (header_bytes stamp pages)) ⊎ Foreign stamp (at k) =
+    let header : (k : ℕ) → k < record_len gap (length pages) → sector_in (laid_bytes gap stamp pages images) k ≡ header_bytes stamp pages → (at k ≡ Some (header_bytes stamp pages)) ⊎ Foreign stamp (at k) =
     λ k lt is. ⊎_elim (λ stands. inl (stands.0 ∙ ap (λ (x : List ℕ). Some x) is)) (λ lost. inr lost) (each k lt) in
     let ends : (k : ℕ) → k < record_len gap (length pages) → stood ≤ k → Foreign stamp (at k) = λ k lt past. ⊎_elim (λ stands. absurd (omega (arith, stands.1, past))) (λ lost. lost) (each k lt) in
     endless_absent gap p stamp pages laid.accepted laid.small (omega (arith, few)) at room laid.fits
@@ -34,7 +34,7 @@ pub returns-clause-hurt : goal.returns-clause-hurt
 returns-clause-hurt c gap p stamp pages images room at laid each =
     let few = are_few p pages laid.accepted in
     let rows = laid_as gap stamp laid.fits pages images few laid.long laid.stamped in
-    let as_laid : (k : ℕ) (bytes : List ℕ) → k < record_len gap (length pages) → slice_of (laid_bytes gap stamp pages images) k ≡ bytes → AsLaid stamp bytes (at k) =
+    let as_laid : (k : ℕ) (bytes : List ℕ) → k < record_len gap (length pages) → sector_in (laid_bytes gap stamp pages images) k ≡ bytes → AsLaid stamp bytes (at k) =
     λ k bytes lt is. ⊎_elim (λ stands. inl (stands ∙ ap (λ (x : List ℕ). Some x) is)) (λ lost. inr lost) (each k lt) in
     laid_or_none gap p stamp laid.fits pages images (record { accepted = laid.accepted; small = laid.small; few = few }) room at (record {
       header = as_laid 0 _ (omega arith) rows.header;

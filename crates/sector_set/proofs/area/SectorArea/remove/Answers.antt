@@ -1,5 +1,5 @@
 use Rattle.std.proofs.Common.{◌-◌, subst, sym, ℕ, arith}
-use Rattle.sector_set.specs.Area.{Counts}
+use Rattle.sector_set.specs.Area.{CountsFree}
 use Rattle.sector_set.proofs.AreaLaws.{removed_counts, removed_area}
 use Rattle.sector_set.proofs.area.SectorArea.remove.Goals as goal
 
@@ -16,7 +16,7 @@ overflow_sub-self c =
 pub invariant_of-self : goal.invariant_of-self
 invariant_of-self c =
     let counts = removed_counts c.self.inside.from c.self.inside.count c.self.inside.set c.remove_all.new.set c.args.runs.now c.args.self.now c.self.view_is c.self.invariant c.requires c.remove_all.ensures.end (rw c.as_slice.ensures.value at c.remove_all.ensures.sectors) in
-    subst (λ (n : ℕ). Counts c.self.inside.from c.remove_all.new.set (c.self.inside.count - n)) (sym c.total.ensures) counts.1
+    subst (λ (n : ℕ). CountsFree c.self.inside.from c.remove_all.new.set (c.self.inside.count - n)) (sym c.total.ensures) counts.1
 
 pub returns : goal.returns
 returns c = removed_area c.self.inside.from c.self.inside.set c.remove_all.new.set c.args.runs.now c.args.self.now c.self.view_is c.remove_all.ensures.end (rw c.as_slice.ensures.value at c.remove_all.ensures.sectors)

@@ -1,6 +1,6 @@
 use Rattle.std.proofs.Common.{◌++◌, [], ◌∷◌, List, length, ap, sym, subst, ◌∙◌, arith}
 use Rattle.run_table.specs.declared.run.Run.{Run}
-use Rattle.sector_set.specs.Area.{Area, AreIn, without}
+use Rattle.sector_set.specs.Area.{Area, AreIn, without_sectors}
 use Rattle.shadow_frees.specs.Readers.{unheld, with_held}
 use Rattle.shadow_frees.specs.Waits.{Waits}
 use Rattle.shadow_frees.proofs.WaitLaws.{run_is_in, no_runs, some_runs, none_left, between}
@@ -49,7 +49,7 @@ returns-clause-fewer c =
     let first = sym (all_left_of c.self.inside.held c.self.inside.removed c.keep_held.new.removed c.from-from.result c.keep_held.ensures.removed c.from-from.ensures.value) ∙ c.in_ok-run.ensures.first in
     let are = run_is_in c.keep_held.new.removed c.in_ok-run.run' _ first in
     let pushed = c.push.ensures ∙ ap (λ (x : List Run). x ++ c.in_ok-run.run' ∷ []) c.new-runs.ensures in
-    let is = c.remove.ensures ∙ ap (without c.keep_held.new.removed) pushed in
+    let is = c.remove.ensures ∙ ap (without_sectors c.keep_held.new.removed) pushed in
     let less = fewer_left c.self.inside.held c.self.inside.removed c.keep_held.new.removed c.remove.new.self c.in_ok-run.run' c.from-from.ensures.own c.keep_held.ensures.removed are is c.in_ok-run.ensures.within.1 in
     omega (arith, less, ap (λ (w : Waits). length w.removed.sectors) c.self.view_is)
 
@@ -59,9 +59,9 @@ returns-clause-waits c =
     let same = c.keep_held.ensures.removed ∙ ap (λ (w : Waits). unheld w.held w.removed) c.self.view_is in
     record {
       left =
-          c.remove.ensures ∙ ap (without c.keep_held.new.removed) pushed
-          ∙ ap (λ (m : Area). without m (c.in_ok-run.run' ∷ [])) same
-          ∙ ap (λ (r : Run). without (unheld c.args.self.now.held c.args.self.now.removed) (r ∷ [])) (sym (between c.in_ok-run.run'));
+          c.remove.ensures ∙ ap (without_sectors c.keep_held.new.removed) pushed
+          ∙ ap (λ (m : Area). without_sectors m (c.in_ok-run.run' ∷ [])) same
+          ∙ ap (λ (r : Run). without_sectors (unheld c.args.self.now.held c.args.self.now.removed) (r ∷ [])) (sym (between c.in_ok-run.run'));
       kept = c.keep_held.ensures.kept ∙ ap (λ (w : Waits). with_held w.held w.kept w.removed) c.self.view_is;
       unfinished = ap (λ (w : Waits). w.unfinished) c.self.view_is;
       held = ap (λ (w : Waits). w.held) c.self.view_is;

@@ -1,6 +1,6 @@
 use Rattle.std.proofs.Common.{◌≡◌, ◌/◌, Bool, false, length, ap, subst, rules}
 use Rattle.sector_disk.specs.Events.{stood_by, is_going, is_stop}
-use Rattle.sector_disk.specs.State.{Exactly, put, noted, same, disk_failed}
+use Rattle.sector_disk.specs.State.{Exactly, put_sectors, noted, same, disk_failed}
 use Rattle.sector_disk.specs.Memory.{memory_state}
 use Rattle.sector_disk.proofs.States.{written_as, then_fails}
 use Rattle.sector_disk.proofs.Calls.{counts_of, fault_told}
@@ -15,7 +15,7 @@ returns-then-not-done-clause-exact c =
     let old = memory_state c.args.self.now in
     let mid = memory_state c.put-done.new.self in
     let end = memory_state c.disk_fault.new.self in
-    let after = put c.args.sector c.args.bytes.now c.stood_of-stood.result c.match-matches.matches c.match-matches-2.matches (noted false old) in
+    let after = put_sectors c.args.sector c.args.bytes.now c.stood_of-stood.result c.match-matches.matches c.match-matches-2.matches (noted false old) in
     let put_fails = subst (λ (b : Bool). Exactly c.match-matches.matches after after same old mid b) c.if-not-done.true c.put-done.ensures.exact in
     let call = then_fails c.match-matches.matches after after (disk_failed c.args.sector) old mid end put_fails (ap memory_state c.disk_fault.ensures.told) in
     written_as c.args.sector c.args.bytes.now c.stood_of-stood.result c.match-matches.matches c.match-matches-2.matches verdict (disk_failed c.args.sector) old end false some goes stops c.verdict-verdict.ensures call
