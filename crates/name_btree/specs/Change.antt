@@ -2,7 +2,7 @@
 use Rattle.std.specs.Prelude.{ℕ, ◌+◌, ◌≤◌, ◌<◌, length, OnErr, Result}
 use Rattle.name_page.specs.declared.pages.Pages.{Ghosts}
 use Rattle.name_page.specs.Looks.{ChangesPages, OnlyEdits, OnlyWalks}
-use Rattle.name_page.specs.Pages.{Step, changes, free_count, reaches}
+use Rattle.name_page.specs.Pages.{Step, changes, spare_count, reaches}
 use Rattle.name_btree.specs.declared.fault.TreeFault.{TreeFault}
 use Rattle.name_btree.specs.Fault.{FailsSpare, IsAmong, outer_told}
 
@@ -20,4 +20,4 @@ pub record SpendsAtMost (reached changed : ℕ) (old new : Step) : Type 0 where
 -- why an insert fails: a page that is named is one of the table, and breaks it or is spare, or too few pages are spare
 pub record FailsInsert {D : Type 0} (P : Ghosts D) (old new : D) (fault : TreeFault) : Type 0 where
   pub among : 0 < length (P.step old).images → IsAmong (length (P.step old).images) fault
-  pub cause : FailsSpare P (free_count (P.step old)) new fault
+  pub cause : FailsSpare P (spare_count (P.step old)) new fault

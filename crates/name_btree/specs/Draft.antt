@@ -10,7 +10,7 @@ use Rattle.fsd_table.specs.Pages.{content_fits, page_at}
 use Rattle.fsd_table.specs.Tree.{pages_of, IsTree}
 use Rattle.fsd_forest.specs.Forest.{Disjoint, TreeBecomes}
 use Rattle.name_page.specs.Edits.{without}
-use Rattle.name_page.specs.Looks.{IsAsChanged, Shows}
+use Rattle.name_page.specs.Looks.{IsAsChanged, ShowsEach}
 use Rattle.name_page.specs.Pages.{Step, is_one_of, is_spare, with_one, with_page, with_spare, IsReached}
 use Rattle.name_btree.specs.declared.draft.Draft.{Draft}
 use Rattle.name_btree.specs.declared.draft.Sheet.{Sheet}
@@ -75,13 +75,13 @@ with_freed page pages = if page == 0 then pages else with_one pages page
 pub record IsSeenPage (old new : Step) (sheets : List Sheet) (page : ℕ) (x : Content) : Type 0 where
   pub reached : IsReached new page
   pub used : is_spare old.spares page ≡ false
-  pub node : Shows new (λ pages. page_at (drafted sheets pages) page ≡ Some x)
+  pub node : ShowsEach new (λ pages. page_at (drafted sheets pages) page ≡ Some x)
 
 -- so is that of a child, and its keys are to stand between the child's
 pub record IsSeenChild (old new : Step) (sheets : List Sheet) (c : Child) (x : Content) : Type 0 where
   pub reached : IsReached new c.page
   pub used : is_spare old.spares c.page ≡ false
-  pub node : Shows new (λ pages. page_at (drafted sheets pages) c.page ≡ Some x)
+  pub node : ShowsEach new (λ pages. page_at (drafted sheets pages) c.page ≡ Some x)
   pub fits : content_fits c.low c.high (Some x) ≡ true
 
 -- these pages were spare, and were taken

@@ -7,9 +7,9 @@ use Rattle.fsd_table.specs.declared.child.Child.{Child}
 use Rattle.fsd_table.specs.Pages.{page_at, content_fits}
 use Rattle.fsd_table.specs.Table.{Visit, visits, IsVisited, BreaksTable}
 use Rattle.fsd_table.specs.Tree.{IsTree, pages_of}
-use Rattle.name_page.specs.Looks.{Agrees, Shows}
+use Rattle.name_page.specs.Looks.{Agrees, ShowsEach}
 use Rattle.name_page.specs.declared.pages.Pages.{Ghosts}
-use Rattle.name_page.specs.Pages.{Step, home_of, is_spare, outer_refusal, IsOuter, IsBarred}
+use Rattle.name_page.specs.Pages.{Step, home_sector, is_spare, outer_refusal, IsOuter, IsBarred}
 use Rattle.name_btree.specs.Descent.{IsNeighbour}
 use Rattle.name_btree.specs.declared.descent.Neighbour.{Neighbour}
 use Rattle.name_btree.specs.declared.fault.TreeFault.{TreeFault}
@@ -26,7 +26,7 @@ outer_told (Err fault) = outer_of fault
 
 -- the refusal came from outside, or it names a page that may be refused
 abbrev pub IsCaused : Step → (Bars : ℕ → Type 0) → Refusal → Type 0
-IsCaused s Bars refusal = IsOuter refusal ⊎ ((page : ℕ) × (refusal ≡ Unsound (home_of s page)) × Bars page)
+IsCaused s Bars refusal = IsOuter refusal ⊎ ((page : ℕ) × (refusal ≡ Unsound (home_sector s page)) × Bars page)
 
 -- the pages gave this refusal, and it has its cause, or the page breaks something
 abbrev pub HasTreeCause : Step → (Breaks Bars : ℕ → Type 0) → TreeFault → Type 0
@@ -66,14 +66,14 @@ BarsPage s page other = (other ≡ page) × IsBarred s page
 -- what was reached shows that a page breaks something; where a page was refused, it does so once the grammar refuses it
 abbrev pub FailsBy : Step → (Breaks : List (List ℕ) → ℕ → Type 0) → TreeFault → Type 0
 FailsBy s Breaks (Pages refusal) =
-    (s.refusal ≡ Some refusal) × (IsOuter refusal ⊎ ((page : ℕ) × (refusal ≡ Unsound (home_of s page)) × IsBarred s page × ((images : List (List ℕ)) → Agrees images s → page_at images page ≡ None → Breaks images page)))
+    (s.refusal ≡ Some refusal) × (IsOuter refusal ⊎ ((page : ℕ) × (refusal ≡ Unsound (home_sector s page)) × IsBarred s page × ((images : List (List ℕ)) → Agrees images s → page_at images page ≡ None → Breaks images page)))
 FailsBy s Breaks (Broken page) = (images : List (List ℕ)) → Agrees images s → Breaks images page
 
 -- Whatever the other pages have, what was reached shows that the page breaks something; where a page may not be
 -- reached, that it is on the way.
 abbrev pub ShowsCause : Step → (Breaks IsThere : List (List ℕ) → ℕ → Type 0) → TreeFault → Type 0
-ShowsCause s Breaks IsThere (Pages refusal) = IsOuter refusal ⊎ ((page : ℕ) × (refusal ≡ Unsound (home_of s page)) × IsBarred s page × Shows s (λ pages. IsThere pages page))
-ShowsCause s Breaks IsThere (Broken page) = Shows s (λ pages. Breaks pages page)
+ShowsCause s Breaks IsThere (Pages refusal) = IsOuter refusal ⊎ ((page : ℕ) × (refusal ≡ Unsound (home_sector s page)) × IsBarred s page × ShowsEach s (λ pages. IsThere pages page))
+ShowsCause s Breaks IsThere (Broken page) = ShowsEach s (λ pages. Breaks pages page)
 
 -- why a way fails: the cause, and what was reached shows it
 pub record FailsShown (s : Step) (Breaks : List (List ℕ) → ℕ → Type 0) (Bars : ℕ → Type 0) (IsThere : List (List ℕ) → ℕ → Type 0) (fault : TreeFault) : Type 0 where
@@ -97,7 +97,7 @@ IsMisfit pages c page = (page ≡ c.page) × (content_fits c.low c.high (page_at
 -- what was reached shows that a page that is named is no page whose keys stand between those of its child
 abbrev pub ShowsMisfit : Step → Child → TreeFault → Type 0
 ShowsMisfit s c (Pages refusal) = ⊤
-ShowsMisfit s c (Broken page) = Shows s (λ pages. IsMisfit pages c page)
+ShowsMisfit s c (Broken page) = ShowsEach s (λ pages. IsMisfit pages c page)
 
 -- the pages are no tree
 abbrev pub IsNoTree : List (List ℕ) → Type 0

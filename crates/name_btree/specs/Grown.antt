@@ -14,7 +14,7 @@ use Rattle.fsd_forest.specs.Parts.{left_part, right_part}
 use Rattle.name_page.specs.Edits.{with_entry}
 use Rattle.name_page.specs.Lookups.{entry_with, is_after}
 use Rattle.name_page.specs.declared.pages.Pages.{Ghosts}
-use Rattle.name_page.specs.Looks.{Shows}
+use Rattle.name_page.specs.Looks.{ShowsEach}
 use Rattle.name_page.specs.Pages.{Step, changes, is_one_of, is_spare, with_images, IsReached}
 use Rattle.name_btree.specs.declared.draft.Draft.{Draft}
 use Rattle.name_btree.specs.declared.draft.Sheet.{Sheet}
@@ -221,7 +221,7 @@ pub record GrowsTree (old new : Step) (draft after : Draft) (more : ℕ) : Type 
 -- a leaf has its sheet, or two have, with an entry more
 pub record GrowsLeaf (e : Entry) (old new : Step) (sheets after : List Sheet) (c : Child) (g : Grown) : Type 0 where
   pub grown : Over old (λ pages. IsGrown (with_images pages old) (with_images pages new) sheets after c.page g)
-  pub grows : Shows old (λ pages. Grows e (with_images pages old) (with_images pages new) (drafted sheets pages) (drafted after pages) 0 c g)
+  pub grows : ShowsEach old (λ pages. Grows e (with_images pages old) (with_images pages new) (drafted sheets pages) (drafted after pages) 0 c g)
   pub drawn : TakesSheets old new sheets after
 
 -- no entry can be put in below the child
@@ -233,7 +233,7 @@ pub record RefusesEntry {D : Type 0} (P : Ghosts D) (e : Entry) (old new : D) (s
   pub same : new ≡ old
   pub page : ℕ
   pub named : fault ≡ Broken page
-  pub shown : Shows (P.step old) (λ pages. BreaksGrowth e (drafted sheets pages) 0 c page)
+  pub shown : ShowsEach (P.step old) (λ pages. BreaksGrowth e (drafted sheets pages) 0 c page)
 
 -- the pages are no tree in which the key of an entry is new
 abbrev pub BreaksNew : Entry → List (List ℕ) → ℕ → Type 0

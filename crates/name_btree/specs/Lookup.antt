@@ -12,8 +12,8 @@ use Rattle.fsd_table.specs.Tree.{table_of, IsTree}
 use Rattle.name_page.specs.Cut.{after_cut, is_before}
 use Rattle.name_page.specs.declared.cut.Cut.{Cut}
 use Rattle.name_page.specs.declared.cut.Cut.TheVariants.{Named, UpTo}
-use Rattle.name_page.specs.Lookups.{entry_after, entry_with, is_after, last_that, same_name}
-use Rattle.name_page.specs.Looks.{Shows}
+use Rattle.name_page.specs.Lookups.{first_after, entry_with, is_after, last_that, same_name}
+use Rattle.name_page.specs.Looks.{ShowsEach}
 use Rattle.name_page.specs.Pages.{Step, is_spare, IsReached}
 use Rattle.name_btree.specs.declared.descent.FoundLeaf.{FoundLeaf}
 use Rattle.name_btree.specs.declared.descent.LeafAtKey.{LeafAtKey}
@@ -42,7 +42,7 @@ IsInPlace pages page = (visit : Visit) × Contains (visits pages) visit × (visi
 
 -- what was reached shows it of the leaf
 abbrev pub IsLedTo : Step → FoundEntry → Type 0
-IsLedTo s f = Shows s (λ pages. IsInPlace pages f.page)
+IsLedTo s f = ShowsEach s (λ pages. IsInPlace pages f.page)
 
 -- what some entries have at a key is what the table has
 abbrev pub AgreesAt : Key → List (List ℕ) → List Entry → Type 0
@@ -60,7 +60,7 @@ HasInPlace pages above c page = IsVisited pages (above + 1) c → IsInPlace page
 
 -- what was reached shows the same of a child beside the way
 abbrev pub IsLedBeside : Step → Neighbour → FoundEntry → Type 0
-IsLedBeside s n f = Shows s (λ pages. IsNeighbour pages n → IsInPlace pages f.page)
+IsLedBeside s n f = ShowsEach s (λ pages. IsNeighbour pages n → IsInPlace pages f.page)
 
 -- the keys of the child are from one behind the place on
 abbrev pub BeginsBehindPlace : (Key → Bool) → Neighbour → Type 0
@@ -82,8 +82,8 @@ BeginsBeside low previous begin = MatchOption previous (begin ≡ low) (λ n. n.
 pub record IsLedFrom (s : Step) (before : Key → Bool) (above : ℕ) (start : Child) (found : FoundLeaf) (leaf : Child) : Type 0 where
   pub page : leaf.page ≡ found.page
   pub below : ℕ
-  pub way : Shows s (λ pages. LeadsDown before pages above start → LeadsDown before pages below leaf)
-  pub path : Shows s (λ pages. IsVisited pages (above + 1) start → IsVisited pages (below + 1) leaf)
+  pub way : ShowsEach s (λ pages. LeadsDown before pages above start → LeadsDown before pages below leaf)
+  pub path : ShowsEach s (λ pages. IsVisited pages (above + 1) start → IsVisited pages (below + 1) leaf)
   pub low : BeginsBeside start.low found.previous leaf.low
   pub high : EndsBeside start.high found.next leaf.high
   pub left : IfSome found.previous (EndsUpToPlace before)
@@ -102,7 +102,7 @@ pub record IsLastBeside (s : Step) (n : Neighbour) (last : Entry) : Type 0 where
   pub rest : List Entry
   pub is_read : IsReadLeaf s leaf (rest ++ last ∷ [])
   pub depth : ℕ
-  pub path : Shows s (λ pages. IsNeighbour pages n → IsVisited pages depth leaf)
+  pub path : ShowsEach s (λ pages. IsNeighbour pages n → IsVisited pages depth leaf)
   pub high : leaf.high ≡ n.child.high
 
 -- such a leaf below a child beside the way begins with the entry, and its keys begin with those of the child
@@ -111,7 +111,7 @@ pub record IsFirstBeside (s : Step) (n : Neighbour) (first : Entry) : Type 0 whe
   pub rest : List Entry
   pub is_read : IsReadLeaf s leaf (first ∷ rest)
   pub depth : ℕ
-  pub path : Shows s (λ pages. IsNeighbour pages n → IsVisited pages depth leaf)
+  pub path : ShowsEach s (λ pages. IsNeighbour pages n → IsVisited pages depth leaf)
   pub low : leaf.low ≡ n.child.low
 
 -- ---- what a way finds
@@ -121,12 +121,12 @@ pub record IsFoundBelow (old new : Step) (cut : Cut) (above : ℕ) (start : Chil
   pub reached : IsReached new found.page
   pub used : is_spare old.spares found.page ≡ false
   pub leaf : page_at new.images found.page ≡ Some (Leaf found.entries)
-  pub way : Shows new (λ pages. HasInPlace pages above start found.page)
+  pub way : ShowsEach new (λ pages. HasInPlace pages above start found.page)
   pub least : AllByRecursion (λ e. not_below start.low e.key ≡ true) found.entries
   pub next : IfSome found.next (BeginsBehindPlace (is_before cut))
-  pub at : Shows new (λ pages. IsLeafAt cut pages start found)
-  pub place : Shows new (λ pages. IsLeafOfPlace (is_before cut) pages start found)
-  pub beside : Shows new (λ pages. HasNeighbours pages above start found)
+  pub at : ShowsEach new (λ pages. IsLeafAt cut pages start found)
+  pub place : ShowsEach new (λ pages. IsLeafOfPlace (is_before cut) pages start found)
+  pub beside : ShowsEach new (λ pages. HasNeighbours pages above start found)
   pub from : (leaf : Child) × IsLedFrom new (is_before cut) above start found leaf
 
 -- why it is not found
@@ -139,7 +139,7 @@ pub record IsFirstBelow (s : Step) (n : Neighbour) (f : FoundEntry) : Type 0 whe
   pub way : IsLedBeside s n f
   pub fits : FitsEntry f.entry
   pub least : not_below n.child.low f.entry.key ≡ true
-  pub first : Shows s (λ pages. BeginsWithEntry pages n.child f.entry)
+  pub first : ShowsEach s (λ pages. BeginsWithEntry pages n.child f.entry)
   pub beside : IsFirstBeside s n f.entry
 
 -- and the last
@@ -147,7 +147,7 @@ pub record IsLastBelow (s : Step) (n : Neighbour) (f : FoundEntry) : Type 0 wher
   pub there : StandsIn s f
   pub way : IsLedBeside s n f
   pub fits : FitsEntry f.entry
-  pub last : Shows s (λ pages. EndsWithEntry pages n.child f.entry)
+  pub last : ShowsEach s (λ pages. EndsWithEntry pages n.child f.entry)
   pub beside : IsLastBeside s n f.entry
 
 -- ---- where nothing is found
@@ -156,8 +156,8 @@ pub record IsLastBelow (s : Step) (n : Neighbour) (f : FoundEntry) : Type 0 wher
 pub record IsLeafBy (s : Step) (before : Key → Bool) (leaf : Child) (entries : List Entry) : Type 0 where
   pub is_read : IsReadLeaf s leaf entries
   pub above : ℕ
-  pub way : Shows s (λ pages. LeadsDown before pages above leaf)
-  pub path : Shows s (λ pages. IsVisited pages (above + 1) leaf)
+  pub way : ShowsEach s (λ pages. LeadsDown before pages above leaf)
+  pub path : ShowsEach s (λ pages. IsVisited pages (above + 1) leaf)
 
 -- the leaf to which the way to the place leads, by its page
 abbrev pub HasLeafBy : Step → (Key → Bool) → (page : ℕ) → List Entry → Type 0
@@ -168,8 +168,8 @@ pub record IsFoundLeaf (old new : Step) (key : Key) (found : LeafAtKey) : Type 0
   pub reached : IsReached new found.page
   pub used : is_spare old.spares found.page ≡ false
   pub leaf : page_at new.images found.page ≡ Some (Leaf found.entries)
-  pub way : Shows new (λ pages. IsInPlace pages found.page)
-  pub holds : Shows new (λ pages. AgreesAt key pages found.entries)
+  pub way : ShowsEach new (λ pages. IsInPlace pages found.page)
+  pub holds : ShowsEach new (λ pages. AgreesAt key pages found.entries)
   pub at : HasLeafBy new (is_before (UpTo key)) found.page found.entries
 
 -- no entry of the leaf at a key has the key
@@ -185,7 +185,7 @@ pub record ShowsNoneAfter (s : Step) (after : Option Key) : Type 0 where
   pub entries : List Entry
   pub at : IsLeafBy s (is_before (after_cut after)) leaf entries
   pub last : leaf.high ≡ None
-  pub none : entry_after after entries ≡ None
+  pub none : first_after after entries ≡ None
 
 -- a leaf that was read, whose keys end where those of another begin, ends with an entry of another name; what was
 -- reached shows that a path from page 0 leads to it
@@ -195,7 +195,7 @@ pub record HasOtherLeft (s : Step) (name : List ℕ) (leaf : Child) : Type 0 whe
   pub last : Entry
   pub is_read : IsReadLeaf s left (rest ++ last ∷ [])
   pub depth : ℕ
-  pub path : Shows s (λ pages. IsVisited pages depth left)
+  pub path : ShowsEach s (λ pages. IsVisited pages depth left)
   pub beside : left.high ≡ leaf.low
   pub other : same_name last.key.name name ≡ false
 
@@ -216,7 +216,7 @@ pub record HasRight (s : Step) (leaf : Child) (first : Entry) : Type 0 where
   pub rest : List Entry
   pub is_read : IsReadLeaf s right (first ∷ rest)
   pub depth : ℕ
-  pub path : Shows s (λ pages. IsVisited pages depth right)
+  pub path : ShowsEach s (λ pages. IsVisited pages depth right)
   pub beside : right.low ≡ leaf.high
 
 -- the entry is the first after the key, or of all, in the leaf at the place behind the key, or before all; where none is
@@ -225,7 +225,7 @@ pub record ShowsNext (s : Step) (after : Option Key) (e : Entry) : Type 0 where
   pub leaf : Child
   pub entries : List Entry
   pub at : IsLeafBy s (is_before (after_cut after)) leaf entries
-  pub first : MatchOption (entry_after after entries) (HasRight s leaf e) (λ x. x ≡ e)
+  pub first : MatchOption (first_after after entries) (HasRight s leaf e) (λ x. x ≡ e)
 
 -- ---- what a look-up tells
 

@@ -20,7 +20,7 @@ use fsd_formats::Entry;
 
 /// A call of the table.
 #[derive(Drop)]
-pub enum Call {
+pub enum TableCall {
     /// The entry with this key.
     Find(Key),
     /// The entry with the highest version of this name.
@@ -57,7 +57,7 @@ fn without_page(found: Result<Option<FoundEntry>, TreeFault>) -> Result<Option<E
 }
 
 // Makes one call, in a step of its own, with the whole leave to change.
-fn carry_out<T: RenewedPages>(t: &mut T, call: &Call) -> Result<Option<Entry>, TreeFault>
+fn carry_out<T: RenewedPages>(t: &mut T, call: &TableCall) -> Result<Option<Entry>, TreeFault>
     requires reached { MOST_REACHED ≤ (T.step t.old).most_reached }
     requires changed { MOST_CHANGED ≤ (T.step t.old).most_changed }
     requires formed { IsFormed call.now }
@@ -69,12 +69,12 @@ fn carry_out<T: RenewedPages>(t: &mut T, call: &Call) -> Result<Option<Entry>, T
         return Err(TreeFault::Pages(refusal));
     }
     match call {
-        Call::Find(key) => without_page(find(t, key)),
-        Call::Highest(name) => without_page(highest(t, name)),
-        Call::NextAfter(key) => without_page(next_after(t, key.as_ref())),
-        Call::Insert(entry, gone) => without_answer(insert(t, entry, gone)),
-        Call::Remove(key) => without_answer(remove(t, key)),
-        Call::Replace(entry) => without_answer(replace_same_size(t, entry)),
+        TableCall::Find(key) => without_page(find(t, key)),
+        TableCall::Highest(name) => without_page(highest(t, name)),
+        TableCall::NextAfter(key) => without_page(next_after(t, key.as_ref())),
+        TableCall::Insert(entry, gone) => without_answer(insert(t, entry, gone)),
+        TableCall::Remove(key) => without_answer(remove(t, key)),
+        TableCall::Replace(entry) => without_answer(replace_same_size(t, entry)),
     }
 }
 
@@ -83,7 +83,7 @@ fn carry_out<T: RenewedPages>(t: &mut T, call: &Call) -> Result<Option<Entry>, T
 /// fail. A call that fails leaves the table.
 pub fn run<T: RenewedPages>(
     t: &mut T,
-    calls: &[Call],
+    calls: &[TableCall],
     answers: &mut [Option<Entry>],
 ) -> Result<(), TreeFault>
     requires whole { length answers.old ≡ length calls.now }

@@ -14,8 +14,8 @@ ghost use Rattle.name_btree.specs.Map.{IsTable, HasTable, LeavesTree, without_al
 ghost use Rattle.name_page.specs.Edits.{with_entry};
 ghost use Rattle.name_page.specs.Lookups.{entry_with};
 ghost use Rattle.name_page.specs.declared.pages.TheConstants.{MOST_CHANGED, MOST_REACHED};
-ghost use Rattle.name_page.specs.Looks.{OnlyReaches, OnlyTakes, Shows};
-ghost use Rattle.name_page.specs.Pages.{with_images, reaches, changes, free_count, is_spare, IsReached};
+ghost use Rattle.name_page.specs.Looks.{OnlyReaches, OnlyTakes, ShowsEach};
+ghost use Rattle.name_page.specs.Pages.{with_images, reaches, changes, spare_count, is_spare, IsReached};
 
 use crate::draft::Draft;
 use crate::fault::TreeFault;
@@ -43,7 +43,7 @@ pub fn insert<T: Pages>(t: &mut T, entry: &Entry, gone: &ArrayVec<Key, 2>) -> Re
     ensures spent { SpendsAtMost 30 36 (T.step t.old) (T.step t.new) }
     ensures taken { TakesAtMost 7 (T.step t.old).spares (T.step t.new).spares }
     ensures inserted { OnOk result (T.trusted t.new → (height : ℕ) → IsTable (T.step t.old) height → HasTable (T.step t.new) (with_entry entry.now (without_all gone.now.items (table_of (T.step t.old).images height)))) }
-    ensures full { let free = free_count (T.step t.old) in (result ≡ Err (TreeFault.Pages (NameTableFull free))) ↔ (free < 8) }
+    ensures full { let free = spare_count (T.step t.old) in (result ≡ Err (TreeFault.Pages (NameTableFull free))) ↔ (free < 8) }
     ensures failed { IfErr result (FailsInsert T.Pages t.old t.new) }
 {
     if let Err(refusal) = t.spare(8) {
@@ -70,7 +70,7 @@ fn remove_all<T: Pages>(t: &mut T, draft: &mut Draft, gone: &[Key]) -> Result<()
     ensures reaches { reaches (T.step t.old) ≤ reaches (T.step t.new) + 24 }
     ensures draft { OnOk result (IsTreeDraft (T.step t.new) draft.new) }
     ensures room { OnOk result (length draft.new.sheets.items ≤ 16) }
-    ensures left { OnOk result (Shows (T.step t.new) (λ pages. LeavesTree pages draft.new gone.now)) }
+    ensures left { OnOk result (ShowsEach (T.step t.new) (λ pages. LeavesTree pages draft.new gone.now)) }
     ensures fault { IfErr result (FailsBy (T.step t.new) (λ pages page. IsNoTree pages)) }
 {
     for key in gone {
@@ -92,7 +92,7 @@ fn insert_in<T: Pages>(t: &mut T, draft: &mut Draft, entry: &Entry) -> Result<()
     ensures failed { OnErr result (OnlyReaches T.Pages (outer_told result) t.old t.new) }
     ensures reaches { reaches (T.step t.old) ≤ reaches (T.step t.new) + 6 }
     ensures drafted { OnOk result (GrowsTree (T.step t.old) (T.step t.new) draft.old draft.new 13) }
-    ensures inserted { OnOk result (Shows (T.step t.new) (λ pages. Inserts entry.now (with_images pages (T.step t.old)) (with_images pages (T.step t.new)) (drafted draft.old.sheets.items pages) (drafted draft.new.sheets.items pages))) }
+    ensures inserted { OnOk result (ShowsEach (T.step t.new) (λ pages. Inserts entry.now (with_images pages (T.step t.old)) (with_images pages (T.step t.new)) (drafted draft.old.sheets.items pages) (drafted draft.new.sheets.items pages))) }
     ensures fault { IfErr result (FailsBy (T.step t.new) (λ pages. BreaksNew entry.now (drafted draft.old.sheets.items pages))) }
 {
     match insert_below(t, draft, &top(), entry, 5)? {
@@ -125,7 +125,7 @@ fn insert_below<T: Pages>(
     ensures failed { OnErr result (OnlyReaches T.Pages (outer_told result) t.old t.new) }
     ensures reaches { reaches (T.step t.old) ≤ reaches (T.step t.new) + levels + 1 }
     ensures drafted { OnOk result (GrowsBelow (T.step t.old) (T.step t.new) draft.old draft.new (2 * levels + 2) child.now) }
-    ensures grown { IfOk result (λ grown. Shows (T.step t.new) (λ pages. Grows entry.now (with_images pages (T.step t.old)) (with_images pages (T.step t.new)) (drafted draft.old.sheets.items pages) (drafted draft.new.sheets.items pages) levels child.now grown)) }
+    ensures grown { IfOk result (λ grown. ShowsEach (T.step t.new) (λ pages. Grows entry.now (with_images pages (T.step t.old)) (with_images pages (T.step t.new)) (drafted draft.old.sheets.items pages) (drafted draft.new.sheets.items pages) levels child.now grown)) }
     ensures fault { IfErr result (FailsBy (T.step t.new) (λ pages. BreaksGrowth entry.now (drafted draft.old.sheets.items pages) levels child.now)) }
 {
     match draft.child_node(t, child)? {
@@ -193,7 +193,7 @@ fn insert_here<T: Pages>(
     requires sheets { AreSheets (T.step t.old) draft.old.sheets.items }
     requires reached { IsReached (T.step t.old) child.now.page }
     requires used { is_spare (T.step t.old).spares child.now.page ≡ false }
-    requires leaf { Shows (T.step t.old) (λ pages. page_at (drafted draft.old.sheets.items pages) child.now.page ≡ Some (Leaf entries.now)) }
+    requires leaf { ShowsEach (T.step t.old) (λ pages. page_at (drafted draft.old.sheets.items pages) child.now.page ≡ Some (Leaf entries.now)) }
     requires keys { keys_fit child.now.low child.now.high (entry_keys entries.now) ≡ true }
     requires inside { is_inside child.now entry.now.key ≡ true }
     requires entry { is_entry entry.now ≡ true }

@@ -18,10 +18,10 @@ mod trimming;
 mod walking;
 mod writing;
 
-pub use calls::{Call, run};
+pub use calls::{TableCall, run};
 pub use fault::TreeFault;
 pub use inserting::insert;
-pub use lookup::{FoundEntry, find, highest, next_after};
+pub use lookup::{FoundEntry, find, highest, named, next_after};
 pub use removing::remove;
 pub use renewing::RenewedPages;
 pub use replacing::replace_same_size;

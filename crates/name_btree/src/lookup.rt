@@ -8,7 +8,7 @@ ghost use Rattle.fsd_table.specs.Tree.{IsTree, table_of};
 ghost use Rattle.name_page.specs.Cut.{after_cut, is_before};
 ghost use Rattle.name_btree.specs.Fault.{outer_told, FailsBeside, FailsLookup};
 ghost use Rattle.name_btree.specs.Path.{HasAll, HasPath, StaysBeside, StaysOnPath, met_beside};
-ghost use Rattle.name_page.specs.Lookups.{entry_with, entry_after, highest_of, last_that, same_name};
+ghost use Rattle.name_page.specs.Lookups.{entry_with, first_after, highest_of, last_that, same_name};
 ghost use Rattle.name_btree.specs.Lookup.{found_entry, IsFirstBelow, IsLastBelow, TellsAt, TellsNewest, TellsLater};
 ghost use Rattle.name_page.specs.declared.pages.TheConstants.{MOST_REACHED};
 ghost use Rattle.name_page.specs.Looks.{OnlyReaches};
@@ -98,8 +98,8 @@ fn last_before(entries: &Entries, cut: &Cut) -> Option<Entry>
     None
 }
 
-// What was found, if it has the name.
-fn named(found: FoundEntry, name: &FileName) -> Option<FoundEntry>
+/// What was found, if it has the name.
+pub fn named(found: FoundEntry, name: &FileName) -> Option<FoundEntry>
     ensures { result ≡ (if same_name found.entry.key.name name.now then Some found else None) }
 {
     if found.entry.key.name.cmp(name).is_eq() {
@@ -165,7 +165,7 @@ pub fn next_after<T: Pages>(t: &mut T, after: Option<&Key>) -> Result<Option<Fou
     ensures reaches { reaches (T.step t.old) ≤ reaches (T.step t.new) + 12 }
     ensures told { IfOk result (TellsLater (T.step t.new) (option_copied after.entry)) }
     ensures found { IfOk result (λ found. T.trusted t.new → (height : ℕ) → IsTree (T.step t.old).images height
-        → found_entry found ≡ entry_after (option_copied after.entry) (table_of (T.step t.old).images height)) }
+        → found_entry found ≡ first_after (option_copied after.entry) (table_of (T.step t.old).images height)) }
     ensures failed { IfErr result (FailsLookup T.Pages t.old t.new) }
 {
     let cut = cut_after(after);

@@ -9,7 +9,7 @@ ghost use Rattle.name_btree.specs.Remove.{IsTrimmedBelow, BreaksAround, MayBeLef
 ghost use Rattle.name_btree.specs.Trim.{sheets_below};
 ghost use Rattle.name_page.specs.Edits.{without};
 ghost use Rattle.name_page.specs.declared.pages.TheConstants.{MOST_CHANGED, MOST_REACHED};
-ghost use Rattle.name_page.specs.Looks.{OnlyReaches, Shows};
+ghost use Rattle.name_page.specs.Looks.{OnlyReaches, ShowsEach};
 ghost use Rattle.name_page.specs.Pages.{reaches, changes, is_spare};
 
 use crate::draft::Draft;
@@ -50,7 +50,7 @@ pub(crate) fn remove_in<T: Pages>(t: &mut T, draft: &mut Draft, key: &Key) -> Re
     ensures calls { OnlyReaches T.Pages (outer_told result) t.old t.new }
     ensures reaches { reaches (T.step t.old) ≤ reaches (T.step t.new) + 12 }
     ensures drafted { OnOk result (TrimsDraft (T.step t.new) draft.old draft.new 8 6) }
-    ensures removed { OnOk result (Shows (T.step t.new) (λ pages. RemovesFrom pages draft.old draft.new key.now)) }
+    ensures removed { OnOk result (ShowsEach (T.step t.new) (λ pages. RemovesFrom pages draft.old draft.new key.now)) }
     ensures fault { IfErr result (FailsBy (T.step t.new) (λ pages page. IsNoTree (drafted draft.old.sheets.items pages))) }
 {
     match remove_below(t, draft, &top(), key, 5)? {
@@ -77,7 +77,7 @@ fn remove_below<T: Pages>(
     ensures reaches { reaches (T.step t.old) ≤ reaches (T.step t.new) + (2 * levels + 1) }
     ensures drafted { IfOk result (λ left. TrimsDraft (T.step t.new) draft.old draft.new (sheets_below levels left) levels) }
     ensures left { IfOk result (MayBeLeft (T.step t.new) (length (T.step t.old).images) child.now) }
-    ensures trimmed { IfOk result (λ left. Shows (T.step t.new) (λ pages. IsTrimmedBelow key.now (drafted draft.old.sheets.items pages) (drafted draft.new.sheets.items pages) draft.old.freed.items draft.new.freed.items levels child.now left)) }
+    ensures trimmed { IfOk result (λ left. ShowsEach (T.step t.new) (λ pages. IsTrimmedBelow key.now (drafted draft.old.sheets.items pages) (drafted draft.new.sheets.items pages) draft.old.freed.items draft.new.freed.items levels child.now left)) }
     ensures fault { IfErr result (FailsBy (T.step t.new) (λ pages. BreaksAround key.now (drafted draft.old.sheets.items pages) levels child.now)) }
 {
     match draft.child_node(t, child)? {

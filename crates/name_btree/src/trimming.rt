@@ -14,7 +14,7 @@ ghost use Rattle.name_page.specs.declared.node.Node.TheVariants.{Free};
 ghost use Rattle.name_page.specs.Node.{content_of};
 ghost use Rattle.name_page.specs.declared.pages.TheConstants.{MOST_CHANGED};
 ghost use Rattle.name_page.specs.declared.writing.TheConstants.{LEAST_USED};
-ghost use Rattle.name_page.specs.Looks.{OnlyReaches, Shows};
+ghost use Rattle.name_page.specs.Looks.{OnlyReaches, ShowsEach};
 ghost use Rattle.name_page.specs.Pages.{reaches, with_images, IsReached};
 ghost use Rattle.name_page.specs.Parting.{used_by};
 
@@ -294,7 +294,7 @@ pub(crate) fn mend_leaf<T: Pages>(
     ensures calls { OnlyReaches T.Pages (outer_told result) t.old t.new }
     ensures reaches { reaches (T.step t.old) ≤ reaches (T.step t.new) + 1 }
     ensures draft { OnOk result (IsTreeDraft (T.step t.new) draft.new) }
-    ensures mended { IfOk result (λ left. Shows (T.step t.new) (λ pages. LeafIsMended (with_images pages (T.step t.new)) draft.old draft.new above.now ways.now.0 ways.now.1 i few.now.items left)) }
+    ensures mended { IfOk result (λ left. ShowsEach (T.step t.new) (λ pages. LeafIsMended (with_images pages (T.step t.new)) draft.old draft.new above.now ways.now.0 ways.now.1 i few.now.items left)) }
     ensures fault { IfErr result (FailsBy (T.step t.new) (λ pages. HasNoLeaf (drafted draft.old.sheets.items pages) (children ways.now.0 above.now.low above.now.high ways.now.1) i)) }
 {
     let neighbour = child_at(ways, neighbour_of(i), above);
@@ -411,7 +411,7 @@ pub(crate) fn mend_ways<T: Pages>(
     ensures calls { OnlyReaches T.Pages (outer_told result) t.old t.new }
     ensures reaches { reaches (T.step t.old) ≤ reaches (T.step t.new) + 1 }
     ensures draft { OnOk result (IsTreeDraft (T.step t.new) draft.new) }
-    ensures mended { IfOk result (λ left. Shows (T.step t.new) (λ pages. WayIsMended (with_images pages (T.step t.new)) draft.old draft.new above.now ways.now.0 ways.now.1 i first few.now.items left)) }
+    ensures mended { IfOk result (λ left. ShowsEach (T.step t.new) (λ pages. WayIsMended (with_images pages (T.step t.new)) draft.old draft.new above.now ways.now.0 ways.now.1 i first few.now.items left)) }
     ensures fault { IfErr result (FailsBy (T.step t.new) (λ pages. HasNoWays (drafted draft.old.sheets.items pages) above.now ways.now.0 ways.now.1 i few.now.items)) }
 {
     let neighbour = child_at(ways, neighbour_of(i), above);
@@ -449,7 +449,7 @@ pub(crate) fn trim_above<T: Pages>(
     ensures calls { OnlyReaches T.Pages (outer_told result) t.old t.new }
     ensures reaches { reaches (T.step t.old) ≤ reaches (T.step t.new) + 1 }
     ensures draft { OnOk result (IsTreeDraft (T.step t.new) draft.new) }
-    ensures mended { IfOk result (λ left. Shows (T.step t.new) (λ pages. IsTrimmedAbove (with_images pages (T.step t.new)) draft.old draft.new above.now ways.now.0 ways.now.1 i below left)) }
+    ensures mended { IfOk result (λ left. ShowsEach (T.step t.new) (λ pages. IsTrimmedAbove (with_images pages (T.step t.new)) draft.old draft.new above.now ways.now.0 ways.now.1 i below left)) }
     ensures fault { IfErr result (FailsBy (T.step t.new) (λ pages. IsUnlike (drafted draft.old.sheets.items pages) above.now ways.now.0 ways.now.1 i below)) }
 {
     match below {
@@ -491,7 +491,7 @@ pub(crate) fn take_over<T: Pages>(t: &mut T, draft: &mut Draft, child: u32) -> R
     ensures calls { OnlyReaches T.Pages (outer_told result) t.old t.new }
     ensures reaches { reaches (T.step t.old) ≤ reaches (T.step t.new) + 1 }
     ensures draft { OnOk result (IsTreeDraft (T.step t.new) draft.new) }
-    ensures taken { OnOk result (Shows (T.step t.new) (λ pages. IsTakenOver (with_images pages (T.step t.new)) draft.old draft.new child)) }
+    ensures taken { OnOk result (ShowsEach (T.step t.new) (λ pages. IsTakenOver (with_images pages (T.step t.new)) draft.old draft.new child)) }
     ensures fault { IfErr result (FailsBy (T.step t.new) (λ pages page. IsFreeOrNone (page_at (drafted draft.old.sheets.items pages) child))) }
 {
     let node = draft.node_at(t, child)?;

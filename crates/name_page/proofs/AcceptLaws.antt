@@ -1,13 +1,11 @@
 -- The grammar accepts pages that are marked.
-use Rattle.std.proofs.Common.{◌≡◌, ℕ, zero, suc, Bool, true, false, List, Option, Some, None, Result, Ok, Err, refl, sym, ap, ◌∙◌}
-use Rattle.std.specs.Prelude.{◌==◌, length, is_some, is_ok, option_and_then, option_map, replicate, slice_get, slice_set, slice_index_or, IfOk, IfErr}
-use Rattle.std.proofs.lemmas.Bool.{eqb-true}
-use Rattle.std.proofs.lemmas.List.{get_or-set_other}
+use Rattle.std.proofs.Common.{◌≡◌, ℕ, zero, suc, true, false, List, Option, Some, None, Result, Ok, Err, refl, sym, ap, ◌∙◌}
+use Rattle.std.specs.Prelude.{length, is_some, is_ok, option_and_then, option_map, replicate, slice_get, slice_index_or, IfOk, IfErr}
 use Rattle.fsd_formats.specs.declared.page.Page.{Page}
 use Rattle.fsd_formats.specs.NamePage.{Content, read_page}
 use Rattle.fsd_table.specs.Pages.{page_at}
 use Rattle.name_page.specs.declared.fault.PageFault.{PageFault}
-use Rattle.name_page.specs.Accepted.{AreAccepted, never_both, differ}
+use Rattle.name_page.specs.Accepted.{AreAccepted, never_both}
 use Rattle.name_page.specs.Reading.{head_of}
 
 all_false : (n page : ℕ) → slice_index_or (replicate n false) page false ≡ false
@@ -17,14 +15,6 @@ all_false (suc n) (suc page) = all_false n page
 
 pub none_marked : (n : ℕ) (pages : List (List ℕ)) → AreAccepted (replicate n false) pages
 none_marked n pages = λ page h. absurd (never_both (sym (all_false n page) ∙ h))
-
--- a page that is accepted is marked
-pub one_marked : (marks : List Bool) (pages : List (List ℕ)) (page : ℕ) → AreAccepted marks pages → is_some (page_at pages page) ≡ true → AreAccepted (slice_set marks page true) pages
-one_marked marks pages page all some = λ q h. by q (q == page) refl h
-  where
-    by : (q : ℕ) (b : Bool) → (q == page) ≡ b → slice_index_or (slice_set marks page true) q false ≡ true → is_some (page_at pages q) ≡ true
-    by q true is h = ap (λ (p : ℕ). is_some (page_at pages p)) (eqb-true q page is) ∙ some
-    by q false is h = all q (sym (get_or-set_other marks page q true false (differ q page is)) ∙ h)
 
 -- what a page's reading tells
 pub read_tells : (pages : List (List ℕ)) (page p : ℕ) (bytes : List ℕ) (r : Result Page PageFault) → slice_get pages page ≡ Some bytes → p ≡ length pages

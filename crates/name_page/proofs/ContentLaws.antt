@@ -12,7 +12,7 @@ use Rattle.fsd_formats.specs.declared.entry.Entry.{Entry}
 use Rattle.fsd_formats.specs.declared.page.Separator.{Separator}
 use Rattle.fsd_formats.specs.NamePage.{Content, Free, Leaf, Interior, is_page, page_bytes, read_page, stamp_at, are_ascending, least_separators}
 use Rattle.fsd_table.specs.Pages.{entries_of}
-use Rattle.name_page.specs.Reading.{content_in, entries_in, first_of, first_in, separators_of, separators_in}
+use Rattle.name_page.specs.Reading.{content_in, entries_read, first_of, first_in, separators_of, separators_in}
 use Rattle.name_page.proofs.SeparatorLaws.{is_separator}
 use Rattle.name_page.proofs.PageLaws.{content_at}
 
@@ -52,8 +52,8 @@ content_is page p bytes x small few e =
     let r = read_more page p (2 ^ 32) bytes x few e small in
     ap (λ (n : ℕ). read_page n (2 ^ 32) bytes) r.0 ∙ r.1
 
-pub entries_are : (bytes : List ℕ) (entries : List Entry) → content_in bytes ≡ Some (Leaf entries) → entries_in bytes ≡ entries
-unfolding entries_in
+pub entries_are : (bytes : List ℕ) (entries : List Entry) → content_in bytes ≡ Some (Leaf entries) → entries_read bytes ≡ entries
+unfolding entries_read
 entries_are bytes entries e = ap entries_of e
 
 pub first_is : (bytes : List ℕ) (first : ℕ) (xs : List Separator) → content_in bytes ≡ Some (Interior first xs) → first_in bytes ≡ Some first

@@ -1,5 +1,6 @@
 -- Places between keys.
 use Rattle.std.proofs.Common.{◌≡◌, Bool, true, false, not, refl, ap, ◌∙◌}
+use Rattle.std.proofs.lemmas.Bool.{not-true}
 use Rattle.std.specs.Ordering.{nat_cmp, is_lt, is_gt, ordering_then, ordering_reverse}
 use Rattle.std.specs.Cmp.Lexicographic.{slice_cmp}
 use Rattle.std.specs.declared.cmp.Ordering.{Ordering}
@@ -24,10 +25,6 @@ behind before mono k key e le = by (before key) refl
     by false is = refl
     by true is = absurd (let no : before k ≡ true = mono k key le is in cc)
 
-unnot : (b : Bool) → not b ≡ true → b ≡ false
-unnot false e = refl
-unnot true e = absurd cc
-
 reversed : (o : Ordering) → is_gt (ordering_reverse o) ≡ is_lt o
 reversed Less = refl
 reversed Equal = refl
@@ -49,6 +46,6 @@ names_follow a b e = first_of (slice_cmp nat_cmp a.name b.name) (nat_cmp a.versi
 pub cuts_monotone : (cut : Cut) → IsMonotone (is_before cut)
 cuts_monotone Start a b le e = e
 cuts_monotone End a b le e = refl
-cuts_monotone (UpTo last) a b le e = ap not (upto keys_total a b last (greater a b ∙ unnot (key_lt b a) le) (unnot (is_gt (key_cmp b last)) e))
+cuts_monotone (UpTo last) a b le e = ap not (upto keys_total a b last (greater a b ∙ not-true (key_lt b a) le) (not-true (is_gt (key_cmp b last)) e))
 cuts_monotone (Named name) a b le e =
-    ap not (upto nat_list_cmp_total a.name b.name name (names_follow a b (greater a b ∙ unnot (key_lt b a) le)) (unnot (is_gt (slice_cmp nat_cmp b.name name)) e))
+    ap not (upto nat_list_cmp_total a.name b.name name (names_follow a b (greater a b ∙ not-true (key_lt b a) le)) (not-true (is_gt (slice_cmp nat_cmp b.name name)) e))

@@ -1,5 +1,5 @@
 -- What is too much for one page, in two.
-use Rattle.std.proofs.Common.{◌≡◌, ℕ, zero, suc, ◌+◌, ◌≤◌, ◌<◌, true, Bool, false, cond, ◌&&◌, List, [], ◌∷◌, ◌++◌, length, take, drop, Some, refl, sym, ap, subst, ◌∙◌, arith, length-append, take-append-drop, length-take, length-drop}
+use Rattle.std.proofs.Common.{◌≡◌, ℕ, suc, ◌+◌, ◌≤◌, ◌<◌, true, Bool, false, cond, ◌&&◌, List, [], ◌∷◌, ◌++◌, length, take, drop, Some, refl, sym, ap, subst, ◌∙◌, arith, length-append, take-append-drop, length-take, length-drop}
 use Rattle.std.specs.Prelude.{◌==◌, nat_lt, slice_get}
 use Rattle.std.specs.List.{flat_map, list_all}
 use Rattle.std.proofs.lemmas.Bool.{and_parts, and_from, le-leb}
@@ -65,11 +65,6 @@ leaves_at entries i all asc many few least most left =
     leaves_of (take i entries) (drop i entries) (ap (list_all is_entry) (sym whole) ∙ all) (ap (λ (xs : List Entry). are_ascending (entry_keys xs)) (sym whole) ∙ asc)
     (subst (λ (n : ℕ). 488 < n) (ap used_by whole) many) (subst (λ (n : ℕ). n ≤ 678) (ap used_by whole) few) least most
     (subst (λ (n : ℕ). used_by (take i entries) + 190 ≤ n) (ap used_by whole) left)
-
--- some bytes are those of some entry
-pub cut_some : (entries : List Entry) (i : ℕ) → 190 ≤ used_by (take i entries) → 0 < i
-cut_some entries zero h = absurd (omega (arith, h))
-cut_some entries (suc i) h = omega arith
 
 -- ---- interior pages
 

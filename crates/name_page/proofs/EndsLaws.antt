@@ -3,7 +3,7 @@ use Rattle.std.proofs.Common.{◌≡◌, ℕ, zero, suc, ◌-◌, ◌<◌, ◌^�
 use Rattle.std.specs.Prelude.{slice_get, option_map}
 use Rattle.std.proofs.lemmas.Bool.{and_parts}
 use Rattle.std.proofs.lemmas.List.{length-map}
-use Rattle.std.proofs.lemmas.Option.{slice_get-map}
+use Rattle.std.proofs.lemmas.Option.{slice_get-map, same_Some}
 use Rattle.fsd_bytes.specs.Bytes.{u32_at}
 use Rattle.fsd_bytes.specs.declared.key.Key.{Key}
 use Rattle.fsd_bytes.specs.Keys.{key_lt}
@@ -14,7 +14,7 @@ use Rattle.fsd_table.specs.Pages.{not_below, below, keys_fit, entry_keys, separa
 use Rattle.fsd_table.proofs.BoundLaws.{ascend_skip}
 use Rattle.fsd_table.proofs.KeyLaws.{lt_is_le, not_below_more, below_less}
 use Rattle.fsd_table.proofs.PageLaws.{read_is_page, leaf_ascends, interior_ascends}
-use Rattle.name_page.specs.Reading.{content_in, entries_in, separators_of, separators_in}
+use Rattle.name_page.specs.Reading.{content_in, entries_read, separators_of, separators_in}
 
 -- ---- the keys of a page ascend
 
@@ -25,8 +25,8 @@ entries_by b (Some Free) e = refl
 entries_by b (Some (Interior first separators)) e = refl
 entries_by b (Some (Leaf entries)) e = leaf_ascends (u32_at 12 b) (2 ^ 32) entries (read_is_page (u32_at 12 b) (2 ^ 32) b (Leaf entries) e)
 
-pub entries_ascend : (b : List ℕ) → are_ascending (entry_keys (entries_in b)) ≡ true
-unfolding entries_in
+pub entries_ascend : (b : List ℕ) → are_ascending (entry_keys (entries_read b)) ≡ true
+unfolding entries_read
 entries_ascend b = entries_by b (content_in b) refl
 
 separators_by : (b : List ℕ) (o : Option Content) → content_in b ≡ o → are_ascending (separator_keys (separators_of o)) ≡ true
@@ -42,11 +42,8 @@ separators_ascend b = separators_by b (content_in b) refl
 
 -- ---- the first and the last
 
-one_same : (a b : Key) → Some a ≡ Some b → a ≡ b
-one_same a b e = cc
-
 last_greater : (a k : Key) (ks : List Key) (last : Key) → are_ascending (a ∷ k ∷ ks) ≡ true → slice_get (k ∷ ks) (length ks) ≡ Some last → key_lt a last ≡ true
-last_greater a k [] last asc at = subst (λ (x : Key). key_lt a x ≡ true) (one_same k last at) (and_parts (key_lt a k) true asc).0
+last_greater a k [] last asc at = subst (λ (x : Key). key_lt a x ≡ true) (same_Some k last at) (and_parts (key_lt a k) true asc).0
 last_greater a k (m ∷ ks) last asc at = last_greater a m ks last (ascend_skip a k (m ∷ ks) asc) at
 
 both : (na ba nk bl : Bool) → (na ≡ true → nk ≡ true) → (bl ≡ true → ba ≡ true) → ((na && ba) && (nk && bl)) ≡ (na && bl)
@@ -62,7 +59,7 @@ alone true false = refl
 alone false ba = refl
 
 ends_tell : (low high : Option Key) (a : Key) (ks : List Key) (last : Key) → are_ascending (a ∷ ks) ≡ true → slice_get (a ∷ ks) (length ks) ≡ Some last → keys_fit low high (a ∷ ks) ≡ (not_below low a && below high last)
-ends_tell low high a [] last asc at = alone (not_below low a) (below high a) ∙ ap (λ (k : Key). not_below low a && below high k) (one_same a last at)
+ends_tell low high a [] last asc at = alone (not_below low a) (below high a) ∙ ap (λ (k : Key). not_below low a && below high k) (same_Some a last at)
 ends_tell low high a (k ∷ ks) last asc at =
     let parts = and_parts (key_lt a k) (are_ascending (k ∷ ks)) asc in
     ap (λ (b : Bool). (not_below low a && below high a) && b) (ends_tell low high k ks last parts.1 at)
@@ -75,7 +72,7 @@ keys_told : (low high : Option Key) (keys : List Key) (n : ℕ) (first last : Ke
 keys_told low high [] n first last asc long at0 at = absurd (omega (arith, long))
 keys_told low high (a ∷ ks) n first last asc long at0 at =
     let count : n ≡ length ks = omega (arith, long) in
-    ends_tell low high a ks last asc (ap (slice_get (a ∷ ks)) (sym count) ∙ at) ∙ ap (λ (k : Key). not_below low k && below high last) (one_same a first at0)
+    ends_tell low high a ks last asc (ap (slice_get (a ∷ ks)) (sym count) ∙ at) ∙ ap (λ (k : Key). not_below low k && below high last) (same_Some a first at0)
 
 less_one : (n count : ℕ) → n ≡ count - 1 → 0 < count → count ≡ suc n
 less_one n count e some = omega arith

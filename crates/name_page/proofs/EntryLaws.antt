@@ -11,7 +11,7 @@ use Rattle.fsd_bytes.proofs.FieldLaws.{AreSmall, u8_there, u8_behind, u16_behind
 use Rattle.run_table.specs.RunTable.{run_bytes, runs_from}
 use Rattle.run_table.proofs.RunLaws.{count_runs}
 use Rattle.fsd_formats.specs.declared.entry.Entry.{Entry}
-use Rattle.fsd_formats.specs.NamePage.{entry_bytes, entry_from, entry_with}
+use Rattle.fsd_formats.specs.NamePage.{entry_bytes, entry_from, entry_named}
 use Rattle.name_page.specs.Fault.{entry_end}
 use Rattle.name_page.specs.Reading.{entry_at}
 use Rattle.name_page.proofs.PieceLaws.{length_range, u8_again, u16_again, u32_again, runs_again}
@@ -31,10 +31,10 @@ entry_there place bytes =
     let len : u32_at 14 (drop v bytes) ≡ u32_at (v + 14) bytes = u32_behind v 14 bytes in
     let runs : u8_at 18 (drop v bytes) ≡ u8_at (v + 18) bytes = u8_behind v 18 bytes in
     let tail : drop 19 (drop v bytes) ≡ drop (v + 19) bytes = drop-drop 19 v bytes in
-    ap (λ (k : ℕ). entry_with (take k (drop 1 (drop place bytes))) (drop k (drop 1 (drop place bytes)))) (u8_there place bytes)
-    ∙ ap (λ (x : List ℕ). entry_with (take n x) (drop n x)) front
-    ∙ ap (λ (x : List ℕ). entry_with (take n (drop (place + 1) bytes)) x) behind
-    ∙ ap (λ (k : ℕ). entry_with (take k (drop (place + 1) bytes)) (drop v bytes)) (let e : n ≡ v - (place + 1) = omega arith in e)
+    ap (λ (k : ℕ). entry_named (take k (drop 1 (drop place bytes))) (drop k (drop 1 (drop place bytes)))) (u8_there place bytes)
+    ∙ ap (λ (x : List ℕ). entry_named (take n x) (drop n x)) front
+    ∙ ap (λ (x : List ℕ). entry_named (take n (drop (place + 1) bytes)) x) behind
+    ∙ ap (λ (k : ℕ). entry_named (take k (drop (place + 1) bytes)) (drop v bytes)) (let e : n ≡ v - (place + 1) = omega arith in e)
     ∙ λ i. record { key = key_of name (version i); keep = keep i; serial = record { epoch = epoch i; count = count i }; length = len i; runs = runs_from (runs i) (tail i) }
 
 -- where the entry ends, by its length

@@ -7,24 +7,24 @@ use Rattle.fsd_bytes.specs.declared.fault.NameFault.{NameFault}
 use Rattle.fsd_bytes.specs.Names.{is_name, name_of}
 use Rattle.fsd_bytes.proofs.NameLaws.{no_name}
 use Rattle.fsd_bytes.specs.Bytes.{u8_at, u16_at}
-use Rattle.name_page.specs.Fault.{first_of, unless, zeros_fault, lengths_fault, key_at, entry_fault, entry_end, entries_fault, separator_key_at, separator_fault, separators_fault}
+use Rattle.name_page.specs.Fault.{first_bad, unless, zeros_fault, lengths_fault, key_at, entry_fault, entry_end, entries_fault, separator_key_at, separator_fault, separators_fault}
 
-first_one : (a : Option ℕ) → first_of (a ∷ []) ≡ a
+first_one : (a : Option ℕ) → first_bad (a ∷ []) ≡ a
 first_one None = refl
 first_one (Some place) = refl
 
 -- where the first has no fault, the fault is the other's
-pub second : (a b : Option ℕ) → a ≡ None → first_of (a ∷ b ∷ []) ≡ b
-second a b e = ap (λ (x : Option ℕ). first_of (x ∷ b ∷ [])) e ∙ first_one b
+pub second : (a b : Option ℕ) → a ≡ None → first_bad (a ∷ b ∷ []) ≡ b
+second a b e = ap (λ (x : Option ℕ). first_bad (x ∷ b ∷ [])) e ∙ first_one b
 
-pub first : (a : Option ℕ) (rest : List (Option ℕ)) (place : ℕ) → a ≡ Some place → first_of (a ∷ rest) ≡ Some place
-first a rest place e = ap (λ (x : Option ℕ). first_of (x ∷ rest)) e
+pub first : (a : Option ℕ) (rest : List (Option ℕ)) (place : ℕ) → a ≡ Some place → first_bad (a ∷ rest) ≡ Some place
+first a rest place e = ap (λ (x : Option ℕ). first_bad (x ∷ rest)) e
 
 -- ---- zeros
 
 pub zeros_more : (n left place byte : ℕ) (bytes : List ℕ) → n ≡ suc left → byte ≡ u8_at place bytes → unless place (byte == 0) ≡ None → zeros_fault n place bytes ≡ zeros_fault left (place + 1) bytes
 zeros_more n left place byte bytes e is good =
-    ap (λ (k : ℕ). zeros_fault k place bytes) e ∙ ap (λ (x : ℕ). first_of (unless place (x == 0) ∷ zeros_fault left (place + 1) bytes ∷ [])) (sym is) ∙ second _ _ good
+    ap (λ (k : ℕ). zeros_fault k place bytes) e ∙ ap (λ (x : ℕ). first_bad (unless place (x == 0) ∷ zeros_fault left (place + 1) bytes ∷ [])) (sym is) ∙ second _ _ good
 
 -- ---- the lengths of runs
 
@@ -33,7 +33,7 @@ pub lengths_more : (count left place sum need n : ℕ) (bytes : List ℕ) → co
     → lengths_fault count place sum need bytes ≡ lengths_fault left (place + 6) (sum + n) need bytes
 lengths_more count left place sum need n bytes e is good =
     ap (λ (k : ℕ). lengths_fault k place sum need bytes) e
-    ∙ ap (λ (x : ℕ). first_of (unless (place + 4) (nat_le 1 x && (not (left == 0) || sum + x == need)) ∷ lengths_fault left (place + 6) (sum + x) need bytes ∷ [])) (sym is)
+    ∙ ap (λ (x : ℕ). first_bad (unless (place + 4) (nat_le 1 x && (not (left == 0) || sum + x == need)) ∷ lengths_fault left (place + 6) (sum + x) need bytes ∷ [])) (sym is)
     ∙ second _ _ good
 
 -- ---- names

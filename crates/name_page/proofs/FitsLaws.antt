@@ -13,7 +13,7 @@ use Rattle.fsd_formats.specs.declared.page.Separator.{Separator}
 use Rattle.fsd_formats.specs.NamePage.{Interior, entry_bytes, entry_from, entries_from, separator_from, separators_from, read_page, is_page, FitsEntry, FitsSeparator}
 use Rattle.fsd_table.proofs.PageLaws.{read_is_page}
 use Rattle.name_page.proofs.LeafLaws.{between}
-use Rattle.name_page.specs.Reading.{content_in, entries_in, separators_in}
+use Rattle.name_page.specs.Reading.{content_in, entries_read, separators_in}
 use Rattle.name_page.proofs.PieceLaws.{u16_small, u32_small}
 use Rattle.name_page.proofs.NodeLaws.{leaf_entries}
 use Rattle.name_page.proofs.WaysLaws.{ways_keys}
@@ -45,7 +45,7 @@ entries_fit (suc n) bytes small =
     (entry_fits bytes small, entries_fit n (drop behind bytes) (small_behind behind bytes small))
 
 -- the entries of a leaf
-pub leaf_fits : (bytes : List ℕ) → AreSmall bytes → IsSome (content_in bytes) → u8_at 4 bytes ≡ 1 → AllByRecursion FitsEntry (entries_in bytes)
+pub leaf_fits : (bytes : List ℕ) → AreSmall bytes → IsSome (content_in bytes) → u8_at 4 bytes ≡ 1 → AllByRecursion FitsEntry (entries_read bytes)
 leaf_fits bytes small some leaf =
     subst (AllByRecursion FitsEntry) (sym (leaf_entries bytes some leaf)) (entries_fit (u16_at 6 bytes) (drop 24 bytes) (small_behind 24 bytes small))
 

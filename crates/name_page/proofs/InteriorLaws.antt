@@ -10,7 +10,7 @@ use Rattle.fsd_bytes.proofs.FieldLaws.{AreSmall, u32_there}
 use Rattle.fsd_bytes.proofs.SameLaws.{same_is, given_if}
 use Rattle.fsd_formats.specs.declared.page.Separator.{Separator}
 use Rattle.fsd_formats.specs.NamePage.{Content, Free, Leaf, Interior, content_from, separators_from, is_page, page_bytes, stamp_at, are_ascending, least_separators}
-use Rattle.name_page.specs.Fault.{first_of, unless, zeros_fault, head_fault, contents_fault, separators_fault, fault_of}
+use Rattle.name_page.specs.Fault.{first_bad, unless, zeros_fault, head_fault, contents_fault, separators_fault, fault_of}
 use Rattle.name_page.specs.Reading.{content_in, separators_of, separators_in, first_in, separator_at}
 use Rattle.name_page.specs.Reading as reading
 use Rattle.name_page.proofs.FirstLaws.{none_both}
@@ -50,7 +50,7 @@ interior_in bytes first xs small long e =
     sym given.1 ∙ ap (λ (j : ℕ). content_from j (u16_at 6 bytes) (drop 24 bytes)) k in
     let same : xs ≡ separators_from (u16_at 6 bytes) (drop 28 bytes) = ap refusal.separators_of read ∙ ap (separators_from (u16_at 6 bytes)) (drop-drop 4 24 bytes) in
     let clear = contents_clear page p bytes (page_unfaulted page p bytes (Interior first xs) long (u32_small bytes 12 small) e) in
-    let none : first_of (unless 24 (nat_lt (u32_at 24 bytes) p) ∷ separators_fault (u16_at 6 bytes) 28 p None bytes ∷ []) ≡ None = ap (λ (j : ℕ). contents_fault p j (u16_at 6 bytes) (u16_at 8 bytes) bytes) (sym k) ∙ clear in
+    let none : first_bad (unless 24 (nat_lt (u32_at 24 bytes) p) ∷ separators_fault (u16_at 6 bytes) 28 p None bytes ∷ []) ≡ None = ap (λ (j : ℕ). contents_fault p j (u16_at 6 bytes) (u16_at 8 bytes) bytes) (sym k) ∙ clear in
     let counted = and_parts (list_all (is_separator p) xs && are_ascending (map (λ s. s.key) xs) && nat_lt first p) (is_between (least_separators page) 9 (length xs)) parts.0 in
     let most = (between (least_separators page) 9 (length xs) counted.1).1 in
     record {

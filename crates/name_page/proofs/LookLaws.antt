@@ -1,14 +1,14 @@
 -- Calls that only reach pages, one after another, and what the pages show.
-use Rattle.std.proofs.Common.{◌≡◌, ◌⊎◌, inl, inr, ℕ, ◌<◌, Bool, true, false, List, length, Option, Some, None, refl, sym, ap, subst, ◌∙◌, arith}
+use Rattle.std.proofs.Common.{◌≡◌, ◌⊎◌, inl, inr, ℕ, ◌<◌, Bool, true, false, List, length, Option, None, refl, sym, ap, subst, ◌∙◌, arith}
 use Rattle.std.specs.Prelude.{IsSome, slice_get, option_and_then}
 use Rattle.std.proofs.lemmas.Bool.{cases_lt, or_right}
 use Rattle.std.proofs.lemmas.Option.{slice_get_past}
 use Rattle.fsd_bytes.specs.declared.refusal.Refusal.{Refusal}
-use Rattle.fsd_formats.specs.NamePage.{Content, read_page}
+use Rattle.fsd_formats.specs.NamePage.{read_page}
 use Rattle.fsd_table.specs.Pages.{page_at}
 use Rattle.name_page.specs.declared.pages.Pages.{Ghosts}
 use Rattle.name_page.specs.Pages.{Step, is_one_of, is_spare, IsReached, Keeps, NeedsNoMemory, with_images, with_promise, rested}
-use Rattle.name_page.specs.Looks.{HasAllIn, Looks, NeedsNoMore, OnlyReaches, OnlyWalks, OnlyEdits, OnlyTakes, Agrees, ChangesPages, Shows, IsAsChanged}
+use Rattle.name_page.specs.Looks.{HasAllIn, Looks, NeedsNoMore, OnlyReaches, OnlyWalks, OnlyEdits, OnlyTakes, Agrees, ChangesPages, ShowsEach, IsAsChanged}
 
 -- what happens outside happens in all, and what is trusted then was before
 module _ {D : Type 0} (P : Ghosts D) where
@@ -135,11 +135,11 @@ agrees_now s = record { count = refl; reached = λ page is used. refl }
 pub agrees_before : (a b : Step) (images : List (List ℕ)) → Looks a b → Agrees images b → Agrees images a
 agrees_before a b images x h = record { count = h.count ∙ x.count; reached = λ page is used. h.reached page (x.reached page is) (ap (λ (t : List Bool). is_spare t page) x.spares ∙ used) ∙ x.images page is }
 
-pub shows_now : (P : List (List ℕ) → Type 0) (s : Step) → Shows s P → P s.images
+pub shows_now : (P : List (List ℕ) → Type 0) (s : Step) → ShowsEach s P → P s.images
 shows_now P s h = h s.images (agrees_now s)
 
 -- where the outside is trusted, of the images before
-pub shows_trusted : {D : Type 0} (G : Ghosts D) {refusal : Option Refusal} (P : List (List ℕ) → Type 0) (a b : D) → OnlyReaches G refusal a b → Shows (G.step b) P → G.trusted b → P (G.step a).images
+pub shows_trusted : {D : Type 0} (G : Ghosts D) {refusal : Option Refusal} (P : List (List ℕ) → Type 0) (a b : D) → OnlyReaches G refusal a b → ShowsEach (G.step b) P → G.trusted b → P (G.step a).images
 shows_trusted G P a b x h t = subst P (x.stays t) (shows_now P (G.step b) h)
 
 -- what a page has that was reached
@@ -148,9 +148,6 @@ unfolding page_at
 agrees_at s images page is used h =
     ap (λ (n : ℕ). option_and_then (read_page page n) (slice_get images page)) h.count
     ∙ ap (λ (o : Option (List ℕ)). option_and_then (read_page page (length s.images)) o) (h.reached page is used)
-
-pub shows_at : (s : Step) (page : ℕ) (x : Content) → IsReached s page → is_spare s.spares page ≡ false → page_at s.images page ≡ Some x → Shows s (λ images. page_at images page ≡ Some x)
-shows_at s page x is used at images h = agrees_at s images page is used h ∙ at
 
 -- a step that begins and only reaches pages
 pub rest_reaches : {D : Type 0} (P : Ghosts D) {refusal : Option Refusal} (law : Joins P) (trust : Trusts P) (a b c : D)

@@ -7,10 +7,10 @@ use Rattle.fsd_formats.specs.declared.entry.Entry.{Entry}
 use Rattle.fsd_formats.specs.declared.page.Separator.{Separator}
 use Rattle.fsd_formats.specs.NamePage.{Content, Free, Leaf, Interior, content_from, entries_from, separators_from, is_page, page_bytes, stamp_at, read_page}
 use Rattle.fsd_table.specs.Pages.{page_at}
-use Rattle.name_page.specs.Reading.{content_in, entries_in, separators_in}
+use Rattle.name_page.specs.Reading.{content_in, entries_read, separators_in}
 use Rattle.name_page.proofs.ContentLaws.{content_is, entries_are, separators_are}
 use Rattle.name_page.proofs.PageLaws.{count_entries, content_at}
-use Rattle.std.proofs.lemmas.Option.{slice_get_past}
+use Rattle.std.proofs.lemmas.Option.{slice_get_past, same_Some}
 use Rattle.name_page.proofs.SeparatorLaws.{count_separators}
 
 some_if : (b : Bool) (x y : Content) → cond b (Some x) None ≡ Some y → x ≡ y
@@ -37,7 +37,7 @@ at_kind bytes kind h e = by_head bytes h ∙ ap (λ (k : ℕ). Some (content_fro
 pub free_is : (bytes : List ℕ) → IsSome (content_in bytes) → u8_at 4 bytes ≡ 0 → content_in bytes ≡ Some Free
 free_is bytes h e = at_kind bytes 0 h e
 
-pub leaf_is : (bytes : List ℕ) → IsSome (content_in bytes) → u8_at 4 bytes ≡ 1 → (content_in bytes ≡ Some (Leaf (entries_in bytes))) × (u16_at 6 bytes ≡ length (entries_in bytes))
+pub leaf_is : (bytes : List ℕ) → IsSome (content_in bytes) → u8_at 4 bytes ≡ 1 → (content_in bytes ≡ Some (Leaf (entries_read bytes))) × (u16_at 6 bytes ≡ length (entries_read bytes))
 leaf_is bytes h e =
     let is = at_kind bytes 1 h e in
     let same = entries_are bytes (entries_from (u16_at 6 bytes) (drop 24 bytes)) is in (
@@ -45,7 +45,7 @@ leaf_is bytes h e =
       sym (ap length same ∙ count_entries (u16_at 6 bytes) (drop 24 bytes)),
     )
 
-pub leaf_entries : (bytes : List ℕ) → IsSome (content_in bytes) → u8_at 4 bytes ≡ 1 → entries_in bytes ≡ entries_from (u16_at 6 bytes) (drop 24 bytes)
+pub leaf_entries : (bytes : List ℕ) → IsSome (content_in bytes) → u8_at 4 bytes ≡ 1 → entries_read bytes ≡ entries_from (u16_at 6 bytes) (drop 24 bytes)
 leaf_entries bytes h e = entries_are bytes (entries_from (u16_at 6 bytes) (drop 24 bytes)) (at_kind bytes 1 h e)
 
 other_kind : (kind : ℕ) → kind ≢ 0 → kind ≢ 1 → (k : ℕ) × (kind ≡ suc (suc k))
@@ -77,13 +77,10 @@ seen_by : (pages : List (List ℕ)) (page : ℕ) (bytes : List ℕ) (o : Option 
     → option_and_then (read_page page (length pages)) o ≡ content_in bytes
 seen_by pages page bytes None small few e h = absurd cc
 seen_by pages page bytes (Some b) small few e h =
-    let same : b ≡ bytes = some_same b bytes e in
+    let same : b ≡ bytes = same_Some b bytes e in
     let at : read_page page (length pages) b ≡ read_page page (length pages) bytes = ap (read_page page (length pages)) same in
     at ∙ sym (in_by (read_page page (length pages) bytes) refl (subst (λ (o : Option Content). IsSome o) at h))
   where
-    some_same : (a b : List ℕ) → Some a ≡ Some b → a ≡ b
-    some_same a b e = cc
-
     in_by : (o : Option Content) → read_page page (length pages) bytes ≡ o → IsSome o → content_in bytes ≡ o
     in_by None e h = absurd cc
     in_by (Some x) e h = content_is page (length pages) bytes x small (weaken (length pages) few) e

@@ -15,7 +15,7 @@ use Rattle.fsd_formats.specs.declared.page.PageKind.{PageKind}
 use Rattle.fsd_formats.specs.Record.{Stamp}
 use Rattle.fsd_formats.specs.NamePage.{Content, Free, Leaf, Interior, content_from, entry_from, entries_from, entry_bytes, separators_from, separator_bytes, is_page, page_bytes, read_page, room, stamp_at, least_used}
 use Rattle.name_page.specs.Spelling.{head}
-use Rattle.name_page.specs.Fault.{first_of, unless, zeros_fault, head_fault, contents_fault, entries_fault, separators_fault, count_fits, used_fits, fault_of, head_at, kind_at}
+use Rattle.name_page.specs.Fault.{first_bad, unless, zeros_fault, head_fault, contents_fault, entries_fault, separators_fault, count_fits, used_fits, fault_of, head_at, kind_at}
 use Rattle.name_page.specs.Reading.{head_of}
 use Rattle.name_page.proofs.FirstLaws.{none_both, good_from}
 use Rattle.name_page.proofs.PieceLaws.{u8_again, u16_again, u32_again}
@@ -179,7 +179,7 @@ interior_read page p bytes parts k =
     let counts = ap (λ (j : ℕ). count_fits page j count) (sym k) ∙ parts.headed.count in
     let few = (between _ 9 count counts).1 in
     let used_is : used ≡ 4 + 49 * count = eqb-true _ _ (ap (λ (j : ℕ). used_fits page j count used) (sym k) ∙ parts.headed.used) in
-    let none : first_of (unless 24 (nat_lt (u32_at 24 bytes) p) ∷ separators_fault count 28 p None bytes ∷ []) ≡ None = ap (λ (j : ℕ). contents_fault p j count used bytes) (sym k) ∙ parts.filled in
+    let none : first_bad (unless 24 (nat_lt (u32_at 24 bytes) p) ∷ separators_fault count 28 p None bytes ∷ []) ≡ None = ap (λ (j : ℕ). contents_fault p j count used bytes) (sym k) ∙ parts.filled in
     let q = none_both (unless 24 (nat_lt (u32_at 24 bytes) p)) (separators_fault count 28 p None bytes ∷ []) none in
     let child : nat_lt first p ≡ true = ap (λ (n : ℕ). nat_lt n p) (u32_there 24 bytes) ∙ good_from 24 _ q.0 in
     let there : drop 4 (drop 24 bytes) ≡ drop 28 bytes = drop-drop 4 24 bytes in

@@ -8,19 +8,19 @@ use Rattle.fsd_bytes.proofs.FieldLaws.{AreSmall}
 use Rattle.fsd_formats.specs.declared.entry.Entry.{Entry}
 use Rattle.fsd_formats.specs.NamePage.{entry_bytes, is_entry}
 use Rattle.name_page.specs.Fault.{entry_end}
-use Rattle.name_page.specs.Reading.{entries_in, StandsAt}
+use Rattle.name_page.specs.Reading.{entries_read, StandsAt}
 use Rattle.fsd_table.proofs.EntryLaws.{entries_long}
 use Rattle.name_page.proofs.ReadingLaws.{Walk, LeafIn, leaf_in, walk_begins, walk_next, walk_entry, walk_ends}
 
 -- ---- how many entries a leaf has
 
-pub entries_few : (b : List ℕ) → AreSmall b → length (entries_in b) ≤ 18
-entries_few b small = by (length (entries_in b)) refl
+pub entries_few : (b : List ℕ) → AreSmall b → length (entries_read b) ≤ 18
+entries_few b small = by (length (entries_read b)) refl
   where
     few : (xs : List Entry) (used : ℕ) → list_all is_entry xs ≡ true → 24 + length (flat_map entry_bytes xs) ≡ 24 + used → 24 + used ≤ 512 → length xs ≤ 18
     few xs used each is most = omega (arith, entries_long xs each)
 
-    by : (n : ℕ) → length (entries_in b) ≡ n → length (entries_in b) ≤ 18
+    by : (n : ℕ) → length (entries_read b) ≡ n → length (entries_read b) ≤ 18
     by zero e = omega (arith, e)
     by (suc n) e =
         let l : LeafIn b = leaf_in b 0 small (omega (arith, e)) in
@@ -30,10 +30,10 @@ entries_few b small = by (length (entries_in b)) refl
 
 -- so many entries have their places, and the next one stands here
 pub record Placed (b places : List ℕ) (k place : ℕ) : Type 0 where
-  pub few : length (entries_in b) ≤ 18
+  pub few : length (entries_read b) ≤ 18
   pub whole : length places ≡ 18
   pub done : (i : ℕ) → i < k → StandsAt b i (slice_index places i)
-  pub rest : (i : ℕ) → k ≤ i → i < length (entries_in b) → Walk b i k place
+  pub rest : (i : ℕ) → k ≤ i → i < length (entries_read b) → Walk b i k place
 
 pub placed_begins : (b places : List ℕ) → AreSmall b → length places ≡ 18 → Placed b places 0 24
 placed_begins b places small whole = record { few = entries_few b small; whole = whole; done = λ i h. absurd (omega arith); rest = λ i low h. walk_begins b i small h }
@@ -43,7 +43,7 @@ stands_at b k place long w =
     let e = walk_entry b k k place long (omega arith) w in
     record { there = walk_ends b k k place long refl w; entry = e.0; within = e.1 }
 
-pub placed_next : (b places : List ℕ) (k place : ℕ) → length b ≡ 512 → k < length (entries_in b) → Placed b places k place → Placed b (slice_set places k place) (k + 1) (entry_end place b)
+pub placed_next : (b places : List ℕ) (k place : ℕ) → length b ≡ 512 → k < length (entries_read b) → Placed b places k place → Placed b (slice_set places k place) (k + 1) (entry_end place b)
 placed_next b places k place long more p = record {
   few = p.few;
   whole = length-set places k place ∙ p.whole;

@@ -18,7 +18,7 @@ use Rattle.fsd_bytes.proofs.SameLaws.{same_is}
 use Rattle.fsd_formats.specs.NamePage.{Content, Free, Leaf, Interior, content_from, is_page, page_bytes, stamp_at, room, least_used, max_keep, max_length, sectors_for, are_ascending, entry_bytes, entry_from, entries_from, is_entry}
 use Rattle.fsd_table.specs.Pages.{entries_of}
 use Rattle.name_page.specs.Fault.{entry_end}
-use Rattle.name_page.specs.Reading.{entry_at, content_in, entries_in}
+use Rattle.name_page.specs.Reading.{entry_at, content_in, entries_read}
 use Rattle.name_page.proofs.PieceLaws.{u32_small}
 use Rattle.name_page.proofs.LengthLaws.{count_below}
 use Rattle.name_page.proofs.PageLaws.{count_entries, content_at}
@@ -80,7 +80,7 @@ runs_more bytes runs place left j next start len e there s l =
 -- ---- the entries of a leaf
 
 pub record LeafIn (bytes : List ℕ) : Type 0 where
-  pub same : entries_in bytes ≡ entries_from (u16_at 6 bytes) (drop 24 bytes)
+  pub same : entries_read bytes ≡ entries_from (u16_at 6 bytes) (drop 24 bytes)
   pub from : From (u16_at 6 bytes) 24 (24 + u16_at 8 bytes) bytes
   pub roomy : 24 + u16_at 8 bytes ≤ 512
 
@@ -110,8 +110,8 @@ leaf_by page p i bytes Free true small e test h = absurd (omega arith)
 leaf_by page p i bytes (Interior first xs) true small e test h = absurd (omega arith)
 leaf_by page p i bytes (Leaf entries) true small e test h = leafy page p entries bytes small e (sym test)
 
-pub leaf_in : (bytes : List ℕ) (i : ℕ) → AreSmall bytes → i < length (entries_in bytes) → LeafIn bytes
-unfolding content_in entries_in
+pub leaf_in : (bytes : List ℕ) (i : ℕ) → AreSmall bytes → i < length (entries_read bytes) → LeafIn bytes
+unfolding content_in entries_read
 leaf_in bytes i small h =
     let page : ℕ = u32_at 12 bytes in
     let l = leaf_by page (2 ^ 32) i bytes (content_at bytes) _ (u32_small bytes 12 small) refl refl h in
@@ -145,11 +145,11 @@ runs_few e is =
 
 pub record Walk (b : List ℕ) (i k place : ℕ) : Type 0 where
   pub from : From (u16_at 6 b - k) place (24 + u16_at 8 b) b
-  pub at : slice_get (entries_from (u16_at 6 b - k) (drop place b)) (i - k) ≡ slice_get (entries_in b) i
+  pub at : slice_get (entries_from (u16_at 6 b - k) (drop place b)) (i - k) ≡ slice_get (entries_read b) i
   pub more : i < u16_at 6 b
   pub roomy : 24 + u16_at 8 b ≤ 512
 
-pub walk_begins : (b : List ℕ) (i : ℕ) → AreSmall b → i < length (entries_in b) → Walk b i 0 24
+pub walk_begins : (b : List ℕ) (i : ℕ) → AreSmall b → i < length (entries_read b) → Walk b i 0 24
 walk_begins b i small h =
     let l = leaf_in b i small h in
     let count : ℕ = u16_at 6 b in
@@ -212,7 +212,7 @@ walk_entry b i k place long h w =
     fields : (place n runs end limit : ℕ) → end ≡ place + 19 + n + 1 + 6 * runs → end ≤ limit → limit ≤ 512 → place + 20 + n ≤ 512
     fields place n runs end limit e h high = omega arith
 
-pub walk_ends : (b : List ℕ) (i k place : ℕ) → length b ≡ 512 → k ≡ i → Walk b i k place → slice_get (entries_in b) i ≡ Some (entry_at place b)
+pub walk_ends : (b : List ℕ) (i k place : ℕ) → length b ≡ 512 → k ≡ i → Walk b i k place → slice_get (entries_read b) i ≡ Some (entry_at place b)
 walk_ends b i k place long e w =
     let count : ℕ = u16_at 6 b in
     let at_most : k ≤ i = omega arith in

@@ -5,7 +5,7 @@ use Rattle.std.specs.List.{flat_map, list_all, AllByRecursion}
 use Rattle.std.specs.Ordering.{is_gt, is_lt}
 use Rattle.std.specs.declared.cmp.Ordering.{Ordering}
 use Rattle.std.specs.declared.cmp.Ordering.TheVariants as orders
-use Rattle.std.proofs.lemmas.Bool.{and_parts, and_from}
+use Rattle.std.proofs.lemmas.Bool.{and_parts, and_from, not-false}
 use Rattle.std.proofs.lemmas.List.{append-nil}
 use Rattle.std.proofs.lemmas.Grind.{flat_map-append}
 use Rattle.std.proofs.lemmas.List.Folds.{list_all-append}
@@ -240,26 +240,13 @@ low_fits key (Some k) a = ap not (sym (greater k key)) ∙ a
 
 high_fits : (key : Key) (high : Option Key) → AtHigh (is_before (UpTo key)) high → below high key ≡ true
 high_fits key None a = refl
-high_fits key (Some k) a = sym (greater k key) ∙ unnot (is_gt (key_cmp k key)) a
-  where
-    unnot : (b : Bool) → not b ≡ false → b ≡ true
-    unnot true e = refl
-    unnot false e = absurd cc
+high_fits key (Some k) a = sym (greater k key) ∙ not-false (is_gt (key_cmp k key)) a
 
 pub with_fits : (e : Entry) (low high : Option Key) (xs : List Entry) → AtLow (is_before (UpTo e.key)) low → AtHigh (is_before (UpTo e.key)) high → keys_fit low high (entry_keys xs) ≡ true
     → keys_fit low high (entry_keys (with_entry e xs)) ≡ true
 with_fits e low high xs a b fit =
     keys_are low high (with_entry e xs)
     ∙ with_all (λ x. not_below low x.key && below high x.key) e xs (and_from (not_below low e.key) (below high e.key) (low_fits e.key low a) (high_fits e.key high b)) (sym (keys_are low high xs) ∙ fit)
-
--- ---- the entries beside a leaf at a place
-
-pub all_greater : (key : Key) (xs : List Entry) → AllByRecursion (λ e. is_before (UpTo key) e.key ≡ false) xs → AllGreater key xs
-all_greater key xs a = all_weaker (λ e. is_before (UpTo key) e.key ≡ false) (λ e. is_on Greater key e ≡ true) xs (λ e h. unnot (is_gt (key_cmp e.key key)) h) a
-  where
-    unnot : (b : Bool) → not b ≡ false → b ≡ true
-    unnot true e = refl
-    unnot false e = absurd cc
 
 -- ---- how many bytes
 

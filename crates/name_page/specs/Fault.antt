@@ -13,10 +13,10 @@ use Rattle.fsd_formats.specs.NamePage.{max_keep, max_length, sectors_for, room, 
 use Rattle.name_page.specs.Lookups.{is_after}
 
 -- the first fault of some
-abbrev pub first_of : List (Option ℕ) → Option ℕ
-first_of [] = None
-first_of (None ∷ faults) = first_of faults
-first_of (Some place ∷ faults) = Some place
+abbrev pub first_bad : List (Option ℕ) → Option ℕ
+first_bad [] = None
+first_bad (None ∷ faults) = first_bad faults
+first_bad (Some place ∷ faults) = Some place
 
 -- a fault at the place of a field, unless the field is good
 abbrev pub unless : (place : ℕ) → Bool → Option ℕ
@@ -25,7 +25,7 @@ unless place good = if good then None else Some place
 -- bytes that are not zero
 abbrev pub zeros_fault : (n place : ℕ) → List ℕ → Option ℕ
 zeros_fault zero place bytes = None
-zeros_fault (suc n) place bytes = first_of (unless place (u8_at place bytes == 0) ∷ zeros_fault n (place + 1) bytes ∷ [])
+zeros_fault (suc n) place bytes = first_bad (unless place (u8_at place bytes == 0) ∷ zeros_fault n (place + 1) bytes ∷ [])
 
 -- ---- keys, one after another
 
@@ -36,13 +36,13 @@ abbrev pub lengths_fault : (left place sum need : ℕ) → List ℕ → Option �
 lengths_fault zero place sum need bytes = None
 lengths_fault (suc left) place sum need bytes =
     let n = u16_at (place + 4) bytes in
-    first_of (unless (place + 4) (nat_le 1 n && (not (left == 0) || sum + n == need)) ∷ lengths_fault left (place + 6) (sum + n) need bytes ∷ [])
+    first_bad (unless (place + 4) (nat_le 1 n && (not (left == 0) || sum + n == need)) ∷ lengths_fault left (place + 6) (sum + n) need bytes ∷ [])
 
 abbrev pub runs_fault : (place limit : ℕ) (last : Bool) (need : ℕ) → List ℕ → Option ℕ
 runs_fault place limit last need bytes =
     let n = u8_at place bytes in
     let end = place + 1 + 6 * n in
-    first_of (unless place (is_between 1 max_runs n && (if last then end == limit else nat_le end limit)) ∷ lengths_fault n (place + 1) 0 need bytes ∷ [])
+    first_bad (unless place (is_between 1 max_runs n && (if last then end == limit else nat_le end limit)) ∷ lengths_fault n (place + 1) 0 need bytes ∷ [])
 
 abbrev pub key_at : ℕ → List ℕ → Key
 key_at place bytes = let version = place + 1 + u8_at place bytes in key_of (slice_range bytes (place + 1) version) (u32_at version bytes)
@@ -51,18 +51,18 @@ key_at place bytes = let version = place + 1 + u8_at place bytes in key_of (slic
 abbrev pub name_fault_at : (place limit : ℕ) → List ℕ → Option ℕ
 name_fault_at place limit bytes =
     let n = u8_at place bytes in
-    first_of (unless place (is_between 1 max_name_len n && nat_le (place + n + 26) limit) ∷ unless (place + 1) (is_name (slice_range bytes (place + 1) (place + 1 + n))) ∷ [])
+    first_bad (unless place (is_between 1 max_name_len n && nat_le (place + n + 26) limit) ∷ unless (place + 1) (is_name (slice_range bytes (place + 1) (place + 1 + n))) ∷ [])
 
 abbrev pub numbers_fault : (place limit : ℕ) (last : Bool) → List ℕ → Option ℕ
 numbers_fault place limit last bytes =
     let length = u32_at (place + 14) bytes in
-    first_of (unless (place + 4) (nat_le (u16_at (place + 4) bytes) max_keep) ∷ unless (place + 14) (nat_le length max_length) ∷ runs_fault (place + 18) limit last (sectors_for length) bytes ∷ [])
+    first_bad (unless (place + 4) (nat_le (u16_at (place + 4) bytes) max_keep) ∷ unless (place + 14) (nat_le length max_length) ∷ runs_fault (place + 18) limit last (sectors_for length) bytes ∷ [])
 
 abbrev pub entry_fault : (place limit : ℕ) (last : Bool) → Option Key → List ℕ → Option ℕ
 entry_fault place limit last before bytes =
     let key = key_at place bytes in
     let version = place + 1 + u8_at place bytes in
-    first_of (name_fault_at place limit bytes ∷ unless version (nat_le 1 key.version && is_after before key) ∷ numbers_fault version limit last bytes ∷ [])
+    first_bad (name_fault_at place limit bytes ∷ unless version (nat_le 1 key.version && is_after before key) ∷ numbers_fault version limit last bytes ∷ [])
 
 -- where the entry at a place ends
 abbrev pub entry_end : ℕ → List ℕ → ℕ
@@ -71,7 +71,7 @@ entry_end place bytes = let runs = place + 19 + u8_at place bytes in runs + 1 + 
 abbrev pub entries_fault : (count place limit : ℕ) → Option Key → List ℕ → Option ℕ
 entries_fault zero place limit before bytes = None
 entries_fault (suc n) place limit before bytes =
-    first_of (entry_fault place limit (n == 0) before bytes ∷ entries_fault n (entry_end place bytes) limit (Some (key_at place bytes)) bytes ∷ [])
+    first_bad (entry_fault place limit (n == 0) before bytes ∷ entries_fault n (entry_end place bytes) limit (Some (key_at place bytes)) bytes ∷ [])
 
 -- ---- the separators of an interior page
 
@@ -82,7 +82,7 @@ abbrev pub separator_fault : (place p : ℕ) → Option Key → List ℕ → Opt
 separator_fault place p before bytes =
     let n = u8_at place bytes in
     let key = separator_key_at place bytes in
-    first_of (
+    first_bad (
     unless place (is_between 1 max_name_len n)
     ∷ unless (place + 1) (is_name key.name)
     ∷ zeros_fault (max_name_len - n) (place + 1 + n) bytes
@@ -94,7 +94,7 @@ separator_fault place p before bytes =
 abbrev pub separators_fault : (count place p : ℕ) → Option Key → List ℕ → Option ℕ
 separators_fault zero place p before bytes = None
 separators_fault (suc n) place p before bytes =
-    first_of (separator_fault place p before bytes ∷ separators_fault n (place + 49) p (Some (separator_key_at place bytes)) bytes ∷ [])
+    first_bad (separator_fault place p before bytes ∷ separators_fault n (place + 49) p (Some (separator_key_at place bytes)) bytes ∷ [])
 
 -- ---- the page
 
@@ -110,13 +110,13 @@ abbrev pub contents_fault : (p kind count used : ℕ) → List ℕ → Option �
 contents_fault p kind count used bytes =
     if kind == 0 then None
     else (if kind == 1 then entries_fault count 24 (24 + used) None bytes
-    else first_of (unless 24 (nat_lt (u32_at 24 bytes) p) ∷ separators_fault count 28 p None bytes ∷ []))
+    else first_bad (unless 24 (nat_lt (u32_at 24 bytes) p) ∷ separators_fault count 28 p None bytes ∷ []))
 
 abbrev pub head_fault : (page : ℕ) → List ℕ → Option ℕ
 head_fault page bytes =
     let kind = u8_at 4 bytes in
     let count = u16_at 6 bytes in
-    first_of (
+    first_bad (
     unless 0 (same_bytes (take 4 bytes) (codes "CNPG"))
     ∷ unless 4 (nat_le kind 2)
     ∷ unless 5 (u8_at 5 bytes == 0)
@@ -131,7 +131,7 @@ head_fault page bytes =
 unfoldable pub fault_of : (page p : ℕ) → List ℕ → Option ℕ
 fault_of page p bytes =
     let used = u16_at 8 bytes in
-    first_of (head_fault page bytes ∷ contents_fault p (u8_at 4 bytes) (u16_at 6 bytes) used bytes ∷ zeros_fault (488 - used) (24 + used) bytes ∷ [])
+    first_bad (head_fault page bytes ∷ contents_fault p (u8_at 4 bytes) (u16_at 6 bytes) used bytes ∷ zeros_fault (488 - used) (24 + used) bytes ∷ [])
 
 -- ---- what the head says
 

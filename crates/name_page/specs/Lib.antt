@@ -8,6 +8,7 @@ pub mod Lookups
 pub mod Node
 pub mod Pages
 pub mod Parting
+pub mod Reaching
 pub mod Reading
 pub mod Spelling
 pub mod Text

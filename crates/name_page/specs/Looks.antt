@@ -83,5 +83,5 @@ pub record OnlyTakes {D : Type 0} (P : Ghosts D) (refusal : Option Refusal) (old
 -- ---- what the pages show
 
 -- what the step has reached shows this, whatever the other pages have
-abbrev pub Shows : Step → (List (List ℕ) → Type 0) → Type 0
-Shows s P = (images : List (List ℕ)) → Agrees images s → P images
+abbrev pub ShowsEach : Step → (List (List ℕ) → Type 0) → Type 0
+ShowsEach s P = (images : List (List ℕ)) → Agrees images s → P images

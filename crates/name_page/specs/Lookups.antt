@@ -28,5 +28,5 @@ is_after None key = true
 is_after (Some before) key = key_lt before key
 
 -- the least later key, where keys ascend
-abbrev pub entry_after : Option Key → List Entry → Option Entry
-entry_after before entries = find (λ e. is_after before e.key) entries
+abbrev pub first_after : Option Key → List Entry → Option Entry
+first_after before entries = find (λ e. is_after before e.key) entries

@@ -29,12 +29,12 @@ first_step images spares home_a most_reached most_changed =
     record { images = images; spares = spares; home_a = home_a; reached = []; changed = []; promised = 0; refusal = None; most_reached = most_reached; most_changed = most_changed }
 
 -- how many pages are spare
-abbrev pub free_count : Step → ℕ
-free_count s = count_by (λ spare. spare) s.spares
+abbrev pub spare_count : Step → ℕ
+spare_count s = count_by (λ spare. spare) s.spares
 
 -- the sector of a page's home A, as a number of 32 bits
-abbrev pub home_of : Step → ℕ → ℕ
-home_of s page = (s.home_a + page) % 2 ^ 32
+abbrev pub home_sector : Step → ℕ → ℕ
+home_sector s page = (s.home_a + page) % 2 ^ 32
 
 -- how many more pages may be reached, and how many more changed
 abbrev pub reaches : Step → ℕ
@@ -77,7 +77,7 @@ IsBarred s page = (is_spare s.spares page ≡ true) ⊎ (page_at s.images page �
 
 -- the refusals of a page that is reached
 abbrev pub IsReachRefusal : Step → ℕ → Refusal → Type 0
-IsReachRefusal s page refusal = IsOuter refusal ⊎ ((refusal ≡ Unsound (home_of s page)) × IsBarred s page)
+IsReachRefusal s page refusal = IsOuter refusal ⊎ ((refusal ≡ Unsound (home_sector s page)) × IsBarred s page)
 
 -- the refusals of so many spare pages
 abbrev pub IsSpareRefusal : (free n : ℕ) → Refusal → Type 0

@@ -28,32 +28,32 @@ abbrev pub separator_at : ℕ → List ℕ → Separator
 separator_at place bytes = record { key = separator_key_at place bytes; child = u32_at (place + 45) bytes }
 
 -- what the head of a page says
-abbrev pub kind_of : Content → PageKind
-kind_of Free = kinds.Free
-kind_of (Leaf entries) = kinds.Leaf
-kind_of (Interior first separators) = kinds.Interior
+abbrev pub page_kind_of : Content → PageKind
+page_kind_of Free = kinds.Free
+page_kind_of (Leaf entries) = kinds.Leaf
+page_kind_of (Interior first separators) = kinds.Interior
 
 abbrev pub head_of : Content → Page
-head_of x = record { kind = kind_of x; count = count_of x; used = length (contents_of x) }
+head_of x = record { kind = page_kind_of x; count = count_of x; used = length (contents_of x) }
 
 -- what the bytes have, as a page of some table
 unfoldable pub content_in : List ℕ → Option Content
 content_in bytes = read_page (u32_at 12 bytes) (2 ^ 32) bytes
 
 -- the entries of a leaf
-unfoldable pub entries_in : List ℕ → List Entry
-entries_in bytes = entries_of (content_in bytes)
+unfoldable pub entries_read : List ℕ → List Entry
+entries_read bytes = entries_of (content_in bytes)
 
 -- entry i of a leaf stands at this place
 pub record StandsAt (bytes : List ℕ) (i place : ℕ) : Type 0 where
-  pub there : slice_get (entries_in bytes) i ≡ Some (entry_at place bytes)
+  pub there : slice_get (entries_read bytes) i ≡ Some (entry_at place bytes)
   pub entry : is_entry (entry_at place bytes) ≡ true
   pub within : entry_end place bytes ≤ 512
 
 -- each entry of a leaf stands at its place
 pub record ArePlaces (bytes places : List ℕ) : Type 0 where
-  pub few : length (entries_in bytes) ≤ 18
-  pub each : (i : ℕ) → i < length (entries_in bytes) → StandsAt bytes i (slice_index places i)
+  pub few : length (entries_read bytes) ≤ 18
+  pub each : (i : ℕ) → i < length (entries_read bytes) → StandsAt bytes i (slice_index places i)
 
 abbrev pub first_of : Option Content → Option ℕ
 first_of (Some (Interior first separators)) = Some first

@@ -28,13 +28,13 @@ impl Model for Entries {
     ghost use Rattle.std.specs.List.{AllByRecursion};
     ghost use Rattle.fsd_formats.specs.declared.entry.Entry.{Entry};
     ghost use Rattle.fsd_formats.specs.NamePage.{FitsEntry};
-    ghost use Rattle.name_page.specs.Reading.{ArePlaces, entries_in};
+    ghost use Rattle.name_page.specs.Reading.{ArePlaces, entries_read};
 
     ghost Value = { List Entry };
 
-    ghost view = { λ s. entries_in s.image };
+    ghost view = { λ s. entries_read s.image };
 
-    ghost invariant = { λ s. (s.count ≡ length (entries_in s.image)) × AllByRecursion FitsEntry (entries_in s.image) × ArePlaces s.image s.places };
+    ghost invariant = { λ s. (s.count ≡ length (entries_read s.image)) × AllByRecursion FitsEntry (entries_read s.image) × ArePlaces s.image s.places };
 }
 
 impl Entries {

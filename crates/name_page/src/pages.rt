@@ -1,10 +1,10 @@
 //! The pages of a name table, which are reached and changed in steps.
-ghost use Rattle.std.specs.Prelude.{◌≡◌, ◌≢◌, ◌⊎◌, ◌↔◌, ◌<◌, ◌≤◌, ℕ, List, Option, Some, None, Err, true, false, IsSome, OnOk, IfErr, slice_get, length};
+ghost use Rattle.std.specs.Prelude.{◌≡◌, ◌≢◌, ◌⊎◌, ◌↔◌, ◌<◌, ◌≤◌, ℕ, List, Option, Some, None, Err, true, false, OnOk, IfErr, slice_get, length};
 ghost use Rattle.std.specs.Borrow.{sem};
 ghost use Rattle.fsd_bytes.specs.declared.refusal.Refusal.{Refusal};
-ghost use Rattle.fsd_table.specs.Pages.{page_at};
 ghost use Rattle.name_page.specs.Lends.{LendsPage};
-ghost use Rattle.name_page.specs.Pages.{is_spare, free_count, home_of, reaches, changes, Step, IsReached, IsReachRefusal, IsSpareRefusal, Keeps, MayChange, NeedsNoMemory, outer_in, with_images, with_refusal, with_reached, with_promise, with_page, with_taken, with_spare, rested};
+ghost use Rattle.name_page.specs.Pages.{is_spare, spare_count, home_sector, reaches, changes, Step, IsReached, MayChange, NeedsNoMemory, outer_in, with_images, with_promise, with_page, with_taken, with_spare, rested};
+ghost use Rattle.name_page.specs.Reaching.{SeesPages, HasReached, RefusesReach, RefusesSpare};
 
 use fsd_bytes::Refusal;
 
@@ -49,25 +49,18 @@ pub trait Pages {
         requires within { page < length (step self.old).images }
         ensures outside { outside (outer_in result) self.old self.new }
         ensures memory { (is_spare (step self.old).spares page ≡ true) ⊎ in_memory self.old page → NeedsNoMemory step in_memory (outer_in result) self.old self.new }
-        ensures kept { Keeps (step self.old) (step self.new).images }
-        ensures stays { trusted self.new → (step self.new).images ≡ (step self.old).images }
-        ensures step { OnOk result (step self.new ≡ with_reached page (with_images (step self.new).images (step self.old))) }
-        ensures reached { OnOk result (IsReached (step self.new) page) }
-        ensures accepted { OnOk result (IsSome (page_at (step self.new).images page)) }
-        ensures used { OnOk result (is_spare (step self.old).spares page ≡ false) }
-        ensures spare { is_spare (step self.old).spares page ≡ true → result ≡ Err (Refusal.Unsound (home_of (step self.old) page)) }
-        ensures refused { IfErr result (λ refusal. step self.new ≡ with_refusal refusal (with_images (step self.new).images (step self.old))) }
-        ensures cause { IfErr result (IsReachRefusal (step self.new) page) };
+        ensures images { SeesPages (trusted self.new) (step self.old) (step self.new) }
+        ensures done { OnOk result (HasReached page (step self.old) (step self.new)) }
+        ensures spare { is_spare (step self.old).spares page ≡ true → result ≡ Err (Refusal.Unsound (home_sector (step self.old) page)) }
+        ensures refused { IfErr result (RefusesReach page (step self.old) (step self.new)) };
 
     /// Promises so many pages that may be taken, in place of what was promised before.
     fn spare(&mut self, n: u32) -> Result<(), Refusal>
         ensures outside { outside (outer_in result) self.old self.new }
-        ensures kept { Keeps (step self.old) (step self.new).images }
-        ensures stays { trusted self.new → (step self.new).images ≡ (step self.old).images }
+        ensures images { SeesPages (trusted self.new) (step self.old) (step self.new) }
         ensures step { OnOk result (step self.new ≡ with_promise n (with_images (step self.new).images (step self.old))) }
-        ensures full { let free = free_count (step self.old) in (result ≡ Err (Refusal.NameTableFull free)) ↔ (free < n) }
-        ensures refused { IfErr result (λ refusal. step self.new ≡ with_refusal refusal (with_images (step self.new).images (step self.old))) }
-        ensures cause { IfErr result (IsSpareRefusal (free_count (step self.old)) n) };
+        ensures full { let free = spare_count (step self.old) in (result ≡ Err (Refusal.NameTableFull free)) ↔ (free < n) }
+        ensures refused { IfErr result (RefusesSpare n (step self.old) (step self.new)) };
 
     /// The bytes of a page that was reached.
     fn look(&self, page: u32) -> &[u8; 512]

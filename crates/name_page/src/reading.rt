@@ -7,7 +7,7 @@ ghost use Rattle.run_table.specs.RunTable.{runs_from};
 ghost use Rattle.fsd_formats.specs.NamePage.{entry_bytes, is_entry};
 ghost use Rattle.fsd_formats.specs.declared.page.Separator.{Separator};
 ghost use Rattle.name_page.specs.Fault.{entry_end, key_at, separator_key_at};
-ghost use Rattle.name_page.specs.Reading.{ArePlaces, entry_at, entries_in, separator_at, first_in, separators_in};
+ghost use Rattle.name_page.specs.Reading.{ArePlaces, entry_at, entries_read, separator_at, first_in, separators_in};
 
 use fsd_bytes::{FileName, Key, Serial, u8_at, u16_at, u32_at};
 use fsd_formats::{Entry, Separator};
@@ -16,8 +16,8 @@ use std::cmp::Ordering;
 
 /// Entry `i` of a leaf, counted from 0.
 pub fn leaf_entry(b: &[u8; 512], i: u32) -> Entry
-    requires { i < length (entries_in b.now) }
-    ensures { slice_get (entries_in b.now) i ≡ Some result }
+    requires { i < length (entries_read b.now) }
+    ensures { slice_get (entries_read b.now) i ≡ Some result }
 {
     let mut place = 24;
     for _ in 0..i {
@@ -28,7 +28,7 @@ pub fn leaf_entry(b: &[u8; 512], i: u32) -> Entry
 
 /// Where each entry of a leaf begins.
 pub(crate) fn places_in(b: &[u8; 512], count: u32) -> [u16; 18]
-    requires { count ≡ length (entries_in b.now) }
+    requires { count ≡ length (entries_read b.now) }
     ensures { ArePlaces b.now result }
 {
     let mut places = [0; 18];

@@ -1,5 +1,6 @@
 -- How many pages are dirty or pinned, after each call.
 use Rattle.std.proofs.Common.{◌≡◌, ℕ, ◌+◌, ◌≤◌, Bool, true, false, cond, not, ◌&&◌, ◌||◌, List, [], ◌∷◌, ◌++◌, length, reverse, is_some, Some, None, IsSome, refl, sym, ap, ◌∙◌, subst, arith, eqb-true}
+use Rattle.std.proofs.Math.Bool.{or-false}
 use Rattle.std.specs.Prelude.{nat_eq, find, count_by, ◌==◌}
 use Rattle.std.specs.List.{AllByRecursion, IsDistinct}
 use Rattle.std.specs.Map.{lookup, lookup_entry, remove_entry, keys_of}
@@ -18,10 +19,6 @@ one t = cond t 1 0
 at_most_one : (t : Bool) → one t ≤ 1
 at_most_one true = omega arith
 at_most_one false = omega arith
-
-or_nothing : (u : Bool) → (u || false) ≡ u
-or_nothing true = refl
-or_nothing false = refl
 
 module _ {X : Type 0} (p : X → Bool) where
   pub count_cons : (x : X) (xs : List X) → count_by p (x ∷ xs) ≡ one (p x) + count_by p xs
@@ -96,7 +93,7 @@ module _ (page : ℕ) (ds : List ℕ) where
   is e = not (may_leave (ds ++ page ∷ []) e.0 e.1.pins)
 
   other : (e : ℕ × Held) → nat_eq page e.0 ≡ false → is e ≡ was e
-  other e t = ap (λ (u : Bool). not ((e.1.pins == 0) && not u)) (list_any-append (λ q. nat_eq q e.0) ds (page ∷ []) ∙ rw t (or_nothing (is_among ds e.0)))
+  other e t = ap (λ (u : Bool). not ((e.1.pins == 0) && not u)) (list_any-append (λ q. nat_eq q e.0) ds (page ∷ []) ∙ rw t (or-false (is_among ds e.0)))
 
   count_same : (es : List (ℕ × Held)) → AllByRecursion (λ k. nat_eq page k ≡ false) (keys_of es) → count_by is es ≡ count_by was es
   count_same [] k = refl

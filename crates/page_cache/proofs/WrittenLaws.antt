@@ -50,9 +50,6 @@ module _ (page : ℕ) (bytes : List ℕ) (c : CacheValue) where
   pub bytes_beside : (q : ℕ) → nat_eq page q ≡ false → cached_bytes (with_written page bytes c) q ≡ cached_bytes c q
   bytes_beside q t = ap (option_map (λ (h : Held). h.bytes)) (held_written q t)
 
-  no_pins : Option Held → ℕ
-  no_pins o = option_map_or (λ x. x.pins) o 0
-
   pub pins_written : (q : ℕ) → pins_of (with_written page bytes c) q ≡ pins_of c q
   pins_written q = by_bool (nat_eq page q)
       (λ t. subst (λ (k : ℕ). pins_of (with_written page bytes c) k ≡ pins_of c k) (eqb-true page q t) same_pins)

@@ -4,7 +4,7 @@ use Rattle.std.specs.Prelude.{IsTrue, nat_eq, count_by, slice_get, slice_set}
 use Rattle.std.specs.Option.{option_or}
 use Rattle.std.proofs.Math.Logic.{∥∥₁_elim}
 use Rattle.std.proofs.Props.{props}
-use Rattle.std.proofs.lemmas.Bool.{true≢false}
+use Rattle.std.proofs.lemmas.Bool.{true≢false, or_right}
 use Rattle.std.proofs.lemmas.List.{get_or-set_same, get_or-set_other}
 use Rattle.fsd_bytes.specs.declared.refusal.Refusal.{Refusal}
 use Rattle.sector_disk.specs.declared.machine.Machine.{Ghosts as MachineGhosts}
@@ -27,10 +27,6 @@ use Rattle.table_pages.specs.ImageLaws.{image_same, images_same}
 
 -- ---- free pages
 
-either : (a b : Bool) → b ≡ true → (a || b) ≡ true
-either true b h = refl
-either false b h = h
-
 spare_taken : (free : List Bool) (page : ℕ) (rest : List ℕ) → AreSpare free (page ∷ rest) → AreSpare (slice_set free page false) rest
 spare_taken free page rest h = record {
   are = λ q is.
@@ -39,13 +35,13 @@ spare_taken free page rest h = record {
       let some = one_of_count q rest is in
       by_bool (nat_eq page q)
       (λ t. let head : one (nat_eq q page) ≡ 1 = ap one (key_flips page q true t) in absurd (omega (arith, all, few, some, head)))
-      (λ t. get_or-set_other free page q false false (λ e. true≢false (sym (eq-eqb page q (sym e)) ∙ t)) ∙ h.are q (either (nat_eq page q) (is_among rest q) is));
+      (λ t. get_or-set_other free page q false false (λ e. true≢false (sym (eq-eqb page q (sym e)) ∙ t)) ∙ h.are q (or_right (nat_eq page q) (is_among rest q) is));
   once = λ q. let all = count_cons (nat_eq q) page rest in let few = h.once q in omega (arith, all, few);
 }
 
 spare_left : (free : List Bool) (page : ℕ) (rest : List ℕ) → AreSpare free (page ∷ rest) → AreSpare free rest
 spare_left free page rest h = record {
-  are = λ q is. h.are q (either (nat_eq page q) (is_among rest q) is);
+  are = λ q is. h.are q (or_right (nat_eq page q) (is_among rest q) is);
   once = λ q. let all = count_cons (nat_eq q) page rest in let few = h.once q in omega (arith, all, few);
 }
 

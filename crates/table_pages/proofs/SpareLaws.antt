@@ -7,7 +7,6 @@ use Rattle.std.proofs.lemmas.List.Folds.{list_any-append}
 use Rattle.std.proofs.lemmas.List.Sums.{count_by-le-length}
 use Rattle.std.specs.Option.{option_or}
 use Rattle.fsd_bytes.specs.declared.refusal.Refusal.{Refusal}
-use Rattle.sector_disk.specs.Calls.{OnlyReads}
 use Rattle.sector_disk.proofs.CallLaws as calls
 use Rattle.sector_disk.specs.declared.machine.Machine.{Ghosts as MachineGhosts}
 use Rattle.page_cache.specs.declared.source.PageSource.{Ghosts as SourceGhosts}
@@ -16,13 +15,13 @@ use Rattle.page_cache.proofs.Entries.{by_bool, key_flips}
 use Rattle.page_cache.proofs.BusyLaws.{count_cons, one}
 use Rattle.page_cache.proofs.KeepLaws.{bytes_resident, pinned_bytes, resident_bytes}
 use Rattle.page_cache.proofs.WrittenLaws.{still_dirty}
-use Rattle.table_pages.specs.Reads.{Fills, LosesFor, outer_device}
+use Rattle.table_pages.specs.Reads.{Fills}
 use Rattle.table_pages.specs.Bringing.{HasRoomFor, OnlyPins, Brings, given_by, FetchesOnly}
 use Rattle.table_pages.specs.Sparing.{AreSpare, SparesOnly}
 use Rattle.table_pages.proofs.PinLaws.{count_append, count_single, set_only, set_pins}
-use Rattle.table_pages.proofs.BringLaws.{brings_still, brings_then}
+use Rattle.table_pages.proofs.BringLaws.{brings_then}
 use Rattle.table_pages.proofs.LastLaws.{Lasts, knows_on, same_newest}
-use Rattle.table_pages.specs.ReadLaws.{fills_still, fills_then}
+use Rattle.table_pages.specs.ReadLaws.{fills_then}
 
 -- ---- so many pages are free at most as stand in a list of all of them
 
@@ -150,10 +149,6 @@ module _ {D E : Type 0} (M : MachineGhosts D) (S : SourceGhosts E) (source : E) 
     newest = λ h knows. newest_then (given_by M S source m1) a b c (x.newest h knows) (pins_newest (given_by M S source m1) b c only);
   }
 
-  -- no call at all, where memory is short or nothing was asked of the outside
-  pub fetches_still : (refusal : Option Refusal) (m : D) (c : CacheValue) → OnlyReads M (outer_device refusal) m m → LosesFor M S source refusal m → FetchesOnly M S source refusal m m c c
-  fetches_still refusal m c reads loses = record { reads = reads; loses = loses; fills = fills_still M S source m c; brings = brings_still c; newest = λ h knows clean. (clean, λ q. refl) }
-
 -- ---- room
 
 pub room_same : (k : ℕ) (old new : CacheValue) → new.frames ≡ old.frames → ((q : ℕ) → pins_of new q ≡ pins_of old q) → HasRoomFor k old → HasRoomFor k new
@@ -226,7 +221,3 @@ module _ {D E : Type 0} (M : MachineGhosts D) (S : SourceGhosts E) (source : E) 
     pins = λ q. let one = x.pins q in let two = y.pins q in omega (arith, one, two);
     spares = y.spares;
   }
-
-  -- no call at all
-  pub spares_still : (m : D) (c : CacheValue) (spares : List ℕ) → OnlyReads M (outer_device refusal) m m → LosesFor M S source refusal m → AreSpare free spares → SparesOnly M S source free refusal m m c c spares spares
-  spares_still m c spares reads loses are = record { fetches = fetches_still M S source refusal m c reads loses; pins = λ q. refl; spares = are }

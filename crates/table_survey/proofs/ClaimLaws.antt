@@ -1,8 +1,9 @@
 -- Entries whose sectors are taken out of an area, one after another.
 use Rattle.std.proofs.Common.{◌≡◌, ◌⊎◌, inl, inr, ℕ, zero, suc, ◌+◌, ◌<◌, ◌≤◌, Bool, true, false, cond, not, ◌&&◌, ◌||◌, List, [], ◌∷◌, ◌++◌, length, filter, refl, sym, ap, ◌∙◌, arith}
+use Rattle.std.proofs.Math.Bool.{and-true}
 use Rattle.std.specs.Prelude.{nat_le, nat_lt, ◌==◌}
 use Rattle.std.specs.List.{flat_map, list_any}
-use Rattle.std.proofs.lemmas.Bool.{and_parts, and_from, or_cases, or_left, or_right, leb-true, ltb-true, le-leb, lt-ltb, cases_Bool, false_from_ne_true, both_ways, not-true, not_from_false}
+use Rattle.std.proofs.lemmas.Bool.{and_parts, and_from, or_cases, or_left, or_right, leb-true, ltb-true, le-leb, lt-ltb, cases_Bool, false_from_ne_true, both_ways, not-true, not_from_false, or_parts, not-false, or_from}
 use Rattle.volume_layout.specs.declared.layout.Layout.{Layout}
 use Rattle.volume_layout.specs.Layout.{data_start, is_data}
 use Rattle.run_table.specs.declared.run.Run.{Run}
@@ -21,7 +22,7 @@ use Rattle.fsd_files.proofs.CountLaws.{occurs, occurs-append, contains_occurs, o
 use Rattle.fsd_table.specs.Breaks.{entry_clashes, taken_before}
 use Rattle.fsd_table.proofs.KeyLaws.{lt_itself}
 use Rattle.std.specs.List.{AllByRecursion, list_all}
-use Rattle.sector_set.specs.Area.{Area, area, without, AreIn, IsOwn}
+use Rattle.sector_set.specs.Area.{Area, area, without_sectors, AreIn, IsOwn}
 use Rattle.sector_set.proofs.FreeLaws.{where_same, contains_where}
 use Rattle.sector_set.proofs.AreaLaws.{free_within, free_passes}
 use Rattle.sector_set.proofs.CountLaws.{count_without}
@@ -51,14 +52,14 @@ within : (m : Area) → IsOwn m → (s : ℕ) → contains m.sectors s ≡ true 
 within m own s there = free_within m.from m.to (contains m.sectors) s (ap (λ (a : Area). contains a.sectors s) (sym own) ∙ there)
 
 -- fewer are left
-pub fewer_left : (m : Area) (runs : List Run) → IsOwn m → AreIn m runs → length m.sectors ≡ total runs + length (without m runs).sectors
+pub fewer_left : (m : Area) (runs : List Run) → IsOwn m → AreIn m runs → length m.sectors ≡ total runs + length (without_sectors m runs).sectors
 fewer_left m runs own are =
     ap (λ (a : Area). length a.sectors) own ∙ count_without (contains m.sectors) runs m.from m.to are.differ (λ s c. within m own s (are.inside s c)) are.inside
 
 pub whole_own : (l : Layout) → IsOwn (whole_area l)
 whole_own l = area_own (data_start l) l.sectors (λ s. true)
 
-pub without_own : (m : Area) (runs : List Run) → IsOwn (without m runs)
+pub without_own : (m : Area) (runs : List Run) → IsOwn (without_sectors m runs)
 without_own m runs = area_own m.from m.to (λ s. contains m.sectors s && not (contains (sectors_of runs) s))
 
 -- an entry has a sector
@@ -70,7 +71,7 @@ some_sector (r ∷ runs) is =
     let some = leb-true 1 r.length (and_parts (nat_le 1 r.length) (nat_le r.length 65535) here).0 in
     omega (arith, some, sum_by-cons (λ (q : Run). q.length) r runs)
 
-pub entry_fewer : (m new : Area) (e : Entry) → IsOwn m → AreIn m e.runs → new ≡ without m e.runs → is_entry e ≡ true → length new.sectors < length m.sectors
+pub entry_fewer : (m new : Area) (e : Entry) → IsOwn m → AreIn m e.runs → new ≡ without_sectors m e.runs → is_entry e ≡ true → length new.sectors < length m.sectors
 entry_fewer m new e own are is entry =
     let one = (and_parts (is_key e.key && nat_le e.keep max_keep && nat_le e.length max_length && are_runs e.runs) (total e.runs == sectors_for e.length) entry).0 in
     let runs = (and_parts (is_key e.key && nat_le e.keep max_keep && nat_le e.length max_length) (are_runs e.runs) one).1 in
@@ -85,12 +86,8 @@ none_claimed m own = record {
   differ = refl;
   inside = λ s there. absurd (both_ways false refl there);
   left = own ∙ ap (λ (xs : List ℕ). record { from = m.from; to = m.to; sectors = xs })
-      (where_same (contains m.sectors) (λ s. contains m.sectors s && not (is_in [] s)) m.from m.to (λ s low high. sym (and_yes (contains m.sectors s))));
+      (where_same (contains m.sectors) (λ s. contains m.sectors s && not (is_in [] s)) m.from m.to (λ s low high. sym (and-true (contains m.sectors s))));
 }
-  where
-    and_yes : (b : Bool) → (b && true) ≡ b
-    and_yes true = refl
-    and_yes false = refl
 
 module _ (start : Area) (done : List Entry) (now : Area) (c : IsClaimed start done now) where
   now_from : now.from ≡ start.from
@@ -141,7 +138,7 @@ module _ (start : Area) (done : List Entry) (now : Area) (c : IsClaimed start do
       | inr not_there ↦ omega (arith, used_more s done e, out_occurs s sectors not_there, differ_occurs (flat_map sectors_of (plans_of done)) c.differ s)
     ]
 
-    pub one_more : IsClaimed start (done ++ e ∷ []) (without now e.runs)
+    pub one_more : IsClaimed start (done ++ e ∷ []) (without_sectors now e.runs)
     one_more = record {
       differ = occurs_differ (flat_map sectors_of (plans_of (done ++ e ∷ []))) once;
       inside = λ s there. elim (or_cases (is_in (plans_of done) s) (contains sectors s) (sym (more_parts s) ∙ there)) [
@@ -162,7 +159,7 @@ module _ (start : Area) (done : List Entry) (now : Area) (c : IsClaimed start do
             ∙ nor (contains start.sectors s) (is_in (plans_of done) s) (contains sectors s)
             ∙ ap (λ (b : Bool). contains start.sectors s && not b) (sym (more_parts s))
 
-        left_is : without now e.runs ≡ area start.from start.to (λ s. contains start.sectors s && not (is_in (plans_of (done ++ e ∷ [])) s))
+        left_is : without_sectors now e.runs ≡ area start.from start.to (λ s. contains start.sectors s && not (is_in (plans_of (done ++ e ∷ [])) s))
         left_is =
             ap (λ (f : ℕ). area f now.to (λ s. contains now.sectors s && not (contains sectors s))) now_from
             ∙ ap (λ (t : ℕ). area start.from t (λ s. contains now.sectors s && not (contains sectors s))) now_to
@@ -198,20 +195,12 @@ refused_clashes l done rest now e c less unfit = by (entry_clashes l (done ++ re
     bad : ℕ → Bool
     bad s = not (is_data l s) || contains before s
 
-    or_none : (a b : Bool) → (a || b) ≡ false → (a ≡ false) × (b ≡ false)
-    or_none false b e = (refl, e)
-    or_none true b e = absurd (both_ways true e refl)
-
-    not_none : (b : Bool) → not b ≡ false → b ≡ true
-    not_none true e = refl
-    not_none false e = absurd (both_ways true e refl)
-
     fits : not (all_differ sectors) ≡ false → list_any bad sectors ≡ false → AreIn now e.runs
     fits twice none = record {
-      differ = not_none (all_differ sectors) twice;
+      differ = not-false (all_differ sectors) twice;
       inside = λ s there.
-          let both = or_none (not (is_data l s)) (contains before s) (none_any bad sectors none s there) in
-          let data_there = and_parts (nat_le (data_start l) s) (nat_lt s l.sectors) (not_none (is_data l s) both.0) in
+          let both = or_parts (not (is_data l s)) (contains before s) (none_any bad sectors none s there) in
+          let data_there = and_parts (nat_le (data_start l) s) (nat_lt s l.sectors) (not-false (is_data l s) both.0) in
           let low = leb-true (data_start l) s data_there.0 in
           let high = ltb-true s l.sectors data_there.1 in
           let free : contains (whole_area l).sectors s ≡ true = contains_where (λ t. true) (data_start l) l.sectors s low high in
@@ -224,7 +213,7 @@ refused_clashes l done rest now e c less unfit = by (entry_clashes l (done ++ re
 
     by : (b : Bool) → (not (all_differ sectors) || list_any bad sectors) ≡ b → (not (all_differ sectors) || list_any bad sectors) ≡ true
     by true is = is
-    by false is = let parts = or_none (not (all_differ sectors)) (list_any bad sectors) is in absurd (unfit (fits parts.0 parts.1))
+    by false is = let parts = or_parts (not (all_differ sectors)) (list_any bad sectors) is in absurd (unfit (fits parts.0 parts.1))
 
 -- ---- entries that don't
 
@@ -272,7 +261,7 @@ data_of l s there =
 
 -- none of the entries that are claimed clashes
 pub claimed_fit : (l : Layout) (entries : List Entry) (now : Area) (e : Entry) → IsClaimed (whole_area l) entries now → Among e entries → entry_clashes l entries e ≡ true → ⊥
-claimed_fit l entries now e c there clash = both_ways (not (all_differ sectors) || list_any bad sectors) (nor (not (all_differ sectors)) (list_any bad sectors) (ap not differ) none) clash
+claimed_fit l entries now e c there clash = both_ways (not (all_differ sectors) || list_any bad sectors) (or_from (not (all_differ sectors)) (list_any bad sectors) (ap not differ) none) clash
   where
     sectors : List ℕ
     sectors = sectors_of e.runs
@@ -286,16 +275,13 @@ claimed_fit l entries now e c there clash = both_ways (not (all_differ sectors) 
     bad : ℕ → Bool
     bad s = not (is_data l s) || contains before s
 
-    nor : (a b : Bool) → a ≡ false → b ≡ false → (a || b) ≡ false
-    nor a b x y = ap (λ (t : Bool). t || b) x ∙ y
-
     differ : all_differ sectors ≡ true
     differ = occurs_differ sectors (λ s. omega (arith, both_used s e entries there, differ_occurs all c.differ s))
 
     none : list_any bad sectors ≡ false
     none = any_none bad sectors (λ s is.
         let area_there : is_data l s ≡ true = data_of l s (c.inside s (occurs_contains s all (omega (arith, both_used s e entries there, contains_occurs s sectors is)))) in
-        nor (not (is_data l s)) (contains before s) (ap not area_there)
+        or_from (not (is_data l s)) (contains before s) (ap not area_there)
         (false_from_ne_true (contains before s) (λ again. absurd (omega (arith, both_used s e entries there, differ_occurs all c.differ s, contains_occurs s sectors is, contains_occurs s before again)))))
 
 -- ---- all entries

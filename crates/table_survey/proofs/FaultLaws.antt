@@ -13,11 +13,10 @@ use Rattle.name_page.specs.declared.pages.Pages.{Ghosts}
 use Rattle.name_page.specs.Lookups.{is_after}
 use Rattle.name_btree.specs.declared.fault.TreeFault.{TreeFault}
 use Rattle.name_btree.specs.declared.lookup.FoundEntry.{FoundEntry}
-use Rattle.name_btree.specs.Fault.{HasTreeCause, BarsTable, IsOnWay, FailsTable}
-use Rattle.name_btree.proofs.CauseLaws.{cause_map}
+use Rattle.name_btree.specs.Fault.{HasTreeCause, BarsTable, IsOnWay}
+use Rattle.name_btree.proofs.steps.CauseLaws.{cause_map}
 use Rattle.sector_set.specs.Area.{Area, AreIn}
 use Rattle.table_survey.specs.Claims.{whole_area, FailsClaims}
-use Rattle.table_survey.specs.Survey.{FailsSurvey}
 use Rattle.table_survey.proofs.ClaimLaws.{refused_clashes}
 use Rattle.table_survey.proofs.PassLaws.{IsPassed, passed_less}
 use Rattle.table_survey.proofs.VisitLaws.{visit_content, tree_entries}
@@ -46,10 +45,3 @@ module _ {D : Type 0} (P : Ghosts D) (new : D) (fault : TreeFault) where
       let s = P.step new in
       cause_map s (BreaksTable s.images) (λ page. P.trusted new → (l : Layout) → old ≡ whole_area l → (height : ℕ) → IsTree s.images height → Breaks l s.images page)
       (BarsTable s) (λ page. P.trusted new → BarsTable s page) (λ page b t l is height tree. inl b) (λ page b t. b) fault h
-
-  -- a walk that fails
-  pub walk_fails : (l : Layout) → FailsTable P new fault → FailsSurvey l P new fault
-  walk_fails l h =
-      let s = P.step new in
-      cause_map s (λ page. P.trusted new → BreaksTable s.images page) (λ page. P.trusted new → Breaks l s.images page)
-      (λ page. P.trusted new → BarsTable s page) (λ page. P.trusted new → BarsTable s page) (λ page b t. inl (b t)) (λ page b. b) fault h

@@ -11,11 +11,11 @@ use Rattle.fsd_formats.specs.NamePage.{are_ascending}
 use Rattle.fsd_table.specs.Pages.{entry_keys}
 use Rattle.fsd_table.proofs.BoundLaws.{all_append, all_weaker, ascend_tail, ascend_skip}
 use Rattle.fsd_table.proofs.KeyLaws.{lt_lt, le_lt, lt_itself}
-use Rattle.name_page.specs.Lookups.{entry_after, is_after}
-use Rattle.sector_set.specs.Area.{Area, without, AreIn, IsOwn}
+use Rattle.name_page.specs.Lookups.{first_after, is_after}
+use Rattle.sector_set.specs.Area.{Area, without_sectors, AreIn, IsOwn}
 use Rattle.table_survey.specs.Claims.{IsClaimed}
 use Rattle.table_survey.proofs.ClaimLaws.{none_claimed, one_more}
-use Rattle.name_btree.proofs.FindLaws.{find_behind}
+use Rattle.name_btree.proofs.finding.FindLaws.{find_behind}
 
 -- those up to a key are claimed, and the others come behind it
 pub record IsPassed (table : List Entry) (start : Area) (after : Option Key) (now : Area) : Type 0 where
@@ -70,13 +70,13 @@ all_after (x ∷ xs) = (refl, all_after xs)
 pub passed_none : (table : List Entry) (start : Area) → IsOwn start → are_ascending (entry_keys table) ≡ true → IsPassed table start None start
 passed_none table start own ascend = record { done = []; rest = table; parts = refl; passed = tt; later = all_after table; ascend = ascend; claimed = none_claimed start own }
 
-pub passed_more : (table : List Entry) (start : Area) (after : Option Key) (now : Area) (e : Entry) → IsPassed table start after now → entry_after after table ≡ Some e → AreIn now e.runs
-    → IsPassed table start (Some e.key) (without now e.runs)
+pub passed_more : (table : List Entry) (start : Area) (after : Option Key) (now : Area) (e : Entry) → IsPassed table start after now → first_after after table ≡ Some e → AreIn now e.runs
+    → IsPassed table start (Some e.key) (without_sectors now e.runs)
 passed_more table start after now e p found are =
     by p.rest p.later p.ascend p.parts (sym (find_behind (λ x. is_after after x.key) p.done p.rest p.passed) ∙ sym (ap (find (λ x. is_after after x.key)) p.parts) ∙ found)
   where
     by : (rest : List Entry) → AllByRecursion (λ x. is_after after x.key ≡ true) rest → are_ascending (entry_keys rest) ≡ true → table ≡ p.done ++ rest
-        → find (λ x. is_after after x.key) rest ≡ Some e → IsPassed table start (Some e.key) (without now e.runs)
+        → find (λ x. is_after after x.key) rest ≡ Some e → IsPassed table start (Some e.key) (without_sectors now e.runs)
     by [] later ascend parts is = absurd cc
     by (x ∷ xs) later ascend parts is =
         let same : x ≡ e = is_first (λ y. is_after after y.key) x e xs later.0 is in
@@ -93,7 +93,7 @@ passed_more table start after now e p found are =
           claimed = one_more start p.done now p.claimed e are;
         }
 
-pub passed_all : (table : List Entry) (start : Area) (after : Option Key) (now : Area) → IsPassed table start after now → entry_after after table ≡ None → IsClaimed start table now
+pub passed_all : (table : List Entry) (start : Area) (after : Option Key) (now : Area) → IsPassed table start after now → first_after after table ≡ None → IsClaimed start table now
 passed_all table start after now p none =
     by p.rest p.later p.parts (sym (find_behind (λ x. is_after after x.key) p.done p.rest p.passed) ∙ sym (ap (find (λ x. is_after after x.key)) p.parts) ∙ none)
   where

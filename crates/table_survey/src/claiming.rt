@@ -5,7 +5,7 @@ ghost use Rattle.name_page.specs.Looks.{OnlyWalks};
 ghost use Rattle.name_page.specs.declared.pages.TheConstants.{MOST_REACHED};
 ghost use Rattle.name_btree.specs.Fault.{outer_told, IsAmong};
 ghost use Rattle.run_table.specs.Space.{contains};
-ghost use Rattle.sector_set.specs.Area.{AreIn, IsOwn, area, without};
+ghost use Rattle.sector_set.specs.Area.{AreIn, IsOwn, area, without_sectors};
 ghost use Rattle.table_survey.specs.Claims.{IsClaimed, FailsClaims, IsClaimRefused};
 
 use alloc_map::Map;
@@ -16,7 +16,7 @@ use name_page::Pages;
 // Takes the sectors of one entry out of the map, where all are free and each is named once.
 fn claim(map: &mut Map, found: &FoundEntry) -> Result<(), TreeFault>
     ensures free { OnOk result (AreIn map.old found.now.entry.runs) }
-    ensures taken { OnOk result (map.new ≡ without map.old found.now.entry.runs) }
+    ensures taken { OnOk result (map.new ≡ without_sectors map.old found.now.entry.runs) }
     ensures fault { IfErr result (IsClaimRefused map.old found.now) }
 {
     if !map.are_free(&found.entry.runs) {

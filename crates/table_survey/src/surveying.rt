@@ -1,15 +1,11 @@
 //! The survey of a whole table.
-ghost use Rattle.std.specs.Prelude.{◌≡◌, ◌≤◌, ◌<◌, ℕ, IfOk, IfErr, [], length, count_by};
-ghost use Rattle.fsd_table.specs.Breaks.{Breaks};
+ghost use Rattle.std.specs.Prelude.{◌≡◌, ◌≤◌, ◌<◌, IfOk, IfErr, [], length};
 ghost use Rattle.name_page.specs.Looks.{OnlyWalks};
 ghost use Rattle.name_page.specs.declared.pages.TheConstants.{MOST_REACHED};
 ghost use Rattle.name_btree.specs.Fault.{outer_told, IsAmong};
 ghost use Rattle.name_btree.specs.Walk.{AreMarksOf};
-ghost use Rattle.run_table.specs.Space.{contains};
-ghost use Rattle.sector_set.specs.Area.{area};
 ghost use Rattle.table_survey.specs.Claims.{whole_area};
-ghost use Rattle.volume_layout.specs.Layout.{data_start};
-ghost use Rattle.table_survey.specs.Survey.{IsSurveyed, FailsSurvey};
+ghost use Rattle.table_survey.specs.Survey.{FailsSurvey, SurveysWhole};
 
 use crate::claiming::claim_all;
 use crate::marks::marked_count;
@@ -40,10 +36,7 @@ pub fn survey<T: Pages>(
     requires map { map.old ≡ whole_area l.now }
     ensures calls { OnlyWalks T.Pages (outer_told result) t.old t.new }
     ensures among { 0 < length (T.step t.old).images → IfErr result (IsAmong (length (T.step t.old).images)) }
-    ensures told { IfOk result (λ s. T.trusted t.new → IsSurveyed l.now (T.step t.old) map.new reached.new s) }
-    ensures unbroken { IfOk result (λ s. T.trusted t.new → (page : ℕ) → Breaks l.now (T.step t.old).images page → ⊥) }
-    ensures area { IfOk result (λ s. map.new ≡ area (data_start l.now) l.now.sectors (contains map.new.sectors)) }
-    ensures counted { IfOk result (λ s. s.pages ≡ count_by (λ mark. mark) reached.new) }
+    ensures surveys { IfOk result (SurveysWhole (T.trusted t.new) l.now (T.step t.old) map.new reached.new) }
     ensures fault { IfErr result (FailsSurvey l.now T.Pages t.new) }
 {
     let versions = walk(t, reached)?;

@@ -14,7 +14,7 @@ use Rattle.fsd_forest.specs.Met.{search_of}
 use Rattle.name_btree.specs.Path.{HasPath, HasWayTo, Leads, LeadsOn, TakesNone}
 use Rattle.name_page.specs.declared.pages.Pages.{Ghosts}
 use Rattle.name_page.specs.Looks.{ChangesPages}
-use Rattle.name_page.specs.Pages.{Step, free_count, is_spare, rested}
+use Rattle.name_page.specs.Pages.{Step, spare_count, is_spare, rested}
 use Rattle.name_page.proofs.LookLaws.{Joins, edits_then, pages_same, pages_then, rest_walks, walks_edits, walks_then}
 use Rattle.name_btree.specs.declared.fault.TreeFault.{TreeFault}
 use Rattle.name_btree.specs.Change.{ChangesTable, FailsInsert}
@@ -22,7 +22,7 @@ use Rattle.name_btree.specs.Fault.{FailsAmong, FailsSpare, IsAmong}
 use Rattle.name_btree.specs.Map.{HasTable, IsTable}
 use Rattle.name_btree.specs.declared.lookup.FoundEntry.{FoundEntry}
 use Rattle.name_btree.specs.Lookup.{found_entry}
-use Rattle.name_btree.proofs.CallLaws.{same_table}
+use Rattle.name_btree.proofs.steps.CallLaws.{same_table}
 use Rattle.version_table.specs.Table.{MakesTable, OfTable}
 
 -- the keys of a tree ascend
@@ -58,7 +58,7 @@ module _ {D : Type 0} (P : Ghosts D) (a b c : D) (is : P.step b ≡ rested (P.st
   insert_rested (Ok done) h = tt
   insert_rested (Err fault) h = record {
     among = among_rested (λ (pages : ℕ). IsAmong pages fault) h.among;
-    cause = subst (λ (free : ℕ). FailsSpare P free c fault) (ap (λ (s : Step). free_count s) is) h.cause;
+    cause = subst (λ (free : ℕ). FailsSpare P free c fault) (ap (λ (s : Step). spare_count s) is) h.cause;
   }
 
   -- what is needed of it

@@ -23,7 +23,7 @@ use Rattle.fsd_table.proofs.KeyLaws.{keys_total, lt_lt, lt_itself}
 use Rattle.fsd_files.specs.Answers.{highest_entry}
 use Rattle.fsd_files.specs.Files.{gone}
 use Rattle.fsd_files.specs.Volume.{entries_at}
-use Rattle.name_page.specs.Lookups.{entry_after, last_that, same_name}
+use Rattle.name_page.specs.Lookups.{first_after, last_that, same_name}
 use Rattle.name_page.proofs.PutLaws.{ascend_head, gt_unequal, lt_unequal}
 use Rattle.version_table.specs.Versions.{oldest_beyond, versions_behind, versions_of}
 use Rattle.version_table.proofs.EditLaws.{AllAbove}
@@ -74,7 +74,7 @@ not_itself : (x : Entry) (xs : List Entry) → versions_behind x.key (x ∷ xs) 
 not_itself x xs = ap (λ (b : Bool). cond (b && key_lt x.key x.key) (x ∷ versions_behind x.key xs) (versions_behind x.key xs)) (is_same x.key.name) ∙ ap (λ (b : Bool). cond b (x ∷ versions_behind x.key xs) (versions_behind x.key xs)) (lt_itself x.key)
 
 -- the next one, and those behind it
-pub first_behind : (key : Key) (table : List Entry) → Ascend table → IsNext key table (entry_after (Some key) table)
+pub first_behind : (key : Key) (table : List Entry) → Ascend table → IsNext key table (first_after (Some key) table)
 first_behind key [] asc = refl
 first_behind key (x ∷ xs) asc = by (key_lt key x.key) refl (first_behind key xs (ascend_tail x.key (entry_keys xs) asc))
   where
@@ -85,7 +85,7 @@ first_behind key (x ∷ xs) asc = by (key_lt key x.key) refl (first_behind key x
     here true lt is = ap (λ (ys : List Entry). x ∷ ys) (same_behind key x xs lt (same_is key.name x.key.name is) above)
     here false lt is = none_behind key x xs lt is above
 
-    by : (b : Bool) → key_lt key x.key ≡ b → IsNext key xs (entry_after (Some key) xs) → IsNext key (x ∷ xs) (cond b (Some x) (entry_after (Some key) xs))
+    by : (b : Bool) → key_lt key x.key ≡ b → IsNext key xs (first_after (Some key) xs) → IsNext key (x ∷ xs) (cond b (Some x) (first_after (Some key) xs))
     by true lt rest =
         let one = here (same_bytes key.name x.key.name) lt refl in
         let mine : cond (same_bytes key.name x.key.name && true) (x ∷ versions_behind key xs) (versions_behind key xs) ≡ versions_behind key (x ∷ xs) = ap (λ (b : Bool). cond (same_bytes key.name x.key.name && b) (x ∷ versions_behind key xs) (versions_behind key xs)) (sym lt) in
@@ -94,13 +94,13 @@ first_behind key (x ∷ xs) asc = by (key_lt key x.key) refl (first_behind key x
         (subst (λ (zs : List Entry). cond (same_bytes key.name x.key.name) (cond (same_bytes key.name x.key.name && true) (x ∷ versions_behind key xs) (versions_behind key xs) ≡ x ∷ zs) (cond (same_bytes key.name x.key.name && true) (x ∷ versions_behind key xs) (versions_behind key xs) ≡ [])) own one)
     by false lt rest =
         let mine : versions_behind key xs ≡ versions_behind key (x ∷ xs) = sym (ap (λ (b : Bool). cond (same_bytes key.name x.key.name && b) (x ∷ versions_behind key xs) (versions_behind key xs)) lt ∙ no (same_bytes key.name x.key.name)) in
-        later (entry_after (Some key) xs) refl rest mine
+        later (first_after (Some key) xs) refl rest mine
       where
         no : (b : Bool) → cond (b && false) (x ∷ versions_behind key xs) (versions_behind key xs) ≡ versions_behind key xs
         no true = refl
         no false = refl
 
-        past : (e : Entry) → entry_after (Some key) xs ≡ Some e → versions_behind e.key xs ≡ versions_behind e.key (x ∷ xs)
+        past : (e : Entry) → first_after (Some key) xs ≡ Some e → versions_behind e.key xs ≡ versions_behind e.key (x ∷ xs)
         past e is = sym (ap (λ (b : Bool). cond (same_bytes e.key.name x.key.name && b) (x ∷ versions_behind e.key xs) (versions_behind e.key xs)) (found_above e xs is above) ∙ none_of e (same_bytes e.key.name x.key.name))
           where
             none_of : (e : Entry) (b : Bool) → cond (b && false) (x ∷ versions_behind e.key xs) (versions_behind e.key xs) ≡ versions_behind e.key xs
@@ -110,15 +110,15 @@ first_behind key (x ∷ xs) asc = by (key_lt key x.key) refl (first_behind key x
             not_lt : (a b : Key) → key_lt a b ≡ true → key_lt b a ≡ false
             not_lt a b ab = false_from_ne_true (key_lt b a) (λ ba. let bad : true ≡ false = sym (lt_lt a b a ab ba) ∙ lt_itself a in cc)
 
-            found_above : (e : Entry) (ys : List Entry) → entry_after (Some key) ys ≡ Some e → AllAbove x.key ys → key_lt e.key x.key ≡ false
+            found_above : (e : Entry) (ys : List Entry) → first_after (Some key) ys ≡ Some e → AllAbove x.key ys → key_lt e.key x.key ≡ false
             found_above e [] is all = absurd cc
             found_above e (y ∷ ys) is all = at (key_lt key y.key) is (λ h. found_above e ys h all.1)
               where
-                at : (b : Bool) → cond b (Some y) (entry_after (Some key) ys) ≡ Some e → (entry_after (Some key) ys ≡ Some e → key_lt e.key x.key ≡ false) → key_lt e.key x.key ≡ false
+                at : (b : Bool) → cond b (Some y) (first_after (Some key) ys) ≡ Some e → (first_after (Some key) ys ≡ Some e → key_lt e.key x.key ≡ false) → key_lt e.key x.key ≡ false
                 at true h go = let same : y ≡ e = cc in ap (λ (z : Entry). key_lt z.key x.key) (sym same) ∙ not_lt x.key y.key all.0
                 at false h go = go h
 
-        later : (o : Option Entry) → entry_after (Some key) xs ≡ o → IsNext key xs o → versions_behind key xs ≡ versions_behind key (x ∷ xs) → IsNext key (x ∷ xs) o
+        later : (o : Option Entry) → first_after (Some key) xs ≡ o → IsNext key xs o → versions_behind key xs ≡ versions_behind key (x ∷ xs) → IsNext key (x ∷ xs) o
         later None is first mine = sym mine ∙ first
         later (Some e) is first mine =
             subst (λ (ys : List Entry). cond (same_bytes key.name e.key.name) (ys ≡ e ∷ versions_behind e.key (x ∷ xs)) (ys ≡ [])) mine

@@ -31,7 +31,7 @@ FailsLook P new Absent UsedUp NoSuch = Absent
 FailsLook P new Absent UsedUp VersionsUsedUp = UsedUp
 
 -- the same, and a page that is named is one of the table
-pub record FailsToFind {D : Type 0} (P : Ghosts D) (old new : D) (Absent UsedUp : Type 0) (fault : VersionFault) : Type 0 where
+pub record FailsToFindVersion {D : Type 0} (P : Ghosts D) (old new : D) (Absent UsedUp : Type 0) (fault : VersionFault) : Type 0 where
   pub among : 0 < length (P.step old).images → NamesInside (length (P.step old).images) fault
   pub cause : FailsLook P new Absent UsedUp fault
 

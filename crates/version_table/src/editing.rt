@@ -11,7 +11,7 @@ ghost use Rattle.name_btree.specs.Path.{HasWayTo};
 ghost use Rattle.name_btree.specs.Replace.{WritesPage};
 ghost use Rattle.name_page.specs.declared.pages.TheConstants.{MOST_CHANGED, MOST_REACHED};
 ghost use Rattle.name_page.specs.Looks.{HasAllIn};
-ghost use Rattle.name_page.specs.Pages.{changes, free_count, is_spare};
+ghost use Rattle.name_page.specs.Pages.{changes, spare_count, is_spare};
 ghost use Rattle.version_table.specs.Plan.{IsPlanReady, keys_left, planned_entry, with_planned};
 ghost use Rattle.version_table.specs.Table.{MakesTable, OfTable};
 
@@ -65,7 +65,7 @@ pub fn enter<T: Pages>(
     ensures changes { changes (T.step t.old) ≤ changes (T.step t.new) + 36 }
     ensures taken { TakesAtMost 7 (T.step t.old).spares (T.step t.new).spares }
     ensures entered { OnOk result (MakesTable T.Pages t.old t.new (with_planned plan.now (planned_entry plan.now serial bytes runs))) }
-    ensures full { let free = free_count (T.step t.old) in (result ≡ Err (TreeFault.Pages (NameTableFull free))) ↔ (free < 8) }
+    ensures full { let free = spare_count (T.step t.old) in (result ≡ Err (TreeFault.Pages (NameTableFull free))) ↔ (free < 8) }
     ensures failed { IfErr result (FailsInsert T.Pages t.old t.new) }
 {
     let entry = planned_entry(plan, serial, bytes, runs);

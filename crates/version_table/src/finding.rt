@@ -5,7 +5,7 @@ ghost use Rattle.name_btree.specs.Lookup.{IsMetAs, ShowsAbsent, ShowsNoVersion};
 ghost use Rattle.name_btree.specs.Path.{HasPath};
 ghost use Rattle.name_page.specs.declared.pages.TheConstants.{MOST_REACHED};
 ghost use Rattle.name_page.specs.Looks.{NeedsNoMore, OnlyWalks};
-ghost use Rattle.version_table.specs.Fault.{outer_met, FailsLook, FailsToFind, NamesInside};
+ghost use Rattle.version_table.specs.Fault.{outer_met, FailsLook, FailsToFindVersion, NamesInside};
 ghost use Rattle.version_table.specs.Newest.{IsNewest, StaysAtNewest};
 ghost use Rattle.version_table.specs.Table.{OfTable};
 
@@ -41,7 +41,7 @@ pub fn newest<T: Pages>(t: &mut T, name: &FileName) -> Result<FoundEntry, Versio
     ensures full { NeedsNoMore T.Pages (outer_met result) t.old t.new }
     ensures found { IfOk result (IsNewest T.Pages name.now t.old t.new) }
     ensures absent { result ≡ Err VersionFault.NoSuch → ShowsNoVersion (T.step t.new) name.now }
-    ensures failed { IfErr result (FailsToFind T.Pages t.old t.new (OfTable T.Pages t.old t.new (λ table. highest_entry name.now table ≡ None)) ⊥) }
+    ensures failed { IfErr result (FailsToFindVersion T.Pages t.old t.new (OfTable T.Pages t.old t.new (λ table. highest_entry name.now table ≡ None)) ⊥) }
 {
     t.rest();
     match highest(t, name) {

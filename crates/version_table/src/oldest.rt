@@ -1,9 +1,8 @@
 //! The oldest versions of a name.
-ghost use Rattle.std.specs.Prelude.{◌≡◌, ◌+◌, ◌-◌, ◌^◌, ◌<◌, ◌≤◌, IfOk, IfErr, IfSome, Some, None, min, take, length, ◌++◌, ◌∷◌, [], if◌then◌else◌};
+ghost use Rattle.std.specs.Prelude.{◌≡◌, ◌+◌, ◌-◌, ◌^◌, ◌<◌, ◌≤◌, IfOk, IfErr, IfSome, Some, None, min, take, length, ◌++◌, ◌∷◌, []};
 ghost use Rattle.std.specs.List.{AllByRecursion};
 ghost use Rattle.fsd_table.specs.Table.{BreaksTable};
 ghost use Rattle.name_btree.specs.Fault.{outer_told, FailsLookup, HasTreeCause, BarsTable, IsAmong, IsOnWay, ShowsCause};
-ghost use Rattle.name_page.specs.Lookups.{same_name};
 ghost use Rattle.name_page.specs.declared.pages.TheConstants.{MOST_REACHED};
 ghost use Rattle.name_page.specs.Looks.{OnlyWalks};
 ghost use Rattle.version_table.specs.Table.{OfTable};
@@ -13,7 +12,7 @@ ghost use Rattle.version_table.specs.Versions.{IsFirstBehind, oldest_beyond, ver
 use arrayvec::ArrayVec;
 use fsd_bytes::{FileName, Key};
 use fsd_formats::Entry;
-use name_btree::{FoundEntry, TreeFault, next_after};
+use name_btree::{FoundEntry, TreeFault, named, next_after};
 use name_page::Pages;
 
 /// A version that is to go, and the leaf that it was met in.
@@ -28,17 +27,6 @@ pub struct Leaving {
 struct Oldest {
     first: ArrayVec<Leaving, 2>,
     count: u32,
-}
-
-// What was found, if it has the name.
-fn named(found: FoundEntry, name: &FileName) -> Option<FoundEntry>
-    ensures { result ≡ (if same_name found.entry.key.name name.now then Some found else None) }
-{
-    if found.entry.key.name.cmp(name).is_eq() {
-        Some(found)
-    } else {
-        None
-    }
 }
 
 // The next version of a key's name, in a step of its own.

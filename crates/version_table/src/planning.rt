@@ -5,7 +5,7 @@ ghost use Rattle.fsd_files.specs.Files.{keep_of, next_version};
 ghost use Rattle.name_btree.specs.Lookup.{found_entry};
 ghost use Rattle.name_page.specs.declared.pages.TheConstants.{MOST_REACHED};
 ghost use Rattle.name_page.specs.Looks.{OnlyWalks};
-ghost use Rattle.version_table.specs.Fault.{outer_met, FailsToFind, ShowsLook};
+ghost use Rattle.version_table.specs.Fault.{outer_met, FailsToFindVersion, ShowsLook};
 ghost use Rattle.version_table.specs.Plan.{IsFormedPlan, IsPlan, IsPlanReady};
 ghost use Rattle.version_table.specs.Table.{OfTable};
 ghost use Rattle.version_table.specs.Versions.{next_key};
@@ -53,7 +53,7 @@ pub fn plan_version<T: Pages>(
     ensures formed { IfOk result (IsFormedPlan T.Pages name.now t.old t.new) }
     ensures planned { IfOk result (λ plan. OfTable T.Pages t.old t.new (λ table. IsPlan name.now given table plan)) }
     ensures ready { IfOk result (λ plan. OfTable T.Pages t.old t.new (IsPlanReady plan)) }
-    ensures failed { IfErr result (FailsToFind T.Pages t.old t.new ⊥ (OfTable T.Pages t.old t.new (λ table. max_u32 < (next_key name.now table).version))) }
+    ensures failed { IfErr result (FailsToFindVersion T.Pages t.old t.new ⊥ (OfTable T.Pages t.old t.new (λ table. max_u32 < (next_key name.now table).version))) }
     ensures shown { IfErr result (ShowsLook (T.step t.new)) }
 {
     t.rest();

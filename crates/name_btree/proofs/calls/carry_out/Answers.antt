@@ -2,16 +2,16 @@ use Rattle.std.proofs.Common.{◌≡◌, ℕ, refl, subst, Option}
 use Rattle.std.specs.Prelude.{IfOk}
 use Rattle.fsd_bytes.specs.declared.key.Key.{Key}
 use Rattle.fsd_table.specs.Tree.{IsTree, table_of}
-use Rattle.name_page.specs.Lookups.{entry_after}
-use Rattle.name_btree.specs.declared.calls.Call.TheVariants.{Find, Highest, NextAfter, Insert, Remove, Replace}
+use Rattle.name_page.specs.Lookups.{first_after}
+use Rattle.name_btree.specs.declared.calls.TableCall.TheVariants.{Find, Highest, NextAfter, Insert, Remove, Replace}
 use Rattle.name_btree.specs.Fault.{outer_told}
 use Rattle.name_btree.specs.Calls.{without_page, IsFormed}
 use Rattle.name_btree.specs.Lookup.{found_entry}
-use Rattle.name_btree.proofs.LookupLaws.{ok_alone, err_alone}
-use Rattle.name_btree.proofs.BeginLaws.{begun_reaches, begun_changes, allowed_begun, begun_edits, refused_edits, looked_up, changed_by}
-use Rattle.name_btree.proofs.ResultLaws.{err_more}
-use Rattle.name_btree.proofs.RootLaws.{on_ok_more}
-use Rattle.name_btree.proofs.CallLaws.{begins_renewed, begins_refused, looks_up, changes_to, table_excused, insert_excused}
+use Rattle.name_btree.proofs.finding.LookupLaws.{ok_alone, err_alone}
+use Rattle.name_btree.proofs.steps.BeginLaws.{begun_reaches, begun_changes, allowed_begun, begun_edits, refused_edits, looked_up, changed_by}
+use Rattle.name_btree.proofs.steps.ResultLaws.{err_more}
+use Rattle.name_btree.proofs.mending.RootLaws.{on_ok_more}
+use Rattle.name_btree.proofs.steps.CallLaws.{begins_renewed, begins_refused, looks_up, changes_to, table_excused, insert_excused}
 use Rattle.name_btree.proofs.calls.carry_out.Goals as goal
 
 pub returns-in-Find-clause-carried : goal.returns-in-Find-clause-carried
@@ -38,7 +38,7 @@ returns-in-NextAfter-clause-carried g c =
     let sp = c.in_default.ensures in
     let b = begins_renewed G c.args.t.now c.begin.new.self sp.stays sp.step in
     let e = c.next_after.ensures in
-    let found = subst (λ (key : Option Key). IfOk c.next_after.result (λ found. G.trusted c.next_after.new.t → (height : ℕ) → IsTree (G.step c.begin.new.self).images height → found_entry found ≡ entry_after key (table_of (G.step c.begin.new.self).images height)))
+    let found = subst (λ (key : Option Key). IfOk c.next_after.result (λ found. G.trusted c.next_after.new.t → (height : ℕ) → IsTree (G.step c.begin.new.self).images height → found_entry found ≡ first_after key (table_of (G.step c.begin.new.self).images height)))
     c.as_ref.ensures.value e.found in
     rw (c.in-NextAfter.is, c.without_page-in-NextAfter.ensures)
     (looks_up G c.args.t.now c.begin.new.self c.next_after.new.t b (NextAfter c.in-NextAfter.key) (λ table. refl) (without_page c.next_after.result) e.calls (ok_alone c.next_after.result _ found) (err_alone c.next_after.result _ (err_more c.next_after.result _ _ (λ fault h. h.cause) e.failed)))

@@ -1,7 +1,7 @@
 use Rattle.std.proofs.Common.{◌≤◌, length, sym, arith}
 use Rattle.std.proofs.lemmas.Result.{err_from_is_err_and}
 use Rattle.name_page.proofs.LookLaws.{edits_then}
-use Rattle.name_btree.proofs.CallLaws.{none_so_far, next_allowed, one_so_far, stops_here, all_so_far}
+use Rattle.name_btree.proofs.steps.CallLaws.{none_so_far, next_allowed, one_so_far, stops_here, all_so_far}
 use Rattle.name_btree.proofs.calls.run.Goals as goal
 
 pub carry_out-requires-clause-reached : goal.carry_out-requires-clause-reached

@@ -1,4 +1,4 @@
-use Rattle.name_btree.proofs.CallLaws.{IsSoFar}
+use Rattle.name_btree.proofs.steps.CallLaws.{IsSoFar}
 use Rattle.name_btree.proofs.calls.run.Given as goal
 
 -- the calls before were made

@@ -5,7 +5,7 @@ use Rattle.name_page.specs.Pages.{is_spare}
 use Rattle.name_page.proofs.LookLaws.{agrees_at, memory_still, reaches_still}
 use Rattle.name_page.proofs.NodeLaws.{past_end}
 use Rattle.name_btree.specs.Fault.{BarsPage, IsMisfit, Never}
-use Rattle.name_btree.proofs.CauseLaws.{cause_map, none_shown}
+use Rattle.name_btree.proofs.steps.CauseLaws.{cause_map, none_shown}
 use Rattle.name_btree.proofs.child.read_child.Goals as goal
 
 pub returns-then-child-count : goal.returns-then-child-count

@@ -8,11 +8,11 @@ use Rattle.fsd_table.specs.Pages.{content_fits, page_at}
 use Rattle.name_page.specs.Cut.{is_before}
 use Rattle.name_page.specs.declared.cut.Cut.TheVariants.{UpTo}
 use Rattle.name_page.specs.declared.node.Node.{Node}
-use Rattle.name_page.specs.Looks.{Shows}
+use Rattle.name_page.specs.Looks.{ShowsEach}
 use Rattle.name_page.specs.Node.{content_of}
 use Rattle.name_page.specs.Pages.{is_spare}
 use Rattle.name_page.proofs.LookLaws.{reaches_still, reaches_then, agrees_at, agrees_now}
-use Rattle.name_btree.proofs.AloneLaws.{alone_begins, alone_down, alone_holds, alone_leaf, alone_led, alone_fault, alone_shown, alone_deep}
+use Rattle.name_btree.proofs.ways.AloneLaws.{alone_begins, alone_down, alone_holds, alone_leaf, alone_led, alone_fault, alone_shown, alone_deep}
 use Rattle.name_btree.proofs.descent.leaf_at.Goals as goal
 
 pub loop-init : goal.loop-init
@@ -33,7 +33,7 @@ loop-preserved g c =
     let low : c.loop.counter < 6 = omega arith in
     let calls = c.in_ok-read_child.ensures.calls in
     let used : is_spare s.spares w.page ≡ false = ap (λ (x : List Bool). is_spare x w.page) calls.looks.spares ∙ c.in_ok-read_child.ensures.read.used in
-    let at : Shows s (λ pages. page_at pages w.page ≡ Some (Interior ways.0 ways.1)) =
+    let at : ShowsEach s (λ pages. page_at pages w.page ≡ Some (Interior ways.0 ways.1)) =
     λ pages is. agrees_at s pages w.page c.in_ok-read_child.ensures.read.reached used is ∙ c.in_ok-read_child.ensures.read.node ∙ ap (λ (n : Node). Some (content_of n)) c.in-Interior.is in
     let passed = subst (λ (k : Key). AllByRecursion (λ (x : Separator). is_before (UpTo k) x.key ≡ true) (take i ways.1)) c.copied.ensures e.before in
     let left = subst (λ (k : Key). AllByRecursion (λ (x : Separator). is_before (UpTo k) x.key ≡ false) (drop i ways.1)) c.copied.ensures e.behind in
@@ -76,7 +76,7 @@ returns-in-Leaf-clause-found g c =
     let entries = c.in-Leaf.entries in
     let used : is_spare s.spares w.page ≡ false = ap (λ (x : List Bool). is_spare x w.page) looks.spares ∙ r.used in
     let has : page_at s.images w.page ≡ Some (Leaf entries) = r.node ∙ ap (λ (n : Node). Some (content_of n)) c.in-Leaf.is in
-    let at : Shows s (λ pages. page_at pages w.page ≡ Some (Leaf entries)) = λ pages is. agrees_at s pages w.page r.reached used is ∙ has in
+    let at : ShowsEach s (λ pages. page_at pages w.page ≡ Some (Leaf entries)) = λ pages is. agrees_at s pages w.page r.reached used is ∙ has in
     record {
       reached = r.reached;
       used = ap (λ (x : List Bool). is_spare x w.page) (sym c.loop.invariant.calls.looks.spares) ∙ r.used;

@@ -1,5 +1,5 @@
 use Rattle.std.proofs.Common.{◌+◌, ◌≤◌, None}
-use Rattle.name_btree.proofs.AloneLaws.{IsWayTo}
+use Rattle.name_btree.proofs.ways.AloneLaws.{IsWayTo}
 use Rattle.name_btree.proofs.descent.leaf_at.Given as goal
 use Rattle.name_page.specs.Looks.{OnlyReaches}
 use Rattle.name_page.specs.Pages.{reaches}

@@ -8,21 +8,21 @@ use Rattle.name_btree.specs.declared.descent.Way.{Way}
 use Rattle.name_page.specs.Node.{content_of}
 use Rattle.name_page.specs.Cut.{is_before}
 use Rattle.name_page.proofs.LookLaws.{reaches_still, reaches_then, agrees_before, agrees_now, agrees_at}
-use Rattle.name_page.specs.Looks.{Agrees, Shows}
+use Rattle.name_page.specs.Looks.{Agrees, ShowsEach}
 use Rattle.name_page.specs.Pages.{is_spare}
 use Rattle.name_page.proofs.CutLaws.{cuts_monotone}
-use Rattle.name_btree.proofs.DescentLaws.{IsOnWay, way_begins, way_down, way_ends}
-use Rattle.name_btree.proofs.DownLaws.{down_begins, down_goes, IsDownWay}
-use Rattle.name_btree.proofs.LookupLaws.{Narrows, way_narrows, leaf_least}
-use Rattle.name_btree.proofs.PathLaws.{IsPath, path_begins, path_down, path_ends}
-use Rattle.name_btree.proofs.VisitedLaws.{IsVisitedWay, visited_down, misfit_below, shown_below, deep_below, deep_shown}
+use Rattle.name_btree.proofs.ways.DescentLaws.{IsOnWay, way_begins, way_down, way_ends}
+use Rattle.name_btree.proofs.ways.ChildLaws.{down_begins, down_goes, IsDownWay}
+use Rattle.name_btree.proofs.finding.LookupLaws.{Narrows, way_narrows, leaf_least}
+use Rattle.name_btree.proofs.ways.PathLaws.{IsPath, path_begins, path_down, path_ends}
+use Rattle.name_btree.proofs.ways.VisitedLaws.{IsVisitedWay, visited_down, misfit_below, shown_below, deep_below, deep_shown}
 use Rattle.name_page.specs.declared.cut.Cut.{Cut}
 use Rattle.name_page.specs.declared.cut.Cut.TheVariants.{UpTo}
 use Rattle.name_page.proofs.LookLaws.{memory_then}
 use Rattle.fsd_table.specs.Table.{max_height}
 use Rattle.name_btree.specs.Descent.{way_to}
 use Rattle.name_btree.specs.Path.{HasMet, Leads, TakesNone}
-use Rattle.name_btree.proofs.LeadLaws.{back_begins, back_down, back_ends, lead_down, lead_ends, lead_high, lead_met, lead_outer, met_begins, met_down, met_here, met_left, IsBack, IsMet, IsReadSafe}
+use Rattle.name_btree.proofs.ways.ResidentLaws.{back_begins, back_down, back_ends, lead_down, lead_ends, lead_high, lead_met, lead_outer, met_begins, met_down, met_here, met_left, IsBack, IsMet, IsReadSafe}
 use Rattle.name_btree.proofs.descent.leaf_below.Goals as goal
 
 pub loop-above-init : goal.loop-above-init
@@ -50,7 +50,7 @@ returns-in_err-child_node-clause-failed g c =
     let s = g.T.Pages.step c.child_node.new.t in
     let fault = c.in_err-child_node.field-0.0 in
     let failed = c.in_err-child_node.ensures.failed in
-    let on : Shows s (λ pages. IsVisitedWay pages c.args.above c.args.start c.loop-above.above c.loop-above.way) = λ pages agrees. c.loop-above.invariant.visited pages (agrees_before (g.T.Pages.step c.loop-above.t) s pages c.in_err-child_node.ensures.calls.looks agrees) in
+    let on : ShowsEach s (λ pages. IsVisitedWay pages c.args.above c.args.start c.loop-above.above c.loop-above.way) = λ pages agrees. c.loop-above.invariant.visited pages (agrees_before (g.T.Pages.step c.loop-above.t) s pages c.in_err-child_node.ensures.calls.looks agrees) in
     let p = err_from_is_err_and c.from_residual.result c.from_residual.ensures.1 in
     rw (p.1, p.2) (record {
       cause = misfit_below s fault c.args.above c.args.start c.loop-above.above c.loop-above.way (on s.images (agrees_now s)) failed.cause;
@@ -77,7 +77,7 @@ returns-in-Leaf-clause-found g c =
     let entries = c.in-Leaf.entries in
     let used : is_spare s.spares d.page ≡ false = ap (λ (x : List Bool). is_spare x d.page) looks.spares ∙ r.used in
     let has : page_at s.images d.page ≡ Some (Leaf entries) = r.node ∙ ap (λ (n : Node). Some (content_of n)) c.in-Leaf.is in
-    let at : Shows s (λ pages. page_at pages d.page ≡ Some (Leaf entries)) = λ pages agrees. agrees_at s pages d.page r.reached used agrees ∙ has in
+    let at : ShowsEach s (λ pages. page_at pages d.page ≡ Some (Leaf entries)) = λ pages agrees. agrees_at s pages d.page r.reached used agrees ∙ has in
     let fits = subst (λ (n : Node). content_fits d.low d.high (Some (content_of n)) ≡ true) c.in-Leaf.is r.fits in
     let old : (pages : List (List ℕ)) → Agrees pages s → Agrees pages (g.T.Pages.step c.loop-above.t) = λ pages agrees. agrees_before (g.T.Pages.step c.loop-above.t) s pages looks agrees in
     record {
@@ -117,7 +117,7 @@ loop-above-preserved g c =
     let one : gone + 1 ≡ (above + 1) - c.args.above = omega arith in
     let ways = c.in-Interior.ways in
     let used : is_spare s.spares w.child.page ≡ false = ap (λ (x : List Bool). is_spare x w.child.page) c.in_ok-child_node.ensures.calls.looks.spares ∙ c.in_ok-child_node.ensures.read.used in
-    let at : Shows s (λ pages. page_at pages w.child.page ≡ Some (Interior ways.0 ways.1)) =
+    let at : ShowsEach s (λ pages. page_at pages w.child.page ≡ Some (Interior ways.0 ways.1)) =
     λ pages is. agrees_at s pages w.child.page c.in_ok-child_node.ensures.read.reached used is ∙ c.in_ok-child_node.ensures.read.node ∙ ap (λ (n : Node). Some (content_of n)) c.in-Interior.is in
     let old : (pages : List (List ℕ)) → Agrees pages s → Agrees pages (g.T.Pages.step c.loop-above.t) = λ pages is. agrees_before (g.T.Pages.step c.loop-above.t) s pages c.in_ok-child_node.ensures.calls.looks is in
     let new : Way = c.way_to-way.result in

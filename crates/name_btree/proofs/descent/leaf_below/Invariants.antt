@@ -3,15 +3,15 @@ use Rattle.fsd_formats.specs.declared.entry.Entry.{Entry}
 use Rattle.fsd_table.specs.Table.{max_height}
 use Rattle.name_page.specs.declared.cut.Cut.TheVariants.{UpTo}
 use Rattle.name_btree.specs.Path.{HasMet, Leads}
-use Rattle.name_btree.proofs.LeadLaws.{IsBack, IsMet}
-use Rattle.name_btree.proofs.DescentLaws.{IsOnWay}
-use Rattle.name_btree.proofs.DownLaws.{IsDownWay}
-use Rattle.name_btree.proofs.LookupLaws.{Narrows}
-use Rattle.name_btree.proofs.PathLaws.{IsPath}
-use Rattle.name_btree.proofs.VisitedLaws.{IsVisitedWay}
+use Rattle.name_btree.proofs.ways.ResidentLaws.{IsBack, IsMet}
+use Rattle.name_btree.proofs.ways.DescentLaws.{IsOnWay}
+use Rattle.name_btree.proofs.ways.ChildLaws.{IsDownWay}
+use Rattle.name_btree.proofs.finding.LookupLaws.{Narrows}
+use Rattle.name_btree.proofs.ways.PathLaws.{IsPath}
+use Rattle.name_btree.proofs.ways.VisitedLaws.{IsVisitedWay}
 use Rattle.name_page.specs.Cut.{is_before}
 use Rattle.name_btree.proofs.descent.leaf_below.Given as goal
-use Rattle.name_page.specs.Looks.{OnlyReaches, Shows}
+use Rattle.name_page.specs.Looks.{OnlyReaches, ShowsEach}
 use Rattle.name_page.specs.Pages.{reaches}
 
 -- so many levels down, and what was reached shows the way
@@ -22,9 +22,9 @@ invariant-loop-above g l = record {
   calls : OnlyReaches g.T.Pages None l.fn.t l.t;
   reaches : reaches (g.T.Pages.step l.fn.t) ≤ reaches (g.T.Pages.step l.t) + (l.above - l.fn.above);
   narrow : Narrows (is_before l.cut) l.fn.start.low l.way;
-  path : Shows (g.T.Pages.step l.t) (λ pages. IsPath l.cut pages l.fn.start l.way.child);
-  way : Shows (g.T.Pages.step l.t) (λ pages. IsOnWay (is_before l.cut) pages l.fn.start (l.above - l.fn.above) l.way);
-  visited : Shows (g.T.Pages.step l.t) (λ pages. IsVisitedWay pages l.fn.above l.fn.start l.above l.way);
+  path : ShowsEach (g.T.Pages.step l.t) (λ pages. IsPath l.cut pages l.fn.start l.way.child);
+  way : ShowsEach (g.T.Pages.step l.t) (λ pages. IsOnWay (is_before l.cut) pages l.fn.start (l.above - l.fn.above) l.way);
+  visited : ShowsEach (g.T.Pages.step l.t) (λ pages. IsVisitedWay pages l.fn.above l.fn.start l.above l.way);
   down : IsDownWay (g.T.Pages.step l.t) (is_before l.cut) l.fn.above l.fn.start l.above l.way;
   memory : HasMet g.T.Pages l.fn.above (is_before l.cut) l.fn.start l.fn.t → IsMet g.T.Pages (is_before l.cut) l.fn.t l.above l.way l.t;
   back : HasMet g.T.Pages l.fn.above (is_before l.cut) l.fn.start l.fn.t → IsBack g.T.Pages l.fn.above l.fn.start l.above l.way l.t;

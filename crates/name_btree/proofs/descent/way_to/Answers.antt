@@ -3,7 +3,7 @@ use Rattle.fsd_table.specs.declared.child.Child.{Child}
 use Rattle.fsd_table.specs.Pages.{children}
 use Rattle.name_page.specs.Cut.{is_before}
 use Rattle.name_btree.specs.Descent.{way_to}
-use Rattle.name_btree.proofs.WayLaws.{way_at, way_is}
+use Rattle.name_btree.proofs.ways.WayLaws.{way_at, way_is}
 use Rattle.name_btree.proofs.descent.way_to.Goals as goal
 
 pub returns : goal.returns

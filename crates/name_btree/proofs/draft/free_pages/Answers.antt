@@ -2,7 +2,7 @@ use Rattle.std.proofs.Common.{◌≡◌, ◌∙◌, ℕ, refl, sym, ap, subst, f
 use Rattle.std.proofs.lemmas.List.{take_more}
 use Rattle.name_page.specs.Pages.{Step, with_spare, is_spare, IsReached}
 use Rattle.name_btree.specs.Draft.{freed, MayGo}
-use Rattle.name_btree.proofs.DraftLaws.{each_or, none_before, freed_push, reached_freed, freed_used}
+use Rattle.name_btree.proofs.drafts.DraftLaws.{each_or, none_before, freed_push, reached_freed, freed_used}
 use Rattle.name_btree.proofs.draft.free_pages.Goals as goal
 
 pub give_back-requires-clause-reached : goal.give_back-requires-clause-reached

@@ -4,7 +4,7 @@ use Rattle.std.proofs.lemmas.List.{take_more}
 use Rattle.std.proofs.lemmas.Bool.{false_from_ne_true, eqb-true, eq-eqb}
 use Rattle.name_btree.specs.declared.draft.Sheet.{Sheet}
 use Rattle.name_btree.specs.Draft.{last_sheet}
-use Rattle.name_btree.proofs.DraftLaws.{last_push}
+use Rattle.name_btree.proofs.drafts.DraftLaws.{last_push}
 use Rattle.name_btree.proofs.draft.last_sheet.Goals as goal
 use Rattle.name_btree.proofs.draft.last_sheet.Goals.{then-sheet-page, else-sheet-page}
 

@@ -1,7 +1,7 @@
 use Rattle.std.proofs.Common.{◌∷◌, [], sym, subst}
 use Rattle.name_page.specs.Pages.{Step, IsReached}
 use Rattle.name_btree.specs.Grown.{TakesSpare}
-use Rattle.name_btree.proofs.TakeLaws.{takes_one}
+use Rattle.name_btree.proofs.drafts.TakeLaws.{takes_one}
 use Rattle.name_btree.proofs.draft.take_page.Goals as goal
 
 pub returns-clause-takes : goal.returns-clause-takes

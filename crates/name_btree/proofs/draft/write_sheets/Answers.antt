@@ -3,7 +3,7 @@ use Rattle.std.proofs.lemmas.List.{take_more}
 use Rattle.name_page.specs.Pages.{Step, with_page, changes, IsReached}
 use Rattle.name_btree.specs.declared.draft.Sheet.{Sheet}
 use Rattle.name_btree.specs.Draft.{committed, IsSheet}
-use Rattle.name_btree.proofs.DraftLaws.{each_or, committed_push, reached_committed, still_more}
+use Rattle.name_btree.proofs.drafts.DraftLaws.{each_or, committed_push, reached_committed, still_more}
 use Rattle.name_btree.proofs.draft.write_sheets.Goals as goal
 
 pub write_sheet-requires-clause-reached : goal.write_sheet-requires-clause-reached

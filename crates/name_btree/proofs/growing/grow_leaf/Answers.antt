@@ -5,12 +5,12 @@ use Rattle.fsd_formats.specs.NamePage.{Leaf, FitsEntry, are_ascending, is_entry,
 use Rattle.fsd_table.specs.Pages.{entry_keys}
 use Rattle.name_page.specs.Pages.{is_spare, with_images}
 use Rattle.name_page.specs.Parting.{used_by}
-use Rattle.name_btree.proofs.OverLaws.{drafted_over, grown_whole, takes_over, reached_over}
+use Rattle.name_btree.proofs.drafts.ReachedLaws.{drafted_over, grown_whole, takes_over, reached_over}
 use Rattle.name_page.proofs.CutPageLaws.{leaf_page}
-use Rattle.name_btree.proofs.PutLaws.{all_back, all_front}
-use Rattle.name_btree.proofs.TakeLaws.{sheets_over, taken_itself, used_over}
-use Rattle.name_btree.proofs.GrowLaws.{IsParted, HasLeaves, leaves_parted}
-use Rattle.name_btree.proofs.SheetLaws.{one_sheet, two_sheets}
+use Rattle.name_btree.proofs.drafts.PutLaws.{all_back, all_front}
+use Rattle.name_btree.proofs.drafts.TakeLaws.{sheets_over, taken_itself, used_over}
+use Rattle.name_btree.proofs.growth.GrowLaws.{IsParted, HasLeaves, leaves_parted}
+use Rattle.name_btree.proofs.drafts.SheetLaws.{one_sheet, two_sheets}
 use Rattle.name_btree.proofs.growing.grow_leaf.Given as given
 use Rattle.name_btree.proofs.growing.grow_leaf.Goals as goal
 

@@ -4,9 +4,9 @@ use Rattle.fsd_formats.specs.declared.entry.Entry.{Entry}
 use Rattle.fsd_formats.specs.NamePage.{Leaf, entry_bytes, is_page, room}
 use Rattle.name_page.specs.Edits.{with_entry}
 use Rattle.name_page.specs.Pages.{with_images}
-use Rattle.name_btree.proofs.OverLaws.{drafted_over, grown_whole}
+use Rattle.name_btree.proofs.drafts.ReachedLaws.{drafted_over, grown_whole}
 use Rattle.name_page.proofs.CutPageLaws.{leaf_page}
-use Rattle.name_btree.proofs.SheetLaws.{one_sheet}
+use Rattle.name_btree.proofs.drafts.SheetLaws.{one_sheet}
 use Rattle.name_btree.proofs.growing.grow_leaf_with.Goals as goal
 
 pub text_with-text-requires : goal.text_with-text-requires

@@ -7,12 +7,12 @@ use Rattle.fsd_formats.specs.NamePage.{Content, Interior, FitsSeparator, is_page
 use Rattle.fsd_table.specs.Pages.{separator_keys}
 use Rattle.name_page.specs.Pages.{is_spare, with_images}
 use Rattle.name_btree.specs.Draft.{IsDrafted}
-use Rattle.name_btree.proofs.OverLaws.{drafted_over, grown_whole, takes_over, reached_over}
-use Rattle.name_btree.proofs.PutLaws.{all_back, all_front}
-use Rattle.name_btree.proofs.TakeLaws.{sheets_over, taken_itself, used_over}
-use Rattle.name_btree.proofs.TrimLaws.{ways_page}
-use Rattle.name_btree.proofs.GrowLaws.{IsParted, HasInteriors, ways_parted, rest_of}
-use Rattle.name_btree.proofs.SheetLaws.{one_sheet, two_sheets}
+use Rattle.name_btree.proofs.drafts.ReachedLaws.{drafted_over, grown_whole, takes_over, reached_over}
+use Rattle.name_btree.proofs.drafts.PutLaws.{all_back, all_front}
+use Rattle.name_btree.proofs.drafts.TakeLaws.{sheets_over, taken_itself, used_over}
+use Rattle.name_btree.proofs.mending.TrimLaws.{ways_page}
+use Rattle.name_btree.proofs.growth.GrowLaws.{IsParted, HasInteriors, ways_parted, rest_of}
+use Rattle.name_btree.proofs.drafts.SheetLaws.{one_sheet, two_sheets}
 use Rattle.name_btree.proofs.growing.grow_ways.Given as given
 use Rattle.name_btree.proofs.growing.grow_ways.Goals as goal
 

@@ -1,31 +1,27 @@
 use Rattle.std.proofs.Common.{◌≡◌, ◌∙◌, ◌+◌, ◌*◌, ◌-◌, ◌≤◌, ℕ, Bool, suc, List, Option, Some, length, true, false, refl, sym, ap, subst, arith, rules}
-use Rattle.std.specs.Prelude.{Result, Ok, Err, IfOk, OnOk}
-use Rattle.std.proofs.lemmas.Result.{err_from_is_err_and, on_ok_weaker}
+use Rattle.std.proofs.lemmas.Result.{err_from_is_err_and}
 use Rattle.fsd_bytes.specs.declared.refusal.Refusal.{Refusal}
 use Rattle.fsd_formats.specs.NamePage.{Leaf, Interior, is_page}
 use Rattle.fsd_forest.specs.Parts.{is_inside}
 use Rattle.fsd_table.specs.declared.child.Child.{Child}
 use Rattle.fsd_table.specs.Pages.{page_at, content_fits, keys_fit, separator_keys}
 use Rattle.fsd_table.proofs.PageLaws.{at_is_page}
-use Rattle.name_page.specs.Pages.{with_images, is_spare, changes, IsReached}
-use Rattle.name_page.specs.Looks.{Shows, OnlyReaches}
+use Rattle.name_page.specs.Pages.{with_images, is_spare, changes}
+use Rattle.name_page.specs.Looks.{ShowsEach, OnlyReaches}
 use Rattle.name_page.proofs.LookLaws.{reaches_then, reaches_takes, takes_takes, agrees_now, agrees_before}
 use Rattle.name_page.specs.declared.node.Node.{Node}
 use Rattle.name_page.specs.Node.{content_of}
-use Rattle.name_btree.specs.declared.fault.TreeFault.{TreeFault}
-use Rattle.name_btree.specs.declared.fault.TreeFault.TheVariants.{Broken}
-use Rattle.name_btree.specs.Draft.{drafted, AreSheets}
+use Rattle.name_btree.specs.Draft.{drafted}
 use Rattle.name_btree.specs.Fault.{outer_told, FailsBy, IsMisfit}
 use Rattle.name_btree.specs.Grown.{most_taken, IsDivided, Grows, GrowsBelow, GrowsLeaf, BreaksGrowth, RefusesEntry}
-use Rattle.name_btree.specs.declared.growing.Grown.{Grown}
-use Rattle.name_btree.proofs.CauseLaws.{fails_by_map, broken_by, on_err_same}
-use Rattle.name_btree.proofs.DraftLaws.{drafted_length}
-use Rattle.name_btree.proofs.StepLaws.{above_grows, few_above}
-use Rattle.name_btree.proofs.OverLaws.{takes_looked, reached_over}
-use Rattle.name_btree.proofs.TakeLaws.{used_over}
-use Rattle.name_btree.proofs.ResultLaws.{on_err}
-use Rattle.name_btree.proofs.InsertLaws.{middle_is, inside_middle, least_taken, misfit_growth, growth_below, zero_below, leaf_grows, leaf_growth, ok_grows, on_grows, err_grows, grows_looked}
-use Rattle.name_btree.proofs.SheetLaws.{sheets_looked, sheets_then}
+use Rattle.name_btree.proofs.steps.CauseLaws.{fails_by_map, broken_by, on_err_same}
+use Rattle.name_btree.proofs.drafts.DraftLaws.{drafted_length}
+use Rattle.name_btree.proofs.growth.StepLaws.{above_grows, few_above}
+use Rattle.name_btree.proofs.drafts.ReachedLaws.{takes_looked, reached_over}
+use Rattle.name_btree.proofs.drafts.TakeLaws.{used_over}
+use Rattle.name_btree.proofs.steps.ResultLaws.{on_err}
+use Rattle.name_btree.proofs.growth.InsertLaws.{middle_is, inside_middle, least_taken, misfit_growth, growth_below, zero_below, leaf_grows, leaf_growth, ok_grows, on_grows, err_grows, grows_looked}
+use Rattle.name_btree.proofs.drafts.SheetLaws.{sheets_looked, sheets_then}
 use Rattle.name_btree.proofs.inserting.+insert_below.Goals as goal
 
 pub returns-in_err-entries : goal.returns-in_err-entries
@@ -201,7 +197,7 @@ returns-in-Leaf-clause-grown g t c =
     let e = c.args.entry.now in
     let looks = c.in_ok-entries.ensures.calls.looks in
     ok_grows c.insert_here.result (GrowsLeaf e looked last sheets s1 child)
-    (λ grown. Shows last (λ pages. Grows e (with_images pages step) (with_images pages last) (drafted sheets pages) (drafted s1 pages) c.args.levels child grown))
+    (λ grown. ShowsEach last (λ pages. Grows e (with_images pages step) (with_images pages last) (drafted sheets pages) (drafted s1 pages) c.args.levels child grown))
     (λ grown h images agrees.
     let before = c.insert_here.ensures.calls.agrees images agrees in
     let at : page_at (drafted sheets images) child.page ≡ Some (Leaf c.in-Leaf.entries) = c.in_ok-entries.ensures.read.node images before ∙ ap (λ (n : Node). Some (content_of n)) c.in-Leaf.is in

@@ -1,10 +1,10 @@
 use Rattle.std.proofs.Common.{ℕ, length, take, drop, refl, sym, subst}
 use Rattle.name_page.proofs.LookLaws.{reaches_still, reaches_takes}
-use Rattle.name_btree.proofs.OverLaws.{takes_only}
+use Rattle.name_btree.proofs.drafts.ReachedLaws.{takes_only}
 use Rattle.fsd_forest.specs.Ways.{child_between}
 use Rattle.name_btree.specs.Grown.{FitsTwoInteriors, IsParted, IsDivided}
-use Rattle.name_btree.proofs.WaysGrowthLaws.{one_way_more}
-use Rattle.name_btree.proofs.SheetLaws.{sheets_still}
+use Rattle.name_btree.proofs.growth.WaysGrowthLaws.{one_way_more}
+use Rattle.name_btree.proofs.drafts.SheetLaws.{sheets_still}
 use Rattle.name_btree.proofs.inserting.grow_above.Goals as goal
 
 pub grow_ways-requires-clause-separators : goal.grow_ways-requires-clause-separators

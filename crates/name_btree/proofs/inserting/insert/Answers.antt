@@ -1,28 +1,30 @@
-use Rattle.std.proofs.Common.{◌≡◌, ◌∙◌, ◌-◌, inl, ℕ, List, None, length, ap, subst, arith}
+use Rattle.std.proofs.Common.{◌≡◌, ◌∙◌, ◌-◌, inl, inr, ℕ, List, None, Some, length, ap, subst, arith}
 use Rattle.fsd_bytes.specs.declared.key.Key.{Key}
 use Rattle.std.proofs.lemmas.Bool.{or_right}
-use Rattle.name_page.specs.Pages.{Step, with_images, reaches, changes, free_count, is_one_of}
+use Rattle.name_page.specs.Pages.{Step, IsSpareRefusal, with_images, reaches, changes, spare_count, is_one_of}
+use Rattle.fsd_bytes.specs.declared.refusal.Refusal.{Refusal}
 use Rattle.fsd_bytes.specs.declared.refusal.Refusal.TheVariants.{NameTableFull}
 use Rattle.fsd_formats.specs.declared.entry.Entry.{Entry}
 use Rattle.fsd_table.specs.Tree.{IsTree, table_of}
 use Rattle.name_page.specs.Lookups.{entry_with}
+use Rattle.name_page.specs.declared.pages.Pages.{Ghosts}
 use Rattle.name_page.specs.Looks.{OnlyWalks}
 use Rattle.name_page.proofs.LookLaws.{kept_pages, reaches_then, walks_edits, walks_pages, pages_then, edits_then, agrees_now, agrees_before}
 use Rattle.name_btree.specs.declared.fault.TreeFault.TheVariants.{Pages}
-use Rattle.name_btree.specs.Fault.{outer_of, FailsTable}
-use Rattle.name_btree.proofs.BeginLaws.{refused_edits}
-use Rattle.name_btree.proofs.CauseLaws.{fails_by_map, same_err}
-use Rattle.name_btree.proofs.SearchLaws.{shown_tree, shown_with, not_full}
+use Rattle.name_btree.specs.Fault.{outer_of, FailsSpare, FailsTable}
+use Rattle.name_btree.proofs.steps.BeginLaws.{refused_edits}
+use Rattle.name_btree.proofs.steps.CauseLaws.{fails_by_map, same_err}
+use Rattle.name_btree.proofs.finding.SearchLaws.{shown_tree, shown_with, not_full}
 use Rattle.name_btree.specs.Draft.{drafted}
 use Rattle.name_btree.specs.Grown.{Inserts, BreaksNew}
 use Rattle.name_btree.specs.Map.{LeavesTree, HasLeft, without_all}
-use Rattle.name_btree.proofs.CommitLaws.{commit_reaches, commit_changes, commit_edits}
-use Rattle.name_btree.proofs.MapLaws.{promised_walks}
-use Rattle.name_btree.proofs.DraftLaws.{drafted_length}
-use Rattle.name_btree.proofs.SheetLaws.{sheets_pages}
-use Rattle.name_btree.proofs.SpareLaws.{came_taken, inserted_table, none_taken}
+use Rattle.name_btree.proofs.drafts.CommitLaws.{commit_reaches, commit_changes, commit_edits}
+use Rattle.name_btree.proofs.steps.MapLaws.{promised_walks}
+use Rattle.name_btree.proofs.drafts.DraftLaws.{drafted_length}
+use Rattle.name_btree.proofs.drafts.SheetLaws.{sheets_pages}
+use Rattle.name_btree.proofs.growth.SpareLaws.{came_taken, inserted_table, none_taken}
 use Rattle.name_btree.proofs.inserting.insert.Given as given
-use Rattle.name_btree.proofs.WithinLaws.{among_since}
+use Rattle.name_btree.proofs.ways.ReachLaws.{among_since}
 use Rattle.name_btree.proofs.inserting.insert.Goals as goal
 use Rattle.name_btree.proofs.inserting.insert.Goals.{After-fault_of, After-fault_of-in-Err-insert_in}
 
@@ -65,7 +67,26 @@ returns-clause-taken g c =
 
 pub returns-in-Err-clause-taken : goal.returns-in-Err-clause-taken
 returns-in-Err-clause-taken g c =
-    none_taken 7 (g.T.Pages.step c.args.t.now).spares (g.T.Pages.step c.spare.new.self).spares (ap (λ (s : Step). s.spares) c.in-Err.ensures.refused)
+    none_taken 7 (g.T.Pages.step c.args.t.now).spares (g.T.Pages.step c.spare.new.self).spares (ap (λ (s : Step). s.spares) c.in-Err.ensures.refused.step)
+
+pub returns-in-Err-clause-spent : goal.returns-in-Err-clause-spent
+returns-in-Err-clause-spent g c =
+    let told = c.in-Err.ensures.refused.step in
+    record { reaches = (let same = ap reaches told in omega (arith, same)); changes = (let same = ap changes told in omega (arith, same)) }
+
+-- why the promise was refused
+fails_promising : {D : Type 0} (P : Ghosts D) (free n : ℕ) (new : D) (refusal : Refusal) → (P.step new).refusal ≡ Some refusal → IsSpareRefusal free n refusal → FailsSpare P free new (Pages refusal)
+fails_promising P free n new refusal is (inl outer) = inl (is, inl outer)
+fails_promising P free n new refusal is (inr full) = inr (ap (λ (r : Refusal). Pages r) full.0, is ∙ ap (λ (r : Refusal). Some r) full.0)
+
+pub returns-in-Err-clause-failed : goal.returns-in-Err-clause-failed
+returns-in-Err-clause-failed g c =
+    let refused = c.in-Err.ensures.refused in
+    let free = spare_count (g.T.Pages.step c.args.t.now) in
+    record {
+      among = λ some. tt;
+      cause = fails_promising g.T.Pages free 8 c.spare.new.self c.in-Err.refusal (ap (λ (s : Step). s.refusal) refused.step) refused.cause;
+    }
 
 pub returns-clause-inserted : goal.returns-clause-inserted
 returns-clause-inserted g c = λ trusted.
@@ -85,7 +106,7 @@ returns-clause-inserted g c = λ trusted.
     let t2 = takes.edits.trust t3 in
     let calls = c.in_default-remove_all.ensures.calls in
     let t1 = calls.trust t2 in
-    let images = calls.stays t2 ∙ c.in_default.ensures.stays t1 in
+    let images = calls.stays t2 ∙ c.in_default.ensures.images.stays t1 in
     let spares = calls.looks.spares ∙ ap (λ (s : Step). s.spares) c.in_default.ensures.step in
     let agrees2 = takes.agrees last.images (agrees_now last) in
     let all = takes.stays t3 ∙ images in
@@ -109,7 +130,7 @@ returns-clause-edits g c =
     let new = c.commit.new.t in
     let d = c.insert_in.new.draft in
     let sp = c.in_default.ensures in
-    let walks = promised_walks G law.then law.trust old s1 s2 8 sp.outside sp.kept sp.stays sp.step c.in_default-remove_all.ensures.calls in
+    let walks = promised_walks G law.then law.trust old s1 s2 8 sp.outside sp.images.kept sp.images.stays sp.step c.in_default-remove_all.ensures.calls in
     let taken = c.in_default-insert_in.ensures in
     let count : length (G.step new).images ≡ length (G.step s2).images = ap length c.commit.ensures.images ∙ drafted_length d.sheets.items (G.step s3).images ∙ taken.calls.edits.count in
     record {
@@ -128,19 +149,19 @@ returns-in-Err-clause-edits g c =
     let told = c.in-Err.ensures in
     let trust = g.met.T.Pages.trust old new _ told.outside in
     record {
-      calls = refused_edits G old new c.in-Err.refusal told.outside trust told.refused told.kept.count;
-      pages = kept_pages (G.step old) (G.step new) told.kept (ap (λ (s : Step). s.changed) told.refused);
+      calls = refused_edits G old new c.in-Err.refusal told.outside trust told.refused.step told.images.kept.count;
+      pages = kept_pages (G.step old) (G.step new) told.images.kept (ap (λ (s : Step). s.changed) told.refused.step);
       kept = record {
-        count = told.kept.count;
-        spares = ap (λ (s : Step). s.spares) told.refused;
-        home_a = ap (λ (s : Step). s.home_a) told.refused;
-        changed = ap (λ (s : Step). s.changed) told.refused;
-        stood = λ page there was. told.kept.reached page (there, or_right (is_one_of (G.step old).reached page) (is_one_of (G.step old).changed page) was);
-        most_reached = ap (λ (s : Step). s.most_reached) told.refused;
-        most_changed = ap (λ (s : Step). s.most_changed) told.refused;
+        count = told.images.kept.count;
+        spares = ap (λ (s : Step). s.spares) told.refused.step;
+        home_a = ap (λ (s : Step). s.home_a) told.refused.step;
+        changed = ap (λ (s : Step). s.changed) told.refused.step;
+        stood = λ page there was. told.images.kept.reached page (there, or_right (is_one_of (G.step old).reached page) (is_one_of (G.step old).changed page) was);
+        most_reached = ap (λ (s : Step). s.most_reached) told.refused.step;
+        most_changed = ap (λ (s : Step). s.most_changed) told.refused.step;
         outside = told.outside;
         trust = trust;
-        stays = told.stays;
+        stays = told.images.stays;
       };
     }
 
@@ -150,7 +171,7 @@ walked_removing g c =
     let law = g.met.T.Pages in
     let sp = c.in_default.ensures in
     c.fault_of.ensures.calls c.args.t.now
-    (promised_walks g.T.Pages law.then law.trust c.args.t.now c.spare.new.self c.remove_all.new.t 8 sp.outside sp.kept sp.stays sp.step c.in-Err-remove_all.ensures.calls)
+    (promised_walks g.T.Pages law.then law.trust c.args.t.now c.spare.new.self c.remove_all.new.t 8 sp.outside sp.images.kept sp.images.stays sp.step c.in-Err-remove_all.ensures.calls)
 
 fails_removing : (g : given.Over) (c : After-fault_of g) → FailsTable g.T.Pages c.fault_of.new.t c.fault_of.result
 fails_removing g c = c.fault_of.ensures.cause (shown_tree g.T.Pages c.remove_all.new.t c.in-Err-remove_all.fault c.in-Err-remove_all.ensures.fault)
@@ -163,7 +184,7 @@ returns-in-Err-remove_all-clause-edits g c =
 
 pub returns-in-Err-remove_all-clause-failed : goal.returns-in-Err-remove_all-clause-failed
 returns-in-Err-remove_all-clause-failed g c =
-    let same = c.in-Err-remove_all.ensures.calls.looks.count ∙ c.in_default.ensures.kept.count in
+    let same = c.in-Err-remove_all.ensures.calls.looks.count ∙ c.in_default.ensures.images.kept.count in
     record {
       among = among_since (length (g.T.Pages.step c.remove_all.new.t).images) (length (g.T.Pages.step c.args.t.now).images) c.fault_of.result same c.fault_of.ensures.among;
       cause = inl (fails_removing g (goal.at.returns-in-Err-remove_all-clause-failed g c).After-fault_of);
@@ -177,7 +198,7 @@ returns-in-Err-remove_all-clause-full g c =
     let f = c.fault_of in
     let new = f.new.t in
     let table = fails_removing g (goal.at.returns-in-Err-remove_all-clause-full g c).After-fault_of in
-    (λ is. absurd (not_full G new (free_count (G.step old)) (subst (FailsTable G new) (same_err f.result (Pages (NameTableFull (free_count (G.step old)))) is) table)), λ few. absurd (let h = c.in_default.is in let no = sp.full.1 few in cc))
+    (λ is. absurd (not_full G new (spare_count (G.step old)) (subst (FailsTable G new) (same_err f.result (Pages (NameTableFull (spare_count (G.step old)))) is) table)), λ few. absurd (let h = c.in_default.is in let no = sp.full.1 few in cc))
 
 walked_inserting : (g : given.Over) (c : After-fault_of-in-Err-insert_in g) → OnlyWalks g.T.Pages (outer_of c.fault_of-in-Err-insert_in.result) c.args.t.now c.fault_of-in-Err-insert_in.new.t
 walked_inserting g c =
@@ -189,7 +210,7 @@ walked_inserting g c =
     let s3 = c.insert_in.new.t in
     let sp = c.in_default.ensures in
     c.fault_of-in-Err-insert_in.ensures.calls old
-    (promised_walks G law.then law.trust old s1 s3 8 sp.outside sp.kept sp.stays sp.step (reaches_then G law.then s1 s2 s3 c.in_default-remove_all.ensures.calls c.in-Err-insert_in.ensures.failed))
+    (promised_walks G law.then law.trust old s1 s3 8 sp.outside sp.images.kept sp.images.stays sp.step (reaches_then G law.then s1 s2 s3 c.in_default-remove_all.ensures.calls c.in-Err-insert_in.ensures.failed))
 
 fails_inserting : (g : given.Over) (c : After-fault_of-in-Err-insert_in g) → FailsTable g.T.Pages c.fault_of-in-Err-insert_in.new.t c.fault_of-in-Err-insert_in.result
 fails_inserting g c =
@@ -201,7 +222,7 @@ fails_inserting g c =
     let s3 = c.insert_in.new.t in
     let sp = c.in_default.ensures in
     let calls = c.in-Err-insert_in.ensures.failed in
-    let w = promised_walks G law.then law.trust old s1 s3 8 sp.outside sp.kept sp.stays sp.step (reaches_then G law.then s1 s2 s3 c.in_default-remove_all.ensures.calls calls) in
+    let w = promised_walks G law.then law.trust old s1 s3 8 sp.outside sp.images.kept sp.images.stays sp.step (reaches_then G law.then s1 s2 s3 c.in_default-remove_all.ensures.calls calls) in
     let fault = c.in-Err-insert_in.fault in
     let s = G.step s3 in
     let e = c.args.entry.now in
@@ -225,7 +246,7 @@ returns-in-Err-insert_in-clause-edits g c =
 
 pub returns-in-Err-insert_in-clause-failed : goal.returns-in-Err-insert_in-clause-failed
 returns-in-Err-insert_in-clause-failed g c =
-    let same = c.in-Err-insert_in.ensures.failed.looks.count ∙ c.in_default-remove_all.ensures.calls.looks.count ∙ c.in_default.ensures.kept.count in
+    let same = c.in-Err-insert_in.ensures.failed.looks.count ∙ c.in_default-remove_all.ensures.calls.looks.count ∙ c.in_default.ensures.images.kept.count in
     record {
       among = among_since (length (g.T.Pages.step c.insert_in.new.t).images) (length (g.T.Pages.step c.args.t.now).images) c.fault_of-in-Err-insert_in.result same c.fault_of-in-Err-insert_in.ensures.among;
       cause = inl (fails_inserting g (goal.at.returns-in-Err-insert_in-clause-failed g c).After-fault_of-in-Err-insert_in);
@@ -239,7 +260,7 @@ returns-in-Err-insert_in-clause-full g c =
     let f = c.fault_of-in-Err-insert_in in
     let new = f.new.t in
     let table = fails_inserting g (goal.at.returns-in-Err-insert_in-clause-full g c).After-fault_of-in-Err-insert_in in
-    (λ is. absurd (not_full G new (free_count (G.step old)) (subst (FailsTable G new) (same_err f.result (Pages (NameTableFull (free_count (G.step old)))) is) table)), λ few. absurd (let h = c.in_default.is in let no = sp.full.1 few in cc))
+    (λ is. absurd (not_full G new (spare_count (G.step old)) (subst (FailsTable G new) (same_err f.result (Pages (NameTableFull (spare_count (G.step old)))) is) table)), λ few. absurd (let h = c.in_default.is in let no = sp.full.1 few in cc))
 
 -- ---- what a walk leaves to be changed and taken
 

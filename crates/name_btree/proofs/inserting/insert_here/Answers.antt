@@ -1,11 +1,11 @@
 use Rattle.std.proofs.Common.{◌∙◌, refl, sym}
 use Rattle.name_page.specs.Pages.{with_images}
 use Rattle.name_page.proofs.LookLaws.{agrees_now, reaches_still, reaches_takes}
-use Rattle.name_btree.proofs.OverLaws.{takes_only}
+use Rattle.name_btree.proofs.drafts.ReachedLaws.{takes_only}
 use Rattle.name_btree.specs.Draft.{drafted}
-use Rattle.name_btree.proofs.ReplaceLaws.{few_in_leaf, used_in_leaf}
-use Rattle.name_btree.proofs.AbsentLaws.{absent}
-use Rattle.name_btree.proofs.LeafGrowthLaws.{with_fits_two, grows_leaf}
+use Rattle.name_btree.proofs.steps.ReplaceLaws.{few_in_leaf, used_in_leaf}
+use Rattle.name_btree.proofs.finding.AbsentLaws.{absent}
+use Rattle.name_btree.proofs.growth.LeafGrowthLaws.{with_fits_two, grows_leaf}
 use Rattle.name_btree.proofs.inserting.insert_here.Goals as goal
 
 pub grow_leaf_with-requires-clause-few : goal.grow_leaf_with-requires-clause-few

@@ -6,11 +6,11 @@ use Rattle.name_page.specs.Pages.{with_images}
 use Rattle.name_page.proofs.LookLaws.{agrees_now}
 use Rattle.name_btree.specs.Draft.{drafted}
 use Rattle.name_btree.specs.Grown.{Grows, BreaksGrowth, BreaksNew}
-use Rattle.name_btree.proofs.CauseLaws.{fails_by_map}
-use Rattle.name_btree.proofs.DraftLaws.{drafted_length}
-use Rattle.name_btree.proofs.OverLaws.{draft_over, drafted_over}
-use Rattle.name_btree.proofs.TreeGrowthLaws.{inserts_whole, inserts_parted, still_draft, growth_new}
-use Rattle.name_btree.proofs.SheetLaws.{sheets_then, one_sheet}
+use Rattle.name_btree.proofs.steps.CauseLaws.{fails_by_map}
+use Rattle.name_btree.proofs.drafts.DraftLaws.{drafted_length}
+use Rattle.name_btree.proofs.drafts.ReachedLaws.{draft_over, drafted_over}
+use Rattle.name_btree.proofs.growth.TreeGrowthLaws.{inserts_whole, inserts_parted, still_draft, growth_new}
+use Rattle.name_btree.proofs.drafts.SheetLaws.{sheets_then, one_sheet}
 use Rattle.name_btree.proofs.inserting.insert_in.Goals as goal
 
 pub returns-in_err-insert_below-clause-fault : goal.returns-in_err-insert_below-clause-fault

@@ -1,15 +1,14 @@
 use Rattle.std.proofs.Common.{◌≡◌, ◌∙◌, ◌≤◌, ◌+◌, ◌∷◌, [], ◌++◌, List, length, take, sym, ap, subst, arith}
-use Rattle.std.proofs.lemmas.List.{take_more}
+use Rattle.std.proofs.lemmas.List.{take_more, take_all}
 use Rattle.std.proofs.lemmas.Result.{err_from_is_err_and}
 use Rattle.fsd_bytes.specs.declared.key.Key.{Key}
-use Rattle.name_page.specs.Looks.{Shows}
+use Rattle.name_page.specs.Looks.{ShowsEach}
 use Rattle.name_page.proofs.LookLaws.{reaches_then, agrees_before}
 use Rattle.name_btree.specs.Draft.{drafted}
 use Rattle.name_btree.specs.Fault.{IsNoTree}
 use Rattle.name_btree.specs.Map.{LeavesTree}
-use Rattle.name_btree.proofs.CauseLaws.{fails_by_map}
-use Rattle.name_btree.proofs.GrowLaws.{take_all}
-use Rattle.name_btree.proofs.MapLaws.{IsCleared, cleared_none, cleared_more, left_tree}
+use Rattle.name_btree.proofs.steps.CauseLaws.{fails_by_map}
+use Rattle.name_btree.proofs.steps.MapLaws.{IsCleared, cleared_none, cleared_more, left_tree}
 use Rattle.name_btree.proofs.inserting.remove_all.Goals as goal
 
 pub loop-key-init : goal.loop-key-init
@@ -45,4 +44,4 @@ pub returns-clause-left : goal.returns-clause-left
 returns-clause-left g c =
     let keys = c.args.gone.now in
     let all : length keys ≤ c.loop-key.key-index = omega arith in
-    subst (λ (ks : List Key). Shows (g.T.Pages.step c.loop-key.t) (λ pages. LeavesTree pages c.loop-key.draft ks)) (take_all keys c.loop-key.key-index all) c.loop-key.invariant.left
+    subst (λ (ks : List Key). ShowsEach (g.T.Pages.step c.loop-key.t) (λ pages. LeavesTree pages c.loop-key.draft ks)) (take_all c.loop-key.key-index keys all) c.loop-key.invariant.left

@@ -1,5 +1,5 @@
 use Rattle.std.proofs.Common.{take}
-use Rattle.name_btree.proofs.MapLaws.{IsCleared}
+use Rattle.name_btree.proofs.steps.MapLaws.{IsCleared}
 use Rattle.name_btree.proofs.inserting.remove_all.Given as goal
 
 -- the entries with the keys before were taken out

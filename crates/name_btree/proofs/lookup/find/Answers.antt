@@ -7,9 +7,9 @@ use Rattle.name_page.proofs.LookLaws.{shows_trusted}
 use Rattle.name_page.proofs.PutLaws.{found_in}
 use Rattle.name_btree.specs.Fault.{BarsTable}
 use Rattle.name_btree.specs.Lookup.{AgreesAt}
-use Rattle.name_btree.proofs.LookupLaws.{find_contains, stands_in, good_entry}
+use Rattle.name_btree.proofs.finding.LookupLaws.{find_contains, stands_in, good_entry}
 use Rattle.std.proofs.lemmas.Result.{err_from_is_err_and}
-use Rattle.name_btree.proofs.WithinLaws.{fails_among}
+use Rattle.name_btree.proofs.ways.ReachLaws.{fails_among}
 use Rattle.name_btree.proofs.lookup.find.Goals as goal
 
 pub returns-in-Some-clause-told : goal.returns-in-Some-clause-told

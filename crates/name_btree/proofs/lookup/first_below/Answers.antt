@@ -3,15 +3,15 @@ use Rattle.fsd_table.specs.Pages.{not_below}
 use Rattle.name_page.specs.Pages.{is_spare}
 use Rattle.name_page.proofs.LookLaws.{agrees_at}
 use Rattle.name_page.proofs.PutLaws.{each_at}
-use Rattle.name_btree.proofs.LookupLaws.{contains_at, stands_in}
-use Rattle.name_btree.proofs.NextLaws.{begins, empty_is, head_of, leaf_has_entries}
-use Rattle.name_btree.proofs.DownLaws.{begins_first, leaf_read}
+use Rattle.name_btree.proofs.finding.LookupLaws.{contains_at, stands_in}
+use Rattle.name_btree.proofs.finding.NextLaws.{begins, empty_is, head_of, leaf_has_entries}
+use Rattle.name_btree.proofs.ways.ChildLaws.{begins_first, leaf_read}
 use Rattle.name_page.specs.Cut.{is_before}
 use Rattle.name_page.specs.declared.cut.Cut.TheVariants.{Start}
 use Rattle.name_btree.specs.Lookup.{IsReadLeaf}
 use Rattle.fsd_table.specs.declared.child.Child.{Child}
 use Rattle.std.proofs.lemmas.Result.{err_from_is_err_and}
-use Rattle.name_btree.proofs.VisitedLaws.{root_above, neighbour_breaks, shown_beside}
+use Rattle.name_btree.proofs.ways.VisitedLaws.{root_above, neighbour_breaks, shown_beside}
 use Rattle.name_btree.proofs.lookup.first_below.Goals as goal
 
 pub returns-then-len-eq0-clause-failed : goal.returns-then-len-eq0-clause-failed

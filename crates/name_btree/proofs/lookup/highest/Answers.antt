@@ -5,26 +5,26 @@ use Rattle.fsd_formats.specs.declared.entry.Entry.{Entry}
 use Rattle.fsd_formats.specs.NamePage.{FitsEntry}
 use Rattle.name_btree.specs.declared.lookup.FoundEntry.{FoundEntry}
 use Rattle.name_btree.specs.Lookup.{BeginsBeside, HasOtherLeft, IsLastBeside, IsLeafBy, IsLedBeside, IsMetAs, ShowsNoVersion}
-use Rattle.name_btree.proofs.DownLaws.{leaf_by, leaf_later, other_left}
-use Rattle.name_btree.proofs.LookupLaws.{last_contains, stands_in, good_entry, led_to, led_previous, if_named, named_entry, one_name, told_named}
+use Rattle.name_btree.proofs.ways.ChildLaws.{leaf_by, leaf_later, other_left}
+use Rattle.name_btree.proofs.finding.LookupLaws.{last_contains, stands_in, good_entry, led_to, led_previous, if_named, named_entry, one_name, told_named}
 use Rattle.fsd_table.specs.declared.child.Child.{Child}
 use Rattle.name_page.specs.declared.cut.Cut.TheVariants.{Named}
 use Rattle.name_page.specs.Cut.{is_before}
 use Rattle.name_btree.specs.declared.descent.Neighbour.{Neighbour}
-use Rattle.name_page.specs.Looks.{Shows}
+use Rattle.name_page.specs.Looks.{ShowsEach}
 use Rattle.name_page.proofs.LookLaws.{reaches_then, shows_trusted, agrees_before, agrees_now}
 use Rattle.name_btree.specs.Fault.{BarsTable, FailsBeside}
 use Rattle.name_btree.specs.Descent.{IsLeafOfPlace, EndsWithEntry}
 use Rattle.name_page.specs.Lookups.{last_that, same_name}
-use Rattle.name_btree.proofs.HighestLaws.{highest_in_leaf, highest_at_start, highest_in_previous}
+use Rattle.name_btree.proofs.finding.HighestLaws.{highest_in_leaf, highest_at_start, highest_in_previous}
 use Rattle.std.proofs.lemmas.Result.{err_from_is_err_and}
-use Rattle.name_btree.proofs.VisitedLaws.{shown_previous, shown_top, top_breaks, previous_breaks}
-use Rattle.name_btree.proofs.WithinLaws.{fails_among}
+use Rattle.name_btree.proofs.ways.VisitedLaws.{shown_previous, shown_top, top_breaks, previous_breaks}
+use Rattle.name_btree.proofs.ways.ReachLaws.{fails_among}
 use Rattle.fsd_table.specs.Pages.{page_at}
 use Rattle.fsd_table.specs.Table.{max_height}
 use Rattle.name_page.proofs.LookLaws.{memory_then}
 use Rattle.name_btree.specs.Path.{met_beside, HasAll, HasWayTo, Leads}
-use Rattle.name_btree.proofs.LeadLaws.{beside_later, led_beside, led_here, none_before, path_met}
+use Rattle.name_btree.proofs.ways.ResidentLaws.{beside_later, led_beside, led_here, none_before, path_met}
 use Rattle.name_btree.proofs.lookup.highest.Goals as goal
 
 pub returns-in-Some-clause-found : goal.returns-in-Some-clause-found
@@ -55,7 +55,7 @@ returns-in_ok-last_below-in-Some-previous-clause-found g c = λ trusted height t
     let e = c.in_ok-last_below-in-Some-previous.field-0.entry in
     let new = c.last_below.new.t in
     let both = reaches_then g.T.Pages g.met.T.Pages.then c.args.t.now c.leaf_below.new.t new c.in_ok-found.ensures.calls second.calls in
-    let B : Neighbour → Type 0 = λ (n : Neighbour). Shows (g.T.Pages.step new) (λ x. EndsWithEntry x n.child e) in
+    let B : Neighbour → Type 0 = λ (n : Neighbour). ShowsEach (g.T.Pages.step new) (λ x. EndsWithEntry x n.child e) in
     let here : B c.in-Some-previous.previous = subst B c.in-Some-previous.previous-is second.found.last in
     let end = shows_trusted g.T.Pages (λ x. EndsWithEntry x c.in-Some-previous.previous.child e) c.args.t.now new both here trusted in
     named_entry c.in_ok-last_below-in-Some-previous.field-0 (same_name e.key.name name) c.named-in-Some-previous.result c.named-in-Some-previous.ensures ∙ highest_in_previous name pages found c.in-Some-previous.previous e c.in-Some-previous.is place end last height t

@@ -1,6 +1,6 @@
 use Rattle.std.proofs.Common.{◌≡◌, ◌<◌, ◌∙◌, sym, true, false, arith}
 use Rattle.name_page.specs.Cut.{is_before}
-use Rattle.name_btree.proofs.LastLaws.{last_more}
+use Rattle.name_btree.proofs.finding.LastLaws.{last_more}
 use Rattle.name_btree.proofs.lookup.last_before.Goals as goal
 
 pub returns-then-is_before-clause-last : goal.returns-then-is_before-clause-last

@@ -1,15 +1,15 @@
 use Rattle.std.proofs.Common.{◌≡◌, ◌∙◌, ◌<◌, ◌+◌, ◌-◌, Bool, List, false, length, take, ap, subst, arith}
 use Rattle.name_page.specs.Pages.{is_spare}
 use Rattle.name_page.proofs.LookLaws.{agrees_at}
-use Rattle.name_btree.proofs.LookupLaws.{contains_at, stands_in}
-use Rattle.name_btree.proofs.NextLaws.{ends, empty_is, last_is, leaf_has_entries}
-use Rattle.name_btree.proofs.DownLaws.{ends_last, leaf_read}
+use Rattle.name_btree.proofs.finding.LookupLaws.{contains_at, stands_in}
+use Rattle.name_btree.proofs.finding.NextLaws.{ends, empty_is, last_is, leaf_has_entries}
+use Rattle.name_btree.proofs.ways.ChildLaws.{ends_last, leaf_read}
 use Rattle.name_page.specs.Cut.{is_before}
 use Rattle.name_btree.specs.Lookup.{IsReadLeaf}
 use Rattle.name_page.specs.declared.cut.Cut.TheVariants.{End}
 use Rattle.fsd_table.specs.declared.child.Child.{Child}
 use Rattle.std.proofs.lemmas.Result.{err_from_is_err_and}
-use Rattle.name_btree.proofs.VisitedLaws.{root_above, neighbour_breaks, shown_beside}
+use Rattle.name_btree.proofs.ways.VisitedLaws.{root_above, neighbour_breaks, shown_beside}
 use Rattle.name_btree.proofs.lookup.last_below.Goals as goal
 
 pub returns-then-count-eq0-clause-failed : goal.returns-then-count-eq0-clause-failed

@@ -3,8 +3,8 @@ use Rattle.std.specs.Prelude.{Err, IfSome}
 use Rattle.fsd_formats.specs.declared.entry.Entry.{Entry}
 use Rattle.fsd_formats.specs.NamePage.{FitsEntry}
 use Rattle.name_btree.specs.Lookup.{BeginsBehindPlace, EndsBeside, HasRight, IsFirstBelow, IsLeafBy}
-use Rattle.name_btree.proofs.DownLaws.{leaf_by, leaf_later, right_of}
-use Rattle.name_btree.proofs.LookupLaws.{find_contains, stands_in, good_entry, led_to, led_next, later_in_leaf, later_in_next}
+use Rattle.name_btree.proofs.ways.ChildLaws.{leaf_by, leaf_later, right_of}
+use Rattle.name_btree.proofs.finding.LookupLaws.{find_contains, stands_in, good_entry, led_to, led_next, later_in_leaf, later_in_next}
 use Rattle.std.specs.Option.{MatchOption, option_copied}
 use Rattle.fsd_table.specs.declared.child.Child.{Child}
 use Rattle.fsd_table.specs.Table.{top}
@@ -12,14 +12,14 @@ use Rattle.name_page.specs.Cut.{is_before}
 use Rattle.name_page.specs.declared.cut.Cut.{Cut}
 use Rattle.name_btree.specs.declared.descent.Neighbour.{Neighbour}
 use Rattle.name_btree.specs.declared.lookup.FoundEntry.{FoundEntry}
-use Rattle.name_page.specs.Looks.{Shows}
+use Rattle.name_page.specs.Looks.{ShowsEach}
 use Rattle.name_page.proofs.LookLaws.{reaches_then, shows_trusted, agrees_before, agrees_now}
 use Rattle.name_btree.specs.Fault.{BarsTable, FailsBeside}
 use Rattle.name_btree.specs.Descent.{IsLeafOfPlace, BeginsWithEntry}
-use Rattle.name_btree.proofs.NextLaws.{cut_tests, next_in_leaf, next_at_end, next_in_next}
+use Rattle.name_btree.proofs.finding.NextLaws.{cut_tests, next_in_leaf, next_at_end, next_in_next}
 use Rattle.std.proofs.lemmas.Result.{err_from_is_err_and}
-use Rattle.name_btree.proofs.VisitedLaws.{shown_next, shown_top, top_breaks, next_breaks}
-use Rattle.name_btree.proofs.WithinLaws.{fails_among}
+use Rattle.name_btree.proofs.ways.VisitedLaws.{shown_next, shown_top, top_breaks, next_breaks}
+use Rattle.name_btree.proofs.ways.ReachLaws.{fails_among}
 use Rattle.name_btree.proofs.lookup.next_after.Goals as goal
 
 pub returns-in-Some-clause-found : goal.returns-in-Some-clause-found
@@ -46,7 +46,7 @@ returns-in_ok-first_below-in-Some-next-clause-found g c = λ trusted.
     let e = c.in_ok-first_below-in-Some-next.field-0.entry in
     let new = c.first_below.new.t in
     let both = reaches_then g.T.Pages g.met.T.Pages.then c.args.t.now c.leaf_below.new.t new c.in_ok-found.ensures.calls second.calls in
-    let B : Neighbour → Type 0 = λ (n : Neighbour). Shows (g.T.Pages.step new) (λ x. BeginsWithEntry x n.child e) in
+    let B : Neighbour → Type 0 = λ (n : Neighbour). ShowsEach (g.T.Pages.step new) (λ x. BeginsWithEntry x n.child e) in
     let here : B c.in-Some-next.next = subst B c.in-Some-next.next-is second.found.first in
     let begin = shows_trusted g.T.Pages (λ x. BeginsWithEntry x c.in-Some-next.next.child e) c.args.t.now new both here trusted in
     next_in_next (option_copied c.args.after) cut pages found c.in-Some-next.next e c.cut_after-cut.ensures c.in-Some-next.is place begin (sym c.first_behind.ensures.first ∙ c.in_default.is)

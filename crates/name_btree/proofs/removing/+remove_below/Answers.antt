@@ -13,31 +13,31 @@ use Rattle.name_page.specs.declared.node.Node.{Node}
 use Rattle.name_page.specs.Node.{content_of}
 use Rattle.name_page.proofs.SideLaws.{without_used, without_fits}
 use Rattle.name_page.specs.Pages.{Step, with_images, is_spare, reaches}
-use Rattle.name_page.specs.Looks.{Shows}
+use Rattle.name_page.specs.Looks.{ShowsEach}
 use Rattle.name_page.specs.Parting.{used_by}
 use Rattle.name_page.proofs.LookLaws.{reaches_then, agrees_now, agrees_before}
 use Rattle.name_btree.specs.Draft.{drafted, IsTreeDraft}
 use Rattle.name_btree.specs.Fault.{FailsBy, IsMisfit}
-use Rattle.name_btree.proofs.CauseLaws.{fails_by_map}
-use Rattle.name_btree.proofs.OverLaws.{leaf_over}
+use Rattle.name_btree.proofs.steps.CauseLaws.{fails_by_map}
+use Rattle.name_btree.proofs.drafts.ReachedLaws.{leaf_over}
 use Rattle.name_btree.specs.Remove.{BreaksAround, IsTrimmedBelow, MayBeLeft, TrimsDraft}
 use Rattle.name_btree.specs.Trim.{IsUnlike, AreEntries, IsLeafPut, IsOpenedPage, IsTrimmedAbove, IsLeft, MayHave, sheets_below}
 use Rattle.name_btree.specs.declared.draft.Sheet.{Sheet}
 use Rattle.name_btree.specs.declared.trimming.Trimmed.{Trimmed}
 use Rattle.name_btree.specs.declared.trimming.Trimmed.TheVariants.{Whole}
 use Rattle.name_btree.specs.declared.trimming.Trimmed.TheVariants as left
-use Rattle.name_btree.proofs.AboveLaws.{mended_left, mended_freed, mended_sheets, room_left}
-use Rattle.name_btree.proofs.DraftLaws.{drafted_length}
-use Rattle.name_btree.proofs.MendLaws.{draft_kept, page_kept}
-use Rattle.name_btree.proofs.MendedLaws.{trimmed_above, breaks_above}
-use Rattle.name_btree.proofs.PairLaws.{child_is_at}
-use Rattle.name_btree.proofs.RemoveLaws.{misfit_below, leaf_most, leaf_left, leaf_trimmed, without_leaf}
-use Rattle.name_btree.proofs.ReplaceLaws.{few_in_leaf}
-use Rattle.name_btree.proofs.RootLaws.{mended_root}
-use Rattle.name_btree.proofs.UnlikeLaws.{unlike_above}
-use Rattle.name_btree.proofs.TrimLaws.{page_ways}
+use Rattle.name_btree.proofs.mending.ParentLaws.{mended_left, mended_freed, mended_sheets, room_left}
+use Rattle.name_btree.proofs.drafts.DraftLaws.{drafted_length}
+use Rattle.name_btree.proofs.mending.MendLaws.{draft_kept, page_kept}
+use Rattle.name_btree.proofs.mending.MendedLaws.{trimmed_above, breaks_above}
+use Rattle.name_btree.proofs.mending.PairLaws.{child_is_at}
+use Rattle.name_btree.proofs.mending.RemoveLaws.{misfit_below, leaf_most, leaf_left, leaf_trimmed, without_leaf}
+use Rattle.name_btree.proofs.steps.ReplaceLaws.{few_in_leaf}
+use Rattle.name_btree.proofs.mending.RootLaws.{mended_root}
+use Rattle.name_btree.proofs.mending.JoinLaws.{unlike_above}
+use Rattle.name_btree.proofs.mending.TrimLaws.{page_ways}
 use Rattle.name_btree.proofs.removing.+remove_below.Goals as goal
-use Rattle.name_btree.proofs.ResultLaws.{ok_both, ok_more, err_more}
+use Rattle.name_btree.proofs.steps.ResultLaws.{ok_both, ok_more, err_more}
 
 pub returns-in_err-entries : goal.returns-in_err-entries
 returns-in_err-entries g t c =
@@ -216,7 +216,7 @@ returns-in_ok-trimmed-in-Interior-clause-left g t c =
     let read = c.in_ok-entries.ensures.read in
     let first = c.in_ok-trimmed-in-Interior.ensures.calls.looks in
     let looks = c.trim_above.ensures.calls.looks in
-    ok_more c.trim_above.result (λ left. Shows s (λ pages. IsTrimmedAbove (with_images pages s) draft new child ways.0 ways.1 c.ways_before-i.result below left)) (MayBeLeft s (length old.images) child)
+    ok_more c.trim_above.result (λ left. ShowsEach s (λ pages. IsTrimmedAbove (with_images pages s) draft new child ways.0 ways.1 c.ways_before-i.result below left)) (MayBeLeft s (length old.images) child)
     (λ left m. record {
       page = page_kept mid_step s child.page (λ q h. looks.reached q (first.reached q h)) (looks.spares ∙ first.spares)
           (record { reached = read.reached; used = ap (λ (x : List Bool). is_spare x child.page) c.child_node.ensures.calls.looks.spares ∙ read.used });
@@ -235,7 +235,7 @@ returns-in_ok-trimmed-in-Interior-clause-drafted g t c =
     let i = c.ways_before-i.result in
     let below = c.in_ok-trimmed-in-Interior.trimmed in
     let d = c.in_ok-trimmed-in-Interior.ensures.drafted in
-    ok_both c.trim_above.result (IsTreeDraft s new) (λ left. Shows s (λ pages. IsTrimmedAbove (with_images pages s) mid new child ways.0 ways.1 i below left)) (λ left. TrimsDraft s draft new (sheets_below c.args.levels left) c.args.levels)
+    ok_both c.trim_above.result (IsTreeDraft s new) (λ left. ShowsEach s (λ pages. IsTrimmedAbove (with_images pages s) mid new child ways.0 ways.1 i below left)) (λ left. TrimsDraft s draft new (sheets_below c.args.levels left) c.args.levels)
     (λ left is m. record {
       draft = is;
       sheets = omega (arith, mended_sheets (with_images s.images s) mid new child ways.0 ways.1 i below left (length draft.sheets.items) c.args.levels c.if-levels-gt0.true d.sheets (m s.images (agrees_now s)));
@@ -256,8 +256,8 @@ returns-in_ok-trimmed-in-Interior-clause-trimmed g t c =
     let i = c.ways_before-i.result in
     let below = c.in_ok-trimmed-in-Interior.trimmed in
     let below_child = c.child_at-below.result in
-    ok_more c.trim_above.result (λ left. Shows s (λ pages. IsTrimmedAbove (with_images pages s) mid new child ways.0 ways.1 i below left))
-    (λ left. Shows s (λ pages. IsTrimmedBelow key (drafted draft.sheets.items pages) (drafted new.sheets.items pages) draft.freed.items new.freed.items c.args.levels child left))
+    ok_more c.trim_above.result (λ left. ShowsEach s (λ pages. IsTrimmedAbove (with_images pages s) mid new child ways.0 ways.1 i below left))
+    (λ left. ShowsEach s (λ pages. IsTrimmedBelow key (drafted draft.sheets.items pages) (drafted new.sheets.items pages) draft.freed.items new.freed.items c.args.levels child left))
     (λ left m images agrees.
     let agrees2 = agrees_before s2 s images c.trim_above.ensures.calls.looks agrees in
     let agrees1 = agrees_before s1 s2 images c.in_ok-trimmed-in-Interior.ensures.calls.looks agrees2 in

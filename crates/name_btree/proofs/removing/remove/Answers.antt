@@ -1,8 +1,8 @@
 use Rattle.std.proofs.Common.{◌≡◌, ◌∙◌, ◌+◌, ◌-◌, ◌≤◌, Bool, sym, ap, subst, length, List, ℕ, arith}
 use Rattle.name_page.specs.Looks.{OnlyWalks}
 use Rattle.name_page.specs.Pages.{Step, reaches, changes, is_spare}
-use Rattle.name_btree.proofs.CommitLaws.{commit_edits, commit_reaches, commit_changes, freed_spare}
-use Rattle.name_btree.proofs.DraftLaws.{committed_spares, drafted_length}
+use Rattle.name_btree.proofs.drafts.CommitLaws.{commit_edits, commit_reaches, commit_changes, freed_spare}
+use Rattle.name_btree.proofs.drafts.DraftLaws.{committed_spares, drafted_length}
 use Rattle.name_page.proofs.LookLaws.{looks_pages, pages_then, reaches_walks, walks_edits, walks_pages, edits_then, shows_trusted}
 use Rattle.name_btree.specs.Draft.{drafted, committed, freed, RemovesFrom}
 use Rattle.fsd_table.specs.Tree.{table_of}
@@ -10,11 +10,11 @@ use Rattle.name_page.specs.Edits.{without}
 use Rattle.name_btree.specs.Map.{HasTable}
 use Rattle.name_btree.specs.declared.draft.Sheet.{Sheet}
 use Rattle.name_btree.specs.Fault.{FailsTree, IsNoTree, outer_of}
-use Rattle.name_btree.proofs.CauseLaws.{fails_by_map}
-use Rattle.name_btree.proofs.SearchLaws.{shown_tree}
-use Rattle.name_btree.proofs.TableLaws.{table_without}
-use Rattle.name_btree.proofs.WithinLaws.{among_since}
-use Rattle.name_btree.proofs.WrittenPages.{commit_pages}
+use Rattle.name_btree.proofs.steps.CauseLaws.{fails_by_map}
+use Rattle.name_btree.proofs.finding.SearchLaws.{shown_tree}
+use Rattle.name_btree.proofs.steps.TableLaws.{table_without}
+use Rattle.name_btree.proofs.ways.ReachLaws.{among_since}
+use Rattle.name_btree.proofs.drafts.WrittenPages.{commit_pages}
 use Rattle.name_btree.proofs.removing.remove.Given as given
 use Rattle.name_btree.proofs.removing.remove.Goals as goal
 use Rattle.name_btree.proofs.removing.remove.Goals.{After-fault_of}

@@ -1,20 +1,20 @@
-use Rattle.std.proofs.Common.{◌≡◌, ◌+◌, ◌≤◌, ap, subst, length, List, ℕ, Some, arith}
+use Rattle.std.proofs.Common.{◌≡◌, ap, subst, length, List, ℕ, Some, arith}
 use Rattle.std.proofs.lemmas.Result.{err_from_is_err_and}
 use Rattle.fsd_table.specs.declared.child.Child.{Child}
 use Rattle.fsd_table.specs.Pages.{page_at}
 use Rattle.fsd_table.specs.Table.{top}
 use Rattle.name_page.specs.Pages.{with_images}
-use Rattle.name_page.specs.Looks.{Shows}
+use Rattle.name_page.specs.Looks.{ShowsEach}
 use Rattle.name_page.proofs.LookLaws.{reaches_then, agrees_now, agrees_before}
 use Rattle.name_btree.specs.Draft.{drafted, IsTreeDraft, RemovesFrom}
 use Rattle.name_btree.specs.Fault.{FailsBy, IsNoTree}
 use Rattle.name_btree.specs.Remove.{BreaksAround, IsTrimmedBelow, IsRootLeft, TrimsDraft}
 use Rattle.name_btree.specs.Trim.{IsFreeOrNone, IsTakenOver, sheets_below}
-use Rattle.name_btree.proofs.AboveLaws.{freed_more}
-use Rattle.name_btree.proofs.CauseLaws.{fails_by_map}
-use Rattle.name_btree.proofs.RootLaws.{whole_tree, shrunk_tree, free_breaks, around_breaks, only_of, on_ok_more}
+use Rattle.name_btree.proofs.mending.ParentLaws.{freed_more}
+use Rattle.name_btree.proofs.steps.CauseLaws.{fails_by_map}
+use Rattle.name_btree.proofs.mending.RootLaws.{whole_tree, shrunk_tree, free_breaks, around_breaks, only_of, on_ok_more}
 use Rattle.name_btree.proofs.removing.remove_in.Goals as goal
-use Rattle.name_btree.proofs.ResultLaws.{err_more, on_ok_both}
+use Rattle.name_btree.proofs.steps.ResultLaws.{err_more, on_ok_both}
 
 pub returns-in_err-remove_below-clause-fault : goal.returns-in_err-remove_below-clause-fault
 returns-in_err-remove_below-clause-fault g c =
@@ -55,7 +55,7 @@ returns-in-Interior-clause-drafted g c =
     let mid = c.remove_below.new.draft in
     let new = c.take_over.new.draft in
     let d = c.in_ok-remove_below.ensures.drafted in
-    on_ok_both c.take_over.result (IsTreeDraft s new) (Shows s (λ pages. IsTakenOver (with_images pages s) mid new c.in-Interior.only)) (TrimsDraft s c.args.draft.now new 8 6)
+    on_ok_both c.take_over.result (IsTreeDraft s new) (ShowsEach s (λ pages. IsTakenOver (with_images pages s) mid new c.in-Interior.only)) (TrimsDraft s c.args.draft.now new 8 6)
     (λ draft h. record {
       draft = draft;
       sheets = omega (arith, (h s.images (agrees_now s)).now.one, d.sheets, ap (sheets_below 5) c.in-Interior.is);
@@ -74,7 +74,7 @@ returns-in-Interior-clause-removed g c =
     let left = c.in_ok-remove_below.field-0 in
     let root = subst (λ (x : Child). IsRootLeft x.page left) c.top.ensures c.in_ok-remove_below.ensures.left.root in
     let is : only_of left ≡ Some only = ap only_of c.in-Interior.is in
-    on_ok_more c.take_over.result (Shows s (λ pages. IsTakenOver (with_images pages s) mid new only)) (Shows s (λ pages. RemovesFrom pages draft new key))
+    on_ok_more c.take_over.result (ShowsEach s (λ pages. IsTakenOver (with_images pages s) mid new only)) (ShowsEach s (λ pages. RemovesFrom pages draft new key))
     (λ taken images agrees height tree apart.
     let pages : List (List ℕ) = drafted draft.sheets.items images in
     let before = agrees_before between s images c.take_over.ensures.calls.looks agrees in

@@ -11,18 +11,18 @@ use Rattle.fsd_table.specs.Tree.{IsTree}
 use Rattle.name_btree.specs.declared.fault.TreeFault.TheVariants.{Broken}
 use Rattle.name_btree.specs.Fault.{FailsTree}
 use Rattle.name_btree.specs.Replace.{IsWritten, IsLeafAt}
-use Rattle.name_btree.proofs.ChangeLaws.{tree_replaced, table_replaced}
-use Rattle.name_btree.proofs.ReplaceLaws.{few_in_leaf, put_is_page, not_in_tree}
-use Rattle.name_btree.proofs.SearchLaws.{fails_tree}
-use Rattle.name_btree.proofs.VisitedLaws.{top_breaks}
-use Rattle.name_btree.proofs.WithinLaws.{among_since}
-use Rattle.name_btree.proofs.WrittenPages.{written_count, written_edits, written_one, written_pages}
+use Rattle.name_btree.proofs.steps.ChangeLaws.{tree_replaced, table_replaced}
+use Rattle.name_btree.proofs.steps.ReplaceLaws.{few_in_leaf, put_is_page, not_in_tree}
+use Rattle.name_btree.proofs.finding.SearchLaws.{fails_tree}
+use Rattle.name_btree.proofs.ways.VisitedLaws.{top_breaks}
+use Rattle.name_btree.proofs.ways.ReachLaws.{among_since}
+use Rattle.name_btree.proofs.drafts.WrittenPages.{written_count, written_edits, written_one, written_pages}
 use Rattle.name_page.specs.declared.cut.Cut.{Cut}
 use Rattle.fsd_table.specs.Table.{max_height, top}
 use Rattle.name_btree.specs.Fault.{outer_of}
 use Rattle.name_btree.specs.Path.{HasMet, Leads}
-use Rattle.name_btree.proofs.LeadLaws.{lead_met}
-use Rattle.name_btree.proofs.ReplaceLaws.{as_long_there}
+use Rattle.name_btree.proofs.ways.ResidentLaws.{lead_met}
+use Rattle.name_btree.proofs.steps.ReplaceLaws.{as_long_there}
 use Rattle.name_btree.proofs.replacing.replace_same_size.Goals as goal
 
 pub put_among-list-requires-clause-few : goal.put_among-list-requires-clause-few

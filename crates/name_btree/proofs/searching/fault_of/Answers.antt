@@ -3,8 +3,8 @@ use Rattle.fsd_bytes.specs.declared.refusal.Refusal.{Refusal}
 use Rattle.name_page.specs.Looks.{NeedsNoMore, OnlyWalks}
 use Rattle.name_page.proofs.LookLaws.{no_more_then, walks_then}
 use Rattle.name_btree.specs.Fault.{is_inner}
-use Rattle.name_btree.proofs.SearchLaws.{inner_broken, inner_untold, outer_fails}
-use Rattle.name_btree.proofs.WithinLaws.{outer_among}
+use Rattle.name_btree.proofs.finding.SearchLaws.{inner_broken, inner_untold, outer_fails}
+use Rattle.name_btree.proofs.ways.ReachLaws.{outer_among}
 use Rattle.name_btree.proofs.searching.fault_of.Goals as goal
 
 pub returns-then-is_inner-clause-calls : goal.returns-then-is_inner-clause-calls

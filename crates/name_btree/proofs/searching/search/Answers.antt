@@ -7,8 +7,8 @@ use Rattle.name_page.proofs.LookLaws.{no_more_then, rest_walks, walks_then}
 use Rattle.name_btree.specs.declared.fault.TreeFault.{TreeFault}
 use Rattle.name_btree.specs.Fault.{FailsTable, IsAmong, outer_of}
 use Rattle.name_btree.specs.Still.{HasRefusal}
-use Rattle.name_btree.proofs.SearchLaws.{clear_front}
-use Rattle.name_btree.proofs.RestLaws.{reaches_again, reaches_refused}
+use Rattle.name_btree.proofs.finding.SearchLaws.{clear_front}
+use Rattle.name_btree.proofs.steps.RestLaws.{reaches_again, reaches_refused}
 use Rattle.name_btree.proofs.searching.search.Goals as goal
 
 pub walk-requires : goal.walk-requires

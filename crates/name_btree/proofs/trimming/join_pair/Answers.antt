@@ -3,7 +3,7 @@ use Rattle.std.proofs.lemmas.Option.{slice_get_within}
 use Rattle.fsd_formats.specs.declared.page.Separator.{Separator}
 use Rattle.name_btree.specs.declared.draft.Sheet.{Sheet}
 use Rattle.name_btree.specs.Trim.{AreWays, AreWaysPut}
-use Rattle.name_btree.proofs.TrimLaws.{joined_ways}
+use Rattle.name_btree.proofs.mending.TrimLaws.{joined_ways}
 use Rattle.name_btree.proofs.trimming.join_pair.Goals as goal
 
 pub free-requires : goal.free-requires

@@ -14,15 +14,15 @@ use Rattle.name_page.specs.Node.{content_of}
 use Rattle.name_page.specs.Pages.{is_spare}
 use Rattle.name_page.proofs.LookLaws.{agrees_now}
 use Rattle.name_btree.specs.Fault.{IsMisfit}
-use Rattle.name_btree.proofs.CauseLaws.{fails_by_map}
-use Rattle.name_btree.proofs.DescentLaws.{misfit_leaf}
-use Rattle.name_btree.proofs.OverLaws.{leaves_over}
+use Rattle.name_btree.proofs.steps.CauseLaws.{fails_by_map}
+use Rattle.name_btree.proofs.ways.DescentLaws.{misfit_leaf}
+use Rattle.name_btree.proofs.drafts.ReachedLaws.{leaves_over}
 use Rattle.name_btree.specs.Draft.{drafted}
 use Rattle.name_btree.specs.Trim.{HasNoLeaf, MayHave, neighbour_of, child_of, both_entries, AreLeavesMended}
-use Rattle.name_btree.proofs.MendLaws.{draft_kept, page_kept, left_page, right_page, leaves_at, AreBothLeaves}
-use Rattle.name_btree.proofs.PairLaws.{sides_are}
-use Rattle.name_btree.proofs.ReplaceLaws.{few_in_leaf}
-use Rattle.name_btree.proofs.TrimLaws.{page_entries}
+use Rattle.name_btree.proofs.mending.MendLaws.{draft_kept, page_kept, left_page, right_page, leaves_at, AreBothLeaves}
+use Rattle.name_btree.proofs.mending.PairLaws.{sides_are}
+use Rattle.name_btree.proofs.steps.ReplaceLaws.{few_in_leaf}
+use Rattle.name_btree.proofs.mending.TrimLaws.{page_entries}
 use Rattle.name_btree.proofs.trimming.mend_leaf.Goals as goal
 
 pub listed-requires : goal.listed-requires

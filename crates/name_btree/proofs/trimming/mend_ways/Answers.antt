@@ -1,4 +1,5 @@
 use Rattle.std.proofs.Common.{◌≡◌, ◌∙◌, ◌≤◌, Bool, true, sym, ap, subst, length, ℕ, List, Some, arith, rules}
+use Rattle.std.proofs.lemmas.Option.{same_Some}
 use Rattle.std.proofs.lemmas.Bool.{true≢false}
 use Rattle.std.proofs.lemmas.Result.{err_from_is_err_and}
 use Rattle.std.specs.Prelude.{slice_get}
@@ -14,14 +15,14 @@ use Rattle.name_page.proofs.CountLaws.{few_separators}
 use Rattle.name_page.specs.Pages.{is_spare}
 use Rattle.name_page.proofs.LookLaws.{agrees_now}
 use Rattle.name_btree.specs.Fault.{IsMisfit}
-use Rattle.name_btree.proofs.CauseLaws.{fails_by_map}
-use Rattle.name_btree.proofs.OverLaws.{interiors_over}
+use Rattle.name_btree.proofs.steps.CauseLaws.{fails_by_map}
+use Rattle.name_btree.proofs.drafts.ReachedLaws.{interiors_over}
 use Rattle.name_btree.specs.Draft.{drafted}
 use Rattle.name_btree.specs.Trim.{HasNoWays, MayHave, AreWays, neighbour_of, child_of, AreWaysMended, ways_at, is_behind, right_at}
-use Rattle.name_btree.proofs.DraftLaws.{drafted_length}
-use Rattle.name_btree.proofs.MendLaws.{draft_kept, page_kept, left_page, right_page, ways_found, ways_count}
-use Rattle.name_btree.proofs.PairLaws.{sides_are, same_of}
-use Rattle.name_btree.proofs.TrimLaws.{least_of_page}
+use Rattle.name_btree.proofs.drafts.DraftLaws.{drafted_length}
+use Rattle.name_btree.proofs.mending.MendLaws.{draft_kept, page_kept, left_page, right_page, ways_found, ways_count}
+use Rattle.name_btree.proofs.mending.PairLaws.{sides_are}
+use Rattle.name_btree.proofs.mending.TrimLaws.{least_of_page}
 use Rattle.name_btree.proofs.trimming.mend_ways.Goals as goal
 
 pub ways_joined-requires-clause-others : goal.ways_joined-requires-clause-others
@@ -103,7 +104,7 @@ returns-in-Some-clause-mended g c = λ images agrees.
     let few = c.args.few.now.items in
     let draft = c.args.draft.now in
     let at = c.in_ok-others.ensures.read.node images agrees ∙ ap (λ (n : Node). Some (content_of n)) c.in-Interior.is in
-    let same = same_of c.get.result is.between (sym c.get.ensures.there ∙ is.there) in
+    let same = same_Some c.get.result is.between (sym c.get.ensures.there ∙ is.there) in
     let is_list : c.in-Some.joined.list.items ≡ ways_at c.args.i is.between.key c.args.first few others.0 others.1 = c.in-Some.ensures.list ∙ ap (λ (s : Separator). ways_at c.args.i s.key c.args.first few others.0 others.1) same in
     let put = subst (λ (n : ℕ). AreWaysMended new draft c.put_interiors.new.draft above.page ways.0 ways.1 pair n (ways_at c.args.i is.between.key c.args.first few others.0 others.1) c.put_interiors.result)
     c.in-Some.ensures.first

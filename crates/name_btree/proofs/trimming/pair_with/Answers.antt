@@ -1,5 +1,5 @@
 use Rattle.std.proofs.Common.{◌<◌, length, refl, arith}
-use Rattle.name_btree.proofs.PairLaws.{pair_is}
+use Rattle.name_btree.proofs.mending.PairLaws.{pair_is}
 use Rattle.name_btree.proofs.trimming.pair_with.Goals as goal
 
 pub returns-clause-pair : goal.returns-clause-pair

@@ -1,4 +1,5 @@
 use Rattle.std.proofs.Common.{◌≡◌, ◌∙◌, ◌+◌, ◌∷◌, ◌++◌, ◌<◌, ◌≤◌, ◌^◌, true, inl, inr, sym, ap, subst, length, take, drop, ℕ, List, Some, arith}
+use Rattle.std.proofs.lemmas.Option.{slice_get-get_or}
 use Rattle.std.specs.Prelude.{slice_get}
 use Rattle.std.specs.List.{AllByRecursion}
 use Rattle.fsd_bytes.specs.declared.key.Key.{Key}
@@ -10,9 +11,9 @@ use Rattle.name_page.proofs.CutPageLaws.{least_ways}
 use Rattle.name_page.proofs.FitsLaws.{key_short}
 use Rattle.name_btree.specs.Draft.{IsDrafted, with_freed}
 use Rattle.name_btree.specs.Trim.{IsBetween, separators_shared}
-use Rattle.name_btree.proofs.PairLaws.{at_place, parts_at}
-use Rattle.name_btree.proofs.PutLaws.{all_back, all_front, draft_with}
-use Rattle.name_btree.proofs.TrimLaws.{front_page, behind_page, good_at, separator_between, ways_page}
+use Rattle.name_btree.proofs.mending.PairLaws.{parts_at}
+use Rattle.name_btree.proofs.drafts.PutLaws.{all_back, all_front, draft_with}
+use Rattle.name_btree.proofs.mending.TrimLaws.{front_page, behind_page, good_at, separator_between, ways_page}
 use Rattle.name_btree.proofs.trimming.put_interiors.Goals as goal
 
 -- ---- one page
@@ -91,7 +92,7 @@ put_ways-requires-3 g c =
     let value = c.as_slice-list.ensures.value in
     let many : 8 < length items = omega (arith, ap length value) in
     let s : Separator = c.index-list-cut.result in
-    let at = at_place list c.args.cut s (omega (arith, ap length value, c.requires.behind many)) ∙ ap Some (sym c.index-list-cut.is) in
+    let at = slice_get-get_or list c.args.cut s (omega (arith, ap length value, c.requires.behind many)) ∙ ap Some (sym c.index-list-cut.is) in
     let is = c.split_at-2.ensures.back ∙ ap (drop (c.args.cut + 1)) value in
     let one = c.put_ways-2.ensures.sheets in
     record {
@@ -112,7 +113,7 @@ share_pair-requires g c =
     let value = c.as_slice-list.ensures.value in
     let many : 8 < length items = omega (arith, ap length value) in
     let s : Separator = c.index-list-cut.result in
-    let at = ap (λ (xs : List Separator). slice_get xs c.args.cut) (sym value) ∙ at_place list c.args.cut s (omega (arith, ap length value, c.requires.behind many)) ∙ ap Some (sym c.index-list-cut.is) in
+    let at = ap (λ (xs : List Separator). slice_get xs c.args.cut) (sym value) ∙ slice_get-get_or list c.args.cut s (omega (arith, ap length value, c.requires.behind many)) ∙ ap Some (sym c.index-list-cut.is) in
     let fit : FitsSeparator s = (all_split FitsSeparator (take c.args.cut items) (s ∷ drop (c.args.cut + 1) items) (subst (AllByRecursion FitsSeparator) (parts_at items c.args.cut s at) c.requires.fits)).1.0 in
     let key : is_key c.copied.result ≡ true = ap is_key c.copied.ensures ∙ good_at (length (g.T.Pages.step c.args.t.now).images) first items c.args.cut s c.requires.list at in
     let one = c.put_ways-2.ensures in
@@ -139,7 +140,7 @@ returns g c =
     let s : Separator = c.index-list-cut.result in
     let front = c.split_at.result.0.now in
     let behind = c.split_at-2.result.1.now in
-    let at = at_place list c.args.cut s (omega (arith, c.split_at-2.ensures.back_len)) ∙ ap Some (sym c.index-list-cut.is) in
+    let at = slice_get-get_or list c.args.cut s (omega (arith, c.split_at-2.ensures.back_len)) ∙ ap Some (sym c.index-list-cut.is) in
     let one = c.put_ways-2.ensures in
     let two = c.put_ways-3.ensures in
     let last = c.share_pair.new.draft.sheets.items in

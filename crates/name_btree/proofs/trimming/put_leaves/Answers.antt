@@ -1,4 +1,5 @@
 use Rattle.std.proofs.Common.{◌≡◌, ◌∙◌, ◌∷◌, ◌++◌, ◌≤◌, ◌<◌, ◌^◌, true, inl, inr, suc, sym, ap, subst, get_or, drop, drop-cons, length, ℕ, List, Some, arith}
+use Rattle.std.proofs.lemmas.Option.{slice_get-get_or}
 use Rattle.std.specs.Prelude.{slice_get}
 use Rattle.fsd_bytes.specs.declared.key.Key.{Key}
 use Rattle.fsd_bytes.specs.Keys.{is_key}
@@ -8,11 +9,11 @@ use Rattle.name_page.specs.Parting.{used_by}
 use Rattle.name_page.proofs.FitsLaws.{key_short}
 use Rattle.name_btree.specs.Draft.{IsDrafted, with_freed}
 use Rattle.name_btree.specs.Trim.{IsBetween, separators_shared}
-use Rattle.name_btree.proofs.GrowLaws.{behind_key}
-use Rattle.name_btree.proofs.PairLaws.{at_place, head_of}
+use Rattle.name_btree.proofs.growth.GrowLaws.{behind_key}
+use Rattle.name_btree.proofs.mending.PairLaws.{head_of}
 use Rattle.name_page.proofs.CutPageLaws.{leaf_page, least_of}
-use Rattle.name_btree.proofs.PutLaws.{all_back, all_front, draft_with}
-use Rattle.name_btree.proofs.TrimLaws.{entry_between}
+use Rattle.name_btree.proofs.drafts.PutLaws.{all_back, all_front, draft_with}
+use Rattle.name_btree.proofs.mending.TrimLaws.{entry_between}
 use Rattle.name_btree.proofs.trimming.put_leaves.Goals as goal
 
 -- ---- one leaf
@@ -92,7 +93,7 @@ share_pair-requires g c =
     let e : Entry = c.index-behind-0.result in
     let first = head_of list cut c.split_at.result.1.now e c.split_at.ensures.back in
     let y : Entry = get_or c.split_at.result.1.now 0 e in
-    let at : slice_get list cut ≡ Some y = at_place list cut e c.leaf_cut.ensures.behind ∙ ap Some first in
+    let at : slice_get list cut ≡ Some y = slice_get-get_or list cut e c.leaf_cut.ensures.behind ∙ ap Some first in
     let are = c.requires.entries in
     let one = c.put_leaf-2.ensures in
     let two = c.put_leaf-3.ensures in

@@ -1,7 +1,7 @@
 use Rattle.std.proofs.Common.{◌∙◌, ap, Some}
 use Rattle.name_page.specs.declared.node.Node.{Node}
 use Rattle.name_page.specs.Node.{content_of}
-use Rattle.name_btree.proofs.ReplaceLaws.{few_in_leaf}
+use Rattle.name_btree.proofs.steps.ReplaceLaws.{few_in_leaf}
 use Rattle.name_btree.proofs.trimming.put_on_top.Goals as goal
 
 pub listed-requires : goal.listed-requires

@@ -4,8 +4,8 @@ use Rattle.std.proofs.lemmas.Option.{slice_get_within}
 use Rattle.fsd_formats.specs.declared.page.Separator.{Separator}
 use Rattle.fsd_formats.specs.NamePage.{Content, Interior, FitsSeparator, is_page}
 use Rattle.name_btree.specs.Draft.{IsDrafted}
-use Rattle.name_btree.proofs.PutLaws.{draft_with}
-use Rattle.name_btree.proofs.TrimLaws.{shared_page}
+use Rattle.name_btree.proofs.drafts.PutLaws.{draft_with}
+use Rattle.name_btree.proofs.mending.TrimLaws.{shared_page}
 use Rattle.name_btree.proofs.trimming.share_pair.Goals as goal
 
 pub ways_replaced-separators-requires : goal.ways_replaced-separators-requires

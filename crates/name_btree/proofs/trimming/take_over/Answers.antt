@@ -4,14 +4,14 @@ use Rattle.fsd_formats.specs.NamePage.{is_page}
 use Rattle.fsd_table.proofs.PageLaws.{at_is_page}
 use Rattle.name_page.specs.Node.{content_of}
 use Rattle.name_page.proofs.LookLaws.{agrees_now}
-use Rattle.name_btree.proofs.CauseLaws.{fails_by_map}
-use Rattle.name_btree.proofs.OverLaws.{drafted_over}
+use Rattle.name_btree.proofs.steps.CauseLaws.{fails_by_map}
+use Rattle.name_btree.proofs.drafts.ReachedLaws.{drafted_over}
 use Rattle.name_btree.specs.Trim.{IsFreeOrNone}
 use Rattle.fsd_table.specs.Pages.{page_at}
 use Rattle.name_btree.specs.declared.draft.Sheet.{Sheet}
 use Rattle.name_btree.specs.Draft.{drafted, IsDrafted, with_freed}
-use Rattle.name_btree.proofs.DraftLaws.{drafted_length}
-use Rattle.name_btree.proofs.MendLaws.{draft_kept, page_kept}
+use Rattle.name_btree.proofs.drafts.DraftLaws.{drafted_length}
+use Rattle.name_btree.proofs.mending.MendLaws.{draft_kept, page_kept}
 use Rattle.name_btree.proofs.trimming.take_over.Goals as goal
 
 pub put_on_top-requires : goal.put_on_top-requires

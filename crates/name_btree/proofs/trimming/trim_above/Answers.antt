@@ -1,6 +1,6 @@
 use Rattle.std.proofs.Common.{sym, subst, refl, length, ◌∙◌}
 use Rattle.std.specs.Prelude.{IfErr, IfOk}
-use Rattle.name_page.specs.Looks.{Shows}
+use Rattle.name_page.specs.Looks.{ShowsEach}
 use Rattle.name_page.specs.Pages.{with_images}
 use Rattle.name_page.proofs.LookLaws.{reaches_still}
 use Rattle.name_btree.specs.declared.trimming.Trimmed.TheVariants.{Whole}
@@ -34,7 +34,7 @@ returns-in-Leaf-clause-mended g c =
     let s = g.T.Pages.step c.mend_leaf.new.t in
     let ways = c.args.ways.now in
     let P : Trimmed → Type 0 = λ (x : Trimmed).
-    IfOk c.mend_leaf.result (λ left. Shows s (λ pages. IsTrimmedAbove (with_images pages s) c.args.draft.now c.mend_leaf.new.draft c.args.above.now ways.0 ways.1 c.args.i x left)) in
+    IfOk c.mend_leaf.result (λ left. ShowsEach s (λ pages. IsTrimmedAbove (with_images pages s) c.args.draft.now c.mend_leaf.new.draft c.args.above.now ways.0 ways.1 c.args.i x left)) in
     subst P (sym c.in-Leaf.is) c.mend_leaf.ensures.mended
 
 pub returns-in-Leaf-clause-calls : goal.returns-in-Leaf-clause-calls
@@ -56,7 +56,7 @@ returns-in-Interior-clause-mended g c =
     let s = g.T.Pages.step c.mend_ways.new.t in
     let ways = c.args.ways.now in
     let P : Trimmed → Type 0 = λ (x : Trimmed).
-    IfOk c.mend_ways.result (λ left. Shows s (λ pages. IsTrimmedAbove (with_images pages s) c.args.draft.now c.mend_ways.new.draft c.args.above.now ways.0 ways.1 c.args.i x left)) in
+    IfOk c.mend_ways.result (λ left. ShowsEach s (λ pages. IsTrimmedAbove (with_images pages s) c.args.draft.now c.mend_ways.new.draft c.args.above.now ways.0 ways.1 c.args.i x left)) in
     subst P (sym c.in-Interior.is) c.mend_ways.ensures.mended
 
 pub returns-in-Interior-clause-calls : goal.returns-in-Interior-clause-calls

@@ -11,15 +11,15 @@ use Rattle.name_page.specs.declared.node.Node.{Node}
 use Rattle.name_page.specs.Node.{content_of}
 use Rattle.name_btree.specs.Walk.{is_marked, IsWalkedSubtree, AreWalked, ComesTo, FailsOver}
 use Rattle.name_page.proofs.CountLaws.{few_separators, few_entries, take_short, take_whole}
-use Rattle.name_btree.proofs.ResultLaws.{ok_more, err_more}
+use Rattle.name_btree.proofs.steps.ResultLaws.{ok_more, err_more}
 use Rattle.fsd_table.proofs.PageLaws.{length_of_children}
 use Rattle.name_btree.specs.Fault.{BarsPage, IsAmong}
 use Rattle.name_btree.specs.Still.{HasRefusal}
-use Rattle.name_btree.proofs.RestLaws.{refused_rested}
-use Rattle.name_btree.proofs.MarkLaws.{one_marked, still_marked}
-use Rattle.name_btree.proofs.WalkLaws.{all_at, one_more, above_walked}
-use Rattle.name_btree.proofs.WithinLaws.{IsWithin, misfit_among, ways_within}
-use Rattle.name_btree.proofs.ComeLaws.{marked_breaks, leaf_breaks, interior_breaks, comes_below, comes_along, walk_map, walk_here}
+use Rattle.name_btree.proofs.steps.RestLaws.{refused_rested}
+use Rattle.name_btree.proofs.walks.MarkLaws.{one_marked, still_marked}
+use Rattle.name_btree.proofs.walks.WalkLaws.{all_at, one_more, above_walked}
+use Rattle.name_btree.proofs.ways.ReachLaws.{IsWithin, misfit_among, ways_within}
+use Rattle.name_btree.proofs.walks.FaultLaws.{marked_breaks, leaf_breaks, interior_breaks, comes_below, comes_along, walk_map, walk_here}
 use Rattle.name_btree.proofs.walking.+walk.Goals as goal
 use Rattle.name_btree.proofs.walking.+walk.Goals.{walk_below-in_default-via-in-Leaf+else-level-eq0, walk_below-in_default-via-in-Interior+else-level-gt0, walk_below-in_default-via-in_default}
 

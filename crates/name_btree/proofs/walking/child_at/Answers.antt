@@ -4,7 +4,7 @@ use Rattle.fsd_forest.specs.Ways.{end_of}
 use Rattle.fsd_bytes.specs.declared.key.Key.{Key}
 use Rattle.fsd_table.specs.declared.child.Child.{Child}
 use Rattle.fsd_table.specs.Pages.{children}
-use Rattle.name_btree.proofs.WalkLaws.{child_first, child_later}
+use Rattle.name_btree.proofs.walks.WalkLaws.{child_first, child_later}
 use Rattle.name_btree.proofs.walking.child_at.Goals as goal
 
 pub returns-then-i-eq0 : goal.returns-then-i-eq0

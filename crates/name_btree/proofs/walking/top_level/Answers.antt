@@ -11,10 +11,10 @@ use Rattle.name_page.specs.declared.node.Node.{Node}
 use Rattle.name_page.specs.Node.{content_of}
 use Rattle.name_btree.specs.Fault.{BarsPage}
 use Rattle.name_btree.specs.Still.{HasRefusal}
-use Rattle.name_btree.proofs.RestLaws.{refused_rested}
-use Rattle.name_btree.proofs.WalkLaws.{all_at}
-use Rattle.name_btree.proofs.WithinLaws.{IsWithin, misfit_among, ways_within}
-use Rattle.name_btree.proofs.TopLaws.{IsDown, down_begins, down_first, down_ends, down_breaks}
+use Rattle.name_btree.proofs.steps.RestLaws.{refused_rested}
+use Rattle.name_btree.proofs.walks.WalkLaws.{all_at}
+use Rattle.name_btree.proofs.ways.ReachLaws.{IsWithin, misfit_among, ways_within}
+use Rattle.name_btree.proofs.walks.TopLaws.{IsDown, down_begins, down_first, down_ends, down_breaks}
 use Rattle.name_btree.proofs.walking.top_level.Goals as goal
 
 pub loop-level-init : goal.loop-level-init

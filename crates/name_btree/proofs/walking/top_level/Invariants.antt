@@ -1,6 +1,6 @@
 use Rattle.std.proofs.Common.{None, ◌<◌, length}
 use Rattle.name_page.specs.Looks.{NeedsNoMore, OnlyWalks}
-use Rattle.name_btree.proofs.TopLaws.{IsDown}
+use Rattle.name_btree.proofs.walks.TopLaws.{IsDown}
 use Rattle.name_btree.proofs.walking.top_level.Given as goal
 
 -- so many levels down

@@ -7,9 +7,9 @@ use Rattle.name_btree.specs.Fault.{FailsAmong, IsAmong}
 use Rattle.name_btree.specs.Still.{HasRefusal}
 use Rattle.name_btree.specs.Walk.{is_marked, IsWalkedSubtree, IsTopLevel, IsCountedTree, FailsOver}
 use Rattle.name_page.specs.Pages.{rested}
-use Rattle.name_btree.proofs.ResultLaws.{ok_more, err_given, err_more}
-use Rattle.name_btree.proofs.TopLaws.{counted}
-use Rattle.name_btree.proofs.ComeLaws.{walk_whole}
+use Rattle.name_btree.proofs.steps.ResultLaws.{ok_more, err_given, err_more}
+use Rattle.name_btree.proofs.walks.TopLaws.{counted}
+use Rattle.name_btree.proofs.walks.FaultLaws.{walk_whole}
 use Rattle.name_btree.proofs.walking.walk.Goals as goal
 
 pub returns-clause-calls : goal.returns-clause-calls

@@ -1,5 +1,5 @@
 use Rattle.fsd_formats.specs.NamePage.{Leaf}
-use Rattle.name_btree.proofs.SetLaws.{written}
+use Rattle.name_btree.proofs.drafts.SetLaws.{written}
 use Rattle.name_btree.proofs.writing.put_leaf.Goals as goal
 
 pub returns-clause-outside : goal.returns-clause-outside

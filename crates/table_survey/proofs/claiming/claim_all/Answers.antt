@@ -13,7 +13,7 @@ use Rattle.name_page.proofs.LookLaws.{reaches_still, reaches_walks, rest_reaches
 use Rattle.name_btree.specs.declared.fault.TreeFault.{TreeFault}
 use Rattle.name_btree.specs.Fault.{outer_of, IsAmong, IsOnWay}
 use Rattle.name_btree.specs.Lookup.{found_entry, IsInPlace, TellsLater}
-use Rattle.name_btree.proofs.WithinLaws.{among_since}
+use Rattle.name_btree.proofs.ways.ReachLaws.{among_since}
 use Rattle.run_table.specs.Space.{contains}
 use Rattle.sector_set.specs.Area.{Area, IsOwn, area}
 use Rattle.table_survey.specs.Claims.{FailsClaims}

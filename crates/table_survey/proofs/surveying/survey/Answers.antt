@@ -5,7 +5,7 @@ use Rattle.fsd_table.specs.Table.{BreaksTable}
 use Rattle.fsd_table.specs.Tree.{IsTree}
 use Rattle.name_page.proofs.LookLaws.{walks_then}
 use Rattle.name_btree.specs.Fault.{BarsTable, IsAmong}
-use Rattle.name_btree.proofs.CauseLaws.{cause_map}
+use Rattle.name_btree.proofs.steps.CauseLaws.{cause_map}
 use Rattle.table_survey.specs.Claims.{whole_area}
 use Rattle.volume_layout.specs.declared.layout.Layout.{Layout}
 use Rattle.run_table.specs.Space.{contains}
@@ -30,10 +30,7 @@ returns-in_err-versions g c =
     rw (p.1, p.2) (record {
       calls = failed.calls;
       among = failed.failed.among;
-      told = tt;
-      unbroken = tt;
-      area = tt;
-      counted = tt;
+      surveys = tt;
       fault = cause_map s (λ page. G.trusted new → BreaksTable s.images page) (λ page. G.trusted new → Breaks c.args.l.now s.images page)
           (λ page. G.trusted new → BarsTable s page) (λ page. G.trusted new → BarsTable s page) (λ page breaks trusted. inl (breaks trusted)) (λ page bars. bars) c.in_err-versions.field-0.0 failed.failed.cause;
     })
@@ -53,10 +50,7 @@ returns-in_err-claim_all g c =
     rw (p.1, p.2) (record {
       calls = walks_then G g.met.T.Pages.then c.args.t.now c.walk.new.t new first.calls second;
       among = subst (λ (pages : ℕ). 0 < pages → IsAmong pages why) first.calls.count failed.among;
-      told = tt;
-      unbroken = tt;
-      area = tt;
-      counted = tt;
+      surveys = tt;
       fault = cause_map s (λ page. G.trusted new → (k : Layout) → c.args.map.now ≡ whole_area k → (height : ℕ) → IsTree s.images height → Breaks k s.images page) (λ page. G.trusted new → Breaks l s.images page)
           (λ page. G.trusted new → BarsTable s page) (λ page. G.trusted new → BarsTable s page)
           (λ page b trusted.
@@ -78,9 +72,11 @@ returns g c =
     record {
       calls = walks_then G g.met.T.Pages.then c.args.t.now c.walk.new.t c.claim_all.new.t first.calls second.calls;
       among = λ some. tt;
-      told = λ trusted. surveyed l s c.walk.new.reached free c.in_ok-versions.versions (first.counted (second.calls.trust trusted)) (claims trusted) c.marked_count-pages.result (c.walk.auto.reached ∙ c.requires.whole) c.marked_count-pages.ensures;
-      unbroken = λ trusted. unbroken l s c.walk.new.reached free c.in_ok-versions.versions (first.counted (second.calls.trust trusted)) (claims trusted);
-      area = second.area ∙ ap (λ (m : Area). area m.from m.to (contains free.sectors)) c.requires.map;
-      counted = c.marked_count-pages.ensures;
+      surveys = record {
+        told = λ trusted. surveyed l s c.walk.new.reached free c.in_ok-versions.versions (first.counted (second.calls.trust trusted)) (claims trusted) c.marked_count-pages.result (c.walk.auto.reached ∙ c.requires.whole) c.marked_count-pages.ensures;
+        unbroken = λ trusted. unbroken l s c.walk.new.reached free c.in_ok-versions.versions (first.counted (second.calls.trust trusted)) (claims trusted);
+        area_is = second.area ∙ ap (λ (m : Area). area m.from m.to (contains free.sectors)) c.requires.map;
+        counted = c.marked_count-pages.ensures;
+      };
       fault = tt;
     }

@@ -2,13 +2,13 @@ use Rattle.std.proofs.Common.{◌≡◌, ◌∙◌, ℕ, List, [], None, Some, a
 use Rattle.std.proofs.lemmas.Result.{err_from_is_err_and}
 use Rattle.fsd_formats.specs.declared.entry.Entry.{Entry}
 use Rattle.fsd_table.specs.Tree.{table_of}
-use Rattle.name_page.specs.Lookups.{entry_after, same_name}
+use Rattle.name_page.specs.Lookups.{first_after, same_name}
 use Rattle.name_page.specs.Pages.{reaches}
 use Rattle.name_page.proofs.LookLaws.{reaches_still, reaches_walks, rest_reaches}
 use Rattle.name_btree.specs.declared.lookup.FoundEntry.{FoundEntry}
 use Rattle.name_btree.specs.Fault.{IsAmong}
 use Rattle.name_btree.specs.Lookup.{IsMetAs, IsNextAfter, TellsLater, found_entry}
-use Rattle.name_btree.proofs.LookupLaws.{if_named, one_name}
+use Rattle.name_btree.proofs.finding.LookupLaws.{if_named, one_name}
 use Rattle.version_table.specs.Met.{IsMetBetween, leaving_of}
 use Rattle.version_table.specs.Versions.{IsFirstBehind, versions_behind}
 use Rattle.version_table.proofs.OldestLaws.{next_named, next_none}
@@ -51,7 +51,7 @@ returns-in-Some g c =
       });
       found = of_rested P a b now c.rest.ensures.step (λ (table : List Entry). IsFirstBehind key table c.named.result) (λ trusted height tree.
           let pages = (P.step b).images in
-          let found : entry_after (Some key) (table_of pages height) ≡ Some f.entry = sym (e.found trusted height tree) ∙ ap found_entry c.in-Some.is in
+          let found : first_after (Some key) (table_of pages height) ≡ Some f.entry = sym (e.found trusted height tree) ∙ ap found_entry c.in-Some.is in
           next_named key f c.named.result (table_of pages height) (tree_ascends pages height tree) c.named.ensures found);
       fault = tt;
       shown = tt;
@@ -71,7 +71,7 @@ returns-in-None g c =
       met = tt;
       found = of_rested P a b now c.rest.ensures.step (λ (table : List Entry). versions_behind key table ≡ []) (λ trusted height tree.
           let pages = (P.step b).images in
-          let found : entry_after (Some key) (table_of pages height) ≡ None = sym (e.found trusted height tree) ∙ ap found_entry c.in-None.is in
+          let found : first_after (Some key) (table_of pages height) ≡ None = sym (e.found trusted height tree) ∙ ap found_entry c.in-None.is in
           next_none key (table_of pages height) (tree_ascends pages height tree) found);
       fault = tt;
       shown = tt;

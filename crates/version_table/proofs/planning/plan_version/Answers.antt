@@ -11,7 +11,7 @@ use Rattle.name_page.specs.Pages.{reaches}
 use Rattle.name_page.proofs.LookLaws.{rest_reaches, walks_then}
 use Rattle.name_btree.specs.Fault.{IsAmong}
 use Rattle.name_btree.specs.Lookup.{found_entry}
-use Rattle.name_btree.proofs.LookupLaws.{each_told}
+use Rattle.name_btree.proofs.finding.LookupLaws.{each_told}
 use Rattle.version_table.specs.Met.{IsMetBetween, entries_left}
 use Rattle.version_table.specs.Table.{OfTable}
 use Rattle.version_table.specs.Versions.{oldest_beyond, versions_of}

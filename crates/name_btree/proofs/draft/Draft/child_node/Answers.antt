@@ -4,8 +4,8 @@ use Rattle.fsd_table.specs.Pages.{page_at, content_fits}
 use Rattle.name_page.specs.Node.{content_of}
 use Rattle.name_btree.specs.Draft.{drafted}
 use Rattle.name_btree.specs.Fault.{IsMisfit}
-use Rattle.name_btree.proofs.CauseLaws.{fails_by_map}
-use Rattle.name_btree.proofs.DraftLaws.{drafted_length}
+use Rattle.name_btree.proofs.steps.CauseLaws.{fails_by_map}
+use Rattle.name_btree.proofs.drafts.DraftLaws.{drafted_length}
 use Rattle.name_page.proofs.NodeLaws.{past_end}
 use Rattle.name_btree.proofs.draft.Draft.child_node.Goals as goal
 

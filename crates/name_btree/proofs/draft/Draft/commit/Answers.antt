@@ -3,7 +3,7 @@ use Rattle.std.specs.List.{AllByRecursion}
 use Rattle.name_page.specs.Pages.{Step}
 use Rattle.name_btree.specs.Draft.{committed, MayGo}
 use Rattle.name_btree.specs.declared.draft.Sheet.{Sheet}
-use Rattle.name_btree.proofs.DraftLaws.{may_go, freed_images, committed_images}
+use Rattle.name_btree.proofs.drafts.DraftLaws.{may_go, freed_images, committed_images}
 use Rattle.name_btree.proofs.draft.Draft.commit.Goals as goal
 
 pub free_pages-requires-clause-pages : goal.free_pages-requires-clause-pages

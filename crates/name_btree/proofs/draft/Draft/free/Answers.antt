@@ -1,7 +1,7 @@
 use Rattle.std.proofs.Common.{◌≡◌, ◌∙◌, ap, sym, refl, false, List, ℕ}
 use Rattle.run_table.specs.Space.{contains}
 use Rattle.name_btree.specs.declared.draft.Draft.{Draft}
-use Rattle.name_btree.proofs.GrowLaws.{draft_frees}
+use Rattle.name_btree.proofs.growth.GrowLaws.{draft_frees}
 use Rattle.name_btree.proofs.draft.Draft.free.Goals as goal
 
 pub returns-then-not-contains-clause-draft : goal.returns-then-not-contains-clause-draft

@@ -5,13 +5,13 @@ use Rattle.name_page.specs.Pages.{is_spare}
 use Rattle.name_page.proofs.LookLaws.{reaches_still, agrees_at}
 use Rattle.name_btree.specs.Fault.{FailsBy}
 use Rattle.name_btree.specs.Still.{FailsPage, IsReadPage}
-use Rattle.name_btree.proofs.CauseLaws.{fails_at}
+use Rattle.name_btree.proofs.steps.CauseLaws.{fails_at}
 use Rattle.fsd_table.specs.Pages.{page_at}
 use Rattle.name_btree.specs.Draft.{last_sheet, drafted, IsSeenPage}
 use Rattle.name_page.specs.Node.{content_of}
-use Rattle.name_btree.proofs.DraftLaws.{sheet_is, sheet_has, sheets_kept, drafted_at, by_sheet}
+use Rattle.name_btree.proofs.drafts.DraftLaws.{sheet_is, sheet_has, sheets_kept, drafted_at, by_sheet}
 use Rattle.name_btree.proofs.draft.Draft.node_at.Goals as goal
-use Rattle.name_btree.proofs.ResultLaws.{err_more, ok_more}
+use Rattle.name_btree.proofs.steps.ResultLaws.{err_more, ok_more}
 
 pub node_in-requires : goal.node_in-requires
 node_in-requires g c =

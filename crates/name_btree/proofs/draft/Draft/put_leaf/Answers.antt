@@ -1,6 +1,6 @@
 use Rattle.std.proofs.Common.{length}
 use Rattle.fsd_formats.specs.NamePage.{Leaf}
-use Rattle.name_btree.proofs.DraftLaws.{drafted_more}
+use Rattle.name_btree.proofs.drafts.DraftLaws.{drafted_more}
 use Rattle.name_btree.proofs.draft.Draft.put_leaf.Goals as goal
 
 pub returns-clause-sheets : goal.returns-clause-sheets

@@ -1,7 +1,7 @@
 use Rattle.std.proofs.Common.{length}
 use Rattle.fsd_formats.specs.NamePage.{Interior}
 use Rattle.name_page.proofs.CountLaws.{interior_few}
-use Rattle.name_btree.proofs.DraftLaws.{drafted_more}
+use Rattle.name_btree.proofs.drafts.DraftLaws.{drafted_more}
 use Rattle.name_page.proofs.WaysLaws.{ways_keys}
 use Rattle.name_btree.proofs.draft.Draft.put_ways.Goals as goal
 

@@ -3,14 +3,14 @@ use Rattle.std.specs.Prelude.{slice_get, slice_index}
 use Rattle.fsd_bytes.specs.Keys.{key_cmp}
 use Rattle.fsd_formats.specs.declared.entry.Entry.{Entry}
 use Rattle.name_page.specs.Fault.{key_at}
-use Rattle.name_page.specs.Reading.{StandsAt, entry_at, entries_in}
+use Rattle.name_page.specs.Reading.{StandsAt, entry_at, entries_read}
 use Rattle.name_page.proofs.node.Entries.compare.Goals as goal
 
 pub returns : goal.returns
 returns c =
     let b : List ℕ = c.self.inside.image in
     let place : ℕ = slice_index c.self.inside.places c.args.i in
-    let within : c.args.i < length (entries_in b) = subst (λ (xs : List Entry). c.args.i < length xs) (sym c.self.view_is) c.requires in
+    let within : c.args.i < length (entries_read b) = subst (λ (xs : List Entry). c.args.i < length xs) (sym c.self.view_is) c.requires in
     let stands : StandsAt b c.args.i place = c.self.invariant.2.each c.args.i within in
     let there = subst (λ (xs : List Entry). slice_get xs c.args.i ≡ Some (entry_at place b)) c.self.view_is stands.there in
     (entry_at place b, there, c.compare_entry.ensures ∙ ap (λ (p : ℕ). key_cmp (key_at p b) c.args.key.now) c.from.ensures)

@@ -1,4 +1,4 @@
-use Rattle.std.proofs.Common.{◌≡◌, inl, inr, ◌∙◌, ℕ, ◌+◌, List, None, length, true, refl, sym, ap, subst, arith}
+use Rattle.std.proofs.Common.{◌≡◌, inl, inr, ◌∙◌, ℕ, ◌+◌, List, None, Some, length, true, refl, sym, ap, subst, arith, ◌++◌, ◌∷◌, []}
 use Rattle.std.specs.Prelude.{IsSome, option_and_then}
 use Rattle.fsd_bytes.specs.declared.refusal.Refusal.TheVariants.{Unsound}
 use Rattle.fsd_formats.specs.NamePage.{read_page}
@@ -7,7 +7,8 @@ use Rattle.name_page.specs.Pages.{is_one_of, outer_in}
 use Rattle.name_page.proofs.StepLaws.{last_is_one}
 use Rattle.page_cache.specs.Accepted.{cached_content}
 use Rattle.table_pages.specs.Bringing.{HasRoomFor, FetchesOnly, given_by, IsHit}
-use Rattle.table_pages.specs.Kept.{IsKeptSince}
+use Rattle.table_pages.specs.Kept.{IsKeptSince, images_given}
+use Rattle.table_pages.specs.Table.{step_of}
 use Rattle.table_pages.specs.ImageLaws.{image_count}
 use Rattle.table_pages.proofs.LastLaws.{Lasts}
 use Rattle.table_pages.proofs.PinLaws.{set_only, only_there, same_there}
@@ -80,52 +81,59 @@ returns-in-Ok-clause-outside g c =
     let all = fetches g (goal.at.returns-in-Ok-clause-outside g c).After-keep in
     record { reads = all.reads; loses = all.loses; fills = all.fills; source = refl; machine = refl; cache = refl; free = refl; made_over = refl; made_with = refl; count = refl; home_a = refl; taken = λ page is. inl is; barred = λ h place is. inl is }
 
-pub returns-in-Ok-clause-kept : goal.returns-in-Ok-clause-kept
-returns-in-Ok-clause-kept g c = fetched_keeps c.args.self.now None c.bring_used.new.m c.keep.new.cache (fetches g (goal.at.returns-in-Ok-clause-kept g c).After-keep)
-
-pub returns-in-Ok-clause-stays : goal.returns-in-Ok-clause-stays
-returns-in-Ok-clause-stays g c = λ trusted.
+pub returns-in-Ok-clause-images : goal.returns-in-Ok-clause-images
+returns-in-Ok-clause-images g c =
     let t = c.args.self.now in
-    fetched_images g.M.Machine g.S.PageSource t.source.now t.made_over.value t.made_with.value t.m.now t.cache.now t.free.now t.reached.items t.spares.items t.promised t.kept None c.bring_used.new.m c.keep.new.cache
-    (fetches g (goal.at.returns-in-Ok-clause-stays g c).After-keep) (lasts g) trusted
+    let all = fetches g (goal.at.returns-in-Ok-clause-images g c).After-keep in
+    record {
+      kept = fetched_keeps t None c.bring_used.new.m c.keep.new.cache all;
+      stays = fetched_images g.M.Machine g.S.PageSource t.source.now t.made_over.value t.made_with.value t.m.now t.cache.now t.free.now t.reached.items t.spares.items t.promised t.kept None c.bring_used.new.m c.keep.new.cache all (lasts g);
+    }
 
-pub returns-in-Ok-clause-reached : goal.returns-in-Ok-clause-reached
-returns-in-Ok-clause-reached g c =
+pub returns-in-Ok-clause-done : goal.returns-in-Ok-clause-done
+returns-in-Ok-clause-done g c =
     let t = c.args.self.now in
     let page = c.args.page in
     let lt = within_free t page c.requires.within in
     let count = image_count (newest_bytes c.keep.new.cache (given_by g.M.Machine g.S.PageSource t.source.now c.bring_used.new.m)) (length t.free.now) in
     let one : is_one_of c.keep.new.list.items page ≡ true = ap (λ (pages : List ℕ). is_one_of pages page) c.keep.ensures.noted ∙ last_is_one t.reached.items page in
-    (omega (arith, lt, count), rw one refl)
-
-pub returns-in-Ok-clause-accepted : goal.returns-in-Ok-clause-accepted
-returns-in-Ok-clause-accepted g c =
-    let t = c.args.self.now in
-    let page = c.args.page in
     let mid = c.bring_used.new.cache in
     let new = c.keep.new.cache in
     let only = set_only mid new page (pins_of mid page + 1) c.keep.ensures.pinned in
     let there : IsResident new page = only_there mid new only page c.in-Ok.ensures.done.there in
-    let is = page_in new (given_by g.M.Machine g.S.PageSource t.source.now c.bring_used.new.m) (length t.free.now) page there (within_free t page c.requires.within) in
+    let is = page_in new (given_by g.M.Machine g.S.PageSource t.source.now c.bring_used.new.m) (length t.free.now) page there lt in
     let same : cached_content new (length t.free.now) page ≡ cached_content mid (length t.free.now) page = ap (λ o. option_and_then (read_page page (length t.free.now)) o) (only.bytes page) in
-    subst (λ o. IsSome o) (sym (is ∙ same)) c.in-Ok.ensures.done.accepted
+    let images = images_given (newest_bytes new (given_by g.M.Machine g.S.PageSource t.source.now c.bring_used.new.m)) (length t.free.now) in
+    let same_dirty : new.dirty ≡ t.cache.now.dirty = (fetches g (goal.at.returns-in-Ok-clause-done g c).After-keep).brings.dirty in
+    record {
+      step =
+          ap (λ (pages : List ℕ). record (step_of t) { images = images; reached = pages; changed = new.dirty }) c.keep.ensures.noted
+          ∙ ap (λ (pages : List ℕ). record (step_of t) { images = images; reached = t.reached.items ++ page ∷ []; changed = pages }) same_dirty;
+      reached = (omega (arith, lt, count), rw one refl);
+      accepted = subst (λ o. IsSome o) (sym (is ∙ same)) c.in-Ok.ensures.done.accepted;
+      used = c.in-Ok.ensures.done.used;
+    }
 
-pub returns-in-Err-clause-kept : goal.returns-in-Err-clause-kept
-returns-in-Err-clause-kept g c = fetched_keeps c.args.self.now (outer_in c.bring_used.result) c.bring_used.new.m c.bring_used.new.cache c.bring_used.ensures.fetches
-
-pub returns-in-Err-clause-stays : goal.returns-in-Err-clause-stays
-returns-in-Err-clause-stays g c = λ trusted.
+pub returns-in-Err-clause-images : goal.returns-in-Err-clause-images
+returns-in-Err-clause-images g c =
     let t = c.args.self.now in
-    fetched_images g.M.Machine g.S.PageSource t.source.now t.made_over.value t.made_with.value t.m.now t.cache.now t.free.now t.reached.items t.spares.items t.promised t.kept (outer_in c.bring_used.result) c.bring_used.new.m c.bring_used.new.cache
-    c.bring_used.ensures.fetches (lasts g) trusted
+    let told = outer_in c.bring_used.result in
+    record {
+      kept = fetched_keeps t told c.bring_used.new.m c.bring_used.new.cache c.bring_used.ensures.fetches;
+      stays = fetched_images g.M.Machine g.S.PageSource t.source.now t.made_over.value t.made_with.value t.m.now t.cache.now t.free.now t.reached.items t.spares.items t.promised t.kept told c.bring_used.new.m c.bring_used.new.cache c.bring_used.ensures.fetches (lasts g);
+    }
 
-pub returns-in-Err-clause-cause : goal.returns-in-Err-clause-cause
-returns-in-Err-clause-cause g c =
+pub returns-in-Err-clause-refused : goal.returns-in-Err-clause-refused
+returns-in-Err-clause-refused g c =
     let t = c.args.self.now in
-    elim (c.in-Err.ensures.cause) [
-      | inl outer ↦ inl outer
-      | inr bad ↦ inr (bad.0, barred t.free.now c.bring_used.new.cache (given_by g.M.Machine g.S.PageSource t.source.now c.bring_used.new.m) c.args.page (within_free t c.args.page c.requires.within) bad.1)
-    ]
+    let images = images_given (newest_bytes c.bring_used.new.cache (given_by g.M.Machine g.S.PageSource t.source.now c.bring_used.new.m)) (length t.free.now) in
+    record {
+      step = ap (λ (pages : List ℕ). record (step_of t) { images = images; refusal = Some c.in-Err.refusal; changed = pages }) c.in-Err.ensures.fetches.brings.dirty;
+      cause = elim (c.in-Err.ensures.cause) [
+        | inl outer ↦ inl outer
+        | inr bad ↦ inr (bad.0, barred t.free.now c.bring_used.new.cache (given_by g.M.Machine g.S.PageSource t.source.now c.bring_used.new.m) c.args.page (within_free t c.args.page c.requires.within) bad.1)
+      ];
+    }
 
 pub returns-in-Err-clause-outside : goal.returns-in-Err-clause-outside
 returns-in-Err-clause-outside g c =

@@ -34,23 +34,25 @@ invariant_of-self-in-Err g c =
           c.spare_pages.ensures.only c.spare_pages.ensures.few (omega (arith, was, more));
     }
 
-pub returns-in-Ok-clause-kept : goal.returns-in-Ok-clause-kept
-returns-in-Ok-clause-kept g c = fetched_keeps c.args.self.now (outer_in c.spare_pages.result) c.spare_pages.new.m c.spare_pages.new.cache c.spare_pages.ensures.only.fetches
-
-pub returns-in-Ok-clause-stays : goal.returns-in-Ok-clause-stays
-returns-in-Ok-clause-stays g c = λ trusted.
+pub returns-in-Ok-clause-images : goal.returns-in-Ok-clause-images
+returns-in-Ok-clause-images g c =
     let t = c.args.self.now in
-    fetched_images g.M.Machine g.S.PageSource t.source.now t.made_over.value t.made_with.value t.m.now t.cache.now t.free.now t.reached.items t.spares.items t.promised t.kept (outer_in c.spare_pages.result) c.spare_pages.new.m c.spare_pages.new.cache
-    c.spare_pages.ensures.only.fetches (lasts g) trusted
+    let told = outer_in c.spare_pages.result in
+    let all = c.spare_pages.ensures.only.fetches in
+    record {
+      kept = fetched_keeps t told c.spare_pages.new.m c.spare_pages.new.cache all;
+      stays = fetched_images g.M.Machine g.S.PageSource t.source.now t.made_over.value t.made_with.value t.m.now t.cache.now t.free.now t.reached.items t.spares.items t.promised t.kept told c.spare_pages.new.m c.spare_pages.new.cache all (lasts g);
+    }
 
-pub returns-in-Err-clause-kept : goal.returns-in-Err-clause-kept
-returns-in-Err-clause-kept g c = fetched_keeps c.args.self.now (outer_in c.spare_pages.result) c.spare_pages.new.m c.spare_pages.new.cache c.spare_pages.ensures.only.fetches
-
-pub returns-in-Err-clause-stays : goal.returns-in-Err-clause-stays
-returns-in-Err-clause-stays g c = λ trusted.
+pub returns-in-Err-clause-images : goal.returns-in-Err-clause-images
+returns-in-Err-clause-images g c =
     let t = c.args.self.now in
-    fetched_images g.M.Machine g.S.PageSource t.source.now t.made_over.value t.made_with.value t.m.now t.cache.now t.free.now t.reached.items t.spares.items t.promised t.kept (outer_in c.spare_pages.result) c.spare_pages.new.m c.spare_pages.new.cache
-    c.spare_pages.ensures.only.fetches (lasts g) trusted
+    let told = outer_in c.spare_pages.result in
+    let all = c.spare_pages.ensures.only.fetches in
+    record {
+      kept = fetched_keeps t told c.spare_pages.new.m c.spare_pages.new.cache all;
+      stays = fetched_images g.M.Machine g.S.PageSource t.source.now t.made_over.value t.made_with.value t.m.now t.cache.now t.free.now t.reached.items t.spares.items t.promised t.kept told c.spare_pages.new.m c.spare_pages.new.cache all (lasts g);
+    }
 
 pub returns-in-Ok-clause-outside : goal.returns-in-Ok-clause-outside
 returns-in-Ok-clause-outside g c =
