@@ -3,7 +3,7 @@ use Rattle.std.specs.Prelude.{◌≡◌, ◌/◌, ℕ, List, [], Some, None, nat
 use Rattle.std.specs.Map.{lookup}
 use Rattle.image_file.specs.declared.ahead.Ahead.{Ahead}
 use Rattle.image_file.specs.declared.stretch.Stretch.{Stretch}
-use Rattle.image_file.specs.Stretch.{Has, IsPart, slot_at}
+use Rattle.image_file.specs.Stretch.{HoldsSector, IsPart, slot_at}
 
 -- this block is none of them
 abbrev pub IsOut : List (ℕ × Stretch) → ℕ → Type 0
@@ -11,7 +11,7 @@ IsOut blocks block = lookup (nat_eq block) blocks ≡ None
 
 -- it is this sector's slot in the block that has it
 abbrev pub GivesIn : List (ℕ × Stretch) → ℕ → List ℕ → Type 0
-GivesIn blocks sector slot = (s : Stretch) × (lookup (nat_eq (sector / 64)) blocks ≡ Some s) × Has s sector × (slot ≡ slot_at s sector)
+GivesIn blocks sector slot = (s : Stretch) × (lookup (nat_eq (sector / 64)) blocks ≡ Some s) × HoldsSector s sector × (slot ≡ slot_at s sector)
 
 -- the blocks, with their numbers
 abbrev pub blocks_of : Ahead → List (ℕ × Stretch)

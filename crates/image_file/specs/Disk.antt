@@ -11,8 +11,8 @@ abbrev pub IsGiven : Disk → Type 0
 IsGiven d = d.pending.count ≡ 0
 
 -- all of it is on the disk
-abbrev pub IsSynced : Disk → Type 0
-IsSynced d = (d.standing ≡ Synced) × IsGiven d
+abbrev pub IsSyncedDisk : Disk → Type 0
+IsSyncedDisk d = (d.standing ≡ Synced) × IsGiven d
 
 -- but for one run of adjacent sectors, which ends in front of this one
 abbrev pub EndsAt : ℕ → Disk → Type 0
@@ -24,11 +24,11 @@ IsBroken d = d.standing ≡ Broken
 
 -- A write from this sector on keeps the order: it is the first of a run, or goes on with the one that there is.
 abbrev pub IsOpenAt : ℕ → Disk → Type 0
-IsOpenAt sector d = IsSynced d ⊎ EndsAt sector d
+IsOpenAt sector d = IsSyncedDisk d ⊎ EndsAt sector d
 
 -- a call of a broken disk fails, and leaves it broken
-abbrev pub Fails : {T E : Type 0} → Disk → Disk → Result T E → Type 0
-Fails old new result = IsBroken old → IsErr result × IsBroken new
+abbrev pub FailsOnDisk : {T E : Type 0} → Disk → Disk → Result T E → Type 0
+FailsOnDisk old new result = IsBroken old → IsErr result × IsBroken new
 
 -- what is read of a sector with this slot: the bytes that it spells, if there are any
 abbrev pub Reads : (sector : ℕ) → (slot : List ℕ) → Option (List ℕ) → Type 0

@@ -7,8 +7,8 @@ abbrev pub IsPart : (first count sector : ℕ) → Type 0
 IsPart first count sector = (first ≤ sector) × (sector < first + count)
 
 -- it has the slot of this sector
-abbrev pub Has : Stretch → ℕ → Type 0
-Has s sector = IsPart s.first s.count sector
+abbrev pub HoldsSector : Stretch → ℕ → Type 0
+HoldsSector s sector = IsPart s.first s.count sector
 
 -- the slot in its place
 abbrev pub slot_at : Stretch → ℕ → List ℕ

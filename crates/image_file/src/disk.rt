@@ -59,13 +59,13 @@ impl Disk {
     ghost use Rattle.std.specs.Prelude.{◌⊎◌, ◌+◌, ◌<◌, ◌≤◌, ◌/◌, ◌^◌, length, IfOk, OnOk, OnErr};
     ghost use Rattle.sector_disk.specs.Machine.{GivesAsked};
     ghost use Rattle.image_file.specs.Ahead.{AreApart, HasNone};
-    ghost use Rattle.image_file.specs.Stretch.{Has, slot_at};
-    ghost use Rattle.image_file.specs.Disk.{EndsAt, Fails, IsBroken, IsGiven, IsOpenAt, IsSynced, Reads};
+    ghost use Rattle.image_file.specs.Stretch.{HoldsSector, slot_at};
+    ghost use Rattle.image_file.specs.Disk.{EndsAt, FailsOnDisk, IsBroken, IsGiven, IsOpenAt, IsSyncedDisk, Reads};
 
     /// With no image.
     pub(crate) fn new(alloc: Global) -> Disk
         ensures ahead { HasNone result.ahead }
-        ensures synced { IsSynced result }
+        ensures synced { IsSyncedDisk result }
     {
         Disk {
             image: None,
@@ -86,8 +86,8 @@ impl Disk {
     ) -> io::Result<u32>
         ensures made { IfOk result (GivesAsked how) }
         ensures ahead { HasNone self.new.ahead }
-        ensures synced { OnOk result (IsSynced self.new) }
-        ensures broken { Fails self.old self.new result }
+        ensures synced { OnOk result (IsSyncedDisk self.new) }
+        ensures broken { FailsOnDisk self.old self.new result }
     {
         self.ahead.begin();
         self.sync()?;
@@ -101,10 +101,10 @@ impl Disk {
 
     /// Reads a sector of an image with so many, where its slot is whole: the slot that waits, where one does.
     pub(crate) fn read(&mut self, sectors: u32, sector: u32) -> io::Result<Option<[u8; 512]>>
-        ensures pending { Has self.old.pending sector → IfOk result (Reads sector (slot_at self.old.pending sector)) }
+        ensures pending { HoldsSector self.old.pending sector → IfOk result (Reads sector (slot_at self.old.pending sector)) }
         ensures stands { OnOk result (self.new.standing ≡ self.old.standing) }
         ensures failed { OnErr result (IsBroken self.new ⊎ (self.new.standing ≡ self.old.standing)) }
-        ensures broken { Fails self.old self.new result }
+        ensures broken { FailsOnDisk self.old self.new result }
     {
         if matches!(self.standing, Standing::Broken) {
             return Err(ErrorKind::Other.into());
@@ -122,7 +122,7 @@ impl Disk {
         ensures ahead { AreApart sector (length bytes.now / 512) self.new.ahead }
         ensures run { OnOk result (EndsAt (sector + length bytes.now / 512) self.new) }
         ensures cut { OnErr result (IsBroken self.new ⊎ IsOpenAt sector self.new) }
-        ensures broken { Fails self.old self.new result }
+        ensures broken { FailsOnDisk self.old self.new result }
     {
         self.ahead.drop_at(sector, bytes.len() / SECTOR_BYTES);
         self.end_others(sector)?;
@@ -133,9 +133,9 @@ impl Disk {
     /// in it.
     pub(crate) fn turn(&mut self) -> io::Result<()>
         ensures ahead { HasNone self.new.ahead }
-        ensures synced { OnOk result (IsSynced self.new) }
+        ensures synced { OnOk result (IsSyncedDisk self.new) }
         ensures failed { OnErr result (IsBroken self.new) }
-        ensures broken { Fails self.old self.new result }
+        ensures broken { FailsOnDisk self.old self.new result }
     {
         self.ahead.drop_all();
         self.sync()
@@ -144,9 +144,9 @@ impl Disk {
     /// Has the system bring the run to the disk, if there is one.
     pub(crate) fn sync(&mut self) -> io::Result<()>
         ensures ahead { self.new.ahead ≡ self.old.ahead }
-        ensures synced { OnOk result (IsSynced self.new) }
+        ensures synced { OnOk result (IsSyncedDisk self.new) }
         ensures failed { OnErr result (IsBroken self.new) }
-        ensures broken { Fails self.old self.new result }
+        ensures broken { FailsOnDisk self.old self.new result }
     {
         match self.standing {
             Standing::Synced => Ok(()),
@@ -159,7 +159,7 @@ impl Disk {
     // else tells it as brought.
     fn bring(&mut self) -> io::Result<()>
         ensures ahead { self.new.ahead ≡ self.old.ahead }
-        ensures synced { OnOk result (IsSynced self.new) }
+        ensures synced { OnOk result (IsSyncedDisk self.new) }
         ensures failed { OnErr result (IsBroken self.new) }
     {
         self.hand_over()?;
@@ -190,9 +190,9 @@ impl Disk {
 
     // Lets go of the image, all of which is on the disk.
     fn detach(&mut self)
-        requires { IsSynced self.old }
+        requires { IsSyncedDisk self.old }
         ensures ahead { self.new.ahead ≡ self.old.ahead }
-        ensures stands { IsSynced self.new }
+        ensures stands { IsSyncedDisk self.new }
     {
         self.image = None;
     }
@@ -233,7 +233,7 @@ impl Disk {
         ensures ahead { self.new.ahead ≡ self.old.ahead }
         ensures open { OnOk result (IsOpenAt sector self.new) }
         ensures failed { OnErr result (IsBroken self.new) }
-        ensures broken { Fails self.old self.new result }
+        ensures broken { FailsOnDisk self.old self.new result }
     {
         match self.standing {
             Standing::Unsynced(next) if next == u64::from(sector) => Ok(()),

@@ -1,7 +1,7 @@
 //! The slots at the end of a run that wait in memory until the system is given them.
 ghost use Rattle.std.specs.Prelude.{◌≡◌, ◌⊎◌, ◌+◌, ◌<◌, ◌/◌, ◌^◌, length, OnOk};
 ghost use Rattle.fsd_formats.specs.Slot.{slot_of};
-ghost use Rattle.image_file.specs.Stretch.{Has, IsBehind, slot_at};
+ghost use Rattle.image_file.specs.Stretch.{HoldsSector, IsBehind, slot_at};
 
 use crate::image::ImageFile;
 use crate::slot::slot_of;
@@ -38,7 +38,7 @@ fn put(pending: &mut Stretch, image: &ImageFile, sector: u32, bytes: &[u8]) -> i
     requires whole { length bytes.now ≡ 512 }
     requires behind { IsBehind sector pending.old }
     ensures behind { OnOk result (IsBehind (sector + 1) pending.new) }
-    ensures there { OnOk result ((pending.new.count ≡ 0) ⊎ (Has pending.new sector × (slot_at pending.new sector ≡ slot_of sector bytes.now))) }
+    ensures there { OnOk result ((pending.new.count ≡ 0) ⊎ (HoldsSector pending.new sector × (slot_at pending.new sector ≡ slot_of sector bytes.now))) }
 {
     let mut whole = [0; 512];
     whole.copy_from_slice(bytes);

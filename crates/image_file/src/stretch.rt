@@ -20,7 +20,7 @@ pub(crate) struct Stretch {
 
 impl Stretch {
     ghost use Rattle.std.specs.Prelude.{◌⊎◌, ◌+◌, ◌<◌, ◌≤◌, ◌++◌, ◌^◌, Some, false, IsTrue, IfSome, OnOk, OnErr};
-    ghost use Rattle.image_file.specs.Stretch.{Has, IsBehind, slot_at};
+    ghost use Rattle.image_file.specs.Stretch.{HoldsSector, IsBehind, slot_at};
 
     /// None. It takes no memory.
     pub(crate) fn new(alloc: Global) -> Stretch
@@ -49,8 +49,8 @@ impl Stretch {
 
     /// The slot of a sector, if it has it.
     pub(crate) fn give(&self, sector: u32, slot: &mut [u8; SLOT_BYTES]) -> bool
-        ensures there { IsTrue result → Has self.now sector × (slot.new ≡ slot_at self.now sector) }
-        ensures absent { result ≡ false → Has self.now sector → ⊥ }
+        ensures there { IsTrue result → HoldsSector self.now sector × (slot.new ≡ slot_at self.now sector) }
+        ensures absent { result ≡ false → HoldsSector self.now sector → ⊥ }
         ensures kept { result ≡ false → slot.new ≡ slot.old }
     {
         if sector < self.first || sector - self.first >= self.count {
@@ -72,7 +72,7 @@ impl Stretch {
     pub(crate) fn push(&mut self, sector: u32, slot: &[u8; SLOT_BYTES]) -> bool
         requires { IsBehind sector self.old }
         ensures taken { IsTrue result → (self.new.count ≡ self.old.count + 1) × (self.new.slots.items ≡ self.old.slots.items ++ slot.now) }
-        ensures there { IsTrue result → Has self.new sector × (slot_at self.new sector ≡ slot.now) }
+        ensures there { IsTrue result → HoldsSector self.new sector × (slot_at self.new sector ≡ slot.now) }
         ensures behind { IsTrue result → IsBehind (sector + 1) self.new }
         ensures kept { result ≡ false → (self.new.first ≡ self.old.first) × (self.new.count ≡ self.old.count) }
     {
