@@ -1,5 +1,6 @@
 -- A simple command takes the words at which its parse has no fault, where no argument has a rule on another and each default passes.
-use Rattle.std.proofs.Common.{◌≡◌, ◌&&◌, ◌||◌, ℕ, Bool, true, false, not, zero, suc, refl, sym, ap, cond, List, [], ◌∷◌, length, Option, Some, None, is_some, codes, nat_le, nat_lt, ◌==◌, true≢false, drop, arith}
+use Rattle.std.proofs.Common.{◌≡◌, ◌&&◌, ◌||◌, ℕ, Bool, true, false, not, zero, suc, refl, ap, cond, List, [], ◌∷◌, length, Option, Some, None, is_some, codes, nat_le, nat_lt, ◌==◌, true≢false, drop, arith}
+use Rattle.std.proofs.lemmas.Bool.{and_from}
 use Rattle.std.proofs.lemmas.Bool.Decides.{nat_tests}
 use Rattle.std.specs.Prelude.{encode_utf8, find, slice_get}
 use Rattle.std.specs.List.{list_all, list_any}
@@ -33,10 +34,6 @@ first_not : (b : Bool) (k : ErrorKind) (ks rest : Kinds) → cond b (k ∷ ks) r
 first_not true k ks rest e = absurd cc
 first_not false k ks rest e = (refl, e)
 
-both : (a b : Bool) → a ≡ true → b ≡ true → (a && b) ≡ true
-both true b p q = q
-both false b p q = absurd (true≢false (sym p))
-
 passed_over : (a b : Bool) (k : ErrorKind) (ks : Kinds) → cond (a && not b) (k ∷ ks) [] ≡ [] → (not a || b) ≡ true
 passed_over true true k ks e = refl
 passed_over true false k ks e = absurd cc
@@ -59,7 +56,7 @@ values_taken : (a : Rule) (vs : List Text) → values_fault a vs ≡ [] → valu
 values_taken a [] e = refl
 values_taken a (v ∷ vs) e =
     let p = both_nil (value_kinds a.ignore_case (parser_of_value a.parser) v) (values_fault a vs) e in
-    both (value_passes a v) (values_pass a vs) (value_taken a v p.0) (values_taken a vs p.1)
+    and_from (value_passes a v) (values_pass a vs) (value_taken a v p.0) (values_taken a vs p.1)
 
 count_taken : (a : Rule) (vs : List Text) (rows : List Row) → count_fault a vs rows ≡ [] → count_passes a vs rows ≡ true
 count_taken a [] rows e = value_taken a _ e
@@ -68,7 +65,7 @@ count_taken a (v ∷ vs) rows e = values_taken a (v ∷ vs) e
 set_taken : (again : Bool) (a : Rule) (vs : List Text) (rows : List Row) → set_fault again a vs rows ≡ [] → set_passes again a vs rows ≡ true
 set_taken again a vs rows e =
     let p = both_nil (repeat_fault again a.id rows) (values_fault a vs) e in
-    both (not (has_row a.id rows) || again) (values_pass a vs) (passed_over (has_row a.id rows) again _ _ p.0) (values_taken a vs p.1)
+    and_from (not (has_row a.id rows) || again) (values_pass a vs) (passed_over (has_row a.id rows) again _ _ p.0) (values_taken a vs p.1)
 
 action_taken : (x : ArgAction) (again : Bool) (a : Rule) (vs : List Text) (rows : List Row) → action_fault x again a vs rows ≡ [] → action_passes x again a vs rows ≡ true
 action_taken action.Set again a vs rows e = set_taken again a vs rows e
@@ -101,8 +98,8 @@ use_taken again a vs rows e =
     let least : ℕ = (unwrap_or_range a.range).start_inclusive in
     let p = both_nil (range_kinds least (most_values a) (length vs)) (action_fault (action_of a) again a (values_or_missing a vs) rows) e in
     let r = in_range least (most_values a) (length vs) p.0 in
-    both (nat_le least (length vs)) _ r.0
-    (both (nat_le (length vs) (most_values a)) _ r.1 (action_taken (action_of a) again a (values_or_missing a vs) rows p.1))
+    and_from (nat_le least (length vs)) _ r.0
+    (and_from (nat_le (length vs) (most_values a)) _ r.1 (action_taken (action_of a) again a (values_or_missing a vs) rows p.1))
 
 -- ---- the walk
 
@@ -114,7 +111,7 @@ module _ (c : List Rule) (again : Bool) where
   react_taken : (a : Rule) (vs : List Text) (h : Held) → react_fault c again a vs h ≡ [] → react_passes c again a vs h ≡ true
   react_taken a vs h e =
       let p = both_nil (settle_fault c again h) (use_fault again a vs (settled c h).rows) e in
-      both (settle_passes c again h) _ (settle_taken h p.0) (use_taken again a vs (settled c h).rows p.1)
+      and_from (settle_passes c again h) _ (settle_taken h p.0) (use_taken again a vs (settled c h).rows p.1)
 
   option_taken : (a : Rule) (v : Option Text) (h : Held) → option_fault c again a v h ≡ [] → option_passes c again a v h ≡ true
   option_taken a (Some v) h e = react_taken a (v ∷ []) h e
@@ -129,7 +126,7 @@ module _ (c : List Rule) (again : Bool) where
       go true f = option_taken a v h f
       go false f =
           let p = first_not (is_some v) kind.TooManyValues [] (react_fault c again a [] h) f in
-          both (not (is_some v)) _ (ap not p.0) (react_taken a [] h p.1)
+          and_from (not (is_some v)) _ (ap not p.0) (react_taken a [] h p.1)
 
   short_taken : (o : Option Rule) (rest : Text) (h : Held) (behind : Held → Kinds) (goes : Held → Bool) → ((x : Held) → behind x ≡ [] → goes x ≡ true)
       → short_fault c again o rest h behind ≡ [] → short_passes c again o rest h goes ≡ true
@@ -141,7 +138,7 @@ module _ (c : List Rule) (again : Bool) where
       go true f = option_taken a (attached_value rest) h f
       go false f =
           let p = both_nil (react_fault c again a [] h) (behind (reacted c a [] h)) f in
-          both (react_passes c again a [] h) _ (react_taken a [] h p.0) (each (reacted c a [] h) p.1)
+          and_from (react_passes c again a [] h) _ (react_taken a [] h p.0) (each (reacted c a [] h) p.1)
 
   bundle_step_taken : (o : Option ℕ) (flags : Text) (skip : ℕ) (h : Held) (behind : Text → ℕ → Held → Kinds) (goes : Text → ℕ → Held → Bool)
       → ((t : Text) (k : ℕ) (x : Held) → behind t k x ≡ [] → goes t k x ≡ true)
@@ -198,7 +195,7 @@ module _ (s : Shape) where
       (word_passes s names w.is_trailing w.waiting word w.held && step_passes s w.position met.0 met.1)
       (λ f.
       let p = both_nil words (step_fault s w.position met.0 met.1) f in
-      both (word_passes s names w.is_trailing w.waiting word w.held) _
+      and_from (word_passes s names w.is_trailing w.waiting word w.held) _
       (or_passes w.is_trailing (other_fault s (subcommand_met names w.waiting word) word w.held) (other_passes s (subcommand_met names w.waiting word) word w.held)
       (other_taken (subcommand_met names w.waiting word) word w.held) p.0)
       (step_taken w.position met.0 met.1 p.1)) e
@@ -208,7 +205,7 @@ module _ (s : Shape) where
   walk_taken names w [] e = refl
   walk_taken names w (word ∷ rest) e =
       let p = both_nil (turn_fault s names w word) (walk_fault s names (walked s.rules names w word) rest) e in
-      both (turn_passes s names w word) _ (turn_taken names w word p.0) (walk_taken names (walked s.rules names w word) rest p.1)
+      and_from (turn_passes s names w word) _ (turn_taken names w word p.0) (walk_taken names (walked s.rules names w word) rest p.1)
 
 -- ---- behind the walk
 
@@ -239,7 +236,7 @@ none_missing rows (a ∷ rules) e = go (a.required && not (is_given a.id rows)) 
         → (b || list_any (λ (x : Rule). x.required && not (is_given x.id rows)) rules) ≡ false
         → ((not a.required || is_given a.id rows) && list_all (λ (x : Rule). not x.required || is_given x.id rows) rules) ≡ true
     go true is others f = absurd (true≢false f)
-    go false is others f = both (not a.required || is_given a.id rows) _ (implied a.required (is_given a.id rows) is) (others f)
+    go false is others f = and_from (not a.required || is_given a.id rows) _ (implied a.required (is_given a.id rows) is) (others f)
 
 excused : (b any all : Bool) → (any ≡ false → all ≡ true) → (not b && any) ≡ false → (b || all) ≡ true
 excused true any all h e = refl
@@ -255,9 +252,9 @@ valid_taken s rows has free e =
     let q = first_not (not has && s.subcommand_required) kind.MissingSubcommand []
     (cond (not (s.subcommand_negates_reqs && has) && missing) (kind.MissingRequiredArgument ∷ []) []) p.1 in
     let r = first_not (not (s.subcommand_negates_reqs && has) && missing) kind.MissingRequiredArgument [] [] q.1 in
-    both (not s.arg_required_else_help || (has || any)) _ (helped has s.arg_required_else_help any p.0)
-    (both (not s.subcommand_required || has) _ (had has s.subcommand_required q.0)
-    (both (has_free_rules s) _ free
+    and_from (not s.arg_required_else_help || (has || any)) _ (helped has s.arg_required_else_help any p.0)
+    (and_from (not s.subcommand_required || has) _ (had has s.subcommand_required q.0)
+    (and_from (has_free_rules s) _ free
     (excused (s.subcommand_negates_reqs && has) missing given (none_missing rows s.rules) r.0)))
 
 -- no argument has a rule on another, and each default passes
@@ -274,9 +271,9 @@ level_taken s names h words has below free e =
     let r = both_nil (settle_fault s.rules s.args_override_self end) _ q.1 in
     let d = both_nil (defaults_fault (settled s.rules end).rows s.rules) (check_fault s (finished s.rules end) has) r.1 in (
       q.0,
-      both (walk_passes s names (walk_from h) words) _ (walk_taken s names (walk_from h) words p.0)
-          (both (settle_passes s.rules s.args_override_self end) _ (settle_taken s.rules s.args_override_self end r.0)
-          (both (list_all default_passes s.rules) _ f.0 (valid_taken s (finished s.rules end) has f.1 d.1))),
+      and_from (walk_passes s names (walk_from h) words) _ (walk_taken s names (walk_from h) words p.0)
+          (and_from (settle_passes s.rules s.args_override_self end) _ (settle_taken s.rules s.args_override_self end r.0)
+          (and_from (list_all default_passes s.rules) _ f.0 (valid_taken s (finished s.rules end) has f.1 d.1))),
     )
 
 first_free : (p : Shape → Bool) (subs : List Shape) → list_all is_free_of_rules subs ≡ true → option_map_or is_free_of_rules (find p subs) true ≡ true
@@ -300,8 +297,8 @@ built_taken : (a : App) (h : Held) (words : List Text) → is_free_of_rules a.to
 built_taken a h words top subs e =
     let stop : Option (Text × List Text) = (walk a.top.rules (names_of a) h words).stopped in
     let p = level_taken a.top (names_of a) h words (is_some (entered a stop)) (entered_fault a stop) top e in
-    both (entered_passes a stop) _ (entered_taken a stop subs p.0) p.1
+    and_from (entered_passes a stop) _ (entered_taken a stop subs p.0) p.1
 
 pub taken_without_fault : (a : App) (words : List Text) → is_simple a ≡ true → is_free_of_rules (built a).top ≡ true → list_all is_free_of_rules (built a).subs ≡ true
     → fault_of a words ≡ [] → takes a words ≡ true
-taken_without_fault a words simple top subs e = both (is_simple a) _ simple (built_taken (built a) nothing_held (argument_words a words) top subs e)
+taken_without_fault a words simple top subs e = and_from (is_simple a) _ simple (built_taken (built a) nothing_held (argument_words a words) top subs e)

@@ -1,23 +1,24 @@
 -- Worked examples of a stat: its word and its line, and what it counts behind other commands, computed.
-use Rattle.std.proofs.Common.{◌≡◌, ℕ, List, [], ◌∷◌, ◌++◌, map, Some, None, refl, codes}
+use Rattle.std.proofs.Common.{◌≡◌, ℕ, List, [], ◌∷◌, ◌++◌, map, None, refl, codes}
 use Rattle.std.specs.Fmt.{digits}
-use Rattle.std.specs.Prelude.{false, replicate, true}
+use Rattle.std.specs.Prelude.{replicate, true}
 use Rattle.fsd_bytes.specs.Keys.{key_of}
 use Rattle.run_table.specs.RunTable.{run_of}
 use Rattle.fsd_files.specs.Answers.{Met}
+use Rattle.fsd_files.specs.declared.reply.Reply.TheVariants.{Counts}
 use Rattle.fsd_texts.specs.declared.bad_line.Cause.{Cause}
-use Rattle.fsd_texts.specs.declared.bad_line.Cause.TheVariants.{UnknownWord, WordCount}
+use Rattle.fsd_texts.specs.declared.bad_line.Cause.TheVariants.{NoNewline, UnknownWord, WordCount}
 use Rattle.fsd_texts.specs.declared.command.Command.{Command}
 use Rattle.fsd_texts.specs.declared.command.Command.TheVariants as Word
-use Rattle.fsd_texts.specs.declared.end.End.TheVariants.{Bad, Done}
-use Rattle.fsd_texts.specs.declared.line.Line.TheVariants as Says
+use Rattle.fsd_texts.specs.declared.end.End.TheVariants.{Bad, Done, TooLong}
 use Rattle.fsd_texts.specs.declared.script_command.ScriptCommand.TheVariants.{Plain}
-use Rattle.fsd_texts.specs.Script.{Script, script_in}
-use Rattle.fsd_texts.specs.Text.{newline, text}
+use Rattle.fsd_texts.specs.Script.{Script, script_from, script_in}
+use Rattle.fsd_texts.specs.Text.{newline}
+use Rattle.fsd_runs.specs.Commands.{reply_text}
 use Rattle.fsd_runs.specs.Errands.{errand_alone, scripted}
 use Rattle.fsd_runs.specs.Runs.{said_in, turns_of}
 use Rattle.fsd_runs.specs.Sessions.{Meeting, session_over}
-use Rattle.fsd_runs.proofs.Plain.{default, lines, meets, plain, says, script_says, turns_on}
+use Rattle.fsd_runs.proofs.Plain.{default, finds_922, lines, no_reader, plain, says, script_says, turns_on}
 
 -- ---- its word and its line
 
@@ -28,7 +29,16 @@ its_word : map (λ (bytes : List ℕ). script_in (bytes ++ newline)) (codes "sta
     ≡ (Plain Word.Stat ∷ [], Done) ∷ bad_first UnknownWord ∷ bad_first UnknownWord ∷ bad_first WordCount ∷ bad_first WordCount ∷ []
 its_word = refl
 
-its_line : text (Says.Counted 1 2 3 4) ≡ lines (codes "stat free 1 waiting 2 pages 3 versions 4" ∷ [])
+-- with room for five bytes
+stat_limits : map (λ (bytes : List ℕ). script_from 5 1 bytes) ((codes "stat" ++ newline) ∷ (codes "stat" ++ newline ++ codes "x") ∷ codes "force" ∷ (codes "force" ++ newline) ∷ (codes "nil" ++ newline ++ codes "stat") ∷ [])
+    ≡ (Plain Word.Stat ∷ [], Done) ∷ (Plain Word.Stat ∷ [], TooLong) ∷ bad_first NoNewline ∷ ([], TooLong) ∷ bad_first UnknownWord ∷ []
+stat_limits = refl
+
+stat_no_newline : script_says default (codes "stat") ≡ lines (codes "forced" ∷ codes "bad line 1: no newline" ∷ [])
+unfolding digits
+stat_no_newline = refl
+
+its_line : reply_text (Counts 1 2 3 4) ≡ lines (codes "stat free 1 waiting 2 pages 3 versions 4" ∷ [])
 unfolding digits
 its_line = refl
 
@@ -75,18 +85,13 @@ not_behind_one = refl
 
 -- ---- behind a damaged sector
 
-abbrev finds_922 : Met
-finds_922 = record { forces = false; reached = 1; damaged = Some 922; found = []; healed = 0 }
-
+-- a script says it and goes on
 counts_behind_damage : said_of (Word.Put (codes "a") (codes "x") None ∷ Word.Get (key_of (codes "a") 1) ∷ Word.Stat ∷ []) (plain ∷ finds_922 ∷ plain ∷ [])
     ≡ lines (codes "made a!1 2" ∷ codes "damaged a!1 922" ∷ codes "stat free 1125 waiting 0 pages 63 versions 1" ∷ codes "forced" ∷ [])
 unfolding digits
 counts_behind_damage = refl
 
 -- ---- with clients
-
-abbrev no_reader : Meeting
-no_reader = meets plain
 
 -- a version that a client reads stays where it lies when it is gone
 abbrev f_is_read : Meeting

@@ -19,7 +19,7 @@ use Rattle.fsd_runs.specs.Commands.{may_wear_out}
 use Rattle.fsd_runs.specs.Errands.{Errand, Turn, errand_alone, blank, cut_off, forced_turn, scripted}
 use Rattle.fsd_runs.specs.Runs.{IsCutBefore, IsStep, answered, last_count, said_in}
 use Rattle.fsd_runs.specs.Sessions.{Meeting, session_over}
-use Rattle.fsd_runs.proofs.Plain.{behind, default, fresh, lines, meets, plain, plainly, says, turns_on}
+use Rattle.fsd_runs.proofs.Plain.{behind, default, finds_922, fresh, lines, meets, plain, plainly, says, turns_on}
 
 abbrev status : Errand → List Met → Volume → ℕ
 status e mets v = (e.ends (answered (map (λ met. meets met) mets) (session_over v) e.commands)).status
@@ -56,17 +56,10 @@ one_waits = refl
 
 -- ---- a damaged sector
 
-abbrev finds_922 : Met
-finds_922 = record { forces = false; reached = 1; damaged = Some 922; found = []; healed = 0 }
-
 abbrev gets : Errand
 gets = scripted (map (λ c. Plain c) (Word.Put (codes "a") (codes "x") None ∷ Word.Get (key_of (codes "a") 1) ∷ Word.Delete (key_of (codes "a") 1) ∷ []), Done)
 
--- a script says it and goes on
-damaged_in_a_script : said_in (turns_on gets (plain ∷ finds_922 ∷ plain ∷ []) default) ≡ lines (codes "made a!1 2" ∷ codes "damaged a!1 922" ∷ codes "deleted a!1" ∷ codes "forced" ∷ [])
-unfolding digits
-damaged_in_a_script = refl
-
+-- a script goes on behind it
 status_in_a_script : status gets (plain ∷ finds_922 ∷ plain ∷ []) default ≡ 0
 status_in_a_script = refl
 

@@ -6,6 +6,7 @@ pub mod LeaveLaws
 pub mod OtherLaws
 pub mod PlaceExamples
 pub mod Plain
+mod ReplyExamples
 pub mod RunExamples
 pub mod RunLaws
 pub mod SafeLaws

@@ -1,5 +1,5 @@
 -- Volumes and runs for worked examples: nothing is damaged, no force comes by itself, and the table has one page.
-use Rattle.std.proofs.Common.{ℕ, List, [], ◌∷◌, ◌++◌, map, None}
+use Rattle.std.proofs.Common.{ℕ, List, [], ◌∷◌, ◌++◌, map, Some, None}
 use Rattle.std.specs.Prelude.{false, length, replicate}
 use Rattle.volume_layout.specs.declared.kind.Kind.TheVariants.{Two}
 use Rattle.fsd_files.specs.Answers.{Met}
@@ -15,9 +15,16 @@ use Rattle.fsd_runs.specs.Sessions.{Meeting, session_over}
 abbrev pub plain : Met
 plain = record { forces = false; reached = 1; damaged = None; found = []; healed = 0 }
 
+-- a sector of the data reads as damaged
+abbrev pub finds_922 : Met
+finds_922 = record plain { damaged = Some 922 }
+
 -- where no client reads
 abbrev pub meets : Met → Meeting
 meets met = record { met = met; held = [] }
+
+abbrev pub no_reader : Meeting
+no_reader = meets plain
 
 -- right behind the first mount after a format
 abbrev pub fresh : (n t p : ℕ) → Volume

@@ -1,29 +1,24 @@
 -- Worked examples of sessions with clients, computed.
-use Rattle.std.proofs.Common.{◌≡◌, ℕ, List, [], ◌∷◌, ◌++◌, map, Some, None, refl, codes}
+use Rattle.std.proofs.Common.{◌≡◌, ℕ, List, [], ◌∷◌, ◌++◌, map, None, refl, codes}
 use Rattle.std.specs.Fmt.{digits}
-use Rattle.std.specs.Prelude.{false, length, true}
+use Rattle.std.specs.Prelude.{false, true}
 use Rattle.fsd_bytes.specs.Keys.{key_of}
 use Rattle.run_table.specs.RunTable.{run_of}
-use Rattle.fsd_files.specs.Answers.{Met}
 use Rattle.fsd_files.specs.Desk.{Session}
 use Rattle.fsd_files.specs.Files.{Change}
 use Rattle.fsd_files.specs.declared.reply.Reply.TheVariants.{Made}
 use Rattle.fsd_texts.specs.declared.call.Call.TheVariants as Calls
 use Rattle.fsd_texts.specs.declared.command.Command.TheVariants as Word
-use Rattle.fsd_texts.specs.declared.script_command.ScriptCommand.{ScriptCommand}
 use Rattle.fsd_texts.specs.declared.script_command.ScriptCommand.TheVariants.{Plain, OfClient}
 use Rattle.fsd_texts.specs.Script.{script_in}
 use Rattle.fsd_texts.specs.Text.{newline}
-use Rattle.fsd_runs.specs.Errands.{Errand, scripted}
+use Rattle.fsd_runs.specs.Errands.{scripted}
 use Rattle.fsd_runs.specs.Runs.{session_behind, said_in, turns_of}
 use Rattle.fsd_runs.specs.Sessions.{Meeting, changes_in_session, finished, may_wear_out_in, session_over}
-use Rattle.fsd_runs.proofs.Plain.{default, lines, meets, plain, script_says}
+use Rattle.fsd_runs.proofs.Plain.{default, finds_922, lines, meets, no_reader, plain, script_says}
 
 abbrev said_with : List Meeting → List ℕ → List ℕ
 said_with xs input = said_in (turns_of (scripted (script_in input)) xs (session_over default))
-
-abbrev no_reader : Meeting
-no_reader = meets plain
 
 -- a version in pieces, too few of them and then too many
 makes_in_pieces : script_says default (codes "begin 1 h 5" ++ newline ++ codes "piece 1 3" ++ newline ++ codes "abc" ++ newline ++ codes "close 1" ++ newline ++ codes "piece 1 3" ++ newline ++ codes "def" ++ newline
@@ -32,14 +27,11 @@ makes_in_pieces : script_says default (codes "begin 1 h 5" ++ newline ++ codes "
 unfolding digits
 makes_in_pieces = refl
 
--- a damaged sector is told, and the client goes on where it was
-abbrev finds_922 : Meeting
-finds_922 = meets (record plain { damaged = Some 922 })
-
 abbrev a_is_read : Meeting
 a_is_read = record { met = plain; held = (run_of 921 2 ∷ []) ∷ [] }
 
-damaged_as_it_is_read : said_with (no_reader ∷ a_is_read ∷ finds_922 ∷ no_reader ∷ []) (lines (codes "put a 2" ∷ codes "xy" ∷ codes "open 8 a!1" ∷ codes "next 8 1" ∷ codes "next 8 9" ∷ []))
+-- a damaged sector is told, and the client goes on where it was
+damaged_as_it_is_read : said_with (no_reader ∷ a_is_read ∷ meets finds_922 ∷ no_reader ∷ []) (lines (codes "put a 2" ∷ codes "xy" ∷ codes "open 8 a!1" ∷ codes "next 8 1" ∷ codes "next 8 9" ∷ []))
     ≡ lines (codes "made a!1 2" ∷ codes "opened 8 2" ∷ codes "damaged a!1 922" ∷ codes "next 8 2" ∷ codes "xy" ∷ codes "forced" ∷ [])
 unfolding digits
 damaged_as_it_is_read = refl

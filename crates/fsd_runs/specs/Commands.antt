@@ -1,9 +1,9 @@
 -- Commands and replies: what a volume answers, what is said of it, what it changed, and with which status a run of one
 -- command ends.
-use Rattle.std.specs.Prelude.{ℕ, Bool, true, false, ◌==◌, not, List, [], ◌∷◌, ◌++◌, length, is_none, nat_lt, ⊤}
+use Rattle.std.specs.Prelude.{ℕ, Bool, true, false, ◌==◌, not, List, [], ◌∷◌, ◌++◌, length, is_none, nat_lt, codes, ⊤}
 use Rattle.std.specs.List.{flat_map, list_any}
 use Rattle.fsd_bytes.specs.declared.key.Key.{Key}
-use Rattle.fsd_formats.specs.declared.entry.Entry.{Entry}
+use Rattle.fsd_bytes.specs.Keys.{key_text}
 use Rattle.fsd_formats.specs.NamePage.{max_keep, sectors_for}
 use Rattle.fsd_files.specs.Answers.{Met, Outcome, put_outcome, delete_outcome, keep_outcome, force_outcome, scrub_outcome, upgrade_outcome, stat_reply, list_reply, get_reply, keep_given, size_fault, FindsDamageIn}
 use Rattle.fsd_files.specs.Disk.{Image}
@@ -14,9 +14,8 @@ use Rattle.fsd_files.specs.Scrub.{Picks, all_data}
 use Rattle.fsd_files.specs.Volume.{Volume}
 use Rattle.fsd_texts.specs.declared.command.Command.{Command}
 use Rattle.fsd_texts.specs.declared.command.Command.TheVariants as Word
-use Rattle.fsd_texts.specs.declared.line.Line.{Line}
 use Rattle.fsd_texts.specs.declared.line.Line.TheVariants as Says
-use Rattle.fsd_texts.specs.Text.{text, newline}
+use Rattle.fsd_texts.specs.Text.{line, newline, number, text}
 
 -- ---- answers
 
@@ -77,32 +76,42 @@ changes_of Word.Upgrade reply = []
 
 -- ---- texts
 
-abbrev pub version_line : Entry → Line
-version_line e = Says.Version e.key e.length (sectors_for e.length) e.keep
+-- one version of a list
+abbrev pub version_text : (key : Key) (len keep : ℕ) → List ℕ
+version_text key len keep = line (key_text key ∷ number len ∷ number (sectors_for len) ∷ number keep ∷ [])
+
+-- how many versions were listed
+abbrev pub listed_text : ℕ → List ℕ
+listed_text count = line (codes "listed" ∷ number count ∷ [])
+
+-- a damaged sector of a version
+abbrev pub damaged_text : Key → ℕ → List ℕ
+damaged_text key s = line (codes "damaged" ∷ key_text key ∷ number s ∷ [])
 
 -- the damaged sectors that a scrub has found
 abbrev pub found_text : List (Key × ℕ) → List ℕ
-found_text found = flat_map (λ x. text (Says.Damaged x.0 x.1)) found
+found_text found = flat_map (λ x. damaged_text x.0 x.1) found
 
 -- what a script says of a reply
 abbrev pub reply_text : Reply → List ℕ
 reply_text (Refused why) = text (Says.Refused why)
-reply_text (Made key sectors) = text (Says.Made key sectors)
-reply_text (Deleted key) = text (Says.Deleted key)
-reply_text (Kept key keep) = text (Says.Kept key keep)
-reply_text (Listed entries) = flat_map (λ e. text (version_line e)) entries ++ text (Says.Listed (length entries))
-reply_text (Bytes key bytes) = text (Says.Bytes key (length bytes)) ++ bytes ++ newline
-reply_text (DamagedAt key s) = text (Says.Damaged key s)
+reply_text (Made key sectors) = line (codes "made" ∷ key_text key ∷ number sectors ∷ [])
+reply_text (Deleted key) = line (codes "deleted" ∷ key_text key ∷ [])
+reply_text (Kept key keep) = line (codes "kept" ∷ key_text key ∷ number keep ∷ [])
+reply_text (Listed entries) = flat_map (λ e. version_text e.key e.length e.keep) entries ++ listed_text (length entries)
+reply_text (Bytes key bytes) = line (codes "bytes" ∷ key_text key ∷ number (length bytes) ∷ []) ++ bytes ++ newline
+reply_text (DamagedAt key s) = damaged_text key s
 reply_text Forced = text Says.Forced
-reply_text (Counts free waiting pages versions) = text (Says.Counted free waiting pages versions)
-reply_text (Scrubbed found healed) = found_text found ++ text (Says.Scrubbed healed (length found))
-reply_text Upgraded = text Says.Upgraded
-reply_text (Begun client) = text (Says.Begun client)
-reply_text (Took client sum) = text (Says.Took client sum)
-reply_text (Dropped client) = text (Says.Dropped client)
-reply_text (Opened client len) = text (Says.Opened client len)
-reply_text (Given client bytes) = text (Says.Given client (length bytes)) ++ bytes ++ newline
-reply_text (Done client) = text (Says.Done client)
+reply_text (Counts free waiting pages versions) =
+    line (codes "stat" ∷ codes "free" ∷ number free ∷ codes "waiting" ∷ number waiting ∷ codes "pages" ∷ number pages ∷ codes "versions" ∷ number versions ∷ [])
+reply_text (Scrubbed found healed) = found_text found ++ line (codes "scrubbed" ∷ codes "healed" ∷ number healed ∷ codes "damaged" ∷ number (length found) ∷ [])
+reply_text Upgraded = line (codes "upgraded" ∷ codes "2" ∷ [])
+reply_text (Begun client) = line (codes "begun" ∷ number client ∷ [])
+reply_text (Took client sum) = line (codes "took" ∷ number client ∷ number sum ∷ [])
+reply_text (Dropped client) = line (codes "dropped" ∷ number client ∷ [])
+reply_text (Opened client len) = line (codes "opened" ∷ number client ∷ number len ∷ [])
+reply_text (Given client bytes) = line (codes "next" ∷ number client ∷ number (length bytes) ∷ []) ++ bytes ++ newline
+reply_text (Done client) = line (codes "done" ∷ number client ∷ [])
 -- no command of a script is answered so
 reply_text (Found entry) = []
 

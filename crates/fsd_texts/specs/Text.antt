@@ -13,7 +13,9 @@ use Rattle.fsd_texts.specs.declared.bad_line.BadLine.{BadLine}
 use Rattle.fsd_texts.specs.declared.fault.Fault.{Fault}
 use Rattle.fsd_texts.specs.declared.fault.Fault.TheVariants as Ends
 use Rattle.fsd_texts.specs.declared.line.Line.{Line}
-use Rattle.fsd_texts.specs.declared.line.Line.TheVariants.{Usage, Bad, Formatted, Unplanned, Made, Deleted, Kept, Version, Listed, Bytes, Forced, Counted, Damaged, Scrubbed, Upgraded, Generated, Life, Begun, Took, Dropped, Opened, Given, Done, Refused, Ended}
+use Rattle.fsd_texts.specs.declared.line.Line.TheVariants.{Usage, Bad, Formatted, Unplanned, Forced, Generated, Life, Refused, Ended}
+use Rattle.fsd_texts.specs.declared.part.Part.{Part}
+use Rattle.fsd_texts.specs.declared.part.Part.TheVariants as Parts
 
 abbrev pub newline : List ℕ
 newline = 10 ∷ []
@@ -26,6 +28,11 @@ line (w ∷ v ∷ words) = w ++ (codes " " ++ line (v ∷ words))
 
 abbrev pub number : ℕ → List ℕ
 number n = decimal n
+
+abbrev pub part_text : Part → List ℕ
+part_text (Parts.Word word) = word.now
+part_text (Parts.Key key) = key_text key.now
+part_text (Parts.Number n) = number n
 
 -- ---- refusals
 
@@ -87,34 +94,18 @@ cause_text NoNewlineAfterBytes = codes "no newline after bytes"
 abbrev pub bad_line_text : BadLine → List ℕ
 bad_line_text bad = codes "bad line " ++ number bad.line ++ codes ": " ++ cause_text bad.cause ++ newline
 
--- ---- all lines
+-- ---- the lines, but for those that a reply alone says
 
 abbrev pub text : Line → List ℕ
 text Usage = codes "usage: cfs COMMAND IMAGE WORDS" ++ newline
 text (Bad bad) = bad_line_text bad
 text (Formatted n free) = line (codes "formatted" ∷ number n ∷ codes "free" ∷ number free ∷ [])
 text (Unplanned why) = refused_line (layout_words why)
-text (Made key sectors) = line (codes "made" ∷ key_text key ∷ number sectors ∷ [])
-text (Deleted key) = line (codes "deleted" ∷ key_text key ∷ [])
-text (Kept key keep) = line (codes "kept" ∷ key_text key ∷ number keep ∷ [])
-text (Version key len sectors keep) = line (key_text key ∷ number len ∷ number sectors ∷ number keep ∷ [])
-text (Listed count) = line (codes "listed" ∷ number count ∷ [])
-text (Bytes key len) = line (codes "bytes" ∷ key_text key ∷ number len ∷ [])
 text Forced = codes "forced" ++ newline
-text (Counted free waiting pages versions) = line (codes "stat" ∷ codes "free" ∷ number free ∷ codes "waiting" ∷ number waiting ∷ codes "pages" ∷ number pages ∷ codes "versions" ∷ number versions ∷ [])
-text (Damaged key s) = line (codes "damaged" ∷ key_text key ∷ number s ∷ [])
-text (Scrubbed healed damaged) = line (codes "scrubbed" ∷ codes "healed" ∷ number healed ∷ codes "damaged" ∷ number damaged ∷ [])
-text Upgraded = codes "upgraded 2" ++ newline
 text (Generated c) =
     line (codes "generated" ∷ number c.count ∷ codes "made" ∷ number c.made ∷ codes "deleted" ∷ number c.deleted ∷ codes "kept" ∷ number c.kept
     ∷ codes "read" ∷ number c.read ∷ codes "bytes" ∷ number c.bytes ∷ codes "refused" ∷ number c.refused ∷ [])
 text (Life life) = line (codes "life" ∷ number life ∷ [])
-text (Begun client) = line (codes "begun" ∷ number client ∷ [])
-text (Took client sum) = line (codes "took" ∷ number client ∷ number sum ∷ [])
-text (Dropped client) = line (codes "dropped" ∷ number client ∷ [])
-text (Opened client len) = line (codes "opened" ∷ number client ∷ number len ∷ [])
-text (Given client len) = line (codes "next" ∷ number client ∷ number len ∷ [])
-text (Done client) = line (codes "done" ∷ number client ∷ [])
 text (Refused why) = refused_line (refusal_words why)
 text (Ended fault) = fault_text fault
 

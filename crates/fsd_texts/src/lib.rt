@@ -10,6 +10,7 @@ mod counts;
 mod end;
 mod fault;
 mod line;
+mod part;
 mod script_command;
 
 pub use asking::Asking;
@@ -21,4 +22,5 @@ pub use counts::Counts;
 pub use end::End;
 pub use fault::Fault;
 pub use line::Line;
+pub use part::Part;
 pub use script_command::ScriptCommand;

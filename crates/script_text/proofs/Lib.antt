@@ -3,6 +3,7 @@ pub mod LeftLaws
 pub mod LineLaws
 pub mod MakerLaws
 pub mod MoreLaws
+pub mod PartLaws
 pub mod ReaderLaws
 pub mod StepLaws
 pub mod TakeLaws

@@ -134,7 +134,7 @@ pub record ReadsFurther (old new : Reading) : Type 0 where
   pub given : new.given ≡ old.given
 
 -- bytes are not taken: the reader is as it was, and no whole command waits
-pub record TakesNone (old new : Reading) : Type 0 where
+pub record TakesNoBytes (old new : Reading) : Type 0 where
   pub kept : new ≡ old
   pub short : WantsMore old.waiting
 

@@ -73,14 +73,21 @@ pub(crate) fn paired(word: &str, first: u64, second: u64) -> LineText
     text
 }
 
-// A word with the space behind it, and a key.
-pub(crate) fn keyed(word: &str, key: &Key) -> LineText
-    requires { length word.now ≤ 40 }
-    ensures key { result.items ≡ word.now ++ key_text key.now }
-    ensures short { array_vec_len result ≤ 101 }
+// A key.
+pub(crate) fn key_text(key: &Key) -> LineText
+    ensures { result.items ≡ key_text key.now }
 {
-    let mut text = words(word);
+    let mut text = LineText::new();
     put(&mut text, key.name.as_bytes());
     put_counted(&mut text, "!", u64::from(key.version));
+    text
+}
+
+// A number.
+pub(crate) fn number_text(number: u64) -> LineText
+    ensures { result.items ≡ decimal number }
+{
+    let mut text = LineText::new();
+    put_number(&mut text, number);
     text
 }

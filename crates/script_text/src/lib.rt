@@ -9,6 +9,7 @@ mod laws;
 mod laying;
 mod line;
 mod maker;
+mod parts;
 mod reader;
 mod say;
 
@@ -16,5 +17,6 @@ pub use fault::ScriptFault;
 pub use laws::scripts_are_read_whole;
 pub use laying::LineText;
 pub use maker::Maker;
+pub use parts::say_parts;
 pub use reader::Reader;
 pub use say::{lay_line, say_line};

@@ -3,7 +3,7 @@ ghost use Rattle.std.specs.Prelude.{◌≡◌, ◌<◌, ◌≤◌, ◌+◌, ◌^
 ghost use Rattle.sector_disk.specs.Calls.{LeavesDisk};
 ghost use Rattle.sector_disk.specs.Machine.{Wears};
 ghost use Rattle.fsd_texts.specs.Script.{command_at, ends_early};
-ghost use Rattle.script_text.specs.Reading.{AnswersAgain, AnswersScript, CountsOn, GivesFirst, GivesWhole, ReadsFurther, TakesNone, end_answer, end_after, end_by, fresh, script_left};
+ghost use Rattle.script_text.specs.Reading.{AnswersAgain, AnswersScript, CountsOn, GivesFirst, GivesWhole, ReadsFurther, TakesNoBytes, end_answer, end_after, end_by, fresh, script_left};
 ghost use Rattle.script_text.specs.Taking.{ComesIn, TakesBytes, IsUntaken, MovesInput, input_in};
 
 use crate::command::command_of;
@@ -97,7 +97,7 @@ impl Reader {
         requires no_command { command_at self.old.waiting ≡ Err cause }
         ensures script { M.tells m.new → script_left self.new (M.ledger m.new).input ≡ script_left self.old (M.ledger m.old).input }
         ensures on { OnOk result (ReadsFurther self.old self.new) }
-        ensures none { OnErr result (TakesNone self.old self.new) }
+        ensures none { OnErr result (TakesNoBytes self.old self.new) }
         ensures grows { M.tells m.new → TakesBytes self.old self.new (M.ledger m.old) (M.ledger m.new) }
         ensures cause { IfErr result IsUntaken }
         ensures calls { LeavesDisk M.Machine (input_in result) false Wears m.old m.new }
@@ -118,7 +118,7 @@ impl Reader {
         requires early { ends_early cause ≡ true }
         ensures script { M.tells m.new → script_left self.new (M.ledger m.new).input ≡ script_left self.old (M.ledger m.old).input }
         ensures on { OnOk result (ReadsFurther self.old self.new) }
-        ensures none { OnErr result (TakesNone self.old self.new) }
+        ensures none { OnErr result (TakesNoBytes self.old self.new) }
         ensures grows { M.tells m.new → TakesBytes self.old self.new (M.ledger m.old) (M.ledger m.new) }
         ensures cause { IfErr result IsUntaken }
         ensures calls { LeavesDisk M.Machine (input_in result) false Wears m.old m.new }

@@ -1,12 +1,11 @@
 //! The lines that are said.
-ghost use Rattle.std.specs.Prelude.{◌≡◌, ◌≤◌, ◌++◌, ◌∷◌, [], length, is_ok, if◌then◌else◌, codes, decimal};
+ghost use Rattle.std.specs.Prelude.{◌≡◌, ◌≤◌, ◌++◌, length, is_ok, if◌then◌else◌, codes, decimal};
 ghost use Rattle.arrayvec.specs.ArrayVec.{array_vec_len};
-ghost use Rattle.fsd_bytes.specs.Keys.{key_text};
 ghost use Rattle.fsd_texts.specs.declared.line.Line.TheVariants as Says;
-ghost use Rattle.fsd_texts.specs.Text.{bad_line_text, cause_text, fault_text, layout_words, line, newline, refusal_words, refused_line, text};
+ghost use Rattle.fsd_texts.specs.Text.{bad_line_text, cause_text, fault_text, layout_words, newline, refusal_words, refused_line, text};
 
-use crate::laying::{LineText, keyed, numbered, paired, put, put_counted, words};
-use fsd_bytes::{Key, Refusal};
+use crate::laying::{LineText, numbered, paired, put, put_counted, words};
+use fsd_bytes::Refusal;
 use fsd_texts::{Bytes, Cause, Counts, Fault, Line};
 use std::alloc::AllocError;
 use volume_layout::LayoutFault;
@@ -28,37 +27,9 @@ pub fn lay_line(line: &Line) -> LineText
         Line::Bad(bad) => bad_text(bad.line, bad.cause),
         Line::Formatted { sectors, free } => formatted_text(*sectors, *free),
         Line::Unplanned(fault) => unplanned_text(*fault),
-        Line::Made { key, sectors } => key_line("made ", key, *sectors),
-        Line::Deleted(key) => deleted_text(key),
-        Line::Kept { key, keep } => key_line("kept ", key, *keep),
-        Line::Version {
-            key,
-            length,
-            sectors,
-            keep,
-        } => version_text(key, *length, *sectors, *keep),
-        Line::Listed(count) => numbered("listed ", u64::from(*count)),
-        Line::Bytes { key, length } => key_line("bytes ", key, *length),
         Line::Forced => words("forced\n"),
-        Line::Counted {
-            free,
-            waiting,
-            pages,
-            versions,
-        } => counted_text(*free, *waiting, *pages, *versions),
-        Line::Damaged { key, sector } => key_line("damaged ", key, *sector),
-        Line::Scrubbed { healed, damaged } => scrubbed_text(*healed, *damaged),
-        Line::Upgraded => words("upgraded 2\n"),
         Line::Generated(counts) => generated_text(counts),
         Line::Life(life) => numbered("life ", u64::from(*life)),
-        Line::Begun(client) => numbered("begun ", u64::from(*client)),
-        Line::Took { client, sum } => paired("took ", u64::from(*client), u64::from(*sum)),
-        Line::Dropped(client) => numbered("dropped ", u64::from(*client)),
-        Line::Opened { client, length } => {
-            paired("opened ", u64::from(*client), u64::from(*length))
-        }
-        Line::Given { client, length } => paired("next ", u64::from(*client), u64::from(*length)),
-        Line::Done(client) => numbered("done ", u64::from(*client)),
         Line::Refused(why) => refused_text(*why),
         Line::Ended(fault) => ended_text(*fault),
     }
@@ -70,59 +41,6 @@ fn formatted_text(sectors: u32, free: u32) -> LineText
     let mut text = words("formatted ");
     put_counted(&mut text, "", u64::from(sectors));
     put_counted(&mut text, " free ", u64::from(free));
-    put(&mut text, b"\n");
-    text
-}
-
-fn deleted_text(key: &Key) -> LineText
-    ensures { result.items ≡ text (Says.Deleted key.now) }
-{
-    let mut text = keyed("deleted ", key);
-    put(&mut text, b"\n");
-    text
-}
-
-// A word with the space behind it, a key and a number.
-fn key_line(word: &str, key: &Key, number: u32) -> LineText
-    requires { length word.now ≤ 40 }
-    ensures { result.items ≡ word.now ++ line (key_text key.now ∷ decimal number ∷ []) }
-{
-    let mut text = keyed(word, key);
-    put_counted(&mut text, " ", u64::from(number));
-    put(&mut text, b"\n");
-    text
-}
-
-// One version of a list.
-fn version_text(key: &Key, length: u32, sectors: u32, keep: u32) -> LineText
-    ensures { result.items ≡ line (key_text key.now ∷ decimal length ∷ decimal sectors ∷ decimal keep ∷ []) }
-{
-    let mut text = keyed("", key);
-    put_counted(&mut text, " ", u64::from(length));
-    put_counted(&mut text, " ", u64::from(sectors));
-    put_counted(&mut text, " ", u64::from(keep));
-    put(&mut text, b"\n");
-    text
-}
-
-fn counted_text(free: u32, waiting: u32, pages: u32, versions: u32) -> LineText
-    ensures { result.items ≡ text (Says.Counted free waiting pages versions) }
-{
-    let mut text = words("stat free ");
-    put_counted(&mut text, "", u64::from(free));
-    put_counted(&mut text, " waiting ", u64::from(waiting));
-    put_counted(&mut text, " pages ", u64::from(pages));
-    put_counted(&mut text, " versions ", u64::from(versions));
-    put(&mut text, b"\n");
-    text
-}
-
-fn scrubbed_text(healed: u32, damaged: u32) -> LineText
-    ensures { result.items ≡ text (Says.Scrubbed healed damaged) }
-{
-    let mut text = words("scrubbed healed ");
-    put_counted(&mut text, "", u64::from(healed));
-    put_counted(&mut text, " damaged ", u64::from(damaged));
     put(&mut text, b"\n");
     text
 }
