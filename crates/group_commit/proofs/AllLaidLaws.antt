@@ -8,7 +8,7 @@ use Rattle.fsd_formats.specs.declared.anchor.Anchor.{Anchor}
 use Rattle.fsd_formats.specs.Record.{Stamp, end_bytes, bears, record_len}
 use Rattle.sector_disk.specs.declared.sector.Sector.TheVariants.{Whole}
 use Rattle.sector_disk.specs.Image.{sector_at}
-use Rattle.fsd_log.specs.Judged.{slice_of}
+use Rattle.fsd_log.specs.Judged.{sector_in}
 use Rattle.fsd_log.specs.Laid.{slices, slices_from}
 use Rattle.fsd_log.specs.Scan.{Placed}
 use Rattle.fsd_files.specs.Disk.{Image, Sectors, Has}
@@ -20,13 +20,13 @@ pub length-slices : (n k : ℕ) (bytes : List ℕ) → length (slices_from k byt
 length-slices zero k bytes = refl
 length-slices (suc n) k bytes = ap suc (length-slices n (suc k) bytes)
 
-pub get_or-slices : (n k : ℕ) (bytes : List ℕ) (j : ℕ) → j < n → get_or (slices_from k bytes n) j [] ≡ slice_of bytes (k + j)
+pub get_or-slices : (n k : ℕ) (bytes : List ℕ) (j : ℕ) → j < n → get_or (slices_from k bytes n) j [] ≡ sector_in bytes (k + j)
 get_or-slices zero k bytes j lt = absurd (omega arith)
-get_or-slices (suc n) k bytes zero lt = ap (slice_of bytes) (let e : k ≡ k + 0 = omega arith in e)
-get_or-slices (suc n) k bytes (suc j) lt = get_or-slices n (suc k) bytes j (omega arith) ∙ ap (slice_of bytes) (let e : suc k + j ≡ k + suc j = omega arith in e)
+get_or-slices (suc n) k bytes zero lt = ap (sector_in bytes) (let e : k ≡ k + 0 = omega arith in e)
+get_or-slices (suc n) k bytes (suc j) lt = get_or-slices n (suc k) bytes j (omega arith) ∙ ap (sector_in bytes) (let e : suc k + j ≡ k + suc j = omega arith in e)
 
-pub slice_at : (n : ℕ) (bytes : List ℕ) (j : ℕ) → j < n → get_or (slices n bytes) j [] ≡ slice_of bytes j
-slice_at n bytes j lt = get_or-slices n 0 bytes j lt ∙ ap (slice_of bytes) (let e : 0 + j ≡ j = omega arith in e)
+pub slice_at : (n : ℕ) (bytes : List ℕ) (j : ℕ) → j < n → get_or (slices n bytes) j [] ≡ sector_in bytes j
+slice_at n bytes j lt = get_or-slices n 0 bytes j lt ∙ ap (sector_in bytes) (let e : 0 + j ≡ j = omega arith in e)
 
 module _ (l : Layout) (a : Anchor) (weak : Sectors) where
   -- ---- sectors that stay

@@ -34,9 +34,6 @@ pub count_done : (slots : List (Option Slot)) (from start count : ℕ) → from 
 count_done slots from start count inside none =
     sym (gap (lies_in start count) slots from (length slots) inside (omega arith) none) ∙ ap (count_by (lies_in start count)) (take_all (length slots) slots (omega arith))
 
-pub wrote_twice : (ledger : Ledger) (a b n : ℕ) → a + b ≡ n → wrote (wrote ledger a) b ≡ wrote ledger n
-wrote_twice ledger a b n is = let e : ledger.written + a + b ≡ ledger.written + n = omega (arith, is) in λ i. record { input = ledger.input; attaches = ledger.attaches; written = e i }
-
 pub wrote_none : (ledger : Ledger) (n : ℕ) → n ≡ 0 → ledger ≡ wrote ledger n
 wrote_none ledger n is = let e : ledger.written ≡ ledger.written + n = omega (arith, is) in λ i. record { input = ledger.input; attaches = ledger.attaches; written = e i }
 

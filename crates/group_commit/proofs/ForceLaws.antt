@@ -19,7 +19,7 @@ use Rattle.sector_disk.specs.declared.sector.WeakRun.{WeakRun}
 use Rattle.sector_disk.specs.Image.{sector_at, stand, IsWorn}
 use Rattle.sector_disk.specs.Machine.{Moment, Holds}
 use Rattle.sector_disk.proofs.Wear.{stand_in, stand_other, length-stand, outside_cases, worn_trans}
-use Rattle.fsd_log.specs.Judged.{slice_of}
+use Rattle.fsd_log.specs.Judged.{sector_in}
 use Rattle.fsd_log.specs.Borne.{borne_by, Foreign}
 use Rattle.fsd_log.specs.Laid.{laid_bytes, slices}
 use Rattle.fsd_log.specs.Scan.{Head, Placed, Walked, IsLog, place_of, tape, spot_for, anchor_in, newer_of, is_newer}
@@ -244,10 +244,10 @@ module _ (log : LogValue) (s : ResidentValue) (images : List ℕ) (records : Lis
     same_record : (q : Placed) → LiesBefore l log.head.at q → (k : ℕ) → k < record_len (gap_of log.layout) (length q.entry.pages) → sector_at i (place_of l a.third q.at + k) ≡ sector_at base (place_of l a.third q.at + k)
     same_record q before k lt = same_out (place_of l a.third q.at + k) (away q before k lt)
 
-    in_write : (k : ℕ) → k < stood → Has hurt i (slice_of bytes k) (place + k)
+    in_write : (k : ℕ) → k < stood → Has hurt i (sector_in bytes k) (place + k)
     in_write k lt = ⊎_elim (λ same. inl (same ∙ stand_in old.image place bytes stood k lt (room_for stood within))) (λ hurt. inr hurt) (worn.each (place + k))
 
-    has_row : (k : ℕ) (x : List ℕ) → k < stood → slice_of bytes k ≡ x → Has hurt i x (place + k)
+    has_row : (k : ℕ) (x : List ℕ) → k < stood → sector_in bytes k ≡ x → Has hurt i x (place + k)
     has_row k x lt is = subst (λ (y : List ℕ). Has hurt i y (place + k)) is (in_write k lt)
 
     size : length i ≡ length base
@@ -295,8 +295,8 @@ module _ (log : LogValue) (s : ResidentValue) (images : List ℕ) (records : Lis
       | inr out ↦ was t in_log x (sym (same_out t out) ∙ is)
       | inl here ↦
           let at : place + (t - place) ≡ t = omega arith in
-          let same : x ≡ slice_of bytes (t - place) = whole_is l a hurt i x (slice_of bytes (t - place)) (place + (t - place)) (in_write (t - place) (omega arith)) (ap (sector_at i) at ∙ is) in
-          subst (λ (y : List ℕ). IfSome (borne_by y) (λ stamp. stamp.epoch ≤ a.epoch)) (sym same) (bears_ours (slice_of bytes (t - place)) (as_laid.borne (t - place) (omega (arith, within))))
+          let same : x ≡ sector_in bytes (t - place) = whole_is l a hurt i x (sector_in bytes (t - place)) (place + (t - place)) (in_write (t - place) (omega arith)) (ap (sector_at i) at ∙ is) in
+          subst (λ (y : List ℕ). IfSome (borne_by y) (λ stamp. stamp.epoch ≤ a.epoch)) (sym same) (bears_ours (sector_in bytes (t - place)) (as_laid.borne (t - place) (omega (arith, within))))
     ]
       where
         bears_ours : (row : List ℕ) → (borne_by row ≡ Some (stamp_now log)) ⊎ (borne_by row ≡ None) → IfSome (borne_by row) (λ stamp. stamp.epoch ≤ a.epoch)
@@ -384,7 +384,7 @@ module _ (log : LogValue) (s : ResidentValue) (images : List ℕ) (records : Lis
     rows_long : length rows ≡ n + 1
     rows_long = length_push (slices n images) (end_bytes (stamp_now log) n) ∙ ap (λ (k : ℕ). k + 1) (length-slices n 0 images)
 
-    row_at : (at : ℕ) → ((j : ℕ) → j < n → slice_of bytes (at + j) ≡ slice_of images j) → slice_of bytes (at + n) ≡ end_bytes (stamp_now log) n → at + n < stood
+    row_at : (at : ℕ) → ((j : ℕ) → j < n → sector_in bytes (at + j) ≡ sector_in images j) → sector_in bytes (at + n) ≡ end_bytes (stamp_now log) n → at + n < stood
         → (k : ℕ) → k < length rows → Has hurt i (get_or rows k []) (place + at + k)
     row_at at image last stands k lt =
         let there : place + (at + k) ≡ place + at + k = omega arith in
@@ -395,7 +395,7 @@ module _ (log : LogValue) (s : ResidentValue) (images : List ℕ) (records : Lis
           | inr past ↦
               let same : k ≡ n = omega (arith, rows_long) in
               has_row (at + k) (get_or rows k []) (omega (arith, same))
-              (ap (λ (j : ℕ). slice_of bytes (at + j)) same ∙ last ∙ sym (get_or_push (slices n images) (end_bytes (stamp_now log) n) [] k (length-slices n 0 images ∙ sym same)))
+              (ap (λ (j : ℕ). sector_in bytes (at + j)) same ∙ last ∙ sym (get_or_push (slices n images) (end_bytes (stamp_now log) n) [] k (length-slices n 0 images ∙ sym same)))
         ])
 
     front_new : 3 + (gap_of log.layout) + n < stood → HasFront l a hurt i r
@@ -407,7 +407,7 @@ module _ (log : LogValue) (s : ResidentValue) (images : List ℕ) (records : Lis
 
     copies_new : record_len (gap_of log.layout) n ≤ stood → HasCopies l a hurt i r
     copies_new stands = rows_have l a hurt i (place + (4 + 2 * (gap_of log.layout) + n)) rows
-        (row_at (4 + 2 * (gap_of log.layout) + n) as_laid.copy (ap (slice_of bytes) (let e : 4 + 2 * (gap_of log.layout) + n + n ≡ 4 + 2 * (gap_of log.layout) + 2 * n = omega arith in e) ∙ as_laid.last) (omega arith))
+        (row_at (4 + 2 * (gap_of log.layout) + n) as_laid.copy (ap (sector_in bytes) (let e : 4 + 2 * (gap_of log.layout) + n + n ≡ 4 + 2 * (gap_of log.layout) + 2 * n = omega arith in e) ∙ as_laid.last) (omega arith))
 
     -- a sector that was not written bears no such stamp
     not_ours : (k : ℕ) → k < record_len (gap_of log.layout) n → (page : ℕ) (x : List ℕ) → sector_at base (place + k) ≡ Whole x → IsTrue (bears page (stamp_now log) x) → ⊥
@@ -422,7 +422,7 @@ module _ (log : LogValue) (s : ResidentValue) (images : List ℕ) (records : Lis
         let there : sector_at i (place + (4 + 2 * (gap_of log.layout) + n + k)) ≡ Whole x = ap (sector_at i) (sym at) ∙ is in
         elim (cases_lt (4 + 2 * (gap_of log.layout) + n + k) stood) [
           | inl here ↦
-              whole_is l a hurt i x (slice_of bytes (4 + 2 * (gap_of log.layout) + n + k)) (place + (4 + 2 * (gap_of log.layout) + n + k)) (in_write (4 + 2 * (gap_of log.layout) + n + k) here) there ∙ as_laid.copy k lt ∙ sym (slice_at n images k lt)
+              whole_is l a hurt i x (sector_in bytes (4 + 2 * (gap_of log.layout) + n + k)) (place + (4 + 2 * (gap_of log.layout) + n + k)) (in_write (4 + 2 * (gap_of log.layout) + n + k) here) there ∙ as_laid.copy k lt ∙ sym (slice_at n images k lt)
           | inr past ↦ absurd (not_ours (4 + 2 * (gap_of log.layout) + n + k) (omega arith) (get_or s.dirty k 0) x (sym (same_out (place + (4 + 2 * (gap_of log.layout) + n + k)) (inr (omega arith))) ∙ there) bear)
         ])
 

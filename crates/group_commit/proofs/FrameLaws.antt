@@ -1,5 +1,7 @@
 -- What stamps do to the frames of a cache, and how their images lie.
 use Rattle.std.proofs.Common.{◌≡◌, ℕ, zero, suc, ◌<◌, Bool, true, false, cond, ◌||◌, List, [], ◌∷◌, ◌++◌, length, map, take, get_or, option_map, Option, Some, None, IsSome, refl, sym, ap, subst, ◌∙◌, arith, eqb-true}
+use Rattle.std.proofs.lemmas.Option.{same_Some}
+use Rattle.std.proofs.Math.Bool.{or_assoc}
 use Rattle.std.specs.Prelude.{nat_eq, nat_lt}
 use Rattle.std.specs.List.{AllByRecursion, IsDistinct}
 use Rattle.std.specs.Option.{option_map_or}
@@ -22,13 +24,9 @@ or_one : (b : Bool) → (b || (true || false)) ≡ true
 or_one true = refl
 or_one false = refl
 
-or_again : (a b c : Bool) → ((a || b) || c) ≡ (a || (b || c))
-or_again true b c = refl
-or_again false b c = refl
-
 one_more : (xs : List ℕ) (page q : ℕ) → is_among (xs ++ page ∷ []) q ≡ (is_among xs q || (nat_eq page q || false))
 one_more [] page q = refl
-one_more (x ∷ xs) page q = ap (λ (b : Bool). nat_eq x q || b) (one_more xs page q) ∙ sym (or_again (nat_eq x q) (is_among xs q) (nat_eq page q || false))
+one_more (x ∷ xs) page q = ap (λ (b : Bool). nat_eq x q || b) (one_more xs page q) ∙ sym (or_assoc (nat_eq x q) (is_among xs q) (nat_eq page q || false))
 
 one_other : (xs : List ℕ) (page q : ℕ) → nat_eq page q ≡ false → is_among (xs ++ page ∷ []) q ≡ is_among xs q
 one_other xs page q is = one_more xs page q ∙ ap (λ (b : Bool). is_among xs q || (b || false)) is ∙ or_none (is_among xs q)
@@ -54,9 +52,6 @@ module _ (stamp : Stamp) where
   all_as : (x page : ℕ) → nat_eq page x ≡ true → (ks : List ℕ) → AllByRecursion (λ q. nat_eq x q ≡ false) ks → AllByRecursion (λ q. nat_eq page q ≡ false) ks
   all_as x page is ks all = subst (λ (k : ℕ). AllByRecursion (λ q. nat_eq k q ≡ false) ks) (sym (eqb-true page x is)) all
 
-  some_is : {T : Type 0} (a b : T) → Some a ≡ Some b → a ≡ b
-  some_is a b e = cc
-
   entries_more : (xs : List ℕ) (page : ℕ) (bytes : List ℕ) (es : List (ℕ × Held)) → IsDistinct nat_eq (keys_of es) → is_among xs page ≡ false → option_map (λ (h : Held). h.bytes) (lookup (nat_eq page) (entries xs es)) ≡ Some bytes
       → altered page (λ h. record h { bytes = with_stamp stamp bytes }) (entries xs es) ≡ entries (xs ++ page ∷ []) es
   entries_more xs page bytes [] d out has = refl
@@ -65,7 +60,7 @@ module _ (stamp : Stamp) where
       let new : is_among xs x.0 ≡ false = subst (λ (q : ℕ). is_among xs q ≡ false) (eqb-true page x.0 t) out in
       let old : held_stamped stamp (is_among xs x.0) x.1 ≡ x.1 = ap (λ (b : Bool). held_stamped stamp b x.1) new in
       let found : Some (held_stamped stamp (is_among xs x.0) x.1).bytes ≡ Some bytes = rw t at has in
-      let same : x.1.bytes ≡ bytes = sym (ap (λ (h : Held). h.bytes) old) ∙ some_is _ _ found in
+      let same : x.1.bytes ≡ bytes = sym (ap (λ (h : Held). h.bytes) old) ∙ same_Some _ _ found in
       let here : cond (nat_eq page x.0) (record (held_stamped stamp (is_among xs x.0) x.1) { bytes = with_stamp stamp bytes }) (held_stamped stamp (is_among xs x.0) x.1) ≡ held_stamped stamp (is_among (xs ++ page ∷ []) x.0) x.1 =
       ap (λ (b : Bool). cond b (record (held_stamped stamp (is_among xs x.0) x.1) { bytes = with_stamp stamp bytes }) (held_stamped stamp (is_among xs x.0) x.1)) t
       ∙ (λ i. record (old i) { bytes = with_stamp stamp (sym same i) })

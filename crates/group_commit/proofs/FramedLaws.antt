@@ -6,7 +6,7 @@ use Rattle.std.proofs.lemmas.List.{get_or-map, length-append, length-drop, lengt
 use Rattle.run_table.specs.Space.{contains}
 use Rattle.fsd_formats.specs.Record.{Stamp, AreStamped, are_pages, bears, stamp_bytes}
 use Rattle.fsd_log.specs.Borne.{FitsStamp}
-use Rattle.fsd_log.specs.Judged.{slice_of}
+use Rattle.fsd_log.specs.Judged.{sector_in}
 use Rattle.fsd_log.specs.Laid.{slices}
 use Rattle.fsd_sound.specs.Mounted.{image_at}
 use Rattle.page_cache.specs.Cache.{CacheValue, IsResident, cached_bytes}
@@ -52,11 +52,11 @@ module _ (stamp read : Stamp) (fits : FitsStamp read) (same : read ≡ stamp) (c
   pub record_stamped : AreStamped stamp xs (slices (length xs) images)
   record_stamped = subst (λ (t : Stamp). AreStamped t xs (slices (length xs) images)) same (subst (AreStamped read xs) (sym slices_are) (are_stamped (frame_bytes d) read xs bear_is))
 
-  pub record_frames : (k : ℕ) → k < length xs → cached_bytes d (get_or xs k 0) ≡ Some (slice_of images k)
+  pub record_frames : (k : ℕ) → k < length xs → cached_bytes d (get_or xs k 0) ≡ Some (sector_in images k)
   record_frames k lt =
       let page : ℕ = get_or xs k 0 in
       let inside : IsResident d page = subst (λ (v : CacheValue). IsResident v page) (sym made) (there_then read xs c page (there page (index_contained xs k lt))) in
-      let same : frame_bytes d page ≡ slice_of images k =
+      let same : frame_bytes d page ≡ sector_in images k =
       sym (get_or-map (frame_bytes d) xs k 0 [] lt) ∙ ap (λ (ys : List (List ℕ)). get_or ys k []) (sym slices_are) ∙ slice_at (length xs) images k lt in
       frame_is d page inside ∙ ap (λ (b : List ℕ). Some b) same
 

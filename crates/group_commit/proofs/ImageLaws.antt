@@ -13,7 +13,7 @@ use Rattle.fsd_bytes.specs.Bytes.{u32_at, same_bytes}
 use Rattle.fsd_bytes.specs.Names.{is_between}
 use Rattle.fsd_bytes.proofs.SameLaws.{is_same}
 use Rattle.fsd_formats.specs.Record.{Stamp, stamp_bytes, are_pages, ascending, bears, AreStamped}
-use Rattle.fsd_log.specs.Judged.{slice_of}
+use Rattle.fsd_log.specs.Judged.{sector_in}
 use Rattle.fsd_log.specs.Borne.{FitsStamp}
 use Rattle.fsd_log.specs.Laid.{slices, slices_from}
 use Rattle.fsd_log.proofs.LaidLaws.{slice_behind, slice_whole}
@@ -153,7 +153,7 @@ module _ (f : ℕ → List ℕ) where
   slices_of [] front k long each = refl
   slices_of (x ∷ xs) front k long each =
       let size : length (f x) ≡ 512 = each x (first_there x xs) in
-      let here : slice_of (front ++ (f x ++ flat_map f xs)) k ≡ f x = slice_behind front (f x ++ flat_map f xs) k 0 k long (omega arith) ∙ slice_whole (f x) (flat_map f xs) size in
+      let here : sector_in (front ++ (f x ++ flat_map f xs)) k ≡ f x = slice_behind front (f x ++ flat_map f xs) k 0 k long (omega arith) ∙ slice_whole (f x) (flat_map f xs) size in
       let more : slices_from (suc k) (front ++ (f x ++ flat_map f xs)) (length xs) ≡ map f xs =
       ap (λ (b : List ℕ). slices_from (suc k) b (length xs)) (sym (append_assoc front (f x) (flat_map f xs)))
       ∙ slices_of xs (front ++ f x) (suc k) (omega (arith, long, size, length-append front (f x))) (λ p is. each p (contains_more x xs p is)) in

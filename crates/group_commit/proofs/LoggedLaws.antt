@@ -1,5 +1,6 @@
 -- What stands in the log behind the write of a record.
 use Rattle.std.proofs.Common.{◌≡◌, ℕ, zero, suc, ◌+◌, ◌*◌, ◌<◌, ◌≤◌, Bool, true, false, cond, List, [], ◌∷◌, length, take, get_or, Option, Some, None, refl, sym, ap, subst, ◌∙◌, arith, eq-eqb}
+use Rattle.std.proofs.lemmas.Option.{same_Some}
 use Rattle.std.specs.Prelude.{nat_eq}
 use Rattle.std.specs.Option.{option_or}
 use Rattle.std.proofs.lemmas.Bool.{or_parts}
@@ -11,7 +12,7 @@ use Rattle.sector_disk.specs.Image.{IsWorn, Windows, open_damage, sector_at, sta
 use Rattle.sector_disk.specs.Machine.{Holds, Moment}
 use Rattle.sector_disk.proofs.Wear.{stand_in}
 use Rattle.fsd_files.specs.Disk.{Image}
-use Rattle.fsd_log.specs.Judged.{slice_of}
+use Rattle.fsd_log.specs.Judged.{sector_in}
 use Rattle.fsd_log.specs.Laid.{laid_bytes}
 use Rattle.fsd_log.specs.Places.{LieInRecord}
 use Rattle.fsd_log.specs.Scan.{place_of, spot_for}
@@ -67,7 +68,7 @@ module _ (log : LogValue) (pages images : List ℕ) (old new : Moment) (may : Ma
     abbrev page : ℕ
     page = get_or pages k 0
 
-    row : (s m : ℕ) → s ≡ place + m → m < record_len (gap_of log.layout) (length pages) → slice_of bytes m ≡ slice_of images k → sector_at written s ≡ Whole (slice_of images k)
+    row : (s m : ℕ) → s ≡ place + m → m < record_len (gap_of log.layout) (length pages) → sector_in bytes m ≡ sector_in images k → sector_at written s ≡ Whole (sector_in images k)
     row s m at within is =
         ap (sector_at written) at
         ∙ stand_in old.image place bytes (record_len (gap_of log.layout) (length pages)) m within (omega (arith, inside, may.sized))
@@ -86,7 +87,7 @@ module _ (log : LogValue) (pages images : List ℕ) (old new : Moment) (may : Ma
         record { start = place; count = length pages; index = k; there = lt; first = refl; copy = refl; from = from; to = omega (arith, inside) }
 
     -- each image stands at the two places that the page's slot has
-    pub stands_logged : length log.slots ≡ log.layout.pages → Holds old written new → StandsLogged (log_with log pages) new page (slice_of images k)
+    pub stands_logged : length log.slots ≡ log.layout.pages → Holds old written new → StandsLogged (log_with log pages) new page (sector_in images k)
     stands_logged table holds =
         let rows = laid log pages images (length old.image) may in
         record {
@@ -102,14 +103,11 @@ module _ (log : LogValue) (pages images : List ℕ) (old new : Moment) (may : Ma
 -- ---- the frames that it was laid from
 
 -- what stands so of each of some pages, said of a page and its bytes
-pub logged_of : (log : LogValue) (now : Moment) (c : CacheValue) (pages room : List ℕ) → ((k : ℕ) → k < length pages → StandsLogged log now (get_or pages k 0) (slice_of room k))
-    → ((k : ℕ) → k < length pages → cached_bytes c (get_or pages k 0) ≡ Some (slice_of room k))
+pub logged_of : (log : LogValue) (now : Moment) (c : CacheValue) (pages room : List ℕ) → ((k : ℕ) → k < length pages → StandsLogged log now (get_or pages k 0) (sector_in room k))
+    → ((k : ℕ) → k < length pages → cached_bytes c (get_or pages k 0) ≡ Some (sector_in room k))
     → (page : ℕ) (bytes : List ℕ) → contains pages page ≡ true → cached_bytes c page ≡ Some bytes → StandsLogged log now page bytes
 logged_of log now c pages room logged frames page bytes is has =
     let at = contained_index pages page is in
-    let frame : cached_bytes c page ≡ Some (slice_of room at.index) = subst (λ (p : ℕ). cached_bytes c p ≡ Some (slice_of room at.index)) at.is (frames at.index at.inside) in
+    let frame : cached_bytes c page ≡ Some (sector_in room at.index) = subst (λ (p : ℕ). cached_bytes c p ≡ Some (sector_in room at.index)) at.is (frames at.index at.inside) in
     subst (λ (p : ℕ). StandsLogged log now p bytes) at.is
-    (subst (StandsLogged log now (get_or pages at.index 0)) (some_same (slice_of room at.index) bytes (sym frame ∙ has)) (logged at.index at.inside))
-  where
-    some_same : (x y : List ℕ) → Some x ≡ Some y → x ≡ y
-    some_same x y e = cc
+    (subst (StandsLogged log now (get_or pages at.index 0)) (same_Some (sector_in room at.index) bytes (sym frame ∙ has)) (logged at.index at.inside))

@@ -1,9 +1,9 @@
 -- Pages in ascending order: they are the same ones, and a record may have them.
 use Rattle.std.proofs.Common.{◌≡◌, ℕ, zero, suc, ◌+◌, ◌<◌, ◌≤◌, Bool, true, false, cond, ◌&&◌, ◌||◌, List, [], ◌∷◌, ◌++◌, length, take, get_or, refl, sym, ap, ◌∙◌, arith, eqb-true}
-use Rattle.std.proofs.Math.Bool.{or_assoc, or_comm, or-false}
+use Rattle.std.proofs.Math.Bool.{or_assoc, or_comm, or-false, or-true}
 use Rattle.std.specs.Prelude.{count_by, nat_eq, nat_le, nat_lt, ◌==◌}
 use Rattle.std.specs.List.{AllByRecursion, IsDistinct, list_all}
-use Rattle.std.proofs.lemmas.Bool.{and_from, le-leb, or_right}
+use Rattle.std.proofs.lemmas.Bool.{and_from, le-leb, or_right, or_parts}
 use Rattle.std.proofs.lemmas.List.{take_more}
 use Rattle.std.proofs.lemmas.List.Sums.{sum_by-cons}
 use Rattle.std.proofs.lemmas.Map.Keys.{IsDistinct-head, IsDistinct-tail}
@@ -56,11 +56,7 @@ one_ascending xs p = one_among xs [] p ∙ or-false (is_among xs p)
 pub index_contained : (xs : List ℕ) (k : ℕ) → k < length xs → contains xs (get_or xs k 0) ≡ true
 index_contained [] k lt = absurd (omega arith)
 index_contained (x ∷ xs) zero lt = ap (λ (b : Bool). b || contains xs x) (same_key x)
-index_contained (x ∷ xs) (suc k) lt = ap (λ (b : Bool). (x == get_or xs k 0) || b) (index_contained xs k (omega arith)) ∙ or_true (x == get_or xs k 0)
-  where
-    or_true : (b : Bool) → (b || true) ≡ true
-    or_true true = refl
-    or_true false = refl
+index_contained (x ∷ xs) (suc k) lt = ap (λ (b : Bool). (x == get_or xs k 0) || b) (index_contained xs k (omega arith)) ∙ or-true (x == get_or xs k 0)
 
 -- where a page stands
 pub record StandsIn (xs : List ℕ) (p : ℕ) : Type 0 where
@@ -80,14 +76,10 @@ with_new : (page : ℕ) (xs : List ℕ) → is_among xs page ≡ false → lengt
 with_new page [] out = refl
 with_new page (q ∷ xs) out = by_tests (λ none. with_new page xs none) (nat_lt page q) (q == page) refl
   where
-    other : (a b : Bool) → (a || b) ≡ false → (a ≡ false) × (b ≡ false)
-    other true b e = absurd cc
-    other false b e = (refl, e)
-
     by_tests : (is_among xs page ≡ false → length (page_added page xs) ≡ suc (length xs)) → (below same : Bool) → (q == page) ≡ same → length (cond below (page ∷ q ∷ xs) (cond same (q ∷ xs) (q ∷ page_added page xs))) ≡ suc (suc (length xs))
     by_tests more true same is = refl
-    by_tests more false true is = absurd (let no = (other (nat_eq q page) (is_among xs page) out).0 in cc (is, no))
-    by_tests more false false is = ap suc (more (other (nat_eq q page) (is_among xs page) out).1)
+    by_tests more false true is = absurd (let no = (or_parts (nat_eq q page) (is_among xs page) out).0 in cc (is, no))
+    by_tests more false false is = ap suc (more (or_parts (nat_eq q page) (is_among xs page) out).1)
 
 still_out : (x : ℕ) (ys ks : List ℕ) → AllByRecursion (λ q. nat_eq x q ≡ false) ks → AllByRecursion (λ q. is_among ys q ≡ false) ks → AllByRecursion (λ q. is_among (page_added x ys) q ≡ false) ks
 still_out x ys [] apart out = tt
@@ -121,17 +113,13 @@ rank_with : (page x : ℕ) (ys : List ℕ) → is_among ys x ≡ false → rank 
 rank_with page x [] out = rank_more page x []
 rank_with page x (q ∷ ys) out = by_tests (λ none. rank_with page x ys none) (nat_lt x q) (q == x) refl
   where
-    other : (a b : Bool) → (a || b) ≡ false → (a ≡ false) × (b ≡ false)
-    other true b e = absurd cc
-    other false b e = (refl, e)
-
     by_tests : (is_among ys x ≡ false → rank page (page_added x ys) ≡ cond (nat_lt x page) 1 0 + rank page ys) → (below same : Bool) → (q == x) ≡ same
         → rank page (cond below (x ∷ q ∷ ys) (cond same (q ∷ ys) (q ∷ page_added x ys))) ≡ cond (nat_lt x page) 1 0 + rank page (q ∷ ys)
     by_tests more true same is = rank_more page x (q ∷ ys)
-    by_tests more false true is = absurd (let no = (other (nat_eq q x) (is_among ys x) out).0 in cc (is, no))
+    by_tests more false true is = absurd (let no = (or_parts (nat_eq q x) (is_among ys x) out).0 in cc (is, no))
     by_tests more false false is =
         let first = rank_more page q (page_added x ys) in
-        let rest = more (other (nat_eq q x) (is_among ys x) out).1 in
+        let rest = more (or_parts (nat_eq q x) (is_among ys x) out).1 in
         let whole = rank_more page q ys in
         omega (arith, first, rest, whole)
 

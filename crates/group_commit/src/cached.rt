@@ -1,7 +1,7 @@
 //! The force of the dirty pages of a cache.
 ghost use Rattle.std.specs.Prelude.{◌≡◌, ◌<◌, ◌≤◌, ◌^◌, ◌-◌, ℕ, true, List, [], length, take, slice_index, Some, ◌*◌, IsTrue, EachIndex, IfSome, IfOk, IfErr, OnOk};
 ghost use Rattle.sector_disk.specs.Calls.{WritesDisk, device_in, load_failed_at};
-ghost use Rattle.fsd_log.specs.Judged.{slice_of};
+ghost use Rattle.fsd_log.specs.Judged.{sector_in};
 ghost use Rattle.run_table.specs.Space.{contains};
 ghost use Rattle.fsd_formats.specs.Record.{max_pages, AreStamped, are_pages};
 ghost use Rattle.fsd_log.specs.Laid.{slices};
@@ -31,7 +31,7 @@ fn lay_record(log: &Log, cache: &mut Cache, waiting: &[u32], room: &mut RecordRo
     ensures cache { cache.new ≡ stamped_frames (stamp_now log.now) waiting.now cache.old }
     ensures stamped { AreStamped (stamp_now log.now) waiting.now (slices (length waiting.now) (take (512 * length waiting.now) room.new)) }
     ensures laid { (pages : List (List ℕ)) → AgreesWith log.now.layout cache.old pages → HasImages log.now waiting.now room.new pages }
-    ensures frames { EachIndex waiting.now (λ k. cached_bytes cache.new (slice_index waiting.now k) ≡ Some (slice_of room.new k)) }
+    ensures frames { EachIndex waiting.now (λ k. cached_bytes cache.new (slice_index waiting.now k) ≡ Some (sector_in room.new k)) }
 {
     stamp_frames(cache, waiting, log.epoch(), log.next_number());
     lay_frames(cache, waiting, room.images.as_mut_slice());

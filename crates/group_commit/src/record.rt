@@ -2,7 +2,7 @@
 ghost use Rattle.std.specs.Prelude.{◌<◌, ◌≤◌, ◌^◌, ◌-◌, ◌*◌, length, take, slice_index, IsTrue, EachIndex, IfErr, OnOk};
 ghost use Rattle.sector_disk.specs.Calls.{WritesDisk, device_in, load_failed_at};
 ghost use Rattle.fsd_formats.specs.Record.{AreStamped, are_pages};
-ghost use Rattle.fsd_log.specs.Judged.{slice_of};
+ghost use Rattle.fsd_log.specs.Judged.{sector_in};
 ghost use Rattle.fsd_log.specs.Laid.{slices};
 ghost use Rattle.log_thirds.specs.Append.{stamp_now};
 ghost use Rattle.group_commit.specs.Commit.{LogsNoPages, LogsPages};
@@ -30,7 +30,7 @@ pub(crate) fn write_record<M: Machine>(
     ensures rest { M.honest m.new → KeepsOutside log.old.layout (M.now m.old) (M.now m.new) }
     ensures done { OnOk result (LogsPages M.Machine log.old log.new (HasImages log.old dirty.now room.now) dirty.now m.old m.new) }
     ensures failed { IfErr result (LogsNoPages M.Machine log.old log.new (HasImages log.old dirty.now room.now) dirty.now m.old m.new) }
-    ensures logged { OnOk result (M.honest m.new → EachIndex dirty.now (λ k. StandsLogged log.new (M.now m.new) (slice_index dirty.now k) (slice_of room.now k))) }
+    ensures logged { OnOk result (M.honest m.new → EachIndex dirty.now (λ k. StandsLogged log.new (M.now m.new) (slice_index dirty.now k) (sector_in room.now k))) }
 {
     let layout = log.layout();
     // For the proof alone: its own call tells that a layout is planned.

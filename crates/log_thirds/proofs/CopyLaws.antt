@@ -7,7 +7,7 @@ use Rattle.volume_layout.specs.Shape.{Shape}
 use Rattle.fsd_bytes.proofs.SameLaws.{same_is}
 use Rattle.fsd_formats.specs.Record.{Stamp, is_end, end_bytes, bears}
 use Rattle.log_record.specs.Found.{read_of}
-use Rattle.fsd_log.specs.Judged.{Reader, Serving, passes, serving, page_copies, judged_with, judged, images_of, slice_of}
+use Rattle.fsd_log.specs.Judged.{Reader, Serving, passes, serving, page_copies, judged_with, judged, images_of, sector_in}
 use Rattle.fsd_log.specs.Laid.{slices_from, slices}
 use Rattle.fsd_log.specs.Scan.{Placed}
 use Rattle.fsd_log.proofs.JudgedLaws.{length-copies, is_judged, if_some, serving_with}
@@ -16,14 +16,14 @@ use Rattle.log_thirds.specs.Copies.{served_at, AreServed, Copies, AreCopies, Are
 
 -- ---- one sector more
 
-pub served_more : (gap : ℕ) → (s : Serving) (bytes : List ℕ) (k : ℕ) (copies sector : List ℕ) → AreServed gap s bytes k copies → length sector ≡ 512 → sector ≡ slice_of bytes (served_at gap s k) → AreServed gap s bytes (k + 1) (copies ++ sector)
+pub served_more : (gap : ℕ) → (s : Serving) (bytes : List ℕ) (k : ℕ) (copies sector : List ℕ) → AreServed gap s bytes k copies → length sector ≡ 512 → sector ≡ sector_in bytes (served_at gap s k) → AreServed gap s bytes (k + 1) (copies ++ sector)
 served_more gap s bytes k copies sector are long is = record {
   long = omega (arith, length-append copies sector, are.long, long);
   each = λ j lt. elim (cases_lt j k) [
     | inl below ↦ slice_within copies sector k j are.long below ∙ are.each j below
     | inr from ↦
         let at : k ≡ j = omega arith in
-        subst (λ (n : ℕ). slice_of (copies ++ sector) n ≡ slice_of bytes (served_at gap s n)) at (slice_behind copies sector k 0 k are.long (omega arith) ∙ slice_all sector long ∙ is)
+        subst (λ (n : ℕ). sector_in (copies ++ sector) n ≡ sector_in bytes (served_at gap s n)) at (slice_behind copies sector k 0 k are.long (omega arith) ∙ slice_all sector long ∙ is)
   ];
 }
 
@@ -43,35 +43,35 @@ passed test false s is = absurd (false≢true is)
 
 module _ (gap : ℕ) (whole : List Bool) (bytes : List ℕ) where
   serves : (test : List ℕ → Bool) (a b : ℕ) (d : Bool) → serving test (read_of whole bytes a) (read_of whole bytes b) ≡ Some d
-      → (unwrap_or (read_of whole bytes (if d then b else a)) [] ≡ slice_of bytes (if d then b else a)) × (test (slice_of bytes (if d then b else a)) ≡ true)
-  serves test a b true is = passed test (get_or whole b false) (slice_of bytes b) (pick test (read_of whole bytes a) (read_of whole bytes b) true is)
-  serves test a b false is = passed test (get_or whole a false) (slice_of bytes a) (pick test (read_of whole bytes a) (read_of whole bytes b) false is)
+      → (unwrap_or (read_of whole bytes (if d then b else a)) [] ≡ sector_in bytes (if d then b else a)) × (test (sector_in bytes (if d then b else a)) ≡ true)
+  serves test a b true is = passed test (get_or whole b false) (sector_in bytes b) (pick test (read_of whole bytes a) (read_of whole bytes b) true is)
+  serves test a b false is = passed test (get_or whole a false) (sector_in bytes a) (pick test (read_of whole bytes a) (read_of whole bytes b) false is)
 
   served_slices : (stamp : Stamp) (copies : List ℕ) (k c j : ℕ) (pages : List ℕ) (cs : List Bool) → page_copies stamp (read_of whole bytes) k c pages ≡ Some cs
-      → ((i : ℕ) → i < length pages → slice_of copies (j + i) ≡ slice_of bytes (if get_or cs i false then c + i else k + i)) → images_of (read_of whole bytes) k c cs ≡ slices_from j copies (length pages)
+      → ((i : ℕ) → i < length pages → sector_in copies (j + i) ≡ sector_in bytes (if get_or cs i false then c + i else k + i)) → images_of (read_of whole bytes) k c cs ≡ slices_from j copies (length pages)
   served_slices stamp copies k c j [] cs is same = let none : cs ≡ [] = cc is in ap (λ (x : List Bool). images_of (read_of whole bytes) k c x) none
   served_slices stamp copies k c j (page ∷ pages) cs is same =
       by_parts (λ more e. served_slices stamp copies (k + 1) (c + 1) (suc j) pages more e) (serving (bears page stamp) (read_of whole bytes k) (read_of whole bytes c)) (page_copies stamp (read_of whole bytes) (k + 1) (c + 1) pages) refl refl is
     where
       by_parts : ((more : List Bool) → page_copies stamp (read_of whole bytes) (k + 1) (c + 1) pages ≡ Some more
-          → ((i : ℕ) → i < length pages → slice_of copies (suc j + i) ≡ slice_of bytes (if get_or more i false then c + 1 + i else k + 1 + i)) → images_of (read_of whole bytes) (k + 1) (c + 1) more ≡ slices_from (suc j) copies (length pages))
+          → ((i : ℕ) → i < length pages → sector_in copies (suc j + i) ≡ sector_in bytes (if get_or more i false then c + 1 + i else k + 1 + i)) → images_of (read_of whole bytes) (k + 1) (c + 1) more ≡ slices_from (suc j) copies (length pages))
           → (o : Option Bool) (rest : Option (List Bool)) → serving (bears page stamp) (read_of whole bytes k) (read_of whole bytes c) ≡ o → page_copies stamp (read_of whole bytes) (k + 1) (c + 1) pages ≡ rest
           → option_and_then (λ x. option_map (λ more. x ∷ more) rest) o ≡ Some cs → images_of (read_of whole bytes) k c cs ≡ slices_from j copies (length (page ∷ pages))
       by_parts further None rest one others e = absurd (cc e)
       by_parts further (Some d) None one others e = absurd (cc e)
       by_parts further (Some d) (Some more) one others e =
           let made : d ∷ more ≡ cs = cc e in
-          let each : (i : ℕ) → i < length (page ∷ pages) → slice_of copies (j + i) ≡ slice_of bytes (if get_or (d ∷ more) i false then c + i else k + i) =
-          λ i lt. same i lt ∙ ap (λ (x : List Bool). slice_of bytes (if get_or x i false then c + i else k + i)) (sym made) in
+          let each : (i : ℕ) → i < length (page ∷ pages) → sector_in copies (j + i) ≡ sector_in bytes (if get_or (d ∷ more) i false then c + i else k + i) =
+          λ i lt. same i lt ∙ ap (λ (x : List Bool). sector_in bytes (if get_or x i false then c + i else k + i)) (sym made) in
           let j0 : j ≡ j + 0 = omega arith in
           let c0 : c + 0 ≡ c = omega arith in
           let k0 : k + 0 ≡ k = omega arith in
-          let head : slice_of copies j ≡ slice_of bytes (if d then c else k) = ap (slice_of copies) j0 ∙ each 0 (omega arith) ∙ λ i. slice_of bytes (cond d (c0 i) (k0 i)) in
+          let head : sector_in copies j ≡ sector_in bytes (if d then c else k) = ap (sector_in copies) j0 ∙ each 0 (omega arith) ∙ λ i. sector_in bytes (cond d (c0 i) (k0 i)) in
           let tail = further more others (λ i lt.
           let ji : suc j + i ≡ j + suc i = omega arith in
           let ci : c + suc i ≡ c + 1 + i = omega arith in
           let ki : k + suc i ≡ k + 1 + i = omega arith in
-          ap (slice_of copies) ji ∙ each (suc i) (omega (arith, lt)) ∙ λ x. slice_of bytes (cond (get_or more i false) (ci x) (ki x))) in
+          ap (sector_in copies) ji ∙ each (suc i) (omega (arith, lt)) ∙ λ x. sector_in bytes (cond (get_or more i false) (ci x) (ki x))) in
           subst (λ (x : List Bool). images_of (read_of whole bytes) k c x ≡ slices_from j copies (length (page ∷ pages))) made
           (λ i. ((serves (bears page stamp) k c d one).0 ∙ sym head) i ∷ tail i)
 
@@ -90,13 +90,13 @@ module _ (gap : ℕ) (whole : List Bool) (bytes : List ℕ) where
     module _ (copies : List ℕ) (are : AreServed gap s bytes (length s.pages + 1) copies) where
       pub images_served : images_of (read_of whole bytes) (3 + gap) (4 + 2 * gap + length s.pages) s.page_copy ≡ slices (length s.pages) copies
       images_served = served_slices stamp copies (3 + gap) (4 + 2 * gap + length s.pages) 0 s.pages s.page_copy (is_judged gap p stamp (length whole) (read_of whole bytes) s is).copies
-          (λ i lt. let zero_on : 0 + i ≡ i = omega arith in ap (slice_of copies) zero_on ∙ are.each i (omega (arith, lt)) ∙ ap (slice_of bytes) (cond-true (nat_lt i (length s.pages)) _ _ (lt-ltb i (length s.pages) lt)))
+          (λ i lt. let zero_on : 0 + i ≡ i = omega arith in ap (sector_in copies) zero_on ∙ are.each i (omega (arith, lt)) ∙ ap (sector_in bytes) (cond-true (nat_lt i (length s.pages)) _ _ (lt-ltb i (length s.pages) lt)))
 
       pub end_served : AreCopies stamp (length s.pages) copies
       end_served =
           let n : ℕ = length s.pages in
-          let at : slice_of copies (length s.pages) ≡ slice_of bytes (if s.end_copy then 4 + 2 * gap + 2 * length s.pages else 3 + gap + length s.pages) =
-          are.each (length s.pages) (omega arith) ∙ ap (slice_of bytes) (cond-false (nat_lt (length s.pages) (length s.pages)) _ _ (le-ltb (length s.pages) (length s.pages) (omega arith))) in
+          let at : sector_in copies (length s.pages) ≡ sector_in bytes (if s.end_copy then 4 + 2 * gap + 2 * length s.pages else 3 + gap + length s.pages) =
+          are.each (length s.pages) (omega arith) ∙ ap (sector_in bytes) (cond-false (nat_lt (length s.pages) (length s.pages)) _ _ (le-ltb (length s.pages) (length s.pages) (omega arith))) in
           let ends = serves (is_end stamp (length s.pages)) (3 + gap + length s.pages) (4 + 2 * gap + 2 * length s.pages) s.end_copy
           (elim (is_judged gap p stamp (length whole) (read_of whole bytes) s is).by [ inl by ↦ end_serving false by.good | inr by ↦ end_serving true by.1.good ]) in
           record { long = are.long; end = at ∙ sym (same_is (end_bytes stamp (length s.pages)) _ ends.1) }

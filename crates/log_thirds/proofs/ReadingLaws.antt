@@ -8,7 +8,7 @@ use Rattle.sector_disk.specs.Calls.{as_sector}
 use Rattle.sector_disk.specs.Image.{sector_at, Windows, open_damage, bytes_of}
 use Rattle.sector_disk.specs.Machine.{Moment, Wears}
 use Rattle.sector_disk.proofs.Wear.{worn_damaged}
-use Rattle.fsd_log.specs.Judged.{slice_of}
+use Rattle.fsd_log.specs.Judged.{sector_in}
 use Rattle.log_record.specs.Found.{read_of}
 use Rattle.fsd_log.proofs.LaidLaws.{slice_within, slice_behind, slice_all}
 use Rattle.fsd_formats.specs.Record.{Stamp}
@@ -38,14 +38,14 @@ read_back old mid place o wears (inr hurt) = inr (subst (λ (w : Windows). IsTru
 module _ (whole whole1 : List Bool) (bytes bytes1 : List ℕ) (shows : Option (List ℕ) → Type 0) (into : ReadInto whole whole1 bytes bytes1 shows) (k : ℕ) (many : length whole ≡ k) (long : length bytes ≡ 512 * k) where
   read_before : (j : ℕ) → j < k → read_of whole1 bytes1 j ≡ read_of whole bytes j
   read_before j lt =
-      (λ i. if get_or (into.noted i) j false then Some (slice_of (into.taken i) j) else None)
+      (λ i. if get_or (into.noted i) j false then Some (sector_in (into.taken i) j) else None)
       ∙ (λ i. if get_or_append_left whole (into.flag ∷ []) false j (let below : j < length whole = omega arith in below) i then Some (slice_within bytes into.sector k j long lt i) else None)
 
   read_last : read_of whole1 bytes1 k ≡ (if into.flag then Some into.sector else None)
   read_last =
       let flag : get_or (whole ++ into.flag ∷ []) k false ≡ into.flag = ap (λ (n : ℕ). get_or (whole ++ into.flag ∷ []) n false) (sym many) ∙ get_or-append_seam whole into.flag [] false in
-      let slice : slice_of (bytes ++ into.sector) k ≡ into.sector = slice_behind bytes into.sector k 0 k long (omega arith) ∙ slice_all into.sector into.long in
-      (λ i. if get_or (into.noted i) k false then Some (slice_of (into.taken i) k) else None) ∙ (λ i. if flag i then Some (slice i) else None)
+      let slice : sector_in (bytes ++ into.sector) k ≡ into.sector = slice_behind bytes into.sector k 0 k long (omega arith) ∙ slice_all into.sector into.long in
+      (λ i. if get_or (into.noted i) k false then Some (sector_in (into.taken i) k) else None) ∙ (λ i. if flag i then Some (slice i) else None)
 
 -- what was seen up to a moment was seen up to a later one, and what is seen from a moment on is seen from an earlier one on
 sees_later : (old mid new : Moment) (place : ℕ) (o : Option (List ℕ)) → Wears mid new → SeesAt old mid place o → SeesAt old new place o
@@ -71,7 +71,7 @@ reads_more honest honest1 old mid new place k whole whole1 whole2 bytes bytes1 b
 
 -- nothing is read beyond what was read
 pub read_past : (whole : List Bool) (bytes : List ℕ) (k : ℕ) → length whole ≤ k → read_of whole bytes k ≡ None
-read_past whole bytes k past = ap (λ (b : Bool). if b then Some (slice_of bytes k) else None) (get_or_past whole k false past)
+read_past whole bytes k past = ap (λ (b : Bool). if b then Some (sector_in bytes k) else None) (get_or_past whole k false past)
 
 -- the headers, and then as far as they say
 pub record_read : (gap : ℕ) → (honest honest1 : Type 0) (old mid new : Moment) (p : ℕ) (stamp : Stamp) (place room first count : ℕ) (whole whole1 whole2 : List Bool) (bytes bytes1 bytes2 : List ℕ) → whole ≡ [] → (honest1 → honest) → (honest1 → Wears old mid) → (honest1 → Wears mid new)

@@ -5,7 +5,7 @@ use Rattle.std.proofs.lemmas.Bool.{cond-true, lt-ltb, cases_lt}
 use Rattle.volume_layout.specs.Shape.{Shape}
 use Rattle.volume_layout.specs.Kinds.{gap_of}
 use Rattle.fsd_formats.specs.Record.{header_bytes, end_bytes, record_len}
-use Rattle.fsd_log.specs.Judged.{Reader, slice_of}
+use Rattle.fsd_log.specs.Judged.{Reader, sector_in}
 use Rattle.fsd_log.specs.Borne.{borne_by, Foreign, FitsStamp}
 use Rattle.fsd_log.proofs.JudgedLaws.{foreign_absent, endless_absent}
 use Rattle.fsd_log.proofs.LaidLaws.{IsLaidAs}
@@ -20,7 +20,7 @@ use Rattle.volume_layout.proofs.KindLaws.{gap_most}
 
 -- the first sectors of a write stand on the tape, but where they may have worn; the others are as they were
 pub record TapeWorn (weak : ℕ → Bool) (bytes : List ℕ) (at stood : ℕ) (old new : Reader) : Type 0 where
-  pub front : (k : ℕ) → k < stood → (new (at + k) ≡ Some (slice_of bytes k)) ⊎ (IsTrue (weak (at + k)) × (new (at + k) ≡ None))
+  pub front : (k : ℕ) → k < stood → (new (at + k) ≡ Some (sector_in bytes k)) ⊎ (IsTrue (weak (at + k)) × (new (at + k) ≡ None))
   pub below : (w : ℕ) → w < at → new w ≡ old w
   pub above : (w : ℕ) → at + stood ≤ w → new w ≡ old w
 
@@ -50,7 +50,7 @@ module _ (l : Shape) (epoch first : ℕ) (fits : epoch < 2 ^ 32) (third : 0 < l.
           let k : ℕ = w - spot.at in
           let at : spot.at + (w - spot.at) ≡ w = omega arith in
           inr (subst (λ (x : ℕ). Foreign (stamp_of epoch m) (new x)) at (⊎_elim
-          (λ is. subst (Foreign (stamp_of epoch m)) (sym is) (foreign_row (slice_of bytes (w - spot.at)) (laid.borne (w - spot.at) (omega arith))))
+          (λ is. subst (Foreign (stamp_of epoch m)) (sym is) (foreign_row (sector_in bytes (w - spot.at)) (laid.borne (w - spot.at) (omega arith))))
           (λ hurt. subst (Foreign (stamp_of epoch m)) (sym hurt.1) (none_foreign (stamp_of epoch m)))
           (torn.front (w - spot.at) (omega arith))))
     ]
@@ -90,24 +90,24 @@ module _ (l : Shape) (epoch first : ℕ) (fits : epoch < 2 ^ 32) (third : 0 < l.
   roomy = omega (arith, is_spot.fits, are.few, gap_most l)
 
   -- in the window each sector is as laid, or bears nothing of it
-  in_window : (k : ℕ) → k < record_len (gap_of l) (length pages) → AsLaid (stamp_of epoch h.number) (slice_of bytes k) (window new spot.at (room_at spot.at spot.end) k)
+  in_window : (k : ℕ) → k < record_len (gap_of l) (length pages) → AsLaid (stamp_of epoch h.number) (sector_in bytes k) (window new spot.at (room_at spot.at spot.end) k)
   in_window k lt =
       let seen : window new spot.at (room_at spot.at spot.end) k ≡ new (spot.at + k) = cond-true (nat_lt k (room_at spot.at spot.end)) (new (spot.at + k)) None (lt-ltb k (room_at spot.at spot.end) (omega (arith, roomy))) in
-      subst (AsLaid (stamp_of epoch h.number) (slice_of bytes k)) (sym seen)
+      subst (AsLaid (stamp_of epoch h.number) (sector_in bytes k)) (sym seen)
       (elim (cases_lt k stood) [
         | inl front ↦ ⊎_elim (λ is. inl is) (λ hurt. inr (subst (Foreign (stamp_of epoch h.number)) (sym hurt.1) (none_foreign (stamp_of epoch h.number)))) (torn.front k front)
         | inr past ↦ inr (old_foreign (spot.at + k) h.number (omega arith) (inr (omega arith)))
       ])
 
-  as_laid : (k : ℕ) (row : List ℕ) → k < record_len (gap_of l) (length pages) → slice_of bytes k ≡ row → AsLaid (stamp_of epoch h.number) row (window new spot.at (room_at spot.at spot.end) k)
+  as_laid : (k : ℕ) (row : List ℕ) → k < record_len (gap_of l) (length pages) → sector_in bytes k ≡ row → AsLaid (stamp_of epoch h.number) row (window new spot.at (room_at spot.at spot.end) k)
   as_laid k row lt is = subst (λ (r : List ℕ). AsLaid (stamp_of epoch h.number) r (window new spot.at (room_at spot.at spot.end) k)) is (in_window k lt)
 
   reads_laid : ReadsLaid (gap_of l) (stamp_of epoch h.number) pages images (window new spot.at (room_at spot.at spot.end))
   reads_laid = record {
     header = as_laid 0 (header_bytes (stamp_of epoch h.number) pages) (omega arith) laid.header;
     header_copy = as_laid (2 + (gap_of l)) (header_bytes (stamp_of epoch h.number) pages) (omega arith) laid.header_copy;
-    first = λ j lt. as_laid (3 + (gap_of l) + j) (slice_of images j) (omega arith) (laid.image j lt);
-    copy = λ j lt. as_laid (4 + 2 * (gap_of l) + length pages + j) (slice_of images j) (omega arith) (laid.copy j lt);
+    first = λ j lt. as_laid (3 + (gap_of l) + j) (sector_in images j) (omega arith) (laid.image j lt);
+    copy = λ j lt. as_laid (4 + 2 * (gap_of l) + length pages + j) (sector_in images j) (omega arith) (laid.copy j lt);
   }
 
   past_foreign : (k : ℕ) → stood ≤ k → k < record_len (gap_of l) (length pages) → Foreign (stamp_of epoch h.number) (window new spot.at (room_at spot.at spot.end) k)
@@ -129,7 +129,7 @@ module _ (l : Shape) (epoch first : ℕ) (fits : epoch < 2 ^ 32) (third : 0 < l.
 
   -- of two sectors that lie so far apart one stands
   one_of : stood ≡ record_len (gap_of l) (length pages) → ((k d : ℕ) → k + d < record_len (gap_of l) (length pages) → 2 + (gap_of l) ≤ d → IsTrue (weak (spot.at + k)) → IsTrue (weak (spot.at + (k + d))) → ⊥)
-      → (k d : ℕ) (row : List ℕ) → k + d < record_len (gap_of l) (length pages) → 2 + (gap_of l) ≤ d → slice_of bytes k ≡ row → slice_of bytes (k + d) ≡ row
+      → (k d : ℕ) (row : List ℕ) → k + d < record_len (gap_of l) (length pages) → 2 + (gap_of l) ≤ d → sector_in bytes k ≡ row → sector_in bytes (k + d) ≡ row
       → (window new spot.at (room_at spot.at spot.end) k ≡ Some row) ⊎ (window new spot.at (room_at spot.at spot.end) (k + d) ≡ Some row)
   one_of whole narrow k d row lt apart is is_copy =
       let seen : window new spot.at (room_at spot.at spot.end) k ≡ new (spot.at + k) = cond-true (nat_lt k (room_at spot.at spot.end)) (new (spot.at + k)) None (lt-ltb k (room_at spot.at spot.end) (omega (arith, roomy))) in
@@ -152,13 +152,13 @@ module _ (l : Shape) (epoch first : ℕ) (fits : epoch < 2 ^ 32) (third : 0 < l.
         headers =
             let copy_at : 0 + (2 + (gap_of l)) ≡ 2 + (gap_of l) = omega arith in
             subst (λ (k : ℕ). (window new spot.at (room_at spot.at spot.end) 0 ≡ Some (header_bytes (stamp_of epoch h.number) pages)) ⊎ (window new spot.at (room_at spot.at spot.end) k ≡ Some (header_bytes (stamp_of epoch h.number) pages))) copy_at
-            (one_of whole narrow 0 (2 + (gap_of l)) (header_bytes (stamp_of epoch h.number) pages) (omega arith) (omega arith) laid.header (ap (slice_of bytes) copy_at ∙ laid.header_copy));
+            (one_of whole narrow 0 (2 + (gap_of l)) (header_bytes (stamp_of epoch h.number) pages) (omega arith) (omega arith) laid.header (ap (sector_in bytes) copy_at ∙ laid.header_copy));
         ends = subst (λ (k : ℕ). (window new spot.at (room_at spot.at spot.end) (3 + (gap_of l) + length pages) ≡ Some (end_bytes (stamp_of epoch h.number) (length pages))) ⊎ (window new spot.at (room_at spot.at spot.end) k ≡ Some (end_bytes (stamp_of epoch h.number) (length pages)))) copy_end
-            (one_of whole narrow (3 + (gap_of l) + length pages) (1 + (gap_of l) + length pages) (end_bytes (stamp_of epoch h.number) (length pages)) (omega arith) (omega arith) laid.ends (ap (slice_of bytes) copy_end ∙ laid.last));
+            (one_of whole narrow (3 + (gap_of l) + length pages) (1 + (gap_of l) + length pages) (end_bytes (stamp_of epoch h.number) (length pages)) (omega arith) (omega arith) laid.ends (ap (sector_in bytes) copy_end ∙ laid.last));
         each = λ j lt.
             let copy_at : 3 + (gap_of l) + j + (1 + (gap_of l) + length pages) ≡ 4 + 2 * (gap_of l) + length pages + j = omega arith in
-            subst (λ (k : ℕ). (window new spot.at (room_at spot.at spot.end) (3 + (gap_of l) + j) ≡ Some (slice_of images j)) ⊎ (window new spot.at (room_at spot.at spot.end) k ≡ Some (slice_of images j))) copy_at
-            (one_of whole narrow (3 + (gap_of l) + j) (1 + (gap_of l) + length pages) (slice_of images j) (omega arith) (omega arith) (laid.image j lt) (ap (slice_of bytes) copy_at ∙ laid.copy j lt));
+            subst (λ (k : ℕ). (window new spot.at (room_at spot.at spot.end) (3 + (gap_of l) + j) ≡ Some (sector_in images j)) ⊎ (window new spot.at (room_at spot.at spot.end) k ≡ Some (sector_in images j))) copy_at
+            (one_of whole narrow (3 + (gap_of l) + j) (1 + (gap_of l) + length pages) (sector_in images j) (omega arith) (omega arith) (laid.image j lt) (ap (sector_in bytes) copy_at ∙ laid.copy j lt));
       } in
       here_looks l epoch new h.number spot.at spot.end small
       ∙ worn_there (gap_of l) l.pages (stamp_of epoch h.number) (stamp_fits h.number (omega (arith, small))) pages images are laid.stamped (room_at spot.at spot.end) roomy (window new spot.at (room_at spot.at spot.end)) reads_laid one

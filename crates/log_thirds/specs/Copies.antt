@@ -2,7 +2,7 @@
 use Rattle.std.specs.Prelude.{◌≡◌, ◌<◌, ℕ, ◌+◌, ◌*◌, List, length, nat_lt, slice_index_or, false, if◌then◌else◌}
 use Rattle.log_record.specs.declared.judging.Found.{Found}
 use Rattle.log_thirds.specs.declared.thirds.LastRecord.{LastRecord}
-use Rattle.fsd_log.specs.Judged.{Serving, Logged, slice_of}
+use Rattle.fsd_log.specs.Judged.{Serving, Logged, sector_in}
 use Rattle.fsd_log.specs.Laid.{slices}
 pub use Rattle.fsd_log.specs.Copies.{Copies, copies_count, FitsDisk, AreCopies, AreCopiesOf, AreLastCopies}
 
@@ -15,7 +15,7 @@ served_at gap s j =
 -- the first ones of these sectors, so many, one behind the other
 pub record AreServed (gap : ℕ) (s : Serving) (bytes : List ℕ) (count : ℕ) (copies : List ℕ) : Type 0 where
   pub long : length copies ≡ 512 * count
-  pub each : (j : ℕ) → j < count → slice_of copies j ≡ slice_of bytes (served_at gap s j)
+  pub each : (j : ℕ) → j < count → sector_in copies j ≡ sector_in bytes (served_at gap s j)
 
 -- what is told of the record that they are of
 pub record IsLast (c : Copies) (last : LastRecord) : Type 0 where

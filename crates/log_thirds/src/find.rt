@@ -26,7 +26,7 @@ const LAST_NUMBER: u32 = u32::MAX;
 const COPIES_BYTES: usize = 49_664;
 
 /// A place on the tape, and where its third ends.
-#[derive(Clone, Copy, Debug, PartialEq, Eq)]
+#[derive(Clone, Copy)]
 pub(crate) struct Spot {
     pub at: u32,
     pub end: u32,

@@ -4,7 +4,7 @@ ghost use Rattle.log_thirds.specs.Firsts.{firsts_of, firsts_with};
 
 /// The numbers of the first records in the second third of the tape and in the last one;
 /// where there is none yet, that of the next record.
-#[derive(Clone, Copy, Debug, PartialEq, Eq)]
+#[derive(Clone, Copy)]
 pub(crate) struct Firsts {
     pub second: u32,
     pub last: u32,

@@ -9,7 +9,7 @@ use std::alloc::{AllocError, Global};
 use volume_layout::Layout;
 
 /// The sectors of a page's image in a record and of its copy there, and the record's number.
-#[derive(Clone, Copy, Debug, PartialEq, Eq)]
+#[derive(Clone, Copy)]
 pub(crate) struct Slot {
     pub place: u32,
     pub copy: u32,

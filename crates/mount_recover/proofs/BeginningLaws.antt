@@ -45,6 +45,7 @@ use Rattle.mount_recover.proofs.MendingLaws.{narrow}
 use Rattle.fsd_sound.proofs.AnchorFacts.{newer_one}
 use Rattle.fsd_sound.proofs.EachLaws.{each_size}
 use Rattle.fsd_sound.proofs.SectorFacts.{whole_before}
+use Rattle.fsd_sound.proofs.HomedLaws.{if_more}
 
 -- ---- runs
 
@@ -79,10 +80,6 @@ newer_most (Some a) (Some b) t is = by_test (is_newer b a) refl (taken (cond (is
       where
         older_from : is_newer b a ≡ false → b.epoch ≤ a.epoch
         older_from is = grind (arith, nat_tests)
-
-if_more : (o : Option Anchor) (P Q : Anchor → Type 0) → ((a : Anchor) → P a → Q a) → IfSome o P → IfSome o Q
-if_more None P Q more p = tt
-if_more (Some a) P Q more p = more a p
 
 -- wear brings no anchor
 worn_anchor : (b : Bool) (x y : Sector) (P : Anchor → Type 0) → SectorWorn b x y → IfSome (option_and_then read_anchor (bytes_of x)) P → IfSome (option_and_then read_anchor (bytes_of y)) P

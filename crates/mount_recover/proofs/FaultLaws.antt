@@ -28,10 +28,6 @@ use Rattle.fsd_sound.specs.Mounting.{device_of_mount}
 use Rattle.mount_recover.specs.Mending.{AreRoots, IsLoadFault}
 use Rattle.fsd_sound.specs.Mounting.{load_fault_of}
 
-pub if_err_both : {T : Type 0} (r : Result T MountFault) (P Q R : MountFault → Type 0) → ((fault : MountFault) → P fault → Q fault → R fault) → IfErr r P → IfErr r Q → IfErr r R
-if_err_both (Ok x) P Q R more p q = tt
-if_err_both (Err e) P Q R more p q = more e p q
-
 pub load_excused : (fault : LoadFault) → IsDevice fault → IsExcuse (load_fault_of fault)
 load_excused (load.Device s) device = tt
 load_excused (load.Lost a b) device = absurd device
@@ -72,10 +68,6 @@ module _ (l : Layout) (windows : List WeakRun) (narrow : IsNarrow (weak_of windo
       narrow 0 4 (omega arith) (shows.readable.roots.twins 0 refl first) (shows.readable.roots.twins 4 refl second)
 
 -- ---- a fault that is handed up
-
-pub handed_up : {T : Type 0} (P : MountFault → Type 0) (r : Result T MountFault) (fault : MountFault) → IsErrAnd r (λ told. told ≡ fault) → P fault → IfErr r P
-handed_up P (Ok x) fault is holds = tt
-handed_up P (Err told) fault is holds = subst P (sym is) holds
 
 -- what holds of the fault alone holds of the result that hands it up
 pub handed_so : {T : Type 0} (P : Result T MountFault → Type 0) (r : Result T MountFault) (fault : MountFault) → IsErrAnd r (λ told. told ≡ fault) → P (Err fault) → P r

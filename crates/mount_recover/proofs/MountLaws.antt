@@ -1,5 +1,6 @@
 -- The calls of a mount, one after another.
 use Rattle.std.proofs.Common.{◌≡◌, inl, inr, ⊎_elim, ℕ, ◌+◌, ◌*◌, ◌<◌, ◌≤◌, Bool, ◌||◌, List, [], ◌∷◌, ◌++◌, length, Option, Some, None, Ok, refl, sym, ap, subst, ◌∙◌, arith}
+use Rattle.std.proofs.lemmas.Option.{same_Some}
 use Rattle.std.specs.Prelude.{IsTrue, IsSome, option_and_then, nat_le}
 use Rattle.std.specs.List.{AllByRecursion}
 use Rattle.std.proofs.lemmas.Bool.{cond-true, le-leb, and_parts, or_left, or_right}
@@ -14,7 +15,7 @@ use Rattle.fsd_formats.specs.Record.{record_len, end_bytes}
 use Rattle.sector_disk.specs.declared.sector.Sector.{Sector}
 use Rattle.sector_disk.specs.declared.sector.Sector.TheVariants.{Whole, Damaged}
 use Rattle.sector_disk.specs.declared.sector.WeakRun.{WeakRun}
-use Rattle.sector_disk.specs.Image.{Windows, sector_at, IsWorn, IsCalm, AreShort, open_damage, settled, in_run, weak as in_window}
+use Rattle.sector_disk.specs.Image.{Windows, sector_at, IsWorn, IsCalm, AreShort, open_damage, settled, in_weak_run, weak as in_window}
 use Rattle.sector_disk.specs.Machine.{Moment, Wears}
 use Rattle.sector_disk.proofs.Calm.{calm_worn}
 use Rattle.sector_disk.proofs.Damage.{lost_as}
@@ -92,9 +93,6 @@ module _ (l : Layout) (sectors : ℕ) (windows : List WeakRun) (choices : List (
           let found = counts 0 bytes is (shows.readable.roots.first bytes is) (λ says. inl says) in
           record { layout = found.0; said = found.1; root = ap (λ (r : Option Layout). first_whole r (root_at sectors i 4)) found.2 }
 
-some_same : (x y : Layout) → Some x ≡ Some y → x ≡ y
-some_same x y e = cc e
-
 planned_said : (l : Layout) (i : Image) (k : Layout) → IsSaid l i k → plan l.kind l.sectors l.third l.pages ≡ Ok l → plan k.kind k.sectors k.third k.pages ≡ Ok k
 planned_said l i k (inl is) planned = subst (λ (x : Layout). plan x.kind x.sectors x.third x.pages ≡ Ok x) (sym is) planned
 planned_said l i k (inr is) planned = subst (λ (x : Layout). plan x.kind x.sectors x.third x.pages ≡ Ok x) (sym is.0) (planned_turned l planned)
@@ -168,7 +166,7 @@ module _ (sectors : ℕ) (l : Layout) (windows : List WeakRun) (choices : List (
     pub found_said : IsSaid l old.image found
     found_said =
         let told = root_shown l sectors windows choices is.seen start.planned start.fits (shows_worn is.seen is.from) in
-        said_worn l old.image is.seen (open_damage old.windows) found is.from (subst (IsSaid l is.seen) (some_same told.layout found (sym told.root ∙ is.root)) told.said)
+        said_worn l old.image is.seen (open_damage old.windows) found is.from (subst (IsSaid l is.seen) (same_Some told.layout found (sym told.root ∙ is.root)) told.said)
 
     -- so by it the image shows the same pages
     pub found_starts : ShowsVolume sectors found windows choices old
@@ -328,7 +326,7 @@ worn_more_at b c x y more (inr hurt) = inr (more hurt.0, hurt.1)
 pub open_settled : (present next : Option WeakRun) → IsSome next → (s : ℕ) → IsTrue (in_window present next s) → IsTrue (open_damage (settled present next) s)
 open_settled present None some s hurt = absurd (cc some)
 open_settled None (Some run) some s hurt = hurt
-open_settled (Some w) (Some run) some s hurt = (and_parts (in_run w s) (in_run run s) hurt).1
+open_settled (Some w) (Some run) some s hurt = (and_parts (in_weak_run w s) (in_weak_run run s) hurt).1
 
 rest_through : (l : Layout) (old one two three new : Moment) → Wears old one → StaysElsewhere l one two → KeepsUnwritten l two three → StaysElsewhere l three new → ((s : ℕ) → IsTrue (open_damage three.windows s) → IsTrue (open_damage new.windows s)) → KeepsElsewhere l old new
 rest_through l old one two three new wears first second third in_new s out =

@@ -1,5 +1,6 @@
 -- Where nothing wears: what the homes have of the pages that an image shows, while they are mended.
 use Rattle.std.proofs.Common.{◌≡◌, ◌≢◌, inl, inr, ⊎_elim, ℕ, ◌+◌, ◌<◌, ◌≤◌, List, length, Option, Some, None, refl, sym, ap, subst, ◌∙◌, arith}
+use Rattle.std.proofs.lemmas.Option.{same_Some}
 use Rattle.std.specs.Option.{option_or}
 use Rattle.volume_layout.specs.declared.layout.Layout.{Layout}
 use Rattle.volume_layout.specs.Layout.{home_a, home_b}
@@ -21,9 +22,6 @@ use Rattle.mount_recover.specs.Showing.{shows_of, ChangesHome, HasNoRoot, IsShow
 use Rattle.mount_recover.proofs.CalmLaws.{still_holds, home_same, first_home}
 use Rattle.mount_recover.proofs.MendingLaws.{here_or, home_same_page, home_other}
 
-some_same : (x y : List ℕ) → Some x ≡ Some y → x ≡ y
-some_same x y is = cc is
-
 some_none : (x : List ℕ) → Some x ≡ None → ⊥
 some_none x is = absurd (cc is)
 
@@ -43,7 +41,7 @@ module _ (l : Layout) (records : List Placed) (first : Image) where
           (λ less. others (home_a l p) (λ same. omega (arith, same, less)) ∙ at.written p b within is less)
           (λ same.
           let page_is : p ≡ page = home_same_page l p page place within lt (inl (sym same)) home in
-          let bytes_is : b ≡ bytes = some_same b bytes (sym is ∙ ap (λ (k : ℕ). last_image k records) page_is ∙ logged) in
+          let bytes_is : b ≡ bytes = same_Some b bytes (sym is ∙ ap (λ (k : ℕ). last_image k records) page_is ∙ logged) in
           ap (sector_at j) same ∙ here ∙ ap (λ (x : List ℕ). Whole x) (sym bytes_is))
           (here_or (home_a l p) place before);
       others = λ p within none.

@@ -1,14 +1,12 @@
 -- What stands twice outside the log is healed, pair after pair.
-use Rattle.std.proofs.Common.{◌≡◌, ◌≢◌, inl, inr, ⊎_elim, ℕ, zero, suc, ◌+◌, ◌-◌, ◌<◌, ◌≤◌, List, [], ◌∷◌, ◌++◌, length, Result, Ok, Err, refl, sym, ap, subst, ◌∙◌, arith}
-use Rattle.std.specs.Prelude.{IfErr, IsTrue}
+use Rattle.std.proofs.Common.{◌≡◌, ◌≢◌, inl, inr, ⊎_elim, ℕ, zero, suc, ◌+◌, ◌-◌, ◌<◌, ◌≤◌, List, [], ◌∷◌, ◌++◌, length, refl, sym, ap, subst, ◌∙◌, arith}
+use Rattle.std.specs.Prelude.{IsTrue}
 use Rattle.std.specs.List.{AllByRecursion, flat_map, range_with_len}
-use Rattle.std.specs.Result.{IsErrAnd}
 use Rattle.std.proofs.lemmas.Bool.{cases_lt}
 use Rattle.std.proofs.lemmas.Grind.{flat_map-append}
 use Rattle.std.proofs.lemmas.List.{set_past}
 use Rattle.volume_layout.specs.declared.layout.Layout.{Layout}
 use Rattle.volume_layout.specs.Layout.{home_a, home_b}
-use Rattle.sector_disk.specs.declared.machine.LoadFault.{LoadFault}
 use Rattle.sector_disk.specs.declared.sector.Sector.TheVariants.{Whole}
 use Rattle.sector_disk.specs.Image.{Windows, open_damage, sector_at, stand, with_sector}
 use Rattle.sector_disk.specs.Machine.{Holds, Ledger, Moment, wrote}
@@ -28,10 +26,6 @@ use Rattle.twin_home.specs.Heal.{Heals, Healed, Mended}
 use Rattle.twin_home.specs.Twins.{CountsHomes, HealsPages, HealsTwins, HomesStand, TwinsHaveSome, first_homes}
 
 -- ---- calls
-
-pub handed_up : {T : Type 0} (P : LoadFault → Type 0) (r : Result T LoadFault) (fault : LoadFault) → IsErrAnd r (λ told. told ≡ fault) → P fault → IfErr r P
-handed_up P (Ok x) fault is holds = tt
-handed_up P (Err told) fault is holds = subst P (sym is) holds
 
 pub wrote_more : (x : Ledger) (a b n : ℕ) → a + b ≡ n → wrote (wrote x a) b ≡ wrote x n
 wrote_more x a b n is = ap (λ (k : ℕ). record { input = x.input; attaches = x.attaches; written = k }) (let same : x.written + a + b ≡ x.written + n = omega (arith, is) in same)

@@ -1,6 +1,6 @@
 -- Slices of a version that stand where they were written.
 use Rattle.std.proofs.Common.{◌≡◌, inl, ℕ, zero, suc, ◌+◌, ◌-◌, ◌<◌, ◌≤◌, true, List, [], ◌∷◌, length, take, drop, Some, refl, sym, subst, ◌∙◌, ap, arith, length-take}
-use Rattle.std.specs.Prelude.{Err, IsTrue, None, Ok, OnOk, Option, Result, slice_get, slice_index_or}
+use Rattle.std.specs.Prelude.{IsTrue, None, Option, slice_get, slice_index_or}
 use Rattle.std.specs.List.{AllZip}
 use Rattle.std.proofs.lemmas.List.{length-drop, take_all}
 use Rattle.run_table.specs.declared.run.Run.{Run}
@@ -102,10 +102,6 @@ module _ (old new : Moment) (runs : List Run) (first : ℕ) (bytes : List ℕ) (
 pub leader_among : (xs : List ℕ) (x : ℕ) → slice_get xs 0 ≡ Some x → contains (take 1 xs) x ≡ true
 leader_among [] x at = absurd (cc at)
 leader_among (y ∷ xs) x at = let same : y ≡ x = cc at in subst (λ (s : ℕ). contains (y ∷ []) s ≡ true) same (first_there y [])
-
-pub on_ok : {T E : Type 0} (P Q : Type 0) (r : Result T E) → (P → Q) → OnOk r P → OnOk r Q
-on_ok P Q (Ok x) f p = f p
-on_ok P Q (Err why) f p = p
 
 -- ---- one call more
 

@@ -9,7 +9,7 @@ use Rattle.sector_disk.specs.declared.machine.Failed.{Failed}
 use Rattle.sector_disk.specs.declared.machine.Machine.{Ghosts}
 use Rattle.sector_disk.specs.declared.sector.WeakRun.{WeakRun}
 use Rattle.sector_disk.specs.Calls.{WritesDisk, device_in, failed_at}
-use Rattle.sector_disk.specs.Image.{Windows, in_run, open_damage, sector_at}
+use Rattle.sector_disk.specs.Image.{Windows, in_weak_run, open_damage, sector_at}
 use Rattle.sector_disk.specs.Machine.{Ledger, Moment, Tears, wrote}
 use Rattle.sector_disk.specs.Written.{WroteMost}
 use Rattle.sector_disk.proofs.CallLaws.{writes_then}
@@ -73,13 +73,13 @@ tears_in may first bytes old left each torn =
 
 -- ---- one run
 
-pub in_run_at : (run : WeakRun) (j : ℕ) → j < run.count → IsTrue (in_run run (run.first + j))
+pub in_run_at : (run : WeakRun) (j : ℕ) → j < run.count → IsTrue (in_weak_run run (run.first + j))
 in_run_at run j lt =
     let s : ℕ = run.first + j in
     and_from (nat_le run.first s) (nat_lt s (run.first + run.count)) (le-leb run.first s (omega arith)) (lt-ltb s (run.first + run.count) (omega arith))
 
 -- what holds of each sector of a run by its number
-pub in_run_all : (may : Sectors) (run : WeakRun) (s : ℕ) → ((j : ℕ) → j < run.count → IsTrue (may (run.first + j))) → IsTrue (in_run run s) → IsTrue (may s)
+pub in_run_all : (may : Sectors) (run : WeakRun) (s : ℕ) → ((j : ℕ) → j < run.count → IsTrue (may (run.first + j))) → IsTrue (in_weak_run run s) → IsTrue (may s)
 in_run_all may run s each within =
     let both = and_parts (nat_le run.first s) (nat_lt s (run.first + run.count)) within in
     let low : run.first ≤ s = leb-true run.first s both.0 in
@@ -88,13 +88,13 @@ in_run_all may run s each within =
     subst (λ (t : ℕ). IsTrue (may t)) here (each (s - run.first) (omega (arith, low, high)))
 
 -- the sectors of a row that lies in a run
-pub row_in_run : (run : WeakRun) (done n : ℕ) (row : List ℕ) → length row / 512 ≡ n → done + n ≤ run.count → (j : ℕ) → j < length row / 512 → IsTrue (in_run run (run.first + done + j))
+pub row_in_run : (run : WeakRun) (done n : ℕ) (row : List ℕ) → length row / 512 ≡ n → done + n ≤ run.count → (j : ℕ) → j < length row / 512 → IsTrue (in_weak_run run (run.first + done + j))
 row_in_run run done n row size le j lt =
     let here : run.first + (done + j) ≡ run.first + done + j = omega arith in
-    subst (λ (s : ℕ). IsTrue (in_run run s)) here (in_run_at run (done + j) (omega (arith, size, le, lt)))
+    subst (λ (s : ℕ). IsTrue (in_weak_run run s)) here (in_run_at run (done + j) (omega (arith, size, le, lt)))
 
 -- the sectors of a run that is one of the runs
-pub run_among : {runs : List Run} {before : ℕ} {r : Run} → LiesBehind runs before r → (s : ℕ) → IsTrue (in_run (record { first = r.start; count = r.length }) s) → IsTrue (contains (sectors_of runs) s)
+pub run_among : {runs : List Run} {before : ℕ} {r : Run} → LiesBehind runs before r → (s : ℕ) → IsTrue (in_weak_run (record { first = r.start; count = r.length }) s) → IsTrue (contains (sectors_of runs) s)
 run_among {runs = runs} {before = before} {r = r} lies s within =
     in_run_all (contains (sectors_of runs)) (record { first = r.start; count = r.length }) s (λ j lt. get_there (sectors_of runs) (before + j) (r.start + j) (lies.each j lt)) within
 

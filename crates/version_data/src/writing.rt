@@ -6,7 +6,7 @@ ghost use Rattle.fsd_formats.specs.NamePage.{is_entry, sectors_for};
 ghost use Rattle.fsd_files.specs.Answers.{HasVersion};
 ghost use Rattle.fsd_files.specs.Kept.{filled_slice as slice_of_version};
 ghost use Rattle.sector_disk.specs.Calls.{WritesDisk, device_in, failed_at};
-ghost use Rattle.sector_disk.specs.Image.{in_run, lay, open_damage, slice_of};
+ghost use Rattle.sector_disk.specs.Image.{in_weak_run, lay, open_damage, slice_of};
 ghost use Rattle.sector_disk.specs.Machine.{Holds, wrote};
 ghost use Rattle.sector_disk.specs.Written.{WroteMost};
 ghost use Rattle.sector_disk.specs.declared.sector.Sector.TheVariants.{Whole};
@@ -58,8 +58,8 @@ fn write_run<M: Machine>(
     requires in_range { run.start + run.length ≤ (M.report m.old).sectors }
     requires small { before + run.length < 2 ^ 32 }
 
-    ensures disk { WritesDisk M.Machine (device_in failed_at result) (WritesIn (in_run record { first = run.start; count = run.length })) m.old m.new }
-    ensures place { IfErr result (λ failed. IsTrue (in_run record { first = run.start; count = run.length } failed.place)) }
+    ensures disk { WritesDisk M.Machine (device_in failed_at result) (WritesIn (in_weak_run record { first = run.start; count = run.length })) m.old m.new }
+    ensures place { IfErr result (λ failed. IsTrue (in_weak_run record { first = run.start; count = run.length } failed.place)) }
     ensures counted { OnOk result (M.tells m.new → M.ledger m.new ≡ wrote (M.ledger m.old) run.length) }
     ensures counted_err { OnErr result (M.tells m.new → WroteMost run.length (M.ledger m.old) (M.ledger m.new)) }
     ensures done { OnOk result (M.honest m.new → Holds (M.now m.old) (lay (M.now m.old).image run.start (λ j. Whole (part_of leader.now bytes.now (before + j))) run.length) (M.now m.new)) }

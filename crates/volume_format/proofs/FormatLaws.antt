@@ -8,7 +8,7 @@ use Rattle.volume_layout.proofs.RootLaws.{planned_bounds}
 use Rattle.sector_disk.specs.declared.sector.Sector.{Sector}
 use Rattle.sector_disk.specs.declared.sector.Sector.TheVariants.{Whole, Damaged}
 use Rattle.sector_disk.specs.declared.sector.WeakRun.{WeakRun}
-use Rattle.sector_disk.specs.Image.{sector_at, IsWorn, in_run, Windows, open_damage, settled}
+use Rattle.sector_disk.specs.Image.{sector_at, IsWorn, in_weak_run, Windows, open_damage, settled}
 use Rattle.sector_disk.specs.Machine.{Moment, Names, Settles, Holds}
 use Rattle.sector_disk.proofs.Wear.{length-lay, lay_in, lay_other, worn_trans, worn_damaged}
 use Rattle.sector_disk.proofs.ResultLaws.{some_is}
@@ -92,8 +92,8 @@ module _ (l : Layout) (planned : plan l.kind l.sectors l.third l.pages ≡ Ok l)
       let windows : opened.windows ≡ record { present = None; next = Some run } =
       windows_are opened.windows None (Some run) (named.present ∙ ap (λ (w : Windows). w.present) fresh.windows) next in
       let same : mid.windows ≡ record { present = None; next = Some run } = holds.windows ∙ windows in
-      let laid : IsWorn (in_run run) (with_volume l opened.image) mid.image = subst (λ (w : Windows). IsWorn (open_damage w) (with_volume l opened.image) mid.image) windows holds.worn in
-      let last : IsWorn (in_run run) mid.image new.image = subst (λ (w : Windows). IsWorn (open_damage w) mid.image new.image) same settles.image in
+      let laid : IsWorn (in_weak_run run) (with_volume l opened.image) mid.image = subst (λ (w : Windows). IsWorn (open_damage w) (with_volume l opened.image) mid.image) windows holds.worn in
+      let last : IsWorn (in_weak_run run) mid.image new.image = subst (λ (w : Windows). IsWorn (open_damage w) mid.image new.image) same settles.image in
       let damaged = λ (s : ℕ). worn_damaged (open_damage old.windows) old.image opened.image s named.image (fresh.damaged s) in
       record {
         run = run;
@@ -101,7 +101,7 @@ module _ (l : Layout) (planned : plan l.kind l.sectors l.third l.pages ≡ Ok l)
         formatted = record {
           written = with_volume l opened.image;
           formatted = formatted l planned opened.image (omega (arith, named.image.size)) damaged;
-          worn = worn_trans (in_run run) _ _ _ laid last;
+          worn = worn_trans (in_weak_run run) _ _ _ laid last;
         };
         windows = settles.windows ∙ ap (λ (w : Windows). settled w.present w.next) same;
         said = settles.said ∙ holds.said ∙ named.said;

@@ -4,7 +4,7 @@ use Rattle.std.specs.Prelude.{IsTrue, ◌||◌, Result, Ok, Err, OnOk, OnErr}
 use Rattle.std.proofs.lemmas.Bool.{and_parts, or_left, or_right}
 use Rattle.sector_disk.specs.declared.sector.Sector.{Sector}
 use Rattle.sector_disk.specs.declared.sector.WeakRun.{WeakRun}
-use Rattle.sector_disk.specs.Image.{Windows, in_run, open_damage, sector_at, settled, weak}
+use Rattle.sector_disk.specs.Image.{Windows, in_weak_run, open_damage, sector_at, settled, weak}
 use Rattle.sector_disk.specs.Machine.{Moment, Names, Settles, Wears}
 use Rattle.sector_disk.proofs.Wear.{worn_twice}
 use Rattle.fsd_files.specs.Disk.{Sectors, SectorWorn}
@@ -19,7 +19,7 @@ settled_more : (present next : Option WeakRun) (s : ℕ) → IsTrue (weak presen
 settled_more None None s is = is
 settled_more (Some p) None s is = is
 settled_more None (Some n) s is = is
-settled_more (Some p) (Some n) s is = (and_parts (in_run p s) (in_run n s) is).1
+settled_more (Some p) (Some n) s is = (and_parts (in_weak_run p s) (in_weak_run n s) is).1
 
 -- the call's last step settles, or fails and leaves the windows
 pub ends : {T E H : Type 0} {mid new : Moment} (r : Result T E) → OnOk r (H → Settles mid new) → OnErr r (H → Wears mid new) → H → Settles mid new ⊎ Wears mid new
@@ -36,9 +36,6 @@ module _ {longest : ℕ} (may : Sectors) (old opened : Moment) (named : Names lo
       worn_twice (before || behind) (sector_at old.image s) (sector_at opened.image s) (sector_at new.image s)
       (more_worn before (before || behind) (or_left before behind) (sector_at old.image s) (sector_at opened.image s) (named.image.each s))
       (more_worn (open_damage opened.windows s) (before || behind) (λ is. or_right before behind (more is)) (sector_at opened.image s) (sector_at new.image s) next)
-
-  pub kept_written : (new : Moment) → WritesIn may opened new → KeepsOthers may old new
-  kept_written new writes s out = named_then new s (λ is. subst (λ (w : Windows). IsTrue (open_damage w s)) (sym writes.windows) is) (writes.touches.others s out)
 
   pub kept_settled : (mid new : Moment) → WritesIn may opened mid → Settles mid new ⊎ Wears mid new → KeepsOthers may old new
   kept_settled mid new writes (inl settles) s out =

@@ -1,5 +1,5 @@
 -- Calls that write sectors one after another, and what they count.
-use Rattle.std.proofs.Common.{◌≡◌, ℕ, ◌+◌, ◌/◌, ◌<◌, ◌≤◌, List, length, Option, None, subst, ap, ◌∙◌, arith}
+use Rattle.std.proofs.Common.{◌≡◌, ℕ, ◌+◌, ◌<◌, ◌≤◌, List, length, Option, None, subst, ◌∙◌, arith}
 use Rattle.std.proofs.lemmas.Bool.{or_left, or_right}
 use Rattle.std.specs.Prelude.{IsTrue, ◌||◌}
 use Rattle.volume_layout.specs.declared.layout.Layout.{Layout}
@@ -13,13 +13,10 @@ use Rattle.version_data.specs.Writing.{WritesIn}
 use Rattle.version_data.proofs.WritingLaws.{in_run_all, in_run_at, run_written, writes_in_more, tears_in, wrote_most}
 use Rattle.volume_format.specs.Formatting.{format_writes, row}
 
-pub one : (bytes : List ℕ) → length bytes ≡ 512 → length bytes / 512 ≡ 1
-one bytes size = ap (λ (n : ℕ). n / 512) size
-
 module _ {D : Type 0} {M : Ghosts D} {a b : D} where
   pub sector_torn : {fault : Option ℕ} (place : ℕ) (bytes : List ℕ) → length bytes ≡ 512 → WritesDisk M fault (Tears place bytes) a b → WritesDisk M fault (WritesIn (row place 1)) a b
   sector_torn place bytes size torn = writes_more torn
-      (λ h left is. tears_in (row place 1) place bytes (M.now a) left (λ j lt. in_run_at (record { first = place; count = 1 }) j (omega (arith, lt, one bytes size))) is)
+      (λ h left is. tears_in (row place 1) place bytes (M.now a) left (λ j lt. in_run_at (record { first = place; count = 1 }) j (omega (arith, lt, size))) is)
 
 -- ---- rows
 

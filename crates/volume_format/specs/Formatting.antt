@@ -9,7 +9,7 @@ use Rattle.fsd_formats.specs.Anchors.{anchor_bytes}
 use Rattle.sector_disk.specs.declared.sector.Sector.{Sector}
 use Rattle.sector_disk.specs.declared.sector.Sector.TheVariants.{Whole, Damaged}
 use Rattle.sector_disk.specs.declared.sector.WeakRun.{WeakRun}
-use Rattle.sector_disk.specs.Image.{in_run, lay, open_damage, sector_at}
+use Rattle.sector_disk.specs.Image.{in_weak_run, lay, open_damage, sector_at}
 use Rattle.sector_disk.specs.Machine.{Moment}
 use Rattle.fsd_files.specs.Disk.{Sectors, SectorWorn}
 use Rattle.version_data.specs.Writing.{lay_at}
@@ -61,7 +61,7 @@ with_volume l image = with_head l (with_pages (with_pages image (home_a l 0) l.p
 
 -- so many sectors that follow each other
 abbrev pub row : (first count : ℕ) → Sectors
-row first count = in_run (record { first = first; count = count })
+row first count = in_weak_run (record { first = first; count = count })
 
 -- the sectors in front of the log, and both homes of each name page
 abbrev pub format_writes : Layout → Sectors

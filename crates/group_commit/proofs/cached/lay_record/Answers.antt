@@ -3,7 +3,7 @@ use Rattle.std.specs.Vec.{with_items}
 use Rattle.std.proofs.lemmas.List.{with_items_is}
 use Rattle.fsd_formats.specs.Record.{AreStamped, Stamp}
 use Rattle.fsd_log.specs.Borne.{FitsStamp}
-use Rattle.fsd_log.specs.Judged.{slice_of}
+use Rattle.fsd_log.specs.Judged.{sector_in}
 use Rattle.fsd_log.specs.Laid.{slices}
 use Rattle.group_commit.specs.Cached.{HasImages}
 use Rattle.log_thirds.specs.Append.{stamp_now}
@@ -63,6 +63,6 @@ returns-clause-frames c k lt =
     let c1 = (goal.at.returns-clause-frames c).After-lay_frames in
     let n = length c.args.waiting.now in
     let page = get_or c.args.waiting.now k 0 in
-    subst (λ (r : List ℕ). cached_bytes c.stamp_frames.new.cache page ≡ Some (slice_of r k)) (sym (kept c1))
+    subst (λ (r : List ℕ). cached_bytes c.stamp_frames.new.cache page ≡ Some (sector_in r k)) (sym (kept c1))
     (record_frames (stamp_now c.args.log.now) (read c1) (fits c1) (read_is c1) c.args.log.now.layout.pages c.args.waiting.now c.requires.accepted c.args.cache.now c.stamp_frames.new.cache c.stamp_frames.ensures c.requires.inside c.requires.images c.lay_frames.ensures.whole (take (512 * n) c.lay_frames.new.room) c.lay_frames.ensures.laid k lt
     ∙ ap (λ (b : List ℕ). Some b) (slice_in_front c.lay_frames.new.room n k lt))

@@ -1,6 +1,6 @@
 use Rattle.std.proofs.Common.{◌≡◌, ◌<◌, ℕ, List, Some, length, get_or, rules}
 use Rattle.std.proofs.lemmas.Result.{IfErr-weaker, on_ok_weaker}
-use Rattle.fsd_log.specs.Judged.{slice_of}
+use Rattle.fsd_log.specs.Judged.{sector_in}
 use Rattle.page_cache.specs.Cache.{cached_bytes}
 use Rattle.sector_disk.proofs.CallLaws.{writes_more}
 use Rattle.group_commit.specs.Cached.{HasImages}
@@ -33,7 +33,7 @@ returns-clause-done g c =
 pub returns-clause-logged : goal.returns-clause-logged
 returns-clause-logged g c =
     let room : List ℕ = c.as_slice.result.now in
-    let frames : (k : ℕ) → k < length c.args.waiting.now → cached_bytes c.lay_record.new.cache (get_or c.args.waiting.now k 0) ≡ Some (slice_of room k) = search rules in
+    let frames : (k : ℕ) → k < length c.args.waiting.now → cached_bytes c.lay_record.new.cache (get_or c.args.waiting.now k 0) ≡ Some (sector_in room k) = search rules in
     on_ok_weaker c.write_record.result
     (λ logged h. logged_of c.write_record.new.log (g.M.Machine.now c.write_record.new.m) c.lay_record.new.cache c.args.waiting.now room (logged h) frames)
     c.write_record.ensures.logged

@@ -8,11 +8,12 @@ use Rattle.log_thirds.specs.LogValue.{LogValue}
 use Rattle.log_thirds.specs.Moving.{moved_anchor, records_moved}
 use Rattle.group_commit.specs.Entering.{EntersNot}
 use Rattle.group_commit.specs.Room.{pages_in_first}
-use Rattle.group_commit.proofs.CountLaws.{handed_up, wrote_on, wrote_twice}
+use Rattle.group_commit.proofs.CountLaws.{handed_up, wrote_on}
 use Rattle.group_commit.proofs.EnterLaws.{moving_shows, entered}
 use Rattle.group_commit.proofs.HomingLaws.{homing_log}
 use Rattle.group_commit.proofs.OutsideLaws.{outside_anchors, outside_then}
 use Rattle.group_commit.proofs.entering.enter_third.Goals as goal
+use Rattle.twin_home.proofs.TwinsLaws.{wrote_more}
 
 pub home_third-requires-clause-low : goal.home_third-requires-clause-low
 home_third-requires-clause-low g c = omega (arith, c.attest.ensures.third, c.requires.first)
@@ -45,7 +46,7 @@ returns-clause-done g c =
     let moves = c.in_ok-move_anchor.ensures.done in
     record {
       past = moves.past;
-      counted = λ t. moves.counted t ∙ ap (λ (l : Ledger). wrote l 2) (c.in_ok-home_third.ensures.counted (writes.trust.tells t)) ∙ wrote_twice (M.ledger c.args.m.now) (2 * pages_in_first log) 2 _ refl;
+      counted = λ t. moves.counted t ∙ ap (λ (l : Ledger). wrote l 2) (c.in_ok-home_third.ensures.counted (writes.trust.tells t)) ∙ wrote_more (M.ledger c.args.m.now) (2 * pages_in_first log) 2 _ refl;
       shows = λ records disk windows h may over.
           let at = c.in_ok-home_third.ensures.done records disk windows (writes.trust.honest h) may over in
           let stands = homing_log log records disk windows old may log.layout.pages mid at in

@@ -9,10 +9,11 @@ use Rattle.log_thirds.specs.Append.{IsIndexed, IsLeastOfThird, NoneOfThird}
 use Rattle.log_thirds.specs.Slots.{IsLeastIn, NoneLiesIn}
 use Rattle.group_commit.specs.Entering.{HomesInPart, ShowsStill}
 use Rattle.group_commit.specs.Room.{pages_in_first}
-use Rattle.group_commit.proofs.CountLaws.{count_next, count_done, count_part, wrote_on, wrote_twice, wrote_none, handed_up}
+use Rattle.group_commit.proofs.CountLaws.{count_next, count_done, count_part, wrote_on, wrote_none, handed_up}
 use Rattle.group_commit.proofs.HomingLaws.{begin, stays, all_homed}
 use Rattle.group_commit.proofs.OutsideLaws.{outside_none, outside_then}
 use Rattle.group_commit.proofs.entering.home_third.Goals as goal
+use Rattle.twin_home.proofs.TwinsLaws.{wrote_more}
 
 pub loop-page-init : goal.loop-page-init
 loop-page-init g c =
@@ -45,7 +46,7 @@ loop-page-preserved g c =
       inside = omega (arith, slot.there, c.attest.ensures.table);
       disk = writes_then so_far.disk writes (λ h left so. so) (λ h left shows records disk windows may over.
           shows records disk windows old c.loop-page.from may ((least records over.indexed).lies) (so_far.homing records disk windows (writes.trust.honest h) may over));
-      counted = λ t. c.in_ok-home_page-in-Some.ensures.counted t ∙ ap (λ x. wrote x 2) (so_far.counted (writes.trust.tells t)) ∙ wrote_twice (M.ledger c.args.m.now) _ 2 _ (omega (arith, next));
+      counted = λ t. c.in_ok-home_page-in-Some.ensures.counted t ∙ ap (λ x. wrote x 2) (so_far.counted (writes.trust.tells t)) ∙ wrote_more (M.ledger c.args.m.now) _ 2 _ (omega (arith, next));
       rest = λ h. let h1 = back h in outside_then log.layout old (M.now c.loop-page.m) (M.now c.home_page.new.m) (so_far.disk.windows h1) (so_far.rest h1) (c.in_ok-home_page-in-Some.ensures.rest h);
       homing = λ records disk windows h may over.
           let is = least records over.indexed in

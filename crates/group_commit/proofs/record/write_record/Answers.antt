@@ -3,7 +3,7 @@ use Rattle.std.proofs.lemmas.List.{length-take-le}
 use Rattle.volume_layout.specs.declared.layout.Layout.{Layout}
 use Rattle.volume_layout.specs.Kinds.{gap_of}
 use Rattle.fsd_formats.specs.Record.{Stamp, are_pages, record_len, AreStamped}
-use Rattle.fsd_log.specs.Judged.{slice_of}
+use Rattle.fsd_log.specs.Judged.{sector_in}
 use Rattle.fsd_log.specs.Laid.{slices}
 use Rattle.sector_disk.specs.declared.machine.LoadFault.TheVariants.{Device}
 use Rattle.group_commit.proofs.CountLaws.{handed_up, wrote_on, wrote_same}
@@ -248,7 +248,7 @@ returns-clause-logged g c h k lt =
     let after = c.make_room.new.log in
     let new = M.now c.append.new.m in
     let page : ℕ = get_or c.args.dirty.now k 0 in
-    subst (λ (x : LogValue). StandsLogged x new page (slice_of c.args.room.now k)) (sym c.in_ok-append.ensures.done.past)
+    subst (λ (x : LogValue). StandsLogged x new page (sector_in c.args.room.now k)) (sym c.in_ok-append.ensures.done.past)
     (subst (StandsLogged (log_with after dirty) new page) (slice_in_front c.args.room.now (length dirty) k lt)
     (stands_logged after dirty (images g c1) (M.now c.make_room.new.m) new (may_append g c1 h) k lt c.append.ensures.shape.table (c.in_ok-append.ensures.done.stands h)))
 

@@ -1,4 +1,5 @@
 use Rattle.std.proofs.Common.{◌∙◌, ℕ, ◌≤◌, List, sym, ap, subst, arith}
+use Rattle.std.proofs.lemmas.Result.{on_ok_weaker}
 use Rattle.std.specs.Prelude.{All}
 use Rattle.run_table.specs.declared.run.Run.{Run}
 use Rattle.run_table.specs.RunTable.{sectors_of}
@@ -11,7 +12,7 @@ use Rattle.sector_disk.specs.Machine.{Holds}
 use Rattle.sector_disk.proofs.CallLaws.{writes_more}
 use Rattle.version_data.proofs.PlaceLaws.{entry_lengths, in_all, is_there}
 use Rattle.version_data.proofs.SingleLaws.{leader_inside, led_now}
-use Rattle.version_data.proofs.SliceLaws.{leader_among, on_ok, torn_in}
+use Rattle.version_data.proofs.SliceLaws.{leader_among, torn_in}
 use Rattle.version_data.proofs.slices.write_leader.Goals as goal
 
 pub unwrap-place-requires : goal.unwrap-place-requires
@@ -41,7 +42,7 @@ returns-clause-led g c =
     let there = sym c.sector.ensures ∙ c.unwrap-place.ensures in
     let is = c.leader_bytes-bytes.ensures ∙ ap (λ (runs : List Run). leader_bytes (record (leader_of e) { runs = runs })) c.copied.ensures in
     let inside = in_all (M.report old).sectors (sectors_of e.runs) 0 c.unwrap-place.result c.requires.in_range there in
-    on_ok (M.honest new → Holds (M.now old) (stand (M.now old).image place bytes 1) (M.now new)) (M.honest new → HasLeader (open_damage (M.now new).windows) (M.now new).image e) c.write_one.result
+    on_ok_weaker {P = M.honest new → Holds (M.now old) (stand (M.now old).image place bytes 1) (M.now new)} {Q = M.honest new → HasLeader (open_damage (M.now new).windows) (M.now new).image e} c.write_one.result
     (λ done h.
     let sized = g.met.M.Machine.sized old (c.write_one.ensures.writes.trust.honest h) in
     led_now (M.now old) (M.now new) e place bytes there is c.write_one.ensures.long (omega (arith, inside, sized)) (done h)) c.write_one.ensures.done

@@ -1,5 +1,5 @@
 use Rattle.std.proofs.Common.{◌≡◌, ◌∙◌, ℕ, ◌+◌, ◌*◌, ◌/◌, ◌≤◌, List, length, take, true, sym, ap, subst, arith}
-use Rattle.sector_disk.specs.Image.{in_run, lay}
+use Rattle.sector_disk.specs.Image.{in_weak_run, lay}
 use Rattle.sector_disk.specs.Machine.{Holds, Ledger, wrote}
 use Rattle.sector_disk.specs.declared.sector.Sector.TheVariants.{Whole}
 use Rattle.sector_disk.specs.declared.sector.WeakRun.{WeakRun}
@@ -17,14 +17,14 @@ returns-in_err-write_sectors-clause-disk g c =
     let room : 512 * c.min-count.result ≤ length row = omega (arith, c.min-count.ensures, c.lay_row.ensures.size, c.loop-done.invariant.size) in
     let within : c.loop-done.done + c.min-count.result ≤ c.args.run.length = omega (arith, c.min-count.ensures, c.loop-done.invariant.within) in
     writes_told (failed_told c.from_residual.result c.in_err-write_sectors.field-0.0 c.from_residual.ensures.1)
-    (row_written (in_run run) (c.args.run.start + c.loop-done.done) (take (512 * count) row) (row_in_run run c.loop-done.done count (take (512 * count) row) (many_in_front row count room) within)
+    (row_written (in_weak_run run) (c.args.run.start + c.loop-done.done) (take (512 * count) row) (row_in_run run c.loop-done.done count (take (512 * count) row) (many_in_front row count room) within)
     c.loop-done.invariant.calls c.in_err-write_sectors.ensures.writes)
 
 pub returns-in_err-write_sectors-clause-place : goal.returns-in_err-write_sectors-clause-place
 returns-in_err-write_sectors-clause-place g c =
     let run : WeakRun = record { first = c.args.run.start; count = c.args.run.length } in
-    handed_on (λ failed. in_run run failed.place ≡ true) c.from_residual.result c.in_err-write_sectors.field-0.0 c.from_residual.ensures.1
-    (subst (λ (s : ℕ). in_run run s ≡ true) (sym c.in_err-write_sectors.ensures.place) (in_run_at run c.loop-done.done c.loop-done-test.true))
+    handed_on (λ failed. in_weak_run run failed.place ≡ true) c.from_residual.result c.in_err-write_sectors.field-0.0 c.from_residual.ensures.1
+    (subst (λ (s : ℕ). in_weak_run run s ≡ true) (sym c.in_err-write_sectors.ensures.place) (in_run_at run c.loop-done.done c.loop-done-test.true))
 
 pub loop-done-preserved : goal.loop-done-preserved
 loop-done-preserved g c =
@@ -42,7 +42,7 @@ loop-done-preserved g c =
     record {
       within = within;
       size = c.lay_row.ensures.size ∙ so_far.size;
-      calls = row_written (in_run run) (c.args.run.start + done) (take (512 * count) row) (row_in_run run done count (take (512 * count) row) many within) so_far.calls c.in_ok-write_sectors.ensures.writes;
+      calls = row_written (in_weak_run run) (c.args.run.start + done) (take (512 * count) row) (row_in_run run done count (take (512 * count) row) many within) so_far.calls c.in_ok-write_sectors.ensures.writes;
       counted = λ t. c.in_ok-write_sectors.ensures.counted t ∙ ap (λ (l : Ledger). wrote l (length (take (512 * count) row) / 512)) (so_far.counted (trust.tells t))
           ∙ wrote_on (M.ledger old) done (length (take (512 * count) row) / 512) ∙ ap (λ (n : ℕ). wrote (M.ledger old) (done + n)) many;
       holds = λ h.

@@ -5,7 +5,7 @@ use Rattle.run_table.specs.RunTable.{sectors_of}
 use Rattle.run_table.specs.Space.{contains}
 use Rattle.fsd_formats.specs.Leader.{leader_bytes}
 use Rattle.fsd_formats.specs.NamePage.{sectors_for}
-use Rattle.sector_disk.specs.Image.{in_run}
+use Rattle.sector_disk.specs.Image.{in_weak_run}
 use Rattle.sector_disk.specs.Machine.{Holds, Ledger, wrote}
 use Rattle.sector_disk.specs.Written.{WroteMost}
 use Rattle.sector_disk.proofs.CallLaws.{writes_told}
@@ -47,7 +47,7 @@ returns-in_err-write_run-clause-disk g c =
     let r : Run = get_or c.as_slice-run-items.result.now c.loop-run.run-index d in
     let lies = lies_behind d c.as_slice-run-items.ensures.value c.loop-run-test.true c.loop-run.invariant.left in
     writes_told (failed_told c.from_residual.result c.in_err-write_run.field-0.0 c.from_residual.ensures.1)
-    (run_written (in_run (record { first = r.start; count = r.length })) (contains (sectors_of c.args.entry.now.runs)) (run_among lies) c.loop-run.invariant.calls c.in_err-write_run.ensures.disk)
+    (run_written (in_weak_run (record { first = r.start; count = r.length })) (contains (sectors_of c.args.entry.now.runs)) (run_among lies) c.loop-run.invariant.calls c.in_err-write_run.ensures.disk)
 
 pub returns-in_err-write_run-clause-place : goal.returns-in_err-write_run-clause-place
 returns-in_err-write_run-clause-place g c =
@@ -78,7 +78,7 @@ loop-run-preserved g c =
     let done = c.in_ok-write_run.ensures in
     record {
       left = left_next d c.as_slice-run-items.ensures.value c.loop-run-test.true so_far.left;
-      calls = run_written (in_run (record { first = r.start; count = r.length })) (contains (sectors_of e.runs)) (run_among lies) so_far.calls done.disk;
+      calls = run_written (in_weak_run (record { first = r.start; count = r.length })) (contains (sectors_of e.runs)) (run_among lies) so_far.calls done.disk;
       counted = λ t. done.counted t ∙ ap (λ (l : Ledger). wrote l r.length) (so_far.counted (done.disk.trust.tells t)) ∙ wrote_on (M.ledger old) c.loop-run.before r.length;
       holds = λ h.
           holds_run (M.now old) (M.now c.loop-run.m) (M.now c.write_run.new.m) e c.args.bytes.now c.leader_bytes-leader.result c.loop-run.before r lies
