@@ -14,13 +14,13 @@ use Rattle.fsd_table.specs.Table.{visit_of}
 use Rattle.fsd_files.specs.Answers.{entry_after as entry_behind}
 use Rattle.name_page.specs.Cut.{AtHigh, AtLow, after_cut, is_before}
 use Rattle.name_page.specs.declared.cut.Cut.TheVariants.{Named, UpTo}
-use Rattle.name_page.specs.Lookups.{entry_after, last_that, same_name}
+use Rattle.name_page.specs.Lookups.{first_after, last_that, same_name}
 use Rattle.name_page.specs.Looks.{Agrees}
 use Rattle.name_page.specs.Pages.{Step}
 use Rattle.name_page.proofs.SideLaws.{with_fits}
 use Rattle.name_page.proofs.LookLaws.{agrees_at}
 use Rattle.name_btree.specs.Lookup.{HasOtherLeft, HasRight, IsLeafBy, IsNextAfter, IsReadLeaf, ShowsAbsent, ShowsNext, ShowsNoVersion, ShowsNoneAfter}
-use Rattle.name_btree.proofs.DownLaws.{between}
+use Rattle.name_btree.proofs.ways.ChildLaws.{between}
 use Rattle.version_table.proofs.EditLaws.{with_is}
 use Rattle.volume_contract.specs.Absent.{LacksKey, LacksLater, ReachesPage}
 use Rattle.volume_contract.specs.Found.{BeginsWith, HasNext}
@@ -51,7 +51,7 @@ begins_by (Some key) low at = (and_parts (not_below low key) true ((and_parts (n
 
 -- ---- entries
 
-pub behind_is : (after : Option Key) (entries : List Entry) → entry_after after entries ≡ entry_behind after entries
+pub behind_is : (after : Option Key) (entries : List Entry) → first_after after entries ≡ entry_behind after entries
 behind_is None [] = refl
 behind_is (Some key) [] = refl
 behind_is None (e ∷ entries) = refl
@@ -120,7 +120,7 @@ module _ (s : Step) (pages : List (List ℕ)) (agree : Agrees pages s) where
       leaf = has_leaf x.leaf x.entries x.at.is_read;
       fits = leaf_fits x.leaf x.entries x.at.is_read;
       begins = begins_by after x.leaf.low (ends_at x.at).0;
-      first = subst (λ (o : Option Entry). MatchOption o (ReachesPage (BeginsWith e (visit_of pages (x.at.above + 1) x.leaf)) pages) (λ y. y ≡ e)) (behind_is after x.entries) (firsts (x.at.above + 1) x.leaf e (entry_after after x.entries) x.first);
+      first = subst (λ (o : Option Entry). MatchOption o (ReachesPage (BeginsWith e (visit_of pages (x.at.above + 1) x.leaf)) pages) (λ y. y ≡ e)) (behind_is after x.entries) (firsts (x.at.above + 1) x.leaf e (first_after after x.entries) x.first);
     },
   )
 

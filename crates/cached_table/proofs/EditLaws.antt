@@ -14,13 +14,13 @@ use Rattle.fsd_table.specs.Tree.{IsTree, table_of}
 use Rattle.sector_disk.specs.declared.machine.Machine.{Ghosts as MachineGhosts}
 use Rattle.page_cache.specs.declared.source.PageSource.{Ghosts as SourceGhosts}
 use Rattle.page_cache.specs.Cache.{CacheValue, newest_bytes}
-use Rattle.name_page.specs.Pages.{Step, with_one, free_count}
+use Rattle.name_page.specs.Pages.{Step, with_one, spare_count}
 use Rattle.name_btree.specs.declared.fault.TreeFault.{TreeFault}
 use Rattle.name_btree.specs.Fault.{BarsTable, HasTreeCause}
 use Rattle.version_table.specs.declared.fault.VersionFault.{VersionFault}
 use Rattle.version_table.specs.declared.fault.VersionFault.TheVariants.{Table as InTable, NoSuch, VersionsUsedUp}
 use Rattle.name_btree.specs.Map.{HasTable, IsTable}
-use Rattle.name_btree.proofs.CallLaws.{same_table}
+use Rattle.name_btree.proofs.steps.CallLaws.{same_table}
 use Rattle.table_pages.specs.Bringing.{IsTrusted, given_by}
 use Rattle.table_pages.specs.ImageLaws.{image_count}
 use Rattle.table_pages.specs.Table.{IsOver, LeavesTable, ReadsOnly, Trusted, fresh_step, step_of}
@@ -180,11 +180,11 @@ module _ {D E : Type 0} {M : MachineGhosts D} {S : SourceGhosts E} where
     pub refuses_left : {T : Type 0} (map : Area) (w : Waits) (name : List ℕ) (r : Result T Refusal)
         → IfErr r (RefusesFor (Trusted b → (page : ℕ) × BarsTable (step_of b) page) (Trusted b → (height : ℕ) → IsTree (step_of a).images height → LosesUntaken map w (table_of (step_of a).images height))
         (Trusted b → (height : ℕ) → IsTree (step_of a).images height → max_u32 < (next_key name (table_of (step_of a).images height)).version)
-        (Trusted b → (height : ℕ) → IsTree (step_of a).images height → (next_key name (table_of (step_of a).images height)).version ≤ max_u32) (free_count (step_of a)))
+        (Trusted b → (height : ℕ) → IsTree (step_of a).images height → (next_key name (table_of (step_of a).images height)).version ≤ max_u32) (spare_count (step_of a)))
         → IfErr r (EntersNoneIn M S source map w name m.now m' cache.now cache' free.now free')
     refuses_left map w name (Ok x) none = tt
     refuses_left map w name (Err why) none = record {
-      cause = refuses_so (free_count (step_of a)) (count_by (λ spare. spare) free.now) (ap free_count begins) barred
+      cause = refuses_so (spare_count (step_of a)) (count_by (λ spare. spare) free.now) (ap spare_count begins) barred
           (of_left (LosesUntaken map w)) (of_left (λ table. max_u32 < (next_key name table).version)) (of_left (λ table. (next_key name table).version ≤ max_u32)) why none;
     }
       where

@@ -17,7 +17,7 @@ use Rattle.page_cache.specs.declared.source.PageSource.{Ghosts as SourceGhosts}
 use Rattle.page_cache.specs.Cache.{CacheValue}
 use Rattle.name_page.specs.declared.pages.Pages.{Ghosts}
 use Rattle.name_page.specs.Looks.{OnlyWalks}
-use Rattle.name_page.specs.Pages.{IsOuter, changes, free_count, outer_in, outer_refusal}
+use Rattle.name_page.specs.Pages.{IsOuter, changes, spare_count, outer_in, outer_refusal}
 use Rattle.name_btree.specs.declared.fault.TreeFault.{TreeFault}
 use Rattle.name_btree.specs.declared.fault.TreeFault.TheVariants.{Pages, Broken}
 use Rattle.name_btree.specs.Fault.{BarsTable, FailsSpare, FailsTable, HasTreeCause, IsOnWay, ShowsCause, outer_of}
@@ -90,8 +90,8 @@ module _ {D : Type 0} (P : Ghosts D) (map : Area) (w : Waits) (name : List ℕ) 
   enter_refuses f (inr none) full usable = subst (λ (x : TreeFault). None_entered x) (sym none.0) (refl, full none.0, usable)
 
   -- as many pages are spare as before the plan
-  pub enter_refused : (now : D) → OnlyWalks P None old now → free ≡ free_count (P.step now) → (f : TreeFault) → FailsSpare P (free_count (P.step now)) new f
-      → (f ≡ Pages (Why.NameTableFull (free_count (P.step now))) → free_count (P.step now) < 8) → OfTable P old new (λ table. (next_key name table).version ≤ max_u32) → None_entered f
+  pub enter_refused : (now : D) → OnlyWalks P None old now → free ≡ spare_count (P.step now) → (f : TreeFault) → FailsSpare P (spare_count (P.step now)) new f
+      → (f ≡ Pages (Why.NameTableFull (spare_count (P.step now))) → spare_count (P.step now) < 8) → OfTable P old new (λ table. (next_key name table).version ≤ max_u32) → None_entered f
   enter_refused now walks same f cause full usable =
       enter_refuses f (subst (λ (n : ℕ). FailsSpare P n new f) (sym same) cause) (λ is. omega (arith, same, full (is ∙ ap (λ (n : ℕ). Pages (Why.NameTableFull n)) same))) usable
 
@@ -100,11 +100,6 @@ module _ {D : Type 0} (P : Ghosts D) (map : Area) (w : Waits) (name : List ℕ) 
   gone_refuse given plan (Why.Unsound s) tells planned untaken = inr (lost given plan planned untaken)
   gone_refuse given plan Why.VersionsUsedUp tells planned untaken = inr (inr (lost given plan planned untaken))
   gone_refuse given plan other tells planned untaken = absurd tells
-
--- the refusal from outside is that of the fault
-pub outer_told : (home_a : ℕ) (f : TreeFault) → outer_refusal (refusal_in home_a f) ≡ outer_of f
-outer_told home_a (Pages r) = refl
-outer_told home_a (Broken page) = refl
 
 pub outer_entered : (f : TreeFault) → outer_refusal (enter_refusal f) ≡ outer_of f
 outer_entered (Pages (Why.Unsound s)) = refl

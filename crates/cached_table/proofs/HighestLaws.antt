@@ -16,7 +16,7 @@ use Rattle.name_btree.specs.declared.fault.TreeFault.{TreeFault}
 use Rattle.name_btree.specs.declared.fault.TreeFault.TheVariants.{Pages, Broken}
 use Rattle.name_btree.specs.Fault.{BarsTable, HasTreeCause}
 use Rattle.name_btree.specs.Map.{HasTable, IsTable}
-use Rattle.name_btree.proofs.CallLaws.{same_table}
+use Rattle.name_btree.proofs.steps.CallLaws.{same_table}
 use Rattle.version_table.specs.declared.fault.VersionFault.{VersionFault}
 use Rattle.version_table.specs.declared.fault.VersionFault.TheVariants.{Table, NoSuch, VersionsUsedUp}
 use Rattle.version_table.specs.Fault.{FailsLook}

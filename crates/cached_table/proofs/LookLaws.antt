@@ -14,8 +14,8 @@ use Rattle.fsd_table.specs.Tree.{IsTree, table_of}
 use Rattle.sector_disk.specs.declared.machine.Machine.{Ghosts as MachineGhosts}
 use Rattle.page_cache.specs.declared.source.PageSource.{Ghosts as SourceGhosts}
 use Rattle.page_cache.specs.Cache.{CacheValue, is_among, newest_bytes}
-use Rattle.name_page.specs.Looks.{Agrees, Shows}
-use Rattle.name_page.specs.Pages.{Step, IsBarred, IsOuter, home_of, is_one_of as among, is_spare}
+use Rattle.name_page.specs.Looks.{Agrees, ShowsEach}
+use Rattle.name_page.specs.Pages.{Step, IsBarred, IsOuter, home_sector, is_one_of as among, is_spare}
 use Rattle.name_page.proofs.LookLaws.{agrees_at, agrees_now}
 use Rattle.name_btree.specs.declared.fault.TreeFault.{TreeFault}
 use Rattle.name_btree.specs.declared.fault.TreeFault.TheVariants.{Pages, Broken}
@@ -135,14 +135,14 @@ module _ {D E : Type 0} {M : MachineGhosts D} {S : SourceGhosts E} where
             by true e = absurd (both_ways (was_reached page) out (subst (λ (n : ℕ). was_reached n ≡ true) (eqb-true q page e) is))
 
     -- it was reached, and is refused by the grammar
-    reached_refused : (page : ℕ) → page < length free.now → is_spare (step_of b).spares page ≡ false → was_reached page ≡ true → page_at (step_of b).images page ≡ None → Shows (step_of b) (λ pages. IsOnWay pages page)
+    reached_refused : (page : ℕ) → page < length free.now → is_spare (step_of b).spares page ≡ false → was_reached page ≡ true → page_at (step_of b).images page ≡ None → ShowsEach (step_of b) (λ pages. IsOnWay pages page)
         → (pages : List (List ℕ)) → HavePages cache' (length free.now) pages → BreaksTable pages page
     reached_refused page lt used is none way pages have =
         let agree = agrees pages have in
         refused_breaks pages page (way pages agree) (agrees_at (step_of b) pages page (omega (arith, lt, count_b), is) used agree ∙ none)
 
     -- so are bytes that it had
-    had_refused : (page : ℕ) (bytes : List ℕ) → was_reached page ≡ false → read_page page (length free.now) bytes ≡ None → Shows (step_of b) (λ pages. IsOnWay pages page)
+    had_refused : (page : ℕ) (bytes : List ℕ) → was_reached page ≡ false → read_page page (length free.now) bytes ≡ None → ShowsEach (step_of b) (λ pages. IsOnWay pages page)
         → (pages : List (List ℕ)) → HaveOthers cache' (length free.now) page bytes pages → BreaksTable pages page
     unfolding page_at
     had_refused page bytes out none way pages have =
@@ -164,7 +164,7 @@ module _ {D E : Type 0} {M : MachineGhosts D} {S : SourceGhosts E} where
         ⊎ (((pages : List (List ℕ)) → HavePages cache' (length free.now) pages → BreaksTable pages page)
         ⊎ ((bytes : List ℕ) × (page < length free.now) × Had M S source (M.now m.now) cache.now page bytes × ((pages : List (List ℕ)) → HaveOthers cache' (length free.now) page bytes pages → BreaksTable pages page)))
 
-    barred_how : (page : ℕ) → page < length free.now → IsBarred (step_of b) page → Shows (step_of b) (λ pages. IsOnWay pages page)
+    barred_how : (page : ℕ) → page < length free.now → IsBarred (step_of b) page → ShowsEach (step_of b) (λ pages. IsOnWay pages page)
         → (slice_index_or b.free.now page false ≡ true) ⊎ ((is_among b.cache.now.dirty page ≡ true) ⊎ HadRefused M S a.source.now (M.now a.m.now) a.cache.now (length b.free.now) page)
         → (place : ℕ) → place ≡ home_in home_a page → ShowsPlace M S source (M.now m.now) cache.now cache' free.now home_a place
     barred_how page lt bars way why place home = record { page = page; home = home; how = by (is_spare (step_of b).spares page) refl }
@@ -191,16 +191,16 @@ module _ {D E : Type 0} {M : MachineGhosts D} {S : SourceGhosts E} where
         by false used = at used (was_reached page) refl
 
     -- the page that is refused is the one that the outside has barred
-    same_page : (page other place : ℕ) → page < length b.free.now → other < length b.free.now → place ≡ home_in b.home_a page → place ≡ home_of (step_of b) other → other ≡ page
+    same_page : (page other place : ℕ) → page < length b.free.now → other < length b.free.now → place ≡ home_in b.home_a page → place ≡ home_sector (step_of b) other → other ≡ page
     same_page page other place lt lt' is is' = same_home (length b.free.now) b.home_a page other b.kept.small lt lt' (sym is ∙ is')
 
     refused_place : M.honest m' → (refused : Refusal) → (step_of b).refusal ≡ Some refused → (place : ℕ) → refused ≡ Unsound place
-        → IsOuter refused ⊎ ((page : ℕ) × (refused ≡ Unsound (home_of (step_of b) page)) × IsBarred (step_of b) page × Shows (step_of b) (λ pages. IsOnWay pages page))
+        → IsOuter refused ⊎ ((page : ℕ) × (refused ≡ Unsound (home_sector (step_of b) page)) × IsBarred (step_of b) page × ShowsEach (step_of b) (λ pages. IsOnWay pages page))
         → ShowsPlace M S source (M.now m.now) cache.now cache' free.now home_a place
     refused_place honest refused told place is (inl outer) = absurd (cc (subst IsOuter is outer))
     refused_place honest refused told place is (inr x) = by (outside.barred (subst M.honest left.machine honest) place (told ∙ ap (λ (r : Refusal). Some r) is))
       where
-        place_is : place ≡ home_of (step_of b) x.0
+        place_is : place ≡ home_sector (step_of b) x.0
         place_is = cc (is, x.1)
 
         by : (a.refusal ≡ Some (Unsound place)) ⊎ BarsPlace a b place → ShowsPlace M S source (M.now m.now) cache.now cache' free.now home_a place

@@ -30,7 +30,7 @@ use Rattle.name_page.specs.Pages.{outer_refusal}
 use Rattle.name_btree.specs.declared.fault.TreeFault.{TreeFault}
 use Rattle.name_btree.specs.declared.fault.TreeFault.TheVariants.{Pages, Broken}
 use Rattle.name_btree.specs.Fault.{outer_of}
-use Rattle.name_btree.proofs.WithinLaws.{broken_within}
+use Rattle.name_btree.proofs.ways.ReachLaws.{broken_within}
 use Rattle.name_btree.specs.Walk.{AreMarksOf}
 use Rattle.group_commit.proofs.NewestLaws.{lost_home}
 use Rattle.page_cache.specs.Cache.{CacheValue, Held, IsResident, cached_bytes, held, is_among, newest_bytes, no_pages}

@@ -1,6 +1,6 @@
 -- What a table over a cache leaves where it was surveyed.
 use Rattle.std.proofs.Common.{◌≡◌, inl, inr, ℕ, ◌<◌, Bool, List, length, Option, Result, Ok, Err, sym, ap, subst, ◌∙◌, arith}
-use Rattle.std.specs.Prelude.{IfErr, IfOk, count_by}
+use Rattle.std.specs.Prelude.{IfErr, IfOk}
 use Rattle.std.specs.Borrow.{MutBor}
 use Rattle.fsd_bytes.specs.declared.refusal.Refusal.{Refusal}
 use Rattle.fsd_bytes.specs.declared.refusal.Refusal.TheVariants as Why
@@ -18,11 +18,11 @@ use Rattle.table_pages.specs.Bringing.{IsTrusted, given_by, home_in}
 use Rattle.table_pages.specs.ImageLaws.{image_count}
 use Rattle.table_pages.specs.Table.{IsOver, LeavesTable, ReadsOnly, Trusted, fresh_step, step_of}
 use Rattle.table_pages.specs.declared.table.Table.{Table}
-use Rattle.table_survey.specs.Survey.{IsSurveyed}
+use Rattle.table_survey.specs.Survey.{IsSurveyed, SurveysWhole}
 use Rattle.table_survey.specs.declared.surveying.TableCounts.{TableCounts}
 use Rattle.cached_table.specs.Looking.{BarsPages, images_by}
 use Rattle.cached_table.proofs.LeftLaws.{clean_left, fills_left, images_left, loses_left, reads_left, trusted_left}
-use Rattle.cached_table.specs.Surveying.{IsOfData, SurveyFails, SurveyFaultIn, SurveysOnly, SurveysTable}
+use Rattle.cached_table.specs.Surveying.{SurveyFails, SurveyFaultIn, SurveysOnly, SurveysTable}
 
 module _ {D E : Type 0} {M : MachineGhosts D} {S : SourceGhosts E} where
   -- a table has as many pages as can be free
@@ -51,15 +51,14 @@ module _ {D E : Type 0} {M : MachineGhosts D} {S : SourceGhosts E} where
 
     -- ---- what is told
 
-    pub told_of : (l : Layout) (map : Area) (marks : List Bool) (r : Result TableCounts TreeFault) → IfOk r (λ s. IsOfData l map) → IfOk r (λ s. s.pages ≡ count_by (λ mark. mark) marks)
-        → IfOk r (λ s. Trusted b → IsSurveyed l (step_of a) map marks s) → IfOk r (λ s. Trusted b → (page : ℕ) → Breaks l (step_of a).images page → ⊥)
+    pub told_of : (l : Layout) (map : Area) (marks : List Bool) (r : Result TableCounts TreeFault) → IfOk r (SurveysWhole (Trusted b) l (step_of a) map marks)
         → IfOk r (SurveysTable M S source l m.now m' cache.now free.now home_a map marks)
-    told_of l map marks (Err f) area counted told none = tt
-    told_of l map marks (Ok s) area counted told none = record {
-      area_is = area;
-      counted = counted;
-      surveyed = λ t. subst (λ (step : Step). IsSurveyed l step map marks s) begins (told (trusted_b t));
-      unbroken = λ t page breaks. none (trusted_b t) page (subst (λ (images : List (List ℕ)). Breaks l images page) (sym images_first) breaks);
+    told_of l map marks (Err f) surveys = tt
+    told_of l map marks (Ok s) surveys = record {
+      area_is = surveys.area_is;
+      counted = surveys.counted;
+      surveyed = λ t. subst (λ (step : Step). IsSurveyed l step map marks s) begins (surveys.told (trusted_b t));
+      unbroken = λ t page breaks. surveys.unbroken (trusted_b t) page (subst (λ (images : List (List ℕ)). Breaks l images page) (sym images_first) breaks);
     }
 
     -- ---- why it fails

@@ -19,7 +19,7 @@ use Rattle.fsd_table.specs.Tree.{IsTree, table_of}
 use Rattle.fsd_files.specs.Volume.{entries_at}
 use Rattle.name_page.specs.declared.pages.Pages.{Ghosts}
 use Rattle.name_page.specs.Looks.{OnlyWalks}
-use Rattle.name_page.specs.Pages.{free_count, outer_refusal}
+use Rattle.name_page.specs.Pages.{spare_count, outer_refusal}
 use Rattle.name_btree.specs.declared.fault.TreeFault.{TreeFault}
 use Rattle.name_btree.specs.declared.fault.TreeFault.TheVariants.{Pages, Broken}
 use Rattle.name_btree.specs.declared.lookup.FoundEntry.{FoundEntry}
@@ -148,13 +148,13 @@ pub record EntersAt {D : Type 0} (P : Ghosts D) (map : Area) (w : Waits) (name :
   pub name_is : plan.key.name ≡ name
   pub planned : OfTable P old new (λ table. IsPlan name given table plan)
   pub taken : AreInTurn map w [] plan.gone.items
-  pub room : 8 ≤ free_count (P.step old)
+  pub room : 8 ≤ spare_count (P.step old)
   pub entered : MakesTable P old new (with_planned plan (planned_entry plan draft.serial draft.length draft.runs))
 
 -- Pages were reached, and nothing else, until it was refused, for a cause; what was reached shows it.
 pub record RefusesAt {D : Type 0} (P : Ghosts D) (map : Area) (w : Waits) (name : List ℕ) (home_a : ℕ) (old new : D) (refusal : Refusal) : Type 0 where
   pub kept : OnlyWalks P (outer_refusal refusal) old new
-  pub fault : EntersNone P map w name (free_count (P.step old)) old new refusal
+  pub fault : EntersNone P map w name (spare_count (P.step old)) old new refusal
   pub shown : ShowsRefusal P map w name home_a old new refusal
 
 module _ {D E : Type 0} (M : MachineGhosts D) (S : SourceGhosts E) (source : E) where

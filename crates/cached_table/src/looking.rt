@@ -4,7 +4,7 @@ ghost use Rattle.std.specs.Option.{option_copied};
 ghost use Rattle.table_pages.specs.Bringing.{IsTrusted};
 ghost use Rattle.table_pages.specs.Kept.{IsReady};
 ghost use Rattle.fsd_table.specs.Tree.{IsTree, table_of};
-ghost use Rattle.name_page.specs.Lookups.{entry_after, entry_with, highest_of};
+ghost use Rattle.name_page.specs.Lookups.{first_after, entry_with, highest_of};
 ghost use Rattle.name_btree.specs.Fault.{outer_told};
 ghost use Rattle.name_btree.specs.Lookup.{found_entry};
 ghost use Rattle.cached_table.specs.Finding.{FailsToFind, FindsKey, FindsLater, FindsNewest, SparesMemory};
@@ -54,7 +54,7 @@ impl CachedTable {
         ensures free { self.new.free_pages ≡ self.old.free_pages }
         ensures told { IfOk result (FindsLater self.new.cache (length self.old.free_pages) (option_copied after.entry)) }
         ensures found { IfOk result (λ found. IsTrusted M.Machine S.PageSource source.now m.old self.old.cache m.new → (height : ℕ) →
-            let pages = images_by M.Machine S.PageSource source.now m.old self.old.cache (length self.old.free_pages) in IsTree pages height → found_entry found ≡ entry_after (option_copied after.entry) (table_of pages height)) }
+            let pages = images_by M.Machine S.PageSource source.now m.old self.old.cache (length self.old.free_pages) in IsTree pages height → found_entry found ≡ first_after (option_copied after.entry) (table_of pages height)) }
         ensures failed { IfErr result (FailsToFind M.Machine S.PageSource source.now m.old m.new self.old.cache self.new.cache self.old.free_pages home_a) }
     {
         let mut table = Table::new(m, &mut self.cache, source, home_a, &mut self.free_pages);

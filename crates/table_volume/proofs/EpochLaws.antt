@@ -1,5 +1,6 @@
 -- The epochs of a mount: which is the last, and which follows which.
 use Rattle.std.proofs.Common.{◌≡◌, ◌⊎◌, inl, inr, ⊎_elim, ℕ, ◌≤◌, Bool, true, false, cond, List, Option, Some, None, refl, sym, ap, subst, ◌∙◌, arith}
+use Rattle.std.proofs.lemmas.Option.{same_Some}
 use Rattle.std.specs.Prelude.{IfSome, option_and_then}
 use Rattle.std.proofs.lemmas.Bool.Decides.{nat_tests}
 use Rattle.volume_layout.specs.declared.layout.Layout.{Layout}
@@ -28,21 +29,18 @@ use Rattle.volume_contract.specs.Mount.{IsAtLastEpoch}
 
 -- ---- the last epoch
 
-some_same : (a b : Anchor) → Some a ≡ Some b → a ≡ b
-some_same a b e = cc e
-
 -- an anchor of the last epoch is not passed by the other copy
 last_stays : (x y : Option Anchor) → IfSome x IsAnchor → IfSome y IsAnchor → (a : Anchor) → a.epoch ≡ last_epoch → (x ≡ Some a) ⊎ (y ≡ Some a) → (t : Anchor) × (newer_of x y ≡ Some t) × (t.epoch ≡ last_epoch)
 last_stays None None p q a last (inl is) = absurd (cc is)
 last_stays None None p q a last (inr is) = absurd (cc is)
 last_stays None (Some b) p q a last (inl is) = absurd (cc is)
-last_stays None (Some b) p q a last (inr is) = (b, refl, ap (λ (z : Anchor). z.epoch) (some_same b a is) ∙ last)
-last_stays (Some c) None p q a last (inl is) = (c, refl, ap (λ (z : Anchor). z.epoch) (some_same c a is) ∙ last)
+last_stays None (Some b) p q a last (inr is) = (b, refl, ap (λ (z : Anchor). z.epoch) (same_Some b a is) ∙ last)
+last_stays (Some c) None p q a last (inl is) = (c, refl, ap (λ (z : Anchor). z.epoch) (same_Some c a is) ∙ last)
 last_stays (Some c) None p q a last (inr is) = absurd (cc is)
 last_stays (Some c) (Some b) p q a last is = by (is_newer b c) refl
   where
     one : (c.epoch ≡ last_epoch) ⊎ (b.epoch ≡ last_epoch)
-    one = ⊎_elim (λ e. inl (ap (λ (z : Anchor). z.epoch) (some_same c a e) ∙ last)) (λ e. inr (ap (λ (z : Anchor). z.epoch) (some_same b a e) ∙ last)) is
+    one = ⊎_elim (λ e. inl (ap (λ (z : Anchor). z.epoch) (same_Some c a e) ∙ last)) (λ e. inr (ap (λ (z : Anchor). z.epoch) (same_Some b a e) ∙ last)) is
 
     newer_from : is_newer b c ≡ true → c.epoch ≤ b.epoch
     newer_from test = grind (arith, nat_tests)

@@ -4,14 +4,14 @@ use Rattle.std.specs.Prelude.{IfOk, IsSome, IsTrue, Result, option_and_then}
 use Rattle.std.specs.List.{AllZip}
 use Rattle.std.proofs.lemmas.List.{ext_get_or}
 use Rattle.std.proofs.lemmas.List.FromFn.{length-range_with_len}
-use Rattle.std.proofs.lemmas.Option.{get_or_from_slice_get}
+use Rattle.std.proofs.lemmas.Option.{get_or_from_slice_get, same_Some}
 use Rattle.volume_layout.specs.declared.layout.Layout.{Layout}
 use Rattle.volume_layout.specs.Layout.{home_a, home_b}
 use Rattle.volume_layout.proofs.RegionLaws.{regions_apart}
 use Rattle.volume_layout.proofs.RootLaws.{planned_bounds}
 use Rattle.sector_disk.specs.declared.sector.Sector.{Sector}
 use Rattle.sector_disk.specs.declared.sector.WeakRun.{WeakRun}
-use Rattle.sector_disk.specs.Image.{AreShort, IsWorn, Windows, in_run, open_damage, sector_at}
+use Rattle.sector_disk.specs.Image.{AreShort, IsWorn, Windows, in_weak_run, open_damage, sector_at}
 use Rattle.sector_disk.specs.Machine.{Moment, Wears}
 use Rattle.sector_disk.proofs.Wear.{worn_refl}
 use Rattle.fsd_formats.specs.declared.anchor.Anchor.{Anchor}
@@ -147,10 +147,10 @@ module _ (sectors : ℕ) (l : Layout) (windows : List WeakRun) (h : List Change)
       said = wears.said ∙ said;
       sound = sound_still l later (apart_narrow l later apart_later) (take count h) count mid.image left.image (worn_later left.image wears.image)
           (sound_since sectors l windows h f old begun lists run pages done.after.chosen mid.image done.after.shows same);
-      writes = λ s out. worn_both (weak_of windows s) (in_run run s) (sector_at old.image s) (sector_at mid.image s) (sector_at left.image s) (rest s out) (worn_in s (wears.image.each s));
+      writes = λ s out. worn_both (weak_of windows s) (in_weak_run run s) (sector_at old.image s) (sector_at mid.image s) (sector_at left.image s) (rest s out) (worn_in s (wears.image.each s));
     }
       where
-        worn_in : (s : ℕ) → SectorWorn (open_damage mid.windows s) (sector_at mid.image s) (sector_at left.image s) → SectorWorn (in_run run s) (sector_at mid.image s) (sector_at left.image s)
+        worn_in : (s : ℕ) → SectorWorn (open_damage mid.windows s) (sector_at mid.image s) (sector_at left.image s) → SectorWorn (in_weak_run run s) (sector_at mid.image s) (sector_at left.image s)
         worn_in s worn = subst (λ (w : Windows). SectorWorn (open_damage w s) (sector_at mid.image s) (sector_at left.image s)) done.after.settled worn
 
     -- ---- the volume
@@ -217,7 +217,7 @@ module _ (sectors : ℕ) (l : Layout) (windows : List WeakRun) (h : List Change)
 
       stands_new : (v : VolumeValue) → IsAssembled l log v → IsTableOf l pages (opened_of v) → Stands state IsMemoryOf v known_new new
       stands_new v a t =
-          let telling : t.telling ≡ files_settled.telling = some_same t.telling files_settled.telling (sym t.told ∙ files_settled.told) in
+          let telling : t.telling ≡ files_settled.telling = same_Some t.telling files_settled.telling (sym t.told ∙ files_settled.told) in
           let as_many : length (after (take count h)) ≡ length t.telling.entries = as_many_entries (after (take count h)) files_settled.telling.entries described_new.lists ∙ ap (λ (x : Telling). length x.entries) (sym telling) in
           let holds : IsMemoryOf v mounted_new (records_by l new.image mounted_new.anchor) = subst (IsMemoryOf v mounted_new) (sym (ap (λ (w : Walked). w.records) own_new.log.scanned))
           (subst (λ (x : Telling). IsMemoryOf v (fresh_mounted l log pages x (after (take count h))) []) telling (fresh_holds l begun.planned log v a pages t (after (take count h)) as_many)) in
@@ -230,9 +230,6 @@ module _ (sectors : ℕ) (l : Layout) (windows : List WeakRun) (h : List Change)
             disk = subst (λ (n : ℕ). IsMounted mounted_new later (take count h) n new.image) (let none : length (take count h) ≡ length (take count h) - 0 = omega arith in none) (mounted_fresh mounted_new later (take count h) new.image fresh_new);
             written = tt;
           }
-        where
-          some_same : (x y : Telling) → Some x ≡ Some y → x ≡ y
-          some_same x y e = cc e
 
       no_break : (s : ℕ) → BreaksAt l pages s → ⊥
       no_break s breaks = told_unbroken l pages files_settled.telling files_settled.told described_new.apart breaks.0 breaks.2

@@ -1,5 +1,6 @@
 -- What breaks a name table that reads alike at home however it wears.
 use Rattle.std.proofs.Common.{◌≡◌, ℕ, ◌+◌, ◌<◌, List, [], Option, Some, Ok, Err, sym, ap, subst, ◌∙◌, arith}
+use Rattle.std.proofs.lemmas.Option.{same_Some}
 use Rattle.std.specs.Prelude.{IfErr, Result, get_or}
 use Rattle.std.specs.Option.{unwrap_or}
 use Rattle.volume_layout.specs.declared.layout.Layout.{Layout}
@@ -40,10 +41,7 @@ module _ (l : Layout) (mid : Moment) (pages : List (List ℕ)) (alike : ReadAlik
       (all_in_range (λ page. home_of l mid.image page ≡ Some (unwrap_or (home_by l mid.image page) [])) 0 l.pages (λ page from lt. there page (omega (arith, lt))))
 
   same_pages : home_pages l mid.image ≡ pages
-  same_pages = one (home_pages l mid.image) pages (sym at_home ∙ alike mid.image (worn_refl (open_damage mid.windows) mid.image))
-    where
-      one : (x y : List (List ℕ)) → Some x ≡ Some y → x ≡ y
-      one x y e = cc e
+  same_pages = same_Some (home_pages l mid.image) pages (sym at_home ∙ alike mid.image (worn_refl (open_damage mid.windows) mid.image))
 
   breaks_alike : (s : ℕ) → (KnowsHomes l mid → BreaksAt l (home_pages l mid.image) s) → BreaksAt l pages s
   breaks_alike s breaks = subst (λ (ps : List (List ℕ)). BreaksAt l ps s) same_pages (breaks knows_alike)

@@ -1,1 +1,4 @@
+pub mod Forces
+pub mod Looks
 pub mod Mounting
+pub mod Puts

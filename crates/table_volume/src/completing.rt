@@ -1,21 +1,22 @@
 //! Creations that become versions.
-ghost use Rattle.std.specs.Prelude.{◌≡◌, ◌≤◌, ◌<◌, ◌+◌, ◌-◌, ◌^◌, ◌||◌, ℕ, IfErr, IfOk, IfSome, IsTrue, List, MatchResult, None, OnOk, Option, Some, false, length, true};
+ghost use Rattle.std.specs.Prelude.{◌≡◌, ◌≤◌, ◌<◌, ◌+◌, ◌-◌, ◌^◌, ◌||◌, ℕ, IfErr, IfOk, IfSome, IsTrue, List, MatchResult, None, OnOk, Option, Some, length, true};
 ghost use Rattle.sector_disk.specs.Calls.{OnlyReads, WritesDisk, device_in};
 ghost use Rattle.sector_disk.specs.Image.{open_damage};
 ghost use Rattle.fsd_files.specs.Answers.{HasLeader, HasVersion};
-ghost use Rattle.fsd_files.specs.Disk.{Touches};
 ghost use Rattle.fsd_formats.specs.NamePage.{is_entry, sectors_for};
 ghost use Rattle.fsd_sound.specs.Writes.{force_writes};
 ghost use Rattle.version_data.specs.Writing.{WritesIn};
 ghost use Rattle.volume_contract.specs.Causes.{Causes};
 ghost use Rattle.volume_contract.specs.Ends.{device_of};
-ghost use Rattle.volume_contract.specs.Order.{Follows, IsDeviceIn, KeepsRefused, enter_steps, is_idle};
-ghost use Rattle.volume_contract.specs.Pieces.{EndsEnter, Enters, IsDraft, in_leader, slices_if, slices_in};
-ghost use Rattle.volume_contract.specs.State.{Counted, GoesOn, HasCounted, Known, Leaves, Stands, change_len, downs_for, forces_first};
+ghost use Rattle.volume_contract.specs.Order.{Follows, InOrder, IsDeviceIn, enter_steps};
+ghost use Rattle.volume_contract.specs.Pieces.{EndsEnter, IsDraft, in_leader, slices_if, slices_in};
+ghost use Rattle.volume_contract.specs.State.{Counted, Known, Leaves, Stands, WritesWithin, change_len};
+ghost use Rattle.volume_contract.specs.Telling.{TellsKey};
 ghost use Rattle.volume_laws.specs.Completed.{Completes, EndsComplete, draft_of};
 ghost use Rattle.volume_laws.specs.Entered.{entering_steps as look_steps};
 ghost use Rattle.volume_laws.specs.Placing.{IsPlace};
 ghost use Rattle.volume_laws.specs.State.{IsMemoryOf, resident, state};
+ghost use Rattle.table_volume.specs.Puts.{KeepsFinish};
 
 use crate::Volume;
 use crate::freeing::free_gone_if;
@@ -120,16 +121,11 @@ impl Volume {
         requires room { (state self.old).layout.sectors ≤ (M.report m.old).sectors }
         requires good { IsTrue (is_entry entry) }
         requires draft { IsDraft (state self.old) (draft_of entry) }
-        ensures order { Follows (enter_steps (state self.old) keep (in_leader entry.runs)) result }
+        ensures order { InOrder (enter_steps (state self.old) keep (in_leader entry.runs)) m.old m.new result }
         ensures disk { WritesDisk M.Machine (device_in device_of result) (Leaves state IsMemoryOf self.old (λ t. force_writes (state self.old).layout t || in_leader entry.runs t)) m.old m.new }
-        ensures rest { M.honest m.new → Touches (λ t. force_writes (state self.old).layout t || in_leader entry.runs t) (M.now m.old) (M.now m.new) }
-        ensures counted { M.tells m.new → Counted result (1 + change_len (state self.old)) (M.ledger m.old) (M.ledger m.new) }
-        ensures state { MatchResult result (λ key. Enters entry.runs (state self.old) (state self.new)) (λ why. GoesOn (downs_for why) (state self.old) (state self.new)) }
-        ensures idle { IsTrue (is_idle (enter_steps (state self.old) keep (in_leader entry.runs))) → m.new ≡ m.old }
-        ensures name { IfOk result (λ key. key.name ≡ name.now) }
-        ensures kept { let s = state self.old in
-            MatchResult result (λ key. HasCounted false (forces_first s) s (state self.new)) (λ why. KeepsRefused (enter_steps s keep (in_leader entry.runs)) why s (state self.new)) }
-        ensures causes { Causes M.Machine (resident self.old) (state self.old) (state self.new) m.old m.new result }
+        ensures writes { WritesWithin M.Machine (λ t. force_writes (state self.old).layout t || in_leader entry.runs t) (1 + change_len (state self.old)) m.old m.new result }
+        ensures keeps { KeepsFinish entry.runs keep (state self.old) (state self.new) result }
+        ensures tells { TellsKey M.Machine (resident self.old) (state self.old) (state self.new) m.old m.new name.now result }
         ensures done { M.honest m.new → (k : Known) → Stands state IsMemoryOf self.old k (M.now m.old) →
             (bytes : List ℕ) → length bytes ≡ entry.length → slices_in k.opened.drafts entry.runs ≡ Some (slices_if true bytes) →
             EndsEnter state IsMemoryOf (draft_of entry) name.now bytes keep k self.new (M.now m.new) result }

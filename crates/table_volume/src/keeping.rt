@@ -1,15 +1,14 @@
 //! Another keep of a name's highest version.
-ghost use Rattle.std.specs.Prelude.{◌≡◌, ◌<◌, ◌≤◌, ◌-◌, ◌^◌, IfOk, Err, None, length};
-ghost use Rattle.fsd_bytes.specs.declared.refusal.Refusal.TheVariants as Why;
+ghost use Rattle.std.specs.Prelude.{◌≡◌, ◌<◌, ◌≤◌, ◌-◌, ◌^◌, None, length};
 ghost use Rattle.sector_disk.specs.Calls.{OnlyReads, device_in};
 ghost use Rattle.fsd_files.specs.Answers.{keep_outcome};
 ghost use Rattle.fsd_files.specs.Files.{Change};
-ghost use Rattle.volume_contract.specs.Causes.{Causes};
 ghost use Rattle.volume_contract.specs.Ends.{device_of, kept_key};
 ghost use Rattle.volume_contract.specs.Order.{Follows};
 ghost use Rattle.volume_contract.specs.State.{Known, Stands, volume_of};
+ghost use Rattle.volume_contract.specs.Telling.{TellsKept};
 ghost use Rattle.volume_laws.specs.Ending.{Edits, EndsEdit, edit_refusal, edit_steps, keep_tests, kept_told, look_steps};
-ghost use Rattle.volume_laws.specs.State.{HasEnoughFor, IsMemoryOf, resident, state};
+ghost use Rattle.volume_laws.specs.State.{IsMemoryOf, resident, state};
 
 use crate::Volume;
 use fsd_bytes::{FileName, Key, Refusal};
@@ -71,9 +70,7 @@ impl Volume {
         ensures order { Follows edit_steps result }
         ensures disk { OnlyReads M.Machine (device_in device_of result) m.old m.new }
         ensures edited { Edits (state self.old) (state self.new) result }
-        ensures name { IfOk result (λ key. key.name ≡ name.now) }
-        ensures memory { HasEnoughFor self.old name.now → result ≡ Err Why.Memory → ⊥ }
-        ensures causes { Causes M.Machine (resident self.old) (state self.old) (state self.new) m.old m.new result }
+        ensures tells { TellsKept M.Machine (resident self.old) (state self.old) (state self.new) m.old m.new name.now result }
         ensures done { M.honest m.new → (k : Known) → Stands state IsMemoryOf self.old k (M.now m.old) →
             EndsEdit (λ met. keep_outcome met (volume_of k) name.now keep) (kept_key keep) (Change.SetKeep name.now keep) k self.new (M.now m.new) result }
     {
@@ -100,9 +97,7 @@ impl Volume {
         ensures order { Follows look_steps result }
         ensures disk { OnlyReads M.Machine (device_in device_of result) m.old m.new }
         ensures edited { Edits (state self.old) (state self.new) result }
-        ensures name { IfOk result (λ key. key.name ≡ name.now) }
-        ensures memory { HasEnoughFor self.old name.now → result ≡ Err Why.Memory → ⊥ }
-        ensures causes { Causes M.Machine (resident self.old) (state self.old) (state self.new) m.old m.new result }
+        ensures tells { TellsKept M.Machine (resident self.old) (state self.old) (state self.new) m.old m.new name.now result }
         ensures done { M.honest m.new → (k : Known) → Stands state IsMemoryOf self.old k (M.now m.old) →
             EndsEdit (λ met. keep_outcome met (volume_of k) name.now keep) (kept_key keep) (Change.SetKeep name.now keep) k self.new (M.now m.new) result }
     {

@@ -1,15 +1,13 @@
 //! Where new versions go.
-ghost use Rattle.std.specs.Prelude.{◌≡◌, ◌≤◌, IfOk, IsFalse, IsTrue, None, OnOk};
+ghost use Rattle.std.specs.Prelude.{◌≡◌, ◌≤◌, IfOk, None};
 ghost use Rattle.sector_disk.specs.Calls.{WritesDisk, device_in};
-ghost use Rattle.volume_contract.specs.Causes.{Causes};
-ghost use Rattle.volume_contract.specs.Ends.{device_of};
-ghost use Rattle.volume_contract.specs.Order.{is_idle};
 ghost use Rattle.fsd_sound.specs.Writes.{force_writes};
-ghost use Rattle.volume_contract.specs.State.{Counted, Known, Leaves, Stands, forces_for_place};
-ghost use Rattle.volume_contract.specs.Behind.{IsBehindForce};
-ghost use Rattle.volume_laws.specs.Placing.{EndsPlace, IsPlace, Places, place_len, place_now, place_steps};
-ghost use Rattle.volume_laws.specs.State.{IsMemoryOf, resident, state};
-ghost use Rattle.fsd_files.specs.Disk.{Touches};
+ghost use Rattle.volume_contract.specs.Ends.{device_of};
+ghost use Rattle.volume_contract.specs.State.{Known, Leaves, Stands, WritesWithin};
+ghost use Rattle.volume_laws.specs.Placing.{EndsPlace, IsPlace, place_len, place_now, place_steps};
+ghost use Rattle.volume_laws.specs.State.{IsMemoryOf, state};
+ghost use Rattle.table_volume.specs.Forces.{TellsBehind};
+ghost use Rattle.table_volume.specs.Puts.{FindsPlace};
 
 use crate::Volume;
 use alloc_map::NoPlace;
@@ -45,15 +43,10 @@ impl Volume {
         requires room { (state self.old).layout.sectors ≤ (M.report m.old).sectors }
         requires some { 1 ≤ need }
         requires up { self.old.down ≡ None }
-        ensures places { Places need (state self.old) (state self.new) result }
-        ensures free { IfOk result (IsPlace self.new.map need) }
+        ensures keeps { FindsPlace need self.old self.new result }
         ensures disk { WritesDisk M.Machine (device_in device_of result) (Leaves state IsMemoryOf self.old (force_writes (state self.old).layout)) m.old m.new }
-        ensures rest { M.honest m.new → Touches (force_writes (state self.old).layout) (M.now m.old) (M.now m.new) }
-        ensures counted { M.tells m.new → Counted result (place_len (state self.old) need) (M.ledger m.old) (M.ledger m.new) }
-        ensures idle { IsTrue (is_idle (place_steps (state self.old) need)) → m.new ≡ m.old }
-        ensures causes { Causes M.Machine (resident self.old) (state self.old) (state self.new) m.old m.new result }
-        ensures behind { OnOk result (M.honest m.new → IsBehindForce (state self.old) (state self.new) (resident self.old) (resident self.new) (M.now m.new)) }
-        ensures still { IsFalse (forces_for_place (state self.old) need) → self.new ≡ self.old }
+        ensures writes { WritesWithin M.Machine (force_writes (state self.old).layout) (place_len (state self.old) need) m.old m.new result }
+        ensures tells { TellsBehind M.Machine (place_steps (state self.old) need) self.old self.new m.old m.new result }
         ensures done { M.honest m.new → (k : Known) → Stands state IsMemoryOf self.old k (M.now m.old) → EndsPlace need k self.new (M.now m.new) result }
     {
         self.attest();

@@ -1,21 +1,18 @@
 //! The making of versions.
-ghost use Rattle.std.specs.Prelude.{◌≡◌, ◌≤◌, ◌<◌, ◌+◌, ◌^◌, ◌||◌, IfErr, IsTrue, MatchResult, None, OnOk, Some, length};
-ghost use Rattle.volume_layout.specs.Layout.{is_data};
+ghost use Rattle.std.specs.Prelude.{◌≡◌, ◌≤◌, ◌<◌, ◌+◌, ◌^◌, ◌||◌, IfErr, IsTrue, MatchResult, None, Some, length};
 ghost use Rattle.run_table.specs.RunTable.{sectors_of};
 ghost use Rattle.run_table.specs.Space.{contains};
 ghost use Rattle.sector_disk.specs.Calls.{WritesDisk, device_in};
-ghost use Rattle.sector_disk.specs.Image.{open_damage};
 ghost use Rattle.sector_set.specs.Area.{AreIn};
 ghost use Rattle.fsd_formats.specs.NamePage.{is_entry, max_length, sectors_for};
 ghost use Rattle.fsd_bytes.specs.Keys.{is_key};
-ghost use Rattle.fsd_files.specs.Answers.{HasVersion, keep_given, size_fault};
-ghost use Rattle.version_data.specs.Writing.{WritesIn};
+ghost use Rattle.fsd_files.specs.Answers.{keep_given, size_fault};
 ghost use Rattle.volume_contract.specs.Ends.{device_of};
 ghost use Rattle.volume_contract.specs.Order.{Follows, IsDeviceIn};
-ghost use Rattle.volume_contract.specs.State.{Counted, Known, Leaves, Stands, is_worn};
-ghost use Rattle.volume_laws.specs.Placing.{IsPlace, drawn_known, drawn_volume, test_steps};
+ghost use Rattle.volume_contract.specs.State.{Leaves, WritesWithin, is_worn};
+ghost use Rattle.volume_laws.specs.Placing.{IsPlace, drawn_volume, test_steps};
 ghost use Rattle.volume_laws.specs.State.{IsMemoryOf, state};
-ghost use Rattle.fsd_files.specs.Disk.{Touches};
+ghost use Rattle.table_volume.specs.Puts.{WritesVersion};
 
 use crate::Volume;
 use fsd_bytes::{FileName, Key, Refusal};
@@ -114,12 +111,9 @@ impl Volume {
         requires serials { self.old.serial.count + 1 < 2 ^ 32 }
         ensures place { IfErr result (IsDeviceIn (contains (sectors_of draft.now.runs))) }
         ensures disk { WritesDisk M.Machine (device_in device_of result) (Leaves state IsMemoryOf self.old (contains (sectors_of draft.now.runs))) m.old m.new }
-        ensures rest { M.honest m.new → Touches (contains (sectors_of draft.now.runs)) (M.now m.old) (M.now m.new) }
-        ensures within { M.honest m.new → WritesIn (is_data self.old.layout) (M.now m.old) (M.now m.new) }
-        ensures counted { M.tells m.new → Counted result (sectors_for (length bytes.now)) (M.ledger m.old) (M.ledger m.new) }
+        ensures writes { WritesWithin M.Machine (contains (sectors_of draft.now.runs)) (sectors_for (length bytes.now)) m.old m.new result }
         ensures volume { self.new ≡ drawn_volume self.old }
-        ensures stands { M.honest m.new → (k : Known) → Stands state IsMemoryOf self.old k (M.now m.old) → Stands state IsMemoryOf self.new (drawn_known k) (M.now m.new) }
-        ensures done { OnOk result (M.honest m.new → HasVersion (open_damage (M.now m.new).windows) (M.now m.new).image bytes.now draft.now) }
+        ensures done { M.honest m.new → WritesVersion self.old self.new draft.now bytes.now (M.now m.old) (M.now m.new) result }
     {
         self.attest();
         self.draw();

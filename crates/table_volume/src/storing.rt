@@ -1,19 +1,16 @@
 //! What a put does before it looks its name up.
-ghost use Rattle.std.specs.Prelude.{◌≡◌, ◌≤◌, ◌<◌, ◌+◌, ◌^◌, ◌∷◌, [], ℕ, IfOk, IsFalse, IsTrue, None, OnOk, length};
-ghost use Rattle.run_table.specs.Space.{contains};
+ghost use Rattle.std.specs.Prelude.{◌≡◌, ◌≤◌, ◌<◌, ◌+◌, ◌^◌, ◌∷◌, [], None, length};
 ghost use Rattle.sector_disk.specs.Calls.{WritesDisk, device_in};
-ghost use Rattle.fsd_formats.specs.NamePage.{is_entry, max_length, sectors_for};
-ghost use Rattle.volume_contract.specs.Causes.{Causes};
-ghost use Rattle.volume_contract.specs.Ends.{device_of};
-ghost use Rattle.volume_contract.specs.Order.{by_itself, is_idle};
+ghost use Rattle.fsd_formats.specs.NamePage.{max_length, sectors_for};
 ghost use Rattle.fsd_sound.specs.Writes.{force_writes};
-ghost use Rattle.volume_contract.specs.State.{Counted, Known, Leaves, Stands, change_len, forces_first, forces_for_place, put_len, put_writes};
-ghost use Rattle.volume_contract.specs.Behind.{IsBehindForce};
-ghost use Rattle.table_pages.specs.Bringing.{KeepsContent};
-ghost use Rattle.volume_laws.specs.Placing.{EndsStore, IsPlace, Stores, store_len, store_steps};
-ghost use Rattle.volume_laws.specs.Preparing.{EndsForced, EndsPrepare, ForcesByItself, Prepares, prepare_steps};
-ghost use Rattle.volume_laws.specs.State.{IsMemoryOf, resident, state};
-ghost use Rattle.fsd_files.specs.Disk.{Touches};
+ghost use Rattle.volume_contract.specs.Ends.{device_of};
+ghost use Rattle.volume_contract.specs.Order.{by_itself};
+ghost use Rattle.volume_contract.specs.State.{Known, Leaves, Stands, WritesWithin, change_len, forces_first, put_len, put_writes};
+ghost use Rattle.volume_laws.specs.Placing.{EndsStore, store_len, store_steps};
+ghost use Rattle.volume_laws.specs.Preparing.{EndsForced, EndsPrepare, prepare_steps};
+ghost use Rattle.volume_laws.specs.State.{IsMemoryOf, state};
+ghost use Rattle.table_volume.specs.Forces.{ForcesFirst, TellsBehind};
+ghost use Rattle.table_volume.specs.Puts.{PreparesVersion, StoresVersion};
 
 use crate::Volume;
 use fsd_bytes::{FileName, Refusal};
@@ -35,17 +32,10 @@ impl Volume {
         requires most { length bytes.now ≤ max_length }
         requires up { self.old.down ≡ None }
         requires serials { self.old.serial.count + 1 < 2 ^ 32 }
-        ensures stores { Stores (sectors_for (length bytes.now)) (state self.old) (state self.new) result }
+        ensures keeps { StoresVersion (length bytes.now) self.old self.new result }
         ensures disk { WritesDisk M.Machine (device_in device_of result) (Leaves state IsMemoryOf self.old (put_writes (state self.old) (sectors_for (length bytes.now)))) m.old m.new }
-        ensures rest { M.honest m.new → Touches (put_writes (state self.old) (sectors_for (length bytes.now))) (M.now m.old) (M.now m.new) }
-        ensures counted { M.tells m.new → Counted result (store_len (state self.old) (sectors_for (length bytes.now))) (M.ledger m.old) (M.ledger m.new) }
-        ensures idle { IsTrue (is_idle (store_steps (state self.old) (sectors_for (length bytes.now)))) → m.new ≡ m.old }
-        ensures causes { Causes M.Machine (resident self.old) (state self.old) (state self.new) m.old m.new result }
-        ensures behind { OnOk result (M.honest m.new → IsBehindForce (state self.old) (state self.new) (resident self.old) (resident self.new) (M.now m.new)) }
-        ensures still { IsFalse (forces_for_place (state self.old) (sectors_for (length bytes.now))) → resident self.new ≡ resident self.old }
-        ensures place { IfOk result (λ e. IsPlace self.new.map (sectors_for (length bytes.now)) e.runs) }
-        ensures good { IfOk result (λ e. IsTrue (is_entry e)) }
-        ensures length { IfOk result (λ e. e.length ≡ length bytes.now) }
+        ensures writes { WritesWithin M.Machine (put_writes (state self.old) (sectors_for (length bytes.now))) (store_len (state self.old) (sectors_for (length bytes.now))) m.old m.new result }
+        ensures tells { TellsBehind M.Machine (store_steps (state self.old) (sectors_for (length bytes.now))) self.old self.new m.old m.new result }
         ensures done { M.honest m.new → (k : Known) → Stands state IsMemoryOf self.old k (M.now m.old) → EndsStore (sectors_for (length bytes.now)) bytes.now k self.new (M.now m.new) result }
     {
         let length = bytes.len() as u32;
@@ -66,17 +56,10 @@ impl Volume {
     pub(crate) fn force_first<M: Machine>(&mut self, m: &mut M) -> Result<(), Refusal>
         requires room { (state self.old).layout.sectors ≤ (M.report m.old).sectors }
         requires up { self.old.down ≡ None }
-        ensures forces { ForcesByItself (state self.old) (state self.new) result }
+        ensures keeps { ForcesFirst self.old self.new result }
         ensures disk { WritesDisk M.Machine (device_in device_of result) (Leaves state IsMemoryOf self.old (force_writes (state self.old).layout)) m.old m.new }
-        ensures rest { M.honest m.new → Touches (force_writes (state self.old).layout) (M.now m.old) (M.now m.new) }
-        ensures counted { M.tells m.new → Counted result (change_len (state self.old)) (M.ledger m.old) (M.ledger m.new) }
-        ensures idle { IsTrue (is_idle (by_itself (state self.old) ∷ [])) → m.new ≡ m.old }
-        ensures causes { Causes M.Machine (resident self.old) (state self.old) (state self.new) m.old m.new result }
-        ensures behind { OnOk result (M.honest m.new → IsBehindForce (state self.old) (state self.new) (resident self.old) (resident self.new) (M.now m.new)) }
-        ensures still { IsFalse (forces_first (state self.old)) → self.new ≡ self.old }
-        ensures few { OnOk result (length self.new.cache.dirty ≤ 56) }
-        ensures free { OnOk result ((s : ℕ) → IsTrue (contains self.old.map.sectors s) → IsTrue (contains self.new.map.sectors s)) }
-        ensures resident { OnOk result (KeepsContent self.old.cache self.new.cache) }
+        ensures writes { WritesWithin M.Machine (force_writes (state self.old).layout) (change_len (state self.old)) m.old m.new result }
+        ensures tells { TellsBehind M.Machine (by_itself (state self.old) ∷ []) self.old self.new m.old m.new result }
         ensures done { M.honest m.new → (k : Known) → Stands state IsMemoryOf self.old k (M.now m.old) → EndsForced k self.new (M.now m.new) result }
     {
         self.attest();
@@ -101,17 +84,10 @@ impl Volume {
         requires most { length bytes.now ≤ max_length }
         requires up { self.old.down ≡ None }
         requires serials { self.old.serial.count + 1 < 2 ^ 32 }
-        ensures prepares { Prepares (sectors_for (length bytes.now)) (state self.old) (state self.new) result }
+        ensures keeps { PreparesVersion (length bytes.now) self.old self.new result }
         ensures disk { WritesDisk M.Machine (device_in device_of result) (Leaves state IsMemoryOf self.old (put_writes (state self.old) (sectors_for (length bytes.now)))) m.old m.new }
-        ensures rest { M.honest m.new → Touches (put_writes (state self.old) (sectors_for (length bytes.now))) (M.now m.old) (M.now m.new) }
-        ensures counted { M.tells m.new → Counted result (put_len (state self.old) (sectors_for (length bytes.now))) (M.ledger m.old) (M.ledger m.new) }
-        ensures idle { IsTrue (is_idle (prepare_steps (state self.old) (sectors_for (length bytes.now)))) → m.new ≡ m.old }
-        ensures causes { Causes M.Machine (resident self.old) (state self.old) (state self.new) m.old m.new result }
-        ensures behind { OnOk result (M.honest m.new → IsBehindForce (state self.old) (state self.new) (resident self.old) (resident self.new) (M.now m.new)) }
-        ensures few { OnOk result (length self.new.cache.dirty ≤ 56) }
-        ensures place { IfOk result (λ e. IsPlace self.new.map (sectors_for (length bytes.now)) e.runs) }
-        ensures good { IfOk result (λ e. IsTrue (is_entry e)) }
-        ensures length { IfOk result (λ e. e.length ≡ length bytes.now) }
+        ensures writes { WritesWithin M.Machine (put_writes (state self.old) (sectors_for (length bytes.now))) (put_len (state self.old) (sectors_for (length bytes.now))) m.old m.new result }
+        ensures tells { TellsBehind M.Machine (prepare_steps (state self.old) (sectors_for (length bytes.now))) self.old self.new m.old m.new result }
         ensures done { M.honest m.new → (k : Known) → Stands state IsMemoryOf self.old k (M.now m.old) → EndsPrepare (sectors_for (length bytes.now)) bytes.now k self.new (M.now m.new) result }
     {
         let draft = self.stored(m, name, bytes)?;

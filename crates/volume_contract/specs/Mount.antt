@@ -6,7 +6,7 @@ use Rattle.fsd_formats.specs.declared.anchor.Anchor.{Anchor}
 use Rattle.fsd_formats.specs.Anchors.{anchor_bytes}
 use Rattle.sector_disk.specs.declared.machine.Machine.{Ghosts}
 use Rattle.sector_disk.specs.declared.sector.WeakRun.{WeakRun}
-use Rattle.sector_disk.specs.Image.{IsWorn, in_run, open_damage}
+use Rattle.sector_disk.specs.Image.{IsWorn, in_weak_run, open_damage}
 use Rattle.sector_disk.specs.Machine.{Ledger, Moment, Wears}
 use Rattle.fsd_log.specs.Scan.{Placed}
 use Rattle.fsd_table.specs.Breaks.{Breaks}
@@ -170,7 +170,7 @@ pub record SoundSince (l : Layout) (windows : List WeakRun) (run : WeakRun) (h :
   pub settled : left.windows ≡ record { present = Some run; next = None }
   pub said : left.said ≡ old.said
   pub sound : IsSound l (windows ++ run ∷ []) (take n h) n left.image
-  pub writes : WritesAsMount l (λ s. weak_of windows s || in_run run s) old left
+  pub writes : WritesAsMount l (λ s. weak_of windows s || in_weak_run run s) old left
 
 -- A moment of a mount that settled at this time: one up to it, or one since, with all that the mount wrote on the disk.
 abbrev pub SoundAbout : (at : ℕ) (l : Layout) (windows : List WeakRun) (run : WeakRun) (h : List Change) (f n : ℕ) (old left : Moment) → Type 0

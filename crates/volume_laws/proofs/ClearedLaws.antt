@@ -1,5 +1,6 @@
 -- A mounted volume without its unfinished creations, and with them again where sectors of theirs are written.
 use Rattle.std.proofs.Common.{◌≡◌, ℕ, Bool, true, false, not, ◌&&◌, ◌||◌, List, [], ◌++◌, map, refl, sym, ap, subst, ◌∙◌, arith}
+use Rattle.std.proofs.Math.Bool.{or-true, or-false}
 use Rattle.std.specs.List.{flat_map}
 use Rattle.std.proofs.lemmas.Bool.{false_from_ne_true, or_from, or_parts}
 use Rattle.run_table.specs.declared.run.Run.{Run}
@@ -67,19 +68,11 @@ module _ (m : Mounted) (o : OpenParts) (windows : List WeakRun) (h : List Change
   pub free_cleared : (s : ℕ) → is_free left s ≡ (is_free was s || is_in was.drafts s)
   free_cleared s = tests (is_data m.volume.layout s) (in_version m.volume s) (contains m.volume.removed s) (is_in was.held s) (is_in was.drafts s) (draft_parts s)
     where
-      or_true : (y : Bool) → (y || true) ≡ true
-      or_true true = refl
-      or_true false = refl
-
-      or_no : (y : Bool) → (y || false) ≡ y
-      or_no true = refl
-      or_no false = refl
-
       tests : (a b r c d : Bool) → (d ≡ true → (a ≡ true) × (b ≡ false) × (r ≡ false) × (c ≡ false)) → (a && not b && not (not b && (r || c || false))) ≡ ((a && not b && not (not b && (r || c || d))) || d)
       tests a b r c true so =
           let p = so refl in
-          (λ i. p.0 i && not (p.1 i) && not (not (p.1 i) && (p.2 i || p.3 i || false))) ∙ sym (or_true (a && not b && not (not b && (r || c || true))))
-      tests a b r c false so = sym (or_no (a && not b && not (not b && (r || c || false))))
+          (λ i. p.0 i && not (p.1 i) && not (not (p.1 i) && (p.2 i || p.3 i || false))) ∙ sym (or-true (a && not b && not (not b && (r || c || true))))
+      tests a b r c false so = sym (or-false (a && not b && not (not b && (r || c || false))))
 
   pub mounted_cleared : IsMounted (reopen m (no_drafts o)) windows h f i
   mounted_cleared = reopened m o (no_drafts o) windows h f i is spaced_cleared (record { drafts = tt; held = is.open_ones.held }) (λ s out.

@@ -7,7 +7,7 @@ use Rattle.sector_disk.specs.Image.{AreShort, open_damage}
 use Rattle.run_table.specs.declared.run.Run.{Run}
 use Rattle.run_table.specs.RunTable.{sectors_of}
 use Rattle.run_table.specs.Space.{contains}
-use Rattle.sector_set.specs.Area.{Area, AreIn, AreOut, area, together, without}
+use Rattle.sector_set.specs.Area.{Area, AreIn, AreOut, area, together, without_sectors}
 use Rattle.sector_set.proofs.FreeLaws.{where_same}
 use Rattle.shadow_frees.specs.Waits.{Waits}
 use Rattle.fsd_formats.specs.declared.entry.Entry.{Entry}
@@ -41,7 +41,7 @@ module _ (v : VolumeValue) (whole : IsWholeVolume v) (runs : List Run) (are : Ar
       (λ s there. or_right (contains v.shadow.removed.sectors s) (contains v.shadow.kept.sectors s || contains v.shadow.unfinished.sectors s) (or_right (contains v.shadow.kept.sectors s) (contains v.shadow.unfinished.sectors s) there))
 
   -- once its sectors are taken there, as many are free as before
-  pub map_back : v.map ≡ without (together v.map runs) runs
+  pub map_back : v.map ≡ without_sectors (together v.map runs) runs
   map_back = own ∙ (λ i. record { from = v.map.from; to = v.map.to; sectors = where_same (contains v.map.sectors) (λ s. contains (together v.map runs).sectors s && not (contains (sectors_of runs) s)) v.map.from v.map.to same i })
     where
       own : v.map ≡ area v.map.from v.map.to (contains v.map.sectors)
@@ -74,7 +74,7 @@ module _ (v : VolumeValue) (whole : IsWholeVolume v) (runs : List Run) (are : Ar
     differ = out.differ;
   }
 
-  idle_back : (rs : List Run) → AreOut v.shadow.unfinished rs → AreOut (without v.shadow.unfinished runs) rs
+  idle_back : (rs : List Run) → AreOut v.shadow.unfinished rs → AreOut (without_sectors v.shadow.unfinished runs) rs
   idle_back rs idle = record {
     within = idle.within;
     outside = λ s here. unfinished_left v whole runs are s ∙ ap (λ (b : Bool). b && not (contains (sectors_of runs) s)) (idle.outside s here);
@@ -93,7 +93,7 @@ module _ (v : VolumeValue) (whole : IsWholeVolume v) (runs : List Run) (are : Ar
 
 module _ (v w : VolumeValue) (is : v ≡ w) (whole : IsWholeVolume v) (c : CacheValue) (flags : List Bool) (edited : IsWholeVolume (record v { cache = c; free_pages = flags })) (runs : List Run) (are : AreIn v.shadow.unfinished runs)
     (gone : List Leaving) (turn : AreInTurn v.map v.shadow [] gone) (b : Bool) (dry : c.dirty ≡ [] → b ≡ false) (shadow : Waits) (versions : ℕ)
-    (removed : shadow.removed ≡ with_if b v.shadow.removed gone) (kept : shadow.kept ≡ v.shadow.kept) (unfinished : shadow.unfinished ≡ without v.shadow.unfinished runs) (held : shadow.held ≡ v.shadow.held) where
+    (removed : shadow.removed ≡ with_if b v.shadow.removed gone) (kept : shadow.kept ≡ v.shadow.kept) (unfinished : shadow.unfinished ≡ without_sectors v.shadow.unfinished runs) (held : shadow.held ≡ v.shadow.held) where
   abbrev ghost : VolumeValue
   ghost = abandoned v runs
 
@@ -147,7 +147,7 @@ module _ {D : Type 0} (M : MachineGhosts D) (short : (m : D) → M.honest m → 
     (place : IsPlace v.shadow.unfinished (sectors_for draft.length) draft.runs) (honest : M.honest m') (k : Known) (stands : Stands state IsMemoryOf w k (M.now m)) (before : List (Option (List ℕ))) (there : slices_in k.opened.drafts draft.runs ≡ Some before)
     (bytes : List ℕ) (long : draft.length ≡ length bytes) (written : HasVersion (open_damage (M.now m').windows) (M.now m').image bytes draft)
     (shadow : Waits) (versions : ℕ) (counts : versions ≡ min (v.versions - length plan.gone.items + 1) 4294967295) (none : Bool) (is_none : none ≡ (length c.dirty == 0)) (removed : shadow.removed ≡ with_if (not none) v.shadow.removed plan.gone.items)
-    (kept : shadow.kept ≡ v.shadow.kept) (unfinished : shadow.unfinished ≡ without v.shadow.unfinished draft.runs) (held : shadow.held ≡ v.shadow.held)
+    (kept : shadow.kept ≡ v.shadow.kept) (unfinished : shadow.unfinished ≡ without_sectors v.shadow.unfinished draft.runs) (held : shadow.held ≡ v.shadow.held)
     (made_whole : IsWholeVolume (record v { shadow = shadow; cache = c; free_pages = flags; versions = versions })) where
   here : Stands state IsMemoryOf (abandoned v draft.runs) (with_opened k (ended k.opened draft.runs)) (M.now m)
   here = stands_abandoned v whole draft.runs place.free k (M.now m) before there (subst (λ (x : VolumeValue). Stands state IsMemoryOf x k (M.now m)) (sym is) stands)

@@ -21,8 +21,9 @@ use Rattle.version_table.specs.declared.fault.VersionFault.TheVariants.{Table, N
 use Rattle.version_table.specs.Fault.{outside_in, outer_met}
 use Rattle.volume_contract.specs.Causes.{AreSomeCopies, Causes, HasCallCause}
 use Rattle.volume_contract.specs.Ends.{device_of}
-use Rattle.volume_contract.specs.Order.{Comes, Follows, IsFetch, IsLookUp}
+use Rattle.volume_contract.specs.Order.{Comes, Follows}
 use Rattle.volume_contract.specs.State.{State}
+use Rattle.volume_contract.proofs.OrderLaws.{fetch_looks}
 use Rattle.cached_table.specs.Editing.{EditsOnly, StaysInCache}
 use Rattle.volume_laws.specs.Ending.{Edits, GivesUp, IsEdited, edit_refusal, edit_steps, kept_told, look_steps, version_refusal}
 use Rattle.run_table.specs.declared.run.Run.{Run}
@@ -188,12 +189,8 @@ module _ (v w : VolumeValue) (is : v ≡ w) (c : CacheValue) (flags : List Bool)
 pub state_looked : (v w : VolumeValue) → w ≡ record v { cache = w.cache } → w.cache.dirty ≡ v.cache.dirty → state w ≡ state v
 state_looked v w is dirty = ap state is ∙ (λ i. record (state v) { dirty = dirty i })
 
-looks : (why : Refusal) → IsFetch why → IsLookUp why
-looks (Why.Unsound s) fetch = tt
-looks why fetch = fetch
-
 comes_looked : (why : Refusal) → Comes edit_steps why → Comes look_steps why
-comes_looked why (inl fetch) = inl (looks why fetch)
+comes_looked why (inl fetch) = inl (fetch_looks why fetch)
 comes_looked why (inr asks) = inr asks
 
 pub follows_looked : {T : Type 0} (r : Result T Refusal) → Follows edit_steps r → Follows look_steps r

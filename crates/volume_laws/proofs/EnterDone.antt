@@ -12,8 +12,8 @@ use Rattle.fsd_bytes.specs.Keys.{is_key, max_u32}
 use Rattle.fsd_bytes.specs.declared.key.Key.{Key}
 use Rattle.run_table.specs.RunTable.{are_runs, sectors_of, total}
 use Rattle.run_table.specs.Space.{all_differ, contains, where_free}
-use Rattle.run_table.proofs.SectorLaws.{length_of_sectors}
-use Rattle.sector_set.specs.Area.{Area, without}
+use Rattle.run_table.proofs.SectorLaws.{length_of_sectors, all_in}
+use Rattle.sector_set.specs.Area.{Area, without_sectors}
 use Rattle.sector_set.proofs.CountLaws.{count_of_list, split_where}
 use Rattle.shadow_frees.specs.Waits.{Waits}
 use Rattle.fsd_formats.specs.declared.entry.Entry.{Entry}
@@ -44,7 +44,6 @@ use Rattle.volume_laws.proofs.EnterEnds.{none_bars, of_entries}
 use Rattle.volume_laws.proofs.EnteredLaws.{after, ascend, count_entered, entries_made, entry_entered, known_entered, some_waits, sorted, stands_entered}
 use Rattle.volume_laws.proofs.MadeLaws.{has_table, pages_made, pages_now}
 use Rattle.volume_laws.proofs.MakingLaws.{with_if}
-use Rattle.volume_laws.proofs.TakenLaws.{all_of}
 use Rattle.volume_laws.proofs.FlagLaws.{all_pass}
 
 -- ---- no more versions than sectors
@@ -65,7 +64,7 @@ few_entries l es apart good =
     let all : List ℕ = flat_map sectors_of (plans_of es) in
     let parts = and_parts (all_differ all) (list_all (is_data l) all) apart in
     let count = count_of_list all (data_start l) l.sectors parts.0 (λ s there.
-    let area = and_parts (nat_le (data_start l) s) (nat_lt s l.sectors) (all_of (is_data l) all parts.1 s there) in (leb-true (data_start l) s area.0, ltb-true s l.sectors area.1)) in
+    let area = and_parts (nat_le (data_start l) s) (nat_lt s l.sectors) (all_in (is_data l) all s parts.1 there) in (leb-true (data_start l) s area.0, ltb-true s l.sectors area.1)) in
     let split : length (where_free (λ s. true) (data_start l) l.sectors) ≡ length (where_free (contains all) (data_start l) l.sectors) + length (where_free (λ s. not (contains all s)) (data_start l) l.sectors) =
     split_where (λ s. true) (contains all) (data_start l) l.sectors in
     let whole : length (where_free (λ s. true) (data_start l) l.sectors) ≡ l.sectors - data_start l = ap length (all_pass _) ∙ length-range_with_len (data_start l) (l.sectors - data_start l) in
@@ -156,7 +155,7 @@ module _ {D : Type 0} (M : MachineGhosts D) (short : (m : D) → M.honest m → 
         found_some _ (volume_of known).entries _ (entry_entered M short m m' v whole cached c flags edits_here honest k here few within name bytes given draft plan plan_here long makes_here place_here written),
       )
 
-  module _ (free : Area) (shadow : Waits) (versions : ℕ) (counts : versions ≡ min (v.versions - length plan.gone.items + 1) 4294967295) (taken : free ≡ without v.map draft.runs)
+  module _ (free : Area) (shadow : Waits) (versions : ℕ) (counts : versions ≡ min (v.versions - length plan.gone.items + 1) 4294967295) (taken : free ≡ without_sectors v.map draft.runs)
       (none : Bool) (is_none : none ≡ (length c.dirty == 0)) (removed : shadow.removed ≡ with_if (not none) v.shadow.removed plan.gone.items)
       (kept : shadow.kept ≡ v.shadow.kept) (unfinished : shadow.unfinished ≡ v.shadow.unfinished) (held : shadow.held ≡ v.shadow.held) where
     goes : shadow.removed ≡ with_gone v.shadow.removed plan.gone.items

@@ -14,7 +14,7 @@ use Rattle.fsd_bytes.specs.Keys.{key_cmp, same_key}
 use Rattle.run_table.specs.declared.run.Run.{Run}
 use Rattle.run_table.specs.RunTable.{sectors_of}
 use Rattle.run_table.specs.Space.{contains}
-use Rattle.sector_set.specs.Area.{Area, without}
+use Rattle.sector_set.specs.Area.{Area, without_sectors}
 use Rattle.sector_set.proofs.FreeLaws.{contains_where, contains_where_outside}
 use Rattle.shadow_frees.specs.Waits.{Waits}
 use Rattle.fsd_formats.specs.declared.entry.Entry.{Entry}
@@ -59,7 +59,7 @@ use Rattle.volume_laws.proofs.TableLaws.{is_tree}
 
 -- the free sectors without those that are taken
 taken_map : (l : Layout) (map : Area) (v : Volume) (runs : List Run) → IsOfData l map → ((s : ℕ) → contains map.sectors s ≡ is_free v s)
-    → (s : ℕ) → contains (without map runs).sectors s ≡ (is_free v s && not (contains (sectors_of runs) s))
+    → (s : ℕ) → contains (without_sectors map runs).sectors s ≡ (is_free v s && not (contains (sectors_of runs) s))
 taken_map l map v runs of_data is s =
     elim (cases_lt s map.from) [
       | inl low ↦ outside (λ from to. absurd (omega (arith, low, from)))
@@ -72,7 +72,7 @@ taken_map l map v runs of_data is s =
     left : ℕ → Bool
     left t = contains map.sectors t && not (contains (sectors_of runs) t)
 
-    outside : (map.from ≤ s → s < map.to → ⊥) → contains (without map runs).sectors s ≡ (is_free v s && not (contains (sectors_of runs) s))
+    outside : (map.from ≤ s → s < map.to → ⊥) → contains (without_sectors map runs).sectors s ≡ (is_free v s && not (contains (sectors_of runs) s))
     outside far =
         let none : contains map.sectors s ≡ false =
         ap (λ (m : Area). contains m.sectors s) of_data
@@ -202,7 +202,7 @@ module _ {D : Type 0} (M : MachineGhosts D) (short : (m : D) → M.honest m → 
       ap (λ (x : Key). entry_of x (volume_of k).entries) (keys_agree name (volume_of k).files (volume_of k).entries lists) ∙ next_is_new name (volume_of k).entries ascend in
       absurd (let both : None ≡ Some (new_entry (volume_of k) name bytes given draft.runs draft.serial) = sym fresh ∙ ap (entry_of (new_key name (volume_of k).files)) entries ∙ entry_entered in cc both)
 
-  module _ (free : Area) (waits : Waits) (versions : ℕ) (count : versions + length plan.gone.items ≡ v.versions + 1) (taken : free ≡ without v.map draft.runs) (goes : waits.removed ≡ with_gone v.shadow.removed plan.gone.items)
+  module _ (free : Area) (waits : Waits) (versions : ℕ) (count : versions + length plan.gone.items ≡ v.versions + 1) (taken : free ≡ without_sectors v.map draft.runs) (goes : waits.removed ≡ with_gone v.shadow.removed plan.gone.items)
       (kept : waits.kept ≡ v.shadow.kept) (unfinished : waits.unfinished ≡ v.shadow.unfinished) (held : waits.held ≡ v.shadow.held) where
     abbrev pub entered : VolumeValue
     entered = record v { map = free; shadow = waits; cache = c; free_pages = flags; versions = versions }

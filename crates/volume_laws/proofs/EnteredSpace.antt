@@ -4,7 +4,7 @@ use Rattle.std.specs.Prelude.{IsTrue, nat_le, nat_lt, ◌==◌}
 use Rattle.std.specs.List.{flat_map, list_any}
 use Rattle.std.specs.declared.cmp.Ordering.TheVariants.{Less, Equal, Greater}
 use Rattle.std.specs.FinMap.Entries.{by_order}
-use Rattle.std.proofs.Math.Bool.{or_comm}
+use Rattle.std.proofs.Math.Bool.{or_comm, or-false, or_assoc}
 use Rattle.std.proofs.lemmas.Bool.{and_parts, cases_lt, false_from_ne_true, leb-true, ltb-true, or_left}
 use Rattle.std.proofs.lemmas.Cmp.{tied_itself}
 use Rattle.std.proofs.lemmas.List.Folds.{list_any-append}
@@ -35,14 +35,6 @@ use Rattle.cached_table.specs.Surveying.{IsOfData}
 use Rattle.volume_laws.proofs.DeleteLaws.{split_count}
 use Rattle.volume_laws.proofs.GoneLaws.{split_in}
 
-or_none : (a : Bool) → (a || false) ≡ a
-or_none true = refl
-or_none false = refl
-
-or_three : (a b c : Bool) → (a || (b || c)) ≡ ((a || b) || c)
-or_three true b c = refl
-or_three false b c = refl
-
 pub in_first : (s : ℕ) (x : Entry) (xs : List Entry) → is_in (plans_of (x ∷ xs)) s ≡ (contains (sectors_of x.runs) s || is_in (plans_of xs) s)
 in_first s x xs = list_any-append (λ t. t == s) (sectors_of x.runs) (flat_map sectors_of (plans_of xs))
 
@@ -57,7 +49,7 @@ module _ (out : List Key) (e : Entry) (stays : list_any (same_key e.key) out ≡
 
   -- its sectors are taken beside those of the others
   in_put : (s : ℕ) (xs : List Entry) → IsAbsent e.key xs → is_in (plans_of (left_of (entry_put e xs))) s ≡ (is_in (plans_of (left_of xs)) s || contains (sectors_of e.runs) s)
-  in_put s [] absent = ap (λ (ys : List Entry). is_in (plans_of ys) s) (left_first []) ∙ in_first s e [] ∙ or_none (contains (sectors_of e.runs) s)
+  in_put s [] absent = ap (λ (ys : List Entry). is_in (plans_of ys) s) (left_first []) ∙ in_first s e [] ∙ or-false (contains (sectors_of e.runs) s)
   in_put s (z ∷ xs) absent = by (key_cmp e.key z.key) absent.0 (in_put s xs absent.1)
     where
       r : Bool
@@ -67,7 +59,7 @@ module _ (out : List Key) (e : Entry) (stays : list_any (same_key e.key) out ≡
           → is_in (plans_of (cond b (z ∷ left_of (entry_put e xs)) (left_of (entry_put e xs)))) s ≡ (is_in (plans_of (cond b (z ∷ left_of xs) (left_of xs))) s || r)
       behind true rest =
           in_first s z (left_of (entry_put e xs)) ∙ ap (λ (x : Bool). contains (sectors_of z.runs) s || x) rest
-          ∙ or_three (contains (sectors_of z.runs) s) (is_in (plans_of (left_of xs)) s) r ∙ ap (λ (x : Bool). x || r) (sym (in_first s z (left_of xs)))
+          ∙ sym (or_assoc (contains (sectors_of z.runs) s) (is_in (plans_of (left_of xs)) s) r) ∙ ap (λ (x : Bool). x || r) (sym (in_first s z (left_of xs)))
       behind false rest = rest
 
       by : (o : Ordering) → (o ≡ Equal → ⊥) → is_in (plans_of (left_of (entry_put e xs))) s ≡ (is_in (plans_of (left_of xs)) s || r)
@@ -114,11 +106,11 @@ module _ (out : List Key) (e : Entry) (stays : list_any (same_key e.key) out ≡
 -- ---- what goes waits
 
 pub gone_at : (a : Area) (gs : List Leaving) (s : ℕ) → a.from ≤ s → s < a.to → contains (with_gone a gs).sectors s ≡ (contains a.sectors s || is_in (plans_of (entries_left gs)) s)
-gone_at a [] s low high = sym (or_none (contains a.sectors s))
+gone_at a [] s low high = sym (or-false (contains a.sectors s))
 gone_at a (g ∷ gs) s low high =
     gone_at (together a g.entry.runs) gs s low high
     ∙ ap (λ (b : Bool). b || is_in (plans_of (entries_left gs)) s) (contains_where (λ t. contains a.sectors t || contains (sectors_of g.entry.runs) t) a.from a.to s low high)
-    ∙ sym (or_three (contains a.sectors s) (contains (sectors_of g.entry.runs) s) (is_in (plans_of (entries_left gs)) s))
+    ∙ or_assoc (contains a.sectors s) (contains (sectors_of g.entry.runs) s) (is_in (plans_of (entries_left gs)) s)
     ∙ ap (λ (b : Bool). contains a.sectors s || b) (sym (in_first s g.entry (entries_left gs)))
 
 gone_outside : (a : Area) (gs : List Leaving) (s : ℕ) → (a.from ≤ s → s < a.to → ⊥) → contains a.sectors s ≡ false → contains (with_gone a gs).sectors s ≡ false

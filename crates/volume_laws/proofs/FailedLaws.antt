@@ -1,6 +1,6 @@
 -- What a force that fails has written, and what it has lost.
 use Rattle.std.proofs.Common.{◌≡◌, ℕ, ◌+◌, ◌*◌, ◌<◌, ◌≤◌, Bool, true, false, cond, not, ◌||◌, ◌&&◌, nat_le, nat_lt, length, inl, refl, sym, ap, subst, ◌∙◌, arith}
-use Rattle.std.specs.Prelude.{None, Result, Ok, Err, IsErrAnd, slice_index_or}
+use Rattle.std.specs.Prelude.{None, slice_index_or}
 use Rattle.volume_layout.specs.declared.layout.Layout.{Layout}
 use Rattle.volume_layout.specs.Kinds.{gap_of}
 use Rattle.fsd_bytes.specs.declared.refusal.Refusal.{Refusal}
@@ -14,7 +14,7 @@ use Rattle.log_thirds.specs.Images.{AreOfLogged, AreOfSlot}
 use Rattle.group_commit.specs.Entering.{LosesLogged}
 use Rattle.group_commit.specs.Room.{pages_in_first, sectors_before}
 use Rattle.volume_contract.specs.Causes.{AreSomeCopies, HasCallCause}
-use Rattle.volume_contract.specs.State.{Counted, State, enters_again, force_len, homed}
+use Rattle.volume_contract.specs.State.{State, enters_again, force_len, homed}
 use Rattle.volume_laws.specs.Forcing.{force_refusal}
 use Rattle.volume_laws.specs.State.{resident, state}
 use Rattle.volume_laws.specs.Volume.{IsWholeVolume, VolumeValue}
@@ -61,11 +61,6 @@ failed_none v w is whole old new most never =
     let none : sectors_before log n ≡ 0 = before_none (nat_le (log.head.at + record_len (gap_of log.layout) n) log.head.end || nat_lt log.head.end (3 * log.layout.third)) (nat_lt log.head.end (log.head.at + record_len (gap_of log.layout) n) && nat_le (3 * log.layout.third) log.head.end)
     (2 * pages_in_first log + 2) (laid_again (log.head.at + record_len (gap_of log.layout) n) log.head.end (3 * log.layout.third)) not_again in
     omega (arith, none, most.no_fewer, most.no_more)
-
--- nothing is written
-pub none_counted : {T E : Type 0} (r : Result T E) (why : E) → IsErrAnd r (λ told. told ≡ why) → (n : ℕ) (ledger : Ledger) → Counted r n ledger ledger
-none_counted (Ok x) why is n ledger = absurd is
-none_counted (Err told) why is n ledger = (omega arith, omega arith)
 
 -- ---- what is lost
 

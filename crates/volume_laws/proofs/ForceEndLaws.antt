@@ -1,5 +1,6 @@
 -- How a force ends over a volume that stands over its disk: all changes are forced, or it is down where the disk failed.
 use Rattle.std.proofs.Common.{◌≡◌, inl, inr, ℕ, ◌-◌, ◌<◌, ◌≤◌, Bool, true, false, not, ◌&&◌, ◌||◌, nat_le, nat_lt, List, [], length, option_map, Option, Some, None, Ok, Err, refl, sym, ap, subst, ◌∙◌, arith}
+use Rattle.std.proofs.Math.Bool.{and-false}
 use Rattle.std.specs.Prelude.{◌==◌, slice_index_or}
 use Rattle.std.specs.List.{list_any}
 use Rattle.std.proofs.lemmas.Bool.{cases_lt, lt-leb, le-ltb, or_left}
@@ -127,13 +128,9 @@ no_data a b s out = elim (cases_lt s a) [
   | inl before ↦ ap (λ (x : Bool). x && nat_lt s b) (lt-leb a s before)
   | inr from ↦ elim (cases_lt s b) [
     | inl within ↦ absurd (out from within)
-    | inr past ↦ ap (λ (x : Bool). nat_le a s && x) (le-ltb s b past) ∙ both (nat_le a s)
+    | inr past ↦ ap (λ (x : Bool). nat_le a s && x) (le-ltb s b past) ∙ and-false (nat_le a s)
   ]
 ]
-  where
-    both : (x : Bool) → (x && false) ≡ false
-    both true = refl
-    both false = refl
 
 -- ---- over its disk
 

@@ -1,7 +1,7 @@
 -- A volume is whole behind a force.
 use Rattle.std.proofs.Common.{◌≡◌, ◌⊎◌, inl, inr, ℕ, Bool, true, false, cond, not, ◌&&◌, ◌||◌, List, [], ◌∷◌, length, option_map, Option, Some, None, refl, sym, ap, subst, ◌∙◌}
 use Rattle.std.specs.Option.{option_map_or}
-use Rattle.std.proofs.lemmas.Bool.{and_parts, both_ways, false_from_ne_true, not-true, or_cases, or_from, or_parts}
+use Rattle.std.proofs.lemmas.Bool.{and_parts, both_ways, false_from_ne_true, not-true, or_cases, or_from, or_parts, and_right}
 use Rattle.volume_layout.specs.Layout.{data_start}
 use Rattle.run_table.specs.Space.{contains, where_free}
 use Rattle.sector_set.specs.Area.{Area, area}
@@ -114,13 +114,9 @@ module _ (v : VolumeValue) (whole : IsWholeVolume v) where
               let parts = and_parts (contains v.shadow.removed.sectors s) (not (is_held v.shadow.held s)) (free_passes v.shadow.removed.from v.shadow.removed.to (λ t. contains v.shadow.removed.sectors t && not (is_held v.shadow.held t)) s went) in
               let rest = or_parts (contains v.shadow.kept.sectors s) (contains v.shadow.unfinished.sectors s) (whole.once.removed s parts.0) in
               or_from (contains w.kept.sectors s) (contains w.unfinished.sectors s)
-              (false_from_ne_true (contains w.kept.sectors s) (λ there. both_ways (was_kept s) (or_from (contains v.shadow.kept.sectors s) _ rest.0 (both_false (contains v.shadow.removed.sectors s) (is_held v.shadow.held s) (not-true (is_held v.shadow.held s) parts.1))) (kept_passes s there)))
+              (false_from_ne_true (contains w.kept.sectors s) (λ there. both_ways (was_kept s) (or_from (contains v.shadow.kept.sectors s) _ rest.0 (and_right (contains v.shadow.removed.sectors s) (is_held v.shadow.held s) (not-true (is_held v.shadow.held s) parts.1))) (kept_passes s there)))
               (same_unfinished s ∙ rest.1)
         ])
-      where
-        both_false : (a b : Bool) → b ≡ false → (a && b) ≡ false
-        both_false true b none = none
-        both_false false b none = refl
 
     pub whole_forced : IsWholeVolume (record v { map = map; shadow = w; log = log; cache = cache })
     whole_forced = record {

@@ -5,7 +5,7 @@ use Rattle.std.proofs.lemmas.Bool.{cases_lt, and_parts, not-true}
 use Rattle.run_table.specs.declared.run.Run.{Run}
 use Rattle.run_table.specs.RunTable.{sectors_of}
 use Rattle.run_table.specs.Space.{contains, where_free}
-use Rattle.sector_set.specs.Area.{Area, AreIn, AreOut, IsOwn, together, without}
+use Rattle.sector_set.specs.Area.{Area, AreIn, AreOut, IsOwn, together, without_sectors}
 use Rattle.std.proofs.lemmas.List.{nil_from_length}
 use Rattle.std.proofs.Math.Bool.{and-false}
 use Rattle.sector_set.proofs.CountLaws.{none_where}
@@ -46,10 +46,6 @@ frees_first map w own from to apart = record {
 not_both : (a b : Bool) → (a ≡ true → b ≡ false) → b ≡ true → a ≡ false
 not_both true b never is = absurd (let e = never refl in cc (e, is))
 not_both false b never is = refl
-
-or_right : (a : Bool) → (a || false) ≡ a
-or_right true = refl
-or_right false = refl
 
 step_tests : (m r h x : Bool) → (x ≡ true → (r && not h) ≡ true) → ((m || x) || (((r && not h) && not x) && not h)) ≡ (m || (r && not h))
 step_tests true r h x in_a = refl
@@ -96,7 +92,7 @@ module _ (map0 : Area) (w0 : Waits) (map : Area) (w : Waits) (so : Frees map0 w0
     differ = given.differ;
   }
 
-  module _ (v : Waits) (removed : v.removed ≡ without (unheld w.held w.removed) runs) (held : v.held ≡ w.held) (unfinished : v.unfinished ≡ w.unfinished) (kept : v.kept ≡ with_held w.held w.kept w.removed) where
+  module _ (v : Waits) (removed : v.removed ≡ without_sectors (unheld w.held w.removed) runs) (held : v.held ≡ w.held) (unfinished : v.unfinished ≡ w.unfinished) (kept : v.kept ≡ with_held w.held w.kept w.removed) where
     abbrev next : Area
     next = together map runs
 
@@ -106,7 +102,7 @@ module _ (map0 : Area) (w0 : Waits) (map : Area) (w : Waits) (so : Frees map0 w0
     within_next : (s : ℕ) → map.from ≤ s → s < map.to → contains next.sectors s ≡ (contains map.sectors s || contains (sectors_of runs) s)
     within_next s low high = contains_where (λ t. contains map.sectors t || contains (sectors_of runs) t) map.from map.to s low high
 
-    within_left : (s : ℕ) → w.removed.from ≤ s → s < w.removed.to → contains (without (unheld w.held w.removed) runs).sectors s ≡ left s
+    within_left : (s : ℕ) → w.removed.from ≤ s → s < w.removed.to → contains (without_sectors (unheld w.held w.removed) runs).sectors s ≡ left s
     within_left s low high = contains_where left w.removed.from w.removed.to s low high
 
     pub own_next : IsOwn (together map runs)
@@ -201,7 +197,7 @@ module _ (map0 : Area) (w0 : Waits) (map : Area) (w : Waits) (so : Frees map0 w0
     -- what is left to free is held by nobody
     left_loose : (s : ℕ) → contains v.removed.sectors s ≡ true → is_held w.held s ≡ false
     left_loose s is =
-        let there : contains (without (unheld w.held w.removed) runs).sectors s ≡ true = ap (λ (a : Area). contains a.sectors s) (sym removed) ∙ is in
+        let there : contains (without_sectors (unheld w.held w.removed) runs).sectors s ≡ true = ap (λ (a : Area). contains a.sectors s) (sym removed) ∙ is in
         let passed : contains (unheld w.held w.removed).sectors s ≡ true = (and_parts (contains (unheld w.held w.removed).sectors s) (not (contains (sectors_of runs) s)) (free_passes w.removed.from w.removed.to left s there)).0 in
         not-true (is_held w.held s) (and_parts (contains w.removed.sectors s) (not (is_held w.held s)) (free_passes w.removed.from w.removed.to (λ t. contains w.removed.sectors t && not (is_held w.held t)) s passed)).1
 
@@ -222,13 +218,7 @@ module _ (map0 : Area) (w0 : Waits) (map : Area) (w : Waits) (so : Frees map0 w0
       same = λ s. same_next s ∙ so.same s;
     }
 
--- at the end all of them are free
+-- at the end what a reader alone keeps is what it was
 module _ (map0 : Area) (w0 : Waits) (map : Area) (w : Waits) (so : Frees map0 w0 map w) (none : (unheld w.held w.removed).sectors ≡ []) where
-  alone : (s : ℕ) → contains map.sectors s ≡ (contains map0.sectors s || contains (unheld w0.held w0.removed).sectors s)
-  alone s = sym (or_right (contains map.sectors s)) ∙ ap (λ (xs : List ℕ). contains map.sectors s || contains xs s) (sym none) ∙ so.same s
-
-  pub none_left : (v : Area) → v ≡ unheld w.held w.removed → v ≡ record { from = map0.from; to = map0.to; sectors = [] }
-  none_left v is = is ∙ (λ i. record { from = so.first i; to = so.last i; sectors = none i })
-
   pub kept_all : (v : Area) → v ≡ with_held w.held w.kept w.removed → v ≡ with_held w0.held w0.kept w0.removed
   kept_all v is = is ∙ so.kept

@@ -16,7 +16,7 @@ use Rattle.fsd_bytes.specs.Keys.{key_cmp, key_lt, same_key}
 use Rattle.run_table.specs.declared.run.Run.{Run}
 use Rattle.run_table.specs.RunTable.{sectors_of}
 use Rattle.run_table.specs.Space.{all_differ, contains}
-use Rattle.run_table.proofs.SectorLaws.{all_from}
+use Rattle.run_table.proofs.SectorLaws.{all_from, all_in}
 use Rattle.sector_set.specs.Area.{Area, together}
 use Rattle.sector_set.proofs.FreeLaws.{contains_where, contains_where_outside}
 use Rattle.fsd_formats.specs.declared.entry.Entry.{Entry}
@@ -38,7 +38,6 @@ use Rattle.fsd_formats.specs.NamePage.{max_keep}
 use Rattle.name_page.proofs.PutLaws.{ascend_head}
 use Rattle.volume_laws.specs.Changing.{IsAfter}
 use Rattle.cached_table.specs.Surveying.{IsOfData}
-use Rattle.volume_laws.proofs.TakenLaws.{all_of}
 
 -- ---- the entry with a key
 
@@ -73,7 +72,7 @@ apart_front l plans more apart =
     let parts = and_parts (all_differ all) (list_all (is_data l) all) apart in
     and_from (all_differ front) (list_all (is_data l) front)
     (occurs_differ front (λ s. let once = differ_occurs all parts.0 s in omega (arith, once, used-append s plans more)))
-    (all_from (is_data l) front (λ s there. all_of (is_data l) all parts.1 s (occurs_contains s all (let some = contains_occurs s front there in omega (arith, some, used-append s plans more)))))
+    (all_from (is_data l) front (λ s there. all_in (is_data l) all s parts.1 (occurs_contains s all (let some = contains_occurs s front there in omega (arith, some, used-append s plans more)))))
 
 -- ---- one change more
 

@@ -1,5 +1,6 @@
 -- What a force makes of what a volume tells.
 use Rattle.std.proofs.Common.{◌≡◌, ◌⊎◌, inl, inr, ℕ, suc, ◌<◌, ◌≤◌, Bool, true, false, cond, not, ◌&&◌, ◌||◌, ◌==◌, List, [], ◌∷◌, length, option_map, Some, None, nat_lt, refl, sym, ap, subst, ◌∙◌, arith, if◌then◌else◌}
+use Rattle.std.proofs.Math.Bool.{or-false}
 use Rattle.std.proofs.lemmas.Bool.{eqb-true, lt-ltb}
 use Rattle.std.specs.Prelude.{filter}
 use Rattle.fsd_bytes.specs.declared.refusal.Refusal.{Refusal}
@@ -66,17 +67,13 @@ number_some n number some = by (n == 0) refl
 none_unheld : (w : Waits) → w.removed.sectors ≡ [] → (unheld w.held w.removed).sectors ≡ []
 none_unheld w none = ap (λ (xs : List ℕ). where_free (λ s. contains xs s && not (is_held w.held s)) w.removed.from w.removed.to) none ∙ nothing w.removed.from w.removed.to
 
-or_false : (a : Bool) → (a || false) ≡ a
-or_false true = refl
-or_false false = refl
-
 -- where nothing waits for a force, one frees no more
 pub free_same : (v : VolumeValue) → IsWholeVolume v → v.shadow.removed.sectors ≡ [] → v.map.sectors ≡ freed_sectors v
 free_same v whole none =
     ap (λ (a : Area). a.sectors) whole.map
     ∙ (λ i. where_free (contains v.map.sectors) (sym (from_is v whole) i) (sym (to_is v whole) i))
     ∙ where_same (contains v.map.sectors) (λ s. contains v.map.sectors s || contains (unheld v.shadow.held v.shadow.removed).sectors s) v.map.from v.map.to
-    (λ s low high. sym (or_false (contains v.map.sectors s)) ∙ ap (λ (xs : List ℕ). contains v.map.sectors s || contains xs s) (sym (none_unheld v.shadow none)))
+    (λ s low high. sym (or-false (contains v.map.sectors s)) ∙ ap (λ (xs : List ℕ). contains v.map.sectors s || contains xs s) (sym (none_unheld v.shadow none)))
 
 -- ---- what waits
 

@@ -1,9 +1,9 @@
 -- A volume that stands still stands once the leader of an unfinished creation is written.
-use Rattle.std.proofs.Common.{◌≡◌, inl, inr, ℕ, ◌≤◌, Bool, true, false, cond, List, [], ◌∷◌, ◌++◌, map, Option, None, Some, refl, sym, ap, subst, arith, if◌then◌else◌}
+use Rattle.std.proofs.Common.{◌≡◌, inl, inr, ℕ, ◌≤◌, true, false, List, [], ◌∷◌, ◌++◌, map, Option, None, Some, refl, sym, ap, subst, arith, if◌then◌else◌}
 use Rattle.std.specs.List.{AllZip}
 use Rattle.std.proofs.lemmas.Bool.{both_ways, false_from_ne_true}
 use Rattle.run_table.specs.declared.run.Run.{Run}
-use Rattle.run_table.specs.RunTable.{same_runs, sectors_of}
+use Rattle.run_table.specs.RunTable.{sectors_of}
 use Rattle.run_table.specs.Space.{contains}
 use Rattle.sector_set.specs.Area.{AreIn}
 use Rattle.sector_disk.specs.Image.{AreShort, Windows, open_damage, sector_at}
@@ -15,8 +15,9 @@ use Rattle.fsd_files.proofs.ChangeLaws.{used-append}
 use Rattle.fsd_files.proofs.CountLaws.{used}
 use Rattle.fsd_sound.specs.Mounted.{Wrote}
 use Rattle.version_data.specs.Writing.{WritesIn}
-use Rattle.volume_contract.specs.Pieces.{drafts_with, in_leader, slices_if, slices_in, with_opened}
+use Rattle.volume_contract.specs.Pieces.{in_leader, slices_if, slices_in, with_opened}
 use Rattle.volume_contract.specs.State.{Known, Leaves, OpenParts, Stands, WrittenDraft, volume_of}
+use Rattle.volume_contract.proofs.DraftLaws.{slices_same}
 use Rattle.volume_laws.specs.State.{IsMemoryOf, state}
 use Rattle.volume_laws.specs.Volume.{IsWholeVolume, VolumeValue}
 use Rattle.volume_laws.proofs.ClearedLaws.{AreWritten}
@@ -48,16 +49,6 @@ zip_blank hurt i j (x ∷ slices) (y ∷ ys) all = (tt, zip_blank hurt i j slice
 blank_written : (hurt : Sectors) (i j : Image) (drafts : List WrittenDraft) → AreWritten hurt i drafts → AreWritten hurt j (blank_drafts drafts)
 blank_written hurt i j [] all = tt
 blank_written hurt i j (x ∷ drafts) all = (zip_blank hurt i j x.slices (data_sectors x.runs) all.0, blank_written hurt i j drafts all.1)
-
--- a creation that has its own slices is as it was
-with_same : (drafts : List WrittenDraft) (runs : List Run) (before : List (Option (List ℕ))) → slices_in drafts runs ≡ Some before → drafts_with drafts runs before ≡ drafts
-with_same [] runs before none = absurd (cc none)
-with_same (x ∷ drafts) runs before some = by (same_runs x.runs runs) (with_same drafts runs before) some
-  where
-    by : (b : Bool) → (slices_in drafts runs ≡ Some before → drafts_with drafts runs before ≡ drafts) → cond b (Some x.slices) (slices_in drafts runs) ≡ Some before
-        → cond b (record { runs = x.runs; slices = before } ∷ drafts) (x ∷ drafts_with drafts runs before) ≡ x ∷ drafts
-    by true rest is = let these : x.slices ≡ before = cc is in λ i. record { runs = x.runs; slices = sym these i } ∷ drafts
-    by false rest is = ap (λ (ds : List WrittenDraft). x ∷ ds) (rest is)
 
 -- ---- the leader is written
 
@@ -93,7 +84,7 @@ module _ (v : VolumeValue) (whole : IsWholeVolume v) (runs : List Run) (are : Ar
       -- all that is written stands as it did, but for damage there
       all_written : (hurt : Sectors) → Within (open_damage old.windows) hurt → AreWritten hurt old.image k.opened.drafts → AreWritten hurt new.image k.opened.drafts
       all_written hurt wider all =
-          subst (AreWritten hurt new.image) (with_same k.opened.drafts runs before there)
+          subst (AreWritten hurt new.image) (slices_same k.opened.drafts runs before there)
           (drafts_written hurt old.image new.image runs before worn_outside (written_on hurt old.image new.image before (data_sectors runs) worn_behind (its_written hurt old.image k.opened.drafts runs before there all))
           k.opened.drafts before there once all)
         where

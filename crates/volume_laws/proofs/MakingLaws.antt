@@ -5,10 +5,9 @@ use Rattle.volume_layout.specs.declared.layout.Layout.{Layout}
 use Rattle.volume_layout.specs.Layout.{data_start}
 use Rattle.run_table.specs.declared.run.Run.{Run}
 use Rattle.run_table.specs.RunTable.{sectors_of}
-use Rattle.run_table.specs.Space.{contains, where_free}
-use Rattle.sector_set.specs.Area.{Area, area, together, without}
+use Rattle.run_table.specs.Space.{contains}
+use Rattle.sector_set.specs.Area.{Area, together, without_sectors}
 use Rattle.sector_set.proofs.AreaLaws.{free_passes, free_within}
-use Rattle.sector_set.proofs.FreeLaws.{contains_where, where_same}
 use Rattle.shadow_frees.specs.Readers.{Slots, is_held}
 use Rattle.shadow_frees.specs.Waits.{Waits, waits_in}
 use Rattle.fsd_bytes.specs.declared.refusal.Refusal.{Refusal}
@@ -24,6 +23,7 @@ use Rattle.volume_laws.specs.Entered.{entering_steps}
 use Rattle.volume_laws.specs.Volume.{IsWholeVolume, VolumeValue, WaitsOnce}
 use Rattle.cached_table.specs.Surveying.{IsOfData}
 use Rattle.volume_laws.proofs.EnteredSpace.{gone_at, in_first}
+use Rattle.volume_laws.proofs.PieceLaws.{of_test}
 
 -- ---- the order of refusals
 
@@ -52,16 +52,9 @@ module _ (s : State) where
 
 -- ---- the parts of a volume
 
-of_area : (l : Layout) (m : Area) (f : ℕ → Bool) → IsOfData l m → IsOfData l (area m.from m.to f)
-of_area l m f of_data =
-    let same : where_free f m.from m.to ≡ where_free (contains (where_free f m.from m.to)) m.from m.to =
-    where_same f (contains (where_free f m.from m.to)) m.from m.to (λ s low high. sym (contains_where f m.from m.to s low high)) in
-    (λ i. record { from = m.from; to = m.to; sectors = same i })
-    ∙ (λ i. area (of_data i).from (of_data i).to (contains (where_free f m.from m.to)))
-
 of_gone : (l : Layout) (m : Area) (gone : List Leaving) → IsOfData l m → IsOfData l (with_gone m gone)
 of_gone l m [] of_data = of_data
-of_gone l m (g ∷ gone) of_data = of_gone l (together m g.entry.runs) gone (of_area l m (λ s. contains m.sectors s || contains (sectors_of g.entry.runs) s) of_data)
+of_gone l m (g ∷ gone) of_data = of_gone l (together m g.entry.runs) gone (of_test l m (λ s. contains m.sectors s || contains (sectors_of g.entry.runs) s) of_data)
 
 -- what goes is none of the free sectors
 gone_taken : (map : Area) (w : Waits) (seen gone : List Leaving) (s : ℕ) → AreInTurn map w seen gone → contains map.sectors s ≡ true → is_in (plans_of (entries_left gone)) s ≡ false
@@ -89,7 +82,7 @@ abbrev pub with_if : Bool → Area → List Leaving → Area
 with_if b removed gone = cond b (with_gone removed gone) removed
 
 module _ (v : VolumeValue) (whole : IsWholeVolume v) (c : CacheValue) (flags : List Bool) (edited : IsWholeVolume (record v { cache = c; free_pages = flags })) (runs : List Run) (gone : List Leaving) (turn : AreInTurn v.map v.shadow [] gone)
-    (b : Bool) (dry : c.dirty ≡ [] → b ≡ false) (free : Area) (w : Waits) (versions : ℕ) (taken : free ≡ without v.map runs) (removed : w.removed ≡ with_if b v.shadow.removed gone)
+    (b : Bool) (dry : c.dirty ≡ [] → b ≡ false) (free : Area) (w : Waits) (versions : ℕ) (taken : free ≡ without_sectors v.map runs) (removed : w.removed ≡ with_if b v.shadow.removed gone)
     (kept : w.kept ≡ v.shadow.kept) (unfinished : w.unfinished ≡ v.shadow.unfinished) (held : w.held ≡ v.shadow.held) where
   of_removed : (x : Bool) → IsOfData v.layout (with_if x v.shadow.removed gone)
   of_removed true = of_gone v.layout v.shadow.removed gone whole.removed
@@ -132,7 +125,7 @@ module _ (v : VolumeValue) (whole : IsWholeVolume v) (c : CacheValue) (flags : L
   pub whole_entered : IsWholeVolume (record v { map = free; shadow = w; cache = c; free_pages = flags; versions = versions })
   whole_entered = record {
     planned = whole.planned;
-    map = subst (IsOfData v.layout) (sym taken) (of_area v.layout v.map (λ s. contains v.map.sectors s && not (contains (sectors_of runs) s)) whole.map);
+    map = subst (IsOfData v.layout) (sym taken) (of_test v.layout v.map (λ s. contains v.map.sectors s && not (contains (sectors_of runs) s)) whole.map);
     removed = subst (IsOfData v.layout) (sym removed) (of_removed b);
     kept = subst (IsOfData v.layout) (sym kept) whole.kept;
     unfinished = subst (IsOfData v.layout) (sym unfinished) whole.unfinished;

@@ -12,7 +12,7 @@ use Rattle.volume_layout.proofs.RegionLaws.{regions_apart}
 use Rattle.volume_layout.proofs.TurnedLaws.{planned_turned}
 use Rattle.sector_disk.specs.declared.sector.Sector.{Sector}
 use Rattle.sector_disk.specs.declared.sector.WeakRun.{WeakRun}
-use Rattle.sector_disk.specs.Image.{AllWorn, IsWorn, in_run, weak as in_window}
+use Rattle.sector_disk.specs.Image.{AllWorn, IsWorn, in_weak_run, weak as in_window}
 use Rattle.sector_disk.specs.Machine.{Moment}
 use Rattle.fsd_formats.specs.declared.entry.Entry.{Entry}
 use Rattle.fsd_table.specs.Table.{Telling, told_in}
@@ -54,7 +54,7 @@ describes_more : (l : Layout) (hurt more : Sectors) (i : Image) (files : Files) 
 describes_more l hurt more i files entries wider d = record { lists = d.lists; apart = d.apart; kept = kept_more hurt more i files entries wider d.kept }
 
 in_more_runs : (windows : List WeakRun) (run : WeakRun) → Within (in_runs windows) (in_runs (windows ++ run ∷ []))
-in_more_runs windows run s h = list_any-append (λ (r : WeakRun). in_run r s) windows (run ∷ []) ∙ or_left (in_runs windows s) (in_runs (run ∷ []) s) h
+in_more_runs windows run s h = list_any-append (λ (r : WeakRun). in_weak_run r s) windows (run ∷ []) ∙ or_left (in_runs windows s) (in_runs (run ∷ []) s) h
 
 -- ---- in the same window
 

@@ -1,5 +1,5 @@
 -- What is met of what a look-up has found.
-use Rattle.std.proofs.Common.{◌≡◌, inl, inr, ℕ, Bool, true, false, cond, List, [], ◌∷◌, Option, Some, None, Ok, Err, refl, sym, ap, subst}
+use Rattle.std.proofs.Common.{◌≡◌, inl, inr, ℕ, Bool, true, false, cond, List, [], ◌∷◌, Option, Some, None, Ok, Err, sym, ap, subst}
 use Rattle.std.specs.Prelude.{Contains, IfOk, IfSome, IsTrue, option_map}
 use Rattle.volume_layout.specs.Layout.{home_a}
 use Rattle.fsd_bytes.specs.declared.key.Key.{Key}
@@ -10,12 +10,10 @@ use Rattle.fsd_files.specs.declared.reply.Reply.TheVariants.{Found}
 use Rattle.name_page.specs.Lookups.{is_after}
 use Rattle.name_btree.specs.declared.lookup.FoundEntry.{FoundEntry}
 use Rattle.name_btree.specs.Lookup.{found_entry}
-use Rattle.volume_contract.specs.Causes.{IsTaken}
 use Rattle.volume_contract.specs.Ends.{IsLater, LooksUp, found_one}
 use Rattle.volume_contract.specs.Order.{Follows, LookUp, Test, is_idle, next_steps}
 use Rattle.volume_contract.specs.State.{State}
 use Rattle.volume_laws.specs.Meeting.{met_found}
-use Rattle.volume_laws.specs.State.{state}
 use Rattle.volume_laws.specs.Taken.{are_taken, down_fault}
 use Rattle.volume_laws.specs.Volume.{VolumeValue}
 use Rattle.volume_laws.proofs.TableLaws.{behind_there}
@@ -55,16 +53,6 @@ met_later v (Some f) after later = by (are_taken v f.entry.runs)
     by : (b : Bool) → IfOk (found_one (cond b (Ok f.entry) (Err (Why.Unsound (home_a v.layout f.page))))) (IsLater after)
     by true = later_some after f.entry later
     by false = tt
-
--- ---- sectors
-
-pub met_taken : (v : VolumeValue) (found : Option FoundEntry) → ((x : Entry) → IsTrue (are_taken v x.runs) → IsTaken (state v) x) → IfOk (met_found v found) (λ o. IfSome o (IsTaken (state v)))
-met_taken v None told = tt
-met_taken v (Some f) told = by (are_taken v f.entry.runs) refl
-  where
-    by : (b : Bool) → are_taken v f.entry.runs ≡ b → IfOk (found_one (cond b (Ok f.entry) (Err (Why.Unsound (home_a v.layout f.page))))) (λ o. IfSome o (IsTaken (state v)))
-    by true taken = told f.entry taken
-    by false untaken = tt
 
 -- ---- replies
 

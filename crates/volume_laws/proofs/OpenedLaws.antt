@@ -1,5 +1,6 @@
 -- What clients of a mounted volume have open may change while it stands over its disk.
 use Rattle.std.proofs.Common.{◌≡◌, ◌⊎◌, inl, inr, ℕ, zero, suc, ◌+◌, ◌<◌, ◌≤◌, Bool, true, false, not, ◌&&◌, ◌||◌, List, [], ◌∷◌, ◌++◌, length, map, set, Option, None, Some, refl, sym, ap, ◌∙◌, arith, cond, if◌then◌else◌}
+use Rattle.std.proofs.Math.Bool.{or_assoc, or_comm, or-true, or-false}
 use Rattle.std.specs.Prelude.{IsTrue, IsFalse, IfSome, filter, slice_index_or}
 use Rattle.std.specs.List.{AllByRecursion, AllZip, flat_map, list_all, list_any}
 use Rattle.std.proofs.lemmas.Bool.{and_from, and_parts, both_ways, false_from_ne_true, or_cases, or_from, or_left, or_parts, or_right}
@@ -120,13 +121,7 @@ free_parts v s free = by (is_data v.layout s) (in_version v s) (contains v.remov
 
 pub drafts_more : (s : ℕ) (drafts : List WrittenDraft) (w : WrittenDraft) → is_in (map (λ x. x.runs) (w ∷ drafts)) s ≡ (is_in (map (λ x. x.runs) drafts) s || contains (sectors_of w.runs) s)
 drafts_more s drafts w =
-    list_any-append (λ t. t == s) (sectors_of w.runs) (flat_map sectors_of (map (λ x. x.runs) drafts)) ∙ or_turned (contains (sectors_of w.runs) s) (is_in (map (λ x. x.runs) drafts) s)
-  where
-    or_turned : (a b : Bool) → (a || b) ≡ (b || a)
-    or_turned true true = refl
-    or_turned true false = refl
-    or_turned false true = refl
-    or_turned false false = refl
+    list_any-append (λ t. t == s) (sectors_of w.runs) (flat_map sectors_of (map (λ x. x.runs) drafts)) ∙ or_comm (contains (sectors_of w.runs) s) (is_in (map (λ x. x.runs) drafts) s)
 
 module _ (m : Mounted) (o : OpenParts) (w : WrittenDraft) (windows : List WeakRun) (h : List Change) (f : ℕ) (i : Image) (is : IsMounted (reopen m o) windows h f i) (free : AreFree (reopen m o).volume w.runs)
     (written : AllZip (Wrote (in_runs windows) i) w.slices (data_sectors w.runs)) where
@@ -208,7 +203,7 @@ module _ (m : Mounted) (o : OpenParts) (w : WrittenDraft) (windows : List WeakRu
 
 -- ---- a creation ends
 
-abbrev runs_of_drafts : List WrittenDraft → List (List Run)
+abbrev pub runs_of_drafts : List WrittenDraft → List (List Run)
 runs_of_drafts drafts = map (λ x. x.runs) drafts
 
 -- a draft with other runs has none of these sectors, where each sector is in one draft once at most
@@ -371,21 +366,9 @@ module _ (m : Mounted) (o : OpenParts) (runs : List Run) (windows : List WeakRun
       tests : (a b r c d x : Bool) → (x ≡ true → (a ≡ true) × (b ≡ false) × (r ≡ false) × (c ≡ false) × (d ≡ true)) → (a && not b && not (not b && (r || c || (d && not x)))) ≡ ((a && not b && not (not b && (r || c || d))) || x)
       tests a b r c d true so =
           let p = so refl in
-          (λ i. p.0 i && not (p.1 i) && not (not (p.1 i) && (p.2 i || p.3 i || (p.4 i && not true)))) ∙ sym (or_true (a && not b && not (not b && (r || c || d))))
-        where
-          or_true : (y : Bool) → (y || true) ≡ true
-          or_true true = refl
-          or_true false = refl
-      tests a b r c true false so = sym (or_no (a && not b && not (not b && (r || c || true))))
-        where
-          or_no : (y : Bool) → (y || false) ≡ y
-          or_no true = refl
-          or_no false = refl
-      tests a b r c false false so = sym (or_no (a && not b && not (not b && (r || c || false))))
-        where
-          or_no : (y : Bool) → (y || false) ≡ y
-          or_no true = refl
-          or_no false = refl
+          (λ i. p.0 i && not (p.1 i) && not (not (p.1 i) && (p.2 i || p.3 i || (p.4 i && not true)))) ∙ sym (or-true (a && not b && not (not b && (r || c || d))))
+      tests a b r c true false so = sym (or-false (a && not b && not (not b && (r || c || true))))
+      tests a b r c false false so = sym (or-false (a && not b && not (not b && (r || c || false))))
 
   pub mounted_fewer : IsMounted (reopen m without_draft) windows h f i
   mounted_fewer = reopened m o without_draft windows h f i is spaced_fewer
@@ -431,25 +414,15 @@ readers_all P (Some z ∷ places) (suc p) y all one =
 in_front_of : (s : ℕ) (x : HeldVersion) (places : List (Option HeldVersion)) → is_in (runs_of_readers (Some x ∷ places)) s ≡ (contains (sectors_of x.runs) s || is_in (runs_of_readers places) s)
 in_front_of s x places = list_any-append (λ t. t == s) (sectors_of x.runs) (flat_map sectors_of (runs_of_readers places))
 
-turned : (a b : Bool) → (a || b) ≡ (b || a)
-turned true true = refl
-turned true false = refl
-turned false true = refl
-turned false false = refl
-
-grouped : (a b c : Bool) → (a || (b || c)) ≡ ((a || b) || c)
-grouped true b c = refl
-grouped false b c = refl
-
 -- what is held with one more at an empty place
 pub held_more : (s : ℕ) (places : List (Option HeldVersion)) (p : ℕ) (x : HeldVersion) → p < length places → slice_index_or places p None ≡ None → is_in (runs_of_readers (set places p (Some x))) s ≡ (is_in (runs_of_readers places) s || contains (sectors_of x.runs) s)
 held_more s [] p x inside empty = absurd (omega (arith, inside))
-held_more s (None ∷ places) zero x inside empty = in_front_of s x places ∙ turned (contains (sectors_of x.runs) s) (is_in (runs_of_readers places) s)
+held_more s (None ∷ places) zero x inside empty = in_front_of s x places ∙ or_comm (contains (sectors_of x.runs) s) (is_in (runs_of_readers places) s)
 held_more s (Some z ∷ places) zero x inside empty = absurd (cc empty)
 held_more s (None ∷ places) (suc p) x inside empty = held_more s places p x (omega (arith, inside)) empty
 held_more s (Some z ∷ places) (suc p) x inside empty =
     in_front_of s z (set places p (Some x)) ∙ ap (λ (b : Bool). contains (sectors_of z.runs) s || b) (held_more s places p x (omega (arith, inside)) empty)
-    ∙ grouped (contains (sectors_of z.runs) s) (is_in (runs_of_readers places) s) (contains (sectors_of x.runs) s) ∙ ap (λ (b : Bool). b || contains (sectors_of x.runs) s) (sym (in_front_of s z places))
+    ∙ sym (or_assoc (contains (sectors_of z.runs) s) (is_in (runs_of_readers places) s) (contains (sectors_of x.runs) s)) ∙ ap (λ (b : Bool). b || contains (sectors_of x.runs) s) (sym (in_front_of s z places))
 
 -- and what is held, by what is left without it
 pub held_fewer : (s : ℕ) (places : List (Option HeldVersion)) (p : ℕ) (x : HeldVersion) → slice_index_or places p None ≡ Some x → is_in (runs_of_readers places) s ≡ (is_in (runs_of_readers (set places p None)) s || contains (sectors_of x.runs) s)
@@ -457,11 +430,11 @@ held_fewer s [] p x there = absurd (cc there)
 held_fewer s (None ∷ places) zero x there = absurd (cc there)
 held_fewer s (Some z ∷ places) zero x there =
     let same : z ≡ x = cc there in
-    in_front_of s z places ∙ turned (contains (sectors_of z.runs) s) (is_in (runs_of_readers places) s) ∙ ap (λ (y : HeldVersion). is_in (runs_of_readers places) s || contains (sectors_of y.runs) s) same
+    in_front_of s z places ∙ or_comm (contains (sectors_of z.runs) s) (is_in (runs_of_readers places) s) ∙ ap (λ (y : HeldVersion). is_in (runs_of_readers places) s || contains (sectors_of y.runs) s) same
 held_fewer s (None ∷ places) (suc p) x there = held_fewer s places p x there
 held_fewer s (Some z ∷ places) (suc p) x there =
     in_front_of s z places ∙ ap (λ (b : Bool). contains (sectors_of z.runs) s || b) (held_fewer s places p x there)
-    ∙ grouped (contains (sectors_of z.runs) s) (is_in (runs_of_readers (set places p None)) s) (contains (sectors_of x.runs) s) ∙ ap (λ (b : Bool). b || contains (sectors_of x.runs) s) (sym (in_front_of s z (set places p None)))
+    ∙ sym (or_assoc (contains (sectors_of z.runs) s) (is_in (runs_of_readers (set places p None)) s) (contains (sectors_of x.runs) s)) ∙ ap (λ (b : Bool). b || contains (sectors_of x.runs) s) (sym (in_front_of s z (set places p None)))
 
 -- a version's runs are those of each other version, or share no sector with it
 pub same_or_apart : (es : List Entry) (runs : List Run) (n : ℕ) (d : Entry) → n < length es → (slice_index_or es n d).runs ≡ runs → ((s : ℕ) → used s (plans_of es) ≤ 1) → list_all (λ e. are_same_or_apart runs e.runs) es ≡ true

@@ -9,7 +9,7 @@ use Rattle.run_table.specs.declared.run.Run.{Run}
 use Rattle.run_table.specs.RunTable.{same_runs, sectors_of, total}
 use Rattle.run_table.specs.Space.{contains, where_free}
 use Rattle.run_table.proofs.SectorLaws.{length_of_sectors}
-use Rattle.sector_set.specs.Area.{Area, AreIn, AreOut, area, together, without}
+use Rattle.sector_set.specs.Area.{Area, AreIn, AreOut, area, together, without_sectors}
 use Rattle.shadow_frees.specs.Waits.{AreIdle, Waits, waits_in}
 use Rattle.sector_disk.specs.Image.{open_damage}
 use Rattle.sector_disk.specs.Machine.{Moment}
@@ -45,7 +45,7 @@ with_runs l m runs of_data within s =
     test_there l m.from m.to (λ t. contains m.sectors t || contains (sectors_of runs) t) s (ap (λ (a : Area). a.from) of_data) (ap (λ (a : Area). a.to) of_data)
     (λ out. λ i. none_outside l m s of_data out i || false_from_ne_true (contains (sectors_of runs) s) (λ here. let w = within s here in out w.0 w.1) i)
 
-pub without_runs : (l : Layout) (m : Area) (runs : List Run) → IsOfData l m → (s : ℕ) → contains (without m runs).sectors s ≡ (contains m.sectors s && not (contains (sectors_of runs) s))
+pub without_runs : (l : Layout) (m : Area) (runs : List Run) → IsOfData l m → (s : ℕ) → contains (without_sectors m runs).sectors s ≡ (contains m.sectors s && not (contains (sectors_of runs) s))
 without_runs l m runs of_data s =
     test_there l m.from m.to (λ t. contains m.sectors t && not (contains (sectors_of runs) t)) s (ap (λ (a : Area). a.from) of_data) (ap (λ (a : Area). a.to) of_data)
     (λ out. ap (λ (b : Bool). b && not (contains (sectors_of runs) s)) (none_outside l m s of_data out))
@@ -132,7 +132,7 @@ module _ (v : VolumeValue) (k : Known) (now : Moment) (stands : Stands state IsM
 -- ---- a creation is over: its sectors are free
 
 abbrev pub abandoned : VolumeValue → List Run → VolumeValue
-abandoned v runs = record v { map = together v.map runs; shadow = record v.shadow { unfinished = without v.shadow.unfinished runs } }
+abandoned v runs = record v { map = together v.map runs; shadow = record v.shadow { unfinished = without_sectors v.shadow.unfinished runs } }
 
 module _ (v : VolumeValue) (whole : IsWholeVolume v) (runs : List Run) (are : AreIn v.shadow.unfinished runs) where
   -- they wait for it alone
@@ -142,13 +142,13 @@ module _ (v : VolumeValue) (whole : IsWholeVolume v) (runs : List Run) (are : Ar
     false_from_ne_true (contains v.shadow.kept.sectors s) (λ kept. both_ways (contains v.shadow.unfinished.sectors s) (whole.once.kept s kept) there),
   )
 
-  pub unfinished_left : (s : ℕ) → contains (without v.shadow.unfinished runs).sectors s ≡ (contains v.shadow.unfinished.sectors s && not (contains (sectors_of runs) s))
+  pub unfinished_left : (s : ℕ) → contains (without_sectors v.shadow.unfinished runs).sectors s ≡ (contains v.shadow.unfinished.sectors s && not (contains (sectors_of runs) s))
   unfinished_left = without_runs v.layout v.shadow.unfinished runs whole.unfinished
 
   pub map_more : (s : ℕ) → contains (together v.map runs).sectors s ≡ (contains v.map.sectors s || contains (sectors_of runs) s)
   map_more = with_runs v.layout v.map runs whole.map (in_data v.layout v.shadow.unfinished runs whole.unfinished are)
 
-  less : (s : ℕ) → contains v.shadow.unfinished.sectors s ≡ false → contains (without v.shadow.unfinished runs).sectors s ≡ false
+  less : (s : ℕ) → contains v.shadow.unfinished.sectors s ≡ false → contains (without_sectors v.shadow.unfinished runs).sectors s ≡ false
   less s none = unfinished_left s ∙ ap (λ (b : Bool). b && not (contains (sectors_of runs) s)) none
 
   apart_over : (s : ℕ) → contains (together v.map runs).sectors s ≡ true → waits_in (abandoned v runs).shadow s ≡ false
@@ -156,12 +156,12 @@ module _ (v : VolumeValue) (whole : IsWholeVolume v) (runs : List Run) (are : Ar
     | inl was ↦
         let none = or_parts (contains v.shadow.removed.sectors s) (contains v.shadow.kept.sectors s || contains v.shadow.unfinished.sectors s) (whole.apart s was) in
         let rest = or_parts (contains v.shadow.kept.sectors s) (contains v.shadow.unfinished.sectors s) none.1 in
-        or_from (contains v.shadow.removed.sectors s) (contains v.shadow.kept.sectors s || contains (without v.shadow.unfinished runs).sectors s) none.0
-        (or_from (contains v.shadow.kept.sectors s) (contains (without v.shadow.unfinished runs).sectors s) rest.0 (less s rest.1))
+        or_from (contains v.shadow.removed.sectors s) (contains v.shadow.kept.sectors s || contains (without_sectors v.shadow.unfinished runs).sectors s) none.0
+        (or_from (contains v.shadow.kept.sectors s) (contains (without_sectors v.shadow.unfinished runs).sectors s) rest.0 (less s rest.1))
     | inr mine ↦
         let out = alone s (are.inside s mine) in
-        or_from (contains v.shadow.removed.sectors s) (contains v.shadow.kept.sectors s || contains (without v.shadow.unfinished runs).sectors s) out.0
-        (or_from (contains v.shadow.kept.sectors s) (contains (without v.shadow.unfinished runs).sectors s) out.1
+        or_from (contains v.shadow.removed.sectors s) (contains v.shadow.kept.sectors s || contains (without_sectors v.shadow.unfinished runs).sectors s) out.0
+        (or_from (contains v.shadow.kept.sectors s) (contains (without_sectors v.shadow.unfinished runs).sectors s) out.1
         (unfinished_left s ∙ taken (contains v.shadow.unfinished.sectors s) mine))
   ]
     where
@@ -180,7 +180,7 @@ module _ (v : VolumeValue) (whole : IsWholeVolume v) (runs : List Run) (are : Ar
     once = record {
       removed = λ s there.
           let none = or_parts (contains v.shadow.kept.sectors s) (contains v.shadow.unfinished.sectors s) (whole.once.removed s there) in
-          or_from (contains v.shadow.kept.sectors s) (contains (without v.shadow.unfinished runs).sectors s) none.0 (less s none.1);
+          or_from (contains v.shadow.kept.sectors s) (contains (without_sectors v.shadow.unfinished runs).sectors s) none.0 (less s none.1);
       kept = λ s there. less s (whole.once.kept s there);
       readers = whole.once.readers;
       slots = whole.once.slots;
@@ -200,7 +200,7 @@ module _ (v : VolumeValue) (whole : IsWholeVolume v) (runs : List Run) (are : Ar
   stands_abandoned k now before is stands =
       let there = has_draft k.opened.drafts is in
       let disk = mounted_opened v k now stands in
-      stands_opened v k now stands (together v.map runs) (record v.shadow { unfinished = without v.shadow.unfinished runs }) (ended k.opened runs) whole_abandoned
+      stands_opened v k now stands (together v.map runs) (record v.shadow { unfinished = without_sectors v.shadow.unfinished runs }) (ended k.opened runs) whole_abandoned
       (mounted_fewer k.mounted k.opened runs k.windows k.changes (forced_of k) now.image disk there)
       (λ s. map_more s ∙ ap (λ (b : Bool). b || contains (sectors_of runs) s) (stands.holds.map s ∙ ap (λ (m : Mounted). is_free m.volume s) (as_opened v k now stands))
       ∙ sym (free_again k.mounted k.opened runs k.windows k.changes (forced_of k) now.image disk there s))
@@ -224,13 +224,13 @@ module _ (v : VolumeValue) (whole : IsWholeVolume v) (runs : List Run) (are : Ar
 -- ---- a creation is begun: free sectors are its own
 
 abbrev pub reserved : VolumeValue → List Run → VolumeValue
-reserved v runs = record v { map = without v.map runs; shadow = record v.shadow { unfinished = together v.shadow.unfinished runs } }
+reserved v runs = record v { map = without_sectors v.map runs; shadow = record v.shadow { unfinished = together v.shadow.unfinished runs } }
 
 module _ (v : VolumeValue) (whole : IsWholeVolume v) (runs : List Run) (are : AreIn v.map runs) where
   pub unfinished_more : (s : ℕ) → contains (together v.shadow.unfinished runs).sectors s ≡ (contains v.shadow.unfinished.sectors s || contains (sectors_of runs) s)
   unfinished_more = with_runs v.layout v.shadow.unfinished runs whole.unfinished (in_data v.layout v.map runs whole.map are)
 
-  pub map_fewer : (s : ℕ) → contains (without v.map runs).sectors s ≡ (contains v.map.sectors s && not (contains (sectors_of runs) s))
+  pub map_fewer : (s : ℕ) → contains (without_sectors v.map runs).sectors s ≡ (contains v.map.sectors s && not (contains (sectors_of runs) s))
   map_fewer = without_runs v.layout v.map runs whole.map
 
   -- what was free waited nowhere
@@ -300,7 +300,7 @@ module _ (v : VolumeValue) (whole : IsWholeVolume v) (runs : List Run) (are : Ar
       let none : (hurt : Sectors) → AllZip (Wrote hurt now.image) (replicate (slice_count len) None) (data_sectors runs) =
       λ hurt. nothing_written hurt now.image (slice_count len) (data_sectors runs) (behind_first (sectors_of runs) (sectors_for len) (length_of_sectors runs ∙ size)) in
       let written = none (in_runs k.windows) in
-      stands_opened v k now stands (without v.map runs) (record v.shadow { unfinished = together v.shadow.unfinished runs }) (draft_begun k.opened runs len) whole_reserved
+      stands_opened v k now stands (without_sectors v.map runs) (record v.shadow { unfinished = together v.shadow.unfinished runs }) (draft_begun k.opened runs len) whole_reserved
       (mounted_more k.mounted k.opened w k.windows k.changes (forced_of k) now.image disk free written)
       (λ s. map_fewer s ∙ ap (λ (b : Bool). b && not (contains (sectors_of runs) s)) (stands.holds.map s ∙ ap (λ (m : Mounted). is_free m.volume s) (as_opened v k now stands))
       ∙ sym (free_more k.mounted k.opened w k.windows k.changes (forced_of k) now.image disk free written s))
@@ -328,7 +328,7 @@ module _ (v w : VolumeValue) (is : v ≡ w) (whole : IsWholeVolume v) (d : Draft
   draft_out = waiting_out v whole v.shadow.unfinished d.runs whole.unfinished draft_in
       (λ s there. or_right (contains v.shadow.removed.sectors s) (contains v.shadow.kept.sectors s || contains v.shadow.unfinished.sectors s) (or_right (contains v.shadow.kept.sectors s) (contains v.shadow.unfinished.sectors s) there))
 
-  module _ (map : Area) (shadow : Waits) (map_is : map ≡ together v.map d.runs) (removed : shadow.removed ≡ v.shadow.removed) (kept : shadow.kept ≡ v.shadow.kept) (unfinished : shadow.unfinished ≡ without v.shadow.unfinished d.runs) (held : shadow.held ≡ v.shadow.held) where
+  module _ (map : Area) (shadow : Waits) (map_is : map ≡ together v.map d.runs) (removed : shadow.removed ≡ v.shadow.removed) (kept : shadow.kept ≡ v.shadow.kept) (unfinished : shadow.unfinished ≡ without_sectors v.shadow.unfinished d.runs) (held : shadow.held ≡ v.shadow.held) where
     then_is : abandoned v d.runs ≡ record v { map = map; shadow = shadow }
     then_is = λ i. record v { map = sym map_is i; shadow = record { removed = sym removed i; kept = sym kept i; unfinished = sym unfinished i; held = sym held i } }
 
@@ -362,7 +362,7 @@ module _ (v w : VolumeValue) (is : v ≡ w) (whole : IsWholeVolume v) (len : ℕ
           let at = in_data v.layout v.map runs whole.map place_in s here in
           (omega (arith, at.0, ap (λ (a : Area). a.from) of_data), omega (arith, at.1, ap (λ (a : Area). a.to) of_data))
 
-  module _ (map : Area) (shadow : Waits) (map_is : map ≡ without v.map runs) (removed : shadow.removed ≡ v.shadow.removed) (kept : shadow.kept ≡ v.shadow.kept) (unfinished : shadow.unfinished ≡ together v.shadow.unfinished runs) (held : shadow.held ≡ v.shadow.held) where
+  module _ (map : Area) (shadow : Waits) (map_is : map ≡ without_sectors v.map runs) (removed : shadow.removed ≡ v.shadow.removed) (kept : shadow.kept ≡ v.shadow.kept) (unfinished : shadow.unfinished ≡ together v.shadow.unfinished runs) (held : shadow.held ≡ v.shadow.held) where
     begun_is : reserved v runs ≡ record v { map = map; shadow = shadow }
     begun_is = λ i. record v { map = sym map_is i; shadow = record { removed = sym removed i; kept = sym kept i; unfinished = sym unfinished i; held = sym held i } }
 

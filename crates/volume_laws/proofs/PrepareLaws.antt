@@ -3,7 +3,7 @@ use Rattle.std.proofs.Common.{◌≡◌, ◌⊎◌, inl, inr, ℕ, suc, ◌*◌,
 use Rattle.std.specs.Prelude.{IsFalse, is_none, not, ◌==◌}
 use Rattle.std.proofs.lemmas.Bool.{le-leb, ltb-false, ltb-true}
 use Rattle.std.proofs.lemmas.List.{append-nil}
-use Rattle.std.proofs.Math.Bool.{and-false}
+use Rattle.std.proofs.Math.Bool.{and-false, and-true}
 use Rattle.volume_layout.specs.declared.layout.Layout.{Layout}
 use Rattle.fsd_bytes.specs.declared.refusal.Refusal.{Refusal}
 use Rattle.fsd_bytes.specs.declared.refusal.Refusal.TheVariants as Why
@@ -92,10 +92,6 @@ ends_down_first T outcome reply why k new now none = absurd none
 
 -- ---- the steps
 
-and_true : (b : Bool) → (b && true) ≡ b
-and_true true = refl
-and_true false = refl
-
 -- many pages wait behind a place where they did and none was forced for it
 pub first_behind : (s m : State) (need : ℕ) (runs : List Run) → HasPlace need s m runs → forces_first m ≡ (forces_first s && not (forces_for_place s need))
 first_behind s m need runs has = by (forces_for_place s need) has.went
@@ -103,7 +99,7 @@ first_behind s m need runs has = by (forces_for_place s need) has.went
     by : (b : Bool) → ((b ≡ false) × (m ≡ s)) ⊎ ((b ≡ true) × IsForced s m) → forces_first m ≡ (forces_first s && not b)
     by true (inl way) = absurd (cc way.0)
     by true (inr way) = ap (λ (d : List ℕ). nat_lt most_waiting (length d)) (ap (λ (x : State). x.dirty) way.1.is) ∙ sym (and-false (forces_first s))
-    by false (inl way) = ap (λ (x : State). forces_first x) way.1 ∙ sym (and_true (forces_first s))
+    by false (inl way) = ap (λ (x : State). forces_first x) way.1 ∙ sym (and-true (forces_first s))
     by false (inr way) = absurd (cc way.0)
 
 module _ (s : State) (need : ℕ) where

@@ -1,5 +1,6 @@
 -- A volume that stands still stands once a reader holds one of its versions, and once a reader gives one up.
 use Rattle.std.proofs.Common.{◌≡◌, ◌⊎◌, inl, inr, ℕ, zero, suc, ◌<◌, ◌≤◌, Bool, true, false, not, ◌&&◌, ◌||◌, List, [], ◌∷◌, ◌++◌, length, map, set, get_or, Option, None, Some, refl, sym, ap, subst, ◌∙◌, arith, if◌then◌else◌}
+use Rattle.std.proofs.Math.Bool.{or-true, and-false, and-true}
 use Rattle.std.specs.Prelude.{All, Contains, IfSome, is_none, option_map, slice_index_or}
 use Rattle.std.specs.List.{flat_map, list_any}
 use Rattle.std.proofs.lemmas.Bool.{and_parts, both_ways, false_from_ne_true, not-true, or_cases, or_from, or_left, or_parts, or_right}
@@ -9,7 +10,7 @@ use Rattle.run_table.specs.declared.run.Run.{Run}
 use Rattle.run_table.specs.RunTable.{same_runs, sectors_of}
 use Rattle.run_table.specs.Space.{contains, runs_of, where_free}
 use Rattle.run_table.proofs.SameLaws.{same_runs_are}
-use Rattle.sector_set.specs.Area.{Area, AreIn, AreOut, together, without}
+use Rattle.sector_set.specs.Area.{Area, AreIn, AreOut, together, without_sectors}
 use Rattle.sector_set.specs.Meet.{meets}
 use Rattle.sector_set.proofs.FreeLaws.{where_same}
 use Rattle.sector_set.proofs.MeetLaws.{none_any}
@@ -204,21 +205,21 @@ module _ (v : VolumeValue) (whole : IsWholeVolume v) (p : ℕ) (runs : List Run)
 
   -- where the runs are given back, they were kept for this reader alone
   module _ (are : AreIn v.shadow.kept runs) (unheld : AreUnheld (set v.shadow.held p None) runs) where
-    pub kept_left : (s : ℕ) → contains (without v.shadow.kept runs).sectors s ≡ (contains v.shadow.kept.sectors s && not (contains (sectors_of runs) s))
+    pub kept_left : (s : ℕ) → contains (without_sectors v.shadow.kept runs).sectors s ≡ (contains v.shadow.kept.sectors s && not (contains (sectors_of runs) s))
     kept_left = without_runs v.layout v.shadow.kept runs whole.kept
 
     pub map_given : (s : ℕ) → contains (together v.map runs).sectors s ≡ (contains v.map.sectors s || contains (sectors_of runs) s)
     map_given = with_runs v.layout v.map runs whole.map (in_data v.layout v.shadow.kept runs whole.kept are)
 
-    fewer_kept : (s : ℕ) → contains (without v.shadow.kept runs).sectors s ≡ true → (contains v.shadow.kept.sectors s ≡ true) × (contains (sectors_of runs) s ≡ false)
+    fewer_kept : (s : ℕ) → contains (without_sectors v.shadow.kept runs).sectors s ≡ true → (contains v.shadow.kept.sectors s ≡ true) × (contains (sectors_of runs) s ≡ false)
     fewer_kept s now =
         let parts = and_parts (contains v.shadow.kept.sectors s) (not (contains (sectors_of runs) s)) (sym (kept_left s) ∙ now) in
         (parts.0, not-true (contains (sectors_of runs) s) parts.1)
 
-    none_left : (s : ℕ) → contains v.shadow.kept.sectors s ≡ false → contains (without v.shadow.kept runs).sectors s ≡ false
+    none_left : (s : ℕ) → contains v.shadow.kept.sectors s ≡ false → contains (without_sectors v.shadow.kept runs).sectors s ≡ false
     none_left s none = kept_left s ∙ ap (λ (b : Bool). b && not (contains (sectors_of runs) s)) none
 
-    pub whole_given : IsWholeVolume (record v { map = together v.map runs; shadow = record v.shadow { kept = without v.shadow.kept runs; held = others } })
+    pub whole_given : IsWholeVolume (record v { map = together v.map runs; shadow = record v.shadow { kept = without_sectors v.shadow.kept runs; held = others } })
     whole_given = record {
       planned = whole.planned;
       map = of_test v.layout v.map (λ s. contains v.map.sectors s || contains (sectors_of runs) s) whole.map;
@@ -229,20 +230,20 @@ module _ (v : VolumeValue) (whole : IsWholeVolume v) (p : ℕ) (runs : List Run)
         | inl was ↦
             let none = or_parts (contains v.shadow.removed.sectors s) (contains v.shadow.kept.sectors s || contains v.shadow.unfinished.sectors s) (whole.apart s was) in
             let rest = or_parts (contains v.shadow.kept.sectors s) (contains v.shadow.unfinished.sectors s) none.1 in
-            or_from (contains v.shadow.removed.sectors s) (contains (without v.shadow.kept runs).sectors s || contains v.shadow.unfinished.sectors s) none.0
-            (or_from (contains (without v.shadow.kept runs).sectors s) (contains v.shadow.unfinished.sectors s) (none_left s rest.0) rest.1)
+            or_from (contains v.shadow.removed.sectors s) (contains (without_sectors v.shadow.kept runs).sectors s || contains v.shadow.unfinished.sectors s) none.0
+            (or_from (contains (without_sectors v.shadow.kept runs).sectors s) (contains v.shadow.unfinished.sectors s) (none_left s rest.0) rest.1)
         | inr mine ↦
             let kept = are.inside s mine in
             let not_removed : contains v.shadow.removed.sectors s ≡ false = false_from_ne_true (contains v.shadow.removed.sectors s)
             (λ went. both_ways (contains v.shadow.kept.sectors s) (or_parts (contains v.shadow.kept.sectors s) (contains v.shadow.unfinished.sectors s) (whole.once.removed s went)).0 kept) in
-            or_from (contains v.shadow.removed.sectors s) (contains (without v.shadow.kept runs).sectors s || contains v.shadow.unfinished.sectors s) not_removed
-            (or_from (contains (without v.shadow.kept runs).sectors s) (contains v.shadow.unfinished.sectors s)
-            (false_from_ne_true (contains (without v.shadow.kept runs).sectors s) (λ still. both_ways (contains (sectors_of runs) s) (fewer_kept s still).1 mine)) (whole.once.kept s kept))
+            or_from (contains v.shadow.removed.sectors s) (contains (without_sectors v.shadow.kept runs).sectors s || contains v.shadow.unfinished.sectors s) not_removed
+            (or_from (contains (without_sectors v.shadow.kept runs).sectors s) (contains v.shadow.unfinished.sectors s)
+            (false_from_ne_true (contains (without_sectors v.shadow.kept runs).sectors s) (λ still. both_ways (contains (sectors_of runs) s) (fewer_kept s still).1 mine)) (whole.once.kept s kept))
       ];
       once = record {
         removed = λ s went.
             let none = or_parts (contains v.shadow.kept.sectors s) (contains v.shadow.unfinished.sectors s) (whole.once.removed s went) in
-            or_from (contains (without v.shadow.kept runs).sectors s) (contains v.shadow.unfinished.sectors s) (none_left s none.0) none.1;
+            or_from (contains (without_sectors v.shadow.kept runs).sectors s) (contains v.shadow.unfinished.sectors s) (none_left s none.0) none.1;
         kept = λ s now. whole.once.kept s (fewer_kept s now).0;
         readers = λ s now. let was = fewer_kept s now in elim (held_split v.shadow.held p runs s there (whole.once.readers s was.0)) [
           | inl still ↦ still
@@ -277,11 +278,7 @@ alone_on b r false true none = none refl refl
 
 free_back : (a b r n d y : Bool) → (y ≡ true → (a ≡ true) × (b ≡ false) × (r ≡ false) × (n ≡ false) × (d ≡ false)) → ((a && not b && not (not b && (r || (n || y) || d))) || y) ≡ (a && not b && not (not b && (r || n || d)))
 free_back a b r n d true so =
-    let p = so refl in or_true (a && not b && not (not b && (r || (n || true) || d))) ∙ sym (λ i. p.0 i && not (p.1 i) && not (not (p.1 i) && (p.2 i || p.3 i || p.4 i)))
-  where
-    or_true : (x : Bool) → (x || true) ≡ true
-    or_true true = refl
-    or_true false = refl
+    let p = so refl in or-true (a && not b && not (not b && (r || (n || true) || d))) ∙ sym (λ i. p.0 i && not (p.1 i) && not (not (p.1 i) && (p.2 i || p.3 i || p.4 i)))
 free_back false b r n d false so = refl
 free_back true true r n d false so = refl
 free_back true false true n d false so = refl
@@ -290,16 +287,8 @@ free_back true false false false true false so = refl
 free_back true false false false false false so = refl
 
 alone_back : (b r n y : Bool) → (y ≡ true → n ≡ false) → (((n || y) && not b && not r) && not y) ≡ (n && not b && not r)
-alone_back b r n true out = and_no ((n || true) && not b && not r) ∙ sym (ap (λ (x : Bool). x && not b && not r) (out refl))
-  where
-    and_no : (x : Bool) → (x && false) ≡ false
-    and_no true = refl
-    and_no false = refl
-alone_back b r true false out = and_yes (not b && not r)
-  where
-    and_yes : (x : Bool) → (x && true) ≡ x
-    and_yes true = refl
-    and_yes false = refl
+alone_back b r n true out = and-false ((n || true) && not b && not r) ∙ sym (ap (λ (x : Bool). x && not b && not r) (out refl))
+alone_back b r true false out = and-true (not b && not r)
 alone_back b r false false out = refl
 
 module _ (v : VolumeValue) (whole : IsWholeVolume v) (p : ℕ) (runs : List Run) (there : get_or v.shadow.held p None ≡ Some runs) (k : Known) (now : Moment) (stands : Stands state IsMemoryOf v k now) where
@@ -358,7 +347,7 @@ module _ (v : VolumeValue) (whole : IsWholeVolume v) (p : ℕ) (runs : List Run)
       let first = and_parts (is_in still.held s || contains (sectors_of runs) s) (not (in_version (volume_of k) s)) all.0 in
       (not-true (in_version (volume_of k) s) first.1, not-true (contains (volume_of k).removed s) all.1)) in
       let held : (s : ℕ) → contains (sectors_of runs) s ≡ true → is_in (reopen k.mounted k.opened).volume.held s ≡ true = λ s mine. held_was s ∙ or_right (is_in still.held s) (contains (sectors_of runs) s) mine in
-      stands_opened v k now stands (together v.map runs) (record v.shadow { kept = without v.shadow.kept runs; held = set v.shadow.held p None }) (read_at k.opened p None) (whole_given v whole p runs there are unheld) mounted
+      stands_opened v k now stands (together v.map runs) (record v.shadow { kept = without_sectors v.shadow.kept runs; held = set v.shadow.held p None }) (read_at k.opened p None) (whole_given v whole p runs there are unheld) mounted
       (λ s. map_given v whole p runs there are unheld s ∙ ap (λ (b : Bool). b || contains (sectors_of runs) s) (free_was s)
       ∙ free_back (is_data (volume_of k).layout s) (in_version (volume_of k) s) (contains (volume_of k).removed s) (is_in still.held s) (is_in still.drafts s) (contains (sectors_of runs) s)
       (λ mine. (
@@ -402,9 +391,6 @@ whole_released v whole p runs there (Some rs) is are unheld =
 -- ---- as a call knows it
 
 module _ (v w : VolumeValue) (is : v ≡ w) (whole : IsWholeVolume v) (h : Held) (held : IsHeldVersion (state w) h) where
-  pub held_inside : h.place < 8
-  held_inside = omega (arith, held.there, ap (λ (x : VolumeValue). length (state x).readers) (sym is), whole.once.slots)
-
   pub held_there : get_or v.shadow.held h.place None ≡ Some h.entry.runs
   held_there = ap (λ (x : VolumeValue). get_or (state x).readers h.place None) is ∙ held.runs
 

@@ -22,14 +22,14 @@ use Rattle.version_data.specs.Writing.{WritesIn}
 use Rattle.volume_contract.specs.declared.token.Draft.{Draft}
 use Rattle.volume_contract.specs.Pieces.{IsDraft, drafts_with, in_slices, slice_sectors, slices_in, with_opened, with_slices, draft_wrote}
 use Rattle.volume_contract.specs.State.{Known, Leaves, Stands, WrittenDraft, volume_of}
-use Rattle.volume_laws.specs.Placing.{IsPlace}
+use Rattle.volume_contract.proofs.DraftLaws.{runs_with}
 use Rattle.volume_laws.specs.State.{IsMemoryOf, state}
 use Rattle.volume_laws.specs.Volume.{IsWholeVolume, VolumeValue}
 use Rattle.volume_laws.proofs.ClearedLaws.{AreWritten}
 use Rattle.volume_laws.proofs.DraftLaws.{leaves_drafts, stands_again}
 use Rattle.volume_laws.proofs.OpenedLaws.{used_apart}
 use Rattle.volume_laws.proofs.PieceLaws.{mounted_opened, written_opened}
-use Rattle.volume_laws.proofs.WroteLaws.{differ_behind, drafts_written, dropped_in, same_drafts, slices_written, taken_in}
+use Rattle.volume_laws.proofs.WroteLaws.{differ_behind, drafts_written, dropped_in, slices_written, taken_in}
 
 -- the open window is one of those so far
 pub hurt_open : {v : VolumeValue} (k : Known) (old : Moment) → Stands state IsMemoryOf v k old → Within (open_damage old.windows) (in_runs k.windows)
@@ -52,10 +52,6 @@ module _ (v : VolumeValue) (whole : IsWholeVolume v) (d : Draft) (draft : IsDraf
   -- slices are sectors of the creation
   pub among : (s : ℕ) → in_slices d.runs first len s ≡ true → contains (sectors_of d.runs) s ≡ true
   among s mine = behind_there s (sectors_of d.runs) (dropped_in first s (data_sectors d.runs) (taken_in (sectors_for len - 1) s (drop first (data_sectors d.runs)) mine))
-
-  -- its sectors are a place among those of unfinished creations
-  pub draft_place : IsPlace v.shadow.unfinished (sectors_for d.length) d.runs
-  draft_place = record { free = record { inside = draft.unfinished; differ = draft.differ }; count = draft.size; few = draft.few; some = draft.some }
 
   within : (s : ℕ) → in_slices d.runs first len s ≡ true → contains v.shadow.unfinished.sectors s ≡ true
   within s mine = draft.unfinished s (among s mine)
@@ -100,7 +96,7 @@ module _ (v : VolumeValue) (whole : IsWholeVolume v) (d : Draft) (draft : IsDraf
           → Stands state IsMemoryOf v (with_opened k (draft_wrote k.opened d.runs (with_slices before first slices))) new
       stands_with written now =
           let same_open : open_damage old.windows ≡ open_damage new.windows = ap open_damage (sym writes.windows) in
-          stands_again v whole old new (in_slices d.runs first len) short within writes k stands then_written (same_drafts k.opened.drafts d.runs (with_slices before first slices))
+          stands_again v whole old new (in_slices d.runs first len) short within writes k stands then_written (runs_with k.opened.drafts d.runs (with_slices before first slices))
           (all_written (in_runs k.windows) (hurt_open k old stands) (mounted_opened v k old stands).open_ones.drafts written)
           (subst (λ (w : Sectors). AreWritten w new.image then_written) same_open
           (all_written (open_damage old.windows) (λ s bad. bad) (written_opened v k old stands) (subst (λ (w : Sectors). AllZip (Wrote w new.image) slices (slice_sectors d.runs first len)) (sym same_open) now)))

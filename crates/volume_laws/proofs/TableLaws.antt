@@ -12,7 +12,7 @@ use Rattle.fsd_bytes.specs.Bytes.{same_bytes}
 use Rattle.fsd_bytes.specs.Keys.{key_lt}
 use Rattle.fsd_formats.specs.declared.entry.Entry.{Entry}
 use Rattle.page_cache.specs.Cache.{IsCache, newest_bytes}
-use Rattle.name_page.specs.Lookups.{entry_with, entry_after, highest_of, same_name}
+use Rattle.name_page.specs.Lookups.{entry_with, first_after, highest_of, same_name}
 use Rattle.fsd_table.specs.Table.{BreaksTable, Telling, Visit, visits}
 use Rattle.fsd_table.specs.Tree.{IsTree, pages_of, table_of}
 use Rattle.fsd_table.proofs.ToldLaws.{broken_tells_nothing}
@@ -114,8 +114,8 @@ module _ (v : VolumeValue) (k : Known) (now : Moment) (whole : IsWholeVolume v) 
   pub found_with : (key : Key) → (height : ℕ) × IsTree k.mounted.pages height × (entry_with key (table_of k.mounted.pages height) ≡ entry_of key k.mounted.volume.entries)
   found_with key = (is_tree.0, is_tree.1, ap (entry_with key) is_tree.2 ∙ with_is key k.mounted.volume.entries)
 
-  pub found_behind : (after : Option Key) → (height : ℕ) × IsTree k.mounted.pages height × (entry_after after (table_of k.mounted.pages height) ≡ entry_behind after k.mounted.volume.entries)
-  found_behind after = (is_tree.0, is_tree.1, ap (entry_after after) is_tree.2 ∙ behind_is after k.mounted.volume.entries)
+  pub found_behind : (after : Option Key) → (height : ℕ) × IsTree k.mounted.pages height × (first_after after (table_of k.mounted.pages height) ≡ entry_behind after k.mounted.volume.entries)
+  found_behind after = (is_tree.0, is_tree.1, ap (first_after after) is_tree.2 ∙ behind_is after k.mounted.volume.entries)
 
   pub found_highest : (name : List ℕ) → (height : ℕ) × IsTree k.mounted.pages height × (highest_of name (table_of k.mounted.pages height) ≡ highest_entry name k.mounted.volume.entries)
   found_highest name = (is_tree.0, is_tree.1, ap (highest_of name) is_tree.2 ∙ highest_is name k.mounted.volume.entries)

@@ -2,12 +2,12 @@
 use Rattle.std.proofs.Common.{◌≡◌, ◌⊎◌, inl, inr, ℕ, zero, suc, ◌<◌, ◌≤◌, Bool, true, false, not, ◌&&◌, ◌||◌, List, [], ◌∷◌, All, length, Option, None, Some, refl, sym, ap, subst, ◌∙◌, arith}
 use Rattle.std.specs.Prelude.{◌↔◌, IsTrue, Contains, nat_le, nat_lt, slice_index_or, ◌==◌}
 use Rattle.std.specs.List.{list_all, list_any, flat_map}
-use Rattle.std.proofs.lemmas.Bool.{and_parts, and_from, not-false, or_cases, or_left, or_parts, or_right, both_ways, eq-eqb, false_from_ne_true, eqb-true, leb-true, ltb-true, le-leb, lt-ltb, not-true, or_from}
+use Rattle.std.proofs.lemmas.Bool.{and_parts, and_from, not-false, or_cases, or_left, or_parts, or_right, both_ways, eq-eqb, false_from_ne_true, leb-true, ltb-true, le-leb, lt-ltb, not-true, or_from, and_right}
 use Rattle.run_table.specs.declared.run.Run.{Run}
 use Rattle.run_table.specs.RunTable.{same_runs, sectors_of}
 use Rattle.run_table.specs.Space.{contains, all_differ, runs_of}
 use Rattle.run_table.proofs.SameLaws.{runs_are_same, same_runs_are}
-use Rattle.run_table.proofs.SectorLaws.{all_from}
+use Rattle.run_table.proofs.SectorLaws.{all_from, all_in}
 use Rattle.volume_layout.specs.declared.layout.Layout.{Layout}
 use Rattle.volume_layout.specs.Layout.{data_start, is_data}
 use Rattle.fsd_formats.specs.declared.entry.Entry.{Entry}
@@ -38,15 +38,6 @@ use Rattle.cached_table.specs.Surveying.{IsOfData}
 
 -- ---- each sector of a list
 
-pub all_of : (p : ℕ → Bool) (xs : List ℕ) → list_all p xs ≡ true → (s : ℕ) → contains xs s ≡ true → p s ≡ true
-all_of p [] all s there = absurd (both_ways false refl there)
-all_of p (x ∷ xs) all s there =
-    let parts = and_parts (p x) (list_all p xs) all in
-    elim (or_cases (x == s) (contains xs s) there) [
-      | inl here ↦ ap p (sym (eqb-true x s here)) ∙ parts.0
-      | inr more ↦ all_of p xs parts.1 s more
-    ]
-
 -- two answers that hold together
 same_answer : (a b : Bool) → (a ≡ true → b ≡ true) → (b ≡ true → a ≡ true) → a ≡ b
 same_answer true b on back = sym (on refl)
@@ -68,11 +59,7 @@ agreed_apart (Some other ∷ slots) runs agree =
   where
     first : IsSameOrApart other (Some runs) → (not (same_runs other runs) && list_any (contains (sectors_of other)) (sectors_of runs)) ≡ false
     first (inl same) = ap (λ (b : Bool). not b && list_any (contains (sectors_of other)) (sectors_of runs)) (ap (same_runs other) same ∙ runs_are_same other)
-    first (inr apart) = nothing (not (same_runs other runs)) apart
-      where
-        nothing : (a : Bool) {b : Bool} → b ≡ false → (a && b) ≡ false
-        nothing true none = none
-        nothing false none = refl
+    first (inr apart) = and_right (not (same_runs other runs)) _ apart
 
 pub apart_agreed : (slots : Slots) (runs : List Run) → meets_held (held_runs slots) runs ≡ false → All (IsSameOrApart runs) slots
 apart_agreed [] runs none = λ k d less. absurd (omega arith)
@@ -124,7 +111,7 @@ module _ (v : VolumeValue) (whole : IsWholeVolume v) (runs : List Run) where
       out : (m : Area) → IsOfData v.layout m → ((s : ℕ) → (contains v.map.sectors s || waits_in v.shadow s) ≡ false → contains m.sectors s ≡ false) → AreOut m runs
       out m of_data outside =
           let each : (s : ℕ) → contains (sectors_of runs) s ≡ true → (is_data v.layout s ≡ true) × (not (contains v.map.sectors s || waits_in v.shadow s) ≡ true) =
-          λ s there. and_parts (is_data v.layout s) (not (contains v.map.sectors s || waits_in v.shadow s)) (all_of (is_taken v) (sectors_of runs) parts.1 s there) in
+          λ s there. and_parts (is_data v.layout s) (not (contains v.map.sectors s || waits_in v.shadow s)) (all_in (is_taken v) (sectors_of runs) s parts.1 there) in
           record {
             within = λ s there.
                 let area = and_parts (nat_le (data_start v.layout) s) (nat_lt s v.layout.sectors) (each s there).0 in (
@@ -184,7 +171,7 @@ module _ (v : VolumeValue) (m : Mounted) (records : List Placed) (whole : IsWhol
       (and_from (all_differ (sectors_of e.runs)) (list_all (is_taken v) (sectors_of e.runs)) (occurs_differ (sectors_of e.runs) once)
       (all_from (is_taken v) (sectors_of e.runs) (λ s there.
       let here : IsTrue (in_version m.volume s) = occurs_contains s (flat_map sectors_of (plans_of m.volume.entries)) (omega (arith, contains_occurs s (sectors_of e.runs) there, fewer_in_one m.volume.entries e has.0 s has.1 has.2)) in
-      let area : IsTrue (is_data m.volume.layout s) = all_of (is_data m.volume.layout) (flat_map sectors_of (plans_of m.volume.entries)) parts.1 s here in
+      let area : IsTrue (is_data m.volume.layout s) = all_in (is_data m.volume.layout) (flat_map sectors_of (plans_of m.volume.entries)) s parts.1 here in
       in_version_taken s (subst (λ (l : Layout). IsTrue (is_data l s)) layout area) here)))
       (ap not (ap (λ (plans : List (List Run)). meets_held plans e.runs) (sym held) ∙ none_met m.volume.held (spaced.held)))
     where
@@ -257,8 +244,8 @@ module _ (v : VolumeValue) (runs : List Run) (taken : are_taken v runs ≡ true)
     where
       none : (contains v.map.sectors t ≡ false) × (waits_in v.shadow t ≡ false)
       none =
-          let each = all_of (is_taken v) (sectors_of runs) (and_parts (all_differ (sectors_of runs)) (list_all (is_taken v) (sectors_of runs))
-          (and_parts (all_differ (sectors_of runs) && list_all (is_taken v) (sectors_of runs)) (not (meets_held (held_runs v.shadow.held) runs)) taken).0).1 t there in
+          let each = all_in (is_taken v) (sectors_of runs) t (and_parts (all_differ (sectors_of runs)) (list_all (is_taken v) (sectors_of runs))
+          (and_parts (all_differ (sectors_of runs) && list_all (is_taken v) (sectors_of runs)) (not (meets_held (held_runs v.shadow.held) runs)) taken).0).1 there in
           let out = (and_parts (is_data v.layout t) (not (contains v.map.sectors t || waits_in v.shadow t)) each).1 in
           or_parts (contains v.map.sectors t) (waits_in v.shadow t) (not-true (contains v.map.sectors t || waits_in v.shadow t) out)
 

@@ -19,6 +19,7 @@ use Rattle.fsd_sound.specs.Mounted.{Wrote}
 use Rattle.volume_contract.specs.Pieces.{drafts_with, slices_in, with_slices}
 use Rattle.volume_contract.specs.State.{WrittenDraft}
 use Rattle.volume_laws.proofs.ClearedLaws.{AreWritten}
+use Rattle.volume_laws.proofs.OpenedLaws.{runs_of_drafts}
 
 -- ---- parts of a list whose sectors differ
 
@@ -141,18 +142,6 @@ zip_unknown hurt i (b ∷ bs) [] same = absurd (omega (arith, same))
 zip_unknown hurt i (b ∷ bs) (y ∷ ys) same = (tt, zip_unknown hurt i bs ys (omega (arith, same)))
 
 -- ---- creations
-
-abbrev runs_of_drafts : List WrittenDraft → List (List Run)
-runs_of_drafts drafts = map (λ x. x.runs) drafts
-
--- the runs stay
-pub same_drafts : (drafts : List WrittenDraft) (runs : List Run) (slices : List (Option (List ℕ))) → map (λ x. x.runs) (drafts_with drafts runs slices) ≡ map (λ x. x.runs) drafts
-same_drafts [] runs slices = refl
-same_drafts (x ∷ drafts) runs slices = by (same_runs x.runs runs) (same_drafts drafts runs slices)
-  where
-    by : (b : Bool) → map (λ y. y.runs) (drafts_with drafts runs slices) ≡ map (λ y. y.runs) drafts → map (λ y. y.runs) (cond b (record { runs = x.runs; slices = slices } ∷ drafts) (x ∷ drafts_with drafts runs slices)) ≡ x.runs ∷ map (λ y. y.runs) drafts
-    by true rest = refl
-    by false rest = ap (λ (plans : List (List Run)). x.runs ∷ plans) rest
 
 module _ (hurt : Sectors) (i j : Image) (runs : List Run) (slices : List (Option (List ℕ))) (worn : (s : ℕ) → contains (sectors_of runs) s ≡ false → SectorWorn (hurt s) (sector_at i s) (sector_at j s))
     (written : AllZip (Wrote hurt j) slices (data_sectors runs)) where

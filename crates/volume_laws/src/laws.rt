@@ -12,7 +12,7 @@ ghost use Rattle.fsd_table.specs.Pages.{entries_of};
 ghost use Rattle.fsd_table.specs.Table.{BreaksTable, Visit, visits};
 ghost use Rattle.fsd_table.specs.Tree.{IsTree, table_of};
 ghost use Rattle.fsd_files.specs.Answers.{entry_of, entry_after as entry_behind};
-ghost use Rattle.name_page.specs.Lookups.{entry_with, entry_after};
+ghost use Rattle.name_page.specs.Lookups.{entry_with, first_after};
 ghost use Rattle.table_pages.specs.Kept.{images_given};
 ghost use Rattle.fsd_sound.specs.Mounted.{Mounted, image_at};
 ghost use Rattle.group_commit.specs.Newest.{AreCopiesIn, KnowsPages, newest_by};
@@ -75,7 +75,7 @@ pub fn tables_are_looked_up()
     ensures entry { (v : VolumeValue) (k : Known) (now : Moment) (key : Key) → IsWholeVolume v → Stands state IsMemoryOf v k now →
         (height : ℕ) × IsTree k.mounted.pages height × (entry_with key (table_of k.mounted.pages height) ≡ entry_of key k.mounted.volume.entries) }
     ensures next { (v : VolumeValue) (k : Known) (now : Moment) (after : Option Key) → IsWholeVolume v → Stands state IsMemoryOf v k now →
-        (height : ℕ) × IsTree k.mounted.pages height × (entry_after after (table_of k.mounted.pages height) ≡ entry_behind after k.mounted.volume.entries) }
+        (height : ℕ) × IsTree k.mounted.pages height × (first_after after (table_of k.mounted.pages height) ≡ entry_behind after k.mounted.volume.entries) }
     ensures unbroken { (v : VolumeValue) (k : Known) (now : Moment) (page : ℕ) → IsWholeVolume v → Stands state IsMemoryOf v k now → BreaksTable k.mounted.pages page → ⊥ }
     ensures used { (v : VolumeValue) (k : Known) (now : Moment) (visit : Visit) → IsWholeVolume v → Stands state IsMemoryOf v k now → Contains (visits k.mounted.pages) visit → slice_index_or v.free_pages visit.page false ≡ false }
 {}

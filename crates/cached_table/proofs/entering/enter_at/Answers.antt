@@ -7,7 +7,7 @@ use Rattle.name_btree.specs.declared.fault.TreeFault.{TreeFault}
 use Rattle.version_table.specs.Table.{MakesTable}
 use Rattle.fsd_bytes.specs.declared.refusal.Refusal.{Refusal}
 use Rattle.name_page.specs.Looks.{OnlyEdits, OnlyWalks}
-use Rattle.name_page.specs.Pages.{free_count, outer_refusal}
+use Rattle.name_page.specs.Pages.{spare_count, outer_refusal}
 use Rattle.name_page.proofs.LookLaws.{edits_then, pages_then, walks_edits, walks_pages, walks_then}
 use Rattle.cached_table.specs.Entering.{AreInTurn, RefusesAt, TellsUntaken}
 use Rattle.version_table.specs.declared.oldest.Leaving.{Leaving}
@@ -48,7 +48,7 @@ returns-in-Ok-enter-clause-calls g c =
 pub returns-in-Err-clause-refused : goal.returns-in-Err-clause-refused
 returns-in-Err-clause-refused g c =
     let P = g.T.Pages in
-    let free = free_count (P.step c.args.t.now) in
+    let free = spare_count (P.step c.args.t.now) in
     let walks = subst (λ (o : Option Refusal). OnlyWalks P o c.args.t.now c.plan_version.new.t) (sym (outer_planned c.args.home_a c.in-Err.fault)) c.in-Err.ensures.walks in
     subst (λ (r : Refusal). RefusesAt P c.args.map.now c.args.shadow.now c.args.name.now c.args.home_a c.args.t.now c.plan_version.new.t r) (sym c.plan_refusal.ensures) (record {
       kept = walks;
@@ -69,7 +69,7 @@ returns-in-Some-clause-refused g c =
     let tells = subst (λ (gone : List Leaving). TellsUntaken c.args.home_a c.args.map.now c.args.shadow.now gone c.in-Some.refusal) c.as_slice.ensures.value c.in-Some.ensures.told in
     record {
       kept = subst (λ (o : Option Refusal). OnlyWalks P o c.args.t.now c.plan_version.new.t) (sym (outer_untaken c.args.home_a c.args.map.now c.args.shadow.now _ c.in-Some.refusal tells)) c.in-Ok.ensures.walks;
-      fault = gone_refuse P c.args.map.now c.args.shadow.now c.args.name.now (free_count (P.step c.args.t.now)) c.args.home_a c.args.t.now c.plan_version.new.t c.args.given plan c.in-Some.refusal tells c.in-Ok.ensures.planned
+      fault = gone_refuse P c.args.map.now c.args.shadow.now c.args.name.now (spare_count (P.step c.args.t.now)) c.args.home_a c.args.t.now c.plan_version.new.t c.args.given plan c.in-Some.refusal tells c.in-Ok.ensures.planned
           (λ turn. c.in-Some.ensures.some refl (subst (AreInTurn c.args.map.now c.args.shadow.now []) (sym c.as_slice.ensures.value) turn));
       shown = gone_shows P c.args.map.now c.args.shadow.now c.args.name.now c.args.home_a c.args.t.now c.plan_version.new.t c.in-Ok.plan.gone.items c.in-Some.refusal c.in-Ok.ensures.formed.met tells;
     }
@@ -93,7 +93,7 @@ returns-in-Ok-enter-clause-entered g c =
       name_is = c.in-Ok.ensures.formed.named;
       planned = λ t. c.in-Ok.ensures.planned (c.in-Ok-enter.ensures.edits.calls.trust t);
       taken = search rules;
-      room = spare_enough _ (free_count (g.T.Pages.step c.args.t.now)) (ap (λ (f : List Bool). count_by (λ spare. spare) f) c.in-Ok.ensures.walks.spares) (λ few. cc (c.in-Ok-enter.ensures.full.1 few));
+      room = spare_enough _ (spare_count (g.T.Pages.step c.args.t.now)) (ap (λ (f : List Bool). count_by (λ spare. spare) f) c.in-Ok.ensures.walks.spares) (λ few. cc (c.in-Ok-enter.ensures.full.1 few));
       entered = makes_before g.T.Pages c.args.t.now c.plan_version.new.t c.in-Ok.ensures.walks c.enter.new.t (with_planned plan (planned_entry plan d.serial d.length d.runs)) c.in-Ok-enter.ensures.edits.calls.trust made;
     }
 
@@ -104,7 +104,7 @@ returns-in-Err-enter-clause-refused g c =
     let new = c.enter.new.t in
     let plan : Plan = record { key = c.in-Ok.plan.key; keep = c.in-Ok.plan.keep; gone = c.in-Ok.plan.gone } in
     let e = c.in-Err-enter.ensures in
-    let free = free_count (P.step c.args.t.now) in
+    let free = spare_count (P.step c.args.t.now) in
     let small : c.in-Ok.plan.key.version < 2 ^ 32 = search rules in
     let walks = walks_then P g.met.T.Pages.then c.args.t.now now new c.in-Ok.ensures.walks e.edits.kept in
     subst (λ (r : Refusal). RefusesAt P c.args.map.now c.args.shadow.now c.args.name.now c.args.home_a c.args.t.now new r) (sym c.enter_refusal.ensures) (record {

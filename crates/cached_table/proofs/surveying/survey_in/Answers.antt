@@ -13,8 +13,7 @@ returns-clause-only g c = let calls = c.survey-counts.ensures.calls in surveys_l
 pub returns-clause-told : goal.returns-clause-told
 returns-clause-told g c =
     let calls = c.survey-counts.ensures.calls in
-    told_of c.new-table.ensures.over c.new-table.ensures.step calls.spares calls.home_a calls.changed calls.stays calls.outside (left_as c.rest.ensures.left (search rules) refl refl) _ _ _ c.survey-counts.result
-    c.survey-counts.ensures.area c.survey-counts.ensures.counted c.survey-counts.ensures.told c.survey-counts.ensures.unbroken
+    told_of c.new-table.ensures.over c.new-table.ensures.step calls.spares calls.home_a calls.changed calls.stays calls.outside (left_as c.rest.ensures.left (search rules) refl refl) _ _ _ c.survey-counts.result c.survey-counts.ensures.surveys
 
 pub returns-clause-fault : goal.returns-clause-fault
 returns-clause-fault g c = let calls = c.survey-counts.ensures.calls in fails_of c.new-table.ensures.over c.new-table.ensures.step calls.spares calls.home_a calls.changed calls.stays calls.outside (left_as c.rest.ensures.left (search rules) refl refl) _ c.requires.some c.survey-counts.result c.survey-counts.ensures.fault c.survey-counts.ensures.among

@@ -1,10 +1,7 @@
 use Rattle.std.proofs.Common.{◌≡◌, ℕ, Some, Err, arith}
-use Rattle.std.specs.Prelude.{IfErr, IsTrue}
+use Rattle.std.proofs.lemmas.Result.{err_from_is_err_and}
+use Rattle.std.specs.Prelude.{IfErr}
 use Rattle.fsd_bytes.specs.declared.refusal.Refusal.TheVariants as Why
-use Rattle.run_table.specs.RunTable.{sectors_of}
-use Rattle.run_table.specs.Space.{contains}
-use Rattle.sector_disk.specs.declared.sector.Sector.TheVariants.{Damaged}
-use Rattle.sector_disk.specs.Image.{sector_at}
 use Rattle.sector_disk.specs.Calls.{device_in}
 use Rattle.sector_disk.proofs.CallLaws.{reads_told}
 use Rattle.volume_contract.specs.Ends.{ReadsRange, device_of}
@@ -12,6 +9,7 @@ use Rattle.volume_contract.specs.Order.{IsData}
 use Rattle.version_data.specs.Reading.{data_failed_at, refusal_of}
 use Rattle.version_data.proofs.PlaceLaws.{entry_count, entry_length}
 use Rattle.volume_laws.proofs.RangeLaws.{damaged_reads, data_device, data_is, handed, reads_range, told_damaged, told_there}
+use Rattle.table_volume.specs.Looks.{IsDamagedOf}
 use Rattle.table_volume.proofs.reading.read_version.Goals as goal
 
 pub read_range-requires-clause-end : goal.read_range-requires-clause-end
@@ -42,21 +40,20 @@ pub returns-in_err-read_range-clause-damaged : goal.returns-in_err-read_range-cl
 returns-in_err-read_range-clause-damaged g c =
     let M = g.M.Machine in
     let fault = c.in_err-read_range.field-0.0 in
+    let i = (M.now c.args.m.now).image in
     let j = (M.now c.read_range.new.m).image in
-    handed (λ r. (s : ℕ) → r ≡ Err (Why.Damaged s) → M.honest c.read_range.new.m → sector_at j s ≡ Damaged) c.from_residual.result (refusal_of fault) c.from_residual.ensures.1
-    (λ s is h. told_damaged (M.now c.args.m.now).image j c.args.e.now.runs c.args.from c.min-n.result s fault (c.in_err-read_range.ensures.damaged h) (cc is))
-
-pub returns-in_err-read_range-clause-there : goal.returns-in_err-read_range-clause-there
-returns-in_err-read_range-clause-there g c =
-    let M = g.M.Machine in
-    let fault = c.in_err-read_range.field-0.0 in
     let runs = c.args.e.now.runs in
-    handed (λ r. (s : ℕ) → r ≡ Err (Why.Damaged s) → M.honest c.read_range.new.m → IsTrue (contains (sectors_of runs) s)) c.from_residual.result (refusal_of fault) c.from_residual.ensures.1
-    (λ s is h. told_there (M.now c.args.m.now).image (M.now c.read_range.new.m).image runs c.args.from c.min-n.result s fault (c.in_err-read_range.ensures.damaged h) (cc is))
+    handed (λ r. (s : ℕ) → r ≡ Err (Why.Damaged s) → M.honest c.read_range.new.m → IsDamagedOf runs j s) c.from_residual.result (refusal_of fault) c.from_residual.ensures.1
+    (λ s is h. let named = c.in_err-read_range.ensures.damaged h in record { there = told_there i j runs c.args.from c.min-n.result s fault named (cc is); damaged = told_damaged i j runs c.args.from c.min-n.result s fault named (cc is) })
+
+pub returns-in_err-read_range-clause-range : goal.returns-in_err-read_range-clause-range
+returns-in_err-read_range-clause-range g c =
+    let p = err_from_is_err_and c.from_residual.result c.from_residual.ensures.1 in
+    record { most = rw p.1 tt; count = rw p.1 tt; whole = rw p.1 tt }
 
 pub returns-clause-gives : goal.returns-clause-gives
 returns-clause-gives g c = λ h file hurt len kept.
     reads_range (g.M.Machine.now c.args.m.now).image hurt file c.args.e.now c.args.from c.min-n.result c.args.buf.now c.read_range.new.buf (omega arith) (omega arith) len kept (c.in_ok-read_range.ensures.gives h)
 
-pub returns-clause-whole : goal.returns-clause-whole
-returns-clause-whole g c = λ h. (c.in_ok-read_range.ensures.gives h).whole
+pub returns-clause-range : goal.returns-clause-range
+returns-clause-range g c = record { most = omega arith; count = omega arith; whole = λ h. (c.in_ok-read_range.ensures.gives h).whole }

@@ -1,6 +1,6 @@
 use Rattle.std.proofs.Common.{◌≤◌, ℕ, ap, refl, rules, subst}
 use Rattle.std.proofs.lemmas.Result.{on_err_weaker}
-use Rattle.name_page.specs.Pages.{free_count, outer_in}
+use Rattle.name_page.specs.Pages.{spare_count, outer_in}
 use Rattle.version_table.specs.Plan.{IsPlan, planned_entry, with_planned}
 use Rattle.cached_table.proofs.LeftLaws.{left_as}
 use Rattle.cached_table.proofs.EditLaws.{changes_left, edits_left, made_so, of_so, refuses_left, stays_left}
@@ -28,7 +28,7 @@ returns-clause-entered g c =
     enters_in _ _ _ _ _ _ _ _ _ _ _ _ _ _ r (entered_each r (λ plan x. x.name_is) e)
     (of_so c.new-table.ensures.over c.new-table.ensures.step c.enter_at-done.ensures.calls.count c.enter_at-done.ensures.calls.outside (left_as c.rest.ensures.left (search rules) refl refl) (λ plan table. IsPlan c.args.name.now c.args.given table plan) r (entered_each r (λ plan x. x.planned) e))
     (entered_each r (λ plan x. x.taken) e)
-    (entered_each r (λ plan x. subst (λ (n : ℕ). 8 ≤ n) (ap free_count c.new-table.ensures.step) x.room) e)
+    (entered_each r (λ plan x. subst (λ (n : ℕ). 8 ≤ n) (ap spare_count c.new-table.ensures.step) x.room) e)
     (made_so c.new-table.ensures.over c.new-table.ensures.step c.enter_at-done.ensures.calls.count c.enter_at-done.ensures.calls.outside (left_as c.rest.ensures.left (search rules) (search rules) (search rules)) (λ plan. with_planned plan (planned_entry plan d.serial d.length d.runs)) r (entered_each r (λ plan x. x.entered) e))
 
 pub returns-clause-refused : goal.returns-clause-refused

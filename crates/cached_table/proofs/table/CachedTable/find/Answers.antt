@@ -1,6 +1,6 @@
 use Rattle.std.proofs.Common.{refl, rules}
 use Rattle.name_page.specs.Lookups.{entry_with}
-use Rattle.name_btree.proofs.ResultLaws.{failed_cause, failed_shown}
+use Rattle.name_btree.proofs.steps.ResultLaws.{failed_cause, failed_shown}
 use Rattle.cached_table.proofs.LeftLaws.{left_as}
 use Rattle.cached_table.proofs.AbsentLaws.{lacks_key}
 use Rattle.cached_table.proofs.LookLaws.{fails_left, found_left, looks_left, tells_left}

@@ -1,6 +1,6 @@
 use Rattle.std.proofs.Common.{inl, inr, refl, rules}
 use Rattle.name_page.specs.Lookups.{highest_of}
-use Rattle.name_btree.proofs.ResultLaws.{failed_cause, failed_shown}
+use Rattle.name_btree.proofs.steps.ResultLaws.{failed_cause, failed_shown}
 use Rattle.cached_table.proofs.LeftLaws.{left_as}
 use Rattle.cached_table.proofs.AbsentLaws.{lacks_name}
 use Rattle.cached_table.proofs.LookLaws.{fails_left, found_left, looks_left, tells_left}

@@ -1,7 +1,7 @@
 use Rattle.std.proofs.Common.{◌∷◌, [], refl, rules}
 use Rattle.fsd_files.specs.Volume.{entries_without}
 use Rattle.name_btree.specs.Fault.{outer_told}
-use Rattle.name_btree.proofs.ResultLaws.{err_more}
+use Rattle.name_btree.proofs.steps.ResultLaws.{err_more}
 use Rattle.table_pages.specs.Table.{Trusted, step_of}
 use Rattle.cached_table.proofs.LeftLaws.{left_as}
 use Rattle.cached_table.proofs.EditLaws.{changes_left, edits_left, faults_left, made_left, stays_left}

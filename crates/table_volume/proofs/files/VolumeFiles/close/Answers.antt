@@ -12,9 +12,9 @@ pub returns-in-Ok : goal.returns-in-Ok
 returns-in-Ok g c =
     let forced = c.in-Ok.ensures in
     record {
-      order = record { follows = forced.order; idle = forced.idle };
+      order = record { follows = forced.order.follows; idle = forced.order.idle };
       disk = forced.disk;
-      writes = record { rest = forced.rest; counted = forced.counted };
+      writes = record { rest = forced.writes.rest; counted = forced.writes.counted };
       causes = tt;
       unwritten = tt;
       done = λ honest k stands. closes k c.force_all.new.self (g.M.Machine.now c.force_all.new.m) (forced.done honest k stands);
@@ -24,11 +24,11 @@ pub returns : goal.returns
 returns g c =
     let failed = c.in-Err.ensures in
     record {
-      order = record { follows = failed.order; idle = failed.idle };
+      order = record { follows = failed.order.follows; idle = failed.order.idle };
       disk = failed.disk;
-      writes = record { rest = failed.rest; counted = failed.counted };
-      causes = failed.lost;
-      unwritten = failed.counted_err;
+      writes = record { rest = failed.writes.rest; counted = failed.writes.counted };
+      causes = failed.tells.lost;
+      unwritten = failed.tells.unwritten;
       done = λ honest k stands.
           ends_device Forced (λ met. force_outcome (volume_of k)) IsForced k c.force_all.new.self (g.M.Machine.now c.force_all.new.m) c.in-Err.refusal (failed.done honest k stands);
     }

@@ -10,11 +10,11 @@ pub returns-in-Ok : goal.returns-in-Ok
 returns-in-Ok g c =
     let made = c.in-Ok.ensures in
     rw c.creation-entry.ensures.same (record {
-      order = record { follows = made.order; idle = made.idle };
+      order = made.order;
       disk = made.disk;
-      writes = record { rest = made.rest; counted = made.counted };
-      keeps = record { state = made.state; back = tt; kept = made.kept };
-      tells = record { name = made.name; causes = made.causes };
+      writes = made.writes;
+      keeps = record { state = made.keeps.state; back = tt; kept = made.keeps.kept };
+      tells = made.tells;
       done = made.done;
     })
 
@@ -22,10 +22,10 @@ pub returns-in-Err : goal.returns-in-Err
 returns-in-Err g c =
     let failed = c.in-Err.ensures in
     rw c.creation-entry.ensures.same (record {
-      order = record { follows = failed.order; idle = failed.idle };
+      order = failed.order;
       disk = failed.disk;
-      writes = record { rest = failed.rest; counted = failed.counted };
-      keeps = record { state = failed.state; back = refl; kept = failed.kept };
-      tells = record { name = tt; causes = failed.causes };
+      writes = failed.writes;
+      keeps = record { state = failed.keeps.state; back = refl; kept = failed.keeps.kept };
+      tells = failed.tells;
       done = failed.done;
     })

@@ -4,7 +4,6 @@ use Rattle.std.proofs.lemmas.Result.{err_from_is_err_and}
 use Rattle.std.specs.List.{list_any}
 use Rattle.fsd_bytes.specs.declared.refusal.Refusal.{Refusal}
 use Rattle.volume_contract.specs.Absent.{ReachesPage}
-use Rattle.volume_contract.specs.Causes.{IsTaken}
 use Rattle.volume_contract.specs.Found.{HasEntry}
 use Rattle.volume_contract.specs.Pieces.{EndsHold}
 use Rattle.volume_contract.specs.State.{State}
@@ -15,11 +14,14 @@ use Rattle.volume_laws.proofs.CauseLaws.{handed_cause}
 use Rattle.volume_laws.proofs.HoldLaws.{hold_done, hold_refused, hold_token, shows_held}
 use Rattle.table_volume.proofs.files.VolumeFiles.hold.Goals as goal
 
+pub held_at-place-requires-clause-taken : goal.held_at-place-requires-clause-taken
+held_at-place-requires-clause-taken g c = c.in_ok-entry.ensures.gives.here
+
 pub held_at-place-requires-clause-place : goal.held_at-place-requires-clause-place
 held_at-place-requires-clause-place g c = subst (λ (s : State). list_any is_none s.readers ≡ true) (sym c.in_ok-entry.ensures.state) c.requires.place
 
 pub returns-clause-order : goal.returns-clause-order
-returns-clause-order g c = record { follows = c.in_ok-entry.ensures.order; idle = c.in_ok-entry.ensures.idle }
+returns-clause-order g c = record { follows = c.in_ok-entry.ensures.order.follows; idle = c.in_ok-entry.ensures.order.idle }
 
 pub returns-clause-state : goal.returns-clause-state
 returns-clause-state g c =
@@ -32,20 +34,21 @@ returns-clause-state g c =
 pub returns-clause-held : goal.returns-clause-held
 returns-clause-held g c =
     let same : (state c.held_at-place.new.self).layout ≡ (state c.args.self.now).layout = ap (λ (s : State). s.layout) c.held_at-place.ensures.state ∙ ap (λ (s : State). s.layout) c.in_ok-entry.ensures.state in
-    hold_token _ _ (state c.args.self.now).layout same c.in_ok-entry.ensures.good c.in_ok-entry.ensures.within c.held_at-place.ensures.inside c.held_at-place.ensures.there
+    let met = c.in_ok-entry.ensures.gives.met in
+    hold_token _ _ (state c.args.self.now).layout same met.entry met.within c.held_at-place.ensures.inside c.held_at-place.ensures.there
 
 pub returns-clause-tells : goal.returns-clause-tells
 returns-clause-tells g c =
     let M = g.M.Machine in
     let s = state c.args.self.now in
-    let e = c.in_ok-entry.ensures in
+    let tells = c.in_ok-entry.ensures.gives.tells in
     record {
-      key = e.key;
-      taken = subst (λ (s : State). IsTaken s c.in_ok-entry.entry) e.state e.taken;
+      key = tells.key;
+      taken = tells.taken;
       causes = tt;
       absent = λ is. absurd (cc is);
       found = λ honest.
-          shows_held s (state c.version.new.self) (state c.held_at-place.new.self) (resident c.args.self.now) (M.now c.args.m.now) (M.now c.version.new.m) (ReachesPage (HasEntry c.in_ok-entry.entry)) _ c.held_at-place.ensures.state (e.found honest);
+          shows_held s (state c.version.new.self) (state c.held_at-place.new.self) (resident c.args.self.now) (M.now c.args.m.now) (M.now c.version.new.m) (ReachesPage (HasEntry c.in_ok-entry.entry)) _ c.held_at-place.ensures.state (tells.found honest);
     }
 
 pub returns-clause-done : goal.returns-clause-done
@@ -58,7 +61,7 @@ returns-clause-done g c = λ h k stands.
 pub returns-in_err-entry-clause-order : goal.returns-in_err-entry-clause-order
 returns-in_err-entry-clause-order g c =
     let p = err_from_is_err_and c.from_residual.result c.from_residual.ensures.1 in
-    rw (p.1, p.2) (record { follows = c.in_err-entry.ensures.order; idle = c.in_err-entry.ensures.idle })
+    rw (p.1, p.2) (record { follows = c.in_err-entry.ensures.order.follows; idle = c.in_err-entry.ensures.order.idle })
 
 pub returns-in_err-entry-clause-done : goal.returns-in_err-entry-clause-done
 returns-in_err-entry-clause-done g c = λ h k stands.
@@ -70,7 +73,7 @@ returns-in_err-entry-clause-done g c = λ h k stands.
 pub returns-in_err-entry-clause-tells : goal.returns-in_err-entry-clause-tells
 returns-in_err-entry-clause-tells g c =
     let v = c.args.self.now in
-    let failed = c.in_err-entry.ensures in
+    let failed = c.in_err-entry.ensures.gives.tells in
     let why = c.in_err-entry.field-0.0 in
     let back = c.from_residual in
     let p = err_from_is_err_and back.result back.ensures.1 in

@@ -1,18 +1,22 @@
-use Rattle.std.proofs.Common.{◌≤◌, ◌^◌, inl, inr, ℕ, Option, option_map, ap, arith, refl, sym, subst}
+use Rattle.std.proofs.Common.{◌<◌, ◌≤◌, ◌^◌, ◌∙◌, inl, inr, ℕ, Option, option_map, ap, arith, refl, sym, subst}
 use Rattle.std.proofs.lemmas.Result.{err_from_is_err_and}
+use Rattle.std.specs.Prelude.{IfSome}
 use Rattle.std.specs.Option.{option_copied}
+use Rattle.sector_disk.specs.Calls.{device_in}
+use Rattle.sector_disk.proofs.CallLaws.{reads_told}
 use Rattle.fsd_formats.specs.declared.entry.Entry.{Entry}
 use Rattle.fsd_files.specs.Answers.{entry_after, next_reply}
-use Rattle.volume_contract.specs.Ends.{LooksUp}
+use Rattle.volume_contract.specs.Ends.{LooksUp, device_of}
 use Rattle.volume_contract.specs.Found.{ShowsReachedNext}
 use Rattle.volume_contract.specs.Order.{Follows, next_steps}
 use Rattle.volume_contract.specs.Telling.{TellsNext}
 use Rattle.volume_laws.specs.State.{resident, state}
 use Rattle.volume_laws.specs.Volume.{VolumeValue}
 use Rattle.volume_layout.proofs.RootLaws.{planned_bounds}
-use Rattle.table_volume.proofs.MetLaws.{found_is_met}
+use Rattle.table_volume.proofs.MetLaws.{found_is_met, met_place}
 use Rattle.volume_laws.proofs.AbsentLaws.{none_met}
 use Rattle.volume_laws.proofs.CauseLaws.{handed_cause, met_one}
+use Rattle.volume_laws.proofs.EditedLaws.{state_looked}
 use Rattle.volume_laws.proofs.EntryLaws.{fault_looked_up}
 use Rattle.volume_laws.proofs.FoundLaws.{one_met}
 use Rattle.volume_laws.proofs.NextLaws.{busy_next, met_done, met_later, met_order, up_by}
@@ -49,12 +53,23 @@ returns-in_err-found-clause-order g c =
     let s = state c.args.self.now in
     let up = up_by c.args.self.now.down (sym c.in_ok-is_up.ensures) in
     let p = err_from_is_err_and c.from_residual-in_err-found.result c.from_residual-in_err-found.ensures.1 in
-    rw (p.1, p.2) (record { follows = inr (ap (λ (d : Option ℕ). option_map Why.Down d) up, inl c.in_err-found.ensures.cause); idle = λ idle. absurd (busy_next s up idle) })
+    rw (p.1, p.2) (record { follows = inr (ap (λ (d : Option ℕ). option_map Why.Down d) up, inl c.in_err-found.ensures.looks.cause); idle = λ idle. absurd (busy_next s up idle) })
+
+pub returns-in_err-found-clause-disk : goal.returns-in_err-found-clause-disk
+returns-in_err-found-clause-disk g c =
+    let p = err_from_is_err_and c.from_residual-in_err-found.result c.from_residual-in_err-found.ensures.1 in
+    rw (p.1, p.2) c.in_err-found.ensures.looks.disk
+
+pub returns-in_err-found-clause-state : goal.returns-in_err-found-clause-state
+returns-in_err-found-clause-state g c = let looks = c.in_err-found.ensures.looks in state_looked c.args.self.now c.find_next.new.self looks.cache looks.dirty
+
+pub returns-in_err-found-clause-stands : goal.returns-in_err-found-clause-stands
+returns-in_err-found-clause-stands g c = c.in_err-found.ensures.looks.stands
 
 pub returns-in_err-found-clause-tells : goal.returns-in_err-found-clause-tells
 returns-in_err-found-clause-tells g c =
     let v = c.args.self.now in
-    let failed = c.in_err-found.ensures in
+    let failed = c.in_err-found.ensures.looks in
     let back = c.from_residual-in_err-found in
     let p = err_from_is_err_and back.result back.ensures.1 in
     record {
@@ -65,6 +80,11 @@ returns-in_err-found-clause-tells g c =
       found = rw p.1 tt;
     }
 
+pub met_found-requires : goal.met_found-requires
+met_found-requires g c =
+    let looks = c.in_ok-found.ensures.looks in
+    subst (λ (n : ℕ). IfSome c.in_ok-found.found (λ f. f.page < n)) (sym (ap (λ (v : VolumeValue). v.layout.pages) looks.cache)) looks.page
+
 pub returns-clause-order : goal.returns-clause-order
 returns-clause-order g c =
     let s = state c.args.self.now in
@@ -74,10 +94,20 @@ returns-clause-order g c =
       idle = λ idle. absurd (busy_next s up idle);
     }
 
+pub returns-clause-disk : goal.returns-clause-disk
+returns-clause-disk g c =
+    reads_told (ap (device_in device_of) c.met_found.ensures ∙ met_place c.find_next.new.self c.in_ok-found.found) c.in_ok-found.ensures.looks.disk
+
+pub returns-clause-state : goal.returns-clause-state
+returns-clause-state g c = let looks = c.in_ok-found.ensures.looks in state_looked c.args.self.now c.find_next.new.self looks.cache looks.dirty
+
+pub returns-clause-stands : goal.returns-clause-stands
+returns-clause-stands g c = c.in_ok-found.ensures.looks.stands
+
 pub returns-clause-done : goal.returns-clause-done
 returns-clause-done g c = λ h k stands.
     subst (LooksUp (next_reply k.mounted.volume (option_copied c.args.after))) (sym c.met_found.ensures)
-    (met_done c.find_next.new.self c.in_ok-found.found (option_copied c.args.after) k.mounted.volume.entries (c.in_ok-found.ensures.found h k stands) (c.in_ok-found.ensures.taken h k stands))
+    (met_done c.find_next.new.self c.in_ok-found.found (option_copied c.args.after) k.mounted.volume.entries (c.in_ok-found.ensures.found h k stands) (c.in_ok-found.ensures.looks.taken h k stands))
 
 pub returns-in_err-found-clause-done : goal.returns-in_err-found-clause-done
 returns-in_err-found-clause-done g c =
@@ -91,13 +121,14 @@ returns-clause-tells g c =
     let w = c.find_next.new.self in
     let after = option_copied c.args.after in
     let found = c.in_ok-found.ensures in
+    let looks = c.in_ok-found.ensures.looks in
     let bounds = planned_bounds c.args.self.now.layout c.attest.ensures.planned in
-    let most : w.layout.sectors ≤ 2 ^ 24 = omega (arith, bounds.sectors_most, ap (λ (v : VolumeValue). v.layout.sectors) found.cache) in
+    let most : w.layout.sectors ≤ 2 ^ 24 = omega (arith, bounds.sectors_most, ap (λ (v : VolumeValue). v.layout.sectors) looks.cache) in
     let Is : Entry → Type 0 = ShowsReachedNext g.M.Machine (resident v) (state v) (state w) c.args.m.now c.find_next.new.m after in
     subst (TellsNext g.M.Machine (resident v) (state v) (state w) c.args.m.now c.find_next.new.m after) (sym c.met_found.ensures) (record {
       later = met_later w c.in_ok-found.found after found.later;
-      met = found_is_met w most found.told c.in_ok-found.found found.entry;
-      causes = met_one g.M.Machine (resident v) (state v) (state w) c.args.m.now c.find_next.new.m w c.in_ok-found.found found.met;
+      met = found_is_met w most looks.told c.in_ok-found.found looks.entry;
+      causes = met_one g.M.Machine (resident v) (state v) (state w) c.args.m.now c.find_next.new.m w c.in_ok-found.found looks.met;
       absent = none_met _ w c.in_ok-found.found found.absent;
       found = one_met Is w c.in_ok-found.found found.next;
     })

@@ -114,8 +114,8 @@ returns-in_err-draft-clause-order g c =
     let failed = c.in_err-draft.ensures in
     let back = c.from_residual-in_err-draft in
     record {
-      follows = handed (Follows (put_steps s c.args.keep len)) back.result why back.ensures.1 (prepared_order s c.args.keep len tests why failed.prepares.order);
-      idle = λ idle. failed.idle (prepare_idle s c.args.keep len tests idle);
+      follows = handed (Follows (put_steps s c.args.keep len)) back.result why back.ensures.1 (prepared_order s c.args.keep len tests why failed.keeps.prepares.order);
+      idle = λ idle. failed.tells.idle (prepare_idle s c.args.keep len tests idle);
     }
 
 pub returns-in_err-draft-clause-disk : goal.returns-in_err-draft-clause-disk
@@ -126,8 +126,8 @@ returns-in_err-draft-clause-writes g c =
     let n = put_len (state c.args.self.now) (sectors_for (length c.args.bytes.now)) in
     let failed = c.in_err-draft.ensures in
     record {
-      rest = failed.rest;
-      counted = λ tells. handed (λ r. Counted r n (g.M.Machine.ledger c.args.m.now) (g.M.Machine.ledger c.prepared.new.m)) c.from_residual-in_err-draft.result c.in_err-draft.field-0.0 c.from_residual-in_err-draft.ensures.1 (failed.counted tells);
+      rest = failed.writes.rest;
+      counted = λ tells. handed (λ r. Counted r n (g.M.Machine.ledger c.args.m.now) (g.M.Machine.ledger c.prepared.new.m)) c.from_residual-in_err-draft.result c.in_err-draft.field-0.0 c.from_residual-in_err-draft.ensures.1 (failed.writes.counted tells);
     }
 
 pub returns-in_err-draft-clause-keeps : goal.returns-in_err-draft-clause-keeps
@@ -140,9 +140,9 @@ returns-in_err-draft-clause-keeps g c =
     let failed = c.in_err-draft.ensures in
     let back = c.from_residual-in_err-draft in
     record {
-      state = handed (λ r. GoesOn (downs r) s t) back.result why back.ensures.1 failed.prepares.state;
+      state = handed (λ r. GoesOn (downs r) s t) back.result why back.ensures.1 failed.keeps.prepares.state;
       kept = handed (λ r. MatchResult r (λ key. HasCounted true (forces_for_place s (sectors_for len) || forces_first s) s t) (λ x. KeepsRefused (put_steps s c.args.keep len) x s t)) back.result why back.ensures.1
-          (prepared_kept s c.args.keep len tests t why failed.prepares.kept);
+          (prepared_kept s c.args.keep len tests t why failed.keeps.prepares.kept);
     }
 
 pub returns-in_err-draft-clause-tells : goal.returns-in_err-draft-clause-tells
@@ -152,7 +152,7 @@ returns-in_err-draft-clause-tells g c =
     let back = c.from_residual-in_err-draft in
     record {
       name = handed (λ r. IfOk r (λ (key : Key). key.name ≡ c.args.name.now)) back.result why back.ensures.1 tt;
-      causes = handed_cause g.M.Machine (resident v) (state v) (state c.prepared.new.self) c.args.m.now c.prepared.new.m why back.result back.ensures.1 c.in_err-draft.ensures.causes;
+      causes = handed_cause g.M.Machine (resident v) (state v) (state c.prepared.new.self) c.args.m.now c.prepared.new.m why back.result back.ensures.1 c.in_err-draft.ensures.tells.causes;
     }
 
 pub returns-in_err-draft-clause-done : goal.returns-in_err-draft-clause-done
@@ -164,29 +164,29 @@ returns-in_err-draft-clause-done g c h k stands =
     let now = g.M.Machine.now c.prepared.new.m in
     let why = c.in_err-draft.field-0.0 in
     handed (EndsPut state IsMemoryOf (λ met. put_outcome met (volume_of k) name bytes keep) bytes (Change.Put name keep bytes) k new now) c.from_residual-in_err-draft.result why c.from_residual-in_err-draft.ensures.1
-    (ends_as_put (state c.args.self.now) name bytes keep k new now c.in_ok-may_put.ensures.1.0 stands.fits why c.in_err-draft.ensures.prepares.order (c.in_err-draft.ensures.done h k stands))
+    (ends_as_put (state c.args.self.now) name bytes keep k new now c.in_ok-may_put.ensures.1.0 stands.fits why c.in_err-draft.ensures.keeps.prepares.order (c.in_err-draft.ensures.done h k stands))
 
 -- ---- it is prepared
 
 pub entered-requires-clause-up : goal.entered-requires-clause-up
 entered-requires-clause-up g c =
-    up_ready (state c.args.self.now) (state c.prepared.new.self) c.args.keep (length c.args.bytes.now) c.in_ok-may_put.ensures c.in_ok-draft.draft c.in_ok-draft.ensures.prepares (is_up c.args.self.now.down c.in_ok-may_put.ensures.0)
+    up_ready (state c.args.self.now) (state c.prepared.new.self) c.args.keep (length c.args.bytes.now) c.in_ok-may_put.ensures c.in_ok-draft.draft c.in_ok-draft.ensures.keeps.prepares (is_up c.args.self.now.down c.in_ok-may_put.ensures.0)
 
 pub entered-requires-clause-numbered : goal.entered-requires-clause-numbered
 entered-requires-clause-numbered g c =
-    number_ready (state c.args.self.now) (state c.prepared.new.self) c.args.keep (length c.args.bytes.now) c.in_ok-may_put.ensures c.in_ok-draft.draft c.in_ok-draft.ensures.prepares
+    number_ready (state c.args.self.now) (state c.prepared.new.self) c.args.keep (length c.args.bytes.now) c.in_ok-may_put.ensures c.in_ok-draft.draft c.in_ok-draft.ensures.keeps.prepares
 
 pub entered-requires-clause-keep : goal.entered-requires-clause-keep
 entered-requires-clause-keep g c = keep_small c.args.keep (length c.args.bytes.now) c.in_ok-may_put.ensures.1.0
 
 pub entered-requires-clause-place : goal.entered-requires-clause-place
-entered-requires-clause-place g c = subst (λ (n : ℕ). IsPlace c.prepared.new.self.map (sectors_for n) c.in_ok-draft.draft.runs) (sym c.in_ok-draft.ensures.length) c.in_ok-draft.ensures.place
+entered-requires-clause-place g c = subst (λ (n : ℕ). IsPlace c.prepared.new.self.map (sectors_for n) c.in_ok-draft.draft.runs) (sym c.in_ok-draft.ensures.keeps.version.len_is) c.in_ok-draft.ensures.keeps.version.place
 
 pub returns-clause-order : goal.returns-clause-order
 returns-clause-order g c =
     let s = state c.args.self.now in
     let len = length c.args.bytes.now in
-    let prepares = c.in_ok-draft.ensures.prepares in
+    let prepares = c.in_ok-draft.ensures.keeps.prepares in
     record {
       follows = put_order s c.args.keep len c.in_ok-may_put.ensures (state c.prepared.new.self) prepares.kept.went c.entered.result c.entered.ensures.order;
       idle = λ idle.
@@ -218,8 +218,8 @@ returns-clause-writes g c =
     record {
       rest = λ h.
           let back = reads.trust.honest h in
-          touches_read (put_writes s need) (M.now c.args.m.now) (M.now c.prepared.new.m) (M.now c.entered.new.m) (first.disk.windows back) (first.rest back) (reads.worn h);
-      counted = λ tells. change_counts (put_len s need) (M.ledger c.args.m.now) (M.ledger c.prepared.new.m) (M.ledger c.entered.new.m) c.entered.result (first.counted (reads.trust.tells tells)) (reads.ledger tells);
+          touches_read (put_writes s need) (M.now c.args.m.now) (M.now c.prepared.new.m) (M.now c.entered.new.m) (first.disk.windows back) (first.writes.rest back) (reads.worn h);
+      counted = λ tells. change_counts (put_len s need) (M.ledger c.args.m.now) (M.ledger c.prepared.new.m) (M.ledger c.entered.new.m) c.entered.result (first.writes.counted (reads.trust.tells tells)) (reads.ledger tells);
     }
 
 pub returns-clause-keeps : goal.returns-clause-keeps
@@ -230,7 +230,7 @@ returns-clause-keeps g c =
     let len = length c.args.bytes.now in
     let tests = c.in_ok-may_put.ensures in
     let e = c.in_ok-draft.draft in
-    let prepares = c.in_ok-draft.ensures.prepares in
+    let prepares = c.in_ok-draft.ensures.keeps.prepares in
     let entered = c.entered.ensures in
     record {
       state = put_goes s mid c.args.keep len tests e prepares new c.entered.result entered.enters;
@@ -246,11 +246,11 @@ returns-clause-tells g c =
     let t = state c.entered.new.self in
     let len = length c.args.bytes.now in
     let tests = c.in_ok-may_put.ensures in
-    let prepares = c.in_ok-draft.ensures.prepares in
+    let prepares = c.in_ok-draft.ensures.keeps.prepares in
     let reads = c.entered.ensures.disk in
     record {
       name = c.entered.ensures.name;
-      causes = causes_behind g.M.Machine s m t (resident v) (resident mid) c.args.m.now c.prepared.new.m c.entered.new.m (λ h. c.in_ok-draft.ensures.behind (reads.trust.honest h))
+      causes = causes_behind g.M.Machine s m t (resident v) (resident mid) c.args.m.now c.prepared.new.m c.entered.new.m (λ h. c.in_ok-draft.ensures.tells.behind (reads.trust.honest h))
           (slots_stay s m c.args.keep len tests c.in_ok-draft.draft prepares t c.entered.result c.entered.ensures.enters) (layout_stays s m c.args.keep len tests c.in_ok-draft.draft prepares t c.entered.result c.entered.ensures.enters)
           (λ h. reads.worn h) c.entered.result c.entered.ensures.causes;
     }
@@ -262,7 +262,8 @@ returns-clause-done g c h k stands =
     let mid = c.prepared.new.self in
     let e = c.in_ok-draft.draft in
     let bytes = c.args.bytes.now in
+    let version = c.in_ok-draft.ensures.keeps.version in
     let ready = c.in_ok-draft.ensures.done (c.entered.ensures.disk.trust.honest h) k stands in
     let p = ready.0 in
-    put_ends v mid c.args.name.now bytes c.args.keep k (M.now c.args.m.now) (M.now c.prepared.new.m) e c.in_ok-may_put.ensures.1.0 stands.fits c.in_ok-draft.ensures.prepares.kept p c.entered.new.self (M.now c.entered.new.m)
-    c.in_ok-draft.ensures.place.count c.in_ok-draft.ensures.length c.entered.result (c.entered.ensures.done h bytes p.after p.stands c.in_ok-draft.ensures.length ready.1)
+    put_ends v mid c.args.name.now bytes c.args.keep k (M.now c.args.m.now) (M.now c.prepared.new.m) e c.in_ok-may_put.ensures.1.0 stands.fits c.in_ok-draft.ensures.keeps.prepares.kept p c.entered.new.self (M.now c.entered.new.m)
+    version.place.count version.len_is c.entered.result (c.entered.ensures.done h bytes p.after p.stands version.len_is ready.1)

@@ -1,9 +1,11 @@
-use Rattle.std.proofs.Common.{Err, [], ◌∷◌, ap, arith}
+use Rattle.std.proofs.Common.{Err, [], ◌∷◌, ap, arith, subst, sym}
 use Rattle.std.proofs.lemmas.Result.{err_from_is_err_and}
 use Rattle.std.specs.FinMap.{find}
 use Rattle.run_table.specs.RunTable.{sectors_of}
 use Rattle.fsd_bytes.specs.Keys.{key_cmp}
+use Rattle.volume_contract.specs.Causes.{IsTaken}
 use Rattle.volume_contract.specs.Ends.{ReadsRange}
+use Rattle.volume_contract.specs.State.{State}
 use Rattle.fsd_bytes.specs.declared.refusal.Refusal.{Refusal}
 use Rattle.sector_disk.proofs.CallLaws.{reads_then}
 use Rattle.fsd_files.specs.Answers.{entry_of}
@@ -17,16 +19,22 @@ use Rattle.volume_contract.specs.Order.{Data, entry_steps}
 use Rattle.volume_laws.proofs.StepLaws.{comes_more, idle_front}
 use Rattle.table_volume.proofs.files.VolumeFiles.read.Goals as goal
 
+pub read_version-requires-clause-good : goal.read_version-requires-clause-good
+read_version-requires-clause-good g c = c.in_ok-e.ensures.gives.met.entry
+
+pub read_version-requires-clause-runs : goal.read_version-requires-clause-runs
+read_version-requires-clause-runs g c = c.in_ok-e.ensures.gives.met.runs
+
 pub read_version-requires-clause-within : goal.read_version-requires-clause-within
 read_version-requires-clause-within g c k d lt =
-    let below = all_below (state c.args.self.now).layout (sectors_of c.in_ok-e.e.runs) c.in_ok-e.ensures.within k d lt in
+    let below = all_below (state c.args.self.now).layout (sectors_of c.in_ok-e.e.runs) c.in_ok-e.ensures.gives.met.within k d lt in
     omega (arith, below, c.requires, c.version.ensures.disk.uses.sectors)
 
 pub returns-clause-order : goal.returns-clause-order
 returns-clause-order g c =
     let s = state c.args.self.now in
-    let e = c.in_ok-e.ensures in
-    record { follows = data_read s c.read_version.result e.order c.read_version.ensures.cause; idle = λ idle. absurd (busy_read s e.order idle) }
+    let through = c.in_ok-e.ensures.order.follows in
+    record { follows = data_read s c.read_version.result through c.read_version.ensures.cause; idle = λ idle. absurd (busy_read s through idle) }
 
 pub returns-clause-disk : goal.returns-clause-disk
 returns-clause-disk g c = reads_then c.in_ok-e.ensures.disk c.read_version.ensures.disk
@@ -56,7 +64,7 @@ returns-in_err-e-clause-order g c =
     let why = c.in_err-e.field-0.0 in
     let failed = c.in_err-e.ensures in
     let p = err_from_is_err_and c.from_residual.result c.from_residual.ensures.1 in
-    rw (p.1, p.2) (record { follows = comes_more (entry_steps s) (Data ∷ []) why failed.order; idle = λ idle. failed.idle (idle_front (entry_steps s) (Data ∷ []) idle) })
+    rw (p.1, p.2) (record { follows = comes_more (entry_steps s) (Data ∷ []) why failed.order.follows; idle = λ idle. failed.order.idle (idle_front (entry_steps s) (Data ∷ []) idle) })
 
 pub returns-in_err-e-clause-done : goal.returns-in_err-e-clause-done
 returns-in_err-e-clause-done g c = λ h k stands.
@@ -76,14 +84,16 @@ returns-clause-tells g c =
     let s = state w in
     let t = state c.version.new.self in
     let e = c.in_ok-e.ensures in
+    let met = e.gives.met in
+    let tells = e.gives.tells in
     let r = c.read_version.ensures in
     record {
-      most = r.most;
-      damaged = λ n is h. record { within = e.within n (r.there n is h); damaged = r.damaged n is h };
+      most = r.range.most;
+      damaged = λ n is h. let one = r.damaged n is h in record { within = met.within n one.there; damaged = one.damaged };
       causes = data_causes M (resident w) s t c.args.m.now c.read_version.new.m c.read_version.result r.cause;
       absent = not_data c.read_version.result r.cause;
       found = range_found M (resident w) s t c.args.m.now c.version.new.m c.read_version.new.m c.args.key.now c.in_ok-e.e c.args.from c.args.buf.now c.read_version.new.buf
-          _ e.key e.taken e.found e.disk.worn r.disk c.read_version.result r.count r.whole r.gives;
+          _ tells.key (subst (λ (x : State). IsTaken x c.in_ok-e.e) (sym e.state) met.taken) tells.found e.disk.worn r.disk c.read_version.result r.range.count r.range.whole r.gives;
     }
 
 pub returns-in_err-e-clause-tells : goal.returns-in_err-e-clause-tells
@@ -97,8 +107,8 @@ returns-in_err-e-clause-tells g c =
     let p = err_from_is_err_and back.result back.ensures.1 in
     record {
       most = rw p.1 tt;
-      damaged = rw (p.1, p.2) (λ n is h. absurd (none_damaged s why n failed.order (cc is)));
-      causes = handed_cause M (resident v) s (state c.version.new.self) c.args.m.now c.version.new.m why back.result back.ensures.1 failed.causes;
-      absent = not_handed why back.result back.ensures.1 (λ same. failed.absent (ap (λ (x : Refusal). Err x) same));
+      damaged = rw (p.1, p.2) (λ n is h. absurd (none_damaged s why n failed.order.follows (cc is)));
+      causes = handed_cause M (resident v) s (state c.version.new.self) c.args.m.now c.version.new.m why back.result back.ensures.1 failed.gives.tells.causes;
+      absent = not_handed why back.result back.ensures.1 (λ same. failed.gives.tells.absent (ap (λ (x : Refusal). Err x) same));
       found = rw p.1 tt;
     }

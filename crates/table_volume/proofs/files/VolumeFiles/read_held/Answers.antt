@@ -60,7 +60,7 @@ returns-clause-order g c =
 pub returns-clause-tells : goal.returns-clause-tells
 returns-clause-tells g c =
     let read = c.read_version.ensures in
-    record { count = read.count; damaged = λ s is h. record { within = c.requires.held.within s (read.there s is h); damaged = read.damaged s is h } }
+    record { count = read.range.count; damaged = λ s is h. let one = read.damaged s is h in record { within = c.requires.held.within s one.there; damaged = one.damaged } }
 
 pub returns-clause-stands : goal.returns-clause-stands
 returns-clause-stands g c = λ h k stands.

@@ -62,20 +62,20 @@ returns-in_err-runs g c =
     let tests = c.in_ok-may_put.ensures in
     let why = c.in_err-runs.field-0.0 in
     let failed = c.in_err-runs.ensures in
-    let places = subst (λ (n : ℕ). Places n (state v) (state new) (Err why)) same failed.places in
+    let places = subst (λ (n : ℕ). Places n (state v) (state new) (Err why)) same failed.keeps.places in
     let p = err_from_is_err_and c.from_residual-in_err-runs.result c.from_residual-in_err-runs.ensures.1 in
     rw (p.1, p.2) (record {
       order = record {
         follows = unplaced_order (state v) len tests why places.order;
-        idle = λ idle. failed.idle (subst (λ (n : ℕ). is_idle (place_steps (state v) n) ≡ true) (sym same) (placing_idle (state v) len tests idle));
+        idle = λ idle. failed.tells.idle (subst (λ (n : ℕ). is_idle (place_steps (state v) n) ≡ true) (sym same) (placing_idle (state v) len tests idle));
       };
       disk = failed.disk;
       writes = record {
-        rest = failed.rest;
-        counted = λ tells. subst (λ (n : ℕ). Counted {T = Draft} (Err why) (reserve_len (state v) n) (M.ledger c.args.m.now) (M.ledger c.placed.new.m)) same (failed.counted tells);
+        rest = failed.writes.rest;
+        counted = λ tells. subst (λ (n : ℕ). Counted {T = Draft} (Err why) (reserve_len (state v) n) (M.ledger c.args.m.now) (M.ledger c.placed.new.m)) same (failed.writes.counted tells);
       };
       keeps = record { draft = tt; state = places.state; kept = unplaced_kept (state v) len tests (state new) why places.kept };
-      causes = failed.causes;
+      causes = failed.tells.causes;
       done = λ h k stands. unplaced_ends v len k tests.1.0 stands.fits new now why places.order (subst (λ (n : ℕ). EndsPlace n k new now (Err why)) same (failed.done h k stands));
     })
 
@@ -85,13 +85,13 @@ pub begun-requires-clause-most : goal.begun-requires-clause-most
 begun-requires-clause-most g c = let most = length_small 0 c.args.length c.in_ok-may_put.ensures.1.0 in omega (arith, most, c.small-size.ensures)
 
 pub begun-requires-clause-place : goal.begun-requires-clause-place
-begun-requires-clause-place g c = subst (λ (n : ℕ). IsPlace c.placed.new.self.map n c.in_ok-runs.runs) c.sectors_of.ensures c.in_ok-runs.ensures.free
+begun-requires-clause-place g c = subst (λ (n : ℕ). IsPlace c.placed.new.self.map n c.in_ok-runs.runs) c.sectors_of.ensures c.in_ok-runs.ensures.keeps.free
 
 pub begun-requires-clause-serials : goal.begun-requires-clause-serials
 begun-requires-clause-serials g c =
     let s = state c.args.self.now in
     let left = serials_left s c.in_ok-may_put.ensures.1.1.0 in
-    let same = same_serial c.sectors_of.result s (state c.placed.new.self) c.in_ok-runs.runs c.in_ok-runs.ensures.places.kept in
+    let same = same_serial c.sectors_of.result s (state c.placed.new.self) c.in_ok-runs.runs c.in_ok-runs.ensures.keeps.places.kept in
     omega (arith, left, ap (λ x. x.count) same)
 
 pub returns : goal.returns
@@ -107,13 +107,13 @@ returns g c =
     let tests = c.in_ok-may_put.ensures in
     let placed = c.in_ok-runs.ensures in
     let e = c.begun.ensures in
-    let places = subst (λ (n : ℕ). Places n (state v) (state mid) (Ok runs)) same placed.places in
+    let places = subst (λ (n : ℕ). Places n (state v) (state mid) (Ok runs)) same placed.keeps.places in
     record {
       order = record { follows = placed_order (state v) len tests places.order; idle = λ idle. absurd (placed_busy (state v) len tests (places.order.1).0 idle) };
       disk = placed.disk;
       writes = record {
-        rest = placed.rest;
-        counted = λ tells. subst (λ (n : ℕ). (M.ledger c.placed.new.m).written ≡ (M.ledger c.args.m.now).written + reserve_len (state v) n) same (placed.counted tells);
+        rest = placed.writes.rest;
+        counted = λ tells. subst (λ (n : ℕ). (M.ledger c.placed.new.m).written ≡ (M.ledger c.args.m.now).written + reserve_len (state v) n) same (placed.writes.counted tells);
       };
       keeps = record {
         draft = (e.length ∙ c.small-size.ensures, e.draft);

@@ -68,7 +68,7 @@ returns-in_err-force_first-clause-order g c =
     let s = state c.args.self.now in
     let p = err_from_is_err_and c.from_residual-in_err-force_first.result c.from_residual-in_err-force_first.ensures.1 in
     rw (p.1, p.2) (record {
-      follows = failed_comes s (keep_refusals s c.args.keep) c.in_ok-may_keep.ensures c.in_err-force_first.field-0.0 c.in_err-force_first.ensures.forces.order;
+      follows = failed_comes s (keep_refusals s c.args.keep) c.in_ok-may_keep.ensures c.in_err-force_first.field-0.0 c.in_err-force_first.ensures.keeps.forces.order;
       idle = λ idle. absurd (busy s (keep_refusals s c.args.keep) c.in_ok-may_keep.ensures idle);
     })
 
@@ -77,8 +77,8 @@ returns-in_err-force_first-clause-keeps g c =
     let s = state c.args.self.now in
     let p = err_from_is_err_and c.from_residual-in_err-force_first.result c.from_residual-in_err-force_first.ensures.1 in
     rw (p.1, p.2) (record {
-      state = c.in_err-force_first.ensures.forces.state;
-      kept = failed_keeps s (keep_refusals s c.args.keep) c.in_ok-may_keep.ensures c.in_err-force_first.field-0.0 (state c.force_first.new.self) c.in_err-force_first.ensures.forces.kept;
+      state = c.in_err-force_first.ensures.keeps.forces.state;
+      kept = failed_keeps s (keep_refusals s c.args.keep) c.in_ok-may_keep.ensures c.in_err-force_first.field-0.0 (state c.force_first.new.self) c.in_err-force_first.ensures.keeps.forces.kept;
     })
 
 pub returns-in_err-force_first-clause-disk : goal.returns-in_err-force_first-clause-disk
@@ -89,7 +89,7 @@ pub returns-in_err-force_first-clause-writes : goal.returns-in_err-force_first-c
 returns-in_err-force_first-clause-writes g c =
     let failed = c.in_err-force_first.ensures in
     let p = err_from_is_err_and c.from_residual-in_err-force_first.result c.from_residual-in_err-force_first.ensures.1 in
-    rw (p.1, p.2) (record { rest = failed.rest; counted = failed.counted })
+    rw (p.1, p.2) (record { rest = failed.writes.rest; counted = failed.writes.counted })
 
 pub returns-in_err-force_first-clause-done : goal.returns-in_err-force_first-clause-done
 returns-in_err-force_first-clause-done g c =
@@ -101,17 +101,17 @@ returns-in_err-force_first-clause-done g c =
 
 pub keep_now-requires-clause-up : goal.keep_now-requires-clause-up
 keep_now-requires-clause-up g c =
-    up_behind (state c.args.self.now) (keep_refusals (state c.args.self.now) c.args.keep) c.in_ok-may_keep.ensures (state c.force_first.new.self) (state c.force_first.new.self) c.in_ok-force_first.ensures.forces (is_up c.args.self.now.down c.in_ok-may_keep.ensures.0)
+    up_behind (state c.args.self.now) (keep_refusals (state c.args.self.now) c.args.keep) c.in_ok-may_keep.ensures (state c.force_first.new.self) (state c.force_first.new.self) c.in_ok-force_first.ensures.keeps.forces (is_up c.args.self.now.down c.in_ok-may_keep.ensures.0)
 
 pub keep_now-requires-clause-numbered : goal.keep_now-requires-clause-numbered
 keep_now-requires-clause-numbered g c =
-    number_behind (state c.args.self.now) (keep_refusals (state c.args.self.now) c.args.keep) c.in_ok-may_keep.ensures (state c.force_first.new.self) (state c.force_first.new.self) c.in_ok-force_first.ensures.forces (not_worn (state c.args.self.now) c.in_ok-may_keep.ensures.1.1.0)
+    number_behind (state c.args.self.now) (keep_refusals (state c.args.self.now) c.args.keep) c.in_ok-may_keep.ensures (state c.force_first.new.self) (state c.force_first.new.self) c.in_ok-force_first.ensures.keeps.forces (not_worn (state c.args.self.now) c.in_ok-may_keep.ensures.1.1.0)
 
 pub returns-clause-order : goal.returns-clause-order
 returns-clause-order g c =
     let s = state c.args.self.now in
     record {
-      follows = change_follows s (keep_refusals s c.args.keep) c.in_ok-may_keep.ensures (state c.force_first.new.self) (state c.keep_now.new.self) c.in_ok-force_first.ensures.forces c.keep_now.result c.keep_now.ensures.order;
+      follows = change_follows s (keep_refusals s c.args.keep) c.in_ok-may_keep.ensures (state c.force_first.new.self) (state c.keep_now.new.self) c.in_ok-force_first.ensures.keeps.forces c.keep_now.result c.keep_now.ensures.order;
       idle = λ idle. absurd (busy s (keep_refusals s c.args.keep) c.in_ok-may_keep.ensures idle);
     }
 
@@ -119,8 +119,8 @@ pub returns-clause-keeps : goal.returns-clause-keeps
 returns-clause-keeps g c =
     let s = state c.args.self.now in
     record {
-      state = change_goes s (keep_refusals s c.args.keep) c.in_ok-may_keep.ensures (state c.force_first.new.self) (state c.keep_now.new.self) c.in_ok-force_first.ensures.forces c.keep_now.result c.keep_now.ensures.edited;
-      kept = change_kept s (keep_refusals s c.args.keep) c.in_ok-may_keep.ensures (state c.force_first.new.self) (state c.keep_now.new.self) c.in_ok-force_first.ensures.forces c.keep_now.result c.keep_now.ensures.order c.keep_now.ensures.edited;
+      state = change_goes s (keep_refusals s c.args.keep) c.in_ok-may_keep.ensures (state c.force_first.new.self) (state c.keep_now.new.self) c.in_ok-force_first.ensures.keeps.forces c.keep_now.result c.keep_now.ensures.edited;
+      kept = change_kept s (keep_refusals s c.args.keep) c.in_ok-may_keep.ensures (state c.force_first.new.self) (state c.keep_now.new.self) c.in_ok-force_first.ensures.keeps.forces c.keep_now.result c.keep_now.ensures.order c.keep_now.ensures.edited;
     }
 
 pub returns-clause-writes : goal.returns-clause-writes
@@ -132,8 +132,8 @@ returns-clause-writes g c =
     record {
       rest = λ h.
           let back = reads.trust.honest h in
-          touches_read (force_writes v.layout) (M.now c.args.m.now) (M.now c.force_first.new.m) (M.now c.keep_now.new.m) (first.disk.windows back) (first.rest back) (reads.worn h);
-      counted = λ tells. change_counts (change_len (state v)) (M.ledger c.args.m.now) (M.ledger c.force_first.new.m) (M.ledger c.keep_now.new.m) c.keep_now.result (first.counted (reads.trust.tells tells)) (reads.ledger tells);
+          touches_read (force_writes v.layout) (M.now c.args.m.now) (M.now c.force_first.new.m) (M.now c.keep_now.new.m) (first.disk.windows back) (first.writes.rest back) (reads.worn h);
+      counted = λ tells. change_counts (change_len (state v)) (M.ledger c.args.m.now) (M.ledger c.force_first.new.m) (M.ledger c.keep_now.new.m) c.keep_now.result (first.writes.counted (reads.trust.tells tells)) (reads.ledger tells);
     }
 
 pub returns-clause-disk : goal.returns-clause-disk
@@ -153,7 +153,7 @@ pub returns-clause-done : goal.returns-clause-done
 returns-clause-done g c = λ h k stands.
     let back = c.keep_now.ensures.disk.trust.honest h in
     let p = c.in_ok-force_first.ensures.done back k stands in
-    change_ends (λ v met. keep_outcome met v c.args.name.now c.args.keep) (kept_key c.args.keep) (Change.SetKeep c.args.name.now c.args.keep) k c.force_first.new.self (g.M.Machine.now c.force_first.new.m) p (keep_through c.args.name.now c.args.keep (volume_of k) (keep_fits c.args.keep c.in_ok-may_keep.ensures.1.0)) c.in_ok-force_first.ensures.few c.keep_now.new.self (g.M.Machine.now c.keep_now.new.m) c.keep_now.result
+    change_ends (λ v met. keep_outcome met v c.args.name.now c.args.keep) (kept_key c.args.keep) (Change.SetKeep c.args.name.now c.args.keep) k c.force_first.new.self (g.M.Machine.now c.force_first.new.m) p (keep_through c.args.name.now c.args.keep (volume_of k) (keep_fits c.args.keep c.in_ok-may_keep.ensures.1.0)) c.in_ok-force_first.ensures.keeps.few c.keep_now.new.self (g.M.Machine.now c.keep_now.new.m) c.keep_now.result
     (c.keep_now.ensures.done h p.after p.stands)
 
 -- ---- what it tells, and why
@@ -177,8 +177,8 @@ returns-in_err-force_first-clause-tells g c =
     let p = err_from_is_err_and r.result r.ensures.1 in
     record {
       name = rw p.1 tt;
-      memory = rw (p.1, p.2) (λ all wants. force_needs (state v) why failed.forces.order (cc wants));
-      causes = handed_cause g.M.Machine (resident v) (state v) (state c.force_first.new.self) c.args.m.now c.force_first.new.m why r.result r.ensures.1 failed.causes;
+      memory = rw (p.1, p.2) (λ all wants. force_needs (state v) why failed.keeps.forces.order (cc wants));
+      causes = handed_cause g.M.Machine (resident v) (state v) (state c.force_first.new.self) c.args.m.now c.force_first.new.m why r.result r.ensures.1 failed.tells.causes;
     }
 
 pub returns-clause-tells : goal.returns-clause-tells
@@ -188,8 +188,8 @@ returns-clause-tells g c =
     let new = c.keep_now.new.self in
     let change = c.keep_now.ensures in
     record {
-      name = change.name;
-      memory = λ has. change.memory (enough_behind v mid c.in_ok-force_first.ensures.forces c.in_ok-force_first.ensures.resident c.args.name.now has);
-      causes = causes_behind g.M.Machine (state v) (state mid) (state new) (resident v) (resident mid) c.args.m.now c.force_first.new.m c.keep_now.new.m (λ h. c.in_ok-force_first.ensures.behind (change.disk.trust.honest h))
-          (edited_slots (state mid) (state new) c.keep_now.result change.edited) (edited_layout (state mid) (state new) c.keep_now.result change.edited) change.disk.worn c.keep_now.result change.causes;
+      name = change.tells.name;
+      memory = λ has. change.tells.memory (enough_behind v mid c.in_ok-force_first.ensures.keeps.forces c.in_ok-force_first.ensures.keeps.resident c.args.name.now has);
+      causes = causes_behind g.M.Machine (state v) (state mid) (state new) (resident v) (resident mid) c.args.m.now c.force_first.new.m c.keep_now.new.m (λ h. c.in_ok-force_first.ensures.tells.behind (change.disk.trust.honest h))
+          (edited_slots (state mid) (state new) c.keep_now.result change.edited) (edited_layout (state mid) (state new) c.keep_now.result change.edited) change.disk.worn c.keep_now.result change.tells.causes;
     }

@@ -2,7 +2,7 @@ use Rattle.std.proofs.Common.{ℕ, ◌+◌, ◌-◌, ◌≤◌, min, List, lengt
 use Rattle.std.specs.Prelude.{◌==◌}
 use Rattle.std.proofs.lemmas.Result.{err_from_is_err_and}
 use Rattle.sector_disk.proofs.CallLaws.{reads_told, told_up}
-use Rattle.sector_set.specs.Area.{Area, AreIn, without}
+use Rattle.sector_set.specs.Area.{Area, AreIn, without_sectors}
 use Rattle.fsd_formats.specs.NamePage.{sectors_for}
 use Rattle.volume_contract.specs.Ends.{device_of}
 use Rattle.volume_laws.specs.Placing.{IsPlace}
@@ -81,7 +81,7 @@ invariant_of-self-2 g c =
     let place = subst (λ (x : VolumeValue). IsPlace x.shadow.unfinished (sectors_for c.args.entry.length) c.args.entry.runs) (sym c.self.view_is) c.requires.place in
     let none = c.is_empty-waits.ensures ∙ ap (λ (d : List ℕ). length d == 0) c.dirty_list.ensures.value in
     let removed = ends.removed ∙ frees.removed ∙ ap (with_if (not c.is_empty-waits.result) c.self.inside.shadow.removed) c.as_slice.ensures.value in
-    let unfinished = ends.unfinished ∙ ap (λ (a : Area). without a c.args.entry.runs) frees.unfinished in
+    let unfinished = ends.unfinished ∙ ap (λ (a : Area). without_sectors a c.args.entry.runs) frees.unfinished in
     let left = whole_edited g.M.Machine _ c.over-source.result c.args.m.now done.new.m _ c.args.self.now c.self.view_is c.self.invariant None done.new.self.cache done.new.self.free_pages plan.ensures.edits done.ensures.waiting c.requires.up c.requires.numbered in
     whole_completed _ c.args.self.now c.self.view_is c.self.invariant done.new.self.cache done.new.self.free_pages left c.args.entry.runs place.free
     plan.plan.gone.items plan.ensures.entered.taken _ (none_waits c.is_empty-waits.result done.new.self.cache.dirty none) c.ended.new.self c.versions_with_one-self-inside.result removed (ends.kept ∙ frees.kept) unfinished (ends.held ∙ frees.held)
@@ -101,7 +101,7 @@ returns-clause-completes g c =
     let place = subst (λ (x : VolumeValue). IsPlace x.shadow.unfinished (sectors_for c.args.entry.length) c.args.entry.runs) (sym c.self.view_is) c.requires.place in
     let none = c.is_empty-waits.ensures ∙ ap (λ (d : List ℕ). length d == 0) c.dirty_list.ensures.value in
     let removed = ends.removed ∙ frees.removed ∙ ap (with_if (not c.is_empty-waits.result) c.self.inside.shadow.removed) c.as_slice.ensures.value in
-    let unfinished = ends.unfinished ∙ ap (λ (a : Area). without a c.args.entry.runs) frees.unfinished in
+    let unfinished = ends.unfinished ∙ ap (λ (a : Area). without_sectors a c.args.entry.runs) frees.unfinished in
     let left = whole_edited g.M.Machine _ c.over-source.result c.args.m.now done.new.m _ c.args.self.now c.self.view_is c.self.invariant None done.new.self.cache done.new.self.free_pages plan.ensures.edits done.ensures.waiting c.requires.up c.requires.numbered in
     completes _ c.args.self.now c.self.view_is c.self.invariant done.new.self.cache done.new.self.free_pages left c.args.entry.runs place.free
     plan.plan.gone.items plan.ensures.entered.taken _ (none_waits c.is_empty-waits.result done.new.self.cache.dirty none) c.ended.new.self c.versions_with_one-self-inside.result removed (ends.kept ∙ frees.kept) unfinished (ends.held ∙ frees.held)
@@ -115,7 +115,7 @@ returns-clause-done g c = λ honest bytes k stands before there long written.
     let place = subst (λ (x : VolumeValue). IsPlace x.shadow.unfinished (sectors_for c.args.entry.length) c.args.entry.runs) (sym c.self.view_is) c.requires.place in
     let none = c.is_empty-waits.ensures ∙ ap (λ (d : List ℕ). length d == 0) c.dirty_list.ensures.value in
     let removed = ends.removed ∙ frees.removed ∙ ap (with_if (not c.is_empty-waits.result) c.self.inside.shadow.removed) c.as_slice.ensures.value in
-    let unfinished = ends.unfinished ∙ ap (λ (a : Area). without a c.args.entry.runs) frees.unfinished in
+    let unfinished = ends.unfinished ∙ ap (λ (a : Area). without_sectors a c.args.entry.runs) frees.unfinished in
     let left = whole_edited g.M.Machine _ c.over-source.result c.args.m.now done.new.m _ c.args.self.now c.self.view_is c.self.invariant None done.new.self.cache done.new.self.free_pages plan.ensures.edits done.ensures.waiting c.requires.up c.requires.numbered in
     let whole = whole_completed _ c.args.self.now c.self.view_is c.self.invariant done.new.self.cache done.new.self.free_pages left c.args.entry.runs place.free
     plan.plan.gone.items plan.ensures.entered.taken _ (none_waits c.is_empty-waits.result done.new.self.cache.dirty none) c.ended.new.self c.versions_with_one-self-inside.result removed (ends.kept ∙ frees.kept) unfinished (ends.held ∙ frees.held) in

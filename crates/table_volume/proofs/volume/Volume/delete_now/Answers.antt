@@ -1,13 +1,14 @@
 use Rattle.std.proofs.Common.{◌≡◌, inl, ap, sym, subst, length, ◌∙◌, arith, List, ℕ, Some, Ok, Err, refl}
 use Rattle.std.proofs.lemmas.Result.{err_from_is_err_and}
 use Rattle.std.specs.Prelude.{IsTrue}
-use Rattle.sector_disk.proofs.CallLaws.{reads_then}
+use Rattle.sector_disk.proofs.CallLaws.{reads_then, reads_told}
 use Rattle.fsd_bytes.specs.declared.key.Key.{Key}
 use Rattle.fsd_formats.specs.declared.entry.Entry.{Entry}
 use Rattle.fsd_files.specs.Answers.{delete_outcome, entry_of as entry_in}
 use Rattle.fsd_files.specs.Files.{Change}
 use Rattle.fsd_files.specs.declared.reply.Reply.TheVariants.{Deleted}
 use Rattle.name_btree.specs.Lookup.{found_entry}
+use Rattle.volume_contract.specs.Ends.{device_of}
 use Rattle.volume_contract.specs.Order.{IsLookUp}
 use Rattle.volume_contract.specs.State.{volume_of}
 use Rattle.volume_laws.specs.Taken.{are_taken}
@@ -24,34 +25,42 @@ use Rattle.table_volume.proofs.volume.Volume.delete_now.Goals as goal
 pub returns-in_err-found-clause-order : goal.returns-in_err-found-clause-order
 returns-in_err-found-clause-order g c =
     let p = err_from_is_err_and c.from_residual.result c.from_residual.ensures.1 in
-    rw (p.1, p.2) (inl c.in_err-found.ensures.cause)
+    rw (p.1, p.2) (inl c.in_err-found.ensures.looks.cause)
+
+pub returns-in_err-found-clause-disk : goal.returns-in_err-found-clause-disk
+returns-in_err-found-clause-disk g c =
+    let p = err_from_is_err_and c.from_residual.result c.from_residual.ensures.1 in
+    rw (p.1, p.2) c.in_err-found.ensures.looks.disk
 
 pub returns-in_err-found-clause-edited : goal.returns-in_err-found-clause-edited
 returns-in_err-found-clause-edited g c =
     let p = err_from_is_err_and c.from_residual.result c.from_residual.ensures.1 in
-    rw p.1 (state_looked c.args.self.now c.find.new.self c.in_err-found.ensures.cache c.in_err-found.ensures.dirty)
+    rw p.1 (state_looked c.args.self.now c.find.new.self c.in_err-found.ensures.looks.cache c.in_err-found.ensures.looks.dirty)
 
 pub returns-in_err-found-clause-causes : goal.returns-in_err-found-clause-causes
 returns-in_err-found-clause-causes g c =
     let p = err_from_is_err_and c.from_residual.result c.from_residual.ensures.1 in
-    rw (p.1, p.2) c.in_err-found.ensures.causes
+    rw (p.1, p.2) c.in_err-found.ensures.looks.causes
 
 pub returns-in_err-found-clause-done : goal.returns-in_err-found-clause-done
 returns-in_err-found-clause-done g c =
     let p = err_from_is_err_and c.from_residual.result c.from_residual.ensures.1 in
     rw (p.1, p.2) (λ h k stands.
     look_ended {T = Unit {0}} (entry_in c.args.key.now (volume_of k).entries) (λ met. delete_outcome met (volume_of k) c.args.key.now) (λ x. Deleted c.args.key.now) (Change.Delete c.args.key.now) k c.find.new.self
-    (g.M.Machine.now c.find.new.m) c.in_err-found.field-0.0 (c.in_err-found.ensures.found h k stands) (c.in_err-found.ensures.stands h k stands))
+    (g.M.Machine.now c.find.new.m) c.in_err-found.field-0.0 (c.in_err-found.ensures.found h k stands) (c.in_err-found.ensures.looks.stands h k stands))
 
 -- ---- where nothing is found
 
+pub returns-in-None-clause-disk : goal.returns-in-None-clause-disk
+returns-in-None-clause-disk g c = c.in_ok-found.ensures.looks.disk
+
 pub returns-in-None-clause-edited : goal.returns-in-None-clause-edited
-returns-in-None-clause-edited g c = state_looked c.args.self.now c.find.new.self c.in_ok-found.ensures.cache c.in_ok-found.ensures.dirty
+returns-in-None-clause-edited g c = state_looked c.args.self.now c.find.new.self c.in_ok-found.ensures.looks.cache c.in_ok-found.ensures.looks.dirty
 
 pub returns-in-None-clause-done : goal.returns-in-None-clause-done
 returns-in-None-clause-done g c = λ h k stands.
     delete_none k c.find.new.self (g.M.Machine.now c.find.new.m) c.args.key.now (omega (arith, c.requires.few, ap (λ (d : List ℕ). length d) stands.fits.dirty))
-    (sym (c.in_ok-found.ensures.found h k stands) ∙ ap found_entry c.in-None.is) (c.in_ok-found.ensures.stands h k stands)
+    (sym (c.in_ok-found.ensures.found h k stands) ∙ ap found_entry c.in-None.is) (c.in_ok-found.ensures.looks.stands h k stands)
 
 -- ---- where it is none of the table
 
@@ -61,10 +70,16 @@ returns-in_err-entry-in-Some-clause-order g c =
     let met = met_refused c.find.new.self c.in-Some.found.page c.in-Some.found.entry c.in_err-entry-in-Some.field-0.0 (Err c.in_err-entry-in-Some.field-0.0) c.in_err-entry-in-Some.ensures refl in
     rw (p.1, p.2) (inl (subst IsLookUp (sym met.0) tt))
 
+pub returns-in_err-entry-in-Some-clause-disk : goal.returns-in_err-entry-in-Some-clause-disk
+returns-in_err-entry-in-Some-clause-disk g c =
+    let p = err_from_is_err_and c.from_residual-in_err-entry-in-Some.result c.from_residual-in_err-entry-in-Some.ensures.1 in
+    let met = met_refused c.find.new.self c.in-Some.found.page c.in-Some.found.entry c.in_err-entry-in-Some.field-0.0 (Err c.in_err-entry-in-Some.field-0.0) c.in_err-entry-in-Some.ensures refl in
+    rw (p.1, p.2) (reads_told (ap device_of met.0) c.in_ok-found.ensures.looks.disk)
+
 pub returns-in_err-entry-in-Some-clause-edited : goal.returns-in_err-entry-in-Some-clause-edited
 returns-in_err-entry-in-Some-clause-edited g c =
     let p = err_from_is_err_and c.from_residual-in_err-entry-in-Some.result c.from_residual-in_err-entry-in-Some.ensures.1 in
-    rw p.1 (state_looked c.args.self.now c.find.new.self c.in_ok-found.ensures.cache c.in_ok-found.ensures.dirty)
+    rw p.1 (state_looked c.args.self.now c.find.new.self c.in_ok-found.ensures.looks.cache c.in_ok-found.ensures.looks.dirty)
 
 pub returns-in_err-entry-in-Some-clause-causes : goal.returns-in_err-entry-in-Some-clause-causes
 returns-in_err-entry-in-Some-clause-causes g c =
@@ -72,11 +87,11 @@ returns-in_err-entry-in-Some-clause-causes g c =
     let w = c.args.self.now in
     let new = state c.find.new.self in
     rw (p.1, p.2)
-    (met_handed g.M.Machine (resident w) (state w) new c.args.m.now c.find.new.m c.find.new.self _ c.in-Some.found c.in-Some.is c.in_ok-found.ensures.met (Err c.in_err-entry-in-Some.field-0.0) c.in_err-entry-in-Some.ensures)
+    (met_handed g.M.Machine (resident w) (state w) new c.args.m.now c.find.new.m c.find.new.self _ c.in-Some.found c.in-Some.is c.in_ok-found.ensures.looks.met (Err c.in_err-entry-in-Some.field-0.0) c.in_err-entry-in-Some.ensures)
 
 pub returns-in_err-entry-in-Some-clause-done : goal.returns-in_err-entry-in-Some-clause-done
 returns-in_err-entry-in-Some-clause-done g c = λ h k stands. absurd
-    (met_ended c.find.new.self k c.args.key.now c.in-Some.found.page c.in-Some.found.entry c.in_err-entry-in-Some.field-0.0 (Err c.in_err-entry-in-Some.field-0.0) (sym (c.in_ok-found.ensures.found h k stands) ∙ ap found_entry c.in-Some.is) (c.in_ok-found.ensures.taken h k stands) c.in_err-entry-in-Some.ensures refl)
+    (met_ended c.find.new.self k c.args.key.now c.in-Some.found.page c.in-Some.found.entry c.in_err-entry-in-Some.field-0.0 (Err c.in_err-entry-in-Some.field-0.0) (sym (c.in_ok-found.ensures.found h k stands) ∙ ap found_entry c.in-Some.is) (c.in_ok-found.ensures.looks.taken h k stands) c.in_err-entry-in-Some.ensures refl)
 
 -- ---- where it is
 
@@ -89,16 +104,16 @@ pub returns-in_ok-entry-in-Some-clause-order : goal.returns-in_ok-entry-in-Some-
 returns-in_ok-entry-in-Some-clause-order g c = follows_looked c.take_found.result c.take_found.ensures.order
 
 pub returns-in_ok-entry-in-Some-clause-disk : goal.returns-in_ok-entry-in-Some-clause-disk
-returns-in_ok-entry-in-Some-clause-disk g c = reads_then c.in_ok-found.ensures.disk c.take_found.ensures.disk
+returns-in_ok-entry-in-Some-clause-disk g c = reads_then c.in_ok-found.ensures.looks.disk c.take_found.ensures.disk
 
 pub returns-in_ok-entry-in-Some-clause-edited : goal.returns-in_ok-entry-in-Some-clause-edited
 returns-in_ok-entry-in-Some-clause-edited g c =
-    edits_looked (state c.args.self.now) (state c.find.new.self) (state c.take_found.new.self) c.take_found.result (state_looked c.args.self.now c.find.new.self c.in_ok-found.ensures.cache c.in_ok-found.ensures.dirty) c.take_found.ensures.edited
+    edits_looked (state c.args.self.now) (state c.find.new.self) (state c.take_found.new.self) c.take_found.result (state_looked c.args.self.now c.find.new.self c.in_ok-found.ensures.looks.cache c.in_ok-found.ensures.looks.dirty) c.take_found.ensures.edited
 
 pub returns-in_ok-entry-in-Some-clause-causes : goal.returns-in_ok-entry-in-Some-clause-causes
 returns-in_ok-entry-in-Some-clause-causes g c =
     causes_looked g.M.Machine (resident c.find.new.self) (resident c.args.self.now) (state c.args.self.now) (state c.find.new.self) (state c.take_found.new.self) c.args.m.now c.find.new.m c.take_found.new.m c.take_found.result
-    (state_looked c.args.self.now c.find.new.self c.in_ok-found.ensures.cache c.in_ok-found.ensures.dirty) c.take_found.ensures.order c.take_found.ensures.causes
+    (state_looked c.args.self.now c.find.new.self c.in_ok-found.ensures.looks.cache c.in_ok-found.ensures.looks.dirty) c.take_found.ensures.order c.take_found.ensures.causes
 
 pub returns-in_ok-entry-in-Some-clause-done : goal.returns-in_ok-entry-in-Some-clause-done
 returns-in_ok-entry-in-Some-clause-done g c = λ h k stands.
@@ -108,4 +123,4 @@ returns-in_ok-entry-in-Some-clause-done g c = λ h k stands.
     let same = entry_key c.args.key.now (volume_of k).entries c.in-Some.found.entry there in
     let key : c.in_ok-entry-in-Some.entry.key ≡ c.args.key.now = ap (λ (e : Entry). e.key) met.0 ∙ same in
     let listed : entry_in c.in_ok-entry-in-Some.entry.key (volume_of k).entries ≡ Some c.in_ok-entry-in-Some.entry = ap (λ (x : Key). entry_in x (volume_of k).entries) key ∙ there ∙ ap (λ (e : Entry). Some e) (sym met.0) in
-    keyed_ends k c.take_found.new.self (g.M.Machine.now c.take_found.new.m) c.args.key.now c.in_ok-entry-in-Some.entry.key c.take_found.result key (c.take_found.ensures.done h k (c.in_ok-found.ensures.stands back k stands) listed)
+    keyed_ends k c.take_found.new.self (g.M.Machine.now c.take_found.new.m) c.args.key.now c.in_ok-entry-in-Some.entry.key c.take_found.result key (c.take_found.ensures.done h k (c.in_ok-found.ensures.looks.stands back k stands) listed)

@@ -4,7 +4,6 @@ use Rattle.std.proofs.lemmas.Bool.{lt-ltb}
 use Rattle.std.proofs.lemmas.Result.{err_from_is_err_and}
 use Rattle.std.proofs.lemmas.List.{nil_from_length}
 use Rattle.sector_set.specs.Area.{Area}
-use Rattle.sector_disk.specs.Calls.{WritesDisk}
 use Rattle.sector_disk.proofs.CallLaws.{writes_none, writes_told, writes_more}
 use Rattle.sector_disk.specs.declared.machine.LoadFault.{LoadFault}
 use Rattle.sector_disk.specs.declared.machine.LoadFault.TheVariants as fault
@@ -14,15 +13,12 @@ use Rattle.group_commit.specs.Cached.{AreWaiting}
 use Rattle.volume_contract.specs.Ends.{device_of, AnswersAndStands}
 use Rattle.fsd_sound.specs.Writes.{force_writes}
 use Rattle.volume_contract.specs.Causes.{HasCallCause}
-use Rattle.volume_contract.specs.State.{GoesOn, IsForced as HasForced, Leaves, Stands, State, downs_for, force_len, volume_of}
+use Rattle.volume_contract.specs.State.{IsForced as HasForced, Leaves, Stands, State, downs_for, force_len, volume_of}
 use Rattle.fsd_files.specs.Answers.{force_outcome}
-use Rattle.fsd_files.specs.Disk.{Touches}
 use Rattle.fsd_files.specs.declared.reply.Reply.TheVariants.{Forced as IsForced}
 use Rattle.volume_contract.specs.declared.files.Forced.{Forced}
 use Rattle.run_table.specs.Space.{contains}
-use Rattle.volume_contract.specs.Logged.{AllLogged, KeepsPages}
-use Rattle.volume_contract.specs.Order.{Comes, Force, IsLoss, KeepsRefused, Test, Through, force_steps, is_idle}
-use Rattle.volume_contract.specs.Behind.{IsBehindForce}
+use Rattle.volume_contract.specs.Order.{Force, IsLoss, Test, force_steps, is_idle}
 use Rattle.volume_laws.specs.Forcing.{force_refusal as refusal_of, down_place}
 use Rattle.volume_laws.specs.State.{IsMemoryOf, resident, state}
 use Rattle.volume_laws.specs.Volume.{VolumeValue}
@@ -71,22 +67,12 @@ returns-in_err-is_up g c =
     let none = told_down (HasCallCause (state v) (state v) (resident v) now now) (λ place. tt) v.down why down in
     let p = err_from_is_err_and c.from_residual.result c.from_residual.ensures.1 in
     rw (p.1, p.2) (record {
-      order = inl refused;
+      order = record { follows = inl refused; idle = λ idle. refl };
       disk = writes_told (down_tells_none v.down why down) (writes_none at (λ left h is. g.met.M.Machine.only_now at left h is) (Leaves state IsMemoryOf v (force_writes v.layout)) (λ h. leaves_itself v now));
-      rest = λ h. touches_none (force_writes v.layout) now;
-      counted = λ tells. (omega arith, omega arith);
-      counted_err = λ tells never. refl;
-      pages = tt;
-      state = record { layout = refl; epoch = refl; unfinished = refl; readers = refl; down = inl refl };
-      idle = λ idle. refl;
-      kept = inl (refused, refl);
-      pages_kept = tt;
-      logged = tt;
-      resident = tt;
-      causes = λ h. none;
+      writes = record { rest = λ h. touches_none (force_writes v.layout) now; counted = λ tells. (omega arith, omega arith) };
+      keeps = record { by_steps = record { state = record { layout = refl; epoch = refl; unfinished = refl; readers = refl; down = inl refl }; kept = inl (refused, refl) }; resident = tt };
+      tells = record { pages = tt; pages_kept = tt; logged = tt; causes = λ h. none; lost = λ h. none; behind = tt; unwritten = λ tells never. refl };
       done = λ honest k stands. absurd (not_down v k now why down stands);
-      lost = λ h. none;
-      behind = tt;
     })
 
 -- ---- where no page waits
@@ -101,24 +87,31 @@ returns-then-len-eq0 g c =
     let nil = nil_from_length c.self.inside.table.cache.dirty none in
     let nil_now : c.args.self.now.cache.dirty ≡ [] = subst (λ (x : VolumeValue). x.cache.dirty ≡ []) c.self.view_is nil in
     record {
-      order = (ap (option_map Why.Down) (up_by w.down (sym c.in_ok-is_up.ensures)), (tt, tt));
+      order = record { follows = (ap (option_map Why.Down) (up_by w.down (sym c.in_ok-is_up.ensures)), (tt, tt)); idle = λ idle. refl };
       disk = writes_none at (λ left h is. g.met.M.Machine.only_now at left h is) (Leaves state IsMemoryOf w (force_writes w.layout)) (λ h. leaves_itself w now);
-      rest = λ h. touches_none (force_writes w.layout) now;
-      counted = λ tells. let len : force_len (state w) ≡ 0 = ap (λ (dirty : List ℕ). force_len (record (state w) { dirty = dirty })) nil_now in omega (arith, len);
-      counted_err = tt;
-      pages = ap length (sym nil_now);
-      state = record { layout = refl; epoch = refl; unfinished = refl; readers = refl; down = inl refl };
-      idle = λ idle. refl;
-      kept = subst (λ (x : VolumeValue). HasForced (state x) (state x)) c.self.view_is (idle_forced v c.self.invariant nil);
-      pages_kept = λ page x is. is;
-      logged = λ honest page waits. absurd (cc (ap (λ (dirty : List ℕ). contains dirty page) (sym nil_now) ∙ waits));
-      resident = record { there = λ page is. is; accepted = λ pages page x is. is };
-      causes = tt;
+      writes = record {
+        rest = λ h. touches_none (force_writes w.layout) now;
+        counted = λ tells. let len : force_len (state w) ≡ 0 = ap (λ (dirty : List ℕ). force_len (record (state w) { dirty = dirty })) nil_now in omega (arith, len);
+      };
+      keeps = record {
+        by_steps = record {
+          state = record { layout = refl; epoch = refl; unfinished = refl; readers = refl; down = inl refl };
+          kept = subst (λ (x : VolumeValue). HasForced (state x) (state x)) c.self.view_is (idle_forced v c.self.invariant nil);
+        };
+        resident = record { there = λ page is. is; accepted = λ pages page x is. is };
+      };
+      tells = record {
+        pages = ap length (sym nil_now);
+        pages_kept = λ page x is. is;
+        logged = λ honest page waits. absurd (cc (ap (λ (dirty : List ℕ). contains dirty page) (sym nil_now) ∙ waits));
+        causes = tt;
+        lost = tt;
+        behind = λ honest. behind_itself (state w) (resident w) now;
+        unwritten = tt;
+      };
       done = λ honest k stands.
           let here : Stands state IsMemoryOf v k (g.M.Machine.now c.args.m.now) = subst (λ (x : VolumeValue). Stands state IsMemoryOf x k now) (sym c.self.view_is) stands in
           subst (λ (x : VolumeValue). AnswersAndStands state IsMemoryOf (λ met. force_outcome (volume_of k)) IsForced [] k x now) c.self.view_is (ends_idle v k now c.self.invariant c.dirty_list.ensures.valid nil here);
-      lost = tt;
-      behind = λ honest. behind_itself (state w) (resident w) now;
     }
 
 -- ---- where a record is written
@@ -173,34 +166,39 @@ returns-in-Ok g c =
     let up : c.self.inside.down ≡ None = subst (λ (x : VolumeValue). x.down ≡ None) (sym c.self.view_is) (up_by c.args.self.now.down (sym c.in_ok-is_up.ensures)) in
     let whole = whole_forced v c.self.invariant w.map w.shadow w.log w.cache freed.map freed.removed freed.kept freed.unfinished freed.held forced.past forced.cache in
     let to = forced_to v c.self.invariant w.map w.shadow w.log w.cache freed.map freed.removed freed.kept freed.unfinished freed.held forced.past forced.cache in
-    record {
-      order = subst (λ (x : VolumeValue). Through (force_steps (state x))) c.self.view_is (ap (option_map Why.Down) up, (tt, tt));
-      disk = subst (λ (x : VolumeValue). WritesDisk M None (Leaves state IsMemoryOf x (force_writes x.layout)) c.args.m.now c.force_cached.new.m) c.self.view_is
-          (writes_more call.disk (λ h left leaves. leaves_forced v old left c.self.invariant valid leaves));
-      rest = λ h. subst (λ (x : VolumeValue). Touches (force_writes x.layout) old new) c.self.view_is (force_touches v old new c.self.invariant (call.rest h));
-      counted = λ tells. forced.counted tells ∙ ap (λ n. (M.ledger c.args.m.now).written + n) (forced_count v c.args.self.now c.self.view_is c.self.invariant some);
-      counted_err = tt;
-      pages = forced.pages ∙ ap (λ (x : VolumeValue). length x.cache.dirty) c.self.view_is;
-      state = subst (λ (x : VolumeValue). GoesOn None (state x) (state w)) c.self.view_is (record { layout = refl; epoch = refl; readers = freed.held; unfinished = ap (λ (a : Area). a.sectors) freed.unfinished; down = inl refl });
-      idle = subst (λ (x : VolumeValue). is_idle (force_steps (state x)) ≡ true → c.force_cached.new.m ≡ c.args.m.now) c.self.view_is (λ idle. absurd (busy (state v) up some idle));
-      kept = subst (λ (x : VolumeValue). HasForced (state x) (state w)) c.self.view_is
-          (is_forced v c.self.invariant w.map w.shadow w.log w.cache freed.map freed.removed freed.kept freed.unfinished freed.held forced.past forced.cache valid some);
-      pages_kept = subst (λ (x : VolumeValue). KeepsPages (state x) (state w) (resident x) (resident w)) c.self.view_is
-          (λ page x is. (forced_content v v refl c.attest.ensures w.cache forced.cache).accepted v.layout.pages page x is);
-      logged = λ honest. subst (λ (x : VolumeValue). AllLogged (state x) (state w) (resident w) new) c.self.view_is
-          (forced_logged v w c.self.invariant whole to valid new (forced.logged honest));
-      resident = forced_content v c.args.self.now c.self.view_is c.attest.ensures w.cache forced.cache;
-      causes = tt;
-      done = λ honest k stands.
-          let here : Stands state IsMemoryOf v k (g.M.Machine.now c.args.m.now) = subst (λ (x : VolumeValue). Stands state IsMemoryOf x k old) (sym c.self.view_is) stands in
+    let content = forced_content v v refl c.attest.ensures w.cache forced.cache in
+    rw (sym c.self.view_is) (record {
+      order = record { follows = (ap (option_map Why.Down) up, (tt, tt)); idle = λ idle. absurd (busy (state v) up some idle) };
+      disk = writes_more call.disk (λ h left leaves. leaves_forced v old left c.self.invariant valid leaves);
+      writes = record {
+        rest = λ h. force_touches v old new c.self.invariant (call.rest h);
+        counted = λ tells. forced.counted tells ∙ ap (λ n. (M.ledger c.args.m.now).written + n) (forced_count v v refl c.self.invariant some);
+      };
+      keeps = record {
+        by_steps = record {
+          state = record { layout = refl; epoch = refl; readers = freed.held; unfinished = ap (λ (a : Area). a.sectors) freed.unfinished; down = inl refl };
+          kept = is_forced v c.self.invariant w.map w.shadow w.log w.cache freed.map freed.removed freed.kept freed.unfinished freed.held forced.past forced.cache valid some;
+        };
+        resident = content;
+      };
+      tells = record {
+        pages = forced.pages;
+        pages_kept = λ page x is. content.accepted v.layout.pages page x is;
+        logged = λ honest. forced_logged v w c.self.invariant whole to valid new (forced.logged honest);
+        causes = tt;
+        lost = tt;
+        behind = λ honest. forced_behind v w c.self.invariant whole to new (forced.logged honest);
+        unwritten = tt;
+      };
+      done = λ honest k here.
           let left = commits v k old c.self.invariant valid here new (call.disk.exit honest) in
+          let agree = agrees v k old c.self.invariant valid here in
+          let over = over_waiting v k old c.self.invariant valid here in
+          let known = knows v k old c.self.invariant valid here in
           ends_forced v w k old new c.self.invariant whole valid here to c.attest-in-Ok.ensures left.kept left.windows
-          (forced.shows k.mounted.pages k.windows here.disk.records here.disk.disk (agrees v k old c.self.invariant valid here) honest here.ends (over_waiting v k old c.self.invariant valid here) (knows v k old c.self.invariant valid here))
-          (forced.knows k.mounted.pages k.windows here.disk.records here.disk.disk (agrees v k old c.self.invariant valid here) honest here.ends (over_waiting v k old c.self.invariant valid here) (knows v k old c.self.invariant valid here));
-      lost = tt;
-      behind = λ honest. subst (λ (x : VolumeValue). IsBehindForce (state x) (state w) (resident x) (resident w) new) c.self.view_is
-          (forced_behind v w c.self.invariant whole to new (forced.logged honest));
-    }
+          (forced.shows k.mounted.pages k.windows here.disk.records here.disk.disk agree honest here.ends over known)
+          (forced.knows k.mounted.pages k.windows here.disk.records here.disk.disk agree honest here.ends over known);
+    })
 
 -- ---- where it fails
 
@@ -221,26 +219,33 @@ returns-in-Err g c =
     let up : c.self.inside.down ≡ None = subst (λ (x : VolumeValue). x.down ≡ None) (sym c.self.view_is) (up_by c.args.self.now.down (sym c.in_ok-is_up.ensures)) in
     let passes = ap (option_map Why.Down) up in
     let downs_is : Some c.place_of.result ≡ downs_for c.force_refusal.result = ap (λ (p : ℕ). Some p) c.place_of.ensures ∙ fault_downs f ∙ ap downs_for (sym told) in
-    record {
-      order = subst (λ (x : VolumeValue). Comes (force_steps (state x)) why) c.self.view_is (inr (passes, inl (some_waits (length v.cache.dirty) some, subst IsLoss (sym told) (fault_loss f))));
-      disk = subst (λ (x : VolumeValue). WritesDisk M (device_of why) (Leaves state IsMemoryOf x (force_writes x.layout)) c.args.m.now c.force_cached.new.m) c.self.view_is
-          (writes_told (ap device_of told ∙ tells_place f) (writes_more call.disk (λ h left leaves. leaves_forced v old left c.self.invariant valid leaves)));
-      rest = λ h. subst (λ (x : VolumeValue). Touches (force_writes x.layout) old new) c.self.view_is (force_touches v old new c.self.invariant (call.rest h));
-      counted = λ tells. failed_counted v c.args.self.now c.self.view_is c.self.invariant some (M.ledger c.args.m.now) (M.ledger c.force_cached.new.m) (failed.write.counted tells);
-      counted_err = λ tells never. failed_none v c.args.self.now c.self.view_is c.self.invariant (M.ledger c.args.m.now) (M.ledger c.force_cached.new.m) (failed.write.counted tells) never;
-      pages = tt;
-      state = subst (λ (x : VolumeValue). GoesOn (downs_for why) (state x) (state w)) c.self.view_is (record { layout = refl; epoch = refl; unfinished = refl; readers = refl; down = inr (subst IsSome downs_is refl, downs_is) });
-      idle = subst (λ (x : VolumeValue). is_idle (force_steps (state x)) ≡ true → c.force_cached.new.m ≡ c.args.m.now) c.self.view_is (λ idle. absurd (busy (state v) up some idle));
-      kept = subst (λ (x : VolumeValue). KeepsRefused (force_steps (state x)) why (state x) (state w)) c.self.view_is
-          (kept_down v c.self.invariant w.log w.cache c.place_of.result why f c.place_of.ensures told failed.cache _ failed.write.past up some);
-      pages_kept = tt;
-      logged = tt;
-      resident = tt;
-      causes = λ h. failed_cause v c.args.self.now c.self.view_is c.self.invariant (state w) old new f why told (failed.write.lost h);
-      done = λ honest k stands.
-          let here : Stands state IsMemoryOf v k (g.M.Machine.now c.args.m.now) = subst (λ (x : VolumeValue). Stands state IsMemoryOf x k old) (sym c.self.view_is) stands in
+    rw (sym c.self.view_is) (record {
+      order = record {
+        follows = inr (passes, inl (some_waits (length v.cache.dirty) some, subst IsLoss (sym told) (fault_loss f)));
+        idle = λ idle. absurd (busy (state v) up some idle);
+      };
+      disk = writes_told (ap device_of told ∙ tells_place f) (writes_more call.disk (λ h left leaves. leaves_forced v old left c.self.invariant valid leaves));
+      writes = record {
+        rest = λ h. force_touches v old new c.self.invariant (call.rest h);
+        counted = λ tells. failed_counted v v refl c.self.invariant some (M.ledger c.args.m.now) (M.ledger c.force_cached.new.m) (failed.write.counted tells);
+      };
+      keeps = record {
+        by_steps = record {
+          state = record { layout = refl; epoch = refl; unfinished = refl; readers = refl; down = inr (subst IsSome downs_is refl, downs_is) };
+          kept = kept_down v c.self.invariant w.log w.cache c.place_of.result why f c.place_of.ensures told failed.cache _ failed.write.past up some;
+        };
+        resident = tt;
+      };
+      tells = record {
+        pages = tt;
+        pages_kept = tt;
+        logged = tt;
+        causes = λ h. failed_cause v v refl c.self.invariant (state w) old new f why told (failed.write.lost h);
+        lost = λ h. failed_cause v v refl c.self.invariant (state v) old new f why told (failed.write.lost h);
+        behind = tt;
+        unwritten = λ tells never. failed_none v v refl c.self.invariant (M.ledger c.args.m.now) (M.ledger c.force_cached.new.m) (failed.write.counted tells) never;
+      };
+      done = λ honest k here.
           let device = failed.never_lost k.mounted.pages k.windows here.disk.records here.disk.disk (agrees v k old c.self.invariant valid here) honest here.ends (over_waiting v k old c.self.invariant valid here) (knows v k old c.self.invariant valid here) in
           ends_failed Forced (λ met. force_outcome (volume_of k)) IsForced k w new f c.place_of.result why c.place_of.ensures told refl device;
-      lost = λ h. failed_cause v c.args.self.now c.self.view_is c.self.invariant (state c.args.self.now) old new f why told (failed.write.lost h);
-      behind = tt;
-    }
+    })

@@ -32,10 +32,16 @@ returns-clause-edited g c =
     keep_edits _ c.args.self.now c.self.view_is c.set_keep-done.new.self.cache c.set_keep-done.new.self.free_pages g.M.Machine c.args.m.now c.set_keep-done.new.m c.over-source.result c.set_keep-done.result c.kept_told.result c.kept_told.ensures
     (kept_each c.set_keep-done.result (λ fault none. none.kept) c.set_keep-done.ensures.failed)
 
-pub returns-clause-causes : goal.returns-clause-causes
-returns-clause-causes g c =
-    keep_causes _ c.args.self.now c.self.view_is c.set_keep-done.new.self.cache c.set_keep-done.new.self.free_pages g.M.Machine c.args.m.now c.set_keep-done.new.m c.over-source.result c.self.invariant c.over-source.ensures c.set_keep-done.result c.kept_told.result
-    c.kept_told.ensures c.set_keep-done.ensures.edits
+pub returns-clause-tells : goal.returns-clause-tells
+returns-clause-tells g c =
+    let done = c.set_keep-done.ensures in
+    let r = c.set_keep-done.result in
+    record {
+      name = subst (λ (r : Result Key Refusal). IfOk r (λ key. key.name ≡ c.args.name.now)) (sym c.kept_told.ensures) (keep_name c.args.name.now r (given_each r (λ key gives. gives.name_is) done.set));
+      memory = λ has wants. done.memory (enough_in _ c.args.self.now c.self.view_is c.self.invariant c.args.name.now has) (keep_memory r (sym c.kept_told.ensures ∙ wants));
+      causes = keep_causes _ c.args.self.now c.self.view_is c.set_keep-done.new.self.cache c.set_keep-done.new.self.free_pages g.M.Machine c.args.m.now c.set_keep-done.new.m c.over-source.result c.self.invariant c.over-source.ensures r c.kept_told.result
+          c.kept_told.ensures done.edits;
+    }
 
 pub returns-clause-done : goal.returns-clause-done
 returns-clause-done g c = λ honest k stands.
@@ -49,11 +55,3 @@ returns-clause-done g c = λ honest k stands.
     keep_ended g.M.Machine g.met.M.Machine.short c.args.m.now c.set_keep-done.new.m _ c.args.self.now c.self.view_is c.self.invariant c.attest.ensures c.set_keep-done.new.self.cache c.attest-2.ensures c.set_keep-done.new.self.free_pages
     honest k stands c.args.name.now c.args.keep c.requires.keep c.requires.few c.home_a-home_a.result c.over-source.result c.over-source.ensures c.set_keep-done.result c.kept_told.result c.kept_told.ensures
     edits (kept_each r (λ fault none. none.kept) failed) (given_each r (λ key gives. gives.one) gives) (given_each r (λ key gives. gives.set) gives) (kept_each r (λ fault none. none.cause) failed) whole_left
-
-pub returns-clause-memory : goal.returns-clause-memory
-returns-clause-memory g c = λ has wants.
-    c.set_keep-done.ensures.memory (enough_in _ c.args.self.now c.self.view_is c.self.invariant c.args.name.now has) (keep_memory c.set_keep-done.result (sym c.kept_told.ensures ∙ wants))
-
-pub returns-clause-name : goal.returns-clause-name
-returns-clause-name g c =
-    subst (λ (r : Result Key Refusal). IfOk r (λ key. key.name ≡ c.args.name.now)) (sym c.kept_told.ensures) (keep_name c.args.name.now c.set_keep-done.result (given_each c.set_keep-done.result (λ key gives. gives.name_is) c.set_keep-done.ensures.set))
