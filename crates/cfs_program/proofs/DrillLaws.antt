@@ -53,16 +53,6 @@ spares_then failed a b c first second = record {
     output false same = same ∙ first.output
 
 module _ {D : Type 0} (M : Ghosts D) where
-  speaks_none : (a : D) → SpeaksBytes M [] false a a
-  speaks_none a = record {
-    spares = record { sectors = refl; place = refl; disk = refl; input = refl; output = refl };
-    trust = record { tells = λ t. t; honest = λ h. h };
-    ledger = λ t. refl;
-    ages = λ h. record { image = record { size = refl; each = λ place. inl refl }; windows = refl };
-    begins = λ h. begins_all [] (M.now a) (M.now a) (sym (append-nil (M.now a).said));
-    says = λ all h. sym (append-nil (M.now a).said);
-  }
-
   -- one call
   pub speaks_all : (bytes : List ℕ) (a b : D) → SparesDisk false false (M.report a) (M.report b) → Trusts (M.tells a) (M.tells b) (M.honest a) (M.honest b) → (M.tells b → M.ledger b ≡ M.ledger a)
       → (M.honest b → Says bytes (M.now a) (M.now b)) → SpeaksBytes M bytes false a b
@@ -108,9 +98,6 @@ module _ {D : Type 0} (M : Ghosts D) where
   }
 
   -- ---- how a drill ends
-
-  pub says_none : (a : D) → SaysLives M 0 a a
-  says_none a = record { said = []; are = refl; speaks = speaks_none a }
 
   -- one more life
   pub says_next : (lives : ℕ) (list : List ℕ) (a b c : D) → SaysLives M lives a b → IsListOf (suc lives) list → SpeaksBytes M (text (Lines.Life (suc lives)) ++ list) false b c → SaysLives M (suc lives) a c

@@ -4,7 +4,7 @@ use Rattle.std.specs.Prelude.{Result, Ok, Err, OnOk}
 use Rattle.sector_disk.specs.declared.sector.Sector.{Sector}
 use Rattle.sector_disk.specs.declared.sector.Sector.TheVariants.{Damaged}
 use Rattle.sector_disk.specs.declared.sector.WeakRun.{WeakRun}
-use Rattle.sector_disk.specs.Image.{IsWorn, Windows, in_run, open_damage, sector_at}
+use Rattle.sector_disk.specs.Image.{IsWorn, Windows, in_weak_run, open_damage, sector_at}
 use Rattle.sector_disk.specs.declared.machine.Machine.{Ghosts}
 use Rattle.sector_disk.specs.Calls.{IsHeld, IsTimed, Since}
 use Rattle.sector_disk.specs.Machine.{IsSynced, LeavesOnly, Makes, Moment, Utters}
@@ -33,14 +33,15 @@ sector_at-replicate (suc count) (suc s) = sector_at-replicate count s
 formatted_sound : (l : Layout) (run : WeakRun) (i : List Sector) → run.count ≤ longest_of l.kind → IsFormattedIn l run i → IsSound l (run ∷ []) [] 0 i
 formatted_sound l run i short f = sound_still l (run ∷ []) (borne_narrow l (run ∷ []) short) [] 0 f.written i f.worn (format_is_sound l (run ∷ []) short f.written f.formatted)
 
-pub volume_made : (l : Layout) (count : ℕ) (old mid new : Moment) → Makes count old mid → (IsNewImage mid → Formats l mid new) → MakesVolume l old new
-volume_made l count old mid new made done =
+pub volume_made : (l : Layout) (count : ℕ) (old mid new : Moment) → Makes count old mid → (IsNewImage mid → Formats l mid new) → IsSynced new → MakesVolume l old new
+volume_made l count old mid new made done synced =
     let formats = done (record {
       damaged = λ s. ap (λ (i : List Sector). sector_at i s) made.image ∙ sector_at-replicate count s;
       windows = made.windows;
     }) in
     record {
       holds = record { run = formats.run; short = formats.short; formatted = formats.formatted; sound = formatted_sound l formats.run new.image formats.short formats.formatted; windows = formats.windows };
+      synced = synced;
       said = formats.said ∙ made.said;
     }
 
@@ -51,7 +52,7 @@ holds_on l between after holds still =
     let formatted : IsFormattedIn l holds.run after.image = record {
       written = holds.formatted.written;
       formatted = holds.formatted.formatted;
-      worn = worn_trans (in_run holds.run) holds.formatted.written between.image after.image holds.formatted.worn (subst may holds.windows still.image);
+      worn = worn_trans (in_weak_run holds.run) holds.formatted.written between.image after.image holds.formatted.worn (subst may holds.windows still.image);
     } in
     record {
       run = holds.run;
@@ -62,9 +63,9 @@ holds_on l between after holds still =
     }
 
 pub made_of : {E : Type 0} (l : Layout) (count : ℕ) (old mid new : Moment) (H : Type 0) (result : Result (Unit {0}) E) → (H → Makes count old mid)
-    → OnOk result (H → IsNewImage mid → Formats l mid new) → OnOk result (H → MakesVolume l old new)
-made_of l count old mid new H (Ok x) makes done = λ h. volume_made l count old mid new (makes h) (done h)
-made_of l count old mid new H (Err e) makes done = tt
+    → OnOk result (H → IsNewImage mid → Formats l mid new) → OnOk result (H → IsSynced new) → OnOk result (H → MakesVolume l old new)
+made_of l count old mid new H (Ok x) makes done synced = λ h. volume_made l count old mid new (makes h) (done h) (synced h)
+made_of l count old mid new H (Err e) makes done synced = tt
 
 -- ---- its line
 

@@ -32,28 +32,32 @@ use Rattle.fsd_sound.proofs.WindowLaws.{last_snoc}
 use Rattle.fsd_sound.proofs.MountedLaws.{lists_long}
 use Rattle.fsd_texts.specs.declared.command.Command.{Command}
 use Rattle.fsd_texts.specs.declared.command.Command.TheVariants as Word
-use Rattle.fsd_texts.specs.declared.fault.Fault.{Fault}
 use Rattle.fsd_texts.specs.declared.fault.Fault.TheVariants as Ends
-use Rattle.fsd_texts.specs.declared.line.Line.TheVariants as Says
 use Rattle.fsd_texts.specs.declared.script_command.ScriptCommand.TheVariants.{Plain}
-use Rattle.fsd_texts.specs.Text.{text}
 use Rattle.fsd_runs.specs.declared.request.Request.{Request}
 use Rattle.fsd_runs.specs.declared.request.Request.TheVariants as Asks
-use Rattle.fsd_runs.specs.Commands.{answer, changes_of, version_line, reply_status}
-use Rattle.fsd_runs.specs.Errands.{Cut, Turn, MayCut, errand_alone, alone_ending, answered_so, blank, fault_status}
-use Rattle.fsd_runs.specs.Leaves.{IsBrokenOff, IsReplied, IsSoundAsSaid, IsSpent, IsUnderWay, IsUndone, IsUnsaid, LeavesBy, LeavesMounted, LeavesSaid, LeftByTurns, Unbegun, Whatever}
+use Rattle.fsd_runs.specs.Commands.{answer, changes_of, listed_text, reply_status, version_text}
+use Rattle.fsd_runs.specs.Errands.{Cut, Turn, MayCut, errand_alone, alone_ending, answered_so, blank}
+use Rattle.fsd_runs.specs.Leaves.{IsBrokenOff, IsReplied, IsSoundAsSaid, IsSpent, IsUnderWay, IsUndone, IsUnsaid, LeavesBy, LeavesSaid, LeftByTurns, Unbegun, Whatever}
 use Rattle.fsd_runs.specs.Sessions.{Meeting, session_over}
 use Rattle.fsd_runs.specs.Runs.{Goes, IsCutAt, IsThrough, answered, changes_in, errand_in, run_end, run_status, run_turns, said_in, turn_of, turns_of}
-use Rattle.cfs_program.specs.Drill.{KeepsFirst, ListsPrefix, list_text, version_text}
+use Rattle.cfs_program.specs.Drill.{KeepsFirst, ListsPrefix, list_text}
 use Rattle.cfs_program.specs.Formatting.{HoldsVolume}
 use Rattle.cfs_program.proofs.OpeningLaws.{said_disk}
+use Rattle.volume_turns.proofs.StatusLaws.{fault_some}
 
 -- ---- a list, by the files
 
-line_is : (x : Key × File) (e : Entry) → IsEntryOf x e → text (version_line e) ≡ version_text x
-line_is x e is = λ i. text (Says.Version (is.key i) (is.length i) (sectors_for (is.length i)) (is.keep i))
+abbrev file_line : Key × File → List ℕ
+file_line x = version_text x.0 (length x.1.bytes) x.1.keep
 
-lines_are : (files : Files) (entries : List Entry) → Lists files entries → flat_map (λ e. text (version_line e)) entries ≡ flat_map version_text files
+abbrev entry_line : Entry → List ℕ
+entry_line e = version_text e.key e.length e.keep
+
+line_is : (x : Key × File) (e : Entry) → IsEntryOf x e → entry_line e ≡ file_line x
+line_is x e is = λ i. version_text (is.key i) (is.length i) (is.keep i)
+
+lines_are : (files : Files) (entries : List Entry) → Lists files entries → flat_map entry_line entries ≡ flat_map file_line files
 lines_are [] [] lists = refl
 lines_are [] (e ∷ entries) lists = absurd lists
 lines_are (x ∷ files) [] lists = absurd lists
@@ -64,11 +68,11 @@ all_fit [] = refl
 all_fit (e ∷ entries) = ap (λ (x : List Entry). e ∷ x) (all_fit entries)
 
 abbrev listing : List Entry → List ℕ
-listing entries = flat_map (λ e. text (version_line e)) entries ++ text (Says.Listed (length entries))
+listing entries = flat_map entry_line entries ++ listed_text (length entries)
 
 list_is : (files : Files) (entries : List Entry) → Lists files entries → listing (filter (λ e. fits (Prefix []) e.key.name) entries) ≡ list_text files
 list_is files entries lists =
-    ap listing (all_fit entries) ∙ (λ i. lines_are files entries lists i ++ text (Says.Listed (lists_long files entries lists i)))
+    ap listing (all_fit entries) ∙ (λ i. lines_are files entries lists i ++ listed_text (lists_long files entries lists i))
 
 -- ---- prefixes of changes
 
@@ -126,20 +130,9 @@ held_again h f m image windows is k c left =
 
 -- ---- how a run ends
 
-fault_not_zero : (why : Fault) → fault_status why ≡ 0 → ⊥
-fault_not_zero Ends.NotVolume e = omega (arith, e)
-fault_not_zero (Ends.Lost a b) e = omega (arith, e)
-fault_not_zero Ends.NoAnchor e = omega (arith, e)
-fault_not_zero (Ends.Unsound s) e = omega (arith, e)
-fault_not_zero (Ends.Device s) e = omega (arith, e)
-fault_not_zero Ends.Input e = omega (arith, e)
-fault_not_zero Ends.InputTooLong e = omega (arith, e)
-fault_not_zero Ends.Memory e = omega (arith, e)
-fault_not_zero Ends.WornOut e = omega (arith, e)
-
 broken_not_zero : (request : Request) (Undone : ℕ → Image → Type 0) (Way : ℕ → Type 0) (before after : Report) (turns : List Turn) (old new : Moment) (result : ℕ) → IsUnsaid before after result ⊎ IsBrokenOff request Undone Way before after turns old new result → result ≡ 0 → ⊥
 broken_not_zero request Undone Way before now turns old new result (inl unsaid) nought = let six = unsaid.ends in omega (arith, nought, six)
-broken_not_zero request Undone Way before now turns old new result (inr broken) nought = fault_not_zero broken.why (sym broken.ends ∙ nought)
+broken_not_zero request Undone Way before now turns old new result (inr broken) nought = fault_some broken.why (sym broken.ends ∙ nought)
 
 -- ---- one command
 
@@ -285,9 +278,6 @@ module _ (name : List ℕ) (byte : ℕ) (h : List Change) (old new : Moment) (k 
 
   abbrev Leaves : Type 0
   Leaves = LeavesBy (the_request name byte) (byte ∷ []) rest k.layout k.windows (take k.made h) k.forced Past Stops began Only Held before after_it old new result
-
-  abbrev Mounted : Type 0
-  Mounted = LeavesMounted (the_request name byte) (byte ∷ []) rest k.layout k.windows (take k.made h) k.forced Past Stops began Only Held before after_it old new result
 
   long : length more ≡ length h + 1
   long = length-append h (the_change name byte ∷ [])

@@ -8,25 +8,20 @@ use Rattle.sector_disk.specs.Calls.{SparesDisk}
 use Rattle.sector_disk.specs.Machine.{Moment, Trusts}
 use Rattle.sector_disk.specs.Memory.{IsHonest, memory_now}
 use Rattle.volume_layout.specs.declared.layout.Layout.{Layout}
-use Rattle.fsd_bytes.specs.declared.key.Key.{Key}
-use Rattle.fsd_formats.specs.NamePage.{sectors_for}
-use Rattle.fsd_files.specs.Files.{Change, File, Files, after}
+use Rattle.fsd_files.specs.Files.{Change, Files, after}
 use Rattle.fsd_sound.specs.Sound.{IsPrefixOf}
 use Rattle.fsd_texts.specs.declared.line.Line.TheVariants as Says
 use Rattle.fsd_texts.specs.Text.{memory_text, text}
+use Rattle.fsd_runs.specs.Commands.{listed_text, version_text}
 use Rattle.volume_contract.specs.State.{Ages}
 use Rattle.volume_turns.specs.Line.{is_unsaid}
 use Rattle.cfs_program.specs.Opening.{IsSoundDisk}
 
 -- ---- lists
 
--- what a list says of a version
-abbrev pub version_text : Key × File → List ℕ
-version_text version = text (Says.Version version.0 (length version.1.bytes) (sectors_for (length version.1.bytes)) version.1.keep)
-
 -- what a list of all versions says, where these are the files
 abbrev pub list_text : Files → List ℕ
-list_text files = flat_map version_text files ++ text (Says.Listed (length files))
+list_text files = flat_map (λ x. version_text x.0 (length x.1.bytes) x.1.keep) files ++ listed_text (length files)
 
 -- A list finds so many of these changes, the first f among them, and is that of the files behind those that it finds.
 pub record ListsPrefix (h : List Change) (f : ℕ) (list : List ℕ) : Type 0 where

@@ -4,7 +4,7 @@ use Rattle.sector_disk.specs.declared.machine.Attach.TheVariants.{New}
 use Rattle.sector_disk.specs.declared.machine.Machine.{Ghosts}
 use Rattle.sector_disk.specs.declared.sector.WeakRun.{WeakRun}
 use Rattle.sector_disk.specs.Calls.{DiskFaults, IsHeld}
-use Rattle.sector_disk.specs.Machine.{Asked, Ledger, Moment, Report, Rose, Trusts}
+use Rattle.sector_disk.specs.Machine.{Asked, IsSynced, Ledger, Moment, Report, Rose, Trusts}
 use Rattle.volume_layout.specs.declared.layout.Layout.{Layout}
 use Rattle.volume_layout.specs.declared.fault.LayoutFault.{LayoutFault}
 use Rattle.volume_layout.specs.Kinds.{longest_of}
@@ -25,9 +25,10 @@ pub record HoldsVolume (l : Layout) (moment : Moment) : Type 0 where
   pub sound : IsSound l (run ∷ []) [] 0 moment.image
   pub windows : moment.windows ≡ record { present = Some run; next = None }
 
--- It is made, and nothing is said of it.
+-- It is made, for certain on the disk, and nothing is said of it.
 pub record MakesVolume (l : Layout) (old new : Moment) : Type 0 where
   pub holds : HoldsVolume l new
+  pub synced : IsSynced new
   pub said : new.said ≡ old.said
 
 -- after status 0: whichever of the moments since the last sync is on the disk, it is a volume of the plan's numbers

@@ -1,7 +1,7 @@
 //! The command `format`.
 ghost use Rattle.std.specs.Prelude.{◌≡◌, Ok, OnOk};
 ghost use Rattle.sector_disk.specs.Calls.{device_in, failed_at};
-ghost use Rattle.sector_disk.specs.Machine.{IsSynced, Trusts};
+ghost use Rattle.sector_disk.specs.Machine.{Trusts};
 ghost use Rattle.volume_layout.specs.Layout.{plan};
 ghost use Rattle.cfs_program.specs.Formatting.{AsksAll, AsksAtMost, MakesVolume, RunsFormat, UsesAttach, plan_asks};
 
@@ -56,7 +56,6 @@ fn make_volume<M: Machine>(m: &mut M, path: &str, l: &Layout) -> Result<(), Fail
     ensures asked { OnOk result (M.tells m.new → AsksAll (plan_asks (Ok l.now) path.now) (M.ledger m.old) (M.ledger m.new)) }
     ensures quiet { M.honest m.new → (M.now m.new).said ≡ (M.now m.old).said }
     ensures made { OnOk result (M.honest m.new → MakesVolume l.now (M.now m.old) (M.now m.new)) }
-    ensures synced { OnOk result (M.honest m.new → IsSynced (M.now m.new)) }
 {
     match m.attach(path, Attach::New(l.sectors())) {
         Ok(_) => format(m, l),

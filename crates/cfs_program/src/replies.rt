@@ -1,16 +1,17 @@
 //! How replies are said.
-ghost use Rattle.std.specs.Prelude.{◌≡◌, ◌++◌, IfOk, length};
+ghost use Rattle.std.specs.Prelude.{◌≡◌, ◌++◌, IfOk, map};
 ghost use Rattle.std.specs.List.{flat_map};
-ghost use Rattle.fsd_runs.specs.Commands.{found_text, reply_text, version_line};
-ghost use Rattle.fsd_texts.specs.declared.line.Line.TheVariants as Lines;
-ghost use Rattle.fsd_texts.specs.Text.{newline, text};
+ghost use Rattle.fsd_files.specs.declared.reply.Reply.TheVariants as Said;
+ghost use Rattle.fsd_runs.specs.Commands.{found_text, reply_text, version_text};
+ghost use Rattle.fsd_texts.specs.Text.{line, newline, part_text, text};
 ghost use Rattle.cfs_program.specs.Replies.{alone_replies, script_replies};
 
 use fsd_bytes::Key;
 use fsd_files::Reply;
 use fsd_formats::Entry;
-use fsd_texts::{Bytes, Line};
-use script_text::say_line;
+use fsd_texts::Part::{Number, Word};
+use fsd_texts::{Bytes, Line, Part};
+use script_text::{say_line, say_parts};
 use std::alloc::{AllocError, Global};
 use volume_turns::Says;
 
@@ -54,93 +55,65 @@ fn text_of(alloc: Global, answer: &Reply) -> Result<Vec<u8>, AllocError>
 {
     match answer {
         Reply::Refused(why) => line_text(alloc, &Line::Refused(*why)),
-        Reply::Made { key, sectors } => {
-            let key = key.copied();
-            line_text(
-                alloc,
-                &Line::Made {
-                    key,
-                    sectors: *sectors,
-                },
-            )
-        }
-        Reply::Deleted(key) => line_text(alloc, &Line::Deleted(key.copied())),
-        Reply::Kept { key, keep } => {
-            let key = key.copied();
-            line_text(alloc, &Line::Kept { key, keep: *keep })
-        }
+        Reply::Made { key, sectors } => parts_text(
+            alloc,
+            &[Word("made"), Part::Key(key), Number(u64::from(*sectors))],
+        ),
+        Reply::Deleted(key) => parts_text(alloc, &[Word("deleted"), Part::Key(key)]),
+        Reply::Kept { key, keep } => parts_text(
+            alloc,
+            &[Word("kept"), Part::Key(key), Number(u64::from(*keep))],
+        ),
         Reply::Listed(entries) => list_text(alloc, entries.as_slice()),
         Reply::Bytes { key, bytes } => bytes_text(alloc, key, bytes.as_slice()),
-        Reply::DamagedAt { key, sector } => {
-            let key = key.copied();
-            line_text(
-                alloc,
-                &Line::Damaged {
-                    key,
-                    sector: *sector,
-                },
-            )
-        }
+        Reply::DamagedAt { key, sector } => parts_text(
+            alloc,
+            &[Word("damaged"), Part::Key(key), Number(u64::from(*sector))],
+        ),
         Reply::Forced => line_text(alloc, &Line::Forced),
         Reply::Counts {
             free,
             waiting,
             pages,
             versions,
-        } => line_text(
+        } => parts_text(
             alloc,
-            &Line::Counted {
-                free: *free,
-                waiting: *waiting,
-                pages: *pages,
-                versions: *versions,
-            },
+            &[
+                Word("stat"),
+                Word("free"),
+                Number(u64::from(*free)),
+                Word("waiting"),
+                Number(u64::from(*waiting)),
+                Word("pages"),
+                Number(u64::from(*pages)),
+                Word("versions"),
+                Number(u64::from(*versions)),
+            ],
         ),
         Reply::Scrubbed { found, healed } => scrub_text(alloc, found.as_slice(), *healed),
-        Reply::Upgraded => line_text(alloc, &Line::Upgraded),
-        Reply::Begun(client) => line_text(alloc, &Line::Begun(*client)),
-        Reply::Took { client, sum } => line_text(
+        Reply::Upgraded => parts_text(alloc, &[Word("upgraded"), Word("2")]),
+        Reply::Begun(client) => parts_text(alloc, &[Word("begun"), Number(u64::from(*client))]),
+        Reply::Took { client, sum } => parts_text(
             alloc,
-            &Line::Took {
-                client: *client,
-                sum: *sum,
-            },
+            &[
+                Word("took"),
+                Number(u64::from(*client)),
+                Number(u64::from(*sum)),
+            ],
         ),
-        Reply::Dropped(client) => line_text(alloc, &Line::Dropped(*client)),
-        Reply::Opened { client, length } => line_text(
+        Reply::Dropped(client) => parts_text(alloc, &[Word("dropped"), Number(u64::from(*client))]),
+        Reply::Opened { client, length } => parts_text(
             alloc,
-            &Line::Opened {
-                client: *client,
-                length: *length,
-            },
+            &[
+                Word("opened"),
+                Number(u64::from(*client)),
+                Number(u64::from(*length)),
+            ],
         ),
         Reply::Given { client, bytes } => given_text(alloc, *client, bytes.as_slice()),
-        Reply::Done(client) => line_text(alloc, &Line::Done(*client)),
+        Reply::Done(client) => parts_text(alloc, &[Word("done"), Number(u64::from(*client))]),
         Reply::Found(_) => Ok(Vec::new(alloc)),
     }
-}
-
-// The damaged data sectors, a line for each, and the numbers of those healed and of these, which is one of 32 bits.
-fn scrub_text(alloc: Global, found: &[(Key, u32)], healed: u32) -> Result<Vec<u8>, AllocError>
-    ensures { IfOk result (λ said. said.items ≡ found_text found.now ++ text (Lines.Scrubbed healed (length found.now))) }
-{
-    let Ok(damaged) = u32::try_from(found.len()) else {
-        return Err(AllocError);
-    };
-    let mut said = damage_text(alloc, found)?;
-    say_line(&Line::Scrubbed { healed, damaged }, &mut said)?;
-    Vec::from_slice(alloc, said.as_slice())
-}
-
-fn damage_text(alloc: Global, found: &[(Key, u32)]) -> Result<Bytes, AllocError>
-    ensures { IfOk result (λ said. said ≡ found_text found.now) }
-{
-    let mut said = Bytes::new(alloc);
-    for x in found {
-        let key = x.0.copied();
-        say_line(&Line::Damaged { key, sector: x.1 }, &mut said)?;
-    }
-    Ok(said)
 }
 
 // The text of one line.
@@ -152,67 +125,113 @@ fn line_text(alloc: Global, line: &Line) -> Result<Vec<u8>, AllocError>
     Vec::from_slice(alloc, said.as_slice())
 }
 
-// The versions, a line for each, and their number, which is one of 32 bits.
-fn list_text(alloc: Global, entries: &[Entry]) -> Result<Vec<u8>, AllocError>
-    ensures { IfOk result (λ said. said.items ≡ flat_map (λ e. text (version_line e)) entries.now ++ text (Lines.Listed (length entries.now))) }
+// The text of the line of these parts.
+fn parts_text(alloc: Global, parts: &[Part<'_>]) -> Result<Vec<u8>, AllocError>
+    ensures { IfOk result (λ said. said.items ≡ line (map part_text parts.now)) }
 {
-    let Ok(count) = u32::try_from(entries.len()) else {
-        return Err(AllocError);
-    };
+    let mut said = Bytes::new(alloc);
+    say_parts(parts, &mut said)?;
+    Vec::from_slice(alloc, said.as_slice())
+}
+
+// The damaged data sectors, a line for each, and the numbers of those healed and of these.
+fn scrub_text(alloc: Global, found: &[(Key, u32)], healed: u32) -> Result<Vec<u8>, AllocError>
+    ensures { IfOk result (λ said. said.items ≡ reply_text (Said.Scrubbed found.now healed)) }
+{
+    let mut said = damage_text(alloc, found)?;
+    say_parts(
+        &[
+            Word("scrubbed"),
+            Word("healed"),
+            Number(u64::from(healed)),
+            Word("damaged"),
+            Number(found.len() as u64),
+        ],
+        &mut said,
+    )?;
+    Vec::from_slice(alloc, said.as_slice())
+}
+
+fn damage_text(alloc: Global, found: &[(Key, u32)]) -> Result<Bytes, AllocError>
+    ensures { IfOk result (λ said. said ≡ found_text found.now) }
+{
+    let mut said = Bytes::new(alloc);
+    for x in found {
+        say_parts(
+            &[Word("damaged"), Part::Key(&x.0), Number(u64::from(x.1))],
+            &mut said,
+        )?;
+    }
+    Ok(said)
+}
+
+// The versions, a line for each, and their number.
+fn list_text(alloc: Global, entries: &[Entry]) -> Result<Vec<u8>, AllocError>
+    ensures { IfOk result (λ said. said.items ≡ reply_text (Said.Listed entries.now)) }
+{
     let mut said = versions_text(alloc, entries)?;
-    say_line(&Line::Listed(count), &mut said)?;
+    say_parts(&[Word("listed"), Number(entries.len() as u64)], &mut said)?;
     Vec::from_slice(alloc, said.as_slice())
 }
 
 fn versions_text(alloc: Global, entries: &[Entry]) -> Result<Bytes, AllocError>
-    ensures { IfOk result (λ said. said ≡ flat_map (λ e. text (version_line e)) entries.now) }
+    ensures { IfOk result (λ said. said ≡ flat_map (λ e. version_text e.key e.length e.keep) entries.now) }
 {
     let mut said = Bytes::new(alloc);
     for e in entries {
-        say_line(&version_line(e), &mut said)?;
+        say_version(e, &mut said)?;
     }
     Ok(said)
 }
 
 // One version of a list.
-fn version_line(e: &Entry) -> Line
-    ensures { result ≡ version_line e.now }
+fn say_version(e: &Entry, said: &mut Bytes) -> Result<(), AllocError>
+    ensures { IfOk result (λ done. said.new ≡ said.old ++ version_text e.now.key e.now.length e.now.keep) }
 {
-    Line::Version {
-        key: e.key.copied(),
-        length: e.length,
-        sectors: 1 + e.length.div_ceil(512),
-        keep: e.keep,
-    }
+    let sectors = 1 + e.length.div_ceil(512);
+    say_parts(
+        &[
+            Part::Key(&e.key),
+            Number(u64::from(e.length)),
+            Number(u64::from(sectors)),
+            Number(u64::from(e.keep)),
+        ],
+        said,
+    )
 }
 
-// The bytes of a version behind the line that tells their number, which is one of 32 bits.
+// The bytes of a version behind the line that tells their number.
 fn bytes_text(alloc: Global, key: &Key, bytes: &[u8]) -> Result<Vec<u8>, AllocError>
-    ensures { IfOk result (λ said. said.items ≡ text (Lines.Bytes key.now (length bytes.now)) ++ bytes.now ++ newline) }
+    ensures { IfOk result (λ said. said.items ≡ reply_text (Said.Bytes key.now bytes.now)) }
 {
-    let Ok(length) = u32::try_from(bytes.len()) else {
-        return Err(AllocError);
-    };
-    let key = key.copied();
-    text_before(alloc, &Line::Bytes { key, length }, bytes)
+    text_before(
+        alloc,
+        &[Word("bytes"), Part::Key(key), Number(bytes.len() as u64)],
+        bytes,
+    )
 }
 
 // So it is of the next bytes that a client has.
 fn given_text(alloc: Global, client: u32, bytes: &[u8]) -> Result<Vec<u8>, AllocError>
-    ensures { IfOk result (λ said. said.items ≡ text (Lines.Given client (length bytes.now)) ++ bytes.now ++ newline) }
+    ensures { IfOk result (λ said. said.items ≡ reply_text (Said.Given client bytes.now)) }
 {
-    let Ok(length) = u32::try_from(bytes.len()) else {
-        return Err(AllocError);
-    };
-    text_before(alloc, &Line::Given { client, length }, bytes)
+    text_before(
+        alloc,
+        &[
+            Word("next"),
+            Number(u64::from(client)),
+            Number(bytes.len() as u64),
+        ],
+        bytes,
+    )
 }
 
 // A line, and behind it bytes and a newline.
-fn text_before(alloc: Global, line: &Line, bytes: &[u8]) -> Result<Vec<u8>, AllocError>
-    ensures { IfOk result (λ said. said.items ≡ text line.now ++ bytes.now ++ newline) }
+fn text_before(alloc: Global, parts: &[Part<'_>], bytes: &[u8]) -> Result<Vec<u8>, AllocError>
+    ensures { IfOk result (λ said. said.items ≡ line (map part_text parts.now) ++ bytes.now ++ newline) }
 {
     let mut said = Bytes::new(alloc);
-    say_line(line, &mut said)?;
+    say_parts(parts, &mut said)?;
     said.append(bytes)?;
     said.append(b"\n")?;
     Vec::from_slice(alloc, said.as_slice())

@@ -22,13 +22,14 @@ use Rattle.volume_contract.specs.Ends.{Answers as AnswersOf, EndsRefused, Unchan
 use Rattle.volume_contract.specs.Order.{Comes, IsDeviceIn, slices_steps}
 use Rattle.volume_contract.specs.Pieces.{drafts_with, drafts_without, ended, slices_in, with_opened, draft_wrote}
 use Rattle.volume_contract.specs.State.{Known, Leaves, LeavesSound, OpenParts, Stands, State, WrittenDraft, forced_of, volume_of}
+use Rattle.volume_contract.proofs.DraftLaws.{runs_with}
 use Rattle.client_desk.specs.declared.client.Creation.{Creation}
 use Rattle.client_desk.specs.declared.client.Client.{Client}
 use Rattle.client_desk.specs.declared.client.Client.TheVariants.{Idle, Writing, Reading}
 use Rattle.client_desk.specs.Clients.{AllStays, ShareNothing, Ended, EndsDraftAt, MayCome, IsOf, IsWholeOne, IsWriter, WritesDraftIn, as_writing, client_at, found, in_data, too_long, too_short}
 use Rattle.client_desk.specs.Ends.{AddsBytes, AnswersAs, ClosesDraft, EndsClose, EndsEntering, EndsPiece, EndsPieces, IsOpenIn, LeavesFor, LeavesOf, RemainsOpen, ServesOpen, Sits, StaysAs, given_up, open_at, session_of}
 use Rattle.client_desk.proofs.DeskLaws.{IsFoundAt, apart_differ, others_of, stays_of}
-use Rattle.client_desk.proofs.PieceLaws.{runs_with, with_others}
+use Rattle.client_desk.proofs.PieceLaws.{with_others}
 use Rattle.client_desk.proofs.SitsLaws.{IsOfClient, KeepsOf, WritesAs, answers_still, drop_done, held_is, kept_draft, keeps_given, nothing_more, opened_is, refused_writing, serves_kept, serves_writing, refuses_client, sits_later, sits_set, writing_fault}
 
 -- ---- drafts

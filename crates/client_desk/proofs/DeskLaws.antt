@@ -1,5 +1,6 @@
 -- What becomes of a desk's clients over any machine, where one of them changes.
 use Rattle.std.proofs.Common.{◌≡◌, ◌⊎◌, ℕ, zero, suc, ◌-◌, ◌<◌, ◌≤◌, ◌≢◌, Bool, true, false, ◌&&◌, ◌||◌, not, cond, List, [], ◌∷◌, length, set, refl, sym, ap, subst, ◌∙◌, inl, inr, arith, Option, Some, None, Result, Ok, Err}
+use Rattle.std.proofs.Math.Bool.{and-true, or-false}
 use Rattle.std.specs.Prelude.{IsTrue, IsFalse, ◌==◌, replicate, slice_index_or}
 use Rattle.std.proofs.lemmas.Bool.{both_ways}
 use Rattle.std.proofs.lemmas.Bool.Decides.{eqb_tells}
@@ -75,14 +76,6 @@ of_same s t Idle same is = tt
 of_same s t (Writing w) same is = same_draft s t w.draft same.unfinished is
 of_same s t (Reading r) same is = same_held s t r.held same.layout same.readers is
 
-or_false : (c : Bool) → (c || false) ≡ c
-or_false true = refl
-or_false false = refl
-
-and_true : (c : Bool) → (c && true) ≡ c
-and_true true = refl
-and_true false = refl
-
 -- what another gives up leaves it
 pub of_given : (s t : State) (a x : Client) → ShareNothing a x → GivesUpPart a s t → IsOf s x → IsOf t x
 of_given s t a Idle apart gives is = tt
@@ -92,7 +85,7 @@ of_given s t (Writing a) (Writing w) apart gives is = draft_stays s t w.draft (�
   where
     by : (n : ℕ) (b : Bool) → contains (sectors_of a.draft.runs) n ≡ b → IsTrue (contains (sectors_of w.draft.runs) n) → (contains s.unfinished n && not b) ≡ contains s.unfinished n
     by n true e there = absurd (both_ways (contains (sectors_of w.draft.runs) n) (apart n e) there)
-    by n false e there = and_true (contains s.unfinished n)
+    by n false e there = and-true (contains s.unfinished n)
 of_given s t (Writing a) (Reading r) apart gives is = same_held s t r.held (ap (λ (y : State). y.layout) gives.is) (ap (λ (y : State). y.readers) gives.is) is
 of_given s t (Reading a) (Writing w) apart gives is = same_draft s t w.draft (ap (λ (y : State). y.unfinished) gives.is) is
 of_given s t (Reading a) (Reading r) apart gives is =
@@ -113,7 +106,7 @@ of_entered a s t (Writing w) apart enters is = draft_stays s t w.draft (λ n the
   where
     by : (n : ℕ) (b : Bool) → contains (sectors_of a.draft.runs) n ≡ b → IsTrue (contains (sectors_of w.draft.runs) n) → (contains s.unfinished n && not b) ≡ contains s.unfinished n
     by n true e there = absurd (both_ways (contains (sectors_of w.draft.runs) n) (apart n e) there)
-    by n false e there = and_true (contains s.unfinished n)
+    by n false e there = and-true (contains s.unfinished n)
 of_entered a s t (Reading r) apart enters is = same_held s t r.held enters.layout enters.readers is
 
 -- a place that is held isn't an empty one
@@ -344,7 +337,7 @@ desk_takes s t clients i w inside desk idle takes is =
   where
     by : (n : ℕ) (b : Bool) → contains (sectors_of w.draft.runs) n ≡ b → (contains s.unfinished n || b) ≡ true → IsTrue (contains (sectors_of w.draft.runs) n) ⊎ ((j : ℕ) × (j ≡ i → ⊥) × WritesAt (client_at clients j) n)
     by n true e there = inl e
-    by n false e there = others_of clients i (Writing w) (λ y. WritesAt y n) (λ own. idle_writes (client_at clients i) n idle own) (desk.drafts n (sym (or_false (contains s.unfinished n)) ∙ there))
+    by n false e there = others_of clients i (Writing w) (λ y. WritesAt y n) (λ own. idle_writes (client_at clients i) n idle own) (desk.drafts n (sym (or-false (contains s.unfinished n)) ∙ there))
 
 -- a version is held
 pub desk_holds : (s t : State) (clients : List Client) (i : ℕ) (r : Reader) → i < length clients → IsDesk s clients → client_at clients i ≡ Idle → HoldsAt r.held s t → IsHeldVersion t r.held → IsDesk t (set clients i (Reading r))

@@ -1,5 +1,6 @@
 -- A volume holds what the clients of its desk read.
-use Rattle.std.proofs.Common.{◌≡◌, ℕ, suc, zero, Bool, true, false, List, [], ◌∷◌, refl, sym, ap, subst, ◌∙◌, inl, inr, Option, Some, None}
+use Rattle.std.proofs.Common.{◌≡◌, ℕ, suc, zero, true, List, [], ◌∷◌, refl, sym, ap, subst, ◌∙◌, inl, inr, Option, Some, None}
+use Rattle.std.proofs.lemmas.Bool.Decides.{same_from_decides}
 use Rattle.std.specs.Prelude.{map, option_map, slice_index_or}
 use Rattle.std.proofs.lemmas.Bool.{or_cases, or_left, or_right}
 use Rattle.run_table.specs.declared.run.Run.{Run}
@@ -90,16 +91,11 @@ client_by (Reads a r b p ∷ opens) (suc i) t has = contains-append (sectors_of 
 
 -- ---- both
 
-same_tests : (a b : Bool) → (a ≡ true → b ≡ true) → (b ≡ true → a ≡ true) → a ≡ b
-same_tests true b to from = sym (to refl)
-same_tests false true to from = from refl
-same_tests false false to from = refl
-
 module _ {S : Type 0} (state : S → State) (has : S → Mounted → List Placed → Type 0) where
   pub holds_read : (v : S) (desk : List Client) (k : Known) (opens : List Open) (now : Moment) → IsDesk (state v) desk → Sits state has v desk k opens now → HoldsRead (session_of k opens)
   holds_read v desk k opens now of sits t =
       ap (λ (xs : List (List Run)). is_in xs t) (held_is state has v k now sits.stands)
-      ∙ same_tests (is_in (map (λ x. x.runs) (readings k.opened.readers)) t) (is_in (read_by opens) t) to from
+      ∙ same_from_decides {P = is_in (read_by opens) t ≡ true} (is_in (map (λ x. x.runs) (readings k.opened.readers)) t) (is_in (read_by opens) t) (to, from) (λ is. is, λ is. is)
     where
       same : (state v).readers ≡ map (λ (place : Option Held). option_map (λ x. x.runs) place) k.opened.readers
       same = sits.stands.opened.places

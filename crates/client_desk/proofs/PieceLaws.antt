@@ -1,9 +1,9 @@
 -- What stands of a creation whose bytes come in pieces.
 use Rattle.std.proofs.Common.{◌≡◌, ◌⊎◌, ℕ, ◌+◌, ◌-◌, ◌*◌, ◌/◌, ◌%◌, ◌<◌, ◌≤◌, Bool, true, false, ◌||◌, cond, List, [], ◌∷◌, ◌++◌, length, take, drop, refl, sym, ap, subst, ◌∙◌, inl, inr, arith, Option, Some, Result, Err}
-use Rattle.std.specs.Prelude.{◌==◌, map}
+use Rattle.std.specs.Prelude.{◌==◌}
 use Rattle.std.proofs.lemmas.Bool.{or_parts}
 use Rattle.std.proofs.lemmas.Bool.Decides.{eqb_tells}
-use Rattle.std.proofs.lemmas.List.{length-append, take-append-drop}
+use Rattle.std.proofs.lemmas.List.{length-append, take-append-drop, append-nil}
 use Rattle.std.proofs.Math.Seq.{take-length}
 use Rattle.run_table.specs.declared.run.Run.{Run}
 use Rattle.run_table.specs.RunTable.{same_runs}
@@ -27,6 +27,7 @@ use Rattle.volume_contract.specs.Order.{Comes, IsDeviceIn, slices_steps}
 use Rattle.volume_contract.specs.Pieces.{EndsSlices, drafts_with, ended, in_slices, slice_count, slices_if, slices_in, with_opened, with_slices, draft_wrote}
 use Rattle.volume_contract.specs.State.{Known, Leaves, LeavesSound, OpenParts, Stands, State, WrittenDraft, forced_of, volume_of}
 use Rattle.volume_contract.specs.declared.token.Draft.{Draft}
+use Rattle.volume_contract.proofs.DraftLaws.{slices_same}
 use Rattle.client_desk.specs.declared.client.Creation.{Creation}
 use Rattle.client_desk.specs.declared.client.Client.{Client}
 use Rattle.client_desk.specs.declared.client.Client.TheVariants.{Writing}
@@ -35,19 +36,7 @@ use Rattle.client_desk.specs.Ends.{AddsBytes, EndsAdd, EndsEntering, EndsPieces,
 use Rattle.client_desk.proofs.SitsLaws.{held_is, serves_writing}
 use Rattle.client_desk.proofs.SliceLaws.{front_slices, nones, fill_kept, fill_written, laid_nothing, lay_tail, lay_written, start, tail_kept, tail_none, written_more}
 
-pub append_none : (xs : List ℕ) → xs ++ [] ≡ xs
-append_none [] = refl
-append_none (x ∷ xs) = ap (λ (ys : List ℕ). x ∷ ys) (append_none xs)
-
 -- ---- drafts
-
-pub slices_same : (drafts : List WrittenDraft) (r : List Run) (s : List (Option (List ℕ))) → slices_in drafts r ≡ Some s → drafts_with drafts r s ≡ drafts
-slices_same [] r s is = refl
-slices_same (x ∷ drafts) r s is = by (same_runs x.runs r) (slices_same drafts r s) is
-  where
-    by : (b : Bool) → (slices_in drafts r ≡ Some s → drafts_with drafts r s ≡ drafts) → cond b (Some x.slices) (slices_in drafts r) ≡ Some s → cond b (record { runs = x.runs; slices = s } ∷ drafts) (x ∷ drafts_with drafts r s) ≡ x ∷ drafts
-    by true more is = let e : s ≡ x.slices = cc in ap (λ (t : List (Option (List ℕ))). record { runs = x.runs; slices = t } ∷ drafts) e
-    by false more is = ap (λ (xs : List WrittenDraft). x ∷ xs) (more is)
 
 pub slices_with : (drafts : List WrittenDraft) (r : List Run) (s t : List (Option (List ℕ))) → slices_in drafts r ≡ Some s → slices_in (drafts_with drafts r t) r ≡ Some t
 slices_with [] r s t is = absurd (cc is)
@@ -77,14 +66,6 @@ with_others (x ∷ drafts) a r s other = by (same_runs x.runs a) refl (with_othe
         let not_it : same_runs x.runs r ≡ false = ap (λ (runs : List Run). same_runs runs r) (same_runs_are x.runs a e) ∙ other in
         ap (λ (b : Bool). cond b (Some s) (slices_in drafts r)) not_it ∙ sym (ap (λ (b : Bool). cond b (Some x.slices) (slices_in drafts r)) not_it)
     by false e more = ap (λ (z : Option (List (Option (List ℕ)))). cond (same_runs x.runs r) (Some x.slices) z) more
-
-pub runs_with : (drafts : List WrittenDraft) (r : List Run) (s : List (Option (List ℕ))) → map (λ x. x.runs) (drafts_with drafts r s) ≡ map (λ x. x.runs) drafts
-runs_with [] r s = refl
-runs_with (x ∷ drafts) r s = by (same_runs x.runs r) (runs_with drafts r s)
-  where
-    by : (b : Bool) → map (λ x. x.runs) (drafts_with drafts r s) ≡ map (λ x. x.runs) drafts → map (λ x. x.runs) (cond b (record { runs = x.runs; slices = s } ∷ drafts) (x ∷ drafts_with drafts r s)) ≡ x.runs ∷ map (λ x. x.runs) drafts
-    by true more = refl
-    by false more = ap (λ (xs : List (List Run)). x.runs ∷ xs) more
 
 -- ---- sectors
 
@@ -283,7 +264,7 @@ module _ (o : OpenParts) (w : Creation) (name : List ℕ) (len : ℕ) (runs : Li
   pub none_slices : (first : ℕ) (chunk : List ℕ) → more ≡ [] → chunk ≡ [] → with_slices (slices_so_far len before) first (slices_if true chunk) ≡ slices_so_far len (before ++ more)
   none_slices first chunk none empty =
       ap (λ (xs : List ℕ). with_slices (slices_so_far len before) first (slices_if true xs)) empty ∙ laid_nothing first (slices_so_far len before)
-      ∙ ap (λ (xs : List ℕ). slices_so_far len xs) (sym (append_none before) ∙ ap (λ (xs : List ℕ). before ++ xs) (sym none))
+      ∙ ap (λ (xs : List ℕ). slices_so_far len xs) (sym (append-nil before) ∙ ap (λ (xs : List ℕ). before ++ xs) (sym none))
 
   pub none_tail : more ≡ [] → slice ≡ w.slice → take (w.got + length more - written_len w.draft.length (w.got + length more)) slice ≡ drop (written_len len (length (before ++ more))) (before ++ more)
   none_tail none same =
@@ -291,12 +272,7 @@ module _ (o : OpenParts) (w : Creation) (name : List ℕ) (len : ℕ) (runs : Li
       let d = w.draft.length in
       let zero_more : g + length more ≡ g = ap (λ (xs : List ℕ). g + length xs) none ∙ (let e : g + 0 ≡ g = omega arith in e) in
       ap (λ (n : ℕ). take (n - written_len d n) slice) zero_more ∙ ap (λ (xs : List ℕ). take (g - written_len d g) xs) same ∙ writing.tail
-      ∙ ap (λ (xs : List ℕ). drop (written_len len (length xs)) xs) (sym (append_none before) ∙ ap (λ (xs : List ℕ). before ++ xs) (sym none))
-
--- a list of none is empty
-pub none_in : (xs : List ℕ) → length xs ≡ 0 → xs ≡ []
-none_in [] is = refl
-none_in (x ∷ xs) is = absurd (cc is)
+      ∙ ap (λ (xs : List ℕ). drop (written_len len (length xs)) xs) (sym (append-nil before) ∙ ap (λ (xs : List ℕ). before ++ xs) (sym none))
 
 pub unequal : (a b : ℕ) → (a ≡ b → ⊥) → (a == b) ≡ false
 unequal a b other = elim (eqb_tells a b) [
@@ -389,14 +365,10 @@ whole_written o w name len runs serial bytes writing whole =
     let all : written_len len (length bytes) ≡ length bytes = by (length bytes == len) (eqb_tells (length bytes) len) in
     let none : slice_count len - slice_count (length bytes) ≡ 0 = ap (λ (n : ℕ). slice_count len - slice_count n) size ∙ (let e : slice_count len - slice_count len ≡ 0 = omega arith in e) in
     let is : slices_so_far len bytes ≡ slices_if true bytes =
-    ap (λ (n : ℕ). front_slices len (take n bytes)) all ∙ ap (front_slices len) (take-length bytes) ∙ ap (λ (n : ℕ). slices_if true bytes ++ nones n) none ∙ nothing_behind (slices_if true bytes) in
+    ap (λ (n : ℕ). front_slices len (take n bytes)) all ∙ ap (front_slices len) (take-length bytes) ∙ ap (λ (n : ℕ). slices_if true bytes ++ nones n) none ∙ append-nil (slices_if true bytes) in
     (sym writing.got ∙ whole, ap (λ (r : List Run). slices_in o.drafts r) writing.lies ∙ writing.written ∙ ap (λ (s : List (Option (List ℕ))). Some s) is)
   where
     by : (b : Bool) → ((b ≡ true) × (length bytes ≡ len)) ⊎ ((b ≡ false) × (length bytes ≡ len → ⊥)) → cond b (length bytes) (length bytes / 512 * 512) ≡ length bytes
     by true tells = refl
     by false (inl same) = absurd (cc (same.0))
     by false (inr other) = absurd (other.1 (sym writing.got ∙ whole ∙ writing.long))
-
-    nothing_behind : (xs : List (Option (List ℕ))) → xs ++ [] ≡ xs
-    nothing_behind [] = refl
-    nothing_behind (x ∷ xs) = ap (λ (ys : List (Option (List ℕ))). x ∷ ys) (nothing_behind xs)

@@ -1,5 +1,5 @@
 -- What a desk has in memory of its clients, over any machine.
-use Rattle.std.specs.Prelude.{◌≡◌, ◌⊎◌, ⊤, ℕ, ◌+◌, ◌-◌, ◌*◌, ◌/◌, min, ◌≤◌, ◌||◌, Bool, nat_lt, ◌==◌, List, [], ◌∷◌, ◌++◌, length, take, drop, Option, Some, None, IsSome, IsTrue, IsFalse, false, Result, Ok, Err, if◌then◌else◌, get_or, set, replicate, slice_index_or, IfOk, MatchResult}
+use Rattle.std.specs.Prelude.{◌≡◌, ◌⊎◌, ⊤, ℕ, ◌+◌, ◌-◌, ◌*◌, ◌/◌, ◌%◌, min, ◌≤◌, ◌||◌, Bool, nat_lt, ◌==◌, List, [], ◌∷◌, ◌++◌, length, take, drop, Option, Some, None, IsSome, IsTrue, IsFalse, false, Result, Ok, Err, if◌then◌else◌, get_or, set, replicate, slice_index_or, IfOk, MatchResult}
 use Rattle.sector_disk.specs.declared.machine.Machine.{Ghosts}
 use Rattle.run_table.specs.declared.run.Run.{Run}
 use Rattle.run_table.specs.RunTable.{sectors_of}
@@ -17,7 +17,7 @@ use Rattle.volume_contract.specs.Causes.{Causes}
 use Rattle.volume_contract.specs.Found.{HasEntry}
 use Rattle.volume_contract.specs.Order.{KeepsRefused, CallStep, Test, reserve_steps, slices_steps, enter_steps, entry_steps, held_steps}
 use Rattle.volume_contract.specs.Pieces.{IsDraft, IsHeldVersion, Enters, GivesBack, HoldsAt, Reserves, Unholds, in_leader}
-use Rattle.volume_contract.specs.State.{HasCounted, State, downs, forces_first, most_readers, no_readers}
+use Rattle.volume_contract.specs.State.{GoesOn, HasCounted, State, downs, downs_for, forces_first, most_readers, no_readers}
 use Rattle.client_desk.specs.declared.client.Creation.{Creation}
 use Rattle.client_desk.specs.declared.client.Reader.{Reader}
 use Rattle.client_desk.specs.declared.client.Client.{Client}
@@ -35,6 +35,12 @@ pub record GrowsBy (n : ℕ) (old new : Creation) : Type 0 where
   pub name : new.name ≡ old.name
   pub draft : new.draft ≡ old.draft
   pub got : new.got ≡ old.got + n
+
+-- It has so many of these bytes more: they end a slice, or they are all.
+pub record FillsSlice (count : ℕ) (old new : Creation) (n : ℕ) : Type 0 where
+  pub grows : GrowsBy n old new
+  pub part : n ≤ count
+  pub seam : (new.got % 512 ≡ 0) ⊎ (n ≡ count)
 
 -- none has anything open
 abbrev pub no_desk : List Client
@@ -341,6 +347,21 @@ pub record KeepsClosing (i : ℕ) (steps : List CallStep) (clients after : List 
   pub name : IfOk result (λ key. IsNamed (client_at clients i) key.name)
   pub goes : Continues (downs result) old new
   pub kept : MatchResult result (λ key. MakesOfDraft i clients after old new) (λ why. DeclinesAt steps why clients after old new)
+
+-- What becomes of a client whose creation ends, and of its volume: a version has its name, it has nothing open any more,
+-- and the creation is over; or it has all that it had, and the volume goes on.
+pub record ClosesClient (client after : Client) (old new : State) (result : Result Key Refusal) : Type 0 where
+  pub name : IfOk result (λ key. IsNamed client key.name)
+  pub goes : MatchResult result (λ key. after ≡ Idle) (λ why. after ≡ client)
+  pub valid : IsClient after
+  pub state : MatchResult result (λ key. EntersFor client old new) (λ why. GoesOn (downs_for why) old new)
+  pub kept : MatchResult result (λ key. HasCounted false (forces_first old) old new) (λ why. KeepsRefused (enter_steps old None (in_first client)) why old new)
+
+-- A client that reads goes on behind what it has read: what is left, or as much as there is room for; or it stays.
+pub record ContinuesReading (room : ℕ) (client after : Client) (result : Result ℕ Refusal) : Type 0 where
+  pub goes : MatchResult result (λ n. GoesOnBehind n client after) (λ why. after ≡ client)
+  pub count : IfOk result (λ n. CountsTo room n client)
+  pub valid : IsClient after
 
 -- Why a version is opened or not: what is lost or unsound, that the pages lack the key, or that they have its entry,
 -- which has so many bytes.

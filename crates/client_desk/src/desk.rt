@@ -1,5 +1,5 @@
 //! The desk of a volume.
-ghost use Rattle.std.specs.Prelude.{◌≡◌, ◌<◌, ◌≤◌, ◌^◌, ◌||◌, ◌-◌, Err, IfOk, List, [], ℕ, false, length, MatchResult, None, set};
+ghost use Rattle.std.specs.Prelude.{◌≡◌, ◌<◌, ◌≤◌, ◌^◌, ◌||◌, ◌-◌, Err, IfOk, List, [], ℕ, length, MatchResult, None, set};
 ghost use Rattle.sector_disk.specs.Calls.{OnlyReads, WritesDisk, device_in};
 ghost use Rattle.fsd_files.specs.Desk.{Open, Reads, Writes};
 ghost use Rattle.fsd_files.specs.Disk.{Touches};
@@ -12,11 +12,11 @@ ghost use Rattle.sector_disk.specs.Machine.{Moment};
 ghost use Rattle.fsd_sound.specs.Writes.{force_writes};
 ghost use Rattle.volume_contract.specs.Causes.{Causes};
 ghost use Rattle.volume_contract.specs.Ends.{device_of};
-ghost use Rattle.volume_contract.specs.Order.{Follows, KeepsRefused, enter_steps, held_steps, slices_steps};
+ghost use Rattle.volume_contract.specs.Order.{Follows, enter_steps, held_steps, slices_steps};
 ghost use Rattle.volume_contract.specs.Pieces.{reserve_len, with_opened};
-ghost use Rattle.volume_contract.specs.State.{GoesOn, HasCounted, Known, Leaves, Stands, State, downs_for, forces_first, no_readers, none_open, WritesWithin};
+ghost use Rattle.volume_contract.specs.State.{Known, Leaves, Stands, State, no_readers, none_open, WritesWithin};
 ghost use Rattle.volume_contract.specs.Telling.{IsDamagedData};
-ghost use Rattle.client_desk.specs.Clients.{AllStays, CausesOpening, Continuing, CountsTo, DeclinesAt, Ended, EndsDraftAt, EntersFor, MayCome, IsWholeOne, IsWriter, LeavesNone, in_data, in_first, GivesUpPart, GoesOnBehind, IsClient, IsDesk, IsNamed, IsOf, IsReader, KeepsClosing, KeepsDesk, ReadsMore, StartsReading, StartsWriting, WritesMore, client_at, as_idle, as_reading, as_writing, begin_steps, close_steps, declared_at, done_steps, drop_steps, found, client_key, left_at, desk_next_steps, no_desk, open_steps, piece_steps, client_place, too_long, too_short};
+ghost use Rattle.client_desk.specs.Clients.{AllStays, CausesOpening, ClosesClient, Continuing, DeclinesAt, Ended, EndsDraftAt, MayCome, IsWholeOne, IsWriter, LeavesNone, in_data, in_first, GivesUpPart, ContinuesReading, IsClient, IsDesk, IsOf, IsReader, KeepsClosing, KeepsDesk, ReadsMore, StartsReading, StartsWriting, WritesMore, client_at, as_idle, as_reading, as_writing, begin_steps, close_steps, declared_at, done_steps, drop_steps, found, client_key, left_at, desk_next_steps, no_desk, open_steps, piece_steps, client_place, too_long, too_short};
 ghost use Rattle.client_desk.specs.Ends.{EndsBegin, EndsClose, EndsEntering, EndsPiece, EndsPieces, LeavesFor, LeavesOf, EndsDone, EndsDrop, EndsNext, EndsOpen, IsOpenIn, ReadsOn, ServesOpen, Sits, given_up};
 
 use crate::client::{Client, Creation, Reader, end};
@@ -565,11 +565,7 @@ fn close_of<M: Machine, V: Files<M>>(
     ensures order { Follows (enter_steps (V.state v.old) None (in_first client)) result.1 }
     ensures disk { WritesDisk M.Machine (device_in device_of result.1) (Leaves V.state V.holds v.old (λ t. force_writes (V.state v.old).layout t || in_first client t)) m.old m.new }
     ensures rest { M.honest m.new → Touches (λ t. force_writes (V.state v.old).layout t || in_first client t) (M.now m.old) (M.now m.new) }
-    ensures name { IfOk result.1 (λ key. IsNamed client key.name) }
-    ensures state { MatchResult result.1 (λ key. EntersFor client (V.state v.old) (V.state v.new)) (λ why. GoesOn (downs_for why) (V.state v.old) (V.state v.new)) }
-    ensures kept { let s = V.state v.old in MatchResult result.1 (λ key. HasCounted false (forces_first s) s (V.state v.new)) (λ why. KeepsRefused (enter_steps s None (in_first client)) why s (V.state v.new)) }
-    ensures client { MatchResult result.1 (λ key. result.0 ≡ Client.Idle) (λ why. result.0 ≡ client) }
-    ensures valid { IsClient result.0 }
+    ensures keeps { ClosesClient client result.0 (V.state v.old) (V.state v.new) result.1 }
     ensures causes { Causes M.Machine (V.resident v.old) (V.state v.old) (V.state v.new) m.old m.new result.1 }
     ensures done { M.honest m.new → (k : Known) → Stands V.state V.holds v.old k (M.now m.old) →
         (name : List ℕ) (len : ℕ) (runs : List Run) (serial : Serial) (bytes : List ℕ) → ServesOpen k.opened client (Writes name len runs serial bytes) →
@@ -607,10 +603,8 @@ fn next_of<M: Machine, V: Files<M>>(
     ensures order { Follows (held_steps (V.state v.old)) result.1 }
     ensures disk { OnlyReads M.Machine (device_in device_of result.1) m.old m.new }
     ensures state { V.state v.new ≡ V.state v.old }
-    ensures client { MatchResult result.1 (λ n. GoesOnBehind n client result.0) (λ why. result.0 ≡ client) }
-    ensures count { IfOk result.1 (λ n. CountsTo (length buf.old) n client) }
+    ensures client { ContinuesReading (length buf.old) client result.0 result.1 }
     ensures damaged { (s : ℕ) → result.1 ≡ Err (Why.Damaged s) → M.honest m.new → IsDamagedData (V.state v.old).layout (M.now m.new).image s }
-    ensures valid { IsClient result.0 }
     ensures done { M.honest m.new → (k : Known) → Stands V.state V.holds v.old k (M.now m.old) →
         (key : KeyOf) (runs : List Run) (bytes : List ℕ) (place : ℕ) → ServesOpen k.opened client (Reads key runs bytes place) →
         ReadsOn (M.now m.old).image (M.now m.new).image runs bytes place buf.old buf.new result.1 × Stands V.state V.holds v.new k (M.now m.new) }

@@ -8,7 +8,7 @@ ghost use Rattle.volume_contract.specs.Order.{Comes, Follows, slices_steps};
 ghost use Rattle.volume_contract.specs.Pieces.{IsDraft};
 ghost use Rattle.volume_contract.specs.State.{Known, Stands};
 ghost use Rattle.client_desk.specs.declared.client.Client.TheVariants.{Writing};
-ghost use Rattle.client_desk.specs.Clients.{GrowsBy, draft_sectors, is_due, whole_part};
+ghost use Rattle.client_desk.specs.Clients.{FillsSlice, GrowsBy, draft_sectors, is_due, whole_part};
 ghost use Rattle.client_desk.specs.Ends.{EndsAdd, IsWritingDraft, LeavesFor};
 
 use crate::client::Creation;
@@ -55,9 +55,7 @@ fn fill<M: Machine, V: Files<M>>(
     ensures order { IfErr result (λ why. Comes (slices_steps (V.state v.old) (draft_sectors w.old)) why) }
     ensures disk { WritesDisk M.Machine (device_in device_of result) (LeavesFor V.state V.holds v.old (Writing w.old) (draft_sectors w.old)) m.old m.new }
     ensures state { V.state v.new ≡ V.state v.old }
-    ensures grows { IfOk result (λ n. GrowsBy n w.old w.new) }
-    ensures part { IfOk result (λ n. n ≤ length bytes.now) }
-    ensures seam { IfOk result (λ n. (w.new.got % 512 ≡ 0) ⊎ (n ≡ length bytes.now)) }
+    ensures fills { IfOk result (FillsSlice (length bytes.now) w.old w.new) }
     ensures draft { w.new.draft ≡ w.old.draft }
     ensures done { M.honest m.new → (k : Known) → Stands V.state V.holds v.old k (M.now m.old) →
         (name : List ℕ) (len : ℕ) (runs : List Run) (serial : Serial) (before : List ℕ) → IsWritingDraft k.opened w.old name len runs serial before →

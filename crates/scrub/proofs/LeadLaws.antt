@@ -35,6 +35,7 @@ use Rattle.fsd_sound.proofs.MountedLaws.{mounted_sound}
 use Rattle.volume_contract.specs.Healing.{StandsStill}
 use Rattle.volume_contract.specs.State.{State, Known, LeavesSound, Stands, forced_of, volume_of}
 use Rattle.scrub.specs.Leading.{EndsLed, HasLed, IsLed, LeavesLed}
+use Rattle.scrub.specs.Walk.{IsFromOutside}
 use Rattle.fsd_files.proofs.LeaderLaws.{front_fewer, front_not_leader}
 use Rattle.scrub.proofs.ApartLaws.{not_place}
 use Rattle.scrub.proofs.PlaceLaws.{leader_there}
@@ -106,10 +107,12 @@ all_one_more P (x ∷ xs) e all is = (all.0, all_one_more P xs e all.1 is)
 outside_data : (l : Layout) (place s : ℕ) → IsTrue (is_data l place) → IsFalse (is_data l s) → IsFalse (s == place)
 outside_data l place s inside out = false_from_ne_true (s == place) (λ is. both_ways (is_data l s) out (subst (λ (t : ℕ). IsTrue (is_data l t)) (sym (eqb-true s place is)) inside))
 
+pub rest_read : (l : Layout) (a b c : Moment) → b.windows ≡ a.windows → Touches (is_data l) a b → Wears b c → Touches (is_data l) a c
+rest_read l a b c windows first worn = touches_then (is_data l) (is_data l) (is_data l) a b c (λ s out. out) (λ s out. out) windows first (worn_touches (is_data l) b c worn.image)
+
 pub rest_more : (l : Layout) (place : ℕ) → IsTrue (is_data l place) → (a b c d : Moment) → b.windows ≡ a.windows → Touches (is_data l) a b → Wears b c → Touches (λ s. s == place) c d → Touches (is_data l) a d
 rest_more l place inside a b c d windows first worn then =
-    touches_then (is_data l) (λ s. s == place) (is_data l) a c d (λ s out. out) (λ s out. outside_data l place s inside out) (worn.windows ∙ windows)
-    (touches_then (is_data l) (is_data l) (is_data l) a b c (λ s out. out) (λ s out. out) windows first (worn_touches (is_data l) b c worn.image)) then
+    touches_then (is_data l) (λ s. s == place) (is_data l) a c d (λ s out. out) (λ s out. outside_data l place s inside out) (worn.windows ∙ windows) (rest_read l a b c windows first worn) then
 
 pub few_more : (count counter bit : ℕ) (written : Bool) → bit ≡ leader_count written → count ≤ counter → count + bit ≤ counter + 1
 few_more count counter bit true is le = omega (arith, is)
@@ -140,6 +143,11 @@ module _ {S : Type 0} (state : S → State) (has : S → Mounted → List Placed
   still_ends k s a now (Why.Device place) stands = stands
   still_ends k s a now Why.Memory stands = absurd stands
   still_ends k s a now why stands = absurd stands
+
+  pub outside_ends : (k : Known) (s : S) (a now : Moment) (why : Refusal) → IsFromOutside why → Stands state has s k now → (let r : Result ℕ Refusal = Err why in EndsLed state has k s a now r)
+  outside_ends k s a now (Why.Device place) outside stands = stands
+  outside_ends k s a now Why.Memory outside stands = stands
+  outside_ends k s a now why outside stands = absurd outside
 
   module _ (k : Known) (y : S) (count : ℕ) (last : Option Key) (written : ℕ) (a b : Moment) (led : HasLed state has k y count last written a b) where
     -- a stop while the table is read

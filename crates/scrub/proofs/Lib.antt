@@ -2,6 +2,7 @@ pub mod PlaceLaws
 pub mod ApartLaws
 pub mod ToldLaws
 pub mod WalkLaws
+pub mod ReadingLaws
 pub mod LookLaws
 pub mod LookedLaws
 pub mod LeadLaws

@@ -1,21 +1,20 @@
 -- What a call tells of the image, by its cause.
 use Rattle.std.proofs.Common.{◌≡◌, inl, inr, ℕ, ◌<◌, List, [], Option, Some, None, refl, sym, ◌∙◌, ap, subst, arith}
-use Rattle.std.specs.Prelude.{IfErr, IfSome, Result, Ok, Err, map, option_map}
+use Rattle.std.specs.Prelude.{IfSome, map, option_map}
 use Rattle.std.specs.List.{range_with_len}
 use Rattle.std.specs.Option.{unwrap_or}
 use Rattle.std.proofs.lemmas.List.FromFn.{get_or-map-range_with_len, length-map-range_with_len}
 use Rattle.volume_layout.specs.declared.layout.Layout.{Layout}
 use Rattle.fsd_bytes.specs.declared.refusal.Refusal.{Refusal}
 use Rattle.fsd_bytes.specs.declared.refusal.Refusal.TheVariants as Why
-use Rattle.sector_disk.specs.declared.machine.Machine.{Ghosts}
 use Rattle.sector_disk.specs.Damage.{AreLost}
 use Rattle.sector_disk.specs.Machine.{Moment}
 use Rattle.sector_disk.proofs.Damage.{lost_as}
 use Rattle.fsd_files.specs.Disk.{Image}
 use Rattle.fsd_sound.specs.Mounted.{image_at}
-use Rattle.volume_contract.specs.Causes.{AreSomeCopies, AreCopiesOfPage, Causes, HasCallCause, HaveRead, IsRead, ShowsBreak}
+use Rattle.volume_contract.specs.Causes.{AreSomeCopies, AreCopiesOfPage, HasCallCause, HaveRead, IsRead, ShowsBreak}
 use Rattle.volume_contract.specs.Healing.{LosesTwins}
-use Rattle.volume_contract.specs.Order.{Comes, IsDeviceRefusal, IsLoss, heal_steps, single_steps}
+use Rattle.volume_contract.specs.Order.{Comes, IsDeviceRefusal, IsLookUp, IsLoss, heal_steps, next_steps, single_steps}
 use Rattle.volume_contract.specs.State.{State}
 use Rattle.scrub.specs.Telling.{AreOfPage, IsHomeOfPage, StandTwice, TellsOn}
 use Rattle.scrub.specs.Walk.{IsFromOutside}
@@ -63,11 +62,17 @@ module _ (old new : State) (resident : ℕ → Option (List ℕ)) (before now : 
   told_by (Why.Unsound s) cause = told_unsound s cause
   told_by why cause = tt
 
-pub told_next : {D T : Type 0} (M : Ghosts D) (old new : State) (resident : ℕ → Option (List ℕ)) (a b : D) → new.layout ≡ old.layout → (r : Result T Refusal) → Causes M resident old new a b r → IfErr r (λ why. M.honest b → TellsOn old.layout (M.now b).image why)
-told_next M old new resident a b same (Ok x) causes = tt
-told_next M old new resident a b same (Err why) causes = λ honest. told_by old new resident (M.now a) (M.now b) same why (causes honest)
-
 -- ---- by the call
+
+-- a volume that is up is not told as down
+not_down : (s : State) → s.down ≡ None → (why : Refusal) → option_map Why.Down s.down ≡ Some why → ⊥
+not_down s up why here = let none : option_map Why.Down s.down ≡ None = ap (λ (o : Option ℕ). option_map Why.Down o) up in cc (none, here)
+
+-- over one a look-up alone refuses the next entry
+pub next_refuses : (s : State) → s.down ≡ None → (why : Refusal) → Comes (next_steps s) why → IsLookUp why
+next_refuses s up why (inl here) = absurd (not_down s up why here)
+next_refuses s up why (inr (passes, inl looks)) = looks
+next_refuses s up why (inr (passes, inr later)) = absurd later.1
 
 module _ (l : Layout) (i : Image) where
   pub outside_told : (why : Refusal) → IsFromOutside why → TellsOn l i why
@@ -81,16 +86,13 @@ module _ (l : Layout) (i : Image) where
   loss_told why is lost = absurd is
 
   module _ (s : State) (up : s.down ≡ None) (why : Refusal) where
-    not_down : option_map Why.Down s.down ≡ Some why → ⊥
-    not_down here = let none : option_map Why.Down s.down ≡ None = ap (λ (o : Option ℕ). option_map Why.Down o) up in cc (none, here)
-
     pub heal_told : Comes (heal_steps s) why → LosesTwins l i why → TellsOn l i why
-    heal_told (inl here) lost = absurd (not_down here)
+    heal_told (inl here) lost = absurd (not_down s up why here)
     heal_told (inr (passes, inl loss)) lost = loss_told why loss lost
     heal_told (inr (passes, inr later)) lost = absurd later.1
 
     pub single_told : Comes (single_steps s) why → TellsOn l i why
-    single_told (inl here) = absurd (not_down here)
+    single_told (inl here) = absurd (not_down s up why here)
     single_told (inr (passes, inl device)) = by why device
       where
         by : (w : Refusal) → IsDeviceRefusal w → TellsOn l i w

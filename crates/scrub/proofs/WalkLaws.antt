@@ -17,15 +17,12 @@ use Rattle.fsd_files.specs.Kept.{Lists}
 use Rattle.fsd_files.specs.declared.reply.Reply.TheVariants.{Found}
 use Rattle.fsd_files.proofs.HistoryLaws.{after_in_order}
 use Rattle.fsd_files.proofs.ListingLaws.{lists_length}
+use Rattle.fsd_files.proofs.FreshLaws.{of_T}
 use Rattle.fsd_table.proofs.KeyLaws.{lt_itself, lt_not_back}
 use Rattle.sector_disk.specs.Machine.{Moment}
 use Rattle.fsd_sound.specs.Mounted.{Mounted}
 use Rattle.volume_contract.specs.State.{State, Known, Stands, volume_of}
 use Rattle.scrub.specs.Walk.{IsWalked, last_key}
-
-pub of_T : (b : Bool) → T b → b ≡ true
-of_T true is = refl
-of_T false is = absurd is
 
 -- each is of a lesser key than those behind it
 abbrev pub Ascend : List Entry → Type 0

@@ -75,6 +75,18 @@ twin_out l s out =
 data_out : (l : Layout) (s : ℕ) → IsTrue (is_data l s) → IsFalse (mount_writes l s)
 data_out l s is = data_elsewhere l s (let from = leb-true (data_start l) s (and_parts (nat_le (data_start l) s) (nat_lt s l.sectors) is).0 in omega (arith, from))
 
+-- what is healed of twins, and then of leaders
+pub heal_within : (l : Layout) (a b : Moment) → Touches (is_twin l) a b → Touches (scrub_writes l) a b
+heal_within l a b first = record { size = first.size; others = λ s out. first.others s (twin_out l s (or_parts (mount_writes l s) (is_data l s) out).0) }
+
+pub heal_rest : (l m : Layout) → m ≡ l → (a b c : Moment) → b.windows ≡ a.windows → Touches (is_twin l) a b → Touches (is_data m) b c → Touches (scrub_writes l) a c
+heal_rest l m same a b c windows first then =
+    touches_then (is_twin l) (is_data l) (scrub_writes l) a b c (λ s out. twin_out l s (or_parts (mount_writes l s) (is_data l s) out).0) (λ s out. (or_parts (mount_writes l s) (is_data l s) out).1) windows first (subst (λ (x : Layout). Touches (is_data x) b c) same then)
+
+-- the same where sectors are read behind that
+pub scrub_read : (l : Layout) (a b c : Moment) → b.windows ≡ a.windows → Touches (scrub_writes l) a b → Wears b c → Touches (scrub_writes l) a c
+scrub_read l a b c windows first worn = touches_then (scrub_writes l) (scrub_writes l) (scrub_writes l) a b c (λ s out. out) (λ s out. out) windows first (worn_touches (scrub_writes l) b c worn.image)
+
 -- what stands twice stands on where only the data area is written
 pub twins_then : (l : Layout) (a b : Moment) → b.windows ≡ a.windows → Touches (is_data l) a b → TwinsStand l a → TwinsStand l b
 twins_then l a b windows first all s twin = by (all s twin) (first.others s (false_from_ne_true (is_data l s) (λ is. cc (twin, twin_out l s (data_out l s is)))))

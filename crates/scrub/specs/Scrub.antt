@@ -47,6 +47,11 @@ pub record KeepsOpen (old new : State) : Type 0 where
   pub unfinished : new.unfinished ≡ old.unfinished
   pub readers : new.readers ≡ old.readers
 
+-- Where it writes behind its force, and how many sectors where it answers.
+pub record WritesHealing {D : Type 0} (M : Ghosts D) (l : Layout) (old new : D) (result : Result Healed Refusal) : Type 0 where
+  pub rest : M.honest new → Touches (scrub_writes l) (M.now old) (M.now new)
+  pub counted : IfOk result (λ healed. M.tells new → WritesHealed 0 (M.ledger old) (M.ledger new) healed.sectors)
+
 -- Where it writes, and how many sectors where it answers; a volume that is down leaves the machine as it was.
 pub record WritesScrub {D : Type 0} (M : Ghosts D) (s : State) (old new : D) (result : Result Healed Refusal) : Type 0 where
   pub rest : M.honest new → Touches (scrub_writes s.layout) (M.now old) (M.now new)
@@ -59,6 +64,11 @@ pub record KeepsScrub (old new : State) (result : Result Healed Refusal) : Type 
   pub opened : KeepsOpen old new
   pub kept : MatchResult result (λ x. IsForced old new) (λ why. KeepsRefused (scrub_steps old) why old new)
   pub up : OnOk result (new.down ≡ None)
+
+-- What healing tells of any image: why it is refused, and that twins stand where it answers.
+pub record TellsHealing (l : Layout) (now : Moment) (result : Result Healed Refusal) : Type 0 where
+  pub told : IfErr result (TellsOn l now.image)
+  pub mended : OnOk result (TwinsStand l now)
 
 -- What it tells of any image: why it is refused, that twins stand where it answers, and which data sectors are damaged.
 pub record TellsScrub (l : Layout) (now : Moment) (found : List (Key × ℕ)) (result : Result Healed Refusal) : Type 0 where

@@ -1,6 +1,6 @@
 //! Damaged data sectors of versions.
 ghost use Rattle.std.specs.Prelude.{◌≡◌, ◌+◌, ◌^◌, ◌≤◌, ◌<◌, ◌++◌, ◌∷◌, [], None, All, length, true, IfErr, OnErr, OnOk};
-ghost use Rattle.sector_disk.specs.Calls.{OnlyReads, device_in};
+ghost use Rattle.sector_disk.specs.Calls.{device_in};
 ghost use Rattle.fsd_formats.specs.NamePage.{is_entry};
 ghost use Rattle.fsd_files.specs.Kept.{data_sectors};
 ghost use Rattle.fsd_files.specs.Scrub.{all_data, data_of, slice_place};
@@ -9,6 +9,7 @@ ghost use Rattle.volume_contract.specs.Healing.{IsMet};
 ghost use Rattle.volume_contract.specs.Order.{IsFetch, IsLookUp};
 ghost use Rattle.volume_contract.specs.State.{Known, Stands, volume_of};
 ghost use Rattle.scrub.specs.Looking.{Adds, AreDamaged, FindsIn};
+ghost use Rattle.scrub.specs.Reading.{ReadsVolume};
 ghost use Rattle.scrub.specs.Telling.{TellsOn};
 ghost use Rattle.scrub.specs.Walk.{IsFromOutside};
 
@@ -46,9 +47,7 @@ fn look_at<M: Machine, V: Files<M>>(
     requires slice { slice < length (data_sectors e.now.runs) }
     ensures refusal { IfErr result IsFetch }
     ensures outside { IfErr result IsFromOutside }
-    ensures disk { OnlyReads M.Machine (device_in device_of result) m.old m.new }
-    ensures state { V.state v.new ≡ V.state v.old }
-    ensures stands { M.honest m.new → (k : Known) → Stands V.state V.holds v.old k (M.now m.old) → Stands V.state V.holds v.new k (M.now m.new) }
+    ensures reads { ReadsVolume M.Machine V.state V.holds (device_in device_of result) v.old v.new m.old m.new }
     ensures adds { M.honest m.new → Adds (M.now m.old).image (M.now m.new).image ((e.now.key, slice_place e.now slice) ∷ []) found.old.items found.new.items result }
 {
     match v.probe(m, e, slice) {
@@ -73,9 +72,7 @@ fn look_through<M: Machine, V: Files<M>>(
     requires met { IsMet (V.state v.old) e.now }
     ensures refusal { IfErr result IsFetch }
     ensures outside { IfErr result IsFromOutside }
-    ensures disk { OnlyReads M.Machine (device_in device_of result) m.old m.new }
-    ensures state { V.state v.new ≡ V.state v.old }
-    ensures stands { M.honest m.new → (k : Known) → Stands V.state V.holds v.old k (M.now m.old) → Stands V.state V.holds v.new k (M.now m.new) }
+    ensures reads { ReadsVolume M.Machine V.state V.holds (device_in device_of result) v.old v.new m.old m.new }
     ensures adds { M.honest m.new → Adds (M.now m.old).image (M.now m.new).image (data_of e.now) found.old.items found.new.items result }
 {
     for slice in 0..e.runs.total() - 1 {
@@ -94,11 +91,9 @@ pub(crate) fn look<M: Machine, V: Files<M>>(
     requires up { (V.state v.old).down ≡ None }
     requires none { found.old.items ≡ [] }
     ensures refusal { IfErr result IsLookUp }
-    ensures disk { OnlyReads M.Machine (device_in device_of result) m.old m.new }
-    ensures state { V.state v.new ≡ V.state v.old }
+    ensures reads { ReadsVolume M.Machine V.state V.holds (device_in device_of result) v.old v.new m.old m.new }
     ensures told { IfErr result (λ why. M.honest m.new → TellsOn (V.state v.old).layout (M.now m.new).image why) }
     ensures damaged { M.honest m.new → AreDamaged (V.state v.old).layout (M.now m.new).image found.new.items }
-    ensures stands { M.honest m.new → (k : Known) → Stands V.state V.holds v.old k (M.now m.old) → Stands V.state V.holds v.new k (M.now m.new) }
     ensures outside { M.honest m.new → (k : Known) → Stands V.state V.holds v.old k (M.now m.old) → IfErr result IsFromOutside }
     ensures done { M.honest m.new → (k : Known) → Stands V.state V.holds v.old k (M.now m.old) → FindsIn (M.now m.old).image (M.now m.new).image (all_data (volume_of k).entries) found.new.items result }
 {

@@ -1,13 +1,11 @@
 //! Leaders that are damaged or differ from their entries.
-ghost use Rattle.std.specs.Prelude.{◌≡◌, ◌≤◌, ◌+◌, None, Contains, IfErr, IfOk};
+ghost use Rattle.std.specs.Prelude.{◌≡◌, ◌≤◌, ◌+◌, None, Contains, IfErr};
 ghost use Rattle.sector_disk.specs.Calls.{WritesDisk, device_in};
-ghost use Rattle.sector_disk.specs.Machine.{wrote};
 ghost use Rattle.volume_layout.specs.Layout.{is_data};
-ghost use Rattle.fsd_files.specs.Disk.{Touches};
 ghost use Rattle.fsd_files.specs.Scrub.{leader_count};
 ghost use Rattle.volume_contract.specs.Ends.{device_of};
 ghost use Rattle.volume_contract.specs.Order.{IsLookUp};
-ghost use Rattle.volume_contract.specs.State.{Known, Stands};
+ghost use Rattle.volume_contract.specs.State.{Known, Stands, WritesTold};
 ghost use Rattle.scrub.specs.Leading.{EndsLed, LeavesLed};
 ghost use Rattle.scrub.specs.Telling.{TellsOn};
 
@@ -29,8 +27,7 @@ pub(crate) fn heal_leaders<M: Machine, V: Files<M>>(v: &mut V, m: &mut M) -> Res
     requires up { (V.state v.old).down ≡ None }
     ensures refusal { IfErr result IsLookUp }
     ensures disk { WritesDisk M.Machine (device_in device_of result) (LeavesLed V.state V.holds v.old) m.old m.new }
-    ensures rest { M.honest m.new → Touches (is_data (V.state v.old).layout) (M.now m.old) (M.now m.new) }
-    ensures counted { IfOk result (λ count. M.tells m.new → M.ledger m.new ≡ wrote (M.ledger m.old) count) }
+    ensures writes { WritesTold M.Machine (is_data (V.state v.old).layout) (λ count. count) m.old m.new result }
     ensures state { V.state v.new ≡ V.state v.old }
     ensures told { IfErr result (λ why. M.honest m.new → TellsOn (V.state v.old).layout (M.now m.new).image why) }
     ensures done { M.honest m.new → (k : Known) → Stands V.state V.holds v.old k (M.now m.old) → EndsLed V.state V.holds k v.new (M.now m.old) (M.now m.new) result }

@@ -7,4 +7,5 @@ mod leaders;
 mod walk;
 mod whole;
 
+pub use walk::next_one;
 pub use whole::{Healed, scrub};

@@ -1,13 +1,10 @@
 //! A whole scrub.
-ghost use Rattle.std.specs.Prelude.{◌≡◌, ◌≤◌, [], None, IfErr, IfOk, OnOk};
+ghost use Rattle.std.specs.Prelude.{◌≡◌, ◌≤◌, [], None, IfErr};
 ghost use Rattle.sector_disk.specs.Calls.{WritesDisk, device_in};
-ghost use Rattle.fsd_files.specs.Disk.{Touches};
 ghost use Rattle.volume_contract.specs.Ends.{device_of};
 ghost use Rattle.volume_contract.specs.Order.{Follows, IsLookUp};
 ghost use Rattle.volume_contract.specs.State.{Known, Stands};
-ghost use Rattle.volume_contract.specs.Healing.{TwinsStand};
-ghost use Rattle.scrub.specs.Scrub.{EndsHealed, EndsLooked, EndsScrub, KeepsScrub, LeavesScrubbed, TellsScrub, WritesHealed, WritesScrub, scrub_steps, scrub_writes};
-ghost use Rattle.scrub.specs.Telling.{TellsOn};
+ghost use Rattle.scrub.specs.Scrub.{EndsHealed, EndsLooked, EndsScrub, KeepsScrub, LeavesScrubbed, TellsHealing, TellsScrub, WritesHealing, WritesScrub, scrub_steps};
 
 use crate::data::look;
 use crate::leaders::heal_leaders;
@@ -27,11 +24,9 @@ fn heal_all<M: Machine, V: Files<M>>(v: &mut V, m: &mut M) -> Result<Healed, Ref
     requires up { (V.state v.old).down ≡ None }
     ensures refusal { IfErr result IsLookUp }
     ensures disk { WritesDisk M.Machine (device_in device_of result) (LeavesScrubbed V.state V.holds v.old) m.old m.new }
-    ensures rest { M.honest m.new → Touches (scrub_writes (V.state v.old).layout) (M.now m.old) (M.now m.new) }
-    ensures counted { IfOk result (λ healed. M.tells m.new → WritesHealed 0 (M.ledger m.old) (M.ledger m.new) healed.sectors) }
+    ensures writes { WritesHealing M.Machine (V.state v.old).layout m.old m.new result }
     ensures state { V.state v.new ≡ V.state v.old }
-    ensures told { IfErr result (λ why. M.honest m.new → TellsOn (V.state v.old).layout (M.now m.new).image why) }
-    ensures mended { OnOk result (M.honest m.new → TwinsStand (V.state v.old).layout (M.now m.new)) }
+    ensures tells { M.honest m.new → TellsHealing (V.state v.old).layout (M.now m.new) result }
     ensures done { M.honest m.new → (k : Known) → Stands V.state V.holds v.old k (M.now m.old) → EndsHealed V.state V.holds k v.new (M.now m.old) (M.now m.new) result }
 {
     match v.heal(m) {
@@ -56,8 +51,7 @@ fn heal_and_look<M: Machine, V: Files<M>>(
     requires none { found.old.items ≡ [] }
     ensures refusal { IfErr result IsLookUp }
     ensures disk { WritesDisk M.Machine (device_in device_of result) (LeavesScrubbed V.state V.holds v.old) m.old m.new }
-    ensures rest { M.honest m.new → Touches (scrub_writes (V.state v.old).layout) (M.now m.old) (M.now m.new) }
-    ensures counted { IfOk result (λ healed. M.tells m.new → WritesHealed 0 (M.ledger m.old) (M.ledger m.new) healed.sectors) }
+    ensures writes { WritesHealing M.Machine (V.state v.old).layout m.old m.new result }
     ensures state { V.state v.new ≡ V.state v.old }
     ensures tells { M.honest m.new → TellsScrub (V.state v.old).layout (M.now m.new) found.new.items result }
     ensures done { M.honest m.new → (k : Known) → Stands V.state V.holds v.old k (M.now m.old) → EndsLooked V.state V.holds k v.new (M.now m.old) (M.now m.new) found.new.items result }

@@ -14,8 +14,8 @@ use Rattle.fsd_files.specs.Files.{Change, File}
 use Rattle.fsd_sound.specs.Mounted.{Mounted}
 use Rattle.volume_contract.specs.Ends.{EndsRefused}
 use Rattle.volume_contract.specs.State.{State, Known, Stands, volume_of}
-use Rattle.volume_example.specs.declared.fault.Fault.{Fault}
-use Rattle.volume_example.specs.declared.fault.Fault.TheVariants.{Behind, Put, Unsynced}
+use Rattle.volume_example.specs.declared.fault.ExampleFault.{ExampleFault}
+use Rattle.volume_example.specs.declared.fault.ExampleFault.TheVariants.{Behind, Put, Unsynced}
 
 -- The volume has a version of this key with these bytes.
 pub record HasBytes (key : Key) (bytes : List ℕ) (k : Known) : Type 0 where
@@ -43,7 +43,7 @@ module _ {S : Type 0} (state : S → State) (has : S → Mounted → List Placed
   IsNotPut name bytes k new now why = EndsRefused state has (λ met. put_outcome met (volume_of k) name bytes None) k new now why
 
   -- what is read is what was put
-  abbrev pub EndsRead : (name bytes : List ℕ) → Known → S → Moment → (buf : List ℕ) → Result Key Fault → Type 0
+  abbrev pub EndsRead : (name bytes : List ℕ) → Known → S → Moment → (buf : List ℕ) → Result Key ExampleFault → Type 0
   EndsRead name bytes k new now buf (Ok key) = HasPut name bytes k new now key × (buf ≡ bytes)
   EndsRead name bytes k new now buf (Err (Put why)) = IsNotPut name bytes k new now why
   EndsRead name bytes k new now buf (Err (Behind key why)) = HasPut name bytes k new now key × IsUnreadCause now why

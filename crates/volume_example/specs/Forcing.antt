@@ -7,12 +7,12 @@ use Rattle.sector_disk.specs.Machine.{IsSynced, Moment}
 use Rattle.fsd_log.specs.Scan.{Placed}
 use Rattle.fsd_sound.specs.Mounted.{Mounted}
 use Rattle.volume_contract.specs.State.{State, Known, forced_of}
-use Rattle.volume_example.specs.declared.fault.Fault.{Fault}
-use Rattle.volume_example.specs.declared.fault.Fault.TheVariants.{Behind, Put, Unsynced}
+use Rattle.volume_example.specs.declared.fault.ExampleFault.{ExampleFault}
+use Rattle.volume_example.specs.declared.fault.ExampleFault.TheVariants.{Behind, Put, Unsynced}
 use Rattle.volume_example.specs.Filling.{HasPut, IsNotPut}
 
 -- a volume that is down refuses, and tells where its force has failed
-abbrev pub IsRefusedDown : ℕ → Result Key Fault → Type 0
+abbrev pub IsRefusedDown : ℕ → Result Key ExampleFault → Type 0
 IsRefusedDown place result = result ≡ Err (Put (Why.Down place))
 
 module _ {S : Type 0} (state : S → State) (has : S → Mounted → List Placed → Type 0) where
@@ -31,7 +31,7 @@ module _ {S : Type 0} (state : S → State) (has : S → Mounted → List Placed
   IsDown new (Why.Device s) = (state new).down ≡ Some s
   IsDown new other = ⊥
 
-  abbrev pub EndsForGood : (name bytes : List ℕ) → Known → S → Moment → Result Key Fault → Type 0
+  abbrev pub EndsForGood : (name bytes : List ℕ) → Known → S → Moment → Result Key ExampleFault → Type 0
   EndsForGood name bytes k new now (Ok key) = IsForGood name bytes k new now key
   EndsForGood name bytes k new now (Err (Put why)) = IsNotPut state has name bytes k new now why
   EndsForGood name bytes k new now (Err (Behind key why)) = IsDown new why

@@ -8,8 +8,8 @@ use Rattle.fsd_sound.specs.Mounted.{Mounted}
 use Rattle.fsd_sound.specs.Sound.{EndIn, IsSound}
 use Rattle.volume_contract.specs.Ends.{device_of}
 use Rattle.volume_contract.specs.State.{State, Known, Stands, forced_of}
-use Rattle.volume_example.specs.declared.fault.Fault.{Fault}
-use Rattle.volume_example.specs.declared.fault.Fault.TheVariants.{Behind, Put, Unsynced}
+use Rattle.volume_example.specs.declared.fault.ExampleFault.{ExampleFault}
+use Rattle.volume_example.specs.declared.fault.ExampleFault.TheVariants.{Behind, Put, Unsynced}
 
 -- The image is sound for the changes before and this one behind them: a mount of it finds the files after some first ones of
 -- all these, with every one that was forced before.
@@ -22,7 +22,7 @@ abbrev pub LeavesOneMore : {S : Type 0} → (state : S → State) → (has : S �
 LeavesOneMore state has s change old left = (k : Known) → Stands state has s k old → MayLeave k change left
 
 -- the place of the call of the disk that failed, where the fault tells one
-abbrev pub stopped_at : Fault → Option ℕ
+abbrev pub stopped_at : ExampleFault → Option ℕ
 stopped_at (Put why) = device_of why
 stopped_at (Behind key why) = device_of why
 stopped_at (Unsynced key place) = Some place

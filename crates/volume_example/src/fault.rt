@@ -5,7 +5,7 @@ use fsd_bytes::{Key, Refusal};
 /// The put was refused, or the version of this key is made and the call behind the put was refused, or it is committed
 /// and the sync failed at this place.
 #[derive(Debug, Drop)]
-pub enum Fault {
+pub enum ExampleFault {
     Put(Refusal),
     Behind { key: Key, why: Refusal },
     Unsynced { key: Key, place: u32 },

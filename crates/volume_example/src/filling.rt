@@ -6,7 +6,7 @@ ghost use Rattle.volume_contract.specs.State.{Known, Stands};
 ghost use Rattle.volume_example.specs.Filling.{EndsRead};
 ghost use Rattle.volume_example.specs.Stops.{LeavesOneMore, stopped_at};
 
-use crate::fault::Fault;
+use crate::fault::ExampleFault;
 use fsd_bytes::{FileName, Key};
 use sector_disk::Machine;
 use volume_contract::Files;
@@ -18,7 +18,7 @@ pub fn put_and_read<M: Machine, V: Files<M>>(
     name: &FileName,
     bytes: &[u8],
     buf: &mut [u8],
-) -> Result<Key, Fault>
+) -> Result<Key, ExampleFault>
     requires room { (V.state v.old).layout.sectors ≤ (M.report m.old).sectors }
     requires fits { length buf.old ≡ length bytes.now }
     ensures layout { (V.state v.new).layout ≡ (V.state v.old).layout }
@@ -28,8 +28,8 @@ pub fn put_and_read<M: Machine, V: Files<M>>(
     match v.put(m, name, None, bytes) {
         Ok(key) => match v.read(m, &key, 0, buf) {
             Ok(_) => Ok(key),
-            Err(why) => Err(Fault::Behind { key, why }),
+            Err(why) => Err(ExampleFault::Behind { key, why }),
         },
-        Err(why) => Err(Fault::Put(why)),
+        Err(why) => Err(ExampleFault::Put(why)),
     }
 }

@@ -7,7 +7,7 @@ ghost use Rattle.volume_contract.specs.State.{Known, Stands};
 ghost use Rattle.volume_example.specs.Forcing.{EndsForGood, IsRefusedDown};
 ghost use Rattle.volume_example.specs.Stops.{LeavesOneMore, stopped_at};
 
-use crate::fault::Fault;
+use crate::fault::ExampleFault;
 use fsd_bytes::{FileName, Key};
 use sector_disk::{Failed, Machine};
 use volume_contract::Files;
@@ -18,7 +18,7 @@ pub fn put_and_force<M: Machine, V: Files<M>>(
     m: &mut M,
     name: &FileName,
     bytes: &[u8],
-) -> Result<Key, Fault>
+) -> Result<Key, ExampleFault>
     requires { (V.state v.old).layout.sectors ≤ (M.report m.old).sectors }
     ensures layout { (V.state v.new).layout ≡ (V.state v.old).layout }
     ensures disk { WritesDisk M.Machine (device_in stopped_at result) (LeavesOneMore V.state V.holds v.old (Change.Put name.now None bytes.now)) m.old m.new }
@@ -29,14 +29,14 @@ pub fn put_and_force<M: Machine, V: Files<M>>(
         Ok(key) => match v.force(m) {
             Ok(_) => match sync(m) {
                 Ok(()) => Ok(key),
-                Err(failed) => Err(Fault::Unsynced {
+                Err(failed) => Err(ExampleFault::Unsynced {
                     key,
                     place: failed.place,
                 }),
             },
-            Err(why) => Err(Fault::Behind { key, why }),
+            Err(why) => Err(ExampleFault::Behind { key, why }),
         },
-        Err(why) => Err(Fault::Put(why)),
+        Err(why) => Err(ExampleFault::Put(why)),
     }
 }
 

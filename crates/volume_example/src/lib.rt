@@ -7,7 +7,7 @@ mod filling;
 mod forcing;
 mod walking;
 
-pub use fault::Fault;
+pub use fault::ExampleFault;
 pub use filling::put_and_read;
 pub use forcing::put_and_force;
 pub use walking::count;

@@ -25,7 +25,7 @@ use Rattle.fsd_texts.specs.declared.fault.Fault.TheVariants as Ends
 use Rattle.fsd_texts.specs.Text.{fault_text}
 use Rattle.fsd_runs.specs.Commands.{reply_alone, reply_status}
 use Rattle.volume_contract.specs.Mount.{IsFound}
-use Rattle.volume_contract.specs.Order.{Asks, Comes, Data, Force, IsData, IsDeviceRefusal, IsDeviceIn, IsFetch, IsLookUp, IsLoss, LookUp, StepRefuses, CallStep, Test, down, force_steps, is_idle, is_root, no_place_in, place, runs_at, worn}
+use Rattle.volume_contract.specs.Order.{Asks, Comes, Data, Force, IsData, IsDeviceIn, IsFetch, IsLookUp, IsLoss, LookUp, StepRefuses, CallStep, Test, down, force_steps, is_idle, is_root, no_place_in, place, runs_at, worn}
 use Rattle.volume_contract.specs.State.{Ages, State, in_place, is_worn, place_in, put_writes}
 use Rattle.scrub.specs.Scrub.{scrub_writes}
 use Rattle.scrub.specs.Telling.{AreOfPage}
@@ -101,10 +101,6 @@ module _ (P : Reply → Type 0) (why : Refusal) where
   fetches (Why.Device s) is = tt
   fetches (Why.Lost x y) is = tt
   fetches w is = absurd is
-
-  devices : (w : Refusal) → IsDeviceRefusal w → IsLookUp w
-  devices (Why.Device s) is = tt
-  devices w is = absurd is
 
   placed : (may : Sectors) (w : Refusal) → IsDeviceIn may w → IsLookUp w
   placed may (Why.Device s) is = tt

@@ -17,7 +17,7 @@ use Rattle.fsd_files.specs.declared.reply.Reply.{Reply}
 use Rattle.volume_turns.specs.Numbers.{GoesUp}
 use Rattle.volume_turns.specs.Seats.{KeepsSeat}
 use Rattle.volume_turns.specs.Steps.{ended_by}
-use Rattle.volume_turns.proofs.NumberLaws.{forced_goes, goes_by, goes_none, keeps_goes, one_force}
+use Rattle.volume_turns.proofs.NumberLaws.{forced_goes, goes_by, goes_none, keeps_goes, one_force, goes_still}
 
 -- ---- the volume goes on
 
@@ -168,9 +168,6 @@ module _ {s t : State} {desk : List Client} {r : Result Reply Fault} where
   seat_ended why goes up is of = record { layout = goes.layout; up = ended_up s t why goes up r is; desk = of }
 
 -- ---- its numbers
-
-goes_still : (s t : State) → t.serial.count ≡ s.serial.count → t.head.number ≡ s.head.number → GoesUp 1 s t
-goes_still s t serials records = record { serials = omega (arith, serials); records = omega (arith, records) }
 
 pub gives_goes : (x : Client) (s t : State) → GivesUpPart x s t → GoesUp 1 s t
 gives_goes Idle s t gives = goes_none 1 s t gives

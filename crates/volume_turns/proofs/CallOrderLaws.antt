@@ -22,8 +22,9 @@ use Rattle.fsd_texts.specs.declared.script_command.ScriptCommand.TheVariants.{Of
 use Rattle.scrub.specs.Telling.{AreOfPage}
 use Rattle.sector_disk.specs.Machine.{Moment}
 use Rattle.volume_contract.specs.Ends.{device_of}
-use Rattle.volume_contract.specs.Order.{Asks, Comes, Disk, Draw, Fetch, Force, IsDeviceRefusal, IsDeviceIn, IsFetch, IsLookUp, LookUp, CallStep, Test, Through, by_itself, down, keep_size, length_size, no_place_in, place, runs_at, table_full, worn}
+use Rattle.volume_contract.specs.Order.{Asks, Comes, Disk, Draw, Fetch, Force, IsDeviceRefusal, IsDeviceIn, IsLookUp, LookUp, CallStep, Test, Through, by_itself, down, keep_size, length_size, no_place_in, place, runs_at, table_full, worn}
 use Rattle.volume_contract.specs.State.{State, forces_for_place, is_worn, place_in}
+use Rattle.volume_contract.proofs.OrderLaws.{fetch_looks}
 use Rattle.client_desk.specs.declared.client.Client.{Client}
 use Rattle.client_desk.specs.declared.client.Client.TheVariants.{Idle, Writing, Reading}
 use Rattle.client_desk.specs.Clients.{as_idle, as_reading, as_writing, begin_steps, client_at, close_steps, done_steps, drop_steps, fault_in, found, in_data, in_first, open_steps, piece_steps, tested, too_long, too_short}
@@ -238,12 +239,6 @@ full_says n why true at e = let same : Why.NameTableFull n ≡ why = cc e in sub
 full_says n why false at e = absurd (cc e)
 
 -- ---- the steps
-
-fetch_looks : (why : Refusal) → IsFetch why → IsLookUp why
-fetch_looks Why.Memory is = tt
-fetch_looks (Why.Device s) is = tt
-fetch_looks (Why.Lost a b) is = tt
-fetch_looks why is = absurd is
 
 placed_device : (may : Sectors) (why : Refusal) → IsDeviceIn may why → IsDeviceRefusal why
 placed_device may (Why.Device s) is = tt

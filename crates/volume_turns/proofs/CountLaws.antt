@@ -1,5 +1,6 @@
 -- Commands that are counted as they are done.
 use Rattle.std.proofs.Common.{◌≡◌, ℕ, zero, suc, ◌+◌, ◌≤◌, List, [], ◌∷◌, length, true, false, Option, Some, None, refl, sym, ◌∙◌, ap, subst, arith}
+use Rattle.std.proofs.lemmas.Option.{same_Some}
 use Rattle.fsd_log.specs.Scan.{Placed}
 use Rattle.std.specs.Prelude.{IsTrue, Result, Ok, Err, IfOk}
 use Rattle.std.specs.List.{sum_by}
@@ -188,14 +189,11 @@ module _ {S D : Type 0} (state : S → State) (has : S → Mounted → List Plac
   abbrev Closing : Result (Option Counts) Halt → Type 0
   Closing result = (x : Seated) (f : ℕ) → SitsAt state has (w, no_desk) x (M.now m) → OnDisk M (known_of x) f m → ClosesAndSays M (known_of x) f forced_turn.said m b (unit_of result)
 
-  some_same : (t u : Counts) → Some t ≡ Some u → t ≡ u
-  some_same t u is = cc is
-
   pub counted_all : (tally : Counts) → CountedRun state has M (seated k no_clients) (forced_of k) (M.now a) commands a m w nothing_done (Ok tally) → (result : Result (Option Counts) Halt) → IfOk result (λ x. x ≡ Some tally) → Closing result → CountedGroup M k commands a b result
   counted_all tally run (Ok None) same closes = absurd (cc same)
   counted_all tally run (Ok (Some t)) same closes = record {
     group = group_all state has M silent k (M.now a) (all_plain commands) a m b (w, no_desk) since later timed run.ran (Ok true) refl closes;
-    counts = some_same t tally same ∙ run.counts ∙ ap (λ (mets : List Meeting). all_counted nothing_done (answered mets (session_over (volume_of k)) (all_plain commands))) (sym (group_all_mets state has M silent k (M.now a) (all_plain commands) a m b (w, no_desk) since later timed run.ran (Ok true) refl closes));
+    counts = same_Some t tally same ∙ run.counts ∙ ap (λ (mets : List Meeting). all_counted nothing_done (answered mets (session_over (volume_of k)) (all_plain commands))) (sym (group_all_mets state has M silent k (M.now a) (all_plain commands) a m b (w, no_desk) since later timed run.ran (Ok true) refl closes));
   }
   counted_all tally run (Err end) same closes = record { group = group_all state has M silent k (M.now a) (all_plain commands) a m b (w, no_desk) since later timed run.ran (Err end) tt closes; counts = tt }
 
@@ -234,6 +232,3 @@ told_end a b Output x = record { sectors = x.sectors; disk = x.disk; input = x.i
 pub told_worn_out : {T : Type 0} (a b : Report) (end : Halt) → is_worn_end end ≡ true → FaultTold {T = T} a b (Err end) → FaultTold {T = Unit {0}} a b (Ok tt)
 told_worn_out a b (Stopped Ends.WornOut) worn x = record { sectors = x.sectors; disk = x.disk; input = x.input; later = x.later; output = x.output }
 told_worn_out a b end worn x = cc worn
-
-pub told_none : (a : Report) → FaultTold {T = Unit {0}} a a (Ok tt)
-told_none a = record { sectors = refl; disk = (refl, refl); input = refl; later = omega arith; output = refl }

@@ -119,11 +119,13 @@ module _ {D S : Type 0} (M : Ghosts D) (state : S → State) (holds : S → Moun
         opened = opens None (state old) (state new) goes;
         up = stays_up (state old) (state new) up goes;
         disk = disk;
-        fault = tt;
-        status = status;
-        answers = λ h. record { replies = replies h; rest = rest h; still = still; worn = λ is. absurd (cc is); numbers = numbers; told = tt };
-        written = written;
-        because = because;
+        tells = record {
+          fault = tt;
+          status = status;
+          answers = λ h. record { replies = replies h; rest = rest h; still = still; worn = λ is. absurd (cc is); numbers = numbers; told = tt };
+          written = written;
+          because = because;
+        };
         done = done;
       }
 
@@ -138,18 +140,20 @@ module _ {D S : Type 0} (M : Ghosts D) (state : S → State) (holds : S → Moun
         opened = opens (downs_for why) (state old) (state new) goes;
         up = refused_up (state old) (state new) up why goes;
         disk = writes_told (sym (same_device why down)) disk;
-        fault = of_call why;
-        status = said_or_fault (λ a. IsStatusFrom command (reply_status a)) why status;
-        answers = λ h. record {
-          replies = replies h;
-          rest = rest h;
-          still = still;
-          worn = told_worn (state old) steps why (ended_by why) refl comes worn;
-          numbers = numbers;
-          told = told_any command (state old).layout (M.now now).image (ended_by why) (told_of (state old) (state new) (resident old) (M.now before) (M.now now) goes.layout why (causes h));
+        tells = record {
+          fault = of_call why;
+          status = said_or_fault (λ a. IsStatusFrom command (reply_status a)) why status;
+          answers = λ h. record {
+            replies = replies h;
+            rest = rest h;
+            still = still;
+            worn = told_worn (state old) steps why (ended_by why) refl comes worn;
+            numbers = numbers;
+            told = told_any command (state old).layout (M.now now).image (ended_by why) (told_of (state old) (state new) (resident old) (M.now before) (M.now now) goes.layout why (causes h));
+          };
+          written = λ t. written_by command (state old) (M.ledger before) (M.ledger now) why (counted t);
+          because = λ h. said_or_fault (λ a. Because state resident command (state old) (state new) (M.now before) (M.now now) a) why (because h);
         };
-        written = λ t. written_by command (state old) (M.ledger before) (M.ledger now) why (counted t);
-        because = λ h. said_or_fault (λ a. Because state resident command (state old) (state new) (M.now before) (M.now now) a) why (because h);
         done = done;
       }
 
@@ -162,17 +166,19 @@ module _ {D S : Type 0} (M : Ghosts D) (state : S → State) (holds : S → Moun
         opened = opened;
         up = ends_up why refuses ((state new).down ≡ None);
         disk = writes_told (sym (same_device why (λ t is. subst IsLookUp is refuses))) disk;
-        fault = of_call why;
-        status = look_up_ends (λ a. IsStatusFrom command (reply_status a)) why (ended_by why) refl refuses;
-        answers = λ h. record {
-          replies = look_up_ends (λ a. MayReply command (M.now now).image a) why (ended_by why) refl refuses;
-          rest = rest h;
-          still = still;
-          worn = look_up_worn (state old) why (ended_by why) refl refuses;
-          numbers = numbers;
-          told = told h;
+        tells = record {
+          fault = of_call why;
+          status = look_up_ends (λ a. IsStatusFrom command (reply_status a)) why (ended_by why) refl refuses;
+          answers = λ h. record {
+            replies = look_up_ends (λ a. MayReply command (M.now now).image a) why (ended_by why) refl refuses;
+            rest = rest h;
+            still = still;
+            worn = look_up_worn (state old) why (ended_by why) refl refuses;
+            numbers = numbers;
+            told = told h;
+          };
+          written = written;
+          because = λ h. look_up_ends (λ a. Because state resident command (state old) (state new) (M.now before) (M.now now) a) why (ended_by why) refl refuses;
         };
-        written = written;
-        because = λ h. look_up_ends (λ a. Because state resident command (state old) (state new) (M.now before) (M.now now) a) why (ended_by why) refl refuses;
         done = done;
       }

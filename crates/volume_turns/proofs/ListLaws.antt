@@ -11,8 +11,9 @@ use Rattle.fsd_files.specs.Answers.{entry_after}
 use Rattle.fsd_files.specs.Files.{Files}
 use Rattle.fsd_files.specs.Kept.{Lists}
 use Rattle.fsd_files.specs.declared.reply.Reply.TheVariants.{Found}
+use Rattle.fsd_files.proofs.FreshLaws.{of_T}
 use Rattle.scrub.specs.Walk.{last_key}
-use Rattle.scrub.proofs.WalkLaws.{Ascend, ascend_listed, behind_front, head_of, last_more, of_T}
+use Rattle.scrub.proofs.WalkLaws.{Ascend, ascend_listed, behind_front, head_of, last_more}
 use Rattle.volume_turns.specs.Listing.{AreListed, fitting}
 
 -- ---- one entry more

@@ -32,6 +32,9 @@ ended end = Err end
 
 -- ---- a call that was answered
 
+pub goes_still : (s t : State) → t.serial.count ≡ s.serial.count → t.head.number ≡ s.head.number → GoesUp 1 s t
+goes_still s t serials records = record { serials = omega (arith, serials); records = omega (arith, records) }
+
 pub goes_none : (n : ℕ) (s t : State) → t ≡ s → GoesUp n s t
 goes_none n s t same = record {
   serials = let e = ap (λ (x : State). x.serial.count) same in omega (arith, e);

@@ -246,7 +246,3 @@ pub read_worn : (s : State) → s.down ≡ None → Comes (down s ∷ LookUp ∷
 read_worn s up comes =
     let rest = LookUp ∷ Asks Why.NoSuch ∷ Data ∷ [] in
     never Why.WornOut rest (λ x. x, (λ is. cc is, (λ x. x, tt))) (starts_up s up rest Why.WornOut comes)
-
--- the look-up behind a test that refuses nothing
-pub next_refuses : (s : State) → s.down ≡ None → (why : Refusal) → Comes (down s ∷ LookUp ∷ []) why → IsLookUp why
-next_refuses s up why comes = elim (starts_up s up (LookUp ∷ []) why comes) [ inl here ↦ here | inr later ↦ absurd later.1 ]

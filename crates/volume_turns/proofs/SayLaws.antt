@@ -1,6 +1,6 @@
 -- What one call of the input or of the output keeps.
 use Rattle.std.proofs.Common.{◌≡◌, ℕ, ◌≤◌, Bool, true, false, List, ◌++◌, take, inl, inr, Option, ap, sym, subst, ◌∙◌, arith}
-use Rattle.std.specs.Prelude.{OnOk, Result, Ok, Err}
+use Rattle.std.specs.Prelude.{Ok, Err}
 use Rattle.std.proofs.lemmas.List.{append-nil}
 use Rattle.sector_disk.specs.declared.machine.Failed.{Failed}
 use Rattle.sector_disk.specs.declared.machine.Machine.{Ghosts}
@@ -71,16 +71,6 @@ module _ {D : Type 0} (M : Ghosts D) (a b : D) (only : (c : Moment) → M.honest
 
 pub says_all : (said bytes : List ℕ) (old new : Moment) → said ≡ bytes → Says said old new → SaysAll bytes old new
 says_all said bytes old new is s = record { ages = record { image = s.image; windows = s.windows }; said = s.said ∙ ap (λ (x : List ℕ). old.said ++ x) is }
-
--- ---- by how it has ended
-
-pub on_ok_so : {T E : Type 0} {P : Type 0} (r : Result T E) → P → OnOk r P
-on_ok_so (Ok x) fact = fact
-on_ok_so (Err e) fact = tt
-
-pub on_ok_then : {T E : Type 0} {P Q : Type 0} (r : Result T E) → (P → Q) → OnOk r P → OnOk r Q
-on_ok_then (Ok x) then fact = then fact
-on_ok_then (Err e) then fact = tt
 
 -- ---- a text behind a sync
 

@@ -7,9 +7,7 @@ use Rattle.sector_disk.specs.Machine.{Ledger, OnlyWrites, Report, Rose, UsesDisk
 use Rattle.fsd_bytes.specs.declared.key.Key.{Key}
 use Rattle.fsd_bytes.specs.declared.refusal.Refusal.{Refusal}
 use Rattle.fsd_bytes.specs.declared.refusal.Refusal.TheVariants as Why
-use Rattle.volume_contract.specs.Order.{Comes, Force, IsDeviceRefusal, IsLookUp, IsLoss, down}
-use Rattle.volume_contract.specs.State.{State}
-use Rattle.volume_turns.proofs.OrderLaws.{force_loss}
+use Rattle.volume_contract.specs.Order.{IsDeviceRefusal, IsLookUp, IsLoss}
 use Rattle.fsd_sound.specs.declared.fault.MountFault.{MountFault}
 use Rattle.fsd_sound.specs.declared.fault.MountFault.TheVariants as Refused
 use Rattle.fsd_sound.specs.Mounting.{device_of_mount}
@@ -70,9 +68,6 @@ loss_looks why is = absurd is
 pub device_looks : (why : Refusal) → IsDeviceRefusal why → IsLookUp why
 device_looks (Why.Device s) is = tt
 device_looks why is = absurd is
-
-pub force_ends : (P : Reply → Type 0) (s : State) → s.down ≡ None → (comes_one : Bool) (why : Refusal) → Comes (down s ∷ Force comes_one ∷ []) why → (r : Result Reply Fault) → r ≡ ended_by why → IfOk r P
-force_ends P s up comes_one why comes r is = look_up_ends P why r is (loss_looks why (force_loss s up comes_one why comes))
 
 pub status_at : (P : ℕ → Type 0) (n : ℕ) (r : Result ℕ Halt) → IfOk r (λ status. status ≡ n) → P n → IfOk r P
 status_at P n (Ok status) is at = subst P (sym is) at

@@ -1,11 +1,10 @@
 -- What a call of a volume tells of the image.
-use Rattle.std.proofs.Common.{◌≡◌, inl, inr, ℕ, Bool, List, Option, refl, sym, ◌∙◌, ap, subst}
+use Rattle.std.proofs.Common.{◌≡◌, inl, inr, ℕ, Bool, List, Option, refl, sym, ◌∙◌, subst}
 use Rattle.std.specs.Prelude.{IfErr, Result, Ok, Err}
 use Rattle.volume_layout.specs.declared.layout.Layout.{Layout}
 use Rattle.fsd_bytes.specs.declared.key.Key.{Key}
 use Rattle.fsd_bytes.specs.declared.refusal.Refusal.{Refusal}
 use Rattle.fsd_bytes.specs.declared.refusal.Refusal.TheVariants as Why
-use Rattle.sector_disk.specs.declared.machine.Machine.{Ghosts}
 use Rattle.sector_disk.specs.declared.sector.Sector.TheVariants.{Damaged}
 use Rattle.sector_disk.specs.Image.{IsWorn, sector_at}
 use Rattle.sector_disk.specs.Machine.{Moment}
@@ -18,7 +17,7 @@ use Rattle.fsd_texts.specs.declared.fault.Fault.TheVariants as Ends
 use Rattle.fsd_texts.specs.declared.script_command.ScriptCommand.{ScriptCommand}
 use Rattle.fsd_texts.specs.declared.script_command.ScriptCommand.TheVariants.{Plain, OfClient}
 use Rattle.fsd_runs.proofs.OtherLaws.{IsOtherIn, no_scrub}
-use Rattle.volume_contract.specs.Causes.{Causes, HasCallCause}
+use Rattle.volume_contract.specs.Causes.{HasCallCause}
 use Rattle.volume_contract.specs.State.{State}
 use Rattle.scrub.specs.Telling.{AreOfPage, StandTwice, TellsOn}
 use Rattle.scrub.proofs.ToldLaws.{page_twice, told_lost, told_unsound}
@@ -49,10 +48,6 @@ module _ (old new : State) (resident : ℕ → Option (List ℕ)) (before now : 
   close_told (Why.Lost a b) cause = told_lost old new resident before now same a b cause
   close_told (Why.Device s) cause = tt
   close_told why cause = tt
-
-pub told_next : {D T : Type 0} (M : Ghosts D) (old new : State) (resident : ℕ → Option (List ℕ)) (a b : D) → new ≡ old → (r : Result T Refusal) → Causes M resident old new a b r → IfErr r (λ why. M.honest b → IsRefusedOn AreOfPage old.layout (M.now b).image why)
-told_next M old new resident a b same (Ok x) causes = tt
-told_next M old new resident a b same (Err why) causes = λ honest. told_of old new resident (M.now a) (M.now b) (ap (λ (s : State). s.layout) same) why (causes honest)
 
 -- ---- as it is told
 

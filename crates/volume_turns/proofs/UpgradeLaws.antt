@@ -41,7 +41,6 @@ use Rattle.volume_contract.specs.Upgrade.{EndsUpgrade, RootsStand, is_fresh, upg
 use Rattle.volume_turns.specs.declared.turns.Halt.{Halt}
 use Rattle.volume_turns.specs.declared.turns.Halt.TheVariants.{Fault as Stopped}
 use Rattle.volume_turns.specs.Answering.{MayAnswer, AnswersAlone, SaysBy}
-use Rattle.volume_turns.specs.Numbers.{GoesUp}
 use Rattle.volume_turns.specs.Once.{ClosesAndSaysBy, IsAlone, unit_of}
 use Rattle.scrub.specs.Telling.{AreOfPage}
 use Rattle.volume_turns.specs.Steps.{Does, IsToldOn, Stays, StaysSoundFor, ended_by}
@@ -103,10 +102,6 @@ upgrade_through s through = by s.layout.kind through.1.0
     by : (kind : Kind) → layout_is s kind ≡ None → kind ≡ Two
     by Two passes = refl
     by Three passes = absurd (cc passes)
-
--- the numbers of the mount stay
-pub upgrade_goes : (s t : State) → t.serial.count ≡ s.serial.count → t.head.number ≡ s.head.number → GoesUp 1 s t
-upgrade_goes s t serials records = record { serials = omega (arith, serials); records = omega (arith, records) }
 
 -- what it is told, where it was not upgraded
 pub ends_done : (s t : State) (answer : Reply) → is_upgraded answer ≡ false → EndsState s t (Ok answer) → (answer ≡ Said.Refused (Why.LayoutIs 2)) × (s.layout.kind ≡ Three) × (t ≡ s)

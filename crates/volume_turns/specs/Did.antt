@@ -14,6 +14,14 @@ use Rattle.volume_turns.specs.Answering.{MayAnswer}
 use Rattle.volume_turns.specs.Commands.{Because, HasWrittenBy, IsStatusFrom}
 use Rattle.volume_turns.specs.Steps.{Does, IsOfCall, Stays, device_by}
 
+-- What is told of any image: with which fault or status it ends, that it may be answered so, how much is written, and why.
+pub record TellsAnswer {D S : Type 0} (M : Ghosts D) (state : S → State) (resident : S → ℕ → Option (List ℕ)) (command : Command) (old new : S) (before now : D) (result : Result Reply Fault) : Type 0 where
+  pub fault : IfErr result IsOfCall
+  pub status : IfOk result (λ a. IsStatusFrom command (reply_status a))
+  pub answers : M.honest now → MayAnswer command (state old) (state new) (M.now before) (M.now now) result
+  pub written : M.tells now → HasWrittenBy command (state old) (M.ledger before) (M.ledger now) result
+  pub because : M.honest now → IfOk result (λ a. Because state resident command (state old) (state new) (M.now before) (M.now now) a)
+
 -- It is answered, or a fault has ended it, and this holds beside.
 pub record Did {D S : Type 0} (M : Ghosts D) (state : S → State) (holds : S → Mounted → List Placed → Type 0) (resident : S → ℕ → Option (List ℕ)) (command : Command) (old new : S) (before now : D) (result : Result Reply Fault) : Type 0 where
   -- the layout stays, and what clients have open; where it is answered the volume is up still
@@ -22,11 +30,6 @@ pub record Did {D S : Type 0} (M : Ghosts D) (state : S → State) (holds : S �
   pub up : OnOk result ((state new).down ≡ None)
   -- a stop leaves the disk sound as it was
   pub disk : WritesDisk M (device_by result) (Stays state holds old) before now
-  pub fault : IfErr result IsOfCall
-  pub status : IfOk result (λ a. IsStatusFrom command (reply_status a))
-  -- of any image: it may be answered so, so much is written, and this is why
-  pub answers : M.honest now → MayAnswer command (state old) (state new) (M.now before) (M.now now) result
-  pub written : M.tells now → HasWrittenBy command (state old) (M.ledger before) (M.ledger now) result
-  pub because : M.honest now → IfOk result (λ a. Because state resident command (state old) (state new) (M.now before) (M.now now) a)
+  pub tells : TellsAnswer M state resident command old new before now result
   -- of a volume that stands: it is answered as the definitions do
   pub done : M.honest now → (k : Known) → Stands state holds old k (M.now before) → Does state holds command old new k (M.now before) (M.now now) result

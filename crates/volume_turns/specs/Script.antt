@@ -82,7 +82,7 @@ GoesOnReading old new other = ⊤
 
 -- A fault of the input is counted where that ends it, and no other; where the script is done, all of the input is taken.
 -- The reader goes on, and has not taken too much while its end is not known.
-pub record ReadsOn {D : Type 0} (M : Ghosts D) (r s : Reading) (a b : D) (result : Result (Option Stop) Halt) : Type 0 where
+pub record ReadsNext {D : Type 0} (M : Ghosts D) (r s : Reading) (a b : D) (result : Result (Option Stop) Halt) : Type 0 where
   pub rose : IfOk result (RoseBy (M.report a) (M.report b))
   pub quiet : OnErr result ((M.report b).input_faults ≡ (M.report a).input_faults)
   pub whole : result ≡ Ok (Some (Ended Done)) → r.end ≡ None → M.tells b → (M.ledger b).input ≡ []

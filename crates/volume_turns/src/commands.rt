@@ -1,15 +1,12 @@
 //! One command over a mounted volume.
-ghost use Rattle.std.specs.Prelude.{◌≡◌, ◌≤◌, false, None, IfErr, IfOk, IfSome};
+ghost use Rattle.std.specs.Prelude.{◌≡◌, ◌≤◌, false, None, IfSome};
 ghost use Rattle.fsd_formats.specs.NamePage.{max_length, sectors_for};
 ghost use Rattle.fsd_files.specs.Answers.{entry_of};
 ghost use Rattle.fsd_texts.specs.declared.command.Command.TheVariants as Word;
-ghost use Rattle.fsd_runs.specs.Commands.{reply_status};
 ghost use Rattle.sector_disk.specs.Calls.{OnlyReads};
 ghost use Rattle.volume_contract.specs.State.{Known, Stands, volume_of};
-ghost use Rattle.volume_turns.specs.Answering.{MayAnswer};
-ghost use Rattle.volume_turns.specs.Did.{Did};
-ghost use Rattle.volume_turns.specs.Commands.{Because, HasWrittenBy, IsStatusFrom};
-ghost use Rattle.volume_turns.specs.Steps.{Does, IsOfCall, device_by, is_upgrade};
+ghost use Rattle.volume_turns.specs.Did.{Did, TellsAnswer};
+ghost use Rattle.volume_turns.specs.Steps.{Does, device_by, is_upgrade};
 
 use crate::answer::{ended_by, read_ended_by};
 use crate::listing::list;
@@ -128,11 +125,7 @@ fn read_whole<M: Machine, V: Files<M>>(
     requires up { (V.state v.old).down ≡ None }
     ensures state { V.state v.new ≡ V.state v.old }
     ensures disk { OnlyReads M.Machine (device_by result) m.old m.new }
-    ensures fault { IfErr result IsOfCall }
-    ensures status { IfOk result (λ a. IsStatusFrom (Word.Get key.now) (reply_status a)) }
-    ensures answers { M.honest m.new → MayAnswer (Word.Get key.now) (V.state v.old) (V.state v.new) (M.now m.old) (M.now m.new) result }
-    ensures written { M.tells m.new → HasWrittenBy (Word.Get key.now) (V.state v.old) (M.ledger m.old) (M.ledger m.new) result }
-    ensures because { M.honest m.new → IfOk result (λ a. Because V.state V.resident (Word.Get key.now) (V.state v.old) (V.state v.new) (M.now m.old) (M.now m.new) a) }
+    ensures tells { TellsAnswer M.Machine V.state V.resident (Word.Get key.now) v.old v.new m.old m.new result }
     ensures done { M.honest m.new → (k : Known) → Stands V.state V.holds v.old k (M.now m.old) → IfSome (entry_of key.now (volume_of k).entries) (λ e. e.length ≡ length) →
         Does V.state V.holds (Word.Get key.now) v.old v.new k (M.now m.old) (M.now m.new) result }
 {

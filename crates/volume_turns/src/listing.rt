@@ -1,12 +1,11 @@
 //! The list of the versions that fit a pattern.
-ghost use Rattle.std.specs.Prelude.{◌≡◌, ◌≤◌, ◌++◌, [], ◌∷◌, None, OnOk, IfOk, IfErr, IfNone, MatchResult};
-ghost use Rattle.fsd_files.specs.Answers.{next_reply};
+ghost use Rattle.std.specs.Prelude.{◌≡◌, ◌≤◌, ◌++◌, [], ◌∷◌, None, OnOk, IfOk, IfErr, MatchResult};
 ghost use Rattle.fsd_texts.specs.declared.command.Command.TheVariants as Word;
-ghost use Rattle.sector_disk.specs.Calls.{OnlyReads, device_in};
-ghost use Rattle.volume_contract.specs.Absent.{LacksLater, ShowsReached};
-ghost use Rattle.volume_contract.specs.Ends.{LooksUp, device_of};
-ghost use Rattle.volume_contract.specs.Order.{Follows, IsLookUp, next_steps};
+ghost use Rattle.sector_disk.specs.Calls.{device_in};
+ghost use Rattle.volume_contract.specs.Ends.{device_of};
+ghost use Rattle.volume_contract.specs.Order.{IsLookUp};
 ghost use Rattle.volume_contract.specs.State.{Known, Stands, volume_of};
+ghost use Rattle.scrub.specs.Reading.{ReadsVolume};
 ghost use Rattle.scrub.specs.Telling.{AreOfPage};
 ghost use Rattle.scrub.specs.Walk.{IsFromOutside};
 ghost use Rattle.volume_turns.specs.Did.{Did};
@@ -19,30 +18,10 @@ use fsd_bytes::{Key, Pattern, Refusal};
 use fsd_files::{Items, Reply};
 use fsd_formats::Entry;
 use fsd_texts::Fault;
+use scrub::next_one;
 use sector_disk::Machine;
 use std::alloc::{AllocError, Global};
 use volume_contract::Files;
-
-// The entry behind this key, or the first one.
-fn next_one<M: Machine, V: Files<M>>(
-    v: &mut V,
-    m: &mut M,
-    last: &Option<Key>,
-) -> Result<Option<Entry>, Refusal>
-    requires room { (V.state v.old).layout.sectors ≤ (M.report m.old).sectors }
-    ensures order { Follows (next_steps (V.state v.old)) result }
-    ensures disk { OnlyReads M.Machine (device_in device_of result) m.old m.new }
-    ensures state { V.state v.new ≡ V.state v.old }
-    ensures stands { M.honest m.new → (k : Known) → Stands V.state V.holds v.old k (M.now m.old) → Stands V.state V.holds v.new k (M.now m.new) }
-    ensures told { IfErr result (λ why. M.honest m.new → IsRefusedOn AreOfPage (V.state v.old).layout (M.now m.new).image why) }
-    ensures absent { IfOk result (λ found. IfNone found (ShowsReached M.Machine (V.resident v.old) (V.state v.old) (V.state v.new) m.old m.new (LacksLater last.now))) }
-    ensures done { M.honest m.new → (k : Known) → Stands V.state V.holds v.old k (M.now m.old) → LooksUp (next_reply (volume_of k) last.now) result }
-{
-    match last {
-        Some(key) => v.next_after(m, Some(key)),
-        None => v.next_after(m, None),
-    }
-}
 
 // Puts an entry behind the others where it fits, and gives its key.
 fn take_fitting(pattern: &Pattern, e: Entry, entries: &mut Vec<Entry>) -> Result<Key, AllocError>
@@ -65,11 +44,9 @@ fn collect<M: Machine, V: Files<M>>(
 ) -> Result<Vec<Entry>, Refusal>
     requires room { (V.state v.old).layout.sectors ≤ (M.report m.old).sectors }
     requires up { (V.state v.old).down ≡ None }
-    ensures state { V.state v.new ≡ V.state v.old }
     ensures refusal { IfErr result IsLookUp }
+    ensures reads { ReadsVolume M.Machine V.state V.holds (device_in device_of result) v.old v.new m.old m.new }
     ensures told { IfErr result (λ why. M.honest m.new → IsRefusedOn AreOfPage (V.state v.old).layout (M.now m.new).image why) }
-    ensures disk { OnlyReads M.Machine (device_in device_of result) m.old m.new }
-    ensures stands { M.honest m.new → (k : Known) → Stands V.state V.holds v.old k (M.now m.old) → Stands V.state V.holds v.new k (M.now m.new) }
     ensures done { M.honest m.new → (k : Known) → Stands V.state V.holds v.old k (M.now m.old) →
         MatchResult result (λ entries. entries.items ≡ fitting pattern.now (volume_of k).entries) IsFromOutside }
     ensures because { M.honest m.new → IfOk result (λ entries. ListsAll V.state V.resident pattern.now (V.state v.old) (V.state v.new) (M.now m.old) (M.now m.new) entries.items) }

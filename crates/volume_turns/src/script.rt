@@ -24,7 +24,7 @@ ghost use Rattle.volume_turns.specs.declared.script.Stop.TheVariants.{WornOut};
 ghost use Rattle.volume_turns.specs.declared.turns.Halt.TheVariants.{Fault as Stopped};
 ghost use Rattle.fsd_texts.specs.declared.fault.Fault.TheVariants as Ends;
 ghost use Rattle.volume_turns.specs.Turns.{OnDisk, Speaks, WantsNone};
-ghost use Rattle.volume_turns.specs.Script.{BreaksRead, EndsScript, GroupsBy, HearsInput, ReadsInput, ReadsOn, ReadsScript, SaysAllRead, SaysRead, SpeaksReading, WholeRead};
+ghost use Rattle.volume_turns.specs.Script.{BreaksRead, EndsScript, GroupsBy, HearsInput, ReadsInput, ReadsNext, ReadsScript, SaysAllRead, SaysRead, SpeaksReading, WholeRead};
 
 use crate::generate::close_forced;
 use crate::line::{end_with, fault_status, last_line};
@@ -64,7 +64,7 @@ fn read_on<M: Machine, V: Files<M>, T: Says>(
     ensures speaks { SpeaksReading M.Machine m.old m.new result }
     ensures says { SaysRead M.Machine T.errand.says (V.state v.old).layout m.old m.new result }
     ensures numbers { UsesNumbers M.Machine 1 (V.state v.old) (V.state v.new) m.new result }
-    ensures input { ReadsOn M.Machine reader.old reader.new m.old m.new result }
+    ensures input { ReadsNext M.Machine reader.old reader.new m.old m.new result }
     ensures reads { M.tells m.new → ReadsScript V.state V.holds M.Machine T.errand reader.old reader.new (v.old, desk.old) m.old (v.new, desk.new) m.new result }
 {
     match reader.next_command(alloc, m) {

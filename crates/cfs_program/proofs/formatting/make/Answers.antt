@@ -36,7 +36,7 @@ returns-in-Ok g c =
           (made.quiet (end.says.trust.honest h)) (inl (refl, ap (λ (x : Line). text x) is)) (end.says.exit h) (end.ends h);
       made = λ zero h.
           let back = end.says.trust.honest h in
-          holds_behind M l line m z (timed m back) (timed z h) (end.says.since h) (end.says.any_moment h) (c.in-Ok.ensures.synced back) (c.in-Ok.ensures.made back).holds;
+          holds_behind M l line m z (timed m back) (timed z h) (end.says.since h) (end.says.any_moment h) (c.in-Ok.ensures.made back).synced (c.in-Ok.ensures.made back).holds;
       untouched = λ h. tt;
     }
 

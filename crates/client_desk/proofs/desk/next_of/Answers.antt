@@ -26,7 +26,7 @@ returns-in-Err-clause-done g c h k stands key runs bytes place serves =
     )
 
 pub returns-in-Ok-clause-client : goal.returns-in-Ok-clause-client
-returns-in-Ok-clause-client g c = search rules
+returns-in-Ok-clause-client g c = record { goes = search rules; count = search rules; valid = search rules }
 
 pub returns-in-Err-clause-damaged : goal.returns-in-Err-clause-damaged
 returns-in-Err-clause-damaged g c s is h = c.in-Err.ensures.tells.damaged s is h

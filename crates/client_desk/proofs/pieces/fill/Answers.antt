@@ -1,11 +1,11 @@
 use Rattle.std.proofs.Common.{◌≡◌, ℕ, ◌+◌, ◌-◌, ◌/◌, ◌%◌, ◌≤◌, true, false, List, [], ◌++◌, length, take, drop, refl, arith, sym, ap, subst, ◌∙◌}
-use Rattle.std.proofs.lemmas.List.{length-take-le}
+use Rattle.std.proofs.lemmas.List.{length-take-le, append-nil}
 use Rattle.run_table.specs.declared.run.Run.{Run}
 use Rattle.sector_disk.proofs.CallLaws.{writes_more, writes_none}
 use Rattle.client_desk.specs.declared.client.Client.TheVariants.{Writing}
 use Rattle.client_desk.specs.Clients.{draft_sectors, is_due}
 use Rattle.client_desk.specs.Ends.{IsWritingDraft, LeavesFor}
-use Rattle.client_desk.proofs.PieceLaws.{adds_unwritten, adds_written, append_none, leaves_more, leaves_still, slices_refuse, broken_off, due_slices, due_tail, undue_writing, unequal}
+use Rattle.client_desk.proofs.PieceLaws.{adds_unwritten, adds_written, leaves_more, leaves_still, slices_refuse, broken_off, due_slices, due_tail, undue_writing, unequal}
 use Rattle.volume_contract.specs.Pieces.{slices_if, slices_in, with_slices}
 use Rattle.client_desk.specs.Clients.{written_len}
 use Rattle.client_desk.specs.Ends.{slices_so_far}
@@ -22,7 +22,7 @@ returns-then-at-eq0-clause-disk g c =
 pub returns-then-at-eq0-clause-done : goal.returns-then-at-eq0-clause-done
 returns-then-at-eq0-clause-done g c h k stands name len runs serial before writing =
     adds_unwritten g.V.Files.state g.V.Files.holds k c.args.v.now (g.M.Machine.now c.args.m.now) c.args.w.now name len runs serial c.args.w.now (before ++ []) stands
-    (subst (λ (xs : List ℕ). IsWritingDraft k.opened c.args.w.now name len runs serial xs) (sym (append_none before)) writing)
+    (subst (λ (xs : List ℕ). IsWritingDraft k.opened c.args.w.now name len runs serial xs) (sym (append-nil before)) writing)
 
 pub returns-then-w-clause-disk : goal.returns-then-w-clause-disk
 returns-then-w-clause-disk g c =
@@ -34,7 +34,7 @@ returns-then-w-clause-disk g c =
 pub returns-then-w-clause-done : goal.returns-then-w-clause-done
 returns-then-w-clause-done g c h k stands name len runs serial before writing =
     adds_unwritten g.V.Files.state g.V.Files.holds k c.args.v.now (g.M.Machine.now c.args.m.now) c.args.w.now name len runs serial c.args.w.now (before ++ []) stands
-    (subst (λ (xs : List ℕ). IsWritingDraft k.opened c.args.w.now name len runs serial xs) (sym (append_none before)) writing)
+    (subst (λ (xs : List ℕ). IsWritingDraft k.opened c.args.w.now name len runs serial xs) (sym (append-nil before)) writing)
 
 pub returns-then-not-is_due-clause-disk : goal.returns-then-not-is_due-clause-disk
 returns-then-not-is_due-clause-disk g c =

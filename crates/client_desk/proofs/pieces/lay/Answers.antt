@@ -4,10 +4,10 @@ use Rattle.run_table.specs.declared.run.Run.{Run}
 use Rattle.sector_disk.proofs.CallLaws.{writes_more}
 use Rattle.client_desk.specs.declared.client.Client.TheVariants.{Writing}
 use Rattle.client_desk.proofs.SliceLaws.{part_within}
-use Rattle.client_desk.proofs.PieceLaws.{adds_written, leaves_more, slices_refuse, broken_off, none_in, none_slices, none_tail, whole_slices, whole_tail}
+use Rattle.client_desk.proofs.PieceLaws.{adds_written, leaves_more, slices_refuse, broken_off, none_slices, none_tail, whole_slices, whole_tail}
 use Rattle.volume_contract.specs.Pieces.{slices_if, slices_in, with_slices}
 use Rattle.client_desk.specs.Ends.{slices_so_far}
-use Rattle.std.proofs.lemmas.List.{length-append, length-drop}
+use Rattle.std.proofs.lemmas.List.{length-append, length-drop, nil_from_length}
 use Rattle.std.proofs.Math.Seq.{take-length}
 use Rattle.client_desk.proofs.pieces.lay.Goals as goal
 
@@ -38,7 +38,7 @@ returns-in-Ok-clause-done g c h k stands name len runs serial before writing =
           adds (ap (λ (m : ℕ). with_slices (slices_so_far len before) (w.got / 512) (slices_if true (take m more))) c.whole_part-count.ensures ∙ whole_slices k.opened w name len runs serial before more slice writing whole) refl refl got
           (whole_tail k.opened w name len runs serial before more slice writing n c.whole_part-count.ensures whole front)
       | inr none ↦
-          let empty : more ≡ [] = none_in more none in
+          let empty : more ≡ [] = nil_from_length more none in
           let chunk : take n more ≡ [] = ap (λ (xs : List ℕ). take n xs) empty ∙ take_none n in
           let rest : List ℕ = take (length more - n) (drop n more) in
           let nothing : 0 + length rest ≡ 0 = ap (λ (xs : List ℕ). 0 + length (take (length xs - n) (drop n xs))) empty ∙ ap (λ (xs : List ℕ). 0 + length xs) (ap (λ (xs : List ℕ). take (0 - n) xs) (drop_nothing n) ∙ take_none (0 - n)) in

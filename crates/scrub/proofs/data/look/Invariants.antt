@@ -1,15 +1,13 @@
-use Rattle.std.proofs.Common.{◌≡◌, None}
-use Rattle.sector_disk.specs.Calls.{OnlyReads}
+use Rattle.std.proofs.Common.{None}
 use Rattle.volume_contract.specs.State.{Known, Stands, volume_of}
 use Rattle.scrub.specs.Looking.{AreDamaged, HasLooked}
+use Rattle.scrub.specs.Reading.{ReadsVolume}
 use Rattle.scrub.proofs.data.look.Given as goal
 
 -- The data of the entries that were met was looked at.
 abbrev pub invariant-loop : goal.invariant-loop
 invariant-loop g l = record {
-  state : g.V.Files.state l.v ≡ g.V.Files.state l.fn.v;
-  disk : OnlyReads g.M.Machine None l.fn.m l.m;
-  stands : g.M.Machine.honest l.m → (k : Known) → Stands g.V.Files.state g.V.Files.holds l.fn.v k (g.M.Machine.now l.fn.m) → Stands g.V.Files.state g.V.Files.holds l.v k (g.M.Machine.now l.m);
+  reads : ReadsVolume g.M.Machine g.V.Files.state g.V.Files.holds None l.fn.v l.v l.fn.m l.m;
   damaged : g.M.Machine.honest l.m → AreDamaged (g.V.Files.state l.fn.v).layout (g.M.Machine.now l.m).image l.found.items;
   looked : g.M.Machine.honest l.m → (k : Known) → Stands g.V.Files.state g.V.Files.holds l.fn.v k (g.M.Machine.now l.fn.m) → HasLooked (volume_of k).entries l.counter l.last (g.M.Machine.now l.fn.m).image (g.M.Machine.now l.m).image l.found.items;
 }

@@ -1,4 +1,4 @@
-use Rattle.std.proofs.Common.{None, subst}
+use Rattle.std.proofs.Common.{None, ap, subst}
 use Rattle.sector_disk.proofs.CallLaws.{writes_more, writes_then}
 use Rattle.scrub.specs.Scrub.{LeavesScrubbed}
 use Rattle.volume_contract.specs.State.{State}
@@ -7,7 +7,7 @@ use Rattle.fsd_files.specs.Disk.{Touches}
 use Rattle.scrub.specs.Telling.{TellsOn}
 use Rattle.scrub.proofs.KeptLaws.{healed_both}
 use Rattle.scrub.proofs.ToldLaws.{heal_told}
-use Rattle.scrub.proofs.WholeLaws.{healed_all, leaders_leave, twins_leave, twins_then}
+use Rattle.scrub.proofs.WholeLaws.{heal_rest, heal_within, healed_all, leaders_leave, twins_leave, twins_then}
 use Rattle.scrub.proofs.whole.heal_all.Goals as goal
 
 pub returns-in-Ok-heal_leaders-clause-disk : goal.returns-in-Ok-heal_leaders-clause-disk
@@ -58,27 +58,63 @@ returns-in-Err-clause-disk g c =
 
 -- ---- what is written and told
 
-pub returns-in-Ok-heal_leaders-clause-counted : goal.returns-in-Ok-heal_leaders-clause-counted
-returns-in-Ok-heal_leaders-clause-counted g c = λ t.
+pub returns-in-Ok-heal_leaders-clause-writes : goal.returns-in-Ok-heal_leaders-clause-writes
+returns-in-Ok-heal_leaders-clause-writes g c =
+    let V = g.V.Files in
     let M = g.M.Machine in
+    let heal = c.in-Ok.ensures in
     let call = c.in-Ok-heal_leaders.ensures in
-    healed_both (M.ledger c.args.m.now) (M.ledger c.heal.new.m) (M.ledger c.heal_leaders.new.m) c.in-Ok.twins c.in-Ok-heal_leaders.leaders c.saturating_add.result c.saturating_add.ensures
-    (c.in-Ok.ensures.writes.counted (call.disk.trust.tells t)) (call.counted t)
+    record {
+      rest = λ h.
+          let back = call.disk.trust.honest h in
+          heal_rest (V.state c.args.v.now).layout (V.state c.heal.new.self).layout (ap (λ (s : State). s.layout) heal.state) (M.now c.args.m.now) (M.now c.heal.new.m) (M.now c.heal_leaders.new.m) (heal.disk.windows back) (heal.writes.rest back) (call.writes.rest h);
+      counted = λ t.
+          healed_both (M.ledger c.args.m.now) (M.ledger c.heal.new.m) (M.ledger c.heal_leaders.new.m) c.in-Ok.twins c.in-Ok-heal_leaders.leaders c.saturating_add.result c.saturating_add.ensures
+          (heal.writes.counted (call.disk.trust.tells t)) (call.writes.counted t);
+    }
 
-pub returns-in-Err-clause-told : goal.returns-in-Err-clause-told
-returns-in-Err-clause-told g c = λ h.
-    let s = g.V.Files.state c.args.v.now in
-    heal_told s.layout (g.M.Machine.now c.heal.new.m).image s c.requires.up c.in-Err.why c.in-Err.ensures.order.follows (c.in-Err.ensures.tells h).lost
+pub returns-in-Err-heal_leaders-clause-writes : goal.returns-in-Err-heal_leaders-clause-writes
+returns-in-Err-heal_leaders-clause-writes g c =
+    let V = g.V.Files in
+    let M = g.M.Machine in
+    let heal = c.in-Ok.ensures in
+    let call = c.in-Err-heal_leaders.ensures in
+    record {
+      rest = λ h.
+          let back = call.disk.trust.honest h in
+          heal_rest (V.state c.args.v.now).layout (V.state c.heal.new.self).layout (ap (λ (s : State). s.layout) heal.state) (M.now c.args.m.now) (M.now c.heal.new.m) (M.now c.heal_leaders.new.m) (heal.disk.windows back) (heal.writes.rest back) (call.writes.rest h);
+      counted = tt;
+    }
 
-pub returns-in-Err-heal_leaders-clause-told : goal.returns-in-Err-heal_leaders-clause-told
-returns-in-Err-heal_leaders-clause-told g c = λ h. subst (λ (s : State). TellsOn s.layout (g.M.Machine.now c.heal_leaders.new.m).image c.in-Err-heal_leaders.why) c.in-Ok.ensures.state (c.in-Err-heal_leaders.ensures.told h)
+pub returns-in-Err-clause-writes : goal.returns-in-Err-clause-writes
+returns-in-Err-clause-writes g c = record {
+  rest = λ h. heal_within (g.V.Files.state c.args.v.now).layout (g.M.Machine.now c.args.m.now) (g.M.Machine.now c.heal.new.m) (c.in-Err.ensures.writes.rest h);
+  counted = tt;
+}
 
-pub returns-in-Ok-heal_leaders-clause-mended : goal.returns-in-Ok-heal_leaders-clause-mended
-returns-in-Ok-heal_leaders-clause-mended g c = λ h.
+pub returns-in-Ok-heal_leaders-clause-tells : goal.returns-in-Ok-heal_leaders-clause-tells
+returns-in-Ok-heal_leaders-clause-tells g c h =
     let V = g.V.Files in
     let M = g.M.Machine in
     let a = M.now c.heal.new.m in
     let b = M.now c.heal_leaders.new.m in
     let heal = c.in-Ok.ensures in
     let call = c.in-Ok-heal_leaders.ensures in
-    twins_then (V.state c.args.v.now).layout a b (call.disk.windows h) (subst (λ (s : State). Touches (is_data s.layout) a b) heal.state (call.rest h)) (heal.tells (call.disk.trust.honest h)).mended
+    record {
+      told = tt;
+      mended = twins_then (V.state c.args.v.now).layout a b (call.disk.windows h) (subst (λ (s : State). Touches (is_data s.layout) a b) heal.state (call.writes.rest h)) (heal.tells (call.disk.trust.honest h)).mended;
+    }
+
+pub returns-in-Err-heal_leaders-clause-tells : goal.returns-in-Err-heal_leaders-clause-tells
+returns-in-Err-heal_leaders-clause-tells g c h = record {
+  told = subst (λ (s : State). TellsOn s.layout (g.M.Machine.now c.heal_leaders.new.m).image c.in-Err-heal_leaders.why) c.in-Ok.ensures.state (c.in-Err-heal_leaders.ensures.told h);
+  mended = tt;
+}
+
+pub returns-in-Err-clause-tells : goal.returns-in-Err-clause-tells
+returns-in-Err-clause-tells g c h =
+    let s = g.V.Files.state c.args.v.now in
+    record {
+      told = heal_told s.layout (g.M.Machine.now c.heal.new.m).image s c.requires.up c.in-Err.why c.in-Err.ensures.order.follows (c.in-Err.ensures.tells h).lost;
+      mended = tt;
+    }

@@ -55,8 +55,8 @@ returns-in-Ok-clause-writes g c =
     record {
       rest = λ h.
           let back = call.disk.trust.honest h in
-          force_rest s.layout (g.V.Files.state c.force.new.self).layout force.keeps.state.layout (M.now c.args.m.now) (M.now c.force.new.m) (M.now c.heal_and_look.new.m) (force.disk.windows back) (force.writes.rest back) (call.rest h);
-      counted = written_all (M.tells c.force.new.m) (M.tells c.heal_and_look.new.m) call.disk.trust.tells (M.ledger c.args.m.now) (M.ledger c.force.new.m) (M.ledger c.heal_and_look.new.m) (force_len s) force.writes.counted c.heal_and_look.result call.counted;
+          force_rest s.layout (g.V.Files.state c.force.new.self).layout force.keeps.state.layout (M.now c.args.m.now) (M.now c.force.new.m) (M.now c.heal_and_look.new.m) (force.disk.windows back) (force.writes.rest back) (call.writes.rest h);
+      counted = written_all (M.tells c.force.new.m) (M.tells c.heal_and_look.new.m) call.disk.trust.tells (M.ledger c.args.m.now) (M.ledger c.force.new.m) (M.ledger c.heal_and_look.new.m) (force_len s) force.writes.counted c.heal_and_look.result call.writes.counted;
       idle = λ is. absurd (up_busy s force.order.follows.0 is);
     }
 

@@ -57,62 +57,57 @@ returns-in-Err-clause-done g c h k stands len =
     subst (λ (r : Result Reply Fault). Does V.state V.holds (Word.Get c.args.key.now) c.args.v.now c.read.new.self k (M.now c.args.m.now) (M.now c.read.new.m) r) (sym c.read_ended_by.ensures.is)
     (unread_does V.state V.holds c.args.key.now c.args.v.now c.read.new.self k (M.now c.args.m.now) (M.now c.read.new.m) c.as_mut_slice.result.now c.read.new.buf c.in-Err.why lens (c.in-Err.ensures.stands h k stands) (c.in-Err.ensures.done h k stands))
 
-pub returns-in-Err-clause-status : goal.returns-in-Err-clause-status
-returns-in-Err-clause-status g c = refused_read c.args.key.now c.in-Err.why c.read_ended_by.result c.read_ended_by.ensures.is
+-- ---- what is told of any image
 
-pub returns-in-Ok-read-clause-status : goal.returns-in-Ok-read-clause-status
-returns-in-Ok-read-clause-status g c = refl
-
--- ---- what is said and written
-
-pub returns-in-Ok-read-clause-answers : goal.returns-in-Ok-read-clause-answers
-returns-in-Ok-read-clause-answers g c h =
-    let now = g.M.Machine.now in
-    record { replies = c.copied.ensures; rest = worn_touches nowhere (now c.args.m.now) (now c.read.new.m) (c.in-Ok-read.ensures.disk.worn h).image; still = c.in-Ok-read.ensures.state; worn = λ is. absurd (cc is); numbers = goes_none 1 (g.V.Files.state c.args.v.now) (g.V.Files.state c.read.new.self) c.in-Ok-read.ensures.state; told = tt }
-
-pub returns-in-Err-clause-answers : goal.returns-in-Err-clause-answers
-returns-in-Err-clause-answers g c h =
-    let now = g.M.Machine.now in
-    let e = c.in-Err.ensures in
-    let s = g.V.Files.state c.args.v.now in
-    let image = (now c.read.new.m).image in
-    let room : s.layout.sectors ≤ length image = omega (arith, c.requires.room, e.disk.uses.sectors, g.met.M.Machine.sized c.read.new.m h) in
-    let told : (n : ℕ) → c.in-Err.why ≡ Why.Damaged n → HasDamaged image n = λ n is.
-    let err = ap (λ (w : Refusal). Err w) is in (data_inside s.layout n (length image) (e.tells.damaged n err h).within room, (e.tells.damaged n err h).damaged) in
-    record {
-      replies = subst (λ (r : Result Reply Fault). IfOk r (λ a. MayReply (Word.Get c.args.key.now) image a)) (sym c.read_ended_by.ensures.is) (read_refused s c.requires.up c.args.key.now image c.in-Err.why told e.order.follows);
-      rest = worn_touches nowhere (now c.args.m.now) (now c.read.new.m) (e.disk.worn h).image;
-      still = e.state;
-      worn = let s = g.V.Files.state c.args.v.now in read_told_worn s (read_steps s) c.args.key.now c.in-Err.why c.read_ended_by.result c.read_ended_by.ensures.is e.order.follows (λ comes. read_worn s c.requires.up comes);
-      numbers = goes_none 1 s (g.V.Files.state c.read.new.self) e.state;
-      told = read_told_so AreOfPage (g.V.Files.state c.args.v.now).layout (now c.read.new.m).image c.args.key.now c.in-Err.why c.read_ended_by.result c.read_ended_by.ensures.is
-          (told_of (g.V.Files.state c.args.v.now) (g.V.Files.state c.read.new.self) (g.V.Files.resident c.args.v.now) (now c.args.m.now) (now c.read.new.m) (ap (λ (s : State). s.layout) e.state) c.in-Err.why (e.tells.causes h));
-    }
-
--- ---- why it is answered so
-
-pub returns-in-Ok-read-clause-written : goal.returns-in-Ok-read-clause-written
-returns-in-Ok-read-clause-written g c t =
-    let M = g.M.Machine in
-    none_written (M.ledger c.args.m.now) (M.ledger c.read.new.m) (c.in-Ok-read.ensures.disk.ledger t)
-
-pub returns-in-Ok-read-clause-because : goal.returns-in-Ok-read-clause-because
-returns-in-Ok-read-clause-because g c h =
+pub returns-in-Ok-read-clause-tells : goal.returns-in-Ok-read-clause-tells
+returns-in-Ok-read-clause-tells g c =
     let V = g.V.Files in
-    let a = g.M.Machine.now c.args.m.now in
+    let M = g.M.Machine in
+    let now = M.now in
+    let a = now c.args.m.now in
+    let s = V.state c.args.v.now in
+    let t = V.state c.read.new.self in
+    let e = c.in-Ok-read.ensures in
     let items = take_at c.read.new.buf (drop (length c.read.new.buf) c.in-Ok.bytes.items) c.in-Ok.bytes.len (omega (arith, c.in-Ok.ensures.len, c.as_mut_slice.ensures.len, c.read.auto.buf)) in
-    rw c.from.ensures
-    (subst (λ (b : List ℕ). BecauseRead V.state V.resident c.args.key.now (V.state c.args.v.now) (V.state c.read.new.self) a (g.M.Machine.now c.read.new.m) (Said.Bytes c.copied.result b)) (sym items)
-    (c.as_mut_slice.result.now, c.in-Ok-read.field-0, record { by = c.args.v.now; same = refl; from = a; aged = ages_here a; shows = c.in-Ok-read.ensures.tells.found h }))
+    rw c.from.ensures (record {
+      fault = tt;
+      status = refl;
+      answers = λ h. record { replies = c.copied.ensures; rest = worn_touches nowhere a (now c.read.new.m) (e.disk.worn h).image; still = e.state; worn = λ is. absurd (cc is); numbers = goes_none 1 s t e.state; told = tt };
+      written = λ tells. none_written (M.ledger c.args.m.now) (M.ledger c.read.new.m) (e.disk.ledger tells);
+      because = λ h.
+          subst (λ (b : List ℕ). BecauseRead V.state V.resident c.args.key.now s t a (now c.read.new.m) (Said.Bytes c.copied.result b)) (sym items)
+          (c.as_mut_slice.result.now, c.in-Ok-read.field-0, record { by = c.args.v.now; same = refl; from = a; aged = ages_here a; shows = e.tells.found h });
+    })
 
-pub returns-in-Err-clause-written : goal.returns-in-Err-clause-written
-returns-in-Err-clause-written g c t =
-    let M = g.M.Machine in
-    reads_written (M.ledger c.args.m.now) (M.ledger c.read.new.m) (c.in-Err.ensures.disk.ledger t) c.read_ended_by.result
-
-pub returns-in-Err-clause-because : goal.returns-in-Err-clause-because
-returns-in-Err-clause-because g c h =
+pub returns-in-Err-clause-tells : goal.returns-in-Err-clause-tells
+returns-in-Err-clause-tells g c =
     let V = g.V.Files in
-    let a = g.M.Machine.now c.args.m.now in
-    read_because V.state V.resident c.args.key.now (V.state c.args.v.now) (V.state c.read.new.self) a (g.M.Machine.now c.read.new.m) c.in-Err.why c.read_ended_by.result c.read_ended_by.ensures.is
-    (λ none same. record { by = c.args.v.now; same = refl; from = a; aged = ages_here a; shows = c.in-Err.ensures.tells.absent (ap (λ (w : Refusal). Err w) none) h })
+    let M = g.M.Machine in
+    let now = M.now in
+    let a = now c.args.m.now in
+    let b = now c.read.new.m in
+    let s = V.state c.args.v.now in
+    let t = V.state c.read.new.self in
+    let e = c.in-Err.ensures in
+    let key = c.args.key.now in
+    let why = c.in-Err.why in
+    let r = c.read_ended_by.result in
+    let is = c.read_ended_by.ensures.is in
+    record {
+      fault = c.read_ended_by.ensures.fault;
+      status = refused_read key why r is;
+      answers = λ h.
+          let room : s.layout.sectors ≤ length b.image = omega (arith, c.requires.room, e.disk.uses.sectors, g.met.M.Machine.sized c.read.new.m h) in
+          let told : (n : ℕ) → why ≡ Why.Damaged n → HasDamaged b.image n = λ n same.
+          let err = ap (λ (w : Refusal). Err w) same in (data_inside s.layout n (length b.image) (e.tells.damaged n err h).within room, (e.tells.damaged n err h).damaged) in
+          record {
+            replies = subst (λ (x : Result Reply Fault). IfOk x (λ y. MayReply (Word.Get key) b.image y)) (sym is) (read_refused s c.requires.up key b.image why told e.order.follows);
+            rest = worn_touches nowhere a b (e.disk.worn h).image;
+            still = e.state;
+            worn = read_told_worn s (read_steps s) key why r is e.order.follows (λ comes. read_worn s c.requires.up comes);
+            numbers = goes_none 1 s t e.state;
+            told = read_told_so AreOfPage s.layout b.image key why r is (told_of s t (V.resident c.args.v.now) a b (ap (λ (x : State). x.layout) e.state) why (e.tells.causes h));
+          };
+      written = λ tells. reads_written (M.ledger c.args.m.now) (M.ledger c.read.new.m) (e.disk.ledger tells) r;
+      because = λ h. read_because V.state V.resident key s t a b why r is (λ none same. record { by = c.args.v.now; same = refl; from = a; aged = ages_here a; shows = e.tells.absent (ap (λ (w : Refusal). Err w) none) h });
+    }

@@ -30,18 +30,20 @@ returns-in-Ok g c =
       opened = e.state.opened;
       up = e.state.up;
       disk = writes_more e.disk (λ h left. scrub_stays V.state V.holds v (M.now a) left);
-      fault = tt;
-      status = scrub_status found healed;
-      answers = λ h. record {
-        replies = let room : s.layout.sectors ≤ length image = omega (arith, c.requires.room, e.disk.uses.sectors, g.met.M.Machine.sized b h) in all_damaged s.layout image room found (e.tells h).damaged;
-        rest = e.writes.rest h;
-        still = e.state.kept.idle;
-        worn = λ is. absurd (cc is);
-        numbers = forced_goes s (V.state c.scrub.new.v) e.state.kept;
-        told = tt;
+      tells = record {
+        fault = tt;
+        status = scrub_status found healed;
+        answers = λ h. record {
+          replies = let room : s.layout.sectors ≤ length image = omega (arith, c.requires.room, e.disk.uses.sectors, g.met.M.Machine.sized b h) in all_damaged s.layout image room found (e.tells h).damaged;
+          rest = e.writes.rest h;
+          still = e.state.kept.idle;
+          worn = λ is. absurd (cc is);
+          numbers = forced_goes s (V.state c.scrub.new.v) e.state.kept;
+          told = tt;
+        };
+        written = e.writes.counted;
+        because = λ h. (e.tells h).damaged;
       };
-      written = e.writes.counted;
-      because = λ h. (e.tells h).damaged;
       done = λ h k stands.
           let ends = e.done h k stands in (
             ends.after,

@@ -71,7 +71,7 @@ returns-in-Ok-clause-speaks g c =
     (speaks_behind c.in-Ok.ensures.disk (speaks_none c.answer.new.m))
 
 pub returns-clause-speaks : goal.returns-clause-speaks
-returns-clause-speaks g c = speaks_failed c.in-Err.fault refl c.in-Err.ensures.fault c.in-Err.ensures.disk
+returns-clause-speaks g c = speaks_failed c.in-Err.fault refl c.in-Err.ensures.tells.fault c.in-Err.ensures.disk
 
 pub returns-in-Ok-count-clause-keeps : goal.returns-in-Ok-count-clause-keeps
 returns-in-Ok-count-clause-keeps g c = record { layout = c.answer.ensures.layout; up = c.in-Ok.ensures.up; desk = desk_on (g.V.Files.state c.args.v.now) (g.V.Files.state c.answer.new.v) no_desk c.answer.ensures.layout c.answer.ensures.opened c.requires.idle }
@@ -94,16 +94,16 @@ returns-in-Ok-clause-says g c = record {
 }
 
 pub returns-clause-says : goal.returns-clause-says
-returns-clause-says g c = record { quiet = c.in-Err.ensures.disk.quiet; image = λ h. (c.in-Err.ensures.answers h).told }
+returns-clause-says g c = record { quiet = c.in-Err.ensures.disk.quiet; image = λ h. (c.in-Err.ensures.tells.answers h).told }
 
 -- ---- the numbers of a mount
 
 pub returns-in-Ok-count-clause-numbers : goal.returns-in-Ok-count-clause-numbers
-returns-in-Ok-count-clause-numbers g c = record { grows = λ h. (c.answer.ensures.answers h).numbers; used = λ is h. absurd (cc is) }
+returns-in-Ok-count-clause-numbers g c = record { grows = λ h. (c.answer.ensures.tells.answers h).numbers; used = λ is h. absurd (cc is) }
 
 pub returns-in-Ok-clause-numbers : goal.returns-in-Ok-clause-numbers
 returns-in-Ok-clause-numbers g c = record {
-  grows = λ h. (c.answer.ensures.answers h).numbers;
+  grows = λ h. (c.answer.ensures.tells.answers h).numbers;
   used = λ is h.
       let e : c.in-Err-count.fault ≡ Ends.WornOut = cc is in
       let no : Ends.WornOut ≡ Ends.Memory = sym e ∙ c.in-Err-count.ensures.err in
@@ -112,8 +112,8 @@ returns-in-Ok-clause-numbers g c = record {
 
 pub returns-clause-numbers : goal.returns-clause-numbers
 returns-clause-numbers g c = record {
-  grows = λ h. (c.answer.ensures.answers h).numbers;
+  grows = λ h. (c.answer.ensures.tells.answers h).numbers;
   used = λ is h.
       let e : c.in-Err.fault ≡ Ends.WornOut = cc is in
-      worn_may (g.V.Files.state c.args.v.now) ((c.in-Err.ensures.answers h).worn (ap (λ (w : Fault). Err w) e));
+      worn_may (g.V.Files.state c.args.v.now) ((c.in-Err.ensures.tells.answers h).worn (ap (λ (w : Fault). Err w) e));
 }

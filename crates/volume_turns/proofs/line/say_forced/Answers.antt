@@ -1,10 +1,12 @@
 use Rattle.std.proofs.Common.{◌∙◌}
+use Rattle.std.proofs.lemmas.Result.{on_ok_weaker}
 use Rattle.sector_disk.proofs.Holding.{trusts_on}
+use Rattle.sector_disk.proofs.ResultLaws.{ok_as}
 use Rattle.volume_turns.specs.Turns.{IsEndOfVolume, Unsaid, WantsNone}
 use Rattle.volume_turns.proofs.CountLaws.{told_more}
 use Rattle.volume_turns.proofs.LineLaws.{output_ends}
 use Rattle.volume_turns.proofs.RunLaws.{since_on}
-use Rattle.volume_turns.proofs.SayLaws.{forced_moments, forced_synced, on_ok_so, on_ok_then, says_on, synced_moments, timed_by, told_synced, told_unsynced}
+use Rattle.volume_turns.proofs.SayLaws.{forced_moments, forced_synced, says_on, synced_moments, timed_by, told_synced, told_unsynced}
 use Rattle.volume_turns.proofs.line.say_forced.Goals as goal
 
 pub returns-in-Ok : goal.returns-in-Ok
@@ -29,9 +31,9 @@ returns-in-Ok g c =
       wants = output_ends WantsNone tt result say.output;
       moments = λ h. let back = say.says.trust.honest h in
           forced_moments M a p b text (timed a (sync.trust.honest back)) (timed p back) (timed b h) (sync.time back) (sync.worn back) (sync.synced back) (say.says.since h) (say.moments h);
-      synced = on_ok_so result (λ h. let back = say.says.trust.honest h in
+      synced = ok_as _ result (λ h. let back = say.says.trust.honest h in
           forced_synced M a p b text (timed a (sync.trust.honest back)) (timed p back) (timed b h) (sync.time back) (sync.worn back) (sync.synced back) (say.says.since h) (say.moments h));
-      said = on_ok_then result (λ all h. says_on text (M.now a) (M.now p) (M.now b) (sync.worn (say.says.trust.honest h)) (all h)) say.said;
+      said = on_ok_weaker result (λ all h. says_on text (M.now a) (M.now p) (M.now b) (sync.worn (say.says.trust.honest h)) (all h)) say.said;
       unsaid = output_ends (λ end. M.honest b → Unsaid (M.now a) (M.now b) end) (λ h. tt) result say.output;
     }
 

@@ -1,6 +1,6 @@
-use Rattle.std.proofs.Common.{◌≡◌, None}
-use Rattle.sector_disk.specs.Calls.{OnlyReads}
+use Rattle.std.proofs.Common.{None}
 use Rattle.volume_contract.specs.State.{Known, Stands, volume_of}
+use Rattle.scrub.specs.Reading.{ReadsVolume}
 use Rattle.volume_turns.specs.Listing.{AreListed}
 use Rattle.volume_turns.proofs.ReasonLaws.{HasMet}
 use Rattle.volume_turns.proofs.listing.collect.Given as goal
@@ -8,9 +8,7 @@ use Rattle.volume_turns.proofs.listing.collect.Given as goal
 -- The entries that were met are listed, and nothing is changed.
 abbrev pub invariant-loop : goal.invariant-loop
 invariant-loop g l = record {
-  state : g.V.Files.state l.v ≡ g.V.Files.state l.fn.v;
-  disk : OnlyReads g.M.Machine None l.fn.m l.m;
-  stands : g.M.Machine.honest l.m → (k : Known) → Stands g.V.Files.state g.V.Files.holds l.fn.v k (g.M.Machine.now l.fn.m) → Stands g.V.Files.state g.V.Files.holds l.v k (g.M.Machine.now l.m);
+  reads : ReadsVolume g.M.Machine g.V.Files.state g.V.Files.holds None l.fn.v l.v l.fn.m l.m;
   met : HasMet l.fn.pattern l.counter l.last l.entries.items;
   listed : g.M.Machine.honest l.m → (k : Known) → Stands g.V.Files.state g.V.Files.holds l.fn.v k (g.M.Machine.now l.fn.m) → AreListed l.fn.pattern (volume_of k).entries l.counter l.last l.entries.items;
 }

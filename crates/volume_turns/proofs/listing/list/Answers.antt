@@ -24,10 +24,10 @@ returns-in-Ok g c =
     let s = V.state v in
     let t = V.state w in
     let e = c.in-Ok.ensures in
-    let disk = reads_stay M V.state V.holds a b v (λ h left worn k. g.met.V.Files.wears v k (M.now a) left (g.met.M.Machine.short a h) (record { image = worn.image; windows = worn.windows })) e.disk in
+    let disk = reads_stay M V.state V.holds a b v (λ h left worn k. g.met.V.Files.wears v k (M.now a) left (g.met.M.Machine.short a h) (record { image = worn.image; windows = worn.windows })) e.reads.disk in
     rw c.from.ensures
-    (answered_did M V.state V.holds a b V.resident (Word.List c.args.pattern.now) v w (λ h. worn_touches nowhere (M.now a) (M.now b) (e.disk.worn h).image) e.state (goes_none 1 s t e.state)
-    _ c.requires.up (goes_same None s t e.state) disk refl (λ h. tt) (λ tells. none_written (M.ledger a) (M.ledger b) (e.disk.ledger tells)) e.because
+    (answered_did M V.state V.holds a b V.resident (Word.List c.args.pattern.now) v w (λ h. worn_touches nowhere (M.now a) (M.now b) (e.reads.disk.worn h).image) e.reads.same (goes_none 1 s t e.reads.same)
+    _ c.requires.up (goes_same None s t e.reads.same) disk refl (λ h. tt) (λ tells. none_written (M.ledger a) (M.ledger b) (e.reads.disk.ledger tells)) e.because
     (λ h k stands. (
       k,
       record {
@@ -39,7 +39,7 @@ returns-in-Ok g c =
         find = tt;
         unworn = λ may. cc may;
       },
-      e.stands h k stands,
+      e.reads.stands h k stands,
     )))
 
 pub returns-in-Err : goal.returns-in-Err
@@ -55,8 +55,8 @@ returns-in-Err g c =
     let command = Word.List c.args.pattern.now in
     let why = c.in-Err.why in
     let e = c.in-Err.ensures in
-    let disk = reads_stay M V.state V.holds a b v (λ h left worn k. g.met.V.Files.wears v k (M.now a) left (g.met.M.Machine.short a h) (record { image = worn.image; windows = worn.windows })) e.disk in
+    let disk = reads_stay M V.state V.holds a b v (λ h left worn k. g.met.V.Files.wears v k (M.now a) left (g.met.M.Machine.short a h) (record { image = worn.image; windows = worn.windows })) e.reads.disk in
     rw c.ended_by.ensures.is
-    (ended_did M V.state V.holds a b V.resident command v w (λ h. worn_touches nowhere (M.now a) (M.now b) (e.disk.worn h).image) e.state (goes_none 1 s t e.state)
-    why e.refusal (ap (λ (x : State). x.layout) e.state) (opens None s t (goes_same None s t e.state)) disk e.told (λ tells. reads_written (M.ledger a) (M.ledger b) (e.disk.ledger tells) (ended_by why))
+    (ended_did M V.state V.holds a b V.resident command v w (λ h. worn_touches nowhere (M.now a) (M.now b) (e.reads.disk.worn h).image) e.reads.same (goes_none 1 s t e.reads.same)
+    why e.refusal (ap (λ (x : State). x.layout) e.reads.same) (opens None s t (goes_same None s t e.reads.same)) disk e.told (λ tells. reads_written (M.ledger a) (M.ledger b) (e.reads.disk.ledger tells) (ended_by why))
     (λ h k stands. outside_does V.state V.holds command v w k (M.now a) (M.now b) why (e.done h k stands)))

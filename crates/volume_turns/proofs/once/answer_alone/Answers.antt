@@ -42,10 +42,10 @@ pub returns-in-Ok-clause-speaks : goal.returns-in-Ok-clause-speaks
 returns-in-Ok-clause-speaks g c = speaks_behind c.in-Ok.ensures.disk c.close_as.ensures.speaks
 
 pub returns-in-Err-clause-speaks : goal.returns-in-Err-clause-speaks
-returns-in-Err-clause-speaks g c = speaks_failed c.in-Err.fault refl c.in-Err.ensures.fault c.in-Err.ensures.disk
+returns-in-Err-clause-speaks g c = speaks_failed c.in-Err.fault refl c.in-Err.ensures.tells.fault c.in-Err.ensures.disk
 
 pub returns-in-Ok-clause-status : goal.returns-in-Ok-clause-status
-returns-in-Ok-clause-status g c = status_at (IsStatusFrom c.args.c.now) (reply_status c.in-Ok.answer) c.close_as.result c.close_as.ensures.status c.in-Ok.ensures.status
+returns-in-Ok-clause-status g c = status_at (IsStatusFrom c.args.c.now) (reply_status c.in-Ok.answer) c.close_as.result c.close_as.ensures.status c.in-Ok.ensures.tells.status
 
 -- ---- what is said and written
 
@@ -59,7 +59,7 @@ returns-in-Ok-clause-answers g c h =
     let m = now c.answer.new.m in
     let b = now c.close_as.new.m in
     let reply = c.in-Ok.answer in
-    alone_closed c.args.c.now (V.state c.args.v) t (now c.args.m.now) m (e.disk.windows back) (e.disk.quiet back) b c.in-Ok.answer c.close_as.result e.layout (e.answers back) c.close_as.ensures.status
+    alone_closed c.args.c.now (V.state c.args.v) t (now c.args.m.now) m (e.disk.windows back) (e.disk.quiet back) b c.in-Ok.answer c.close_as.result e.layout (e.tells.answers back) c.close_as.ensures.status
     (subst (λ (says : Reply → List ℕ). ClosesBy t (says reply) m b (unit_of c.close_as.result)) c.requires.says (c.close_as.ensures.closing h))
 
 pub returns-in-Err-clause-answers : goal.returns-in-Err-clause-answers
@@ -67,4 +67,4 @@ returns-in-Err-clause-answers g c h =
     let V = g.V.Files in
     let now = g.M.Machine.now in
     let e = c.in-Err.ensures in
-    alone_ended c.args.c.now (V.state c.args.v) (V.state c.answer.new.v) (now c.args.m.now) (now c.answer.new.m) (e.disk.windows h) (e.disk.quiet h) c.in-Err.fault (e.answers h)
+    alone_ended c.args.c.now (V.state c.args.v) (V.state c.answer.new.v) (now c.args.m.now) (now c.answer.new.m) (e.disk.windows h) (e.disk.quiet h) c.in-Err.fault (e.tells.answers h)

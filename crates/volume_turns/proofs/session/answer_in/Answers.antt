@@ -17,9 +17,9 @@ returns-in-Plain g c =
     rw c.in-Plain.is (record {
       keeps = record { layout = does.layout; up = does.up; desk = of };
       disk = writes_more does.disk (λ h left stays. stays_in V.state V.holds (v, desk) old left stays);
-      fault = does.fault;
-      answers = λ h. let says = does.answers h in record { replies = says.replies; worn = says.worn; numbers = says.numbers; told = says.told };
-      because = does.because;
+      fault = does.tells.fault;
+      answers = λ h. let says = does.tells.answers h in record { replies = says.replies; worn = says.worn; numbers = says.numbers; told = says.told };
+      because = does.tells.because;
       done = λ h k sits. plain_does V.state V.holds c.in-Plain.command v w desk k old now sits (desk_holds V.state V.holds v w desk k old now sits of) c.answer.result (does.done h (known_of k) sits.stands);
     })
 

@@ -1,11 +1,12 @@
 use Rattle.std.proofs.Common.{◌≡◌, inl, ◌∙◌, Bool, false, true, List, ℕ, refl, sym, subst, arith}
+use Rattle.std.proofs.lemmas.Result.{on_ok_weaker}
 use Rattle.sector_disk.specs.Machine.{LeavesOnly, Utters}
 use Rattle.sector_disk.proofs.Calls.{utters_same}
 use Rattle.sector_disk.proofs.Holding.{wears_none}
 use Rattle.sector_disk.proofs.Moments.{leaves_more, started}
+use Rattle.sector_disk.proofs.ResultLaws.{ok_as}
 use Rattle.volume_turns.specs.Turns.{IsEndOfVolume, SaysAll, Unsaid, UttersBehind}
 use Rattle.volume_turns.proofs.LineLaws.{output_ends}
-use Rattle.volume_turns.proofs.SayLaws.{on_ok_so, on_ok_then}
 use Rattle.volume_turns.proofs.turns.say.Goals as goal
 
 pub returns-in_default : goal.returns-in_default
@@ -44,8 +45,8 @@ returns-then-forces g c =
     record {
       says = said.says;
       moments = λ h. subst (λ (f : Bool). LeavesOnly M.moment M.left_since a b (UttersBehind f text (M.now a))) (sym so) (subst (λ (x : List ℕ). LeavesOnly M.moment M.left_since a b (UttersBehind true x (M.now a))) is (said.moments h));
-      synced = on_ok_then result (λ late all h. late h) said.synced;
-      said = on_ok_then result (λ all h. subst (λ (x : List ℕ). SaysAll x (M.now a) (M.now b)) is (all h)) said.said;
+      synced = on_ok_weaker result (λ late all h. late h) said.synced;
+      said = on_ok_weaker result (λ all h. subst (λ (x : List ℕ). SaysAll x (M.now a) (M.now b)) is (all h)) said.said;
       unsaid = said.unsaid;
     }
 
@@ -71,7 +72,7 @@ returns g c =
       };
       moments = λ h. leaves_more M.moment M.left_since a b (Utters text (M.now a)) (UttersBehind forces text (M.now a)) (λ left u. record { utters = u; synced = λ all. absurd (cc (all, none)) })
           (subst (λ (x : List ℕ). LeavesOnly M.moment M.left_since a b (Utters x (M.now a))) is (said.moments h));
-      synced = on_ok_so result (λ all h. absurd (cc (all, none)));
-      said = on_ok_then result (λ all h. subst (λ (x : List ℕ). SaysAll x (M.now a) (M.now b)) is (all h)) said.said;
+      synced = ok_as _ result (λ all h. absurd (cc (all, none)));
+      said = on_ok_weaker result (λ all h. subst (λ (x : List ℕ). SaysAll x (M.now a) (M.now b)) is (all h)) said.said;
       unsaid = output_ends (λ end. M.honest b → Unsaid (M.now a) (M.now b) end) (λ h. tt) result said.output;
     }

@@ -1,8 +1,10 @@
 use Rattle.std.proofs.Common.{◌≡◌, ◌≤◌, List, refl, ap, subst}
+use Rattle.std.proofs.lemmas.Result.{on_ok_weaker}
 use Rattle.std.specs.Prelude.{Err, IsTrue}
 use Rattle.fsd_texts.specs.declared.fault.Fault.{Fault}
 use Rattle.fsd_texts.specs.declared.fault.Fault.TheVariants as Ends
 use Rattle.sector_disk.specs.Image.{AreShort, Windows}
+use Rattle.sector_disk.proofs.ResultLaws.{ok_as}
 use Rattle.volume_turns.specs.Calls.{MayLoseIn}
 use Rattle.volume_turns.specs.Turns.{SaysAll, Unsaid}
 use Rattle.volume_turns.proofs.RunLaws.{step_said, step_fault, on_ok_said, on_err_said}
@@ -11,7 +13,7 @@ use Rattle.volume_turns.proofs.SeatLaws.{seat_wears}
 use Rattle.volume_turns.proofs.AnsweringLaws.{says_so}
 use Rattle.volume_turns.proofs.EachLaws.{once_by}
 use Rattle.volume_turns.proofs.SaidLaws.{no_replies, whole_by}
-use Rattle.volume_turns.proofs.SayLaws.{on_ok_so, on_ok_then, timed_by}
+use Rattle.volume_turns.proofs.SayLaws.{timed_by}
 use Rattle.volume_turns.proofs.SpeaksLaws.{speaks_behind, speaks_failed, speaks_text}
 use Rattle.volume_turns.proofs.ToldLaws.{unsaid_on}
 use Rattle.volume_turns.proofs.WornLaws.{unsaid_unworn}
@@ -32,7 +34,7 @@ returns-in-Ok-clause-steps g c h k f from stood aged held =
     let does = c.in-Ok.ensures.done back k at in
     step_said V.state V.holds M g.met.V.Files.wears short (timed_by M g.met.M.Machine.dated g.met.M.Machine.history g.met.M.Machine.counts_now g.met.M.Machine.only_now) g.T.Says.errand c.requires.lazily c.args.c.now v (c.answer_in.new.v, c.answer_in.new.desk) a c.answer_in.new.m c.say.new.m k f from stood aged at _ c.in-Ok.ensures.disk back (c.say.ensures.says.since h) held
     does.0 c.in-Ok.answer does.1 does.2 c.in-Ok.ensures.keeps.layout (timed_by M g.met.M.Machine.dated g.met.M.Machine.history g.met.M.Machine.counts_now g.met.M.Machine.only_now c.say.new.m h) (c.say.ensures.moments h) c.say.result (on_ok_said (SaysAll (g.T.Says.errand.says c.in-Ok.answer) (M.now c.answer_in.new.m) (M.now c.say.new.m)) c.say.result h c.say.ensures.said)
-    (on_ok_then c.say.result (λ (x : IsTrue (g.T.Says.errand.forces c.in-Ok.answer) → M.honest c.say.new.m → (M.now c.answer_in.new.m).time ≤ (M.now c.say.new.m).synced) forces. x forces h) c.say.ensures.synced) (on_err_said (Unsaid (M.now c.answer_in.new.m) (M.now c.say.new.m)) c.say.result h c.say.ensures.unsaid)
+    (on_ok_weaker c.say.result (λ (x : IsTrue (g.T.Says.errand.forces c.in-Ok.answer) → M.honest c.say.new.m → (M.now c.answer_in.new.m).time ≤ (M.now c.say.new.m).synced) forces. x forces h) c.say.ensures.synced) (on_err_said (Unsaid (M.now c.answer_in.new.m) (M.now c.say.new.m)) c.say.result h c.say.ensures.unsaid)
 
 pub returns-in-Err-clause-steps : goal.returns-in-Err-clause-steps
 returns-in-Err-clause-steps g c h k f from stood aged held =
@@ -111,7 +113,7 @@ pub returns-in-Err-clause-speaks : goal.returns-in-Err-clause-speaks
 returns-in-Err-clause-speaks g c = speaks_failed c.in-Err.fault refl c.in-Err.ensures.fault c.in-Err.ensures.disk
 
 pub returns-in-Ok-clause-keeps : goal.returns-in-Ok-clause-keeps
-returns-in-Ok-clause-keeps g c = let keeps = c.in-Ok.ensures.keeps in record { layout = keeps.layout; up = on_ok_so c.say.result keeps.up; desk = keeps.desk }
+returns-in-Ok-clause-keeps g c = let keeps = c.in-Ok.ensures.keeps in record { layout = keeps.layout; up = ok_as _ c.say.result keeps.up; desk = keeps.desk }
 
 pub returns-in-Err-clause-keeps : goal.returns-in-Err-clause-keeps
 returns-in-Err-clause-keeps g c = let keeps = c.in-Err.ensures.keeps in record { layout = keeps.layout; up = tt; desk = keeps.desk }

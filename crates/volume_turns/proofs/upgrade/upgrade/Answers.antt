@@ -12,10 +12,10 @@ use Rattle.volume_turns.specs.Answering.{MayAnswer}
 use Rattle.volume_turns.specs.Reasons.{BecauseUpgraded}
 use Rattle.volume_turns.specs.Steps.{Does, Stays, device_by}
 use Rattle.volume_turns.specs.Upgrade.{EndsState}
-use Rattle.volume_turns.proofs.NumberLaws.{goes_none}
+use Rattle.volume_turns.proofs.NumberLaws.{goes_none, goes_still}
 use Rattle.volume_turns.proofs.ReasonLaws.{refused_written}
 use Rattle.volume_turns.proofs.StepLaws.{less_touched}
-use Rattle.volume_turns.proofs.UpgradeLaws.{done_does, stands_done, upgrade_goes, upgrade_kept, upgrade_refused, upgrade_through, upgraded_does}
+use Rattle.volume_turns.proofs.UpgradeLaws.{done_does, stands_done, upgrade_kept, upgrade_refused, upgrade_through, upgraded_does}
 use Rattle.volume_turns.proofs.upgrade.upgrade.Goals as goal
 
 -- ---- where it is done
@@ -38,7 +38,7 @@ returns-in-Ok-clause-tells g c =
         rest = e.writes.rest h;
         still = ap (λ (x : State). x.dirty) e.state;
         worn = λ is. absurd (cc is);
-        numbers = upgrade_goes s (g.V.Files.state c.upgrade.new.self) (ap (λ (x : State). x.serial.count) e.state) (ap (λ (x : State). x.head.number) e.state);
+        numbers = goes_still s (g.V.Files.state c.upgrade.new.self) (ap (λ (x : State). x.serial.count) e.state) (ap (λ (x : State). x.head.number) e.state);
         told = tt;
       };
       written = e.writes.counted;
@@ -89,7 +89,7 @@ returns-in-Err-clause-tells g c =
             rest = e.writes.rest h;
             still = ap (λ (x : State). x.dirty) down;
             worn = λ is. absurd (cc is);
-            numbers = upgrade_goes s t (ap (λ (x : State). x.serial.count) down) (ap (λ (x : State). x.head.number) down);
+            numbers = goes_still s t (ap (λ (x : State). x.serial.count) down) (ap (λ (x : State). x.head.number) down);
             told = tt;
           });
       written = λ t. refused_written 2 (g.M.Machine.ledger c.args.m.now) (g.M.Machine.ledger c.upgrade.new.m) why c.ended_by.result c.ended_by.ensures.is (e.writes.counted t);

@@ -1,5 +1,4 @@
-use Rattle.std.proofs.Common.{◌≡◌, ◌-◌, ◌||◌, ℕ, List, set, None, Result, Err, false, inl, inr, refl, arith, sym, ap, subst, ◌∙◌}
-use Rattle.std.specs.Prelude.{IfOk, MatchResult}
+use Rattle.std.proofs.Common.{◌-◌, ◌||◌, ℕ, List, set, None, Result, Ok, Err, false, inl, inr, refl, arith, sym, ap, subst, ◌∙◌}
 use Rattle.std.proofs.lemmas.List.{set-get_or}
 use Rattle.sector_disk.specs.Calls.{WritesDisk, device_in}
 use Rattle.sector_disk.proofs.CallLaws.{writes_none, writes_told}
@@ -9,10 +8,10 @@ use Rattle.volume_contract.specs.Ends.{device_of}
 use Rattle.fsd_bytes.specs.declared.key.Key.{Key}
 use Rattle.fsd_bytes.specs.declared.refusal.Refusal.{Refusal}
 use Rattle.volume_contract.specs.Order.{KeepsRefused, enter_steps}
-use Rattle.volume_contract.specs.State.{GoesOn, HasCounted, Leaves, downs_for, forces_first}
+use Rattle.volume_contract.specs.State.{HasCounted, Leaves, downs_for, forces_first}
 use Rattle.client_desk.specs.declared.client.Client.{Client}
 use Rattle.client_desk.specs.declared.client.Client.TheVariants.{Idle}
-use Rattle.client_desk.specs.Clients.{Continues, client_at, EntersFor, fault_in, in_first, IsDesk, IsNamed, IsWholeOne, too_short}
+use Rattle.client_desk.specs.Clients.{ClosesClient, Continues, client_at, EntersFor, fault_in, in_first, IsDesk, IsWholeOne, too_short}
 use Rattle.client_desk.specs.Ends.{ClosesDraft, EndsClose, EndsEntering}
 use Rattle.client_desk.proofs.CreationLaws.{close_done, close_failed, close_refused, close_short, leaves_as_was, serves_so, short_device, writes_as, writes_so}
 use Rattle.client_desk.proofs.DeskLaws.{desk_enters, desk_same, found_writing}
@@ -56,11 +55,11 @@ returns-in-Ok-closed-clause-done g c h k clients sits =
     let at = found_writing desk c.args.c i (sym c.in-Ok.ensures.is) in
     let was = writes_as V.state V.holds c.args.c i k clients v desk old at sits in
     let serves = serves_so V.state V.holds c.args.c i k clients v desk old at sits c.take.result c.take.ensures.client in
-    let idle = subst (λ (r : Result Key Refusal). MatchResult r (λ z. x ≡ Idle) (λ why. x ≡ c.take.result)) c.in-Ok-closed.is c.close_of-client.ensures.client in
+    let keeps = subst (λ (r : Result Key Refusal). ClosesClient c.take.result x s (V.state w) r) c.in-Ok-closed.is c.close_of-client.ensures.keeps in
     let ends = subst (λ (r : Result Key Refusal). EndsEntering V.state V.holds was.name was.runs was.serial was.bytes k w now r) c.in-Ok-closed.is
     (c.close_of-client.ensures.done h k sits.stands was.name was.len was.runs was.serial was.bytes serves) in
     let whole : IsWholeOne (client_at desk i) = c.in-None.ensures.whole refl (writes_so desk i at) in
-    let self = clients_are desk c.take.new.self c.set.new.self i x c.set.ensures.clients c.take.ensures.clients ∙ ap (λ (z : Client). set desk i z) idle in
+    let self = clients_are desk c.take.new.self c.set.new.self i x c.set.ensures.clients c.take.ensures.clients ∙ ap (λ (z : Client). set desk i z) keeps.goes in
     subst (λ (u : V-of g). ClosesDraft V.state V.holds c.args.c k clients u c.set.new.self now key) (sym c.set.ensures.volume)
     (subst (λ (y : List Client). ClosesDraft V.state V.holds c.args.c k clients w y now key) (sym self)
     (close_done V.state V.holds c.args.c i k clients v desk old at sits s w now (omega (arith, inside.0, inside.1)) inside.1 (c.requires.desk.each i) (λ j other. c.requires.desk.apart i j (λ same. other (sym same))) key whole ends))
@@ -82,11 +81,11 @@ returns-in-Err-closed-clause-done g c h k clients sits =
     let at = found_writing desk c.args.c i (sym c.in-Ok.ensures.is) in
     let was = writes_as V.state V.holds c.args.c i k clients v desk old at sits in
     let serves = serves_so V.state V.holds c.args.c i k clients v desk old at sits c.take.result c.take.ensures.client in
-    let back = subst (λ (r : Result Key Refusal). MatchResult r (λ key. x ≡ Idle) (λ z. x ≡ c.take.result)) c.in-Err-closed.is c.close_of-client.ensures.client in
+    let keeps = subst (λ (r : Result Key Refusal). ClosesClient c.take.result x s (V.state w) r) c.in-Err-closed.is c.close_of-client.ensures.keeps in
     let ends = subst (λ (r : Result Key Refusal). EndsEntering V.state V.holds was.name was.runs was.serial was.bytes k w now r) c.in-Err-closed.is
     (c.close_of-client.ensures.done h k sits.stands was.name was.len was.runs was.serial was.bytes serves) in
     let whole : IsWholeOne (client_at desk i) = c.in-None.ensures.whole refl (writes_so desk i at) in
-    let self = clients_are desk c.take.new.self c.set.new.self i x c.set.ensures.clients c.take.ensures.clients ∙ ap (λ (z : Client). set desk i z) (back ∙ c.take.ensures.client) ∙ set-get_or desk i Idle in
+    let self = clients_are desk c.take.new.self c.set.new.self i x c.set.ensures.clients c.take.ensures.clients ∙ ap (λ (z : Client). set desk i z) (keeps.goes ∙ c.take.ensures.client) ∙ set-get_or desk i Idle in
     subst (λ (u : V-of g). let r : Result Key Refusal = Err why in EndsClose V.state V.holds c.args.c k clients u c.set.new.self now r) (sym c.set.ensures.volume)
     (subst (λ (y : List Client). let r : Result Key Refusal = Err why in EndsClose V.state V.holds c.args.c k clients w y now r) (sym self)
     (close_failed V.state V.holds c.args.c i k clients v desk old at sits s w now (omega (arith, inside.0, inside.1)) inside.1 (c.requires.desk.each i) (λ j other. c.requires.desk.apart i j (λ same. other (sym same))) why whole ends))
@@ -192,22 +191,21 @@ returns-in-Ok-closed-clause-state g c =
     let w = c.close_of-client.new.v in
     let s = V.state c.args.v.now in
     let at = found_writing desk c.args.c i (sym c.in-Ok.ensures.is) in
-    let idle = subst (λ (r : Result Key Refusal). MatchResult r (λ key. x ≡ Idle) (λ why. x ≡ c.take.result)) c.in-Ok-closed.is c.close_of-client.ensures.client in
-    let enters = subst (λ (r : Result Key Refusal). MatchResult r (λ key. EntersFor c.take.result s (V.state w)) (λ why. GoesOn (downs_for why) s (V.state w))) c.in-Ok-closed.is c.close_of-client.ensures.state in
-    let so = subst (λ (z : Client). EntersFor z s (V.state w)) (c.take.ensures.client ∙ at.is.1) enters in
-    let self = clients_are desk c.take.new.self c.set.new.self i x c.set.ensures.clients c.take.ensures.clients ∙ ap (λ (z : Client). set desk i z) idle in
-    let counted = subst (λ (r : Result Key Refusal). MatchResult r (λ key. HasCounted false (forces_first s) s (V.state w)) (λ why. KeepsRefused (enter_steps s None (in_first c.take.result)) why s (V.state w))) c.in-Ok-closed.is c.close_of-client.ensures.kept in
+    let r : Result Key Refusal = Ok c.in-Ok-closed.key in
+    let keeps = subst (λ (z : Client). ClosesClient z x s (V.state w) r) c.take.ensures.client (subst (λ (y : Result Key Refusal). ClosesClient c.take.result x s (V.state w) y) c.in-Ok-closed.is c.close_of-client.ensures.keeps) in
+    let named = subst (λ (z : Client). ClosesClient z x s (V.state w) r) (ap (λ (n : ℕ). client_at desk n) at.place) keeps in
+    let so = subst (λ (z : Client). EntersFor z s (V.state w)) at.is.1 keeps.state in
+    let self = clients_are desk c.take.new.self c.set.new.self i x c.set.ensures.clients c.take.ensures.clients ∙ ap (λ (z : Client). set desk i z) keeps.goes in
     record {
       desk = subst (λ (u : V-of g). IsDesk (V.state u) c.set.new.self) (sym c.set.ensures.volume)
           (subst (λ (y : List Client). IsDesk (V.state w) y) (sym self)
           (desk_enters s (V.state w) desk i at.is.0 (omega (arith, c.in-Ok.ensures.inside.0, c.in-Ok.ensures.inside.1)) c.requires.desk at.is.1 so));
-      name = subst (λ (z : Client). IsNamed z c.in-Ok-closed.key.name) (c.take.ensures.client ∙ ap (λ (n : ℕ). client_at desk n) at.place)
-          (subst (λ (r : Result Key Refusal). IfOk r (λ (key : Key). IsNamed c.take.result key.name)) c.in-Ok-closed.is c.close_of-client.ensures.name);
+      name = named.name;
       goes = subst (λ (u : V-of g). Continues None s (V.state u)) (sym c.set.ensures.volume) (record { layout = so.layout; epoch = so.epoch; down = inl so.down });
       kept = record {
-        desk = clients_are desk c.take.new.self c.set.new.self i x c.set.ensures.clients c.take.ensures.clients ∙ ap (λ (z : Client). set desk i z) idle ∙ ap (λ (n : ℕ). set desk n Idle) at.place;
-        volume = subst (λ (u : V-of g). EntersFor (client_at desk (c.args.c - 1)) s (V.state u)) (sym c.set.ensures.volume) (subst (λ (z : Client). EntersFor z s (V.state w)) (c.take.ensures.client ∙ ap (λ (n : ℕ). client_at desk n) at.place) enters);
-        counted = subst (λ (u : V-of g). HasCounted false (forces_first s) s (V.state u)) (sym c.set.ensures.volume) counted;
+        desk = clients_are desk c.take.new.self c.set.new.self i x c.set.ensures.clients c.take.ensures.clients ∙ ap (λ (z : Client). set desk i z) keeps.goes ∙ ap (λ (n : ℕ). set desk n Idle) at.place;
+        volume = subst (λ (u : V-of g). EntersFor (client_at desk (c.args.c - 1)) s (V.state u)) (sym c.set.ensures.volume) named.state;
+        counted = subst (λ (u : V-of g). HasCounted false (forces_first s) s (V.state u)) (sym c.set.ensures.volume) named.kept;
       };
     }
 
@@ -219,12 +217,11 @@ returns-in-Err-closed-clause-state g c =
     let x = c.close_of-client.result.0 in
     let w = c.close_of-client.new.v in
     let s = V.state c.args.v.now in
-    let back = subst (λ (r : Result Key Refusal). MatchResult r (λ key. x ≡ Idle) (λ z. x ≡ c.take.result)) c.in-Err-closed.is c.close_of-client.ensures.client in
-    let goes = subst (λ (r : Result Key Refusal). MatchResult r (λ key. EntersFor c.take.result s (V.state w)) (λ why. GoesOn (downs_for why) s (V.state w))) c.in-Err-closed.is c.close_of-client.ensures.state in
-    let self = clients_are desk c.take.new.self c.set.new.self i x c.set.ensures.clients c.take.ensures.clients ∙ ap (λ (z : Client). set desk i z) (back ∙ c.take.ensures.client) ∙ set-get_or desk i Idle in
+    let keeps = subst (λ (r : Result Key Refusal). ClosesClient c.take.result x s (V.state w) r) c.in-Err-closed.is c.close_of-client.ensures.keeps in
+    let goes = keeps.state in
+    let self = clients_are desk c.take.new.self c.set.new.self i x c.set.ensures.clients c.take.ensures.clients ∙ ap (λ (z : Client). set desk i z) (keeps.goes ∙ c.take.ensures.client) ∙ set-get_or desk i Idle in
     let why = c.in-Err-closed.why in
     let at = found_writing desk c.args.c i (sym c.in-Ok.ensures.is) in
-    let keeps = subst (λ (r : Result Key Refusal). MatchResult r (λ key. HasCounted false (forces_first s) s (V.state w)) (λ z. KeepsRefused (enter_steps s None (in_first c.take.result)) z s (V.state w))) c.in-Err-closed.is c.close_of-client.ensures.kept in
     record {
       desk = subst (λ (u : V-of g). IsDesk (V.state u) c.set.new.self) (sym c.set.ensures.volume)
           (subst (λ (y : List Client). IsDesk (V.state w) y) (sym self)
@@ -232,13 +229,13 @@ returns-in-Err-closed-clause-state g c =
       name = tt;
       goes = subst (λ (u : V-of g). Continues (downs_for why) s (V.state u)) (sym c.set.ensures.volume) (record { layout = goes.layout; epoch = goes.epoch; down = goes.down });
       kept = record {
-        desk = clients_are desk c.take.new.self c.set.new.self i x c.set.ensures.clients c.take.ensures.clients ∙ ap (λ (z : Client). set desk i z) (back ∙ c.take.ensures.client) ∙ set-get_or desk i Idle;
+        desk = clients_are desk c.take.new.self c.set.new.self i x c.set.ensures.clients c.take.ensures.clients ∙ ap (λ (z : Client). set desk i z) (keeps.goes ∙ c.take.ensures.client) ∙ set-get_or desk i Idle;
         volume = inr (
           ap (λ (r : Result ℕ Refusal). fault_in r) (sym c.in-Ok.ensures.is),
           inr (
             ap (λ (n : ℕ). too_short (client_at desk n)) (sym at.place) ∙ sym c.in-None.ensures.is,
             subst (λ (u : V-of g). KeepsRefused (enter_steps s None (in_first (client_at desk (c.args.c - 1)))) why s (V.state u)) (sym c.set.ensures.volume)
-                (subst (λ (z : Client). KeepsRefused (enter_steps s None (in_first z)) why s (V.state w)) (c.take.ensures.client ∙ ap (λ (n : ℕ). client_at desk n) at.place) keeps),
+                (subst (λ (z : Client). KeepsRefused (enter_steps s None (in_first z)) why s (V.state w)) (c.take.ensures.client ∙ ap (λ (n : ℕ). client_at desk n) at.place) keeps.kept),
           ),
         );
       };

@@ -39,7 +39,7 @@ returns-in-Ok-given-clause-done g c h k clients sits =
     let serves = subst (λ (y : Open). ServesOpen k.opened c.take.result y) was.is (subst (λ (z : Client). ServesOpen k.opened z (open_at clients i)) (sym c.take.ensures.client) (sits.each i)) in
     let read = c.next_of-client.ensures.done h k sits.stands was.key was.runs was.bytes was.place serves in
     let gave = subst (λ (r : Result ℕ Refusal). ReadsOn from to was.runs was.bytes was.place c.args.buf.now c.next_of-client.new.buf r) c.in-Ok-given.is read.0 in
-    let given = subst (λ (r : Result ℕ Refusal). MatchResult r (λ m. GoesOnBehind m c.take.result x) (λ why. x ≡ c.take.result)) c.in-Ok-given.is c.next_of-client.ensures.client in
+    let given = subst (λ (r : Result ℕ Refusal). MatchResult r (λ m. GoesOnBehind m c.take.result x) (λ why. x ≡ c.take.result)) c.in-Ok-given.is c.next_of-client.ensures.client.goes in
     let goes = subst (λ (z : Client). GoesOnBehind n z x) c.take.ensures.client given in
     subst (λ (u : V-of g). GivesNext V.state V.holds c.args.c (length c.args.buf.now) from to k clients c.args.buf.now c.next_of-client.new.buf u c.set.new.self (M.now c.next_of-client.new.m) n) (sym c.set.ensures.volume)
     (subst (λ (y : List Client). GivesNext V.state V.holds c.args.c (length c.args.buf.now) from to k clients c.args.buf.now c.next_of-client.new.buf w y (M.now c.next_of-client.new.m) n) (sym (clients_are desk c.take.new.self c.set.new.self i x c.set.ensures.clients c.take.ensures.clients))
@@ -63,7 +63,7 @@ returns-in-Err-given-clause-done g c h k clients sits =
     let serves = subst (λ (y : Open). ServesOpen k.opened c.take.result y) was.is (subst (λ (z : Client). ServesOpen k.opened z (open_at clients i)) (sym c.take.ensures.client) (sits.each i)) in
     let read = c.next_of-client.ensures.done h k sits.stands was.key was.runs was.bytes was.place serves in
     let gave = subst (λ (r : Result ℕ Refusal). ReadsOn from to was.runs was.bytes was.place c.args.buf.now c.next_of-client.new.buf r) c.in-Err-given.is read.0 in
-    let kept = subst (λ (r : Result ℕ Refusal). MatchResult r (λ m. GoesOnBehind m c.take.result x) (λ z. x ≡ c.take.result)) c.in-Err-given.is c.next_of-client.ensures.client in
+    let kept = subst (λ (r : Result ℕ Refusal). MatchResult r (λ m. GoesOnBehind m c.take.result x) (λ z. x ≡ c.take.result)) c.in-Err-given.is c.next_of-client.ensures.client.goes in
     let self = clients_are desk c.take.new.self c.set.new.self i x c.set.ensures.clients c.take.ensures.clients ∙ ap (λ (z : Client). set desk i z) (kept ∙ c.take.ensures.client) ∙ set-get_or desk i Idle in
     let comes : Comes (held_steps (V.state v)) why = subst (λ (r : Result ℕ Refusal). Follows (held_steps (V.state v)) r) c.in-Err-given.is c.next_of-client.ensures.order in
     subst (λ (u : V-of g). let r : Result ℕ Refusal = Err why in EndsNext V.state V.holds c.args.c (length c.args.buf.now) from to k clients c.args.buf.now c.next_of-client.new.buf u c.set.new.self (M.now c.next_of-client.new.m) r) (sym c.set.ensures.volume)
@@ -80,7 +80,7 @@ returns-in-Err-given-clause-state g c =
     let desk = c.args.self.now in
     let i = c.in-Ok.place in
     let x = c.next_of-client.result.0 in
-    let kept = subst (λ (r : Result ℕ Refusal). MatchResult r (λ m. GoesOnBehind m c.take.result x) (λ why. x ≡ c.take.result)) c.in-Err-given.is c.next_of-client.ensures.client in
+    let kept = subst (λ (r : Result ℕ Refusal). MatchResult r (λ m. GoesOnBehind m c.take.result x) (λ why. x ≡ c.take.result)) c.in-Err-given.is c.next_of-client.ensures.client.goes in
     let same = ap (λ (w : V-of g). V.state w) c.set.ensures.volume ∙ c.next_of-client.ensures.state in
     let self = clients_are desk c.take.new.self c.set.new.self i x c.set.ensures.clients c.take.ensures.clients ∙ ap (λ (z : Client). set desk i z) (kept ∙ c.take.ensures.client) ∙ set-get_or desk i Idle in
     record {
@@ -95,13 +95,13 @@ returns-in-Ok-given-clause-state g c =
     let i = c.in-Ok.place in
     let x = c.next_of-client.result.0 in
     let n = c.in-Ok-given.count in
-    let given = subst (λ (r : Result ℕ Refusal). MatchResult r (λ m. GoesOnBehind m c.take.result x) (λ why. x ≡ c.take.result)) c.in-Ok-given.is c.next_of-client.ensures.client in
+    let given = subst (λ (r : Result ℕ Refusal). MatchResult r (λ m. GoesOnBehind m c.take.result x) (λ why. x ≡ c.take.result)) c.in-Ok-given.is c.next_of-client.ensures.client.goes in
     let goes = subst (λ (z : Client). GoesOnBehind n z x) c.take.ensures.client given in
     let same = ap (λ (w : V-of g). V.state w) c.set.ensures.volume ∙ c.next_of-client.ensures.state in
     let room = length c.args.buf.now in
     let at = found_reading desk c.args.c i (sym c.in-Ok.ensures.is) in
     let of_client = c.take.ensures.client ∙ at.is.1 in
-    let counted = subst (λ (r : Result ℕ Refusal). IfOk r (λ m. CountsTo room m c.take.result)) c.in-Ok-given.is c.next_of-client.ensures.count in
+    let counted = subst (λ (r : Result ℕ Refusal). IfOk r (λ m. CountsTo room m c.take.result)) c.in-Ok-given.is c.next_of-client.ensures.client.count in
     let on = subst (λ (z : Client). GoesOnBehind n z x) of_client given in
     record {
       desk = subst (λ (s : State). IsDesk s c.set.new.self) (sym same)
