@@ -1,8 +1,8 @@
 //! Scripts that are read from a machine in memory.
 use crate::machines::{calm, repeated};
 use fsd_bytes::Key;
-use fsd_texts::{BadLine, Bytes, Cause, Command, Line, ScriptCommand};
-use script_text::{Maker, Reader, ScriptFault, say_line};
+use fsd_texts::{BadLine, Bytes, Cause, Command, Line, Part, ScriptCommand};
+use script_text::{Maker, Reader, ScriptFault, say_line, say_parts};
 use sector_disk::{Event, MemoryMachine};
 use std::alloc::{AllocError, Global};
 use std::process::Abort;
@@ -172,7 +172,10 @@ fn says_lines_one_behind_another(rt: HostRuntime) -> Result<(), Fail> {
     let alloc = rt.alloc();
     let mut out = Bytes::new(alloc);
     let key = Key::parse(b"a/b!12").unwrap_or_default();
-    say_line(&Line::Made { key, sectors: 2 }, &mut out)?;
+    say_parts(
+        &[Part::Word("made"), Part::Key(&key), Part::Number(2)],
+        &mut out,
+    )?;
     say_line(&Line::Forced, &mut out)?;
     let bad = BadLine {
         line: 2,

@@ -1,5 +1,6 @@
 -- The test's cache as it fills, and what stays of it.
-use Rattle.std.proofs.Common.{◌≡◌, ℕ, ◌+◌, ◌<◌, ◌≤◌, true, false, List, [], ◌∷◌, length, Bool, ◌&&◌, option_map, Option, None, nat_eq, refl, sym, ap, ◌∙◌, subst, arith}
+use Rattle.std.proofs.Common.{◌≡◌, ℕ, ◌+◌, ◌<◌, ◌≤◌, false, List, [], ◌∷◌, length, option_map, Option, None, nat_eq, refl, sym, ap, ◌∙◌, subst, arith}
+use Rattle.std.proofs.Math.Bool.{and-false}
 use Rattle.std.specs.Prelude.{◌==◌}
 use Rattle.std.specs.Map.{lookup}
 use Rattle.std.specs.Option.{option_map_or}
@@ -54,10 +55,6 @@ marks_stay page old new whole at frames idle h =
       few = subst (λ k. k ≤ 4) (sym idle) h.few;
     }
 
-and_false : (t : Bool) → (t && false) ≡ false
-and_false true = refl
-and_false false = refl
-
 -- they are marked
 pub marks_made : (c : CacheValue) → HasFirst 192 c → let d = with_dirty 0 (with_dirty 1 (with_dirty 0 c)) in busy (with_pins 2 1 d) ≤ 4 → HasMarks (with_pins 2 1 d)
 marks_made c h few =
@@ -66,8 +63,8 @@ marks_made c h few =
     let p0 = h.there 0 (omega arith) in let p1 = h.there 1 (omega arith) in let p2 = h.there 2 (omega arith) in
     record {
       frames = h.frames;
-      zero = (p0.0, (altered_lookup 2 (λ x. record x { pins = 1 }) 0 c.resident ∙ p0.1.0, ap (λ (ds : List ℕ). may_leave ds 0 p0.0.pins) list ∙ and_false (p0.0.pins == 0)));
-      one = (p1.0, (altered_lookup 2 (λ x. record x { pins = 1 }) 1 c.resident ∙ p1.1.0, ap (λ (ds : List ℕ). may_leave ds 1 p1.0.pins) list ∙ and_false (p1.0.pins == 0)));
+      zero = (p0.0, (altered_lookup 2 (λ x. record x { pins = 1 }) 0 c.resident ∙ p0.1.0, ap (λ (ds : List ℕ). may_leave ds 0 p0.0.pins) list ∙ and-false (p0.0.pins == 0)));
+      one = (p1.0, (altered_lookup 2 (λ x. record x { pins = 1 }) 1 c.resident ∙ p1.1.0, ap (λ (ds : List ℕ). may_leave ds 1 p1.0.pins) list ∙ and-false (p1.0.pins == 0)));
       two = (record p2.0 { pins = 1 }, ((altered_lookup 2 (λ x. record x { pins = 1 }) 2 c.resident ∙ ap (option_map (λ (x : Held). record x { pins = 1 })) p2.1.0, refl), refl));
       few = few;
     }

@@ -6,7 +6,7 @@ use crate::desk::{Desk, PAGES};
 use crate::draws::some_call;
 use crate::maps::in_memory;
 use fsd_bytes::Refusal;
-use name_btree::{Call, TreeFault};
+use name_btree::{TableCall, TreeFault};
 use name_page::VecPages;
 use sector_disk::Event;
 use std::alloc::Global;
@@ -21,7 +21,12 @@ fn both(alloc: Global) -> Result<(Desk, VecPages), Fail> {
 }
 
 // Both answer the same.
-fn same(rt: &impl Abort, desk: &mut Desk, pages: &mut VecPages, call: &Call) -> Result<(), Fail>
+fn same(
+    rt: &impl Abort,
+    desk: &mut Desk,
+    pages: &mut VecPages,
+    call: &TableCall,
+) -> Result<(), Fail>
     requires { IsFormed call.now }
 {
     pages.renew();
@@ -55,7 +60,7 @@ fn fail(
     alloc: Global,
     desk: Desk,
     pages: &mut VecPages,
-    call: &Call,
+    call: &TableCall,
 ) -> Result<Desk, Fail>
     requires { IsFormed call.now }
 {

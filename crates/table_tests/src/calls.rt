@@ -9,7 +9,7 @@ ghost use Rattle.name_page.specs.Pages.{changes, reaches};
 use arrayvec::ArrayVec;
 use fsd_bytes::Key;
 use name_btree::{
-    Call, FoundEntry, TreeFault, find, highest, insert, next_after, remove, replace_same_size,
+    FoundEntry, TableCall, TreeFault, find, highest, insert, next_after, remove, replace_same_size,
 };
 use name_page::{Entry, Pages, entry_len};
 
@@ -59,21 +59,21 @@ pub(crate) fn replace<T: Pages>(t: &mut T, entry: &Entry) -> Answer
 }
 
 /// Makes a call, with the whole leave to reach pages and to change them.
-pub(crate) fn carry_out<T: Pages>(t: &mut T, call: &Call) -> Answer
+pub(crate) fn carry_out<T: Pages>(t: &mut T, call: &TableCall) -> Answer
     requires more { MOST_REACHED ≤ reaches (T.step t.old) }
     requires changes { MOST_CHANGED ≤ changes (T.step t.old) }
     requires formed { IsFormed call.now }
     ensures { T.outside (outer_told result) t.old t.new }
 {
     match call {
-        Call::Find(key) => Ok(with_page(find(t, key)?)),
-        Call::Highest(name) => Ok(with_page(highest(t, name)?)),
-        Call::NextAfter(key) => Ok(with_page(next_after(t, key.as_ref())?)),
-        Call::Insert(entry, gone) => put(t, entry, gone),
-        Call::Remove(key) => {
+        TableCall::Find(key) => Ok(with_page(find(t, key)?)),
+        TableCall::Highest(name) => Ok(with_page(highest(t, name)?)),
+        TableCall::NextAfter(key) => Ok(with_page(next_after(t, key.as_ref())?)),
+        TableCall::Insert(entry, gone) => put(t, entry, gone),
+        TableCall::Remove(key) => {
             remove(t, key)?;
             Ok(None)
         }
-        Call::Replace(entry) => replace(t, entry),
+        TableCall::Replace(entry) => replace(t, entry),
     }
 }

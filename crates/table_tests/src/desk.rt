@@ -10,7 +10,7 @@ use fsd_formats::Anchor;
 use group_commit::Newest;
 use log_record::anchor_bytes;
 use log_thirds::Log;
-use name_btree::Call;
+use name_btree::TableCall;
 use name_page::{Pages, write_free, write_leaf};
 use page_cache::Cache;
 use sector_disk::{Attach, Event, Failed, Machine, MemoryMachine, Sector};
@@ -114,7 +114,7 @@ impl Desk {
     }
 
     /// The answer of a call.
-    pub(crate) fn call(&mut self, call: &Call) -> Result<Answer, Failed>
+    pub(crate) fn call(&mut self, call: &TableCall) -> Result<Answer, Failed>
         requires { IsFormed call.now }
     {
         make_room(&mut self.m, &self.layout, &mut self.cache)?;

@@ -5,7 +5,7 @@ ghost use Rattle.name_btree.specs.Calls.{IsFormed};
 use crate::plain::{entry, name, next};
 use arrayvec::ArrayVec;
 use fsd_bytes::Key;
-use name_btree::Call;
+use name_btree::TableCall;
 
 // One of three versions of one of a hundred names.
 fn some_key(seed: &mut u64) -> Key {
@@ -16,7 +16,7 @@ fn some_key(seed: &mut u64) -> Key {
 }
 
 // An entry with some key comes, and at times that of another goes.
-fn some_insert(seed: &mut u64) -> Option<Call>
+fn some_insert(seed: &mut u64) -> Option<TableCall>
     ensures { IfSome result IsFormed }
 {
     let mut gone = ArrayVec::new();
@@ -24,28 +24,28 @@ fn some_insert(seed: &mut u64) -> Option<Call>
         gone.push(some_key(seed));
     }
     let entry = entry(&some_key(seed), 2, next(seed) % 8)?;
-    Some(Call::Insert(entry, gone))
+    Some(TableCall::Insert(entry, gone))
 }
 
-fn some_replace(seed: &mut u64) -> Option<Call>
+fn some_replace(seed: &mut u64) -> Option<TableCall>
     ensures { IfSome result IsFormed }
 {
     let entry = entry(&some_key(seed), next(seed) % 1000, next(seed) % 8)?;
-    Some(Call::Replace(entry))
+    Some(TableCall::Replace(entry))
 }
 
 /// One of sixteen calls, of which so many put an entry in.
-pub(crate) fn some_call(seed: &mut u64, puts: u32) -> Option<Call>
+pub(crate) fn some_call(seed: &mut u64, puts: u32) -> Option<TableCall>
     ensures { IfSome result IsFormed }
 {
     if next(seed) % 16 < puts {
         return some_insert(seed);
     }
     match next(seed) % 6 {
-        0 => Some(Call::Find(some_key(seed))),
-        1 => Some(Call::Highest(name(next(seed) % 101))),
-        2 => Some(Call::NextAfter(Some(some_key(seed)))),
+        0 => Some(TableCall::Find(some_key(seed))),
+        1 => Some(TableCall::Highest(name(next(seed) % 101))),
+        2 => Some(TableCall::NextAfter(Some(some_key(seed)))),
         3 => some_replace(seed),
-        _ => Some(Call::Remove(some_key(seed))),
+        _ => Some(TableCall::Remove(some_key(seed))),
     }
 }

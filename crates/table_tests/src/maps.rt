@@ -7,7 +7,7 @@ use crate::draws::some_call;
 use crate::plain::{Versions, entry, highest_in, name, next_in};
 use arrayvec::ArrayVec;
 use fsd_bytes::{Key, Refusal, u16_at};
-use name_btree::{Call, TreeFault, next_after, walk};
+use name_btree::{TableCall, TreeFault, next_after, walk};
 use name_page::{Entry, Pages, VecPages, entry_len, write_leaf};
 use std::alloc::{AllocError, Global};
 use std::collections::BTreeMap;
@@ -88,22 +88,22 @@ fn replace_in(map: &mut Versions, entry: &Entry) -> Result<Option<Entry>, AllocE
 }
 
 // What a map answers to a call.
-fn answer_in(map: &mut Versions, call: &Call) -> Result<Option<Entry>, AllocError> {
+fn answer_in(map: &mut Versions, call: &TableCall) -> Result<Option<Entry>, AllocError> {
     match call {
-        Call::Find(key) => Ok(map.get(key).map(|entry| entry.copied())),
-        Call::Highest(name) => Ok(highest_in(map, name)),
-        Call::NextAfter(after) => Ok(next_in(map, after)),
-        Call::Insert(entry, gone) => put_in(map, entry, gone),
-        Call::Remove(key) => {
+        TableCall::Find(key) => Ok(map.get(key).map(|entry| entry.copied())),
+        TableCall::Highest(name) => Ok(highest_in(map, name)),
+        TableCall::NextAfter(after) => Ok(next_in(map, after)),
+        TableCall::Insert(entry, gone) => put_in(map, entry, gone),
+        TableCall::Remove(key) => {
             map.remove(key);
             Ok(None)
         }
-        Call::Replace(entry) => replace_in(map, entry),
+        TableCall::Replace(entry) => replace_in(map, entry),
     }
 }
 
 // Both answer the same.
-fn same(rt: &impl Abort, t: &mut VecPages, map: &mut Versions, call: &Call) -> Result<(), Fail>
+fn same(rt: &impl Abort, t: &mut VecPages, map: &mut Versions, call: &TableCall) -> Result<(), Fail>
     requires { IsFormed call.now }
 {
     let want = answer_in(map, call)?;

@@ -5,7 +5,7 @@ use fsd_bytes::{FileName, Refusal};
 use sector_disk::{Event, MemoryMachine};
 use std::alloc::Global;
 use std::test::Fail;
-use volume_example::Fault;
+use volume_example::ExampleFault;
 
 const NAME: &[u8] = b"notes/a";
 
@@ -70,11 +70,11 @@ fn fails_and_is_down(alloc: Global) -> Result<bool, Fail> {
     Ok(
         matches!(
             failed,
-            Err(Fault::Behind {
+            Err(ExampleFault::Behind {
                 why: Refusal::Device(16),
                 ..
             })
-        ) && matches!(down, Err(Fault::Put(Refusal::Down(16)))),
+        ) && matches!(down, Err(ExampleFault::Put(Refusal::Down(16)))),
     )
 }
 

@@ -13,7 +13,7 @@ use std::mem::replace;
 use std::test::Fail;
 use table_volume::Volume;
 use volume_contract::{Files, Forced, Stat};
-use volume_example::Fault;
+use volume_example::ExampleFault;
 
 /// A mounted volume, and the machine in memory that has its image.
 #[derive(Drop)]
@@ -126,14 +126,18 @@ impl Mounted {
         name: &FileName,
         bytes: &[u8],
         buf: &mut [u8],
-    ) -> Result<Key, Fault>
+    ) -> Result<Key, ExampleFault>
         requires { length buf.old ≡ length bytes.now }
     {
         volume_example::put_and_read(&mut self.v, &mut self.m, name, bytes, buf)
     }
 
     /// Makes a version with these bytes, and forces it.
-    pub(crate) fn put_and_force(&mut self, name: &FileName, bytes: &[u8]) -> Result<Key, Fault> {
+    pub(crate) fn put_and_force(
+        &mut self,
+        name: &FileName,
+        bytes: &[u8],
+    ) -> Result<Key, ExampleFault> {
         volume_example::put_and_force(&mut self.v, &mut self.m, name, bytes)
     }
 

@@ -3,7 +3,7 @@ use Rattle.fsd_table.specs.Table.{BreaksTable}
 use Rattle.fsd_table.proofs.BreakLaws.{tree_unbroken}
 use Rattle.name_page.specs.contracts.vec_pages.VecPagesPages.TheImpl as vec
 use Rattle.name_btree.specs.Fault.{BarsTable}
-use Rattle.name_btree.proofs.CauseLaws.{broken_is}
+use Rattle.name_btree.proofs.steps.CauseLaws.{broken_is}
 use Rattle.table_tests.proofs.broken.may_put.Goals as goal
 
 pub returns-in-Err-Broken-clause-new : goal.returns-in-Err-Broken-clause-new

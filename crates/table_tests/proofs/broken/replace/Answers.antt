@@ -5,7 +5,7 @@ use Rattle.fsd_table.proofs.BreakLaws.{tree_unbroken}
 use Rattle.name_page.specs.Pages.{Step}
 use Rattle.name_page.specs.contracts.vec_pages.VecPagesPages.TheImpl as vec
 use Rattle.name_btree.specs.Fault.{BarsTable}
-use Rattle.name_btree.proofs.CauseLaws.{broken_is}
+use Rattle.name_btree.proofs.steps.CauseLaws.{broken_is}
 use Rattle.table_tests.proofs.broken.replace.Goals as goal
 
 pub replace_same_size-requires-clause-present : goal.replace_same_size-requires-clause-present

@@ -18,5 +18,5 @@ returns g c = λ trusted.
     let t3 = law.trust s3 s4 _ (law.quiet s3 page bytes) t4 in
     let t2 = law.trust s2 s3 _ c.take-page.ensures.outside t3 in
     let t1 = law.trust s1 s2 _ c.spare.ensures.outside t2 in
-    let before = ap (λ (s : Step). s.images) c.take-page.ensures.step ∙ c.spare.ensures.stays t2 ∙ c.reach.ensures.stays t1 in
+    let before = ap (λ (s : Step). s.images) c.take-page.ensures.step ∙ c.spare.ensures.images.stays t2 ∙ c.reach.ensures.images.stays t1 in
     ap (λ (s : Step). s.images) c.rest.ensures.step ∙ ap (λ (s : Step). s.images) c.give_back.ensures.step ∙ ap (λ (s : Step). s.images) (law.changed s3 page bytes) ∙ ap (λ (p : List (List ℕ)). slice_set p page bytes) before
