@@ -5,9 +5,9 @@ use Rattle.image_file.proofs.disk.Disk.read.Goals as goal
 
 pub returns-clause-pending : goal.returns-clause-pending
 returns-clause-pending c h = elim c.if-not-give.branch [
-    then-not-give+in_ok-read_slot w ↦ absurd (c.give.ensures.absent w.if-not-give.true h)
+  | then-not-give+in_ok-read_slot w ↦ absurd (c.give.ensures.absent w.if-not-give.true h)
   | else-not-give w ↦ subst (λ (slot : List ℕ). Reads c.args.sector slot c.read_slot-2.result) (w.slot-is ∙ (c.give.ensures.there w.if-not-give.false).1) (c.read_slot-2.ensures.found, c.read_slot-2.ensures.only)
-  ]
+]
 
 pub returns-clause-broken : goal.returns-clause-broken
 returns-clause-broken c h =
