@@ -1,0 +1,3 @@
+pub mod HistoryLaws
+mod TextExamples
+pub mod WordLaws

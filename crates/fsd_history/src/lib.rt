@@ -1,0 +1,10 @@
+//! Laws over the runs of the program: what the runs of a volume say one after another, in words of files alone.
+#![tactic(auto)]
+
+mod laws;
+
+pub use laws::{
+    a_stopped_put_is_listed_or_not, gets_say_the_version, lists_say_the_files,
+    puts_are_found_whole_or_not, puts_gets_and_lists_tell_files, runs_tell_files,
+    synced_machines_hold_nothing_back,
+};
