@@ -1,3 +1,5 @@
+pub mod FrameLaws
 mod GeneratorExamples
 mod ScriptExamples
 mod TextExamples
+mod WireExamples

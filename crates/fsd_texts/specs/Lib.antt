@@ -1,3 +1,5 @@
+pub mod Frames
 pub mod Generator
 pub mod Script
 pub mod Text
+pub mod Wire

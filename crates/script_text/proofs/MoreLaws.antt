@@ -109,6 +109,9 @@ by_line (Err cause) more_read more same late = ap after_line (same late)
 pub command_more : (bytes more : List ℕ) → early (command_at bytes) ≡ false → command_at (bytes ++ more) ≡ with_more (command_at bytes) more
 command_more bytes more late = by_line (line_at max_line bytes) (line_at max_line (bytes ++ more)) more (line_more max_line bytes more) late
 
+pub command_stays : (front rest left : List ℕ) (command : ScriptCommand) → command_at front ≡ Ok (command, left) → command_at (front ++ rest) ≡ Ok (command, left ++ rest)
+command_stays front rest left command is = command_more front rest (ap (λ (r : CommandRead). early r) is) ∙ ap (λ (r : CommandRead). with_more r rest) is
+
 -- ---- a command takes its newline at least
 
 -- how many bytes are left

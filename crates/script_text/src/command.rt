@@ -8,7 +8,7 @@ use fsd_texts::{Asking, Bytes, Call, Cause, Command, ScriptCommand};
 use std::alloc::Global;
 
 /// The command that the bytes begin with, and how many of them it takes.
-pub(crate) fn command_of(alloc: Global, body: &[u8]) -> Result<(ScriptCommand, usize), BodyFault>
+pub fn command_of(alloc: Global, body: &[u8]) -> Result<(ScriptCommand, usize), BodyFault>
     ensures begins { BeginsWithCommand body.now result }
     ensures some { IfOk result (λ x. 0 < x.1) }
 {

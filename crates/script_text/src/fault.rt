@@ -25,8 +25,10 @@ pub enum ScriptFault {
 
 /// Why bytes begin with no command.
 #[derive(Clone, Copy)]
-pub(crate) enum BodyFault {
+pub enum BodyFault {
+    /// No first bytes of them are one: the first cause.
     Bad(Cause),
+    /// Memory was refused.
     Memory,
 }
 

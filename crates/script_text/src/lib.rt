@@ -13,7 +13,8 @@ mod parts;
 mod reader;
 mod say;
 
-pub use fault::ScriptFault;
+pub use command::command_of;
+pub use fault::{BodyFault, ScriptFault};
 pub use laws::scripts_are_read_whole;
 pub use laying::LineText;
 pub use maker::Maker;

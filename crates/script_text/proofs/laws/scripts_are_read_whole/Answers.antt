@@ -1,3 +1,4 @@
+use Rattle.script_text.proofs.MoreLaws.{command_stays}
 use Rattle.script_text.proofs.WholeLaws.{all_is_read, given_more, short_waits}
 use Rattle.script_text.proofs.laws.scripts_are_read_whole.Goals as goal
 
@@ -9,3 +10,6 @@ returns-clause-end c = all_is_read
 
 pub returns-clause-cut : goal.returns-clause-cut
 returns-clause-cut c = short_waits
+
+pub returns-clause-stays : goal.returns-clause-stays
+returns-clause-stays c = command_stays
