@@ -1,4 +1,5 @@
 pub mod Fault
+pub mod Loading
 pub mod Met
 pub mod Newest
 pub mod Plan
