@@ -10,6 +10,7 @@ pub mod OpeningLaws
 pub mod RefusalLaws
 pub mod PathLaws
 pub mod ResidentLaws
+pub mod SavedLaws
 pub mod StayLaws
 pub mod SurveyLaws
 pub mod VisitLaws

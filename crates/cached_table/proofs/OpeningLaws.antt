@@ -122,7 +122,7 @@ pub as_many : (free : List Bool) (n : ℕ) → free ≡ replicate n false → le
 as_many free n none = ap (λ (flags : List Bool). length flags) none ∙ length-replicate n false
 
 -- there are as many flags as are set in the one list or in the other
-others : (xs ys : List Bool) → length ys ≡ length xs → ((i : ℕ) → i < length xs → slice_index_or ys i false ≡ not (slice_index_or xs i false)) → count_by (λ b. b) ys + count_by (λ b. b) xs ≡ length xs
+pub others : (xs ys : List Bool) → length ys ≡ length xs → ((i : ℕ) → i < length xs → slice_index_or ys i false ≡ not (slice_index_or xs i false)) → count_by (λ b. b) ys + count_by (λ b. b) xs ≡ length xs
 others [] [] long each = refl
 others [] (y ∷ ys) long each = absurd (omega (arith, long))
 others (x ∷ xs) [] long each = absurd (omega (arith, long))
@@ -137,7 +137,7 @@ others (x ∷ xs) (y ∷ ys) long each = by x y (each 0 (omega arith)) (others x
     by true true e rest = absurd (cc e)
     by false false e rest = absurd (cc e)
 
-any_page : (page : ℕ) (vs : List Visit) → list_any (λ t. t == page) (map (λ v. v.page) vs) ≡ list_any (λ v. v.page == page) vs
+pub any_page : (page : ℕ) (vs : List Visit) → list_any (λ t. t == page) (map (λ v. v.page) vs) ≡ list_any (λ v. v.page == page) vs
 any_page page [] = refl
 any_page page (v ∷ vs) = ap (λ (b : Bool). (v.page == page) || b) (any_page page vs)
 

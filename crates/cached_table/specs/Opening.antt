@@ -1,17 +1,17 @@
 -- What a mount has of a name table once it is surveyed as it stands at home.
-use Rattle.std.specs.Prelude.{◌≡◌, ⊤, ◌<◌, ◌+◌, ℕ, false, not, List, [], Some, length, replicate, slice_index_or, count_by, Bool, ◌==◌}
-use Rattle.std.specs.List.{list_any}
+use Rattle.std.specs.Prelude.{◌≡◌, ⊤, ◌<◌, ◌+◌, ℕ, false, not, List, [], Some, length, replicate, slice_index_or, count_by}
 use Rattle.volume_layout.specs.declared.layout.Layout.{Layout}
 use Rattle.volume_layout.specs.Layout.{data_start}
 use Rattle.sector_set.specs.Area.{area}
 use Rattle.page_cache.specs.Cache.{cached_bytes, no_pages, pins_of}
 use Rattle.table_pages.specs.Kept.{images_given}
 use Rattle.fsd_table.specs.Breaks.{Breaks}
-use Rattle.fsd_table.specs.Table.{Telling, told_in, visits}
+use Rattle.fsd_table.specs.Table.{Telling, told_in}
 use Rattle.fsd_files.specs.Disk.{Image}
 use Rattle.fsd_files.specs.Space.{Apart}
 use Rattle.fsd_files.specs.Volume.{is_in, plans_of}
 use Rattle.fsd_sound.specs.Mounted.{image_at}
+pub use Rattle.fsd_sound.specs.Saved.{is_reached}
 use Rattle.fsd_sound.specs.declared.fault.MountFault.{MountFault}
 use Rattle.fsd_sound.specs.declared.fault.MountFault.TheVariants.{Device, Lost, Memory, Unsound}
 use Rattle.table_survey.specs.Claims.{whole_area}
@@ -20,10 +20,6 @@ use Rattle.cached_table.specs.Homes.{home_by}
 use Rattle.cached_table.specs.Surveying.{IsOfData}
 use Rattle.cached_table.specs.declared.opening.Opened.{Opened}
 use Rattle.cached_table.specs.declared.opening.Room.{Room}
-
--- a path from page 0 reaches the page
-abbrev pub is_reached : List (List ℕ) → ℕ → Bool
-is_reached pages page = list_any (λ visit. visit.page == page) (visits pages)
 
 -- so many pages are in memory at most
 abbrev pub frames : ℕ

@@ -3,13 +3,13 @@ use Rattle.std.proofs.Common.{◌≡◌, ℕ, ◌*◌, ◌^◌, ◌<◌, ◌≤�
 use Rattle.std.specs.Prelude.{IfSome, if◌then◌else◌}
 use Rattle.std.specs.Int.{w32, to_be_bytes, from_be_bytes}
 use Rattle.std.proofs.lemmas.Bool.{and_parts, leb-true, cases_lt}
-use Rattle.fsd_bytes.specs.Bytes.{same_bytes, u8_at, u32_at}
+use Rattle.fsd_bytes.specs.Bytes.{u8_at, u32_at}
 use Rattle.fsd_bytes.proofs.SameLaws.{given_if}
 use Rattle.volume_layout.specs.declared.layout.Layout.{Layout}
 use Rattle.fsd_formats.specs.declared.anchor.Anchor.{Anchor}
-use Rattle.fsd_formats.specs.Anchors.{is_anchor, anchor_bytes, read_anchor}
+use Rattle.fsd_formats.specs.Anchors.{is_anchor, spells_anchor, read_anchor}
 use Rattle.fsd_formats.specs.Record.{Stamp}
-use Rattle.fsd_formats.proofs.SpellingLaws.{anchor_is_spelled}
+use Rattle.fsd_formats.proofs.SpellingLaws.{anchor_is_spelled, IsSpelled}
 use Rattle.sector_disk.specs.declared.sector.Sector.{Sector}
 use Rattle.sector_disk.specs.declared.sector.Sector.TheVariants.{Whole, Damaged}
 use Rattle.sector_disk.specs.Image.{sector_at}
@@ -38,16 +38,21 @@ pub record IsAnchor (a : Anchor) : Type 0 where
 four_bytes : (n : ℕ) → from_be_bytes w32 (to_be_bytes w32 n) < 2 ^ 32
 four_bytes n = omega arith
 
+-- its numbers are where both spellings have them
+spelled_numbers : (a : Anchor) (bytes : List ℕ) → IsSpelled a bytes → (u32_at 4 bytes ≡ from_be_bytes w32 (to_be_bytes w32 a.epoch)) × (u32_at 12 bytes ≡ from_be_bytes w32 (to_be_bytes w32 a.first))
+spelled_numbers a bytes (inl plain) = (ap (u32_at 4) plain, ap (u32_at 12) plain)
+spelled_numbers a bytes (inr closed) = (ap (u32_at 4) closed, ap (u32_at 12) closed)
+
 pub anchor_read : (bytes : List ℕ) (a : Anchor) → read_anchor bytes ≡ Some a → IsAnchor a
 anchor_read bytes a is =
     let read : Anchor = record { epoch = u32_at 4 bytes; third = u8_at 8 bytes; first = u32_at 12 bytes } in
-    let given = given_if (is_anchor read && same_bytes (anchor_bytes read) bytes) read a is in
-    let outer = and_parts (is_anchor read) (same_bytes (anchor_bytes read) bytes) given.0 in
+    let given = given_if (is_anchor read && spells_anchor read bytes) read a is in
+    let outer = and_parts (is_anchor read) (spells_anchor read bytes) given.0 in
     let inner = and_parts (nat_le 1 read.epoch && nat_le read.third 2) (nat_le 1 read.first) outer.0 in
     let le : read.third ≤ 2 = leb-true read.third 2 (and_parts (nat_le 1 read.epoch) (nat_le read.third 2) inner.0).1 in
-    let spelled = anchor_is_spelled bytes a is in
-    let epoch : a.epoch ≡ from_be_bytes w32 (to_be_bytes w32 a.epoch) = ap (λ (x : Anchor). x.epoch) (sym given.1) ∙ ap (u32_at 4) spelled in
-    let first : a.first ≡ from_be_bytes w32 (to_be_bytes w32 a.first) = ap (λ (x : Anchor). x.first) (sym given.1) ∙ ap (u32_at 12) spelled in
+    let spelled = spelled_numbers a bytes (anchor_is_spelled bytes a is) in
+    let epoch : a.epoch ≡ from_be_bytes w32 (to_be_bytes w32 a.epoch) = ap (λ (x : Anchor). x.epoch) (sym given.1) ∙ spelled.0 in
+    let first : a.first ≡ from_be_bytes w32 (to_be_bytes w32 a.first) = ap (λ (x : Anchor). x.first) (sym given.1) ∙ spelled.1 in
     record {
       epoch = omega (arith, epoch, four_bytes a.epoch);
       first = omega (arith, first, four_bytes a.first);

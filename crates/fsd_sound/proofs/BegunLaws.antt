@@ -10,6 +10,7 @@ use Rattle.sector_disk.specs.declared.sector.Sector.{Sector}
 use Rattle.sector_disk.specs.declared.sector.Sector.TheVariants.{Whole}
 use Rattle.sector_disk.specs.Image.{sector_at, IsWorn}
 use Rattle.sector_disk.proofs.Wear.{worn_refl}
+use Rattle.fsd_sound.proofs.SavedLaws.{plain_is_open}
 use Rattle.fsd_log.specs.Scan.{start, newer_of}
 use Rattle.fsd_files.specs.Disk.{Image, Sectors, SectorWorn, bytes_of}
 use Rattle.fsd_sound.specs.Anchors.{anchor_at, anchor_of, fresh_anchor}
@@ -154,6 +155,7 @@ module _ (l : Layout) (epoch : ℕ) (pages : List (List ℕ)) (i : Image) (is : 
   begun_own windows = record {
     roots = own_roots (weak_of windows);
     own = both_copies (weak_of windows) i (worn_refl (weak_of windows) i) (λ b. b ≡ fresh_anchor epoch) refl;
+    opened = (plain_is_open i 8 (fresh_anchor epoch) is.anchor, plain_is_open i 12 (fresh_anchor epoch) is.anchor_copy);
     log = fresh_log l epoch pages i homed (weak_of windows) i (λ s from. inl refl);
     laid = tt;
   }

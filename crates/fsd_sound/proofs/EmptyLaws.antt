@@ -1,5 +1,5 @@
 -- A volume's own log that has no record is empty in either form, so its roots may be turned.
-use Rattle.std.proofs.Common.{◌≡◌, ℕ, ◌+◌, ◌*◌, ◌^◌, ◌<◌, ◌≤◌, List, [], Option, Some, None, sym, ap, subst, refl, arith}
+use Rattle.std.proofs.Common.{◌≡◌, ℕ, ◌+◌, ◌*◌, ◌^◌, ◌<◌, ◌≤◌, List, [], Option, Some, None, sym, ap, subst, refl, ◌∙◌, arith}
 use Rattle.std.specs.Prelude.{IfSome, option_and_then}
 use Rattle.std.proofs.lemmas.List.{nil_from_length}
 use Rattle.volume_layout.specs.declared.layout.Layout.{Layout}
@@ -24,6 +24,7 @@ use Rattle.fsd_sound.proofs.AnchorFacts.{IsAnchor, newer_one}
 use Rattle.fsd_sound.proofs.CoverLaws.{is_anchor_at}
 use Rattle.fsd_sound.proofs.LaidLaws.{own_worn}
 use Rattle.fsd_sound.proofs.LogPlaces.{same_tape, scan_goes, start_in}
+use Rattle.fsd_sound.proofs.SavedLaws.{closes_none, stays_open}
 use Rattle.fsd_sound.proofs.SoundLaws.{each_anchor_after}
 use Rattle.fsd_sound.proofs.WindowLaws.{borne_apart}
 
@@ -43,6 +44,7 @@ pub own_log_turned : (l : Layout) (a : Anchor) (h : Head) (weak : Sectors) (i j 
 own_log_turned l a h weak i j fits small low front roots own = record {
   roots = roots;
   own = each_same l i j front (λ b. b ≡ a) (λ b. b ≡ a) (λ b low same. same) own.own;
+  opened = stays_open i j (closes_none i j (λ bytes there. ap bytes_of (sym (front 8 (omega arith) (omega arith))) ∙ there) (λ bytes there. ap bytes_of (sym (front 12 (omega arith) (omega arith))) ∙ there)) own.opened;
   log = log_turned l a.epoch a.first (tape l a.third (bytes_at j)) h fits small (subst (λ t. IsLog l a.epoch a.first t [] h) (sym (same_tape l i j (log_same l i j front) a.third low)) own.log);
   laid = tt;
 }

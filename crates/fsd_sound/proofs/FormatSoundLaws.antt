@@ -11,11 +11,12 @@ use Rattle.fsd_files.specs.Disk.{Image, in_runs}
 use Rattle.fsd_table.specs.Pages.{page_at}
 use Rattle.fsd_table.specs.Table.{one_leaf, told_in, visits}
 use Rattle.fsd_sound.specs.Begun.{IsBegun}
-use Rattle.fsd_sound.specs.Format.{IsFormatted, format_page}
+use Rattle.fsd_sound.specs.Format.{IsFormatted, format_anchor, format_page}
 use Rattle.fsd_sound.specs.Shown.{all_pages, shown, told}
 use Rattle.fsd_sound.specs.Sound.{ShowsOne, Tells, weak_of, IsSound, BearsLast}
 use Rattle.fsd_sound.proofs.BegunLaws.{begun_shows}
 use Rattle.fsd_sound.proofs.MountedLaws.{one_of}
+use Rattle.fsd_sound.proofs.SavedLaws.{open_saves, plain_is_open}
 use Rattle.fsd_sound.proofs.SectorFacts.{not_damaged}
 use Rattle.fsd_sound.proofs.SoundLaws.{sound_from_pages}
 
@@ -80,3 +81,4 @@ format_is_sound l windows borne i f =
     let nothing : Tells l (in_runs windows) i [] 0 (Some (one_leaf [])) = (0, record { forced = omega arith; made = omega arith }, record { lists = tt; apart = refl; kept = tt }) in
     sound_from_pages l windows [] 0 (pages_of l ∷ []) i (begun_shows l 1 (pages_of l) i (begun l i f) windows borne)
     (λ pages chosen. one_of (λ (p : List (List ℕ)). Tells l (in_runs windows) i [] 0 (told_in p)) (pages_of l) pages (subst (Tells l (in_runs windows) i [] 0) (sym (pages_told l i f)) nothing) chosen)
+    (λ pages chosen. open_saves l i pages (plain_is_open i 8 format_anchor f.anchor, plain_is_open i 12 format_anchor f.anchor_copy))

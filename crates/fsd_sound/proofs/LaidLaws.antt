@@ -21,6 +21,7 @@ use Rattle.fsd_files.proofs.WearLaws.{has_still}
 use Rattle.fsd_sound.specs.Laid.{AllStand, HasFront, HasCopies, AllLaid, HasOwnLog}
 use Rattle.fsd_sound.specs.Shown.{scan_by, records_by}
 use Rattle.fsd_sound.proofs.LogPlaces.{on_tape, off_tape, IsRecord, found_record, start_in, scan_goes}
+use Rattle.fsd_sound.proofs.SavedLaws.{stays_open, worn_closes}
 use Rattle.fsd_sound.proofs.SoundLaws.{each_anchor_after}
 use Rattle.fsd_sound.specs.Windows.{IsApart}
 use Rattle.fsd_log.proofs.RecordFacts.{read_as}
@@ -131,6 +132,7 @@ module _ (l : Layout) (small : l.pages ≤ 2 ^ 32) (a : Anchor) (fits : a.epoch 
       record {
         roots = (has_still weak weak i j (λ s is. is) w (root_bytes l) 0 own.roots.0, has_still weak weak i j (λ s is. is) w (root_bytes l) 4 own.roots.1);
         own = each_anchor_after weak i j w (λ b. b ≡ a) (λ b. b ≡ a) (λ b e. e) own.own;
+        opened = stays_open i j (worn_closes weak i j w) own.opened;
         log = record {
           scanned = laid_scan (subst (AllLaid l a weak i) (sym is) own.laid) ∙ own.log.scanned;
           fresh = λ at number from. ⊎_elim (λ same. subst (Foreign (stamp_of a.epoch number)) (sym same) (own.log.fresh at number from))

@@ -3,6 +3,7 @@ pub mod AnchorFacts
 pub mod AnchorMendLaws
 pub mod BegunLaws
 pub mod ChoiceLaws
+pub mod ClosingLaws
 pub mod CommuteLaws
 pub mod CompleteLaws
 pub mod CompletedLaws
@@ -27,6 +28,7 @@ pub mod PagesLaws
 pub mod RehomeLaws
 pub mod RenewLaws
 pub mod SaidLaws
+pub mod SavedLaws
 pub mod SectorFacts
 pub mod SettleLaws
 pub mod SoundLaws

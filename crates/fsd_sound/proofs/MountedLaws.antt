@@ -15,7 +15,7 @@ use Rattle.fsd_formats.specs.declared.entry.Entry.{Entry}
 use Rattle.sector_disk.specs.declared.sector.WeakRun.{WeakRun}
 use Rattle.sector_disk.specs.Image.{AllWorn}
 use Rattle.fsd_log.specs.Scan.{Placed, Head, IsLog, tape}
-use Rattle.fsd_files.specs.Disk.{Image, Sectors, in_runs, bytes_at}
+use Rattle.fsd_files.specs.Disk.{Image, Sectors, in_runs, bytes_at, bytes_of}
 use Rattle.fsd_files.specs.Files.{Files, Change, after}
 use Rattle.fsd_files.specs.Kept.{Describes, KeptIn, Lists, data_sectors}
 use Rattle.fsd_files.specs.Volume.{Volume, HasReach, plans_of, is_in, in_version, is_free, waits, drawn, forced}
@@ -23,6 +23,7 @@ use Rattle.fsd_files.proofs.KeptLaws.{kept_on, kept_worn}
 use Rattle.fsd_table.proofs.TreeLaws.{told_few}
 use Rattle.fsd_sound.specs.Laid.{HasOwnLog, AllLaid}
 use Rattle.fsd_table.specs.Table.{Telling, told_in}
+use Rattle.fsd_sound.specs.Saved.{IsOpen}
 use Rattle.fsd_sound.specs.Shown.{shown, told}
 use Rattle.fsd_sound.specs.Sound.{ShowsOne, ShowsPages, IsSound, Tells, weak_of}
 use Rattle.sector_disk.proofs.Wear.{worn_refl}
@@ -33,9 +34,15 @@ use Rattle.fsd_sound.proofs.OpenLaws.{open_on, open_worn}
 use Rattle.fsd_sound.proofs.LogPlaces.{IsRecord, same_tape, has_same, front_same, copies_same, in_record, goes_records, scan_goes, start_in}
 use Rattle.fsd_sound.proofs.AlikeLaws.{each_same}
 use Rattle.fsd_sound.proofs.FrontLaws.{SameFront, log_front, front_log, front_shows}
+use Rattle.fsd_sound.proofs.SavedLaws.{closes_none, open_saves, stays_open}
 use Rattle.fsd_sound.proofs.SoundLaws.{sound_from_pages}
 
 -- ---- the log of its own
+
+-- anchors in front that are the same say the same
+front_open : (l : Layout) (i j : Image) → SameFront l i j → IsOpen i → IsOpen j
+front_open l i j same is =
+    stays_open i j (closes_none i j (λ bytes there. ap bytes_of (sym (same 8 (omega arith))) ∙ there) (λ bytes there. ap bytes_of (sym (same 12 (omega arith))) ∙ there)) is
 
 module _ (l : Layout) (a : Anchor) (weak : Sectors) (i j : Image) (same : SameFront l i j) where
   all_laid_same : (rs : List Placed) → AllByRecursion (IsRecord l a.third) rs → AllLaid l a weak i rs → AllLaid l a weak j rs
@@ -53,6 +60,7 @@ module _ (l : Layout) (a : Anchor) (weak : Sectors) (i j : Image) (same : SameFr
       record {
         roots = (has_same l a weak i j (root_bytes l) 0 (same 0 (omega arith)) own.roots.0, has_same l a weak i j (root_bytes l) 4 (same 4 (omega arith)) own.roots.1);
         own = each_same l i j (log_front l i j same) _ _ (λ b low is. is) own.own;
+        opened = front_open l i j same own.opened;
         log = subst (λ t. IsLog l a.epoch a.first t records head) (sym (same_tape l i j (front_log l i j same) a.third low)) own.log;
         laid = all_laid_same records are own.laid;
       }
@@ -153,7 +161,7 @@ first_or_second P a b x p q c = by_place c.0 c.1 c.2
     by_place (suc zero) lt is = subst P is q
     by_place (suc (suc k)) lt is = absurd (omega (arith, lt))
 
-tells_forced : (v : Volume) (windows : List WeakRun) (h : List Change) (f : ℕ) (i : Image) (disk : List (List ℕ)) → f ≤ length h → HasForced v windows h f i disk → Tells v.layout (in_runs windows) i h f (told_in disk)
+pub tells_forced : (v : Volume) (windows : List WeakRun) (h : List Change) (f : ℕ) (i : Image) (disk : List (List ℕ)) → f ≤ length h → HasForced v windows h f i disk → Tells v.layout (in_runs windows) i h f (told_in disk)
 tells_forced v windows h f i disk le forced =
     subst (λ (o : Option Telling). Tells v.layout (in_runs windows) i h f o) (sym forced.told) (f, record { forced = omega arith; made = le }, forced.described)
 
@@ -164,7 +172,7 @@ tells_all v windows h f i pages le files told d =
     subst (λ (o : Option Telling). Tells v.layout (in_runs windows) i h f o) (sym told)
     (length h, record { forced = le; made = omega arith }, subst (λ (s : Files). Describes v.layout (in_runs windows) i s v.entries) (files ∙ ap after (sym all)) d)
 
-some_forced : (m : Mounted) (windows : List WeakRun) (h : List Change) (f : ℕ) (i : Image) → IsMounted m windows h f i → f ≤ length h
+pub some_forced : (m : Mounted) (windows : List WeakRun) (h : List Change) (f : ℕ) (i : Image) → IsMounted m windows h f i → f ≤ length h
 some_forced m windows h f i is = omega (arith, is.count)
 
 pub one_of : {A : Type 0} (P : A → Type 0) (a x : A) → P a → Contains (a ∷ []) x → P x
@@ -179,10 +187,11 @@ mounted_sound m windows h f i is =
     let l = m.volume.layout in
     sound_from_pages l windows h f (is.disk ∷ []) i is.over.shows
     (λ pages one. one_of (λ pages. Tells l (in_runs windows) i h f (told_in pages)) is.disk pages (tells_forced m.volume windows h f i is.disk (some_forced m windows h f i is) is.forced) one)
+    (λ pages one. open_saves l i pages is.over.own.opened)
 
 -- ---- a force
 
-all_data : (l : Layout) (xs : List ℕ) (s : ℕ) → IsTrue (list_all (is_data l) xs) → IsTrue (contains xs s) → IsTrue (is_data l s)
+pub all_data : (l : Layout) (xs : List ℕ) (s : ℕ) → IsTrue (list_all (is_data l) xs) → IsTrue (contains xs s) → IsTrue (is_data l s)
 all_data l [] s all there = absurd (cc there)
 all_data l (x ∷ xs) s all there =
     let parts = and_parts (is_data l x) (list_all (is_data l) xs) all in
@@ -203,8 +212,8 @@ describes_data l hurt files entries i j same d = record {
 
 -- while the disk shows what was forced or what is in memory, it is sound
 pub force_sound : (m : Mounted) (windows : List WeakRun) (h : List Change) (f : ℕ) (i j : Image) (now : List (List ℕ)) → (is : IsMounted m windows h f i) → SameData m.volume.layout (in_runs windows) i j
-    → told_in now ≡ Some (telling_of m.volume) → ShowsPages m.volume.layout windows (is.disk ∷ now ∷ []) j → IsSound m.volume.layout windows h f j
-force_sound m windows h f i j now is same told shows =
+    → IsOpen j → told_in now ≡ Some (telling_of m.volume) → ShowsPages m.volume.layout windows (is.disk ∷ now ∷ []) j → IsSound m.volume.layout windows h f j
+force_sound m windows h f i j now is same opened told shows =
     let l = m.volume.layout in
     let le = some_forced m windows h f i is in
     let forced : HasForced m.volume windows h f j is.disk = record {
@@ -218,11 +227,12 @@ force_sound m windows h f i j now is same told shows =
     (λ pages two. first_or_second (λ pages. Tells l (in_runs windows) j h f (told_in pages)) is.disk now pages
     (tells_forced m.volume windows h f j is.disk le forced)
     (tells_all m.volume windows h f j now le is.files told (describes_data l (in_runs windows) m.volume.files m.volume.entries i j same is.described)) two)
+    (λ pages two. open_saves l j pages opened)
 
 -- and so it is while it shows what was forced alone
-pub forced_sound : (m : Mounted) (windows : List WeakRun) (h : List Change) (f : ℕ) (i j : Image) → (is : IsMounted m windows h f i) → SameData m.volume.layout (in_runs windows) i j → ShowsPages m.volume.layout windows (is.disk ∷ []) j
+pub forced_sound : (m : Mounted) (windows : List WeakRun) (h : List Change) (f : ℕ) (i j : Image) → (is : IsMounted m windows h f i) → SameData m.volume.layout (in_runs windows) i j → IsOpen j → ShowsPages m.volume.layout windows (is.disk ∷ []) j
     → IsSound m.volume.layout windows h f j
-forced_sound m windows h f i j is same shows =
+forced_sound m windows h f i j is same opened shows =
     let l = m.volume.layout in
     let forced : HasForced m.volume windows h f j is.disk = record {
       telling = is.forced.telling;
@@ -233,6 +243,7 @@ forced_sound m windows h f i j is same shows =
     } in
     sound_from_pages l windows h f (is.disk ∷ []) j shows
     (λ pages one. one_of (λ ps. Tells l (in_runs windows) j h f (told_in ps)) is.disk pages (tells_forced m.volume windows h f j is.disk (some_forced m windows h f i is) forced) one)
+    (λ pages one. open_saves l j pages opened)
 
 pub force_mounted : (m : Mounted) (windows : List WeakRun) (h : List Change) (f : ℕ) (i j : Image) (now : List (List ℕ)) (anchor : Anchor) (head : Head) (records : List Placed) → IsMounted m windows h f i → SameData m.volume.layout (in_runs windows) i j
     → told_in now ≡ Some (telling_of m.volume) → IsSameEpoch m.anchor anchor → StandsOver m.volume.layout anchor head records now now [] windows j

@@ -14,12 +14,14 @@ use Rattle.sector_disk.specs.Image.{weak as in_window, sector_at, in_weak_run, I
 use Rattle.fsd_files.specs.Files.{Change, after}
 use Rattle.fsd_sound.specs.Anchors.{EachAnchor}
 use Rattle.fsd_table.specs.Table.{Telling, told_in}
+use Rattle.fsd_sound.specs.Saved.{SavesPages}
 use Rattle.fsd_sound.specs.Shown.{shown}
 use Rattle.fsd_sound.specs.Sound.{IfWhole, HasRoots, HasAnchors, IsRootAt, IsRootOf, Tells, weak_of, IsReadable, IsSound, ShowsOne, ShowsPages, is_twin}
 use Rattle.fsd_sound.specs.Windows.{IsNarrow}
 use Rattle.sector_disk.proofs.Wear.{worn_trans, worn_whole}
 use Rattle.fsd_files.proofs.WearLaws.{kept_still}
 use Rattle.fsd_sound.proofs.SaidLaws.{says_worn}
+use Rattle.fsd_sound.proofs.SavedLaws.{saves_worn}
 use Rattle.fsd_sound.proofs.SectorFacts.{whole_or_damaged}
 
 -- ---- roots
@@ -106,6 +108,7 @@ pub sound_still : (l : Layout) (windows : List WeakRun) → IsNarrow (weak_of wi
 sound_still l windows narrow h f i j w s = record {
   readable = readable_still l windows narrow i j w s.readable;
   tells = λ k v. s.tells k (worn_trans (weak_of windows) i j k w v);
+  saved = λ k v pages is. saves_worn l (weak_of windows) i j pages w (s.saved k (worn_trans (weak_of windows) i j k w v) pages is);
 }
 
 pub shows_still : (l : Layout) (windows : List WeakRun) → IsNarrow (weak_of windows) → (choices : List (List (List ℕ))) (i j : Image)
@@ -156,10 +159,16 @@ shown_tells : (l : Layout) (hurt : Sectors) (j : Image) (h : List Change) (f : �
 shown_tells l hurt j h f choices None shows each = absurd shows
 shown_tells l hurt j h f choices (Some pages) shows each = each pages shows
 
+-- one that is shown is one of the choices
+shown_chosen : (choices : List (List (List ℕ))) (o : Option (List (List ℕ))) (pages : List (List ℕ)) → ShowsOne choices o → o ≡ Some pages → Contains choices pages
+shown_chosen choices o pages shows is = subst (ShowsOne choices) is shows
+
 pub sound_from_pages : (l : Layout) (windows : List WeakRun) (h : List Change) (f : ℕ) (choices : List (List (List ℕ))) (i : Image)
-    → ShowsPages l windows choices i → ((pages : List (List ℕ)) → Contains choices pages → PagesTell l (in_runs windows) i h f pages) → IsSound l windows h f i
-sound_from_pages l windows h f choices i shows each = record {
+    → ShowsPages l windows choices i → ((pages : List (List ℕ)) → Contains choices pages → PagesTell l (in_runs windows) i h f pages)
+    → ((pages : List (List ℕ)) → Contains choices pages → SavesPages l i pages) → IsSound l windows h f i
+sound_from_pages l windows h f choices i shows each saves = record {
   readable = shows.readable;
   tells = λ j w. shown_tells l (in_runs windows) j h f choices (shown l j) (shows.shows j w)
       (λ pages c. tells_still l (weak_of windows) (in_runs windows) i j h f (told_in pages) (weak_within_hurt windows) w (each pages c));
+  saved = λ j w pages is. saves pages (shown_chosen choices (shown l j) pages (shows.shows j w) is);
 }

@@ -8,6 +8,7 @@ use Rattle.sector_disk.proofs.Wear.{worn_refl}
 use Rattle.fsd_files.specs.Disk.{Image, in_runs}
 use Rattle.fsd_files.specs.Files.{Change}
 use Rattle.fsd_table.specs.Table.{Telling, told_in}
+use Rattle.fsd_sound.specs.Saved.{SavesPages}
 use Rattle.fsd_sound.specs.Shown.{shown}
 use Rattle.fsd_sound.specs.Sound.{IsSound, IsStill, ShowsOne, ShowsPages, Tells, TellsPrefix, weak_of}
 
@@ -26,7 +27,7 @@ tells_prefix l windows h f i still sound = by_shown (shown l i) refl (sound.tell
     by_told : (pages : List (List ℕ)) (o : Option Telling) → shown l i ≡ Some pages → told_in pages ≡ o → Tells l (in_runs windows) i h f o → TellsPrefix l windows h f i
     by_told pages None is told tells = absurd tells
     by_told pages (Some telling) is told tells =
-        record { pages = pages; shows = shows_alone l windows h f i pages still sound is; telling = telling; told = told; count = tells.0; prefix = tells.1; described = tells.2 }
+        record { pages = pages; shows = shows_alone l windows h f i pages still sound is; telling = telling; told = told; count = tells.0; prefix = tells.1; described = tells.2; saved = sound.saved i (worn_refl (weak_of windows) i) pages is }
 
     by_shown : (o : Option (List (List ℕ))) → shown l i ≡ o → Tells l (in_runs windows) i h f (option_and_then told_in o) → TellsPrefix l windows h f i
     by_shown None is tells = absurd tells
@@ -38,3 +39,4 @@ prefix_sound l windows h f i t =
     Rattle.fsd_sound.proofs.SoundLaws.sound_from_pages l windows h f (t.pages ∷ []) i t.shows
     (λ pages one. Rattle.fsd_sound.proofs.MountedLaws.one_of (λ pages. Tells l (in_runs windows) i h f (told_in pages)) t.pages pages
     (subst (λ (o : Option Telling). Tells l (in_runs windows) i h f o) (sym t.told) (t.count, t.prefix, t.described)) one)
+    (λ pages one. Rattle.fsd_sound.proofs.MountedLaws.one_of (SavesPages l i) t.pages pages t.saved one)

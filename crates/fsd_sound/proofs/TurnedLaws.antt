@@ -18,6 +18,7 @@ use Rattle.fsd_sound.specs.Laid.{IsLaid}
 use Rattle.fsd_sound.specs.Shown.{records_by, newest, each_of, all_pages, shown_by, shown, told}
 use Rattle.fsd_sound.specs.Sound.{BearsLast, HasAnchors, HasHomes, HasLog, HasRoots, IsEither, IsReadable, IsRootAt, IsRootOf, IsSaid, IsSound, LogsNothing, SaysTurned, ScansAgree, ShowsOne, ShowsPages, Tells, disk_records, on_disk, weak_of}
 use Rattle.fsd_sound.proofs.AnchorFacts.{each_both, newer_one}
+use Rattle.fsd_sound.proofs.SavedLaws.{saves_turned}
 
 -- what holds of each anchor for another reason
 pub each_on : (i : Image) (P Q : Anchor → Type 0) → ((a : Anchor) → P a → Q a) → EachAnchor i P → EachAnchor i Q
@@ -125,6 +126,7 @@ module _ (l : Layout) (windows : List WeakRun) (i : Image) (says : SaysTurned l 
   sound_turned h f is = record {
     readable = readable_turned is.readable;
     tells = λ j w. tells_turned j (told (turned l) j) (subst (Tells l (in_runs windows) j h f) (sym (ap (option_and_then told_in) (shown_either is.readable j w))) (is.tells j w));
+    saved = λ j w pages there. saves_turned l i pages (is.saved j w pages (sym (shown_either is.readable j w) ∙ there));
   }
     where
       tells_turned : (j : Image) (o : Option Telling) → Tells l (in_runs windows) j h f o → Tells (turned l) (in_runs windows) j h f o

@@ -10,11 +10,12 @@ use Rattle.sector_disk.specs.declared.sector.WeakRun.{WeakRun}
 use Rattle.sector_disk.specs.Image.{sector_at, with_sector, stand, IsWorn}
 use Rattle.sector_disk.proofs.Calm.{stand_one}
 use Rattle.fsd_log.specs.Scan.{Placed}
-use Rattle.fsd_files.specs.Disk.{Image, in_runs}
+use Rattle.fsd_files.specs.Disk.{Image, bytes_of, in_runs}
 use Rattle.fsd_files.specs.Files.{Change, after}
 use Rattle.fsd_files.proofs.WaitLaws.{open_in_area}
 use Rattle.fsd_sound.specs.Laid.{HasOwnLog}
 use Rattle.fsd_sound.specs.Mounted.{IsMounted, Mounted, SameData}
+use Rattle.fsd_sound.specs.Saved.{IsOpen}
 use Rattle.fsd_sound.specs.Sound.{BearsLast, IsEither, IsSound, SaysTurned, ShowsPages, weak_of}
 use Rattle.fsd_sound.specs.Windows.{IsNarrow}
 use Rattle.fsd_sound.proofs.CommuteLaws.{with_other, with_same}
@@ -23,6 +24,7 @@ use Rattle.fsd_sound.proofs.LaidLaws.{own_worn}
 use Rattle.fsd_sound.proofs.MendLaws.{turned_root_shows}
 use Rattle.fsd_sound.proofs.MountedLaws.{data_behind, describes_data, forced_sound}
 use Rattle.fsd_sound.proofs.OpenLaws.{open_worn}
+use Rattle.fsd_sound.proofs.SavedLaws.{ReadsLess, closes_none, stays_open, worn_reads}
 use Rattle.fsd_sound.proofs.SoundLaws.{shows_still, weak_within_hurt}
 use Rattle.fsd_sound.proofs.TurnedLaws.{shows_turned}
 use Rattle.fsd_sound.proofs.WindowLaws.{borne_apart, borne_narrow}
@@ -94,8 +96,15 @@ module _ (m : Mounted) (windows : List WeakRun) (h : List Change) (f : ℕ) (i :
     data_same : SameData m.volume.layout (in_runs windows) i j
     data_same s from = ⊎_elim (λ same. inl (same ∙ rooted.same s (omega (arith, from)))) (λ hurt. inr (weak_within_hurt windows s hurt.0, hurt.1)) (worn.each s)
 
+    -- so are the anchors
+    reads : (s : ℕ) → 5 ≤ s → ReadsLess i j s
+    reads s from bytes is = ap bytes_of (sym (rooted.same s from)) ∙ worn_reads (weak_of windows) (with_roots m.volume.layout i n k) j s (worn.each s) bytes is
+
+    opened : IsOpen j
+    opened = stays_open i j (closes_none i j (reads 8 (omega arith)) (reads 12 (omega arith))) is.over.own.opened
+
     pub turning_sound : IsSound m.volume.layout windows h f j
-    turning_sound = forced_sound m windows h f i j is data_same (shows_still m.volume.layout windows narrow (is.disk ∷ []) (with_roots m.volume.layout i n k) j worn rooted.shows)
+    turning_sound = forced_sound m windows h f i j is data_same opened (shows_still m.volume.layout windows narrow (is.disk ∷ []) (with_roots m.volume.layout i n k) j worn rooted.shows)
 
   -- ---- the end
 

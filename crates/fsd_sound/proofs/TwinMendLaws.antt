@@ -7,7 +7,7 @@ use Rattle.volume_layout.specs.declared.layout.Layout.{Layout}
 use Rattle.volume_layout.specs.Layout.{map_start}
 use Rattle.volume_layout.specs.Root.{root_bytes}
 use Rattle.fsd_formats.specs.declared.anchor.Anchor.{Anchor}
-use Rattle.fsd_formats.specs.Anchors.{anchor_bytes, read_anchor}
+use Rattle.fsd_formats.specs.Anchors.{anchor_bytes, read_anchor, read_closed}
 use Rattle.fsd_formats.proofs.SpellingLaws.{anchor_is_spelled}
 use Rattle.sector_disk.specs.declared.sector.WeakRun.{WeakRun}
 use Rattle.sector_disk.specs.declared.sector.Sector.{Sector}
@@ -17,6 +17,8 @@ use Rattle.fsd_log.specs.Scan.{IsLog, Walked}
 use Rattle.fsd_files.specs.Disk.{Has, Image, bytes_of, in_runs}
 use Rattle.fsd_files.specs.Files.{Change, after}
 use Rattle.fsd_sound.specs.Anchors.{anchor_at, EachAnchor}
+use Rattle.fsd_sound.specs.Saved.{IsOpen, closed_at}
+use Rattle.fsd_sound.proofs.SavedLaws.{closed_says}
 use Rattle.fsd_sound.specs.Homes.{AreTwins}
 use Rattle.fsd_sound.specs.Laid.{HasOwnLog}
 use Rattle.fsd_sound.specs.Mounted.{IsMounted, Mounted, SameData}
@@ -108,24 +110,30 @@ module _ (m : Mounted) (windows : List WeakRun) (narrow : IsNarrow (weak_of wind
   anchor_is_twin (inr a) = subst (λ (p : ℕ). IsTrue (is_twin m.volume.layout p)) (sym a.0) refl
 
   -- what is read of an anchor that stands
-  spelled : (p : ℕ) (y : List ℕ) → sector_at i p ≡ Whole y → IfSome (anchor_at i p) (λ b. b ≡ m.anchor) → ((b : List ℕ) → sector_at i p ≡ Whole b → IsSome (read_anchor b)) → y ≡ anchor_bytes m.anchor
-  spelled p y at own some = by_read (read_anchor y) refl (subst (λ (o : Option Anchor). IfSome o (λ b. b ≡ m.anchor)) (ap (λ (x : Sector). option_and_then read_anchor (bytes_of x)) at) own) (some y at)
+  spelled : (p : ℕ) (y : List ℕ) → sector_at i p ≡ Whole y → closed_at i p ≡ None → IfSome (anchor_at i p) (λ b. b ≡ m.anchor) → ((b : List ℕ) → sector_at i p ≡ Whole b → IsSome (read_anchor b)) → y ≡ anchor_bytes m.anchor
+  spelled p y at shut own some = by_read (read_anchor y) refl (subst (λ (o : Option Anchor). IfSome o (λ b. b ≡ m.anchor)) (ap (λ (x : Sector). option_and_then read_anchor (bytes_of x)) at) own) (some y at)
     where
+      said : (b : Anchor) → read_closed y ≡ Some b → ⊥
+      said b is = absurd (let none : None ≡ Some b = sym shut ∙ ap (λ (x : Sector). option_and_then read_closed (bytes_of x)) at ∙ is in cc)
+
       by_read : (o : Option Anchor) → read_anchor y ≡ o → IfSome o (λ b. b ≡ m.anchor) → IsSome o → y ≡ anchor_bytes m.anchor
       by_read None reads mine there = absurd (cc there)
-      by_read (Some b) reads mine there = anchor_is_spelled y b reads ∙ ap anchor_bytes mine
+      by_read (Some b) reads mine there = ⊎_elim (λ plain. plain ∙ ap anchor_bytes mine) (λ closed. absurd (said b (closed_says y b closed reads))) (anchor_is_spelled y b reads)
 
   own : EachAnchor i (λ b. b ≡ m.anchor)
   own = is.over.own.own
 
+  shut : IsOpen i
+  shut = is.over.own.opened
+
   -- two anchors that stand are the same
   alike : AreAnchorPlaces s t → (y : List ℕ) → sector_at i s ≡ Whole y → y ≡ bytes
   alike (inl a) y at =
-      spelled 8 y (ap (sector_at i) (sym a.0) ∙ at) own.0 shows.readable.anchors.first
-      ∙ sym (spelled 12 bytes (ap (sector_at i) (sym a.1) ∙ whole) own.1 shows.readable.anchors.second)
+      spelled 8 y (ap (sector_at i) (sym a.0) ∙ at) shut.0 own.0 shows.readable.anchors.first
+      ∙ sym (spelled 12 bytes (ap (sector_at i) (sym a.1) ∙ whole) shut.1 own.1 shows.readable.anchors.second)
   alike (inr a) y at =
-      spelled 12 y (ap (sector_at i) (sym a.0) ∙ at) own.1 shows.readable.anchors.second
-      ∙ sym (spelled 8 bytes (ap (sector_at i) (sym a.1) ∙ whole) own.0 shows.readable.anchors.first)
+      spelled 12 y (ap (sector_at i) (sym a.0) ∙ at) shut.1 own.1 shows.readable.anchors.second
+      ∙ sym (spelled 8 bytes (ap (sector_at i) (sym a.1) ∙ whole) shut.0 own.0 shows.readable.anchors.first)
 
   shows_now : ShowsPages m.volume.layout windows (is.disk ∷ []) (with_sector i s bytes)
   shows_now = by pair
@@ -154,6 +162,14 @@ module _ (m : Mounted) (windows : List WeakRun) (narrow : IsNarrow (weak_of wind
   own_at p q twin here there = ⊎_elim
       (λ same. subst IsOwn (sym (found p same)) (subst (λ (x : ℕ). IsOwn (anchor_at i x)) (twin same) there))
       (λ differs. subst IsOwn (sym (ap (λ (x : Sector). option_and_then read_anchor (bytes_of x)) (other p differs))) here) (same_or p s)
+
+  closed_found : (p : ℕ) → p ≡ s → closed_at (with_sector i s bytes) p ≡ closed_at i t
+  closed_found p here = ap (closed_at (with_sector i s bytes)) here ∙ ap (λ (x : Sector). option_and_then read_closed (bytes_of x)) (with_same i s bytes room_s ∙ sym whole)
+
+  open_at : (p q : ℕ) → ((p ≡ s) → q ≡ t) → closed_at i p ≡ None → closed_at i q ≡ None → closed_at (with_sector i s bytes) p ≡ None
+  open_at p q twin here there = ⊎_elim
+      (λ same. closed_found p same ∙ ap (closed_at i) (sym (twin same)) ∙ there)
+      (λ differs. ap (λ (x : Sector). option_and_then read_closed (bytes_of x)) (other p differs) ∙ here) (same_or p s)
 
   twin_of_8 : ArePair m.volume.layout s t → 8 ≡ s → 12 ≡ t
   twin_of_8 (inl (inl r)) e = absurd (omega (arith, r.0, e))
@@ -188,6 +204,7 @@ module _ (m : Mounted) (windows : List WeakRun) (narrow : IsNarrow (weak_of wind
   own_now = record {
     roots = (root_now 0 (λ e. root_bytes_are pair e (inl refl)) is.over.own.roots.0, root_now 4 (λ e. root_bytes_are pair e (inr refl)) is.over.own.roots.1);
     own = (own_at 8 12 (twin_of_8 pair) own.0 own.1, own_at 12 8 (twin_of_12 pair) own.1 own.0);
+    opened = (open_at 8 12 (twin_of_8 pair) shut.0 shut.1, open_at 12 8 (twin_of_12 pair) shut.1 shut.0);
     log = subst (λ t. IsLog m.volume.layout m.anchor.epoch m.anchor.first t is.records m.head) (sym (same_tape m.volume.layout i (with_sector i s bytes) log_same m.anchor.third is.third)) is.over.own.log;
     laid = all_laid_log m.volume.layout m.anchor (weak_of windows) i (with_sector i s bytes) log_same is.records
         (subst (AllByRecursion (IsRecord m.volume.layout m.anchor.third)) (ap (λ (w : Walked). w.records) is.over.own.log.scanned) (scan_records m.volume.layout i m.anchor is.third)) is.over.own.laid;

@@ -11,6 +11,7 @@ use Rattle.sector_disk.specs.Image.{sector_at}
 use Rattle.fsd_log.specs.Scan.{Placed, Head, IsLog, place_of, tape}
 use Rattle.fsd_files.specs.Disk.{Image, Sectors, Has, bytes_at}
 use Rattle.fsd_sound.specs.Anchors.{EachAnchor}
+use Rattle.fsd_sound.specs.Saved.{IsOpen}
 
 module _ (l : Layout) (a : Anchor) (weak : Sectors) (i : Image) where
   abbrev pub stamp_of : Placed → Stamp
@@ -62,10 +63,11 @@ pub record StandsTwice (gap : ℕ) (weak : Sectors) (i : Image) (bytes : List �
 abbrev pub HasOwnRoots : Layout → Sectors → Image → Type 0
 HasOwnRoots l weak i = Has weak i (root_bytes l) 0 × Has weak i (root_bytes l) 4
 
--- The log of a mounted volume: each root and each anchor that stands is its own, by that anchor the log is these records
--- and the head behind them, and they stand as they were laid.
+-- The log of a mounted volume: each root and each anchor that stands is its own, and says of no volume that it was closed;
+-- by that anchor the log is these records and the head behind them, and they stand as they were laid.
 pub record HasOwnLog (l : Layout) (a : Anchor) (records : List Placed) (head : Head) (weak : Sectors) (i : Image) : Type 0 where
   pub roots : HasOwnRoots l weak i
   pub own : EachAnchor i (λ b. b ≡ a)
+  pub opened : IsOpen i
   pub log : IsLog l a.epoch a.first (tape l a.third (bytes_at i)) records head
   pub laid : AllLaid l a weak i records

@@ -9,6 +9,7 @@ pub mod Lost
 pub mod Mounting
 pub mod Mounted
 pub mod Roots
+pub mod Saved
 pub mod Shown
 pub mod Sound
 pub mod Stands

@@ -20,6 +20,7 @@ use Rattle.fsd_files.specs.Kept.{Describes}
 use Rattle.fsd_sound.specs.Anchors.{anchor_at, anchor_of, EachAnchor}
 use Rattle.fsd_sound.specs.Laid.{IsLaid}
 use Rattle.fsd_table.specs.Table.{Telling, told_in}
+use Rattle.fsd_sound.specs.Saved.{SavesPages}
 use Rattle.fsd_sound.specs.Shown.{records_by, shown, told}
 
 -- P of the bytes, if the sector is Whole
@@ -155,10 +156,11 @@ pub record IsReadable (l : Layout) (windows : List WeakRun) (i : Image) : Type 0
   pub homes : (j : Image) → IsWorn (weak_of windows) i j → HasHomes l j
 
 -- The image may stand after these changes, the first f of them forced: however its weak run wears, it tells a prefix of
--- them with every forced one.
+-- them with every forced one, and shows what its saved map says, where its volume was closed.
 pub record IsSound (l : Layout) (windows : List WeakRun) (h : List Change) (f : ℕ) (i : Image) : Type 0 where
   pub readable : IsReadable l windows i
   pub tells : (j : Image) → IsWorn (weak_of windows) i j → Tells l (in_runs windows) j h f (told l j)
+  pub saved : (j : Image) → IsWorn (weak_of windows) i j → (pages : List (List ℕ)) → shown l j ≡ Some pages → SavesPages l i pages
 
 -- the pages that are shown are one of these lists
 abbrev pub ShowsOne : List (List (List ℕ)) → Option (List (List ℕ)) → Type 0
@@ -185,3 +187,4 @@ pub record TellsPrefix (l : Layout) (windows : List WeakRun) (h : List Change) (
   pub count : ℕ
   pub prefix : IsPrefixOf h f count
   pub described : Describes l (in_runs windows) i (after (take count h)) telling.entries
+  pub saved : SavesPages l i pages

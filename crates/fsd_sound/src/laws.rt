@@ -13,6 +13,7 @@ ghost use Rattle.fsd_sound.specs.Format.{IsFormatted, IsFormattedIn};
 ghost use Rattle.fsd_log.specs.Scan.{Placed, Head};
 ghost use Rattle.fsd_sound.specs.Mounted.{Mounted, StandsOver, HasOpen, IsMounted, SameStays, SameTaken, SameData, ChangesTo, IsFreshlyMounted, IsSameEpoch, forces_by_itself, telling_of, with_forced};
 ghost use Rattle.fsd_table.specs.Table.{one_leaf, told_in};
+ghost use Rattle.fsd_sound.specs.Saved.{IsOpen, SavesPages};
 ghost use Rattle.fsd_sound.specs.Shown.{told};
 ghost use Rattle.fsd_sound.specs.Sound.{BearsLast, EndIn, weak_of, IsSaid, IsSound, IsStill, ShowsPages, Tells, TellsPrefix};
 ghost use Rattle.fsd_sound.specs.Choices.{TellsChoices};
@@ -60,11 +61,12 @@ pub fn open_windows_wear_soundly()
         IsWorn (open_damage now) i j → IsSound l windows h f i → IsSound l windows h f j }
 {}
 
-/// A disk is sound where each list of pages that it may show tells a prefix of the changes.
+/// A disk is sound where each list of pages that it may show tells a prefix of the changes, and what its saved map says.
 pub fn sound_from_pages()
     ensures { (l : Layout) (windows : List WeakRun) (h : List Change) (f : ℕ) (choices : List (List (List ℕ))) (i : Image) →
         ShowsPages l windows choices i →
         ((pages : List (List ℕ)) → Contains choices pages → Tells l (in_runs windows) i h f (told_in pages)) →
+        ((pages : List (List ℕ)) → Contains choices pages → SavesPages l i pages) →
         IsSound l windows h f i }
 {}
 
@@ -129,7 +131,7 @@ pub fn changes_wait_for_a_force()
 /// changes are forced. The anchor of the log may have moved on.
 pub fn forces_commit_all_changes()
     ensures during { (m : Mounted) (windows : List WeakRun) (h : List Change) (f : ℕ) (i j : Image) (now : List (List ℕ)) → (is : IsMounted m windows h f i) → SameData m.volume.layout (in_runs windows) i j →
-        told_in now ≡ Some (telling_of m.volume) → ShowsPages m.volume.layout windows (is.disk ∷ now ∷ []) j → IsSound m.volume.layout windows h f j }
+        IsOpen j → told_in now ≡ Some (telling_of m.volume) → ShowsPages m.volume.layout windows (is.disk ∷ now ∷ []) j → IsSound m.volume.layout windows h f j }
     ensures done { (m : Mounted) (windows : List WeakRun) (h : List Change) (f : ℕ) (i j : Image) (now : List (List ℕ)) (anchor : Anchor) (head : Head) (records : List Placed) → IsMounted m windows h f i → SameData m.volume.layout (in_runs windows) i j →
         told_in now ≡ Some (telling_of m.volume) → IsSameEpoch m.anchor anchor →
         StandsOver m.volume.layout anchor head records now now [] windows j → IsMounted (with_forced m now anchor head) windows h (length h) j }

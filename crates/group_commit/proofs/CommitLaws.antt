@@ -26,6 +26,7 @@ idle_commits log s records disk now windows old over = record {
   shows = record { readable = over.shows.readable; shows = λ j worn. shows_more disk now (shown log.layout j) (over.shows.shows j worn) };
   kept = λ t ge. inl refl;
   outside = record { size = refl; others = λ t out. inl refl };
+  opened = over.own.opened;
   windows = refl;
   said = refl;
 }

@@ -1,6 +1,6 @@
 -- Once the pages of the first third stand at home the anchor moves on, and the same pages are shown.
 use Rattle.std.proofs.Common.{◌≡◌, inl, inr, ⊎_elim, ℕ, zero, suc, ◌+◌, ◌<◌, ◌≤◌, Bool, true, false, cond, List, [], ◌∷◌, ◌++◌, length, map, Option, Some, None, refl, sym, ap, subst, ◌∙◌, arith}
-use Rattle.std.specs.Prelude.{IfSome}
+use Rattle.std.specs.Prelude.{IfSome, option_and_then}
 use Rattle.std.specs.List.{AllByRecursion}
 use Rattle.std.specs.Option.{option_or}
 use Rattle.std.proofs.lemmas.List.{length-set, map-append}
@@ -9,8 +9,9 @@ use Rattle.volume_layout.specs.Layout.{home_a, home_b, third_start}
 use Rattle.volume_layout.specs.Root.{root_bytes}
 use Rattle.volume_layout.proofs.RootLaws.{planned_bounds}
 use Rattle.fsd_formats.specs.declared.anchor.Anchor.{Anchor}
-use Rattle.fsd_formats.specs.Anchors.{anchor_bytes}
+use Rattle.fsd_formats.specs.Anchors.{anchor_bytes, read_closed}
 use Rattle.fsd_formats.specs.Record.{header_bytes, end_bytes}
+use Rattle.sector_disk.specs.declared.sector.Sector.{Sector}
 use Rattle.sector_disk.specs.declared.sector.Sector.TheVariants.{Whole}
 use Rattle.sector_disk.specs.declared.sector.WeakRun.{WeakRun}
 use Rattle.sector_disk.specs.Image.{sector_at, with_sector, stand, IsWorn, open_damage}
@@ -21,7 +22,7 @@ use Rattle.sector_disk.proofs.Holding.{over_two}
 use Rattle.sector_disk.proofs.ResultLaws.{option_or-assoc, option_or-none}
 use Rattle.fsd_log.specs.Images.{image_in, last_image}
 use Rattle.fsd_log.specs.Scan.{Placed, Walked, newer_of, is_newer, place_of}
-use Rattle.fsd_files.specs.Disk.{Image, Sectors, Has}
+use Rattle.fsd_files.specs.Disk.{Image, Sectors, Has, bytes_of}
 use Rattle.fsd_sound.specs.Anchors.{anchor_at, anchor_of, EachAnchor}
 use Rattle.fsd_sound.specs.Homes.{home_of}
 use Rattle.fsd_sound.specs.Laid.{HasOwnLog, AllStand, HasFront, HasCopies, AllLaid}
@@ -44,6 +45,8 @@ use Rattle.fsd_sound.proofs.CommuteLaws.{with_same, with_other, worn_or_over, sh
 use Rattle.fsd_sound.proofs.CoverLaws.{copies_alike, stand_any}
 use Rattle.group_commit.proofs.GivenLaws.{gives_last}
 use Rattle.fsd_sound.proofs.HomedLaws.{either_reads}
+use Rattle.fsd_sound.specs.Saved.{IsOpen}
+use Rattle.fsd_sound.proofs.SavedLaws.{plain_is_open}
 use Rattle.fsd_sound.proofs.SectorFacts.{same_bytes}
 use Rattle.fsd_sound.proofs.LaidLaws.{all_laid_worn, has_worn}
 use Rattle.fsd_sound.proofs.MoveLaws.{IsLater, IsHomedIn, MayMoveOn, anchor_found, moved_stands}
@@ -323,6 +326,21 @@ module _ (log : LogValue) (records : List Placed) (disk : List (List ℕ)) (wind
   record Part (e : Image) : Type 0 where
     shows : ShowsPages log.layout windows (disk ∷ []) e
     same : (s : ℕ) → (s ≡ 8 → ⊥) → (s ≡ 12 → ⊥) → sector_at e s ≡ sector_at at.image s
+    opened : IsOpen e
+
+  -- a moved anchor does not say that its volume was closed
+  open_one : IsOpen (with_sector at.image 8 (anchor_bytes (moved_anchor log)))
+  open_one = (
+    plain_is_open (with_sector at.image 8 (anchor_bytes (moved_anchor log))) 8 (moved_anchor log) (with_same at.image 8 (anchor_bytes (moved_anchor log)) (omega (arith, room))),
+    ap (λ (x : Sector). option_and_then read_closed (bytes_of x)) (with_other at.image 8 12 (anchor_bytes (moved_anchor log)) (λ e. omega (arith, e))) ∙ at.over.own.opened.1,
+  )
+
+  open_two : IsOpen (with_sector (with_sector at.image 8 (anchor_bytes (moved_anchor log))) 12 (anchor_bytes (moved_anchor log)))
+  open_two = (
+    ap (λ (x : Sector). option_and_then read_closed (bytes_of x)) (with_other (with_sector at.image 8 (anchor_bytes (moved_anchor log))) 12 8 (anchor_bytes (moved_anchor log)) (λ e. omega (arith, e))) ∙ open_one.0,
+    plain_is_open (with_sector (with_sector at.image 8 (anchor_bytes (moved_anchor log))) 12 (anchor_bytes (moved_anchor log))) 12 (moved_anchor log)
+        (with_same (with_sector at.image 8 (anchor_bytes (moved_anchor log))) 12 (anchor_bytes (moved_anchor log)) (omega (arith, room, long_one))),
+  )
 
   two_is : with_anchors (moved_anchor log) at.image 1 1 ≡ with_sector (with_sector at.image 8 (anchor_bytes (moved_anchor log))) 12 (anchor_bytes (moved_anchor log))
   two_is = ap (λ (i : Image). stand i 12 (anchor_bytes (moved_anchor log)) 1) (stand_one at.image 8 (anchor_bytes (moved_anchor log)) bytes_long) ∙ stand_one (with_sector at.image 8 (anchor_bytes (moved_anchor log))) 12 (anchor_bytes (moved_anchor log)) bytes_long
@@ -331,12 +349,12 @@ module _ (log : LogValue) (records : List Placed) (disk : List (List ℕ)) (wind
   same_two s first second = with_other (with_sector at.image 8 (anchor_bytes (moved_anchor log))) 12 s (anchor_bytes (moved_anchor log)) second ∙ with_other at.image 8 s (anchor_bytes (moved_anchor log)) first
 
   part : (first copy : ℕ) → copy ≤ first → first ≤ 1 → Part (with_anchors (moved_anchor log) at.image first copy)
-  part zero zero le once = record { shows = at.over.shows; same = λ s first second. refl }
+  part zero zero le once = record { shows = at.over.shows; same = λ s first second. refl; opened = at.over.own.opened }
   part zero (suc k) le once = absurd (omega (arith, le))
   part (suc zero) zero le once = subst Part (sym (stand_one at.image 8 (anchor_bytes (moved_anchor log)) bytes_long))
-      (record { shows = all_shows log.layout windows at.over.shows.readable.borne (disk ∷ []) (with_sector at.image 8 (anchor_bytes (moved_anchor log))) (both_same log.layout windows at.image (with_sector at.image 8 (anchor_bytes (moved_anchor log))) at.over.shows.readable (λ s head. with_other at.image 8 s (anchor_bytes (moved_anchor log)) (λ e. omega (arith, e, head)))) stands_one; same = λ s first second. with_other at.image 8 s (anchor_bytes (moved_anchor log)) first })
+      (record { shows = all_shows log.layout windows at.over.shows.readable.borne (disk ∷ []) (with_sector at.image 8 (anchor_bytes (moved_anchor log))) (both_same log.layout windows at.image (with_sector at.image 8 (anchor_bytes (moved_anchor log))) at.over.shows.readable (λ s head. with_other at.image 8 s (anchor_bytes (moved_anchor log)) (λ e. omega (arith, e, head)))) stands_one; same = λ s first second. with_other at.image 8 s (anchor_bytes (moved_anchor log)) first; opened = open_one })
   part (suc zero) (suc zero) le once = subst Part (sym two_is)
-      (record { shows = all_shows log.layout windows at.over.shows.readable.borne (disk ∷ []) (with_sector (with_sector at.image 8 (anchor_bytes (moved_anchor log))) 12 (anchor_bytes (moved_anchor log))) (both_same log.layout windows at.image (with_sector (with_sector at.image 8 (anchor_bytes (moved_anchor log))) 12 (anchor_bytes (moved_anchor log))) at.over.shows.readable (λ s head. same_two s (λ e. omega (arith, e, head)) (λ e. omega (arith, e, head)))) stands_two; same = same_two })
+      (record { shows = all_shows log.layout windows at.over.shows.readable.borne (disk ∷ []) (with_sector (with_sector at.image 8 (anchor_bytes (moved_anchor log))) 12 (anchor_bytes (moved_anchor log))) (both_same log.layout windows at.image (with_sector (with_sector at.image 8 (anchor_bytes (moved_anchor log))) 12 (anchor_bytes (moved_anchor log))) at.over.shows.readable (λ s head. same_two s (λ e. omega (arith, e, head)) (λ e. omega (arith, e, head)))) stands_two; same = same_two; opened = open_two })
   part (suc zero) (suc (suc k)) le once = absurd (omega (arith, le))
   part (suc (suc j)) k le once = absurd (omega (arith, once))
 
@@ -352,7 +370,7 @@ module _ (log : LogValue) (records : List Placed) (disk : List (List ℕ)) (wind
   moving_shows left anchors =
       let is = part anchors.first anchors.copy anchors.in_order anchors.once in
       shows_now log records disk windows old may (with_anchors (moved_anchor log) at.image anchors.first anchors.copy) left (holds_anchors left anchors.first anchors.copy anchors.holds) is.shows (anchors_long anchors.first anchors.copy)
-      (λ s out. is.same s (λ e. out (inr (inl (inl e)))) (λ e. out (inr (inl (inr e)))) ∙ at.outside s out)
+      (λ s out. is.same s (λ e. out (inr (inl (inl e)))) (λ e. out (inr (inl (inr e)))) ∙ at.outside s out) is.opened
 
   module _ (left : Moment) (holds : Holds now (with_anchors (moved_anchor log) now.image 1 1) left) where
     worn_two : IsWorn (weak_of windows) (with_sector (with_sector at.image 8 (anchor_bytes (moved_anchor log))) 12 (anchor_bytes (moved_anchor log))) left.image
@@ -387,6 +405,7 @@ module _ (log : LogValue) (records : List Placed) (disk : List (List ℕ)) (wind
             own = record {
               roots = (root_two 0 (omega arith) at.over.own.roots.0, root_two 4 (omega arith) at.over.own.roots.1);
               own = own_two;
+              opened = shows.opened;
               log = log_worn left.image (worn_refl (open_damage left.windows) left.image);
               laid = all_laid_worn log.layout (moved_anchor log) (weak_of windows) (with_sector (with_sector at.image 8 (anchor_bytes (moved_anchor log))) 12 (anchor_bytes (moved_anchor log))) left.image (records_moved log.layout records) worn_two
                   (all_laid_same log.layout (moved_anchor log) (weak_of windows) at.image (with_sector (with_sector at.image 8 (anchor_bytes (moved_anchor log))) 12 (anchor_bytes (moved_anchor log))) same_log (records_moved log.layout records) are (laid_moved at.image at.over.own.laid));

@@ -11,7 +11,7 @@ use Rattle.volume_layout.specs.Root.{root_bytes}
 use Rattle.volume_layout.specs.Kinds.{gap_of}
 use Rattle.run_table.specs.Space.{contains}
 use Rattle.fsd_formats.specs.declared.anchor.Anchor.{Anchor}
-use Rattle.fsd_formats.specs.Anchors.{read_anchor}
+use Rattle.fsd_formats.specs.Anchors.{read_anchor, read_closed}
 use Rattle.fsd_formats.specs.Record.{Stamp, header_bytes, end_bytes, bears, record_len}
 use Rattle.sector_disk.specs.declared.sector.Sector.{Sector}
 use Rattle.sector_disk.specs.declared.sector.Sector.TheVariants.{Whole, Damaged}
@@ -33,6 +33,7 @@ use Rattle.fsd_sound.specs.Laid.{HasOwnLog, AllStand, HasFront, HasCopies, GoodC
 use Rattle.fsd_sound.specs.Shown.{records_by, newest, each_of, all_pages, shown_by, shown}
 use Rattle.fsd_sound.specs.Sound.{disk_records, IfWhole, is_home, is_twin, HasRoots, EachStamp, HasAnchors, IsSuffix, ScansAgree, HasLog, HasHomes, EndIn, IsRootOf, SaysTurned, at_rest, weak_of, ShowsOne}
 use Rattle.fsd_sound.proofs.SaidLaws.{own_roots_say, says_same, says_worn, some_same}
+use Rattle.fsd_sound.specs.Saved.{IsOpen}
 use Rattle.fsd_sound.proofs.SoundLaws.{shows_still}
 use Rattle.fsd_sound.proofs.WindowLaws.{open_is_weak}
 use Rattle.fsd_sound.specs.Stands.{StandsShown}
@@ -284,6 +285,13 @@ module _ (log : LogValue) (s : ResidentValue) (images : List ℕ) (records : Lis
       own_to (anchor_at base 12) (anchor_at i 12) P Q a (anchor_same 12 (omega arith)) over.own.own.1 was.1 to,
     )
 
+    -- none says that its volume was closed
+    opened : IsOpen i
+    opened = (
+      ap (λ (x : Sector). option_and_then read_closed (bytes_of x)) (same_far 8 (inl (omega arith))) ∙ over.own.opened.0,
+      ap (λ (x : Sector). option_and_then read_closed (bytes_of x)) (same_far 12 (inl (omega arith))) ∙ over.own.opened.1,
+    )
+
     own : EachAnchor i (λ b. b ≡ a)
     own = each_to (λ b. b ≡ a) (λ b. b ≡ a) over.own.own (λ e. e)
 
@@ -493,7 +501,7 @@ module _ (log : LogValue) (s : ResidentValue) (images : List ℕ) (records : Lis
     stands_now whole = stands_new (now ∷ []) (0, omega arith, refl) (omega (arith, whole)) (ap (λ (w : Walked). w.records) (log_now whole).scanned)
 
     own_now : stood ≡ record_len (gap_of log.layout) n → HasOwnLog l a (records ++ r ∷ []) (head_past log n) hurt i
-    own_now whole = record { roots = (root_has 0 (omega arith) m.over.own.roots.0, root_has 4 (omega arith) m.over.own.roots.1); own = own; log = log_now whole; laid = all_more (omega (arith, whole)) }
+    own_now whole = record { roots = (root_has 0 (omega arith) m.over.own.roots.0, root_has 4 (omega arith) m.over.own.roots.1); own = own; opened = opened; log = log_now whole; laid = all_more (omega (arith, whole)) }
 
   -- ---- the two claims of a force
 
@@ -523,6 +531,7 @@ module _ (log : LogValue) (s : ResidentValue) (images : List ℕ) (records : Lis
           (λ same. inl (same ∙ stand_other old.image place bytes part.stood t (apart_from t part.stood (λ inside. out (inl inside)) part.within)))
           (λ hurt. inr hurt) (part.holds.worn.each t);
     };
+    opened = opened left.image part.stood part.within (in_window part.stood left part.holds);
     windows = part.holds.windows;
     said = part.holds.said;
   }

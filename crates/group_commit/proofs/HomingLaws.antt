@@ -21,7 +21,7 @@ use Rattle.sector_disk.proofs.Holding.{holds_now, holds_wears, over_two}
 use Rattle.sector_disk.proofs.Wear.{worn_trans}
 use Rattle.fsd_log.specs.Images.{last_image}
 use Rattle.fsd_log.specs.Scan.{Head, Placed, Walked, IsLog, start, tape}
-use Rattle.fsd_files.specs.Disk.{Image, Sectors, bytes_at}
+use Rattle.fsd_files.specs.Disk.{Image, Sectors, bytes_at, bytes_of}
 use Rattle.fsd_sound.specs.Laid.{HasOwnLog, AllLaid}
 use Rattle.fsd_sound.specs.Mounted.{image_at}
 use Rattle.fsd_sound.specs.Shown.{records_by, newest}
@@ -42,6 +42,8 @@ use Rattle.fsd_sound.specs.Windows.{IsNarrow}
 use Rattle.fsd_sound.specs.Logged.{IsLogged}
 use Rattle.fsd_sound.proofs.CommuteLaws.{with_same, with_other}
 use Rattle.group_commit.proofs.GivenLaws.{given_is, never_lost}
+use Rattle.fsd_sound.specs.Saved.{IsOpen}
+use Rattle.fsd_sound.proofs.SavedLaws.{closes_none, stays_open, worn_closes}
 use Rattle.fsd_sound.proofs.LaidLaws.{own_worn}
 use Rattle.fsd_sound.proofs.MendLaws.{logged_shows}
 use Rattle.fsd_sound.proofs.AlikeLaws.{log_same, each_same}
@@ -69,6 +71,7 @@ own_same l a weak i j front low records head own =
     record {
       roots = (has_same l a weak i j (root_bytes l) 0 (front 0 (omega arith)) own.roots.0, has_same l a weak i j (root_bytes l) 4 (front 4 (omega arith)) own.roots.1);
       own = each_same l i j (λ s from lt. front s lt) (λ b. b ≡ a) (λ b. b ≡ a) (λ b low is. is) own.own;
+      opened = stays_open i j (closes_none i j (λ bytes there. ap bytes_of (sym (front 8 (omega arith))) ∙ there) (λ bytes there. ap bytes_of (sym (front 12 (omega arith))) ∙ there)) own.opened;
       log = subst (λ t. IsLog l a.epoch a.first t records head) (sym (same_tape l i j same a.third low)) own.log;
       laid = all_laid_same l a weak i j same records are own.laid;
     }
@@ -112,10 +115,11 @@ module _ (log : LogValue) (records : List Placed) (disk : List (List ℕ)) (wind
   pub begin : OwnsLog log records disk windows old.image → IsHoming log records disk windows old 0 old
   begin over = record { image = old.image; holds = holds_now old; over = over; done = λ page lt. absurd (omega (arith, lt)); size = refl; outside = λ s out. refl }
 
-  pub shows_now : (e : Image) (left : Moment) → Holds old e left → ShowsPages log.layout windows (disk ∷ []) e → length e ≡ length old.image → ((s : ℕ) → (MayWrite log.layout s → ⊥) → sector_at e s ≡ sector_at old.image s) → ShowsDisk log.layout windows disk old left
-  shows_now e left holds shows size outside = record {
+  pub shows_now : (e : Image) (left : Moment) → Holds old e left → ShowsPages log.layout windows (disk ∷ []) e → length e ≡ length old.image → ((s : ℕ) → (MayWrite log.layout s → ⊥) → sector_at e s ≡ sector_at old.image s) → IsOpen e → ShowsDisk log.layout windows disk old left
+  shows_now e left holds shows size outside opened = record {
     shows = shows_still log.layout windows narrow (disk ∷ []) e left.image (weaker e left.image holds.worn) shows;
     outside = record { size = holds.worn.size ∙ size; others = λ s out. ⊎_elim (λ same. inl (same ∙ outside s out)) (λ hurt. inr hurt) (holds.worn.each s) };
+    opened = stays_open e left.image (worn_closes (open_damage old.windows) e left.image holds.worn) opened;
     windows = holds.windows;
     said = holds.said;
   }
@@ -125,7 +129,7 @@ module _ (log : LogValue) (records : List Placed) (disk : List (List ℕ)) (wind
     still left wears = record { image = at.image; holds = holds_wears old at.image now left at.holds wears; over = at.over; done = at.done; size = at.size; outside = at.outside }
 
     pub stays : (left : Moment) → Wears now left → ShowsDisk log.layout windows disk old left
-    stays left wears = shows_now at.image left (holds_wears old at.image now left at.holds wears) at.over.shows at.size at.outside
+    stays left wears = shows_now at.image left (holds_wears old at.image now left at.holds wears) at.over.shows at.size at.outside at.over.own.opened
 
     -- none is left
     pub all_homed : ((q : ℕ) → n ≤ q → q < log.layout.pages → LastLiesIn log records log.anchor.third q → ⊥) → IsHoming log records disk windows old log.layout.pages now
@@ -226,7 +230,7 @@ module _ (log : LogValue) (records : List Placed) (disk : List (List ℕ)) (wind
       homes_stay left homes =
           let part = homed_part homes.first homes.second homes.in_order homes.once in
           shows_now (stand (stand at.image (home_a log.layout page) bytes homes.first) (home_b log.layout page) bytes homes.second) left
-          (over_two old now left at.image (home_a log.layout page) (home_b log.layout page) bytes homes.first homes.second at.holds homes.holds) part.over.shows (part.many ∙ at.size) (part_outside _ part)
+          (over_two old now left at.image (home_a log.layout page) (home_b log.layout page) bytes homes.first homes.second at.holds homes.holds) part.over.shows (part.many ∙ at.size) (part_outside _ part) part.over.own.opened
 
       -- the pages between have no image in the first third
       pub homes_next : bytes ≡ image_at disk page → ((q : ℕ) → n ≤ q → q < page → LastLiesIn log records log.anchor.third q → ⊥) → (new : Moment)

@@ -50,6 +50,7 @@ module _ (log : LogValue) (s : ResidentValue) (records : List Placed) (disk : Li
     shows = record { readable = is.shows.readable; shows = λ j worn. shows_more disk now (shown log.layout j) (is.shows.shows j worn) };
     kept = λ t from. is.outside.others t (data_outside log.layout t from);
     outside = is.outside;
+    opened = is.opened;
     windows = is.windows;
     said = is.said;
   }
@@ -67,6 +68,7 @@ module _ (log : LogValue) (s : ResidentValue) (records : List Placed) (disk : Li
       shows = is.shows;
       kept = λ t from. on t (sector_at left.image t) (data_outside after.layout t from) (is.kept t from);
       outside = record { size = is.outside.size ∙ room.outside.size; others = λ t out. on t (sector_at left.image t) out (is.outside.others t out) };
+      opened = is.opened;
       windows = is.windows ∙ same;
       said = is.said ∙ said;
     }

@@ -20,15 +20,17 @@ use Rattle.log_thirds.specs.Append.{IsIndexed, LastLiesIn, stamp_now}
 use Rattle.log_thirds.specs.Images.{AreOfLogged}
 use Rattle.log_thirds.specs.LogValue.{LogValue, FitsLayout}
 use Rattle.log_thirds.specs.Moving.{moved, records_moved}
+use Rattle.fsd_sound.specs.Saved.{IsOpen}
 use Rattle.group_commit.specs.Force.{MayWrite, KeepsOutside}
 use Rattle.group_commit.specs.Room.{goes_before, log_before, pages_in_first, sectors_before}
 use Rattle.fsd_sound.specs.Windows.{IsApart}
 use Rattle.fsd_sound.specs.Homes.{IsAtHome}
 
--- The disk shows these pages, and only log, anchors and homes change.
+-- The disk shows these pages, and only log, anchors and homes change. No anchor says that its volume was closed.
 pub record ShowsDisk (l : Layout) (runs : List WeakRun) (disk : List (List ℕ)) (old left : Moment) : Type 0 where
   pub shows : ShowsPages l runs (disk ∷ []) left.image
   pub outside : KeepsOutside l old left
+  pub opened : IsOpen left.image
   pub windows : left.windows ≡ old.windows
   pub said : left.said ≡ old.said
 

@@ -10,6 +10,7 @@ use Rattle.fsd_formats.specs.Record.{record_len}
 use Rattle.fsd_log.specs.Scan.{Placed}
 use Rattle.fsd_files.specs.Disk.{Image, SectorWorn}
 use Rattle.fsd_sound.specs.Mounted.{StandsOver as Over}
+use Rattle.fsd_sound.specs.Saved.{IsOpen}
 use Rattle.fsd_sound.specs.Sound.{ShowsPages}
 use Rattle.log_thirds.specs.LogValue.{LogValue}
 use Rattle.log_thirds.specs.Append.{stamp_now, log_with}
@@ -52,11 +53,13 @@ pub record KeepsOutside (l : Layout) (old left : Moment) : Type 0 where
   pub size : length left.image ≡ length old.image
   pub others : (s : ℕ) → (MayWrite l s → ⊥) → SectorWorn (open_damage old.windows s) (sector_at old.image s) (sector_at left.image s)
 
--- At each moment the disk shows the pages as they were or as they are now, and only log, anchors and homes change.
+-- At each moment the disk shows the pages as they were or as they are now, and only log, anchors and homes change. No
+-- anchor says that its volume was closed.
 pub record Commits (l : Layout) (runs : List WeakRun) (disk now : List (List ℕ)) (old left : Moment) : Type 0 where
   pub shows : ShowsPages l runs (disk ∷ now ∷ []) left.image
   pub kept : KeepsData l old left
   pub outside : KeepsOutside l old left
+  pub opened : IsOpen left.image
   pub windows : left.windows ≡ old.windows
   pub said : left.said ≡ old.said
 

@@ -7,7 +7,7 @@ mod judging;
 mod laws;
 mod laying;
 
-pub use anchor::{anchor_bytes, read_anchor};
+pub use anchor::{anchor_bytes, closed_bytes, read_anchor, read_closed};
 pub use fsd_formats::Anchor;
 pub use header::MOST_PAGES;
 pub use judging::{Found, Judged, RECORD_BYTES, RECORD_SECTORS, headers, judge, reach};

@@ -23,6 +23,7 @@ pub record IsShaped (layout : Shape) (anchor : Anchor) (head : Head) (firsts : F
   pub inside : 16 + 3 * layout.third ≤ layout.sectors
   pub third : anchor.third ≤ 2
   pub begun : 1 ≤ anchor.epoch
+  pub opens : 1 ≤ anchor.first
   pub is_in : IsIn layout head
   pub numbers : AreNumbers head.number firsts
   pub table : length slots ≡ layout.pages

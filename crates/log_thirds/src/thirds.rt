@@ -1,5 +1,6 @@
 //! The log, and where its next record goes.
 use crate::anchors::{find_anchor, write_anchor};
+use crate::closing::close_both;
 use crate::fault::LogFault;
 use crate::find::{ScanStep, Scratch, next, place_of};
 use crate::firsts::Firsts;
@@ -82,7 +83,7 @@ impl Log {
     ghost use Rattle.fsd_log.specs.Images.{last_image};
     ghost use Rattle.log_thirds.specs.Copies.{copies_count, IsLast};
     ghost use Rattle.log_thirds.specs.Append.{Appends, AppendsNone, GoesAt, HasNoPages, IsIndexed, IsLeastOfThird, LeavesLog, NoneOfThird, StandsInPart, WritesRecord, of_kind, stamp_now};
-    ghost use Rattle.log_thirds.specs.Anchoring.{AnchorsIn, with_anchors, next_epoch, in_next_epoch};
+    ghost use Rattle.log_thirds.specs.Anchoring.{AnchorsIn, ClosesIn, with_anchors, with_closed, next_epoch, in_next_epoch};
     ghost use Rattle.log_thirds.specs.Moving.{EndsInLastThird, LeavesMoved, Moves, moved_anchor};
     ghost use Rattle.log_thirds.specs.Reading.{SeesAnchor, SeesLastEpoch, log_failed_at, read_failed_at};
 
@@ -453,6 +454,18 @@ impl Log {
         self.at = 0;
         self.end = third;
         Ok(())
+    }
+
+    /// Writes the log's anchor once more, to its first place and then to its second: it says there that the volume was
+    /// closed. Where it fails either may stand.
+    pub fn close_anchor<M: Machine>(&self, m: &mut M) -> Result<(), Failed>
+        requires sectors { self.now.layout.sectors ≤ (M.report m.old).sectors }
+        ensures writes { WritesDisk M.Machine (device_in failed_at result) (ClosesIn self.now.anchor) m.old m.new }
+        ensures counted { OnOk result (M.tells m.new → M.ledger m.new ≡ wrote (M.ledger m.old) 2) }
+        ensures most { M.tells m.new → (M.ledger m.new).written ≤ (M.ledger m.old).written + 2 }
+        ensures done { OnOk result (M.honest m.new → Holds (M.now m.old) (with_closed self.now.anchor (M.now m.old).image 1 1) (M.now m.new)) }
+    {
+        close_both(m, &self.anchor)
     }
 
     /// Writes the anchor that names the third behind the first one, to its first place and then to its second; the log

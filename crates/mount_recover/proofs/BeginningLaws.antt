@@ -9,7 +9,7 @@ use Rattle.volume_layout.specs.Layout.{home_a, home_b}
 use Rattle.volume_layout.proofs.RootLaws.{planned_bounds}
 use Rattle.volume_layout.specs.Kinds.{gap_of, longest_of}
 use Rattle.fsd_formats.specs.declared.anchor.Anchor.{Anchor}
-use Rattle.fsd_formats.specs.Anchors.{anchor_bytes, read_anchor}
+use Rattle.fsd_formats.specs.Anchors.{anchor_bytes, read_anchor, read_closed}
 use Rattle.fsd_formats.specs.Record.{Stamp}
 use Rattle.sector_disk.specs.declared.sector.Sector.{Sector}
 use Rattle.sector_disk.specs.declared.sector.Sector.TheVariants.{Whole}
@@ -22,6 +22,8 @@ use Rattle.sector_disk.proofs.Wear.{worn_trans, worn_more, worn_twice}
 use Rattle.fsd_log.specs.Scan.{is_newer, newer_of, start}
 use Rattle.fsd_files.specs.Disk.{Image, SectorWorn, Has, bytes_of}
 use Rattle.fsd_sound.specs.Anchors.{anchor_at, EachAnchor, fresh_anchor}
+use Rattle.fsd_sound.specs.Saved.{ClosesNone, IsOpen, closed_at}
+use Rattle.fsd_sound.proofs.SavedLaws.{open_closes, plain_is_open, stays_open, worn_closes}
 use Rattle.fsd_sound.specs.Shown.{newest, records_by, all_pages, shown_by}
 use Rattle.fsd_sound.specs.Sound.{EachStamp, ShowsPages, weak_of, BearsLast}
 use Rattle.fsd_sound.proofs.WindowLaws.{open_is_weak, next_borne, borne_narrow, borne_apart}
@@ -41,7 +43,7 @@ use Rattle.mount_recover.specs.Recover.{HasAnchorTwice}
 use Rattle.mount_recover.specs.Replay.{IsReplayed}
 use Rattle.mount_recover.proofs.KeepsLaws.{two_written}
 use Rattle.mount_recover.proofs.MountLaws.{open_settled}
-use Rattle.mount_recover.proofs.MendingLaws.{narrow}
+use Rattle.mount_recover.proofs.MendingLaws.{closes_same, narrow}
 use Rattle.fsd_sound.proofs.AnchorFacts.{newer_one}
 use Rattle.fsd_sound.proofs.EachLaws.{each_size}
 use Rattle.fsd_sound.proofs.SectorFacts.{whole_before}
@@ -245,18 +247,33 @@ module _ (l : Layout) (windows : List WeakRun) (choices : List (List (List ℕ))
   rest_two : SameElsewhere l first.image two
   rest_two s out = let is = elsewhere l s out in others_two s is.anchor is.anchor_copy ∙ at.rest s out
 
+  open_two : IsOpen two
+  open_two = (plain_is_open two 8 (fresh_anchor (log.anchor.epoch + 1)) begun.anchor, plain_is_open two 12 (fresh_anchor (log.anchor.epoch + 1)) begun.anchor_copy)
+
+  body_closes : ClosesNone first.image at.image
+  body_closes = closes_same first.image at.image (at.body 8 (omega arith) (omega arith)) (at.body 12 (omega arith) (omega arith))
+
+  -- one of the new anchors says of no volume that it was closed, and the other is as it was
+  one_closes : ClosesNone first.image one
+  one_closes = (
+    subst (λ (o : Option Anchor). IfSome o (λ a. closed_at first.image 8 ≡ Some a)) (sym (plain_is_open one 8 (fresh_anchor (log.anchor.epoch + 1)) (with_same at.image 8 (anchor_bytes (fresh_anchor (log.anchor.epoch + 1))) (omega (arith, room))))) tt,
+    subst (λ (o : Option Anchor). IfSome o (λ a. closed_at first.image 12 ≡ Some a))
+        (sym (ap (λ (x : Sector). option_and_then read_closed (bytes_of x)) (with_other at.image 8 12 (anchor_bytes (fresh_anchor (log.anchor.epoch + 1))) (λ e. omega arith)))) body_closes.1,
+  )
+
   record Renewed (e : Image) : Type 0 where
     shows : ShowsPages l windows choices e
     same : (s : ℕ) → s ≢ 8 → s ≢ 12 → sector_at e s ≡ sector_at at.image s
+    closes : ClosesNone first.image e
 
   stands_two : stand (stand at.image 8 bytes 1) 12 bytes 1 ≡ two
   stands_two = ap (λ (i : Image). stand i 12 bytes 1) (stand_one at.image 8 bytes bytes_long) ∙ stand_one one 12 bytes bytes_long
 
   renewed : (j k : ℕ) → k ≤ j → j ≤ 1 → Renewed (stand (stand at.image 8 bytes j) 12 bytes k)
-  renewed zero zero le once = record { shows = at.shows; same = λ s not_first not_copy. refl }
+  renewed zero zero le once = record { shows = at.shows; same = λ s not_first not_copy. refl; closes = body_closes }
   renewed zero (suc k) le once = absurd (omega (arith, le))
-  renewed (suc zero) zero le once = subst Renewed (sym (stand_one at.image 8 bytes bytes_long)) (record { shows = shows_one; same = λ s not_first not_copy. with_other at.image 8 s bytes not_first })
-  renewed (suc zero) (suc zero) le once = subst Renewed (sym stands_two) (record { shows = shows_two; same = others_two })
+  renewed (suc zero) zero le once = subst Renewed (sym (stand_one at.image 8 bytes bytes_long)) (record { shows = shows_one; same = λ s not_first not_copy. with_other at.image 8 s bytes not_first; closes = one_closes })
+  renewed (suc zero) (suc zero) le once = subst Renewed (sym stands_two) (record { shows = shows_two; same = others_two; closes = open_closes first.image two open_two })
   renewed (suc zero) (suc (suc k)) le once = absurd (omega (arith, le))
   renewed (suc (suc j)) k le once = absurd (omega (arith, once))
 
@@ -268,6 +285,7 @@ module _ (l : Layout) (windows : List WeakRun) (choices : List (List (List ℕ))
         holds = over_two first now left at.image 8 12 bytes anchors.first anchors.copy at.holds anchors.holds;
         shows = is.shows;
         log = λ s from inside. is.same s (λ e. omega (arith, e, from)) (λ e. omega (arith, e, from)) ∙ at.body s (omega (arith, from)) inside;
+        closes = is.closes;
         rest = λ s out. let other = elsewhere l s out in is.same s other.anchor other.anchor_copy ∙ at.rest s out;
       }
 
@@ -283,6 +301,7 @@ module _ (l : Layout) (windows : List WeakRun) (choices : List (List (List ℕ))
       holds = holds_wears first two mid left holds_mid wears;
       shows = shows_two;
       log = λ s from inside. behind_two s from ∙ at.body s (omega (arith, from)) inside;
+      closes = open_closes first.image two open_two;
       rest = rest_two;
     }
 
@@ -311,9 +330,12 @@ module _ (l : Layout) (windows : List WeakRun) (choices : List (List (List ℕ))
       worn_last : IsWorn (weak_of windows) two new.image
       worn_last = open_is_weak first.windows windows two new.image c.ends worn_new
 
+      open_new : IsOpen new.image
+      open_new = stays_open two new.image (worn_closes (weak_of windows) two new.image worn_last) open_two
+
       pub settled_so : HasSettled l windows choices first new
       settled_so = record {
-        after = record { run = named.0; settled = mounted.settled; pages = c.pages; chosen = c.chosen; shows = mounted.shows };
+        after = record { run = named.0; settled = mounted.settled; pages = c.pages; chosen = c.chosen; shows = mounted.shows; opened = open_new };
         log = λ s from inside. worn_twice (weak_of windows s) (sector_at first.image s) (sector_at two s) (sector_at new.image s) (inl (behind_two s from ∙ at.body s (omega (arith, from)) inside)) (worn_last.each s);
         rest = λ s out. worn_twice (weak_of windows s) (sector_at first.image s) (sector_at two s) (sector_at new.image s) (inl (rest_two s out)) (worn_last.each s);
         said = done.said ∙ holds_mid.said;
@@ -323,7 +345,7 @@ module _ (l : Layout) (windows : List WeakRun) (choices : List (List (List ℕ))
       replayed =
           let bounds = planned_bounds l c.planned in
           record {
-            after = record { run = named.0; settled = mounted.settled; pages = c.pages; chosen = c.chosen; shows = mounted.shows };
+            after = record { run = named.0; settled = mounted.settled; pages = c.pages; chosen = c.chosen; shows = mounted.shows; opened = open_new };
             log = own_worn l (omega (arith, bounds.pages_most)) (fresh_anchor (log.anchor.epoch + 1)) fits (omega arith) (weak_of (windows ++ named.0 ∷ [])) apart_next two new.image worn_next [] (start l 1)
                 (begun_own l (log.anchor.epoch + 1) c.pages two begun (windows ++ named.0 ∷ []));
             home = λ page lt. let is = begun.homed.home page lt in (

@@ -14,10 +14,12 @@ use Rattle.sector_disk.proofs.Calm.{stand_one}
 use Rattle.sector_disk.proofs.Holding.{holds_now, holds_wears, over_two, holds_on}
 use Rattle.sector_disk.proofs.Wear.{worn_whole, stand_other, length-stand, AllWorn-worn}
 use Rattle.fsd_log.specs.Images.{last_image}
-use Rattle.fsd_files.specs.Disk.{Image}
+use Rattle.fsd_files.specs.Disk.{Image, bytes_of}
 use Rattle.fsd_sound.specs.Anchors.{EachAnchor}
+use Rattle.fsd_sound.specs.Saved.{ClosesNone}
 use Rattle.fsd_sound.specs.Shown.{records_by}
 use Rattle.fsd_sound.specs.Sound.{ShowsPages, weak_of}
+use Rattle.fsd_sound.proofs.SavedLaws.{closes_none}
 use Rattle.fsd_sound.proofs.SoundLaws.{shows_still}
 use Rattle.fsd_sound.proofs.WindowLaws.{open_is_weak}
 use Rattle.log_thirds.specs.LogValue.{LogValue}
@@ -78,6 +80,13 @@ pub here_or : (p s : ℕ) → p < s + 1 → (p < s) ⊎ (p ≡ s)
 here_or p s lt = ⊎_elim (λ before. inl before) (λ past. inr (omega (arith, past, lt))) (cases_lt p s)
 
 -- ---- moments
+
+-- where the anchors are as they were none has closed
+pub closes_same : (i j : Image) → sector_at j 8 ≡ sector_at i 8 → sector_at j 12 ≡ sector_at i 12 → ClosesNone i j
+closes_same i j first second = closes_none i j (λ bytes there. ap bytes_of (sym first) ∙ there) (λ bytes there. ap bytes_of (sym second) ∙ there)
+
+closes_front : (i j : Image) (end : ℕ) → ((s : ℕ) → s < 16 + end → sector_at j s ≡ sector_at i s) → ClosesNone i j
+closes_front i j end front = closes_same i j (front 8 (omega arith)) (front 12 (omega arith))
 
 -- a home is written, so the log stays
 pub logged_on : (l : Layout) (weak : ℕ → Rattle.std.specs.Prelude.Bool) (page s : ℕ) (bytes : List ℕ) (i : Image) → s < length i → 16 + 3 * l.third ≤ s → IsLogged l weak page i → IsLogged l weak page (with_sector i s bytes)
@@ -156,7 +165,7 @@ module _ (l : Layout) (windows : List WeakRun) (choices : List (List (List ℕ))
     }
 
     pub stays : (left : Moment) → Wears now left → StaysShown l windows choices first left
-    stays left wears = record { image = at.image; holds = holds_wears first at.image now left at.holds wears; shows = at.shows; log = λ s from inside. at.front s inside; rest = at.rest }
+    stays left wears = record { image = at.image; holds = holds_wears first at.image now left at.holds wears; shows = at.shows; log = λ s from inside. at.front s inside; closes = closes_front first.image at.image (3 * l.third) at.front; rest = at.rest }
 
     long : home_b l l.pages ≤ length at.image
     long = let bounds = planned_bounds l c.planned in omega (arith, bounds.third_least, bounds.sectors_least, at.shows.readable.roots.fits)
@@ -201,6 +210,7 @@ module _ (l : Layout) (windows : List WeakRun) (choices : List (List (List ℕ))
         holds = holds;
         shows = part.shows;
         log = λ p from inside. part.others p (λ is. omega (arith, is, inside, home_room.1)) ∙ at.front p inside;
+        closes = closes_front first.image e (3 * l.third) (λ p inside. part.others p (λ is. omega (arith, is, inside, home_room.1)) ∙ at.front p inside);
         rest = λ p out. let is = elsewhere l p out in part.others p (not_home l page s p place (is.home page lt) (is.home_copy page lt)) ∙ at.rest p out;
       }
 
@@ -417,6 +427,8 @@ module _ (l : Layout) (windows : List WeakRun) (choices : List (List (List ℕ))
         holds = over_two first now left at.image 0 4 (root_bytes l) roots.first roots.second at.holds roots.holds;
         shows = is.shows;
         log = λ s from inside. is.others s (λ e. omega (arith, e, from)) (λ e. omega (arith, e, from)) ∙ at.front s inside;
+        closes = closes_same first.image (stand (stand at.image 0 (root_bytes l) roots.first) 4 (root_bytes l) roots.second)
+            (is.others 8 (λ e. omega (arith, e)) (λ e. omega (arith, e)) ∙ at.front 8 (omega arith)) (is.others 12 (λ e. omega (arith, e)) (λ e. omega (arith, e)) ∙ at.front 12 (omega arith));
         rest = λ s out. let other = elsewhere l s out in is.others s other.root other.root_copy ∙ at.rest s out;
       }
 

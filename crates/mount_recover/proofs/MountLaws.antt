@@ -31,6 +31,7 @@ use Rattle.fsd_sound.specs.Sound.{EndIn, IsRootAt, IsRootOf, IsSaid, SaysTurned,
 use Rattle.fsd_sound.proofs.LogPlaces.{IsRecord, scan_records}
 use Rattle.fsd_sound.proofs.SaidLaws.{says_worn}
 use Rattle.fsd_sound.proofs.SectorFacts.{not_damaged}
+use Rattle.fsd_sound.proofs.SavedLaws.{closes_more, worn_closes}
 use Rattle.fsd_sound.proofs.SoundLaws.{shows_still}
 use Rattle.fsd_sound.proofs.TurnedLaws.{said_shows}
 use Rattle.fsd_sound.proofs.WindowLaws.{open_is_weak, borne_apart}
@@ -141,7 +142,7 @@ module _ (sectors : ℕ) (l : Layout) (windows : List WeakRun) (choices : List (
   wears_replays left wears =
       let worn = weaker old.image left.image wears.image in
       record {
-        stage = inl (record { present = ap (λ (w : Windows). w.present) wears.windows; shows = shows_worn left.image wears.image });
+        stage = inl (record { present = ap (λ (w : Windows). w.present) wears.windows; shows = shows_worn left.image wears.image; closes = worn_closes (weak_of windows) old.image left.image worn });
         order = inl (λ s from. worn.each s);
         rest = λ s out. worn.each s;
         said = wears.said;
@@ -197,7 +198,7 @@ module _ (sectors : ℕ) (l : Layout) (windows : List WeakRun) (choices : List (
 
     pub replays_from : (left : Moment) → Replays l windows choices one left → Replays l windows choices old left
     replays_from left now = record {
-      stage = ⊎_elim (λ before. inl (record { present = before.present ∙ ap (λ (w : Windows). w.present) wears.windows; shows = before.shows })) (λ after. inr after) now.stage;
+      stage = ⊎_elim (λ before. inl (record { present = before.present ∙ ap (λ (w : Windows). w.present) wears.windows; shows = before.shows; closes = closes_more old.image one.image left.image (worn_closes (open_damage old.windows) old.image one.image wears.image) before.closes })) (λ after. inr after) now.stage;
       order = ⊎_elim (λ kept. inl (λ s from. from_one s (sector_at left.image s) (kept s from)))
           (λ done. inr (record { seen = done.seen; worn = worn_trans (weak_of windows) old.image one.image done.seen (weaker old.image one.image wears.image) done.worn; anchor = done.anchor; taken = done.taken; last = done.last })) now.order;
       rest = λ s out. from_one s (sector_at left.image s) (now.rest s out);
@@ -231,6 +232,8 @@ module _ (sectors : ℕ) (l : Layout) (windows : List WeakRun) (choices : List (
             stage = inl (record {
               present = ap (λ (w : Windows). w.present) at.holds.windows ∙ done.present ∙ ap (λ (w : Windows). w.present) wears.windows;
               shows = stays_show l windows choices log two done.is left at;
+              closes = closes_more old.image one.image left.image (worn_closes (open_damage old.windows) old.image one.image wears.image)
+                  (closes_more one.image two.image left.image done.closes (closes_more two.image at.image left.image at.closes (worn_closes (weak_of windows) at.image left.image worn)));
             });
             order = inr (in_order left (λ s from inside. worn_twice (weak_of windows s) (sector_at two.image s) (sector_at at.image s) (sector_at left.image s) (inl (at.log s from inside)) (worn.each s)));
             rest = rest_two left (λ s out. worn_twice (weak_of windows s) (sector_at two.image s) (sector_at at.image s) (sector_at left.image s) (inl (at.rest s out)) (worn.each s));

@@ -11,6 +11,7 @@ use Rattle.sector_disk.specs.Machine.{Moment, Holds}
 use Rattle.fsd_log.specs.Images.{last_image}
 use Rattle.fsd_files.specs.Disk.{Image, SectorWorn}
 use Rattle.fsd_sound.specs.Anchors.{anchor_of}
+use Rattle.fsd_sound.specs.Saved.{ClosesNone}
 use Rattle.fsd_sound.specs.Laid.{AllLaid}
 use Rattle.fsd_sound.specs.Shown.{records_by, shown}
 use Rattle.fsd_sound.specs.Sound.{weak_of, EndIn, ShowsPages}
@@ -122,6 +123,7 @@ pub record Completed (l : Layout) (windows : List WeakRun) (choices : List (List
   pub last : HasLastCopies l log.anchor (weak_of windows) (records_by l seen.image log.anchor) new.image
   pub kept : KeepsBehindLog l (weak_of windows) old.image new.image
   pub rest : WritesAsMount l (weak_of windows) old new
+  pub closes : ClosesNone old.image new.image
   pub present : new.windows.present ≡ old.windows.present
   pub said : new.said ≡ old.said
 
@@ -174,12 +176,13 @@ pub record IsMended (l : Layout) (windows : List WeakRun) (choices : List (List 
   pub rest : SameElsewhere l first.image image
 
 -- A moment from `healing` on: it is worn from an image that shows the pages, and has the log as it was,
--- and what lies where a mount does not write.
+-- and what lies where a mount does not write. What says there that the volume was closed said so before.
 pub record StaysShown (l : Layout) (windows : List WeakRun) (choices : List (List (List ℕ))) (first left : Moment) : Type 0 where
   pub image : Image
   pub holds : Holds first image left
   pub shows : ShowsPages l windows choices image
   pub log : (s : ℕ) → 16 ≤ s → s < 16 + 3 * l.third → sector_at image s ≡ sector_at first.image s
+  pub closes : ClosesNone first.image image
   pub rest : SameElsewhere l first.image image
 
 -- So it is, or the mount has settled.

@@ -10,6 +10,7 @@ use Rattle.fsd_log.specs.Scan.{Placed, start}
 use Rattle.fsd_files.specs.Disk.{Image, Sectors, SectorWorn, Has}
 use Rattle.fsd_sound.specs.Anchors.{anchor_of, fresh_anchor}
 use Rattle.fsd_sound.specs.Laid.{HasCopies, HasOwnLog}
+use Rattle.fsd_sound.specs.Saved.{ClosesNone, IsOpen}
 use Rattle.fsd_sound.specs.Shown.{records_by}
 use Rattle.fsd_sound.specs.Sound.{weak_of, IsSaid, ShowsPages}
 use Rattle.fsd_sound.specs.Writes.{WritesAsMount}
@@ -44,18 +45,22 @@ IsUnturned old left = left.windows.present ≡ old.windows.present
 abbrev pub TurnsLast : (old new left : Moment) → Type 0
 TurnsLast old new left = IsUnturned old left ⊎ (left ≡ new)
 
--- Before the mount settles: the present window is as it was, and the image shows one of the page lists.
+-- Before the mount settles: the present window is as it was, and the image shows one of the page lists. What says that the
+-- volume was closed said so before.
 pub record IsBefore (l : Layout) (windows : List WeakRun) (choices : List (List (List ℕ))) (old left : Moment) : Type 0 where
   pub present : left.windows.present ≡ old.windows.present
   pub shows : ShowsPages l windows choices left.image
+  pub closes : ClosesNone old.image left.image
 
--- After it: the run that was named is the present one, and the image shows one page list of them.
+-- After it: the run that was named is the present one, and the image shows one page list of them. Nothing says that the
+-- volume was closed.
 pub record IsBehindSettle (l : Layout) (windows : List WeakRun) (choices : List (List (List ℕ))) (left : Moment) : Type 0 where
   pub run : WeakRun
   pub settled : left.windows ≡ record { present = Some run; next = None }
   pub pages : List (List ℕ)
   pub chosen : Contains choices pages
   pub shows : ShowsPages l (windows ++ run ∷ []) (pages ∷ []) left.image
+  pub opened : IsOpen left.image
 
 -- A moment of a mount: the last record has its copies before anything is written behind the log,
 -- and nothing is written but where a mount writes.

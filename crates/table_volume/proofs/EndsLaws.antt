@@ -78,7 +78,7 @@ module _ (sectors : ℕ) (l : Layout) (windows : List WeakRun) (h : List Change)
       record {
         present = still;
         said = replays.said;
-        sound = sound_before sectors l windows h f old begun lists left.image before.shows (data_stays l (weak_of windows) old left replays.rest);
+        sound = sound_before sectors l windows h f old begun lists left.image before.shows before.closes (data_stays l (weak_of windows) old left replays.rest);
         writes = replays.rest;
       }
     where

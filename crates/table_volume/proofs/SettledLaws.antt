@@ -146,7 +146,7 @@ module _ (sectors : ℕ) (l : Layout) (windows : List WeakRun) (h : List Change)
       settled = wears.windows ∙ done.after.settled;
       said = wears.said ∙ said;
       sound = sound_still l later (apart_narrow l later apart_later) (take count h) count mid.image left.image (worn_later left.image wears.image)
-          (sound_since sectors l windows h f old begun lists run pages done.after.chosen mid.image done.after.shows same);
+          (sound_since sectors l windows h f old begun lists run pages done.after.chosen mid.image done.after.shows done.after.opened same);
       writes = λ s out. worn_both (weak_of windows s) (in_weak_run run s) (sector_at old.image s) (sector_at mid.image s) (sector_at left.image s) (rest s out) (worn_in s (wears.image.each s));
     }
       where

@@ -131,7 +131,7 @@ module _ (v : VolumeValue) (k : Known) (old : Moment) (whole : IsWholeVolume v) 
 
     pub leaves_sound : LeavesSound k (force_writes v.layout) old left
     leaves_sound = record {
-      sound = force_sound k.mounted k.windows k.changes (forced_of k) old.image left.image now stands.disk (same_data left commits.kept) told_now shows;
+      sound = force_sound k.mounted k.windows k.changes (forced_of k) old.image left.image now stands.disk (same_data left commits.kept) commits.opened told_now shows;
       windows = commits.windows;
       said = commits.said;
       touches = record { size = commits.outside.size; others = λ s out. commits.outside.others s (outside v.log.layout s (subst (λ (l : Layout). IsFalse (force_writes l s)) (sym whole.log) out)) };

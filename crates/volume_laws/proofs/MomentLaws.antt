@@ -26,6 +26,8 @@ use Rattle.fsd_sound.specs.Shown.{shown}
 use Rattle.fsd_sound.specs.Sound.{EndIn, HasHomes, HasLog, HasRoots, IsEither, IsPrefixOf, IsSaid, IsSound, LogsNothing, ShowsOne, ShowsPages, Tells, weak_of}
 use Rattle.fsd_sound.proofs.ChoiceLaws.{shows_choices}
 use Rattle.fsd_sound.proofs.MountedLaws.{describes_data, one_of}
+use Rattle.fsd_sound.specs.Saved.{ClosesNone, IsOpen, SavesPages}
+use Rattle.fsd_sound.proofs.SavedLaws.{open_closes, open_saves, saves_on, saves_turned, worn_reads}
 use Rattle.fsd_sound.proofs.SoundLaws.{sound_from_pages, weak_within_hurt}
 use Rattle.fsd_sound.proofs.TurnedLaws.{said_shows, said_sound}
 use Rattle.fsd_sound.proofs.WindowLaws.{last_snoc}
@@ -89,6 +91,7 @@ before_of l windows choices old left ends still is =
     record {
       present = still;
       shows = shows_alike l (windows ++ is.run ∷ []) windows choices is.pages left.image (last_snoc None windows is.run ∙ sym present ∙ still ∙ sym ends.last) is.chosen is.shows;
+      closes = open_closes old.image left.image is.opened;
     }
 
 -- ---- by the layout that the image says
@@ -102,12 +105,17 @@ module _ (l : Layout) (i : Image) (layout : Layout) where
   said_tells (inl is) hurt h f o tells = subst (λ (k : Layout). Tells k hurt i h f o) (sym is) tells
   said_tells (inr is) hurt h f o tells = subst (λ (k : Layout). Tells k hurt i h f o) (sym is.0) (tells_turned l hurt i h f o tells)
 
+  pub said_saves : IsSaid l i layout → (pages : List (List ℕ)) → SavesPages l i pages → SavesPages layout i pages
+  said_saves (inl is) pages saves = subst (λ (k : Layout). SavesPages k i pages) (sym is) saves
+  said_saves (inr is) pages saves = subst (λ (k : Layout). SavesPages k i pages) (sym is.0) (saves_turned l i pages saves)
+
   -- it shows the same page lists
   abbrev pub said_lists : IsSaid l i layout → (windows : List WeakRun) (h : List Change) (f : ℕ) → TellsChoices l windows h f i → TellsChoices layout windows h f i
   said_lists said windows h f lists = record {
     choices = lists.choices;
     shows = said_shows l windows lists.choices i layout said lists.shows;
     tells = λ pages one. said_tells said (in_runs windows) h f (told_in pages) (lists.tells pages one);
+    saved = λ pages one. said_saves said pages (lists.saved pages one);
   }
 
 -- and is as sound
@@ -161,8 +169,10 @@ module _ (sectors : ℕ) (l : Layout) (windows : List WeakRun) (h : List Change)
   tells_in j same None tells = tells
   tells_in j same (Some t) tells = (tells.0, tells.1, describes_data l (in_runs windows) (after (take tells.0 h)) t.entries old.image j (data_stays j same) tells.2)
 
-  pub sound_before : (j : Image) → ShowsPages l windows lists.choices j → SameData l (weak_of windows) old.image j → IsSound l windows h f j
-  sound_before j shows same = sound_from_pages l windows h f lists.choices j shows (λ pages one. tells_in j same (told_in pages) (lists.tells pages one))
+  pub sound_before : (j : Image) → ShowsPages l windows lists.choices j → ClosesNone old.image j → SameData l (weak_of windows) old.image j → IsSound l windows h f j
+  sound_before j shows closes same =
+      sound_from_pages l windows h f lists.choices j shows (λ pages one. tells_in j same (told_in pages) (lists.tells pages one))
+      (λ pages one. saves_on l old.image j pages closes (λ s from below. worn_reads (weak_of windows) old.image j s (same s from)) (lists.saved pages one))
 
   -- ---- since then
 
@@ -188,7 +198,8 @@ module _ (sectors : ℕ) (l : Layout) (windows : List WeakRun) (h : List Change)
           subst (λ (s : Files). Describes l (in_runs (windows ++ run ∷ [])) j s files_now.telling.entries) all (described_since j same),
         )
 
-    pub sound_since : (j : Image) → ShowsPages l (windows ++ run ∷ []) (pages ∷ []) j → SameData l (weak_of windows) old.image j → IsSound l (windows ++ run ∷ []) (take count_now h) count_now j
-    sound_since j shows same =
+    pub sound_since : (j : Image) → ShowsPages l (windows ++ run ∷ []) (pages ∷ []) j → IsOpen j → SameData l (weak_of windows) old.image j → IsSound l (windows ++ run ∷ []) (take count_now h) count_now j
+    sound_since j shows opened same =
         sound_from_pages l (windows ++ run ∷ []) (take count_now h) count_now (pages ∷ []) j shows
         (λ ps one. one_of (λ qs. Tells l (in_runs (windows ++ run ∷ [])) j (take count_now h) count_now (told_in qs)) pages ps (tells_since j same) one)
+        (λ ps one. open_saves l j ps opened)

@@ -192,6 +192,7 @@ invariant_of-self-2 g c =
     record {
       least = was.least;
       begun = was.begun;
+      opens = was.opens;
       numbers = numbers;
       most = was.most;
       inside = was.inside;

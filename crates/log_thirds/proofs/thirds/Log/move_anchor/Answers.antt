@@ -135,6 +135,7 @@ invariant_of-self g c =
       inside = was.inside;
       third = subst (λ (n : ℕ). n ≤ 2) (sym c.next_third.ensures) (next_low c.self.inside.anchor.third was.third);
       begun = was.begun;
+      opens = was.numbers.some;
       is_in = is_in;
       numbers = record { some = omega (arith, was.numbers.some, was.numbers.in_order); in_order = was.numbers.most; most = omega arith };
       table = ap length left ∙ length-map c.self.inside.slots.items (slot_outside c.third_start-start.result c.third-third.result) ∙ was.table;

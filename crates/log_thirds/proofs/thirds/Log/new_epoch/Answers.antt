@@ -43,6 +43,7 @@ invariant_of-self g c =
       inside = was.inside;
       third = omega arith;
       begun = omega arith;
+      opens = omega arith;
       is_in = record { before = omega arith; from = omega (arith, third); ends = inl third };
       numbers = subst (AreNumbers 1) (sym c.of-self-inside.ensures) (record { some = omega arith; in_order = omega arith; most = omega arith });
       table = ap length (sym slots) ∙ length-replicate n None ∙ was.table;

@@ -158,6 +158,7 @@ invariant_of-result g c =
       inside = omega (arith, (planned_bounds c.args.layout.now c.third-third.ensures.planned).sectors_least);
       third = c.requires.third;
       begun = c.requires.epoch;
+      opens = c.requires.first;
       is_in = so_far.is_in;
       numbers = so_far.numbers;
       table = so_far.table;

@@ -20,6 +20,7 @@ invariant_of-self c =
       inside = was.inside;
       third = was.third;
       begun = was.begun;
+      opens = was.opens;
       is_in = record { before = was.is_in.before; from = was.is_in.from; ends = was.is_in.ends };
       numbers = was.numbers;
       table = was.table;

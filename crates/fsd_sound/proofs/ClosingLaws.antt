@@ -1,0 +1,305 @@
+-- An anchor is written once more, and says that its volume is closed: the same pages are shown. Where the map of these pages
+-- is saved before, what is saved is what they tell.
+use Rattle.std.proofs.Common.{◌≡◌, ◌≢◌, ◌⊎◌, inl, inr, ⊎_elim, ℕ, ◌+◌, ◌^◌, ◌<◌, ◌≤◌, true, List, [], ◌∷◌, length, map, take, Option, Some, None, refl, sym, ap, subst, ◌∙◌, arith}
+use Rattle.std.specs.Prelude.{Contains, IfSome, IsSome, IsTrue, nat_le, nat_lt, option_and_then}
+use Rattle.std.specs.Option.{option_or}
+use Rattle.std.specs.List.{flat_map}
+use Rattle.std.proofs.lemmas.Bool.{and_parts, leb-true}
+use Rattle.std.proofs.lemmas.List.{length-set}
+use Rattle.volume_layout.specs.declared.layout.Layout.{Layout}
+use Rattle.volume_layout.specs.Layout.{data_start, home_a, home_b, is_data, map_sectors, turned}
+use Rattle.run_table.specs.RunTable.{sectors_of}
+use Rattle.run_table.specs.Space.{all_differ}
+use Rattle.fsd_formats.specs.declared.anchor.Anchor.{Anchor}
+use Rattle.fsd_formats.specs.declared.entry.Entry.{Entry}
+use Rattle.fsd_formats.specs.Anchors.{anchor_bytes, closed_bytes, is_anchor, read_anchor, read_closed}
+use Rattle.fsd_formats.specs.declared.map_head.MapHead.{MapHead}
+use Rattle.fsd_formats.specs.SavedMap.{IsMapOf, MapCounts, head_of}
+use Rattle.fsd_formats.proofs.SpellingLaws.{anchor_is_read, closed_is_read}
+use Rattle.sector_disk.specs.declared.sector.Sector.{Sector}
+use Rattle.sector_disk.specs.declared.sector.Sector.TheVariants.{Whole, Damaged}
+use Rattle.sector_disk.specs.declared.sector.WeakRun.{WeakRun}
+use Rattle.sector_disk.specs.Image.{sector_at, with_sector, IsWorn}
+use Rattle.fsd_log.specs.Images.{last_image}
+use Rattle.fsd_log.specs.Scan.{Placed, Walked, newer_of}
+use Rattle.fsd_files.specs.Disk.{Image, Sectors, SectorWorn, bytes_at, bytes_of, first_whole, in_runs}
+use Rattle.fsd_files.specs.Files.{Change, Files, after}
+use Rattle.fsd_files.specs.Kept.{Describes}
+use Rattle.fsd_files.specs.Volume.{plans_of}
+use Rattle.fsd_table.specs.Table.{told_in}
+use Rattle.fsd_files.proofs.KeptLaws.{kept_worn}
+use Rattle.fsd_sound.specs.Anchors.{anchor_at, anchor_of, EachAnchor}
+use Rattle.fsd_sound.specs.Homes.{home_of}
+use Rattle.fsd_sound.specs.Laid.{IsLaid}
+use Rattle.fsd_sound.specs.Mounted.{HasForced, IsMounted, Mounted}
+use Rattle.fsd_sound.specs.Saved.{AreSaved, EachClosed, SavesPages, closed_at, map_of}
+use Rattle.fsd_sound.specs.Shown.{all_pages, each_of, newest, records_by, shown, shown_by}
+use Rattle.fsd_sound.specs.Sound.{EachStamp, HasAnchors, HasHomes, HasLog, HasRoots, IsSound, IsSuffix, LogsNothing, ScansAgree, SaysTurned, ShowsOne, ShowsPages, Tells, disk_records, on_disk, weak_of}
+use Rattle.fsd_sound.specs.Stands.{StandsShown}
+use Rattle.fsd_sound.specs.Windows.{IsNarrow}
+use Rattle.fsd_sound.proofs.AlikeLaws.{suffix_same}
+use Rattle.fsd_sound.proofs.AnchorFacts.{if_some_on, some_third, taken_third}
+use Rattle.fsd_sound.proofs.CommuteLaws.{all_over, all_shows, both_same, same_or, shows_all, with_other, with_same}
+use Rattle.fsd_sound.proofs.LogPlaces.{SameLog, laid_same, same_scan, scan_records}
+use Rattle.fsd_files.proofs.WaitLaws.{open_in_area}
+use Rattle.fsd_sound.proofs.FrontLaws.{SameFront, front_shows}
+use Rattle.fsd_sound.proofs.MountedLaws.{all_data, one_of, own_same, some_forced, tells_forced}
+use Rattle.fsd_sound.proofs.OpenLaws.{open_worn}
+use Rattle.fsd_sound.proofs.SaidLaws.{says_same, some_same}
+use Rattle.fsd_sound.proofs.SectorFacts.{not_damaged}
+use Rattle.fsd_sound.proofs.SoundLaws.{sound_from_pages}
+
+-- ---- an image with an anchor that is closed
+
+module _ (l : Layout) (s : ℕ) (place : (s ≡ 8) ⊎ (s ≡ 12)) (a : Anchor) (fits : is_anchor a ≡ true) (epoch : a.epoch < 2 ^ 32) (first : a.first < 2 ^ 32) (i : Image) (room : s < length i) (was : sector_at i s ≡ Whole (anchor_bytes a)) where
+  abbrev j : Image
+  j = with_sector i s (closed_bytes a)
+
+  here : sector_at j s ≡ Whole (closed_bytes a)
+  here = with_same i s (closed_bytes a) room
+
+  other : (p : ℕ) → p ≢ s → sector_at j p ≡ sector_at i p
+  other p differs = with_other i s p (closed_bytes a) differs
+
+  not_here : (p : ℕ) → (p < 8) ⊎ (16 ≤ p) → p ≢ s
+  not_here p (inl low) e = ⊎_elim (λ is. omega (arith, e, is, low)) (λ is. omega (arith, e, is, low)) place
+  not_here p (inr high) e = ⊎_elim (λ is. omega (arith, e, is, high)) (λ is. omega (arith, e, is, high)) place
+
+  head : (p : ℕ) → p < 8 → sector_at j p ≡ sector_at i p
+  head p low = other p (not_here p (inl low))
+
+  behind : (p : ℕ) → 16 ≤ p → sector_at j p ≡ sector_at i p
+  behind p from = other p (not_here p (inr from))
+
+  log : SameLog l i j
+  log p within = behind p (let from = within.0 in omega (arith, from))
+
+  -- ---- the anchors are the same
+
+  found_was : anchor_at i s ≡ Some a
+  found_was = ap (λ (x : Sector). option_and_then read_anchor (bytes_of x)) was ∙ anchor_is_read a fits epoch first
+
+  found_now : anchor_at j s ≡ Some a
+  found_now = ap (λ (x : Sector). option_and_then read_anchor (bytes_of x)) here ∙ closed_is_read a fits epoch first
+
+  anchor_same : (p : ℕ) → anchor_at j p ≡ anchor_at i p
+  anchor_same p = ⊎_elim
+      (λ is. ap (anchor_at j) is ∙ found_now ∙ sym found_was ∙ ap (anchor_at i) (sym is))
+      (λ differs. ap (λ (x : Sector). option_and_then read_anchor (bytes_of x)) (other p differs)) (same_or p s)
+
+  taken_same : anchor_of j ≡ anchor_of i
+  taken_same = ap (λ (o : Option Anchor). newer_of o (anchor_at j 12)) (anchor_same 8) ∙ ap (newer_of (anchor_at i 8)) (anchor_same 12)
+
+  each_same : (P Q : Anchor → Type 0) → ((b : Anchor) → b.third ≤ 2 → P b → Q b) → EachAnchor i P → EachAnchor j Q
+  each_same P Q on each = (
+    subst (λ (o : Option Anchor). IfSome o Q) (sym (anchor_same 8)) (if_some_on P Q (anchor_at i 8) (some_third (bytes_at i 8)) on each.0),
+    subst (λ (o : Option Anchor). IfSome o Q) (sym (anchor_same 12)) (if_some_on P Q (anchor_at i 12) (some_third (bytes_at i 12)) on each.1),
+  )
+
+  reads : (p : ℕ) → ((b : List ℕ) → sector_at i p ≡ Whole b → IsSome (read_anchor b)) → (b : List ℕ) → sector_at j p ≡ Whole b → IsSome (read_anchor b)
+  reads p each b is = ⊎_elim
+      (λ at. let read : read_anchor b ≡ Some a = sym (ap (λ (x : Sector). option_and_then read_anchor (bytes_of x)) is) ∙ ap (anchor_at j) at ∙ found_now in subst IsSome (sym read) refl)
+      (λ differs. each b (sym (other p differs) ∙ is)) (same_or p s)
+
+  anchors_now : HasAnchors l i → HasAnchors l j
+  anchors_now was_so = record {
+    first = reads 8 was_so.first;
+    second = reads 12 was_so.second;
+    epochs = each_same _ _ (λ b low stamps p in_log bytes is. stamps p in_log bytes (sym (log p in_log) ∙ is)) was_so.epochs;
+  }
+
+  -- ---- the log is the same
+
+  records_same : (b : Anchor) → b.third ≤ 2 → records_by l j b ≡ records_by l i b
+  records_same b low = ap (λ (w : Walked). w.records) (same_scan l i j log b low)
+
+  turned_same : (b : Anchor) → b.third ≤ 2 → records_by (turned l) j b ≡ records_by (turned l) i b
+  turned_same b low = ap (λ (w : Walked). w.records) (same_scan (turned l) i j log b low)
+
+  unlogged : LogsNothing l i → LogsNothing l j
+  unlogged nothing = each_same _ _ (λ b low none. (records_same b low ∙ none.0, turned_same b low ∙ none.1)) nothing
+
+  disk_same : (b : Anchor) → b.third ≤ 2 → disk_records l j b ≡ disk_records l i b
+  disk_same b low = ap (map (on_disk l b)) (records_same b low)
+
+  agree_same : (x y t : Option Anchor) → IfSome x (λ b. b.third ≤ 2) → IfSome y (λ b. b.third ≤ 2) → IfSome t (λ b. b.third ≤ 2) → ScansAgree l i x y t → ScansAgree l j x y t
+  agree_same None y t p q r agree = tt
+  agree_same (Some x) None t p q r agree = tt
+  agree_same (Some x) (Some y) None p q r agree = tt
+  agree_same (Some x) (Some y) (Some t) p q r agree = λ e. (
+    suffix_same (disk_records l i t) (disk_records l j t) (disk_records l i x) (disk_records l j x) (disk_same t r) (disk_same x p) (agree e).0,
+    suffix_same (disk_records l i t) (disk_records l j t) (disk_records l i y) (disk_records l j y) (disk_same t r) (disk_same y q) (agree e).1,
+  )
+
+  log_now : (weak : Sectors) → HasLog l weak i → HasLog l weak j
+  log_now weak h = record {
+    agree = agree_on (anchor_at j 8) (anchor_at i 8) (anchor_at j 12) (anchor_at i 12) (anchor_of j) (anchor_of i) (anchor_same 8) (anchor_same 12) taken_same
+        (agree_same (anchor_at i 8) (anchor_at i 12) (anchor_of i) (some_third (bytes_at i 8)) (some_third (bytes_at i 12)) (taken_third i) h.agree);
+    laid = each_same _ _ (λ b low laid. subst (IsLaid l b weak j) (sym (records_same b low)) (laid_same l b weak i j log (records_by l i b) (scan_records l i b low) laid)) h.laid;
+  }
+    where
+      agree_on : (x x' y y' t t' : Option Anchor) → x ≡ x' → y ≡ y' → t ≡ t' → ScansAgree l j x' y' t' → ScansAgree l j x y t
+      agree_on x x' y y' t t' e f g agree = subst (λ o. ScansAgree l j o y t) (sym e) (subst (λ o. ScansAgree l j x' o t) (sym f) (subst (λ o. ScansAgree l j x' y' o) (sym g) agree))
+
+  -- ---- the pages are the same
+
+  home_a_same : (page : ℕ) → sector_at j (home_a l page) ≡ sector_at i (home_a l page)
+  home_a_same page = behind (home_a l page) (omega arith)
+
+  home_b_same : (page : ℕ) → sector_at j (home_b l page) ≡ sector_at i (home_b l page)
+  home_b_same page = behind (home_b l page) (omega arith)
+
+  home_same : (page : ℕ) → home_of l j page ≡ home_of l i page
+  home_same page =
+      ap (λ (x : Sector). first_whole (bytes_of x) (bytes_at j (home_b l page))) (home_a_same page)
+      ∙ ap (λ (x : Sector). first_whole (bytes_at i (home_a l page)) (bytes_of x)) (home_b_same page)
+
+  shown_by_same : (b : Anchor) → b.third ≤ 2 → shown_by l j b ≡ shown_by l i b
+  shown_by_same b low =
+      ap (λ (records : List Placed). each_of (newest l j records) (all_pages l)) (records_same b low)
+      ∙ (λ k. each_of (λ page. option_or (last_image page (records_by l i b)) (home_same page k)) (all_pages l))
+
+  shown_same : shown l j ≡ shown l i
+  shown_same = ap (option_and_then (shown_by l j)) taken_same ∙ by (anchor_of i) (taken_third i)
+    where
+      by : (o : Option Anchor) → IfSome o (λ b. b.third ≤ 2) → option_and_then (shown_by l j) o ≡ option_and_then (shown_by l i) o
+      by None low = refl
+      by (Some b) low = shown_by_same b low
+
+  homes_now : HasHomes l i → HasHomes l j
+  homes_now homes = each_same _ _ (λ b low was_so page lt none x y at_a at_b.
+      was_so page lt (ap (last_image page) (sym (records_same b low)) ∙ none) x y (sym (home_a_same page) ∙ at_a) (sym (home_b_same page) ∙ at_b)) homes
+
+  -- ---- the whole
+
+  hurt_was : (p : ℕ) → sector_at j p ≡ Damaged → sector_at i p ≡ Damaged
+  hurt_was p hurt = ⊎_elim
+      (λ is. absurd (not_damaged (sector_at j s) (closed_bytes a) here (ap (sector_at j) (sym is) ∙ hurt)))
+      (λ differs. sym (other p differs) ∙ hurt) (same_or p s)
+
+  roots_now : (weak : Sectors) → HasRoots l weak i → HasRoots l weak j
+  roots_now weak roots = record {
+    some = some_same l i j (head 0 (omega arith)) (head 4 (omega arith)) roots.some;
+    first = λ b is. roots.first b (sym (head 0 (omega arith)) ∙ is);
+    second = λ b is. roots.second b (sym (head 4 (omega arith)) ∙ is);
+    fits = omega (arith, roots.fits, length-set i s (Whole (closed_bytes a)));
+    twins = λ p twin hurt. roots.twins p twin (hurt_was p hurt);
+  }
+
+  closed_stands : (weak : Sectors) (choices : List (List (List ℕ))) → StandsShown l weak choices i → StandsShown l weak choices j
+  closed_stands weak choices stands = record {
+    roots = roots_now weak stands.roots;
+    empty = λ says. unlogged (stands.empty (says_same l i j head says));
+    anchors = anchors_now stands.anchors;
+    log = log_now weak stands.log;
+    homes = homes_now stands.homes;
+    shows = subst (ShowsOne choices) (sym shown_same) stands.shows;
+  }
+
+-- the anchor that stands in a sector is closed there, and the same pages are shown
+pub closed_shows : (l : Layout) (windows : List WeakRun) → IsNarrow (weak_of windows) → (choices : List (List (List ℕ))) (s : ℕ) → (s ≡ 8) ⊎ (s ≡ 12) → (a : Anchor) → is_anchor a ≡ true → a.epoch < 2 ^ 32 → a.first < 2 ^ 32
+    → (c : Image) → s < length c → sector_at c s ≡ Whole (anchor_bytes a) → ShowsPages l windows choices c → ShowsPages l windows choices (with_sector c s (closed_bytes a))
+closed_shows l windows narrow choices s place a fits epoch first c room was shows =
+    all_shows l windows shows.readable.borne choices (with_sector c s (closed_bytes a))
+    (both_same l windows c (with_sector c s (closed_bytes a)) shows.readable (head l s place a fits epoch first c room was))
+    (all_over (weak_of windows) (StandsShown l (weak_of windows) choices) c s (closed_bytes a) room (shows_all l windows narrow choices c shows)
+    (λ i worn there stands. closed_stands l s place a fits epoch first i (omega (arith, room, worn.size)) (there ∙ was) (weak_of windows) choices stands))
+
+-- ---- what is saved
+
+-- The map of these pages is saved, with this epoch and these counts.
+pub record HasSaved (l : Layout) (epoch : ℕ) (pages : List (List ℕ)) (i : Image) : Type 0 where
+  pub some : 0 < map_sectors l
+  pub sectors : List (List ℕ)
+  pub whole : map_of l i ≡ Some sectors
+  pub counts : MapCounts
+  pub is : IsMapOf l epoch counts sectors
+  pub saved : AreSaved l counts sectors pages
+
+-- the counts are those of the heads
+same_counts : (l : Layout) (epoch : ℕ) (a b : MapCounts) (sectors : List (List ℕ)) → 0 < map_sectors l → IsMapOf l epoch a sectors → IsMapOf l epoch b sectors → (a.pages ≡ b.pages) × (a.versions ≡ b.versions)
+same_counts l epoch a b sectors some one two =
+    let given : Some (head_of epoch 0 a) ≡ Some (head_of epoch 0 b) = sym (one.heads 0 some) ∙ two.heads 0 some in
+    let same : head_of epoch 0 a ≡ head_of epoch 0 b = cc given in
+    (ap (λ (h : MapHead). h.pages) same, ap (λ (h : MapHead). h.versions) same)
+
+-- where each copy that says that the volume was closed is of that epoch, what is saved is what the pages tell
+pub saved_so : (l : Layout) (epoch : ℕ) (pages : List (List ℕ)) (i : Image) → HasSaved l epoch pages i → EachClosed i (λ a. a.epoch ≡ epoch) → SavesPages l i pages
+saved_so l epoch pages i has each = (by (closed_at i 8) each.0, by (closed_at i 12) each.1)
+  where
+    told : (a : Anchor) → a.epoch ≡ epoch → (sectors : List (List ℕ)) (counts : MapCounts) → map_of l i ≡ Some sectors → IsMapOf l a.epoch counts sectors → AreSaved l counts sectors pages
+    told a same sectors counts whole is =
+        let one : has.sectors ≡ sectors = cc (sym has.whole ∙ whole) in
+        let mine : IsMapOf l epoch counts sectors = subst (λ (e : ℕ). IsMapOf l e counts sectors) same is in
+        let saved : AreSaved l has.counts sectors pages = subst (λ (x : List (List ℕ)). AreSaved l has.counts x pages) one has.saved in
+        let counted = same_counts l epoch has.counts counts sectors has.some (subst (IsMapOf l epoch has.counts) one has.is) mine in
+        record { telling = saved.telling; told = saved.told; reached = saved.reached ∙ counted.0; versions = saved.versions ∙ counted.1; free = saved.free; spare = saved.spare }
+
+    by : (o : Option Anchor) → IfSome o (λ a. a.epoch ≡ epoch) → IfSome o (λ a. (sectors : List (List ℕ)) (counts : MapCounts) → map_of l i ≡ Some sectors → IsMapOf l a.epoch counts sectors → AreSaved l counts sectors pages)
+    by None of = tt
+    by (Some a) of = told a of
+
+-- ---- a volume that is closed
+
+-- the images agree on the data area, but for wear
+abbrev pub SameArea : Layout → Sectors → Image → Image → Type 0
+SameArea l hurt i j = (s : ℕ) → data_start l ≤ s → SectorWorn (hurt s) (sector_at i s) (sector_at j s)
+
+describes_area : (l : Layout) (hurt : Sectors) (files : Files) (entries : List Entry) (i j : Image) → SameArea l hurt i j → Describes l hurt i files entries → Describes l hurt j files entries
+describes_area l hurt files entries i j same d = record {
+  lists = d.lists;
+  apart = d.apart;
+  kept = kept_worn hurt i j files entries
+      (λ s at. same s (leb-true (data_start l) s (and_parts _ _ (all_data l (flat_map sectors_of (plans_of entries)) s (and_parts (all_differ (flat_map sectors_of (plans_of entries))) _ d.apart).1 at)).0)) d.kept;
+}
+
+-- while a volume is closed, whose table the disk shows, it is sound: the map may be written, and the anchors
+pub closing_sound : (m : Mounted) (windows : List WeakRun) (h : List Change) (f : ℕ) (i j : Image) → (is : IsMounted m windows h f i) → SameArea m.volume.layout (in_runs windows) i j → ShowsPages m.volume.layout windows (is.disk ∷ []) j
+    → SavesPages m.volume.layout j is.disk → IsSound m.volume.layout windows h f j
+closing_sound m windows h f i j is same shows saves =
+    let l = m.volume.layout in
+    let forced : HasForced m.volume windows h f j is.disk = record {
+      telling = is.forced.telling;
+      told = is.forced.told;
+      described = describes_area l (in_runs windows) (after (take f h)) is.forced.telling.entries i j same is.forced.described;
+      taken = is.forced.taken;
+      leaders = is.forced.leaders;
+    } in
+    sound_from_pages l windows h f (is.disk ∷ []) j shows
+    (λ pages one. one_of (λ ps. Tells l (in_runs windows) j h f (told_in ps)) is.disk pages (tells_forced m.volume windows h f j is.disk (some_forced m windows h f i is) forced) one)
+    (λ pages one. one_of (SavesPages l j) is.disk pages saves one)
+
+area_behind : (l : Layout) (s : ℕ) → IsTrue (is_data l s) → data_start l ≤ s
+area_behind l s is = leb-true (data_start l) s (and_parts (nat_le (data_start l) s) (nat_lt s l.sectors) is).0
+
+-- what is written to the map leaves the volume mounted
+pub map_may_be_written : (m : Mounted) (windows : List WeakRun) (h : List Change) (f : ℕ) (i j : Image) → length j ≡ length i → SameFront m.volume.layout i j → ((s : ℕ) → data_start m.volume.layout ≤ s → sector_at j s ≡ sector_at i s)
+    → IsMounted m windows h f i → IsMounted m windows h f j
+map_may_be_written m windows h f i j size front behind is =
+    let same : SameArea m.volume.layout (in_runs windows) i j = λ s from. inl (behind s from) in
+    record {
+      files = is.files;
+      described = describes_area m.volume.layout (in_runs windows) m.volume.files m.volume.entries i j same is.described;
+      count = is.count;
+      few = is.few;
+      epoch = is.epoch;
+      third = is.third;
+      room = is.room;
+      in_memory = is.in_memory;
+      spaced = is.spaced;
+      open_ones = open_worn (in_runs windows) i j m (λ s at. same s (area_behind m.volume.layout s (open_in_area m.volume is.spaced s at))) is.open_ones;
+      disk = is.disk;
+      records = is.records;
+      over = record {
+        shows = front_shows m.volume.layout windows (is.disk ∷ []) i j is.room front size is.over.shows;
+        own = own_same m.volume.layout m.anchor (weak_of windows) i j front is.third is.records m.head is.over.own;
+        clean = is.over.clean;
+      };
+      forced = record {
+        telling = is.forced.telling;
+        told = is.forced.told;
+        described = describes_area m.volume.layout (in_runs windows) (after (take f h)) is.forced.telling.entries i j same is.forced.described;
+        taken = is.forced.taken;
+        leaders = is.forced.leaders;
+      };
+    }
