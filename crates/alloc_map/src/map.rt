@@ -11,7 +11,7 @@ use std::alloc::{AllocError, Global};
 use std::marker::Model;
 
 /// The free sectors of the data area `from..to`.
-#[derive(Debug, Drop)]
+#[derive(Drop)]
 pub struct Map {
     free: SectorArea,
 }

@@ -15,7 +15,7 @@ use fsd_runs::Request;
 use std::alloc::{AllocError, Global};
 
 /// What the words ask for.
-#[derive(Debug, Drop)]
+#[derive(Drop)]
 pub struct Asked<'a> {
     pub request: Request,
     /// The path of the image, empty where the words name none.

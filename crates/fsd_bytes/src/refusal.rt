@@ -2,7 +2,7 @@ use thiserror::Error;
 
 /// Why a call is refused: the refusals of all layers, so that each is told on unchanged.
 /// docs/SEMANTICS.md says when each one comes.
-#[derive(Clone, Copy, Debug, PartialEq, Eq, Error)]
+#[derive(Clone, Copy, Debug, PartialEq, Error)]
 pub enum Refusal {
     /// The key is no version, or the name has none.
     #[error("no such version")]

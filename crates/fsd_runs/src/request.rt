@@ -4,7 +4,7 @@ use fsd_texts::{Cause, Command};
 use volume_layout::Kind;
 
 /// What the words ask for, of the image that they name.
-#[derive(Debug, Drop)]
+#[derive(Drop)]
 pub enum Request {
     /// The words are outside the command set.
     NoCommand,

@@ -2,7 +2,7 @@ use sector_disk::{Failed, LoadFault};
 use thiserror::Error;
 
 /// Why a volume was not mounted.
-#[derive(Clone, Copy, Debug, PartialEq, Eq, Error)]
+#[derive(Clone, Copy, Debug, PartialEq, Error)]
 pub enum MountFault {
     /// Neither copy of the root is whole and well formed with room for its volume.
     #[error("there is no volume")]

@@ -2,7 +2,7 @@
 use fsd_bytes::Key;
 
 /// A page that another leads to, and the keys between which it stands: from `low` on, and below `high`.
-#[derive(Clone, Debug, Drop, PartialEq, Eq)]
+#[derive(Drop)]
 pub struct Child {
     pub page: u32,
     pub low: Option<Key>,

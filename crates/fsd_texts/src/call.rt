@@ -3,7 +3,7 @@ use crate::bytes::Bytes;
 use fsd_bytes::{FileName, Key};
 
 /// What a client is to do, which makes one version in pieces or reads one.
-#[derive(Debug, Drop)]
+#[derive(Drop)]
 pub enum Call {
     /// It begins a version of so many bytes.
     Begin { name: FileName, length: u32 },

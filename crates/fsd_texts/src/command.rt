@@ -6,7 +6,7 @@ use crate::bytes::Bytes;
 use fsd_bytes::{FileName, Key, Pattern};
 
 /// What may be asked of a volume.
-#[derive(Debug, Drop)]
+#[derive(Drop)]
 pub enum Command {
     /// A new version of these bytes.
     Put {

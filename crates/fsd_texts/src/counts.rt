@@ -1,7 +1,7 @@
 //! What came of commands that were made up.
 
 /// How many commands were done, how many were answered in each way, and the bytes of the versions made or read.
-#[derive(Clone, Copy, Debug)]
+#[derive(Clone, Copy)]
 pub struct Counts {
     pub count: u32,
     pub made: u32,

@@ -6,7 +6,7 @@ use fsd_bytes::Refusal;
 use volume_layout::LayoutFault;
 
 /// A line that a run says. One that a reply alone says is no variant: it is said by its parts.
-#[derive(Debug, Drop)]
+#[derive(Drop)]
 pub enum Line {
     /// The words are outside the command set.
     Usage,

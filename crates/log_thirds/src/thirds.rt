@@ -18,7 +18,7 @@ use std::marker::Model;
 use volume_layout::{Kind, Layout};
 
 /// Where a record of some pages goes.
-#[derive(Clone, Copy, Debug, PartialEq, Eq)]
+#[derive(Clone, Copy, Debug, PartialEq)]
 pub enum Place {
     /// Behind the last record, in the same third.
     Here,
@@ -29,7 +29,7 @@ pub enum Place {
 }
 
 /// The last record that the scan found: where on the disk its pages' copies begin, and how many pages it has.
-#[derive(Clone, Copy, Debug, PartialEq, Eq)]
+#[derive(Clone, Copy, Debug, PartialEq)]
 pub struct LastRecord {
     pub copies_at: u32,
     pub pages: u32,

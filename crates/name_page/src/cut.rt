@@ -5,7 +5,7 @@ ghost use Rattle.name_page.specs.Cut.{is_before};
 use fsd_bytes::{FileName, Key};
 
 /// A place between keys, by the keys that stand before it.
-#[derive(Debug, Drop)]
+#[derive(Drop)]
 pub enum Cut {
     /// None of them.
     Start,

@@ -11,11 +11,9 @@ ghost use Rattle.name_page.specs.Reading.{head_of};
 use crate::writing::{LEAST_USED, PAGE_ROOM};
 use fsd_bytes::{FileName, Key, u8_at, u16_at, u32_at};
 use fsd_formats::{MOST_KEEP, MOST_LENGTH, Page, PageKind};
-use thiserror::Error;
 
 /// The place of the first field that the grammar refuses.
-#[derive(Clone, Copy, Debug, PartialEq, Eq, Error)]
-#[error("the name page is refused at byte {place}")]
+#[derive(Clone, Copy, Debug, PartialEq)]
 pub struct PageFault {
     pub place: u32,
 }

@@ -13,7 +13,7 @@ use fsd_bytes::Refusal;
 /// All pages of a name table. None of them is ever missing. A step may reach [`MOST_REACHED`] of them, and
 /// [`MOST_CHANGED`] may be changed until the leave is renewed. A page is read by the grammar where it is reached first,
 /// and again once it was changed; how many pages are spare is counted once.
-#[derive(Debug, Drop)]
+#[derive(Drop)]
 pub struct VecPages {
     pages: Vec<[u8; 512]>,
     spare: Vec<bool>,

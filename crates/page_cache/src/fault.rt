@@ -3,16 +3,13 @@ ghost use Rattle.std.specs.Prelude.{◌≡◌};
 
 use sector_disk::LoadFault;
 use std::alloc::AllocError;
-use thiserror::Error;
 
 /// Why a page can't be brought into memory.
-#[derive(Clone, Copy, Debug, PartialEq, Eq, Error)]
+#[derive(Clone, Copy, Debug)]
 pub enum CacheFault {
     /// It can't be loaded.
-    #[error("{0}")]
     Load(LoadFault),
     /// There is too little memory.
-    #[error("out of memory")]
     Memory,
 }
 

@@ -4,22 +4,17 @@ ghost use Rattle.script_text.specs.declared.fault.BodyFault.TheVariants as Body;
 
 use fsd_texts::{BadLine, Cause};
 use std::alloc::AllocError;
-use thiserror::Error;
 
 /// Why a reader gives no command.
-#[derive(Clone, Copy, Debug, PartialEq, Eq, Error)]
+#[derive(Clone, Copy, Debug, PartialEq)]
 pub enum ScriptFault {
     /// What comes next is no command.
-    #[error("{0}")]
     Bad(BadLine),
     /// A call of the input failed.
-    #[error("the input failed")]
     Input,
     /// A byte past the first 2^24 is needed, and there.
-    #[error("the input is too long")]
     TooLong,
     /// Memory was refused.
-    #[error("memory was refused")]
     Memory,
 }
 

@@ -13,7 +13,7 @@ use sector_disk::Machine;
 use volume_contract::Files;
 
 /// How many sectors a scrub has written for healing.
-#[derive(Clone, Copy, Debug, PartialEq, Eq)]
+#[derive(Clone, Copy)]
 pub struct Healed {
     pub sectors: u32,
 }

@@ -11,7 +11,7 @@ use std::alloc::{AllocError, Global};
 use std::marker::Model;
 
 /// A set of sectors of an interval `from..to`, with their number.
-#[derive(Debug, Drop)]
+#[derive(Drop)]
 pub struct SectorArea {
     from: u32,
     count: u32,

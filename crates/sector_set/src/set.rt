@@ -7,7 +7,7 @@ use std::alloc::{AllocError, Global};
 use std::marker::Model;
 
 /// A set of sectors, each below an end.
-#[derive(Debug, Drop)]
+#[derive(Drop)]
 pub struct SectorSet {
     end: u32,
     words: Vec<u64>,

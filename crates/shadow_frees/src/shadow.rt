@@ -12,7 +12,7 @@ use std::alloc::{AllocError, Global};
 use std::marker::Model;
 
 /// How many sectors wait, and how many of these for the next force.
-#[derive(Clone, Copy, Debug, PartialEq, Eq)]
+#[derive(Clone, Copy, Debug, PartialEq)]
 pub struct Waiting {
     pub all: u32,
     pub removed: u32,
@@ -20,7 +20,7 @@ pub struct Waiting {
 
 /// The sectors of the data area that belong to no version and are not free yet, and the versions that up to eight
 /// readers hold.
-#[derive(Debug, Drop)]
+#[derive(Drop)]
 pub struct Shadow {
     removed: SectorArea,
     kept: SectorArea,

@@ -5,7 +5,7 @@ use std::alloc::{AllocError, Global};
 use std::marker::Model;
 
 /// The free pages of a name table: a set of pages below the number of its pages.
-#[derive(Debug, Drop)]
+#[derive(Drop)]
 pub struct FreePages {
     flags: Vec<bool>,
 }

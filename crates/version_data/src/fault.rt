@@ -3,16 +3,13 @@ ghost use Rattle.std.specs.Prelude.{◌≡◌};
 
 use fsd_bytes::Refusal;
 use sector_disk::Failed;
-use thiserror::Error;
 
 /// Why bytes of a version can't be read.
-#[derive(Clone, Copy, Debug, PartialEq, Eq, Error)]
+#[derive(Clone, Copy)]
 pub enum DataFault {
     /// A call of the disk failed at this place.
-    #[error("the disk failed at {0}")]
     Device(u32),
     /// This sector is damaged, and none of the range before it is.
-    #[error("sector {0} is damaged")]
     Damaged(u32),
 }
 

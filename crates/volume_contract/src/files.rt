@@ -38,13 +38,13 @@ use sector_disk::{Machine, Seen};
 use std::alloc::Global;
 
 /// How many pages a force has committed.
-#[derive(Clone, Copy, Debug, PartialEq, Eq)]
+#[derive(Clone, Copy, Debug, PartialEq)]
 pub struct Forced {
     pub pages: u32,
 }
 
 /// What a volume counts.
-#[derive(Clone, Copy, Debug, PartialEq, Eq)]
+#[derive(Clone, Copy, Debug, PartialEq)]
 pub struct Stat {
     pub sectors: u32,
     pub free: u32,

@@ -6,7 +6,6 @@ use run_table::Runs;
 
 /// A creation that was begun: so many bytes, in these runs, the leader's sector first.
 #[must_use]
-#[derive(Debug)]
 pub struct Draft {
     pub length: u32,
     pub serial: Serial,
@@ -15,7 +14,6 @@ pub struct Draft {
 
 /// A version that a reader holds, with its entry as it was then, and the place by which it is given up.
 #[must_use]
-#[derive(Debug)]
 pub struct Held {
     pub entry: Entry,
     pub place: u32,

@@ -3,7 +3,7 @@ ghost use Rattle.std.specs.Prelude.{◌≡◌, ◌≤◌};
 ghost use Rattle.volume_layout.specs.Kinds.{layout_number, longest_of, more};
 
 /// How many adjacent sectors may be damaged in one window without a loss: two, or three on a volume of layout 2.
-#[derive(Clone, Copy, Debug, PartialEq, Eq)]
+#[derive(Clone, Copy, Debug, PartialEq)]
 pub enum Kind {
     /// Layout 1.
     Two,

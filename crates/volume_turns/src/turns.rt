@@ -24,7 +24,7 @@ use std::alloc::{AllocError, Global};
 use volume_contract::Files;
 
 /// Why commands were not all done.
-#[derive(Clone, Copy, Debug, PartialEq, Eq)]
+#[derive(Clone, Copy)]
 pub enum Halt {
     /// A fault, which is to be said.
     Fault(Fault),
