@@ -14,12 +14,12 @@ use Rattle.run_table.specs.declared.run.Run.{Run as SectorRun}
 use Rattle.run_table.specs.RunTable.{total}
 use Rattle.fsd_formats.specs.declared.entry.Entry.{Entry}
 use Rattle.fsd_formats.specs.NamePage.{sectors_for}
-use Rattle.sector_disk.specs.declared.memory.MemoryMachine.{MemoryMachine}
+use Rattle.memory_machine.specs.declared.memory.MemoryMachine.{MemoryMachine}
 use Rattle.sector_disk.specs.declared.sector.WeakRun.{WeakRun}
 use Rattle.sector_disk.specs.Image.{Windows}
 use Rattle.sector_disk.specs.Machine.{LeavesOnly, Moment, Report, StopSince}
-use Rattle.sector_disk.specs.Memory.{memory_calls, memory_left, memory_now}
-use Rattle.sector_disk.specs.Past.{only_at_end}
+use Rattle.memory_machine.specs.Memory.{memory_calls, memory_left, memory_now}
+use Rattle.memory_machine.specs.Past.{only_at_end}
 use Rattle.fsd_files.specs.Answers.{Met, enter_fault, entered_unless, keep_given, no_place, put_at, put_unless, size_fault}
 use Rattle.fsd_files.specs.Disk.{Image, Sectors, in_runs}
 use Rattle.fsd_files.specs.Files.{Change, File, Files, after, new_key}

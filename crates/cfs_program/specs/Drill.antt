@@ -2,11 +2,11 @@
 use Rattle.std.specs.Prelude.{◌≡◌, ◌⊎◌, ◌<◌, ◌≤◌, ◌==◌, ◌||◌, ℕ, suc, zero, Bool, false, List, [], ◌∷◌, ◌++◌, length, take, None, codes, IsFalse, if◌then◌else◌}
 use Rattle.std.specs.List.{flat_map}
 use Rattle.sector_disk.specs.declared.machine.Machine.{Ghosts}
-use Rattle.sector_disk.specs.declared.memory.MemoryMachine.{MemoryMachine}
+use Rattle.memory_machine.specs.declared.memory.MemoryMachine.{MemoryMachine}
 use Rattle.sector_disk.specs.declared.sector.WeakRun.{WeakRun}
 use Rattle.sector_disk.specs.Calls.{SparesDisk}
 use Rattle.sector_disk.specs.Machine.{Moment, Trusts}
-use Rattle.sector_disk.specs.Memory.{IsHonest, memory_now}
+use Rattle.memory_machine.specs.Memory.{IsHonest, memory_now}
 use Rattle.volume_layout.specs.declared.layout.Layout.{Layout}
 use Rattle.fsd_files.specs.Files.{Change, Files, after}
 use Rattle.fsd_sound.specs.Sound.{IsPrefixOf}

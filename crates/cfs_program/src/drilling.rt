@@ -6,8 +6,9 @@ ghost use Rattle.cfs_program.specs.Drill.{Drills, SpeaksBytes};
 
 use crate::lives::play;
 use fsd_texts::{Fault, Line};
+use memory_machine::MemoryMachine;
 use script_text::lay_line;
-use sector_disk::{Failed, Machine, MemoryMachine};
+use sector_disk::{Failed, Machine};
 use std::alloc::Global;
 use volume_contract::Files;
 use volume_turns::last_line;

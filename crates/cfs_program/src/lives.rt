@@ -1,6 +1,6 @@
 //! The lives of a drill: each is a volume in memory that is formatted, put to twice and listed.
 ghost use Rattle.std.specs.Prelude.{◌≡◌, ◌+◌, ◌++◌, ◌∷◌, [], List, ℕ, None, length, is_some, if◌then◌else◌, IfOk};
-ghost use Rattle.sector_disk.specs.Memory.{IsHonest, memory_now};
+ghost use Rattle.memory_machine.specs.Memory.{IsHonest, memory_now};
 ghost use Rattle.fsd_files.specs.Files.{Change};
 ghost use Rattle.cfs_program.specs.Drill.{KeepsIfHonest, IsListOf, ListsPrefix, is_stopped, puts};
 
@@ -9,7 +9,7 @@ use crate::opening::run_command;
 use crate::putting::run_input;
 use fsd_bytes::{FileName, Pattern};
 use fsd_texts::Command;
-use sector_disk::{Event, MemoryMachine, When};
+use memory_machine::{Event, MemoryMachine, When};
 use std::alloc::{AllocError, Global};
 use volume_contract::Files;
 use volume_layout::Kind;

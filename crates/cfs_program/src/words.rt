@@ -6,7 +6,8 @@ ghost use Rattle.cfs_program.specs.Program.{Ran};
 
 use crate::run::{run_out_of_memory, run_request};
 use command_words::read_words;
-use sector_disk::{Machine, MemoryMachine};
+use memory_machine::MemoryMachine;
+use sector_disk::Machine;
 use std::alloc::Global;
 use volume_contract::Files;
 

@@ -1,6 +1,6 @@
 //! Scripts whose clients make versions in pieces, and read them so.
 use crate::machines::{NEVER, calm, formatted, repeated, run, stop_in};
-use sector_disk::Event;
+use memory_machine::Event;
 use std::alloc::{AllocError, Global};
 use std::test::Fail;
 

@@ -1,6 +1,6 @@
 //! The drill: what it says of the six lives, and an output that fails at each of its calls.
 use crate::machines::{Row, calm, first_wrong, run};
-use sector_disk::{Event, MemoryMachine};
+use memory_machine::{Event, MemoryMachine};
 use std::alloc::{AllocError, Global};
 use std::test::Fail;
 

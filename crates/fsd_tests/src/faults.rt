@@ -1,6 +1,7 @@
 //! Runs in which each call of the outside fails in turn, and what the next run lists.
 use crate::machines::{calm, formatted, run};
-use sector_disk::{Event, Sector};
+use memory_machine::Event;
+use sector_disk::Sector;
 use std::alloc::{AllocError, Global};
 use std::test::Fail;
 

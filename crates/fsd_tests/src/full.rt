@@ -1,6 +1,6 @@
 //! A name table that fills.
 use crate::machines::{calm, formatted, run};
-use sector_disk::MemoryMachine;
+use memory_machine::MemoryMachine;
 use std::alloc::{AllocError, Global};
 use std::test::Fail;
 

@@ -3,7 +3,8 @@
 //! 616 to 632 and at 636 to 652. As `rt test` builds them they take seconds.
 use crate::damage::set;
 use crate::machines::{calm, formatted, run, weak};
-use sector_disk::{Event, MemoryMachine, Sector, When};
+use memory_machine::{Event, MemoryMachine, When};
+use sector_disk::Sector;
 use std::alloc::{AllocError, Global};
 use std::test::Fail;
 

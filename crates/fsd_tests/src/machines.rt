@@ -1,6 +1,7 @@
 //! What the tests share: machines in memory, and lines that run over them.
 use cfs_program::run_words;
-use sector_disk::{Event, MemoryMachine, Sector, WeakRun, When};
+use memory_machine::{Event, MemoryMachine, When};
+use sector_disk::{Sector, WeakRun};
 use std::alloc::{AllocError, Global};
 use table_volume::Volume;
 use volume_layout::{Layout, LayoutFault};

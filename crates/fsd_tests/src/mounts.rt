@@ -2,8 +2,9 @@
 use crate::machines::{calm, repeated};
 use fsd_sound::MountFault;
 use log_record::lay;
+use memory_machine::MemoryMachine;
 use mount_recover::{SettledVolume, recover};
-use sector_disk::{Attach, Machine, MemoryMachine, Sector};
+use sector_disk::{Attach, Machine, Sector};
 use std::alloc::{AllocError, Global};
 use std::test::Fail;
 use volume_layout::Kind;

@@ -2,7 +2,8 @@
 //! again: it tells of a prefix of the changes, with each one that was forced. So it does where the disk has held back what
 //! was written since the last sync, and lost some of it.
 use crate::machines::{NEVER, formatted, hurt, hurt_late, run, run_behind, weak};
-use sector_disk::{Event, MemoryMachine, Sector};
+use memory_machine::{Event, MemoryMachine};
+use sector_disk::Sector;
 use std::alloc::{AllocError, Global};
 use std::test::Fail;
 

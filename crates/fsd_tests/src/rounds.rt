@@ -6,8 +6,9 @@ use crate::machines::{calm, formatted, stop_in};
 use crate::waiting::force_page;
 use group_commit::ForcedPages;
 use log_thirds::Log;
+use memory_machine::{Event, MemoryMachine};
 use mount_recover::{SettledVolume, recover};
-use sector_disk::{Attach, Event, LoadFault, Machine, MemoryMachine, Sector};
+use sector_disk::{Attach, LoadFault, Machine, Sector};
 use std::alloc::Global;
 use std::test::Fail;
 

@@ -1,6 +1,7 @@
 //! Runs on which nothing wears, each on what the one before has left.
 use crate::machines::{Row, calm, first_wrong, formatted, run, stop_in};
-use sector_disk::{MemoryMachine, Sector};
+use memory_machine::MemoryMachine;
+use sector_disk::Sector;
 use std::test::Fail;
 
 const SMALL: &str = "cfs format w 721 200 16";

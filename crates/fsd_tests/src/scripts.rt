@@ -2,8 +2,8 @@
 use crate::machines::{calm, repeated};
 use fsd_bytes::Key;
 use fsd_texts::{BadLine, Bytes, Cause, Command, Line, Part, ScriptCommand};
+use memory_machine::{Event, MemoryMachine};
 use script_text::{Maker, Reader, ScriptFault, say_line, say_parts};
-use sector_disk::{Event, MemoryMachine};
 use std::alloc::{AllocError, Global};
 use std::process::Abort;
 use std::test::Fail;

@@ -1,7 +1,8 @@
 //! Scrubs on which a pair of sectors wears, in a volume whose log begins at 16, whose homes begin at 784 and 852, and
 //! whose data begins at 921.
 use crate::machines::{calm, formatted, run, weak};
-use sector_disk::{Event, Sector, When};
+use memory_machine::{Event, When};
+use sector_disk::Sector;
 use std::alloc::{AllocError, Global};
 use std::test::Fail;
 

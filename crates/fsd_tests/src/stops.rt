@@ -1,6 +1,7 @@
 //! Runs that are stopped, or in which a call of the outside fails, and what the next run says.
 use crate::machines::{calm, formatted, run, stop_in};
-use sector_disk::{Event, MemoryMachine, Sector};
+use memory_machine::{Event, MemoryMachine};
+use sector_disk::Sector;
 use std::alloc::{AllocError, Global};
 use std::test::Fail;
 

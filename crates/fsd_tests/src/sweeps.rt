@@ -2,7 +2,8 @@
 //! moment that the windows allow, on a volume of each layout. As `rt test` builds them they take seconds, and minutes
 //! as `rt try` does.
 use crate::machines::{NEVER, formatted, hurt, run, weak};
-use sector_disk::{Event, MemoryMachine, Sector, When};
+use memory_machine::{Event, MemoryMachine, When};
+use sector_disk::Sector;
 use std::alloc::{AllocError, Global};
 use std::test::Fail;
 

@@ -5,7 +5,8 @@ use crate::healing::{GETS, gets_say, twelve};
 use crate::machines::{
     NEVER, calm, first_wrong, formatted, hurt, hurt_late, run, run_behind, weak,
 };
-use sector_disk::{Event, MemoryMachine, Sector};
+use memory_machine::{Event, MemoryMachine};
+use sector_disk::Sector;
 use std::alloc::{AllocError, Global};
 use std::test::Fail;
 

@@ -1,7 +1,8 @@
 //! Runs on which a pair of sectors wears, in a volume whose log begins at 16, whose homes begin at 784 and 852,
 //! and whose data begins at 921.
 use crate::machines::{NEVER, formatted, hurt, hurt_late, run, weak};
-use sector_disk::{Event, MemoryMachine, Sector, When};
+use memory_machine::{Event, MemoryMachine, When};
+use sector_disk::Sector;
 use std::alloc::{AllocError, Global};
 use std::test::Fail;
 

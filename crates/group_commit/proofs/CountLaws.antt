@@ -35,7 +35,7 @@ count_done slots from start count inside none =
     sym (gap (lies_in start count) slots from (length slots) inside (omega arith) none) ∙ ap (count_by (lies_in start count)) (take_all (length slots) slots (omega arith))
 
 pub wrote_none : (ledger : Ledger) (n : ℕ) → n ≡ 0 → ledger ≡ wrote ledger n
-wrote_none ledger n is = let e : ledger.written ≡ ledger.written + n = omega (arith, is) in λ i. record { input = ledger.input; attaches = ledger.attaches; written = e i }
+wrote_none ledger n is = let e : ledger.written ≡ ledger.written + n = omega (arith, is) in λ i. record { input = ledger.input; attaches = ledger.attaches; written = e i; syncs = ledger.syncs }
 
 -- no more lie in the first third among some first pages than among all
 pub count_part : (slots : List (Option Slot)) (start count i : ℕ) → count_by (lies_in start count) (take i slots) ≤ count_by (lies_in start count) slots

@@ -42,7 +42,7 @@ grows_then a b c x y z open_still first second =
     record {
       count = first.count + second.count;
       some = omega (arith, first.some, second.some, ap length left, length-drop first.count x.input);
-      left = second.left ∙ ap (λ (l : Ledger). took l second.count) first.left ∙ ap (λ (i : List ℕ). record { input = i; attaches = x.attaches; written = x.written }) (drop-drop second.count first.count x.input);
+      left = second.left ∙ ap (λ (l : Ledger). took l second.count) first.left ∙ ap (λ (i : List ℕ). record { input = i; attaches = x.attaches; written = x.written; syncs = x.syncs }) (drop-drop second.count first.count x.input);
       taken = omega (arith, first.taken, second.taken);
       needed = needed_then first.count second.count a.waiting b.waiting x.input first.needed second.needed first.waiting;
       waiting =

@@ -37,7 +37,11 @@ spares_then takes says a b c first second = record {
 }
 
 pub only_writes_then : (a b c : Ledger) → OnlyWrites a b → OnlyWrites b c → OnlyWrites a c
-only_writes_then a b c first second = record { input = second.input ∙ first.input; attaches = second.attaches ∙ first.attaches }
+only_writes_then a b c first second = record { input = second.input ∙ first.input; attaches = second.attaches ∙ first.attaches; syncs = second.syncs ∙ first.syncs }
+
+-- nothing was written either
+pub same_ledger : {a b : Ledger} → b ≡ a → OnlyWrites a b
+same_ledger same = record { input = ap (λ (l : Ledger). l.input) same; attaches = ap (λ (l : Ledger). l.attaches) same; syncs = ap (λ (l : Ledger). l.syncs) same }
 
 -- ---- faults handed on
 
@@ -141,7 +145,7 @@ module _ {D : Type 0} {M : Ghosts D} {a b : D} where
     uses = r.uses;
     faults = r.faults;
     trust = r.trust;
-    ledger = λ t. record { input = ap (λ (l : Ledger). l.input) (r.ledger t); attaches = ap (λ (l : Ledger). l.attaches) (r.ledger t) };
+    ledger = λ t. same_ledger (r.ledger t);
     quiet = λ h. (r.worn h).said;
     windows = λ h. (r.worn h).windows;
     exit = λ h. wears h (M.now b) (r.worn h);
@@ -194,7 +198,7 @@ module _ {D : Type 0} {M : Ghosts D} (a b : D) where
     uses = record { sectors = sectors; disk = cause.disk.later; input = cause.input; output = cause.output };
     faults = tells_place (M.report a) (M.report b) place r cause;
     trust = trust;
-    ledger = λ t. record { input = ap (λ (l : Ledger). l.input) (ledger t); attaches = ap (λ (l : Ledger). l.attaches) (ledger t) };
+    ledger = λ t. same_ledger (ledger t);
     quiet = quiet;
     later = λ h. (time h).later;
     since = λ h. (time h).keeps;
@@ -222,7 +226,7 @@ module _ {D : Type 0} {M : Ghosts D} (a : D) (only_now : (c : Moment) → M.hone
     uses = uses_none (M.report a);
     faults = (refl, refl);
     trust = record { tells = λ t. t; honest = λ h. h };
-    ledger = λ t. record { input = refl; attaches = refl };
+    ledger = λ t. same_ledger refl;
     quiet = λ h. refl;
     windows = λ h. refl;
     exit = here;

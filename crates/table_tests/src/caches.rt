@@ -4,8 +4,9 @@ ghost use Rattle.page_cache.specs.Cache.{IsResident};
 ghost use Rattle.table_tests.specs.Caches.{HasFirst, HasMarks};
 
 use crate::desk::damaged;
+use memory_machine::MemoryMachine;
 use page_cache::{Cache, Frame, PageSource};
-use sector_disk::{LoadFault, Machine, MemoryMachine};
+use sector_disk::{LoadFault, Machine};
 use std::alloc::Global;
 use std::process::Abort;
 use std::test::Fail;

@@ -28,7 +28,7 @@ use Rattle.twin_home.specs.Twins.{CountsHomes, HealsPages, HealsTwins, HomesStan
 -- ---- calls
 
 pub wrote_more : (x : Ledger) (a b n : ℕ) → a + b ≡ n → wrote (wrote x a) b ≡ wrote x n
-wrote_more x a b n is = ap (λ (k : ℕ). record { input = x.input; attaches = x.attaches; written = k }) (let same : x.written + a + b ≡ x.written + n = omega (arith, is) in same)
+wrote_more x a b n is = ap (λ (k : ℕ). record { input = x.input; attaches = x.attaches; written = k; syncs = x.syncs }) (let same : x.written + a + b ≡ x.written + n = omega (arith, is) in same)
 
 pub wrote_on : (x y z : Ledger) (a b n : ℕ) → y ≡ wrote x a → z ≡ wrote y b → a + b ≡ n → z ≡ wrote x n
 wrote_on x y z a b n first second is = second ∙ ap (λ (l : Ledger). wrote l b) first ∙ wrote_more x a b n is

@@ -123,7 +123,7 @@ handed_on P (Err told) failed is holds = subst P (sym is) holds
 -- ---- counts
 
 pub wrote_on : (l : Ledger) (a b : ℕ) → wrote (wrote l a) b ≡ wrote l (a + b)
-wrote_on l a b = let sum : l.written + a + b ≡ l.written + (a + b) = omega arith in ap (λ (n : ℕ). record { input = l.input; attaches = l.attaches; written = n }) sum
+wrote_on l a b = let sum : l.written + a + b ≡ l.written + (a + b) = omega arith in ap (λ (n : ℕ). record { input = l.input; attaches = l.attaches; written = n; syncs = l.syncs }) sum
 
 pub wrote_most : (l new : Ledger) (a most : ℕ) → new ≡ wrote l a → a ≤ most → WroteMost most l new
 wrote_most l new a most is le = let n : new.written ≡ l.written + a = ap (λ (x : Ledger). x.written) is in record { no_fewer = omega (arith, n); no_more = omega (arith, n, le) }

@@ -7,7 +7,7 @@ use crate::mounted::{Mounted, Work, mounts};
 use crate::names::{key_of, name_of};
 use fsd_bytes::Refusal;
 use fsd_formats::Entry;
-use sector_disk::{Event, MemoryMachine};
+use memory_machine::{Event, MemoryMachine};
 use std::alloc::Global;
 use std::test::Fail;
 

@@ -2,7 +2,7 @@
 use crate::machines::formatted;
 use crate::mounted::{Mounted, Work, mounts};
 use fsd_bytes::{Key, Refusal};
-use sector_disk::Event;
+use memory_machine::Event;
 use std::alloc::Global;
 use std::test::Fail;
 use volume_contract::Stat;

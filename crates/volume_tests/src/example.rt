@@ -2,7 +2,7 @@
 use crate::machines::formatted;
 use crate::mounted::Mounted;
 use fsd_bytes::{FileName, Refusal};
-use sector_disk::{Event, MemoryMachine};
+use memory_machine::{Event, MemoryMachine};
 use std::alloc::Global;
 use std::test::Fail;
 use volume_example::ExampleFault;

@@ -3,7 +3,8 @@ use crate::machines::formatted;
 use crate::mounted::{Mounted, Work, mounts};
 use crate::names::{key_of, name_of};
 use fsd_bytes::Refusal;
-use sector_disk::{Event, MemoryMachine, Sector};
+use memory_machine::{Event, MemoryMachine};
+use sector_disk::Sector;
 use std::alloc::Global;
 use std::test::Fail;
 

@@ -2,7 +2,8 @@
 ghost use Rattle.std.specs.Prelude.{◌≤◌};
 
 use crate::draws::Draws;
-use sector_disk::{Attach, Event, Machine, MemoryMachine, WeakRun, When};
+use memory_machine::{Event, MemoryMachine, When};
+use sector_disk::{Attach, Machine, WeakRun};
 use std::alloc::Global;
 use std::test::Fail;
 use volume_format::format;

@@ -1,12 +1,13 @@
 //! A mounted volume together with the machine under it, and its calls.
 ghost use Rattle.std.specs.Prelude.{◌≡◌, ◌≤◌, IfOk, length};
-ghost use Rattle.sector_disk.specs.Memory.{memory_report};
+ghost use Rattle.memory_machine.specs.Memory.{memory_report};
 ghost use Rattle.volume_laws.specs.State.{state};
 
 use crate::machines::blank;
 use fsd_bytes::{FileName, Key, Refusal};
 use fsd_formats::Entry;
-use sector_disk::{Attach, Event, Machine, MemoryMachine};
+use memory_machine::{Event, MemoryMachine};
+use sector_disk::{Attach, Machine};
 use std::alloc::Global;
 use std::marker::Model;
 use std::mem::replace;
@@ -24,7 +25,7 @@ pub struct Mounted {
 
 impl Model for Mounted {
     ghost use Rattle.std.specs.Prelude.{ℕ, ◌≤◌};
-    ghost use Rattle.sector_disk.specs.Memory.{memory_report};
+    ghost use Rattle.memory_machine.specs.Memory.{memory_report};
     ghost use Rattle.volume_laws.specs.State.{state};
 
     ghost Value = { ℕ };

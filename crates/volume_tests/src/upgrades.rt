@@ -2,7 +2,7 @@
 use crate::example::empty;
 use crate::machines::NEVER;
 use fsd_bytes::{FileName, Refusal};
-use sector_disk::Event;
+use memory_machine::Event;
 use std::alloc::Global;
 use std::test::Fail;
 

@@ -7,7 +7,7 @@ use Rattle.sector_disk.specs.declared.machine.Machine.{Ghosts}
 use Rattle.sector_disk.specs.Calls.{DiskFaults, IsTimed, LeavesDisk, OnlyReads, Since, SparesDisk}
 use Rattle.sector_disk.specs.Image.{IsWorn, Windows, open_damage}
 use Rattle.sector_disk.specs.Machine.{DiskCause, Elapses, InputCause, IsHistory, IsSynced, LeavesOnly, Moment, OutputCause, Report, Says, Trusts, UsesDisk, Utters, Wears}
-use Rattle.sector_disk.proofs.Calls.{utters_same}
+use Rattle.sector_disk.proofs.Holding.{utters_none}
 use Rattle.sector_disk.proofs.Holding.{wears_none}
 use Rattle.sector_disk.proofs.Moments.{goes_on, leaves_more, leaves_more_in, started, then_on}
 use Rattle.sector_disk.proofs.Wear.{worn_trans}
@@ -61,11 +61,11 @@ module _ {D : Type 0} (M : Ghosts D) (a b : D) (only : (c : Moment) → M.honest
 
   pub said_moments : (said bytes : List ℕ) → said ≡ bytes → (M.honest b → Elapses (M.moment a) (M.moment b) (M.left_since a) (M.left_since b) (Utters said (M.now a)))
       → M.honest b → LeavesOnly M.moment M.left_since a b (Utters bytes (M.now a))
-  said_moments said bytes is time h = subst (λ (x : List ℕ). LeavesOnly M.moment M.left_since a b (Utters x (M.now a))) is (leaves_in (Utters said (M.now a)) (utters_same said (M.now a)) time h)
+  said_moments said bytes is time h = subst (λ (x : List ℕ). LeavesOnly M.moment M.left_since a b (Utters x (M.now a))) is (leaves_in (Utters said (M.now a)) (utters_none said (M.now a)) time h)
 
   pub said_leaves : (bytes : List ℕ) (failed : Bool) → SparesDisk false failed (M.report a) (M.report b) → (M.honest b → Utters bytes (M.now a) (M.now b))
       → (M.honest b → Elapses (M.moment a) (M.moment b) (M.left_since a) (M.left_since b) (Utters bytes (M.now a))) → LeavesDisk M false failed (Utters bytes) a b
-  said_leaves bytes failed spares cut time = record { spares = spares; trust = trust; exit = cut; since = λ h. (time h).keeps; any_moment = leaves_in (Utters bytes (M.now a)) (utters_same bytes (M.now a)) time }
+  said_leaves bytes failed spares cut time = record { spares = spares; trust = trust; exit = cut; since = λ h. (time h).keeps; any_moment = leaves_in (Utters bytes (M.now a)) (utters_none bytes (M.now a)) time }
 
 -- ---- all is said
 

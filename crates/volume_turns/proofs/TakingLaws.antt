@@ -15,7 +15,7 @@ pub nothing_so_far : (old : Ledger) → SoFar old old []
 nothing_so_far old = record { taken = refl; front = refl; within = omega arith }
 
 took_took : (old : Ledger) (a b : ℕ) → took (took old a) b ≡ took old (a + b)
-took_took old a b = ap (λ (i : List ℕ). record { input = i; attaches = old.attaches; written = old.written }) (drop-drop b a old.input)
+took_took old a b = ap (λ (i : List ℕ). record { input = i; attaches = old.attaches; written = old.written; syncs = old.syncs }) (drop-drop b a old.input)
 
 pub length_more : (bytes piece : List ℕ) (n : ℕ) → n ≤ length piece → length (bytes ++ take n piece) ≡ length bytes + n
 length_more bytes piece n room = length-append bytes (take n piece) ∙ ap (λ k. length bytes + k) (length-take-le n piece room)

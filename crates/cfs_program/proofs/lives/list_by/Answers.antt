@@ -1,6 +1,6 @@
 use Rattle.std.proofs.Common.{◌≡◌, ◌∙◌, [], take, sym, ap, subst, rules}
 use Rattle.sector_disk.specs.Machine.{Moment}
-use Rattle.sector_disk.specs.Memory.{memory_calls, memory_ledger, memory_left, memory_now, memory_report}
+use Rattle.memory_machine.specs.Memory.{memory_calls, memory_ledger, memory_left, memory_now, memory_report}
 use Rattle.fsd_bytes.specs.declared.pattern.Pattern.{Pattern}
 use Rattle.fsd_bytes.specs.declared.pattern.Pattern.TheVariants.{Prefix}
 use Rattle.fsd_texts.specs.declared.command.Command.TheVariants as Word

@@ -1,6 +1,6 @@
 use Rattle.std.proofs.Common.{◌≡◌, inl, refl, arith, rules}
-use Rattle.sector_disk.specs.Memory.{memory_calls, memory_left, memory_now}
-use Rattle.sector_disk.specs.History.{memory_history}
+use Rattle.memory_machine.specs.Memory.{memory_calls, memory_left, memory_now}
+use Rattle.memory_machine.specs.History.{memory_history}
 use Rattle.cfs_program.proofs.LifeLaws.{kept_made}
 use Rattle.cfs_program.proofs.lives.made.Goals as goal
 

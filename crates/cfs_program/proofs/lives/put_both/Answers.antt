@@ -1,7 +1,7 @@
 use Rattle.std.proofs.Common.{◌≡◌, ◌+◌, ◌∷◌, ◌++◌, [], List, length, ℕ, Option, None, if◌then◌else◌, codes, ap, sym, subst, rules}
 use Rattle.std.specs.Prelude.{is_some}
 use Rattle.std.proofs.lemmas.Result.{IfOk-weaker}
-use Rattle.sector_disk.specs.declared.memory.MemoryMachine.{MemoryMachine}
+use Rattle.memory_machine.specs.declared.memory.MemoryMachine.{MemoryMachine}
 use Rattle.fsd_files.specs.Files.{Change}
 use Rattle.cfs_program.specs.Drill.{KeepsIfHonest, puts}
 use Rattle.cfs_program.proofs.lives.put_both.Goals as goal

@@ -1,6 +1,6 @@
 use Rattle.std.proofs.Common.{◌≡◌, ◌∷◌, ◌∙◌, [], List, ℕ, None, length, take, sym, ap, subst, rules}
 use Rattle.sector_disk.specs.Machine.{Ledger}
-use Rattle.sector_disk.specs.Memory.{memory_calls, memory_ledger, memory_left, memory_now, memory_report}
+use Rattle.memory_machine.specs.Memory.{memory_calls, memory_ledger, memory_left, memory_now, memory_report}
 use Rattle.fsd_runs.specs.Leaves.{LeavesSaid}
 use Rattle.fsd_runs.specs.declared.request.Request.TheVariants.{Put}
 use Rattle.cfs_program.proofs.LifeLaws.{MemoryHeld, MemoryStops, held_again, kept_again, kept_done, kept_left, memory_stops}

@@ -1,7 +1,7 @@
 use Rattle.std.proofs.Common.{◌≡◌, inl, ◌∙◌, Bool, false, true, List, ℕ, refl, sym, subst, arith}
 use Rattle.std.proofs.lemmas.Result.{on_ok_weaker}
 use Rattle.sector_disk.specs.Machine.{LeavesOnly, Utters}
-use Rattle.sector_disk.proofs.Calls.{utters_same}
+use Rattle.sector_disk.proofs.Holding.{utters_none}
 use Rattle.sector_disk.proofs.Holding.{wears_none}
 use Rattle.sector_disk.proofs.Moments.{leaves_more, started}
 use Rattle.sector_disk.proofs.ResultLaws.{ok_as}
@@ -24,7 +24,7 @@ returns-in_default g c =
         trust = record { tells = λ t. t; honest = λ h. h };
         since = λ h t left le was. was;
       };
-      moments = λ h. started M.moment M.left_since a (M.now a) (UttersBehind forces text (M.now a)) (λ left was. g.met.M.Machine.only_now a left h was) (record { utters = utters_same text (M.now a); synced = λ is. inl refl });
+      moments = λ h. started M.moment M.left_since a (M.now a) (UttersBehind forces text (M.now a)) (λ left was. g.met.M.Machine.only_now a left h was) (record { utters = utters_none text (M.now a); synced = λ is. inl refl });
       synced = tt;
       said = tt;
       unsaid = λ h. wears_none (M.now a);

@@ -1,0 +1,6 @@
+pub mod AttachCalls
+pub mod Calls
+pub mod LeftLaws
+pub mod States
+pub mod Steps
+pub mod WriteCalls

@@ -1,0 +1,286 @@
+-- What a call that is refused or noted makes of the state.
+use Rattle.std.proofs.Common.{◌≡◌, inl, inr, ℕ, ◌+◌, ◌-◌, ◌/◌, ◌^◌, ◌==◌, min, replicate, Option, None, Some, Vec, Bool, true, false, ◌&&◌, cond, List, [], ◌∷◌, ◌++◌, length, refl, sym, ◌∙◌, ap, subst, arith}
+use Rattle.std.proofs.lemmas.Bool.{or_parts}
+use Rattle.std.specs.Prelude.{if◌then◌else◌, count_by, drop, Result, Ok, Err, OnOk, OnErr, is_ok, is_err}
+use Rattle.std.specs.List.{list_any}
+use Rattle.std.proofs.lemmas.List.{append-nil}
+use Rattle.std.specs.declared.alloc.Global.{Global}
+use Rattle.sector_disk.specs.declared.sector.Sector.{Sector}
+use Rattle.sector_disk.specs.declared.sector.Sector.TheVariants.{Damaged}
+use Rattle.sector_disk.specs.declared.sector.WeakRun.{WeakRun}
+use Rattle.sector_disk.specs.declared.machine.Attach.{Attach}
+use Rattle.sector_disk.specs.declared.machine.Attach.TheVariants.{Old, New}
+use Rattle.sector_disk.specs.declared.machine.Failed.{Failed}
+use Rattle.memory_machine.specs.declared.past.Step.{Step}
+use Rattle.memory_machine.specs.declared.past.Work.{Work}
+use Rattle.memory_machine.specs.declared.past.Work.TheVariants.{Attaching, Writing, Saying, Quiet}
+use Rattle.memory_machine.specs.declared.event.Event.{Event}
+use Rattle.memory_machine.specs.declared.event.Event.TheVariants.{FailCall, FailIn, Stop, StopIn, HurtAt, Pieces}
+use Rattle.memory_machine.specs.declared.event.Write.{Write}
+use Rattle.memory_machine.specs.declared.event.Verdict.{Verdict}
+use Rattle.memory_machine.specs.declared.event.Verdict.TheVariants.{Goes, Fails, Stops}
+use Rattle.memory_machine.specs.declared.memory.MemoryMachine.{MemoryMachine}
+use Rattle.sector_disk.specs.Machine.{wrote}
+use Rattle.sector_disk.specs.Image.{settled, stand}
+use Rattle.memory_machine.specs.Events.{verdict_at, verdict_of, or_else, counts_at, stood_by, is_going, is_stop}
+use Rattle.memory_machine.specs.Past.{hurt_all, attaches_in, attach_of, written_in, written_by, begins_at, is_write_at, due}
+use Rattle.memory_machine.specs.State.{DiskState, Rests, noted, asked, opened, put_sectors, put_by, spoken, call_goes, write_verdict, Exactly, Calls, Attached, Written, same}
+use Rattle.memory_machine.specs.Memory.{memory_state, memory_now, memory_ledger, memory_honest, Notes, Refuses, Fails as Failing, IsAttaching, IsWriting}
+use Rattle.memory_machine.specs.Windows.{all_weak}
+use Rattle.memory_machine.proofs.Calls.{noted_ledger}
+use Rattle.memory_machine.proofs.Steps.{noted_calls, noted_step, noted_synced}
+use Rattle.std.proofs.lemmas.List.Sums.{sum_by-append}
+
+-- A REFUSED CALL
+
+pub refused_state : (old new : MemoryMachine) → Refuses old new → Rests same (memory_state old) (memory_state new)
+refused_state old new refused = elim refused.cause [
+  | inl stopped ↦ inl (stopped.0, at stopped.1)
+  | inr starved ↦ inr (starved.0, at starved.1)
+]
+  where
+    input : drop new.taken new.input.items ≡ drop old.taken old.input.items
+    input = ap (λ (m : MemoryMachine). drop m.taken m.input.items) refused.rest
+
+    at : {n : ℕ} → new.starved ≡ n → memory_state new ≡ record (memory_state old) { starved = n }
+    at is = ap memory_state refused.rest ∙ (λ i. record (memory_state old) {
+      now = record (memory_now old) { time = length (refused.past i); synced = min old.synced (length (refused.past i)) };
+      ledger = record { input = drop old.taken old.input.items; attaches = attaches_in (refused.past i); written = written_in (refused.past i) };
+      calls = length (refused.past i);
+      begun = λ first. count_by (begins_at first) (refused.past i);
+      starved = is i;
+    })
+
+-- A NOTED CALL
+
+-- a sync now
+pub same_min : (sync n : ℕ) → sync ≡ n → min sync n ≡ n
+same_min sync n is = omega (arith, is)
+
+-- no run is named
+pub none_settled : (present next : Option WeakRun) → None ≡ next → record { present = present; next = next } ≡ settled present next
+none_settled present None is = refl
+none_settled present (Some run) is = absurd (cc is)
+
+none_add : (n : ℕ) → 0 + n ≡ n
+none_add n = omega arith
+
+count-push : (first : ℕ) (past : List Step) (step : Step) → count_by (begins_at first) (past ++ step ∷ []) ≡ count_by (begins_at first) past + (if is_write_at first step.work then 1 else 0)
+count-push first past step =
+    sum_by-append (λ (s : Step). cond (begins_at first s) 1 0) past (step ∷ [])
+    ∙ ap (λ (n : ℕ). count_by (begins_at first) past + n) (none_add (cond (begins_at first step) 1 0))
+
+-- the state after a noted call, by its work
+abbrev noted_by : Bool → Work → DiskState → DiskState
+noted_by settle work s = record (noted settle s) {
+  ledger = record { input = s.ledger.input; attaches = s.ledger.attaches ++ attach_of work; written = s.ledger.written + written_by work };
+  begun = λ first. s.begun first + (if is_write_at first work then 1 else 0);
+}
+
+pub noted_state : (settle : Bool) (work : Work) (old new : MemoryMachine) → Notes settle work old new → memory_state new ≡ noted_by settle work (memory_state old)
+noted_state settle work old new call = ap memory_state call.rest ∙ (λ i. record (memory_state old) {
+  now = record { image = image i; windows = record { present = old.present; next = old.next }; said = old.said.items; time = calls i; synced = synced i };
+  ledger = ledger i;
+  calls = calls i;
+  begun = λ first. begun first i;
+  allowed = allowed i;
+})
+  where
+    image : new.image.items ≡ hurt_all (due old.image.items (length old.past.items) settle old.events.items) old.image.items
+    image = call.image ∙ ap (λ l. hurt_all l old.image.items) call.all_due
+
+    mid : MemoryMachine
+    mid = record old { image = new.image; past = new.past; honest = new.honest; synced = new.synced }
+
+    ledger : memory_ledger mid ≡ record { input = (memory_ledger old).input; attaches = (memory_ledger old).attaches ++ attach_of work; written = (memory_ledger old).written + written_by work }
+    ledger = sym (ap memory_ledger call.rest) ∙ noted_ledger settle work old new call
+
+    calls : length new.past.items ≡ length old.past.items + 1
+    calls = noted_calls settle work old new call
+
+    synced : min new.synced (length new.past.items) ≡ (memory_now old).synced
+    synced = noted_synced settle work old new call
+
+    begun : (first : ℕ) → count_by (begins_at first) new.past.items ≡ count_by (begins_at first) old.past.items + (if is_write_at first work then 1 else 0)
+    begun first = ap (count_by (begins_at first)) call.past ∙ count-push first old.past.items (noted_step settle work old new call)
+
+    allowed : new.honest ≡ (memory_honest old && all_weak old.present old.next (due old.image.items (length old.past.items) settle old.events.items))
+    allowed = call.honest ∙ ap (λ l. memory_honest old && all_weak old.present old.next l) call.all_due
+
+add_none : (n : ℕ) → n + 0 ≡ n
+add_none n = omega arith
+
+-- a call that neither asks nor writes
+plain : (settle : Bool) (s : DiskState) → record (noted settle s) { ledger = record { input = s.ledger.input; attaches = s.ledger.attaches ++ []; written = s.ledger.written + 0 }; begun = λ first. s.begun first + 0 } ≡ noted settle s
+plain settle s = λ i. record (noted settle s) {
+  ledger = record { input = s.ledger.input; attaches = append-nil s.ledger.attaches i; written = add_none s.ledger.written i };
+  begun = λ first. add_none (s.begun first) i;
+}
+
+pub quiet_state : (settle : Bool) (old new : MemoryMachine) → Notes settle Quiet old new → memory_state new ≡ noted settle (memory_state old)
+quiet_state settle old new call = noted_state settle Quiet old new call ∙ plain settle (memory_state old)
+
+-- by what the call answers
+pub quiet_calls : (settle : Bool) (old new : MemoryMachine) (r : Result Unit Failed) → OnOk r (Notes settle Quiet old new) → OnErr r (Failing settle Quiet old new) → OnOk r (call_goes (memory_state old) ≡ true) → Calls settle same same (memory_state old) (memory_state new) (is_ok r)
+quiet_calls settle old new (Ok x) ok err goes = record { running = ok.running; goes = goes; after = quiet_state settle old new ok }
+quiet_calls settle old new (Err e) ok (inl refused) goes = inl (refused_state old new refused)
+quiet_calls settle old new (Err e) ok (inr failed) goes = inr (record { running = failed.0.running; goes = failed.1; after = quiet_state settle old new failed.0 })
+
+-- a call that fails, by its work
+pub failed_exactly : (settle : Bool) (work : Work) (old new : MemoryMachine) (done after : DiskState) → noted_by settle work (memory_state old) ≡ after → Failing settle work old new → Exactly (call_goes (memory_state old)) done after same (memory_state old) (memory_state new) false
+failed_exactly settle work old new done after is (inl refused) = inl (refused_state old new refused)
+failed_exactly settle work old new done after is (inr failed) = inr (record { running = failed.0.running; goes = failed.1; after = noted_state settle work old new failed.0 ∙ is })
+
+-- A CALL THAT SAYS
+
+-- with room made for the bytes
+pub room_state : (old : MemoryMachine) (said : Vec ℕ Global) → said.items ≡ old.said.items → memory_state (record old { said = said }) ≡ memory_state old
+room_state old said is = λ i. record (memory_state old) { now = record (memory_now old) { said = is i } }
+
+pub said_none : (bytes : List ℕ) (old : MemoryMachine) (said copy : Vec ℕ Global) (new : MemoryMachine) → said.items ≡ old.said.items → Failing false (Saying copy) (record old { said = said }) new → Calls false (spoken bytes) same (memory_state old) (memory_state new) false
+said_none bytes old said copy new is failed =
+    let ready : MemoryMachine = record old { said = said } in
+    subst (λ (s : DiskState). Calls false (spoken bytes) same s (memory_state new) false) (room_state old said is)
+    (failed_exactly false (Saying copy) ready new (spoken bytes (noted false (memory_state ready))) (noted false (memory_state ready)) (plain false (memory_state ready)) failed)
+
+pub said_all : (bytes : List ℕ) (old : MemoryMachine) (said copy : Vec ℕ Global) (new end : MemoryMachine) → said.items ≡ old.said.items → Notes false (Saying copy) (record old { said = said }) new → call_goes (memory_state (record old { said = said })) ≡ true
+    → end ≡ record new { said = end.said } → end.said.items ≡ new.said.items ++ bytes → Calls false (spoken bytes) same (memory_state old) (memory_state end) true
+said_all bytes old said copy new end is call goes rest all =
+    let ready : MemoryMachine = record old { said = said } in
+    let after : memory_state end ≡ spoken bytes (memory_state new) = ap memory_state rest ∙ (λ i. record (memory_state new) { now = record (memory_now new) { said = all i } }) in
+    subst (λ (s : DiskState). Calls false (spoken bytes) same s (memory_state end) true) (room_state old said is) (record {
+      running = call.running;
+      goes = goes;
+      after = after ∙ ap (spoken bytes) (noted_state false (Saying copy) ready new call ∙ plain false (memory_state ready));
+    })
+
+-- AN ATTACH
+
+asking : (work : Work) (image : List Sector) (text : List ℕ) (how : Attach) (s : DiskState) → IsAttaching image text how work → noted_by false work s ≡ asked text how (noted false s)
+asking (Attaching path asks kept) image text how s is = λ i. record (noted false s) {
+  ledger = record { input = s.ledger.input; attaches = s.ledger.attaches ++ record { path = is.0 i; how = is.1 i } ∷ []; written = add_none s.ledger.written i };
+  begun = λ first. add_none (s.begun first) i;
+}
+asking (Writing first bytes olds done) image text how s is = absurd is
+asking (Saying bytes) image text how s is = absurd is
+asking Quiet image text how s is = absurd is
+
+pub unopened : (work : Work) (image : List Sector) (text : List ℕ) (how : Attach) (old new : MemoryMachine) → IsAttaching image text how work → Failing false work old new → Attached text how same (memory_state old) (memory_state new) false
+unopened work image text how old new is failed =
+    failed_exactly false work old new (opened how (asked text how (noted false (memory_state old)))) (asked text how (noted false (memory_state old))) (asking work image text how (memory_state old) is) failed
+
+pub found_state : (work : Work) (image : List Sector) (text : List ℕ) (sync : ℕ) (old new : MemoryMachine) → sync ≡ length new.past.items → IsAttaching image text Old work → Notes false work old new → call_goes (memory_state old) ≡ true
+    → Attached text Old same (memory_state old) (memory_state (record new { next = None; attached = true; synced = sync })) true
+found_state work image text sync old new now is call goes =
+    let found_is : memory_state (record new { next = None; attached = true; synced = sync }) ≡ opened Old (memory_state new) =
+    λ i. record (memory_state new) { now = record (memory_now new) { windows = record { present = new.present; next = None }; synced = same_min sync (length new.past.items) now i }; attached = true } in
+    record { running = call.running; goes = goes; after = found_is ∙ ap (opened Old) (noted_state false work old new call ∙ asking work image text Old (memory_state old) is) }
+
+pub made_state : (work : Work) (image : List Sector) (text : List ℕ) (count sync : ℕ) (fresh : Vec Sector Global) (old new : MemoryMachine) → sync ≡ length new.past.items → IsAttaching image text (New count) work → fresh.items ≡ replicate count Damaged → Notes false work old new → call_goes (memory_state old) ≡ true
+    → Attached text (New count) same (memory_state old) (memory_state (record new { next = None; present = None; attached = true; image = fresh; synced = sync })) true
+made_state work image text count sync fresh old new now is made call goes =
+    let fresh_is : memory_state (record new { next = None; present = None; attached = true; image = fresh; synced = sync }) ≡ opened (New count) (memory_state new) =
+    λ i. record (memory_state new) { now = record (memory_now new) { image = made i; windows = record { present = None; next = None }; synced = same_min sync (length new.past.items) now i }; attached = true } in
+    record { running = call.running; goes = goes; after = fresh_is ∙ ap (opened (New count)) (noted_state false work old new call ∙ asking work image text (New count) (memory_state old) is) }
+
+-- A WRITE
+
+-- what is done to the state beside its ledger and the count of writes
+abbrev stands : ℕ → List ℕ → ℕ → Bool → DiskState → DiskState
+stands first text some stops s = record s {
+  now = record s.now { image = stand s.now.image first text some };
+  written = min (s.written + some) (2 ^ 64 - 1);
+  stopped = stops;
+}
+
+writing : (work : Work) (image : List Sector) (first : ℕ) (text : List ℕ) (some : ℕ) (done stops : Bool) (s : DiskState) → IsWriting image first text some done work → stands first text some stops (noted_by false work s) ≡ put_sectors first text some done stops (noted false s)
+writing (Writing from copy olds did) image first text some done stops s is = λ i. record (put_sectors first text some done stops (noted false s)) {
+  ledger = (counted_by ∙ counted done) i;
+  begun = λ sector. s.begun sector + (if (is.0 i) == sector then 1 else 0);
+}
+  where
+    counted_by : record s.ledger { attaches = s.ledger.attaches ++ []; written = s.ledger.written + (if did then length copy.items / 512 else 0) } ≡ record s.ledger { written = s.ledger.written + (if done then length text / 512 else 0) }
+    counted_by = λ i. record s.ledger { attaches = append-nil s.ledger.attaches i; written = s.ledger.written + (if is.3 i then length (is.1 i) / 512 else 0) }
+
+    counted : (b : Bool) → record s.ledger { written = s.ledger.written + (if b then length text / 512 else 0) } ≡ (if b then wrote s.ledger (length text / 512) else s.ledger)
+    counted true = refl
+    counted false = λ i. record s.ledger { written = add_none s.ledger.written i }
+writing (Attaching path asks kept) image first text some done stops s is = absurd is
+writing (Saying bytes) image first text some done stops s is = absurd is
+writing Quiet image first text some done stops s is = absurd is
+
+pub put_state : (work : Work) (first : ℕ) (text : List ℕ) (some : ℕ) (done stops : Bool) (old new end : MemoryMachine) → IsWriting old.image.items first text some done work → Notes false work old new → end.image.items ≡ stand new.image.items first text some
+    → end.written ≡ min (new.written + some) (2 ^ 64 - 1) → end ≡ record new { image = end.image; written = end.written; stopped = stops } → memory_state end ≡ put_sectors first text some done stops (noted false (memory_state old))
+put_state work first text some done stops old new end is call image written rest =
+    ap memory_state rest
+    ∙ (λ i. record (memory_state new) { now = record (memory_now new) { image = image i }; written = written i; stopped = stops })
+    ∙ ap (stands first text some stops) (noted_state false work old new call)
+    ∙ writing work old.image.items first text some done stops (memory_state old) is
+
+pub put_exactly : (work : Work) (first : ℕ) (text : List ℕ) (some : ℕ) (done stops : Bool) (old new end : MemoryMachine) → IsWriting old.image.items first text some done work → Notes false work old new → end.image.items ≡ stand new.image.items first text some
+    → end.written ≡ min (new.written + some) (2 ^ 64 - 1) → end ≡ record new { image = end.image; written = end.written; stopped = stops }
+    → Exactly done (put_sectors first text some done stops (noted false (memory_state old))) (put_sectors first text some done stops (noted false (memory_state old))) same (memory_state old) (memory_state end) done
+put_exactly work first text some true stops old new end is call image written rest = record { running = call.running; goes = refl; after = put_state work first text some true stops old new end is call image written rest }
+put_exactly work first text some false stops old new end is call image written rest = inr (record { running = call.running; goes = refl; after = put_state work first text some false stops old new end is call image written rest })
+
+-- COUNTS OF AN EVENT
+
+uncounted_at : (event : Event) (write : Write) (n : ℕ) → counts_at write.first event ≡ false → verdict_at event write ≡ verdict_at event (record write { begun = n })
+uncounted_at (FailCall call stand) write n none = refl
+uncounted_at (FailIn first nth stand) write n none =
+    ap (λ (b : Bool). if b && (nth == write.begun + 1) then Fails stand else Goes) none ∙ sym (ap (λ (b : Bool). if b && (nth == n + 1) then Fails stand else Goes) none)
+uncounted_at (Stop after) write n none = refl
+uncounted_at (StopIn first nth stand) write n none =
+    ap (λ (b : Bool). if b && (nth == write.begun + 1) then Stops stand else Goes) none ∙ sym (ap (λ (b : Bool). if b && (nth == n + 1) then Stops stand else Goes) none)
+uncounted_at (HurtAt sector when) write n none = refl
+uncounted_at (Pieces most) write n none = refl
+
+uncounted : (events : List Event) (write : Write) (n : ℕ) → list_any (counts_at write.first) events ≡ false → verdict_of events write ≡ verdict_of events (record write { begun = n })
+uncounted [] write n none = refl
+uncounted (event ∷ events) write n none =
+    let both = or_parts (counts_at write.first event) (list_any (counts_at write.first) events) none in
+    λ i. or_else (uncounted_at event write n both.0 i) (uncounted events write n both.1 i)
+
+-- a verdict needs the count only where an event names the sector
+pub verdict_counts : (events : List Event) (write : Write) (n : ℕ) → verdict_of events (record write { begun = if list_any (counts_at write.first) events then n else 0 }) ≡ verdict_of events (record write { begun = n })
+verdict_counts events write n = by_count (list_any (counts_at write.first) events) refl
+  where
+    by_count : (b : Bool) → list_any (counts_at write.first) events ≡ b → verdict_of events (record write { begun = if b then n else 0 }) ≡ verdict_of events (record write { begun = n })
+    by_count true some = refl
+    by_count false none = uncounted events (record write { begun = 0 }) n none
+
+-- BY WHAT A PART OF THE CALL ANSWERS
+
+pub by_err : {T E : Type 0} (r : Result T E) (P : Bool → Type 0) → true ≡ is_err r → P (is_ok r) → P false
+by_err (Ok x) P err is = absurd (cc err)
+by_err (Err e) P err is = is
+
+pub by_ok : {T E : Type 0} (r : Result T E) (P : Bool → Type 0) → false ≡ is_err r → P (is_ok r) → P true
+by_ok (Ok x) P ok is = is
+by_ok (Err e) P ok is = absurd (cc ok)
+
+-- and the call does more than its part
+pub then_does : (settle : Bool) (does fault : DiskState → DiskState) (old new end : DiskState) → Calls settle same same old new true → end ≡ does new → Calls settle does fault old end true
+then_does settle does fault old new end call is = record { running = call.running; goes = call.goes; after = is ∙ ap does call.after }
+
+-- or fails, and its fault is counted
+pub then_fails : (going : Bool) (done failed : DiskState) (fault : DiskState → DiskState) (old new end : DiskState) → Exactly going done failed same old new false → end ≡ fault new → Exactly going done failed fault old end false
+then_fails going done failed fault old new end (inl (inl stopped)) is = inl (inl (stopped.0, is ∙ ap fault stopped.1))
+then_fails going done failed fault old new end (inl (inr starved)) is = inl (inr (starved.0, is ∙ ap fault starved.1))
+then_fails going done failed fault old new end (inr runs) is = inr (record { running = runs.running; goes = runs.goes; after = is ∙ ap fault runs.after })
+
+-- a call that isn't a write
+pub call_fails : (settle : Bool) (does fault : DiskState → DiskState) (old new end : DiskState) → Calls settle same same old new false → end ≡ fault new → Calls settle does fault old end false
+call_fails settle does fault old new end call is = then_fails (call_goes old) (does (noted settle old)) (noted settle old) fault old new end call is
+
+-- an attach
+pub attach_fails : (text : List ℕ) (how : Attach) (fault : DiskState → DiskState) (old new end : DiskState) → Attached text how same old new false → end ≡ fault new → Attached text how fault old end false
+attach_fails text how fault old new end call is = then_fails (call_goes old) (opened how (asked text how (noted false old))) (asked text how (noted false old)) fault old new end call is
+
+-- a write, by the parts of its verdict
+pub written_as : (first : ℕ) (text : List ℕ) (some : ℕ) (goes stops : Bool) (verdict : Verdict) (fault : DiskState → DiskState) (old new : DiskState) (ok : Bool) → some ≡ stood_by verdict (length text / 512) → goes ≡ is_going verdict → stops ≡ is_stop verdict → verdict ≡ write_verdict first (length text / 512) old
+    → Exactly goes (put_sectors first text some goes stops (noted false old)) (put_sectors first text some goes stops (noted false old)) fault old new ok → Written first text fault old new ok
+written_as first text some goes stops verdict fault old new ok some_is goes_is stops_is verdict_is exact =
+    let By : ℕ → Bool → Bool → Type 0 = λ (n : ℕ) (g s : Bool). Exactly g (put_sectors first text n g s (noted false old)) (put_sectors first text n g s (noted false old)) fault old new ok in
+    let by_verdict = subst (λ (n : ℕ). By n (is_going verdict) (is_stop verdict)) some_is (subst (λ (g : Bool). By some g (is_stop verdict)) goes_is (subst (λ (s : Bool). By some goes s) stops_is exact)) in
+    subst (λ (v : Verdict). Exactly (is_going v) (put_by v first text (noted false old)) (put_by v first text (noted false old)) fault old new ok) verdict_is by_verdict

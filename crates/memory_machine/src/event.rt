@@ -1,0 +1,201 @@
+//! What is to happen to a machine in memory.
+ghost use Rattle.std.specs.Prelude.{◌≡◌, ◌+◌, ◌<◌, ◌≤◌, ◌==◌, nat_lt, true};
+ghost use Rattle.std.specs.List.{list_any};
+ghost use Rattle.memory_machine.specs.Events.{fails_call, is_nth_at, verdict_at, verdict_of, counts_at, hurt_by, piece_of, stood_by, is_going};
+
+/// When a sector is hurt.
+#[derive(Clone, Copy)]
+pub enum When {
+    /// Just before this call, counted from 1: call 0 never comes.
+    Call(u64),
+    /// Just before each `settle`.
+    Settle,
+}
+
+/// What is to happen to a machine in memory.
+///
+/// Everything is counted from 1, and from the start of the run: the first call is call 1, whichever of the eight it is,
+/// and the first write at a sector is the first of all writes that begin there, whatever became of it. Calls that are
+/// refused memory or come after a stop are not counted. Just before a call its hurts come, then the first event of the
+/// list that says something of the call decides. An event whose number is 0 never comes.
+#[derive(Clone, Copy)]
+pub enum Event {
+    /// This call of all fails. If it is a write, its first `stand` sectors stand, or all where it has no more. If it is
+    /// a `take` or a `say`, nothing is taken or said.
+    FailCall { call: u64, stand: u32 },
+    /// The nth write that begins at the sector `first` fails, with its first `stand` sectors standing.
+    FailIn { first: u32, nth: u32, stand: u32 },
+    /// The machine stops in the write that would put more than `after` sectors, those of all writes of the run
+    /// together, with so many standing that there are `after`. Sectors of failed writes that stand are counted too.
+    Stop { after: u64 },
+    /// The machine stops in the nth write that begins at the sector `first`, with its first `stand` sectors standing.
+    StopIn { first: u32, nth: u32, stand: u32 },
+    /// The sector becomes damaged. A sector past the end of the image can't, but is judged like any other.
+    HurtAt { sector: u32, when: When },
+    /// Each `take` gives at most so many bytes, or one where this is 0. Of several the least counts.
+    Pieces { most: usize },
+}
+
+/// What becomes of a write.
+#[derive(Clone, Copy, PartialEq)]
+pub enum Verdict {
+    Goes,
+    Fails(u64),
+    Stops(u64),
+}
+
+/// A write as the events see it: the calls before it, the sectors written before it, where it begins, the writes
+/// before it that began there, and its sectors.
+#[derive(Clone, Copy)]
+pub struct Write {
+    pub calls: u64,
+    pub written: u64,
+    pub first: u32,
+    pub begun: u64,
+    pub count: u64,
+}
+
+// Whether the one of this number comes next after so many. Number 0 never comes.
+fn is_next(number: u64, count: u64) -> bool
+    ensures { result ≡ (number == count + 1) }
+{
+    number != 0 && number - 1 == count
+}
+
+impl Write {
+    // Whether it is the nth of the writes that begin at this sector.
+    fn is_nth_at(&self, first: u32, nth: u32) -> bool
+        ensures { result ≡ is_nth_at first nth self.now }
+    {
+        first == self.first && is_next(u64::from(nth), self.begun)
+    }
+
+    // Whether it would put more than so many sectors, those of the writes before it counted.
+    fn goes_past(&self, after: u64) -> bool
+        ensures { result ≡ nat_lt after (self.now.written + self.now.count) }
+    {
+        after < self.written || after - self.written < self.count
+    }
+}
+
+impl Event {
+    // A call that isn't a write fails.
+    pub(crate) fn fails_call(&self, calls: u64) -> bool
+        ensures { result ≡ fails_call self.now calls }
+    {
+        match self {
+            Event::FailCall { call, stand: _ } => is_next(*call, calls),
+            _ => false,
+        }
+    }
+
+    pub(crate) fn verdict(&self, write: Write) -> Verdict
+        ensures { result ≡ verdict_at self.now write }
+    {
+        match self {
+            Event::FailCall { call, stand } if is_next(*call, write.calls) => {
+                Verdict::Fails(u64::from(*stand))
+            }
+            Event::FailIn { first, nth, stand } if write.is_nth_at(*first, *nth) => {
+                Verdict::Fails(u64::from(*stand))
+            }
+            Event::Stop { after } if write.goes_past(*after) => {
+                Verdict::Stops(after.saturating_sub(write.written))
+            }
+            Event::StopIn { first, nth, stand } if write.is_nth_at(*first, *nth) => {
+                Verdict::Stops(u64::from(*stand))
+            }
+            _ => Verdict::Goes,
+        }
+    }
+
+    // Whether it counts the writes that begin at this sector.
+    pub(crate) fn counts_at(&self, sector: u32) -> bool
+        ensures { result ≡ counts_at sector self.now }
+    {
+        match self {
+            Event::FailIn {
+                first,
+                nth: _,
+                stand: _,
+            }
+            | Event::StopIn {
+                first,
+                nth: _,
+                stand: _,
+            } => *first == sector,
+            _ => false,
+        }
+    }
+
+    // Whether it hurts a sector just before a call that comes after so many.
+    pub(crate) fn hurts(&self, calls: u64, settle: bool) -> Option<u32>
+        ensures { result ≡ hurt_by self.now calls settle }
+    {
+        match self {
+            Event::HurtAt { sector, when } => {
+                let due = match when {
+                    When::Call(call) => is_next(*call, calls),
+                    When::Settle => settle,
+                };
+                if due { Some(*sector) } else { None }
+            }
+            _ => None,
+        }
+    }
+}
+
+// The first event that says something of a write decides.
+pub(crate) fn verdict_of(events: &[Event], write: Write) -> Verdict
+    ensures { result ≡ verdict_of events.now write }
+{
+    for event in events {
+        let verdict = event.verdict(write);
+        if verdict != Verdict::Goes {
+            return verdict;
+        }
+    }
+    Verdict::Goes
+}
+
+// How many sectors of a write stand.
+pub(crate) fn stood_of(verdict: Verdict, count: usize) -> usize
+    ensures exact { result ≡ stood_by verdict count }
+    ensures some { result ≤ count }
+    ensures all { is_going verdict ≡ true → result ≡ count }
+{
+    match verdict {
+        Verdict::Goes => count,
+        Verdict::Fails(stand) | Verdict::Stops(stand) => count.min(stand as usize),
+    }
+}
+
+// A call that isn't a write fails.
+pub(crate) fn fails_at(events: &[Event], calls: u64) -> bool
+    ensures { result ≡ list_any (λ event. fails_call event calls) events.now }
+{
+    events.iter().any(|event| event.fails_call(calls))
+}
+
+// Some event counts the writes that begin at this sector.
+pub(crate) fn counts_at(events: &[Event], sector: u32) -> bool
+    ensures { result ≡ list_any (counts_at sector) events.now }
+{
+    events.iter().any(|event| event.counts_at(sector))
+}
+
+// At most so many bytes are taken at once, where there is room for so many.
+pub(crate) fn piece_of(events: &[Event], room: usize) -> usize
+    requires { 0 < room }
+    ensures piece { result ≡ piece_of room events.now }
+    ensures some { 0 < result }
+    ensures room { result ≤ room }
+{
+    let mut most = room;
+    for event in events {
+        if let Event::Pieces { most: piece } = event {
+            most = most.min((*piece).max(1));
+        }
+    }
+    most
+}
