@@ -9,7 +9,7 @@ use Rattle.sector_disk.specs.declared.machine.Attach.{Attach}
 use Rattle.sector_disk.specs.declared.machine.Attach.TheVariants.{Old, New}
 use Rattle.memory_machine.specs.declared.past.Step.{Step}
 use Rattle.memory_machine.specs.declared.past.Work.{Work}
-use Rattle.memory_machine.specs.declared.past.Work.TheVariants.{Attaching, Writing, Saying, Quiet}
+use Rattle.memory_machine.specs.declared.past.Work.TheVariants.{Attaching, Writing, Saying, Syncing, Quiet}
 use Rattle.memory_machine.specs.declared.memory.MemoryMachine.{MemoryMachine}
 use Rattle.sector_disk.specs.Image.{sector_at, IsWorn, weak}
 use Rattle.sector_disk.specs.Machine.{Elapses, Wears, Before, Attaches, Finds, Makes, IsSynced, asked_for}
@@ -45,7 +45,7 @@ back_made path count (New asked) kept old new noted image made is = record { siz
 
 -- `end` has the past of `new`, whose image and windows it may have changed
 module _ (path : Vec ℕ Global) (how : Attach) (image : Vec Sector Global) (old new end : MemoryMachine) (noted : Notes false (Attaching path how image) old new) (back : GoesBack (Attaching path how image) old new noted end.image.items)
-    (rest : end ≡ record new { image = end.image; present = end.present; next = end.next; attached = end.attached; synced = end.synced }) (syncs : (memory_now old).synced ≤ (memory_now end).synced) where
+    (rest : end ≡ record new { image = end.image; present = end.present; next = end.next; attached = end.attached; synced = end.synced; waiting = end.waiting }) (syncs : (memory_now old).synced ≤ (memory_now end).synced) where
   abbrev work : Work
   work = Attaching path how image
 
@@ -73,8 +73,9 @@ module _ (path : Vec ℕ Global) (how : Attach) (image : Vec Sector Global) (old
   ledger_is : memory_ledger end ≡ asked_for (memory_ledger old) path.items how
   ledger_is =
       let none : (memory_ledger old).written + 0 ≡ (memory_ledger old).written = omega arith in
+      let no_sync : (memory_ledger old).syncs + 0 ≡ (memory_ledger old).syncs = omega arith in
       ap memory_ledger rest ∙ noted_ledger false work old new noted
-      ∙ (λ i. record { input = (memory_ledger old).input; attaches = (memory_ledger old).attaches ++ record { path = path.items; how = how } ∷ []; written = none i })
+      ∙ (λ i. record { input = (memory_ledger old).input; attaches = (memory_ledger old).attaches ++ record { path = path.items; how = how } ∷ []; written = none i; syncs = no_sync i })
 
   time_is : Elapses (length old.past.items) (length end.past.items) (LeftSince (memory_now old) old.past.items) (LeftSince (memory_now end) end.past.items) (Before (memory_now old) (memory_now end))
   time_is = elapses_push old.past.items end.past.items step (memory_now old) (memory_now end) past_is was refl (Before (memory_now old) (memory_now end)) later (λ left now. inl now) (inr refl)
@@ -127,12 +128,13 @@ opening_fails (Attaching path asked image) text how old new is (inr noted) =
     subst (λ (b : List ℕ). NotOpened b how old new) is.0 (subst (λ (a : Attach). NotOpened path.items a old new) is.1 (noted_unopened path asked image old new noted.0 is.2))
 opening_fails (Writing first bytes olds done) text how old new is (inr noted) = absurd is
 opening_fails (Saying bytes) text how old new is (inr noted) = absurd is
+opening_fails (Syncing done) text how old new is (inr noted) = absurd is
 opening_fails Quiet text how old new is (inr noted) = absurd is
 
 pub opened_old : (work : Work) (text : List ℕ) (count sync : ℕ) (old new : MemoryMachine) → sync ≡ length new.past.items → IsAttaching old.image.items text Old work → Notes false work old new → count ≡ min (length new.image.items) (2 ^ 32 - 1)
-    → Opened text Old count old (record new { next = None; attached = true; synced = sync })
+    → Opened text Old count old (record new { next = None; attached = true; synced = sync; waiting = None })
 opened_old (Attaching path asked image) text count sync old new now is noted size =
-    let end : MemoryMachine = record new { next = None; attached = true; synced = sync } in
+    let end : MemoryMachine = record new { next = None; attached = true; synced = sync; waiting = None } in
     let syncs : (memory_now old).synced ≤ (memory_now end).synced = omega (arith, now, noted_calls false (Attaching path asked image) old new noted) in
     let back = back_found path asked image old new noted is.2 in
     let attaches = λ (h : IsHonest end). found path asked image old new end noted back refl syncs refl refl refl h in
@@ -140,12 +142,13 @@ opened_old (Attaching path asked image) text count sync old new now is noted siz
     subst (λ (b : List ℕ). Opened b Old count old end) is.0 (subst (λ (a : Attach). Opened path.items a count old end) is.1 opened)
 opened_old (Writing first bytes olds done) text count sync old new now is noted size = absurd is
 opened_old (Saying bytes) text count sync old new now is noted size = absurd is
+opened_old (Syncing done) text count sync old new now is noted size = absurd is
 opened_old Quiet text count sync old new now is noted size = absurd is
 
 pub opened_new : (work : Work) (text : List ℕ) (count sync : ℕ) (fresh : Vec Sector Global) (old new : MemoryMachine) → sync ≡ length new.past.items → IsAttaching old.image.items text (New count) work → fresh.items ≡ replicate count Damaged → Notes false work old new → count < 2 ^ 32
-    → Opened text (New count) count old (record new { next = None; present = None; attached = true; image = fresh; synced = sync })
+    → Opened text (New count) count old (record new { next = None; present = None; attached = true; image = fresh; synced = sync; waiting = None })
 opened_new (Attaching path asked image) text count sync fresh old new now is is_fresh noted small =
-    let end : MemoryMachine = record new { next = None; present = None; attached = true; image = fresh; synced = sync } in
+    let end : MemoryMachine = record new { next = None; present = None; attached = true; image = fresh; synced = sync; waiting = None } in
     let size : count ≡ min (length fresh.items) (2 ^ 32 - 1) = omega (arith, ap (λ (l : List Sector). length l) is_fresh, length-replicate count Damaged, small) in
     let syncs : (memory_now old).synced ≤ (memory_now end).synced = omega (arith, now, noted_calls false (Attaching path asked image) old new noted) in
     let back = back_made path count asked image old new noted fresh.items is.1 is.2 in
@@ -154,4 +157,5 @@ opened_new (Attaching path asked image) text count sync fresh old new now is is_
     subst (λ (b : List ℕ). Opened b (New count) count old end) is.0 (subst (λ (a : Attach). Opened path.items a count old end) is.1 opened)
 opened_new (Writing first bytes olds done) text count sync fresh old new now is is_fresh noted small = absurd is
 opened_new (Saying bytes) text count sync fresh old new now is is_fresh noted small = absurd is
+opened_new (Syncing done) text count sync fresh old new now is is_fresh noted small = absurd is
 opened_new Quiet text count sync fresh old new now is is_fresh noted small = absurd is

@@ -1,6 +1,6 @@
 -- What a noted call is to the layers above.
 use Rattle.std.proofs.Common.{◌≡◌, ◌⊎◌, inl, inr, ℕ, ◌+◌, ◌-◌, ◌^◌, ◌≤◌, min, Bool, true, false, cond, List, [], ◌∷◌, ◌++◌, length, take, drop, Vec, refl, sym, ◌∙◌, ap, subst, arith, append_assoc}
-use Rattle.std.specs.Prelude.{IsTrue, Result, Ok, Err, OnOk, OnErr, is_err}
+use Rattle.std.specs.Prelude.{if◌then◌else◌, IsTrue, Result, Ok, Err, OnOk, OnErr, is_err}
 use Rattle.std.proofs.lemmas.List.{append-nil, take_all, take_at}
 use Rattle.sector_disk.specs.declared.sector.Sector.{Sector}
 use Rattle.std.specs.declared.alloc.Global.{Global}
@@ -8,13 +8,13 @@ use Rattle.sector_disk.specs.declared.machine.Failed.{Failed}
 use Rattle.sector_disk.proofs.Holding.{utters_none}
 use Rattle.memory_machine.specs.declared.past.Step.{Step}
 use Rattle.memory_machine.specs.declared.past.Work.{Work}
-use Rattle.memory_machine.specs.declared.past.Work.TheVariants.{Saying, Quiet}
+use Rattle.memory_machine.specs.declared.past.Work.TheVariants.{Saying, Syncing, Quiet}
 use Rattle.memory_machine.specs.declared.memory.MemoryMachine.{MemoryMachine}
 use Rattle.sector_disk.specs.Image.{sector_at, IsWorn, open_damage, weak}
-use Rattle.sector_disk.specs.Machine.{DiskCause, Moment, Ledger, Asked, Elapses, Reaches, Wears, Utters, Says, Before}
-use Rattle.memory_machine.specs.Past.{undone, before, During, LeftSince, attaches_in, attach_of, written_in, written_by}
+use Rattle.sector_disk.specs.Machine.{DiskCause, Moment, Asked, Elapses, Reaches, Wears, Utters, Says, Before, IsSynced}
+use Rattle.memory_machine.specs.Past.{undone, before, During, LeftSince, attaches_in, attach_of, written_in, written_by, syncs_in, synced_by}
 use Rattle.memory_machine.specs.State.{one_more}
-use Rattle.memory_machine.specs.Memory.{memory_now, memory_report, memory_ledger, memory_honest, IsHonest, Notes, Refuses, Fails, Passes, Reached, Spoken}
+use Rattle.memory_machine.specs.Memory.{memory_now, memory_report, memory_ledger, memory_honest, IsHonest, Notes, Refuses, Fails, Passes, Reached, Spoken, Flushed}
 use Rattle.sector_disk.proofs.Wear.{worn_refl}
 use Rattle.memory_machine.proofs.Steps.{IsHurt, elapses_push, elapses_same, reaches_push, noted_step, noted_calls, noted_syncs, noted_before, flag_of, noted_worn, noted_honest, noted_elsewhere, noted_size}
 
@@ -25,6 +25,10 @@ attaches_push (first ∷ past) step = ap (λ (l : List Asked). attach_of first.w
 written_push : (past : List Step) (step : Step) → written_in (past ++ step ∷ []) ≡ written_in past + written_by step.work
 written_push [] step = omega arith
 written_push (first ∷ past) step = omega (arith, written_push past step)
+
+syncs_push : (past : List Step) (step : Step) → syncs_in (past ++ step ∷ []) ≡ syncs_in past + synced_by step.work
+syncs_push [] step = omega arith
+syncs_push (first ∷ past) step = omega (arith, syncs_push past step)
 
 module _ (settle : Bool) (work : Work) (old new : MemoryMachine) (noted : Notes settle work old new) where
   abbrev step : Step
@@ -42,12 +46,13 @@ module _ (settle : Bool) (work : Work) (old new : MemoryMachine) (noted : Notes 
       ap (λ (m : MemoryMachine). cond m.attached (min (length new.image.items) (2 ^ 32 - 1)) 0) noted.rest
       ∙ ap (λ (n : ℕ). cond old.attached (min n (2 ^ 32 - 1)) 0) (noted_size settle work old new noted)
 
-  pub noted_ledger : memory_ledger new ≡ record { input = (memory_ledger old).input; attaches = (memory_ledger old).attaches ++ attach_of work; written = (memory_ledger old).written + written_by work }
+  pub noted_ledger : memory_ledger new ≡ record { input = (memory_ledger old).input; attaches = (memory_ledger old).attaches ++ attach_of work; written = (memory_ledger old).written + written_by work; syncs = (memory_ledger old).syncs + synced_by work }
   noted_ledger =
       let input = ap (λ (m : MemoryMachine). drop m.taken m.input.items) noted.rest in
       let attaches = ap attaches_in noted.past ∙ attaches_push old.past.items step in
       let written = ap written_in noted.past ∙ written_push old.past.items step in
-      λ i. record { input = input i; attaches = attaches i; written = written i }
+      let syncs = ap syncs_in noted.past ∙ syncs_push old.past.items step in
+      λ i. record { input = input i; attaches = attaches i; written = written i; syncs = syncs i }
 
   -- where the call's own work has left the sectors as they were
   module _ (keeps : (l : List Sector) → undone work l ≡ l) (end : Moment) (image : end.image ≡ new.image.items) (said : take (length old.said.items) end.said ≡ old.said.items)
@@ -91,11 +96,11 @@ refused_passes during same old new refused = record {
     input = ap (λ (m : MemoryMachine). drop m.taken m.input.items) refused.rest
 
     ledger : memory_ledger new ≡ memory_ledger old
-    ledger = λ i. record { input = input i; attaches = attaches_in (refused.past i); written = written_in (refused.past i) }
+    ledger = λ i. record { input = input i; attaches = attaches_in (refused.past i); written = written_in (refused.past i); syncs = syncs_in (refused.past i) }
 
 -- a call whose own work has left the sectors as they were, and said some bytes
-module _ (settle : Bool) (work : Work) (keeps : (l : List Sector) → undone work l ≡ l) (no_attach : attach_of work ≡ []) (no_write : written_by work ≡ 0) (old new end : MemoryMachine) (noted : Notes settle work old new) (said : List ℕ)
-    (said_is : end.said.items ≡ old.said.items ++ said) (rest : end ≡ record new { present = end.present; next = end.next; said = end.said; starved = end.starved; named = end.named; synced = end.synced })
+module _ (settle : Bool) (work : Work) (keeps : (l : List Sector) → undone work l ≡ l) (old new end : MemoryMachine) (noted : Notes settle work old new) (said : List ℕ)
+    (said_is : end.said.items ≡ old.said.items ++ said) (rest : end ≡ record new { present = end.present; next = end.next; said = end.said; starved = end.starved; named = end.named; synced = end.synced; waiting = end.waiting })
     (syncs : (memory_now old).synced ≤ (memory_now end).synced) where
   image_is : end.image.items ≡ new.image.items
   image_is = ap (λ (m : MemoryMachine). m.image.items) rest
@@ -123,23 +128,29 @@ module _ (settle : Bool) (work : Work) (keeps : (l : List Sector) → undone wor
   pub kept_worn : IsHonest end → IsWorn (weak old.present old.next) old.image.items end.image.items
   kept_worn h = subst (λ (l : List Sector). IsWorn (weak old.present old.next) old.image.items l) (sym image_is) (noted_worn settle work old new noted (kept_honest h))
 
-  pub kept_ledger : memory_ledger end ≡ memory_ledger old
-  kept_ledger =
-      let input : drop end.taken end.input.items ≡ drop old.taken old.input.items = ap (λ (m : MemoryMachine). drop m.taken m.input.items) rest ∙ ap (λ (m : MemoryMachine). drop m.taken m.input.items) noted.rest in
-      let attaches : attaches_in end.past.items ≡ attaches_in old.past.items =
-      ap (λ (m : MemoryMachine). attaches_in m.past.items) rest ∙ ap (λ (l : Ledger). l.attaches) (noted_ledger settle work old new noted)
-      ∙ ap (λ (l : List Asked). attaches_in old.past.items ++ l) no_attach ∙ append-nil (attaches_in old.past.items) in
-      let more : written_in old.past.items + written_by work ≡ written_in old.past.items = omega (arith, no_write) in
-      let written : written_in end.past.items ≡ written_in old.past.items =
-      ap (λ (m : MemoryMachine). written_in m.past.items) rest ∙ ap (λ (l : Ledger). l.written) (noted_ledger settle work old new noted) ∙ more in
-      λ i. record { input = input i; attaches = attaches i; written = written i }
+  -- where it was no attach and no write, with the syncs that were done
+  pub kept_ledger : (syncs : ℕ) → attach_of work ≡ [] → written_by work ≡ 0 → synced_by work ≡ syncs → memory_ledger end ≡ record (memory_ledger old) { syncs = (memory_ledger old).syncs + syncs }
+  kept_ledger more no_attach no_write some =
+      let all : memory_ledger end ≡ _ = ap memory_ledger rest ∙ noted_ledger settle work old new noted in
+      let attaches : (memory_ledger old).attaches ++ attach_of work ≡ (memory_ledger old).attaches = ap (λ (l : List Asked). (memory_ledger old).attaches ++ l) no_attach ∙ append-nil (memory_ledger old).attaches in
+      let written : (memory_ledger old).written + written_by work ≡ (memory_ledger old).written = omega (arith, no_write) in
+      all ∙ (λ i. record { input = (memory_ledger old).input; attaches = attaches i; written = written i; syncs = (memory_ledger old).syncs + some i })
 
-  pub kept_passes : (during : Moment → Moment → Type 0) → ((left : Moment) → During work (memory_now old) left → during (memory_now old) left) → (IsHonest end → during (memory_now old) (memory_now end)) → Passes during old end
-  kept_passes during all here = record {
-    sectors = ap (λ (m : MemoryMachine). (memory_report m).sectors) rest ∙ noted_sectors settle work old new noted;
+  -- nor a sync
+  pub same_ledger : attach_of work ≡ [] → written_by work ≡ 0 → synced_by work ≡ 0 → memory_ledger end ≡ memory_ledger old
+  same_ledger no_attach no_write no_sync =
+      let none : (memory_ledger old).syncs + 0 ≡ (memory_ledger old).syncs = omega arith in
+      kept_ledger 0 no_attach no_write no_sync ∙ (λ i. record (memory_ledger old) { syncs = none i })
+
+  pub kept_sectors : (memory_report end).sectors ≡ (memory_report old).sectors
+  kept_sectors = ap (λ (m : MemoryMachine). (memory_report m).sectors) rest ∙ noted_sectors settle work old new noted
+
+  pub kept_passes : attach_of work ≡ [] → written_by work ≡ 0 → synced_by work ≡ 0 → (during : Moment → Moment → Type 0) → ((left : Moment) → During work (memory_now old) left → during (memory_now old) left) → (IsHonest end → during (memory_now old) (memory_now end)) → Passes during old end
+  kept_passes no_attach no_write no_sync during all here = record {
+    sectors = kept_sectors;
     honest = λ h. noted_honest settle work old new noted (kept_honest h);
     may = here;
-    ledger = kept_ledger;
+    ledger = same_ledger no_attach no_write no_sync;
     time = λ h. kept_elapses (during (memory_now old)) all (here h);
   }
 
@@ -148,10 +159,10 @@ noted_said settle work old new noted = ap (λ (m : MemoryMachine). m.said.items)
 
 module _ (settle : Bool) (old new : MemoryMachine) where
   pub quiet_passes : Notes settle Quiet old new → Passes Wears old new
-  quiet_passes noted = kept_passes settle Quiet (λ l. refl) refl refl old new new noted [] (noted_said settle Quiet old new noted) refl (noted_syncs settle Quiet old new noted) Wears (λ left now. now) (λ h. noted_wears settle Quiet old new noted (flag_of new h))
+  quiet_passes noted = kept_passes settle Quiet (λ l. refl) old new new noted [] (noted_said settle Quiet old new noted) refl (noted_syncs settle Quiet old new noted) refl refl refl Wears (λ left now. now) (λ h. noted_wears settle Quiet old new noted (flag_of new h))
 
   pub quiet_reached : Notes settle Quiet old new → Reached Wears old new
-  quiet_reached noted = kept_reaches settle Quiet (λ l. refl) refl refl old new new noted [] (noted_said settle Quiet old new noted) refl (noted_syncs settle Quiet old new noted)
+  quiet_reached noted = kept_reaches settle Quiet (λ l. refl) old new new noted [] (noted_said settle Quiet old new noted) refl (noted_syncs settle Quiet old new noted)
 
   pub quiet_outcome : {T : Type 0} (r : Result T Failed) → OnOk r (Notes settle Quiet old new) → OnErr r (Fails settle Quiet old new) → Passes Wears old new
   quiet_outcome (Ok x) ok err = quiet_passes ok
@@ -167,29 +178,58 @@ module _ (settle : Bool) (old new : MemoryMachine) where
   syncs_to sync noted now = omega (arith, now, noted_calls settle Quiet old new noted)
 
   -- the windows change, or not
-  pub named_time : (end : MemoryMachine) (noted : Notes settle Quiet old new) → end ≡ record new { present = end.present; next = end.next; said = end.said; starved = end.starved; named = end.named; synced = end.synced } → end.said.items ≡ old.said.items
+  pub named_time : (end : MemoryMachine) (noted : Notes settle Quiet old new) → end ≡ record new { present = end.present; next = end.next; said = end.said; starved = end.starved; named = end.named; synced = end.synced; waiting = end.waiting } → end.said.items ≡ old.said.items
       → (memory_now old).synced ≤ (memory_now end).synced
       → Elapses (length old.past.items) (length end.past.items) (LeftSince (memory_now old) old.past.items) (LeftSince (memory_now end) end.past.items) (Before (memory_now old) (memory_now end))
   named_time end noted rest said syncs =
-      kept_elapses settle Quiet (λ l. refl) refl refl old new end noted [] (said ∙ sym (append-nil old.said.items)) rest syncs (Before (memory_now old) (memory_now end)) (λ left now. inl now) (inr refl)
+      kept_elapses settle Quiet (λ l. refl) old new end noted [] (said ∙ sym (append-nil old.said.items)) rest syncs (Before (memory_now old) (memory_now end)) (λ left now. inl now) (inr refl)
 
-  pub named_reached : (end : MemoryMachine) (noted : Notes settle Quiet old new) → end ≡ record new { present = end.present; next = end.next; said = end.said; starved = end.starved; named = end.named; synced = end.synced } → end.said.items ≡ old.said.items
+  pub named_reached : (end : MemoryMachine) (noted : Notes settle Quiet old new) → end ≡ record new { present = end.present; next = end.next; said = end.said; starved = end.starved; named = end.named; synced = end.synced; waiting = end.waiting } → end.said.items ≡ old.said.items
       → (memory_now old).synced ≤ (memory_now end).synced → Reached Wears old end
-  named_reached end noted rest said syncs = kept_reaches settle Quiet (λ l. refl) refl refl old new end noted [] (said ∙ sym (append-nil old.said.items)) rest syncs
+  named_reached end noted rest said syncs = kept_reaches settle Quiet (λ l. refl) old new end noted [] (said ∙ sym (append-nil old.said.items)) rest syncs
 
--- a sync behind a call that changes nothing by its own work
-module _ (old new : MemoryMachine) (sync : ℕ) (noted : Notes false Quiet old new) (now : sync ≡ length new.past.items) where
-  abbrev end : MemoryMachine
-  end = record new { synced = sync }
+-- a sync that is noted, done or not
+module _ (done : Bool) (old new end : MemoryMachine) (noted : Notes false (Syncing done) old new) (rest : end ≡ record new { synced = end.synced; waiting = end.waiting }) (syncs : (memory_now old).synced ≤ (memory_now end).synced) where
+  said_as : end.said.items ≡ old.said.items ++ []
+  said_as = ap (λ (m : MemoryMachine). m.said.items) rest ∙ noted_said false (Syncing done) old new noted
 
-  syncs_now : (memory_now old).synced ≤ (memory_now end).synced
-  syncs_now = syncs_to false old new sync noted now
+  all : end ≡ record new { present = end.present; next = end.next; said = end.said; starved = end.starved; named = end.named; synced = end.synced; waiting = end.waiting }
+  all = subst (λ (m : MemoryMachine). m ≡ record new { present = m.present; next = m.next; said = m.said; starved = m.starved; named = m.named; synced = m.synced; waiting = m.waiting }) (sym rest) refl
 
-  pub flushed_passes : Passes Wears old end
-  flushed_passes = kept_passes false Quiet (λ l. refl) refl refl old new end noted [] (noted_said false Quiet old new noted) refl syncs_now Wears (λ left now. now) (λ h. let worn = noted_wears false Quiet old new noted (flag_of new h) in record { image = worn.image; windows = worn.windows; said = worn.said })
+  worn_by : IsHonest end → Wears (memory_now old) (memory_now end)
+  worn_by h =
+      let worn = noted_wears false (Syncing done) old new noted (kept_honest false (Syncing done) (λ l. refl) old new end noted [] said_as all syncs h) in
+      record {
+        image = kept_worn false (Syncing done) (λ l. refl) old new end noted [] said_as all syncs h;
+        windows = ap (λ (m : MemoryMachine). (memory_now m).windows) rest ∙ worn.windows;
+        said = ap (λ (m : MemoryMachine). m.said.items) rest ∙ worn.said;
+      }
 
-  pub flushed_reached : Reached Wears old end
-  flushed_reached = kept_reaches false Quiet (λ l. refl) refl refl old new end noted [] (noted_said false Quiet old new noted) refl syncs_now
+  pub noted_flushed : (IsTrue done → IsSynced (memory_now end)) → Flushed done old end
+  noted_flushed synced = record {
+    sectors = kept_sectors false (Syncing done) (λ l. refl) old new end noted [] said_as all syncs;
+    honest = λ h. noted_honest false (Syncing done) old new noted (kept_honest false (Syncing done) (λ l. refl) old new end noted [] said_as all syncs h);
+    worn = worn_by;
+    time = λ h. kept_elapses false (Syncing done) (λ l. refl) old new end noted [] said_as all syncs (Wears (memory_now old)) (λ left now. now) (worn_by h);
+    counted = λ f. kept_ledger false (Syncing done) (λ l. refl) old new end noted [] said_as all syncs 1 refl refl (ap (λ (b : Bool). if b then 1 else 0) f);
+    uncounted = λ f. same_ledger false (Syncing done) (λ l. refl) old new end noted [] said_as all syncs refl refl (ap (λ (b : Bool). if b then 1 else 0) f);
+    synced = synced;
+    reached = λ f. kept_reaches false (Syncing done) (λ l. refl) old new end noted [] said_as all syncs;
+  }
+
+pub refused_flushed : (old new : MemoryMachine) → Refuses old new → Flushed false old new
+refused_flushed old new refused =
+    let passes = refused_passes Wears wears_same old new refused in
+    record {
+      sectors = passes.sectors;
+      honest = passes.honest;
+      worn = passes.may;
+      time = passes.time;
+      counted = λ f. absurd (cc f);
+      uncounted = λ f. passes.ledger;
+      synced = λ f. absurd (cc f);
+      reached = λ f. absurd (cc f);
+    }
 
 pub noted_of : {T E : Type 0} {P : Type 0} (r : Result T E) → false ≡ is_err r → OnOk r P → P
 noted_of (Ok x) ok noted = noted
@@ -198,15 +238,15 @@ noted_of (Err e) ok noted = absurd (cc ok)
 pub refused_spoken : (bytes : List ℕ) (old new : MemoryMachine) → Refuses old new → Spoken bytes false old new
 refused_spoken bytes old new refused = record { passes = refused_passes (Utters bytes) (utters_none bytes) old new refused; said = λ f. absurd (cc f); reached = λ f. absurd (cc f) }
 
-module _ (old new end : MemoryMachine) (copy : Vec ℕ Global) (noted : Notes false (Saying copy) old new) (rest : end ≡ record new { present = end.present; next = end.next; said = end.said; starved = end.starved; named = end.named; synced = end.synced })
+module _ (old new end : MemoryMachine) (copy : Vec ℕ Global) (noted : Notes false (Saying copy) old new) (rest : end ≡ record new { present = end.present; next = end.next; said = end.said; starved = end.starved; named = end.named; synced = end.synced; waiting = end.waiting })
     (syncs : (memory_now old).synced ≤ (memory_now end).synced) (present : end.present ≡ old.present) (next : end.next ≡ old.next) where
   windows_are : (memory_now end).windows ≡ (memory_now old).windows
   windows_are = λ i. record { present = present i; next = next i }
 
   spoken_passes : (heard : ℕ) → end.said.items ≡ old.said.items ++ take heard copy.items → Passes (Utters copy.items) old end
   spoken_passes heard said =
-      kept_passes false (Saying copy) (λ l. refl) refl refl old new end noted (take heard copy.items) said rest syncs (Utters copy.items) (λ left now. now) (λ h. record {
-        image = kept_worn false (Saying copy) (λ l. refl) refl refl old new end noted (take heard copy.items) said rest syncs h;
+      kept_passes false (Saying copy) (λ l. refl) old new end noted (take heard copy.items) said rest syncs refl refl refl (Utters copy.items) (λ left now. now) (λ h. record {
+        image = kept_worn false (Saying copy) (λ l. refl) old new end noted (take heard copy.items) said rest syncs h;
         windows = windows_are;
         heard = heard;
         said = said;
@@ -221,11 +261,11 @@ module _ (old new end : MemoryMachine) (copy : Vec ℕ Global) (noted : Notes fa
       record {
         passes = spoken_passes (length copy.items) all;
         said = λ f h. record {
-          image = kept_worn false (Saying copy) (λ l. refl) refl refl old new end noted copy.items said rest syncs h;
+          image = kept_worn false (Saying copy) (λ l. refl) old new end noted copy.items said rest syncs h;
           windows = windows_are;
           said = said;
         };
-        reached = λ f. kept_reaches false (Saying copy) (λ l. refl) refl refl old new end noted copy.items said rest syncs;
+        reached = λ f. kept_reaches false (Saying copy) (λ l. refl) old new end noted copy.items said rest syncs;
       }
 
 -- with room made for the bytes before the call

@@ -13,7 +13,7 @@ use Rattle.sector_disk.specs.declared.machine.Attach.TheVariants.{Old, New}
 use Rattle.sector_disk.specs.declared.machine.Failed.{Failed}
 use Rattle.memory_machine.specs.declared.past.Step.{Step}
 use Rattle.memory_machine.specs.declared.past.Work.{Work}
-use Rattle.memory_machine.specs.declared.past.Work.TheVariants.{Attaching, Writing, Saying, Quiet}
+use Rattle.memory_machine.specs.declared.past.Work.TheVariants.{Attaching, Writing, Saying, Syncing, Quiet}
 use Rattle.memory_machine.specs.declared.event.Event.{Event}
 use Rattle.memory_machine.specs.declared.event.Event.TheVariants.{FailCall, FailIn, Stop, StopIn, HurtAt, Pieces}
 use Rattle.memory_machine.specs.declared.event.Write.{Write}
@@ -23,8 +23,8 @@ use Rattle.memory_machine.specs.declared.memory.MemoryMachine.{MemoryMachine}
 use Rattle.sector_disk.specs.Machine.{wrote}
 use Rattle.sector_disk.specs.Image.{settled, stand}
 use Rattle.memory_machine.specs.Events.{verdict_at, verdict_of, or_else, counts_at, stood_by, is_going, is_stop}
-use Rattle.memory_machine.specs.Past.{hurt_all, attaches_in, attach_of, written_in, written_by, begins_at, is_write_at, due}
-use Rattle.memory_machine.specs.State.{DiskState, Rests, noted, asked, opened, put_sectors, put_by, spoken, call_goes, write_verdict, Exactly, Calls, Attached, Written, same}
+use Rattle.memory_machine.specs.Past.{hurt_all, attaches_in, attach_of, written_in, written_by, syncs_in, synced_by, begins_at, is_write_at, due}
+use Rattle.memory_machine.specs.State.{DiskState, Rests, noted, asked, opened, put_sectors, put_by, waits_behind, flushed, spoken, call_goes, write_verdict, Exactly, Calls, Attached, Written, same}
 use Rattle.memory_machine.specs.Memory.{memory_state, memory_now, memory_ledger, memory_honest, Notes, Refuses, Fails as Failing, IsAttaching, IsWriting}
 use Rattle.memory_machine.specs.Windows.{all_weak}
 use Rattle.memory_machine.proofs.Calls.{noted_ledger}
@@ -45,7 +45,7 @@ refused_state old new refused = elim refused.cause [
     at : {n : ℕ} → new.starved ≡ n → memory_state new ≡ record (memory_state old) { starved = n }
     at is = ap memory_state refused.rest ∙ (λ i. record (memory_state old) {
       now = record (memory_now old) { time = length (refused.past i); synced = min old.synced (length (refused.past i)) };
-      ledger = record { input = drop old.taken old.input.items; attaches = attaches_in (refused.past i); written = written_in (refused.past i) };
+      ledger = record { input = drop old.taken old.input.items; attaches = attaches_in (refused.past i); written = written_in (refused.past i); syncs = syncs_in (refused.past i) };
       calls = length (refused.past i);
       begun = λ first. count_by (begins_at first) (refused.past i);
       starved = is i;
@@ -73,7 +73,7 @@ count-push first past step =
 -- the state after a noted call, by its work
 abbrev noted_by : Bool → Work → DiskState → DiskState
 noted_by settle work s = record (noted settle s) {
-  ledger = record { input = s.ledger.input; attaches = s.ledger.attaches ++ attach_of work; written = s.ledger.written + written_by work };
+  ledger = record { input = s.ledger.input; attaches = s.ledger.attaches ++ attach_of work; written = s.ledger.written + written_by work; syncs = s.ledger.syncs + synced_by work };
   begun = λ first. s.begun first + (if is_write_at first work then 1 else 0);
 }
 
@@ -92,7 +92,7 @@ noted_state settle work old new call = ap memory_state call.rest ∙ (λ i. reco
     mid : MemoryMachine
     mid = record old { image = new.image; past = new.past; honest = new.honest; synced = new.synced }
 
-    ledger : memory_ledger mid ≡ record { input = (memory_ledger old).input; attaches = (memory_ledger old).attaches ++ attach_of work; written = (memory_ledger old).written + written_by work }
+    ledger : memory_ledger mid ≡ record { input = (memory_ledger old).input; attaches = (memory_ledger old).attaches ++ attach_of work; written = (memory_ledger old).written + written_by work; syncs = (memory_ledger old).syncs + synced_by work }
     ledger = sym (ap memory_ledger call.rest) ∙ noted_ledger settle work old new call
 
     calls : length new.past.items ≡ length old.past.items + 1
@@ -111,9 +111,9 @@ add_none : (n : ℕ) → n + 0 ≡ n
 add_none n = omega arith
 
 -- a call that neither asks nor writes
-plain : (settle : Bool) (s : DiskState) → record (noted settle s) { ledger = record { input = s.ledger.input; attaches = s.ledger.attaches ++ []; written = s.ledger.written + 0 }; begun = λ first. s.begun first + 0 } ≡ noted settle s
+plain : (settle : Bool) (s : DiskState) → record (noted settle s) { ledger = record { input = s.ledger.input; attaches = s.ledger.attaches ++ []; written = s.ledger.written + 0; syncs = s.ledger.syncs + 0 }; begun = λ first. s.begun first + 0 } ≡ noted settle s
 plain settle s = λ i. record (noted settle s) {
-  ledger = record { input = s.ledger.input; attaches = append-nil s.ledger.attaches i; written = add_none s.ledger.written i };
+  ledger = record { input = s.ledger.input; attaches = append-nil s.ledger.attaches i; written = add_none s.ledger.written i; syncs = add_none s.ledger.syncs i };
   begun = λ first. add_none (s.begun first) i;
 }
 
@@ -130,6 +130,34 @@ quiet_calls settle old new (Err e) ok (inr failed) goes = inr (record { running 
 pub failed_exactly : (settle : Bool) (work : Work) (old new : MemoryMachine) (done after : DiskState) → noted_by settle work (memory_state old) ≡ after → Failing settle work old new → Exactly (call_goes (memory_state old)) done after same (memory_state old) (memory_state new) false
 failed_exactly settle work old new done after is (inl refused) = inl (refused_state old new refused)
 failed_exactly settle work old new done after is (inr failed) = inr (record { running = failed.0.running; goes = failed.1; after = noted_state settle work old new failed.0 ∙ is })
+
+-- A SYNC
+
+syncing : (done : Bool) (s : DiskState) → record (noted_by false (Syncing done) s) { now = (noted false s).now } ≡ record (noted false s) { ledger = record s.ledger { syncs = s.ledger.syncs + (if done then 1 else 0) } }
+syncing done s = λ i. record (noted false s) {
+  ledger = record { input = s.ledger.input; attaches = append-nil s.ledger.attaches i; written = add_none s.ledger.written i; syncs = s.ledger.syncs + (if done then 1 else 0) };
+  begun = λ first. add_none (s.begun first) i;
+}
+
+-- that is done
+pub flushed_calls : (sync : ℕ) (old new : MemoryMachine) → sync ≡ length new.past.items → Notes false (Syncing true) old new → call_goes (memory_state old) ≡ true → Calls false flushed same (memory_state old) (memory_state (record new { synced = sync; waiting = None })) true
+flushed_calls sync old new now call goes =
+    let after : memory_state new ≡ record (noted false (memory_state old)) { ledger = record (memory_ledger old) { syncs = (memory_ledger old).syncs + 1 } } = noted_state false (Syncing true) old new call ∙ syncing true (memory_state old) in
+    record {
+      running = call.running;
+      goes = goes;
+      after =
+          (λ i. record (memory_state new) { now = record (memory_now new) { synced = same_min sync (length new.past.items) now i }; waiting = None })
+          ∙ ap (λ (s : DiskState). record s { now = record s.now { synced = s.calls }; waiting = None }) after;
+    }
+
+-- or fails by an event
+pub unflushed_calls : (old new : MemoryMachine) → Notes false (Syncing false) old new → call_goes (memory_state old) ≡ false → Calls false flushed same (memory_state old) (memory_state new) false
+unflushed_calls old new call goes = inr (record {
+  running = call.running;
+  goes = goes;
+  after = noted_state false (Syncing false) old new call ∙ syncing false (memory_state old) ∙ (λ i. record (noted false (memory_state old)) { ledger = record (memory_ledger old) { syncs = add_none (memory_ledger old).syncs i } });
+})
 
 -- A CALL THAT SAYS
 
@@ -158,11 +186,12 @@ said_all bytes old said copy new end is call goes rest all =
 
 asking : (work : Work) (image : List Sector) (text : List ℕ) (how : Attach) (s : DiskState) → IsAttaching image text how work → noted_by false work s ≡ asked text how (noted false s)
 asking (Attaching path asks kept) image text how s is = λ i. record (noted false s) {
-  ledger = record { input = s.ledger.input; attaches = s.ledger.attaches ++ record { path = is.0 i; how = is.1 i } ∷ []; written = add_none s.ledger.written i };
+  ledger = record { input = s.ledger.input; attaches = s.ledger.attaches ++ record { path = is.0 i; how = is.1 i } ∷ []; written = add_none s.ledger.written i; syncs = add_none s.ledger.syncs i };
   begun = λ first. add_none (s.begun first) i;
 }
 asking (Writing first bytes olds done) image text how s is = absurd is
 asking (Saying bytes) image text how s is = absurd is
+asking (Syncing done) image text how s is = absurd is
 asking Quiet image text how s is = absurd is
 
 pub unopened : (work : Work) (image : List Sector) (text : List ℕ) (how : Attach) (old new : MemoryMachine) → IsAttaching image text how work → Failing false work old new → Attached text how same (memory_state old) (memory_state new) false
@@ -170,17 +199,17 @@ unopened work image text how old new is failed =
     failed_exactly false work old new (opened how (asked text how (noted false (memory_state old)))) (asked text how (noted false (memory_state old))) (asking work image text how (memory_state old) is) failed
 
 pub found_state : (work : Work) (image : List Sector) (text : List ℕ) (sync : ℕ) (old new : MemoryMachine) → sync ≡ length new.past.items → IsAttaching image text Old work → Notes false work old new → call_goes (memory_state old) ≡ true
-    → Attached text Old same (memory_state old) (memory_state (record new { next = None; attached = true; synced = sync })) true
+    → Attached text Old same (memory_state old) (memory_state (record new { next = None; attached = true; synced = sync; waiting = None })) true
 found_state work image text sync old new now is call goes =
-    let found_is : memory_state (record new { next = None; attached = true; synced = sync }) ≡ opened Old (memory_state new) =
-    λ i. record (memory_state new) { now = record (memory_now new) { windows = record { present = new.present; next = None }; synced = same_min sync (length new.past.items) now i }; attached = true } in
+    let found_is : memory_state (record new { next = None; attached = true; synced = sync; waiting = None }) ≡ opened Old (memory_state new) =
+    λ i. record (memory_state new) { now = record (memory_now new) { windows = record { present = new.present; next = None }; synced = same_min sync (length new.past.items) now i }; attached = true; waiting = None } in
     record { running = call.running; goes = goes; after = found_is ∙ ap (opened Old) (noted_state false work old new call ∙ asking work image text Old (memory_state old) is) }
 
 pub made_state : (work : Work) (image : List Sector) (text : List ℕ) (count sync : ℕ) (fresh : Vec Sector Global) (old new : MemoryMachine) → sync ≡ length new.past.items → IsAttaching image text (New count) work → fresh.items ≡ replicate count Damaged → Notes false work old new → call_goes (memory_state old) ≡ true
-    → Attached text (New count) same (memory_state old) (memory_state (record new { next = None; present = None; attached = true; image = fresh; synced = sync })) true
+    → Attached text (New count) same (memory_state old) (memory_state (record new { next = None; present = None; attached = true; image = fresh; synced = sync; waiting = None })) true
 made_state work image text count sync fresh old new now is made call goes =
-    let fresh_is : memory_state (record new { next = None; present = None; attached = true; image = fresh; synced = sync }) ≡ opened (New count) (memory_state new) =
-    λ i. record (memory_state new) { now = record (memory_now new) { image = made i; windows = record { present = None; next = None }; synced = same_min sync (length new.past.items) now i }; attached = true } in
+    let fresh_is : memory_state (record new { next = None; present = None; attached = true; image = fresh; synced = sync; waiting = None }) ≡ opened (New count) (memory_state new) =
+    λ i. record (memory_state new) { now = record (memory_now new) { image = made i; windows = record { present = None; next = None }; synced = same_min sync (length new.past.items) now i }; attached = true; waiting = None } in
     record { running = call.running; goes = goes; after = fresh_is ∙ ap (opened (New count)) (noted_state false work old new call ∙ asking work image text (New count) (memory_state old) is) }
 
 -- A WRITE
@@ -190,6 +219,7 @@ abbrev stands : ℕ → List ℕ → ℕ → Bool → DiskState → DiskState
 stands first text some stops s = record s {
   now = record s.now { image = stand s.now.image first text some };
   written = min (s.written + some) (2 ^ 64 - 1);
+  waiting = waits_behind s.waiting first;
   stopped = stops;
 }
 
@@ -199,29 +229,30 @@ writing (Writing from copy olds did) image first text some done stops s is = λ 
   begun = λ sector. s.begun sector + (if (is.0 i) == sector then 1 else 0);
 }
   where
-    counted_by : record s.ledger { attaches = s.ledger.attaches ++ []; written = s.ledger.written + (if did then length copy.items / 512 else 0) } ≡ record s.ledger { written = s.ledger.written + (if done then length text / 512 else 0) }
-    counted_by = λ i. record s.ledger { attaches = append-nil s.ledger.attaches i; written = s.ledger.written + (if is.3 i then length (is.1 i) / 512 else 0) }
+    counted_by : record s.ledger { attaches = s.ledger.attaches ++ []; syncs = s.ledger.syncs + 0; written = s.ledger.written + (if did then length copy.items / 512 else 0) } ≡ record s.ledger { written = s.ledger.written + (if done then length text / 512 else 0) }
+    counted_by = λ i. record s.ledger { attaches = append-nil s.ledger.attaches i; syncs = add_none s.ledger.syncs i; written = s.ledger.written + (if is.3 i then length (is.1 i) / 512 else 0) }
 
     counted : (b : Bool) → record s.ledger { written = s.ledger.written + (if b then length text / 512 else 0) } ≡ (if b then wrote s.ledger (length text / 512) else s.ledger)
     counted true = refl
     counted false = λ i. record s.ledger { written = add_none s.ledger.written i }
 writing (Attaching path asks kept) image first text some done stops s is = absurd is
 writing (Saying bytes) image first text some done stops s is = absurd is
+writing (Syncing is_done) image first text some done stops s is = absurd is
 writing Quiet image first text some done stops s is = absurd is
 
 pub put_state : (work : Work) (first : ℕ) (text : List ℕ) (some : ℕ) (done stops : Bool) (old new end : MemoryMachine) → IsWriting old.image.items first text some done work → Notes false work old new → end.image.items ≡ stand new.image.items first text some
-    → end.written ≡ min (new.written + some) (2 ^ 64 - 1) → end ≡ record new { image = end.image; written = end.written; stopped = stops } → memory_state end ≡ put_sectors first text some done stops (noted false (memory_state old))
-put_state work first text some done stops old new end is call image written rest =
+    → end.written ≡ min (new.written + some) (2 ^ 64 - 1) → end.waiting ≡ waits_behind new.waiting first → end ≡ record new { image = end.image; written = end.written; waiting = end.waiting; stopped = stops } → memory_state end ≡ put_sectors first text some done stops (noted false (memory_state old))
+put_state work first text some done stops old new end is call image written waits rest =
     ap memory_state rest
-    ∙ (λ i. record (memory_state new) { now = record (memory_now new) { image = image i }; written = written i; stopped = stops })
+    ∙ (λ i. record (memory_state new) { now = record (memory_now new) { image = image i }; written = written i; waiting = waits i; stopped = stops })
     ∙ ap (stands first text some stops) (noted_state false work old new call)
     ∙ writing work old.image.items first text some done stops (memory_state old) is
 
 pub put_exactly : (work : Work) (first : ℕ) (text : List ℕ) (some : ℕ) (done stops : Bool) (old new end : MemoryMachine) → IsWriting old.image.items first text some done work → Notes false work old new → end.image.items ≡ stand new.image.items first text some
-    → end.written ≡ min (new.written + some) (2 ^ 64 - 1) → end ≡ record new { image = end.image; written = end.written; stopped = stops }
+    → end.written ≡ min (new.written + some) (2 ^ 64 - 1) → end.waiting ≡ waits_behind new.waiting first → end ≡ record new { image = end.image; written = end.written; waiting = end.waiting; stopped = stops }
     → Exactly done (put_sectors first text some done stops (noted false (memory_state old))) (put_sectors first text some done stops (noted false (memory_state old))) same (memory_state old) (memory_state end) done
-put_exactly work first text some true stops old new end is call image written rest = record { running = call.running; goes = refl; after = put_state work first text some true stops old new end is call image written rest }
-put_exactly work first text some false stops old new end is call image written rest = inr (record { running = call.running; goes = refl; after = put_state work first text some false stops old new end is call image written rest })
+put_exactly work first text some true stops old new end is call image written waits rest = record { running = call.running; goes = refl; after = put_state work first text some true stops old new end is call image written waits rest }
+put_exactly work first text some false stops old new end is call image written waits rest = inr (record { running = call.running; goes = refl; after = put_state work first text some false stops old new end is call image written waits rest })
 
 -- COUNTS OF AN EVENT
 

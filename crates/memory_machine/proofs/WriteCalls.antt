@@ -7,7 +7,7 @@ use Rattle.sector_disk.specs.declared.sector.Sector.{Sector}
 use Rattle.sector_disk.specs.declared.sector.Sector.TheVariants.{Damaged}
 use Rattle.memory_machine.specs.declared.past.Step.{Step}
 use Rattle.memory_machine.specs.declared.past.Work.{Work}
-use Rattle.memory_machine.specs.declared.past.Work.TheVariants.{Attaching, Writing, Saying, Quiet}
+use Rattle.memory_machine.specs.declared.past.Work.TheVariants.{Attaching, Writing, Saying, Syncing, Quiet}
 use Rattle.memory_machine.specs.declared.memory.MemoryMachine.{MemoryMachine}
 use Rattle.sector_disk.specs.Image.{sector_at, stand, outside, IsWorn, weak}
 use Rattle.sector_disk.specs.Machine.{Tears, Writes, wrote}
@@ -19,7 +19,7 @@ use Rattle.memory_machine.proofs.Calls.{noted_ledger}
 
 module _ (first : ℕ) (copy : Vec ℕ Global) (olds : Vec Sector Global) (done : Bool) (old new end : MemoryMachine) (noted : Notes false (Writing first copy olds done) old new) (stood : ℕ) (some : stood ≤ length copy.items / 512)
     (room : first + length copy.items / 512 ≤ length old.image.items) (olds_are : olds.items ≡ take stood (drop first old.image.items)) (image_is : end.image.items ≡ stand new.image.items first copy.items stood)
-    (rest : end ≡ record new { image = end.image; written = end.written; stopped = end.stopped }) where
+    (rest : end ≡ record new { image = end.image; written = end.written; waiting = end.waiting; stopped = end.stopped }) where
   abbrev work : Work
   work = Writing first copy olds done
 
@@ -108,10 +108,10 @@ module _ (first : ℕ) (copy : Vec ℕ Global) (olds : Vec Sector Global) (done 
       ap (λ (m : MemoryMachine). cond m.attached (min (length end.image.items) (2 ^ 32 - 1)) 0) (rest ∙ noted_rest)
       ∙ ap (λ (n : ℕ). cond old.attached (min n (2 ^ 32 - 1)) 0) end_size
     where
-      noted_rest : record new { image = end.image; written = end.written; stopped = end.stopped } ≡ record old { image = end.image; past = new.past; honest = new.honest; synced = new.synced; written = end.written; stopped = end.stopped }
-      noted_rest = ap (λ (m : MemoryMachine). record m { image = end.image; written = end.written; stopped = end.stopped }) noted.rest
+      noted_rest : record new { image = end.image; written = end.written; waiting = end.waiting; stopped = end.stopped } ≡ record old { image = end.image; past = new.past; honest = new.honest; synced = new.synced; written = end.written; waiting = end.waiting; stopped = end.stopped }
+      noted_rest = ap (λ (m : MemoryMachine). record m { image = end.image; written = end.written; waiting = end.waiting; stopped = end.stopped }) noted.rest
 
-  ledger_is : memory_ledger end ≡ record { input = (memory_ledger old).input; attaches = (memory_ledger old).attaches ++ []; written = (memory_ledger old).written + written_by work }
+  ledger_is : memory_ledger end ≡ record { input = (memory_ledger old).input; attaches = (memory_ledger old).attaches ++ []; written = (memory_ledger old).written + written_by work; syncs = (memory_ledger old).syncs + 0 }
   ledger_is = ap memory_ledger rest ∙ noted_ledger false work old new noted
 
   pub noted_stood : (IsTrue done → stood ≡ length copy.items / 512) → Stood first copy.items done old end
@@ -126,21 +126,25 @@ module _ (first : ℕ) (copy : Vec ℕ Global) (olds : Vec Sector Global) (done 
     reached = λ f. reaches_push old.past.items end.past.items step (memory_now old) (memory_now end) past_is was refl;
   }
     where
+      no_sync : (memory_ledger old).syncs + 0 ≡ (memory_ledger old).syncs
+      no_sync = omega arith
+
       counted : IsTrue done → memory_ledger end ≡ wrote (memory_ledger old) (length copy.items / 512)
       counted f =
           let more : (memory_ledger old).written + written_by work ≡ (memory_ledger old).written + length copy.items / 512 = ap (λ (b : Bool). (memory_ledger old).written + (if b then length copy.items / 512 else 0)) f in
-          ledger_is ∙ (λ i. record { input = (memory_ledger old).input; attaches = append-nil (memory_ledger old).attaches i; written = more i })
+          ledger_is ∙ (λ i. record { input = (memory_ledger old).input; attaches = append-nil (memory_ledger old).attaches i; written = more i; syncs = no_sync i })
 
       uncounted : done ≡ false → memory_ledger end ≡ memory_ledger old
       uncounted f =
           let none : (memory_ledger old).written + 0 ≡ (memory_ledger old).written = omega arith in
           let more : (memory_ledger old).written + written_by work ≡ (memory_ledger old).written = ap (λ (b : Bool). (memory_ledger old).written + (if b then length copy.items / 512 else 0)) f ∙ none in
-          ledger_is ∙ (λ i. record { input = (memory_ledger old).input; attaches = append-nil (memory_ledger old).attaches i; written = more i })
+          ledger_is ∙ (λ i. record { input = (memory_ledger old).input; attaches = append-nil (memory_ledger old).attaches i; written = more i; syncs = no_sync i })
 
 pub stood_by : (work : Work) (sector : ℕ) (text : List ℕ) (stood : ℕ) (done : Bool) (old new end : MemoryMachine) → IsWriting old.image.items sector text stood done work → Notes false work old new → stood ≤ length text / 512 → sector + length text / 512 ≤ length old.image.items
-    → end.image.items ≡ stand new.image.items sector text stood → end ≡ record new { image = end.image; written = end.written; stopped = end.stopped } → (IsTrue done → stood ≡ length text / 512) → Stood sector text done old end
+    → end.image.items ≡ stand new.image.items sector text stood → end ≡ record new { image = end.image; written = end.written; waiting = end.waiting; stopped = end.stopped } → (IsTrue done → stood ≡ length text / 512) → Stood sector text done old end
 stood_by (Attaching path how image) sector text stood done old new end is noted some room image_is rest all = absurd is
 stood_by (Saying bytes) sector text stood done old new end is noted some room image_is rest all = absurd is
+stood_by (Syncing is_done) sector text stood done old new end is noted some room image_is rest all = absurd is
 stood_by Quiet sector text stood done old new end is noted some room image_is rest all = absurd is
 stood_by (Writing first copy olds did) sector text stood done old new end is noted some room image_is rest all =
     let some_is = subst (λ (b : List ℕ). stood ≤ length b / 512) (sym is.1) some in

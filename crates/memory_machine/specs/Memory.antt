@@ -16,8 +16,8 @@ use Rattle.memory_machine.specs.declared.memory.MemoryMachine.{MemoryMachine}
 use Rattle.sector_disk.specs.Image.{Windows, longest_run, IsShort, AreShort}
 use Rattle.memory_machine.specs.Windows.{is_short, all_weak}
 use Rattle.memory_machine.specs.State.{DiskState, Line, Faults, call_goes, one_more}
-use Rattle.memory_machine.specs.Past.{LeftSince, begins_at, due, hurt_all, attaches_in, written_in}
-use Rattle.sector_disk.specs.Machine.{Report, Moment, Ledger, Elapses, Reaches, Utters, Says, Tears, Writes, wrote, Wears, Before, Attaches, IsSynced, asked_for, Trusts}
+use Rattle.memory_machine.specs.Past.{LeftSince, begins_at, due, hurt_all, attaches_in, written_in, syncs_in}
+use Rattle.sector_disk.specs.Machine.{Report, Moment, Ledger, Elapses, Reaches, Utters, Says, Tears, Writes, wrote, synced_once, Wears, Before, Attaches, IsSynced, asked_for, Trusts}
 
 abbrev pub memory_report : MemoryMachine → Report
 memory_report m = record {
@@ -38,7 +38,7 @@ memory_now m = record {
 }
 
 abbrev pub memory_ledger : MemoryMachine → Ledger
-memory_ledger m = record { input = drop m.taken m.input.items; attaches = attaches_in m.past.items; written = written_in m.past.items }
+memory_ledger m = record { input = drop m.taken m.input.items; attaches = attaches_in m.past.items; written = written_in m.past.items; syncs = syncs_in m.past.items }
 
 -- the runs of its windows are short
 abbrev pub has_short_runs : MemoryMachine → Bool
@@ -72,6 +72,10 @@ memory_events m = m.events.items
 abbrev pub memory_written : MemoryMachine → ℕ
 memory_written m = m.written
 
+-- the first sector of the first write since the last sync
+abbrev pub memory_waiting : MemoryMachine → Option ℕ
+memory_waiting m = m.waiting
+
 -- how often a growth was refused
 abbrev pub memory_starved : MemoryMachine → ℕ
 memory_starved m = m.starved
@@ -94,6 +98,7 @@ memory_state m = record {
   calls = memory_calls m;
   begun = memory_begun m;
   written = memory_written m;
+  waiting = memory_waiting m;
   stopped = has_stopped m;
   allowed = m.honest;
   starved = memory_starved m;
@@ -184,6 +189,17 @@ pub record Stood (sector : ℕ) (bytes : List ℕ) (finished : Bool) (old new : 
   pub written : IsTrue finished → IsHonest new → Writes sector bytes (memory_now old) (memory_now new)
   pub reached : IsTrue finished → Reached (Tears sector bytes) old new
 
+-- A sync is done and counted, or fails.
+pub record Flushed (finished : Bool) (old new : MemoryMachine) : Type 0 where
+  pub sectors : (memory_report new).sectors ≡ (memory_report old).sectors
+  pub honest : IsHonest new → IsHonest old
+  pub worn : IsHonest new → Wears (memory_now old) (memory_now new)
+  pub time : IsHonest new → Elapses (length old.past.items) (length new.past.items) (LeftSince (memory_now old) old.past.items) (LeftSince (memory_now new) new.past.items) (Wears (memory_now old))
+  pub counted : IsTrue finished → memory_ledger new ≡ synced_once (memory_ledger old)
+  pub uncounted : finished ≡ false → memory_ledger new ≡ memory_ledger old
+  pub synced : IsTrue finished → IsSynced (memory_now new)
+  pub reached : IsTrue finished → Reached Wears old new
+
 -- An image is found or made, and so many sectors are told.
 pub record Opened (path : List ℕ) (how : Attach) (count : ℕ) (old new : MemoryMachine) : Type 0 where
   pub sectors : (memory_report new).sectors ≡ count
@@ -212,11 +228,11 @@ abbrev pub first_window : Option WeakRun → Windows
 first_window present = record { present = present; next = None }
 
 -- A machine over this image, these windows and this line of weak runs, of which nothing was asked yet: nothing is said,
--- no fault is counted or told, and no call is noted.
+-- no fault is counted or told, no call is noted, and no write waits for a sync.
 pub record IsMade (image : List Sector) (windows : Windows) (line : Line) (events : List Event) (input : List ℕ) (m : MemoryMachine) : Type 0 where
   pub now : memory_now m ≡ record { image = image; windows = windows; said = []; time = 0; synced = 0 }
   pub names : memory_line m ≡ line
-  pub ledger : memory_ledger m ≡ record { input = input; attaches = []; written = 0 }
+  pub ledger : memory_ledger m ≡ record { input = input; attaches = []; written = 0; syncs = 0 }
   pub report : memory_report m ≡ record { sectors = 0; fault_place = 0; disk_faults = 0; input_faults = 0; output_faults = 0 }
   pub unattached : is_attached m ≡ false
   pub starved : memory_starved m ≡ 0
@@ -224,6 +240,7 @@ pub record IsMade (image : List Sector) (windows : Windows) (line : Line) (event
   pub calls : memory_calls m ≡ 0
   pub begun : (first : ℕ) → memory_begun m first ≡ 0
   pub written : memory_written m ≡ 0
+  pub waiting : memory_waiting m ≡ None
   pub happens : memory_events m ≡ events
 
 -- what was there since a moment

@@ -12,7 +12,7 @@ use Rattle.memory_machine.specs.declared.event.Event.{Event}
 use Rattle.memory_machine.specs.declared.past.Hurt.{Hurt}
 use Rattle.memory_machine.specs.declared.past.Step.{Step}
 use Rattle.memory_machine.specs.declared.past.Work.{Work}
-use Rattle.memory_machine.specs.declared.past.Work.TheVariants.{Attaching, Writing, Saying, Quiet}
+use Rattle.memory_machine.specs.declared.past.Work.TheVariants.{Attaching, Writing, Saying, Syncing, Quiet}
 use Rattle.sector_disk.specs.Image.{sector_at, lay}
 use Rattle.memory_machine.specs.Events.{hurt_by}
 use Rattle.sector_disk.specs.Machine.{Moment, Asked, Wears, Tears, Utters}
@@ -46,6 +46,7 @@ abbrev pub undone : Work → List Sector → List Sector
 undone (Attaching path how kept) now = unattached how kept.items now
 undone (Writing first bytes old done) now = lay now first (λ k. sector_at old.items k) (length old.items)
 undone (Saying bytes) now = now
+undone (Syncing done) now = now
 undone Quiet now = now
 
 -- the moment before the step, from the one after it; a sync is no later than its moment, nor than the next sync
@@ -63,6 +64,7 @@ abbrev pub During : Work → Moment → Moment → Type 0
 During (Attaching path how image) at left = Wears at left
 During (Writing first bytes old done) at left = Tears first bytes.items at left
 During (Saying bytes) at left = Utters bytes.items at left
+During (Syncing done) at left = Wears at left
 During Quiet at left = Wears at left
 
 -- it is behind the sync of the moment before it, and later
@@ -98,6 +100,15 @@ written_by work = 0
 abbrev pub written_in : List Step → ℕ
 written_in [] = 0
 written_in (step ∷ steps) = written_by step.work + written_in steps
+
+abbrev pub synced_by : Work → ℕ
+synced_by (Syncing done) = if done then 1 else 0
+synced_by work = 0
+
+-- the syncs that were done
+abbrev pub syncs_in : List Step → ℕ
+syncs_in [] = 0
+syncs_in (step ∷ steps) = synced_by step.work + syncs_in steps
 
 abbrev pub is_write_at : ℕ → Work → Bool
 is_write_at sector (Writing first bytes old done) = first == sector

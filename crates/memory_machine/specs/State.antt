@@ -1,5 +1,5 @@
 -- A machine in memory as its events see it, and what each call makes of it.
-use Rattle.std.specs.Prelude.{◌≡◌, ◌⊎◌, ℕ, ◌+◌, ◌-◌, ◌/◌, ◌^◌, ◌==◌, Bool, true, false, not, ◌&&◌, if◌then◌else◌, List, ◌++◌, length, min, replicate, Some, None}
+use Rattle.std.specs.Prelude.{◌≡◌, ◌⊎◌, ℕ, ◌+◌, ◌-◌, ◌/◌, ◌^◌, ◌==◌, Bool, true, false, not, ◌&&◌, if◌then◌else◌, List, ◌++◌, length, min, replicate, Option, Some, None, unwrap_or}
 use Rattle.std.specs.List.{list_any}
 use Rattle.sector_disk.specs.declared.sector.Sector.TheVariants.{Damaged}
 use Rattle.sector_disk.specs.declared.sector.WeakRun.{WeakRun}
@@ -12,7 +12,7 @@ use Rattle.sector_disk.specs.Image.{stand, settled}
 use Rattle.memory_machine.specs.Windows.{is_short, all_weak, weak_run_at}
 use Rattle.memory_machine.specs.Events.{verdict_of, fails_call, piece_of, stood_by, is_going, is_stop}
 use Rattle.memory_machine.specs.Past.{due, hurt_all}
-use Rattle.sector_disk.specs.Machine.{Moment, Ledger, asked_for, wrote, took}
+use Rattle.sector_disk.specs.Machine.{Moment, Ledger, asked_for, wrote, synced_once, took}
 
 -- The weak runs, the first present one first, and how many of them healings have named since.
 pub record Line : Type 0 where
@@ -44,7 +44,7 @@ pub record Faults : Type 0 where
 
 -- All of a machine but its earlier moments: what is there, what was asked, whether an image was attached, the faults,
 -- what is to happen, how many calls were noted, how many writes have begun at each sector, how many sectors writes have
--- put, whether it has stopped, whether the hurts lay in the windows and the runs before the last call were short, and
+-- put, the first sector of the first write since the last sync, whether it has stopped, whether the hurts lay in the windows and the runs before the last call were short, and
 -- how often a growth was refused.
 pub record DiskState : Type 0 where
   pub now : Moment
@@ -56,6 +56,7 @@ pub record DiskState : Type 0 where
   pub calls : ℕ
   pub begun : ℕ → ℕ
   pub written : ℕ
+  pub waiting : Option ℕ
   pub stopped : Bool
   pub allowed : Bool
   pub starved : ℕ
@@ -63,6 +64,10 @@ pub record DiskState : Type 0 where
 -- each hurt so far lay in the windows, and their runs were and are short
 abbrev pub is_honest : DiskState → Bool
 is_honest s = s.allowed && (is_short s.now.windows.present && is_short s.now.windows.next)
+
+-- the first sector of the first write that waits for a sync, and 0 where none waits
+abbrev pub first_waiting : DiskState → ℕ
+first_waiting s = unwrap_or s.waiting 0
 
 -- no event fails the next call, which isn't a write
 abbrev pub call_goes : DiskState → Bool
@@ -90,8 +95,13 @@ asked path how s = record s { ledger = asked_for s.ledger path how }
 
 -- and finds or makes its image, behind a sync
 abbrev pub opened : Attach → DiskState → DiskState
-opened Old s = record s { now = record s.now { windows = record { present = s.now.windows.present; next = None }; synced = s.calls }; attached = true }
-opened (New count) s = record s { now = record s.now { image = replicate count Damaged; windows = record { present = None; next = None }; synced = s.calls }; attached = true }
+opened Old s = record s { now = record s.now { windows = record { present = s.now.windows.present; next = None }; synced = s.calls }; attached = true; waiting = None }
+opened (New count) s = record s { now = record s.now { image = replicate count Damaged; windows = record { present = None; next = None }; synced = s.calls }; attached = true; waiting = None }
+
+-- a write that waits behind those that wait
+abbrev pub waits_behind : Option ℕ → ℕ → Option ℕ
+waits_behind None first = Some first
+waits_behind (Some earlier) first = Some earlier
 
 -- so many sectors of a write stand; it is done, or not, and stops the machine, or not
 abbrev pub put_sectors : ℕ → List ℕ → ℕ → Bool → Bool → DiskState → DiskState
@@ -100,6 +110,7 @@ put_sectors first bytes stood done stops s = record s {
   ledger = if done then wrote s.ledger (length bytes / 512) else s.ledger;
   begun = λ sector. s.begun sector + (if first == sector then 1 else 0);
   written = min (s.written + stood) (2 ^ 64 - 1);
+  waiting = waits_behind s.waiting first;
   stopped = stops;
 }
 
@@ -107,20 +118,21 @@ put_sectors first bytes stood done stops s = record s {
 abbrev pub put_by : Verdict → ℕ → List ℕ → DiskState → DiskState
 put_by verdict first bytes = put_sectors first bytes (stood_by verdict (length bytes / 512)) (is_going verdict) (is_stop verdict)
 
--- all that was written is brought to the disk
+-- all that was written is brought to the disk, by a sync that is counted
 abbrev pub flushed : DiskState → DiskState
-flushed s = record s { now = record s.now { synced = s.calls } }
+flushed s = record s { now = record s.now { synced = s.calls }; ledger = synced_once s.ledger; waiting = None }
 
 -- the next run is named, behind a sync
 abbrev pub healed : (longest : ℕ) → DiskState → DiskState
 healed longest s = record s {
   now = record s.now { windows = record { present = s.now.windows.present; next = Some (next_run longest s.line) }; synced = s.calls };
   line = moved_on s.line;
+  waiting = None;
 }
 
 -- the named run is the present one, behind a sync
 abbrev pub closed : DiskState → DiskState
-closed s = record s { now = record s.now { windows = settled s.now.windows.present s.now.windows.next; synced = s.calls } }
+closed s = record s { now = record s.now { windows = settled s.now.windows.present s.now.windows.next; synced = s.calls }; waiting = None }
 
 -- how many bytes a `take` gives where there is room for so many
 abbrev pub given : DiskState → ℕ → ℕ

@@ -6,8 +6,8 @@ ghost use Rattle.sector_disk.specs.Machine.{GivesAsked, Wears};
 ghost use Rattle.memory_machine.specs.Events.{counts_at};
 ghost use Rattle.memory_machine.specs.Past.{due};
 ghost use Rattle.memory_machine.specs.Windows.{all_weak, is_short};
-ghost use Rattle.memory_machine.specs.State.{Exactly, Calls, Attached, write_verdict, call_goes, put_sectors, noted, same, spoken, from_first, one_more};
-ghost use Rattle.memory_machine.specs.Memory.{memory_now, memory_state, memory_begun, IsWriting, IsAttaching, IsFresh, Notes, Refuses, Fails, Passes, Reached, Spoken, Stood, Opened, NotOpened, IsMade, pair_at, first_window, memory_honest, IsHonest, memory_starved, memory_line, has_short_runs};
+ghost use Rattle.memory_machine.specs.State.{Exactly, Calls, Attached, write_verdict, call_goes, put_sectors, waits_behind, noted, flushed, same, spoken, from_first, one_more};
+ghost use Rattle.memory_machine.specs.Memory.{memory_now, memory_state, memory_begun, IsWriting, IsAttaching, IsFresh, Notes, Refuses, Fails, Passes, Reached, Spoken, Flushed, Stood, Opened, NotOpened, IsMade, pair_at, first_window, memory_honest, IsHonest, memory_starved, memory_line, has_short_runs};
 
 mod calls;
 mod left;
@@ -43,6 +43,8 @@ pub struct MemoryMachine {
     past: Vec<Step>,
     // how many calls were noted as all that was written was on the disk
     synced: usize,
+    // the first sector of the first write since then
+    waiting: Option<u32>,
     attached: bool,
     // of the calls before: their hurts lay in the windows, whose runs were short
     honest: bool,
@@ -106,6 +108,7 @@ impl MemoryMachine {
             said: Vec::new(alloc),
             past: Vec::new(alloc),
             synced: 0,
+            waiting: None,
             attached: false,
             honest: true,
             stopped: false,
@@ -240,6 +243,23 @@ impl MemoryMachine {
         self.call(settle, Work::Quiet)
     }
 
+    // Brings all that was written to the disk, and tells whether it is done. Its caller counts its fault.
+    fn flush(&mut self) -> bool
+        ensures flushed { Flushed result self.old self.new }
+        ensures exact { Calls false flushed same (memory_state self.old) (memory_state self.new) result }
+        ensures rest { self.new ≡ record self.old { image = self.new.image; past = self.new.past; honest = self.new.honest; synced = self.new.synced; waiting = self.new.waiting; starved = self.new.starved } }
+    {
+        let done = !fails_at(&self.events, self.past.len() as u64);
+        if self.note(false, Work::Syncing { done }).is_err() {
+            return false;
+        }
+        if done {
+            self.synced = self.past.len();
+            self.waiting = None;
+        }
+        done
+    }
+
     // Says bytes. Its caller counts its fault.
     fn speak(&mut self, bytes: &[u8]) -> bool
         ensures spoken { Spoken bytes.now result self.old self.new }
@@ -272,7 +292,7 @@ impl MemoryMachine {
         requires all { IsTrue done → stood ≡ length bytes.now / 512 }
         ensures stood { Stood sector bytes.now result self.old self.new }
         ensures exact { Exactly done (put_sectors sector bytes.now stood done stops (noted false (memory_state self.old))) (put_sectors sector bytes.now stood done stops (noted false (memory_state self.old))) same (memory_state self.old) (memory_state self.new) result }
-        ensures rest { self.new ≡ record self.old { image = self.new.image; past = self.new.past; honest = self.new.honest; synced = self.new.synced; starved = self.new.starved; written = self.new.written; stopped = self.new.stopped } }
+        ensures rest { self.new ≡ record self.old { image = self.new.image; past = self.new.past; honest = self.new.honest; synced = self.new.synced; starved = self.new.starved; written = self.new.written; waiting = self.new.waiting; stopped = self.new.stopped } }
     {
         if self.stopped {
             return false;
@@ -286,6 +306,7 @@ impl MemoryMachine {
         }
         stand(&mut self.image, sector as usize, bytes, stood);
         self.written = self.written.saturating_add(stood as u64);
+        self.waiting = waits_behind(self.waiting, sector);
         self.stopped = stops;
         done
     }
@@ -296,7 +317,7 @@ impl MemoryMachine {
         ensures asked { IfSome result (λ count. GivesAsked how count) }
         ensures unopened { IfNone result (NotOpened path.now how self.old self.new) }
         ensures exact { Attached path.now how same (memory_state self.old) (memory_state self.new) (is_some result) }
-        ensures rest { self.new ≡ record self.old { image = self.new.image; past = self.new.past; honest = self.new.honest; starved = self.new.starved; present = self.new.present; next = self.new.next; attached = self.new.attached; synced = self.new.synced } }
+        ensures rest { self.new ≡ record self.old { image = self.new.image; past = self.new.past; honest = self.new.honest; starved = self.new.starved; present = self.new.present; next = self.new.next; attached = self.new.attached; synced = self.new.synced; waiting = self.new.waiting } }
     {
         if self.stopped {
             return None;
@@ -310,6 +331,7 @@ impl MemoryMachine {
         }
         self.attached = true;
         self.synced = self.past.len();
+        self.waiting = None;
         self.next = None;
         match how {
             Attach::Old => Some(count_of(self.image.len())),
@@ -401,6 +423,13 @@ impl MemoryMachine {
         let copy = hurts.to_vec(self.alloc)?;
         Ok((hurts, copy))
     }
+}
+
+// The first write that waits where a write begins at this sector.
+fn waits_behind(waiting: Option<u32>, first: u32) -> Option<u32>
+    ensures { result ≡ waits_behind waiting first }
+{
+    Some(waiting.unwrap_or(first))
 }
 
 // The number of sectors that an image of so many counts.

@@ -32,6 +32,9 @@ pub enum Work {
     Saying {
         bytes: Vec<u8>,
     },
+    Syncing {
+        done: bool,
+    },
     Quiet,
 }
 

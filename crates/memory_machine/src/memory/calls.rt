@@ -2,8 +2,8 @@
 ghost use Rattle.std.specs.Prelude.{◌≡◌, false, true, ◌⊎◌, ◌+◌, ◌-◌, ◌/◌, ◌%◌, ◌^◌, ◌<◌, ◌≤◌, ◌++◌, min, drop, refl, length, is_ok, IfOk, IfErr, OnOk, OnErr};
 ghost use Rattle.std.proofs.Common.{inl};
 ghost use Rattle.sector_disk.specs.Image.{longest_run, sector_at};
-ghost use Rattle.memory_machine.specs.State.{Calls, Attached, Written, same, flushed, healed, closed, given, taken, spoken, disk_failed, input_failed, output_failed};
-ghost use Rattle.sector_disk.specs.Machine.{Takes, Wears, Utters, Says, OutputCause, Attaches, GivesAsked, asked_for, Writes, Tears, DiskCause, InputCause, Names, Settles, Shows, Before, IsSynced, took, wrote};
+ghost use Rattle.memory_machine.specs.State.{Calls, Attached, Written, same, first_waiting, flushed, healed, closed, given, taken, spoken, disk_failed, input_failed, output_failed};
+ghost use Rattle.sector_disk.specs.Machine.{Takes, Wears, Utters, Says, OutputCause, Attaches, GivesAsked, asked_for, Writes, Tears, DiskCause, InputCause, Names, Settles, Shows, Before, IsSynced, took, wrote, synced_once, place_told};
 ghost use Rattle.memory_machine.specs.Past.{only_at_end};
 ghost use Rattle.memory_machine.specs.Memory.{memory_report, memory_now, memory_ledger, memory_sized, memory_small, memory_state, MemoryTrusts, MemoryElapses, MemoryReaches, IsHonest, memory_calls, memory_left, memory_short};
 ghost use Rattle.memory_machine.specs.History.{memory_history};
@@ -136,6 +136,7 @@ impl Machine for MemoryMachine {
             return Err(self.disk_fault(0));
         }
         self.synced = self.past.len();
+        self.waiting = None;
         self.named = self.named.saturating_add(1);
         self.next = Some(run_at(&self.runs, self.named, longest));
         Ok(())
@@ -157,6 +158,7 @@ impl Machine for MemoryMachine {
             return Err(self.disk_fault(0));
         }
         self.synced = self.past.len();
+        self.waiting = None;
         match self.next {
             None => Ok(()),
             Some(run) => {
@@ -168,20 +170,21 @@ impl Machine for MemoryMachine {
     }
 
     fn sync(&mut self) -> Result<(), Failed>
-        ensures cause { DiskCause (memory_report self.old) (memory_report self.new) 0 result }
+        ensures cause { DiskCause (memory_report self.old) (memory_report self.new) (place_told result) result }
         ensures sectors { (memory_report self.new).sectors ≡ (memory_report self.old).sectors }
         ensures trust { MemoryTrusts self.old self.new }
         ensures worn { IsHonest self.new → Wears (memory_now self.old) (memory_now self.new) }
         ensures synced { OnOk result (IsHonest self.new → IsSynced (memory_now self.new)) }
         ensures time { MemoryElapses self.old self.new (Wears (memory_now self.old)) }
         ensures reached { OnOk result (MemoryReaches self.old self.new (Wears (memory_now self.old))) }
-        ensures ledger { Unit {0} → memory_ledger self.new ≡ memory_ledger self.old }
-        ensures exact { Calls false flushed (disk_failed 0) (memory_state self.old) (memory_state self.new) (is_ok result) }
+        ensures counted { OnOk result (Unit {0} → memory_ledger self.new ≡ synced_once (memory_ledger self.old)) }
+        ensures counted_err { OnErr result (Unit {0} → memory_ledger self.new ≡ memory_ledger self.old) }
+        ensures exact { Calls false flushed (disk_failed (first_waiting (memory_state self.old))) (memory_state self.old) (memory_state self.new) (is_ok result) }
     {
-        if self.pass(false).is_err() {
-            return Err(self.disk_fault(0));
+        let place = self.waiting.unwrap_or(0);
+        if !self.flush() {
+            return Err(self.disk_fault(place));
         }
-        self.synced = self.past.len();
         Ok(())
     }
 

@@ -5,8 +5,8 @@ ghost use Rattle.memory_machine.specs.Memory.{memory_calls, memory_left, memory_
 ghost use Rattle.memory_machine.specs.Left.{left_by, undo_all};
 
 use super::MemoryMachine;
-use crate::past::Step;
 use crate::Event;
+use crate::past::Step;
 use sector_disk::Sector;
 
 impl MemoryMachine {

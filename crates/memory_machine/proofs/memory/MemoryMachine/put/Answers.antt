@@ -24,7 +24,7 @@ returns-clause-stood c =
     let noted = noted_of c.note.result c.if-is_err.ensures.value c.note.ensures.ok in
     let image : (with_items c.note.new.self.image c.stand.new.image).items ≡ stand c.note.new.self.image.items c.args.sector c.args.bytes.now c.args.stood = grind (arith, common_steps) in
     stood_by c.in-Ok.work c.args.sector c.args.bytes.now c.args.stood c.args.done c.args.self.now c.note.new.self
-    (record c.note.new.self { image = with_items c.note.new.self.image c.stand.new.image; written = c.saturating_add-self-2.result; stopped = c.args.stops })
+    (record c.note.new.self { image = with_items c.note.new.self.image c.stand.new.image; written = c.saturating_add-self-2.result; waiting = c.waits_behind-self.result; stopped = c.args.stops })
     c.in-Ok.ensures noted c.requires.some c.requires.room image refl c.requires.all
 
 pub returns-clause-exact : goal.returns-clause-exact
@@ -32,8 +32,8 @@ returns-clause-exact c =
     let noted = noted_of c.note.result c.if-is_err.ensures.value c.note.ensures.ok in
     let image : (with_items c.note.new.self.image c.stand.new.image).items ≡ stand c.note.new.self.image.items c.args.sector c.args.bytes.now c.args.stood = grind (arith, common_steps) in
     put_exactly c.in-Ok.work c.args.sector c.args.bytes.now c.args.stood c.args.done c.args.stops c.args.self.now c.note.new.self
-    (record c.note.new.self { image = with_items c.note.new.self.image c.stand.new.image; written = c.saturating_add-self-2.result; stopped = c.args.stops })
-    c.in-Ok.ensures noted image c.saturating_add-self-2.ensures refl
+    (record c.note.new.self { image = with_items c.note.new.self.image c.stand.new.image; written = c.saturating_add-self-2.result; waiting = c.waits_behind-self.result; stopped = c.args.stops })
+    c.in-Ok.ensures noted image c.saturating_add-self-2.ensures c.waits_behind-self.ensures refl
 
 pub returns-in_default-clause-exact : goal.returns-in_default-clause-exact
 returns-in_default-clause-exact c = inl (inr (c.if-self.false, λ i. record (memory_state c.args.self.now) { starved = c.saturating_add-self.ensures i }))

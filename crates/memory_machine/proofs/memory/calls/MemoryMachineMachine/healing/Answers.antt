@@ -1,4 +1,4 @@
-use Rattle.std.proofs.Common.{Some, false, length, refl, ap}
+use Rattle.std.proofs.Common.{None, Some, false, length, refl, ap}
 use Rattle.memory_machine.specs.declared.memory.MemoryMachine.{MemoryMachine}
 use Rattle.memory_machine.proofs.Calls.{counts_of, fault_told, noted_of, named_time, named_reached, syncs_to}
 use Rattle.memory_machine.specs.State.{Calls, same, disk_failed}
@@ -11,12 +11,12 @@ use Rattle.memory_machine.proofs.memory.calls.MemoryMachineMachine.healing.Goals
 pub returns-clause-time : goal.returns-clause-time
 returns-clause-time c h =
     let noted = noted_of c.pass.result c.if-is_err.ensures.value c.pass.ensures.noted in
-    named_time false c.args.self.now c.pass.new.self (record c.pass.new.self { next = Some c.run_at.result; named = c.saturating_add-self.result; synced = c.len-self.result }) noted refl (ap (λ (m : MemoryMachine). m.said.items) c.pass.ensures.rest) (syncs_to false c.args.self.now c.pass.new.self c.len-self.result noted (search rules))
+    named_time false c.args.self.now c.pass.new.self (record c.pass.new.self { next = Some c.run_at.result; named = c.saturating_add-self.result; synced = c.len-self.result; waiting = None }) noted refl (ap (λ (m : MemoryMachine). m.said.items) c.pass.ensures.rest) (syncs_to false c.args.self.now c.pass.new.self c.len-self.result noted (search rules))
 
 pub returns-clause-reached : goal.returns-clause-reached
 returns-clause-reached c h =
     let noted = noted_of c.pass.result c.if-is_err.ensures.value c.pass.ensures.noted in
-    named_reached false c.args.self.now c.pass.new.self (record c.pass.new.self { next = Some c.run_at.result; named = c.saturating_add-self.result; synced = c.len-self.result }) noted refl (ap (λ (m : MemoryMachine). m.said.items) c.pass.ensures.rest) (syncs_to false c.args.self.now c.pass.new.self c.len-self.result noted (search rules))
+    named_reached false c.args.self.now c.pass.new.self (record c.pass.new.self { next = Some c.run_at.result; named = c.saturating_add-self.result; synced = c.len-self.result; waiting = None }) noted refl (ap (λ (m : MemoryMachine). m.said.items) c.pass.ensures.rest) (syncs_to false c.args.self.now c.pass.new.self c.len-self.result noted (search rules))
 
 pub returns-then-is_err-clause-exact : goal.returns-then-is_err-clause-exact
 returns-then-is_err-clause-exact c =
@@ -30,6 +30,7 @@ returns-clause-exact c =
     let next : c.run_at.result ≡ next_run c.args.longest (memory_state c.pass.new.self).line = search rules in
     then_does false (healed c.args.longest) (disk_failed 0) (memory_state c.args.self.now) (memory_state c.pass.new.self) _ call (λ i. record (memory_state c.pass.new.self) {
       now = record (memory_now c.pass.new.self) { windows = record { present = c.pass.new.self.present; next = Some (next i) }; synced = sync i };
+      waiting = None;
       line = record { runs = c.pass.new.self.runs.items; named = c.saturating_add-self.ensures i };
     })
 

@@ -12,12 +12,12 @@ use Rattle.memory_machine.proofs.memory.calls.MemoryMachineMachine.settle.Goals 
 pub returns-in-Some-clause-time : goal.returns-in-Some-clause-time
 returns-in-Some-clause-time c h =
     let noted = noted_of c.pass.result c.if-is_err.ensures.value c.pass.ensures.noted in
-    named_time true c.args.self.now c.pass.new.self (record c.pass.new.self { present = Some c.in-Some.run'; next = None; synced = c.len-self.result }) noted refl (ap (λ (m : MemoryMachine). m.said.items) c.pass.ensures.rest) (syncs_to true c.args.self.now c.pass.new.self c.len-self.result noted (search rules))
+    named_time true c.args.self.now c.pass.new.self (record c.pass.new.self { present = Some c.in-Some.run'; next = None; synced = c.len-self.result; waiting = None }) noted refl (ap (λ (m : MemoryMachine). m.said.items) c.pass.ensures.rest) (syncs_to true c.args.self.now c.pass.new.self c.len-self.result noted (search rules))
 
 pub returns-in-Some-clause-reached : goal.returns-in-Some-clause-reached
 returns-in-Some-clause-reached c h =
     let noted = noted_of c.pass.result c.if-is_err.ensures.value c.pass.ensures.noted in
-    named_reached true c.args.self.now c.pass.new.self (record c.pass.new.self { present = Some c.in-Some.run'; next = None; synced = c.len-self.result }) noted refl (ap (λ (m : MemoryMachine). m.said.items) c.pass.ensures.rest) (syncs_to true c.args.self.now c.pass.new.self c.len-self.result noted (search rules))
+    named_reached true c.args.self.now c.pass.new.self (record c.pass.new.self { present = Some c.in-Some.run'; next = None; synced = c.len-self.result; waiting = None }) noted refl (ap (λ (m : MemoryMachine). m.said.items) c.pass.ensures.rest) (syncs_to true c.args.self.now c.pass.new.self c.len-self.result noted (search rules))
 
 pub returns-then-is_err-clause-exact : goal.returns-then-is_err-clause-exact
 returns-then-is_err-clause-exact c =
@@ -31,17 +31,18 @@ returns-in-Some-clause-exact c =
     let next : Some c.in-Some.run' ≡ c.pass.new.self.next = search rules in
     then_does true closed (disk_failed 0) (memory_state c.args.self.now) (memory_state c.pass.new.self) _ call (λ i. record (memory_state c.pass.new.self) {
       now = record (memory_now c.pass.new.self) { windows = settled c.pass.new.self.present (next i); synced = sync i };
+      waiting = None;
     })
 
 pub returns-in-None-clause-time : goal.returns-in-None-clause-time
 returns-in-None-clause-time c h =
     let noted = noted_of c.pass.result c.if-is_err.ensures.value c.pass.ensures.noted in
-    named_time true c.args.self.now c.pass.new.self (record c.pass.new.self { synced = c.len-self.result }) noted refl (ap (λ (m : MemoryMachine). m.said.items) c.pass.ensures.rest) (syncs_to true c.args.self.now c.pass.new.self c.len-self.result noted (search rules))
+    named_time true c.args.self.now c.pass.new.self (record c.pass.new.self { synced = c.len-self.result; waiting = None }) noted refl (ap (λ (m : MemoryMachine). m.said.items) c.pass.ensures.rest) (syncs_to true c.args.self.now c.pass.new.self c.len-self.result noted (search rules))
 
 pub returns-in-None-clause-reached : goal.returns-in-None-clause-reached
 returns-in-None-clause-reached c h =
     let noted = noted_of c.pass.result c.if-is_err.ensures.value c.pass.ensures.noted in
-    named_reached true c.args.self.now c.pass.new.self (record c.pass.new.self { synced = c.len-self.result }) noted refl (ap (λ (m : MemoryMachine). m.said.items) c.pass.ensures.rest) (syncs_to true c.args.self.now c.pass.new.self c.len-self.result noted (search rules))
+    named_reached true c.args.self.now c.pass.new.self (record c.pass.new.self { synced = c.len-self.result; waiting = None }) noted refl (ap (λ (m : MemoryMachine). m.said.items) c.pass.ensures.rest) (syncs_to true c.args.self.now c.pass.new.self c.len-self.result noted (search rules))
 
 pub returns-in-None-clause-exact : goal.returns-in-None-clause-exact
 returns-in-None-clause-exact c =
@@ -51,6 +52,7 @@ returns-in-None-clause-exact c =
     let windows = none_settled c.pass.new.self.present c.pass.new.self.next next in
     then_does true closed (disk_failed 0) (memory_state c.args.self.now) (memory_state c.pass.new.self) _ call (λ i. record (memory_state c.pass.new.self) {
       now = record (memory_now c.pass.new.self) { windows = windows i; synced = sync i };
+      waiting = None;
     })
 
 pub returns-then-is_err-clause-cause : goal.returns-then-is_err-clause-cause

@@ -1,31 +1,19 @@
-use Rattle.std.proofs.Common.{false, length, ap, rules}
-use Rattle.memory_machine.specs.State.{Calls, same, flushed, disk_failed}
-use Rattle.memory_machine.specs.Memory.{memory_now, memory_state}
-use Rattle.memory_machine.proofs.States.{by_err, by_ok, call_fails, then_does, same_min}
-use Rattle.memory_machine.proofs.Calls.{counts_of, fault_told, noted_of, flushed_passes, flushed_reached}
+use Rattle.std.proofs.Common.{◌≡◌, ◌∙◌, ℕ, false, refl, sym, ap}
+use Rattle.memory_machine.specs.State.{flushed, first_waiting, disk_failed, one_more}
+use Rattle.memory_machine.specs.Memory.{memory_state}
+use Rattle.memory_machine.proofs.States.{call_fails}
+use Rattle.memory_machine.proofs.Calls.{counts_of, fault_told}
 use Rattle.memory_machine.proofs.memory.calls.MemoryMachineMachine.sync.Goals as goal
 
-pub returns-clause-time : goal.returns-clause-time
-returns-clause-time c h =
-    let noted = noted_of c.pass.result c.if-is_err.ensures.value c.pass.ensures.noted in
-    (flushed_passes c.args.self.now c.pass.new.self c.len-self.result noted (search rules)).time h
+pub returns-then-not-flush-clause-exact : goal.returns-then-not-flush-clause-exact
+returns-then-not-flush-clause-exact c =
+    let old = memory_state c.args.self.now in
+    let place : c.unwrap_or-place.result ≡ first_waiting old = c.unwrap_or-place.ensures in
+    let told = ap memory_state c.disk_fault.ensures.told ∙ ap (λ (n : ℕ). disk_failed n (memory_state c.flush.new.self)) place in
+    call_fails false flushed (disk_failed (first_waiting old)) old (memory_state c.flush.new.self) (memory_state c.disk_fault.new.self) c.if-not-flush.ensures.exact told
 
-pub returns-clause-reached : goal.returns-clause-reached
-returns-clause-reached c h =
-    let noted = noted_of c.pass.result c.if-is_err.ensures.value c.pass.ensures.noted in
-    flushed_reached c.args.self.now c.pass.new.self c.len-self.result noted (search rules)
-
-pub returns-then-is_err-clause-exact : goal.returns-then-is_err-clause-exact
-returns-then-is_err-clause-exact c =
-    let call = by_err c.pass.result (Calls false same same (memory_state c.args.self.now) (memory_state c.pass.new.self)) c.if-is_err.ensures.value c.pass.ensures.exact in
-    call_fails false flushed (disk_failed 0) (memory_state c.args.self.now) (memory_state c.pass.new.self) (memory_state c.disk_fault.new.self) call (ap memory_state c.disk_fault.ensures.told)
-
-pub returns-clause-exact : goal.returns-clause-exact
-returns-clause-exact c =
-    let call = by_ok c.pass.result (Calls false same same (memory_state c.args.self.now) (memory_state c.pass.new.self)) c.if-is_err.ensures.value c.pass.ensures.exact in
-    let sync = same_min c.len-self.result (length c.pass.new.self.past.items) (search rules) in
-    then_does false flushed (disk_failed 0) (memory_state c.args.self.now) (memory_state c.pass.new.self) _ call (λ i. record (memory_state c.pass.new.self) { now = record (memory_now c.pass.new.self) { synced = sync i } })
-
-pub returns-then-is_err-clause-cause : goal.returns-then-is_err-clause-cause
-returns-then-is_err-clause-cause c =
-    fault_told c.args.self.now c.pass.new.self c.disk_fault.new.self 0 c.disk_fault.result (λ i. counts_of (c.pass.ensures.rest i)) c.disk_fault.ensures.place c.disk_fault.ensures.later c.disk_fault.ensures.told
+pub returns-then-not-flush-clause-cause : goal.returns-then-not-flush-clause-cause
+returns-then-not-flush-clause-cause c =
+    let place = sym c.disk_fault.ensures.place in
+    let told = c.disk_fault.ensures.told ∙ ap (λ (n : ℕ). record c.flush.new.self { fault_place = n; disk_faults = one_more c.flush.new.self.disk_faults }) place in
+    fault_told c.args.self.now c.flush.new.self c.disk_fault.new.self c.disk_fault.result.place c.disk_fault.result (λ i. counts_of (c.flush.ensures.rest i)) refl c.disk_fault.ensures.later told
