@@ -1,13 +1,11 @@
 //! Commands and scripts, each list of them on a volume that is empty at first.
-use crate::machines::{Row, calm, first_wrong, formatted};
+use crate::machines::{Row, calm, first_wrong, formatted, run};
 use std::alloc::{AllocError, Global};
 use std::test::Fail;
 
-const FORMAT: &str = "cfs format v 2048 256 64";
-
-// The first of these runs, on a volume as a line formats it, that says or answers otherwise.
-fn wrong_on(alloc: Global, format: &str, rows: &[Row]) -> Result<Option<usize>, AllocError> {
-    let image = formatted(alloc, format)?;
+// The first of these runs on a fresh volume that says or answers otherwise.
+fn wrong_on(alloc: Global, rows: &[Row]) -> Result<Option<usize>, AllocError> {
+    let image = formatted(alloc, "cfs format v 2048 256 64")?;
     let (_, wrong) = first_wrong(alloc, calm(alloc, image), rows)?;
     Ok(wrong)
 }
@@ -93,30 +91,76 @@ const SCRIPTS: [Row<'static>; 5] = [
     ),
 ];
 
-// The first command of a script, and why it is none.
-const BAD: [(&[u8], &str); 12] = [
-    (b" stat\n", "forced\nbad line 1: unknown word\n"),
-    (b"stat x\n", "forced\nbad line 1: word count\n"),
-    (b"put  a 1\n", "forced\nbad line 1: bad name\n"),
-    (b"put a 01\n", "forced\nbad line 1: bad number\n"),
-    (b"get a!0\n", "forced\nbad line 1: bad key\n"),
-    (b"list *a\n", "forced\nbad line 1: bad pattern\n"),
-    (&[b'a'; 129], "forced\nbad line 1: long line\n"),
-    (b"\n", "forced\nbad line 1: empty line\n"),
-    (b"stat", "forced\nbad line 1: no newline\n"),
-    (b"scrub\n", "forced\nbad line 1: unknown word\n"),
-    (b"scrub v\n", "forced\nbad line 1: unknown word\n"),
-    (b"upgrade\n", "forced\nbad line 1: unknown word\n"),
+// Scripts whose first command is none, and why.
+const BAD: [Row<'static>; 12] = [
+    (
+        "cfs script v",
+        b" stat\n",
+        2,
+        "forced\nbad line 1: unknown word\n",
+    ),
+    (
+        "cfs script v",
+        b"stat x\n",
+        2,
+        "forced\nbad line 1: word count\n",
+    ),
+    (
+        "cfs script v",
+        b"put  a 1\n",
+        2,
+        "forced\nbad line 1: bad name\n",
+    ),
+    (
+        "cfs script v",
+        b"put a 01\n",
+        2,
+        "forced\nbad line 1: bad number\n",
+    ),
+    (
+        "cfs script v",
+        b"get a!0\n",
+        2,
+        "forced\nbad line 1: bad key\n",
+    ),
+    (
+        "cfs script v",
+        b"list *a\n",
+        2,
+        "forced\nbad line 1: bad pattern\n",
+    ),
+    (
+        "cfs script v",
+        &[b'a'; 129],
+        2,
+        "forced\nbad line 1: long line\n",
+    ),
+    ("cfs script v", b"\n", 2, "forced\nbad line 1: empty line\n"),
+    (
+        "cfs script v",
+        b"stat",
+        2,
+        "forced\nbad line 1: no newline\n",
+    ),
+    (
+        "cfs script v",
+        b"scrub\n",
+        2,
+        "forced\nbad line 1: unknown word\n",
+    ),
+    (
+        "cfs script v",
+        b"scrub v\n",
+        2,
+        "forced\nbad line 1: unknown word\n",
+    ),
+    (
+        "cfs script v",
+        b"upgrade\n",
+        2,
+        "forced\nbad line 1: unknown word\n",
+    ),
 ];
-
-#[test]
-fn what_is_no_command_is_told(rt: HostRuntime) -> Result<(), Fail> {
-    for (script, said) in BAD {
-        let row = ("cfs script v", script, 2, said);
-        assert_eq!(rt; wrong_on(rt.alloc(), FORMAT, &[row])?, None, "{said}");
-    }
-    Ok(())
-}
 
 // The commands that the generator makes up of a seed are worked out by hand.
 const MADE_UP: [Row<'static>; 4] = [
@@ -141,24 +185,72 @@ const MADE_UP: [Row<'static>; 4] = [
     ("cfs list v *", b"", 0, "g0!1 838 3 2\nlisted 1\n"),
 ];
 
-const LISTS: [&[Row<'static>]; 3] = [&VERSIONS, &SCRIPTS, &MADE_UP];
+// A volume that is made again twice, and what is put and read there.
+const MADE_AGAIN: [Row<'static>; 11] = [
+    ("cfs get v a!1", b"", 1, "refused no-such\n"),
+    (
+        "cfs format v 2048 256 64",
+        b"",
+        0,
+        "formatted 2048 free 1127\n",
+    ),
+    ("cfs put v a", b"hi", 0, "made a!1 2\n"),
+    ("cfs get v a!1", b"", 0, "hi"),
+    ("cfs get v a!2", b"", 1, "refused no-such\n"),
+    ("cfs put v a", b"hi", 0, "made a!2 2\n"),
+    (
+        "cfs format v 2048 256 64",
+        b"",
+        0,
+        "formatted 2048 free 1127\n",
+    ),
+    ("cfs put v a", b"", 0, "made a!1 1\n"),
+    ("cfs put v b", &[7; 512], 0, "made b!1 2\n"),
+    ("cfs get v a!1", b"", 0, ""),
+    ("cfs upgrade v", b"", 0, "upgraded 2\n"),
+];
+
+// A version is read to its end by a client that opened it, whatever became of it since.
+const READ: Row<'static> = (
+    "cfs script v",
+    b"put f 6\nffffff\nopen 1 f!1\ndelete f!1\nforce\nopen 1 f!1\nstat\nnext 1 600\ndone 1\nstat\n",
+    0,
+    "made f!1 2\nopened 1 6\ndeleted f!1\nforced\nrefused busy 1\n\
+    stat free 1125 waiting 2 pages 63 versions 0\nnext 1 6\nffffff\ndone 1\n\
+    stat free 1127 waiting 0 pages 63 versions 0\nforced\n",
+);
+
+// Five bytes in pieces, with refusals on the way, and a version that is given up.
+const PIECES: [Row<'static>; 3] = [
+    READ,
+    (
+        "cfs script v",
+        b"begin 1 h 5\npiece 1 3\nabc\nclose 1\npiece 1 3\nabc\npiece 1 2\nde\nclose 1\nclose 1\n\
+        begin 9 h 0\nbegin 2 d 3\npiece 2 3\nxyz\ndrop 2\n",
+        0,
+        "begun 1\ntook 1 3\nrefused short 5 3\nrefused long 5 6\ntook 1 5\nmade h!1 2\nrefused idle 1\n\
+        refused client 9\nbegun 2\ntook 2 3\ndropped 2\nforced\n",
+    ),
+    ("cfs get v h!1", b"", 0, "abcde"),
+];
+
+const LISTS: [&[Row<'static>]; 6] = [&VERSIONS, &SCRIPTS, &BAD, &MADE_UP, &MADE_AGAIN, &PIECES];
 
 #[test]
 fn commands_and_scripts_say_each_reply(rt: HostRuntime) -> Result<(), Fail> {
     for (i, rows) in LISTS.iter().enumerate() {
-        assert_eq!(rt; wrong_on(rt.alloc(), FORMAT, rows)?, None, "{i}");
+        assert_eq!(rt; wrong_on(rt.alloc(), rows)?, None, "{i}");
     }
     Ok(())
 }
 
-// A put that the input or the disk has no room for.
+// A put that no version has room for, or the disk.
 #[test]
 fn puts_are_refused(rt: HostRuntime) -> Result<(), Fail> {
     let alloc = rt.alloc();
     let too_long = vec![in alloc; 5u8; 4_193_793]?;
-    let longest = vec![in alloc; 5u8; 4_193_792]?;
-    let too_much = vec![in alloc; 5u8; 16_777_217]?;
-    let rows: [Row; 4] = [
+    let too_much = vec![in alloc; 5u8; 577_024]?;
+    let rows: [Row; 3] = [
         (
             "cfs put v a",
             too_long.as_slice(),
@@ -167,19 +259,13 @@ fn puts_are_refused(rt: HostRuntime) -> Result<(), Fail> {
         ),
         (
             "cfs put v a",
-            longest.as_slice(),
-            1,
-            "refused no-space 8192 1127\n",
-        ),
-        (
-            "cfs put v a",
             too_much.as_slice(),
-            5,
-            "fault input too long\n",
+            1,
+            "refused no-space 1128 1127\n",
         ),
         ("cfs list v *", b"", 0, "listed 0\n"),
     ];
-    assert_eq!(rt; wrong_on(alloc, FORMAT, &rows)?, None);
+    assert_eq!(rt; wrong_on(alloc, &rows)?, None);
     Ok(())
 }
 
@@ -209,14 +295,9 @@ const OF_PARTS: [Row<'static>; 3] = [
 #[test]
 fn what_is_free_may_lie_in_parts(rt: HostRuntime) -> Result<(), Fail> {
     let alloc = rt.alloc();
-    let script = in_parts(alloc)?;
-    let image = formatted(alloc, "cfs format w 817 200 64")?;
-    let (m, _) = first_wrong(
-        alloc,
-        calm(alloc, image),
-        &[("cfs script w", script.as_slice(), 0, "")],
-    )?;
+    let m = calm(alloc, formatted(alloc, "cfs format w 817 200 64")?);
+    let (m, status) = run(alloc, m, &[], "cfs script w", in_parts(alloc)?.as_slice())?;
     let (_, wrong) = first_wrong(alloc, m, &OF_PARTS)?;
-    assert_eq!(rt; wrong, None);
+    assert_eq!(rt; (status, wrong), (0, None));
     Ok(())
 }

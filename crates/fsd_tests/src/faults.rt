@@ -1,4 +1,4 @@
-//! Runs in which each call of the outside fails in turn, and what the next run lists.
+//! A put in which each call of the outside fails in turn, and what the next run lists.
 use crate::machines::{calm, formatted, run};
 use memory_machine::Event;
 use sector_disk::Sector;
@@ -53,63 +53,5 @@ fn a_put_that_cannot_be_said_is_there(rt: HostRuntime) -> Result<(), Fail> {
     let alloc = rt.alloc();
     let image = formatted(alloc, FORMAT)?;
     assert_eq!(rt; unsaid_puts(alloc, image.as_slice())?, Some((1, 1)));
-    Ok(())
-}
-
-// Three puts, and what is said and then listed where the input fails behind so many of them.
-const PUTS: &[u8] = b"put a 0\n\nput b 0\n\nput c 0\n\n";
-
-const SAID: [&str; 4] = [
-    "forced\nfault input\n",
-    "made a!1 1\nforced\nfault input\n",
-    "made a!1 1\nmade b!1 1\nforced\nfault input\n",
-    "made a!1 1\nmade b!1 1\nmade c!1 1\nforced\nfault input\n",
-];
-
-const LISTED: [&str; 4] = [
-    "listed 0\n",
-    "a!1 0 1 2\nlisted 1\n",
-    "a!1 0 1 2\nb!1 0 1 2\nlisted 2\n",
-    "a!1 0 1 2\nb!1 0 1 2\nc!1 0 1 2\nlisted 3\n",
-];
-
-// The puts byte by byte, in a run in which this call fails, and what is listed then:
-// where the input failed, behind how many puts.
-fn puts_before_fault(
-    alloc: Global,
-    image: &[Sector],
-    call: u64,
-) -> Result<Option<usize>, AllocError> {
-    let m = calm(alloc, image.to_vec(alloc)?);
-    let events = [
-        Event::Pieces { most: 1 },
-        Event::FailCall { call, stand: 0 },
-    ];
-    let (m, status) = run(alloc, m, &events, "cfs script v", PUTS)?;
-    let puts = SAID.iter().position(|said| said.as_bytes() == m.said());
-    let (m, _) = run(alloc, m, &[], LIST, b"")?;
-    let listed = LISTED.iter().position(|list| list.as_bytes() == m.said());
-    Ok(puts.filter(|_| status == 5 && listed == puts))
-}
-
-// Behind how many puts the input fails, for each of these calls.
-fn faults_of_input(alloc: Global, image: &[Sector]) -> Result<[u32; 4], AllocError> {
-    let mut counts = [0u32; 4];
-    for call in 1..200 {
-        if let Some(puts) = puts_before_fault(alloc, image, call)?
-            && let Some(count) = counts.get_mut(puts)
-        {
-            *count = count.saturating_add(1);
-        }
-    }
-    Ok(counts)
-}
-
-// Each put is nine bytes, and the end comes behind the last.
-#[test]
-fn what_was_read_before_the_input_fails_is_forced(rt: HostRuntime) -> Result<(), Fail> {
-    let alloc = rt.alloc();
-    let image = formatted(alloc, FORMAT)?;
-    assert_eq!(rt; faults_of_input(alloc, image.as_slice())?, [9, 9, 9, 1]);
     Ok(())
 }

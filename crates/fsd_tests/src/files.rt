@@ -1,5 +1,5 @@
 //! Runs on a real file, which say what they say to the output of the tests.
-//! What a file holds is read by a machine in memory.
+//! What the file holds is read by a machine in memory.
 use crate::machines::{calm, run, words_of};
 use cfs_program::run_words;
 use image_file::{FileMachine, SLOT_BYTES, read_slot};
@@ -11,10 +11,8 @@ use table_volume::Volume;
 
 const IMAGE: &str = "fsd_tests_image";
 
-const CUT: &str = "fsd_tests_cut";
-
-// One line on real files, and its status.
-fn run_on_files(rt: &HostRuntime, line: &str) -> Result<u8, AllocError> {
+/// One line on real files, and its status.
+pub(crate) fn run_on_files(rt: &HostRuntime, line: &str) -> Result<u8, AllocError> {
     let words = words_of(rt.alloc(), line)?;
     let mut m = FileMachine::new(rt);
     Ok(run_words::<FileMachine<&HostRuntime>, Volume, Volume>(rt.alloc(), words.as_slice(), &mut m))
@@ -58,31 +56,5 @@ fn a_file_holds_what_was_put(rt: HostRuntime) -> Result<(), Fail> {
     let m = calm(alloc, sectors_of(alloc, file.as_slice())?);
     let (m, _) = run(alloc, m, &[], "cfs get v g0!1", b"")?;
     assert_eq!(rt; m.said(), first_bytes(alloc)?.as_slice());
-    Ok(())
-}
-
-// The status of a list where a formatted file has this length.
-fn status_at(rt: &HostRuntime, length: usize) -> Result<u8, Fail> {
-    run_on_files(rt, "cfs format fsd_tests_cut 2048 256 64")?;
-    let mut file = fs::read(rt, CUT)?;
-    file.resize(length, 7)?;
-    fs::write(rt, CUT, file)?;
-    Ok(run_on_files(rt, "cfs list fsd_tests_cut *")?)
-}
-
-// How many bytes a file has, and how a list on it ends. The default image has 1,064,960.
-const LENGTHS: [(usize, u8); 4] = [
-    (1_064_959, 3),
-    (1_064_960, 0),
-    (1_064_961, 0),
-    (1_065_479, 0),
-];
-
-#[test]
-fn a_file_has_as_many_sectors_as_whole_slots(rt: HostRuntime) -> Result<(), Fail> {
-    for (length, status) in LENGTHS {
-        assert_eq!(rt; status_at(&rt, length)?, status, "{length}");
-    }
-    fs::remove_file(&rt, CUT)?;
     Ok(())
 }

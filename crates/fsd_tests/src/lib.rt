@@ -1,52 +1,30 @@
-//! Tests that cross crates: runs over a machine in memory whose sectors wear and over real files,
-//! and the mounts and forces below them.
+//! Tests that cross crates: runs over a machine in memory whose sectors wear and over a real file, and the example for
+//! programmers. Whole sweeps of stops, damage and failing calls are in `tests/sweeps`.
 #![tactic(auto)]
 
 #[cfg(test)]
-mod clients;
-#[cfg(test)]
 mod commands;
-#[cfg(test)]
-mod damage;
 #[cfg(test)]
 mod drills;
 #[cfg(test)]
-mod failing;
+mod example;
 #[cfg(test)]
 mod faults;
 #[cfg(test)]
 mod files;
 #[cfg(test)]
-mod forces;
-#[cfg(test)]
 mod full;
 #[cfg(test)]
-mod generated;
-#[cfg(test)]
-mod healing;
+mod images;
 #[cfg(test)]
 mod machines;
 #[cfg(test)]
-mod mounts;
+mod mounted;
 #[cfg(test)]
 mod prefixes;
-#[cfg(test)]
-mod rounds;
 #[cfg(test)]
 mod runs;
 #[cfg(test)]
 mod scripts;
 #[cfg(test)]
-mod scrubs;
-#[cfg(test)]
 mod stops;
-#[cfg(test)]
-mod sweeps;
-#[cfg(test)]
-mod upgrades;
-#[cfg(test)]
-mod waiting;
-#[cfg(test)]
-mod watched;
-#[cfg(test)]
-mod wear;

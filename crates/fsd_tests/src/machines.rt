@@ -1,50 +1,9 @@
 //! What the tests share: machines in memory, and lines that run over them.
 use cfs_program::run_words;
-use memory_machine::{Event, MemoryMachine, When};
+use memory_machine::{Event, MemoryMachine};
 use sector_disk::{Sector, WeakRun};
 use std::alloc::{AllocError, Global};
 use table_volume::Volume;
-use volume_layout::{Layout, LayoutFault};
-
-/// The same byte so many times.
-pub(crate) fn repeated<const N: usize>(byte: u8) -> [u8; N] {
-    [byte; N]
-}
-
-/// A volume of so many sectors, sectors of a third and pages, as it is planned.
-pub(crate) fn planned(sectors: u32, third: u32, pages: u32) -> Result<Layout, LayoutFault> {
-    Layout::plan(sectors, third, pages)
-}
-
-/// An event that never comes.
-pub(crate) const NEVER: Event = Event::FailCall { call: 0, stand: 0 };
-
-/// The sector is damaged once the run has attached the image, which drops a window that was named and not settled.
-pub(crate) fn hurt(sector: u32) -> Event {
-    Event::HurtAt {
-        sector,
-        when: When::Call(2),
-    }
-}
-
-/// The sector is damaged just before the mount settles.
-pub(crate) fn hurt_late(sector: u32) -> Event {
-    Event::HurtAt {
-        sector,
-        when: When::Settle,
-    }
-}
-
-/// The machine stops in the nth write that begins at this sector, with so many of its sectors standing.
-pub(crate) fn stop_in(first: u32, nth: u32, stand: u32) -> Event {
-    Event::StopIn { first, nth, stand }
-}
-
-/// A machine over this image, on which nothing wears.
-pub(crate) fn calm(alloc: Global, image: Vec<Sector>) -> MemoryMachine {
-    let runs = Vec::new(alloc);
-    MemoryMachine::with_runs(alloc, image, runs, Vec::new(alloc), Vec::new(alloc))
-}
 
 /// A machine over this image, whose weak runs have so many sectors. The first one may wear at first, each mount names
 /// the next, and the last one stays.
@@ -60,6 +19,12 @@ pub(crate) fn weak(
     }
     let image = image.to_vec(alloc)?;
     Ok(MemoryMachine::with_runs(alloc, image, runs, Vec::new(alloc), Vec::new(alloc)))
+}
+
+/// A machine over this image, on which nothing wears.
+pub(crate) fn calm(alloc: Global, image: Vec<Sector>) -> MemoryMachine {
+    let runs = Vec::new(alloc);
+    MemoryMachine::with_runs(alloc, image, runs, Vec::new(alloc), Vec::new(alloc))
 }
 
 /// One line over what the machine has, and its status.
@@ -92,22 +57,54 @@ pub(crate) fn run_behind(
 /// A line, its input, and the status and the text with which it ends.
 pub(crate) type Row<'a> = (&'a str, &'a [u8], u8, &'a str);
 
+// A line in a run with these events, and whether it ends so and no more wears than may.
+fn goes(
+    alloc: Global,
+    m: MemoryMachine,
+    events: &[Event],
+    row: &Row,
+) -> Result<(MemoryMachine, bool), AllocError> {
+    let (line, input, status, said) = row;
+    let (m, ended) = run(alloc, m, events, line, input)?;
+    let so = ended == *status && m.said() == said.as_bytes() && m.honest();
+    Ok((m, so))
+}
+
 /// These lines one after another, and the first that ends otherwise.
 pub(crate) fn first_wrong(
     alloc: Global,
     m: MemoryMachine,
     rows: &[Row],
 ) -> Result<(MemoryMachine, Option<usize>), AllocError> {
-    let mut wrong = None;
     let mut m = m;
-    for (i, (line, input, status, said)) in rows.iter().enumerate() {
-        let (next, ended) = run(alloc, m, &[], line, input)?;
-        if wrong.is_none() && (ended != *status || next.said() != said.as_bytes()) {
-            wrong = Some(i);
+    for (i, row) in rows.iter().enumerate() {
+        let (next, so) = goes(alloc, m, &[], row)?;
+        if !so {
+            return Ok((next, Some(i)));
         }
         m = next;
     }
-    Ok((m, wrong))
+    Ok((m, None))
+}
+
+/// What happens in the run of a line.
+pub(crate) type Met<'a> = (&'a [Event], Row<'a>);
+
+/// The same with what happens in each run.
+pub(crate) fn first_wrong_met(
+    alloc: Global,
+    m: MemoryMachine,
+    rows: &[Met],
+) -> Result<Option<usize>, AllocError> {
+    let mut m = m;
+    for (i, (events, row)) in rows.iter().enumerate() {
+        let (next, so) = goes(alloc, m, events, row)?;
+        if !so {
+            return Ok(Some(i));
+        }
+        m = next;
+    }
+    Ok(None)
 }
 
 /// An empty volume, as this line formats it.

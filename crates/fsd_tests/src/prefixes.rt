@@ -1,25 +1,25 @@
 //! A script of three forces that is stopped behind each sector that it writes, and a list that is stopped too and made
 //! again: it tells of a prefix of the changes, with each one that was forced. So it does where the disk has held back what
 //! was written since the last sync, and lost some of it.
-use crate::machines::{NEVER, formatted, hurt, hurt_late, run, run_behind, weak};
-use memory_machine::{Event, MemoryMachine};
+use crate::machines::{formatted, run, run_behind, weak};
+use memory_machine::{Event, MemoryMachine, When};
 use sector_disk::Sector;
 use std::alloc::{AllocError, Global};
 use std::test::Fail;
 
-const FORMAT: &str = "cfs format w 721 200 16";
+pub(crate) const FORMAT: &str = "cfs format w 721 200 16";
 
 const LIST: &str = "cfs list w *";
 
-const REPLIES: &[u8] = b"made a!1 2\nforced\nmade b!1 3\ndeleted a!1\nforced\nkept b!1 1\nforced\n";
+const REPLIES: &[u8] = b"made a!1 2\nforced\nmade b!1 2\ndeleted a!1\nforced\nkept b!1 1\nforced\n";
 
 // What is listed before the first change, and behind each of the four.
 const LISTS: [&str; 5] = [
     "listed 0\n",
     "a!1 1 2 2\nlisted 1\n",
-    "a!1 1 2 2\nb!1 700 3 2\nlisted 2\n",
-    "b!1 700 3 2\nlisted 1\n",
-    "b!1 700 3 1\nlisted 1\n",
+    "a!1 1 2 2\nb!1 3 2 2\nlisted 2\n",
+    "b!1 3 2 2\nlisted 1\n",
+    "b!1 3 2 1\nlisted 1\n",
 ];
 
 // By the number of replies that were said: the changes that are forced, and all with the one under way.
@@ -34,35 +34,22 @@ const CHANGES: [(usize, usize); 8] = [
     (4, 4),
 ];
 
-fn script(alloc: Global) -> Result<Vec<u8>, AllocError> {
-    let mut script = Vec::new(alloc);
-    script.extend_from_slice(b"put a 1\nx\nforce\nput b 700\n")?;
-    script.extend_from_slice(&[7; 700])?;
-    script.extend_from_slice(b"\ndelete a!1\nforce\nkeep b 1\n")?;
-    Ok(script)
-}
+const CHANGING: &[u8] = b"put a 1\nx\nforce\nput b 3\nxyz\ndelete a!1\nforce\nkeep b 1\n";
 
 // Whether a run with this status has said all replies, or stopped behind some.
 fn are_first(said: &[u8], status: u8) -> bool {
     REPLIES.starts_with(said) && (status == 6 || status == 0 && said == REPLIES)
 }
 
-// Behind how many changes this is listed.
-fn changes_in(listed: &[u8]) -> Option<usize> {
-    LISTS.iter().position(|list| list.as_bytes() == listed)
-}
-
 // Whether this list may be found where so much was said.
 fn may_stand(said: &[u8], listed: &[u8]) -> bool {
     let replies = said.iter().filter(|byte| **byte == b'\n').count();
-    match (CHANGES.get(replies), changes_in(listed)) {
+    let changes = LISTS.iter().position(|list| list.as_bytes() == listed);
+    match (CHANGES.get(replies), changes) {
         (Some((forced, most)), Some(changes)) => *forced <= changes && changes <= *most,
         _ => false,
     }
 }
-
-// How many calls a stop loses, if there are so many since the last sync.
-const HELD: [usize; 4] = [0, 1, 4, 1000];
 
 // Whether the script, a list and one more go well with these events, where each stop loses so many calls.
 fn goes_well(
@@ -72,13 +59,7 @@ fn goes_well(
     events: [&[Event]; 3],
 ) -> Result<bool, AllocError> {
     let [changing, listing, last] = events;
-    let (m, status) = run(
-        alloc,
-        m,
-        changing,
-        "cfs script w",
-        script(alloc)?.as_slice(),
-    )?;
+    let (m, status) = run(alloc, m, changing, "cfs script w", CHANGING)?;
     let first = are_first(m.said(), status);
     let said = m.said().to_vec(alloc)?;
     let (m, status) = run_behind(alloc, m, held, listing, LIST, b"")?;
@@ -88,65 +69,49 @@ fn goes_well(
     Ok(m.honest() && first && same && end == 0 && may_stand(said.as_slice(), m.said()))
 }
 
-// After how many sectors the script and the list stop, where it goes wrong. Where nothing wears the script writes 28
-// sectors, and a list 10 at most.
-fn wrong_stops(
+/// After how many sectors the script stops, any number of them, and the list, one of these numbers, where it goes wrong. Where
+/// nothing wears the script writes 27 sectors, and a list 10 at most.
+pub(crate) fn wrong_stops(
     alloc: Global,
     image: &[Sector],
     pair: u32,
     held: usize,
     worn: [Event; 2],
+    listings: &[u64],
 ) -> Result<Option<(u64, u64)>, AllocError> {
     let [a, b] = worn;
     for changing in 0..30 {
-        for listing in 0..13 {
+        for listing in listings {
             let m = weak(alloc, image, 2, [pair; 3])?;
             let first = [a, b, Event::Stop { after: changing }];
-            let second = [a, b, Event::Stop { after: listing }];
+            let second = [a, b, Event::Stop { after: *listing }];
             if !goes_well(alloc, m, held, [&first, &second, &worn])? {
-                return Ok(Some((changing, listing)));
+                return Ok(Some((changing, *listing)));
             }
         }
     }
     Ok(None)
 }
 
-// The same where both sectors of a pair are damaged in each run.
-fn wrong_at(alloc: Global, image: &[Sector], pair: u32) -> Result<Option<(u64, u64)>, AllocError> {
-    let other = pair.saturating_add(1);
-    let mut wrong = None;
-    for held in [0, 1000] {
-        let early = wrong_stops(alloc, image, pair, held, [hurt(pair), hurt(other)])?;
-        let late = wrong_stops(
-            alloc,
-            image,
-            pair,
-            held,
-            [hurt_late(pair), hurt_late(other)],
-        )?;
-        wrong = wrong.or(early).or(late);
-    }
-    Ok(wrong)
-}
+// The first home of page 0 is damaged as a run begins, and again before the mount settles.
+const WORN: [Event; 2] = [
+    Event::HurtAt {
+        sector: 616,
+        when: When::Call(2),
+    },
+    Event::HurtAt {
+        sector: 616,
+        when: When::Settle,
+    },
+];
 
 #[test]
 fn a_stop_leaves_a_prefix(rt: HostRuntime) -> Result<(), Fail> {
     let alloc = rt.alloc();
     let image = formatted(alloc, FORMAT)?;
-    for held in HELD {
-        let wrong = wrong_stops(alloc, image.as_slice(), 0, held, [NEVER; 2])?;
+    for held in [0, 1000] {
+        let wrong = wrong_stops(alloc, image.as_slice(), 616, held, WORN, &[3, 9])?;
         assert_eq!(rt; wrong, None, "{held}");
-    }
-    Ok(())
-}
-
-// A root at 4, anchors at 8 and 12, the records at 16..23, 23..30 and 30..37, homes of the root page at 616 and 636.
-#[test]
-fn a_stop_leaves_a_prefix_as_a_pair_wears(rt: HostRuntime) -> Result<(), Fail> {
-    let alloc = rt.alloc();
-    let image = formatted(alloc, FORMAT)?;
-    for pair in [4, 8, 12, 16, 19, 21, 26, 616] {
-        assert_eq!(rt; wrong_at(alloc, image.as_slice(), pair)?, None, "{pair}");
     }
     Ok(())
 }

@@ -1,15 +1,10 @@
-//! Runs on which nothing wears, each on what the one before has left.
-use crate::machines::{Row, calm, first_wrong, formatted, run, stop_in};
-use memory_machine::MemoryMachine;
-use sector_disk::Sector;
+//! The lines that make a volume or are none, each on what the one before has left.
+use crate::machines::{calm, run};
 use std::test::Fail;
 
-const SMALL: &str = "cfs format w 721 200 16";
-
-const OF_THREE: &str = "cfs format w 2048 256 64 --layout 2";
-
 // A line, and the status, the sectors and the text with which it ends.
-const LINES: [(&str, u8, usize, &str); 24] = [
+const LINES: [(&str, u8, usize, &str); 25] = [
+    ("cfs stat v", 3, 0, "fault not-a-volume\n"),
     (
         "cfs format v 2048 256 64",
         0,
@@ -121,102 +116,6 @@ fn says_each_line(rt: HostRuntime) -> Result<(), Fail> {
         assert_eq!(rt; next.said(), said.as_bytes(), "{line}");
         assert_eq!(rt; next.image().len(), sectors, "{line}");
         m = next;
-    }
-    Ok(())
-}
-
-// A volume that is made three times, and what is put and read there.
-const PUTS_AND_GETS: [Row<'static>; 11] = [
-    ("cfs get v a!1", b"", 3, "fault not-a-volume\n"),
-    (
-        "cfs format v 2048 256 64",
-        b"",
-        0,
-        "formatted 2048 free 1127\n",
-    ),
-    ("cfs put v a", b"hi", 0, "made a!1 2\n"),
-    ("cfs get v a!1", b"", 0, "hi"),
-    ("cfs get v a!2", b"", 1, "refused no-such\n"),
-    ("cfs put v a", b"hi", 0, "made a!2 2\n"),
-    (
-        "cfs format v 2048 256 64",
-        b"",
-        0,
-        "formatted 2048 free 1127\n",
-    ),
-    ("cfs put v a", b"", 0, "made a!1 1\n"),
-    ("cfs put v b", &[7; 512], 0, "made b!1 2\n"),
-    ("cfs get v a!1", b"", 0, ""),
-    (
-        "cfs format v 2048 256 64",
-        b"",
-        0,
-        "formatted 2048 free 1127\n",
-    ),
-];
-
-#[test]
-fn puts_and_gets(rt: HostRuntime) -> Result<(), Fail> {
-    let alloc = rt.alloc();
-    let (_, wrong) = first_wrong(alloc, calm(alloc, Vec::new(alloc)), &PUTS_AND_GETS)?;
-    assert_eq!(rt; wrong, None);
-    Ok(())
-}
-
-fn begins(m: &MemoryMachine, sector: usize, word: &[u8]) -> bool {
-    match m.image().get(sector) {
-        Some(Sector::Whole(bytes)) => bytes.starts_with(word),
-        _ => false,
-    }
-}
-
-// A volume, and how its sectors from 16 on begin behind one put: header, blank, header, page, end, page, end;
-// on layout 2 with two blanks, and one more behind the first end.
-const RECORDS: [(&str, &[&str]); 2] = [
-    (
-        SMALL,
-        &["CLHD", "\0\0\0\0", "CLHD", "CNPG", "CLEN", "CNPG", "CLEN"],
-    ),
-    (
-        OF_THREE,
-        &[
-            "CLHD", "\0\0\0\0", "\0\0\0\0", "CLHD", "CNPG", "CLEN", "\0\0\0\0", "CNPG", "CLEN",
-        ],
-    ),
-];
-
-#[test]
-fn one_record_commits_a_put(rt: HostRuntime) -> Result<(), Fail> {
-    let alloc = rt.alloc();
-    for (format, words) in RECORDS {
-        let m = calm(alloc, formatted(alloc, format)?);
-        let (m, _) = run(alloc, m, &[], "cfs put w a", b"x")?;
-        for (i, word) in words.iter().enumerate() {
-            assert!(rt; begins(&m, 16 + i, word.as_bytes()), "{format} {i}");
-        }
-        let behind = m.image().get(16 + words.len()).copied();
-        assert_eq!(rt; behind, Some(Sector::Damaged), "{format}");
-    }
-    Ok(())
-}
-
-// A volume, how many sectors of the record stand, and what a get says then.
-const CUT: [(&str, u32, &str); 4] = [
-    (SMALL, 4, "refused no-such\n"),
-    (SMALL, 5, "x"),
-    (OF_THREE, 5, "refused no-such\n"),
-    (OF_THREE, 6, "x"),
-];
-
-#[test]
-fn the_end_of_a_record_commits_it(rt: HostRuntime) -> Result<(), Fail> {
-    let alloc = rt.alloc();
-    for (format, stand, said) in CUT {
-        let m = calm(alloc, formatted(alloc, format)?);
-        let (m, _) = run(alloc, m, &[stop_in(16, 1, stand)], "cfs put w a", b"x")?;
-        assert!(rt; m.said().is_empty());
-        let (m, _) = run(alloc, m, &[], "cfs get w a!1", b"")?;
-        assert_eq!(rt; m.said(), said.as_bytes(), "{format} {stand}");
     }
     Ok(())
 }

@@ -1,22 +1,12 @@
-//! Tests of the name table: its tree over pages in memory, and over a small cache of pages whose machine fails.
-//! Also of what it stands on: texts, fields and runs, where everything lies, the machine in memory, records and the log,
-//! frames, the cache and the free pages; and of the allocation map, the sectors that wait, versions and the real file.
+//! Tests of what a volume stands on, with values worked out by hand: texts, runs and places, records, pages and a table of
+//! a few pages, frames, free pages and the allocation map, dumps, the machine in memory and the real file. Tables of many
+//! pages, caches, the log and broken tables are in `tests/sweeps`.
 #![tactic(auto)]
 
 #[cfg(test)]
-mod broken;
-#[cfg(test)]
-mod cached;
-#[cfg(test)]
-mod caches;
-#[cfg(test)]
-mod calls;
-#[cfg(test)]
 mod choices;
 #[cfg(test)]
-mod desk;
-#[cfg(test)]
-mod draws;
+mod dumps;
 #[cfg(test)]
 mod formats;
 #[cfg(test)]
@@ -24,22 +14,14 @@ mod frames;
 #[cfg(test)]
 mod free;
 #[cfg(test)]
-mod logs;
-#[cfg(test)]
 mod lookups;
 #[cfg(test)]
 mod machines;
 #[cfg(test)]
-mod maps;
-#[cfg(test)]
 mod pages;
-#[cfg(test)]
-mod plain;
 #[cfg(test)]
 mod records;
 #[cfg(test)]
 mod slots;
 #[cfg(test)]
-mod versions;
-#[cfg(test)]
-mod waits;
+mod wires;

@@ -1,3 +1,0 @@
-mod AbsentLaws
-mod CacheLaws
-mod OnesLaws
